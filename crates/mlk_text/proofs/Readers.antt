@@ -1,0 +1,111 @@
+-- Laws of readers of lists.
+use Rattle.std.proofs.Common.{◌≡◌, ◌<◌, ◌≤◌, ◌+◌, ℕ, zero, suc, ◌++◌, List, [], ◌∷◌, length, Some, None, refl, sym, ap, ◌∙◌, arith, subst, append_assoc, length-append, append-nil}
+use Rattle.std.specs.Prelude.{Option}
+use Rattle.std.proofs.lemmas.Option.{same_Some}
+use Rattle.mlk_text.specs.Reading.{◌>>=◌, with, put, many, many_by, Many}
+
+-- a chain that gives something: each part gave something
+pub then_some : {A B : Type 0} (o : Option A) (f : A → Option B) (y : B) → (o >>= f) ≡ Some y → (x : A) × (o ≡ Some x) × (f x ≡ Some y)
+then_some None f y h = cc h
+then_some (Some x) f y h = (x, refl, h)
+
+pub pair_parts : {A B : Type 0} (a x : A) (b y : B) → ◌≡◌ {A = Option (A × B)} (Some (a, b)) (Some (x, y)) → (a ≡ x) × (b ≡ y)
+pair_parts a x b y h = let e = same_Some (a, b) (x, y) h in (ap (λ p. p.0) e, ap (λ p. p.1) e)
+
+pub with_some : {A B : Type 0} (f : A → B) (o : Option (A × List ℕ)) (b : B) (ys : List ℕ) → with f o ≡ Some (b, ys) → (a : A) × (o ≡ Some (a, ys)) × (b ≡ f a)
+with_some f None b ys h = cc h
+with_some f (Some r) b ys h = let p = pair_parts (f r.0) b r.1 ys h in (r.0, ap (λ z. Some (r.0, z)) p.1, sym p.0)
+
+pub put_put : {A : Type 0} (front more : List A) (o : Option (List A × List ℕ)) → put front (put more o) ≡ put (front ++ more) o
+put_put front more None = refl
+put_put front more (Some r) = ap (λ l. Some (l, r.1)) (sym (append_assoc front more r.0))
+
+-- the first list stands at the end of the second
+abbrev pub Behind : List ℕ → List ℕ → Type 0
+Behind ys xs = (front : List ℕ) × (front ++ ys ≡ xs)
+
+pub behind-self : (xs : List ℕ) → Behind xs xs
+behind-self xs = ([], refl)
+
+pub behind-one : (b : ℕ) (xs : List ℕ) → Behind xs (b ∷ xs)
+behind-one b xs = (b ∷ [], refl)
+
+pub behind_then : (xs ys zs : List ℕ) → Behind ys xs → Behind zs ys → Behind zs xs
+behind_then xs ys zs f g = (f.0 ++ g.0, append_assoc f.0 g.0 zs ∙ ap (λ l. f.0 ++ l) g.1 ∙ f.1)
+
+pub behind_length : (xs ys : List ℕ) → Behind ys xs → length ys ≤ length xs
+behind_length xs ys f = let e : length f.0 + length ys ≡ length xs = sym (length-append f.0 ys) ∙ ap length f.1 in omega arith
+
+-- A reader reads what is spelled, all of it, and no more than is there.
+pub record Exact {A : Type 0} (read : List ℕ → Option (A × List ℕ)) (Is : A → List ℕ → List ℕ → Type 0) : Type 0 where
+  pub sound : (a : A) (xs ys : List ℕ) → read xs ≡ Some (a, ys) → Is a xs ys
+  pub complete : (a : A) (xs ys : List ℕ) → Is a xs ys → read xs ≡ Some (a, ys)
+  pub behind : (a : A) (xs ys : List ℕ) → Is a xs ys → Behind ys xs
+
+-- at most one reading: a text at a place has at most one tree and end
+pub one_reading : {A : Type 0} (read : List ℕ → Option (A × List ℕ)) (Is : A → List ℕ → List ℕ → Type 0) → Exact read Is
+    → (a b : A) (xs ys zs : List ℕ) → Is a xs ys → Is b xs zs → (a ≡ b) × (ys ≡ zs)
+one_reading read Is e a b xs ys zs f g = pair_parts a b ys zs (sym (e.complete a xs ys f) ∙ e.complete b xs zs g)
+
+-- A head is never empty.
+abbrev pub Takes : {B : Type 0} → (List ℕ → Option (B × List ℕ)) → Type 0
+Takes {B = B} head = (b : B) (xs ys : List ℕ) → head xs ≡ Some (b, ys) → Behind ys xs × (length ys < length xs)
+
+pub many_sound : {A B : Type 0} (head : List ℕ → Option (B × List ℕ)) (item : B → List ℕ → Option (A × List ℕ)) (Item : B → A → List ℕ → List ℕ → Type 0)
+    → ((b : B) → Exact (item b) (Item b)) → (n : ℕ) (items : List A) (xs ys : List ℕ) → many head item n xs ≡ Some (items, ys) → Many head Item items xs ys
+unfolding many
+many_sound head item Item e zero items xs ys h = cc h
+many_sound {A = A} {B = B} head item Item e (suc n) items xs ys h = go (many_sound head item Item e n) (head xs) refl h
+  where
+    go : ((bs : List A) (us vs : List ℕ) → many head item n us ≡ Some (bs, vs) → Many head Item bs us vs)
+        → (o : Option (B × List ℕ)) → head xs ≡ o → many_by item (many head item n) xs o ≡ Some (items, ys) → Many head Item items xs ys
+    go more None is h =
+        let p = pair_parts [] items xs ys h in
+        subst (λ l. Many head Item l xs ys) p.0 (p.1, is)
+    go more (Some b) is h =
+        let a = then_some (item b.0 b.1) _ (items, ys) h in
+        let r = with_some _ (many head item n a.0.1) items ys a.2 in
+        let P : List A → Type 0 = λ l. Many head Item l xs ys in
+        subst P (sym r.2) (b.0, b.1, a.0.1, is, (e b.0).sound a.0.0 b.1 a.0.1 a.1, more r.0 a.0.1 ys r.1)
+
+pub many_behind : {A B : Type 0} (head : List ℕ → Option (B × List ℕ)) (item : B → List ℕ → Option (A × List ℕ)) (Item : B → A → List ℕ → List ℕ → Type 0)
+    → Takes head → ((b : B) → Exact (item b) (Item b)) → (items : List A) (xs ys : List ℕ) → Many head Item items xs ys → Behind ys xs
+many_behind head item Item t e [] xs ys h = subst (λ l. Behind l xs) h.0 (behind-self xs)
+many_behind head item Item t e (a ∷ items) xs ys (b, m, n, is, one, rest) =
+    behind_then xs m ys (t b xs m is).0 (behind_then m n ys ((e b).behind a m n one) (many_behind head item Item t e items n ys rest))
+
+pub many_complete : {A B : Type 0} (head : List ℕ → Option (B × List ℕ)) (item : B → List ℕ → Option (A × List ℕ)) (Item : B → A → List ℕ → List ℕ → Type 0)
+    → Takes head → ((b : B) → Exact (item b) (Item b)) → (n : ℕ) (items : List A) (xs ys : List ℕ) → length xs < n → Many head Item items xs ys → many head item n xs ≡ Some (items, ys)
+unfolding many
+many_complete head item Item t e zero items xs ys less h = absurd (omega arith)
+many_complete head item Item t e (suc n) [] xs ys less h = rw h.1 (ap (λ l. Some ([], l)) h.0)
+many_complete head item Item t e (suc n) (a ∷ items) xs ys less (b, m, p, is, one, rest) =
+    let first = (e b).complete a m p one in
+    let near = behind_length m p ((e b).behind a m p one) in
+    let far = (t b xs m is).1 in
+    let others = many_complete head item Item t e n items p ys (omega arith) rest in
+    rw is (rw first (rw others refl))
+
+-- Steps of a loop that keeps `put` of its items before what is left: no head stands there,
+pub many_stops : {A B : Type 0} (head : List ℕ → Option (B × List ℕ)) (item : B → List ℕ → Option (A × List ℕ)) (front : List A) (n : ℕ) (xs : List ℕ) (whole : Option (List A × List ℕ))
+    → head xs ≡ None → length xs < n → put front (many head item n xs) ≡ whole → whole ≡ Some (front, xs)
+unfolding many
+many_stops head item front zero xs whole is less h = absurd (omega arith)
+many_stops head item front (suc n) xs whole is less h = sym h ∙ rw is (rw (append-nil front) refl)
+
+-- an item was read,
+pub many_goes : {A B : Type 0} (head : List ℕ → Option (B × List ℕ)) (item : B → List ℕ → Option (A × List ℕ)) (front : List A) (n : ℕ) (xs : List ℕ) (whole : Option (List A × List ℕ))
+    (b : B) (m : List ℕ) (a : A) (rest : List ℕ) → head xs ≡ Some (b, m) → item b m ≡ Some (a, rest) → length rest < length xs → length xs < n → put front (many head item n xs) ≡ whole
+    → (k : ℕ) × (length rest < k) × (put (front ++ a ∷ []) (many head item k rest) ≡ whole)
+unfolding many
+many_goes head item front zero xs whole b m a rest is one shorter less h = absurd (omega arith)
+many_goes head item front (suc n) xs whole b m a rest is one shorter less h =
+    let step : many_by item (many head item n) xs (head xs) ≡ put (a ∷ []) (many head item n rest) = rw is (rw one refl) in
+    (n, omega arith, sym (put_put front (a ∷ []) (many head item n rest)) ∙ ap (put front) (sym step) ∙ h)
+
+-- or none stands behind the head
+pub many_fails : {A B : Type 0} (head : List ℕ → Option (B × List ℕ)) (item : B → List ℕ → Option (A × List ℕ)) (front : List A) (n : ℕ) (xs : List ℕ) (whole : Option (List A × List ℕ))
+    (b : B) (m : List ℕ) → head xs ≡ Some (b, m) → item b m ≡ None → length xs < n → put front (many head item n xs) ≡ whole → whole ≡ None
+unfolding many
+many_fails head item front zero xs whole b m is one less h = absurd (omega arith)
+many_fails head item front (suc n) xs whole b m is one less h = sym h ∙ rw is (rw one refl)

@@ -1,0 +1,37 @@
+-- How readers of byte texts are put together, as functions on lists and as relations. A reader gives what it
+-- read and what is left behind it, or nothing. This project's own.
+use Rattle.std.specs.Prelude.{ℕ, zero, suc, ◌≡◌, List, [], ◌∷◌, ◌++◌, Option, Some, None, ◌==◌, if◌then◌else◌}
+
+-- and then
+infixl 10 ◌>>=◌
+abbrev pub ◌>>=◌ : {A B : Type 0} → Option A → (A → Option B) → Option B
+None >>= f = None
+(Some x) >>= f = f x
+
+-- a function of what was read
+abbrev pub with : {A B : Type 0} → (A → B) → Option (A × List ℕ) → Option (B × List ℕ)
+with f None = None
+with f (Some r) = Some (f r.0, r.1)
+
+-- items that stand before the items that were read
+abbrev pub put : {A : Type 0} → List A → Option (List A × List ℕ) → Option (List A × List ℕ)
+put front read = with (λ items. front ++ items) read
+
+-- while a head stands at the front, an item must stand behind it; the count is above the length of the text
+abbrev pub many_by : {A B : Type 0} → (B → List ℕ → Option (A × List ℕ)) → (List ℕ → Option (List A × List ℕ)) → List ℕ → Option (B × List ℕ) → Option (List A × List ℕ)
+many_by item more xs None = Some ([], xs)
+many_by item more xs (Some h) = item h.0 h.1 >>= λ a. put (a.0 ∷ []) (more a.1)
+
+unfoldable pub many : {A B : Type 0} → (List ℕ → Option (B × List ℕ)) → (B → List ℕ → Option (A × List ℕ)) → ℕ → List ℕ → Option (List A × List ℕ)
+many head item zero xs = None
+many head item (suc n) xs = many_by item (many head item n) xs (head xs)
+
+-- the same as a relation: items, each behind a head, as far as heads go, and what is behind them
+abbrev pub Many : {A B : Type 0} → (List ℕ → Option (B × List ℕ)) → (B → A → List ℕ → List ℕ → Type 0) → List A → List ℕ → List ℕ → Type 0
+Many head Item [] xs ys = (xs ≡ ys) × (head xs ≡ None)
+Many {B = B} head Item (a ∷ items) xs ys = (b : B) × (m n : List ℕ) × (head xs ≡ Some (b, m)) × Item b a m n × Many head Item items n ys
+
+-- the list behind this byte
+abbrev pub behind_byte : ℕ → List ℕ → Option (List ℕ)
+behind_byte b [] = None
+behind_byte b (x ∷ xs) = if x == b then Some xs else None

@@ -1,0 +1,260 @@
+// The codes of all refusals and faults, in one table.
+
+ghost use Rattle.std.specs.Prelude.{◌≡◌};
+ghost use Rattle.mlk_text.specs.Codes.{number_of, word_of};
+
+/// A refusal or a fault: 1xx expressions, 2xx lines and commands, 3xx linking, 4xx the rule file,
+/// 5xx events, 6xx the certificate, 7xx the walk, 8xx the maker, 9xx the whole run.
+#[derive(Clone, Copy, Debug, Drop, PartialEq, Eq)]
+pub enum Code {
+    /// 101: an expression is expected here, broken off, or followed by what ends none
+    ExprForm,
+    /// 102: an expression uses something that is left out; a word says what
+    ExprLeftOut,
+    /// 103: an expression is nested more than 64 deep
+    ExprDeep,
+    /// 104: a name has more than 31 characters
+    NameLong,
+    /// 201: a byte that may not stand at its place
+    Byte,
+    /// 202: a label, a formal list or a line start of another form
+    LineForm,
+    /// 203: a label stands twice
+    LabelTwice,
+    /// 204: a line more than one level deeper than the line before
+    LevelJump,
+    /// 205: a word that is no command
+    UnknownCommand,
+    /// 206: a command that is left out; its full word is named
+    CommandLeftOut,
+    /// 207: an argument of another form
+    ArgumentForm,
+    /// 208: spacing that is not that of commands
+    Spacing,
+    /// 209: a block whose head line has no argumentless DO
+    BlockUnreached,
+    /// 210: a routine of more than 1 MiB or 65,535 lines, a level above 15, more than 255 FORs on a line
+    TooLarge,
+    /// 211: a file whose stem is no name
+    RoutineName,
+    /// 301: two routines of one name
+    RoutineTwice,
+    /// 302: a call of a label that no routine has
+    UnknownLabel,
+    /// 303: a call whose actual list does not fit the formal list
+    Arity,
+    /// 304: more than 65,535 routines or 1,048,575 entries
+    TooMany,
+    /// 401: a rule file that is no TOML
+    Toml,
+    /// 402: a key that is unknown, missing or of another type
+    Key,
+    /// 403: a pattern, a lock name or an entry of another form
+    Pattern,
+    /// 404: a variable in a lock that its pattern lacks
+    TemplateVariable,
+    /// 405: one family is a prefix of another
+    FamiliesMeet,
+    /// 406: a section, a pattern, a name or a rank past its limit
+    RulesLimit,
+    /// 501: an event that is not enabled
+    NotEnabled,
+    /// 502: a choice of the wrong kind, or more values than formals
+    BadChoice,
+    /// 503: an event of a job that never began
+    UnknownJob,
+    /// 504: a line of another form in an event file
+    EventForm,
+    /// 601: a certificate without its head line
+    Head,
+    /// 602: a line of another form in a certificate
+    Form,
+    /// 603: lines or items of a certificate out of order
+    Order,
+    /// 604: two blocks of a certificate with one entry text
+    EntryTwice,
+    /// 605: a certificate past one of its limits
+    CertLimit,
+    /// 606: a certificate that ends before its end line
+    NoEnd,
+    /// 701: a reference that surely lies in no rule
+    Unruled,
+    /// 702: a cover rule may be met and its lock is not held
+    Uncovered,
+    /// 703: a write that may meet a readonly rule
+    ReadOnly,
+    /// 704: a private rule may be met without the job's own number
+    NotPrivate,
+    /// 705: a change of a name that a held lock mentions
+    Pinned,
+    /// 706: a release of a lock that is not listed as held
+    NotHeld,
+    /// 707: a claim of a lock in no family
+    Unranked,
+    /// 708: an untimed claim that is not above all that is held
+    RankOrder,
+    /// 709: a declared entry ends with a lock held
+    HeldAtEnd,
+    /// 710: a case reaches a point that lists none including it
+    CaseNotListed,
+    /// 711: a needed lock is not held, or a declared entry has needs
+    NeedMissing,
+    /// 712: the summary leaves out a change, a claim or a release of all
+    SummaryShort,
+    /// 713: a called or declared entry without a certificate
+    NoCertificate,
+    /// 714: a name passed by reference in a lock name
+    SharedName,
+    /// 715: a lock name with an unknown subscript
+    UnknownSubscript,
+    /// 716: a line sequence that reaches a line with a formal list
+    FallsIntoFormals,
+    /// 717: more than 16 cases, 16 held locks or 64 own items
+    TooManyCases,
+    /// 718: a held lock mentions a name whose binding ends
+    NameEscapes,
+    /// 719: a callee that may release all locks is called while some are set aside
+    DropsFrame,
+    /// 801: the maker found no certificate
+    GaveUp,
+    /// 901: a declared or certified entry that the routines lack
+    EntryMissing,
+    /// 902: no worker, or more than 64
+    Workers,
+    /// 903: a task whose gate stayed shut
+    GateShut,
+}
+
+impl Code {
+    /// The number that is printed.
+    pub fn number(self) -> u16
+        ensures { result ≡ number_of self }
+    {
+        match self {
+            Code::ExprForm => 101,
+            Code::ExprLeftOut => 102,
+            Code::ExprDeep => 103,
+            Code::NameLong => 104,
+            Code::Byte => 201,
+            Code::LineForm => 202,
+            Code::LabelTwice => 203,
+            Code::LevelJump => 204,
+            Code::UnknownCommand => 205,
+            Code::CommandLeftOut => 206,
+            Code::ArgumentForm => 207,
+            Code::Spacing => 208,
+            Code::BlockUnreached => 209,
+            Code::TooLarge => 210,
+            Code::RoutineName => 211,
+            Code::RoutineTwice => 301,
+            Code::UnknownLabel => 302,
+            Code::Arity => 303,
+            Code::TooMany => 304,
+            Code::Toml => 401,
+            Code::Key => 402,
+            Code::Pattern => 403,
+            Code::TemplateVariable => 404,
+            Code::FamiliesMeet => 405,
+            Code::RulesLimit => 406,
+            Code::NotEnabled => 501,
+            Code::BadChoice => 502,
+            Code::UnknownJob => 503,
+            Code::EventForm => 504,
+            Code::Head => 601,
+            Code::Form => 602,
+            Code::Order => 603,
+            Code::EntryTwice => 604,
+            Code::CertLimit => 605,
+            Code::NoEnd => 606,
+            Code::Unruled => 701,
+            Code::Uncovered => 702,
+            Code::ReadOnly => 703,
+            Code::NotPrivate => 704,
+            Code::Pinned => 705,
+            Code::NotHeld => 706,
+            Code::Unranked => 707,
+            Code::RankOrder => 708,
+            Code::HeldAtEnd => 709,
+            Code::CaseNotListed => 710,
+            Code::NeedMissing => 711,
+            Code::SummaryShort => 712,
+            Code::NoCertificate => 713,
+            Code::SharedName => 714,
+            Code::UnknownSubscript => 715,
+            Code::FallsIntoFormals => 716,
+            Code::TooManyCases => 717,
+            Code::NameEscapes => 718,
+            Code::DropsFrame => 719,
+            Code::GaveUp => 801,
+            Code::EntryMissing => 901,
+            Code::Workers => 902,
+            Code::GateShut => 903,
+        }
+    }
+
+    /// The name that is printed behind the number.
+    pub fn word(self) -> &'static [u8]
+        ensures { result.now ≡ word_of self }
+    {
+        match self {
+            Code::ExprForm => b"ExprForm",
+            Code::ExprLeftOut => b"ExprLeftOut",
+            Code::ExprDeep => b"ExprDeep",
+            Code::NameLong => b"NameLong",
+            Code::Byte => b"Byte",
+            Code::LineForm => b"LineForm",
+            Code::LabelTwice => b"LabelTwice",
+            Code::LevelJump => b"LevelJump",
+            Code::UnknownCommand => b"UnknownCommand",
+            Code::CommandLeftOut => b"CommandLeftOut",
+            Code::ArgumentForm => b"ArgumentForm",
+            Code::Spacing => b"Spacing",
+            Code::BlockUnreached => b"BlockUnreached",
+            Code::TooLarge => b"TooLarge",
+            Code::RoutineName => b"RoutineName",
+            Code::RoutineTwice => b"RoutineTwice",
+            Code::UnknownLabel => b"UnknownLabel",
+            Code::Arity => b"Arity",
+            Code::TooMany => b"TooMany",
+            Code::Toml => b"Toml",
+            Code::Key => b"Key",
+            Code::Pattern => b"Pattern",
+            Code::TemplateVariable => b"TemplateVariable",
+            Code::FamiliesMeet => b"FamiliesMeet",
+            Code::RulesLimit => b"Limit",
+            Code::NotEnabled => b"NotEnabled",
+            Code::BadChoice => b"BadChoice",
+            Code::UnknownJob => b"UnknownJob",
+            Code::EventForm => b"EventForm",
+            Code::Head => b"Head",
+            Code::Form => b"Form",
+            Code::Order => b"Order",
+            Code::EntryTwice => b"EntryTwice",
+            Code::CertLimit => b"Limit",
+            Code::NoEnd => b"NoEnd",
+            Code::Unruled => b"Unruled",
+            Code::Uncovered => b"Uncovered",
+            Code::ReadOnly => b"ReadOnly",
+            Code::NotPrivate => b"NotPrivate",
+            Code::Pinned => b"Pinned",
+            Code::NotHeld => b"NotHeld",
+            Code::Unranked => b"Unranked",
+            Code::RankOrder => b"RankOrder",
+            Code::HeldAtEnd => b"HeldAtEnd",
+            Code::CaseNotListed => b"CaseNotListed",
+            Code::NeedMissing => b"NeedMissing",
+            Code::SummaryShort => b"SummaryShort",
+            Code::NoCertificate => b"NoCertificate",
+            Code::SharedName => b"SharedName",
+            Code::UnknownSubscript => b"UnknownSubscript",
+            Code::FallsIntoFormals => b"FallsIntoFormals",
+            Code::TooManyCases => b"TooManyCases",
+            Code::NameEscapes => b"NameEscapes",
+            Code::DropsFrame => b"DropsFrame",
+            Code::GaveUp => b"GaveUp",
+            Code::EntryMissing => b"EntryMissing",
+            Code::Workers => b"Workers",
+            Code::GateShut => b"GateShut",
+        }
+    }
+}

@@ -1,0 +1,82 @@
+// Where a routine text is refused, and why.
+
+ghost use Rattle.std.specs.Prelude.{◌≡◌};
+ghost use Rattle.mlk_text.specs.Words.{left_out_word};
+
+use crate::code::Code;
+use crate::value::Value;
+
+/// A place in a routine text. Lines and columns count from 1, columns in bytes.
+#[derive(Drop, Debug)]
+pub struct Place {
+    /// The routine's name as the program prints it: a text, since a stem may be no name.
+    pub routine: Value,
+    pub line: u32,
+    pub column: u32,
+}
+
+/// What a fault of 102 or 206 leaves out.
+#[derive(Drop, Debug)]
+pub enum LeftOut {
+    /// `@`
+    Indirection,
+    /// `^(`
+    Naked,
+    /// `^|`
+    Environment,
+    /// `^$`
+    Ssvn,
+    /// `$&`
+    External,
+    /// `label+`
+    Offset,
+    /// a function that is left out
+    Function,
+    /// a special variable that is left out, or SET or NEW of one
+    Special,
+    /// a global reference or a call where the order of evaluation is not certain
+    Order,
+    /// READ into a global
+    GlobalRead,
+    /// a subscripted variable of FOR
+    ForVariable,
+    /// QUIT with an argument inside a FOR or a block
+    QuitValue,
+    /// `:` after an argument of JOB or of LOCK with a minus
+    Timeout,
+    /// a command, by its full word in upper case
+    Command(Value),
+}
+
+impl LeftOut {
+    /// The word that is printed after the code's name.
+    pub fn word(&self) -> &[u8]
+        ensures { result.now ≡ left_out_word self.now }
+    {
+        match self {
+            LeftOut::Indirection => b"INDIRECTION",
+            LeftOut::Naked => b"NAKED",
+            LeftOut::Environment => b"ENVIRONMENT",
+            LeftOut::Ssvn => b"SSVN",
+            LeftOut::External => b"EXTERNAL",
+            LeftOut::Offset => b"OFFSET",
+            LeftOut::Function => b"FUNCTION",
+            LeftOut::Special => b"SPECIAL",
+            LeftOut::Order => b"ORDER",
+            LeftOut::GlobalRead => b"GLOBALREAD",
+            LeftOut::ForVariable => b"FORVARIABLE",
+            LeftOut::QuitValue => b"QUITVALUE",
+            LeftOut::Timeout => b"TIMEOUT",
+            LeftOut::Command(word) => word.as_bytes(),
+        }
+    }
+}
+
+/// Why a routine text, or the linking of routines, is refused.
+#[derive(Drop, Debug)]
+pub struct Fault {
+    pub code: Code,
+    pub place: Place,
+    /// What is left out, for `Code::ExprLeftOut` and `Code::CommandLeftOut`.
+    pub left_out: Option<LeftOut>,
+}
