@@ -1,0 +1,3 @@
+pub mod LockNames
+pub mod Entries
+pub mod Plain

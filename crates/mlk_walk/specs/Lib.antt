@@ -1,1 +1,5 @@
 pub mod Points
+pub mod Sets
+pub mod Rules
+pub mod Walk
+pub mod Theorem

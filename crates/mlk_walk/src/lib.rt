@@ -3,8 +3,11 @@
 
 mod cert;
 mod rules;
+mod verdict;
+mod walk;
 
 pub use cert::{Blocks, Case, Cases, Certificate, EntryCert, Point, Points};
 pub use rules::{
     Cover, Element, Elements, EntryTexts, Family, Part, Parts, Pattern, Rules, Template,
 };
+pub use verdict::{Verdict, WalkFault};

@@ -1,0 +1,4 @@
+pub mod NameLemmas
+pub mod Counting
+pub mod EntryLemmas
+pub mod Tables

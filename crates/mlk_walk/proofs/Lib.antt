@@ -1,0 +1,4 @@
+pub mod SetLemmas
+pub mod CaseLemmas
+pub mod Alone
+pub mod Together
