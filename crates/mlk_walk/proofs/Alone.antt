@@ -173,10 +173,10 @@ module _ (cover : Option Cover) (b : EntryCert) (n : ℕ) (whole : List Line) (f
   line_end m l (next ∷ ls) c made front place e h =
       ⊎_elim
       (λ i.
-          let d = listed_among (listed b (suc m)) c i in
-          let further : suc m ≡ n + length (front ++ l ∷ []) = omega (arith, length-append front (l ∷ [])) in
-          let P : ℕ → Type 0 = λ m. Among d.0 (listed b m) in
-          (d.0, record { front = front ++ l ∷ []; place = place ∙ sym (append_assoc front (l ∷ []) (next ∷ ls)); among = subst P further d.1 }, d.2))
+      let d = listed_among (listed b (suc m)) c i in
+      let further : suc m ≡ n + length (front ++ l ∷ []) = omega (arith, length-append front (l ∷ [])) in
+      let P : ℕ → Type 0 = λ m. Among d.0 (listed b m) in
+      (d.0, record { front = front ++ l ∷ []; place = place ∙ sym (append_assoc front (l ∷ []) (next ∷ ls)); among = subst P further d.1 }, d.2))
       (λ i. absurd (rw i at h))
       (cases_Bool (is_listed (listed b (suc m)) c))
 
@@ -253,8 +253,8 @@ module _ (cover : Option Cover) (b : EntryCert) (n : ℕ) (whole : List Line) (f
       came _ i (ap Some p.1) (record { held = c ++ m ∷ []; good = g.1; describes = record { counts = λ k. omega (arith, count_of-raised j.held m k, times-last c m k, d.counts k) } })
   step free (Release m ∷ ts) j i c g d h =
       let some : 0 < count_of j.held m =
-          let s : one m m ≡ 1 = rw (same_self m) refl in
-          omega (arith, times-taken c g.1 m m g.2, d.counts m) in
+      let s : one m m ≡ 1 = rw (same_self m) refl in
+      omega (arith, times-taken c g.1 m m g.2, d.counts m) in
       came _ i h (record { held = g.1; good = g.3; describes = record { counts = λ k. omega (arith, count_of-lowered j.held m k some, times-taken c g.1 m k g.2, d.counts k) } })
   step free (EndFrame back ∷ ts) j i c g d h =
       let P : List Task → Type 0 = λ t. Good t c in

@@ -25,13 +25,13 @@ times-taken [] r m n h = cc
 times-taken (x ∷ c) r m n h =
     ⊎_elim
     (λ e.
-        let g : Some c ≡ Some r = rw e at h in
-        let s : c ≡ r = cc in
-        rw (← s, ← same_is x m e) (sym (times-front c x n)))
+    let g : Some c ≡ Some r = rw e at h in
+    let s : c ≡ r = cc in
+    rw (← s, ← same_is x m e) (sym (times-front c x n)))
     (λ e.
-        let g : option_map (λ (r : List LockName). x ∷ r) (taken m c) ≡ Some r = rw e at h in
-        let p = mapped (λ (r : List LockName). x ∷ r) (taken m c) r g in
-        rw (← p.2) (omega (arith, times-front c x n, times-front p.0 x n, times-taken c p.0 m n p.1)))
+    let g : option_map (λ (r : List LockName). x ∷ r) (taken m c) ≡ Some r = rw e at h in
+    let p = mapped (λ (r : List LockName). x ∷ r) (taken m c) r g in
+    rw (← p.2) (omega (arith, times-front c x n, times-front p.0 x n, times-taken c p.0 m n p.1)))
     (cases_Bool (same_name x m))
 
 -- names that agree stand as often in both
@@ -62,9 +62,9 @@ listed_among (d ∷ ds) c h =
     ⊎_elim
     (λ e. (d, inl refl, same_times c d e))
     (λ e.
-        let g : is_listed ds c ≡ true = rw e at h in
-        let r = listed_among ds c g in
-        (r.0, inr r.1, r.2))
+    let g : is_listed ds c ≡ true = rw e at h in
+    let r = listed_among ds c g in
+    (r.0, inr r.1, r.2))
     (cases_Bool (same_held c d))
 
 pub true_false : {A : Type 0} → (b : Bool) → b ≡ true → b ≡ false → A

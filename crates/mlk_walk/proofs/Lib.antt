@@ -1,4 +1,6 @@
 pub mod SetLemmas
 pub mod CaseLemmas
+pub mod PointLemmas
+pub mod Steps
 pub mod Alone
 pub mod Together

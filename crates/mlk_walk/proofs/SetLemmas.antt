@@ -37,15 +37,15 @@ fault_exact f g h =
 flipped : (f g : WalkFault) → fault_cmp f g ≡ Greater → fault_cmp g f ≡ Less
 flipped f g h = fault_total.antisymm g f ∙ ap ordering_reverse h
 
-among-append : (f : WalkFault) (xs ys : List WalkFault) → Among f (xs ++ ys) → Among f xs ⊎ Among f ys
+pub among-append : (f : WalkFault) (xs ys : List WalkFault) → Among f (xs ++ ys) → Among f xs ⊎ Among f ys
 among-append f [] ys a = inr a
 among-append f (x ∷ xs) ys a = ⊎_elim (λ e. inl (inl e)) (λ b. ⊎_elim (λ c. inl (inr c)) inr (among-append f xs ys b)) a
 
-among_left : (f : WalkFault) (xs ys : List WalkFault) → Among f xs → Among f (xs ++ ys)
+pub among_left : (f : WalkFault) (xs ys : List WalkFault) → Among f xs → Among f (xs ++ ys)
 among_left f [] ys a = absurd a
 among_left f (x ∷ xs) ys a = ⊎_elim inl (λ b. inr (among_left f xs ys b)) a
 
-among_right : (f : WalkFault) (xs ys : List WalkFault) → Among f ys → Among f (xs ++ ys)
+pub among_right : (f : WalkFault) (xs ys : List WalkFault) → Among f ys → Among f (xs ++ ys)
 among_right f [] ys a = a
 among_right f (x ∷ xs) ys a = inr (among_right f xs ys a)
 

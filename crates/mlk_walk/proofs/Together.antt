@@ -39,13 +39,13 @@ unblocked (x ∷ hs) m n h p =
     let p' : 0 < (if same_name x.0 m then x.1 else 0) + count_of hs m = p in
     ⊎_elim
     (λ e.
-        let i : x.0 ≡ m = same_is x.0 m e in
-        let q : 0 < x.1 + count_of hs m = rw e at p' in
-        ⊎_elim
-        (λ z.
-            let r : 0 < count_of hs m = omega (arith, zero_of x.1 z) in unblocked hs m n o.1 r)
-        (λ c. rw (← i) c)
-        (and_cases (nat_lt 0 x.1) (conflict x.0 n) o.0))
+    let i : x.0 ≡ m = same_is x.0 m e in
+    let q : 0 < x.1 + count_of hs m = rw e at p' in
+    ⊎_elim
+    (λ z.
+    let r : 0 < count_of hs m = omega (arith, zero_of x.1 z) in unblocked hs m n o.1 r)
+    (λ c. rw (← i) c)
+    (and_cases (nat_lt 0 x.1) (conflict x.0 n) o.0))
     (λ e. let q : 0 < 0 + count_of hs m = rw e at p' in let r : 0 < count_of hs m = omega arith in unblocked hs m n o.1 r)
     (cases_Bool (same_name x.0 m))
   where
@@ -83,13 +83,16 @@ held_after free (Touch node ∷ ts) j i h = as_before free j _ i refl refl (writ
 held_after free (Claim n ∷ ts) j i h =
     let p = cond_some (free n) _ i h in
     let P : Job → Type 0 = λ i. HeldAfter free j i in
-    subst P p.1 (refl, λ m q.
-        ⊎_elim
-        (λ e. inr (ap free (sym (same_is n m e)) ∙ p.0))
-        (λ e.
-            let o : one n m ≡ 0 = rw e refl in
-            inl (omega (arith, count_of-raised j.held n m, o, q)))
-        (cases_Bool (same_name n m)))
+    subst P p.1 (
+      refl,
+      λ m q.
+          ⊎_elim
+          (λ e. inr (ap free (sym (same_is n m e)) ∙ p.0))
+          (λ e.
+          let o : one n m ≡ 0 = rw e refl in
+          inl (omega (arith, count_of-raised j.held n m, o, q)))
+          (cases_Bool (same_name n m)),
+    )
 held_after free (Release n ∷ ts) j i h =
     let P : Job → Type 0 = λ i. HeldAfter free j i in
     subst P (came i h) (refl, λ m q. inl (omega (arith, lowered_le j.held n m, q)))
@@ -139,19 +142,19 @@ module _ (routines : List Routine) (rules : Rules) (cert : Certificate) (clean :
   in_changed f k (x ∷ xs) jobs' h i a =
       ⊎_elim
       (λ e.
-          let g : option_and_then (λ j'. Some (j' ∷ xs)) (f x) ≡ Some jobs' = rw e at h in
-          option_and_then_some (λ j'. Some (j' ∷ xs)) (f x) jobs' g (λ y p q.
-              let r : y ∷ xs ≡ jobs' = cc in
-              let P : List Job → Type 0 = λ l. Among i l in
-              let b : Among i (y ∷ xs) = subst P (sym r) a in
-              ⊎_elim (λ c. inr (x, inl refl, eqb-true x.number k e, p ∙ ap Some (sym c))) (λ c. inl (inr c)) b))
+      let g : option_and_then (λ j'. Some (j' ∷ xs)) (f x) ≡ Some jobs' = rw e at h in
+      option_and_then_some (λ j'. Some (j' ∷ xs)) (f x) jobs' g (λ y p q.
+      let r : y ∷ xs ≡ jobs' = cc in
+      let P : List Job → Type 0 = λ l. Among i l in
+      let b : Among i (y ∷ xs) = subst P (sym r) a in
+      ⊎_elim (λ c. inr (x, inl refl, eqb-true x.number k e, p ∙ ap Some (sym c))) (λ c. inl (inr c)) b))
       (λ e.
-          let g : option_and_then (λ js'. Some (x ∷ js')) (changed f k xs) ≡ Some jobs' = rw e at h in
-          option_and_then_some (λ js'. Some (x ∷ js')) (changed f k xs) jobs' g (λ ys p q.
-              let r : x ∷ ys ≡ jobs' = cc in
-              let P : List Job → Type 0 = λ l. Among i l in
-              let b : Among i (x ∷ ys) = subst P (sym r) a in
-              ⊎_elim (λ c. inl (inl c)) (λ c. ⊎_elim (λ d. inl (inr d)) (λ d. inr (d.0, inr d.1, d.2, d.3)) (in_changed f k xs ys p i c)) b))
+      let g : option_and_then (λ js'. Some (x ∷ js')) (changed f k xs) ≡ Some jobs' = rw e at h in
+      option_and_then_some (λ js'. Some (x ∷ js')) (changed f k xs) jobs' g (λ ys p q.
+      let r : x ∷ ys ≡ jobs' = cc in
+      let P : List Job → Type 0 = λ l. Among i l in
+      let b : Among i (x ∷ ys) = subst P (sym r) a in
+      ⊎_elim (λ c. inl (inl c)) (λ c. ⊎_elim (λ d. inl (inr d)) (λ d. inr (d.0, inr d.1, d.2, d.3)) (in_changed f k xs ys p i c)) b))
       (cases_Bool (x.number == k))
 
   none_blocks : (k : ℕ) (n : LockName) (jobs : List Job) → list_any (λ (j : Job). not (j.number == k) && blocks j.held n) jobs ≡ false → (j : Job) → Among j jobs → j.number ≢ k → blocks j.held n ≡ false
@@ -160,27 +163,27 @@ module _ (routines : List Routine) (rules : Rules) (cert : Certificate) (clean :
       let o = or_false (not (x.number == k) && blocks x.held n) (list_any (λ (j : Job). not (j.number == k) && blocks j.held n) xs) h in
       ⊎_elim
       (λ e. ⊎_elim
-          (λ p. let q : (x.number == k) ≡ true = not-false (x.number == k) p in absurd (ne (ap (λ (j : Job). j.number) e ∙ eqb-true x.number k q)))
-          (λ p. ap (λ (j : Job). blocks j.held n) e ∙ p)
-          (and_cases (not (x.number == k)) (blocks x.held n) o.0))
+      (λ p. let q : (x.number == k) ≡ true = not-false (x.number == k) p in absurd (ne (ap (λ (j : Job). j.number) e ∙ eqb-true x.number k q)))
+      (λ p. ap (λ (j : Job). blocks j.held n) e ∙ p)
+      (and_cases (not (x.number == k)) (blocks x.held n) o.0))
       (λ b. none_blocks k n xs o.1 j b ne)
       a
 
   went : (k : ℕ) (choice : Choice) (jobs jobs' : List Job) → Safe jobs → changed (gone (is_free jobs k) choice) k jobs ≡ Some jobs' → Safe jobs'
   went k choice jobs jobs' s h = safe_changed k jobs jobs' s (λ i a.
       ⊎_elim inl (λ c.
-          let j = c.0 in
-          let w = s.each j c.1 in
-          let t = held_gone (is_free jobs k) choice j i c.3 in
-          let w' : Well i = record { block = w.block; number = w.number; lines = w.lines; fine = w.fine; well = goes_on rules.cover w.block w.number w.lines w.fine (is_free jobs k) choice j i w.well c.3 } in
-          inr (
-            t.0 ∙ c.2,
-            w',
-            λ o b ne m n p q. ⊎_elim
-                (λ old. s.apart j o c.1 b (λ e. ne (sym e ∙ c.2)) m n old q)
-                (λ free. conflict_comm m n ∙ unblocked o.held n m (none_blocks k m jobs (not-true _ free) o b ne) q)
-                (t.1 m p),
-          ))
+      let j = c.0 in
+      let w = s.each j c.1 in
+      let t = held_gone (is_free jobs k) choice j i c.3 in
+      let w' : Well i = record { block = w.block; number = w.number; lines = w.lines; fine = w.fine; well = goes_on rules.cover w.block w.number w.lines w.fine (is_free jobs k) choice j i w.well c.3 } in
+      inr (
+        t.0 ∙ c.2,
+        w',
+        λ o b ne m n p q. ⊎_elim
+            (λ old. s.apart j o c.1 b (λ e. ne (sym e ∙ c.2)) m n old q)
+            (λ free. conflict_comm m n ∙ unblocked o.held n m (none_blocks k m jobs (not-true _ free) o b ne) q)
+            (t.1 m p),
+      ))
       (in_changed _ k jobs jobs' h i a))
 
   live_number : (j : Job) (ts : List Task) (i : Job) → when_live (λ i. Some (aborted i)) j ts ≡ Some i → i.number ≡ j.number
@@ -191,12 +194,16 @@ module _ (routines : List Routine) (rules : Rules) (cert : Certificate) (clean :
   stopped : (k : ℕ) (jobs jobs' : List Job) → Safe jobs → changed (λ j. when_live (λ i. Some (aborted i)) j j.tasks) k jobs ≡ Some jobs' → Safe jobs'
   stopped k jobs jobs' s h = safe_changed k jobs jobs' s (λ i a.
       ⊎_elim inl (λ c.
-          let j = c.0 in
-          let w = s.each j c.1 in
-          let gone = abort rules.cover w.block w.number w.lines w.fine j i j.tasks c.3 in
-          let w' : Well i = record { block = w.block; number = w.number; lines = w.lines; fine = w.fine; well = inr gone } in
-          inr (live_number j j.tasks i c.3 ∙ c.2, w', λ o b ne m n p q.
-              let none : count_of i.held m ≡ 0 = ap (λ hs. count_of hs m) gone.held in absurd (omega arith)))
+      let j = c.0 in
+      let w = s.each j c.1 in
+      let gone = abort rules.cover w.block w.number w.lines w.fine j i j.tasks c.3 in
+      let w' : Well i = record { block = w.block; number = w.number; lines = w.lines; fine = w.fine; well = inr gone } in
+      inr (
+        live_number j j.tasks i c.3 ∙ c.2,
+        w',
+        λ o b ne m n p q.
+            let none : count_of i.held m ≡ 0 = ap (λ hs. count_of hs m) gone.held in absurd (omega arith),
+      ))
       (in_changed _ k jobs jobs' h i a))
 
   among-append : (xs : List Job) (y i : Job) → Among i (xs ++ y ∷ []) → Among i xs ⊎ (i ≡ y)
@@ -212,15 +219,15 @@ module _ (routines : List Routine) (rules : Rules) (cert : Certificate) (clean :
   new_job k test lines jobs jobs' w s h =
       let P : List Job → Type 0 = λ l. Safe l in
       let safe = safe_changed k jobs (jobs ++ begun k test lines ∷ []) s (λ i a.
-          ⊎_elim inl (λ f.
-              let Q : Job → Type 0 = λ i. MayChange k jobs i in
-              inr (subst Q (sym f) (refl, w, λ o b ne m n p q. absurd (omega arith))))
-          (among-append jobs (begun k test lines) i a)) in
+      ⊎_elim inl (λ f.
+      let Q : Job → Type 0 = λ i. MayChange k jobs i in
+      inr (subst Q (sym f) (refl, w, λ o b ne m n p q. absurd (omega arith))))
+      (among-append jobs (begun k test lines) i a)) in
       ⊎_elim
       (λ u. let g : None ≡ Some jobs' = rw u at h in cc)
       (λ u.
-          let g : Some (jobs ++ begun k test lines ∷ []) ≡ Some jobs' = rw u at h in
-          let e : jobs ++ begun k test lines ∷ [] ≡ jobs' = cc in subst P e safe)
+      let g : Some (jobs ++ begun k test lines ∷ []) ≡ Some jobs' = rw u at h in
+      let e : jobs ++ begun k test lines ∷ [] ≡ jobs' = cc in subst P e safe)
       (cases_Bool (is_used jobs k))
 
   begins : (e : EntryId) (k : ℕ) (test : Bool) (values : List (List ℕ)) (o : Option (List Line)) (jobs jobs' : List Job) → ((lines : List Line) → o ≡ Some lines → Well (begun k test lines)) → Safe jobs → joined jobs k test values o ≡ Some jobs' → Safe jobs'
@@ -272,8 +279,8 @@ module _ (routines : List Routine) (rules : Rules) (cert : Certificate) (clean :
   ready_covering j node w h =
       ⊎_elim
       (λ r.
-          let p = covering rules.cover node r.held (touched rules.cover w.block w.number w.lines w.fine j.tasks r.held node r.good h) in
-          record { rule = p.0; is = p.1; name = p.2; held = rw (r.describes.counts p.2) p.3; above = p.4 })
+      let p = covering rules.cover node r.held (touched rules.cover w.block w.number w.lines w.fine j.tasks r.held node r.good h) in
+      record { rule = p.0; is = p.1; name = p.2; held = rw (r.describes.counts p.2) p.3; above = p.4 })
       (λ a. let e : ready_in [] ≡ Some node = rw a.tasks at h in cc)
       w.well
 

@@ -2,4 +2,5 @@ pub mod Points
 pub mod Sets
 pub mod Rules
 pub mod Walk
+pub mod ByPoint
 pub mod Theorem

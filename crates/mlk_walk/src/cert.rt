@@ -1,6 +1,6 @@
 // What a certificate says of straight lines.
 
-ghost use Rattle.std.specs.Prelude.{◌≡◌, ◌∷◌, ◌++◌, [], IfOk, OnOk, OnErr};
+ghost use Rattle.std.specs.Prelude.{◌≡◌, ◌∷◌, ◌++◌, [], IfOk, OnOk, OnErr, ◌<◌, length, remove};
 ghost use Rattle.mlk_walk.specs.Points.{PointsAscend};
 
 use mlk_machine::plain::{EntryText, LockName};
@@ -48,7 +48,15 @@ impl Case {
         Ok(Case { names })
     }
 
-    /// One more name.
+    /// Takes out the name at a place.
+    pub fn remove(&mut self, place: usize) -> LockName
+        requires { place < length self.old }
+        ensures { self.new ≡ remove self.old place }
+    {
+        self.names.remove(place)
+    }
+
+    /// One more name, behind the others.
     pub fn push(&mut self, name: LockName) -> Result<(), AllocError>
         ensures ok { OnOk result (self.new ≡ self.old ++ name ∷ []) }
         ensures err { OnErr result (self.new ≡ self.old) }

@@ -1,7 +1,9 @@
 //! The walk: what every run of a routine may do, followed over the cases that a certificate lists.
 #![tactic(auto)]
 
+mod case;
 mod cert;
+mod cover;
 mod rules;
 mod verdict;
 mod walk;
