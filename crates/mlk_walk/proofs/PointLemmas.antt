@@ -9,10 +9,10 @@ use Rattle.mlk_walk.specs.declared.cert.Point.{Point}
 use Rattle.mlk_walk.specs.declared.cert.EntryCert.{EntryCert}
 use Rattle.mlk_walk.specs.declared.verdict.WalkFault.{WalkFault}
 use Rattle.mlk_walk.specs.Points.{IsBelow, PointsAscend}
-use Rattle.mlk_walk.specs.Sets.{Among, SameSet}
+use Rattle.mlk_walk.specs.Sets.{Among, SameSet, Adds}
 use Rattle.mlk_walk.specs.Walk.{Held, cases_at, listed, too_many, walk_rest, walk_lines}
 use Rattle.mlk_walk.specs.ByPoint.{at_line, point_faults, points_faults}
-use Rattle.mlk_walk.proofs.SetLemmas.{among-append, among_left, among_right}
+use Rattle.mlk_walk.proofs.SetLemmas.{among-append, among_left, among_right, added, same_trans}
 
 -- points and their order
 below_then : (p q r : Point) → IsBelow p q → IsBelow q r → IsBelow p r
@@ -224,3 +224,17 @@ module _ (cover : Option Cover) (declared : Bool) (b : EntryCert) (f : WalkFault
 
 pub same_by_points : (cover : Option Cover) (declared : Bool) (b : EntryCert) (n : ℕ) (lines : List Line) → PointsAscend b.points → SameSet (points_faults cover declared b.exits n lines b.points) (walk_lines cover declared b n lines)
 same_by_points cover declared b n lines h = record { by = λ f. (λ a. by_points cover declared b f n lines h [] b.points refl a, λ a. by_lines cover declared b f n lines h a) }
+
+-- a walk over points stops at the first one behind the line
+pub past_at : (qs : List Point) (p : Point) (ps : List Point) (line : ℕ) → qs ≡ p ∷ ps → PointsAscend qs → line < p.line → ◌≡◌ {A = List Held} [] (cases_at qs line 0)
+past_at qs p ps line e h k =
+    let P : List Point → Type 0 = λ q. PointsAscend q in
+    sym (ap (λ q. cases_at q line 0) e ∙ cases_at-past p ps line (subst P e h) k)
+
+-- one more point was walked
+pub next_point : (cover : Option Cover) (declared : Bool) (exits : List Held) (n : ℕ) (lines : List Line) (p : Point) (qs ps behind : List Point) (old new all : List WalkFault) → qs ≡ p ∷ ps
+    → SameSet (old ++ points_faults cover declared exits n lines qs) all → behind ≡ ps → Adds old new (point_faults cover declared exits n lines p behind) → SameSet (new ++ points_faults cover declared exits n lines ps) all
+next_point cover declared exits n lines p qs ps behind old new all e h b a =
+    let P : List Point → Type 0 = λ q. SameSet (old ++ points_faults cover declared exits n lines q) all in
+    let Q : List Point → Type 0 = λ q. Adds old new (point_faults cover declared exits n lines p q) in
+    same_trans _ _ _ (added old new _ _ (subst Q b a)) (subst P e h)

@@ -186,3 +186,15 @@ module _ (f d : WalkFault) (xs : List WalkFault) (ascends : IsAscending xs) wher
   pub place_there : (i : ℕ) → 0 < i → i ≤ length xs → fault_cmp f (get_or xs (i - 1) d) ≡ Equal → put_in f xs ≡ xs
   place_there zero p h k = absurd (omega arith)
   place_there (suc j) p h k = let s : suc j - 1 ≡ j = omega arith in there_suc j (omega arith) (rw s at k)
+
+-- some were added, and then others
+pub adds_both : (old mid new xs ys : List WalkFault) → Adds old mid xs → Adds mid new ys → Adds old new (xs ++ ys)
+adds_both old mid new xs ys a b = same_trans _ _ _ b (added old mid xs ys a)
+
+pub same_right : (xs ys zs : List WalkFault) → SameSet ys zs → SameSet (xs ++ ys) (xs ++ zs)
+same_right xs ys zs h = record {
+  by = λ f. (
+    λ a. ⊎_elim (λ b. among_left f xs zs b) (λ b. among_right f xs zs ((h.by f).0 b)) (among-append f xs ys a),
+    λ a. ⊎_elim (λ b. among_left f xs ys b) (λ b. among_right f xs ys ((h.by f).1 b)) (among-append f xs zs a),
+  );
+}

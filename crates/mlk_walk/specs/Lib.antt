@@ -3,4 +3,5 @@ pub mod Sets
 pub mod Rules
 pub mod Walk
 pub mod ByPoint
+pub mod Report
 pub mod Theorem

@@ -126,10 +126,14 @@ walk_lines cover declared b n (l ∷ ls) = walk_rest cover declared b.exits (lis
 abbrev pub some_held : List Held → Bool
 some_held exits = list_any (λ c. nat_lt 0 (length c)) exits
 
+abbrev pub begin_faults : EntryCert → ℕ → List WalkFault
+begin_faults b n = if is_listed (listed b n) [] then [] else fault_at n 1 CaseNotListed ∷ []
+
+abbrev pub exit_faults : Bool → EntryCert → ℕ → List WalkFault
+exit_faults declared b n = if declared && some_held b.exits then fault_at n 1 HeldAtEnd ∷ [] else []
+
 abbrev pub start_faults : Bool → EntryCert → ℕ → List WalkFault
-start_faults declared b n =
-    (if is_listed (listed b n) [] then [] else fault_at n 1 CaseNotListed ∷ [])
-    ++ (if declared && some_held b.exits then fault_at n 1 HeldAtEnd ∷ [] else [])
+start_faults declared b n = begin_faults b n ++ exit_faults declared b n
 
 -- the faults of an entry, given the block that certifies it
 abbrev pub block_faults : Option Cover → Bool → ℕ → List Line → Option EntryCert → List WalkFault

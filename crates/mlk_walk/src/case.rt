@@ -36,14 +36,14 @@ fn same_held(a: &[LockName], b: &[LockName]) -> bool
     agree(a, a, b) && agree(b, a, b)
 }
 
-/// Whether the case is one of these.
-pub(crate) fn is_listed(cases: &[Case], case: &Case) -> bool
-    ensures { result ≡ is_listed cases.now case.now }
+/// Whether the held names are those of one of these cases.
+pub(crate) fn is_listed(cases: &[Case], held: &[LockName]) -> bool
+    ensures { result ≡ is_listed cases.now held.now }
 {
     let Some((c, cs)) = cases.split_first() else {
         return false;
     };
-    same_held(case.as_slice(), c.as_slice()) || is_listed(cs, case)
+    same_held(held, c.as_slice()) || is_listed(cs, held)
 }
 
 /// Where a name stands first.

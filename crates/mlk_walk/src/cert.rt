@@ -137,7 +137,8 @@ impl Points {
 
     /// The points as a slice.
     pub fn as_slice(&self) -> &[Point]
-        ensures { result.now ≡ self.now }
+        ensures points { result.now ≡ self.now }
+        ensures order { PointsAscend self.now }
     {
         self.items.as_slice()
     }

@@ -3,12 +3,17 @@
 
 mod case;
 mod cert;
+mod check;
 mod cover;
+mod entry;
+mod report;
 mod rules;
 mod verdict;
 mod walk;
 
 pub use cert::{Blocks, Case, Cases, Certificate, EntryCert, Point, Points};
+pub use check::check_entry;
+pub use report::Row;
 pub use rules::{
     Cover, Element, Elements, EntryTexts, Family, Part, Parts, Pattern, Rules, Template,
 };

@@ -36,7 +36,7 @@ fn frame_end(rows: &Rows<'_>, column: u32, case: &Case) -> Outcome
     if rows.declared && !case.as_slice().is_empty() {
         return Outcome::Faulty(column, Code::HeldAtEnd);
     }
-    if is_listed(rows.exits, case) {
+    if is_listed(rows.exits, case.as_slice()) {
         Outcome::Ends
     } else {
         Outcome::Faulty(column, Code::CaseNotListed)
@@ -129,7 +129,7 @@ fn line_end(rows: &Rows<'_>, next: &[Case], l: &Line, ls: &[Line], case: &Case) 
     if ls.is_empty() {
         return frame_end(rows, l.end, case);
     }
-    if is_listed(next, case) {
+    if is_listed(next, case.as_slice()) {
         Outcome::Ends
     } else {
         Outcome::Faulty(1, Code::CaseNotListed)

@@ -1,7 +1,7 @@
 // The routines of a program, and its entries by their texts.
 
-ghost use Rattle.std.specs.Prelude.{◌≡◌, ◌∷◌, ◌++◌, [], ℕ, List, OnOk, IfOk};
-ghost use Rattle.mlk_machine.specs.Entries.{first_with, named, line_entries, entries_from, texts_of, by_label, by_routine, paired, SameFirst};
+ghost use Rattle.std.specs.Prelude.{◌≡◌, ◌∷◌, ◌++◌, [], ℕ, List, OnOk, IfOk, drop};
+ghost use Rattle.mlk_machine.specs.Entries.{first_with, named, line_entries, entries_from, texts_of, by_label, by_routine, paired, lines_of, SameFirst};
 
 use super::tree::{Line, Routine};
 use indexmap::IndexMap;
@@ -140,6 +140,17 @@ fn table_of(alloc: Global, routines: &[Routine]) -> Result<EntryTable, AllocErro
     Ok(table)
 }
 
+// The lines behind the first `count` of them.
+fn lines_behind(lines: &[Line], count: usize) -> &[Line]
+    ensures { result.now ≡ drop count lines.now }
+{
+    if count >= lines.len() {
+        return &[];
+    }
+    let (_, behind) = lines.split_at(count);
+    behind
+}
+
 /// The routines of a program, in the order given, with their entries.
 #[derive(Drop, Debug)]
 pub struct Plain {
@@ -181,5 +192,16 @@ impl Plain {
         ensures { result ≡ named self.now text.now }
     {
         self.table.entry(text)
+    }
+
+    /// The lines that an entry runs: from its own to the routine's end; none where the program lacks it.
+    #[tactic(auto, unfolding(crate::specs::Entries::lines_of))]
+    pub fn lines_of(&self, entry: EntryId) -> &[Line]
+        ensures { result.now ≡ lines_of self.now entry }
+    {
+        match self.routines.get(entry.routine) {
+            None => &[],
+            Some(routine) => lines_behind(routine.lines.as_slice(), entry.line.saturating_sub(1)),
+        }
     }
 }

@@ -1,0 +1,57 @@
+-- The report of a program: the faults of all its entries. This project's own choice.
+use Rattle.std.specs.Prelude.{◌≡◌, ℕ, suc, ◌==◌, Bool, true, false, ◌||◌, if◌then◌else◌, List, [], ◌∷◌, ◌++◌, Option, Some, None, map, is_some, is_none, find}
+use Rattle.mlk_machine.specs.declared.plain.tree.Line.{Line}
+use Rattle.mlk_machine.specs.declared.plain.tree.Routine.{Routine}
+use Rattle.mlk_machine.specs.declared.plain.program.EntryId.{EntryId}
+use Rattle.mlk_machine.specs.Entries.{named}
+use Rattle.mlk_walk.specs.declared.rules.Rules.{Rules}
+use Rattle.mlk_walk.specs.declared.cert.EntryCert.{EntryCert}
+use Rattle.mlk_walk.specs.declared.cert.Certificate.{Certificate}
+use Rattle.mlk_walk.specs.declared.verdict.WalkFault.{WalkFault}
+use Rattle.mlk_walk.specs.declared.report.Row.{Row}
+use Rattle.mlk_walk.specs.Sets.{SameSet, IsAscending}
+use Rattle.mlk_walk.specs.Walk.{is_declared, block_of, verdict}
+
+-- the entries of a program, in its order: each first line and each line with a label
+abbrev pub is_entry : ℕ → Line → Bool
+is_entry n l = (n == 1) || is_some l.label
+
+abbrev pub line_ids : ℕ → ℕ → List Line → List EntryId
+line_ids r n [] = []
+line_ids r n (l ∷ ls) = (if is_entry n l then record { routine = r; line = n } ∷ [] else []) ++ line_ids r (suc n) ls
+
+abbrev pub ids_from : ℕ → List Routine → List EntryId
+ids_from r [] = []
+ids_from r (x ∷ xs) = line_ids r 1 x.lines ++ ids_from (suc r) xs
+
+abbrev pub all_entries : List Routine → List EntryId
+all_entries routines = ids_from 0 routines
+
+-- an entry that is declared or certified is checked
+unfoldable pub is_checked : List Routine → Rules → Certificate → EntryId → Bool
+is_checked routines rules cert e = is_declared routines rules e || is_some (block_of routines cert e)
+
+-- the faults of an entry as they are reported: its verdict in order, or nothing where it is not checked
+abbrev pub IsListOf : Bool → List WalkFault → List WalkFault → Type 0
+IsListOf true found v = SameSet v found × IsAscending v
+IsListOf false found v = v ≡ []
+
+abbrev pub row : EntryId → WalkFault → Row
+row e f = record { entry = e; fault = f }
+
+-- the rows of these entries, one entry after another
+abbrev pub IsReport : List Routine → Rules → Certificate → List EntryId → List Row → Type 0
+IsReport routines rules cert [] rows = rows ≡ []
+IsReport routines rules cert (e ∷ es) rows =
+    (v : List WalkFault) × (rest : List Row) × IsListOf (is_checked routines rules cert e) (verdict routines rules cert e) v × (rows ≡ map (row e) v ++ rest) × IsReport routines rules cert es rest
+
+-- the rows were those of some entries, and are now those of these entries too
+abbrev pub Extends : List Routine → Rules → Certificate → List Row → List Row → List EntryId → Type 0
+Extends routines rules cert old new es = (before : List EntryId) → IsReport routines rules cert before old → IsReport routines rules cert (before ++ es) new
+
+-- the first text of the rules, then of the certificate, that names no entry
+abbrev pub first_missing : List Routine → List (List ℕ) → Option (List ℕ)
+first_missing routines texts = find (λ t. is_none (named routines t)) texts
+
+abbrev pub missing : List Routine → Rules → Certificate → Option (List ℕ)
+missing routines rules cert = first_missing routines (rules.entries ++ map (λ (b : EntryCert). b.entry) cert.blocks)
