@@ -11,11 +11,11 @@ use Rattle.mlk_machine.proofs.Tables.{Table, or_first, first_with-both}
 abbrev pub HasLine : List Line → Type 0
 HasLine lines = (l : Line) × (ls : List Line) × (lines ≡ l ∷ ls)
 
-either : (o p : Option EntryId) (e : EntryId) → or_first o p ≡ Some e → (o ≡ Some e) ⊎ (p ≡ Some e)
+pub either : (o p : Option EntryId) (e : EntryId) → or_first o p ≡ Some e → (o ≡ Some e) ⊎ (p ≡ Some e)
 either None p e h = inr h
 either (Some f) p e h = inl h
 
-in_paired : (t : List ℕ) (e f : EntryId) (ts : List (List ℕ)) → first_with t (paired e ts) ≡ Some f → e ≡ f
+pub in_paired : (t : List ℕ) (e f : EntryId) (ts : List (List ℕ)) → first_with t (paired e ts) ≡ Some f → e ≡ f
 in_paired t e f [] h = cc
 in_paired t e f (u ∷ us) h =
     ⊎_elim

@@ -45,7 +45,7 @@ same_entry a b = (a.routine == b.routine) && (a.line == b.line)
 -- the text names this entry
 abbrev pub is_it : EntryId → Option EntryId → Bool
 is_it e None = false
-is_it e (Some f) = same_entry f e
+is_it e (Some f) = same_entry e f
 
 unfoldable pub names : List Routine → EntryId → List ℕ → Bool
 names routines e t = is_it e (named routines t)

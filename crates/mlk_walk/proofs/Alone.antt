@@ -354,16 +354,16 @@ module _ (cover : Option Cover) (b : EntryCert) (n : ℕ) (whole : List Line) (f
   entered has h k test = inl (first has.0 has.1 [] _ (is_listed (listed b n) []) has.2 refl h k test)
 
 -- an entry that some text declares has a line
-same_entry_is : (a b : EntryId) → same_entry a b ≡ true → a ≡ b
+pub same_entry_is : (a b : EntryId) → same_entry a b ≡ true → a ≡ b
 same_entry_is a b h =
     let p = and_parts (a.routine == b.routine) (a.line == b.line) h in
     ap (λ (x : ℕ). record a { routine = x }) (eqb-true a.routine b.routine p.0) ∙ ap (λ (x : ℕ). record b { line = x }) (eqb-true a.line b.line p.1)
 
 named_it : (e : EntryId) (o : Option EntryId) → is_it e o ≡ true → o ≡ Some e
 named_it e None h = cc
-named_it e (Some f) h = ap Some (same_entry_is f e h)
+named_it e (Some f) h = ap Some (sym (same_entry_is e f h))
 
-some_names : (routines : List Routine) (e : EntryId) (texts : List (List ℕ)) → list_any (names routines e) texts ≡ true → (t : List ℕ) × (named routines t ≡ Some e)
+pub some_names : (routines : List Routine) (e : EntryId) (texts : List (List ℕ)) → list_any (names routines e) texts ≡ true → (t : List ℕ) × (named routines t ≡ Some e)
 unfolding names
 some_names routines e [] h = cc
 some_names routines e (t ∷ ts) h =

@@ -4,3 +4,5 @@ pub mod PointLemmas
 pub mod Steps
 pub mod Alone
 pub mod Together
+pub mod PlaceLemmas
+pub mod ReportLemmas

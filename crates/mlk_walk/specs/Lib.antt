@@ -3,5 +3,7 @@ pub mod Sets
 pub mod Rules
 pub mod Walk
 pub mod ByPoint
+pub mod Places
+pub mod Rows
 pub mod Report
 pub mod Theorem

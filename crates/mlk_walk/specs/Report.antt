@@ -9,7 +9,10 @@ use Rattle.mlk_walk.specs.declared.cert.EntryCert.{EntryCert}
 use Rattle.mlk_walk.specs.declared.cert.Certificate.{Certificate}
 use Rattle.mlk_walk.specs.declared.verdict.WalkFault.{WalkFault}
 use Rattle.mlk_walk.specs.declared.report.Row.{Row}
+use Rattle.mlk_walk.specs.declared.program.Checks.{Checks}
 use Rattle.mlk_walk.specs.Sets.{SameSet, IsAscending}
+use Rattle.mlk_walk.specs.Rows.{row}
+use Rattle.mlk_walk.specs.Places.{HasPlaces, block_texts}
 use Rattle.mlk_walk.specs.Walk.{is_declared, block_of, verdict}
 
 -- the entries of a program, in its order: each first line and each line with a label
@@ -36,9 +39,6 @@ abbrev pub IsListOf : Bool → List WalkFault → List WalkFault → Type 0
 IsListOf true found v = SameSet v found × IsAscending v
 IsListOf false found v = v ≡ []
 
-abbrev pub row : EntryId → WalkFault → Row
-row e f = record { entry = e; fault = f }
-
 -- the rows of these entries, one entry after another
 abbrev pub IsReport : List Routine → Rules → Certificate → List EntryId → List Row → Type 0
 IsReport routines rules cert [] rows = rows ≡ []
@@ -49,9 +49,23 @@ IsReport routines rules cert (e ∷ es) rows =
 abbrev pub Extends : List Routine → Rules → Certificate → List Row → List Row → List EntryId → Type 0
 Extends routines rules cert old new es = (before : List EntryId) → IsReport routines rules cert before old → IsReport routines rules cert (before ++ es) new
 
--- the first text of the rules, then of the certificate, that names no entry
+-- the first text that names no entry: of the rules, else of the certificate
 abbrev pub first_missing : List Routine → List (List ℕ) → Option (List ℕ)
 first_missing routines texts = find (λ t. is_none (named routines t)) texts
 
+abbrev pub or_text : Option (List ℕ) → Option (List ℕ) → Option (List ℕ)
+or_text None o = o
+or_text (Some t) o = Some t
+
 abbrev pub missing : List Routine → Rules → Certificate → Option (List ℕ)
-missing routines rules cert = first_missing routines (rules.entries ++ map (λ (b : EntryCert). b.entry) cert.blocks)
+missing routines rules cert = or_text (first_missing routines rules.entries) (first_missing routines (block_texts cert.blocks))
+
+-- the tables of a check are those of its rules and its certificate
+pub record IsReady (c : Checks) : Type 0 where
+  pub declared : HasPlaces c.plain.now c.rules.now.entries c.declared
+  pub certified : HasPlaces c.plain.now (block_texts c.certificate.now.blocks) c.certified
+
+-- what comes of an entry: nothing where it is not checked, else its faults in order
+abbrev pub IsOutcome : Bool → List WalkFault → Option (List WalkFault) → Type 0
+IsOutcome checked found None = checked ≡ false
+IsOutcome checked found (Some v) = (checked ≡ true) × SameSet v found × IsAscending v

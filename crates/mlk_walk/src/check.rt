@@ -15,12 +15,12 @@ use std::alloc::{AllocError, Global};
 
 // Whether a text names the entry.
 #[tactic(auto, unfolding(mlk_machine::specs::Entries::names))]
-fn is_named(plain: &Plain, entry: EntryId, text: &EntryText) -> bool
+pub(crate) fn is_named(plain: &Plain, entry: EntryId, text: &EntryText) -> bool
     ensures { result ≡ names plain.now entry text.now }
 {
     match plain.entry(text.as_bytes()) {
         None => false,
-        Some(found) => found.routine == entry.routine && found.line == entry.line,
+        Some(found) => entry.routine == found.routine && entry.line == found.line,
     }
 }
 

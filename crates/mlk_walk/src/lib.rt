@@ -6,6 +6,8 @@ mod cert;
 mod check;
 mod cover;
 mod entry;
+mod places;
+mod program;
 mod report;
 mod rules;
 mod verdict;
@@ -13,7 +15,8 @@ mod walk;
 
 pub use cert::{Blocks, Case, Cases, Certificate, EntryCert, Point, Points};
 pub use check::check_entry;
-pub use report::Row;
+pub use program::{check_all, missing_entry};
+pub use report::{Report, Row};
 pub use rules::{
     Cover, Element, Elements, EntryTexts, Family, Part, Parts, Pattern, Rules, Template,
 };

@@ -10,7 +10,7 @@ use std::alloc::{AllocError, Global};
 use std::marker::Model;
 
 /// An entry of a program: its routine, counted from 0, and its line, counted from 1.
-#[derive(Clone, Copy, Debug, Drop, PartialEq, Eq)]
+#[derive(Clone, Copy, Debug, Drop, PartialEq, Eq, Hash)]
 pub struct EntryId {
     pub routine: usize,
     pub line: usize,

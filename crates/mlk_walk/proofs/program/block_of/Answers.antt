@@ -1,0 +1,10 @@
+use Rattle.std.proofs.Common.{◌∙◌, ap}
+use Rattle.std.specs.Prelude.{option_and_then, slice_get}
+use Rattle.mlk_walk.proofs.ReportLemmas.{block_is}
+use Rattle.mlk_walk.proofs.program.block_of.Goals as goal
+
+pub returns : goal.returns
+returns c =
+    let checks = c.args.checks.now in
+    let found = rw (c.as_slice.ensures, c.place.ensures) at c.block_for.ensures in
+    found ∙ block_is checks.plain.now checks.certificate.now c.args.entry checks.certified c.requires.certified
