@@ -1,2 +1,4 @@
 pub mod CodeLemmas
 pub mod Readers
+pub mod Lexemes
+pub mod Outcomes

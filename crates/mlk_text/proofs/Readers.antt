@@ -1,8 +1,8 @@
 -- Laws of readers of lists.
-use Rattle.std.proofs.Common.{◌≡◌, ◌<◌, ◌≤◌, ◌+◌, ℕ, zero, suc, ◌++◌, List, [], ◌∷◌, length, Some, None, refl, sym, ap, ◌∙◌, arith, subst, append_assoc, length-append, append-nil}
-use Rattle.std.specs.Prelude.{Option}
+use Rattle.std.proofs.Common.{◌≡◌, ◌<◌, ◌≤◌, ◌+◌, ℕ, zero, suc, ◌++◌, List, [], ◌∷◌, length, Some, None, refl, sym, ap, ◌∙◌, arith, subst, inl, inr, append_assoc, length-append, append-nil}
+use Rattle.std.specs.Prelude.{Option, ◌⊎◌}
 use Rattle.std.proofs.lemmas.Option.{same_Some}
-use Rattle.mlk_text.specs.Reading.{◌>>=◌, with, put, many, many_by, Many}
+use Rattle.mlk_text.specs.Reading.{◌>>=◌, with, put, many, many_by, Many, Begins}
 
 -- a chain that gives something: each part gave something
 pub then_some : {A B : Type 0} (o : Option A) (f : A → Option B) (y : B) → (o >>= f) ≡ Some y → (x : A) × (o ≡ Some x) × (f x ≡ Some y)
@@ -109,3 +109,110 @@ pub many_fails : {A B : Type 0} (head : List ℕ → Option (B × List ℕ)) (it
 unfolding many
 many_fails head item front zero xs whole b m is one less h = absurd (omega arith)
 many_fails head item front (suc n) xs whole b m is one less h = sym h ∙ rw is (rw one refl)
+
+-- Items at the front, whatever stands behind them: one more,
+pub begins_more : {A B : Type 0} (head : List ℕ → Option (B × List ℕ)) (Item : B → A → List ℕ → List ℕ → Type 0) (items : List A) (a : A) (b : B) (xs m n p : List ℕ)
+    → Begins head Item items xs m → head m ≡ Some (b, n) → Item b a n p → Begins head Item (items ++ a ∷ []) xs p
+begins_more head Item [] a b xs m n p f is one = (b, n, p, ap head f ∙ is, one, refl)
+begins_more head Item (i ∷ items) a b xs m n p (c, q, r, first, f, others) is one = (c, q, r, first, f, begins_more head Item items a b r m n p others is one)
+
+-- all of them,
+pub begins_end : {A B : Type 0} (head : List ℕ → Option (B × List ℕ)) (Item : B → A → List ℕ → List ℕ → Type 0) (items : List A) (xs ys : List ℕ)
+    → Begins head Item items xs ys → head ys ≡ None → Many head Item items xs ys
+begins_end head Item [] xs ys f none = (f, ap head f ∙ none)
+begins_end head Item (a ∷ items) xs ys (b, m, n, is, one, rest) none = (b, m, n, is, one, begins_end head Item items n ys rest none)
+
+pub begins_of : {A B : Type 0} (head : List ℕ → Option (B × List ℕ)) (Item : B → A → List ℕ → List ℕ → Type 0) (items : List A) (xs ys : List ℕ)
+    → Many head Item items xs ys → Begins head Item items xs ys × (head ys ≡ None)
+begins_of head Item [] xs ys f = (f.0, sym (ap head f.0) ∙ f.1)
+begins_of head Item (a ∷ items) xs ys (b, m, n, is, one, rest) = let r = begins_of head Item items n ys rest in ((b, m, n, is, one, r.0), r.1)
+
+-- two readings of an item and its head are one
+same_item : {A B : Type 0} (head : List ℕ → Option (B × List ℕ)) (item : B → List ℕ → Option (A × List ℕ)) (Item : B → A → List ℕ → List ℕ → Type 0)
+    → ((b : B) → Exact (item b) (Item b)) → (xs : List ℕ) (a c : A) (b d : B) (m n p q : List ℕ)
+    → head xs ≡ Some (b, m) → Item b a m n → head xs ≡ Some (d, p) → Item d c p q → (a ≡ c) × (n ≡ q)
+same_item head item Item e xs a c b d m n p q is one also other =
+    let heads = same_Some (b, m) (d, p) (sym is ∙ also) in
+    pair_parts a c n q (sym ((e b).complete a m n one) ∙ ap (λ z. item z.0 z.1) heads ∙ (e d).complete c p q other)
+
+-- and they are the first of all
+pub begins_many : {A B : Type 0} (head : List ℕ → Option (B × List ℕ)) (item : B → List ℕ → Option (A × List ℕ)) (Item : B → A → List ℕ → List ℕ → Type 0)
+    → ((b : B) → Exact (item b) (Item b)) → (items all : List A) (xs ys zs : List ℕ) → Begins head Item items xs ys → Many head Item all xs zs
+    → (more : List A) × (all ≡ items ++ more) × Many head Item more ys zs
+begins_many head item Item e [] all xs ys zs f g = (all, refl, subst (λ l. Many head Item all l zs) f g)
+begins_many head item Item e (a ∷ items) [] xs ys zs (b, m, n, is, one, rest) g = cc (is, g.1)
+begins_many head item Item e (a ∷ items) (c ∷ all) xs ys zs (b, m, n, is, one, rest) (d, p, q, also, other, others) =
+    let same = same_item head item Item e xs a c b d m n p q is one also other in
+    let r = begins_many head item Item e items all n ys zs rest (subst (λ l. Many head Item all l zs) (sym same.1) others) in
+    (r.0, ap (λ z. z ∷ all) (sym same.0) ∙ ap (λ l. a ∷ l) r.1, r.2)
+
+-- a place where a head stands and no item behind it
+abbrev pub Stuck : {A B : Type 0} → (List ℕ → Option (B × List ℕ)) → (B → List ℕ → Option (A × List ℕ)) → List ℕ → Type 0
+Stuck {B = B} head item xs = (b : B) × (m : List ℕ) × (head xs ≡ Some (b, m)) × (item b m ≡ None)
+
+not_stuck : {A B : Type 0} (head : List ℕ → Option (B × List ℕ)) (item : B → List ℕ → Option (A × List ℕ)) (Item : B → A → List ℕ → List ℕ → Type 0)
+    → ((b : B) → Exact (item b) (Item b)) → (xs : List ℕ) (a : A) (b : B) (m n : List ℕ) → head xs ≡ Some (b, m) → Item b a m n → Stuck head item xs → ⊥
+not_stuck head item Item e xs a b m n is one (d, p, also, none) =
+    let heads = same_Some (b, m) (d, p) (sym is ∙ also) in
+    let bad = sym ((e b).complete a m n one) ∙ ap (λ z. item z.0 z.1) heads ∙ none in
+    cc bad
+
+-- there is one such place, and the items before it are one list,
+pub one_stuck : {A B : Type 0} (head : List ℕ → Option (B × List ℕ)) (item : B → List ℕ → Option (A × List ℕ)) (Item : B → A → List ℕ → List ℕ → Type 0)
+    → ((b : B) → Exact (item b) (Item b)) → (items others : List A) (xs ys zs : List ℕ)
+    → Begins head Item items xs ys → Stuck head item ys → Begins head Item others xs zs → Stuck head item zs → (items ≡ others) × (ys ≡ zs)
+one_stuck head item Item e [] [] xs ys zs f s g t = (refl, sym f ∙ g)
+one_stuck head item Item e [] (c ∷ others) xs ys zs f s (b, m, n, is, one, rest) t =
+    absurd (not_stuck head item Item e xs c b m n is one (subst (λ l. Stuck head item l) (sym f) s))
+one_stuck head item Item e (a ∷ items) [] xs ys zs (b, m, n, is, one, rest) s g t =
+    absurd (not_stuck head item Item e xs a b m n is one (subst (λ l. Stuck head item l) (sym g) t))
+one_stuck head item Item e (a ∷ items) (c ∷ others) xs ys zs (b, m, n, is, one, rest) s (d, p, q, also, other, more) t =
+    let same = same_item head item Item e xs a c b d m n p q is one also other in
+    let r = one_stuck head item Item e items others n ys zs rest s (subst (λ l. Begins head Item others l zs) (sym same.1) more) t in
+    (ap (λ z. z ∷ items) same.0 ∙ ap (λ l. c ∷ l) r.0, r.1)
+
+-- all other items are among the first of those,
+pub begins_stuck : {A B : Type 0} (head : List ℕ → Option (B × List ℕ)) (item : B → List ℕ → Option (A × List ℕ)) (Item : B → A → List ℕ → List ℕ → Type 0)
+    → ((b : B) → Exact (item b) (Item b)) → (items others : List A) (xs ys zs : List ℕ)
+    → Begins head Item items xs ys → Stuck head item ys → Begins head Item others xs zs → (more : List A) × (items ≡ others ++ more)
+begins_stuck head item Item e items [] xs ys zs f s g = (items, refl)
+begins_stuck head item Item e [] (c ∷ others) xs ys zs f s (b, m, n, is, one, rest) =
+    absurd (not_stuck head item Item e xs c b m n is one (subst (λ l. Stuck head item l) (sym f) s))
+begins_stuck head item Item e (a ∷ items) (c ∷ others) xs ys zs (b, m, n, is, one, rest) s (d, p, q, also, other, more) =
+    let same = same_item head item Item e xs a c b d m n p q is one also other in
+    let r = begins_stuck head item Item e items others n ys zs rest s (subst (λ l. Begins head Item others l zs) (sym same.1) more) in
+    (r.0, ap (λ z. z ∷ items) same.0 ∙ ap (λ l. c ∷ l) r.1)
+
+-- and none where all are read
+pub stuck_many : {A B : Type 0} (head : List ℕ → Option (B × List ℕ)) (item : B → List ℕ → Option (A × List ℕ)) (Item : B → A → List ℕ → List ℕ → Type 0)
+    → ((b : B) → Exact (item b) (Item b)) → (items all : List A) (xs ys zs : List ℕ) → Begins head Item items xs ys → Stuck head item ys → Many head Item all xs zs → ⊥
+stuck_many {A = A} head item Item e items all xs ys zs f s g = let r = begins_many head item Item e items all xs ys zs f g in go r.0 r.2
+  where
+    go : (more : List A) → Many head Item more ys zs → ⊥
+    go [] h = cc (h.1, s.2)
+    go (c ∷ more) (b, m, n, is, one, rest) = not_stuck head item Item e ys c b m n is one s
+
+-- all items are one list
+pub one_many : {A B : Type 0} (head : List ℕ → Option (B × List ℕ)) (item : B → List ℕ → Option (A × List ℕ)) (Item : B → A → List ℕ → List ℕ → Type 0)
+    → ((b : B) → Exact (item b) (Item b)) → (items all : List A) (xs ys zs : List ℕ) → Many head Item items xs ys → Many head Item all xs zs → items ≡ all
+one_many {A = A} head item Item e items all xs ys zs f g =
+    let front = begins_of head Item items xs ys f in
+    let r = begins_many head item Item e items all xs ys zs front.0 g in
+    go front.1 r.0 r.1 r.2
+  where
+    go : head ys ≡ None → (more : List A) → all ≡ items ++ more → Many head Item more ys zs → items ≡ all
+    go none [] is h = sym (is ∙ append-nil items)
+    go none (c ∷ more) is (b, m, n, here, one, rest) = cc (none, here)
+
+-- of two lists of items at the front, one begins with the other
+pub begins_either : {A B : Type 0} (head : List ℕ → Option (B × List ℕ)) (item : B → List ℕ → Option (A × List ℕ)) (Item : B → A → List ℕ → List ℕ → Type 0)
+    → ((b : B) → Exact (item b) (Item b)) → (items others : List A) (xs ys zs : List ℕ) → Begins head Item items xs ys → Begins head Item others xs zs
+    → ((more : List A) × (others ≡ items ++ more)) ⊎ ((more : List A) × (items ≡ others ++ more))
+begins_either head item Item e [] others xs ys zs f g = inl (others, refl)
+begins_either head item Item e (a ∷ items) [] xs ys zs f g = inr (a ∷ items, refl)
+begins_either head item Item e (a ∷ items) (c ∷ others) xs ys zs (b, m, n, is, one, rest) (d, p, q, also, other, more) =
+    let same = same_item head item Item e xs a c b d m n p q is one also other in
+    elim (begins_either head item Item e items others n ys zs rest (subst (λ l. Begins head Item others l zs) (sym same.1) more)) [
+      | inl r ↦ inl (r.0, ap (λ z. z ∷ others) (sym same.0) ∙ ap (λ l. a ∷ l) r.1)
+      | inr r ↦ inr (r.0, ap (λ z. z ∷ items) same.0 ∙ ap (λ l. c ∷ l) r.1)
+    ]

@@ -1,3 +1,5 @@
 pub mod Codes
 pub mod Words
 pub mod Reading
+pub mod Lexemes
+pub mod Outcome

@@ -35,3 +35,8 @@ Many {B = B} head Item (a ∷ items) xs ys = (b : B) × (m n : List ℕ) × (hea
 abbrev pub behind_byte : ℕ → List ℕ → Option (List ℕ)
 behind_byte b [] = None
 behind_byte b (x ∷ xs) = if x == b then Some xs else None
+
+-- the same without an end: items, each behind a head, and what is behind them, whatever stands there
+abbrev pub Begins : {A B : Type 0} → (List ℕ → Option (B × List ℕ)) → (B → A → List ℕ → List ℕ → Type 0) → List A → List ℕ → List ℕ → Type 0
+Begins head Item [] xs ys = xs ≡ ys
+Begins {B = B} head Item (a ∷ items) xs ys = (b : B) × (m n : List ℕ) × (head xs ≡ Some (b, m)) × Item b a m n × Begins head Item items n ys

@@ -3,6 +3,8 @@
 
 mod code;
 mod fault;
+pub mod lexeme;
+pub mod literal;
 mod name;
 mod value;
 

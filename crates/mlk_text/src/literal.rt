@@ -1,0 +1,141 @@
+// Literals and subscripts of M.
+
+ghost use Rattle.std.specs.Prelude.{◌≡◌, ◌≤◌, ◌∷◌, [], suc, length, nat_le, ◌&&◌};
+ghost use Rattle.mlk_text.specs.Lexemes.{zeros, to_last, digits_at, number_at, inside, literal_at, list_at, subs_at, byte_at, next, canonical, canonical_of, is_exact};
+ghost use Rattle.mlk_text.specs.Reading.{many, put};
+ghost use Rattle.mlk_text.specs.Outcome.{Gives};
+
+use crate::lexeme::{ReadError, byte_of, digits, is_text_byte};
+use crate::value::{Value, Values};
+use std::alloc::Global;
+
+/// How many zeros stand at the front.
+fn zeros(bytes: &[u8]) -> usize
+    ensures value { result ≡ zeros bytes.now }
+    ensures within { result ≤ length bytes.now }
+{
+    for (i, b) in bytes.iter().enumerate() {
+        if *b != b'0' {
+            return i;
+        }
+    }
+    bytes.len()
+}
+
+/// The length without the zeros at the end.
+fn to_last(bytes: &[u8]) -> usize
+    ensures { result ≡ to_last bytes.now }
+{
+    let mut last = 0;
+    for (i, b) in bytes.iter().enumerate() {
+        if *b != b'0' {
+            last = i + 1;
+        }
+    }
+    last
+}
+
+fn is_exact(digits: &[u8], kept: &[u8]) -> bool
+    ensures { result ≡ (nat_le (length digits.now) 25 && nat_le (to_last kept.now) 15) }
+{
+    digits.len() <= 25 && to_last(kept) <= 15
+}
+
+/// The value of the digits at the front, and what is behind them.
+#[tactic(auto, unfolding(crate::specs::Lexemes::number_at, crate::specs::Lexemes::digits_at, crate::specs::Lexemes::canonical, crate::specs::Lexemes::is_exact))]
+fn number(alloc: Global, bytes: &[u8]) -> Result<(Value, &[u8]), ReadError>
+    ensures { Gives (λ x. (x.0, x.1.now)) result (number_at bytes.now) }
+{
+    let n = digits(bytes);
+    if n == 0 {
+        return Err(ReadError::Refused);
+    }
+    let (text, rest) = bytes.split_at(n);
+    let (_, kept) = text.split_at(zeros(text));
+    if !is_exact(text, kept) {
+        return Err(ReadError::Refused);
+    }
+    if kept.is_empty() {
+        return Ok((Value::new(Vec::from_slice(alloc, b"0")?), rest));
+    }
+    Ok((Value::new(Vec::from_slice(alloc, kept)?), rest))
+}
+
+/// The value up to the closing quote, and what is behind it.
+fn quoted(alloc: Global, bytes: &[u8]) -> Result<(Value, &[u8]), ReadError>
+    ensures { Gives (λ x. (x.0, x.1.now)) result (inside bytes.now) }
+{
+    let mut value = Vec::new(alloc);
+    let mut rest = bytes;
+    while let Some((first, behind)) = rest.split_first() {
+        if *first != b'"' {
+            if !is_text_byte(*first) {
+                return Err(ReadError::Refused);
+            }
+            value.push(*first)?;
+            rest = behind;
+            continue;
+        }
+        let Some(after) = byte_of(b'"', behind) else {
+            return Ok((Value::new(value), behind));
+        };
+        value.push(b'"')?;
+        rest = after;
+    }
+    Err(ReadError::Refused)
+}
+
+/// The value of the literal at the front, and what is behind it.
+#[tactic(auto, unfolding(crate::specs::Lexemes::literal_at))]
+pub fn literal(alloc: Global, bytes: &[u8]) -> Result<(Value, &[u8]), ReadError>
+    ensures { Gives (λ x. (x.0, x.1.now)) result (literal_at bytes.now) }
+{
+    let Some((first, behind)) = bytes.split_first() else {
+        return Err(ReadError::Refused);
+    };
+    if *first == b'"' {
+        return quoted(alloc, behind);
+    }
+    number(alloc, bytes)
+}
+
+fn list_rest(alloc: Global, first: Value, bytes: &[u8]) -> Result<(Vec<Value>, &[u8]), ReadError>
+    ensures { Gives (λ x. (x.0.items, x.1.now)) result (put (first ∷ []) (many (byte_at 44) next (suc (length bytes.now)) bytes.now)) }
+{
+    let mut found = Vec::new(alloc);
+    found.push(first)?;
+    let mut rest = bytes;
+    while let Some(behind) = byte_of(b',', rest) {
+        let (item, behind) = literal(alloc, behind)?;
+        found.push(item)?;
+        rest = behind;
+    }
+    Ok((found, rest))
+}
+
+#[tactic(auto, unfolding(crate::specs::Lexemes::list_at))]
+fn list(alloc: Global, bytes: &[u8]) -> Result<(Vec<Value>, &[u8]), ReadError>
+    ensures { Gives (λ x. (x.0.items, x.1.now)) result (list_at bytes.now) }
+{
+    let (first, rest) = literal(alloc, bytes)?;
+    let (items, rest) = list_rest(alloc, first, rest)?;
+    let Some(rest) = byte_of(b')', rest) else {
+        return Err(ReadError::Refused);
+    };
+    Ok((items, rest))
+}
+
+/// The subscripts at the front, which may be none, and what is behind them.
+#[tactic(auto, unfolding(crate::specs::Lexemes::subs_at))]
+pub fn subscripts(alloc: Global, bytes: &[u8]) -> Result<(Values, &[u8]), ReadError>
+    ensures { Gives (λ x. (x.0, x.1.now)) result (subs_at bytes.now) }
+{
+    let Some(rest) = byte_of(b'(', bytes) else {
+        return Ok((Values::new(alloc), bytes));
+    };
+    let (subs, rest) = list(alloc, rest)?;
+    if subs.len() > 32 {
+        return Err(ReadError::Refused);
+    }
+    Ok((Values::of(subs), rest))
+}

@@ -1,0 +1,5 @@
+pub mod Commands
+pub mod Lines
+pub mod Labels
+pub mod Texts
+pub mod Refusals

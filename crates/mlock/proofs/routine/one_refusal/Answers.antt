@@ -1,0 +1,5 @@
+use Rattle.mlock.proofs.Refusals.{one_fault}
+use Rattle.mlock.proofs.routine.one_refusal.Goals as goal
+
+pub returns : goal.returns
+returns c = one_fault

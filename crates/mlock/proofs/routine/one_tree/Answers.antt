@@ -1,0 +1,5 @@
+use Rattle.mlock.proofs.Texts.{one_routine}
+use Rattle.mlock.proofs.routine.one_tree.Goals as goal
+
+pub returns : goal.returns
+returns c = one_routine

@@ -1,0 +1,7 @@
+//! The program `mlock`.
+#![tactic(auto)]
+
+mod printed;
+mod routine;
+mod text;
+mod words;
