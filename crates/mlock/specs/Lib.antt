@@ -5,3 +5,4 @@ pub mod Labels
 pub mod Reading
 pub mod Refusals
 pub mod Outcomes
+pub mod Sections

@@ -3,5 +3,6 @@
 
 mod printed;
 mod routine;
+mod rules;
 mod text;
 mod words;

@@ -1,0 +1,5 @@
+//! Reading rule files.
+
+mod fault;
+
+pub use fault::{RulesError, RulesFault, Section};

@@ -1,0 +1,64 @@
+// Why a rule file is refused.
+
+ghost use Rattle.std.specs.Prelude.{◌≡◌};
+ghost use Rattle.mlock.specs.Sections.{section_word};
+ghost use Rattle.mlock.specs.declared.rules.fault.RulesError.TheVariants.{OutOfMemory};
+
+use mlk_text::Code;
+use std::alloc::{AllocError, AllocFailed};
+
+/// Where in a rule file.
+#[derive(Clone, Copy, Debug, Drop, PartialEq, Eq)]
+pub enum Section {
+    /// The file as a whole, and the keys at its top.
+    File,
+    Lock,
+    Cover,
+    Entry,
+}
+
+impl Section {
+    /// The word that is printed.
+    pub fn word(self) -> &'static [u8]
+        ensures { result.now ≡ section_word self }
+    {
+        match self {
+            Section::File => b"file",
+            Section::Lock => b"lock",
+            Section::Cover => b"cover",
+            Section::Entry => b"entry",
+        }
+    }
+}
+
+/// Why a rule file is refused, and where: the index counts the elements of a section from 1; it is 0 where the
+/// section itself is meant.
+#[derive(Clone, Copy, Debug, Drop, PartialEq, Eq)]
+pub struct RulesFault {
+    pub code: Code,
+    pub section: Section,
+    pub index: usize,
+}
+
+/// Why a rule file was not read.
+#[derive(Debug, Drop)]
+pub enum RulesError {
+    OutOfMemory,
+    Refused(RulesFault),
+}
+
+impl From<AllocError> for RulesError {
+    ghost from_gives = { λ _ e. e ≡ OutOfMemory };
+
+    fn from(_e: AllocError) -> RulesError {
+        RulesError::OutOfMemory
+    }
+}
+
+impl<T: Drop> From<AllocFailed<T>> for RulesError {
+    ghost from_gives = { λ _ e. e ≡ OutOfMemory };
+
+    fn from(_e: AllocFailed<T>) -> RulesError {
+        RulesError::OutOfMemory
+    }
+}
