@@ -1,6 +1,7 @@
 //! The program `mlock`.
 #![tactic(auto)]
 
+mod certificate;
 mod printed;
 mod routine;
 mod rules;

@@ -2,8 +2,8 @@
 
 ghost use Rattle.std.specs.Prelude.{◌≡◌, IfOk, IfErr};
 ghost use Rattle.mlk_machine.specs.declared.plain.tree.Routine.{Routine};
-ghost use Rattle.mlock.specs.Grammar.{IsRoutine, OneTree};
-ghost use Rattle.mlock.specs.Refusals.{Places, Refuses, OneRefusal};
+ghost use Rattle.mlock.specs.RoutineGrammar.{IsRoutine, OneTree};
+ghost use Rattle.mlock.specs.RoutineRefusals.{Places, Refuses, OneRefusal};
 
 mod commands;
 mod known;

@@ -2,9 +2,9 @@
 
 ghost use Rattle.std.specs.Prelude.{◌≡◌, ◌≤◌, length, option_map};
 ghost use Rattle.mlk_text.specs.Outcome.{Gives};
-ghost use Rattle.mlock.specs.Grammar.{spaces, at_end, gap_of};
-ghost use Rattle.mlock.specs.Reading.{root_at, lock_name_at, set_at, lock_at, action_at, gap_at, command_at, commands_at};
-ghost use Rattle.mlock.specs.Outcomes.{Answers, CommandsFail};
+ghost use Rattle.mlock.specs.RoutineGrammar.{spaces, at_end, gap_of};
+ghost use Rattle.mlock.specs.RoutineReading.{root_at, lock_name_at, set_at, lock_at, action_at, gap_at, command_at, commands_at};
+ghost use Rattle.mlock.specs.RoutineOutcomes.{Answers, CommandsFail};
 
 use crate::routine::known::blame;
 use crate::routine::words::{LineError, Word, column_of, word_at, word_of};
@@ -13,7 +13,7 @@ use mlk_text::lexeme::{ReadError, byte_of, name};
 use mlk_text::literal::{literal, subscripts};
 use std::alloc::Global;
 
-#[tactic(auto, unfolding(crate::specs::Reading::root_at))]
+#[tactic(auto, unfolding(crate::specs::RoutineReading::root_at))]
 fn root(alloc: Global, bytes: &[u8]) -> Result<(Root, &[u8]), ReadError>
     ensures { Gives (λ x. (x.0, x.1.now)) result (root_at bytes.now) }
 {
@@ -25,7 +25,7 @@ fn root(alloc: Global, bytes: &[u8]) -> Result<(Root, &[u8]), ReadError>
     Ok((Root::Global(global), rest))
 }
 
-#[tactic(auto, unfolding(crate::specs::Reading::lock_name_at))]
+#[tactic(auto, unfolding(crate::specs::RoutineReading::lock_name_at))]
 fn lock_name(alloc: Global, bytes: &[u8]) -> Result<(LockName, &[u8]), ReadError>
     ensures { Gives (λ x. (x.0, x.1.now)) result (lock_name_at bytes.now) }
 {
@@ -34,7 +34,7 @@ fn lock_name(alloc: Global, bytes: &[u8]) -> Result<(LockName, &[u8]), ReadError
     Ok((LockName { root, subs }, rest))
 }
 
-#[tactic(auto, unfolding(crate::specs::Reading::set_at))]
+#[tactic(auto, unfolding(crate::specs::RoutineReading::set_at))]
 fn set(alloc: Global, end: u32, bytes: &[u8]) -> Result<(Action, &[u8]), ReadError>
     ensures { Gives (λ x. (x.0, x.1.now)) result (set_at end bytes.now) }
 {
@@ -59,7 +59,7 @@ fn set(alloc: Global, end: u32, bytes: &[u8]) -> Result<(Action, &[u8]), ReadErr
     ))
 }
 
-#[tactic(auto, unfolding(crate::specs::Reading::lock_at))]
+#[tactic(auto, unfolding(crate::specs::RoutineReading::lock_at))]
 fn lock(alloc: Global, end: u32, bytes: &[u8]) -> Result<(Action, &[u8]), ReadError>
     ensures { Gives (λ x. (x.0, x.1.now)) result (lock_at end bytes.now) }
 {
@@ -76,7 +76,7 @@ fn lock(alloc: Global, end: u32, bytes: &[u8]) -> Result<(Action, &[u8]), ReadEr
     Ok((Action::Unlock { column, name }, rest))
 }
 
-#[tactic(auto, unfolding(crate::specs::Reading::action_at))]
+#[tactic(auto, unfolding(crate::specs::RoutineReading::action_at))]
 fn action<'a>(
     alloc: Global,
     end: u32,
@@ -130,7 +130,7 @@ fn gap_of(action: &Action) -> usize
     }
 }
 
-#[tactic(auto, unfolding(crate::specs::Reading::gap_at))]
+#[tactic(auto, unfolding(crate::specs::RoutineReading::gap_at))]
 fn gap(least: usize, bytes: &[u8]) -> Option<(usize, &[u8])>
     ensures { option_map (λ x. (x.0, x.1.now)) result ≡ gap_at least bytes.now }
 {
@@ -142,7 +142,7 @@ fn gap(least: usize, bytes: &[u8]) -> Option<(usize, &[u8])>
     None
 }
 
-#[tactic(auto, unfolding(crate::specs::Reading::command_at))]
+#[tactic(auto, unfolding(crate::specs::RoutineReading::command_at))]
 fn command<'a>(
     alloc: Global,
     end: u32,

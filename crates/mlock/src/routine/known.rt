@@ -1,15 +1,15 @@
 // The full words of M's commands.
 
 ghost use Rattle.std.specs.Prelude.{◌≡◌, ◌≤◌, ◌||◌, length, option_map, IfOk};
-ghost use Rattle.mlock.specs.Words.{is_either, upper, full_do_to_hang, full_lock_to_write, full_break_to_xecute, full_long, hangs, full_h, full_z, full_listed, full_word, or_else};
-ghost use Rattle.mlock.specs.Outcomes.{Blames, BlamesWord};
+ghost use Rattle.mlock.specs.RoutineWords.{is_either, upper, full_do_to_hang, full_lock_to_write, full_break_to_xecute, full_long, hangs, full_h, full_z, full_listed, full_word, or_else};
+ghost use Rattle.mlock.specs.RoutineOutcomes.{Blames, BlamesWord};
 
 use crate::routine::words::{LineError, LineFault, is_either};
 use mlk_text::Value;
 use mlk_text::lexeme::ReadError;
 use std::alloc::{AllocError, Global};
 
-#[tactic(auto, unfolding(crate::specs::Words::full_do_to_hang))]
+#[tactic(auto, unfolding(crate::specs::RoutineWords::full_do_to_hang))]
 fn full_do_to_hang(word: &[u8]) -> Option<&'static [u8]>
     ensures { option_map (λ x. x.now) result ≡ full_do_to_hang word.now }
 {
@@ -34,7 +34,7 @@ fn full_do_to_hang(word: &[u8]) -> Option<&'static [u8]>
     }
 }
 
-#[tactic(auto, unfolding(crate::specs::Words::full_lock_to_write))]
+#[tactic(auto, unfolding(crate::specs::RoutineWords::full_lock_to_write))]
 fn full_lock_to_write(word: &[u8]) -> Option<&'static [u8]>
     ensures { option_map (λ x. x.now) result ≡ full_lock_to_write word.now }
 {
@@ -57,7 +57,7 @@ fn full_lock_to_write(word: &[u8]) -> Option<&'static [u8]>
     }
 }
 
-#[tactic(auto, unfolding(crate::specs::Words::full_break_to_xecute))]
+#[tactic(auto, unfolding(crate::specs::RoutineWords::full_break_to_xecute))]
 fn full_break_to_xecute(word: &[u8]) -> Option<&'static [u8]>
     ensures { option_map (λ x. x.now) result ≡ full_break_to_xecute word.now }
 {
@@ -80,7 +80,7 @@ fn full_break_to_xecute(word: &[u8]) -> Option<&'static [u8]>
     }
 }
 
-#[tactic(auto, unfolding(crate::specs::Words::full_long))]
+#[tactic(auto, unfolding(crate::specs::RoutineWords::full_long))]
 fn full_long(word: &[u8]) -> Option<&'static [u8]>
     ensures { option_map (λ x. x.now) result ≡ full_long word.now }
 {
@@ -135,7 +135,7 @@ fn full_h(word: &[u8], bytes: &[u8]) -> Option<&'static [u8]>
     Some(b"HALT")
 }
 
-#[tactic(auto, unfolding(crate::specs::Words::full_listed))]
+#[tactic(auto, unfolding(crate::specs::RoutineWords::full_listed))]
 fn full_listed(word: &[u8], bytes: &[u8]) -> Option<&'static [u8]>
     ensures { option_map (λ x. x.now) result ≡ full_listed word.now bytes.now }
 {
@@ -173,7 +173,7 @@ fn full_z(alloc: Global, word: &[u8]) -> Result<Option<Value>, AllocError>
 }
 
 /// The full word in upper case of a command of M, from its word and what is behind that.
-#[tactic(auto, unfolding(crate::specs::Words::full_word))]
+#[tactic(auto, unfolding(crate::specs::RoutineWords::full_word))]
 fn full_word(alloc: Global, word: &[u8], bytes: &[u8]) -> Result<Option<Value>, AllocError>
     ensures { IfOk result (λ o. o ≡ full_word word.now bytes.now) }
 {

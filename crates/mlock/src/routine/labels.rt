@@ -1,7 +1,7 @@
 // Labels that stand twice.
 
 ghost use Rattle.std.specs.Prelude.{◌≡◌, ◌||◌, ℕ, List, bytes_eq, IfOk, OnOk, not};
-ghost use Rattle.mlock.specs.Labels.{has_label, is_label, stands_in, TwiceFound};
+ghost use Rattle.mlock.specs.RoutineLabels.{has_label, is_label, stands_in, TwiceFound};
 
 use mlk_machine::plain::Line;
 use std::alloc::{AllocError, Global};

@@ -3,9 +3,9 @@
 ghost use Rattle.std.specs.Prelude.{◌≡◌, ◌≤◌, length, option_map};
 ghost use Rattle.mlk_text.specs.Outcome.{Gives};
 ghost use Rattle.mlk_text.specs.Lexemes.{digits_at};
-ghost use Rattle.mlock.specs.Grammar.{blanks, closes, ends_here, line_len, behind_end, line_at, start_at};
-ghost use Rattle.mlock.specs.Reading.{label_at, body_at, line_of};
-ghost use Rattle.mlock.specs.Outcomes.{Answers, BodyFails, LineFails};
+ghost use Rattle.mlock.specs.RoutineGrammar.{blanks, closes, ends_here, line_len, behind_end, line_at, start_at};
+ghost use Rattle.mlock.specs.RoutineReading.{label_at, body_at, line_of};
+ghost use Rattle.mlock.specs.RoutineOutcomes.{Answers, BodyFails, LineFails};
 
 use crate::routine::commands::commands;
 use crate::routine::words::{LineError, LineFault};
@@ -27,7 +27,7 @@ fn digit_label(alloc: Global, bytes: &[u8]) -> Result<(Name, &[u8]), ReadError>
     Ok((Name::new(text), rest))
 }
 
-#[tactic(auto, unfolding(crate::specs::Reading::label_at))]
+#[tactic(auto, unfolding(crate::specs::RoutineReading::label_at))]
 fn label(alloc: Global, bytes: &[u8]) -> Result<(Option<Name>, &[u8]), ReadError>
     ensures { Gives (λ x. (x.0, x.1.now)) result (label_at bytes.now) }
 {
@@ -66,7 +66,7 @@ fn closes(bytes: &[u8]) -> bool
     *first == b';' && is_text(behind)
 }
 
-#[tactic(auto, unfolding(crate::specs::Grammar::start_at))]
+#[tactic(auto, unfolding(crate::specs::RoutineGrammar::start_at))]
 fn start_of(bytes: &[u8]) -> Option<(usize, &[u8])>
     ensures { option_map (λ x. (x.0, x.1.now)) result ≡ start_at bytes.now }
 {
@@ -150,7 +150,7 @@ fn behind_end(bytes: &[u8]) -> &[u8]
 }
 
 /// The first line of a text that is not empty, and what is behind its end.
-#[tactic(auto, unfolding(crate::specs::Grammar::line_at))]
+#[tactic(auto, unfolding(crate::specs::RoutineGrammar::line_at))]
 pub fn first_line(bytes: &[u8]) -> Option<(&[u8], &[u8])>
     ensures { option_map (λ x. (x.0.now, x.1.now)) result ≡ line_at bytes.now }
 {

@@ -1,8 +1,8 @@
 // Why a routine is refused.
 
 ghost use Rattle.std.specs.Prelude.{◌≡◌};
-ghost use Rattle.mlock.specs.Refusals.{fault_at};
-ghost use Rattle.mlock.specs.Outcomes.{RefusesAs};
+ghost use Rattle.mlock.specs.RoutineRefusals.{fault_at};
+ghost use Rattle.mlock.specs.RoutineOutcomes.{RefusesAs};
 ghost use Rattle.mlock.specs.declared.routine.refusal.RoutineError.TheVariants.{OutOfMemory};
 
 use mlk_text::{Code, Fault, LeftOut, Place, Value};

@@ -3,9 +3,9 @@
 ghost use Rattle.std.specs.Prelude.{◌≡◌, ◌≤◌, ℕ, List, length, IfOk, IfErr, true, false};
 ghost use Rattle.mlk_text.specs.Reading.{Begins};
 ghost use Rattle.mlk_machine.specs.declared.plain.tree.Line.{Line};
-ghost use Rattle.mlock.specs.Grammar.{LineOf, line_at, percent};
-ghost use Rattle.mlock.specs.Refusals.{IsTooLarge};
-ghost use Rattle.mlock.specs.Outcomes.{LinesFound, HasLines, Finishes, IsText, TextRefused, StemFound};
+ghost use Rattle.mlock.specs.RoutineGrammar.{LineOf, line_at, percent};
+ghost use Rattle.mlock.specs.RoutineRefusals.{IsTooLarge};
+ghost use Rattle.mlock.specs.RoutineOutcomes.{LinesFound, HasLines, Finishes, IsText, TextRefused, StemFound};
 
 use crate::routine::labels::first_twice;
 use crate::routine::lines::{first_line, line};

@@ -1,8 +1,8 @@
 // Words of commands, columns, and what is wrong in a line.
 
 ghost use Rattle.std.specs.Prelude.{◌≡◌, ◌≤◌, length, option_map};
-ghost use Rattle.mlock.specs.Words.{letters, column_of, word_at, word_of, is_either};
-ghost use Rattle.mlock.specs.Outcomes.{line_error};
+ghost use Rattle.mlock.specs.RoutineWords.{letters, column_of, word_at, word_of, is_either};
+ghost use Rattle.mlock.specs.RoutineOutcomes.{line_error};
 ghost use Rattle.mlock.specs.declared.routine.words.LineError.TheVariants.{OutOfMemory};
 
 use mlk_text::Value;
@@ -82,7 +82,7 @@ pub fn column_of(end: u32, bytes: &[u8]) -> u32
 }
 
 /// The letters at the front, their column, and what is behind them.
-#[tactic(auto, unfolding(crate::specs::Words::word_at))]
+#[tactic(auto, unfolding(crate::specs::RoutineWords::word_at))]
 pub fn word_at(end: u32, bytes: &[u8]) -> Option<(&[u8], u32, &[u8])>
     ensures { option_map (λ x. ((x.0.now, x.1), x.2.now)) result ≡ word_at end bytes.now }
 {
@@ -103,7 +103,7 @@ pub fn is_either(short: &[u8], whole: &[u8], word: &[u8]) -> bool
 }
 
 /// The command of a word, if it is one that is read.
-#[tactic(auto, unfolding(crate::specs::Words::word_of))]
+#[tactic(auto, unfolding(crate::specs::RoutineWords::word_of))]
 pub fn word_of(word: &[u8]) -> Option<Word>
     ensures { result ≡ word_of word.now }
 {

@@ -1,4 +1,4 @@
-use Rattle.mlock.proofs.Refusals.{one_fault}
+use Rattle.mlock.proofs.RoutineRefusals.{one_fault}
 use Rattle.mlock.proofs.routine.one_refusal.Goals as goal
 
 pub returns : goal.returns

@@ -1,4 +1,4 @@
-use Rattle.mlock.proofs.Texts.{one_routine}
+use Rattle.mlock.proofs.RoutineTexts.{one_routine}
 use Rattle.mlock.proofs.routine.one_tree.Goals as goal
 
 pub returns : goal.returns

@@ -1,6 +1,6 @@
 use Rattle.std.proofs.Common.{subst}
-use Rattle.mlock.specs.Outcomes.{StemFound}
-use Rattle.mlock.proofs.Texts.{routine-ok, routine-placed}
+use Rattle.mlock.specs.RoutineOutcomes.{StemFound}
+use Rattle.mlock.proofs.RoutineTexts.{routine-ok, routine-placed}
 use Rattle.mlock.proofs.routine.read.Goals as goal
 
 pub returns-clause-ok : goal.returns-clause-ok

@@ -1,4 +1,4 @@
-use Rattle.mlock.proofs.Texts.{routine-only, routine-refused}
+use Rattle.mlock.proofs.RoutineTexts.{routine-only, routine-refused}
 use Rattle.mlock.proofs.routine.read_routine.Goals as goal
 
 pub returns-clause-refused : goal.returns-clause-refused

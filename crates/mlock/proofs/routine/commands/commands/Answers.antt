@@ -1,9 +1,9 @@
 use Rattle.std.proofs.Common.{ℕ, List, sym}
 use Rattle.mlk_text.proofs.Readers.{many_stops, many_goes, begins_more}
-use Rattle.mlock.specs.Words.{word_at}
-use Rattle.mlock.specs.Grammar.{IsCommand}
-use Rattle.mlock.specs.Reading.{command_at}
-use Rattle.mlock.proofs.Commands.{command-shorter, command-exact, commands-fail}
+use Rattle.mlock.specs.RoutineWords.{word_at}
+use Rattle.mlock.specs.RoutineGrammar.{IsCommand}
+use Rattle.mlock.specs.RoutineReading.{command_at}
+use Rattle.mlock.proofs.RoutineCommands.{command-shorter, command-exact, commands-fail}
 use Rattle.mlock.proofs.routine.commands.commands.Goals as goal
 
 pub returns : goal.returns

@@ -1,8 +1,8 @@
 use Rattle.std.proofs.Common.{◌≡◌, ◌<◌, ℕ, length}
 use Rattle.mlk_text.specs.Reading.{many, put, Begins}
-use Rattle.mlock.specs.Words.{word_at}
-use Rattle.mlock.specs.Grammar.{IsCommand}
-use Rattle.mlock.specs.Reading.{command_at, commands_at}
+use Rattle.mlock.specs.RoutineWords.{word_at}
+use Rattle.mlock.specs.RoutineGrammar.{IsCommand}
+use Rattle.mlock.specs.RoutineReading.{command_at, commands_at}
 use Rattle.mlock.proofs.routine.commands.commands.Given as goal
 
 abbrev pub invariant-loop-word : goal.invariant-loop-word

@@ -1,5 +1,5 @@
 use Rattle.std.proofs.Common.{◌≡◌, ◌+◌, drop}
-use Rattle.mlock.specs.Grammar.{spaces}
+use Rattle.mlock.specs.RoutineGrammar.{spaces}
 use Rattle.mlock.proofs.routine.commands.spaces.Given as goal
 
 abbrev pub invariant-loop-i : goal.invariant-loop-i

@@ -1,4 +1,4 @@
-use Rattle.mlock.proofs.Labels.{has-after}
+use Rattle.mlock.proofs.RoutineLabels.{has-after}
 use Rattle.mlock.proofs.routine.labels.add.Goals as goal
 
 pub returns-clause-has : goal.returns-clause-has

@@ -1,7 +1,7 @@
 use Rattle.std.proofs.Common.{◌≡◌, ◌+◌, ◌++◌, ◌∷◌, [], length, take, arith, refl, sym, ap, ◌∙◌, below_more}
 use Rattle.std.proofs.lemmas.Option.{slice_get_read, slice_get_within}
 use Rattle.std.proofs.lemmas.List.{take_more}
-use Rattle.mlock.proofs.Labels.{twice-there, not-there, seen-more}
+use Rattle.mlock.proofs.RoutineLabels.{twice-there, not-there, seen-more}
 use Rattle.mlock.proofs.routine.labels.first_twice.Goals as goal
 
 pub returns-then-not-branch : goal.returns-then-not-branch

@@ -1,7 +1,7 @@
 use Rattle.std.proofs.Common.{◌≡◌, ◌<◌, ℕ, List, take}
 use Rattle.std.specs.List.{list_any}
-use Rattle.mlock.specs.Grammar.{LabelTwice}
-use Rattle.mlock.specs.Labels.{has_label, is_label}
+use Rattle.mlock.specs.RoutineGrammar.{LabelTwice}
+use Rattle.mlock.specs.RoutineLabels.{has_label, is_label}
 use Rattle.mlock.proofs.routine.labels.first_twice.Given as goal
 
 abbrev pub invariant-loop-i : goal.invariant-loop-i

@@ -1,5 +1,5 @@
 use Rattle.std.proofs.Common.{◌≡◌, ◌+◌, drop}
-use Rattle.mlock.specs.Grammar.{blanks}
+use Rattle.mlock.specs.RoutineGrammar.{blanks}
 use Rattle.mlock.proofs.routine.lines.blanks.Given as goal
 
 abbrev pub invariant-loop-i : goal.invariant-loop-i

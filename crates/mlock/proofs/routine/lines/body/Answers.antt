@@ -1,6 +1,6 @@
 use Rattle.std.proofs.Common.{sym, ◌∙◌}
 use Rattle.std.proofs.lemmas.Result.{err_from_is_err_and}
-use Rattle.mlock.proofs.Lines.{body-closed, body-open, body-read, body-ends, commands-stop}
+use Rattle.mlock.proofs.RoutineLines.{body-closed, body-open, body-read, body-ends, commands-stop}
 use Rattle.mlock.proofs.routine.lines.body.Goals as goal
 
 pub returns-then-closes : goal.returns-then-closes

@@ -1,6 +1,6 @@
 use Rattle.std.proofs.Common.{add-one}
 use Rattle.std.proofs.lemmas.Result.{err_from_is_err_and}
-use Rattle.mlock.proofs.Lines.{label-stops, body-fails, line-read}
+use Rattle.mlock.proofs.RoutineLines.{label-stops, body-fails, line-read}
 use Rattle.mlock.proofs.routine.lines.line.Goals as goal
 
 pub returns-in_err-label : goal.returns-in_err-label

@@ -1,5 +1,5 @@
 use Rattle.std.proofs.Common.{◌≡◌, ◌+◌, length}
-use Rattle.mlock.specs.Grammar.{line_len}
+use Rattle.mlock.specs.RoutineGrammar.{line_len}
 use Rattle.mlock.proofs.routine.lines.line_len.Given as goal
 
 abbrev pub invariant-loop-first : goal.invariant-loop-first

@@ -1,6 +1,6 @@
 use Rattle.std.proofs.Common.{◌≡◌, ◌≤◌, ℕ, nat_lt, false, arith}
 use Rattle.std.proofs.lemmas.Bool.Decides.{nat_tests}
-use Rattle.mlock.proofs.Texts.{not-large, lines-few}
+use Rattle.mlock.proofs.RoutineTexts.{not-large, lines-few}
 use Rattle.mlock.proofs.routine.texts.is_large.Goals as goal
 
 below : (n : ℕ) → nat_lt 65535 n ≡ false → n ≤ 65535

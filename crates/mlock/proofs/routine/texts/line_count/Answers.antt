@@ -1,5 +1,5 @@
 use Rattle.std.proofs.Common.{arith, sym}
-use Rattle.mlock.proofs.Texts.{line-less, count-more, count-done}
+use Rattle.mlock.proofs.RoutineTexts.{line-less, count-more, count-done}
 use Rattle.mlock.proofs.routine.texts.line_count.Goals as goal
 
 pub loop-behind-smaller : goal.loop-behind-smaller

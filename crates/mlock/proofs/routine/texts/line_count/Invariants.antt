@@ -1,7 +1,7 @@
 use Rattle.std.proofs.Common.{◌≡◌, ◌≤◌, ◌+◌, ℕ, List, length}
 use Rattle.mlk_text.specs.Reading.{Begins}
-use Rattle.mlock.specs.Grammar.{line_at}
-use Rattle.mlock.specs.Refusals.{AnyLine}
+use Rattle.mlock.specs.RoutineGrammar.{line_at}
+use Rattle.mlock.specs.RoutineRefusals.{AnyLine}
 use Rattle.mlock.proofs.routine.texts.line_count.Given as goal
 
 abbrev pub invariant-loop-behind : goal.invariant-loop-behind

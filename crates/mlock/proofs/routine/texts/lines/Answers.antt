@@ -1,5 +1,5 @@
 use Rattle.std.proofs.Common.{arith, sym}
-use Rattle.mlock.proofs.Texts.{line-less, lines-more, lines-done}
+use Rattle.mlock.proofs.RoutineTexts.{line-less, lines-more, lines-done}
 use Rattle.mlock.proofs.routine.texts.lines.Goals as goal
 
 pub line-requires : goal.line-requires

@@ -1,6 +1,6 @@
 use Rattle.std.proofs.Common.{◌≤◌, length}
 use Rattle.mlk_text.specs.Reading.{Begins}
-use Rattle.mlock.specs.Grammar.{LineOf, line_at}
+use Rattle.mlock.specs.RoutineGrammar.{LineOf, line_at}
 use Rattle.mlock.proofs.routine.texts.lines.Given as goal
 
 abbrev pub invariant-loop-bytes : goal.invariant-loop-bytes

@@ -1,7 +1,7 @@
 use Rattle.std.proofs.Common.{arith, subst, add-one}
-use Rattle.mlock.specs.Labels.{TwiceFound}
-use Rattle.mlock.specs.Grammar.{FirstTwice}
-use Rattle.mlock.proofs.Texts.{finish-ok, finish-err, twice-refused, twice-few}
+use Rattle.mlock.specs.RoutineLabels.{TwiceFound}
+use Rattle.mlock.specs.RoutineGrammar.{FirstTwice}
+use Rattle.mlock.proofs.RoutineTexts.{finish-ok, finish-err, twice-refused, twice-few}
 use Rattle.mlock.proofs.routine.texts.read_text.Goals as goal
 
 pub overflow_cast-number : goal.overflow_cast-number

@@ -1,5 +1,5 @@
 use Rattle.std.proofs.Common.{◌≡◌, ◌+◌, drop}
-use Rattle.mlock.specs.Words.{letters}
+use Rattle.mlock.specs.RoutineWords.{letters}
 use Rattle.mlock.proofs.routine.words.letters.Given as goal
 
 abbrev pub invariant-loop-i : goal.invariant-loop-i

@@ -11,8 +11,8 @@ use Rattle.mlk_machine.specs.declared.plain.tree.Root.{Root}
 use Rattle.mlk_machine.specs.declared.plain.tree.Root.TheVariants as root
 use Rattle.mlock.specs.declared.routine.words.Word.{Word}
 use Rattle.mlock.specs.declared.routine.words.Word.TheVariants as word
-use Rattle.mlock.specs.Words.{column_of, word_at, word_of}
-use Rattle.mlock.specs.Grammar.{spaces, at_end, gap_of, closes, start_at}
+use Rattle.mlock.specs.RoutineWords.{column_of, word_at, word_of}
+use Rattle.mlock.specs.RoutineGrammar.{spaces, at_end, gap_of, closes, start_at}
 
 -- a local's name, or a global's behind its caret
 abbrev pub root_by : List ℕ → Option (ℕ × List ℕ) → Option (Root × List ℕ)

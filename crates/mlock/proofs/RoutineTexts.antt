@@ -12,11 +12,11 @@ use Rattle.mlock.specs.declared.routine.words.LineFault.{LineFault}
 use Rattle.mlock.specs.declared.routine.words.LineFault.TheVariants as bad
 use Rattle.mlock.specs.declared.routine.refusal.RoutineError.{RoutineError}
 use Rattle.mlock.specs.declared.routine.refusal.RoutineError.TheVariants as refusal
-use Rattle.mlock.specs.Grammar.{IsLine, LineOf, ends_here, line_len, behind_end, line_at, Stands, LabelsDiffer, FirstTwice, IsStem, IsRoutine}
-use Rattle.mlock.specs.Reading.{line_of, line_item}
-use Rattle.mlock.specs.Refusals.{fault_at, AnyLine, IsTooLarge, FirstBad, BadLineThere, IsRefusal, Places, Refuses}
-use Rattle.mlock.specs.Outcomes.{LinesFound, HasLines, line_fault, TextRefused, Finishes, IsText, RefusesAs}
-use Rattle.mlock.proofs.Lines.{line-sound, line-complete, item-exact}
+use Rattle.mlock.specs.RoutineGrammar.{IsLine, LineOf, ends_here, line_len, behind_end, line_at, Stands, LabelsDiffer, FirstTwice, IsStem, IsRoutine}
+use Rattle.mlock.specs.RoutineReading.{line_of, line_item}
+use Rattle.mlock.specs.RoutineRefusals.{fault_at, AnyLine, IsTooLarge, FirstBad, BadLineThere, IsRefusal, Places, Refuses}
+use Rattle.mlock.specs.RoutineOutcomes.{LinesFound, HasLines, line_fault, TextRefused, Finishes, IsText, RefusesAs}
+use Rattle.mlock.proofs.RoutineLines.{line-sound, line-complete, item-exact}
 
 -- where a text is cut
 behind_end-less : (zs : List ℕ) → length (behind_end zs) ≤ length zs

@@ -11,8 +11,8 @@ use Rattle.std.proofs.lemmas.Slice.Eq.{bytes_eq-Decides}
 use Rattle.std.proofs.lemmas.List.Sorted.{list_any-IsPermutation}
 use Rattle.std.proofs.lemmas.List.Folds.{list_any-append}
 use Rattle.mlk_machine.specs.declared.plain.tree.Line.{Line}
-use Rattle.mlock.specs.Grammar.{HasLabel, Stands, LabelTwice}
-use Rattle.mlock.specs.Labels.{has_label, is_same_label, is_label, stands_in}
+use Rattle.mlock.specs.RoutineGrammar.{HasLabel, Stands, LabelTwice}
+use Rattle.mlock.specs.RoutineLabels.{has_label, is_same_label, is_label, stands_in}
 
 bytes_eq-true : (a b : List ℕ) → bytes_eq a b ≡ true → a ≡ b
 bytes_eq-true a b h = (bytes_eq-Decides a b).0 h

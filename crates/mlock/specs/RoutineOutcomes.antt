@@ -15,10 +15,10 @@ use Rattle.mlk_text.specs.declared.fault.LeftOut.TheVariants as left_out
 use Rattle.mlk_machine.specs.declared.plain.tree.Routine.{Routine}
 use Rattle.mlock.specs.declared.routine.refusal.RoutineError.{RoutineError}
 use Rattle.mlock.specs.declared.routine.refusal.RoutineError.TheVariants as refusal
-use Rattle.mlock.specs.Words.{word_at, full_word}
-use Rattle.mlock.specs.Grammar.{IsCommand, LineOf, LabelsDiffer, IsStem, line_at}
-use Rattle.mlock.specs.Reading.{command_at, commands_at, body_at, line_of}
-use Rattle.mlock.specs.Refusals.{fault_at, AnyLine, BodyLeavesOut, CommandIsLeftOut, BadLineThere}
+use Rattle.mlock.specs.RoutineWords.{word_at, full_word}
+use Rattle.mlock.specs.RoutineGrammar.{IsCommand, LineOf, LabelsDiffer, IsStem, line_at}
+use Rattle.mlock.specs.RoutineReading.{command_at, commands_at, body_at, line_of}
+use Rattle.mlock.specs.RoutineRefusals.{fault_at, AnyLine, BodyLeavesOut, CommandIsLeftOut, BadLineThere}
 
 -- what a lexeme's answer is for a line
 abbrev pub line_error : ReadError → LineError

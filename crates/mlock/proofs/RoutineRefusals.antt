@@ -7,11 +7,11 @@ use Rattle.mlk_text.specs.declared.fault.Fault.{Fault}
 use Rattle.mlk_text.specs.declared.fault.LeftOut.TheVariants as left_out
 use Rattle.mlk_text.proofs.Readers.{pair_parts, Stuck, one_stuck, begins_stuck, begins_either}
 use Rattle.mlk_machine.specs.declared.plain.tree.Line.{Line}
-use Rattle.mlock.specs.Grammar.{LineOf, line_at, Stands, LabelTwice, FirstTwice}
-use Rattle.mlock.specs.Reading.{kept, line_item}
-use Rattle.mlock.specs.Refusals.{fault_at, FirstBad, CommandIsLeftOut, TwiceThere, BadLineThere, LargeThere, LineThere, IsRefusal}
-use Rattle.mlock.proofs.Lines.{item-exact, one_left_out, line-free}
-use Rattle.mlock.proofs.Texts.{front-get}
+use Rattle.mlock.specs.RoutineGrammar.{LineOf, line_at, Stands, LabelTwice, FirstTwice}
+use Rattle.mlock.specs.RoutineReading.{kept, line_item}
+use Rattle.mlock.specs.RoutineRefusals.{fault_at, FirstBad, CommandIsLeftOut, TwiceThere, BadLineThere, LargeThere, LineThere, IsRefusal}
+use Rattle.mlock.proofs.RoutineLines.{item-exact, one_left_out, line-free}
+use Rattle.mlock.proofs.RoutineTexts.{front-get}
 
 -- the first bad line is one
 stuck-line : (text : List ℕ) (lines : List Line) (bad : List ℕ) (first : FirstBad text lines bad) → Stuck line_at line_item first.0

@@ -12,7 +12,7 @@ use Rattle.mlk_machine.specs.declared.plain.tree.LockName.{LockName}
 use Rattle.mlk_machine.specs.declared.plain.tree.Root.{Root}
 use Rattle.mlk_machine.specs.declared.plain.tree.Root.TheVariants as root
 use Rattle.mlock.specs.declared.routine.words.Word.TheVariants as word
-use Rattle.mlock.specs.Words.{column_of, word_at, word_of}
+use Rattle.mlock.specs.RoutineWords.{column_of, word_at, word_of}
 
 -- the name of a global behind its caret, or a local's name: ISO/IEC 11756, LOCK, nref
 abbrev pub IsRoot : Root → List ℕ → List ℕ → Type 0

@@ -11,8 +11,8 @@ use Rattle.mlk_machine.specs.declared.plain.tree.Line.{Line}
 use Rattle.mlk_machine.specs.declared.plain.tree.Routine.{Routine}
 use Rattle.mlock.specs.declared.routine.refusal.RoutineError.{RoutineError}
 use Rattle.mlock.specs.declared.routine.refusal.RoutineError.TheVariants as error
-use Rattle.mlock.specs.Words.{word_at, full_word}
-use Rattle.mlock.specs.Grammar.{IsCommand, IsLabel, IsLine, IsStem, IsRoutine, LineOf, LabelsDiffer, FirstTwice, start_at, line_at}
+use Rattle.mlock.specs.RoutineWords.{word_at, full_word}
+use Rattle.mlock.specs.RoutineGrammar.{IsCommand, IsLabel, IsLine, IsStem, IsRoutine, LineOf, LabelsDiffer, FirstTwice, start_at, line_at}
 
 -- a fault of this code at a place of a routine
 abbrev pub fault_at : Code → List ℕ → ℕ → ℕ → Option LeftOut → Fault

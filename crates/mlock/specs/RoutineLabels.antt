@@ -3,7 +3,7 @@ use Rattle.std.specs.Prelude.{ℕ, List, Bool, false, Option, Some, None, bytes_
 use Rattle.std.specs.List.{list_any}
 use Rattle.std.specs.Borrow.{Bor}
 use Rattle.mlk_machine.specs.declared.plain.tree.Line.{Line}
-use Rattle.mlock.specs.Grammar.{LabelsDiffer, FirstTwice}
+use Rattle.mlock.specs.RoutineGrammar.{LabelsDiffer, FirstTwice}
 
 -- whether this label is among those seen
 abbrev pub has_label : List ℕ → List (Bor (List ℕ)) → Bool

@@ -16,12 +16,12 @@ use Rattle.mlk_machine.specs.declared.plain.tree.Line.{Line}
 use Rattle.mlock.specs.declared.routine.words.LineError.{LineError}
 use Rattle.mlock.specs.declared.routine.words.LineError.TheVariants as error
 use Rattle.mlock.specs.declared.routine.words.LineFault.TheVariants as bad
-use Rattle.mlock.specs.Words.{word_at, full_word}
-use Rattle.mlock.specs.Grammar.{IsLabel, IsCommand, start_at, closes, IsBody, IsLine, LineOf}
-use Rattle.mlock.specs.Reading.{some_label, label_at, command_at, commands_at, closed, body_by, body_at, line_with, line_of, kept, line_item}
-use Rattle.mlock.specs.Refusals.{BodyLeavesOut, CommandIsLeftOut}
-use Rattle.mlock.specs.Outcomes.{StopsAt, CommandsFail, BodyFails, BadLine, LineFails, line_error}
-use Rattle.mlock.proofs.Commands.{command-exact, word-takes}
+use Rattle.mlock.specs.RoutineWords.{word_at, full_word}
+use Rattle.mlock.specs.RoutineGrammar.{IsLabel, IsCommand, start_at, closes, IsBody, IsLine, LineOf}
+use Rattle.mlock.specs.RoutineReading.{some_label, label_at, command_at, commands_at, closed, body_by, body_at, line_with, line_of, kept, line_item}
+use Rattle.mlock.specs.RoutineRefusals.{BodyLeavesOut, CommandIsLeftOut}
+use Rattle.mlock.specs.RoutineOutcomes.{StopsAt, CommandsFail, BodyFails, BadLine, LineFails, line_error}
+use Rattle.mlock.proofs.RoutineCommands.{command-exact, word-takes}
 
 -- what a name and digits begin with
 name-first : (text : List ℕ) (b : ℕ) (xs ys : List ℕ) → name_at (b ∷ xs) ≡ Some (text, ys) → (is_letter b || (b == 37)) ≡ true
