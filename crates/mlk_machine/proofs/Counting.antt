@@ -1,10 +1,10 @@
 -- How counts of names change.
-use Rattle.std.proofs.Common.{◌≡◌, ℕ, zero, suc, ◌+◌, ◌<◌, ◌≤◌, Bool, true, false, List, [], ◌∷◌, ◌++◌, Option, Some, None, refl, sym, ap, ◌∙◌, arith, subst, ⊎_elim}
+use Rattle.std.proofs.Common.{◌≡◌, ℕ, zero, suc, ◌+◌, ◌<◌, ◌≤◌, Bool, true, false, List, [], ◌∷◌, refl, sym, arith, ⊎_elim}
 use Rattle.std.specs.Prelude.{if◌then◌else◌}
 use Rattle.std.proofs.lemmas.Bool.{cases_Bool}
 use Rattle.mlk_machine.specs.declared.plain.tree.LockName.{LockName}
 use Rattle.mlk_machine.specs.LockNames.{same_name, times, Counts, count_of, raised, lowered, without_one}
-use Rattle.mlk_machine.proofs.NameLemmas.{same_is, same_self}
+use Rattle.mlk_machine.proofs.NameLemmas.{same_is}
 
 -- 1 where two names are one
 abbrev pub one : LockName → LockName → ℕ
@@ -68,3 +68,20 @@ lowered_le (x ∷ hs) m n =
     without_le y zero rest h = omega (arith, h)
     without_le y (suc zero) rest h = omega arith
     without_le y (suc (suc k)) rest h = step_le (same_name y n) (suc k) (count_of hs n)
+
+-- what another name counts stays, whether this one is held or not
+pub lowered-other : (hs : Counts) (m n : LockName) → same_name m n ≡ false → count_of (lowered hs m) n ≡ count_of hs n
+lowered-other [] m n o = refl
+lowered-other (x ∷ hs) m n o =
+    ⊎_elim
+    (λ e.
+    let i : x.0 ≡ m = same_is x.0 m e in
+    let p : same_name x.0 n ≡ false = rw i o in
+    rw e (without_other x.0 x.1 (lowered hs m) p (lowered-other hs m n o)))
+    (λ e. rw e (omega (arith, lowered-other hs m n o)))
+    (cases_Bool (same_name x.0 m))
+  where
+    without_other : (y : LockName) (k : ℕ) (rest : Counts) → same_name y n ≡ false → count_of rest n ≡ count_of hs n → count_of (without_one y k hs rest) n ≡ (if same_name y n then k else 0) + count_of hs n
+    without_other y zero rest p h = rw p (omega (arith, h))
+    without_other y (suc zero) rest p h = rw p (omega arith)
+    without_other y (suc (suc k)) rest p h = rw p refl

@@ -1,12 +1,12 @@
 -- An entry that a text names has a line.
-use Rattle.std.proofs.Common.{◌≡◌, ◌+◌, ◌-◌, ℕ, zero, suc, Bool, true, false, List, [], ◌∷◌, ◌++◌, drop, Option, Some, None, refl, sym, ap, subst, ◌∙◌, arith, ⊎_elim, inl, inr}
+use Rattle.std.proofs.Common.{◌≡◌, ◌+◌, ◌-◌, ℕ, suc, List, [], ◌∷◌, drop, Option, Some, None, refl, sym, ap, subst, ◌∙◌, arith, ⊎_elim, inl, inr}
 use Rattle.std.specs.Prelude.{◌⊎◌, bytes_eq, slice_get}
 use Rattle.std.proofs.lemmas.Bool.{cases_Bool}
 use Rattle.mlk_machine.specs.declared.plain.program.EntryId.{EntryId}
 use Rattle.mlk_machine.specs.declared.plain.tree.Line.{Line}
 use Rattle.mlk_machine.specs.declared.plain.tree.Routine.{Routine}
 use Rattle.mlk_machine.specs.Entries.{first_with, paired, texts_of, line_entries, entries_from, named, lines_from, lines_of}
-use Rattle.mlk_machine.proofs.Tables.{Table, or_first, first_with-both}
+use Rattle.mlk_machine.proofs.Tables.{or_first, first_with-both}
 
 abbrev pub HasLine : List Line → Type 0
 HasLine lines = (l : Line) × (ls : List Line) × (lines ≡ l ∷ ls)

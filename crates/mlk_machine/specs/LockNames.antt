@@ -1,6 +1,6 @@
 -- Lock names, which of them conflict, and how often a job holds each. Restates ISO/IEC 11756, LOCK: a lock
 -- name stands for itself, what is above it and what is below it, whether a global or a local name begins it.
-use Rattle.std.specs.Prelude.{ℕ, zero, suc, ◌+◌, ◌==◌, nat_lt, Bool, true, false, ◌&&◌, ◌||◌, if◌then◌else◌, List, [], ◌∷◌, bytes_eq}
+use Rattle.std.specs.Prelude.{ℕ, zero, suc, ◌+◌, nat_lt, Bool, true, false, ◌&&◌, ◌||◌, if◌then◌else◌, List, [], ◌∷◌, bytes_eq}
 use Rattle.mlk_machine.specs.declared.plain.tree.LockName.{LockName}
 use Rattle.mlk_machine.specs.declared.plain.tree.Root.{Root}
 use Rattle.mlk_machine.specs.declared.plain.tree.Root.TheVariants.{Global, Local}

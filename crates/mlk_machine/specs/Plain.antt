@@ -1,7 +1,7 @@
 -- The machine of jobs, for straight-line routines. Restates ISO/IEC 11756: the job and its frames, the line
 -- sequence, SET, LOCK, QUIT. Frames, bindings, cells, values and choices are those of the whole language,
 -- of which straight lines use little.
-use Rattle.std.specs.Prelude.{◌≡◌, ℕ, zero, suc, ◌==◌, Bool, true, false, ◌&&◌, not, if◌then◌else◌, List, [], ◌∷◌, ◌++◌, Option, Some, None, option_and_then}
+use Rattle.std.specs.Prelude.{◌≡◌, ℕ, ◌==◌, Bool, true, false, ◌&&◌, not, if◌then◌else◌, List, [], ◌∷◌, ◌++◌, Option, Some, None, option_and_then}
 use Rattle.std.specs.List.{list_any}
 use Rattle.mlk_machine.specs.declared.plain.tree.LockName.{LockName}
 use Rattle.mlk_machine.specs.declared.plain.tree.Node.{Node}

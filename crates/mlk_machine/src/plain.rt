@@ -3,8 +3,10 @@
 //! What a job does with them is defined in `specs/Plain.antt`.
 
 mod compare;
+mod law;
 mod program;
 mod tree;
 
+pub use law::{claim_adds_one, held_apart, one_run_of_many, release_takes_one};
 pub use program::{EntryId, Plain};
 pub use tree::{Action, Command, Commands, EntryText, Line, Lines, LockName, Node, Root, Routine};

@@ -33,7 +33,7 @@ pub enum Code {
     Spacing,
     /// 209: a block whose head line has no argumentless DO
     BlockUnreached,
-    /// 210: a routine of more than 1 MiB or 65,535 lines, a level above 15, more than 255 FORs on a line
+    /// 210: a routine past one of its limits: bytes, lines, levels, FORs on a line
     TooLarge,
     /// 211: a file whose stem is no name
     RoutineName,

@@ -29,6 +29,13 @@ impl Name {
         Name { bytes }
     }
 
+    /// The bytes of a name that is no longer needed.
+    pub fn into_bytes(self) -> Vec<u8>
+        ensures { result.items ≡ self }
+    {
+        self.bytes
+    }
+
     /// The name's bytes.
     pub fn as_bytes(&self) -> &[u8]
         ensures { result.now ≡ self.now }

@@ -2,6 +2,7 @@
 
 ghost use Rattle.std.specs.Prelude.{◌≡◌, IfOk, OnOk, OnErr, ◌∷◌, ◌++◌, [], bytes_eq, length};
 
+use crate::name::Name;
 use std::alloc::{AllocError, Global};
 use std::marker::Model;
 
@@ -25,6 +26,15 @@ impl Value {
         ensures { result ≡ bytes.items }
     {
         Value { bytes }
+    }
+
+    /// The value with the bytes of a name.
+    pub fn from_name(name: Name) -> Value
+        ensures { result ≡ name }
+    {
+        Value {
+            bytes: name.into_bytes(),
+        }
     }
 
     /// The value's bytes.

@@ -1,11 +1,11 @@
 -- A walk without faults describes each moment of a job.
-use Rattle.std.proofs.Common.{◌≡◌, ℕ, zero, suc, ◌+◌, ◌<◌, Bool, true, false, List, [], ◌∷◌, ◌++◌, map, length, Option, Some, None, refl, sym, ap, ◌∙◌, arith, subst, ⊎_elim, inl, inr, append_assoc, length-append, append-nil}
-use Rattle.std.specs.Prelude.{if◌then◌else◌, nat_lt, ◌⊎◌, ◌==◌, ◌&&◌, ◌||◌, option_and_then}
+use Rattle.std.proofs.Common.{◌≡◌, ℕ, suc, ◌+◌, ◌<◌, Bool, true, false, List, [], ◌∷◌, ◌++◌, map, length, Option, Some, None, refl, sym, ap, ◌∙◌, arith, subst, ⊎_elim, inl, inr, append_assoc, length-append}
+use Rattle.std.specs.Prelude.{if◌then◌else◌, nat_lt, ◌⊎◌, ◌==◌}
 use Rattle.std.specs.List.{list_any}
 use Rattle.std.proofs.lemmas.Bool.{cases_Bool, and_parts, or_cases, eqb-true}
 use Rattle.std.proofs.lemmas.Option.{cond_some, option_and_then_some}
 use Rattle.mlk_text.specs.declared.code.Code.{Code}
-use Rattle.mlk_text.specs.declared.code.Code.TheVariants.{CaseNotListed, TooManyCases, NoCertificate}
+use Rattle.mlk_text.specs.declared.code.Code.TheVariants.{CaseNotListed}
 use Rattle.mlk_machine.specs.declared.plain.tree.LockName.{LockName}
 use Rattle.mlk_machine.specs.declared.plain.tree.Node.{Node}
 use Rattle.mlk_machine.specs.declared.plain.tree.Line.{Line}
@@ -14,12 +14,13 @@ use Rattle.mlk_machine.specs.declared.plain.tree.Action.{Action}
 use Rattle.mlk_machine.specs.declared.plain.tree.Action.TheVariants.{Set, Lock, Unlock, Quit}
 use Rattle.mlk_machine.specs.declared.plain.tree.Routine.{Routine}
 use Rattle.mlk_machine.specs.declared.plain.program.EntryId.{EntryId}
-use Rattle.mlk_machine.specs.LockNames.{same_name, times, count_of, raised, lowered}
+use Rattle.mlk_machine.specs.LockNames.{times, count_of}
 use Rattle.mlk_machine.specs.Entries.{lines_of, names, named, is_it, same_entry}
-use Rattle.mlk_machine.specs.Plain.{Job, Task, RunLines, RunCommands, Evaluate, Touch, Claim, Release, EndFrame, quit, parts, written, advance, begun, first_cells, aborted, when_live, Choice, Unasked, Given, Decided, gone, Act, Begin, Go, Abort, alone, lone_run, ready, ready_in, HasEnded}
-use Rattle.mlk_machine.proofs.NameLemmas.{same_is, same_self}
+use Rattle.mlk_machine.specs.Plain.{Job, Task, RunLines, RunCommands, Evaluate, Touch, Claim, Release, EndFrame, quit, parts, advance, begun, first_cells, aborted, when_live, Choice, Unasked, Given, Decided, gone, Act, Begin, Go, Abort, alone, lone_run, ready_in}
+use Rattle.mlk_machine.proofs.NameLemmas.{same_self}
 use Rattle.mlk_machine.proofs.Counting.{one, count_of-raised, count_of-lowered}
 use Rattle.mlk_machine.proofs.EntryLemmas.{HasLine, named_line}
+use Rattle.mlk_machine.proofs.Runs.{written_job}
 use Rattle.mlk_walk.specs.declared.rules.Cover.{Cover}
 use Rattle.mlk_walk.specs.declared.rules.Rules.{Rules}
 use Rattle.mlk_walk.specs.declared.cert.EntryCert.{EntryCert}
@@ -30,7 +31,7 @@ use Rattle.mlk_walk.specs.declared.walk.Outcome.TheVariants.{Goes, Faulty, Ends}
 use Rattle.mlk_walk.specs.Rules.{uncovered}
 use Rattle.mlk_walk.specs.Sets.{Among}
 use Rattle.mlk_walk.specs.Walk.{Held, taken, is_listed, listed, too_many, at_frame_end, if_covered, if_taken, outcome, fault_at, faults_in, cases_in, at_line_end, end_line, walked, if_few, walk_rest, walk_lines, start_faults, block_faults, is_declared, block_of, verdict}
-use Rattle.mlk_walk.specs.Theorem.{Describes, IsMade, IsListedAt, StandsAt, IsBalanced, IsClean, EachRunIsBalanced, OneJob}
+use Rattle.mlk_walk.specs.Theorem.{Describes, IsMade, IsListedAt, StandsAt, IsBalanced, OneJob}
 use Rattle.mlk_walk.proofs.CaseLemmas.{times-taken, times-last, listed_among, true_false, parts_empty, some_length}
 
 abbrev IsFine : Outcome → Type 0
@@ -94,11 +95,6 @@ set_row (Some code) column c h = absurd h
 unlock_row : (o : Option Held) (column : ℕ) → IsFine (if_taken o column) → (r : Held) × (o ≡ Some r) × (if_taken o column ≡ Goes r)
 unlock_row None column h = absurd h
 unlock_row (Some r) column h = (r, refl, refl)
-
--- a write leaves the locks as they are
-pub written_job : (j i : Job) (ts : List Task) (vs : List (List ℕ)) → written j ts vs ≡ Some i → (w : List (List ℕ)) × (record j { values = w; tasks = ts } ≡ i)
-written_job j i ts [] h = cc
-written_job j i ts (v ∷ vs) h = (vs, cc)
 
 module _ (cover : Option Cover) (b : EntryCert) (n : ℕ) (whole : List Line) (fine : walk_lines cover true b n whole ≡ []) where
   abbrev Made : Held → Type 0

@@ -1,11 +1,10 @@
 -- Cases: which are the same, and what is taken from one.
-use Rattle.std.proofs.Common.{◌≡◌, ℕ, zero, suc, ◌+◌, ◌<◌, Bool, true, false, List, [], ◌∷◌, ◌++◌, length, Option, Some, None, refl, sym, ap, ◌∙◌, arith, subst, ⊎_elim, inl, inr}
-use Rattle.std.specs.Prelude.{if◌then◌else◌, option_map, ◌==◌, ◌&&◌, nat_lt}
-use Rattle.std.specs.List.{list_any, list_all}
+use Rattle.std.proofs.Common.{◌≡◌, ℕ, zero, suc, ◌+◌, ◌<◌, Bool, true, false, List, [], ◌∷◌, ◌++◌, length, Option, Some, None, refl, sym, ◌∙◌, arith, ⊎_elim, inl, inr}
+use Rattle.std.specs.Prelude.{option_map, ◌==◌, nat_lt}
 use Rattle.std.proofs.lemmas.Bool.{cases_Bool, and_parts, eqb-true, lt-ltb}
 use Rattle.mlk_machine.specs.declared.plain.tree.LockName.{LockName}
 use Rattle.mlk_machine.specs.LockNames.{same_name, times}
-use Rattle.mlk_machine.proofs.NameLemmas.{same_is, same_self}
+use Rattle.mlk_machine.proofs.NameLemmas.{same_is}
 use Rattle.mlk_machine.proofs.Counting.{one, times-front}
 use Rattle.mlk_walk.specs.Sets.{Among}
 use Rattle.mlk_walk.specs.Walk.{Held, taken, agree, same_held, is_listed}

@@ -1,13 +1,12 @@
 -- The report of a program, entry by entry.
-use Rattle.std.proofs.Common.{◌≡◌, ◌<◌, ◌+◌, ℕ, zero, suc, Bool, true, false, List, [], ◌∷◌, ◌++◌, map, length, get_or, drop, Option, Some, None, refl, sym, ap, subst, ◌∙◌, arith, ⊎_elim, inl, inr, is_some, add-one, append_assoc, append-nil}
-use Rattle.std.specs.Prelude.{◌⊎◌, ◌==◌, ◌||◌, if◌then◌else◌, slice_get, option_and_then, bytes_eq}
-use Rattle.std.specs.List.{list_any}
+use Rattle.std.proofs.Common.{◌≡◌, ℕ, suc, Bool, true, false, List, [], ◌∷◌, ◌++◌, map, Option, Some, None, refl, sym, ap, subst, ◌∙◌, ⊎_elim, inl, inr, is_some, append_assoc, append-nil}
+use Rattle.std.specs.Prelude.{◌⊎◌, ◌==◌, ◌||◌, if◌then◌else◌, slice_get, option_and_then}
 use Rattle.std.proofs.lemmas.Bool.{cases_Bool}
 use Rattle.mlk_machine.specs.declared.plain.tree.Line.{Line}
 use Rattle.mlk_machine.specs.declared.plain.tree.Routine.{Routine}
 use Rattle.mlk_machine.specs.declared.plain.program.EntryId.{EntryId}
-use Rattle.mlk_machine.specs.Entries.{named, names, first_with, paired, by_routine, by_label, texts_of, line_entries, entries_from}
-use Rattle.mlk_machine.proofs.Tables.{or_first, first_with-both}
+use Rattle.mlk_machine.specs.Entries.{named, names, first_with, paired, by_label, texts_of, line_entries, entries_from}
+use Rattle.mlk_machine.proofs.Tables.{first_with-both}
 use Rattle.mlk_machine.proofs.EntryLemmas.{either, in_paired}
 use Rattle.mlk_walk.specs.declared.rules.Rules.{Rules}
 use Rattle.mlk_walk.specs.declared.cert.EntryCert.{EntryCert}
@@ -18,9 +17,9 @@ use Rattle.mlk_walk.specs.Sets.{Among, SameSet, IsAscending}
 use Rattle.mlk_walk.specs.Places.{place_in, place_from, HasPlaces, block_texts}
 use Rattle.mlk_walk.specs.Walk.{first_block, is_declared, block_of, verdict}
 use Rattle.mlk_walk.specs.Rows.{row}
-use Rattle.mlk_walk.specs.Report.{is_entry, line_ids, ids_from, all_entries, is_checked, IsListOf, IsReport, Extends, IsOutcome}
+use Rattle.mlk_walk.specs.Report.{is_entry, line_ids, ids_from, all_entries, is_checked, IsListOf, IsReport, Extends}
 use Rattle.mlk_walk.specs.Theorem.{IsClean, EachRunIsBalanced, NoJobsClash}
-use Rattle.mlk_walk.proofs.CaseLemmas.{nothing_among, true_false}
+use Rattle.mlk_walk.proofs.CaseLemmas.{nothing_among}
 use Rattle.mlk_walk.proofs.PlaceLemmas.{Table, any-place, no_block, block_at_place}
 use Rattle.mlk_walk.proofs.Alone.{some_names, one_job}
 use Rattle.mlk_walk.proofs.Together.{all_jobs}

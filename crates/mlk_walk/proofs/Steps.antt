@@ -1,17 +1,16 @@
 -- Steps of the loops of the walk.
-use Rattle.std.proofs.Common.{◌≡◌, ℕ, suc, ◌+◌, ◌<◌, Bool, true, false, List, [], ◌∷◌, ◌++◌, length, drop, refl, sym, ap, ◌∙◌, subst, append_assoc, append-nil}
+use Rattle.std.proofs.Common.{◌≡◌, ℕ, Bool, true, false, List, [], ◌∷◌, ◌++◌, refl, sym, ap, ◌∙◌, subst, append_assoc}
 use Rattle.std.specs.Prelude.{map, Option}
 use Rattle.mlk_text.specs.declared.code.Code.TheVariants.{TooManyCases}
 use Rattle.mlk_machine.specs.declared.plain.tree.Line.{Line}
 use Rattle.mlk_machine.specs.declared.plain.tree.Command.{Command}
 use Rattle.mlk_walk.specs.declared.rules.Cover.{Cover}
-use Rattle.mlk_walk.specs.declared.cert.Point.{Point}
 use Rattle.mlk_walk.specs.declared.verdict.WalkFault.{WalkFault}
 use Rattle.mlk_walk.specs.declared.walk.Outcome.{Outcome}
 use Rattle.mlk_walk.specs.declared.walk.Outcome.TheVariants.{Goes, Faulty, Ends}
 use Rattle.mlk_walk.specs.Walk.{Held, outcome, cases_in, faults_in, fault_at, too_many, if_few, walk_rest}
 use Rattle.mlk_walk.specs.Sets.{SameSet, Adds}
-use Rattle.mlk_walk.proofs.SetLemmas.{same_refl, same_trans, added}
+use Rattle.mlk_walk.proofs.SetLemmas.{same_trans, added}
 
 cases_cons : (o : Outcome) (os : List Outcome) → cases_in (o ∷ os) ≡ cases_in (o ∷ []) ++ cases_in os
 cases_cons (Goes c) os = refl

@@ -1,5 +1,5 @@
 -- Points of a certificate, and their order: by line, then by round. This project's own choice.
-use Rattle.std.specs.Prelude.{◌≡◌, ◌⊎◌, ℕ, ◌<◌, List, [], ◌∷◌}
+use Rattle.std.specs.Prelude.{◌≡◌, ◌⊎◌, ◌<◌, List, [], ◌∷◌}
 use Rattle.mlk_walk.specs.declared.cert.Point.{Point}
 
 -- the first point stands before the second

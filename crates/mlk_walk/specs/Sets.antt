@@ -1,14 +1,11 @@
 -- Faults of an entry: as a set, and as a list that ascends. This project's own choice.
-use Rattle.std.specs.Prelude.{◌≡◌, ◌⊎◌, ◌↔◌, ℕ, List, [], ◌∷◌, ◌++◌}
+use Rattle.std.specs.Prelude.{◌≡◌, ◌↔◌, List, [], ◌∷◌, ◌++◌}
 use Rattle.std.specs.Ordering.{nat_cmp, ordering_then}
 use Rattle.std.specs.declared.cmp.Ordering.{Ordering}
 use Rattle.std.specs.declared.cmp.Ordering.TheVariants.{Less, Equal, Greater}
 use Rattle.mlk_text.specs.Codes.{number_of}
+pub use Rattle.mlk_machine.specs.Lists.{Among}
 use Rattle.mlk_walk.specs.declared.verdict.WalkFault.{WalkFault}
-
-abbrev pub Among : {A : Type 0} → A → List A → Type 0
-Among x [] = ⊥
-Among x (y ∷ ys) = (x ≡ y) ⊎ Among x ys
 
 -- by line, column and number
 unfoldable pub fault_cmp : WalkFault → WalkFault → Ordering

@@ -1,6 +1,6 @@
 -- The walk of straight lines: from the cases that a certificate lists at a line, over its commands, to the cases
 -- listed at the next line or at the exits. This project's own choice.
-use Rattle.std.specs.Prelude.{ℕ, suc, ◌+◌, ◌==◌, nat_lt, Bool, true, false, ◌&&◌, ◌||◌, not, if◌then◌else◌, List, [], ◌∷◌, ◌++◌, length, Option, Some, None, map, option_map, is_none}
+use Rattle.std.specs.Prelude.{ℕ, suc, ◌==◌, nat_lt, Bool, true, false, ◌&&◌, ◌||◌, if◌then◌else◌, List, [], ◌∷◌, ◌++◌, length, Option, Some, None, map, option_map}
 use Rattle.std.specs.List.{list_any, list_all}
 use Rattle.mlk_text.specs.declared.code.Code.{Code}
 use Rattle.mlk_text.specs.declared.code.Code.TheVariants.{NotHeld, HeldAtEnd, CaseNotListed, NoCertificate, TooManyCases}

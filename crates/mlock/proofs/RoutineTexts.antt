@@ -169,7 +169,7 @@ count-done n text rest (lines, front, size) none =
     (lines, subst (λ l. Many line_at AnyLine lines text l) (line-none rest none) (begins_end line_at AnyLine lines text rest front none), size)
 
 -- a text that is not too large
-pub not-large : (text : List ℕ) (n : ℕ) → HasLines text n → length text ≤ 1048576 → n ≤ 65535 → IsTooLarge text → ⊥
+pub not-large : (text : List ℕ) (n : ℕ) → HasLines text n → length text ≤ 134217728 → n ≤ 65535 → IsTooLarge text → ⊥
 not-large text n has size few (inl long) = omega arith
 not-large text n (lines, all, count) size few (inr (others, also, much)) =
     let same : length lines ≡ length others = ap length (same-count lines others text [] [] all also) in omega (arith, count, same)
@@ -193,7 +193,7 @@ pub twice-refused : (text n : List ℕ) (lines : List Line) (stop : Option LineF
 twice-refused text n lines stop k refusal.OutOfMemory found twice is = tt
 twice-refused text n lines stop k (refusal.Refused g) found twice is = let f = found-front text lines stop found in inr (inr (lines, f.0, k, f.1, twice, is))
 
-pub routine-ok : (stem text n : List ℕ) (r : Result Routine RoutineError) → IsStem n stem → length text ≤ 1048576 → ((lines : List Line) (rest : List ℕ) → Begins line_at LineOf lines text rest → length lines ≤ 65535)
+pub routine-ok : (stem text n : List ℕ) (r : Result Routine RoutineError) → IsStem n stem → length text ≤ 134217728 → ((lines : List Line) (rest : List ℕ) → Begins line_at LineOf lines text rest → length lines ≤ 65535)
     → IfOk r (IsText text n) → IfOk r (IsRoutine stem text)
 routine-ok stem text n (Ok r) is size few (name, lines, differ) =
     (subst (λ m. IsStem m stem) (sym name) is, size, lines, few r.lines [] (begins_of line_at LineOf r.lines text [] lines).0, differ)

@@ -11,3 +11,8 @@ pub mod CertificateLexing
 pub mod CertificateBlocks
 pub mod CertificateOutcome
 pub mod CertificateTheorem
+pub mod RuleAnswers
+pub mod RuleTexts
+pub mod RuleKinds
+pub mod RuleSections
+pub mod Checked

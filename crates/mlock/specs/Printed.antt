@@ -11,6 +11,9 @@ use Rattle.mlk_machine.specs.declared.plain.tree.Line.{Line}
 use Rattle.mlk_machine.specs.declared.plain.tree.Routine.{Routine}
 use Rattle.mlk_machine.specs.declared.plain.program.EntryId.{EntryId}
 use Rattle.mlk_walk.specs.declared.report.Row.{Row}
+use Rattle.mlock.specs.declared.rules.fault.RulesFault.{RulesFault}
+use Rattle.mlock.specs.declared.certificate.read.CertificateFault.{CertificateFault}
+use Rattle.mlock.specs.Sections.{section_word}
 use Rattle.mlk_walk.specs.declared.verdict.WalkFault.{WalkFault}
 
 abbrev pub space : List ℕ
@@ -40,6 +43,14 @@ fault_line f =
 -- `refused entry TEXT 901 EntryMissing`
 abbrev pub missing_line : List ℕ → List ℕ
 missing_line text = codes "refused entry " ++ text ++ space ++ code_text EntryMissing ++ line_end
+
+-- `refused rules SECTION INDEX CODE NAME`
+abbrev pub rules_line : RulesFault → List ℕ
+rules_line f = codes "refused rules " ++ section_word f.section ++ space ++ decimal f.index ++ space ++ code_text f.code ++ line_end
+
+-- `refused cert LINE CODE NAME`
+abbrev pub certificate_line : CertificateFault → List ℕ
+certificate_line f = codes "refused cert " ++ decimal f.line ++ space ++ code_text f.code ++ line_end
 
 -- `error file PATH`
 abbrev pub file_line : List ℕ → List ℕ

@@ -148,9 +148,9 @@ percent (b ∷ xs) = if b == 95 then 37 ∷ xs else b ∷ xs
 abbrev pub IsStem : List ℕ → List ℕ → Type 0
 IsStem name stem = name_at (percent stem) ≡ Some (name, [])
 
--- A routine, by its file's stem and its text: at most 1 MiB and 65,535 lines (this project's own choice).
+-- A routine, by its file's stem and its text: at most 128 MiB and 65,535 lines (this project's own choice).
 abbrev pub IsRoutine : List ℕ → List ℕ → Routine → Type 0
-IsRoutine stem text tree = IsStem tree.name stem × (length text ≤ 1048576) × Many line_at LineOf tree.lines text [] × (length tree.lines ≤ 65535) × LabelsDiffer tree.lines
+IsRoutine stem text tree = IsStem tree.name stem × (length text ≤ 134217728) × Many line_at LineOf tree.lines text [] × (length tree.lines ≤ 65535) × LabelsDiffer tree.lines
 
 -- A stem and a text have at most one tree.
 abbrev pub OneTree : Type 0

@@ -65,7 +65,7 @@ NoStem stem f = ((name : List ℕ) → IsStem name stem → ⊥) × (f ≡ fault
 
 -- 210: the text is too large
 abbrev pub IsTooLarge : List ℕ → Type 0
-IsTooLarge text = (1048576 < length text) ⊎ TooManyLines text
+IsTooLarge text = (134217728 < length text) ⊎ TooManyLines text
 
 -- 210, at the first line
 abbrev pub LargeThere : List ℕ → List ℕ → Fault → Type 0

@@ -1,8 +1,10 @@
 // The lines that the program prints.
 
 ghost use Rattle.std.specs.Prelude.{◌≡◌, ◌++◌, OnOk, IfOk, slice_get, option_copied};
-ghost use Rattle.mlock.specs.Printed.{code_text, place_text, left_out_text, fault_line, missing_line, file_line, label_text, entry_text, fault_text, row_line, row_lines, last_line, report_text};
+ghost use Rattle.mlock.specs.Printed.{code_text, place_text, left_out_text, fault_line, missing_line, rules_line, certificate_line, file_line, label_text, entry_text, fault_text, row_line, row_lines, last_line, report_text};
 
+use crate::certificate::CertificateFault;
+use crate::rules::RulesFault;
 use crate::text::Text;
 use mlk_machine::plain::{EntryText, Line, Plain, Routine};
 use mlk_text::{Code, Fault, LeftOut};
@@ -62,6 +64,34 @@ pub(crate) fn missing_line(alloc: Global, entry: &EntryText) -> Result<Text, All
     text.push(entry.as_bytes())?;
     text.push(b" ")?;
     push_code(&mut text, Code::EntryMissing)?;
+    text.push(b"\n")?;
+    Ok(text)
+}
+
+/// `refused rules SECTION INDEX CODE NAME`
+pub(crate) fn rules_line(alloc: Global, fault: &RulesFault) -> Result<Text, AllocError>
+    ensures { IfOk result (λ t. t ≡ rules_line fault.now) }
+{
+    let mut text = Text::new(alloc);
+    text.push(b"refused rules ")?;
+    text.push(fault.section.word())?;
+    text.push(b" ")?;
+    text.push_number(fault.index)?;
+    text.push(b" ")?;
+    push_code(&mut text, fault.code)?;
+    text.push(b"\n")?;
+    Ok(text)
+}
+
+/// `refused cert LINE CODE NAME`
+pub(crate) fn certificate_line(alloc: Global, fault: &CertificateFault) -> Result<Text, AllocError>
+    ensures { IfOk result (λ t. t ≡ certificate_line fault.now) }
+{
+    let mut text = Text::new(alloc);
+    text.push(b"refused cert ")?;
+    text.push_number(fault.line as usize)?;
+    text.push(b" ")?;
+    push_code(&mut text, fault.code)?;
     text.push(b"\n")?;
     Ok(text)
 }

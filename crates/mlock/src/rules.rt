@@ -1,5 +1,17 @@
 //! Reading rule files.
 
+mod cover;
+mod document;
+mod entry;
+mod family;
 mod fault;
+mod kinds;
+mod sections;
+mod spelling;
+mod tables;
 
+pub use document::read_rules;
 pub use fault::{RulesError, RulesFault, Section};
+
+#[cfg(test)]
+mod tests;

@@ -96,7 +96,7 @@ fn body(alloc: Global, end: u32, bytes: &[u8]) -> Result<Vec<Command>, LineError
 
 /// The line of these bytes.
 pub fn line(alloc: Global, bytes: &[u8]) -> Result<Line, LineError>
-    requires { length bytes.now ≤ 1048576 }
+    requires { length bytes.now ≤ 134217728 }
     ensures { Answers (λ l. l) (LineFails bytes.now) result (line_of bytes.now) }
 {
     let end = bytes.len() as u32 + 1;

@@ -24,7 +24,7 @@ struct Found {
 }
 
 fn lines(alloc: Global, text: &[u8]) -> Result<Found, AllocError>
-    requires { length text.now ≤ 1048576 }
+    requires { length text.now ≤ 134217728 }
     ensures { IfOk result (λ f. LinesFound text.now f.lines.items f.stop) }
 {
     let mut found = Vec::new(alloc);
@@ -66,10 +66,10 @@ fn line_count(text: &[u8]) -> usize
 pub fn is_large(text: &[u8]) -> bool
     ensures yes { result ≡ true → IsTooLarge text.now }
     ensures no { result ≡ false → IsTooLarge text.now → ⊥ }
-    ensures size { result ≡ false → length text.now ≤ 1048576 }
+    ensures size { result ≡ false → length text.now ≤ 134217728 }
     ensures few { result ≡ false → (lines : List Line) (rest : List ℕ) → Begins line_at LineOf lines text.now rest → length lines ≤ 65535 }
 {
-    if text.len() > 1048576 {
+    if text.len() > 134217728 {
         return true;
     }
     line_count(text) > 65535
@@ -100,7 +100,7 @@ fn finish(alloc: Global, name: Name, found: Found) -> Result<Routine, RoutineErr
 
 /// The routine of a text that is not too large.
 pub fn read_text(alloc: Global, name: Name, text: &[u8]) -> Result<Routine, RoutineError>
-    requires size { length text.now ≤ 1048576 }
+    requires size { length text.now ≤ 134217728 }
     requires few { (lines : List Line) (rest : List ℕ) → Begins line_at LineOf lines text.now rest → length lines ≤ 65535 }
     ensures ok { IfOk result (IsText text.now name) }
     ensures refused { IfErr result (TextRefused text.now name) }

@@ -2,7 +2,7 @@
 
 ghost use Rattle.std.specs.Prelude.{◌≡◌};
 ghost use Rattle.mlock.specs.Sections.{section_word};
-ghost use Rattle.mlock.specs.declared.rules.fault.RulesError.TheVariants.{OutOfMemory};
+ghost use Rattle.mlock.specs.declared.rules.fault.RulesError.TheVariants.{OutOfMemory, Refused};
 
 use mlk_text::Code;
 use std::alloc::{AllocError, AllocFailed};
@@ -61,4 +61,15 @@ impl<T: Drop> From<AllocFailed<T>> for RulesError {
     fn from(_e: AllocFailed<T>) -> RulesError {
         RulesError::OutOfMemory
     }
+}
+
+/// The refusal with this code at a place of the file.
+pub fn refused(code: Code, section: Section, index: usize) -> RulesError
+    ensures { result ≡ Refused (record { code = code; section = section; index = index }) }
+{
+    RulesError::Refused(RulesFault {
+        code,
+        section,
+        index,
+    })
 }

@@ -1,6 +1,5 @@
-use Rattle.std.proofs.Common.{sym, ◌∙◌, subst, drop, ◌∷◌, ◌+◌}
+use Rattle.std.proofs.Common.{◌∙◌}
 use Rattle.mlk_machine.proofs.Tables.{drop_at}
-use Rattle.mlk_walk.specs.Points.{PointsAscend}
 use Rattle.mlk_walk.proofs.PointLemmas.{drop_ascends, past_at}
 use Rattle.mlk_walk.proofs.entry.cases_for.Goals as goal
 

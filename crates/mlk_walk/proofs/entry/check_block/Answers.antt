@@ -1,8 +1,7 @@
 use Rattle.std.proofs.Common.{◌≡◌, []}
 use Rattle.std.specs.Prelude.{option_copied}
-use Rattle.mlk_walk.specs.Walk.{start_faults, walk_lines}
+use Rattle.mlk_walk.specs.Walk.{start_faults}
 use Rattle.mlk_walk.specs.ByPoint.{points_faults}
-use Rattle.mlk_walk.specs.declared.verdict.WalkFault.{WalkFault}
 use Rattle.mlk_walk.proofs.SetLemmas.{adds_both, same_trans, same_right}
 use Rattle.mlk_walk.proofs.PointLemmas.{same_by_points}
 use Rattle.mlk_walk.proofs.entry.check_block.Goals as goal

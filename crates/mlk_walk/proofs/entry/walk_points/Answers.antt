@@ -1,4 +1,4 @@
-use Rattle.std.proofs.Common.{sym, subst, ◌+◌, drop}
+use Rattle.std.proofs.Common.{◌+◌}
 use Rattle.std.specs.Prelude.{option_copied}
 use Rattle.mlk_machine.proofs.Tables.{drop_at}
 use Rattle.mlk_walk.proofs.PointLemmas.{drop_ascends, next_point}

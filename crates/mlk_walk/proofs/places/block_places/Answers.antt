@@ -1,4 +1,4 @@
-use Rattle.std.proofs.Common.{drop, ap}
+use Rattle.std.proofs.Common.{ap}
 use Rattle.std.proofs.lemmas.List.{drop_all}
 use Rattle.mlk_machine.proofs.Tables.{drop_at}
 use Rattle.mlk_walk.specs.Places.{block_texts}

@@ -1,4 +1,3 @@
-use Rattle.std.proofs.Common.{drop}
 use Rattle.std.proofs.lemmas.List.{drop_all}
 use Rattle.mlk_machine.proofs.Tables.{drop_at}
 use Rattle.mlk_walk.proofs.PlaceLemmas.{next_noted, all_noted}

@@ -1,5 +1,4 @@
-use Rattle.std.proofs.Common.{◌∙◌, ap}
-use Rattle.std.specs.Prelude.{option_and_then, slice_get}
+use Rattle.std.proofs.Common.{◌∙◌}
 use Rattle.mlk_walk.proofs.ReportLemmas.{block_is}
 use Rattle.mlk_walk.proofs.program.block_of.Goals as goal
 

@@ -1,6 +1,3 @@
-use Rattle.std.proofs.Common.{None, Some, refl, ◌∙◌, ap, ◌++◌, ◌≡◌, List}
-use Rattle.std.specs.Prelude.{map}
-use Rattle.mlk_walk.specs.Rows.{row}
 use Rattle.mlk_walk.proofs.ReportLemmas.{extends_none_of, extends_some}
 use Rattle.mlk_walk.proofs.program.check_one.Goals as goal
 

@@ -1,4 +1,4 @@
-use Rattle.std.proofs.Common.{◌≡◌, ◌∙◌, sym, ap, is_some, None, Some}
+use Rattle.std.proofs.Common.{◌∙◌, sym, ap, is_some}
 use Rattle.indexmap.proofs.CallerLemmas.{insert_entry-new}
 use Rattle.mlk_machine.proofs.Tables.{none_from}
 use Rattle.mlk_walk.proofs.PlaceLemmas.{place_in-lookup, notes_none, notes_present, notes_new}

@@ -1,6 +1,6 @@
-use Rattle.std.proofs.Common.{◌≡◌, sym, ◌∙◌, ap, subst, List, ◌++◌, ◌∷◌, []}
+use Rattle.std.proofs.Common.{◌≡◌, sym, ◌∙◌, subst, List, ◌++◌, ◌∷◌, []}
 use Rattle.mlk_walk.specs.declared.verdict.WalkFault.{WalkFault}
-use Rattle.mlk_walk.specs.Sets.{Adds, IsAscending, SameSet, put_in}
+use Rattle.mlk_walk.specs.Sets.{SameSet, put_in}
 use Rattle.mlk_walk.proofs.SetLemmas.{put_adds, put_ascends}
 use Rattle.mlk_walk.proofs.verdict.Verdict.add.Goals as goal
 

@@ -6,7 +6,7 @@ use Rattle.mlock.proofs.routine.texts.lines.Given as goal
 abbrev pub invariant-loop-bytes : goal.invariant-loop-bytes
 invariant-loop-bytes l = record {
   front : Begins line_at LineOf l.found.items l.text l.rest;
-  size : length l.rest ≤ 1048576;
+  size : length l.rest ≤ 134217728;
 }
 
 abbrev pub decreases-loop-bytes : goal.decreases-loop-bytes

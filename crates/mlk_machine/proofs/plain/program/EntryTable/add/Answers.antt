@@ -1,4 +1,4 @@
-use Rattle.std.proofs.Common.{◌≡◌, ◌∙◌, sym, ap, is_some, refl, ◌++◌, ◌∷◌, []}
+use Rattle.std.proofs.Common.{◌∙◌, sym, ap, is_some}
 use Rattle.indexmap.proofs.CallerLemmas.{insert_entry-new}
 use Rattle.mlk_machine.specs.Entries.{first_with}
 use Rattle.mlk_machine.proofs.Tables.{lookup-shown, same-present, shown, shown-append, none_from}

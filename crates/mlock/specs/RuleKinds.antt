@@ -1,0 +1,128 @@
+-- Which items may stand where in a rule file, and what is made of them. This project's own choice.
+use Rattle.std.specs.Prelude.{ℕ, zero, suc, ◌&&◌, ◌||◌, not, if◌then◌else◌, nat_lt, Bool, true, false, List, [], ◌∷◌, ◌++◌, length, Option, Some, None, bytes_eq}
+use Rattle.mlk_machine.specs.declared.plain.tree.LockName.{LockName}
+use Rattle.mlk_machine.specs.declared.plain.tree.Root.{Root}
+use Rattle.mlk_machine.specs.declared.plain.tree.Root.TheVariants as root
+use Rattle.mlk_walk.specs.declared.rules.Element.{Element}
+use Rattle.mlk_walk.specs.declared.rules.Element.TheVariants as element
+use Rattle.mlk_walk.specs.declared.rules.Part.{Part}
+use Rattle.mlk_walk.specs.declared.rules.Part.TheVariants as part
+use Rattle.mlk_walk.specs.declared.rules.Pattern.{Pattern}
+use Rattle.mlk_walk.specs.declared.rules.Template.{Template}
+use Rattle.mlock.specs.declared.rules.kinds.Item.{Item}
+use Rattle.mlock.specs.declared.rules.kinds.Item.TheVariants.{Literal, Variable, Job}
+use Rattle.mlock.specs.declared.rules.kinds.Spelling.{Spelling}
+
+-- more than 8 items; `...` is none
+abbrev pub is_long : Option Spelling → Bool
+is_long None = false
+is_long (Some s) = nat_lt 8 (length s.items)
+
+-- literals alone
+abbrev pub is_literals : List Item → Bool
+is_literals [] = true
+is_literals (Literal v ∷ items) = is_literals items
+is_literals (Variable n ∷ items) = false
+is_literals (Job ∷ items) = false
+
+-- their values
+abbrev pub values_of : List Item → List (List ℕ)
+values_of [] = []
+values_of (Literal v ∷ items) = v ∷ values_of items
+values_of (Variable n ∷ items) = values_of items
+values_of (Job ∷ items) = values_of items
+
+-- a family's name: literals, and no `...`
+unfoldable pub is_family_name : Spelling → Bool
+is_family_name s = is_literals s.items && not s.deeper
+
+abbrev pub family_name : Spelling → LockName
+family_name s = record { root = s.root; subs = values_of s.items }
+
+-- no `$J`
+abbrev pub is_jobless : List Item → Bool
+is_jobless [] = true
+is_jobless (Literal v ∷ items) = is_jobless items
+is_jobless (Variable n ∷ items) = is_jobless items
+is_jobless (Job ∷ items) = false
+
+-- the variable of this name is among the items
+abbrev pub is_item : List ℕ → Item → Bool
+is_item name (Literal v) = false
+is_item name (Variable n) = bytes_eq name n
+is_item name Job = false
+
+abbrev pub has_variable : List ℕ → List Item → Bool
+has_variable name [] = false
+has_variable name (i ∷ items) = is_item name i || has_variable name items
+
+-- the item is no variable of the others
+abbrev pub is_new : Item → List Item → Bool
+is_new (Literal v) items = true
+is_new (Variable n) items = not (has_variable n items)
+is_new Job items = true
+
+-- no variable stands twice
+abbrev pub is_distinct : List Item → Bool
+is_distinct [] = true
+is_distinct (i ∷ items) = is_new i items && is_distinct items
+
+-- a cover's pattern: no `$J`, and each variable once
+unfoldable pub is_pattern : Spelling → Bool
+is_pattern s = is_jobless s.items && is_distinct s.items
+
+-- its elements
+abbrev pub elements_of : List Item → List Element
+elements_of [] = []
+elements_of (Literal v ∷ items) = element.Literal v ∷ elements_of items
+elements_of (Variable n ∷ items) = element.Variable ∷ elements_of items
+elements_of (Job ∷ items) = elements_of items
+
+-- the name of a root
+abbrev pub name_of : Root → List ℕ
+name_of (root.Global n) = n
+name_of (root.Local n) = n
+
+abbrev pub pattern : Spelling → Pattern
+pattern s = record { global = name_of s.root; elements = elements_of s.items; deeper = s.deeper }
+
+-- a cover's lock: no `$J`, and no `...`
+unfoldable pub is_template : Spelling → Bool
+is_template s = is_jobless s.items && not s.deeper
+
+-- one place further
+abbrev pub further : Option ℕ → Option ℕ
+further None = None
+further (Some k) = Some (suc k)
+
+-- the place of a variable in a pattern, counted from 0
+abbrev pub place_of : List ℕ → List Item → Option ℕ
+place_of name [] = None
+place_of name (i ∷ items) = if is_item name i then Some 0 else further (place_of name items)
+
+-- the part that an item of a lock is, beside a pattern
+abbrev pub placed : Option ℕ → Option Part
+placed None = None
+placed (Some k) = Some (part.Place k)
+
+abbrev pub part_of : List Item → Item → Option Part
+part_of items (Literal v) = Some (part.Literal v)
+part_of items (Variable n) = placed (place_of n items)
+part_of items Job = None
+
+-- parts before those that were found
+abbrev pub before : List Part → Option (List Part) → Option (List Part)
+before front None = None
+before front (Some parts) = Some (front ++ parts)
+
+abbrev pub part_before : Option Part → Option (List Part) → Option (List Part)
+part_before None parts = None
+part_before (Some p) parts = before (p ∷ []) parts
+
+-- the parts of a lock, where the pattern has all its variables
+abbrev pub parts_of : List Item → List Item → Option (List Part)
+parts_of items [] = Some []
+parts_of items (i ∷ others) = part_before (part_of items i) (parts_of items others)
+
+abbrev pub template : Spelling → List Part → Template
+template s parts = record { root = s.root; parts = parts }

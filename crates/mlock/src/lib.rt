@@ -1,9 +1,0 @@
-//! The program `mlock`.
-#![tactic(auto)]
-
-mod certificate;
-mod printed;
-mod routine;
-mod rules;
-mod text;
-mod words;
