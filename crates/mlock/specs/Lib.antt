@@ -16,3 +16,4 @@ pub mod RuleTexts
 pub mod RuleKinds
 pub mod RuleSections
 pub mod Checked
+pub mod Ran

@@ -1,5 +1,10 @@
 // The program, from its words to its status.
 
+ghost use Rattle.std.specs.Prelude.{◌≡◌, ◌⊎◌, OnOk};
+ghost use Rattle.std.specs.Io.KnownBytes.{Keeps, Appends};
+ghost use Rattle.mlock.specs.Checked.{IsChecked};
+ghost use Rattle.mlock.specs.Ran.{status_of, HasFailed, IsPrinted, Ran};
+
 use crate::checked::{Checked, Refusal, check_texts};
 use crate::printed::{
     certificate_line, fault_line, file_line, missing_line, report_text, rules_line,
@@ -7,6 +12,7 @@ use crate::printed::{
 use crate::source::{FileError, Files, read_files};
 use crate::text::Text;
 use crate::words::{Request, UsageError, read_request};
+use mlk_walk::Report;
 use std::alloc::{AllocError, Global};
 use std::io;
 use std::io::Write;
@@ -25,12 +31,16 @@ fn tell<E: Write>(err: &mut E, line: &[u8]) {
     let _ = err.flush();
 }
 
-fn tell_memory<E: Write>(err: &mut E) -> u8 {
+fn tell_memory<E: Write>(err: &mut E) -> u8
+    ensures { result ≡ 3 }
+{
     tell(err, b"error memory\n");
     FAILED
 }
 
-fn tell_line<E: Write>(err: &mut E, line: Result<Text, AllocError>, status: u8) -> u8 {
+fn tell_line<E: Write>(err: &mut E, line: Result<Text, AllocError>, status: u8) -> u8
+    ensures { (result ≡ 3) ⊎ (result ≡ status) }
+{
     match line {
         Ok(line) => {
             tell(err, line.as_bytes());
@@ -40,7 +50,9 @@ fn tell_line<E: Write>(err: &mut E, line: Result<Text, AllocError>, status: u8) 
     }
 }
 
-fn tell_refusal<E: Write>(alloc: Global, err: &mut E, refusal: &Refusal) -> u8 {
+fn tell_refusal<E: Write>(alloc: Global, err: &mut E, refusal: &Refusal) -> u8
+    ensures { (result ≡ 3) ⊎ (result ≡ 2) }
+{
     match refusal {
         Refusal::OutOfMemory => tell_memory(err),
         Refusal::Routine(fault) => tell_line(err, fault_line(alloc, fault), REFUSED),
@@ -50,12 +62,17 @@ fn tell_refusal<E: Write>(alloc: Global, err: &mut E, refusal: &Refusal) -> u8 {
     }
 }
 
-fn print<O: Write, E: Write>(out: &mut O, err: &mut E, text: &Text, status: u8) -> u8 {
-    let written = match out.write_all(text.as_bytes()) {
-        Ok(()) => out.flush(),
-        Err(error) => Err(error),
-    };
-    match written {
+fn write<O: Write>(out: &mut O, text: &Text) -> io::Result<()>
+    ensures { OnOk result (Appends (O.contents out.old) (O.contents out.new) text.now) }
+{
+    out.write_all(text.as_bytes())?;
+    out.flush()
+}
+
+fn print<O: Write, E: Write>(out: &mut O, err: &mut E, text: &Text, status: u8) -> u8
+    ensures { (result ≡ 3) ⊎ ((result ≡ status) × Appends (O.contents out.old) (O.contents out.new) text.now) }
+{
+    match write(out, text) {
         Ok(()) => status,
         Err(_) => {
             tell(err, b"error file -\n");
@@ -64,13 +81,21 @@ fn print<O: Write, E: Write>(out: &mut O, err: &mut E, text: &Text, status: u8) 
     }
 }
 
+fn status_of(report: &Report) -> u8
+    ensures { result ≡ status_of report.now }
+{
+    if report.is_yes() { YES } else { NO }
+}
+
 fn print_report<O: Write, E: Write>(
     alloc: Global,
     checked: &Checked,
     out: &mut O,
     err: &mut E,
-) -> u8 {
-    let status = if checked.report.is_yes() { YES } else { NO };
+) -> u8
+    ensures { HasFailed result ⊎ IsPrinted checked.now.plain checked.now.report (O.contents out.old) (O.contents out.new) result }
+{
+    let status = status_of(&checked.report);
     match report_text(alloc, &checked.plain, &checked.report) {
         Ok(text) => print(out, err, &text, status),
         Err(AllocError) => tell_memory(err),
@@ -83,7 +108,9 @@ fn check<F: Files, O: Write, E: Write>(
     files: &F,
     out: &mut O,
     err: &mut E,
-) -> u8 {
+) -> u8
+    ensures { Ran (O.contents out.old) (O.contents out.new) result }
+{
     match read_files(alloc, files, request) {
         Ok(sources) => match check_texts(alloc, &sources) {
             Ok(checked) => print_report(alloc, &checked, out, err),
@@ -113,7 +140,9 @@ pub fn run<F: Files, O: Write, E: Write>(
     files: &F,
     out: &mut O,
     err: &mut E,
-) -> u8 {
+) -> u8
+    ensures { Ran (O.contents out.old) (O.contents out.new) result }
+{
     match read_request(alloc, words) {
         Ok(request) => check(alloc, &request, files, out, err),
         Err(UsageError::OutOfMemory) => tell_memory(err),
