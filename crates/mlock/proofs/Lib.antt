@@ -1,6 +1,11 @@
 pub mod RoutineCommands
 pub mod RoutineLines
-pub mod RoutineLabels
+pub mod SeenNames
+pub mod Paths
+pub mod Sources
+pub mod Checks
+pub mod Saying
+pub mod CommandLine
 pub mod RoutineTexts
 pub mod RoutineRefusals
 pub mod CertificateEach

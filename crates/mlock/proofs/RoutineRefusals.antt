@@ -7,7 +7,8 @@ use Rattle.mlk_text.specs.declared.fault.Fault.{Fault}
 use Rattle.mlk_text.specs.declared.fault.LeftOut.TheVariants as left_out
 use Rattle.mlk_text.proofs.Readers.{pair_parts, Stuck, one_stuck, begins_stuck, begins_either}
 use Rattle.mlk_machine.specs.declared.plain.tree.Line.{Line}
-use Rattle.mlock.specs.RoutineGrammar.{LineOf, line_at, Stands, LabelTwice, FirstTwice}
+use Rattle.mlock.specs.RoutineGrammar.{LineOf, label_of, line_at}
+use Rattle.mlock.specs.Twice.{Stands, NameTwice, FirstTwice}
 use Rattle.mlock.specs.RoutineReading.{kept, line_item}
 use Rattle.mlock.specs.RoutineRefusals.{fault_at, FirstBad, CommandIsLeftOut, TwiceThere, BadLineThere, LargeThere, LineThere, IsRefusal}
 use Rattle.mlock.proofs.RoutineLines.{item-exact, one_left_out, line-free}
@@ -23,28 +24,28 @@ one_first text lines others bad worse f g =
     (r.0, (pair_parts bad worse f.1 g.1 (sym f.4 ∙ ap line_at r.1 ∙ g.4)).0)
 
 -- labels of the first lines
-twice-longer : (front more : List Line) (k : ℕ) → k < length front → LabelTwice front k → LabelTwice (front ++ more) k
+twice-longer : (front more : List Line) (k : ℕ) → k < length front → NameTwice label_of front k → NameTwice label_of (front ++ more) k
 twice-longer front more k less (line, get, stands) =
     let at = front-get front more k less in
-    (line, at.0 ∙ get, subst (λ l. Stands l line.label) (sym at.1) stands)
+    (line, at.0 ∙ get, subst (λ l. Stands label_of l line.label) (sym at.1) stands)
 
-twice-shorter : (front more : List Line) (k : ℕ) → k < length front → LabelTwice (front ++ more) k → LabelTwice front k
+twice-shorter : (front more : List Line) (k : ℕ) → k < length front → NameTwice label_of (front ++ more) k → NameTwice label_of front k
 twice-shorter front more k less (line, get, stands) =
     let at = front-get front more k less in
-    (line, sym at.0 ∙ get, subst (λ l. Stands l line.label) at.1 stands)
+    (line, sym at.0 ∙ get, subst (λ l. Stands label_of l line.label) at.1 stands)
 
-one_twice : (lines all more : List Line) (j k : ℕ) → all ≡ lines ++ more → FirstTwice lines j → FirstTwice all k → j ≡ k
+one_twice : (lines all more : List Line) (j k : ℕ) → all ≡ lines ++ more → FirstTwice label_of lines j → FirstTwice label_of all k → j ≡ k
 one_twice lines all more j k is f g = elim (cases_order j k) [
   | inl e ↦ e
-  | inr (inl less) ↦ absurd (g.2 j less (subst (λ l. LabelTwice l j) (sym is) (twice-longer lines more j f.0 f.1)))
-  | inr (inr less) ↦ absurd (f.2 k less (twice-shorter lines more k (let w = f.0 in omega arith) (subst (λ l. LabelTwice l k) is g.1)))
+  | inr (inl less) ↦ absurd (g.2 j less (subst (λ l. NameTwice label_of l j) (sym is) (twice-longer lines more j f.0 f.1)))
+  | inr (inr less) ↦ absurd (f.2 k less (twice-shorter lines more k (let w = f.0 in omega arith) (subst (λ l. NameTwice label_of l k) is g.1)))
 ]
 
 -- no label stands twice before a bad line
 bad-not-twice : (text name : List ℕ) (lines : List Line) (bad : List ℕ) (f : Fault) → FirstBad text lines bad → TwiceThere text name f → ⊥
 bad-not-twice text name lines bad f first (others, rest, k, front, twice, is) =
     let r = begins_stuck line_at line_item LineOf item-exact lines others text first.0 rest first.2 (stuck-line text lines bad first) front in
-    first.3 k (subst (λ l. LabelTwice l k) (sym r.1) (twice-longer others r.0 k twice.0 twice.1))
+    first.3 k (subst (λ l. NameTwice label_of l k) (sym r.1) (twice-longer others r.0 k twice.0 twice.1))
 
 one_bad : (text name : List ℕ) (f g : Fault) → BadLineThere text name f → BadLineThere text name g → f ≡ g
 one_bad text name f g (inl (lines, bad, column, full, first, out, is)) (inl (others, worse, other, whole, second, again, also)) =

@@ -12,7 +12,8 @@ use Rattle.mlock.specs.declared.routine.words.LineFault.{LineFault}
 use Rattle.mlock.specs.declared.routine.words.LineFault.TheVariants as bad
 use Rattle.mlock.specs.declared.routine.refusal.RoutineError.{RoutineError}
 use Rattle.mlock.specs.declared.routine.refusal.RoutineError.TheVariants as refusal
-use Rattle.mlock.specs.RoutineGrammar.{IsLine, LineOf, ends_here, line_len, behind_end, line_at, Stands, LabelsDiffer, FirstTwice, IsStem, IsRoutine}
+use Rattle.mlock.specs.RoutineGrammar.{IsLine, LineOf, ends_here, line_len, behind_end, line_at, LabelsDiffer, label_of, IsStem, IsRoutine}
+use Rattle.mlock.specs.Twice.{Stands, FirstTwice}
 use Rattle.mlock.specs.RoutineReading.{line_of, line_item}
 use Rattle.mlock.specs.RoutineRefusals.{fault_at, AnyLine, IsTooLarge, FirstBad, BadLineThere, IsRefusal, Places, Refuses}
 use Rattle.mlock.specs.RoutineOutcomes.{LinesFound, HasLines, line_fault, TextRefused, Finishes, IsText, RefusesAs}
@@ -119,14 +120,14 @@ front-get [] more k h = absurd (omega arith)
 front-get (x ∷ front) more zero h = (refl, refl)
 front-get (x ∷ front) more (suc k) h = let r = front-get front more k (omega arith) in (r.0, ap (λ l. x ∷ l) r.1)
 
-twice-bad : (text : List ℕ) (lines all : List Line) (rest : List ℕ) (k : ℕ) → Begins line_at LineOf lines text rest → FirstTwice lines k → Many line_at LineOf all text [] → LabelsDiffer all → ⊥
+twice-bad : (text : List ℕ) (lines all : List Line) (rest : List ℕ) (k : ℕ) → Begins line_at LineOf lines text rest → FirstTwice label_of lines k → Many line_at LineOf all text [] → LabelsDiffer all → ⊥
 twice-bad text lines all rest k front twice h differ =
     let r = begins_many line_at line_item LineOf item-exact lines all text rest [] front h in
     let at = front-get lines r.0 k twice.0 in
     let there = twice.1 in
     let get : slice_get all k ≡ Some there.0 = ap (λ l. slice_get l k) r.1 ∙ at.0 ∙ there.1 in
     let front2 : take k all ≡ take k lines = ap (λ l. take k l) r.1 ∙ at.1 in
-    differ k (there.0, get, subst (λ l. Stands l there.0.label) (sym front2) there.2)
+    differ k (there.0, get, subst (λ l. Stands label_of l there.0.label) (sym front2) there.2)
 
 too-large : (text : List ℕ) (tree : Routine) (stem : List ℕ) → IsTooLarge text → IsRoutine stem text tree → ⊥
 too-large text tree stem (inl long) (name, size, lines, few, differ) = absurd (omega arith)
@@ -189,7 +190,7 @@ finish-err text n lines (Some f) (Err refusal.OutOfMemory) found differ is = tt
 finish-err text n lines (Some f) (Err (refusal.Refused g)) found differ is = bad-there text n lines f g found differ is
 finish-err text n lines stop (Ok r) found differ is = tt
 
-pub twice-refused : (text n : List ℕ) (lines : List Line) (stop : Option LineFault) (k : ℕ) (e : RoutineError) → LinesFound text lines stop → FirstTwice lines k → RefusesAs (fault_at code.LineForm n (suc k) 1 None) e → TextRefused text n e
+pub twice-refused : (text n : List ℕ) (lines : List Line) (stop : Option LineFault) (k : ℕ) (e : RoutineError) → LinesFound text lines stop → FirstTwice label_of lines k → RefusesAs (fault_at code.LineForm n (suc k) 1 None) e → TextRefused text n e
 twice-refused text n lines stop k refusal.OutOfMemory found twice is = tt
 twice-refused text n lines stop k (refusal.Refused g) found twice is = let f = found-front text lines stop found in inr (inr (lines, f.0, k, f.1, twice, is))
 

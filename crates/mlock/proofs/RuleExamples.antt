@@ -3,7 +3,7 @@ use Rattle.std.proofs.Common.{◌≡◌, ℕ, List, [], ◌∷◌, Some, None, t
 use Rattle.std.specs.Prelude.{codes, pos}
 use Rattle.toml.specs.Data.{array, table, string, integer, Members, no_members, member, no_items, item}
 use Rattle.mlk_text.specs.Reading.{many}
-use Rattle.mlk_text.specs.Lexemes.{name_at, digits_at, is_exact, canonical, number_at, literal_at, inside, closing}
+use Rattle.mlk_text.specs.Lexemes.{name_at, digits_at, is_exact, canonical, number_at, literal_at}
 use Rattle.mlk_text.specs.declared.code.Code.TheVariants as code
 use Rattle.mlk_machine.specs.declared.plain.tree.Root.TheVariants as root
 use Rattle.mlock.specs.declared.rules.fault.Section.TheVariants.{File, Lock, Entry}

@@ -1,5 +1,5 @@
 -- Laws of the texts of rule files.
-use Rattle.std.proofs.Common.{◌≡◌, ◌<◌, ◌≤◌, ℕ, List, [], ◌∷◌, length, Some, None, refl, arith, inl, inr}
+use Rattle.std.proofs.Common.{◌≡◌, ◌<◌, ◌≤◌, ℕ, List, [], ◌∷◌, length, Some, None, arith, inl, inr}
 use Rattle.std.specs.Prelude.{Option, ◌==◌, ◌||◌, codes, bytes_eq}
 use Rattle.std.proofs.lemmas.Bool.{cases_Bool}
 use Rattle.mlk_text.specs.Lexemes.{is_digit, byte_at, name_at, literal_at}

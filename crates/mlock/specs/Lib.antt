@@ -1,7 +1,7 @@
 pub mod Printed
 pub mod RoutineWords
 pub mod RoutineGrammar
-pub mod RoutineLabels
+pub mod Twice
 pub mod RoutineReading
 pub mod RoutineRefusals
 pub mod RoutineOutcomes
@@ -15,5 +15,7 @@ pub mod RuleAnswers
 pub mod RuleTexts
 pub mod RuleKinds
 pub mod RuleSections
+pub mod Files
+pub mod CommandLine
 pub mod Checked
 pub mod Ran

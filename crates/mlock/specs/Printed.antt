@@ -1,5 +1,5 @@
 -- The lines that the program prints. This project's own choice.
-use Rattle.std.specs.Prelude.{ℕ, ◌-◌, List, [], ◌∷◌, ◌++◌, Option, Some, None, codes, slice_get, length, if◌then◌else◌, ◌==◌}
+use Rattle.std.specs.Prelude.{ℕ, ◌-◌, List, [], ◌∷◌, ◌++◌, Option, Some, None, codes, slice_get, length}
 use Rattle.std.specs.Fmt.{decimal}
 use Rattle.mlk_text.specs.declared.code.Code.{Code}
 use Rattle.mlk_text.specs.declared.code.Code.TheVariants.{EntryMissing}
@@ -9,7 +9,6 @@ use Rattle.mlk_text.specs.Codes.{number_of, word_of}
 use Rattle.mlk_text.specs.Words.{left_out_word}
 use Rattle.mlk_machine.specs.declared.plain.tree.Line.{Line}
 use Rattle.mlk_machine.specs.declared.plain.tree.Routine.{Routine}
-use Rattle.mlk_machine.specs.declared.plain.program.EntryId.{EntryId}
 use Rattle.mlk_walk.specs.declared.report.Row.{Row}
 use Rattle.mlock.specs.declared.rules.fault.RulesFault.{RulesFault}
 use Rattle.mlock.specs.declared.certificate.read.CertificateFault.{CertificateFault}

@@ -1,6 +1,6 @@
 -- The routines that are read, from trees to texts. A relation `Is.. tree xs ys` says that the tree is spelled at
 -- the front of xs and that ys is behind it.
-use Rattle.std.specs.Prelude.{ℕ, suc, ◌≡◌, ◌<◌, ◌≤◌, ◌⊎◌, ◌==◌, ◌&&◌, ◌||◌, if◌then◌else◌, Bool, true, false, List, [], ◌∷◌, length, Option, Some, None, take, drop, slice_get}
+use Rattle.std.specs.Prelude.{ℕ, suc, ◌≡◌, ◌≤◌, ◌⊎◌, ◌==◌, ◌&&◌, ◌||◌, if◌then◌else◌, Bool, true, false, List, [], ◌∷◌, length, Option, Some, None, take, drop}
 use Rattle.mlk_text.specs.Reading.{Many}
 use Rattle.mlk_text.specs.Lexemes.{is_digit, is_letter, is_text, name_at, digits_at, IsLiteral, IsSubs}
 use Rattle.mlk_machine.specs.declared.plain.tree.Action.{Action}
@@ -13,6 +13,7 @@ use Rattle.mlk_machine.specs.declared.plain.tree.Root.{Root}
 use Rattle.mlk_machine.specs.declared.plain.tree.Root.TheVariants as root
 use Rattle.mlock.specs.declared.routine.words.Word.TheVariants as word
 use Rattle.mlock.specs.RoutineWords.{column_of, word_at, word_of}
+use Rattle.mlock.specs.Twice.{NamesDiffer}
 
 -- the name of a global behind its caret, or a local's name: ISO/IEC 11756, LOCK, nref
 abbrev pub IsRoot : Root → List ℕ → List ℕ → Type 0
@@ -117,27 +118,13 @@ line_at (b ∷ xs) = let n = line_len (b ∷ xs) in Some (take n (b ∷ xs), beh
 abbrev pub LineOf : List ℕ → Line → List ℕ → List ℕ → Type 0
 LineOf text line xs ys = IsLine line text × (xs ≡ ys)
 
--- a line of these has this label
-abbrev pub HasLabel : List Line → List ℕ → Type 0
-HasLabel [] label = ⊥
-HasLabel (line ∷ lines) label = (line.label ≡ Some label) ⊎ HasLabel lines label
-
--- a line of these has this label, if it is one
-abbrev pub Stands : List Line → Option (List ℕ) → Type 0
-Stands lines None = ⊥
-Stands lines (Some label) = HasLabel lines label
-
--- a line before this one has its label
-abbrev pub LabelTwice : List Line → ℕ → Type 0
-LabelTwice lines k = (line : Line) × (slice_get lines k ≡ Some line) × Stands (take k lines) line.label
-
--- the first line whose label a line before it has
-abbrev pub FirstTwice : List Line → ℕ → Type 0
-FirstTwice lines k = (k < length lines) × LabelTwice lines k × ((j : ℕ) → j < k → LabelTwice lines j → ⊥)
+-- a line's label, if it has one
+abbrev pub label_of : Line → Option (List ℕ)
+label_of line = line.label
 
 -- no label stands twice: ISO/IEC 11756, routine
 abbrev pub LabelsDiffer : List Line → Type 0
-LabelsDiffer lines = (k : ℕ) → LabelTwice lines k → ⊥
+LabelsDiffer lines = NamesDiffer label_of lines
 
 -- a file's stem: `_` at its front stands for `%` (this project's own choice)
 abbrev pub percent : List ℕ → List ℕ

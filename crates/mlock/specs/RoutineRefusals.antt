@@ -12,7 +12,8 @@ use Rattle.mlk_machine.specs.declared.plain.tree.Routine.{Routine}
 use Rattle.mlock.specs.declared.routine.refusal.RoutineError.{RoutineError}
 use Rattle.mlock.specs.declared.routine.refusal.RoutineError.TheVariants as error
 use Rattle.mlock.specs.RoutineWords.{word_at, full_word}
-use Rattle.mlock.specs.RoutineGrammar.{IsCommand, IsLabel, IsLine, IsStem, IsRoutine, LineOf, LabelsDiffer, FirstTwice, start_at, line_at}
+use Rattle.mlock.specs.RoutineGrammar.{IsCommand, IsLabel, IsLine, IsStem, IsRoutine, LineOf, LabelsDiffer, label_of, start_at, line_at}
+use Rattle.mlock.specs.Twice.{FirstTwice}
 
 -- a fault of this code at a place of a routine
 abbrev pub fault_at : Code → List ℕ → ℕ → ℕ → Option LeftOut → Fault
@@ -56,7 +57,7 @@ FormThere text name f = (lines : List Line) × (bad : List ℕ)
 -- 202 too: a line's label stands before it, and no line before it is bad
 abbrev pub TwiceThere : List ℕ → List ℕ → Fault → Type 0
 TwiceThere text name f = (lines : List Line) × (rest : List ℕ) × (k : ℕ)
-    × Begins line_at LineOf lines text rest × FirstTwice lines k
+    × Begins line_at LineOf lines text rest × FirstTwice label_of lines k
     × (f ≡ fault_at code.LineForm name (suc k) 1 None)
 
 -- 211: the stem is no name

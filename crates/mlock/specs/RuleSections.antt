@@ -1,6 +1,6 @@
 -- What a rule file says, or why it is refused. This project's own choice.
-use Rattle.std.specs.Prelude.{ℕ, zero, suc, ℤ, pos, negsuc, ◌≡◌, ◌&&◌, ◌||◌, ◌⊎◌, if◌then◌else◌, nat_lt, nat_le, Bool, true, false, List, [], ◌∷◌, ◌++◌, length, Option, Some, None, option_and_then, codes, bytes_eq, is_some, IsUtf8, Result, Ok, Err}
-use Rattle.toml.specs.Data.{Data, array, table, Items, no_items, item, Members, no_members, member, as_str, as_integer, as_table, get_member}
+use Rattle.std.specs.Prelude.{ℕ, suc, ℤ, pos, negsuc, ◌≡◌, ◌&&◌, ◌||◌, ◌⊎◌, if◌then◌else◌, nat_lt, nat_le, Bool, true, List, [], ◌∷◌, ◌++◌, Option, Some, None, option_and_then, codes, bytes_eq, is_some, IsUtf8}
+use Rattle.toml.specs.Data.{Data, array, Items, no_items, item, Members, no_members, member, as_str, as_integer, as_table, get_member}
 use Rattle.toml.specs.Parse.{parse_document}
 use Rattle.mlk_text.specs.declared.code.Code.TheVariants as code
 use Rattle.mlk_walk.specs.declared.rules.Family.{Family}

@@ -11,6 +11,7 @@ mod source;
 #[cfg(test)]
 mod tests;
 mod text;
+mod twice;
 mod words;
 
 use program::{run, wrong_words};

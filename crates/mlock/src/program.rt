@@ -1,9 +1,8 @@
 // The program, from its words to its status.
 
-ghost use Rattle.std.specs.Prelude.{◌≡◌, ◌⊎◌, OnOk};
-ghost use Rattle.std.specs.Io.KnownBytes.{Keeps, Appends};
-ghost use Rattle.mlock.specs.Checked.{IsChecked};
-ghost use Rattle.mlock.specs.Ran.{status_of, HasFailed, IsPrinted, Ran};
+ghost use Rattle.std.specs.Prelude.{◌≡◌, ◌⊎◌, IfOk, OnOk};
+ghost use Rattle.std.specs.Io.KnownBytes.{Appends};
+ghost use Rattle.mlock.specs.Ran.{status_of, PrintsReport, IsRefusalLine, TellsRefusal, TellsUnread, Answers, AnswersWords, IsSaid, Ran};
 
 use crate::checked::{Checked, Refusal, check_texts};
 use crate::printed::{
@@ -25,41 +24,93 @@ const REFUSED: u8 = 2;
 
 const FAILED: u8 = 3;
 
+// What the program says, before it is said.
+#[derive(Drop, Debug)]
+enum Answer {
+    /// The text of a report, and the status that it ends with.
+    Report(Text, u8),
+    /// The line that tells why the input is refused.
+    Refused(Text),
+    /// The line that tells which file can't be read.
+    Unread(Text),
+    /// `clap`'s text, where the words ask for nothing.
+    Usage(String),
+    OutOfMemory,
+}
+
+fn status_of(report: &Report) -> u8
+    ensures { result ≡ status_of report.now }
+{
+    if report.is_yes() { YES } else { NO }
+}
+
+fn report_answer(alloc: Global, checked: &Checked) -> Answer
+    ensures { PrintsReport checked.now result }
+{
+    match report_text(alloc, &checked.plain, &checked.report) {
+        Ok(text) => Answer::Report(text, status_of(&checked.report)),
+        Err(AllocError) => Answer::OutOfMemory,
+    }
+}
+
+fn refusal_line(alloc: Global, refusal: &Refusal) -> Result<Text, AllocError>
+    ensures { IfOk result (IsRefusalLine refusal.now) }
+{
+    match refusal {
+        Refusal::OutOfMemory => Err(AllocError),
+        Refusal::Routine(fault) => fault_line(alloc, fault),
+        Refusal::Rules(fault) => rules_line(alloc, fault),
+        Refusal::Certificate(fault) => certificate_line(alloc, fault),
+        Refusal::Entry(entry) => missing_line(alloc, entry),
+    }
+}
+
+fn refusal_answer(alloc: Global, refusal: &Refusal) -> Answer
+    ensures { TellsRefusal refusal.now result }
+{
+    match refusal_line(alloc, refusal) {
+        Ok(line) => Answer::Refused(line),
+        Err(AllocError) => Answer::OutOfMemory,
+    }
+}
+
+fn unread_answer(alloc: Global, path: &str) -> Answer
+    ensures { TellsUnread path.now result }
+{
+    match file_line(alloc, path) {
+        Ok(line) => Answer::Unread(line),
+        Err(AllocError) => Answer::OutOfMemory,
+    }
+}
+
+// What is answered to a request, from the texts of the files.
+fn answer_request<F: Files>(alloc: Global, request: &Request<'_>, files: &F) -> Answer
+    ensures { Answers (F.holds files.now) (F.lacks files.now) request.now result }
+{
+    match read_files(alloc, files, request) {
+        Ok(sources) => match check_texts(alloc, &sources) {
+            Ok(checked) => report_answer(alloc, &checked),
+            Err(refusal) => refusal_answer(alloc, &refusal),
+        },
+        Err(FileError::OutOfMemory) => Answer::OutOfMemory,
+        Err(FileError::Unread(path)) => unread_answer(alloc, path),
+    }
+}
+
+fn answer_words<F: Files>(alloc: Global, words: &[String], files: &F) -> Answer
+    ensures { AnswersWords (F.holds files.now) (F.lacks files.now) words.now result }
+{
+    match read_request(alloc, words) {
+        Ok(request) => answer_request(alloc, &request, files),
+        Err(UsageError::OutOfMemory) => Answer::OutOfMemory,
+        Err(UsageError::Usage(text)) => Answer::Usage(text),
+    }
+}
+
 // Says one thing on the error stream, whose faults change nothing.
 fn tell<E: Write>(err: &mut E, line: &[u8]) {
     let _ = err.write_all(line);
     let _ = err.flush();
-}
-
-fn tell_memory<E: Write>(err: &mut E) -> u8
-    ensures { result ≡ 3 }
-{
-    tell(err, b"error memory\n");
-    FAILED
-}
-
-fn tell_line<E: Write>(err: &mut E, line: Result<Text, AllocError>, status: u8) -> u8
-    ensures { (result ≡ 3) ⊎ (result ≡ status) }
-{
-    match line {
-        Ok(line) => {
-            tell(err, line.as_bytes());
-            status
-        }
-        Err(AllocError) => tell_memory(err),
-    }
-}
-
-fn tell_refusal<E: Write>(alloc: Global, err: &mut E, refusal: &Refusal) -> u8
-    ensures { (result ≡ 3) ⊎ (result ≡ 2) }
-{
-    match refusal {
-        Refusal::OutOfMemory => tell_memory(err),
-        Refusal::Routine(fault) => tell_line(err, fault_line(alloc, fault), REFUSED),
-        Refusal::Rules(fault) => tell_line(err, rules_line(alloc, fault), REFUSED),
-        Refusal::Certificate(fault) => tell_line(err, certificate_line(alloc, fault), REFUSED),
-        Refusal::Entry(entry) => tell_line(err, missing_line(alloc, entry), REFUSED),
-    }
 }
 
 fn write<O: Write>(out: &mut O, text: &Text) -> io::Result<()>
@@ -81,43 +132,32 @@ fn print<O: Write, E: Write>(out: &mut O, err: &mut E, text: &Text, status: u8) 
     }
 }
 
-fn status_of(report: &Report) -> u8
-    ensures { result ≡ status_of report.now }
+fn tell_memory<E: Write>(err: &mut E) -> u8
+    ensures { result ≡ 3 }
 {
-    if report.is_yes() { YES } else { NO }
+    tell(err, b"error memory\n");
+    FAILED
 }
 
-fn print_report<O: Write, E: Write>(
-    alloc: Global,
-    checked: &Checked,
-    out: &mut O,
-    err: &mut E,
-) -> u8
-    ensures { HasFailed result ⊎ IsPrinted checked.now.plain checked.now.report (O.contents out.old) (O.contents out.new) result }
+// Says an answer, and answers the status.
+fn say<O: Write, E: Write>(answer: &Answer, out: &mut O, err: &mut E) -> u8
+    ensures { IsSaid answer.now (O.contents out.old) (O.contents out.new) result }
 {
-    let status = status_of(&checked.report);
-    match report_text(alloc, &checked.plain, &checked.report) {
-        Ok(text) => print(out, err, &text, status),
-        Err(AllocError) => tell_memory(err),
-    }
-}
-
-fn check<F: Files, O: Write, E: Write>(
-    alloc: Global,
-    request: &Request<'_>,
-    files: &F,
-    out: &mut O,
-    err: &mut E,
-) -> u8
-    ensures { Ran (O.contents out.old) (O.contents out.new) result }
-{
-    match read_files(alloc, files, request) {
-        Ok(sources) => match check_texts(alloc, &sources) {
-            Ok(checked) => print_report(alloc, &checked, out, err),
-            Err(refusal) => tell_refusal(alloc, err, &refusal),
-        },
-        Err(FileError::OutOfMemory) => tell_memory(err),
-        Err(FileError::Unread(path)) => tell_line(err, file_line(alloc, path), FAILED),
+    match answer {
+        Answer::Report(text, status) => print(out, err, text, *status),
+        Answer::Refused(line) => {
+            tell(err, line.as_bytes());
+            REFUSED
+        }
+        Answer::Unread(line) => {
+            tell(err, line.as_bytes());
+            FAILED
+        }
+        Answer::Usage(text) => {
+            tell(err, text.as_bytes());
+            REFUSED
+        }
+        Answer::OutOfMemory => tell_memory(err),
     }
 }
 
@@ -141,14 +181,8 @@ pub fn run<F: Files, O: Write, E: Write>(
     out: &mut O,
     err: &mut E,
 ) -> u8
-    ensures { Ran (O.contents out.old) (O.contents out.new) result }
+    ensures { Ran (F.holds files.now) (F.lacks files.now) words.now (O.contents out.old) (O.contents out.new) result }
 {
-    match read_request(alloc, words) {
-        Ok(request) => check(alloc, &request, files, out, err),
-        Err(UsageError::OutOfMemory) => tell_memory(err),
-        Err(UsageError::Usage(text)) => {
-            tell(err, text.as_bytes());
-            REFUSED
-        }
-    }
+    let answer = answer_words(alloc, words, files);
+    say(&answer, out, err)
 }

@@ -7,7 +7,6 @@ ghost use Rattle.mlock.specs.RoutineRefusals.{Places, Refuses, OneRefusal};
 
 mod commands;
 mod known;
-mod labels;
 mod lines;
 mod refusal;
 mod texts;
@@ -15,8 +14,7 @@ mod words;
 
 use mlk_machine::plain::Routine;
 use mlk_text::Code;
-pub use refusal::RoutineError;
-use refusal::refused;
+pub use refusal::{RoutineError, refused};
 use std::alloc::Global;
 use texts::{is_large, read_text, stem_name};
 

@@ -1,5 +1,10 @@
 // The command line, as `clap` reads it.
 
+ghost use Rattle.std.specs.Prelude.{◌≡◌, IfOk, false};
+ghost use Rattle.clap.specs.Words.{app_of, rule_of, found_of, rows_of};
+ghost use Rattle.clap.specs.Simple.{subcommand_rows_of};
+ghost use Rattle.mlock.specs.CommandLine.{path_rule, routines_rule, check_app, mlock_app, GivesPaths, GivesRequest, IsRequest, Asks};
+
 use clap::error::ErrorKind;
 use clap::{Arg, ArgAction, ArgMatches, Command, Error};
 use std::alloc::{AllocError, Global};
@@ -38,59 +43,79 @@ Status: 0 yes, 1 no, 2 refused input, 3 want of memory or a file that can't be r
 
 const ABOUT: &str = "Checks that M routines touch shared data only under their locks";
 
-fn path<'a>(alloc: Global, id: &'a str, help: &'a str) -> Arg<'a> {
+fn path<'a>(alloc: Global, id: &'a str, help: &'a str) -> Arg<'a>
+    ensures rule { rule_of result ≡ path_rule id.entry.now }
+    ensures local { result.global ≡ false }
+{
     Arg::new(alloc, id)
         .required(true)
         .action(ArgAction::Set)
         .help(help)
 }
 
-fn check_command<'a>(alloc: Global) -> Result<Command<'a>, AllocError> {
+fn routines<'a>(alloc: Global) -> Arg<'a>
+    ensures rule { rule_of result ≡ routines_rule }
+    ensures local { result.global ≡ false }
+{
+    path(alloc, "ROUTINE", ROUTINE_HELP)
+        .action(ArgAction::Append)
+        .num_args(1..)
+}
+
+fn check_command<'a>(alloc: Global) -> Result<Command<'a>, AllocError>
+    ensures { IfOk result (λ c. app_of c ≡ check_app) }
+{
     Command::new(alloc, "check")
         .about(CHECK_HELP)
         .long_about(CHECK_MORE)
         .arg(path(alloc, "RULES", RULES_HELP))?
         .arg(path(alloc, "CERT", CERT_HELP))?
-        .arg(
-            path(alloc, "ROUTINE", ROUTINE_HELP)
-                .action(ArgAction::Append)
-                .num_args(1..),
-        )
+        .arg(routines(alloc))
 }
 
-fn grammar<'a>(alloc: Global) -> Result<Command<'a>, AllocError> {
+fn grammar<'a>(alloc: Global) -> Result<Command<'a>, AllocError>
+    ensures { IfOk result (λ c. app_of c ≡ mlock_app) }
+{
     Command::new(alloc, "mlock")
         .about(ABOUT)
         .subcommand_required(true)
         .subcommand(check_command(alloc)?)
 }
 
-fn request_of<'a>(
-    alloc: Global,
-    matches: &ArgMatches<'a>,
-) -> Result<Option<Request<'a>>, AllocError> {
-    let Some((_, inner)) = matches.subcommand() else {
-        return Ok(None);
-    };
-    let (Some([rules, ..]), Some([certificate, ..]), Some(paths)) = (
-        inner.get_strs("RULES"),
-        inner.get_strs("CERT"),
-        inner.get_strs("ROUTINE"),
+// The paths that a command was given.
+fn paths_of<'a>(alloc: Global, matches: &ArgMatches<'a>) -> Result<Option<Request<'a>>, AllocError>
+    ensures { IfOk result (GivesPaths (rows_of (found_of matches.now))) }
+{
+    let (Some(rules), Some(certificate), Some(paths)) = (
+        matches.get_str("RULES"),
+        matches.get_str("CERT"),
+        matches.get_strs("ROUTINE"),
     ) else {
         return Ok(None);
     };
-    let mut routines = Vec::new(alloc);
-    for path in paths {
-        routines.push(*path)?;
-    }
+    let routines = Vec::from_slice(alloc, paths)?;
     Ok(Some(Request {
-        rules: *rules,
-        certificate: *certificate,
+        rules,
+        certificate,
         routines,
     }))
 }
 
-fn read_words<'a>(alloc: Global, words: &'a [String]) -> Result<Option<Request<'a>>, Error> {
+fn request_of<'a>(
+    alloc: Global,
+    matches: &ArgMatches<'a>,
+) -> Result<Option<Request<'a>>, AllocError>
+    ensures { IfOk result (GivesRequest (subcommand_rows_of matches.now)) }
+{
+    match matches.subcommand() {
+        None => Ok(None),
+        Some((_, inner)) => paths_of(alloc, inner),
+    }
+}
+
+fn read_words<'a>(alloc: Global, words: &'a [String]) -> Result<Option<Request<'a>>, Error>
+    ensures { IfOk result (Asks words.now) }
+{
     let matches = grammar(alloc)?.try_get_matches_from(words)?;
     Ok(request_of(alloc, &matches)?)
 }
@@ -99,7 +124,9 @@ fn read_words<'a>(alloc: Global, words: &'a [String]) -> Result<Option<Request<'
 pub(crate) fn read_request<'a>(
     alloc: Global,
     words: &'a [String],
-) -> Result<Request<'a>, UsageError> {
+) -> Result<Request<'a>, UsageError>
+    ensures { IfOk result (IsRequest words.now) }
+{
     match read_words(alloc, words) {
         Ok(Some(request)) => Ok(request),
         Ok(None) => Err(UsageError::Usage(String::new(alloc))),

@@ -7,10 +7,10 @@ ghost use Rattle.mlock.specs.RoutineGrammar.{LineOf, line_at, percent};
 ghost use Rattle.mlock.specs.RoutineRefusals.{IsTooLarge};
 ghost use Rattle.mlock.specs.RoutineOutcomes.{LinesFound, HasLines, Finishes, IsText, TextRefused, StemFound};
 
-use crate::routine::labels::first_twice;
 use crate::routine::lines::{first_line, line};
 use crate::routine::refusal::{RoutineError, refused};
 use crate::routine::words::{LineError, LineFault};
+use crate::twice::first_twice;
 use mlk_machine::plain::{Line, Lines, Routine};
 use mlk_text::lexeme::{ReadError, name};
 use mlk_text::{Code, LeftOut, Name};

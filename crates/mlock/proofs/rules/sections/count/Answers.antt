@@ -1,4 +1,4 @@
-use Rattle.std.proofs.Common.{sym, ◌∙◌}
+use Rattle.std.proofs.Common.{sym}
 use Rattle.mlock.proofs.RuleTables.{count-view}
 use Rattle.mlock.proofs.rules.sections.count.Goals as goal
 

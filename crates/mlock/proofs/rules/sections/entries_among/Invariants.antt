@@ -1,4 +1,4 @@
-use Rattle.std.proofs.Common.{◌≡◌, ◌+◌, drop, suc}
+use Rattle.std.proofs.Common.{◌≡◌, ◌+◌, drop}
 use Rattle.toml.specs.View.{items_view}
 use Rattle.mlock.specs.RuleSections.{put, entries_among}
 use Rattle.mlock.proofs.rules.sections.entries_among.Given as goal

@@ -1,4 +1,4 @@
-use Rattle.std.proofs.Common.{◌≡◌, ◌∷◌, [], ◌<◌, ℕ, length}
+use Rattle.std.proofs.Common.{◌≡◌, ◌<◌, ℕ, length}
 use Rattle.mlk_text.specs.Reading.{many, put}
 use Rattle.mlock.specs.RuleTexts.{comma_at, item_behind, items_behind}
 use Rattle.mlock.proofs.rules.spelling.items_behind.Given as goal
