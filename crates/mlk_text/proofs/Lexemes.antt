@@ -124,6 +124,16 @@ quote-complete (b ∷ v) ys good h =
           ]
     ]
 
+-- the same behind the opening quote: its text, and what is behind it
+pub quoted-sound : (value xs ys : List ℕ) → inside xs ≡ Some (value, ys) → IsQuoted value (34 ∷ xs) ys
+quoted-sound value xs ys h = let r = (quote-sound xs).0 value ys h in (ap (λ l. 34 ∷ l) r.0, r.1, r.2)
+
+pub quoted-complete : (value xs ys : List ℕ) → IsQuoted value xs ys → (m : List ℕ) × (xs ≡ 34 ∷ m) × (inside m ≡ Some (value, ys))
+quoted-complete value xs ys (is, good, none) = (doubled value ++ 34 ∷ ys, is, quote-complete value ys good none)
+
+pub quoted-behind : (value xs ys : List ℕ) → IsQuoted value xs ys → Behind ys xs
+quoted-behind value xs ys (is, good, none) = ((34 ∷ doubled value) ++ 34 ∷ [], append_assoc (34 ∷ doubled value) (34 ∷ []) ys ∙ sym is)
+
 -- no number begins with a quote
 number-first : (value xs ys : List ℕ) → IsNumber value (34 ∷ xs) ys → ⊥
 unfolding digits_at

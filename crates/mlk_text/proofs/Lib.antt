@@ -2,3 +2,10 @@ pub mod CodeLemmas
 pub mod Readers
 pub mod Lexemes
 pub mod Outcomes
+pub mod Numerals
+pub mod Zeros
+pub mod CanonicalTexts
+pub mod WholeTexts
+pub mod Folds
+pub mod NumberLaws
+pub mod Examples

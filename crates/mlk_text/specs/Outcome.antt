@@ -12,3 +12,8 @@ Fails Refused read = read ≡ None
 abbrev pub Gives : {X Y : Type 0} → (X → Y) → Result X ReadError → Option Y → Type 0
 Gives view (Ok x) read = read ≡ Some (view x)
 Gives view (Err e) read = Fails e read
+
+-- What was found has the property; where nothing was found, nothing has it.
+abbrev pub Finds : {A : Type 0} → (A → Type 0) → Option A → Type 0
+Finds {A = A} P None = (a : A) → P a → ⊥
+Finds P (Some a) = P a

@@ -3,12 +3,22 @@
 
 mod code;
 mod fault;
+mod folding;
+mod law;
 pub mod lexeme;
 pub mod literal;
 mod name;
+mod numeral;
+mod operator;
+#[cfg(test)]
+mod tests;
 mod value;
 
 pub use code::Code;
 pub use fault::{Fault, LeftOut, Place};
+pub use folding::{fold, fold_number, fold_unary, whole};
+pub use law::{both_read, one_canonical, one_text, one_whole};
 pub use name::Name;
+pub use numeral::canonical;
+pub use operator::{Op, Relation, UnaryOp};
 pub use value::{Value, Values};

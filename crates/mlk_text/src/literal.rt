@@ -10,7 +10,7 @@ use crate::value::{Value, Values};
 use std::alloc::Global;
 
 /// How many zeros stand at the front.
-fn zeros(bytes: &[u8]) -> usize
+pub(crate) fn zeros(bytes: &[u8]) -> usize
     ensures value { result ≡ zeros bytes.now }
     ensures within { result ≤ length bytes.now }
 {
@@ -23,7 +23,7 @@ fn zeros(bytes: &[u8]) -> usize
 }
 
 /// The length without the zeros at the end.
-fn to_last(bytes: &[u8]) -> usize
+pub(crate) fn to_last(bytes: &[u8]) -> usize
     ensures { result ≡ to_last bytes.now }
 {
     let mut last = 0;

@@ -26,14 +26,15 @@ impl Name {
     pub fn new(bytes: Vec<u8>) -> Name
         ensures { result ≡ bytes.items }
     {
-        Name { bytes }
+        Self { bytes }
     }
 
     /// The bytes of a name that is no longer needed.
     pub fn into_bytes(self) -> Vec<u8>
         ensures { result.items ≡ self }
     {
-        self.bytes
+        let Name { bytes } = self;
+        bytes
     }
 
     /// The name's bytes.
@@ -47,7 +48,7 @@ impl Name {
     pub fn is_same(&self, other: &Name) -> bool
         ensures { result ≡ bytes_eq self.now other.now }
     {
-        self.bytes.as_slice() == other.bytes.as_slice()
+        self.as_bytes() == other.as_bytes()
     }
 
     /// An equal name, on the same allocator.

@@ -48,7 +48,7 @@ impl Value {
     pub fn is_same(&self, other: &Value) -> bool
         ensures { result ≡ bytes_eq self.now other.now }
     {
-        self.bytes.as_slice() == other.bytes.as_slice()
+        self.as_bytes() == other.as_bytes()
     }
 
     /// An equal value, on the same allocator.
@@ -89,7 +89,7 @@ impl Values {
     pub fn of(items: Vec<Value>) -> Values
         ensures { result ≡ items.items }
     {
-        Values { items }
+        Self { items }
     }
 
     /// The subscripts as a slice.

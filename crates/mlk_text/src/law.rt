@@ -1,0 +1,23 @@
+// What numbers and their texts keep to.
+
+ghost use Rattle.mlk_text.specs.NumberLaws.{OneText, OneCanonical, OneWhole, BothRead};
+
+/// A number is written in one way: it is one pair in lowest form, and a pair has one text.
+pub fn one_text()
+    ensures { OneText }
+{}
+
+/// An exact literal has one canonical text, whose own canonical text is itself.
+pub fn one_canonical()
+    ensures { OneCanonical }
+{}
+
+/// A whole number of at most 15 digits has one text, and that text no other number.
+pub fn one_whole()
+    ensures { OneWhole }
+{}
+
+/// Of digits alone, `literal::literal` and `canonical` give one value.
+pub fn both_read()
+    ensures { BothRead }
+{}
