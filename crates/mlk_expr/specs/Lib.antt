@@ -1,0 +1,6 @@
+pub mod Trees
+pub mod Words
+pub mod Lexemes
+pub mod Grammar
+pub mod Reading
+pub mod Theorem
