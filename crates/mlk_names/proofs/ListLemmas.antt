@@ -1,0 +1,86 @@
+-- Lists that begin other lists, and what holds place by place.
+use Rattle.std.proofs.Common.{◌≡◌, ◌⊎◌, inl, inr, List, [], ◌∷◌, ◌++◌, length, arith, refl, sym, ◌∙◌, subst}
+use Rattle.std.specs.Prelude.{Contains, map}
+use Rattle.std.specs.List.{AllZip}
+use Rattle.std.proofs.lemmas.List.Elements.{Contains-append_left, Contains-append_right, Contains-push}
+use Rattle.mlk_names.specs.Lists.{Begins}
+
+pub begins_none : {X : Type 0} (ys : List X) → Begins [] ys
+begins_none ys = record { tail = ys; is = refl }
+
+pub begins_from_none : {X : Type 0} (xs ys : List X) → length xs ≡ 0 → Begins xs ys
+begins_from_none [] ys h = begins_none ys
+begins_from_none (x ∷ xs) ys h = absurd (omega arith)
+
+pub begins_past : {X : Type 0} (x : X) (xs : List X) → Begins (x ∷ xs) [] → ⊥
+begins_past {X} x xs h = let e : x ∷ (xs ++ h.tail) ≡ [] = h.is in cc
+
+pub begins_cons : {X : Type 0} (x y : X) (xs ys : List X) → x ≡ y → Begins xs ys → Begins (x ∷ xs) (y ∷ ys)
+begins_cons {X} x y xs ys e h = let i : xs ++ h.tail ≡ ys = h.is in record { tail = h.tail; is = cc }
+
+pub begins_head : {X : Type 0} (x y : X) (xs ys : List X) → Begins (x ∷ xs) (y ∷ ys) → x ≡ y
+begins_head {X} x y xs ys h = let e : x ∷ (xs ++ h.tail) ≡ y ∷ ys = h.is in cc
+
+pub begins_tail : {X : Type 0} (x y : X) (xs ys : List X) → Begins (x ∷ xs) (y ∷ ys) → Begins xs ys
+begins_tail {X} x y xs ys h =
+    let e : x ∷ (xs ++ h.tail) ≡ y ∷ ys = h.is in
+    let i : xs ++ h.tail ≡ ys = cc in record { tail = h.tail; is = i }
+
+pub begins_itself : {X : Type 0} (xs : List X) → Begins xs xs
+begins_itself [] = begins_none []
+begins_itself (x ∷ xs) = begins_cons x x xs xs refl (begins_itself xs)
+
+-- two beginnings of one list begin one another
+pub begins_two : {X : Type 0} (xs ys zs : List X) → Begins xs zs → Begins ys zs → Begins xs ys ⊎ Begins ys xs
+begins_two [] ys zs h k = inl (begins_none ys)
+begins_two (x ∷ xs) [] zs h k = inr (begins_none (x ∷ xs))
+begins_two (x ∷ xs) (y ∷ ys) [] h k = absurd (begins_past x xs h)
+begins_two (x ∷ xs) (y ∷ ys) (z ∷ zs) h k =
+    let e : x ≡ y = begins_head x z xs zs h ∙ sym (begins_head y z ys zs k) in
+    elim (begins_two xs ys zs (begins_tail x z xs zs h) (begins_tail y z ys zs k)) [
+      | inl b ↦ inl (begins_cons x y xs ys e b)
+      | inr b ↦ inr (begins_cons y x ys xs (sym e) b)
+    ]
+
+-- what holds place by place of a beginning's whole holds of the beginning
+pub begins_zip : {X Y : Type 0} (R : X → Y → Type 0) → ((x : X) (v w : Y) → R x v → R x w → v ≡ w) → (xs ys : List X) (vs ws : List Y) → Begins xs ys → AllZip R xs vs → AllZip R ys ws → Begins vs ws
+begins_zip R one [] ys [] ws b h k = begins_none ws
+begins_zip R one [] ys (v ∷ vs) ws b h k = absurd h
+begins_zip R one (x ∷ xs) [] vs ws b h k = absurd (begins_past x xs b)
+begins_zip R one (x ∷ xs) (y ∷ ys) [] ws b h k = absurd h
+begins_zip R one (x ∷ xs) (y ∷ ys) (v ∷ vs) [] b h k = absurd k
+begins_zip {X} {Y} R one (x ∷ xs) (y ∷ ys) (v ∷ vs) (w ∷ ws) b h k =
+    let e : y ≡ x = sym (begins_head x y xs ys b) in
+    let P : X → Type 0 = λ z. R z w in
+    begins_cons v w vs ws (one x v w h.0 (subst P e k.0)) (begins_zip R one xs ys vs ws (begins_tail x y xs ys b) h.1 k.1)
+
+-- a relation that follows at each element of a list follows place by place
+pub all_zip_at : {X Y : Type 0} (R S : X → Y → Type 0) (xs : List X) (ys : List Y) → ((x : X) (y : Y) → Contains xs x → R x y → S x y) → AllZip R xs ys → AllZip S xs ys
+all_zip_at R S [] [] f h = tt
+all_zip_at R S [] (y ∷ ys) f h = absurd h
+all_zip_at R S (x ∷ xs) [] f h = absurd h
+all_zip_at R S (x ∷ xs) (y ∷ ys) f h =
+    (f x y (Contains-append_left (x ∷ []) xs x (Contains-push [] x)) h.0, all_zip_at R S xs ys (λ z v c. f z v (Contains-append_right (x ∷ []) xs z c)) h.1)
+
+-- where a relation gives one value, so it does place by place
+pub zip_one : {X Y : Type 0} (R : X → Y → Type 0) → ((x : X) (v w : Y) → R x v → R x w → v ≡ w) → (xs : List X) (vs ws : List Y) → AllZip R xs vs → AllZip R xs ws → vs ≡ ws
+zip_one R one [] [] [] h k = refl
+zip_one R one [] [] (w ∷ ws) h k = absurd k
+zip_one R one [] (v ∷ vs) ws h k = absurd h
+zip_one R one (x ∷ xs) [] ws h k = absurd h
+zip_one R one (x ∷ xs) (v ∷ vs) [] h k = absurd k
+zip_one R one (x ∷ xs) (v ∷ vs) (w ∷ ws) h k =
+    let e = one x v w h.0 k.0 in
+    let f = zip_one R one xs vs ws h.1 k.1 in cc
+
+-- two lists that one image ties, and relations that follow of what has one image, follow place by place
+pub zip_along : {X Y Z V : Type 0} (f : X → Z) (g : Y → Z) (R : X → V → Type 0) (S : Y → V → Type 0) → ((x : X) (y : Y) (v : V) → f x ≡ g y → R x v → S y v) → (xs : List X) (ys : List Y) (vs : List V) → map f xs ≡ map g ys → AllZip R xs vs → AllZip S ys vs
+zip_along f g R S one [] [] [] e h = tt
+zip_along f g R S one [] [] (v ∷ vs) e h = absurd h
+zip_along f g R S one [] (y ∷ ys) vs e h = cc
+zip_along f g R S one (x ∷ xs) [] vs e h = cc
+zip_along f g R S one (x ∷ xs) (y ∷ ys) [] e h = absurd h
+zip_along {X} {Y} {Z} {V} f g R S one (x ∷ xs) (y ∷ ys) (v ∷ vs) e h =
+    let d : f x ∷ map f xs ≡ g y ∷ map g ys = e in
+    let i : f x ≡ g y = cc in
+    let j : map f xs ≡ map g ys = cc in (one x y v i h.0, zip_along f g R S one xs ys vs j h.1)

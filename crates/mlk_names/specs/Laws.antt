@@ -1,0 +1,24 @@
+-- What holds of all names, terms and references.
+use Rattle.std.specs.Prelude.{◌≡◌, ◌↔◌, ◌⊎◌}
+use Rattle.mlk_names.specs.declared.lock_name.LockName.{LockName}
+use Rattle.mlk_names.specs.declared.reference.Reference.{Reference}
+use Rattle.mlk_names.specs.declared.term.LockTerm.{LockTerm}
+use Rattle.mlk_names.specs.LockNames.{IsAbove, Conflict}
+use Rattle.mlk_names.specs.Symbols.{Assignment}
+use Rattle.mlk_names.specs.Terms.{Names, IsPrefix, SameWhereMentioned}
+use Rattle.mlk_names.specs.References.{Touch, Touches, Overlap, MayOverlap}
+
+-- Two names at or above one name conflict, and of two prefixes of one term one is a prefix of the other.
+pub record AboveOneMeet : Type 0 where
+  pub names : (m n o : LockName) → IsAbove m o → IsAbove n o → Conflict m n
+  pub terms : (s t u : LockTerm) → IsPrefix s u → IsPrefix t u → IsPrefix s t ⊎ IsPrefix t s
+
+-- A term stands for one name at most, and which one rests on the locals that it mentions and on the job alone.
+pub record NamesByMentioned : Type 0 where
+  pub one : (a : Assignment) (t : LockTerm) (m n : LockName) → Names a t m → Names a t n → m ≡ n
+  pub same : (a b : Assignment) (t : LockTerm) (n : LockName) → SameWhereMentioned t a b → Names a t n ↔ Names b t n
+
+-- Where two references overlap, each as it stands in a job of its own, they may overlap.
+abbrev pub OverlapsForeseen : Type 0
+OverlapsForeseen =
+    (a b : Assignment) (r s : Reference) (t u : Touch) → Touches a r t → Touches b s u → Overlap t u → MayOverlap r s

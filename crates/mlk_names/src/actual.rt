@@ -1,0 +1,82 @@
+// Terms of a callee, as its caller has them.
+
+ghost use Rattle.std.specs.Prelude.{◌≡◌, IfOk, IfSome, position, slice_get, bytes_eq};
+ghost use Rattle.mlk_names.specs.Symbols.{known_of};
+ghost use Rattle.mlk_names.specs.Actuals.{passed, put_in, Puts, PutsIn, NamesAlike};
+
+use crate::known_symbol::{KnownSym, KnownSyms};
+use crate::symbol::Sym;
+use crate::term::LockTerm;
+use mlk_text::Name;
+use std::alloc::{AllocError, Global};
+
+// What was passed at a place, where it is known.
+fn known_at(actuals: &[Option<Sym>], place: usize) -> Result<Option<KnownSym>, AllocError>
+    ensures { IfOk result (λ found. found ≡ known_of (passed (slice_get actuals.now place))) }
+{
+    match actuals.get(place) {
+        Some(Some(symbol)) => symbol.to_known(),
+        _ => Ok(None),
+    }
+}
+
+// The place of the formal with this name.
+fn place_of(name: &Name, formals: &[Name]) -> Option<usize>
+    ensures { result ≡ position (λ formal. bytes_eq formal name.now) formals.now }
+{
+    formals.iter().position(|formal| formal.is_same(name))
+}
+
+// What stands for the symbol at the caller, where it is known.
+fn put_in_one(
+    symbol: &KnownSym,
+    formals: &[Name],
+    actuals: &[Option<Sym>],
+) -> Result<Option<KnownSym>, AllocError>
+    ensures { IfOk result (λ found. found ≡ known_of (put_in formals.now actuals.now symbol.now)) }
+{
+    if let KnownSym::Local(name) = symbol {
+        if let Some(place) = place_of(name, formals) {
+            return known_at(actuals, place);
+        }
+    }
+    Ok(Some(symbol.copy()?))
+}
+
+fn put_in_all(
+    alloc: Global,
+    symbols: &[KnownSym],
+    formals: &[Name],
+    actuals: &[Option<Sym>],
+) -> Result<Option<KnownSyms>, AllocError>
+    ensures { IfOk result (λ found. Puts formals.now actuals.now symbols.now found) }
+{
+    let mut items = Vec::new(alloc);
+    for symbol in symbols {
+        let Some(item) = put_in_one(symbol, formals, actuals)? else {
+            return Ok(None);
+        };
+        items.push(item)?;
+    }
+    Ok(Some(KnownSyms::of(items)))
+}
+
+/// The callee's term as its caller has it: each formal is replaced by what was passed at its place, and an actual
+/// that is missing, or past the end of the list, is unknown. There is none where an unknown would enter.
+///
+/// At the moment of the call both terms stand for one name.
+pub fn substitute(
+    alloc: Global,
+    term: &LockTerm,
+    formals: &[Name],
+    actuals: &[Option<Sym>],
+) -> Result<Option<LockTerm>, AllocError>
+    ensures exact { IfOk result (λ found. PutsIn formals.now actuals.now term.now found) }
+    ensures alike { IfOk result (λ found. IfSome found (NamesAlike formals.now actuals.now term.now)) }
+{
+    let Some(subs) = put_in_all(alloc, term.subs.as_slice(), formals, actuals)? else {
+        return Ok(None);
+    };
+    let root = term.root.copy()?;
+    Ok(Some(LockTerm { root, subs }))
+}

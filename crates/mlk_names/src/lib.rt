@@ -1,0 +1,23 @@
+//! Symbols, lock terms and references: what names stand for in a job, and which of them meet.
+#![tactic(auto)]
+
+mod actual;
+mod known_symbol;
+mod law;
+mod list;
+mod lock_name;
+mod overlap;
+mod reference;
+mod symbol;
+mod term;
+#[cfg(test)]
+mod tests;
+
+pub use actual::substitute;
+pub use known_symbol::{KnownSym, KnownSyms};
+pub use law::{above_one_meet, names_by_mentioned, overlaps_foreseen};
+pub use lock_name::{LockName, Root, conflict};
+pub use overlap::may_overlap;
+pub use reference::{Access, Extent, Reference};
+pub use symbol::{Sym, Syms};
+pub use term::{LockTerm, mentions, prefix};

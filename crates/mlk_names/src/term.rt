@@ -1,0 +1,57 @@
+// Lock terms: lock names as a routine's text gives them.
+
+ghost use Rattle.std.specs.Prelude.{◌≡◌, ◌↔◌, IsTrue, IsFalse, IfOk, Contains};
+ghost use Rattle.mlk_names.specs.declared.known_symbol.KnownSym.TheVariants.{Local};
+ghost use Rattle.mlk_names.specs.Terms.{IsPrefix, Mentions, NamesAbove, NamesWithout};
+
+use crate::known_symbol::{KnownSym, KnownSyms};
+use crate::list::begins;
+use crate::lock_name::Root;
+use mlk_text::Name;
+use std::alloc::AllocError;
+
+/// A lock name whose subscripts are symbols, each of which stands for one value.
+#[derive(Drop, Debug)]
+pub struct LockTerm {
+    pub root: Root,
+    pub subs: KnownSyms,
+}
+
+impl LockTerm {
+    /// An equal term.
+    pub fn copy(&self) -> Result<LockTerm, AllocError>
+        ensures { IfOk result (λ t. t ≡ self.now) }
+    {
+        Ok(LockTerm {
+            root: self.root.copy()?,
+            subs: self.subs.copy()?,
+        })
+    }
+}
+
+/// Whether the second term is the first with any subscripts behind it. It takes no memory.
+///
+/// Where it is, the first stands for a name at or above the second's, in each job at each moment.
+pub fn prefix(first: &LockTerm, second: &LockTerm) -> bool
+    ensures exact { IsTrue result ↔ IsPrefix first.now second.now }
+    ensures above { IsTrue result → NamesAbove first.now second.now }
+{
+    first.root.is_same(&second.root) && begins(first.subs.as_slice(), second.subs.as_slice())
+}
+
+// Whether one of the symbols is this local.
+fn has_local(symbols: &[KnownSym], name: &Name) -> bool
+    ensures { IsTrue result ↔ Contains symbols.now (Local name.now) }
+{
+    symbols.iter().any(|symbol| matches!(symbol, KnownSym::Local(local) if local.is_same(name)))
+}
+
+/// Whether a subscript of the term is this local; the term's own root is no mention. It takes no memory.
+///
+/// Where none is, the term stands for the same name whatever value the local has.
+pub fn mentions(term: &LockTerm, name: &Name) -> bool
+    ensures exact { IsTrue result ↔ Mentions term.now name.now }
+    ensures without { IsFalse result → NamesWithout term.now name.now }
+{
+    has_local(term.subs.as_slice(), name)
+}
