@@ -50,7 +50,7 @@ reaches_past : (far : Extent) (v : List ℕ) (vs : List (List ℕ)) → Reaches 
 reaches_past Node v vs h = cc
 reaches_past Tree v vs h = begins_past v vs h
 
-reaches_itself : (far : Extent) (vs : List (List ℕ)) → Reaches far vs vs
+pub reaches_itself : (far : Extent) (vs : List (List ℕ)) → Reaches far vs vs
 reaches_itself Node vs = refl
 reaches_itself Tree vs = record { tail = []; is = append-nil vs }
 
@@ -133,7 +133,7 @@ may_be a Unknown v h = tt
 all_may_be : (a : Assignment) (ss : List Sym) (vs : List (List ℕ)) → AllZip (StandsFor a) ss vs → AllZip MayBe ss vs
 all_may_be a ss vs h = all_zip_at (StandsFor a) MayBe ss vs (λ s v c k. may_be a s v k) h
 
-may_touch : (a : Assignment) (r : Reference) (t : Touch) → Touches a r t → MayTouch r t
+pub may_touch : (a : Assignment) (r : Reference) (t : Touch) → Touches a r t → MayTouch r t
 may_touch a r t h = record { root = h.root; extent = h.extent; subs = all_may_be a r.subs t.node.subs h.subs }
 
 pub overlaps_foreseen : OverlapsForeseen

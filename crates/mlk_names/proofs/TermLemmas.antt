@@ -11,7 +11,7 @@ use Rattle.mlk_names.specs.Terms.{Names, IsPrefix, Mentions, NamesAbove, NamesWi
 use Rattle.mlk_names.proofs.ListLemmas.{begins_two, begins_zip, zip_one, all_zip_at}
 
 -- a known symbol stands for one value
-one_value : (a : Assignment) (s : KnownSym) (v w : List ℕ) → StandsFor a (sym_of s) v → StandsFor a (sym_of s) w → v ≡ w
+pub one_value : (a : Assignment) (s : KnownSym) (v w : List ℕ) → StandsFor a (sym_of s) v → StandsFor a (sym_of s) w → v ≡ w
 one_value a (Const value) v w h k = h ∙ sym k
 one_value a (Local name) v w h k = cc
 one_value a Job v w h k = h ∙ sym k
