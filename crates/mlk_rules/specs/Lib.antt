@@ -1,0 +1,4 @@
+pub mod Patterns
+pub mod Coverage
+pub mod Ranks
+pub mod Laws

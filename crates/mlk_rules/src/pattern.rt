@@ -1,0 +1,58 @@
+// Patterns of nodes.
+
+ghost use Rattle.std.specs.Prelude.{◌≡◌};
+
+use mlk_names::Extent;
+use mlk_text::{Name, Value};
+use std::marker::Model;
+
+/// An element of a pattern.
+#[derive(Drop, Debug)]
+pub enum Element {
+    /// this value
+    Literal(Value),
+    /// any value
+    Variable,
+    /// `$J`: any value, which is to be known as the job's own number
+    Job,
+}
+
+/// The elements of a pattern, in order.
+#[derive(Drop, Debug)]
+pub struct Elements {
+    items: Vec<Element>,
+}
+
+impl Model for Elements {
+    ghost use Rattle.std.specs.Prelude.{List};
+    ghost use Rattle.mlk_rules.specs.declared.pattern.Element.{Element};
+
+    ghost Value = { List Element };
+
+    ghost view = { λ l. l.items.items };
+}
+
+impl Elements {
+    /// The list of these.
+    pub fn of(items: Vec<Element>) -> Elements
+        ensures { result ≡ items.items }
+    {
+        Elements { items }
+    }
+
+    /// The list as a slice.
+    pub fn as_slice(&self) -> &[Element]
+        ensures { result.now ≡ self.now }
+    {
+        self.items.as_slice()
+    }
+}
+
+/// A pattern of nodes of a global: the nodes with such subscripts, and as a tree all below these too.
+#[derive(Drop, Debug)]
+pub struct Pattern {
+    /// The global's name, without its `^`.
+    pub global: Name,
+    pub elements: Elements,
+    pub extent: Extent,
+}

@@ -1,0 +1,54 @@
+// The locks of rules.
+
+ghost use Rattle.std.specs.Prelude.{◌≡◌};
+
+use mlk_names::Root;
+use mlk_text::Value;
+use std::marker::Model;
+
+/// A subscript of a rule's lock.
+#[derive(Drop, Debug)]
+pub enum Part {
+    /// this value
+    Literal(Value),
+    /// the subscript at this place of a node, counted from 0
+    Place(usize),
+}
+
+/// The subscripts of a rule's lock, in order.
+#[derive(Drop, Debug)]
+pub struct Parts {
+    items: Vec<Part>,
+}
+
+impl Model for Parts {
+    ghost use Rattle.std.specs.Prelude.{List};
+    ghost use Rattle.mlk_rules.specs.declared.template.Part.{Part};
+
+    ghost Value = { List Part };
+
+    ghost view = { λ l. l.items.items };
+}
+
+impl Parts {
+    /// The list of these.
+    pub fn of(items: Vec<Part>) -> Parts
+        ensures { result ≡ items.items }
+    {
+        Parts { items }
+    }
+
+    /// The list as a slice.
+    pub fn as_slice(&self) -> &[Part]
+        ensures { result.now ≡ self.now }
+    {
+        self.items.as_slice()
+    }
+}
+
+/// The lock of a rule, for all nodes of its pattern.
+#[derive(Drop, Debug)]
+pub struct Template {
+    pub root: Root,
+    pub parts: Parts,
+}
