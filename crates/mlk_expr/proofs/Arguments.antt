@@ -25,10 +25,12 @@ actual-exact read Is e = record { sound = λ a xs ys h. go a xs ys (lent_at xs) 
       | inl l ↦ let p = pair_parts Left a xs ys (rw l at h) in subst (λ u. IsActual Is u xs ys) p.0 (p.1, is, l)
       | inr l ↦ let w = with_some Given (read xs) a ys (rw l at h) in subst (λ u. IsActual Is u xs ys) (sym w.2) (e.sound w.0 xs ys w.1, is, l)
     ]
+
     done : (a : ActualTree) (xs ys : List ℕ) → IsActual Is a xs ys → actual_by read xs (lent_at xs) ≡ Some (a, ys)
     done (Lent n) xs ys h = rw h refl
     done Left xs ys (same, none, out) = rw none (rw out (ap (λ l. Some (Left, l)) same))
     done (Given t) xs ys (is, none, out) = rw none (rw out (rw (e.complete t xs ys is) refl))
+
     back : (a : ActualTree) (xs ys : List ℕ) → IsActual Is a xs ys → Behind ys xs
     back (Lent n) xs ys h = lent-behind n xs ys h
     back Left xs ys (same, none, out) = subst (λ l. Behind l xs) same (behind-self xs)
@@ -44,12 +46,15 @@ actuals-exact read Is e = by-list (list-exact (actual_with read) (IsActual Is) (
         filled : (given : List ActualTree) (xs ys : List ℕ) → IsList (IsActual Is) given xs ys → byte_at 41 xs ≡ None → IsActuals Is given xs ys
         filled [] xs ys (first, others, n, one, more, f) none = cc f
         filled (a ∷ more) xs ys is none = (is, none)
+
         go : (given : List ActualTree) (xs ys : List ℕ) (o : Option (ℕ × List ℕ)) → byte_at 41 xs ≡ o → actuals_by read xs o ≡ Some (given, ys) → IsActuals Is given xs ys
         go given xs ys (Some c) is h = let p = pair_parts [] given c.1 ys h in subst (λ u. IsActuals Is u xs ys) p.0 (byte-is 41 c.0 xs c.1 is ∙ ap (λ z. 41 ∷ z) p.1)
         go given xs ys None is h = filled given xs ys (l.sound given xs ys h) is
+
         done : (given : List ActualTree) (xs ys : List ℕ) → IsActuals Is given xs ys → actuals_by read xs (byte_at 41 xs) ≡ Some (given, ys)
         done [] xs ys h = rw h refl
         done (a ∷ more) xs ys (is, none) = rw none (l.complete (a ∷ more) xs ys is)
+
         back : (given : List ActualTree) (xs ys : List ℕ) → IsActuals Is given xs ys → Behind ys xs
         back [] xs ys h = subst (λ z. Behind ys z) (sym h) (behind-one 41 ys)
         back (a ∷ more) xs ys (is, none) = l.behind (a ∷ more) xs ys is
@@ -69,6 +74,7 @@ callee-exact = record { sound = λ c xs ys h. go c xs ys (byte_at 94 xs) refl h;
     labelled c label xs rest ys (Some caret) l is h =
         let w = with_some (label_in label) (name_at caret.1) c ys h in
         subst (λ z. CalleeIs z xs ys) (sym w.2) (caret.1, l ∙ ap (λ z. Some (label, z)) (byte-is 94 caret.0 rest caret.1 is), w.1)
+
     go : (c : Callee) (xs ys : List ℕ) (o : Option (ℕ × List ℕ)) → byte_at 94 xs ≡ o → callee_by xs o ≡ Some (c, ys) → CalleeIs c xs ys
     go c xs ys (Some caret) is h =
         let w = with_some routine_alone (name_at caret.1) c ys h in
@@ -76,11 +82,13 @@ callee-exact = record { sound = λ c xs ys h. go c xs ys (byte_at 94 xs) refl h;
     go c xs ys None is h =
         let l = then_some (label_at xs) _ (c, ys) h in
         labelled c l.0.0 xs l.0.1 ys (byte_at 94 l.0.1) l.1 refl l.2
+
     done : (label routine : Option (List ℕ)) (xs ys : List ℕ) → IsCallee label routine xs ys → callee_by xs (byte_at 94 xs) ≡ Some (record { label = label; routine = routine }, ys)
     done (Some label) None xs ys (l, none) = rw (label-caret label xs ys l) (rw l (rw none refl))
     done (Some label) (Some routine) xs ys (m, l, r) = rw (label-caret label xs (94 ∷ m) l) (rw l (rw r refl))
     done None (Some routine) xs ys (m, is, r) = rw is (rw r refl)
     done None None xs ys h = absurd h
+
     back : (label routine : Option (List ℕ)) (xs ys : List ℕ) → IsCallee label routine xs ys → Behind ys xs
     back (Some label) None xs ys (l, none) = label-behind label xs ys l
     back (Some label) (Some routine) xs ys (m, l, r) =
@@ -95,9 +103,11 @@ choice-exact read Is e = record {
       let f = then_some (read xs) _ (c, ys) h in
       let o = then_some (byte_at 58 f.0.1) _ (c, ys) f.2 in
       let w = with_some _ (read o.0.1) c ys o.2 in
-      let colon = byte-is 58 o.0.0 f.0.1 o.0.1 o.1 in
-      (o.0.1, subst (λ z. Is z.0 xs (58 ∷ o.0.1)) (sym w.2) (subst (λ z. Is f.0.0 xs z) colon (e.sound f.0.0 xs f.0.1 f.1)),
-       subst (λ z. Is z.1 o.0.1 ys) (sym w.2) (e.sound w.0 o.0.1 ys w.1));
+      let colon = byte-is 58 o.0.0 f.0.1 o.0.1 o.1 in (
+        o.0.1,
+        subst (λ z. Is z.0 xs (58 ∷ o.0.1)) (sym w.2) (subst (λ z. Is f.0.0 xs z) colon (e.sound f.0.0 xs f.0.1 f.1)),
+        subst (λ z. Is z.1 o.0.1 ys) (sym w.2) (e.sound w.0 o.0.1 ys w.1),
+      );
   complete = λ c xs ys (m, one, other). rw (e.complete c.0 xs (58 ∷ m) one) (rw (e.complete c.1 m ys other) refl);
   behind = λ c xs ys (m, one, other).
       behind_then xs (58 ∷ m) ys (e.behind c.0 xs (58 ∷ m) one) (behind_then (58 ∷ m) m ys (behind-one 58 m) (e.behind c.1 m ys other));
@@ -123,6 +133,7 @@ arguments-exact atom Atom item Item a e f (Some most) = record { sound = go; com
   where
     n : (comma : ℕ) → Exact (next item comma) (Next Item comma)
     n = next-exact item Item e
+
     ended : (xs : List ℕ) (first : Tree) (m : List ℕ) (others : List Tree) (rest : List ℕ) (args : List Tree) (ys : List ℕ)
         → Atom first xs m → starts_reference xs ≡ true → (asks_subscript f ≡ true → has_subscript first ≡ true)
         → Many (byte_at 44) (Next Item) others m rest → others_by most first (others, rest) ≡ Some (args, ys) → IsArguments Atom Item f (Some most) args xs ys
@@ -132,6 +143,7 @@ arguments-exact atom Atom item Item a e f (Some most) = record { sound = go; com
           let c = with_some _ (byte_at 41 rest) args ys (rw b at h) in
           (first, others, m, one, starts, asks, subst (λ z. Many (byte_at 44) (Next Item) others m z) (byte-is 41 c.0 rest ys c.1) more, leb-true (length others) most b, c.2)
     ]
+
     go : (args : List Tree) (xs ys : List ℕ) → arguments_by atom item f (Some most) xs ≡ Some (args, ys) → IsArguments Atom Item f (Some most) args xs ys
     go args xs ys h = elim (cases_Bool (starts_reference xs)) [
       | inr s ↦ cc (rw s at h)
@@ -145,11 +157,13 @@ arguments-exact atom Atom item Item a e f (Some most) = record { sound = go; com
                 (many_sound (byte_at 44) (next item) (Next Item) n _ o.0.0 r.0.1 o.0.1 o.1) o.2
           ]
     ]
+
     done : (args : List Tree) (xs ys : List ℕ) → IsArguments Atom Item f (Some most) args xs ys → arguments_by atom item f (Some most) xs ≡ Some (args, ys)
     done args xs ys (first, others, m, one, starts, asks, more, few, is) =
         let small : nat_le (length others) most ≡ true = le-leb (length others) most few in
         rw starts (rw (a.complete first xs m one) (rw (ask f first asks)
         (rw (many_complete (byte_at 44) (next item) (Next Item) (byte-takes 44) n (suc (length m)) others m (41 ∷ ys) (omega arith) more) (rw small (rw is refl)))))
+
     back : (args : List Tree) (xs ys : List ℕ) → IsArguments Atom Item f (Some most) args xs ys → Behind ys xs
     back args xs ys (first, others, m, one, starts, asks, more, few, is) =
         let far = many_behind (byte_at 44) (next item) (Next Item) (byte-takes 44) n others m (41 ∷ ys) more in

@@ -60,6 +60,7 @@ op-takes o xs ys h = go (byte_at 39 xs) refl h
     plain : (r : Option (Relation × List ℕ)) → relation_at xs ≡ r → or_else (with op.Is r) (arithmetic_at xs) ≡ Some (o, ys) → Shorter ys xs
     plain None is h = arithmetic-takes o xs ys h
     plain (Some r) is h = let p = pair_parts (op.Is r.0) o r.1 ys h in relation-takes r.0 xs ys (is ∙ ap (λ l. Some (r.0, l)) p.1)
+
     go : (q : Option (ℕ × List ℕ)) → byte_at 39 xs ≡ q → op_by xs q ≡ Some (o, ys) → Shorter ys xs
     go None is h = plain (relation_at xs) refl h
     go (Some quote) is h =
@@ -266,6 +267,7 @@ select-no-function w h = elim (or_cases (is_either (codes "S") (codes "S") w) (i
       | inl f ↦ (bytes_eq-Decides (str_to_ascii_lowercase w) (str_to_ascii_lowercase t)).0 f
       | inr f ↦ (bytes_eq-Decides (str_to_ascii_lowercase w) (str_to_ascii_lowercase t)).0 f
     ]
+
     either : (str_eq_ignore_ascii_case w (codes "S") || str_eq_ignore_ascii_case w (codes "SELECT")) ≡ true
         → (is_either (codes "S") (codes "S") w || is_either (codes "SELECT") (codes "SELECT") w) ≡ true
     either e = elim (or_cases (str_eq_ignore_ascii_case w (codes "S")) (str_eq_ignore_ascii_case w (codes "SELECT")) e) [

@@ -49,24 +49,47 @@ module _ (end : ℕ) (read : List ℕ → Option (Tree × List ℕ)) (Is : Tree 
           (xs, refl, refl, subst (λ z. CalleeIs callee xs z) p.1 is, subst (λ z. byte_at 40 z ≡ None) p.1 b)
       go callee rest (Some o) is b h =
           let w = with_some _ (actuals_with (chain_with read pattern) o.1) t ys h in
-          subst (λ z. IsPlain end Is Pattern z (36 ∷ 36 ∷ xs) ys) (sym w.2)
-          (xs, o.1, w.0, refl, refl, subst (λ z. CalleeIs callee xs z) (byte-is 40 o.0 rest o.1 b) is,
-           (actuals-exact (chain_with read pattern) (IsChain Is Pattern) chains).sound w.0 o.1 ys w.1, refl)
+          subst (λ z. IsPlain end Is Pattern z (36 ∷ 36 ∷ xs) ys) (sym w.2) (
+            xs,
+            o.1,
+            w.0,
+            refl,
+            refl,
+            subst (λ z. CalleeIs callee xs z) (byte-is 40 o.0 rest o.1 b) is,
+            (actuals-exact (chain_with read pattern) (IsChain Is Pattern) chains).sound w.0 o.1 ys w.1,
+            refl,
+          )
 
   function-sound : (t : Tree) (w m xs ys : List ℕ) → word_at m ≡ (w, 40 ∷ xs) → function_with read (chain_with read pattern) w xs ≡ Some (t, ys) → IsPlain end Is Pattern t (36 ∷ m) ys
   unfolding function_with arguments_with
   function-sound t w m xs ys is h = elim (cases_Bool (is_select w)) [
     | inl s ↦
         let c = with_some _ (list_with (choice_with (chain_with read pattern)) xs) t ys (rw s at h) in
-        subst (λ z. IsPlain end Is Pattern z (36 ∷ m) ys) (sym c.2)
-        (m, xs, w, c.0, refl, is, s,
-         (list-exact (choice_with (chain_with read pattern)) (IsChoice (IsChain Is Pattern)) (choice-exact (chain_with read pattern) (IsChain Is Pattern) chains)).sound c.0 xs ys c.1, refl)
+        subst (λ z. IsPlain end Is Pattern z (36 ∷ m) ys) (sym c.2) (
+          m,
+          xs,
+          w,
+          c.0,
+          refl,
+          is,
+          s,
+          (list-exact (choice_with (chain_with read pattern)) (IsChoice (IsChain Is Pattern)) (choice-exact (chain_with read pattern) (IsChain Is Pattern) chains)).sound c.0 xs ys c.1,
+          refl,
+        )
     | inr s ↦
         let f = then_some (function_of w) _ (t, ys) (rw s at h) in
         let a = with_some _ (arguments_by read (chain_with read pattern) f.0 (named f.0) xs) t ys f.2 in
-        subst (λ z. IsPlain end Is Pattern z (36 ∷ m) ys) (sym a.2)
-        (m, xs, w, a.0, refl, is, f.1,
-         (arguments-exact read Is (chain_with read pattern) (IsChain Is Pattern) l.atoms chains f.0 (named f.0)).sound a.0 xs ys a.1, refl)
+        subst (λ z. IsPlain end Is Pattern z (36 ∷ m) ys) (sym a.2) (
+          m,
+          xs,
+          w,
+          a.0,
+          refl,
+          is,
+          f.1,
+          (arguments-exact read Is (chain_with read pattern) (IsChain Is Pattern) l.atoms chains f.0 (named f.0)).sound a.0 xs ys a.1,
+          refl,
+        )
   ]
 
   special-sound : (t : Tree) (w rest m ys : List ℕ) (o : Option Special) → word_at m ≡ (w, rest) → byte_at 40 rest ≡ None → special_of w ≡ o → special_by o rest ≡ Some (t, ys)
@@ -89,7 +112,7 @@ module _ (end : ℕ) (read : List ℕ → Option (Tree × List ℕ)) (Is : Tree 
       go (Some d) b h =
           let is = byte-is 36 d.0 xs d.1 b in
           let moved : call_with (chain_with read pattern) (column_of end (36 ∷ 36 ∷ d.1)) d.1 ≡ Some (t, ys) =
-              subst (λ z. call_with (chain_with read pattern) (column_of end (36 ∷ z)) d.1 ≡ Some (t, ys)) is h in
+          subst (λ z. call_with (chain_with read pattern) (column_of end (36 ∷ z)) d.1 ≡ Some (t, ys)) is h in
           subst (λ z. IsPlain end Is Pattern t (36 ∷ z) ys) (sym is) (call-sound t d.1 ys moved)
 
   operand-sound : (k : Kind) (b : ℕ) → kind_of b ≡ k → (t : Tree) (xs ys : List ℕ) → atom_by end read pattern k b xs ≡ Some (t, ys) → IsOperand end Is Pattern t (b ∷ xs) ys
@@ -113,7 +136,7 @@ module _ (end : ℕ) (read : List ℕ → Option (Tree × List ℕ)) (Is : Tree 
   operand-sound kind.Dollar b is t xs ys h =
       let eq = is-dollar b is in
       let moved : dollar_with read (chain_with read pattern) (column_of end (36 ∷ xs)) xs ≡ Some (t, ys) =
-          subst (λ c. dollar_with read (chain_with read pattern) (column_of end (c ∷ xs)) xs ≡ Some (t, ys)) eq h in
+      subst (λ c. dollar_with read (chain_with read pattern) (column_of end (c ∷ xs)) xs ≡ Some (t, ys)) eq h in
       inl (subst (λ c. IsPlain end Is Pattern t (c ∷ xs) ys) (sym eq) (dollar-sound t xs ys moved))
   operand-sound kind.Open b is t xs ys h =
       let n = then_some (chain_with read pattern xs) _ (t, ys) h in

@@ -71,12 +71,14 @@ matcher-exact read Is e count = record { sound = go; complete = done; behind = b
             (w.2, inl (w.0, w.1))
       ]
     ]
+
     done : (c xs ys : List ℕ) → IsMatcher Is count c xs ys → matcher_by read count xs ≡ Some (c, ys)
     done c xs ys (same, inl f) = rw same (coded read count f.0 xs ys f.1)
     done c xs ys (same, inr (inl f)) =
         let q = quoted-complete f.0 xs ys f.1 in
         rw (q.1, same) (ap (with (λ _. count)) q.2)
     done c xs ys (same, inr (inr f)) = rw (f.2, same) (ap (with (λ _. count)) ((list-exact read Is e).complete f.1 f.0 ys f.3))
+
     back : (c xs ys : List ℕ) → IsMatcher Is count c xs ys → Behind ys xs
     back c xs ys (same, inl f) = codes-behind f.0 xs ys f.1
     back c xs ys (same, inr (inl f)) = quoted-behind f.0 xs ys f.1
@@ -104,17 +106,23 @@ pattern-exact (suc k) = level (matcher-exact (pattern_at k) (IsPattern k) (patte
         atoms text xs ys rest (c ∷ cs) h more =
             let p = pair_parts (take (length xs - length rest) xs) text rest ys h in
             let b = many_behind count_at (matcher_by (pattern_at k)) (IsMatcher (IsPattern k)) count-takes m (c ∷ cs) xs rest more in
-            let front = front-taken b.0 xs rest (sym b.1) in
-            (c ∷ cs, subst (λ l. Many count_at (IsMatcher (IsPattern k)) (c ∷ cs) xs l) p.1 more, omega arith,
-             sym b.1 ∙ ap (λ l. l ++ rest) (sym front ∙ p.0) ∙ ap (λ l. text ++ l) p.1)
+            let front = front-taken b.0 xs rest (sym b.1) in (
+              c ∷ cs,
+              subst (λ l. Many count_at (IsMatcher (IsPattern k)) (c ∷ cs) xs l) p.1 more,
+              omega arith,
+              sym b.1 ∙ ap (λ l. l ++ rest) (sym front ∙ p.0) ∙ ap (λ l. text ++ l) p.1,
+            )
+
         go : (text xs ys : List ℕ) → (many count_at (matcher_by (pattern_at k)) (suc (length xs)) xs >>= some_atoms xs) ≡ Some (text, ys)
             → (counts : List (List ℕ)) × Many count_at (IsMatcher (IsPattern k)) counts xs ys × (0 < length counts) × (xs ≡ text ++ ys)
         go text xs ys h =
             let r = then_some (many count_at (matcher_by (pattern_at k)) (suc (length xs)) xs) (some_atoms xs) (text, ys) h in
             atoms text xs ys r.0.1 r.0.0 r.2 (many_sound count_at (matcher_by (pattern_at k)) (IsMatcher (IsPattern k)) m _ r.0.0 xs r.0.1 r.1)
+
         last : (text xs ys : List ℕ) (counts : List (List ℕ)) → 0 < length counts → xs ≡ text ++ ys → some_atoms xs (counts, ys) ≡ Some (text, ys)
         last text xs ys [] some is = absurd (omega arith)
         last text xs ys (c ∷ cs) some is = ap (λ l. Some (l, ys)) (front-taken text xs ys is)
+
         done : (text xs ys : List ℕ) → (counts : List (List ℕ)) × Many count_at (IsMatcher (IsPattern k)) counts xs ys × (0 < length counts) × (xs ≡ text ++ ys)
             → (many count_at (matcher_by (pattern_at k)) (suc (length xs)) xs >>= some_atoms xs) ≡ Some (text, ys)
         done text xs ys (counts, more, some, is) =
@@ -180,22 +188,26 @@ subs-exact end read Is e = by-list (list-exact (placed end read) (IsPlaced end I
           | inl f ↦ let p = pair_parts r.0 ss r.1 ys (rw f at h) in (p.0, p.1, leb-true (length r.0) 32 f)
           | inr f ↦ cc (rw f at h)
         ]
+
         filled : (ss : List (ℕ × Tree)) (xs m ys : List ℕ) → xs ≡ 40 ∷ m → IsList (IsPlaced end Is) ss m ys → length ss ≤ 32 → IsSubs end Is ss xs ys
         filled [] xs m ys is (first, others, n, one, more, f) less = cc f
         filled (s ∷ ss) xs m ys is list less = (m, is, list, less)
+
         go : (ss : List (ℕ × Tree)) (xs ys : List ℕ) (o : Option (ℕ × List ℕ)) → byte_at 40 xs ≡ o → subs_by end read xs o ≡ Some (ss, ys) → IsSubs end Is ss xs ys
         go ss xs ys None is h = let p = pair_parts [] ss xs ys h in subst (λ us. IsSubs end Is us xs ys) p.0 (p.1, is)
         go ss xs ys (Some b) is h =
             let r = then_some (list_with (placed end read) b.1) few (ss, ys) h in
             let f = few-ok r.0 ss ys r.2 in
             let whole : IsList (IsPlaced end Is) ss b.1 ys =
-                subst (λ z. IsList (IsPlaced end Is) z b.1 ys) f.0 (subst (λ z. IsList (IsPlaced end Is) r.0.0 b.1 z) f.1 (l.sound r.0.0 b.1 r.0.1 r.1)) in
+            subst (λ z. IsList (IsPlaced end Is) z b.1 ys) f.0 (subst (λ z. IsList (IsPlaced end Is) r.0.0 b.1 z) f.1 (l.sound r.0.0 b.1 r.0.1 r.1)) in
             filled ss xs b.1 ys (byte-is 40 b.0 xs b.1 is) whole (subst (λ z. length z ≤ 32) f.0 f.2)
+
         done : (ss : List (ℕ × Tree)) (xs ys : List ℕ) → IsSubs end Is ss xs ys → subs_by end read xs (byte_at 40 xs) ≡ Some (ss, ys)
         done [] xs ys h = rw h.1 (ap (λ z. Some ([], z)) h.0)
         done (s ∷ ss) xs ys (m, is, list, less) =
             let small : nat_le (length (s ∷ ss)) 32 ≡ true = le-leb (length (s ∷ ss)) 32 less in
             rw is (rw (l.complete (s ∷ ss) m ys list) (rw small refl))
+
         back : (ss : List (ℕ × Tree)) (xs ys : List ℕ) → IsSubs end Is ss xs ys → Behind ys xs
         back [] xs ys h = subst (λ z. Behind z xs) h.0 (behind-self xs)
         back (s ∷ ss) xs ys (m, is, list, less) = subst (λ z. Behind ys z) (sym is) (behind_then (40 ∷ m) m ys (behind-one 40 m) (l.behind (s ∷ ss) m ys list))

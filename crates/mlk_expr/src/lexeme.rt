@@ -264,7 +264,11 @@ pub fn pattern_codes_at(bytes: &[u8]) -> Option<(&[u8], &[u8])>
     ensures { option_map (λ x. (x.0.now, x.1.now)) result ≡ pattern_codes_at bytes.now }
 {
     let n = pattern_codes(bytes);
-    if n == 0 { None } else { Some(bytes.split_at(n)) }
+    if n == 0 {
+        None
+    } else {
+        Some(bytes.split_at(n))
+    }
 }
 
 /// Whether a local's or a global's name stands here.

@@ -1,0 +1,148 @@
+// Faults of the command line, of files, of streams and of memory.
+
+use super::{CERT, CHECK, Memory, RULES, TAKE, expect, texts};
+use crate::program::run;
+use crate::source::Files;
+use std::alloc::Global;
+use std::io::{self, ErrorKind, Write};
+use std::test::Fail;
+
+// A writer that takes so many bytes and then fails.
+#[derive(Drop)]
+struct Short {
+    room: usize,
+}
+
+impl Write for Short {
+    fn write(&mut self, buf: &[u8]) -> io::Result<usize> {
+        if self.room == 0 {
+            return Err(io::Error::from(io::ErrorKind::StorageFull));
+        }
+        let count = buf.len().min(self.room);
+        self.room -= count;
+        Ok(count)
+    }
+
+    fn flush(&mut self) -> io::Result<()> {
+        Ok(())
+    }
+}
+
+// Files of which one can't be read, for this reason.
+#[derive(Drop)]
+struct Broken<'a> {
+    path: &'a str,
+    kind: ErrorKind,
+}
+
+impl Files for Broken<'_> {
+    fn read(&self, alloc: Global, path: &str) -> io::Result<Vec<u8>> {
+        if path == self.path {
+            return Err(io::Error::from(self.kind));
+        }
+        Ok(Vec::from_slice(alloc, b"\xff [[[")?)
+    }
+}
+
+#[test]
+fn wrong_words(rt: HostRuntime) -> Result<(), Fail> {
+    let files = [("rules.toml", RULES), ("cert", CERT), ("ONE.m", TAKE)];
+    for words in [
+        ["mlock", "--help", "--", "--", "--"].as_slice(),
+        ["mlock"].as_slice(),
+        ["mlock", "frobnicate", "rules.toml"].as_slice(),
+        ["mlock", "check", "rules.toml", "cert"].as_slice(),
+        [
+            "mlock",
+            "check",
+            "--workers",
+            "2",
+            "rules.toml",
+            "cert",
+            "ONE.m",
+        ]
+        .as_slice(),
+    ] {
+        expect(&rt, rt.alloc(), words, &files, 2, "", "any")?;
+    }
+    Ok(())
+}
+
+const PATHS: [&str; 6] = ["mlock", "check", "rules.toml", "cert", "ONE.m", "far/TWO.m"];
+
+#[test]
+fn files_that_fail(rt: HostRuntime) -> Result<(), Fail> {
+    let alloc = rt.alloc();
+    let words = texts(alloc, &PATHS)?;
+    let rows = [
+        ("rules.toml", "error file rules.toml\n"),
+        ("cert", "error file cert\n"),
+        ("ONE.m", "error file ONE.m\n"),
+        ("far/TWO.m", "error file far/TWO.m\n"),
+    ];
+    for (path, told) in rows {
+        for kind in [ErrorKind::NotFound, ErrorKind::FileTooLarge] {
+            let mut out: Vec<u8> = Vec::new(alloc);
+            let mut err: Vec<u8> = Vec::new(alloc);
+            let files = Broken { path, kind };
+            assert_eq!(&rt; run(alloc, words.as_slice(), &files, &mut out, &mut err), 3);
+            assert!(&rt; out.is_empty());
+            assert!(&rt; err.as_slice() == told.as_bytes(), "told, not {told}");
+        }
+    }
+    Ok(())
+}
+
+#[test]
+fn want_of_memory(rt: HostRuntime) -> Result<(), Fail> {
+    let alloc = rt.alloc();
+    let words = texts(alloc, &PATHS)?;
+    let mut out: Vec<u8> = Vec::new(alloc);
+    let mut err: Vec<u8> = Vec::new(alloc);
+    let files = Broken {
+        path: "cert",
+        kind: ErrorKind::OutOfMemory,
+    };
+    assert_eq!(&rt; run(alloc, words.as_slice(), &files, &mut out, &mut err), 3);
+    assert!(&rt; out.is_empty());
+    assert!(&rt; err.as_slice() == b"error memory\n".as_slice());
+    Ok(())
+}
+
+#[test]
+fn output_that_fails(rt: HostRuntime) -> Result<(), Fail> {
+    let alloc = rt.alloc();
+    let words = texts(alloc, &CHECK)?;
+    let late = "TAKE SET ^ACCT(1)=5 LOCK +^ACCT(1) LOCK -^ACCT(1) QUIT\n";
+    for (routine, length) in [(TAKE, 4), (late, 33)] {
+        let files = Memory {
+            files: &[("rules.toml", RULES), ("cert", CERT), ("ONE.m", routine)],
+        };
+        for room in 0..length {
+            let mut out = Short { room };
+            let mut err: Vec<u8> = Vec::new(alloc);
+            let status = run(alloc, words.as_slice(), &files, &mut out, &mut err);
+            assert_eq!(&rt; status, 3);
+            assert!(&rt; err.as_slice() == b"error file -\n".as_slice());
+        }
+    }
+    Ok(())
+}
+
+#[test]
+fn errors_that_fail(rt: HostRuntime) -> Result<(), Fail> {
+    let alloc = rt.alloc();
+    let none = "[[entry]]\nlabel = \"X^NONE\"\n";
+    let files = Memory {
+        files: &[("rules.toml", none), ("cert", CERT), ("ONE.m", TAKE)],
+    };
+    for (path, wanted) in [("ONE.m", 2), ("absent", 3)] {
+        let words = texts(alloc, &["mlock", "check", "rules.toml", "cert", path])?;
+        let mut out: Vec<u8> = Vec::new(alloc);
+        let mut err = Short { room: 3 };
+        let status = run(alloc, words.as_slice(), &files, &mut out, &mut err);
+        assert_eq!(&rt; status, wanted);
+        assert!(&rt; out.is_empty());
+    }
+    Ok(())
+}

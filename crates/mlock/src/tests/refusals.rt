@@ -1,0 +1,134 @@
+// Refused input, and the line that tells why.
+
+use super::{CERT, CHECK, RULES, TAKE, expect};
+use std::test::Fail;
+
+#[test]
+fn refuses_routines(rt: HostRuntime) -> Result<(), Fail> {
+    let rows = [
+        (
+            "TAKE(ID) LOCK +^ACCT(1) QUIT\n",
+            "refused ONE 1:1 202 LineForm\n",
+        ),
+        (
+            "TAKE SET X=1 QUIT\n",
+            "refused ONE 1:6 206 CommandLeftOut SET\n",
+        ),
+        (
+            "TAKE W 1 QUIT\n",
+            "refused ONE 1:6 206 CommandLeftOut WRITE\n",
+        ),
+        (
+            "TAKE WRITE 1 QUIT\n",
+            "refused ONE 1:6 206 CommandLeftOut WRITE\n",
+        ),
+    ];
+    for (routine, told) in rows {
+        let files = [("rules.toml", RULES), ("cert", CERT), ("ONE.m", routine)];
+        expect(&rt, rt.alloc(), &CHECK, &files, 2, "", told)?;
+    }
+    let files = [
+        ("rules.toml", RULES),
+        ("cert", CERT),
+        ("a/ONE.m", TAKE),
+        ("ONE.m", TAKE),
+    ];
+    let words = ["mlock", "check", "rules.toml", "cert", "a/ONE.m", "ONE.m"];
+    expect(
+        &rt,
+        rt.alloc(),
+        &words,
+        &files,
+        2,
+        "",
+        "refused ONE 1:1 301 RoutineTwice\n",
+    )?;
+    Ok(())
+}
+
+#[test]
+fn refuses_rules(rt: HostRuntime) -> Result<(), Fail> {
+    let rows = [
+        ("[[lock", "refused rules file 0 401 Toml\n"),
+        (
+            "[[lock]]\nname = \"^A\"\nrank = 1\n[[private]]\nglobal = \"^TMP($J,...)\"\n",
+            "refused rules file 0 402 Key\n",
+        ),
+        (
+            "[[cover]]\nglobal = \"^A\"\nlock = \"^A\"\n[[cover]]\nglobal = \"^B\"\nlock = \"^B\"\n",
+            "refused rules cover 2 402 Key\n",
+        ),
+        (
+            "[[lock]]\nname = \"^A\"\nrank = 1\n[[lock]]\nname = \"^B\"\nrank = 2\n",
+            "refused rules lock 2 402 Key\n",
+        ),
+        (
+            "[[entry]]\nlabel = \"X^NONE\"\n",
+            "refused entry X^NONE 901 EntryMissing\n",
+        ),
+    ];
+    for (rules, told) in rows {
+        let files = [("rules.toml", rules), ("cert", CERT), ("ONE.m", TAKE)];
+        expect(&rt, rt.alloc(), &CHECK, &files, 2, "", told)?;
+    }
+    Ok(())
+}
+
+#[test]
+fn refuses_certificates(rt: HostRuntime) -> Result<(), Fail> {
+    let rows = [
+        (
+            "mlock-cert 1\nend\n",
+            1,
+            "TAKE^ONE 1:1 713 NoCertificate\nno 1\n",
+            "",
+        ),
+        ("", 2, "", "refused cert 1 601 Head\n"),
+        ("mlock-cert 1\n", 2, "", "refused cert 1 606 NoEnd\n"),
+        (
+            "mlock-cert 1\nend\nmore",
+            2,
+            "",
+            "refused cert 3 602 Form\n",
+        ),
+    ];
+    for (certificate, status, printed, told) in rows {
+        let files = [
+            ("rules.toml", RULES),
+            ("cert", certificate),
+            ("ONE.m", TAKE),
+        ];
+        expect(&rt, rt.alloc(), &CHECK, &files, status, printed, told)?;
+    }
+    Ok(())
+}
+
+#[test]
+fn refuses_missing_entries(rt: HostRuntime) -> Result<(), Fail> {
+    let two = "mlock-cert 1
+entry TAKE^TWO
+need -
+low 10
+drops 0
+mods -
+exit T=* H=- K=-
+at 1.0 T=* H=- O=- K=- S=-
+end
+";
+    let none = "[[entry]]\nlabel = \"X^NONE\"\n";
+    let both = "[[entry]]\nlabel = \"TAKE^ONE\"\n[[entry]]\nlabel = \"X^NONE\"\n";
+    let rows = [
+        (RULES, two, "refused entry TAKE^TWO 901 EntryMissing\n"),
+        (none, two, "refused entry X^NONE 901 EntryMissing\n"),
+        (both, CERT, "refused entry X^NONE 901 EntryMissing\n"),
+    ];
+    for (rules, certificate, told) in rows {
+        let files = [
+            ("rules.toml", rules),
+            ("cert", certificate),
+            ("ONE.m", TAKE),
+        ];
+        expect(&rt, rt.alloc(), &CHECK, &files, 2, "", told)?;
+    }
+    Ok(())
+}
