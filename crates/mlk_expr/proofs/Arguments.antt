@@ -1,8 +1,8 @@
 -- Actuals, calls and arguments are read exactly where what lies in them is.
-use Rattle.std.proofs.Common.{◌≡◌, ◌<◌, ◌≤◌, ◌+◌, ℕ, zero, suc, ◌++◌, List, [], ◌∷◌, length, Some, None, true, false, Bool, refl, sym, ap, ◌∙◌, arith, subst, inl, inr, leb-true, le-leb}
-use Rattle.std.specs.Prelude.{Option, ◌==◌, ◌&&◌, nat_le, not, ◌⊎◌, if◌then◌else◌}
+use Rattle.std.proofs.Common.{◌≡◌, ℕ, suc, List, [], ◌∷◌, length, Some, None, true, false, refl, sym, ap, ◌∙◌, arith, subst, inl, inr, leb-true, le-leb}
+use Rattle.std.specs.Prelude.{Option, ◌&&◌, nat_le, not}
 use Rattle.std.proofs.lemmas.Bool.{cases_Bool}
-use Rattle.mlk_text.specs.Reading.{◌>>=◌, with, many, Many}
+use Rattle.mlk_text.specs.Reading.{many, Many}
 use Rattle.mlk_text.specs.Lexemes.{byte_at, name_at}
 use Rattle.mlk_text.proofs.Lexemes.{byte-is, byte-takes, name-behind}
 use Rattle.mlk_text.proofs.Readers.{then_some, pair_parts, with_some, Behind, behind-self, behind-one, behind_then, Exact, many_sound, many_behind, many_complete}
@@ -10,8 +10,8 @@ use Rattle.mlk_expr.specs.Trees.{Tree, ActualTree, Given, Lent, Left}
 use Rattle.mlk_expr.specs.declared.tree.Callee.{Callee}
 use Rattle.mlk_expr.specs.declared.tree.Function.{Function}
 use Rattle.mlk_expr.specs.Lexemes.{label_at, lent_at, is_missing, starts_reference}
-use Rattle.mlk_expr.specs.Grammar.{Next, IsList, IsActual, IsActuals, has_subscript, asks_subscript, named, IsArguments, IsChoice, IsCallee}
-use Rattle.mlk_expr.specs.Reading.{next, list_with, actual_by, actual_with, actuals_by, actuals_with, label_alone, label_in, routine_alone, routine_by, callee_by, callee_at, choice_with, others_by, name_and, arguments_by, arguments_with}
+use Rattle.mlk_expr.specs.Grammar.{Next, IsList, IsActual, IsActuals, has_subscript, asks_subscript, IsArguments, IsChoice, IsCallee}
+use Rattle.mlk_expr.specs.Reading.{next, list_with, actual_by, actual_with, actuals_by, actuals_with, label_alone, label_in, routine_alone, routine_by, callee_by, callee_at, choice_with, others_by, name_and, arguments_by}
 use Rattle.mlk_expr.proofs.LexemeLemmas.{label-behind, lent-behind, label-caret}
 use Rattle.mlk_expr.proofs.Parts.{next-exact, list-exact}
 

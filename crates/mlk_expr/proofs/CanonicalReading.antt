@@ -1,10 +1,10 @@
 -- The canonical text of a literal, as a function of the literal.
-use Rattle.std.proofs.Common.{◌≡◌, ◌≢◌, ◌<◌, ◌≤◌, ◌+◌, ℕ, suc, ◌++◌, List, [], ◌∷◌, length, take, drop, Some, None, true, false, Bool, refl, sym, ap, ◌∙◌, arith, subst, inl, inr, leb-true, le-leb, ltb-true, lt-ltb}
-use Rattle.std.specs.Prelude.{Option, ◌&&◌, nat_le, nat_lt, if◌then◌else◌}
+use Rattle.std.proofs.Common.{◌≡◌, ◌+◌, ℕ, ◌++◌, List, length, take, drop, Some, None, true, refl, sym, ap, subst, inl, inr, leb-true, le-leb, ltb-true, lt-ltb}
+use Rattle.std.specs.Prelude.{Option, ◌&&◌, nat_le, nat_lt}
 use Rattle.std.proofs.lemmas.Option.{same_Some}
 use Rattle.std.proofs.lemmas.Bool.{cases_Bool, and_parts, and_from}
 use Rattle.mlk_text.specs.Lexemes.{digits, zeros, to_last}
-use Rattle.mlk_text.specs.Numbers.{are_digits, pointed, behind_point, IsNumeral, IsExact, IsCanonical}
+use Rattle.mlk_text.specs.Numbers.{are_digits, pointed, behind_point, IsExact, IsCanonical}
 use Rattle.mlk_text.proofs.Numerals.{numeral-to, numeral-from}
 use Rattle.mlk_text.proofs.Zeros.{significant-from, significant-to}
 use Rattle.mlk_text.proofs.CanonicalTexts.{canonical-made}

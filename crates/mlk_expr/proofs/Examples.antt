@@ -1,5 +1,5 @@
 -- Expressions, worked out by hand.
-use Rattle.std.proofs.Common.{◌≡◌, ℕ, List, [], ◌∷◌, Option, Some, None, refl, codes}
+use Rattle.std.proofs.Common.{◌≡◌, [], Some, None, refl, codes}
 use Rattle.mlk_text.specs.declared.operator.Op.TheVariants.{Add, Multiply, Is, IsNot}
 use Rattle.mlk_text.specs.declared.operator.Relation.TheVariants.{SortsAfter, Matches}
 use Rattle.mlk_text.specs.declared.operator.UnaryOp.TheVariants.{Minus}
@@ -7,7 +7,7 @@ use Rattle.mlk_text.specs.Reading.{many}
 use Rattle.mlk_text.specs.Lexemes.{name_at, digits_at, inside}
 use Rattle.mlk_expr.specs.declared.tree.Special.TheVariants.{Test}
 use Rattle.mlk_expr.specs.declared.tree.Function.TheVariants.{Get}
-use Rattle.mlk_expr.specs.Trees.{Tree, Literal, Inexact, LocalName, GlobalName, SpecialName, Prefixed, Chain, PatternText, Applied, Selected, BareCall, CallOf, no_links, link, no_subs, sub, no_trees, tree, no_choices, choice, no_actuals, actual, Given, Lent, Left}
+use Rattle.mlk_expr.specs.Trees.{Literal, Inexact, LocalName, GlobalName, SpecialName, Prefixed, Chain, PatternText, Applied, Selected, BareCall, CallOf, no_links, link, no_subs, sub, no_trees, tree, no_choices, choice, no_actuals, actual, Given, Lent, Left}
 use Rattle.mlk_expr.specs.Words.{special_of, special_to_principal, special_from_quit, function_of, function_to_fnumber, function_to_piece, function_from_qlength, is_select}
 use Rattle.mlk_expr.specs.Lexemes.{relation_of, relation_at, arithmetic_of, arithmetic_at, op_at, unary_of, kind_of, mantissa_len, numeral_at, count_at, pattern_codes_at, label_at, lent_at, ends}
 use Rattle.mlk_expr.specs.Grammar.{IsExpr, IsReference}

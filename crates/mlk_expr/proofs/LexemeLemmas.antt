@@ -1,20 +1,18 @@
 -- Laws of the lexemes: what is behind them, and what they begin with.
-use Rattle.std.proofs.Common.{◌≡◌, ◌<◌, ◌≤◌, ◌+◌, ℕ, zero, suc, ◌++◌, List, [], ◌∷◌, length, take, drop, Some, None, true, false, Bool, refl, sym, ap, ◌∙◌, arith, subst, inl, inr, length-drop, take-append-drop}
-use Rattle.std.specs.Prelude.{Option, ◌==◌, ◌&&◌, ◌||◌, ◌⊎◌, nat_le, if◌then◌else◌, codes}
-use Rattle.std.proofs.lemmas.Bool.{cases_Bool, eqb-true, eqb-false, or_cases, or_parts, or_right}
+use Rattle.std.proofs.Common.{◌≡◌, ◌<◌, ◌+◌, ℕ, ◌++◌, List, [], ◌∷◌, length, take, drop, Some, None, true, false, refl, sym, ap, ◌∙◌, arith, subst, inl, inr, length-drop, take-append-drop}
+use Rattle.std.specs.Prelude.{Option, ◌==◌, ◌||◌, ◌⊎◌, if◌then◌else◌, codes}
+use Rattle.std.proofs.lemmas.Bool.{cases_Bool, eqb-true, eqb-false, or_cases, or_right}
 use Rattle.std.proofs.lemmas.Bool.Decides.{nat_tests}
 use Rattle.std.proofs.lemmas.Slice.Eq.{bytes_eq-Decides}
 use Rattle.std.specs.Str.{str_to_ascii_lowercase, str_eq_ignore_ascii_case}
-use Rattle.mlk_text.specs.declared.operator.Op.{Op}
 use Rattle.mlk_text.specs.declared.operator.Op.TheVariants as op
 use Rattle.mlk_text.specs.declared.operator.Relation.{Relation}
 use Rattle.mlk_text.specs.declared.operator.Relation.TheVariants as relation
 use Rattle.mlk_text.specs.declared.operator.UnaryOp.{UnaryOp}
-use Rattle.mlk_text.specs.declared.operator.UnaryOp.TheVariants as unary
 use Rattle.mlk_text.specs.Reading.{with}
-use Rattle.mlk_text.specs.Lexemes.{is_digit, is_letter, digits, name_bytes, byte_at, name_at, digits_at}
+use Rattle.mlk_text.specs.Lexemes.{is_digit, is_letter, digits, byte_at, name_at, digits_at}
 use Rattle.mlk_text.proofs.Lexemes.{byte-is, name-behind, digits-behind}
-use Rattle.mlk_text.proofs.Readers.{pair_parts, with_some, Behind, behind-self, behind-one, behind_then, behind_length, Takes}
+use Rattle.mlk_text.proofs.Readers.{pair_parts, with_some, Behind, behind-one, behind_then, Takes}
 use Rattle.mlk_expr.specs.declared.tree.Function.{Function}
 use Rattle.mlk_expr.specs.declared.lexeme.Kind.{Kind}
 use Rattle.mlk_expr.specs.declared.lexeme.Kind.TheVariants as kind

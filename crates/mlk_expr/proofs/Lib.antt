@@ -5,3 +5,7 @@ pub mod Arguments
 pub mod Operands
 pub mod Whole
 pub mod Examples
+pub mod Loops
+pub mod Steps
+pub mod Variants
+pub mod Places

@@ -1,22 +1,19 @@
 -- Operands and expressions are read exactly.
-use Rattle.std.proofs.Common.{◌≡◌, ◌<◌, ◌≤◌, ◌+◌, ℕ, zero, suc, ◌++◌, List, [], ◌∷◌, length, Some, None, true, false, Bool, refl, sym, ap, ◌∙◌, arith, subst, inl, inr}
-use Rattle.std.specs.Prelude.{Option, ◌==◌, ◌⊎◌, if◌then◌else◌}
+use Rattle.std.proofs.Common.{◌≡◌, ℕ, zero, suc, List, [], ◌∷◌, Some, None, true, false, refl, sym, ap, ◌∙◌, subst, inl, inr}
+use Rattle.std.specs.Prelude.{Option}
 use Rattle.std.proofs.lemmas.Bool.{cases_Bool}
-use Rattle.mlk_text.specs.declared.operator.Op.{Op}
-use Rattle.mlk_text.specs.Reading.{◌>>=◌, with}
 use Rattle.mlk_text.specs.Lexemes.{byte_at, name_at, inside, IsQuoted}
-use Rattle.mlk_text.specs.Numbers.{IsCanonical}
 use Rattle.mlk_text.proofs.Lexemes.{byte-is, name-behind, quoted-sound, quoted-complete, quoted-behind}
-use Rattle.mlk_text.proofs.Readers.{then_some, pair_parts, with_some, Behind, behind-self, behind-one, behind_then, Exact, one_reading}
+use Rattle.mlk_text.proofs.Readers.{then_some, pair_parts, with_some, Behind, behind-one, behind_then, Exact}
 use Rattle.mlk_expr.specs.declared.tree.Callee.{Callee}
 use Rattle.mlk_expr.specs.declared.tree.Special.{Special}
 use Rattle.mlk_expr.specs.declared.lexeme.Kind.{Kind}
 use Rattle.mlk_expr.specs.declared.lexeme.Kind.TheVariants as kind
-use Rattle.mlk_expr.specs.Trees.{Tree, Literal, Inexact, LocalName, GlobalName, SpecialName, Prefixed, Chain, PatternText, Applied, Selected, BareCall, CallOf, trees_from, subs_from, choices_from, actuals_from}
+use Rattle.mlk_expr.specs.Trees.{Tree, Literal, Inexact, LocalName, GlobalName, SpecialName, Prefixed, Chain, PatternText, Applied, Selected, BareCall, CallOf}
 use Rattle.mlk_expr.specs.Words.{word_at, special_of, function_of, is_select}
 use Rattle.mlk_expr.specs.Lexemes.{column_of, kind_of, numeral_at}
 use Rattle.mlk_expr.specs.Grammar.{IsPattern, IsChain, IsPlain, IsOperand, IsAtom, IsChoice, named}
-use Rattle.mlk_expr.specs.Reading.{canonical_of, number_by, number_of, pattern_at, chain_with, subs_with, actuals_with, callee_at, call_by, call_with, arguments_by, arguments_with, choice_with, list_with, function_with, special_by, word_by, dollar_by, dollar_with, local_with, global_with, atom_by, operand_with, atom_at}
+use Rattle.mlk_expr.specs.Reading.{canonical_of, number_by, number_of, pattern_at, chain_with, subs_with, actuals_with, callee_at, call_by, call_with, arguments_by, arguments_with, choice_with, list_with, function_with, special_by, word_by, dollar_by, dollar_with, atom_by, operand_with, atom_at}
 use Rattle.mlk_expr.proofs.CanonicalReading.{canonical-sound, canonical-complete, canonical-none}
 use Rattle.mlk_expr.proofs.LexemeLemmas.{numeral-behind, word-behind, kind-open, kind-quote, kind-caret, kind-dollar, prefix-is, prefix-from, is-open, is-quote, is-caret, is-dollar, name-first, numeral-first, word-none, no-special, no-function, no-select, function-no-select}
 use Rattle.mlk_expr.proofs.Parts.{list-exact, chain-exact, subs-exact, pattern-exact}

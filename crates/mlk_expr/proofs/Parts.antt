@@ -1,21 +1,18 @@
 -- Each part of an expression is read exactly where what lies in it is.
-use Rattle.std.proofs.Common.{◌≡◌, ◌<◌, ◌≤◌, ◌+◌, ◌-◌, ℕ, zero, suc, ◌++◌, List, [], ◌∷◌, length, take, drop, Some, None, true, false, Bool, refl, sym, ap, ◌∙◌, arith, subst, inl, inr, append_assoc, append-nil, length-append, leb-true, le-leb}
-use Rattle.std.specs.Prelude.{Option, ◌==◌, ◌&&◌, nat_le, not, ◌⊎◌, if◌then◌else◌}
+use Rattle.std.proofs.Common.{◌≡◌, ◌<◌, ◌≤◌, ◌+◌, ◌-◌, ℕ, zero, suc, ◌++◌, List, [], ◌∷◌, length, take, Some, None, true, false, Bool, refl, sym, ap, ◌∙◌, arith, subst, inl, inr, length-append, leb-true, le-leb}
+use Rattle.std.specs.Prelude.{Option, ◌==◌, nat_le}
 use Rattle.std.proofs.Math.Seq.{take-append_seam}
-use Rattle.std.proofs.lemmas.Bool.{cases_Bool, eqb-true, eqb-false, ne_eqb}
+use Rattle.std.proofs.lemmas.Bool.{cases_Bool, eqb-true}
 use Rattle.mlk_text.specs.declared.operator.Op.{Op}
 use Rattle.mlk_text.specs.Reading.{◌>>=◌, with, many, Many}
-use Rattle.mlk_text.specs.Lexemes.{byte_at, name_at, inside, IsQuoted}
-use Rattle.mlk_text.proofs.Lexemes.{byte-is, byte-takes, name-behind, quoted-sound, quoted-complete, quoted-behind}
-use Rattle.mlk_text.proofs.Readers.{then_some, pair_parts, with_some, Behind, behind-self, behind-one, behind_then, behind_length, Exact, Takes, many_sound, many_behind, many_complete}
-use Rattle.mlk_expr.specs.Trees.{Tree, PatternText, ActualTree, Given, Lent, Left}
-use Rattle.mlk_expr.specs.declared.tree.Callee.{Callee}
-use Rattle.mlk_expr.specs.declared.tree.Function.{Function}
-use Rattle.mlk_expr.specs.Words.{or_else}
-use Rattle.mlk_expr.specs.Lexemes.{column_of, op_at, is_match, count_at, pattern_codes_at, label_at, lent_at, is_missing, starts_reference}
-use Rattle.mlk_expr.specs.Grammar.{Next, IsList, IsMatcher, IsPattern, IsRight, IsLink, chained, IsChain, IsPlaced, IsSubs, IsActual, IsActuals, has_subscript, asks_subscript, IsArguments, IsChoice, IsCallee}
-use Rattle.mlk_expr.specs.Reading.{next, list_with, matcher_by, some_atoms, pattern_at, right_by, linked, chain_with, placed, few, subs_by, subs_with, actual_by, actual_with, actuals_by, actuals_with, label_alone, label_in, routine_alone, routine_by, callee_by, callee_at, choice_with, others_by, name_and, arguments_by}
-use Rattle.mlk_expr.proofs.LexemeLemmas.{op-takes, count-takes, codes-behind, label-behind, lent-behind}
+use Rattle.mlk_text.specs.Lexemes.{byte_at, inside, IsQuoted}
+use Rattle.mlk_text.proofs.Lexemes.{byte-is, byte-takes, quoted-sound, quoted-complete, quoted-behind}
+use Rattle.mlk_text.proofs.Readers.{then_some, pair_parts, with_some, Behind, behind-self, behind-one, behind_then, Exact, many_sound, many_behind, many_complete}
+use Rattle.mlk_expr.specs.Trees.{Tree, PatternText}
+use Rattle.mlk_expr.specs.Lexemes.{op_at, is_match, count_at, pattern_codes_at}
+use Rattle.mlk_expr.specs.Grammar.{Next, IsList, IsMatcher, IsPattern, IsRight, IsLink, chained, IsChain, IsPlaced, IsSubs}
+use Rattle.mlk_expr.specs.Reading.{next, list_with, matcher_by, some_atoms, pattern_at, right_by, linked, chain_with, placed, few, subs_by, subs_with}
+use Rattle.mlk_expr.proofs.LexemeLemmas.{op-takes, count-takes, codes-behind}
 
 -- items behind commas
 pub next-exact : {A : Type 0} (read : List ℕ → Option (A × List ℕ)) (Is : A → List ℕ → List ℕ → Type 0) → Exact read Is → (comma : ℕ) → Exact (next read comma) (Next Is comma)
@@ -129,7 +126,7 @@ pattern-exact (suc k) = level (matcher-exact (pattern_at k) (IsPattern k) (patte
             rw (many_complete count_at (matcher_by (pattern_at k)) (IsMatcher (IsPattern k)) count-takes m (suc (length xs)) counts xs ys (omega arith) more) (last text xs ys counts some is)
 
 -- chains
-right-exact : (atom : List ℕ → Option (Tree × List ℕ)) (Atom : Tree → List ℕ → List ℕ → Type 0) (pattern : List ℕ → Option (List ℕ × List ℕ)) (Pattern : List ℕ → List ℕ → List ℕ → Type 0)
+pub right-exact : (atom : List ℕ → Option (Tree × List ℕ)) (Atom : Tree → List ℕ → List ℕ → Type 0) (pattern : List ℕ → Option (List ℕ × List ℕ)) (Pattern : List ℕ → List ℕ → List ℕ → Type 0)
     → Exact atom Atom → Exact pattern Pattern → (m : Bool) → Exact (right_by atom pattern m) (IsRight Atom Pattern m)
 right-exact atom Atom pattern Pattern e p false = record { sound = e.sound; complete = e.complete; behind = e.behind }
 right-exact atom Atom pattern Pattern e p true = record {
@@ -169,7 +166,7 @@ chain-exact atom Atom pattern Pattern e p =
     }
 
 -- subscripts
-placed-exact : (end : ℕ) (read : List ℕ → Option (Tree × List ℕ)) (Is : Tree → List ℕ → List ℕ → Type 0) → Exact read Is → Exact (placed end read) (IsPlaced end Is)
+pub placed-exact : (end : ℕ) (read : List ℕ → Option (Tree × List ℕ)) (Is : Tree → List ℕ → List ℕ → Type 0) → Exact read Is → Exact (placed end read) (IsPlaced end Is)
 placed-exact end read Is e = record {
   sound = λ s xs ys h. let w = with_some _ (read xs) s ys h in (ap (λ z. z.0) w.2, subst (λ z. Is z.1 xs ys) (sym w.2) (e.sound w.0 xs ys w.1));
   complete = λ s xs ys h. rw (e.complete s.1 xs ys h.1) (rw h.0 refl);

@@ -5,10 +5,9 @@ use Rattle.mlk_text.specs.Reading.{Many}
 use Rattle.mlk_text.specs.Lexemes.{byte_at, name_at, IsQuoted}
 use Rattle.mlk_text.specs.Numbers.{IsCanonical}
 use Rattle.mlk_text.specs.declared.operator.Op.{Op}
-use Rattle.mlk_expr.specs.declared.tree.Callee.{Callee}
 use Rattle.mlk_expr.specs.declared.tree.Function.{Function}
 use Rattle.mlk_expr.specs.declared.tree.Function.TheVariants as function
-use Rattle.mlk_expr.specs.Trees.{Tree, Literal, Inexact, LocalName, GlobalName, SpecialName, Prefixed, Chain, PatternText, Applied, Selected, BareCall, CallOf, Subs, no_subs, sub, ActualTree, Given, Lent, Left, trees_from, subs_from, links_from, choices_from, actuals_from}
+use Rattle.mlk_expr.specs.Trees.{Tree, Literal, Inexact, LocalName, GlobalName, SpecialName, Prefixed, Chain, PatternText, Applied, Selected, BareCall, CallOf, sub, ActualTree, Given, Lent, Left, trees_from, subs_from, links_from, choices_from, actuals_from}
 use Rattle.mlk_expr.specs.Words.{word_at, special_of, function_of, is_select}
 use Rattle.mlk_expr.specs.Lexemes.{column_of, op_at, is_match, unary_of, numeral_at, count_at, pattern_codes_at, label_at, lent_at, starts_reference, is_missing, ends}
 

@@ -1,5 +1,5 @@
 -- The smallest parts of expressions, each as long as it goes.
-use Rattle.std.specs.Prelude.{ℕ, suc, ◌≡◌, ◌+◌, ◌-◌, ◌==◌, ◌&&◌, ◌||◌, nat_le, if◌then◌else◌, Bool, true, false, not, List, [], ◌∷◌, length, Option, Some, None, take, drop}
+use Rattle.std.specs.Prelude.{ℕ, suc, ◌+◌, ◌-◌, ◌==◌, ◌&&◌, ◌||◌, if◌then◌else◌, Bool, true, false, List, [], ◌∷◌, length, Option, Some, None, take, drop}
 use Rattle.mlk_text.specs.Lexemes.{is_digit, is_letter, digits, byte_at, name_at, digits_at}
 use Rattle.mlk_text.specs.Reading.{with}
 use Rattle.mlk_text.specs.declared.operator.Op.{Op}

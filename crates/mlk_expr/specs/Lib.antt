@@ -4,3 +4,4 @@ pub mod Lexemes
 pub mod Grammar
 pub mod Reading
 pub mod Theorem
+pub mod Outcome

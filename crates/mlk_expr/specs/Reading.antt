@@ -1,7 +1,7 @@
 -- Reading expressions, as functions on lists: what the code's readers give.
-use Rattle.std.specs.Prelude.{ℕ, zero, suc, ◌+◌, ◌-◌, ◌==◌, ◌&&◌, ◌||◌, nat_le, nat_lt, if◌then◌else◌, Bool, true, false, not, List, [], ◌∷◌, ◌++◌, length, Option, Some, None, take, drop}
+use Rattle.std.specs.Prelude.{ℕ, zero, suc, ◌+◌, ◌-◌, ◌==◌, ◌&&◌, nat_le, nat_lt, if◌then◌else◌, Bool, true, false, not, List, [], ◌∷◌, ◌++◌, length, Option, Some, None, take, drop}
 use Rattle.mlk_text.specs.Reading.{◌>>=◌, with, many}
-use Rattle.mlk_text.specs.Lexemes.{is_digit, is_letter, digits, zeros, to_last, byte_at, name_at, inside}
+use Rattle.mlk_text.specs.Lexemes.{digits, zeros, to_last, byte_at, name_at, inside}
 use Rattle.mlk_text.specs.Numbers.{are_digits, pointed, behind_point}
 use Rattle.mlk_text.specs.declared.operator.Op.{Op}
 use Rattle.mlk_expr.specs.declared.tree.Callee.{Callee}
@@ -11,7 +11,7 @@ use Rattle.mlk_expr.specs.declared.lexeme.Kind.{Kind}
 use Rattle.mlk_expr.specs.declared.lexeme.Kind.TheVariants as kind
 use Rattle.mlk_expr.specs.Trees.{Tree, Literal, Inexact, LocalName, GlobalName, SpecialName, Prefixed, PatternText, Applied, Selected, BareCall, CallOf, ActualTree, Given, Lent, Left, trees_from, subs_from, choices_from, actuals_from}
 use Rattle.mlk_expr.specs.Words.{word_at, special_of, function_of, is_select}
-use Rattle.mlk_expr.specs.Lexemes.{column_of, kind_of, op_at, is_match, numeral_at, count_at, pattern_codes_at, label_at, lent_at, starts_reference, is_missing}
+use Rattle.mlk_expr.specs.Lexemes.{column_of, kind_of, op_at, is_match, numeral_at, count_at, pattern_codes_at, label_at, lent_at, starts_reference, is_missing, ends}
 use Rattle.mlk_expr.specs.Grammar.{chained, named, has_subscript, asks_subscript}
 
 -- the canonical text of an exact literal
@@ -210,3 +210,15 @@ behind_open end (Some open') = actuals_with (chain_with (atom_at end 63) (patter
 
 unfoldable pub actual_list_at : ℕ → List ℕ → Option (List ActualTree × List ℕ)
 actual_list_at end xs = behind_open end (byte_at 40 xs)
+
+-- what is behind a thing that was read
+abbrev pub rest_of : {A : Type 0} → Option (A × List ℕ) → Option (List ℕ)
+rest_of None = None
+rest_of (Some r) = Some r.1
+
+-- an expression that has an end
+abbrev pub ended : Tree × List ℕ → Option (Tree × List ℕ)
+ended r = if ends r.1 then Some r else None
+
+unfoldable pub expr_at : ℕ → List ℕ → Option (Tree × List ℕ)
+expr_at end xs = nested_at end 64 xs >>= ended

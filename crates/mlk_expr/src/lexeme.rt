@@ -73,10 +73,8 @@ fn relation_at(bytes: &[u8]) -> Option<(Relation, &[u8])>
             None => Some((Relation::Follows, rest)),
         };
     }
-    match relation_of(*first) {
-        Some(relation) => Some((relation, rest)),
-        None => None,
-    }
+    let relation = relation_of(*first)?;
+    Some((relation, rest))
 }
 
 #[tactic(auto, unfolding(crate::specs::Lexemes::arithmetic_at))]
@@ -92,10 +90,8 @@ fn arithmetic_at(bytes: &[u8]) -> Option<(Op, &[u8])>
             None => Some((Op::Multiply, rest)),
         };
     }
-    match arithmetic_of(*first) {
-        Some(op) => Some((op, rest)),
-        None => None,
-    }
+    let op = arithmetic_of(*first)?;
+    Some((op, rest))
 }
 
 /// The longest operator at the front, and what is behind it.

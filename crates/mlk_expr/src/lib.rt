@@ -1,11 +1,21 @@
 //! The expressions of M: their trees, and the readers that are exact for their grammar.
 #![tactic(auto)]
 
+mod fault;
 mod law;
 pub mod lexeme;
+mod part;
+mod pattern;
+mod public;
+mod read;
+mod refusal;
+#[cfg(test)]
+mod tests;
 mod tree;
 pub mod words;
 
+pub use fault::ReadError;
 pub use law::one_tree;
 pub use mlk_text::{Op, Relation, UnaryOp};
+pub use public::{read_actuals, read_expr, read_ref};
 pub use tree::{Actual, Callee, Expr, Function, Special, Subscript};

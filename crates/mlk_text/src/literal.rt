@@ -62,7 +62,7 @@ fn number(alloc: Global, bytes: &[u8]) -> Result<(Value, &[u8]), ReadError>
 }
 
 /// The value up to the closing quote, and what is behind it.
-fn quoted(alloc: Global, bytes: &[u8]) -> Result<(Value, &[u8]), ReadError>
+pub fn quoted(alloc: Global, bytes: &[u8]) -> Result<(Value, &[u8]), ReadError>
     ensures { Gives (λ x. (x.0, x.1.now)) result (inside bytes.now) }
 {
     let mut value = Vec::new(alloc);

@@ -1,0 +1,88 @@
+-- What the code's loops and steps rest on.
+use Rattle.std.proofs.Common.{◌≡◌, ◌<◌, ◌-◌, ℕ, zero, suc, List, length, Some, None, refl, sym, ◌∙◌, arith}
+use Rattle.std.specs.Prelude.{Option}
+use Rattle.mlk_text.specs.declared.operator.Op.{Op}
+use Rattle.mlk_text.specs.Reading.{◌>>=◌, with, put, many}
+use Rattle.mlk_text.specs.Lexemes.{byte_at}
+use Rattle.mlk_text.proofs.Lexemes.{byte-takes}
+use Rattle.mlk_text.proofs.Readers.{Exact, Takes, behind_length, many_fails}
+use Rattle.mlk_expr.specs.declared.refusal.Refusal.{Refusal}
+use Rattle.mlk_expr.specs.declared.refusal.Refusal.TheVariants.{OutOfMemory, Refused}
+use Rattle.mlk_expr.specs.Trees.{Tree}
+use Rattle.mlk_expr.specs.Lexemes.{op_at, is_match, count_at}
+use Rattle.mlk_expr.specs.Reading.{right_by, matcher_by, some_atoms, pattern_at, operand_with, atom_at, rest_of}
+use Rattle.mlk_expr.specs.Grammar.{IsPattern, IsRight, IsAtom, IsMatcher}
+use Rattle.mlk_expr.specs.Outcome.{Fails, IsRefused}
+use Rattle.mlk_expr.proofs.LexemeLemmas.{op-takes, count-takes}
+use Rattle.mlk_expr.proofs.Parts.{right-exact, matcher-exact, pattern-exact}
+use Rattle.mlk_expr.proofs.Operands.{atom-exact}
+
+pub loop_fails : {A B : Type 0} (head : List ℕ → Option (B × List ℕ)) (item : B → List ℕ → Option (A × List ℕ)) (front : List A) (n : ℕ) (xs : List ℕ) (whole : Option (List A × List ℕ))
+    (b : B) (m : List ℕ) (e : Refusal) → head xs ≡ Some (b, m) → Fails e (item b m) → length xs < n → put front (many head item n xs) ≡ whole → Fails e whole
+loop_fails head item front n xs whole b m OutOfMemory is one less h = tt
+loop_fails head item front n xs whole b m (Refused o) is one less h = many_fails head item front n xs whole b m is one less h
+
+pub with_fails : {A B : Type 0} (f : A → B) (e : Refusal) (o : Option (A × List ℕ)) → Fails e o → Fails e (with f o)
+with_fails f OutOfMemory o h = tt
+with_fails f (Refused r) o h = rw h refl
+
+pub refused_fails : {A : Type 0} (e : Refusal) (o : Option A) → IsRefused e → o ≡ None → Fails e o
+refused_fails OutOfMemory o h none = tt
+refused_fails (Refused r) o h none = none
+
+pub same_fails : {A : Type 0} (e : Refusal) (o p : Option A) → o ≡ p → Fails e o → Fails e p
+same_fails OutOfMemory o p is h = tt
+same_fails (Refused r) o p is h = sym is ∙ h
+
+pub then_fails : {A B : Type 0} (e : Refusal) (o : Option A) (f : A → Option B) → Fails e o → Fails e (o >>= f)
+then_fails OutOfMemory o f h = tt
+then_fails (Refused r) o f h = rw h refl
+
+pub rest_fails : {A : Type 0} (e : Refusal) (o : Option (A × List ℕ)) → Fails e o → Fails e (rest_of o)
+rest_fails OutOfMemory o h = tt
+rest_fails (Refused r) o h = rw h refl
+
+pub from_rest : {A : Type 0} (e : Refusal) (o : Option (A × List ℕ)) → Fails e (rest_of o) → Fails e o
+from_rest OutOfMemory o h = tt
+from_rest (Refused r) None h = refl
+from_rest (Refused r) (Some p) h = cc h
+
+-- what stands behind a head and an item is shorter
+pub shorter : {A B : Type 0} (head : List ℕ → Option (B × List ℕ)) (read : List ℕ → Option (A × List ℕ)) (Is : A → List ℕ → List ℕ → Type 0) → Takes head → Exact read Is
+    → (b : B) (a : A) (xs m ys : List ℕ) → head xs ≡ Some (b, m) → read m ≡ Some (a, ys) → length ys < length xs
+shorter head read Is t e b a xs m ys is one =
+    let far = (t b xs m is).1 in
+    let near = behind_length m ys (e.behind a m ys (e.sound a m ys one)) in
+    omega arith
+
+pub item-shorter : {A : Type 0} (read : List ℕ → Option (A × List ℕ)) (Is : A → List ℕ → List ℕ → Type 0) → Exact read Is
+    → (a : A) (xs m ys : List ℕ) → byte_at 44 xs ≡ Some (44, m) → read m ≡ Some (a, ys) → length ys < length xs
+item-shorter read Is e a xs m ys is one = shorter (byte_at 44) read Is (byte-takes 44) e 44 a xs m ys is one
+
+pub link-shorter : (end k : ℕ) (op : Op) (t : Tree) (xs m ys : List ℕ) → op_at xs ≡ Some (op, m) → right_by (atom_at end k) (pattern_at k) (is_match op) m ≡ Some (t, ys) → length ys < length xs
+link-shorter end k op t xs m ys is one =
+    shorter op_at (right_by (atom_at end k) (pattern_at k) (is_match op)) (IsRight (IsAtom end k) (IsPattern k) (is_match op)) op-takes
+    (right-exact (atom_at end k) (IsAtom end k) (pattern_at k) (IsPattern k) (atom-exact end k) (pattern-exact k) (is_match op)) op t xs m ys is one
+
+pub matcher-shorter : (k : ℕ) (count : List ℕ) (xs m ys : List ℕ) → count_at xs ≡ Some (count, m) → matcher_by (pattern_at k) count m ≡ Some (count, ys) → length ys < length xs
+matcher-shorter k count xs m ys is one =
+    shorter count_at (matcher_by (pattern_at k) count) (IsMatcher (IsPattern k) count) count-takes (matcher-exact (pattern_at k) (IsPattern k) (pattern-exact k) count) count count xs m ys is one
+
+-- one level
+pub atom-above : (end k : ℕ) (xs : List ℕ) → 0 < k → atom_at end k xs ≡ operand_with end (atom_at end (k - 1)) (pattern_at (k - 1)) xs
+unfolding atom_at
+atom-above end zero xs h = absurd (omega arith)
+atom-above end (suc k) xs h = let e : suc k - 1 ≡ k = omega arith in rw e refl
+
+pub atom-none : (end k : ℕ) (xs : List ℕ) → k ≡ 0 → atom_at end k xs ≡ None
+unfolding atom_at
+atom-none end k xs h = rw h refl
+
+pub pattern-above : (k : ℕ) (xs : List ℕ) → 0 < k → pattern_at k xs ≡ (many count_at (matcher_by (pattern_at (k - 1))) (suc (length xs)) xs >>= some_atoms xs)
+unfolding pattern_at
+pattern-above zero xs h = absurd (omega arith)
+pattern-above (suc k) xs h = let e : suc k - 1 ≡ k = omega arith in rw e refl
+
+pub pattern-none : (k : ℕ) (xs : List ℕ) → k ≡ 0 → pattern_at k xs ≡ None
+unfolding pattern_at
+pattern-none k xs h = rw h refl

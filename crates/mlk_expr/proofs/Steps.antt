@@ -1,0 +1,110 @@
+-- What the steps of the code give.
+use Rattle.std.proofs.Common.{◌≡◌, ◌<◌, ◌≤◌, ◌+◌, ◌-◌, ℕ, suc, ◌++◌, List, [], ◌∷◌, length, map, take, Some, None, true, false, Bool, refl, sym, ap, ◌∙◌, arith, length-append, lt-ltb, le-leb}
+use Rattle.std.specs.Prelude.{Option, nat_lt, nat_le, not, ◌==◌, ◌&&◌}
+use Rattle.std.proofs.lemmas.Bool.{ne_eqb, lt-leb, ltb-false}
+use Rattle.mlk_text.specs.Reading.{◌>>=◌, with, put, many}
+use Rattle.mlk_text.specs.Lexemes.{byte_at}
+use Rattle.mlk_text.proofs.Readers.{pair_parts, with_some, behind_length}
+use Rattle.mlk_expr.specs.declared.tree.Callee.{Callee}
+use Rattle.mlk_expr.specs.declared.tree.Function.{Function}
+use Rattle.mlk_expr.specs.declared.tree.Subscript.{Subscript}
+use Rattle.mlk_expr.specs.declared.refusal.Refusal.{Refusal}
+use Rattle.mlk_expr.specs.declared.refusal.Refusal.TheVariants.{OutOfMemory, Refused}
+use Rattle.mlk_expr.specs.Trees.{Tree, LocalName, GlobalName, CallOf, Applied, ActualTree, subs_from, trees_from, actuals_from, sub_of}
+use Rattle.mlk_expr.specs.Words.{is_select, function_of}
+use Rattle.mlk_expr.specs.Lexemes.{count_at, starts_reference}
+use Rattle.mlk_expr.specs.Grammar.{named, has_subscript, asks_subscript}
+use Rattle.mlk_expr.specs.Reading.{next, matcher_by, some_atoms, pattern_at, callee_at, actuals_with, call_with, function_with, arguments_with}
+use Rattle.mlk_expr.specs.Outcome.{Fails}
+use Rattle.mlk_expr.proofs.Parts.{pattern-exact}
+use Rattle.mlk_expr.proofs.Loops.{pattern-above}
+
+pub put-nothing : {A : Type 0} (o : Option (List A × List ℕ)) → put [] o ≡ o
+put-nothing None = refl
+put-nothing (Some r) = refl
+
+pub some-length : {A : Type 0} (front : List A) (a : A) → true ≡ nat_lt 0 (length (front ++ a ∷ []))
+some-length front a = sym (lt-ltb 0 (length (front ++ a ∷ [])) (let size = length-append front (a ∷ []) in omega arith))
+
+-- a name with or without subscripts
+pub local-subs : (name : List ℕ) (items : List Subscript) (n : ℕ) → n ≡ length items → not (n == 0) ≡ has_subscript (LocalName name (subs_from (map sub_of items)))
+local-subs name [] n h = rw h refl
+local-subs name (s ∷ ss) n h = rw h (rw (ne_eqb (suc (length ss)) 0 (λ e. omega arith)) refl)
+
+pub global-subs : (column : ℕ) (name : List ℕ) (items : List Subscript) (n : ℕ) → n ≡ length items → not (n == 0) ≡ has_subscript (GlobalName column name (subs_from (map sub_of items)))
+global-subs column name [] n h = rw h refl
+global-subs column name (s ∷ ss) n h = rw h (rw (ne_eqb (suc (length ss)) 0 (λ e. omega arith)) refl)
+
+-- patterns
+abbrev pub any : List (List ℕ) → Bool
+any l = nat_lt 0 (length l)
+
+pub no-atoms : (o : Option (List (List ℕ) × List ℕ)) (rest xs : List ℕ) → with any o ≡ Some (false, rest) → (o >>= some_atoms xs) ≡ None
+no-atoms None rest xs h = refl
+no-atoms (Some ([], r)) rest xs h = refl
+no-atoms (Some (c ∷ cs, r)) rest xs h =
+    let p = pair_parts (any (c ∷ cs)) false r rest h in
+    let none = ltb-false 0 (length (c ∷ cs)) p.0 in
+    absurd (omega arith)
+
+pub all-atoms : (o : Option (List (List ℕ) × List ℕ)) (rest xs : List ℕ) → with any o ≡ Some (true, rest) → (o >>= some_atoms xs) ≡ Some (take (length xs - length rest) xs, rest)
+all-atoms None rest xs h = cc h
+all-atoms (Some ([], r)) rest xs h = let p = pair_parts (any []) true r rest h in cc (p.0)
+all-atoms (Some (c ∷ cs, r)) rest xs h = let p = pair_parts (any (c ∷ cs)) true r rest h in rw p.1 refl
+
+pub atoms-fail : (e : Refusal) (o : Option (List (List ℕ) × List ℕ)) (xs : List ℕ) → Fails e (with any o) → Fails e (o >>= some_atoms xs)
+atoms-fail OutOfMemory o xs h = tt
+atoms-fail (Refused r) None xs h = refl
+atoms-fail (Refused r) (Some p) xs h = cc h
+
+pub pattern-found : (k : ℕ) (xs rest : List ℕ) → 0 < k → with any (many count_at (matcher_by (pattern_at (k - 1))) (suc (length xs)) xs) ≡ Some (true, rest)
+    → pattern_at k xs ≡ Some (take (length xs - length rest) xs, rest)
+pattern-found k xs rest some h = pattern-above k xs some ∙ all-atoms (many count_at (matcher_by (pattern_at (k - 1))) (suc (length xs)) xs) rest xs h
+
+pub pattern-shorter : (k : ℕ) (text xs rest : List ℕ) → pattern_at k xs ≡ Some (text, rest) → length rest ≤ length xs
+pattern-shorter k text xs rest h = behind_length xs rest ((pattern-exact k).behind text xs rest ((pattern-exact k).sound text xs rest h))
+
+-- calls
+pub call-listed : (item : List ℕ → Option (Tree × List ℕ)) (column : ℕ) (xs : List ℕ) (callee : Callee) (m n : List ℕ) (given : List ActualTree) (ys : List ℕ)
+    → callee_at xs ≡ Some (callee, m) → byte_at 40 m ≡ Some (40, n) → actuals_with item n ≡ Some (given, ys) → call_with item column xs ≡ Some (CallOf column callee (actuals_from given), ys)
+unfolding call_with
+call-listed item column xs callee m n given ys f g h = rw f (rw g (rw h refl))
+
+pub call-fails : (e : Refusal) (item : List ℕ → Option (Tree × List ℕ)) (column : ℕ) (xs : List ℕ) (callee : Callee) (m n : List ℕ)
+    → callee_at xs ≡ Some (callee, m) → byte_at 40 m ≡ Some (40, n) → Fails e (actuals_with item n) → Fails e (call_with item column xs)
+unfolding call_with
+call-fails OutOfMemory item column xs callee m n f g h = tt
+call-fails (Refused r) item column xs callee m n f g h = rw f (rw g (rw h refl))
+
+-- functions
+pub function-gives : (atom item : List ℕ → Option (Tree × List ℕ)) (w xs : List ℕ) (f : Function) (ts : List Tree) (ys : List ℕ)
+    → is_select w ≡ false → function_of w ≡ Some f → arguments_with atom item f xs ≡ Some (ts, ys) → function_with atom item w xs ≡ Some (Applied f (trees_from ts), ys)
+unfolding function_with
+function-gives atom item w xs f ts ys s g h = rw s (rw g (rw h refl))
+
+pub function-fails : (e : Refusal) (atom item : List ℕ → Option (Tree × List ℕ)) (w xs : List ℕ) (f : Function)
+    → is_select w ≡ false → function_of w ≡ Some f → Fails e (arguments_with atom item f xs) → Fails e (function_with atom item w xs)
+unfolding function_with
+function-fails OutOfMemory atom item w xs f s g h = tt
+function-fails (Refused r) atom item w xs f s g h = rw s (rw g (rw h refl))
+
+-- a name and what stands behind it
+module _ (atom item : List ℕ → Option (Tree × List ℕ)) (f : Function) (most : ℕ) (xs : List ℕ) (first : Tree) (m : List ℕ) (args : List Tree) (rest : List ℕ) where
+  pub arguments-give : (ys : List ℕ) → named f ≡ Some most → starts_reference xs ≡ true → atom xs ≡ Some (first, m) → (asks_subscript f && not (has_subscript first)) ≡ false
+      → put (first ∷ []) (many (byte_at 44) (next item) (suc (length m)) m) ≡ Some (args, rest) → length args ≤ most + 1 → byte_at 41 rest ≡ Some (41, ys)
+      → arguments_with atom item f xs ≡ Some (args, ys)
+  unfolding arguments_with
+  arguments-give ys n starts one asks more few close =
+      let w = with_some (λ items. (first ∷ []) ++ items) (many (byte_at 44) (next item) (suc (length m)) m) args rest more in
+      let size = ap length w.2 in
+      let small : nat_le (length w.0) most ≡ true = le-leb (length w.0) most (omega arith) in
+      rw n (rw starts (rw one (rw asks (rw (w.1) (rw small (rw close (ap (λ l. Some (l, ys)) (sym w.2))))))))
+
+  pub arguments-many : named f ≡ Some most → starts_reference xs ≡ true → atom xs ≡ Some (first, m) → (asks_subscript f && not (has_subscript first)) ≡ false
+      → put (first ∷ []) (many (byte_at 44) (next item) (suc (length m)) m) ≡ Some (args, rest) → most + 1 < length args → arguments_with atom item f xs ≡ None
+  unfolding arguments_with
+  arguments-many n starts one asks more many-args =
+      let w = with_some (λ items. (first ∷ []) ++ items) (many (byte_at 44) (next item) (suc (length m)) m) args rest more in
+      let size = ap length w.2 in
+      let large : nat_le (length w.0) most ≡ false = lt-leb (length w.0) most (omega arith) in
+      rw n (rw starts (rw one (rw asks (rw (w.1) (rw large refl)))))

@@ -1,0 +1,175 @@
+// The readers of the parts that hold no expression.
+
+ghost use Rattle.std.specs.Prelude.{◌≡◌, IfOk};
+ghost use Rattle.mlk_text.specs.Lexemes.{name_at, inside};
+ghost use Rattle.mlk_text.specs.Reading.{with};
+ghost use Rattle.mlk_expr.specs.Lexemes.{numeral_at, label_at, lent_at};
+ghost use Rattle.mlk_expr.specs.Trees.{tree_of};
+ghost use Rattle.mlk_expr.specs.Grammar.{named, has_subscript, asks_subscript};
+ghost use Rattle.mlk_expr.specs.Reading.{number_of, callee_at};
+ghost use Rattle.mlk_expr.specs.Outcome.{Gives, IsRefused};
+
+use crate::lexeme::numeral_at;
+use crate::refusal::{Refusal, no_global, no_name, no_routine, refused};
+use crate::tree::{Callee, Expr, Function};
+use mlk_text::lexeme::{self, ReadError, byte_of, digits, is_text_byte};
+use mlk_text::{Code, Name, Value, canonical, literal};
+use std::alloc::{AllocError, Global};
+
+/// The name at the front, and what is behind it.
+pub fn name(alloc: Global, bytes: &[u8]) -> Result<(Name, &[u8]), Refusal>
+    ensures { Gives (λ x. (x.0, x.1.now)) result (name_at bytes.now) }
+{
+    match lexeme::name(alloc, bytes) {
+        Ok((name, rest)) => Ok((name, rest)),
+        Err(ReadError::OutOfMemory) => Err(Refusal::OutOfMemory),
+        Err(ReadError::Refused) => Err(no_name(bytes)),
+    }
+}
+
+// Why no text in quotes stands here, behind the opening one: at a byte that can't stand in it, or at the line's end.
+fn no_text(bytes: &[u8]) -> Refusal
+    ensures { IsRefused result }
+{
+    for (i, b) in bytes.iter().enumerate() {
+        if !is_text_byte(*b) {
+            let (_, rest) = bytes.split_at(i);
+            return refused(Code::ExprForm, rest);
+        }
+    }
+    refused(Code::ExprForm, &[])
+}
+
+/// The value up to the closing quote, and what is behind it.
+pub fn quoted(alloc: Global, bytes: &[u8]) -> Result<(Value, &[u8]), Refusal>
+    ensures { Gives (λ x. (x.0, x.1.now)) result (inside bytes.now) }
+{
+    match literal::quoted(alloc, bytes) {
+        Ok((value, rest)) => Ok((value, rest)),
+        Err(ReadError::OutOfMemory) => Err(Refusal::OutOfMemory),
+        Err(ReadError::Refused) => Err(no_text(bytes)),
+    }
+}
+
+// The tree of a numeric literal.
+fn number_of(alloc: Global, text: &[u8]) -> Result<Expr, AllocError>
+    ensures { IfOk result (λ e. tree_of e ≡ number_of text.now) }
+{
+    match canonical(alloc, text)? {
+        Some(value) => Ok(Expr::Lit(value)),
+        None => Ok(Expr::Free),
+    }
+}
+
+/// The numeric literal at the front, and what is behind it.
+pub fn number(alloc: Global, bytes: &[u8]) -> Result<(Expr, &[u8]), Refusal>
+    ensures { Gives (λ x. (tree_of x.0, x.1.now)) result (with number_of (numeral_at bytes.now)) }
+{
+    let Some((text, rest)) = numeral_at(bytes) else {
+        return Err(refused(Code::ExprForm, bytes));
+    };
+    Ok((number_of(alloc, text)?, rest))
+}
+
+// The label at the front, and what is behind it.
+#[tactic(auto, unfolding(crate::specs::Lexemes::label_at, mlk_text::specs::Lexemes::digits_at))]
+fn label(alloc: Global, bytes: &[u8]) -> Result<(Name, &[u8]), Refusal>
+    ensures { Gives (λ x. (x.0, x.1.now)) result (label_at bytes.now) }
+{
+    match name(alloc, bytes) {
+        Ok((name, rest)) => Ok((name, rest)),
+        Err(Refusal::OutOfMemory) => Err(Refusal::OutOfMemory),
+        Err(refusal) => {
+            let n = digits(bytes);
+            if n == 0 {
+                return Err(refusal);
+            }
+            let (text, rest) = bytes.split_at(n);
+            Ok((Name::new(Vec::from_slice(alloc, text)?), rest))
+        }
+    }
+}
+
+fn routine(alloc: Global, bytes: &[u8]) -> Result<(Name, &[u8]), Refusal>
+    ensures { Gives (λ x. (x.0, x.1.now)) result (name_at bytes.now) }
+{
+    match name(alloc, bytes) {
+        Ok((name, rest)) => Ok((name, rest)),
+        Err(Refusal::OutOfMemory) => Err(Refusal::OutOfMemory),
+        Err(Refusal::Refused(_)) => Err(no_routine(bytes)),
+    }
+}
+
+/// What a call names, behind `$$`, and what is behind it.
+#[tactic(auto, unfolding(crate::specs::Reading::callee_at))]
+pub fn callee(alloc: Global, bytes: &[u8]) -> Result<(Callee, &[u8]), Refusal>
+    ensures { Gives (λ x. (x.0, x.1.now)) result (callee_at bytes.now) }
+{
+    if let Some(behind) = byte_of(b'^', bytes) {
+        let (routine, rest) = routine(alloc, behind)?;
+        let routine = Some(routine);
+        return Ok((
+            Callee {
+                label: None,
+                routine,
+            },
+            rest,
+        ));
+    }
+    let (label, rest) = label(alloc, bytes)?;
+    let label = Some(label);
+    let Some(behind) = byte_of(b'^', rest) else {
+        let routine = None;
+        return Ok((Callee { label, routine }, rest));
+    };
+    let (routine, rest) = routine(alloc, behind)?;
+    let routine = Some(routine);
+    Ok((Callee { label, routine }, rest))
+}
+
+/// The name of a global behind its caret, at which the whole begins, and what is behind it.
+pub fn global_name<'a>(
+    alloc: Global,
+    whole: &[u8],
+    bytes: &'a [u8],
+) -> Result<(Name, &'a [u8]), Refusal>
+    ensures { Gives (λ x. (x.0, x.1.now)) result (name_at bytes.now) }
+{
+    match name(alloc, bytes) {
+        Ok((name, rest)) => Ok((name, rest)),
+        Err(Refusal::OutOfMemory) => Err(Refusal::OutOfMemory),
+        Err(Refusal::Refused(_)) => Err(no_global(whole, bytes)),
+    }
+}
+
+/// How many arguments may stand behind the first, where that is a name.
+pub fn named(function: Function) -> Option<usize>
+    ensures { result ≡ named function }
+{
+    match function {
+        Function::Data | Function::Query => Some(0),
+        Function::Get | Function::Name | Function::Order => Some(1),
+        _ => None,
+    }
+}
+
+/// Whether the first argument must have a subscript.
+pub fn asks_subscript(function: Function) -> bool
+    ensures { result ≡ asks_subscript function }
+{
+    match function {
+        Function::Order => true,
+        _ => false,
+    }
+}
+
+/// Whether this is a name with a subscript.
+pub fn has_subscript(tree: &Expr) -> bool
+    ensures { result ≡ has_subscript (tree_of tree.now) }
+{
+    match tree {
+        Expr::Local(_, subs) => !subs.is_empty(),
+        Expr::Global(_, _, subs) => !subs.is_empty(),
+        _ => false,
+    }
+}

@@ -1,0 +1,98 @@
+// The reader of patterns.
+
+ghost use Rattle.std.specs.Prelude.{◌≡◌, ◌<◌, suc, length, nat_lt};
+ghost use Rattle.mlk_text.specs.Lexemes.{byte_at};
+ghost use Rattle.mlk_text.specs.Reading.{with, many, put};
+ghost use Rattle.mlk_expr.specs.Lexemes.{count_at};
+ghost use Rattle.mlk_expr.specs.Reading.{next, list_with, matcher_by, some_atoms, pattern_at, rest_of};
+ghost use Rattle.mlk_expr.specs.Outcome.{Gives};
+
+use crate::lexeme::{count_at, pattern_codes_at};
+use crate::part::quoted;
+use crate::refusal::{Refusal, refused};
+use mlk_text::Code;
+use mlk_text::lexeme::byte_of;
+use std::alloc::Global;
+
+/// The pattern at the front, as it is written, and what is behind it; its alternatives nest so deep at most.
+#[cycle(patterns)]
+pub fn pattern(alloc: Global, left: u8, bytes: &[u8]) -> Result<(&[u8], &[u8]), Refusal>
+    ensures { Gives (λ x. (x.0.now, x.1.now)) result (pattern_at left bytes.now) }
+{
+    if left == 0 {
+        return Err(refused(Code::ExprDeep, bytes));
+    }
+    let (found, rest) = atoms(alloc, left - 1, bytes)?;
+    if !found {
+        return Err(refused(Code::ExprForm, bytes));
+    }
+    let (text, _) = bytes.split_at(bytes.len() - rest.len());
+    Ok((text, rest))
+}
+
+// All pattern atoms at the front: whether there is one, and what is behind them.
+#[cycle(patterns)]
+fn atoms(alloc: Global, deeper: u8, bytes: &[u8]) -> Result<(bool, &[u8]), Refusal>
+    ensures { Gives (λ x. (x.0, x.1.now)) result (with (λ l. nat_lt 0 (length l)) (many count_at (matcher_by (pattern_at deeper)) (suc (length bytes.now)) bytes.now)) }
+{
+    let mut found = false;
+    let mut rest = bytes;
+    while let Some((count, behind)) = count_at(rest) {
+        rest = matcher(alloc, deeper, count, behind)?;
+        found = true;
+    }
+    Ok((found, rest))
+}
+
+// What a pattern atom has behind its count.
+#[cycle(patterns)]
+fn matcher<'a>(
+    alloc: Global,
+    deeper: u8,
+    count: &[u8],
+    bytes: &'a [u8],
+) -> Result<&'a [u8], Refusal>
+    ensures { Gives (λ x. (count.now, x.now)) result (matcher_by (pattern_at deeper) count.now bytes.now) }
+{
+    let Some((first, behind)) = bytes.split_first() else {
+        return Err(refused(Code::ExprForm, bytes));
+    };
+    if *first == b'"' {
+        let (_, rest) = quoted(alloc, behind)?;
+        return Ok(rest);
+    }
+    if *first == b'(' {
+        let rest = alternatives(alloc, deeper, behind)?;
+        return Ok(rest);
+    }
+    let Some((_, rest)) = pattern_codes_at(bytes) else {
+        return Err(refused(Code::ExprForm, bytes));
+    };
+    Ok(rest)
+}
+
+// One or more patterns with commas between them, behind an opening parenthesis: what is behind the closing one.
+#[tactic(auto, unfolding(crate::specs::Reading::list_with))]
+#[cycle(patterns)]
+fn alternatives(alloc: Global, deeper: u8, bytes: &[u8]) -> Result<&[u8], Refusal>
+    ensures { Gives (λ x. x.now) result (rest_of (list_with (pattern_at deeper) bytes.now)) }
+{
+    let (_, rest) = pattern(alloc, deeper, bytes)?;
+    let rest = alternatives_rest(alloc, deeper, rest)?;
+    let Some(rest) = byte_of(b')', rest) else {
+        return Err(refused(Code::ExprForm, rest));
+    };
+    Ok(rest)
+}
+
+#[cycle(patterns)]
+fn alternatives_rest(alloc: Global, deeper: u8, bytes: &[u8]) -> Result<&[u8], Refusal>
+    ensures { Gives (λ x. x.now) result (rest_of (many (byte_at 44) (next (pattern_at deeper)) (suc (length bytes.now)) bytes.now)) }
+{
+    let mut rest = bytes;
+    while let Some(behind) = byte_of(b',', rest) {
+        let (_, item_rest) = pattern(alloc, deeper, behind)?;
+        rest = item_rest;
+    }
+    Ok(rest)
+}
