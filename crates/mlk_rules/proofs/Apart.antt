@@ -11,7 +11,7 @@ use Rattle.mlk_names.specs.References.{GlobalNode, Touch, Touches, InRegion}
 use Rattle.mlk_rules.specs.declared.pattern.Element.TheVariants as element
 use Rattle.mlk_rules.specs.declared.pattern.Pattern.{Pattern}
 use Rattle.mlk_rules.specs.declared.cover.Cover.{Cover}
-use Rattle.mlk_rules.specs.declared.rules.Rules.{Rules}
+use Rattle.mlk_rules.specs.declared.rules.RuleLists.{RuleLists}
 use Rattle.mlk_rules.specs.Patterns.{MayMeet}
 use Rattle.mlk_rules.specs.Coverage.{IsPattern, OfCover, OfPrivate, OfReadonly, IsCovered, IsOwn, HoldsLock}
 use Rattle.mlk_rules.specs.Laws.{HoldConflict, PrivateByJob, CoveredApart}
@@ -26,7 +26,7 @@ own_number a r t n k h i e =
     let at = begins_at t.node.subs n.subs k w.0 (reach_begins t.extent t.node.subs n.subs i.subs) w.1 in
     let v = w.2 in cc
 
-module _ (rules : Rules) (a b : Assignment) (held kept : List LockTerm) (r s : Reference) (t u : Touch) (first : Touches a r t) (second : Touches b s u) where
+module _ (rules : RuleLists) (a b : Assignment) (held kept : List LockTerm) (r s : Reference) (t u : Touch) (first : Touches a r t) (second : Touches b s u) where
   by_number : (p : Pattern) (n : GlobalNode) → Contains p.elements element.Job → IsOwn p r → IsOwn p s → InRegion t n → InRegion u n → a.job ≡ b.job
   by_number p n (k, l, e) own own' i j =
       let at : slice_get p.elements k ≡ Some element.Job =

@@ -4,3 +4,7 @@ pub mod Instances
 pub mod Apart
 pub mod RankLemmas
 pub mod Examples
+pub mod FrontLemmas
+pub mod MeetLemmas
+pub mod SoundLemmas
+pub mod CheckLemmas

@@ -13,7 +13,7 @@ use Rattle.mlk_names.proofs.OverlapLemmas.{may_touch, reaches_itself}
 use Rattle.mlk_rules.specs.declared.pattern.Element.{Element}
 use Rattle.mlk_rules.specs.declared.pattern.Element.TheVariants as element
 use Rattle.mlk_rules.specs.declared.pattern.Pattern.{Pattern}
-use Rattle.mlk_rules.specs.declared.rules.Rules.{Rules}
+use Rattle.mlk_rules.specs.declared.rules.RuleLists.{RuleLists}
 use Rattle.mlk_rules.specs.Patterns.{Takes, LiesIn, Suits, StaysIn, SurelyLies, SurelyAbove}
 use Rattle.mlk_rules.specs.Coverage.{IsPattern, IsRuled}
 use Rattle.mlk_rules.specs.Laws.{SurelyLiesWhole, SharesPattern, SharePattern}
@@ -78,7 +78,7 @@ below_above p s u l m =
     }
 
 -- two trees that are surely above patterns, of which the first begins the second: the second's pattern is met below
-meets_below : (rules : Rules) (r s : Reference) (t u : Touch) (q : Pattern) → IsPattern rules q → SurelyAbove q s → MayTouch r t → MayTouch s u → r.extent ≡ Tree → t.node.root ≡ u.node.root → Begins t.node.subs u.node.subs → SharesPattern rules r s t u
+meets_below : (rules : RuleLists) (r s : Reference) (t u : Touch) (q : Pattern) → IsPattern rules q → SurelyAbove q s → MayTouch r t → MayTouch s u → r.extent ≡ Tree → t.node.root ≡ u.node.root → Begins t.node.subs u.node.subs → SharesPattern rules r s t u
 meets_below rules r s t u q is above m k tree root b =
     let w = below_above q s u above k in
     let node : GlobalNode = record { root = q.global; subs = u.node.subs ++ w.more } in
@@ -101,7 +101,7 @@ meets_below rules r s t u q is above m k tree root b =
       meets_second = (u, node, k, second, w.lies);
     }
 
-turned : (rules : Rules) (r s : Reference) (t u : Touch) → SharesPattern rules s r u t → SharesPattern rules r s t u
+turned : (rules : RuleLists) (r s : Reference) (t u : Touch) → SharesPattern rules s r u t → SharesPattern rules r s t u
 turned rules r s t u h = record {
   pattern = h.pattern;
   is_rule = h.is_rule;
@@ -114,7 +114,7 @@ turned rules r s t u h = record {
 }
 
 -- the shared node itself, where the first reference surely lies in a pattern
-meets_here : (rules : Rules) (r s : Reference) (t u : Touch) (p : Pattern) (n : GlobalNode) → IsPattern rules p → SurelyLies p r → MayTouch r t → MayTouch s u → InRegion t n → InRegion u n → SharesPattern rules r s t u
+meets_here : (rules : RuleLists) (r s : Reference) (t u : Touch) (p : Pattern) (n : GlobalNode) → IsPattern rules p → SurelyLies p r → MayTouch r t → MayTouch s u → InRegion t n → InRegion u n → SharesPattern rules r s t u
 meets_here rules r s t u p n is lies m k i j =
     let l = surely_lies p r t n lies m i in
     record {
@@ -132,7 +132,7 @@ tree_begins : (t : Touch) (n : GlobalNode) → t.extent ≡ Tree → InRegion t 
 tree_begins t n is i =
     let R : Extent → Type 0 = λ e. Reaches e t.node.subs n.subs in subst R is i.subs
 
-both_above : (rules : Rules) (r s : Reference) (t u : Touch) (p q : Pattern) (n : GlobalNode) → IsPattern rules p → IsPattern rules q → SurelyAbove p r → SurelyAbove q s → MayTouch r t → MayTouch s u → InRegion t n → InRegion u n → SharesPattern rules r s t u
+both_above : (rules : RuleLists) (r s : Reference) (t u : Touch) (p q : Pattern) (n : GlobalNode) → IsPattern rules p → IsPattern rules q → SurelyAbove p r → SurelyAbove q s → MayTouch r t → MayTouch s u → InRegion t n → InRegion u n → SharesPattern rules r s t u
 both_above rules r s t u p q n is are a b m k i j =
     let root : t.node.root ≡ u.node.root = sym i.root ∙ j.root in
     elim (begins_two t.node.subs u.node.subs n.subs (tree_begins t n (m.extent ∙ a.tree) i) (tree_begins u n (k.extent ∙ b.tree) j)) [
@@ -140,7 +140,7 @@ both_above rules r s t u p q n is are a b m k i j =
       | inr c ↦ turned rules r s t u (meets_below rules s r u t p is a k m b.tree (sym root) c)
     ]
 
-shares : (rules : Rules) (r s : Reference) (t u : Touch) (n : GlobalNode) → IsRuled rules r → IsRuled rules s → MayTouch r t → MayTouch s u → InRegion t n → InRegion u n → SharesPattern rules r s t u
+shares : (rules : RuleLists) (r s : Reference) (t u : Touch) (n : GlobalNode) → IsRuled rules r → IsRuled rules s → MayTouch r t → MayTouch s u → InRegion t n → InRegion u n → SharesPattern rules r s t u
 shares rules r s t u n (p, is, inl lies) k m m' i j = meets_here rules r s t u p n is lies m m' i j
 shares rules r s t u n (p, is, inr above) (q, are, inl lies) m m' i j =
     turned rules r s t u (meets_here rules s r u t q n are lies m' m j i)

@@ -1,10 +1,11 @@
 -- Where no two families meet, ranks are one.
-use Rattle.std.proofs.Common.{◌≡◌, ◌⊎◌, inl, inr, ℕ, ◌<◌, List, [], ◌∷◌, length, refl, sym, ap, ◌∙◌, subst}
+use Rattle.std.proofs.Common.{◌≡◌, ◌↔◌, ◌⊎◌, inl, inr, ℕ, ◌<◌, List, [], ◌∷◌, Some, length, arith, refl, sym, ap, ◌∙◌, subst}
 use Rattle.std.specs.Prelude.{map, Contains, slice_index_or}
 use Rattle.std.specs.List.{AllZip}
 use Rattle.std.proofs.lemmas.Bool.{cases_order}
 use Rattle.std.proofs.lemmas.List.{get_or_default}
 use Rattle.mlk_names.specs.declared.lock_name.LockName.{LockName}
+use Rattle.mlk_names.specs.declared.known_symbol.KnownSym.{KnownSym}
 use Rattle.mlk_names.specs.declared.known_symbol.KnownSym.TheVariants.{Const}
 use Rattle.mlk_names.specs.declared.term.LockTerm.{LockTerm}
 use Rattle.mlk_names.specs.LockNames.{IsAbove, Conflict}
@@ -85,3 +86,17 @@ module _ (families : List Family) (apart : FamiliesApart families) where
 
 pub one_rank : OneRank
 one_rank families apart = record { once = once families apart; names = of_names families apart; alike = alike families apart }
+
+pub rank_found : (families : List Family) (f : Family) (t : LockTerm) → FamiliesApart families → Contains families f → IsPrefix (constant_term f.name) t → (k : ℕ) → (Some f.rank ≡ Some k) ↔ HasRank families t k
+rank_found families f t apart c p k = (
+  λ e. let d : f.rank ≡ k = cc in (f, c, p, d),
+  λ h. ap Some (once families apart t f.rank k (f, c, p, refl) h),
+)
+
+pub no_rank : (families : List Family) (t : LockTerm) → ((k : ℕ) (d : Family) → k < length families → IsPrefix (constant_term (slice_index_or families k d).name) t → ⊥) → (k : ℕ) → HasRank families t k → ⊥
+no_rank families t none k (f, (i, l, e), p, d) =
+    let P : Family → Type 0 = λ x. IsPrefix (constant_term x.name) t in none i f l (subst P (sym e) p)
+
+pub begins_no_values : (vs : List (List ℕ)) (ss : List KnownSym) → length vs ≡ 0 → Begins (map Const vs) ss
+begins_no_values [] ss h = begins_none ss
+begins_no_values (v ∷ vs) ss h = absurd (omega arith)

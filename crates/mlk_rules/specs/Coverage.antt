@@ -20,7 +20,7 @@ use Rattle.mlk_rules.specs.declared.template.Part.{Part}
 use Rattle.mlk_rules.specs.declared.template.Part.TheVariants.{Literal, Place}
 use Rattle.mlk_rules.specs.declared.template.Template.{Template}
 use Rattle.mlk_rules.specs.declared.cover.Cover.{Cover}
-use Rattle.mlk_rules.specs.declared.rules.Rules.{Rules}
+use Rattle.mlk_rules.specs.declared.rules.RuleLists.{RuleLists}
 use Rattle.mlk_rules.specs.Patterns.{MayMeet, SurelyLies, SurelyAbove}
 
 -- what stands before the first that is missing
@@ -56,29 +56,29 @@ abbrev pub IsOwn : Pattern → Reference → Type 0
 IsOwn p r = (k : ℕ) → slice_get p.elements k ≡ Some element.Job → slice_get r.subs k ≡ Some Job
 
 -- the pattern is that of some rule
-pub data IsPattern (rules : Rules) (p : Pattern) : Type 0 where
+pub data IsPattern (rules : RuleLists) (p : Pattern) : Type 0 where
   OfCover : (c : Cover) → Contains rules.covers c → c.pattern ≡ p → IsPattern rules p
   OfPrivate : Contains rules.private p → IsPattern rules p
   OfReadonly : Contains rules.readonly p → IsPattern rules p
 
 -- the reference surely lies in the pattern of some rule, or is a tree surely above one
-abbrev pub IsRuled : Rules → Reference → Type 0
+abbrev pub IsRuled : RuleLists → Reference → Type 0
 IsRuled rules r = (p : Pattern) × IsPattern rules p × (SurelyLies p r ⊎ SurelyAbove p r)
 
 -- it writes nothing that is never written
-abbrev pub KeepsReadonly : Rules → Reference → Type 0
+abbrev pub KeepsReadonly : RuleLists → Reference → Type 0
 KeepsReadonly rules r = (p : Pattern) → Contains rules.readonly p → MayMeet p r → r.access ≡ Reads
 
 -- it meets what jobs have to themselves by its own number alone
-abbrev pub KeepsPrivate : Rules → Reference → Type 0
+abbrev pub KeepsPrivate : RuleLists → Reference → Type 0
 KeepsPrivate rules r = (p : Pattern) → Contains rules.private p → MayMeet p r → IsOwn p r
 
 -- of each cover rule that it may meet, the lock is held
-abbrev pub KeepsCovers : Rules → List LockTerm → Reference → Type 0
+abbrev pub KeepsCovers : RuleLists → List LockTerm → Reference → Type 0
 KeepsCovers rules held r = (c : Cover) → Contains rules.covers c → MayMeet c.pattern r → HoldsLock held c.lock r
 
 -- each rule that it may meet is satisfied, and there is a rule for all of it
-pub record IsCovered (rules : Rules) (held : List LockTerm) (r : Reference) : Type 0 where
+pub record IsCovered (rules : RuleLists) (held : List LockTerm) (r : Reference) : Type 0 where
   pub ruled : IsRuled rules r
   pub readonly : KeepsReadonly rules r
   pub private : KeepsPrivate rules r
@@ -86,10 +86,20 @@ pub record IsCovered (rules : Rules) (held : List LockTerm) (r : Reference) : Ty
 
 -- What is wrong with a reference, the first of these: it is in no rule, writes what is never written, is not surely
 -- the job's own, or lacks a lock.
-abbrev pub IsAnswer : Rules → List LockTerm → Reference → Option Code → Type 0
+abbrev pub IsAnswer : RuleLists → List LockTerm → Reference → Option Code → Type 0
 IsAnswer rules held r None = IsCovered rules held r
 IsAnswer rules held r (Some Unruled) = ¬ IsRuled rules r
 IsAnswer rules held r (Some ReadOnly) = IsRuled rules r × ¬ KeepsReadonly rules r
 IsAnswer rules held r (Some NotPrivate) = IsRuled rules r × KeepsReadonly rules r × ¬ KeepsPrivate rules r
 IsAnswer rules held r (Some Uncovered) = IsRuled rules r × KeepsReadonly rules r × KeepsPrivate rules r × ¬ KeepsCovers rules held r
 IsAnswer rules held r (Some _) = ⊥
+
+-- the rule may be met, and its lock is not held
+abbrev pub Lacks : List LockTerm → Reference → Cover → Type 0
+Lacks held r c = MayMeet c.pattern r × ¬ HoldsLock held c.lock r
+
+-- in the order of the rules, the cut template of each whose lock is lacking
+abbrev pub AreLacking : List LockTerm → Reference → List Cover → List LockTerm → Type 0
+AreLacking held r [] ts = ts ≡ []
+AreLacking held r (c ∷ cs) ts =
+    (Lacks held r c × ((rest : List LockTerm) × (ts ≡ cut_template c.lock r ∷ rest) × AreLacking held r cs rest)) ⊎ (¬ Lacks held r c × AreLacking held r cs ts)

@@ -12,13 +12,13 @@ use Rattle.mlk_rules.specs.declared.pattern.Element.TheVariants as element
 use Rattle.mlk_rules.specs.declared.pattern.Pattern.{Pattern}
 use Rattle.mlk_rules.specs.declared.template.Template.{Template}
 use Rattle.mlk_rules.specs.declared.family.Family.{Family}
-use Rattle.mlk_rules.specs.declared.rules.Rules.{Rules}
+use Rattle.mlk_rules.specs.declared.rules.RuleLists.{RuleLists}
 use Rattle.mlk_rules.specs.Patterns.{LiesIn, MayMeet, SurelyLies}
 use Rattle.mlk_rules.specs.Coverage.{lock_at, cut_template, IsPattern, IsRuled, IsCovered}
 use Rattle.mlk_rules.specs.Ranks.{HasRank, NameHasRank, FamiliesApart}
 
 -- some node that both reach lies in the pattern of a rule, which both may meet
-pub record SharesPattern (rules : Rules) (r s : Reference) (t u : Touch) : Type 0 where
+pub record SharesPattern (rules : RuleLists) (r s : Reference) (t u : Touch) : Type 0 where
   pub pattern : Pattern
   pub is_rule : IsPattern rules pattern
   pub node : GlobalNode
@@ -32,7 +32,7 @@ pub record SharesPattern (rules : Rules) (r s : Reference) (t u : Touch) : Type 
 -- both may meet.
 abbrev pub SharePattern : Type 0
 SharePattern =
-    (rules : Rules) (a b : Assignment) (r s : Reference) (t u : Touch)
+    (rules : RuleLists) (a b : Assignment) (r s : Reference) (t u : Touch)
     → IsRuled rules r → IsRuled rules s → Touches a r t → Touches b s u → Overlap t u → SharesPattern rules r s t u
 
 -- All that a reference may reach lies in each pattern in which it surely lies.
@@ -50,7 +50,7 @@ abbrev pub LocksOfNodes : Type 0
 LocksOfNodes = (lock : Template) (n : GlobalNode) → LockOfNode lock n
 
 -- the pattern of each private rule has `$J`
-abbrev pub PrivateByJob : Rules → Type 0
+abbrev pub PrivateByJob : RuleLists → Type 0
 PrivateByJob rules = (p : Pattern) → Contains rules.private p → Contains p.elements element.Job
 
 -- both lists have a term each that stand for names that conflict
@@ -65,7 +65,7 @@ pub record HoldConflict (a : Assignment) (held : List LockTerm) (b : Assignment)
 -- number, or jobs that hold names that conflict.
 abbrev pub CoveredApart : Type 0
 CoveredApart =
-    (rules : Rules) (a b : Assignment) (held kept : List LockTerm) (r s : Reference) (t u : Touch) → PrivateByJob rules
+    (rules : RuleLists) (a b : Assignment) (held kept : List LockTerm) (r s : Reference) (t u : Touch) → PrivateByJob rules
     → IsCovered rules held r → IsCovered rules kept s → Touches a r t → Touches b s u → Overlap t u
     → (r.access ≡ Writes) ⊎ (s.access ≡ Writes) → (a.job ≡ b.job) ⊎ HoldConflict a held b kept
 

@@ -1,4 +1,6 @@
 pub mod Patterns
 pub mod Coverage
+pub mod Fronts
 pub mod Ranks
+pub mod Sound
 pub mod Laws

@@ -1,10 +1,16 @@
 // The rules that routines keep.
 
-ghost use Rattle.std.specs.Prelude.{◌≡◌};
+ghost use Rattle.std.specs.Prelude.{◌≡◌, IfOk, MatchOption};
+ghost use Rattle.mlk_rules.specs.Ranks.{FamiliesApart};
+ghost use Rattle.mlk_rules.specs.Sound.{IsSound};
 
 use crate::cover::Covers;
-use crate::family::Families;
+use crate::entry::EntryTexts;
+use crate::family::{Families, Family};
 use crate::pattern::Pattern;
+use crate::sound::is_sound;
+use mlk_text::Value;
+use std::alloc::{AllocError, Global};
 use std::marker::Model;
 
 /// Patterns of a rule file, in its order.
@@ -38,13 +44,65 @@ impl Patterns {
     }
 }
 
-/// What routines keep to.
+/// The rules of a file, list by list.
 #[derive(Drop, Debug)]
-pub struct Rules {
+pub struct RuleLists {
     pub families: Families,
     pub covers: Covers,
     /// Patterns of which each job has its own part, by its number at the place of `$J`.
     pub private: Patterns,
     /// Patterns that are never written.
     pub readonly: Patterns,
+    pub entries: EntryTexts,
+}
+
+/// What routines keep to: lists of rules in which no two families meet and each private pattern has `$J` once.
+#[derive(Drop, Debug)]
+pub struct Rules {
+    lists: RuleLists,
+}
+
+impl Model for Rules {
+    ghost use Rattle.mlk_rules.specs.declared.rules.RuleLists.{RuleLists};
+    ghost use Rattle.mlk_rules.specs.Sound.{IsSound};
+
+    ghost Value = { RuleLists };
+
+    ghost view = { λ r. r.lists };
+
+    ghost invariant = { λ r. IsSound r.lists };
+}
+
+impl Rules {
+    /// The rules of these lists; none where two families meet, or a private pattern has not `$J` once.
+    pub fn new(alloc: Global, lists: RuleLists) -> Result<Option<Rules>, AllocError>
+        ensures { IfOk result (λ found. MatchOption found (¬ IsSound lists) (λ r. (r ≡ lists) × IsSound lists)) }
+    {
+        if !is_sound(&lists) {
+            return Ok(None);
+        }
+        Ok(Some(Rules { lists }))
+    }
+
+    /// The lists of these rules.
+    pub fn lists(&self) -> &RuleLists
+        ensures { result.now ≡ self.now }
+    {
+        &self.lists
+    }
+
+    /// The families, in order, of which no two meet.
+    pub fn families(&self) -> &[Family]
+        ensures value { result.now ≡ self.now.families }
+        ensures apart { FamiliesApart result.now }
+    {
+        self.lists.families.as_slice()
+    }
+}
+
+/// The entries at which jobs begin, in order.
+pub fn entries(rules: &Rules) -> &[Value]
+    ensures { result.now ≡ rules.now.entries }
+{
+    rules.lists.entries.as_slice()
 }

@@ -1,8 +1,8 @@
 // Each list once, at its happy path.
 
 use crate::{
-    Cover, Covers, Element, Elements, Families, Family, Part, Parts, Pattern, Patterns, Rules,
-    Template, covered_apart, lock_of_node, one_rank, share_pattern, surely_lies,
+    Cover, Covers, Element, Elements, EntryTexts, Families, Family, Part, Parts, Pattern, Patterns,
+    RuleLists, Template, covered_apart, lock_of_node, one_rank, share_pattern, surely_lies,
 };
 use mlk_names::{Extent, LockName, Root};
 use mlk_text::{Name, Values};
@@ -40,12 +40,13 @@ fn family(alloc: Global) -> Result<Family, AllocError> {
     Ok(Family { name, rank: 10 })
 }
 
-fn rules(alloc: Global) -> Result<Rules, AllocError> {
-    Ok(Rules {
+fn rules(alloc: Global) -> Result<RuleLists, AllocError> {
+    Ok(RuleLists {
         families: Families::of(vec![in alloc; family(alloc)?]?),
         covers: Covers::of(vec![in alloc; cover(alloc)?]?),
         private: Patterns::of(vec![in alloc; pattern(alloc, "TMP", Element::Job)?]?),
         readonly: Patterns::of(Vec::new(alloc)),
+        entries: EntryTexts::of(Vec::new(alloc)),
     })
 }
 
