@@ -5,8 +5,8 @@
 
 entry: one entry runs all lines. entries: each line is an entry of its own. faults: as entry, and each line has a fault.
 """
+import argparse
 import pathlib
-import sys
 
 RULES = """[[lock]]
 name = "^ACCT"
@@ -25,9 +25,12 @@ def point(line):
 
 
 def main():
-    folder = pathlib.Path(sys.argv[1])
-    count = int(sys.argv[2]) if len(sys.argv) > 2 else 60000
-    kind = sys.argv[3] if len(sys.argv) > 3 else "entry"
+    parser = argparse.ArgumentParser(description=__doc__, formatter_class=argparse.RawDescriptionHelpFormatter)
+    parser.add_argument("folder", metavar="DIR", type=pathlib.Path)
+    parser.add_argument("count", metavar="LINES", type=int, nargs="?", default=60000)
+    parser.add_argument("kind", choices=["entry", "entries", "faults"], nargs="?", default="entry")
+    words = parser.parse_args()
+    folder, count, kind = words.folder, words.count, words.kind
     body = LATE if kind == "faults" else TAKE
     folder.mkdir(parents=True, exist_ok=True)
     if kind == "entries":
