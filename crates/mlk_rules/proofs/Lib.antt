@@ -3,6 +3,7 @@ pub mod Meetings
 pub mod Instances
 pub mod Apart
 pub mod RankLemmas
+pub mod Computing
 pub mod Examples
 pub mod FrontLemmas
 pub mod MeetLemmas

@@ -1,5 +1,5 @@
 -- What lists of rules keep, from the front on.
-use Rattle.std.proofs.Common.{◌≡◌, ◌↔◌, ℕ, zero, suc, ◌<◌, List, ◌∷◌, Some, length, arith, refl, sym, subst}
+use Rattle.std.proofs.Common.{◌≡◌, ◌↔◌, ℕ, zero, suc, ◌<◌, List, ◌∷◌, Some, [], length, arith, refl, sym, ap, ◌∙◌, subst}
 use Rattle.std.specs.Prelude.{Contains, slice_get, slice_index_or}
 use Rattle.std.proofs.lemmas.List.Elements.{Contains-get_or}
 use Rattle.mlk_names.specs.LockNames.{Conflict}
@@ -7,7 +7,10 @@ use Rattle.mlk_rules.specs.declared.family.Family.{Family}
 use Rattle.mlk_rules.specs.declared.pattern.Element.{Element}
 use Rattle.mlk_rules.specs.declared.pattern.Element.TheVariants.{Job}
 use Rattle.mlk_rules.specs.Ranks.{FamiliesApart}
-use Rattle.mlk_rules.specs.Sound.{HasNoJob, HasOneJob}
+use Rattle.mlk_rules.specs.declared.rules.RuleLists.{RuleLists}
+use Rattle.mlk_rules.specs.Sound.{HasNoJob, HasOneJob, IsSound}
+use Rattle.mlk_rules.specs.Laws.{PrivateByJob}
+use Rattle.std.proofs.lemmas.Option.{slice_get-get_or}
 
 -- each element of the list, at its place
 abbrev pub Each : {X : Type 0} → (X → Type 0) → List X → Type 0
@@ -83,3 +86,14 @@ apart_meets f fs xs e (g, (k, l, is), c) h = met (rw e at h)
     met a =
         let P : Family → Type 0 = λ x. Conflict f.name x.name in
         a 0 (suc k) g (omega arith) (omega arith) (subst P (sym is) c)
+
+-- where each private pattern has `$J` once, it has it
+pub by_job : (rules : RuleLists) → IsSound rules → PrivateByJob rules
+by_job rules sound p (k, l, e) =
+    let d = sound.private k p (slice_get-get_or rules.private k p l ∙ ap Some e) in
+    element_at p.elements d.0 d.1
+  where
+    element_at : (es : List Element) (j : ℕ) → slice_get es j ≡ Some Job → Contains es Job
+    element_at [] j h = cc
+    element_at (x ∷ es) zero h = let c : x ≡ Job = cc in (0, omega arith, c)
+    element_at (x ∷ es) (suc j) h = let r = element_at es j h in let l = r.1 in (suc r.0, omega arith, r.2)

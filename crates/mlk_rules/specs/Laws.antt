@@ -1,5 +1,6 @@
 -- What rules are good for: two jobs never touch one node, of which one writes, and claims have an order.
-use Rattle.std.specs.Prelude.{◌≡◌, ◌⊎◌, ℕ, List, Contains}
+use Rattle.std.specs.Prelude.{◌≡◌, ◌⊎◌, ℕ, List, Option, Contains}
+use Rattle.mlk_text.specs.declared.code.Code.{Code}
 use Rattle.mlk_names.specs.declared.lock_name.LockName.{LockName}
 use Rattle.mlk_names.specs.declared.term.LockTerm.{LockTerm}
 use Rattle.mlk_names.specs.declared.reference.Reference.{Reference}
@@ -14,7 +15,8 @@ use Rattle.mlk_rules.specs.declared.template.Template.{Template}
 use Rattle.mlk_rules.specs.declared.family.Family.{Family}
 use Rattle.mlk_rules.specs.declared.rules.RuleLists.{RuleLists}
 use Rattle.mlk_rules.specs.Patterns.{LiesIn, MayMeet, SurelyLies}
-use Rattle.mlk_rules.specs.Coverage.{lock_at, cut_template, IsPattern, IsRuled, IsCovered}
+use Rattle.mlk_rules.specs.Coverage.{lock_at, cut_template, IsPattern, IsRuled, IsCovered, IsAnswer}
+use Rattle.mlk_rules.specs.Computed.{answer}
 use Rattle.mlk_rules.specs.Ranks.{HasRank, NameHasRank, FamiliesApart}
 
 -- some node that both reach lies in the pattern of a rule, which both may meet
@@ -78,3 +80,11 @@ pub record RankedOnce (families : List Family) : Type 0 where
 
 abbrev pub OneRank : Type 0
 OneRank = (families : List Family) → FamiliesApart families → RankedOnce families
+
+-- Of each reference, whatever is held, there is one answer: the computed one.
+pub record OneAnswer (rules : RuleLists) (held : List LockTerm) (r : Reference) : Type 0 where
+  pub is : IsAnswer rules held r (answer rules held r)
+  pub only : (found : Option Code) → IsAnswer rules held r found → found ≡ answer rules held r
+
+abbrev pub ComputedAnswers : Type 0
+ComputedAnswers = (rules : RuleLists) (held : List LockTerm) (r : Reference) → OneAnswer rules held r

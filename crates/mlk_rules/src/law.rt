@@ -1,6 +1,6 @@
 // What rules are good for.
 
-ghost use Rattle.mlk_rules.specs.Laws.{SharePattern, LocksOfNodes, SurelyLiesWhole, CoveredApart, OneRank};
+ghost use Rattle.mlk_rules.specs.Laws.{SharePattern, LocksOfNodes, SurelyLiesWhole, CoveredApart, OneRank, ComputedAnswers};
 
 /// Two ruled references that overlap share a node of a pattern that both may meet.
 pub fn share_pattern()
@@ -25,4 +25,9 @@ pub fn covered_apart()
 /// Where no two families meet, a name has one rank at most, and so have all names that conflict with it.
 pub fn one_rank()
     ensures { OneRank }
+{}
+
+/// Each reference has one answer, whatever is held: the one that is computed place by place.
+pub fn computed_answers()
+    ensures { ComputedAnswers }
 {}

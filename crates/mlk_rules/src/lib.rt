@@ -23,7 +23,9 @@ pub use cover::{Cover, Covers};
 pub use entry::EntryTexts;
 pub use family::{Families, Family};
 pub use lacking::templates;
-pub use law::{covered_apart, lock_of_node, one_rank, share_pattern, surely_lies};
+pub use law::{
+    computed_answers, covered_apart, lock_of_node, one_rank, share_pattern, surely_lies,
+};
 pub use meet::may_meet;
 pub use pattern::{Element, Elements, Pattern};
 pub use rank::rank_of;

@@ -86,7 +86,8 @@ impl Rules {
 
     /// The lists of these rules.
     pub fn lists(&self) -> &RuleLists
-        ensures { result.now ≡ self.now }
+        ensures value { result.now ≡ self.now }
+        ensures sound { IsSound self.now }
     {
         &self.lists
     }

@@ -21,8 +21,7 @@ use Rattle.mlk_machine.proofs.NameLemmas.{same_self}
 use Rattle.mlk_machine.proofs.Counting.{one, count_of-raised, count_of-lowered}
 use Rattle.mlk_machine.proofs.EntryLemmas.{HasLine, named_line}
 use Rattle.mlk_machine.proofs.Runs.{written_job}
-use Rattle.mlk_walk.specs.declared.rules.Cover.{Cover}
-use Rattle.mlk_walk.specs.declared.rules.Rules.{Rules}
+use Rattle.mlk_rules.specs.declared.rules.RuleLists.{RuleLists}
 use Rattle.mlk_walk.specs.declared.cert.EntryCert.{EntryCert}
 use Rattle.mlk_walk.specs.declared.cert.Certificate.{Certificate}
 use Rattle.mlk_walk.specs.declared.verdict.WalkFault.{WalkFault}
@@ -32,6 +31,7 @@ use Rattle.mlk_walk.specs.Rules.{uncovered}
 use Rattle.mlk_walk.specs.Sets.{Among}
 use Rattle.mlk_walk.specs.Walk.{Held, taken, is_listed, listed, too_many, at_frame_end, if_covered, if_taken, outcome, fault_at, faults_in, cases_in, at_line_end, end_line, walked, if_few, walk_rest, walk_lines, start_faults, block_faults, is_declared, block_of, verdict}
 use Rattle.mlk_walk.specs.Theorem.{Describes, IsMade, IsListedAt, StandsAt, IsBalanced, OneJob}
+use Rattle.mlk_walk.proofs.Covering.{covered_from}
 use Rattle.mlk_walk.proofs.CaseLemmas.{times-taken, times-last, listed_among, true_false, parts_empty, some_length}
 
 abbrev IsFine : Outcome → Type 0
@@ -74,9 +74,9 @@ few : (b : Bool) (f : WalkFault) (rest : List WalkFault) → if_few b f rest ≡
 few true f rest h = cc
 few false f rest h = h
 
-walked-append : (cover : Option Cover) (declared : Bool) (exits : List Held) (xs ys : List Command) (cases : List Held) → walked cover declared exits (xs ++ ys) cases ≡ walked cover declared exits ys (walked cover declared exits xs cases)
-walked-append cover declared exits [] ys cases = refl
-walked-append cover declared exits (k ∷ ks) ys cases = walked-append cover declared exits ks ys _
+walked-append : (rules : RuleLists) (declared : Bool) (exits : List Held) (xs ys : List Command) (cases : List Held) → walked rules declared exits (xs ++ ys) cases ≡ walked rules declared exits ys (walked rules declared exits xs cases)
+walked-append rules declared exits [] ys cases = refl
+walked-append rules declared exits (k ∷ ks) ys cases = walked-append rules declared exits ks ys _
 
 -- the end of a declared entry's frame
 frame_end : (exits : List Held) (column : ℕ) (c : Held) → IsFine (at_frame_end true exits column c) → c ≡ []
@@ -96,9 +96,9 @@ unlock_row : (o : Option Held) (column : ℕ) → IsFine (if_taken o column) →
 unlock_row None column h = absurd h
 unlock_row (Some r) column h = (r, refl, refl)
 
-module _ (cover : Option Cover) (b : EntryCert) (n : ℕ) (whole : List Line) (fine : walk_lines cover true b n whole ≡ []) where
+module _ (rules : RuleLists) (b : EntryCert) (n : ℕ) (whole : List Line) (fine : walk_lines rules true b n whole ≡ []) where
   abbrev Made : Held → Type 0
-  Made c = IsMade cover b n whole c
+  Made c = IsMade rules b n whole c
 
   -- a case may enter these lines, or end the frame where there are none
   abbrev pub Enters : List Line → Held → Type 0
@@ -113,8 +113,8 @@ module _ (cover : Option Cover) (b : EntryCert) (n : ℕ) (whole : List Line) (f
     pub before : List Command
     pub place : whole ≡ front ++ line ∷ behind
     pub commands : line.commands ≡ before ++ ks
-    pub among : Among c (walked cover true b.exits before (listed b (n + length front)))
-    pub well : walk_rest cover true b.exits (listed b (suc (n + length front))) (n + length front) line behind ks (walked cover true b.exits before (listed b (n + length front))) ≡ []
+    pub among : Among c (walked rules true b.exits before (listed b (n + length front)))
+    pub well : walk_rest rules true b.exits (listed b (suc (n + length front))) (n + length front) line behind ks (walked rules true b.exits before (listed b (n + length front))) ≡ []
     pub next : ts ≡ RunLines behind ∷ EndFrame first_cells ∷ []
 
   -- what is left to do, walked from a case, gives no fault
@@ -123,7 +123,7 @@ module _ (cover : Option Cover) (b : EntryCert) (n : ℕ) (whole : List Line) (f
   Good (RunLines ls ∷ ts) c = Enters ls c × (ts ≡ EndFrame first_cells ∷ [])
   Good (RunCommands ks ∷ ts) c = Inside ks ts c
   Good (Evaluate v ∷ ts) c = Made c × Good ts c
-  Good (Touch node ∷ ts) c = Made c × (uncovered cover node c ≡ None) × Good ts c
+  Good (Touch node ∷ ts) c = Made c × (uncovered rules node c ≡ None) × Good ts c
   Good (Claim m ∷ ts) c = Made c × Good ts (c ++ m ∷ [])
   Good (Release m ∷ ts) c = Made c × (r : Held) × (taken m c ≡ Some r) × Good ts r
   Good (EndFrame back ∷ ts) c = (c ≡ []) × (ts ≡ []) × Made c
@@ -141,10 +141,10 @@ module _ (cover : Option Cover) (b : EntryCert) (n : ℕ) (whole : List Line) (f
   inside_made ks ts c i = record { front = i.front; line = i.line; behind = i.behind; before = i.before; rest = ks; place = i.place; commands = i.commands; among = i.among }
 
   -- the walk of a line, out of that of all lines
-  line_fine : (k m : ℕ) (front : List Line) (l : Line) (ls : List Line) → m ≡ k + length front → walk_lines cover true b k (front ++ l ∷ ls) ≡ [] → walk_rest cover true b.exits (listed b (suc m)) m l ls l.commands (listed b m) ≡ []
+  line_fine : (k m : ℕ) (front : List Line) (l : Line) (ls : List Line) → m ≡ k + length front → walk_lines rules true b k (front ++ l ∷ ls) ≡ [] → walk_rest rules true b.exits (listed b (suc m)) m l ls l.commands (listed b m) ≡ []
   line_fine k m [] l ls e h =
       let same : m ≡ k = omega arith in
-      let P : ℕ → Type 0 = λ m. walk_rest cover true b.exits (listed b (suc m)) m l ls l.commands (listed b m) ≡ [] in
+      let P : ℕ → Type 0 = λ m. walk_rest rules true b.exits (listed b (suc m)) m l ls l.commands (listed b m) ≡ [] in
       subst P (sym same) (parts_empty _ _ h).0
   line_fine k m (f ∷ front) l ls e h = line_fine (suc k) m front l ls (omega arith) (parts_empty _ _ h).1
 
@@ -158,7 +158,7 @@ module _ (cover : Option Cover) (b : EntryCert) (n : ℕ) (whole : List Line) (f
     place = p.place;
     commands = refl;
     among = p.among;
-    well = (let P : List Line → Type 0 = λ w. walk_lines cover true b n w ≡ [] in line_fine n (n + length p.front) p.front l ls refl (subst P p.place fine));
+    well = (let P : List Line → Type 0 = λ w. walk_lines rules true b n w ≡ [] in line_fine n (n + length p.front) p.front l ls refl (subst P p.place fine));
     next = ap (λ t. RunLines ls ∷ t) e;
   }
 
@@ -177,15 +177,15 @@ module _ (cover : Option Cover) (b : EntryCert) (n : ℕ) (whole : List Line) (f
       (cases_Bool (is_listed (listed b (suc m)) c))
 
   -- one more command was walked
-  after_command : (k : Command) (ks : List Command) (ts : List Task) (c d : Held) → (i : Inside (k ∷ ks) ts c) → outcome cover true b.exits k k.action c ≡ Goes d → Inside ks ts d
+  after_command : (k : Command) (ks : List Command) (ts : List Task) (c d : Held) → (i : Inside (k ∷ ks) ts c) → outcome rules true b.exits k k.action c ≡ Goes d → Inside ks ts d
   after_command k ks ts c d i e =
       let m = n + length i.front in
-      let cases = walked cover true b.exits i.before (listed b m) in
-      let f = outcome cover true b.exits k k.action in
-      let more = walked-append cover true b.exits i.before (k ∷ []) (listed b m) in
+      let cases = walked rules true b.exits i.before (listed b m) in
+      let f = outcome rules true b.exits k k.action in
+      let more = walked-append rules true b.exits i.before (k ∷ []) (listed b m) in
       let w = parts_empty (faults_in m (map f cases)) _ i.well in
       let P : List Held → Type 0 = λ cs. Among d cs in
-      let Q : List Held → Type 0 = λ cs. walk_rest cover true b.exits (listed b (suc m)) m i.line i.behind ks cs ≡ [] in
+      let Q : List Held → Type 0 = λ cs. walk_rest rules true b.exits (listed b (suc m)) m i.line i.behind ks cs ≡ [] in
       record {
         front = i.front;
         line = i.line;
@@ -198,19 +198,19 @@ module _ (cover : Option Cover) (b : EntryCert) (n : ℕ) (whole : List Line) (f
         next = i.next;
       }
 
-  fine_outcome : (k : Command) (ks : List Command) (ts : List Task) (c : Held) → Inside (k ∷ ks) ts c → IsFine (outcome cover true b.exits k k.action c)
+  fine_outcome : (k : Command) (ks : List Command) (ts : List Task) (c : Held) → Inside (k ∷ ks) ts c → IsFine (outcome rules true b.exits k k.action c)
   fine_outcome k ks ts c i =
       let m = n + length i.front in
-      let cases = walked cover true b.exits i.before (listed b m) in
-      let f = outcome cover true b.exits k k.action in
+      let cases = walked rules true b.exits i.before (listed b m) in
+      let f = outcome rules true b.exits k k.action in
       fine_at f m cases c i.among (parts_empty (faults_in m (map f cases)) _ i.well).0
 
   -- one command, by what it does
-  command : (a : Action) (k : Command) (ks : List Command) (ts : List Task) (c : Held) → k.action ≡ a → Inside (k ∷ ks) ts c → IsFine (outcome cover true b.exits k a c)
-      → ((d : Held) → outcome cover true b.exits k a c ≡ Goes d → Inside ks ts d) → Good (parts a (RunCommands ks ∷ ts)) c
+  command : (a : Action) (k : Command) (ks : List Command) (ts : List Task) (c : Held) → k.action ≡ a → Inside (k ∷ ks) ts c → IsFine (outcome rules true b.exits k a c)
+      → ((d : Held) → outcome rules true b.exits k a c ≡ Goes d → Inside ks ts d) → Good (parts a (RunCommands ks ∷ ts)) c
   command (Set column node value) k ks ts c is i h go =
       let made = inside_made (k ∷ ks) ts c i in
-      let r = set_row (uncovered cover node c) column c h in
+      let r = set_row (uncovered rules node c) column c h in
       (made, (made, r.0, go c r.1))
   command (Lock column name) k ks ts c is i h go = (inside_made (k ∷ ks) ts c i, go (c ++ name ∷ []) refl)
   command (Unlock column name) k ks ts c is i h go =
@@ -230,7 +230,7 @@ module _ (cover : Option Cover) (b : EntryCert) (n : ℕ) (whole : List Line) (f
       came _ i h (record { held = c; good = goes_in l ls c ts g.0 g.1; describes = record { counts = d.counts } })
   step free (RunCommands [] ∷ ts) j i c g d h =
       let m = n + length g.front in
-      let cases = walked cover true b.exits g.before (listed b m) in
+      let cases = walked rules true b.exits g.before (listed b m) in
       let e = line_end m g.line g.behind c (inside_made [] ts c g) g.front g.place refl (fine_at (at_line_end true b.exits (listed b (suc m)) g.line g.behind) (end_line m g.behind) cases c g.among g.well) in
       let P : List Task → Type 0 = λ t. Good t e.0 in
       came _ i h (record { held = e.0; good = subst P (sym g.next) (e.1, refl); describes = record { counts = λ k. d.counts k ∙ e.2 k } })
@@ -257,7 +257,7 @@ module _ (cover : Option Cover) (b : EntryCert) (n : ℕ) (whole : List Line) (f
       came _ i h (record { held = c; good = subst P (sym g.1) (g.0, g.2); describes = record { counts = d.counts } })
 
   -- where the case stands
-  stands : (ts : List Task) (c : Held) → Good ts c → StandsAt cover b n whole c ts
+  stands : (ts : List Task) (c : Held) → Good ts c → StandsAt rules b n whole c ts
   stands [] c g = g.1
   stands (RunLines [] ∷ ts) c g = g.0.1
   stands (RunLines (l ∷ ls) ∷ ts) c g = g.0
@@ -268,7 +268,7 @@ module _ (cover : Option Cover) (b : EntryCert) (n : ℕ) (whole : List Line) (f
   stands (Release m ∷ ts) c g = g.0
   stands (EndFrame back ∷ ts) c g = g.2
 
-  pub touched : (ts : List Task) (c : Held) (node : Node) → Good ts c → ready_in ts ≡ Some node → uncovered cover node c ≡ None
+  pub touched : (ts : List Task) (c : Held) (node : Node) → Good ts c → ready_in ts ≡ Some node → uncovered rules node c ≡ None
   touched [] c node g h = cc
   touched (RunLines ls ∷ ts) c node g h = cc
   touched (RunCommands ks ∷ ts) c node g h = cc
@@ -287,16 +287,16 @@ module _ (cover : Option Cover) (b : EntryCert) (n : ℕ) (whole : List Line) (f
   abbrev pub Goes_well : Job → Type 0
   Goes_well j = Runs j ⊎ IsAborted j
 
-  running : (j : Job) → Runs j → IsBalanced cover b n whole j
+  running : (j : Job) → Runs j → IsBalanced rules b n whole j
   running j r = record {
     described = λ s. (r.held, r.describes, stands j.tasks r.held r.good);
-    ready_is_covered = λ node h. (r.held, r.describes, touched j.tasks r.held node r.good h);
+    ready_is_covered = λ node h. (r.held, r.describes, covered_from rules node r.held (touched j.tasks r.held node r.good h));
     ends_empty = λ e m.
         let g : Good [] r.held = rw e.0 at r.good in
         r.describes.counts m ∙ ap (times m) g.0;
   }
 
-  stopped_job : (j : Job) → IsAborted j → IsBalanced cover b n whole j
+  stopped_job : (j : Job) → IsAborted j → IsBalanced rules b n whole j
   stopped_job j a = record {
     described = λ s. true_false j.stopped a.stopped s;
     ready_is_covered = λ node h.
@@ -304,7 +304,7 @@ module _ (cover : Option Cover) (b : EntryCert) (n : ℕ) (whole : List Line) (f
     ends_empty = λ e m. true_false j.stopped a.stopped e.1;
   }
 
-  pub balanced : (j : Job) → Goes_well j → IsBalanced cover b n whole j
+  pub balanced : (j : Job) → Goes_well j → IsBalanced rules b n whole j
   balanced j w = ⊎_elim (running j) (stopped_job j) w
 
   -- an abort
@@ -368,31 +368,31 @@ some_names routines e (t ∷ ts) h =
     (λ i. some_names routines e ts i)
     (or_cases (is_it e (named routines t)) _ h)
 
-pub declared_line : (routines : List Routine) (rules : Rules) (e : EntryId) → is_declared routines rules e ≡ true → HasLine (lines_of routines e)
+pub declared_line : (routines : List Routine) (rules : RuleLists) (e : EntryId) → is_declared routines rules e ≡ true → HasLine (lines_of routines e)
 unfolding is_declared
 declared_line routines rules e h =
     let t = some_names routines e rules.entries h in
     named_line routines t.0 e t.1
 
 -- a declared entry without faults has a block, which walks well
-pub record IsCertified (routines : List Routine) (rules : Rules) (cert : Certificate) (e : EntryId) : Type 0 where
+pub record IsCertified (routines : List Routine) (rules : RuleLists) (cert : Certificate) (e : EntryId) : Type 0 where
   pub block : EntryCert
   pub found : block_of routines cert e ≡ Some block
   pub starts : start_faults true block e.line ≡ []
-  pub walks : walk_lines rules.cover true block e.line (lines_of routines e) ≡ []
+  pub walks : walk_lines rules true block e.line (lines_of routines e) ≡ []
 
-certified_by : (routines : List Routine) (rules : Rules) (cert : Certificate) (e : EntryId) (o : Option EntryCert) → block_of routines cert e ≡ o → block_faults rules.cover true e.line (lines_of routines e) o ≡ [] → IsCertified routines rules cert e
+certified_by : (routines : List Routine) (rules : RuleLists) (cert : Certificate) (e : EntryId) (o : Option EntryCert) → block_of routines cert e ≡ o → block_faults rules true e.line (lines_of routines e) o ≡ [] → IsCertified routines rules cert e
 certified_by routines rules cert e None is h = cc
 certified_by routines rules cert e (Some b) is h =
     let p = parts_empty (start_faults true b e.line) _ h in
     record { block = b; found = is; starts = p.0; walks = p.1 }
 
-pub certified : (routines : List Routine) (rules : Rules) (cert : Certificate) (e : EntryId) → is_declared routines rules e ≡ true → verdict routines rules cert e ≡ [] → IsCertified routines rules cert e
+pub certified : (routines : List Routine) (rules : RuleLists) (cert : Certificate) (e : EntryId) → is_declared routines rules e ≡ true → verdict routines rules cert e ≡ [] → IsCertified routines rules cert e
 unfolding verdict
 certified routines rules cert e d h = certified_by routines rules cert e (block_of routines cert e) refl (rw d at h)
 
 pub one_job : OneJob
 one_job routines rules cert clean e d k test acts j h =
     let c = certified routines rules cert e d (clean e d) in
-    let w = entered rules.cover c.block e.line (lines_of routines e) c.walks (declared_line routines rules e d) c.starts k test in
-    (c.block, c.found, balanced rules.cover c.block e.line (lines_of routines e) c.walks j (moments rules.cover c.block e.line (lines_of routines e) c.walks acts _ j w h))
+    let w = entered rules c.block e.line (lines_of routines e) c.walks (declared_line routines rules e d) c.starts k test in
+    (c.block, c.found, balanced rules c.block e.line (lines_of routines e) c.walks j (moments rules c.block e.line (lines_of routines e) c.walks acts _ j w h))

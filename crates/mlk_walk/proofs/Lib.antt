@@ -2,6 +2,7 @@ pub mod SetLemmas
 pub mod CaseLemmas
 pub mod PointLemmas
 pub mod Steps
+pub mod Covering
 pub mod Alone
 pub mod Together
 pub mod PlaceLemmas

@@ -1,10 +1,10 @@
 -- The walk by points has the faults of the walk by lines.
-use Rattle.std.proofs.Common.{◌≡◌, ℕ, zero, suc, ◌+◌, ◌-◌, ◌<◌, ◌≤◌, Bool, true, false, List, [], ◌∷◌, ◌++◌, drop, Option, refl, sym, ap, ◌∙◌, arith, subst, ⊎_elim, inl, inr, append_assoc}
+use Rattle.std.proofs.Common.{◌≡◌, ℕ, zero, suc, ◌+◌, ◌-◌, ◌<◌, ◌≤◌, Bool, true, false, List, [], ◌∷◌, ◌++◌, drop, refl, sym, ap, ◌∙◌, arith, subst, ⊎_elim, inl, inr, append_assoc}
 use Rattle.std.specs.Prelude.{◌⊎◌, ◌==◌, ◌&&◌, nat_le}
 use Rattle.std.proofs.lemmas.Bool.{cases_Bool, and_parts, and_from, eqb-true, eq-eqb, leb-true, le-leb}
 use Rattle.mlk_machine.specs.declared.plain.tree.Line.{Line}
 use Rattle.mlk_machine.specs.declared.plain.tree.Command.{Command}
-use Rattle.mlk_walk.specs.declared.rules.Cover.{Cover}
+use Rattle.mlk_rules.specs.declared.rules.RuleLists.{RuleLists}
 use Rattle.mlk_walk.specs.declared.cert.Point.{Point}
 use Rattle.mlk_walk.specs.declared.cert.EntryCert.{EntryCert}
 use Rattle.mlk_walk.specs.declared.verdict.WalkFault.{WalkFault}
@@ -121,19 +121,19 @@ few_none : too_many [] ≡ false
 unfolding too_many
 few_none = refl
 
-walk_rest-none : (cover : Option Cover) (declared : Bool) (exits next : List Held) (n : ℕ) (l : Line) (ls : List Line) (ks : List Command) → walk_rest cover declared exits next n l ls ks [] ≡ []
-walk_rest-none cover declared exits next n l ls [] = refl
-walk_rest-none cover declared exits next n l ls (k ∷ ks) = rw few_none (walk_rest-none cover declared exits next n l ls ks)
+walk_rest-none : (rules : RuleLists) (declared : Bool) (exits next : List Held) (n : ℕ) (l : Line) (ls : List Line) (ks : List Command) → walk_rest rules declared exits next n l ls ks [] ≡ []
+walk_rest-none rules declared exits next n l ls [] = refl
+walk_rest-none rules declared exits next n l ls (k ∷ ks) = rw few_none (walk_rest-none rules declared exits next n l ls ks)
 
-module _ (cover : Option Cover) (declared : Bool) (b : EntryCert) (f : WalkFault) where
+module _ (rules : RuleLists) (declared : Bool) (b : EntryCert) (f : WalkFault) where
   -- the fault stands in the walk of line m, which is l with ls behind it
   abbrev InLine : ℕ → Line → List Line → Type 0
-  InLine m l ls = Among f (walk_rest cover declared b.exits (listed b (suc m)) m l ls l.commands (listed b m))
+  InLine m l ls = Among f (walk_rest rules declared b.exits (listed b (suc m)) m l ls l.commands (listed b m))
 
-  in_walk : (n k : ℕ) (lines : List Line) (l : Line) (ls : List Line) (m : ℕ) → m ≡ n + k → drop k lines ≡ l ∷ ls → InLine m l ls → Among f (walk_lines cover declared b n lines)
+  in_walk : (n k : ℕ) (lines : List Line) (l : Line) (ls : List Line) (m : ℕ) → m ≡ n + k → drop k lines ≡ l ∷ ls → InLine m l ls → Among f (walk_lines rules declared b n lines)
   in_walk n zero lines l ls m e d a =
       let same : m ≡ n = omega arith in
-      let P : List Line → Type 0 = λ w. Among f (walk_lines cover declared b n w) in
+      let P : List Line → Type 0 = λ w. Among f (walk_lines rules declared b n w) in
       let Q : ℕ → Type 0 = λ m. InLine m l ls in
       subst P (sym d) (among_left f _ _ (subst Q same a))
   in_walk n (suc k) [] l ls m e d a = cc
@@ -146,7 +146,7 @@ module _ (cover : Option Cover) (declared : Bool) (b : EntryCert) (f : WalkFault
     place : drop number lines ≡ line ∷ behind
     here : InLine (n + number) line behind
 
-  from_walk : (n : ℕ) (lines : List Line) → Among f (walk_lines cover declared b n lines) → At n lines
+  from_walk : (n : ℕ) (lines : List Line) → Among f (walk_lines rules declared b n lines) → At n lines
   from_walk n [] a = absurd a
   from_walk n (x ∷ xs) a =
       ⊎_elim
@@ -160,7 +160,7 @@ module _ (cover : Option Cover) (declared : Bool) (b : EntryCert) (f : WalkFault
 
   module _ (n : ℕ) (lines : List Line) (ascend : PointsAscend b.points) where
     at_point : (front : List Point) (p : Point) (ps : List Point) (t : Bool) (tail : List Line) → b.points ≡ front ++ p ∷ ps → t ≡ ((p.round == 0) && nat_le n p.line) → tail ≡ drop (p.line - n) lines
-        → Among f (at_line cover declared b.exits p ps t tail) → Among f (walk_lines cover declared b n lines)
+        → Among f (at_line rules declared b.exits p ps t tail) → Among f (walk_lines rules declared b n lines)
     at_point front p ps false tail place t d a = absurd a
     at_point front p ps true [] place t d a = absurd a
     at_point front p ps true (l ∷ ls) place t d a =
@@ -171,25 +171,25 @@ module _ (cover : Option Cover) (declared : Bool) (b : EntryCert) (f : WalkFault
         let up = subst P place ascend in
         let here : listed b p.line ≡ p.cases = ap (λ q. cases_at q p.line 0) place ∙ ap (λ r. cases_at (front ++ p ∷ ps) p.line r) (sym first) ∙ cases_at-here front p ps up in
         let next : listed b (suc p.line) ≡ cases_at ps (suc p.line) 0 = ap (λ q. cases_at q (suc p.line) 0) place ∙ cases_at-next front p ps up in
-        let Q : List Held → Type 0 = λ cs. Among f (walk_rest cover declared b.exits cs p.line l ls l.commands p.cases) in
-        let R : List Held → Type 0 = λ cs. Among f (walk_rest cover declared b.exits (listed b (suc p.line)) p.line l ls l.commands cs) in
+        let Q : List Held → Type 0 = λ cs. Among f (walk_rest rules declared b.exits cs p.line l ls l.commands p.cases) in
+        let R : List Held → Type 0 = λ cs. Among f (walk_rest rules declared b.exits (listed b (suc p.line)) p.line l ls l.commands cs) in
         in_walk n (p.line - n) lines l ls p.line (omega (arith, le)) (sym d) (subst R (sym here) (subst Q (sym next) a))
 
-    by_points : (front ps : List Point) → b.points ≡ front ++ ps → Among f (points_faults cover declared b.exits n lines ps) → Among f (walk_lines cover declared b n lines)
+    by_points : (front ps : List Point) → b.points ≡ front ++ ps → Among f (points_faults rules declared b.exits n lines ps) → Among f (walk_lines rules declared b n lines)
     unfolding point_faults
     by_points front [] place a = absurd a
     by_points front (p ∷ ps) place a =
         ⊎_elim
         (λ h. at_point front p ps _ _ place refl refl h)
         (λ h. by_points (front ++ p ∷ []) ps (place ∙ sym (append_assoc front (p ∷ []) ps)) h)
-        (among-append f (point_faults cover declared b.exits n lines p ps) _ a)
+        (among-append f (point_faults rules declared b.exits n lines p ps) _ a)
 
     -- the faults of one of the points
-    in_points : (front : List Point) (p : Point) (ps : List Point) → Among f (point_faults cover declared b.exits n lines p ps) → Among f (points_faults cover declared b.exits n lines (front ++ p ∷ ps))
+    in_points : (front : List Point) (p : Point) (ps : List Point) → Among f (point_faults rules declared b.exits n lines p ps) → Among f (points_faults rules declared b.exits n lines (front ++ p ∷ ps))
     in_points [] p ps a = among_left f _ _ a
     in_points (q ∷ front) p ps a = among_right f _ _ (in_points front p ps a)
 
-    at_found : (r : At n lines) → Found b.points (n + r.number) → Among f (points_faults cover declared b.exits n lines b.points)
+    at_found : (r : At n lines) → Found b.points (n + r.number) → Among f (points_faults rules declared b.exits n lines b.points)
     unfolding point_faults
     at_found r g =
         let p = g.point in
@@ -198,32 +198,32 @@ module _ (cover : Option Cover) (declared : Bool) (b : EntryCert) (f : WalkFault
         let up = subst P g.place ascend in
         let here : listed b m ≡ p.cases = ap (λ q. cases_at q m 0) g.place ∙ ap (λ x. cases_at (g.front ++ p ∷ g.behind) x 0) (sym g.line_is) ∙ ap (λ x. cases_at (g.front ++ p ∷ g.behind) p.line x) (sym g.round_is) ∙ cases_at-here g.front p g.behind up in
         let next : listed b (suc m) ≡ cases_at g.behind (suc p.line) 0 = ap (λ q. cases_at q (suc m) 0) g.place ∙ ap (λ x. cases_at (g.front ++ p ∷ g.behind) (suc x) 0) (sym g.line_is) ∙ cases_at-next g.front p g.behind up in
-        let Q : List Held → Type 0 = λ cs. Among f (walk_rest cover declared b.exits cs m r.line r.behind r.line.commands p.cases) in
-        let R : List Held → Type 0 = λ cs. Among f (walk_rest cover declared b.exits (listed b (suc m)) m r.line r.behind r.line.commands cs) in
-        let S : ℕ → Type 0 = λ x. Among f (walk_rest cover declared b.exits (cases_at g.behind (suc p.line) 0) x r.line r.behind r.line.commands p.cases) in
+        let Q : List Held → Type 0 = λ cs. Among f (walk_rest rules declared b.exits cs m r.line r.behind r.line.commands p.cases) in
+        let R : List Held → Type 0 = λ cs. Among f (walk_rest rules declared b.exits (listed b (suc m)) m r.line r.behind r.line.commands cs) in
+        let S : ℕ → Type 0 = λ x. Among f (walk_rest rules declared b.exits (cases_at g.behind (suc p.line) 0) x r.line r.behind r.line.commands p.cases) in
         let a = subst S (sym g.line_is) (subst Q next (subst R here r.here)) in
         let t : ((p.round == 0) && nat_le n p.line) ≡ true = and_from (p.round == 0) (nat_le n p.line) (eq-eqb p.round 0 g.round_is) (le-leb n p.line (omega (arith, g.line_is))) in
         let k : p.line - n ≡ r.number = omega (arith, g.line_is) in
         let d : drop (p.line - n) lines ≡ r.line ∷ r.behind = ap (λ x. drop x lines) k ∙ r.place in
-        let T : List Line → Type 0 = λ tail. Among f (at_line cover declared b.exits p g.behind true tail) in
-        let U : Bool → Type 0 = λ x. Among f (at_line cover declared b.exits p g.behind x (drop (p.line - n) lines)) in
-        let V : List Point → Type 0 = λ q. Among f (points_faults cover declared b.exits n lines q) in
+        let T : List Line → Type 0 = λ tail. Among f (at_line rules declared b.exits p g.behind true tail) in
+        let U : Bool → Type 0 = λ x. Among f (at_line rules declared b.exits p g.behind x (drop (p.line - n) lines)) in
+        let V : List Point → Type 0 = λ q. Among f (points_faults rules declared b.exits n lines q) in
         subst V (sym g.place) (in_points g.front p g.behind (subst U (sym t) (subst T (sym d) a)))
 
-    by_lines : Among f (walk_lines cover declared b n lines) → Among f (points_faults cover declared b.exits n lines b.points)
+    by_lines : Among f (walk_lines rules declared b n lines) → Among f (points_faults rules declared b.exits n lines b.points)
     by_lines a =
         let r = from_walk n lines a in
         let m = n + r.number in
         ⊎_elim
         (λ none.
-        let R : List Held → Type 0 = λ cs. Among f (walk_rest cover declared b.exits (listed b (suc m)) m r.line r.behind r.line.commands cs) in
+        let R : List Held → Type 0 = λ cs. Among f (walk_rest rules declared b.exits (listed b (suc m)) m r.line r.behind r.line.commands cs) in
         let P : List WalkFault → Type 0 = λ fs. Among f fs in
-        absurd (subst P (walk_rest-none cover declared b.exits (listed b (suc m)) m r.line r.behind r.line.commands) (subst R none r.here)))
+        absurd (subst P (walk_rest-none rules declared b.exits (listed b (suc m)) m r.line r.behind r.line.commands) (subst R none r.here)))
         (λ g. at_found r g)
         (found b.points m)
 
-pub same_by_points : (cover : Option Cover) (declared : Bool) (b : EntryCert) (n : ℕ) (lines : List Line) → PointsAscend b.points → SameSet (points_faults cover declared b.exits n lines b.points) (walk_lines cover declared b n lines)
-same_by_points cover declared b n lines h = record { by = λ f. (λ a. by_points cover declared b f n lines h [] b.points refl a, λ a. by_lines cover declared b f n lines h a) }
+pub same_by_points : (rules : RuleLists) (declared : Bool) (b : EntryCert) (n : ℕ) (lines : List Line) → PointsAscend b.points → SameSet (points_faults rules declared b.exits n lines b.points) (walk_lines rules declared b n lines)
+same_by_points rules declared b n lines h = record { by = λ f. (λ a. by_points rules declared b f n lines h [] b.points refl a, λ a. by_lines rules declared b f n lines h a) }
 
 -- a walk over points stops at the first one behind the line
 pub past_at : (qs : List Point) (p : Point) (ps : List Point) (line : ℕ) → qs ≡ p ∷ ps → PointsAscend qs → line < p.line → ◌≡◌ {A = List Held} [] (cases_at qs line 0)
@@ -232,9 +232,9 @@ past_at qs p ps line e h k =
     sym (ap (λ q. cases_at q line 0) e ∙ cases_at-past p ps line (subst P e h) k)
 
 -- one more point was walked
-pub next_point : (cover : Option Cover) (declared : Bool) (exits : List Held) (n : ℕ) (lines : List Line) (p : Point) (qs ps behind : List Point) (old new all : List WalkFault) → qs ≡ p ∷ ps
-    → SameSet (old ++ points_faults cover declared exits n lines qs) all → behind ≡ ps → Adds old new (point_faults cover declared exits n lines p behind) → SameSet (new ++ points_faults cover declared exits n lines ps) all
-next_point cover declared exits n lines p qs ps behind old new all e h b a =
-    let P : List Point → Type 0 = λ q. SameSet (old ++ points_faults cover declared exits n lines q) all in
-    let Q : List Point → Type 0 = λ q. Adds old new (point_faults cover declared exits n lines p q) in
+pub next_point : (rules : RuleLists) (declared : Bool) (exits : List Held) (n : ℕ) (lines : List Line) (p : Point) (qs ps behind : List Point) (old new all : List WalkFault) → qs ≡ p ∷ ps
+    → SameSet (old ++ points_faults rules declared exits n lines qs) all → behind ≡ ps → Adds old new (point_faults rules declared exits n lines p behind) → SameSet (new ++ points_faults rules declared exits n lines ps) all
+next_point rules declared exits n lines p qs ps behind old new all e h b a =
+    let P : List Point → Type 0 = λ q. SameSet (old ++ points_faults rules declared exits n lines q) all in
+    let Q : List Point → Type 0 = λ q. Adds old new (point_faults rules declared exits n lines p q) in
     same_trans _ _ _ (added old new _ _ (subst Q b a)) (subst P e h)

@@ -8,7 +8,7 @@ use Rattle.mlk_machine.specs.declared.plain.program.EntryId.{EntryId}
 use Rattle.mlk_machine.specs.Entries.{named, names, first_with, paired, by_label, texts_of, line_entries, entries_from}
 use Rattle.mlk_machine.proofs.Tables.{first_with-both}
 use Rattle.mlk_machine.proofs.EntryLemmas.{either, in_paired}
-use Rattle.mlk_walk.specs.declared.rules.Rules.{Rules}
+use Rattle.mlk_rules.specs.declared.rules.RuleLists.{RuleLists}
 use Rattle.mlk_walk.specs.declared.cert.EntryCert.{EntryCert}
 use Rattle.mlk_walk.specs.declared.cert.Certificate.{Certificate}
 use Rattle.mlk_walk.specs.declared.verdict.WalkFault.{WalkFault}
@@ -22,10 +22,11 @@ use Rattle.mlk_walk.specs.Theorem.{IsClean, EachRunIsBalanced, NoJobsClash}
 use Rattle.mlk_walk.proofs.CaseLemmas.{nothing_among}
 use Rattle.mlk_walk.proofs.PlaceLemmas.{Table, any-place, no_block, block_at_place}
 use Rattle.mlk_walk.proofs.Alone.{some_names, one_job}
+use Rattle.mlk_rules.specs.Sound.{IsSound}
 use Rattle.mlk_walk.proofs.Together.{all_jobs}
 
 -- what the tables of a check say
-pub declared_is : (routines : List Routine) (rules : Rules) (e : EntryId) (t : Table) → HasPlaces routines rules.entries t → is_some (place_in e t) ≡ is_declared routines rules e
+pub declared_is : (routines : List Routine) (rules : RuleLists) (e : EntryId) (t : Table) → HasPlaces routines rules.entries t → is_some (place_in e t) ≡ is_declared routines rules e
 unfolding is_declared
 declared_is routines rules e t h = ap is_some (h e) ∙ sym (any-place (names routines e) 0 rules.entries)
 
@@ -37,7 +38,7 @@ pub block_is : (routines : List Routine) (cert : Certificate) (e : EntryId) (t :
 unfolding block_of
 block_is routines cert e t h = block_by routines e cert.blocks (place_in e t) (sym (h e))
 
-module _ (routines : List Routine) (rules : Rules) (cert : Certificate) where
+module _ (routines : List Routine) (rules : RuleLists) (cert : Certificate) where
   abbrev Ext : List Row → List Row → List EntryId → Type 0
   Ext old new es = Extends routines rules cert old new es
 
@@ -164,18 +165,18 @@ in_routines t r (x ∷ xs) e h =
     (λ i. inr (in_routines t (suc r) xs e i))
     (either _ _ e (sym (first_with-both t (line_entries r x.name 1 x.lines) (entries_from (suc r) xs)) ∙ h)))
 
-declared_among : (routines : List Routine) (rules : Rules) (e : EntryId) → is_declared routines rules e ≡ true → Among e (all_entries routines)
+declared_among : (routines : List Routine) (rules : RuleLists) (e : EntryId) → is_declared routines rules e ≡ true → Among e (all_entries routines)
 unfolding is_declared named
 declared_among routines rules e h =
     let t = some_names routines e rules.entries h in
     in_routines t.0 0 routines e t.1
 
-pub clean : (routines : List Routine) (rules : Rules) (cert : Certificate) (rows : List Row) → IsReport routines rules cert (all_entries routines) rows → rows ≡ [] → IsClean routines rules cert
+pub clean : (routines : List Routine) (rules : RuleLists) (cert : Certificate) (rows : List Row) → IsReport routines rules cert (all_entries routines) rows → rows ≡ [] → IsClean routines rules cert
 clean routines rules cert rows h none e d =
     no_fault routines rules cert e (is_checked routines rules cert e) (checked routines rules cert e d) (clean_in routines rules cert (all_entries routines) rows h none e (declared_among routines rules e d))
 
-pub each_balanced : (routines : List Routine) (rules : Rules) (cert : Certificate) (rows : List Row) → IsReport routines rules cert (all_entries routines) rows → rows ≡ [] → EachRunIsBalanced routines rules cert
+pub each_balanced : (routines : List Routine) (rules : RuleLists) (cert : Certificate) (rows : List Row) → IsReport routines rules cert (all_entries routines) rows → rows ≡ [] → EachRunIsBalanced routines rules cert
 each_balanced routines rules cert rows h none = one_job routines rules cert (clean routines rules cert rows h none)
 
-pub none_clash : (routines : List Routine) (rules : Rules) (cert : Certificate) (rows : List Row) → IsReport routines rules cert (all_entries routines) rows → rows ≡ [] → NoJobsClash routines rules
-none_clash routines rules cert rows h none = all_jobs routines rules cert (clean routines rules cert rows h none)
+pub none_clash : (routines : List Routine) (rules : RuleLists) (cert : Certificate) (rows : List Row) → IsSound rules → IsReport routines rules cert (all_entries routines) rows → rows ≡ [] → NoJobsClash routines rules
+none_clash routines rules cert rows sound h none = all_jobs routines rules cert sound (clean routines rules cert rows h none)

@@ -1,10 +1,10 @@
 -- Steps of the loops of the walk.
 use Rattle.std.proofs.Common.{◌≡◌, ℕ, Bool, true, false, List, [], ◌∷◌, ◌++◌, refl, sym, ap, ◌∙◌, subst, append_assoc}
-use Rattle.std.specs.Prelude.{map, Option}
+use Rattle.std.specs.Prelude.{map}
 use Rattle.mlk_text.specs.declared.code.Code.TheVariants.{TooManyCases}
 use Rattle.mlk_machine.specs.declared.plain.tree.Line.{Line}
 use Rattle.mlk_machine.specs.declared.plain.tree.Command.{Command}
-use Rattle.mlk_walk.specs.declared.rules.Cover.{Cover}
+use Rattle.mlk_rules.specs.declared.rules.RuleLists.{RuleLists}
 use Rattle.mlk_walk.specs.declared.verdict.WalkFault.{WalkFault}
 use Rattle.mlk_walk.specs.declared.walk.Outcome.{Outcome}
 use Rattle.mlk_walk.specs.declared.walk.Outcome.TheVariants.{Goes, Faulty, Ends}
@@ -36,12 +36,12 @@ next_faults f line xs rest old new all x e h k =
 pub finished : (old new more all : List WalkFault) → SameSet (old ++ more) all → Adds old new more → SameSet new all
 finished old new more all h a = same_trans _ _ _ a h
 
-module _ (cover : Option Cover) (declared : Bool) (exits next : List Held) (n : ℕ) (l : Line) (ls : List Line) where
+module _ (rules : RuleLists) (declared : Bool) (exits next : List Held) (n : ℕ) (l : Line) (ls : List Line) where
   abbrev walk : List Command → List Held → List WalkFault
-  walk ks cases = walk_rest cover declared exits next n l ls ks cases
+  walk ks cases = walk_rest rules declared exits next n l ls ks cases
 
   abbrev rows : Command → List Held → List Outcome
-  rows k cases = map (outcome cover declared exits k k.action) cases
+  rows k cases = map (outcome rules declared exits k k.action) cases
 
   module _ (k : Command) (ks rest : List Command) (cases after : List Held) (old mid all : List WalkFault) where
     -- one more command was walked,

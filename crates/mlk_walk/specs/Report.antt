@@ -4,7 +4,7 @@ use Rattle.mlk_machine.specs.declared.plain.tree.Line.{Line}
 use Rattle.mlk_machine.specs.declared.plain.tree.Routine.{Routine}
 use Rattle.mlk_machine.specs.declared.plain.program.EntryId.{EntryId}
 use Rattle.mlk_machine.specs.Entries.{named}
-use Rattle.mlk_walk.specs.declared.rules.Rules.{Rules}
+use Rattle.mlk_rules.specs.declared.rules.RuleLists.{RuleLists}
 use Rattle.mlk_walk.specs.declared.cert.Certificate.{Certificate}
 use Rattle.mlk_walk.specs.declared.verdict.WalkFault.{WalkFault}
 use Rattle.mlk_walk.specs.declared.report.Row.{Row}
@@ -30,7 +30,7 @@ abbrev pub all_entries : List Routine → List EntryId
 all_entries routines = ids_from 0 routines
 
 -- an entry that is declared or certified is checked
-unfoldable pub is_checked : List Routine → Rules → Certificate → EntryId → Bool
+unfoldable pub is_checked : List Routine → RuleLists → Certificate → EntryId → Bool
 is_checked routines rules cert e = is_declared routines rules e || is_some (block_of routines cert e)
 
 -- the faults of an entry as they are reported: its verdict in order, or nothing where it is not checked
@@ -39,13 +39,13 @@ IsListOf true found v = SameSet v found × IsAscending v
 IsListOf false found v = v ≡ []
 
 -- the rows of these entries, one entry after another
-abbrev pub IsReport : List Routine → Rules → Certificate → List EntryId → List Row → Type 0
+abbrev pub IsReport : List Routine → RuleLists → Certificate → List EntryId → List Row → Type 0
 IsReport routines rules cert [] rows = rows ≡ []
 IsReport routines rules cert (e ∷ es) rows =
     (v : List WalkFault) × (rest : List Row) × IsListOf (is_checked routines rules cert e) (verdict routines rules cert e) v × (rows ≡ map (row e) v ++ rest) × IsReport routines rules cert es rest
 
 -- the rows were those of some entries, and are now those of these entries too
-abbrev pub Extends : List Routine → Rules → Certificate → List Row → List Row → List EntryId → Type 0
+abbrev pub Extends : List Routine → RuleLists → Certificate → List Row → List Row → List EntryId → Type 0
 Extends routines rules cert old new es = (before : List EntryId) → IsReport routines rules cert before old → IsReport routines rules cert (before ++ es) new
 
 -- the first text that names no entry: of the rules, else of the certificate
@@ -56,7 +56,7 @@ abbrev pub or_text : Option (List ℕ) → Option (List ℕ) → Option (List �
 or_text None o = o
 or_text (Some t) o = Some t
 
-abbrev pub missing : List Routine → Rules → Certificate → Option (List ℕ)
+abbrev pub missing : List Routine → RuleLists → Certificate → Option (List ℕ)
 missing routines rules cert = or_text (first_missing routines rules.entries) (first_missing routines (block_texts cert.blocks))
 
 -- the tables of a check are those of its rules and its certificate

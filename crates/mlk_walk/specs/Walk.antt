@@ -13,8 +13,7 @@ use Rattle.mlk_machine.specs.declared.plain.tree.Routine.{Routine}
 use Rattle.mlk_machine.specs.declared.plain.program.EntryId.{EntryId}
 use Rattle.mlk_machine.specs.LockNames.{same_name, times}
 use Rattle.mlk_machine.specs.Entries.{names, lines_of}
-use Rattle.mlk_walk.specs.declared.rules.Cover.{Cover}
-use Rattle.mlk_walk.specs.declared.rules.Rules.{Rules}
+use Rattle.mlk_rules.specs.declared.rules.RuleLists.{RuleLists}
 use Rattle.mlk_walk.specs.declared.cert.Point.{Point}
 use Rattle.mlk_walk.specs.declared.cert.EntryCert.{EntryCert}
 use Rattle.mlk_walk.specs.declared.cert.Certificate.{Certificate}
@@ -70,11 +69,11 @@ abbrev pub if_taken : Option Held → ℕ → Outcome
 if_taken None column = Faulty column NotHeld
 if_taken (Some c) column = Goes c
 
-abbrev pub outcome : Option Cover → Bool → List Held → Command → Action → Held → Outcome
-outcome cover declared exits k (Set column node value) c = if_covered (uncovered cover node c) column c
-outcome cover declared exits k (Lock column name) c = Goes (c ++ name ∷ [])
-outcome cover declared exits k (Unlock column name) c = if_taken (taken name c) column
-outcome cover declared exits k Quit c = at_frame_end declared exits k.column c
+abbrev pub outcome : RuleLists → Bool → List Held → Command → Action → Held → Outcome
+outcome rules declared exits k (Set column node value) c = if_covered (uncovered rules node c) column c
+outcome rules declared exits k (Lock column name) c = Goes (c ++ name ∷ [])
+outcome rules declared exits k (Unlock column name) c = if_taken (taken name c) column
+outcome rules declared exits k Quit c = at_frame_end declared exits k.column c
 
 abbrev pub fault_at : ℕ → ℕ → Code → WalkFault
 fault_at line column code = record { line = line; column = column; code = code }
@@ -102,25 +101,25 @@ end_line n [] = n
 end_line n (m ∷ ls) = suc n
 
 -- the cases after commands
-abbrev pub walked : Option Cover → Bool → List Held → List Command → List Held → List Held
-walked cover declared exits [] cases = cases
-walked cover declared exits (k ∷ ks) cases = walked cover declared exits ks (cases_in (map (outcome cover declared exits k k.action) cases))
+abbrev pub walked : RuleLists → Bool → List Held → List Command → List Held → List Held
+walked rules declared exits [] cases = cases
+walked rules declared exits (k ∷ ks) cases = walked rules declared exits ks (cases_in (map (outcome rules declared exits k k.action) cases))
 
 -- the faults of the rest of line n, walked from cases; where there are too many cases the line ends
 abbrev pub if_few : Bool → WalkFault → List WalkFault → List WalkFault
 if_few true f rest = f ∷ []
 if_few false f rest = rest
 
-abbrev pub walk_rest : Option Cover → Bool → List Held → List Held → ℕ → Line → List Line → List Command → List Held → List WalkFault
-walk_rest cover declared exits next n l ls [] cases = faults_in (end_line n ls) (map (at_line_end declared exits next l ls) cases)
-walk_rest cover declared exits next n l ls (k ∷ ks) cases =
-    let os = map (outcome cover declared exits k k.action) cases in
-    faults_in n os ++ if_few (too_many (cases_in os)) (fault_at n k.column TooManyCases) (walk_rest cover declared exits next n l ls ks (cases_in os))
+abbrev pub walk_rest : RuleLists → Bool → List Held → List Held → ℕ → Line → List Line → List Command → List Held → List WalkFault
+walk_rest rules declared exits next n l ls [] cases = faults_in (end_line n ls) (map (at_line_end declared exits next l ls) cases)
+walk_rest rules declared exits next n l ls (k ∷ ks) cases =
+    let os = map (outcome rules declared exits k k.action) cases in
+    faults_in n os ++ if_few (too_many (cases_in os)) (fault_at n k.column TooManyCases) (walk_rest rules declared exits next n l ls ks (cases_in os))
 
 -- the faults of lines from number n on, each walked from the cases listed for it
-abbrev pub walk_lines : Option Cover → Bool → EntryCert → ℕ → List Line → List WalkFault
-walk_lines cover declared b n [] = []
-walk_lines cover declared b n (l ∷ ls) = walk_rest cover declared b.exits (listed b (suc n)) n l ls l.commands (listed b n) ++ walk_lines cover declared b (suc n) ls
+abbrev pub walk_lines : RuleLists → Bool → EntryCert → ℕ → List Line → List WalkFault
+walk_lines rules declared b n [] = []
+walk_lines rules declared b n (l ∷ ls) = walk_rest rules declared b.exits (listed b (suc n)) n l ls l.commands (listed b n) ++ walk_lines rules declared b (suc n) ls
 
 -- The entry begins with no lock held, and a declared one has no exit with a lock held.
 abbrev pub some_held : List Held → Bool
@@ -136,12 +135,12 @@ abbrev pub start_faults : Bool → EntryCert → ℕ → List WalkFault
 start_faults declared b n = begin_faults b n ++ exit_faults declared b n
 
 -- the faults of an entry, given the block that certifies it
-abbrev pub block_faults : Option Cover → Bool → ℕ → List Line → Option EntryCert → List WalkFault
-block_faults cover declared n lines None = fault_at n 1 NoCertificate ∷ []
-block_faults cover declared n lines (Some b) = start_faults declared b n ++ walk_lines cover declared b n lines
+abbrev pub block_faults : RuleLists → Bool → ℕ → List Line → Option EntryCert → List WalkFault
+block_faults rules declared n lines None = fault_at n 1 NoCertificate ∷ []
+block_faults rules declared n lines (Some b) = start_faults declared b n ++ walk_lines rules declared b n lines
 
 -- an entry is declared where a declared text names it, and certified by the first block that names it
-unfoldable pub is_declared : List Routine → Rules → EntryId → Bool
+unfoldable pub is_declared : List Routine → RuleLists → EntryId → Bool
 is_declared routines rules e = list_any (names routines e) rules.entries
 
 abbrev pub first_block : List Routine → EntryId → List EntryCert → Option EntryCert
@@ -152,5 +151,5 @@ unfoldable pub block_of : List Routine → Certificate → EntryId → Option En
 block_of routines cert e = first_block routines e cert.blocks
 
 -- The verdict of an entry: its faults, in no order.
-unfoldable pub verdict : List Routine → Rules → Certificate → EntryId → List WalkFault
-verdict routines rules cert e = block_faults rules.cover (is_declared routines rules e) e.line (lines_of routines e) (block_of routines cert e)
+unfoldable pub verdict : List Routine → RuleLists → Certificate → EntryId → List WalkFault
+verdict routines rules cert e = block_faults rules (is_declared routines rules e) e.line (lines_of routines e) (block_of routines cert e)

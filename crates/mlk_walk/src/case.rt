@@ -5,6 +5,7 @@ ghost use Rattle.mlk_machine.specs.LockNames.{times};
 ghost use Rattle.mlk_walk.specs.Walk.{agree, same_held, is_listed, taken};
 
 use crate::cert::Case;
+use crate::held::Held;
 use mlk_machine::plain::LockName;
 use std::alloc::{AllocError, Global};
 
@@ -58,13 +59,13 @@ pub(crate) fn place_of(name: &LockName, held: &[LockName]) -> Option<usize>
     None
 }
 
-/// Copies of cases.
-pub(crate) fn copies(alloc: Global, cases: &[Case]) -> Result<Vec<Case>, AllocError>
+/// What each of the cases holds.
+pub(crate) fn all_held(alloc: Global, cases: &[Case]) -> Result<Vec<Held>, AllocError>
     ensures { IfOk result (λ v. v.items ≡ cases.now) }
 {
     let mut all = Vec::new(alloc);
     for case in cases {
-        all.push(case.copy(alloc)?)?;
+        all.push(Held::of(alloc, case)?)?;
     }
     Ok(all)
 }

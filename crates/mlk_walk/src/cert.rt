@@ -1,10 +1,10 @@
 // What a certificate says of straight lines.
 
-ghost use Rattle.std.specs.Prelude.{◌≡◌, ◌∷◌, ◌++◌, [], IfOk, OnOk, OnErr, ◌<◌, length, remove};
+ghost use Rattle.std.specs.Prelude.{◌≡◌, []};
 ghost use Rattle.mlk_walk.specs.Points.{PointsAscend};
 
 use mlk_machine::plain::{EntryText, LockName};
-use std::alloc::{AllocError, Global};
+use std::alloc::Global;
 use std::marker::Model;
 
 /// The lock names that a job holds. One that it holds k times stands k times; their order says nothing.
@@ -35,34 +35,6 @@ impl Case {
         ensures { result.now ≡ self.now }
     {
         self.names.as_slice()
-    }
-
-    /// An equal case.
-    pub fn copy(&self, alloc: Global) -> Result<Case, AllocError>
-        ensures { IfOk result (λ c. c ≡ self.now) }
-    {
-        let mut names = Vec::new(alloc);
-        for name in self.names.iter() {
-            names.push(name.copy()?)?;
-        }
-        Ok(Case { names })
-    }
-
-    /// Takes out the name at a place.
-    pub fn remove(&mut self, place: usize) -> LockName
-        requires { place < length self.old }
-        ensures { self.new ≡ remove self.old place }
-    {
-        self.names.remove(place)
-    }
-
-    /// One more name, behind the others.
-    pub fn push(&mut self, name: LockName) -> Result<(), AllocError>
-        ensures ok { OnOk result (self.new ≡ self.old ++ name ∷ []) }
-        ensures err { OnErr result (self.new ≡ self.old) }
-    {
-        self.names.push(name)?;
-        Ok(())
     }
 }
 

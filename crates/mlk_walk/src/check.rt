@@ -8,27 +8,28 @@ ghost use Rattle.mlk_walk.specs.Walk.{is_declared, first_block, block_of, verdic
 
 use crate::cert::{Certificate, EntryCert};
 use crate::entry::check_lines;
-use crate::rules::Rules;
 use crate::verdict::Verdict;
-use mlk_machine::plain::{EntryId, EntryText, Plain};
+use mlk_machine::plain::{EntryId, Plain};
+use mlk_rules::{Rules, entries};
+use mlk_text::Value;
 use std::alloc::{AllocError, Global};
 
 // Whether a text names the entry.
 #[tactic(auto, unfolding(mlk_machine::specs::Entries::names))]
-pub(crate) fn is_named(plain: &Plain, entry: EntryId, text: &EntryText) -> bool
+pub(crate) fn is_named(plain: &Plain, entry: EntryId, text: &[u8]) -> bool
     ensures { result ≡ names plain.now entry text.now }
 {
-    match plain.entry(text.as_bytes()) {
+    match plain.entry(text) {
         None => false,
         Some(found) => entry.routine == found.routine && entry.line == found.line,
     }
 }
 
-fn some_name(plain: &Plain, entry: EntryId, texts: &[EntryText]) -> bool
+fn some_name(plain: &Plain, entry: EntryId, texts: &[Value]) -> bool
     ensures { result ≡ list_any (names plain.now entry) texts.now }
 {
     for text in texts {
-        if is_named(plain, entry, text) {
+        if is_named(plain, entry, text.as_bytes()) {
             return true;
         }
     }
@@ -39,7 +40,7 @@ fn first_named<'a>(plain: &Plain, entry: EntryId, blocks: &'a [EntryCert]) -> Op
     ensures { option_copied result ≡ first_block plain.now entry blocks.now }
 {
     for block in blocks {
-        if is_named(plain, entry, &block.entry) {
+        if is_named(plain, entry, block.entry.as_bytes()) {
             return Some(block);
         }
     }
@@ -61,17 +62,10 @@ pub fn check_entry(
     ensures faults { IfOk result (λ v. SameSet v (verdict plain.now rules.now certificate.now entry)) }
     ensures order { IfOk result (λ v. IsAscending v) }
 {
-    let declared = some_name(plain, entry, rules.entries.as_slice());
+    let declared = some_name(plain, entry, entries(rules));
     let block = first_named(plain, entry, certificate.blocks.as_slice());
     let lines = plain.lines_of(entry);
-    let found = check_lines(
-        alloc,
-        rules.cover.as_ref(),
-        declared,
-        entry.line,
-        lines,
-        block,
-    )?;
+    let found = check_lines(alloc, rules, declared, entry.line, lines, block)?;
     let _ = found.as_slice();
     Ok(found)
 }

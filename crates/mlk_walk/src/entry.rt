@@ -8,10 +8,10 @@ ghost use Rattle.mlk_walk.specs.ByPoint.{at_line, point_faults, points_faults};
 
 use crate::case::is_listed;
 use crate::cert::{Case, EntryCert, Point};
-use crate::rules::Cover;
 use crate::verdict::{Verdict, WalkFault};
 use crate::walk::{Rows, walk_line};
 use mlk_machine::plain::Line;
+use mlk_rules::Rules;
 use mlk_text::Code;
 use std::alloc::{AllocError, Global};
 
@@ -51,7 +51,7 @@ fn walk_first(
     rest: &[Point],
 ) -> Result<(), AllocError>
     requires { PointsAscend rest.now }
-    ensures { OnOk result (Adds out.old out.new (at_line (option_copied rows.now.cover) rows.now.declared rows.now.exits.now point.now rest.now true lines.now)) }
+    ensures { OnOk result (Adds out.old out.new (at_line rows.now.rules.now rows.now.declared rows.now.exits.now point.now rest.now true lines.now)) }
 {
     let Some((l, ls)) = lines.split_first() else {
         return Ok(());
@@ -82,7 +82,7 @@ fn walk_point(
     rest: &[Point],
 ) -> Result<(), AllocError>
     requires { PointsAscend rest.now }
-    ensures { OnOk result (Adds out.old out.new (point_faults (option_copied rows.now.cover) rows.now.declared rows.now.exits.now first lines.now point.now rest.now)) }
+    ensures { OnOk result (Adds out.old out.new (point_faults rows.now.rules.now rows.now.declared rows.now.exits.now first lines.now point.now rest.now)) }
 {
     let line = point.line as usize;
     if point.round == 0 && first <= line {
@@ -107,7 +107,7 @@ fn walk_points(
     points: &[Point],
 ) -> Result<(), AllocError>
     requires { PointsAscend points.now }
-    ensures { OnOk result (Adds out.old out.new (points_faults (option_copied rows.now.cover) rows.now.declared rows.now.exits.now first lines.now points.now)) }
+    ensures { OnOk result (Adds out.old out.new (points_faults rows.now.rules.now rows.now.declared rows.now.exits.now first lines.now points.now)) }
 {
     for (i, point) in points.iter().enumerate() {
         let (_, rest) = points.split_at(i + 1);
@@ -175,17 +175,17 @@ fn check_start(
 // The faults of an entry that a block certifies, given its first line's number and its lines.
 fn check_block(
     alloc: Global,
-    cover: Option<&Cover>,
+    rules: &Rules,
     declared: bool,
     first: usize,
     lines: &[Line],
     block: &EntryCert,
 ) -> Result<Verdict, AllocError>
-    ensures { IfOk result (λ v. SameSet v (block_faults (option_copied cover.entry) declared first lines.now (Some block.now))) }
+    ensures { IfOk result (λ v. SameSet v (block_faults rules.now declared first lines.now (Some block.now))) }
 {
     let mut out = Verdict::new(alloc);
     let rows = Rows {
-        cover,
+        rules,
         declared,
         exits: block.exits.as_slice(),
     };
@@ -203,13 +203,13 @@ fn check_block(
 
 pub(crate) fn check_lines(
     alloc: Global,
-    cover: Option<&Cover>,
+    rules: &Rules,
     declared: bool,
     first: usize,
     lines: &[Line],
     block: Option<&EntryCert>,
 ) -> Result<Verdict, AllocError>
-    ensures { IfOk result (λ v. SameSet v (block_faults (option_copied cover.entry) declared first lines.now (option_copied block.entry))) }
+    ensures { IfOk result (λ v. SameSet v (block_faults rules.now declared first lines.now (option_copied block.entry))) }
 {
     let Some(block) = block else {
         let mut out = Verdict::new(alloc);
@@ -220,5 +220,5 @@ pub(crate) fn check_lines(
         })?;
         return Ok(out);
     };
-    check_block(alloc, cover, declared, first, lines, block)
+    check_block(alloc, rules, declared, first, lines, block)
 }

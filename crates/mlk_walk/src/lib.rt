@@ -4,12 +4,12 @@
 mod case;
 mod cert;
 mod check;
-mod cover;
 mod entry;
+mod held;
 mod places;
 mod program;
 mod report;
-mod rules;
+mod term;
 mod verdict;
 mod walk;
 
@@ -17,7 +17,4 @@ pub use cert::{Blocks, Case, Cases, Certificate, EntryCert, Point, Points};
 pub use check::check_entry;
 pub use program::{check_all, missing_entry};
 pub use report::{Report, Row};
-pub use rules::{
-    Cover, Element, Elements, EntryTexts, Family, Part, Parts, Pattern, Rules, Template,
-};
 pub use verdict::{Verdict, WalkFault};

@@ -5,7 +5,8 @@ ghost use Rattle.mlk_walk.specs.Places.{place_in, HasPlaces, Notes, block_texts}
 
 use crate::cert::EntryCert;
 use indexmap::IndexMap;
-use mlk_machine::plain::{EntryId, EntryText, Plain};
+use mlk_machine::plain::{EntryId, Plain};
+use mlk_text::Value;
 use std::alloc::{AllocError, Global};
 use std::marker::Model;
 
@@ -40,10 +41,10 @@ impl Places {
     }
 
     // Notes a text at a place, behind all others.
-    fn note(&mut self, plain: &Plain, text: &EntryText, place: usize) -> Result<(), AllocError>
+    fn note(&mut self, plain: &Plain, text: &[u8], place: usize) -> Result<(), AllocError>
         ensures { OnOk result (Notes plain.now text.now place self.old self.new) }
     {
-        let Some(entry) = plain.entry(text.as_bytes()) else {
+        let Some(entry) = plain.entry(text) else {
             return Ok(());
         };
         if self.places.contains_key(&entry) {
@@ -55,16 +56,12 @@ impl Places {
 }
 
 /// Where each entry is named first among texts.
-pub(crate) fn places_of(
-    alloc: Global,
-    plain: &Plain,
-    texts: &[EntryText],
-) -> Result<Places, AllocError>
+pub(crate) fn places_of(alloc: Global, plain: &Plain, texts: &[Value]) -> Result<Places, AllocError>
     ensures { IfOk result (λ p. HasPlaces plain.now texts.now p) }
 {
     let mut places = Places::new(alloc);
     for (i, text) in texts.iter().enumerate() {
-        places.note(plain, text, i)?;
+        places.note(plain, text.as_bytes(), i)?;
     }
     Ok(places)
 }
@@ -79,7 +76,7 @@ pub(crate) fn block_places(
 {
     let mut places = Places::new(alloc);
     for (i, block) in blocks.iter().enumerate() {
-        places.note(plain, &block.entry, i)?;
+        places.note(plain, block.entry.as_bytes(), i)?;
     }
     Ok(places)
 }

@@ -1,6 +1,6 @@
 // The check of all entries of a program.
 
-ghost use Rattle.std.specs.Prelude.{◌≡◌, ◌∷◌, ◌++◌, [], if◌then◌else◌, IfOk, OnOk, MatchOption, option_copied, option_and_then, slice_get};
+ghost use Rattle.std.specs.Prelude.{◌≡◌, ◌∷◌, ◌++◌, [], if◌then◌else◌, IfOk, OnOk, MatchOption, option_copied, option_and_then, option_map, slice_get};
 ghost use Rattle.mlk_walk.specs.Walk.{is_declared, block_of, verdict};
 ghost use Rattle.mlk_walk.specs.Places.{block_texts};
 ghost use Rattle.mlk_walk.specs.Report.{is_entry, line_ids, ids_from, all_entries, is_checked, IsReport, Extends, IsOutcome, IsReady, first_missing, missing};
@@ -10,9 +10,10 @@ use crate::cert::{Certificate, EntryCert};
 use crate::entry::check_lines;
 use crate::places::{Places, block_places, places_of};
 use crate::report::Report;
-use crate::rules::Rules;
 use crate::verdict::Verdict;
-use mlk_machine::plain::{EntryId, EntryText, Line, Plain, Routine};
+use mlk_machine::plain::{EntryId, Line, Plain, Routine};
+use mlk_rules::{Rules, entries};
+use mlk_text::Value;
 use std::alloc::{AllocError, Global};
 
 // What the entries of a program are checked by.
@@ -67,8 +68,7 @@ fn verdict_of(
         return Ok(None);
     }
     let lines = checks.plain.lines_of(entry);
-    let cover = checks.rules.cover.as_ref();
-    let found = check_lines(alloc, cover, declared, entry.line, lines, block)?;
+    let found = check_lines(alloc, checks.rules, declared, entry.line, lines, block)?;
     let _ = found.as_slice();
     Ok(Some(found))
 }
@@ -159,30 +159,30 @@ pub fn check_all(
         plain,
         rules,
         certificate,
-        declared: places_of(alloc, plain, rules.entries.as_slice())?,
+        declared: places_of(alloc, plain, rules.lists().entries.as_slice())?,
         certified: block_places(alloc, plain, certificate.blocks.as_slice())?,
     };
     let report = check_routines(alloc, &checks)?;
     Ok(report)
 }
 
-fn first_unnamed<'a>(plain: &Plain, texts: &'a [EntryText]) -> Option<&'a EntryText>
-    ensures { option_copied result ≡ first_missing plain.now texts.now }
+fn first_unnamed<'a>(plain: &Plain, texts: &'a [Value]) -> Option<&'a [u8]>
+    ensures { option_map (λ t. t.now) result ≡ first_missing plain.now texts.now }
 {
     for text in texts {
         if plain.entry(text.as_bytes()).is_none() {
-            return Some(text);
+            return Some(text.as_bytes());
         }
     }
     None
 }
 
-fn first_unnamed_block<'a>(plain: &Plain, blocks: &'a [EntryCert]) -> Option<&'a EntryText>
-    ensures { option_copied result ≡ first_missing plain.now (block_texts blocks.now) }
+fn first_unnamed_block<'a>(plain: &Plain, blocks: &'a [EntryCert]) -> Option<&'a [u8]>
+    ensures { option_map (λ t. t.now) result ≡ first_missing plain.now (block_texts blocks.now) }
 {
     for block in blocks {
         if plain.entry(block.entry.as_bytes()).is_none() {
-            return Some(&block.entry);
+            return Some(block.entry.as_bytes());
         }
     }
     None
@@ -193,10 +193,10 @@ pub fn missing_entry<'a>(
     plain: &Plain,
     rules: &'a Rules,
     certificate: &'a Certificate,
-) -> Option<&'a EntryText>
-    ensures { option_copied result ≡ missing plain.now rules.now certificate.now }
+) -> Option<&'a [u8]>
+    ensures { option_map (λ t. t.now) result ≡ missing plain.now rules.now certificate.now }
 {
-    if let Some(text) = first_unnamed(plain, rules.entries.as_slice()) {
+    if let Some(text) = first_unnamed(plain, entries(rules)) {
         return Some(text);
     }
     first_unnamed_block(plain, certificate.blocks.as_slice())

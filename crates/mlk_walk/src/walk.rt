@@ -1,23 +1,23 @@
 // The walk of an entry's lines.
 
-ghost use Rattle.std.specs.Prelude.{◌≡◌, ◌∷◌, ◌++◌, [], IfOk, OnOk, option_copied, map, length, nat_lt};
+ghost use Rattle.std.specs.Prelude.{◌≡◌, ◌∷◌, ◌++◌, [], IfOk, OnOk, map, length, nat_lt};
 ghost use Rattle.std.specs.List.{list_any};
 ghost use Rattle.mlk_walk.specs.Sets.{Adds};
 ghost use Rattle.mlk_walk.specs.Walk.{outcome, at_frame_end, at_line_end, end_line, faults_in, cases_in, too_many, walk_rest};
 
-use crate::case::{copies, is_listed, place_of};
+use crate::case::{all_held, is_listed, place_of};
 use crate::cert::Case;
-use crate::cover::uncovered;
-use crate::rules::Cover;
+use crate::held::{Held, uncovered};
 use crate::verdict::{Verdict, WalkFault};
 use mlk_machine::plain::{Action, Command, Line};
+use mlk_rules::Rules;
 use mlk_text::Code;
 use std::alloc::{AllocError, Global};
 
 // What comes of a case at a command: it goes on, it is dropped at a fault's column, or its frame ends well.
 #[derive(Drop, Debug)]
 pub(crate) enum Outcome {
-    Goes(Case),
+    Goes(Held),
     Faulty(u32, Code),
     Ends,
 }
@@ -25,12 +25,12 @@ pub(crate) enum Outcome {
 /// What all lines of one entry are walked by.
 #[derive(Clone, Copy)]
 pub(crate) struct Rows<'a> {
-    pub cover: Option<&'a Cover>,
+    pub rules: &'a Rules,
     pub declared: bool,
     pub exits: &'a [Case],
 }
 
-fn frame_end(rows: &Rows<'_>, column: u32, case: &Case) -> Outcome
+fn frame_end(rows: &Rows<'_>, column: u32, case: &Held) -> Outcome
     ensures { result ≡ at_frame_end rows.now.declared rows.now.exits.now column case.now }
 {
     if rows.declared && !case.as_slice().is_empty() {
@@ -44,24 +44,18 @@ fn frame_end(rows: &Rows<'_>, column: u32, case: &Case) -> Outcome
 }
 
 // One row of the walk.
-fn row(rows: &Rows<'_>, command: &Command, mut case: Case) -> Result<Outcome, AllocError>
-    ensures { IfOk result (λ o. o ≡ outcome (option_copied rows.now.cover) rows.now.declared rows.now.exits.now command.now command.now.action case) }
+fn row(alloc: Global, rows: &Rows<'_>, command: &Command, case: Held) -> Result<Outcome, AllocError>
+    ensures { IfOk result (λ o. o ≡ outcome rows.now.rules.now rows.now.declared rows.now.exits.now command.now command.now.action case) }
 {
     match &command.action {
-        Action::Set { column, node, .. } => match uncovered(rows.cover, node, case.as_slice()) {
+        Action::Set { column, node, .. } => match uncovered(alloc, rows.rules, node, &case)? {
             None => Ok(Outcome::Goes(case)),
             Some(code) => Ok(Outcome::Faulty(*column, code)),
         },
-        Action::Lock { name, .. } => {
-            case.push(name.copy()?)?;
-            Ok(Outcome::Goes(case))
-        }
+        Action::Lock { name, .. } => Ok(Outcome::Goes(case.with(alloc, name)?)),
         Action::Unlock { column, name } => match place_of(name, case.as_slice()) {
             None => Ok(Outcome::Faulty(*column, Code::NotHeld)),
-            Some(place) => {
-                let _ = case.remove(place);
-                Ok(Outcome::Goes(case))
-            }
+            Some(place) => Ok(Outcome::Goes(case.without(place))),
         },
         Action::Quit => Ok(frame_end(rows, command.column, &case)),
     }
@@ -71,7 +65,7 @@ fn row(rows: &Rows<'_>, command: &Command, mut case: Case) -> Result<Outcome, Al
 fn keep(
     out: &mut Verdict,
     line: usize,
-    next: &mut Vec<Case>,
+    next: &mut Vec<Held>,
     outcome: Outcome,
 ) -> Result<(), AllocError>
     ensures cases { OnOk result (next.new.items ≡ next.old.items ++ cases_in (outcome ∷ [])) }
@@ -94,20 +88,20 @@ fn walk_command(
     rows: &Rows<'_>,
     line: usize,
     command: &Command,
-    cases: Vec<Case>,
-) -> Result<Vec<Case>, AllocError>
-    ensures cases { IfOk result (λ v. v.items ≡ cases_in (map (outcome (option_copied rows.now.cover) rows.now.declared rows.now.exits.now command.now command.now.action) cases.items)) }
-    ensures faults { OnOk result (Adds out.old out.new (faults_in line (map (outcome (option_copied rows.now.cover) rows.now.declared rows.now.exits.now command.now command.now.action) cases.items))) }
+    cases: Vec<Held>,
+) -> Result<Vec<Held>, AllocError>
+    ensures cases { IfOk result (λ v. v.items ≡ cases_in (map (outcome rows.now.rules.now rows.now.declared rows.now.exits.now command.now command.now.action) cases.items)) }
+    ensures faults { OnOk result (Adds out.old out.new (faults_in line (map (outcome rows.now.rules.now rows.now.declared rows.now.exits.now command.now command.now.action) cases.items))) }
 {
     let mut next = Vec::new(alloc);
     for case in cases {
-        let outcome = row(rows, command, case)?;
+        let outcome = row(alloc, rows, command, case)?;
         keep(out, line, &mut next, outcome)?;
     }
     Ok(next)
 }
 
-fn some_is_large(cases: &[Case]) -> bool
+fn some_is_large(cases: &[Held]) -> bool
     ensures { result ≡ list_any (λ c. nat_lt 16 (length c)) cases.now }
 {
     let Some((c, cs)) = cases.split_first() else {
@@ -117,13 +111,13 @@ fn some_is_large(cases: &[Case]) -> bool
 }
 
 #[tactic(auto, unfolding(crate::specs::Walk::too_many))]
-fn are_too_many(cases: &[Case]) -> bool
+fn are_too_many(cases: &[Held]) -> bool
     ensures { result ≡ too_many cases.now }
 {
     cases.len() > 16 || some_is_large(cases)
 }
 
-fn line_end(rows: &Rows<'_>, next: &[Case], l: &Line, ls: &[Line], case: &Case) -> Outcome
+fn line_end(rows: &Rows<'_>, next: &[Case], l: &Line, ls: &[Line], case: &Held) -> Outcome
     ensures { result ≡ at_line_end rows.now.declared rows.now.exits.now next.now l.now ls.now case.now }
 {
     if ls.is_empty() {
@@ -155,7 +149,7 @@ fn walk_ends(
     line: u32,
     l: &Line,
     ls: &[Line],
-    cases: &[Case],
+    cases: &[Held],
 ) -> Result<(), AllocError>
     ensures { OnOk result (Adds out.old out.new (faults_in (end_line line ls.now) (map (at_line_end rows.now.declared rows.now.exits.now next.now l.now ls.now) cases.now))) }
 {
@@ -179,9 +173,9 @@ pub(crate) fn walk_line(
     ls: &[Line],
     listed: &[Case],
 ) -> Result<(), AllocError>
-    ensures { OnOk result (Adds out.old out.new (walk_rest (option_copied rows.now.cover) rows.now.declared rows.now.exits.now next.now line l.now ls.now l.now.commands listed.now)) }
+    ensures { OnOk result (Adds out.old out.new (walk_rest rows.now.rules.now rows.now.declared rows.now.exits.now next.now line l.now ls.now l.now.commands listed.now)) }
 {
-    let mut cases = copies(alloc, listed)?;
+    let mut cases = all_held(alloc, listed)?;
     for command in l.commands.as_slice() {
         cases = walk_command(alloc, out, rows, line as usize, command, cases)?;
         if are_too_many(cases.as_slice()) {

@@ -3,18 +3,18 @@ use Rattle.std.proofs.Common.{◌≡◌, ℕ, ◌<◌, ◌≤◌, ◌+◌, ◌++
 use Rattle.std.specs.Prelude.{slice_get}
 use Rattle.std.proofs.lemmas.List.{drop_all, drop_more, take_more}
 use Rattle.mlk_machine.specs.declared.plain.tree.Routine.{Routine}
-use Rattle.mlk_walk.specs.declared.rules.Rules.{Rules}
+use Rattle.mlk_rules.specs.declared.rules.RuleLists.{RuleLists}
 use Rattle.mlock.specs.Twice.{FirstTwice}
 use Rattle.mlock.specs.RoutineRefusals.{Places}
 use Rattle.mlock.specs.RoutineOutcomes.{RefusesAs}
-use Rattle.mlock.specs.RuleSections.{SaysRules, RefusesRules}
+use Rattle.mlk_rules.specs.RuleSections.{SaysRules, RefusesRules}
 use Rattle.mlock.specs.CertificateTheorem.{FirstFault}
 use Rattle.mlock.specs.declared.certificate.read.CertificateError.{CertificateError}
 use Rattle.mlock.specs.declared.certificate.read.CertificateError.TheVariants as certificate_error
 use Rattle.mlock.specs.declared.routine.refusal.RoutineError.{RoutineError}
 use Rattle.mlock.specs.declared.routine.refusal.RoutineError.TheVariants as routine_error
-use Rattle.mlock.specs.declared.rules.fault.RulesError.{RulesError}
-use Rattle.mlock.specs.declared.rules.fault.RulesError.TheVariants as rules_error
+use Rattle.mlk_rules.specs.declared.read.fault.RulesError.{RulesError}
+use Rattle.mlk_rules.specs.declared.read.fault.RulesError.TheVariants as rules_error
 use Rattle.mlock.specs.declared.source.Source.{Source}
 use Rattle.mlock.specs.declared.source.Sources.{Sources}
 use Rattle.mlock.specs.Checked.{IsRead, AreRead, IsProgram, IsRefusedBy, name_of, twice_fault, refusal_of_routine, refusal_of_rules, refusal_of_certificate, RefusesFirst, RefusesTwice}
@@ -69,7 +69,7 @@ pub by-rules : (sources : Sources) (trees : List Routine) (e : RulesError) → I
 by-rules sources trees rules_error.OutOfMemory program refused = record {}
 by-rules sources trees (rules_error.Refused fault) program refused = (trees, program, refused)
 
-pub by-certificate : (sources : Sources) (trees : List Routine) (rules : Rules) (e : CertificateError) → IsProgram sources trees → SaysRules sources.rules.items rules → FirstFault sources.certificate.items e
+pub by-certificate : (sources : Sources) (trees : List Routine) (rules : RuleLists) (e : CertificateError) → IsProgram sources trees → SaysRules sources.rules.items rules → FirstFault sources.certificate.items e
     → IsRefusedBy sources (refusal_of_certificate e)
 by-certificate sources trees rules certificate_error.OutOfMemory program said refused = record {}
 by-certificate sources trees rules (certificate_error.Refused fault) program said refused = (trees, rules, program, said, refused)

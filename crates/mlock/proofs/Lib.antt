@@ -19,6 +19,3 @@ pub mod CertificateEntries
 pub mod CertificateBlocks
 pub mod CertificatePartsBack
 pub mod CertificateBack
-pub mod RuleTables
-pub mod RuleTexts
-pub mod RuleExamples

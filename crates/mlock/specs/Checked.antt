@@ -3,7 +3,7 @@ use Rattle.std.specs.Prelude.{ℕ, ◌≡◌, ◌⊎◌, List, [], ◌∷◌, �
 use Rattle.mlk_text.specs.declared.code.Code.TheVariants as code
 use Rattle.mlk_text.specs.declared.fault.Fault.{Fault}
 use Rattle.mlk_machine.specs.declared.plain.tree.Routine.{Routine}
-use Rattle.mlk_walk.specs.declared.rules.Rules.{Rules}
+use Rattle.mlk_rules.specs.declared.rules.RuleLists.{RuleLists}
 use Rattle.mlk_walk.specs.declared.cert.Certificate.{Certificate}
 use Rattle.mlk_walk.specs.Report.{IsReport, all_entries, missing}
 use Rattle.mlk_walk.specs.Theorem.{EachRunIsBalanced, NoJobsClash}
@@ -12,13 +12,13 @@ use Rattle.mlock.specs.RoutineGrammar.{IsRoutine}
 use Rattle.mlock.specs.RoutineRefusals.{fault_at, IsRefusal}
 use Rattle.mlock.specs.CertificateSpelling.{Spells}
 use Rattle.mlock.specs.CertificateTheorem.{FirstFault}
-use Rattle.mlock.specs.RuleSections.{SaysRules, RefusesRules}
+use Rattle.mlk_rules.specs.RuleSections.{SaysRules, RefusesRules}
 use Rattle.mlock.specs.declared.certificate.read.CertificateError.{CertificateError}
 use Rattle.mlock.specs.declared.certificate.read.CertificateError.TheVariants as certificate_error
 use Rattle.mlock.specs.declared.routine.refusal.RoutineError.{RoutineError}
 use Rattle.mlock.specs.declared.routine.refusal.RoutineError.TheVariants as routine_error
-use Rattle.mlock.specs.declared.rules.fault.RulesError.{RulesError}
-use Rattle.mlock.specs.declared.rules.fault.RulesError.TheVariants as rules_error
+use Rattle.mlk_rules.specs.declared.read.fault.RulesError.{RulesError}
+use Rattle.mlk_rules.specs.declared.read.fault.RulesError.TheVariants as rules_error
 use Rattle.mlock.specs.declared.source.Source.{Source}
 use Rattle.mlock.specs.declared.source.Sources.{Sources}
 use Rattle.mlock.specs.declared.checked.Checked.{Checked}
@@ -44,12 +44,12 @@ abbrev pub IsProgram : Sources → List Routine → Type 0
 IsProgram sources trees = AreRead sources.routines.items trees × NamesDiffer name_of trees
 
 -- the program, the rules and the certificate that the texts spell
-abbrev pub AreSpelled : Sources → List Routine → Rules → Certificate → Type 0
+abbrev pub AreSpelled : Sources → List Routine → RuleLists → Certificate → Type 0
 AreSpelled sources trees rules certificate = IsProgram sources trees × SaysRules sources.rules.items rules × Spells certificate sources.certificate.items
 
 -- The report is that of what the texts spell, and where it has no row, each run keeps the rules.
 pub record IsChecked (sources : Sources) (checked : Checked) : Type 0 where
-  pub rules : Rules
+  pub rules : RuleLists
   pub certificate : Certificate
   pub spelled : AreSpelled sources checked.plain rules certificate
   pub named : missing checked.plain rules certificate ≡ None
@@ -81,9 +81,9 @@ abbrev pub IsRefusedBy : Sources → Refusal → Type 0
 IsRefusedBy sources refusal.OutOfMemory = Unit {0}
 IsRefusedBy sources (refusal.Routine fault) = IsFirstRefused sources.routines.items fault ⊎ ((trees : List Routine) × AreRead sources.routines.items trees × IsTwice trees fault)
 IsRefusedBy sources (refusal.Rules fault) = (trees : List Routine) × IsProgram sources trees × RefusesRules sources.rules.items (rules_error.Refused fault)
-IsRefusedBy sources (refusal.Certificate fault) = (trees : List Routine) × (rules : Rules)
+IsRefusedBy sources (refusal.Certificate fault) = (trees : List Routine) × (rules : RuleLists)
     × IsProgram sources trees × SaysRules sources.rules.items rules × FirstFault sources.certificate.items (certificate_error.Refused fault)
-IsRefusedBy sources (refusal.Entry entry) = (trees : List Routine) × (rules : Rules) × (certificate : Certificate)
+IsRefusedBy sources (refusal.Entry entry) = (trees : List Routine) × (rules : RuleLists) × (certificate : Certificate)
     × AreSpelled sources trees rules certificate × (missing trees rules certificate ≡ Some entry)
 
 -- the same of what a reader refuses

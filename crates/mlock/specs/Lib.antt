@@ -5,16 +5,11 @@ pub mod Twice
 pub mod RoutineReading
 pub mod RoutineRefusals
 pub mod RoutineOutcomes
-pub mod Sections
 pub mod CertificateSpelling
 pub mod CertificateLexing
 pub mod CertificateBlocks
 pub mod CertificateOutcome
 pub mod CertificateTheorem
-pub mod RuleAnswers
-pub mod RuleTexts
-pub mod RuleKinds
-pub mod RuleSections
 pub mod Files
 pub mod CommandLine
 pub mod Checked

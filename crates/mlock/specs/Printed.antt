@@ -10,9 +10,9 @@ use Rattle.mlk_text.specs.Words.{left_out_word}
 use Rattle.mlk_machine.specs.declared.plain.tree.Line.{Line}
 use Rattle.mlk_machine.specs.declared.plain.tree.Routine.{Routine}
 use Rattle.mlk_walk.specs.declared.report.Row.{Row}
-use Rattle.mlock.specs.declared.rules.fault.RulesFault.{RulesFault}
+use Rattle.mlk_rules.specs.declared.read.fault.RulesFault.{RulesFault}
 use Rattle.mlock.specs.declared.certificate.read.CertificateFault.{CertificateFault}
-use Rattle.mlock.specs.Sections.{section_word}
+use Rattle.mlk_rules.specs.RuleAnswers.{section_word}
 use Rattle.mlk_walk.specs.declared.verdict.WalkFault.{WalkFault}
 
 abbrev pub space : List ℕ

@@ -6,7 +6,7 @@ ghost use Rattle.mlock.specs.declared.checked.Refusal.TheVariants as refusal;
 
 use crate::certificate::{CertificateError, CertificateFault, read_certificate};
 use crate::routine::{RoutineError, read_routine, refused};
-use crate::rules::{RulesError, RulesFault, read_rules};
+use mlk_rules::{RulesError, RulesFault, read_rules};
 use crate::source::{Source, Sources};
 use crate::twice::first_twice;
 use mlk_machine::plain::{EntryText, Plain, Routine};
@@ -110,7 +110,7 @@ pub(crate) fn check_texts(alloc: Global, sources: &Sources<'_>) -> Result<Checke
     let rules = read_rules(alloc, sources.rules.as_slice())?;
     let certificate = read_certificate(alloc, sources.certificate.as_slice())?;
     if let Some(entry) = missing_entry(&plain, &rules, &certificate) {
-        return Err(Refusal::Entry(entry.copy()?));
+        return Err(Refusal::Entry(EntryText::new(Vec::from_slice(alloc, entry)?)));
     }
     let report = check_all(alloc, &plain, &rules, &certificate)?;
     Ok(Checked { plain, report })

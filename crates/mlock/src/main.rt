@@ -6,7 +6,6 @@ mod checked;
 mod printed;
 mod program;
 mod routine;
-mod rules;
 mod source;
 #[cfg(test)]
 mod tests;

@@ -1,5 +1,4 @@
 use Rattle.std.proofs.Common.{◌+◌}
-use Rattle.std.specs.Prelude.{option_copied}
 use Rattle.mlk_machine.proofs.Tables.{drop_at}
 use Rattle.mlk_walk.proofs.PointLemmas.{drop_ascends, next_point}
 use Rattle.mlk_walk.proofs.entry.walk_points.Goals as goal
@@ -11,4 +10,4 @@ pub loop-i-preserved : goal.loop-i-preserved
 loop-i-preserved c =
     let rows = c.args.rows.now in
     let d = drop_at c.args.points.now c.loop-i.i c.index-points-i.result c.loop-i-test.true c.index-points-i.is in
-    next_point (option_copied rows.cover) rows.declared rows.exits.now c.args.first c.args.lines.now c.index-points-i.result _ _ _ c.loop-i.out c.walk_point.new.out _ d c.loop-i.invariant c.split_at.ensures.back c.in_ok-walk_point.ensures
+    next_point rows.rules.now rows.declared rows.exits.now c.args.first c.args.lines.now c.index-points-i.result _ _ _ c.loop-i.out c.walk_point.new.out _ d c.loop-i.invariant c.split_at.ensures.back c.in_ok-walk_point.ensures

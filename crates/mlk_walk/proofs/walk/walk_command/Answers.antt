@@ -1,12 +1,11 @@
 use Rattle.std.proofs.Common.{◌≡◌}
-use Rattle.std.specs.Prelude.{option_copied}
 use Rattle.mlk_walk.specs.Walk.{outcome}
 use Rattle.mlk_walk.proofs.Steps.{next_case, next_faults}
 use Rattle.mlk_walk.proofs.walk.walk_command.Goals as goal
 
 pub loop-case-preserved : goal.loop-case-preserved
 loop-case-preserved c =
-    let f = outcome (option_copied c.args.rows.now.cover) c.args.rows.now.declared c.args.rows.now.exits.now c.args.command.now c.args.command.now.action in
+    let f = outcome c.args.rows.now.rules.now c.args.rows.now.declared c.args.rows.now.exits.now c.args.command.now c.args.command.now.action in
     let o : c.in_ok-outcome.outcome ≡ f c.in-Some.case = c.in_ok-outcome.ensures in
     let d = c.in-Some.ensures.steps.0 in
     record {

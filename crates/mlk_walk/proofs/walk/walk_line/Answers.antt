@@ -1,5 +1,4 @@
 use Rattle.std.proofs.Common.{◌≡◌, ◌∙◌, [], drop, sym, ap}
-use Rattle.std.specs.Prelude.{option_copied}
 use Rattle.std.proofs.lemmas.List.{drop_all}
 use Rattle.mlk_machine.proofs.Tables.{drop_at}
 use Rattle.mlk_walk.specs.Walk.{too_many}
@@ -13,7 +12,7 @@ returns-then-are_too_many c =
     let v = c.as_slice-command-items.ensures in
     let d = drop_at c.args.l.now.commands c.loop-command.command-index k (rw v at c.loop-command-test.true) (rw v at c.command-item.is) in
     let many = ap too_many (sym c.as_slice.ensures.value) ∙ sym c.are_too_many.ensures ∙ c.if-are_too_many.true in
-    last_command (option_copied rows.cover) rows.declared rows.exits.now c.args.next.now c.args.line c.args.l.now c.args.ls.now k _ _ _ _ c.loop-command.out c.walk_command.new.out _ c.add.new.self d c.loop-command.invariant c.in_ok-cases-2.ensures.faults c.in_ok-cases-2.ensures.cases many c.in_ok-add.ensures
+    last_command rows.rules.now rows.declared rows.exits.now c.args.next.now c.args.line c.args.l.now c.args.ls.now k _ _ _ _ c.loop-command.out c.walk_command.new.out _ c.add.new.self d c.loop-command.invariant c.in_ok-cases-2.ensures.faults c.in_ok-cases-2.ensures.cases many c.in_ok-add.ensures
 
 pub loop-command-preserved : goal.loop-command-preserved
 loop-command-preserved c =
@@ -22,7 +21,7 @@ loop-command-preserved c =
     let v = c.as_slice-command-items.ensures in
     let d = drop_at c.args.l.now.commands c.loop-command.command-index k (rw v at c.loop-command-test.true) (rw v at c.command-item.is) in
     let few = ap too_many (sym c.as_slice.ensures.value) ∙ sym c.are_too_many.ensures ∙ c.if-are_too_many.false in
-    next_command (option_copied rows.cover) rows.declared rows.exits.now c.args.next.now c.args.line c.args.l.now c.args.ls.now k _ _ _ _ c.loop-command.out c.walk_command.new.out _ d c.loop-command.invariant c.in_ok-cases-2.ensures.faults c.in_ok-cases-2.ensures.cases few
+    next_command rows.rules.now rows.declared rows.exits.now c.args.next.now c.args.line c.args.l.now c.args.ls.now k _ _ _ _ c.loop-command.out c.walk_command.new.out _ d c.loop-command.invariant c.in_ok-cases-2.ensures.faults c.in_ok-cases-2.ensures.cases few
 
 pub returns : goal.returns
 returns c =

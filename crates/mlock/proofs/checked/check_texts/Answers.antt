@@ -1,7 +1,7 @@
 use Rattle.std.proofs.Common.{rules, sym, subst}
 use Rattle.mlock.specs.CertificateSpelling.{Spells}
 use Rattle.mlock.specs.CertificateTheorem.{FirstFault}
-use Rattle.mlock.specs.RuleSections.{SaysRules, RefusesRules}
+use Rattle.mlk_rules.specs.RuleSections.{SaysRules, RefusesRules}
 use Rattle.mlock.specs.Checked.{AreRead, IsProgram}
 use Rattle.mlock.proofs.Checks.{by-rules, by-certificate}
 use Rattle.mlock.proofs.checked.check_texts.Goals as goal
