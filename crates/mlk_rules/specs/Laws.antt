@@ -82,9 +82,9 @@ abbrev pub OneRank : Type 0
 OneRank = (families : List Family) → FamiliesApart families → RankedOnce families
 
 -- Of each reference, whatever is held, there is one answer: the computed one.
-pub record OneAnswer (rules : RuleLists) (held : List LockTerm) (r : Reference) : Type 0 where
+pub record HasOneAnswer (rules : RuleLists) (held : List LockTerm) (r : Reference) : Type 0 where
   pub is : IsAnswer rules held r (answer rules held r)
   pub only : (found : Option Code) → IsAnswer rules held r found → found ≡ answer rules held r
 
 abbrev pub ComputedAnswers : Type 0
-ComputedAnswers = (rules : RuleLists) (held : List LockTerm) (r : Reference) → OneAnswer rules held r
+ComputedAnswers = (rules : RuleLists) (held : List LockTerm) (r : Reference) → HasOneAnswer rules held r
