@@ -20,6 +20,25 @@ lock = \"^ACCT(id)\"
 label = \"TAKE^ONE\"
 ";
 
+// Rules of each kind, without an entry.
+pub(crate) const BASE: &str = "[[lock]]
+name = \"^ACCT\"
+rank = 10
+[[lock]]
+name = \"^LOG\"
+rank = 20
+[[cover]]
+global = \"^ACCT(id,...)\"
+lock = \"^ACCT(id)\"
+[[cover]]
+global = \"^LOG(...)\"
+lock = \"^LOG\"
+[[private]]
+global = \"^TMP($J,...)\"
+[[readonly]]
+global = \"^CONF(...)\"
+";
+
 pub(crate) const CERT: &str = "mlock-cert 1
 entry TAKE^ONE
 need -
@@ -58,6 +77,12 @@ pub(crate) fn texts(alloc: Global, words: &[&str]) -> Result<Vec<String>, AllocE
         all.push(String::from_str(alloc, word)?)?;
     }
     Ok(all)
+}
+
+pub(crate) fn joined(alloc: Global, front: &str, rest: &str) -> Result<String, AllocError> {
+    let mut text = String::from_str(alloc, front)?;
+    text.push_str(rest)?;
+    Ok(text)
 }
 
 // Runs the words over the files, and compares what is answered.
@@ -137,5 +162,37 @@ end
 ";
     let files = [("rules.toml", RULES), ("cert", low), ("ONE.m", TAKE)];
     expect(&rt, rt.alloc(), &CHECK, &files, 0, "yes\n", "")?;
+    Ok(())
+}
+
+#[test]
+fn reports_by_rules_of_each_kind(rt: HostRuntime) -> Result<(), Fail> {
+    let rules = joined(rt.alloc(), BASE, "[[entry]]\nlabel = \"TAKE^ONE\"\n")?;
+    let rows = [
+        (TAKE, 0, "yes\n"),
+        (
+            "TAKE SET ^ACCT(1)=5 LOCK +^ACCT(1) LOCK -^ACCT(1) QUIT\n",
+            1,
+            "TAKE^ONE 1:10 702 Uncovered\nno 1\n",
+        ),
+        (
+            "TAKE LOCK +^ACCT(1) SET ^CONF(1)=5 LOCK -^ACCT(1) QUIT\n",
+            1,
+            "TAKE^ONE 1:25 703 ReadOnly\nno 1\n",
+        ),
+        (
+            "TAKE LOCK +^ACCT(1) SET ^TMP(1)=5 LOCK -^ACCT(1) QUIT\n",
+            1,
+            "TAKE^ONE 1:25 701 Unruled\nno 1\n",
+        ),
+    ];
+    for (routine, status, printed) in rows {
+        let files = [
+            ("rules.toml", rules.as_str()),
+            ("cert", CERT),
+            ("ONE.m", routine),
+        ];
+        expect(&rt, rt.alloc(), &CHECK, &files, status, printed, "")?;
+    }
     Ok(())
 }

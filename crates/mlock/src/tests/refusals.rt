@@ -1,6 +1,6 @@
 // Refused input, and the line that tells why.
 
-use super::{CERT, CHECK, RULES, TAKE, expect};
+use super::{BASE, CERT, CHECK, RULES, TAKE, expect, joined};
 use std::test::Fail;
 
 #[test]
@@ -51,16 +51,16 @@ fn refuses_rules(rt: HostRuntime) -> Result<(), Fail> {
     let rows = [
         ("[[lock", "refused rules file 0 401 Toml\n"),
         (
-            "[[lock]]\nname = \"^A\"\nrank = 1\n[[private]]\nglobal = \"^TMP($J,...)\"\n",
-            "refused rules file 0 402 Key\n",
+            "[[lock]]\nname = \"^A\"\nrank = 5\n[[lock]]\nname = \"^A(1)\"\nrank = 6\n",
+            "refused rules lock 2 405 FamiliesMeet\n",
         ),
         (
-            "[[cover]]\nglobal = \"^A\"\nlock = \"^A\"\n[[cover]]\nglobal = \"^B\"\nlock = \"^B\"\n",
-            "refused rules cover 2 402 Key\n",
+            "[[lock]]\nname = \"^A\"\nrank = 1000000\n",
+            "refused rules lock 1 406 Limit\n",
         ),
         (
-            "[[lock]]\nname = \"^A\"\nrank = 1\n[[lock]]\nname = \"^B\"\nrank = 2\n",
-            "refused rules lock 2 402 Key\n",
+            "[[cover]]\nglobal = \"^G(id,...)\"\nlock = \"^A(id)\"\nalso = \"^B(id)\"\n",
+            "refused rules cover 1 402 Key\n",
         ),
         (
             "[[entry]]\nlabel = \"X^NONE\"\n",
@@ -69,6 +69,46 @@ fn refuses_rules(rt: HostRuntime) -> Result<(), Fail> {
     ];
     for (rules, told) in rows {
         let files = [("rules.toml", rules), ("cert", CERT), ("ONE.m", TAKE)];
+        expect(&rt, rt.alloc(), &CHECK, &files, 2, "", told)?;
+    }
+    Ok(())
+}
+
+#[test]
+fn refuses_one_more_rule(rt: HostRuntime) -> Result<(), Fail> {
+    let rows = [
+        (
+            "[[lokc]]\nname = \"^A\"\n",
+            "refused rules file 0 402 Key\n",
+        ),
+        (
+            "[[lock]]\nname = \"^B\"\n",
+            "refused rules lock 3 402 Key\n",
+        ),
+        (
+            "[[cover]]\nglobal = \"^G(x,...)\"\nlock = \"^G(y)\"\n",
+            "refused rules cover 3 404 TemplateVariable\n",
+        ),
+        (
+            "[[private]]\nglobal = \"^G(x,...)\"\n",
+            "refused rules private 2 403 Pattern\n",
+        ),
+        (
+            "[[readonly]]\nglobal = \"^G()\"\n",
+            "refused rules readonly 2 403 Pattern\n",
+        ),
+        (
+            "[[entry]]\nlabel = \"DEP\"\n",
+            "refused rules entry 1 403 Pattern\n",
+        ),
+    ];
+    for (more, told) in rows {
+        let rules = joined(rt.alloc(), BASE, more)?;
+        let files = [
+            ("rules.toml", rules.as_str()),
+            ("cert", CERT),
+            ("ONE.m", TAKE),
+        ];
         expect(&rt, rt.alloc(), &CHECK, &files, 2, "", told)?;
     }
     Ok(())
