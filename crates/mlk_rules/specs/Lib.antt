@@ -3,4 +3,9 @@ pub mod Coverage
 pub mod Fronts
 pub mod Ranks
 pub mod Sound
+pub mod RuleAnswers
+pub mod RuleNumbers
+pub mod RuleTexts
+pub mod RuleKinds
+pub mod RuleSections
 pub mod Laws

@@ -12,6 +12,7 @@ mod lies;
 mod meet;
 mod pattern;
 mod rank;
+mod read;
 mod rules;
 mod sound;
 mod template;
@@ -23,9 +24,13 @@ pub use cover::{Cover, Covers};
 pub use entry::EntryTexts;
 pub use family::{Families, Family};
 pub use lacking::templates;
-pub use law::{covered_apart, lock_of_node, one_rank, share_pattern, surely_lies};
+pub use law::{
+    covered_apart, literals_canonical, lock_of_node, one_answer, one_rank, share_pattern,
+    surely_lies,
+};
 pub use meet::may_meet;
 pub use pattern::{Element, Elements, Pattern};
 pub use rank::rank_of;
+pub use read::{RulesError, RulesFault, Section, read_rules};
 pub use rules::{Patterns, RuleLists, Rules, entries};
 pub use template::{Part, Parts, Template};
