@@ -9,3 +9,11 @@ pub mod FrontLemmas
 pub mod MeetLemmas
 pub mod SoundLemmas
 pub mod CheckLemmas
+pub mod RuleTables
+pub mod RuleNumbers
+pub mod RuleTexts
+pub mod RuleMeetings
+pub mod RuleEach
+pub mod RuleSound
+pub mod RuleOne
+pub mod RuleExamples

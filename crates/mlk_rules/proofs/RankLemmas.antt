@@ -45,7 +45,7 @@ conflict_of : (m n : LockName) → IsPrefix (constant_term m) (constant_term n) 
 conflict_of m n (inl p) = inl (constant_prefix m n p)
 conflict_of m n (inr p) = inr (constant_prefix n m p)
 
-turned : (m n : LockName) → Conflict m n → Conflict n m
+pub turned : (m n : LockName) → Conflict m n → Conflict n m
 turned m n (inl h) = inr h
 turned m n (inr h) = inl h
 

@@ -4,4 +4,9 @@ pub mod Fronts
 pub mod Computed
 pub mod Ranks
 pub mod Sound
+pub mod RuleAnswers
+pub mod RuleNumbers
+pub mod RuleTexts
+pub mod RuleKinds
+pub mod RuleSections
 pub mod Laws

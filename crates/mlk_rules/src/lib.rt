@@ -12,6 +12,7 @@ mod lies;
 mod meet;
 mod pattern;
 mod rank;
+mod read;
 mod rules;
 mod sound;
 mod template;
@@ -24,10 +25,12 @@ pub use entry::EntryTexts;
 pub use family::{Families, Family};
 pub use lacking::templates;
 pub use law::{
-    computed_answers, covered_apart, lock_of_node, one_rank, share_pattern, surely_lies,
+    computed_answers, covered_apart, literals_canonical, lock_of_node, one_answer, one_rank,
+    share_pattern, surely_lies,
 };
 pub use meet::may_meet;
 pub use pattern::{Element, Elements, Pattern};
 pub use rank::rank_of;
+pub use read::{RulesError, RulesFault, Section, read_rules};
 pub use rules::{Patterns, RuleLists, Rules, entries};
 pub use template::{Part, Parts, Template};

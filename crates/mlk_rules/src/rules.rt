@@ -84,6 +84,14 @@ impl Rules {
         Ok(Some(Rules { lists }))
     }
 
+    // The rules of lists that are known to be sound.
+    pub(crate) fn sound(lists: RuleLists) -> Rules
+        requires { IsSound lists }
+        ensures { result ≡ lists }
+    {
+        Rules { lists }
+    }
+
     /// The lists of these rules.
     pub fn lists(&self) -> &RuleLists
         ensures value { result.now ≡ self.now }

@@ -46,7 +46,7 @@ fn each_has_one_job(patterns: &[Pattern]) -> bool
 }
 
 // Whether one of the families conflicts with the name.
-fn some_conflicts(families: &[Family], name: &LockName) -> bool
+pub(crate) fn some_conflicts(families: &[Family], name: &LockName) -> bool
     ensures { IsTrue result ↔ ((f : family) × Contains families.now f × Conflict name.now f.name) }
 {
     for family in families {

@@ -1,0 +1,117 @@
+// Rule files as a whole.
+
+ghost use Rattle.std.specs.Prelude.{◌≡◌, IfOk, IfErr, MatchOption};
+ghost use Rattle.toml.specs.View.{table_view};
+ghost use Rattle.mlk_rules.specs.Ranks.{FamiliesApart};
+ghost use Rattle.mlk_rules.specs.Sound.{IsSound};
+ghost use Rattle.mlk_rules.specs.RuleAnswers.{Answers};
+ghost use Rattle.mlk_rules.specs.RuleSections.{all_of, family_of, cover_of, rule_pattern_of, entry_of, lists_of, IsFirstMeeting, IsDocument, NoTable, SaysRules, RefusesRules};
+ghost use Rattle.mlk_rules.specs.declared.read.fault.Section.TheVariants.{Lock, Cover as CoverSection, Entry};
+
+use crate::cover::Covers;
+use crate::entry::EntryTexts;
+use crate::family::{Families, Family};
+use crate::read::fault::{RulesError, Section, refused};
+use crate::read::sections::{covers, entries, families, patterns, section_of};
+use crate::read::tables::has_only;
+use crate::rules::{Patterns, RuleLists, Rules};
+use crate::sound::some_conflicts;
+use mlk_text::Code;
+use std::alloc::Global;
+use toml::Table;
+
+fn table_of(alloc: Global, bytes: &[u8]) -> Result<Table, RulesError>
+    ensures ok { IfOk result (λ t. IsDocument bytes.now (table_view t)) }
+    ensures refused { IfErr result (NoTable bytes.now) }
+{
+    match toml::table_from_slice(alloc, bytes) {
+        Ok(table) => Ok(table),
+        Err(error) => {
+            if error.is_memory() {
+                Err(RulesError::OutOfMemory)
+            } else {
+                Err(refused(Code::Toml, Section::File, 0))
+            }
+        }
+    }
+}
+
+fn families_in(alloc: Global, table: &Table) -> Result<Families, RulesError>
+    ensures { Answers (λ x. x) result (all_of family_of Lock (table_view table.now)) }
+{
+    let values = section_of(Section::Lock, table)?;
+    families(alloc, values)
+}
+
+fn covers_in(alloc: Global, table: &Table) -> Result<Covers, RulesError>
+    ensures { Answers (λ x. x) result (all_of cover_of CoverSection (table_view table.now)) }
+{
+    let values = section_of(Section::Cover, table)?;
+    covers(alloc, values)
+}
+
+fn patterns_in(alloc: Global, section: Section, table: &Table) -> Result<Patterns, RulesError>
+    ensures { Answers (λ x. x) result (all_of (rule_pattern_of section) section (table_view table.now)) }
+{
+    let values = section_of(section, table)?;
+    patterns(alloc, section, values)
+}
+
+fn entries_in(alloc: Global, table: &Table) -> Result<EntryTexts, RulesError>
+    ensures { Answers (λ x. x) result (all_of entry_of Entry (table_view table.now)) }
+{
+    let values = section_of(Section::Entry, table)?;
+    entries(alloc, values)
+}
+
+#[tactic(auto, unfolding(crate::specs::RuleSections::lists_of))]
+fn lists_of(alloc: Global, table: &Table) -> Result<RuleLists, RulesError>
+    ensures { Answers (λ x. x) result (lists_of (table_view table.now)) }
+{
+    if !has_only(Section::File, table) {
+        return Err(refused(Code::Key, Section::File, 0));
+    }
+    let families = families_in(alloc, table)?;
+    let covers = covers_in(alloc, table)?;
+    let private = patterns_in(alloc, Section::Private, table)?;
+    let readonly = patterns_in(alloc, Section::Readonly, table)?;
+    let entries = entries_in(alloc, table)?;
+    Ok(RuleLists {
+        families,
+        covers,
+        private,
+        readonly,
+        entries,
+    })
+}
+
+// The index, from 1, of the first family that meets an earlier one.
+fn first_meeting(families: &[Family]) -> Option<usize>
+    ensures { MatchOption result (FamiliesApart families.now) (IsFirstMeeting families.now) }
+{
+    for (i, family) in families.iter().enumerate() {
+        let (earlier, _) = families.split_at(i);
+        if some_conflicts(earlier, &family.name) {
+            return Some(i + 1);
+        }
+    }
+    None
+}
+
+/// Reads the rules from the bytes of a rule file. Of what is refused the first refusal counts, in the order of the
+/// sections; families are compared last.
+pub fn read_rules(alloc: Global, bytes: &[u8]) -> Result<Rules, RulesError>
+    // What is read is what the bytes say,
+    ensures ok { IfOk result (SaysRules bytes.now) }
+    // and sound: no two families meet, and each private pattern has `$J` once.
+    ensures sound { IfOk result IsSound }
+    // What is refused, unless memory ran out, is refused by the definition, for this reason at this place.
+    ensures refused { IfErr result (RefusesRules bytes.now) }
+{
+    let table = table_of(alloc, bytes)?;
+    let lists = lists_of(alloc, &table)?;
+    if let Some(index) = first_meeting(lists.families.as_slice()) {
+        return Err(refused(Code::FamiliesMeet, Section::Lock, index));
+    }
+    Ok(Rules::sound(lists))
+}

@@ -1,0 +1,81 @@
+// Reading the numbers of rule files.
+
+ghost use Rattle.std.specs.Prelude.{◌≡◌, ◌≤◌, ◌∷◌, [], length, bytes_eq, IfOk};
+ghost use Rattle.mlk_text.specs.Outcome.{Gives};
+ghost use Rattle.mlk_rules.specs.RuleNumbers.{canonical_of, fraction_len, numeral_len, number_at, negative, negative_at};
+
+use mlk_text::lexeme::{ReadError, digits};
+use mlk_text::{Value, canonical};
+use std::alloc::{AllocError, Global};
+
+// How many bytes at the front are a point and digits behind it.
+fn fraction_len(bytes: &[u8]) -> usize
+    ensures value { result ≡ fraction_len bytes.now }
+    ensures within { result ≤ length bytes.now }
+{
+    let Some((first, behind)) = bytes.split_first() else {
+        return 0;
+    };
+    if *first == b'.' {
+        1 + digits(behind)
+    } else {
+        0
+    }
+}
+
+// How many bytes at the front belong to a number.
+#[tactic(auto, unfolding(crate::specs::RuleNumbers::numeral_len))]
+fn numeral_len(bytes: &[u8]) -> usize
+    ensures value { result ≡ numeral_len bytes.now }
+    ensures within { result ≤ length bytes.now }
+{
+    let whole = digits(bytes);
+    let (_, rest) = bytes.split_at(whole);
+    whole + fraction_len(rest)
+}
+
+// The canonical text of a literal.
+fn canonical_of(alloc: Global, literal: &[u8]) -> Result<Option<Value>, AllocError>
+    ensures { IfOk result (λ v. v ≡ canonical_of literal.now) }
+{
+    let found = canonical(alloc, literal)?;
+    Ok(found)
+}
+
+/// The value of the number at the front, and what is behind it.
+#[tactic(auto, unfolding(crate::specs::RuleNumbers::number_at))]
+pub fn number(alloc: Global, bytes: &[u8]) -> Result<(Value, &[u8]), ReadError>
+    ensures { Gives (λ x. (x.0, x.1.now)) result (number_at bytes.now) }
+{
+    let (text, rest) = bytes.split_at(numeral_len(bytes));
+    match canonical_of(alloc, text)? {
+        Some(value) => Ok((value, rest)),
+        None => Err(ReadError::Refused),
+    }
+}
+
+fn is_zero(text: &[u8]) -> bool
+    ensures { result ≡ bytes_eq text.now (48 ∷ []) }
+{
+    text == b"0".as_slice()
+}
+
+// The value of a number behind a minus.
+fn negative(alloc: Global, value: Value) -> Result<Value, AllocError>
+    ensures { IfOk result (λ v. v ≡ negative value) }
+{
+    if is_zero(value.as_bytes()) {
+        return Ok(value);
+    }
+    let mut text = Vec::from_slice(alloc, b"-")?;
+    text.extend_from_slice(value.as_bytes())?;
+    Ok(Value::new(text))
+}
+
+/// The value of the number at the front, behind a minus, and what is behind it.
+pub fn negative_number(alloc: Global, bytes: &[u8]) -> Result<(Value, &[u8]), ReadError>
+    ensures { Gives (λ x. (x.0, x.1.now)) result (negative_at bytes.now) }
+{
+    let (value, rest) = number(alloc, bytes)?;
+    Ok((negative(alloc, value)?, rest))
+}
