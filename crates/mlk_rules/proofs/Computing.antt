@@ -44,13 +44,13 @@ no : {P : Type 0} → (P → ⊥) → Decides false P
 no f = (λ e. absurd (cc), λ h. absurd (f h))
 
 -- what is in a list behind its first is in the list, and what is in the list is the first or behind it
-in_front : {X : Type 0} (x : X) (xs : List X) → Contains (x ∷ xs) x
+pub in_front : {X : Type 0} (x : X) (xs : List X) → Contains (x ∷ xs) x
 in_front x xs = (0, omega arith, refl)
 
-in_rest : {X : Type 0} (x y : X) (xs : List X) → Contains xs y → Contains (x ∷ xs) y
+pub in_rest : {X : Type 0} (x y : X) (xs : List X) → Contains xs y → Contains (x ∷ xs) y
 in_rest x y xs (k, l, e) = (suc k, omega arith, e)
 
-in_list : {X : Type 0} (x y : X) (xs : List X) → Contains (x ∷ xs) y → (x ≡ y) ⊎ Contains xs y
+pub in_list : {X : Type 0} (x y : X) (xs : List X) → Contains (x ∷ xs) y → (x ≡ y) ⊎ Contains xs y
 in_list x y xs (zero, l, e) = inl e
 in_list x y xs (suc k, l, e) = inr (k, omega arith, e)
 

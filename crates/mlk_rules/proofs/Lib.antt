@@ -4,6 +4,7 @@ pub mod Instances
 pub mod Apart
 pub mod RankLemmas
 pub mod Computing
+pub mod Grouping
 pub mod Examples
 pub mod FrontLemmas
 pub mod MeetLemmas

@@ -4,6 +4,7 @@ pub mod Fronts
 pub mod Computed
 pub mod Ranks
 pub mod Sound
+pub mod Groups
 pub mod RuleAnswers
 pub mod RuleNumbers
 pub mod RuleTexts

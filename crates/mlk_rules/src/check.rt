@@ -123,10 +123,13 @@ fn covered_by(rules: &RuleLists, reference: &Reference, held: &[LockTerm]) -> Re
 }
 
 /// Whether each rule that the reference may meet is satisfied by what is held, and some rule is for all of it; else
-/// the first code of what is wrong. It takes no memory.
+/// the first code of what is wrong. It takes no memory, and asks the rules of the reference's global alone.
 pub fn covered(rules: &Rules, reference: &Reference, held: &[LockTerm]) -> Result<(), Code>
     ensures ok { OnOk result (IsAnswer rules.now held.now reference.now None) }
     ensures err { IfErr result (λ code. IsAnswer rules.now held.now reference.now (Some code)) }
 {
-    covered_by(rules.lists(), reference, held)
+    match rules.group(&reference.root) {
+        Some(group) => covered_by(group, reference, held),
+        None => Err(Code::Unruled),
+    }
 }

@@ -1,9 +1,10 @@
 // Rules that cover patterns by locks.
 
-ghost use Rattle.std.specs.Prelude.{◌≡◌};
+ghost use Rattle.std.specs.Prelude.{◌≡◌, IfOk};
 
 use crate::pattern::Pattern;
 use crate::template::Template;
+use std::alloc::{AllocError, Global};
 use std::marker::Model;
 
 /// A rule that covers the nodes of a pattern by a lock.
@@ -11,6 +12,18 @@ use std::marker::Model;
 pub struct Cover {
     pub pattern: Pattern,
     pub lock: Template,
+}
+
+impl Cover {
+    // An equal rule.
+    pub(crate) fn copy(&self, alloc: Global) -> Result<Cover, AllocError>
+        ensures { IfOk result (λ c. c ≡ self.now) }
+    {
+        Ok(Cover {
+            pattern: self.pattern.copy(alloc)?,
+            lock: self.lock.copy(alloc)?,
+        })
+    }
 }
 
 /// The cover rules of a rule file, in its order.

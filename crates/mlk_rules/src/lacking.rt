@@ -81,5 +81,8 @@ pub fn templates(
 ) -> Result<Vec<LockTerm>, AllocError>
     ensures { IfOk result (λ v. AreLacking held.now reference.now rules.now.covers v.items) }
 {
-    lacking(alloc, rules.lists().covers.as_slice(), reference, held)
+    match rules.group(&reference.root) {
+        Some(group) => lacking(alloc, group.covers.as_slice(), reference, held),
+        None => Ok(Vec::new(alloc)),
+    }
 }

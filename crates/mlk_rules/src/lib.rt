@@ -5,6 +5,7 @@ mod check;
 mod cover;
 mod entry;
 mod family;
+mod groups;
 mod held;
 mod lacking;
 mod law;

@@ -1,9 +1,10 @@
 // Patterns of nodes.
 
-ghost use Rattle.std.specs.Prelude.{◌≡◌};
+ghost use Rattle.std.specs.Prelude.{◌≡◌, IfOk};
 
 use mlk_names::Extent;
 use mlk_text::{Name, Value};
+use std::alloc::{AllocError, Global};
 use std::marker::Model;
 
 /// An element of a pattern.
@@ -15,6 +16,19 @@ pub enum Element {
     Variable,
     /// `$J`: any value, which is to be known as the job's own number
     Job,
+}
+
+impl Element {
+    // An equal element.
+    fn copy(&self) -> Result<Element, AllocError>
+        ensures { IfOk result (λ e. e ≡ self.now) }
+    {
+        match self {
+            Element::Literal(value) => Ok(Element::Literal(value.copy()?)),
+            Element::Variable => Ok(Element::Variable),
+            Element::Job => Ok(Element::Job),
+        }
+    }
 }
 
 /// The elements of a pattern, in order.
@@ -46,6 +60,17 @@ impl Elements {
     {
         self.items.as_slice()
     }
+
+    // An equal list.
+    fn copy(&self, alloc: Global) -> Result<Elements, AllocError>
+        ensures { IfOk result (λ l. l ≡ self.now) }
+    {
+        let mut items = Vec::new(alloc);
+        for element in self.items.iter() {
+            items.push(element.copy()?)?;
+        }
+        Ok(Elements { items })
+    }
 }
 
 /// A pattern of nodes of a global: the nodes with such subscripts, and as a tree all below these too.
@@ -55,4 +80,17 @@ pub struct Pattern {
     pub global: Name,
     pub elements: Elements,
     pub extent: Extent,
+}
+
+impl Pattern {
+    // An equal pattern.
+    pub(crate) fn copy(&self, alloc: Global) -> Result<Pattern, AllocError>
+        ensures { IfOk result (λ p. p ≡ self.now) }
+    {
+        Ok(Pattern {
+            global: self.global.copy()?,
+            elements: self.elements.copy(alloc)?,
+            extent: self.extent,
+        })
+    }
 }

@@ -1,15 +1,17 @@
 // The rules that routines keep.
 
-ghost use Rattle.std.specs.Prelude.{◌≡◌, IfOk, MatchOption};
+ghost use Rattle.std.specs.Prelude.{◌≡◌, IfOk, MatchOption, option_copied};
+ghost use Rattle.mlk_rules.specs.Groups.{IsGroup};
 ghost use Rattle.mlk_rules.specs.Ranks.{FamiliesApart};
 ghost use Rattle.mlk_rules.specs.Sound.{IsSound};
 
 use crate::cover::Covers;
 use crate::entry::EntryTexts;
 use crate::family::{Families, Family};
+use crate::groups::{Groups, groups_of};
 use crate::pattern::Pattern;
 use crate::sound::is_sound;
-use mlk_text::Value;
+use mlk_text::{Name, Value};
 use std::alloc::{AllocError, Global};
 use std::marker::Model;
 
@@ -57,20 +59,23 @@ pub struct RuleLists {
 }
 
 /// What routines keep to: lists of rules in which no two families meet and each private pattern has `$J` once.
+///
+/// Beside the lists stand the rules of each global, so that a reference asks no others; they take as much memory again.
 #[derive(Drop, Debug)]
 pub struct Rules {
     lists: RuleLists,
+    groups: Groups,
 }
 
 impl Model for Rules {
     ghost use Rattle.mlk_rules.specs.declared.rules.RuleLists.{RuleLists};
-    ghost use Rattle.mlk_rules.specs.Sound.{IsSound};
+    ghost use Rattle.mlk_rules.specs.Groups.{AreKept};
 
     ghost Value = { RuleLists };
 
     ghost view = { λ r. r.lists };
 
-    ghost invariant = { λ r. IsSound r.lists };
+    ghost invariant = { λ r. AreKept r.lists r.groups };
 }
 
 impl Rules {
@@ -81,15 +86,16 @@ impl Rules {
         if !is_sound(&lists) {
             return Ok(None);
         }
-        Ok(Some(Rules { lists }))
+        Ok(Some(Rules::sound(alloc, lists)?))
     }
 
     // The rules of lists that are known to be sound.
-    pub(crate) fn sound(lists: RuleLists) -> Rules
+    pub(crate) fn sound(alloc: Global, lists: RuleLists) -> Result<Rules, AllocError>
         requires { IsSound lists }
-        ensures { result ≡ lists }
+        ensures { IfOk result (λ r. r ≡ lists) }
     {
-        Rules { lists }
+        let groups = groups_of(alloc, &lists)?;
+        Ok(Rules { lists, groups })
     }
 
     /// The lists of these rules.
@@ -98,6 +104,13 @@ impl Rules {
         ensures sound { IsSound self.now }
     {
         &self.lists
+    }
+
+    // The rules of a global, in order, where a pattern names it.
+    pub(crate) fn group(&self, global: &Name) -> Option<&RuleLists>
+        ensures { IsGroup self.now global.now (option_copied result) }
+    {
+        self.groups.group(global)
     }
 
     /// The families, in order, of which no two meet.

@@ -1,9 +1,10 @@
 // The locks of rules.
 
-ghost use Rattle.std.specs.Prelude.{◌≡◌};
+ghost use Rattle.std.specs.Prelude.{◌≡◌, IfOk};
 
 use mlk_names::Root;
 use mlk_text::Value;
+use std::alloc::{AllocError, Global};
 use std::marker::Model;
 
 /// A subscript of a rule's lock.
@@ -13,6 +14,18 @@ pub enum Part {
     Literal(Value),
     /// the subscript at this place of a node, counted from 0
     Place(usize),
+}
+
+impl Part {
+    // An equal part.
+    fn copy(&self) -> Result<Part, AllocError>
+        ensures { IfOk result (λ p. p ≡ self.now) }
+    {
+        match self {
+            Part::Literal(value) => Ok(Part::Literal(value.copy()?)),
+            Part::Place(place) => Ok(Part::Place(*place)),
+        }
+    }
 }
 
 /// The subscripts of a rule's lock, in order.
@@ -44,6 +57,17 @@ impl Parts {
     {
         self.items.as_slice()
     }
+
+    // An equal list.
+    fn copy(&self, alloc: Global) -> Result<Parts, AllocError>
+        ensures { IfOk result (λ l. l ≡ self.now) }
+    {
+        let mut items = Vec::new(alloc);
+        for part in self.items.iter() {
+            items.push(part.copy()?)?;
+        }
+        Ok(Parts { items })
+    }
 }
 
 /// The lock of a rule, for all nodes of its pattern.
@@ -51,4 +75,16 @@ impl Parts {
 pub struct Template {
     pub root: Root,
     pub parts: Parts,
+}
+
+impl Template {
+    // An equal lock.
+    pub(crate) fn copy(&self, alloc: Global) -> Result<Template, AllocError>
+        ensures { IfOk result (λ l. l ≡ self.now) }
+    {
+        Ok(Template {
+            root: self.root.copy()?,
+            parts: self.parts.copy(alloc)?,
+        })
+    }
 }
