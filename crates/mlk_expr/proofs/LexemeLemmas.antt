@@ -1,5 +1,5 @@
 -- Laws of the lexemes: what is behind them, and what they begin with.
-use Rattle.std.proofs.Common.{◌≡◌, ◌<◌, ◌+◌, ℕ, ◌++◌, List, [], ◌∷◌, length, take, drop, Some, None, true, false, refl, sym, ap, ◌∙◌, arith, subst, inl, inr, length-drop, take-append-drop}
+use Rattle.std.proofs.Common.{Bool, ◌≡◌, ◌<◌, ◌+◌, ℕ, ◌++◌, List, [], ◌∷◌, length, take, drop, Some, None, true, false, refl, sym, ap, ◌∙◌, arith, subst, inl, inr, length-drop, take-append-drop}
 use Rattle.std.specs.Prelude.{Option, ◌==◌, ◌||◌, ◌⊎◌, if◌then◌else◌, codes}
 use Rattle.std.proofs.lemmas.Bool.{cases_Bool, eqb-true, eqb-false, or_cases, or_right}
 use Rattle.std.proofs.lemmas.Bool.Decides.{nat_tests}
@@ -17,7 +17,7 @@ use Rattle.mlk_expr.specs.declared.tree.Function.{Function}
 use Rattle.mlk_expr.specs.declared.lexeme.Kind.{Kind}
 use Rattle.mlk_expr.specs.declared.lexeme.Kind.TheVariants as kind
 use Rattle.mlk_expr.specs.Words.{or_else, letters, word_at, special_of, special_to_principal, special_from_quit, function_of, function_to_fnumber, function_to_piece, function_from_qlength, is_select, is_either}
-use Rattle.mlk_expr.specs.Lexemes.{one_byte, twice_or, relation_of, relation_at, arithmetic_of, arithmetic_at, op_by, op_at, unary_of, kind_by, kind_of, mantissa_len, exponent_len, numeral_at, count_len, count_at, pattern_codes, pattern_codes_at, label_at, lent_by, lent_at, starts_reference}
+use Rattle.mlk_expr.specs.Lexemes.{one_byte, twice_or, relation_of, relation_at, arithmetic_of, arithmetic_at, op_by, op_at, unary_of, kind_by, kind_of, mantissa_len, exponent_len, lacks_exponent, numeral_at, count_len, count_at, pattern_codes, pattern_codes_at, label_at, lent_by, lent_at, starts_reference}
 
 -- one byte and what is behind it
 abbrev Shorter : List ℕ → List ℕ → Type 0
@@ -69,6 +69,11 @@ op-takes o xs ys h = go (byte_at 39 xs) refl h
         (subst (λ l. Behind ys l) (sym text) (behind_then (39 ∷ quote.1) quote.1 ys (behind-one 39 quote.1) r.0), let less = r.1 in omega arith)
 
 -- so many bytes and what is behind them
+unless : (b : Bool) (m : ℕ) (text xs ys : List ℕ) → if◌then◌else◌ {A = Option (List ℕ × List ℕ)} b None (Some (take m xs, drop m xs)) ≡ Some (text, ys)
+    → (text ≡ take m xs) × (ys ≡ drop m xs)
+unless true m text xs ys h = cc h
+unless false m text xs ys h = let p = pair_parts (take m xs) text (drop m xs) ys h in (sym p.0, sym p.1)
+
 cut : (n m : ℕ) (text xs ys : List ℕ) → if◌then◌else◌ {A = Option (List ℕ × List ℕ)} (n == 0) None (Some (take m xs, drop m xs)) ≡ Some (text, ys)
     → (n ≡ 0 → ⊥) × (text ≡ take m xs) × (ys ≡ drop m xs)
 cut n m text xs ys h = elim (cases_Bool (n == 0)) [
@@ -83,7 +88,7 @@ pub numeral-behind : (text xs ys : List ℕ) → numeral_at xs ≡ Some (text, y
 unfolding numeral_at
 numeral-behind text xs ys h =
     let m : ℕ = mantissa_len xs + exponent_len (drop (mantissa_len xs) xs) in
-    taken-behind m xs ys (cut (mantissa_len xs) m text xs ys h).2
+    taken-behind m xs ys (unless ((mantissa_len xs == 0) || lacks_exponent (drop (mantissa_len xs) xs)) m text xs ys h).1
 
 pub codes-behind : (text xs ys : List ℕ) → pattern_codes_at xs ≡ Some (text, ys) → Behind ys xs
 unfolding pattern_codes_at

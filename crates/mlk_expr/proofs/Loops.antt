@@ -1,18 +1,19 @@
 -- What the code's loops and steps rest on.
-use Rattle.std.proofs.Common.{◌≡◌, ◌<◌, ◌-◌, ℕ, zero, suc, List, length, Some, None, refl, sym, ◌∙◌, arith}
-use Rattle.std.specs.Prelude.{Option}
+use Rattle.std.proofs.Common.{◌≡◌, ◌<◌, ◌≤◌, ◌-◌, ◌++◌, ℕ, zero, suc, List, [], ◌∷◌, length, Some, None, refl, sym, ◌∙◌, arith, subst, inl, inr, length-append, leb-true, le-leb}
+use Rattle.std.specs.Prelude.{Option, nat_le}
+use Rattle.std.proofs.lemmas.Bool.{cases_Bool, lt-leb}
 use Rattle.mlk_text.specs.declared.operator.Op.{Op}
 use Rattle.mlk_text.specs.Reading.{◌>>=◌, with, put, many}
 use Rattle.mlk_text.specs.Lexemes.{byte_at}
 use Rattle.mlk_text.proofs.Lexemes.{byte-takes}
-use Rattle.mlk_text.proofs.Readers.{Exact, Takes, behind_length, many_fails}
+use Rattle.mlk_text.proofs.Readers.{Exact, Takes, pair_parts, behind_length, many_fails}
 use Rattle.mlk_expr.specs.declared.refusal.Refusal.{Refusal}
 use Rattle.mlk_expr.specs.declared.refusal.Refusal.TheVariants.{OutOfMemory, Refused}
 use Rattle.mlk_expr.specs.Trees.{Tree}
 use Rattle.mlk_expr.specs.Lexemes.{op_at, is_match, count_at}
-use Rattle.mlk_expr.specs.Reading.{right_by, matcher_by, some_atoms, pattern_at, operand_with, atom_at, rest_of}
+use Rattle.mlk_expr.specs.Reading.{at_most, right_by, matcher_by, some_atoms, pattern_at, operand_with, atom_at, rest_of}
 use Rattle.mlk_expr.specs.Grammar.{IsPattern, IsRight, IsAtom, IsMatcher}
-use Rattle.mlk_expr.specs.Outcome.{Fails, IsRefused}
+use Rattle.mlk_expr.specs.Outcome.{Fails, IsRefused, IsLike}
 use Rattle.mlk_expr.proofs.LexemeLemmas.{op-takes, count-takes}
 use Rattle.mlk_expr.proofs.Parts.{right-exact, matcher-exact, pattern-exact}
 use Rattle.mlk_expr.proofs.Operands.{atom-exact}
@@ -22,9 +23,46 @@ pub loop_fails : {A B : Type 0} (head : List ℕ → Option (B × List ℕ)) (it
 loop_fails head item front n xs whole b m OutOfMemory is one less h = tt
 loop_fails head item front n xs whole b m (Refused o) is one less h = many_fails head item front n xs whole b m is one less h
 
+-- no more items than this
+pub at_most-some : {A : Type 0} (most : ℕ) (o : Option (List A × List ℕ)) (items : List A) (rest : List ℕ) → (o >>= at_most most) ≡ Some (items, rest) → (o ≡ Some (items, rest)) × (length items ≤ most)
+at_most-some most None items rest h = cc h
+at_most-some most (Some r) items rest h = elim (cases_Bool (nat_le (length r.0) most)) [
+  | inr b ↦ cc (rw b at h)
+  | inl b ↦
+      let is = rw b at h in
+      let p = pair_parts r.0 items r.1 rest is in
+      (is, subst (λ l. length l ≤ most) p.0 (leb-true (length r.0) most b))
+]
+
+pub at_most-is : {A : Type 0} (most : ℕ) (items : List A) (rest : List ℕ) → length items ≤ most → at_most most (items, rest) ≡ Some (items, rest)
+at_most-is most items rest h = rw (le-leb (length items) most h) refl
+
+pub too_many : {A : Type 0} (front : List A) (a : A) (most : ℕ) (o : Option (List A × List ℕ)) → most ≤ length front → (put front (put (a ∷ []) o) >>= at_most most) ≡ None
+too_many front a most None full = refl
+too_many front a most (Some r) full =
+    let size = length-append front (a ∷ r.0) in
+    rw (lt-leb (length (front ++ a ∷ r.0)) most (omega arith)) refl
+
+-- a head behind as many items as there may be
+pub surplus : {A B : Type 0} (head : List ℕ → Option (B × List ℕ)) (item : B → List ℕ → Option (A × List ℕ)) (front : List A) (n : ℕ) (xs : List ℕ) (whole : Option (List A × List ℕ)) (most : ℕ)
+    (b : B) (m : List ℕ) → head xs ≡ Some (b, m) → length xs < n → most ≤ length front → put front (many head item n xs) ≡ whole → (whole >>= at_most most) ≡ None
+unfolding many
+surplus head item front zero xs whole most b m is less full h = absurd (omega arith)
+surplus {A = A} head item front (suc n) xs whole most b m is less full h = rw (sym h) (rw is (go (item b m)))
+  where
+    go : (o : Option (A × List ℕ)) → (put front (o >>= λ a. put (a.0 ∷ []) (many head item n a.1)) >>= at_most most) ≡ None
+    go None = refl
+    go (Some a) = too_many front a.0 most (many head item n a.1) full
+
 pub with_fails : {A B : Type 0} (f : A → B) (e : Refusal) (o : Option (A × List ℕ)) → Fails e o → Fails e (with f o)
 with_fails f OutOfMemory o h = tt
 with_fails f (Refused r) o h = rw h refl
+
+pub like_fails : {A : Type 0} (e f : Refusal) (o : Option A) → IsLike e f → Fails e o → Fails f o
+like_fails OutOfMemory OutOfMemory o l h = tt
+like_fails OutOfMemory (Refused f) o l h = absurd l
+like_fails (Refused e) OutOfMemory o l h = absurd l
+like_fails (Refused e) (Refused f) o l h = h
 
 pub refused_fails : {A : Type 0} (e : Refusal) (o : Option A) → IsRefused e → o ≡ None → Fails e o
 refused_fails OutOfMemory o h none = tt

@@ -11,7 +11,7 @@ use Rattle.mlk_text.proofs.Readers.{then_some, pair_parts, with_some, Behind, be
 use Rattle.mlk_expr.specs.Trees.{Tree, PatternText}
 use Rattle.mlk_expr.specs.Lexemes.{op_at, is_match, count_at, pattern_codes_at}
 use Rattle.mlk_expr.specs.Grammar.{Next, IsList, IsMatcher, IsPattern, IsRight, IsLink, chained, IsChain, IsPlaced, IsSubs}
-use Rattle.mlk_expr.specs.Reading.{next, list_with, matcher_by, some_atoms, pattern_at, right_by, linked, chain_with, placed, few, subs_by, subs_with}
+use Rattle.mlk_expr.specs.Reading.{next, list_with, matcher_by, some_atoms, pattern_at, right_by, linked, chain_with, at_most, placed, subs_by, subs_with}
 use Rattle.mlk_expr.proofs.LexemeLemmas.{op-takes, count-takes, codes-behind}
 
 -- items behind commas
@@ -180,7 +180,7 @@ subs-exact end read Is e = by-list (list-exact (placed end read) (IsPlaced end I
     by-list : Exact (list_with (placed end read)) (IsList (IsPlaced end Is)) → Exact (subs_with end read) (IsSubs end Is)
     by-list l = record { sound = λ ss xs ys h. go ss xs ys (byte_at 40 xs) refl h; complete = done; behind = back }
       where
-        few-ok : (r : List (ℕ × Tree) × List ℕ) (ss : List (ℕ × Tree)) (ys : List ℕ) → few r ≡ Some (ss, ys) → (r.0 ≡ ss) × (r.1 ≡ ys) × (length r.0 ≤ 32)
+        few-ok : (r : List (ℕ × Tree) × List ℕ) (ss : List (ℕ × Tree)) (ys : List ℕ) → at_most 32 r ≡ Some (ss, ys) → (r.0 ≡ ss) × (r.1 ≡ ys) × (length r.0 ≤ 32)
         few-ok r ss ys h = elim (cases_Bool (nat_le (length r.0) 32)) [
           | inl f ↦ let p = pair_parts r.0 ss r.1 ys (rw f at h) in (p.0, p.1, leb-true (length r.0) 32 f)
           | inr f ↦ cc (rw f at h)
@@ -193,7 +193,7 @@ subs-exact end read Is e = by-list (list-exact (placed end read) (IsPlaced end I
         go : (ss : List (ℕ × Tree)) (xs ys : List ℕ) (o : Option (ℕ × List ℕ)) → byte_at 40 xs ≡ o → subs_by end read xs o ≡ Some (ss, ys) → IsSubs end Is ss xs ys
         go ss xs ys None is h = let p = pair_parts [] ss xs ys h in subst (λ us. IsSubs end Is us xs ys) p.0 (p.1, is)
         go ss xs ys (Some b) is h =
-            let r = then_some (list_with (placed end read) b.1) few (ss, ys) h in
+            let r = then_some (list_with (placed end read) b.1) (at_most 32) (ss, ys) h in
             let f = few-ok r.0 ss ys r.2 in
             let whole : IsList (IsPlaced end Is) ss b.1 ys =
             subst (λ z. IsList (IsPlaced end Is) z b.1 ys) f.0 (subst (λ z. IsList (IsPlaced end Is) r.0.0 b.1 z) f.1 (l.sound r.0.0 b.1 r.0.1 r.1)) in

@@ -1,7 +1,7 @@
 -- What the steps of the code give.
-use Rattle.std.proofs.Common.{◌≡◌, ◌<◌, ◌≤◌, ◌+◌, ◌-◌, ℕ, suc, ◌++◌, List, [], ◌∷◌, length, map, take, Some, None, true, false, Bool, refl, sym, ap, ◌∙◌, arith, length-append, lt-ltb, le-leb}
+use Rattle.std.proofs.Common.{◌≡◌, ◌<◌, ◌≤◌, ◌-◌, ℕ, suc, ◌++◌, List, [], ◌∷◌, length, map, take, Some, None, true, false, Bool, refl, sym, ap, ◌∙◌, arith, length-append, lt-ltb, leb-true, le-leb, inl, inr}
 use Rattle.std.specs.Prelude.{Option, nat_lt, nat_le, not, ◌==◌, ◌&&◌}
-use Rattle.std.proofs.lemmas.Bool.{ne_eqb, lt-leb, ltb-false}
+use Rattle.std.proofs.lemmas.Bool.{cases_Bool, ne_eqb, ltb-false}
 use Rattle.mlk_text.specs.Reading.{◌>>=◌, with, put, many}
 use Rattle.mlk_text.specs.Lexemes.{byte_at}
 use Rattle.mlk_text.proofs.Readers.{pair_parts, with_some, behind_length}
@@ -14,10 +14,10 @@ use Rattle.mlk_expr.specs.Trees.{Tree, LocalName, GlobalName, CallOf, Applied, A
 use Rattle.mlk_expr.specs.Words.{is_select, function_of}
 use Rattle.mlk_expr.specs.Lexemes.{count_at, starts_reference}
 use Rattle.mlk_expr.specs.Grammar.{named, has_subscript, asks_subscript}
-use Rattle.mlk_expr.specs.Reading.{next, matcher_by, some_atoms, pattern_at, callee_at, actuals_with, call_with, function_with, arguments_with}
+use Rattle.mlk_expr.specs.Reading.{at_most, next, list_with, matcher_by, some_atoms, pattern_at, others_by, callee_at, actuals_with, call_with, function_with, arguments_with}
 use Rattle.mlk_expr.specs.Outcome.{Fails}
 use Rattle.mlk_expr.proofs.Parts.{pattern-exact}
-use Rattle.mlk_expr.proofs.Loops.{pattern-above}
+use Rattle.mlk_expr.proofs.Loops.{pattern-above, at_most-some, at_most-is}
 
 pub put-nothing : {A : Type 0} (o : Option (List A × List ℕ)) → put [] o ≡ o
 put-nothing None = refl
@@ -88,23 +88,85 @@ unfolding function_with
 function-fails OutOfMemory atom item w xs f s g h = tt
 function-fails (Refused r) atom item w xs f s g h = rw s (rw g (rw h refl))
 
+-- a list with no more items than this
+module _ {A : Type 0} (item : List ℕ → Option (A × List ℕ)) (most : ℕ) (xs : List ℕ) (first : A) (m : List ℕ) where
+  abbrev listed : Option (List A × List ℕ)
+  listed = put (first ∷ []) (many (byte_at 44) (next item) (suc (length m)) m)
+
+  pub few-give : (items : List A) (rest ys : List ℕ) → item xs ≡ Some (first, m) → (listed >>= at_most most) ≡ Some (items, rest) → byte_at 41 rest ≡ Some (41, ys) → (list_with item xs >>= at_most most) ≡ Some (items, ys)
+  unfolding list_with
+  few-give items rest ys one more close =
+      let p = at_most-some most listed items rest more in
+      let w = with_some (λ l. (first ∷ []) ++ l) (many (byte_at 44) (next item) (suc (length m)) m) items rest p.0 in
+      rw one (rw (w.1) (rw close (ap (λ l. at_most most (l, ys)) (sym w.2) ∙ at_most-is most items ys p.1)))
+
+  pub few-close : (items : List A) (rest : List ℕ) → item xs ≡ Some (first, m) → (listed >>= at_most most) ≡ Some (items, rest) → byte_at 41 rest ≡ None → (list_with item xs >>= at_most most) ≡ None
+  unfolding list_with
+  few-close items rest one more close =
+      let p = at_most-some most listed items rest more in
+      let w = with_some (λ l. (first ∷ []) ++ l) (many (byte_at 44) (next item) (suc (length m)) m) items rest p.0 in
+      rw one (rw (w.1) (rw close refl))
+
+  closed : (o : List A × List ℕ) (c : Option (ℕ × List ℕ)) → at_most most (first ∷ o.0, o.1) ≡ None → (with (λ _. first ∷ o.0) c >>= at_most most) ≡ None
+  closed o None h = refl
+  closed o (Some c) h = elim (cases_Bool (nat_le (length (first ∷ o.0)) most)) [
+    | inl b ↦ cc (rw b at h)
+    | inr b ↦ rw b refl
+  ]
+
+  others-none : (o : Option (List A × List ℕ)) → (put (first ∷ []) o >>= at_most most) ≡ None → ((o >>= λ others. with (λ _. first ∷ others.0) (byte_at 41 others.1)) >>= at_most most) ≡ None
+  others-none None h = refl
+  others-none (Some o) h = closed o (byte_at 41 o.1) h
+
+  pub few-fail : (e : Refusal) → item xs ≡ Some (first, m) → Fails e (listed >>= at_most most) → Fails e (list_with item xs >>= at_most most)
+  unfolding list_with
+  few-fail OutOfMemory one more = tt
+  few-fail (Refused r) one more = rw one (others-none (many (byte_at 44) (next item) (suc (length m)) m) more)
+
+pub list-fails : {A : Type 0} (item : List ℕ → Option (A × List ℕ)) (most : ℕ) (xs : List ℕ) (e : Refusal) → Fails e (item xs) → Fails e (list_with item xs >>= at_most most)
+unfolding list_with
+list-fails item most xs OutOfMemory h = tt
+list-fails item most xs (Refused r) h = rw h refl
+
 -- a name and what stands behind it
-module _ (atom item : List ℕ → Option (Tree × List ℕ)) (f : Function) (most : ℕ) (xs : List ℕ) (first : Tree) (m : List ℕ) (args : List Tree) (rest : List ℕ) where
-  pub arguments-give : (ys : List ℕ) → named f ≡ Some most → starts_reference xs ≡ true → atom xs ≡ Some (first, m) → (asks_subscript f && not (has_subscript first)) ≡ false
-      → put (first ∷ []) (many (byte_at 44) (next item) (suc (length m)) m) ≡ Some (args, rest) → length args ≤ most + 1 → byte_at 41 rest ≡ Some (41, ys)
-      → arguments_with atom item f xs ≡ Some (args, ys)
+module _ (atom item : List ℕ → Option (Tree × List ℕ)) (f : Function) (most : ℕ) (xs : List ℕ) (first : Tree) (m : List ℕ) where
+  abbrev argued : Option (List Tree × List ℕ)
+  argued = put (first ∷ []) (many (byte_at 44) (next item) (suc (length m)) m) >>= at_most (suc most)
+
+  pub arguments-give : (args : List Tree) (rest ys : List ℕ) → named f ≡ Some most → starts_reference xs ≡ true → atom xs ≡ Some (first, m) → (asks_subscript f && not (has_subscript first)) ≡ false
+      → argued ≡ Some (args, rest) → byte_at 41 rest ≡ Some (41, ys) → arguments_with atom item f xs ≡ Some (args, ys)
   unfolding arguments_with
-  arguments-give ys n starts one asks more few close =
-      let w = with_some (λ items. (first ∷ []) ++ items) (many (byte_at 44) (next item) (suc (length m)) m) args rest more in
+  arguments-give args rest ys n starts one asks more close =
+      let p = at_most-some (suc most) (put (first ∷ []) (many (byte_at 44) (next item) (suc (length m)) m)) args rest more in
+      let w = with_some (λ items. (first ∷ []) ++ items) (many (byte_at 44) (next item) (suc (length m)) m) args rest p.0 in
       let size = ap length w.2 in
+      let few = p.1 in
       let small : nat_le (length w.0) most ≡ true = le-leb (length w.0) most (omega arith) in
       rw n (rw starts (rw one (rw asks (rw (w.1) (rw small (rw close (ap (λ l. Some (l, ys)) (sym w.2))))))))
 
-  pub arguments-many : named f ≡ Some most → starts_reference xs ≡ true → atom xs ≡ Some (first, m) → (asks_subscript f && not (has_subscript first)) ≡ false
-      → put (first ∷ []) (many (byte_at 44) (next item) (suc (length m)) m) ≡ Some (args, rest) → most + 1 < length args → arguments_with atom item f xs ≡ None
+  pub arguments-close : (args : List Tree) (rest : List ℕ) → named f ≡ Some most → starts_reference xs ≡ true → atom xs ≡ Some (first, m) → (asks_subscript f && not (has_subscript first)) ≡ false
+      → argued ≡ Some (args, rest) → byte_at 41 rest ≡ None → arguments_with atom item f xs ≡ None
   unfolding arguments_with
-  arguments-many n starts one asks more many-args =
-      let w = with_some (λ items. (first ∷ []) ++ items) (many (byte_at 44) (next item) (suc (length m)) m) args rest more in
+  arguments-close args rest n starts one asks more close =
+      let p = at_most-some (suc most) (put (first ∷ []) (many (byte_at 44) (next item) (suc (length m)) m)) args rest more in
+      let w = with_some (λ items. (first ∷ []) ++ items) (many (byte_at 44) (next item) (suc (length m)) m) args rest p.0 in
       let size = ap length w.2 in
-      let large : nat_le (length w.0) most ≡ false = lt-leb (length w.0) most (omega arith) in
-      rw n (rw starts (rw one (rw asks (rw (w.1) (rw large refl)))))
+      let few = p.1 in
+      let small : nat_le (length w.0) most ≡ true = le-leb (length w.0) most (omega arith) in
+      rw n (rw starts (rw one (rw asks (rw (w.1) (rw small (rw close refl))))))
+
+  others-lack : (o : Option (List Tree × List ℕ)) → (put (first ∷ []) o >>= at_most (suc most)) ≡ None → (o >>= others_by most first) ≡ None
+  others-lack None h = refl
+  others-lack (Some o) h = elim (cases_Bool (nat_le (length o.0) most)) [
+    | inr b ↦ rw b refl
+    | inl b ↦
+        let few = leb-true (length o.0) most b in
+        let small : nat_le (suc (length o.0)) (suc most) ≡ true = le-leb (suc (length o.0)) (suc most) (omega arith) in
+        cc (rw small at h)
+  ]
+
+  pub arguments-fail : (e : Refusal) → named f ≡ Some most → starts_reference xs ≡ true → atom xs ≡ Some (first, m) → (asks_subscript f && not (has_subscript first)) ≡ false
+      → Fails e argued → Fails e (arguments_with atom item f xs)
+  unfolding arguments_with
+  arguments-fail OutOfMemory n starts one asks more = tt
+  arguments-fail (Refused r) n starts one asks more = rw n (rw starts (rw one (rw asks (others-lack (many (byte_at 44) (next item) (suc (length m)) m) more))))

@@ -113,7 +113,12 @@ abbrev pub exponent_len : List ℕ → ℕ
 exponent_len [] = 0
 exponent_len (b ∷ xs) = if b == 69 then (if signed_len xs == 0 then 0 else suc (signed_len xs)) else 0
 
--- A numeric literal as it is written. Standard: numeric literals.
+-- whether an `E` stands here that no exponent follows
+abbrev pub lacks_exponent : List ℕ → Bool
+lacks_exponent [] = false
+lacks_exponent (b ∷ xs) = (b == 69) && (signed_len xs == 0)
+
+-- A numeric literal as it is written; with an `E` behind it that has no digits it is none. Standard: numeric literals.
 unfoldable pub mantissa_len : List ℕ → ℕ
 mantissa_len xs = point_len (digits xs) (drop (digits xs) xs)
 
@@ -121,7 +126,7 @@ unfoldable pub numeral_at : List ℕ → Option (List ℕ × List ℕ)
 numeral_at xs =
     let n = mantissa_len xs in
     let m = n + exponent_len (drop n xs) in
-    if n == 0 then None else Some (take m xs, drop m xs)
+    if (n == 0) || lacks_exponent (drop n xs) then None else Some (take m xs, drop m xs)
 
 -- The count of a pattern atom: digits, a point, or both. Standard: pattern match, repcount.
 abbrev pub count_len : ℕ → Option (ℕ × List ℕ) → ℕ

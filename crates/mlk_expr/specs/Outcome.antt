@@ -20,6 +20,12 @@ abbrev pub IsRefused : Refusal → Type 0
 IsRefused OutOfMemory = ⊥
 IsRefused (Refused o) = Unit {0}
 
+-- both are want of memory, or neither is
+abbrev pub IsLike : Refusal → Refusal → Type 0
+IsLike OutOfMemory OutOfMemory = Unit {0}
+IsLike (Refused o) (Refused p) = Unit {0}
+IsLike r s = ⊥
+
 -- what callers are told of a refusal is of its kind
 abbrev pub Tells : Refusal → ReadError → Type 0
 Tells OutOfMemory told.OutOfMemory = Unit {0}

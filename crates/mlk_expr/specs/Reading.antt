@@ -44,6 +44,13 @@ list_with item xs =
     many (byte_at 44) (next item) (suc (length first.1)) first.1 >>= λ others.
     with (λ _. first.0 ∷ others.0) (byte_at 41 others.1)
 
+-- no more items than this
+abbrev pub at_most : {A : Type 0} → ℕ → List A × List ℕ → Option (List A × List ℕ)
+at_most most r = if nat_le (length r.0) most then Some r else None
+
+abbrev pub few : {A : Type 0} → ℕ → Option (List A × List ℕ) → Option (List A × List ℕ)
+few most read = read >>= at_most most
+
 -- patterns
 abbrev pub matcher_by : (List ℕ → Option (List ℕ × List ℕ)) → List ℕ → List ℕ → Option (List ℕ × List ℕ)
 matcher_by deep count [] = None
@@ -78,12 +85,9 @@ chain_with atom pattern xs =
 abbrev pub placed : ℕ → (List ℕ → Option (Tree × List ℕ)) → List ℕ → Option ((ℕ × Tree) × List ℕ)
 placed end item xs = with (λ t. (column_of end xs, t)) (item xs)
 
-abbrev pub few : List (ℕ × Tree) × List ℕ → Option (List (ℕ × Tree) × List ℕ)
-few r = if nat_le (length r.0) 32 then Some r else None
-
 abbrev pub subs_by : ℕ → (List ℕ → Option (Tree × List ℕ)) → List ℕ → Option (ℕ × List ℕ) → Option (List (ℕ × Tree) × List ℕ)
 subs_by end item xs None = Some ([], xs)
-subs_by end item xs (Some open') = list_with (placed end item) open'.1 >>= few
+subs_by end item xs (Some open') = list_with (placed end item) open'.1 >>= at_most 32
 
 unfoldable pub subs_with : ℕ → (List ℕ → Option (Tree × List ℕ)) → List ℕ → Option (List (ℕ × Tree) × List ℕ)
 subs_with end item xs = subs_by end item xs (byte_at 40 xs)

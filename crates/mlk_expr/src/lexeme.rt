@@ -1,7 +1,7 @@
 // The smallest parts of expressions: operators, numerals, counts of patterns, labels.
 
 ghost use Rattle.std.specs.Prelude.{◌≡◌, ◌≤◌, length, option_map};
-ghost use Rattle.mlk_expr.specs.Lexemes.{column_of, arithmetic_of, relation_of, relation_at, arithmetic_at, op_at, is_match, unary_of, kind_of, point_len, signed_len, exponent_len, mantissa_len, numeral_at, count_at, is_pattern_code, pattern_codes, pattern_codes_at, starts_reference, is_missing, ends};
+ghost use Rattle.mlk_expr.specs.Lexemes.{column_of, arithmetic_of, relation_of, relation_at, arithmetic_at, op_at, is_match, unary_of, kind_of, point_len, signed_len, exponent_len, mantissa_len, lacks_exponent, numeral_at, count_at, is_pattern_code, pattern_codes, pattern_codes_at, starts_reference, is_missing, ends};
 
 use mlk_text::lexeme::{byte_of, digits, is_digit, is_letter};
 use mlk_text::{Op, Relation, UnaryOp};
@@ -158,8 +158,9 @@ pub fn kind_of(b: u8) -> Kind
     }
 }
 
+/// How many bytes of a numeric literal stand before its exponent: 0 where no digit does.
 #[tactic(auto, unfolding(crate::specs::Lexemes::mantissa_len))]
-fn mantissa_len(bytes: &[u8]) -> usize
+pub fn mantissa_len(bytes: &[u8]) -> usize
     ensures value { result ≡ mantissa_len bytes.now }
     ensures within { result ≤ length bytes.now }
 {
@@ -206,6 +207,16 @@ fn exponent_len(bytes: &[u8]) -> usize
     if n == 0 { 0 } else { n + 1 }
 }
 
+// Whether an `E` stands here that no exponent follows.
+fn lacks_exponent(bytes: &[u8]) -> bool
+    ensures { result ≡ lacks_exponent bytes.now }
+{
+    match bytes.split_first() {
+        Some((first, behind)) => *first == b'E' && signed_len(behind) == 0,
+        None => false,
+    }
+}
+
 /// The numeric literal at the front, as it is written, and what is behind it.
 #[tactic(auto, unfolding(crate::specs::Lexemes::numeral_at))]
 pub fn numeral_at(bytes: &[u8]) -> Option<(&[u8], &[u8])>
@@ -216,6 +227,9 @@ pub fn numeral_at(bytes: &[u8]) -> Option<(&[u8], &[u8])>
         return None;
     }
     let (_, rest) = bytes.split_at(n);
+    if lacks_exponent(rest) {
+        return None;
+    }
     Some(bytes.split_at(n + exponent_len(rest)))
 }
 

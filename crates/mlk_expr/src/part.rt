@@ -10,7 +10,7 @@ ghost use Rattle.mlk_expr.specs.Reading.{number_of, callee_at};
 ghost use Rattle.mlk_expr.specs.Outcome.{Gives, IsRefused};
 
 use crate::lexeme::numeral_at;
-use crate::refusal::{Refusal, no_global, no_name, no_routine, refused};
+use crate::refusal::{Refusal, no_global, no_name, no_number, no_routine, refused};
 use crate::tree::{Callee, Expr, Function};
 use mlk_text::lexeme::{self, ReadError, byte_of, digits, is_text_byte};
 use mlk_text::{Code, Name, Value, canonical, literal};
@@ -66,7 +66,7 @@ pub fn number(alloc: Global, bytes: &[u8]) -> Result<(Expr, &[u8]), Refusal>
     ensures { Gives (λ x. (tree_of x.0, x.1.now)) result (with number_of (numeral_at bytes.now)) }
 {
     let Some((text, rest)) = numeral_at(bytes) else {
-        return Err(refused(Code::ExprForm, bytes));
+        return Err(no_number(bytes));
     };
     Ok((number_of(alloc, text)?, rest))
 }

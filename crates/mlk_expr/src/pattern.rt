@@ -9,7 +9,7 @@ ghost use Rattle.mlk_expr.specs.Outcome.{Gives};
 
 use crate::lexeme::{count_at, pattern_codes_at};
 use crate::part::quoted;
-use crate::refusal::{Refusal, refused};
+use crate::refusal::{Refusal, no_operand, refused, too_deep_pattern};
 use mlk_text::Code;
 use mlk_text::lexeme::byte_of;
 use std::alloc::Global;
@@ -20,11 +20,11 @@ pub fn pattern(alloc: Global, left: u8, bytes: &[u8]) -> Result<(&[u8], &[u8]), 
     ensures { Gives (λ x. (x.0.now, x.1.now)) result (pattern_at left bytes.now) }
 {
     if left == 0 {
-        return Err(refused(Code::ExprDeep, bytes));
+        return Err(too_deep_pattern(bytes));
     }
     let (found, rest) = atoms(alloc, left - 1, bytes)?;
     if !found {
-        return Err(refused(Code::ExprForm, bytes));
+        return Err(no_operand(bytes));
     }
     let (text, _) = bytes.split_at(bytes.len() - rest.len());
     Ok((text, rest))

@@ -10,7 +10,7 @@ ghost use Rattle.mlk_expr.specs.Theorem.{Stands, Only, Refuses};
 use crate::fault::{ReadError, located};
 use crate::lexeme::{may_end, starts_reference};
 use crate::read::{actuals, atom, chain};
-use crate::refusal::{Refusal, no_operand, refused};
+use crate::refusal::{Refusal, no_end, no_operand, refused};
 use crate::tree::{Actual, Expr};
 use mlk_text::Code;
 use mlk_text::lexeme::byte_of;
@@ -24,7 +24,7 @@ fn expr(alloc: Global, end: usize, bytes: &[u8]) -> Result<(Expr, &[u8]), Refusa
 {
     let (tree, rest) = chain(alloc, end, DEEPEST, bytes)?;
     if !may_end(rest) {
-        return Err(refused(Code::ExprForm, rest));
+        return Err(no_end(rest));
     }
     Ok((tree, rest))
 }

@@ -5,7 +5,7 @@ ghost use Rattle.mlk_text.specs.Lexemes.{byte_at};
 ghost use Rattle.mlk_text.specs.Reading.{many, put};
 ghost use Rattle.mlk_expr.specs.Lexemes.{column_of, op_at, is_match};
 ghost use Rattle.mlk_expr.specs.Trees.{tree_of, trees, sub_of, sub_trees, links, choice_of, choices, actual_of, actual_trees};
-ghost use Rattle.mlk_expr.specs.Reading.{next, nested_at, pattern_at, right_by, linked, list_with, placed, subs_with, actual_with, actuals_with, choice_with, arguments_with, name_and, function_with, call_with, dollar_with, operand_with, atom_at};
+ghost use Rattle.mlk_expr.specs.Reading.{few, next, nested_at, pattern_at, right_by, linked, list_with, placed, subs_with, actual_with, actuals_with, choice_with, arguments_with, name_and, function_with, call_with, dollar_with, operand_with, atom_at};
 ghost use Rattle.mlk_expr.specs.Outcome.{Gives};
 
 use crate::lexeme::{Kind, column_of, is_match, is_missing, kind_of, op_at, starts_reference};
@@ -13,7 +13,10 @@ use crate::part::{
     asks_subscript, callee, global_name, has_subscript, name, named, number, quoted,
 };
 use crate::pattern::pattern;
-use crate::refusal::{Refusal, no_function, no_operand, no_word, refused, too_deep};
+use crate::refusal::{
+    Refusal, no_actual, no_actuals_end, no_arguments_end, no_end, no_function, no_operand, no_word,
+    refused, too_deep,
+};
 use crate::tree::{Actual, Expr, Function, Subscript};
 use crate::words::{function_of, is_select, special_of, word_at};
 use mlk_text::lexeme::byte_of;
@@ -84,7 +87,7 @@ fn exprs(alloc: Global, end: usize, left: u8, bytes: &[u8]) -> Result<(Vec<Expr>
     let (first, rest) = chain(alloc, end, left, bytes)?;
     let (found, rest) = exprs_rest(alloc, end, left, first, rest)?;
     let Some(rest) = byte_of(b')', rest) else {
-        return Err(refused(Code::ExprForm, rest));
+        return Err(no_end(rest));
     };
     Ok((found, rest))
 }
@@ -124,7 +127,7 @@ fn subscript(
     Ok((Subscript { column, value }, rest))
 }
 
-// Subscripts to the closing parenthesis.
+// Subscripts to the closing parenthesis, at most 32.
 #[tactic(auto, unfolding(crate::specs::Reading::list_with))]
 #[cycle(reading)]
 fn subs(
@@ -133,12 +136,12 @@ fn subs(
     left: u8,
     bytes: &[u8],
 ) -> Result<(Vec<Subscript>, &[u8]), Refusal>
-    ensures { Gives (λ x. (sub_trees x.0.items, x.1.now)) result (list_with (placed end (nested_at end left)) bytes.now) }
+    ensures { Gives (λ x. (sub_trees x.0.items, x.1.now)) result (few 32 (list_with (placed end (nested_at end left)) bytes.now)) }
 {
     let (first, rest) = subscript(alloc, end, left, bytes)?;
     let (found, rest) = subs_rest(alloc, end, left, first, rest)?;
     let Some(rest) = byte_of(b')', rest) else {
-        return Err(refused(Code::ExprForm, rest));
+        return Err(no_end(rest));
     };
     Ok((found, rest))
 }
@@ -151,12 +154,15 @@ fn subs_rest(
     first: Subscript,
     bytes: &[u8],
 ) -> Result<(Vec<Subscript>, &[u8]), Refusal>
-    ensures { Gives (λ x. (sub_trees x.0.items, x.1.now)) result (put (sub_of first ∷ []) (many (byte_at 44) (next (placed end (nested_at end left))) (suc (length bytes.now)) bytes.now)) }
+    ensures { Gives (λ x. (sub_trees x.0.items, x.1.now)) result (few 32 (put (sub_of first ∷ []) (many (byte_at 44) (next (placed end (nested_at end left))) (suc (length bytes.now)) bytes.now))) }
 {
     let mut found = Vec::new(alloc);
     found.push(first)?;
     let mut rest = bytes;
     while let Some(behind) = byte_of(b',', rest) {
+        if found.len() == 32 {
+            return Err(refused(Code::ExprForm, rest));
+        }
         let (item, behind) = subscript(alloc, end, left, behind)?;
         found.push(item)?;
         rest = behind;
@@ -179,9 +185,6 @@ fn subscripts(
         return Ok((Vec::new(alloc), bytes));
     };
     let (found, rest) = subs(alloc, end, left, rest)?;
-    if found.len() > 32 {
-        return Err(refused(Code::ExprForm, rest));
-    }
     Ok((found, rest))
 }
 
@@ -197,7 +200,7 @@ fn choice(
 {
     let (condition, rest) = chain(alloc, end, left, bytes)?;
     let Some(rest) = byte_of(b':', rest) else {
-        return Err(refused(Code::ExprForm, rest));
+        return Err(no_end(rest));
     };
     let (value, rest) = chain(alloc, end, left, rest)?;
     Ok(((condition, value), rest))
@@ -217,7 +220,7 @@ fn choices(
     let (first, rest) = choice(alloc, end, left, bytes)?;
     let (found, rest) = choices_rest(alloc, end, left, first, rest)?;
     let Some(rest) = byte_of(b')', rest) else {
-        return Err(refused(Code::ExprForm, rest));
+        return Err(no_end(rest));
     };
     Ok((found, rest))
 }
@@ -258,8 +261,10 @@ fn actual(alloc: Global, end: usize, left: u8, bytes: &[u8]) -> Result<(Actual, 
     if is_missing(bytes) {
         return Ok((Actual::Missing, bytes));
     }
-    let (value, rest) = chain(alloc, end, left, bytes)?;
-    Ok((Actual::Value(value), rest))
+    match chain(alloc, end, left, bytes) {
+        Ok((value, rest)) => Ok((Actual::Value(value), rest)),
+        Err(refusal) => Err(no_actual(refusal, bytes)),
+    }
 }
 
 // One or more actuals to the closing parenthesis.
@@ -276,7 +281,7 @@ fn some_actuals(
     let (first, rest) = actual(alloc, end, left, bytes)?;
     let (found, rest) = actuals_rest(alloc, end, left, first, rest)?;
     let Some(rest) = byte_of(b')', rest) else {
-        return Err(refused(Code::ExprForm, rest));
+        return Err(no_actuals_end(&found, rest));
     };
     Ok((found, rest))
 }
@@ -320,6 +325,32 @@ fn actuals_rest(
     Ok((found, rest))
 }
 
+// An argument that is a name, and at most so many behind it.
+#[cycle(reading)]
+fn others(
+    alloc: Global,
+    end: usize,
+    left: u8,
+    most: usize,
+    first: Expr,
+    bytes: &[u8],
+) -> Result<(Vec<Expr>, &[u8]), Refusal>
+    ensures { Gives (λ x. (trees x.0.items, x.1.now)) result (few (suc most) (put (tree_of first ∷ []) (many (byte_at 44) (next (nested_at end left)) (suc (length bytes.now)) bytes.now))) }
+{
+    let mut found = Vec::new(alloc);
+    found.push(first)?;
+    let mut rest = bytes;
+    while let Some(behind) = byte_of(b',', rest) {
+        if found.len() > most {
+            return Err(refused(Code::ExprForm, rest));
+        }
+        let (item, behind) = chain(alloc, end, left, behind)?;
+        found.push(item)?;
+        rest = behind;
+    }
+    Ok((found, rest))
+}
+
 // The arguments of a function but `$SELECT`, to the closing parenthesis.
 #[tactic(auto, unfolding(crate::specs::Reading::arguments_with))]
 #[cycle(reading)]
@@ -343,12 +374,9 @@ fn arguments(
     if asks_subscript(function) && !has_subscript(&first) {
         return Err(refused(Code::ExprForm, rest));
     }
-    let (args, rest) = exprs_rest(alloc, end, left, first, rest)?;
-    if args.len() > most + 1 {
-        return Err(refused(Code::ExprForm, rest));
-    }
+    let (args, rest) = others(alloc, end, left, most, first, rest)?;
     let Some(rest) = byte_of(b')', rest) else {
-        return Err(refused(Code::ExprForm, rest));
+        return Err(no_arguments_end(&args, rest));
     };
     Ok((args, rest))
 }
@@ -457,7 +485,7 @@ fn operand(alloc: Global, end: usize, deeper: u8, bytes: &[u8]) -> Result<(Expr,
         Kind::Open => {
             let (inner, rest) = chain(alloc, end, deeper, behind)?;
             let Some(rest) = byte_of(b')', rest) else {
-                return Err(refused(Code::ExprForm, rest));
+                return Err(no_end(rest));
             };
             Ok((inner, rest))
         }

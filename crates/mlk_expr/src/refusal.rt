@@ -1,10 +1,11 @@
 // Why nothing was read, and where.
 
 ghost use Rattle.std.specs.Prelude.{◌≡◌};
-ghost use Rattle.mlk_expr.specs.Outcome.{IsRefused};
+ghost use Rattle.mlk_expr.specs.Outcome.{IsRefused, IsLike};
 ghost use Rattle.mlk_expr.specs.declared.refusal.Refusal.TheVariants.{OutOfMemory};
 
-use crate::lexeme::{Kind, kind_of};
+use crate::lexeme::{Kind, count_at, kind_of, mantissa_len};
+use crate::tree::{Actual, Expr};
 use crate::words::{function_of, is_select, special_of, word_at};
 use mlk_text::lexeme::byte_of;
 use mlk_text::{Code, LeftOut};
@@ -75,6 +76,75 @@ pub fn no_name(bytes: &[u8]) -> Refusal
     }
 }
 
+// What is behind a sign, where one stands.
+fn behind_sign(bytes: &[u8]) -> &[u8] {
+    match bytes.split_first() {
+        Some((first, behind)) if *first == b'+' || *first == b'-' => behind,
+        _ => bytes,
+    }
+}
+
+/// Why no number stands here, at the byte that should be a digit.
+pub fn no_number(bytes: &[u8]) -> Refusal
+    ensures { IsRefused result }
+{
+    let (_, rest) = bytes.split_at(mantissa_len(bytes));
+    let Some((first, behind)) = rest.split_first() else {
+        return refused(Code::ExprForm, rest);
+    };
+    if *first == b'E' {
+        return refused(Code::ExprForm, behind_sign(behind));
+    }
+    refused(Code::ExprForm, behind)
+}
+
+/// Why an expression neither goes on nor ends here: behind `'` a relation is asked for.
+pub fn no_end(bytes: &[u8]) -> Refusal
+    ensures { IsRefused result }
+{
+    match byte_of(b'\'', bytes) {
+        Some(behind) => refused(Code::ExprForm, behind),
+        None => refused(Code::ExprForm, bytes),
+    }
+}
+
+/// Why no actual stands here, where an expression is refused so: a point may stand before a name that is too long or an indirection.
+pub fn no_actual(refusal: Refusal, bytes: &[u8]) -> Refusal
+    ensures { IsLike refusal result }
+{
+    let Refusal::Refused(offence) = refusal else {
+        return Refusal::OutOfMemory;
+    };
+    let Some(behind) = byte_of(b'.', bytes) else {
+        return Refusal::Refused(offence);
+    };
+    match behind.first().copied() {
+        Some(b'@') => leaves_out(LeftOut::Indirection, behind),
+        Some(first) if kind_of(first) == Kind::Letter => refused(Code::NameLong, behind),
+        _ => Refusal::Refused(offence),
+    }
+}
+
+/// Why arguments of which the first is a name neither go on nor end behind these.
+pub fn no_arguments_end(args: &[Expr], bytes: &[u8]) -> Refusal
+    ensures { IsRefused result }
+{
+    if args.len() == 1 {
+        return refused(Code::ExprForm, bytes);
+    }
+    no_end(bytes)
+}
+
+/// Why actuals neither go on nor end behind these.
+pub fn no_actuals_end(given: &[Actual], bytes: &[u8]) -> Refusal
+    ensures { IsRefused result }
+{
+    match given.last() {
+        Some(Actual::Value(_)) => no_end(bytes),
+        _ => refused(Code::ExprForm, bytes),
+    }
+}
+
 /// Why no global stands here, behind its caret.
 pub fn no_global(bytes: &[u8], behind: &[u8]) -> Refusal
     ensures { IsRefused result }
@@ -122,13 +192,23 @@ pub fn no_function(bytes: &[u8]) -> Refusal
     leaves_out(LeftOut::Function, bytes)
 }
 
-/// Why no operand begins here.
+/// Why no operand and no pattern begins here.
 pub fn no_operand(bytes: &[u8]) -> Refusal
     ensures { IsRefused result }
 {
     match bytes.first().copied() {
         Some(b'@') => leaves_out(LeftOut::Indirection, bytes),
         _ => refused(Code::ExprForm, bytes),
+    }
+}
+
+/// Why a pattern here would be too deep; that it begins with no count comes before that.
+pub fn too_deep_pattern(bytes: &[u8]) -> Refusal
+    ensures { IsRefused result }
+{
+    match count_at(bytes) {
+        Some(_) => refused(Code::ExprDeep, bytes),
+        None => no_operand(bytes),
     }
 }
 

@@ -2,5 +2,6 @@
 
 mod covering;
 mod help;
+mod lists;
 mod reading;
 mod refusing;

@@ -6,10 +6,10 @@ ghost use Rattle.mlock.specs.declared.checked.Refusal.TheVariants as refusal;
 
 use crate::certificate::{CertificateError, CertificateFault, read_certificate};
 use crate::routine::{RoutineError, read_routine, refused};
-use mlk_rules::{RulesError, RulesFault, read_rules};
 use crate::source::{Source, Sources};
 use crate::twice::first_twice;
 use mlk_machine::plain::{EntryText, Plain, Routine};
+use mlk_rules::{RulesError, RulesFault, read_rules};
 use mlk_text::{Code, Fault};
 use mlk_walk::{Report, check_all, missing_entry};
 use std::alloc::{AllocError, Global};

@@ -4,9 +4,9 @@ ghost use Rattle.std.specs.Prelude.{◌≡◌, ◌++◌, OnOk, IfOk, slice_get, 
 ghost use Rattle.mlock.specs.Printed.{code_text, place_text, left_out_text, fault_line, missing_line, rules_line, certificate_line, file_line, label_text, entry_text, fault_text, row_line, row_lines, last_line, report_text};
 
 use crate::certificate::CertificateFault;
-use mlk_rules::RulesFault;
 use crate::text::Text;
 use mlk_machine::plain::{EntryText, Line, Plain, Routine};
+use mlk_rules::RulesFault;
 use mlk_text::{Code, Fault, LeftOut};
 use mlk_walk::{Report, Row, WalkFault};
 use std::alloc::{AllocError, Global};

@@ -46,6 +46,27 @@ fn what_an_account_held_covers(rt: HostRuntime) -> Result<(), Fail> {
 }
 
 #[test]
+fn what_two_locks_held_cover(rt: HostRuntime) -> Result<(), Fail> {
+    let rules = read_rules(rt.alloc(), BASE)?;
+    let held = [
+        term(rt.alloc(), b"ACCT", b"ID")?,
+        term(rt.alloc(), b"LOG", b"")?,
+    ];
+    let rows: &[(&[u8], &[u8], u16)] = &[
+        (b"ACCT", b"ID", 0),
+        (b"ACCT", b"1", 702),
+        (b"ACCT", b"?", 702),
+        (b"LOG", b"ID", 0),
+        (b"OTHER", b"", 701),
+    ];
+    for row in rows {
+        let found = answer(rt.alloc(), &rules, &held, row.0, row.1, (NODE, WRITES))?;
+        assert_eq!(rt; found, row.2);
+    }
+    Ok(())
+}
+
+#[test]
 fn what_nothing_held_covers(rt: HostRuntime) -> Result<(), Fail> {
     let rules = read_rules(rt.alloc(), BASE)?;
     let rows: &[(&[u8], &[u8], (Extent, Access), u16)] = &[

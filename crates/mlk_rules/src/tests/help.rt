@@ -31,13 +31,15 @@ pub(super) fn name(alloc: Global, text: &[u8]) -> Result<Name, AllocError> {
     Ok(Name::new(Vec::from_slice(alloc, text)?))
 }
 
-// No subscripts of an empty text, an unknown one of `?`, the job's number of `$J`, else this constant.
+// No subscripts of an empty text, an unknown one of `?`, the job's number of `$J`, the local `ID`, else this constant.
 fn symbols(alloc: Global, text: &[u8]) -> Result<Vec<Sym>, AllocError> {
     let mut items = Vec::new(alloc);
     if text == b"?".as_slice() {
         items.push(Sym::Unknown)?;
     } else if text == b"$J".as_slice() {
         items.push(Sym::Job)?;
+    } else if text == b"ID".as_slice() {
+        items.push(Sym::Local(name(alloc, text)?))?;
     } else if !text.is_empty() {
         items.push(Sym::Const(Value::new(Vec::from_slice(alloc, text)?)))?;
     }

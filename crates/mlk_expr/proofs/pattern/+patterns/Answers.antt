@@ -79,10 +79,10 @@ pattern-returns-in_err-found t c =
     (atoms-fail c.in_err-found.field-0.0 (many count_at (matcher_by (pattern_at (c.args.left - 1))) (suc (length c.args.bytes.now)) c.args.bytes.now) c.args.bytes.now c.in_err-found.ensures))
 
 pub pattern-returns-then-left-eq0 : goal.pattern-returns-then-left-eq0
-pattern-returns-then-left-eq0 t c = refused_fails c.refused.result _ c.refused.ensures (pattern-none c.args.left c.args.bytes.now c.if-left-eq0.true)
+pattern-returns-then-left-eq0 t c = refused_fails c.too_deep_pattern.result _ c.too_deep_pattern.ensures (pattern-none c.args.left c.args.bytes.now c.if-left-eq0.true)
 
 pub pattern-returns-then-not-found : goal.pattern-returns-then-not-found
 pattern-returns-then-not-found t c =
     let none = no-atoms (many count_at (matcher_by (pattern_at (c.args.left - 1))) (suc (length c.args.bytes.now)) c.args.bytes.now) c.in_ok-found.rest.now c.args.bytes.now
     (subst (λ b. with any (many count_at (matcher_by (pattern_at (c.args.left - 1))) (suc (length c.args.bytes.now)) c.args.bytes.now) ≡ Some (b, c.in_ok-found.rest.now)) c.if-not-found.true c.in_ok-found.ensures) in
-    refused_fails c.refused-then-not-found.result _ c.refused-then-not-found.ensures (pattern-above c.args.left c.args.bytes.now (omega (arith, c.if-left-eq0.false)) ∙ none)
+    refused_fails c.no_operand.result _ c.no_operand.ensures (pattern-above c.args.left c.args.bytes.now (omega (arith, c.if-left-eq0.false)) ∙ none)

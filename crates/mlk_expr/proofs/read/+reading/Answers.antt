@@ -1,19 +1,19 @@
-use Rattle.std.proofs.Common.{◌≡◌, length, arith, sym, ap, ◌∙◌, Some, true, false}
+use Rattle.std.proofs.Common.{◌≡◌, ◌≤◌, ◌∷◌, [], ◌++◌, suc, length, length-append, arith, sym, ap, ◌∙◌, Some, true, false}
 use Rattle.std.proofs.lemmas.List.{map-append, length-map}
 use Rattle.std.proofs.lemmas.Result.{err_from_is_err_and}
 use Rattle.mlk_text.specs.Lexemes.{byte_at}
-use Rattle.mlk_text.specs.Reading.{with}
+use Rattle.mlk_text.specs.Reading.{◌>>=◌, with}
 use Rattle.mlk_text.proofs.Readers.{many_stops, many_goes}
 use Rattle.mlk_expr.specs.Lexemes.{op_at}
 use Rattle.mlk_expr.specs.Trees.{tree_of, trees, sub_of, sub_trees, links, choice_of, choices, actual_of, actual_trees}
 use Rattle.mlk_expr.proofs.Variants.{tree_call, tree_func}
 use Rattle.mlk_expr.specs.Grammar.{IsChain, IsAtom, IsPattern, IsPlaced, IsChoice, IsActual}
-use Rattle.mlk_expr.specs.Reading.{next, nested_at, atom_at, pattern_at, linked, placed, choice_with, actual_with}
+use Rattle.mlk_expr.specs.Reading.{at_most, next, nested_at, atom_at, pattern_at, linked, placed, choice_with, actual_with}
 use Rattle.mlk_expr.proofs.Parts.{placed-exact}
 use Rattle.mlk_expr.proofs.Arguments.{choice-exact, actual-exact}
 use Rattle.mlk_expr.proofs.Operands.{expr-exact}
-use Rattle.mlk_expr.proofs.Steps.{call-listed, call-fails, function-gives, function-fails, arguments-give, arguments-many}
-use Rattle.mlk_expr.proofs.Loops.{loop_fails, with_fails, refused_fails, item-shorter, link-shorter, atom-above, atom-none}
+use Rattle.mlk_expr.proofs.Steps.{call-listed, call-fails, function-gives, function-fails, few-give, few-close, few-fail, list-fails, arguments-give, arguments-fail}
+use Rattle.mlk_expr.proofs.Loops.{loop_fails, with_fails, then_fails, at_most-is, surplus, refused_fails, item-shorter, link-shorter, atom-above, atom-none}
 use Rattle.std.proofs.lemmas.Bool.{and_left, and_right}
 use Rattle.std.specs.Prelude.{not, ◌&&◌, vec_len}
 use Rattle.mlk_expr.specs.Grammar.{has_subscript, asks_subscript}
@@ -67,8 +67,17 @@ exprs_rest-returns t c = many_stops (byte_at 44) (next (nested_at c.args.end c.a
 pub subs_rest-returns-in_err-item : goal.subs_rest-returns-in_err-item
 subs_rest-returns-in_err-item t c =
     let p = err_from_is_err_and c.from_residual-in_err-item.result c.from_residual-in_err-item.ensures.1 in
-    rw (p.1, p.2) (loop_fails (byte_at 44) (next (placed c.args.end (nested_at c.args.end c.args.left))) _ c.loop-behind.invariant.0 c.loop-behind.rest.now _ 44 c.in-Some.behind.now c.in_err-item.field-0.0
-    (sym c.in-Some.ensures) c.in_err-item.ensures c.loop-behind.invariant.1 c.loop-behind.invariant.2)
+    rw (p.1, p.2) (then_fails c.in_err-item.field-0.0 _ (at_most 32) (loop_fails (byte_at 44) (next (placed c.args.end (nested_at c.args.end c.args.left))) _ c.loop-behind.invariant.0 c.loop-behind.rest.now _ 44 c.in-Some.behind.now c.in_err-item.field-0.0
+    (sym c.in-Some.ensures) c.in_err-item.ensures c.loop-behind.invariant.1 c.loop-behind.invariant.2))
+
+pub subs_rest-returns-then-len-eq32 : goal.subs_rest-returns-then-len-eq32
+subs_rest-returns-then-len-eq32 t c =
+    let size : length (sub_trees c.loop-behind.found.items) ≡ vec_len c.loop-behind.found = omega (arith, c.loop-behind.found.ok, length-map c.loop-behind.found.items sub_of) in
+    let counted = c.len.ensures in
+    let full = c.if-len-eq32.true in
+    refused_fails c.refused.result _ c.refused.ensures
+    (surplus (byte_at 44) (next (placed c.args.end (nested_at c.args.end c.args.left))) (sub_trees c.loop-behind.found.items) c.loop-behind.invariant.0 c.loop-behind.rest.now _ 32 44 c.in-Some.behind.now
+    (sym c.in-Some.ensures) c.loop-behind.invariant.1 (omega arith) c.loop-behind.invariant.2)
 
 pub subs_rest-loop-behind-smaller : goal.subs_rest-loop-behind-smaller
 subs_rest-loop-behind-smaller t c = item-shorter (placed c.args.end (nested_at c.args.end c.args.left)) (IsPlaced c.args.end (IsChain (IsAtom c.args.end c.args.left) (IsPattern c.args.left))) (placed-exact c.args.end (nested_at c.args.end c.args.left) (IsChain (IsAtom c.args.end c.args.left) (IsPattern c.args.left)) (expr-exact c.args.end c.args.left)) (sub_of c.in_ok-item.item) c.loop-behind.rest.now c.in-Some.behind.now c.in_ok-item.behind.now (sym c.in-Some.ensures) c.in_ok-item.ensures
@@ -78,10 +87,70 @@ subs_rest-loop-behind-preserved t c =
     let less = item-shorter (placed c.args.end (nested_at c.args.end c.args.left)) (IsPlaced c.args.end (IsChain (IsAtom c.args.end c.args.left) (IsPattern c.args.left))) (placed-exact c.args.end (nested_at c.args.end c.args.left) (IsChain (IsAtom c.args.end c.args.left) (IsPattern c.args.left)) (expr-exact c.args.end c.args.left)) (sub_of c.in_ok-item.item) c.loop-behind.rest.now c.in-Some.behind.now c.in_ok-item.behind.now (sym c.in-Some.ensures) c.in_ok-item.ensures in
     let more = many_goes (byte_at 44) (next (placed c.args.end (nested_at c.args.end c.args.left))) (sub_trees c.loop-behind.found.items) c.loop-behind.invariant.0 c.loop-behind.rest.now _ 44 c.in-Some.behind.now
     (sub_of c.in_ok-item.item) c.in_ok-item.behind.now (sym c.in-Some.ensures) c.in_ok-item.ensures less c.loop-behind.invariant.1 c.loop-behind.invariant.2 in
-    rw (c.in_ok-push-2.ensures.items, map-append) more
+    let room : length (c.loop-behind.found.items ++ c.in_ok-item.item ∷ []) ≤ 32 =
+    (let same = c.if-len-eq32.false in let counted = c.len.ensures in let few = c.loop-behind.invariant.3 in let grown = length-append c.loop-behind.found.items (c.in_ok-item.item ∷ []) in omega (arith, c.loop-behind.found.ok)) in
+    rw (c.in_ok-push-2.ensures.items, map-append) (more.0, more.1, more.2, room)
 
 pub subs_rest-returns : goal.subs_rest-returns
-subs_rest-returns t c = many_stops (byte_at 44) (next (placed c.args.end (nested_at c.args.end c.args.left))) (sub_trees c.loop-behind.found.items) c.loop-behind.invariant.0 c.loop-behind.rest.now _ (sym c.in_default.ensures) c.loop-behind.invariant.1 c.loop-behind.invariant.2
+subs_rest-returns t c =
+    let size = length-map c.loop-behind.found.items sub_of in
+    let few = c.loop-behind.invariant.3 in
+    let whole = many_stops (byte_at 44) (next (placed c.args.end (nested_at c.args.end c.args.left))) (sub_trees c.loop-behind.found.items) c.loop-behind.invariant.0 c.loop-behind.rest.now _ (sym c.in_default.ensures) c.loop-behind.invariant.1 c.loop-behind.invariant.2 in
+    ap (λ o. o >>= at_most 32) whole ∙ at_most-is 32 (sub_trees c.loop-behind.found.items) c.loop-behind.rest.now (omega arith)
+
+pub subs-returns : goal.subs-returns
+subs-returns t c = few-give (placed c.args.end (nested_at c.args.end c.args.left)) 32 c.args.bytes.now (sub_of c.in_ok-first.first) c.in_ok-first.rest.now (sub_trees c.in_ok-found.found.items) c.in_ok-found.rest.now c.in-Some.rest.now
+    c.in_ok-first.ensures c.in_ok-found.ensures (sym c.in-Some.ensures)
+
+pub subs-returns-in_default : goal.subs-returns-in_default
+subs-returns-in_default t c =
+    refused_fails c.no_end.result _ c.no_end.ensures (few-close (placed c.args.end (nested_at c.args.end c.args.left)) 32 c.args.bytes.now (sub_of c.in_ok-first.first) c.in_ok-first.rest.now (sub_trees c.in_ok-found.found.items) c.in_ok-found.rest.now
+    c.in_ok-first.ensures c.in_ok-found.ensures (sym c.in_default.ensures))
+
+pub subs-returns-in_err-first : goal.subs-returns-in_err-first
+subs-returns-in_err-first t c =
+    let p = err_from_is_err_and c.from_residual.result c.from_residual.ensures.1 in
+    rw (p.1, p.2) (list-fails (placed c.args.end (nested_at c.args.end c.args.left)) 32 c.args.bytes.now c.in_err-first.field-0.0 c.in_err-first.ensures)
+
+pub subs-returns-in_err-found : goal.subs-returns-in_err-found
+subs-returns-in_err-found t c =
+    let p = err_from_is_err_and c.from_residual-in_err-found.result c.from_residual-in_err-found.ensures.1 in
+    rw (p.1, p.2) (few-fail (placed c.args.end (nested_at c.args.end c.args.left)) 32 c.args.bytes.now (sub_of c.in_ok-first.first) c.in_ok-first.rest.now c.in_err-found.field-0.0
+    c.in_ok-first.ensures c.in_err-found.ensures)
+
+pub others-returns-in_err-item : goal.others-returns-in_err-item
+others-returns-in_err-item t c =
+    let p = err_from_is_err_and c.from_residual-in_err-item.result c.from_residual-in_err-item.ensures.1 in
+    rw (p.1, p.2) (then_fails c.in_err-item.field-0.0 _ (at_most (suc c.args.most)) (loop_fails (byte_at 44) (next (nested_at c.args.end c.args.left)) _ c.loop-behind.invariant.0 c.loop-behind.rest.now _ 44 c.in-Some.behind.now c.in_err-item.field-0.0
+    (sym c.in-Some.ensures) c.in_err-item.ensures c.loop-behind.invariant.1 c.loop-behind.invariant.2))
+
+pub others-returns-then-len-most : goal.others-returns-then-len-most
+others-returns-then-len-most t c =
+    let size : length (trees c.loop-behind.found.items) ≡ vec_len c.loop-behind.found = omega (arith, c.loop-behind.found.ok, length-map c.loop-behind.found.items tree_of) in
+    let counted = c.len.ensures in
+    let full = c.if-len-most.true in
+    refused_fails c.refused.result _ c.refused.ensures
+    (surplus (byte_at 44) (next (nested_at c.args.end c.args.left)) (trees c.loop-behind.found.items) c.loop-behind.invariant.0 c.loop-behind.rest.now _ (suc c.args.most) 44 c.in-Some.behind.now
+    (sym c.in-Some.ensures) c.loop-behind.invariant.1 (omega arith) c.loop-behind.invariant.2)
+
+pub others-loop-behind-smaller : goal.others-loop-behind-smaller
+others-loop-behind-smaller t c = item-shorter (nested_at c.args.end c.args.left) (IsChain (IsAtom c.args.end c.args.left) (IsPattern c.args.left)) (expr-exact c.args.end c.args.left) (tree_of c.in_ok-item.item) c.loop-behind.rest.now c.in-Some.behind.now c.in_ok-item.behind.now (sym c.in-Some.ensures) c.in_ok-item.ensures
+
+pub others-loop-behind-preserved : goal.others-loop-behind-preserved
+others-loop-behind-preserved t c =
+    let less = item-shorter (nested_at c.args.end c.args.left) (IsChain (IsAtom c.args.end c.args.left) (IsPattern c.args.left)) (expr-exact c.args.end c.args.left) (tree_of c.in_ok-item.item) c.loop-behind.rest.now c.in-Some.behind.now c.in_ok-item.behind.now (sym c.in-Some.ensures) c.in_ok-item.ensures in
+    let more = many_goes (byte_at 44) (next (nested_at c.args.end c.args.left)) (trees c.loop-behind.found.items) c.loop-behind.invariant.0 c.loop-behind.rest.now _ 44 c.in-Some.behind.now
+    (tree_of c.in_ok-item.item) c.in_ok-item.behind.now (sym c.in-Some.ensures) c.in_ok-item.ensures less c.loop-behind.invariant.1 c.loop-behind.invariant.2 in
+    let room : length (c.loop-behind.found.items ++ c.in_ok-item.item ∷ []) ≤ (suc c.args.most) =
+    (let same = c.if-len-most.false in let counted = c.len.ensures in let grown = length-append c.loop-behind.found.items (c.in_ok-item.item ∷ []) in omega (arith, c.loop-behind.found.ok)) in
+    rw (c.in_ok-push-2.ensures.items, map-append) (more.0, more.1, more.2, room)
+
+pub others-returns : goal.others-returns
+others-returns t c =
+    let size = length-map c.loop-behind.found.items tree_of in
+    let few = c.loop-behind.invariant.3 in
+    let whole = many_stops (byte_at 44) (next (nested_at c.args.end c.args.left)) (trees c.loop-behind.found.items) c.loop-behind.invariant.0 c.loop-behind.rest.now _ (sym c.in_default.ensures) c.loop-behind.invariant.1 c.loop-behind.invariant.2 in
+    ap (λ o. o >>= at_most (suc c.args.most)) whole ∙ at_most-is (suc c.args.most) (trees c.loop-behind.found.items) c.loop-behind.rest.now (omega arith)
 
 pub choices_rest-returns-in_err-item : goal.choices_rest-returns-in_err-item
 choices_rest-returns-in_err-item t c =
@@ -131,14 +200,11 @@ arguments-returns t c =
           let none : asks_subscript c.args.function ≡ false = cc in
           and_left (asks_subscript c.args.function) (not (has_subscript (tree_of c.in_ok-first.first))) none
     ] in
-    let size : length (trees c.in_ok-args-2.args.items) ≡ vec_len c.in_ok-args-2.args = omega (arith, c.in_ok-args-2.args.ok, length-map c.in_ok-args-2.args.items tree_of) in
-    let few = c.if-len-most.false in
-    let counted = c.len.ensures in
     arguments-give (atom_at c.args.end c.args.left) (nested_at c.args.end c.args.left) c.args.function c.in-Some.most c.args.bytes.now (tree_of c.in_ok-first.first) c.in_ok-first.rest.now
-    (trees c.in_ok-args-2.args.items) c.in_ok-args-2.rest.now c.in-Some-byte_of.rest.now (sym c.in-Some.ensures) (sym c.if-not-starts_reference.ensures) c.in_ok-first.ensures asks c.in_ok-args-2.ensures (omega arith) (sym c.in-Some-byte_of.ensures)
+    (trees c.in_ok-args-2.args.items) c.in_ok-args-2.rest.now c.in-Some-byte_of.rest.now (sym c.in-Some.ensures) (sym c.if-not-starts_reference.ensures) c.in_ok-first.ensures asks c.in_ok-args-2.ensures (sym c.in-Some-byte_of.ensures)
 
-pub arguments-returns-then-len-most : goal.arguments-returns-then-len-most
-arguments-returns-then-len-most t c =
+pub arguments-returns-in_err-args-2 : goal.arguments-returns-in_err-args-2
+arguments-returns-in_err-args-2 t c =
     let asks : (asks_subscript c.args.function && not (has_subscript (tree_of c.in_ok-first.first))) ≡ false = elim c.else-asks_subscript.branch [
       | arguments-else-asks_subscript-via-then-asks_subscript+else-not-has_subscript w ↦
           let has : has_subscript (tree_of c.in_ok-first.first) ≡ true = cc in
@@ -147,12 +213,9 @@ arguments-returns-then-len-most t c =
           let none : asks_subscript c.args.function ≡ false = cc in
           and_left (asks_subscript c.args.function) (not (has_subscript (tree_of c.in_ok-first.first))) none
     ] in
-    let size : length (trees c.in_ok-args-2.args.items) ≡ vec_len c.in_ok-args-2.args = omega (arith, c.in_ok-args-2.args.ok, length-map c.in_ok-args-2.args.items tree_of) in
-    let large = c.if-len-most.true in
-    let counted = c.len.ensures in
-    refused_fails c.refused-then-len-most.result _ c.refused-then-len-most.ensures
-    (arguments-many (atom_at c.args.end c.args.left) (nested_at c.args.end c.args.left) c.args.function c.in-Some.most c.args.bytes.now (tree_of c.in_ok-first.first) c.in_ok-first.rest.now
-    (trees c.in_ok-args-2.args.items) c.in_ok-args-2.rest.now (sym c.in-Some.ensures) (sym c.if-not-starts_reference.ensures) c.in_ok-first.ensures asks c.in_ok-args-2.ensures (omega arith))
+    let p = err_from_is_err_and c.from_residual-in_err-args-2.result c.from_residual-in_err-args-2.ensures.1 in
+    rw (p.1, p.2) (arguments-fail (atom_at c.args.end c.args.left) (nested_at c.args.end c.args.left) c.args.function c.in-Some.most c.args.bytes.now (tree_of c.in_ok-first.first) c.in_ok-first.rest.now c.in_err-args-2.field-0.0
+    (sym c.in-Some.ensures) (sym c.if-not-starts_reference.ensures) c.in_ok-first.ensures asks c.in_err-args-2.ensures)
 
 pub call-returns : goal.call-returns
 call-returns t c =

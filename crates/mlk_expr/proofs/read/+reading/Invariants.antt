@@ -1,4 +1,4 @@
-use Rattle.std.proofs.Common.{◌≡◌, ◌∷◌, [], ◌<◌, ℕ, suc, length, ◌+◌, ◌*◌}
+use Rattle.std.proofs.Common.{◌≡◌, ◌∷◌, [], ◌<◌, ◌≤◌, ℕ, suc, length, ◌+◌, ◌*◌}
 use Rattle.mlk_text.specs.Lexemes.{byte_at}
 use Rattle.mlk_text.specs.Reading.{many, put}
 use Rattle.mlk_expr.specs.Lexemes.{op_at}
@@ -57,6 +57,9 @@ decreases-actuals l = 24 * l.left + 7
 abbrev pub decreases-some_actuals : goal.decreases-some_actuals
 decreases-some_actuals l = 24 * l.left + 6
 
+abbrev pub decreases-others : goal.decreases-others
+decreases-others l = 24 * l.left + 4
+
 abbrev pub decreases-arguments : goal.decreases-arguments
 decreases-arguments l = 24 * l.left + 6
 
@@ -86,9 +89,16 @@ invariant-exprs_rest-loop-behind l =
 abbrev pub decreases-exprs_rest-loop-behind : goal.decreases-exprs_rest-loop-behind
 decreases-exprs_rest-loop-behind l = length l.rest
 
+abbrev pub invariant-others-loop-behind : goal.invariant-others-loop-behind
+invariant-others-loop-behind l =
+    (n : ℕ) × (length l.rest < n) × (put (trees l.found.items) (many (byte_at 44) (next (nested_at l.end l.left)) n l.rest) ≡ put (tree_of l.fn.first ∷ []) (many (byte_at 44) (next (nested_at l.end l.left)) (suc (length l.bytes)) l.bytes)) × (length l.found.items ≤ suc l.most)
+
+abbrev pub decreases-others-loop-behind : goal.decreases-others-loop-behind
+decreases-others-loop-behind l = length l.rest
+
 abbrev pub invariant-subs_rest-loop-behind : goal.invariant-subs_rest-loop-behind
 invariant-subs_rest-loop-behind l =
-    (n : ℕ) × (length l.rest < n) × (put (sub_trees l.found.items) (many (byte_at 44) (next (placed l.end (nested_at l.end l.left))) n l.rest) ≡ put (sub_of l.fn.first ∷ []) (many (byte_at 44) (next (placed l.end (nested_at l.end l.left))) (suc (length l.bytes)) l.bytes))
+    (n : ℕ) × (length l.rest < n) × (put (sub_trees l.found.items) (many (byte_at 44) (next (placed l.end (nested_at l.end l.left))) n l.rest) ≡ put (sub_of l.fn.first ∷ []) (many (byte_at 44) (next (placed l.end (nested_at l.end l.left))) (suc (length l.bytes)) l.bytes)) × (length l.found.items ≤ 32)
 
 abbrev pub decreases-subs_rest-loop-behind : goal.decreases-subs_rest-loop-behind
 decreases-subs_rest-loop-behind l = length l.rest

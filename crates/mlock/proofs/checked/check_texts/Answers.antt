@@ -1,4 +1,5 @@
-use Rattle.std.proofs.Common.{rules, sym, subst}
+use Rattle.std.proofs.Common.{◌≡◌, ◌∙◌, Some, ap, rules, sym, subst}
+use Rattle.std.specs.Prelude.{option_map}
 use Rattle.mlock.specs.CertificateSpelling.{Spells}
 use Rattle.mlock.specs.CertificateTheorem.{FirstFault}
 use Rattle.mlk_rules.specs.RuleSections.{SaysRules, RefusesRules}
@@ -43,3 +44,15 @@ returns-clause-ok c =
       one_job = c.in_ok-report.ensures.one_job;
       all_jobs = c.in_ok-report.ensures.all_jobs;
     }
+
+pub returns-in-Some-clause-refused : goal.returns-in-Some-clause-refused
+returns-in-Some-clause-refused c =
+    let sources = c.args.sources.now in
+    let trees = c.in_ok-routines.routines.items in
+    let read = subst (λ l. AreRead l trees) c.as_slice.ensures.value c.in_ok-routines.ensures.ok in
+    let program = subst (IsProgram sources) (sym c.in_ok-plain.ensures.ok.0) (read, c.in_ok-plain.ensures.ok.1) in
+    let said = subst (λ bytes. SaysRules bytes c.in_ok-rules.rules) c.as_slice-2.ensures.value c.in_ok-rules.ensures.ok in
+    let spelled = subst (Spells c.in_ok-certificate.certificate) c.as_slice-3.ensures.value c.in_ok-certificate.ensures.ok in
+    let entry : Some c.in-Some.entry.now ≡ Some c.new.result = ap Some (sym c.in_ok-from_slice.ensures.items ∙ sym c.new.ensures) in
+    let named = sym c.missing_entry.ensures ∙ ap (λ o. option_map (λ t. t.now) o) c.in-Some.is ∙ entry in
+    (c.in_ok-plain.plain, c.in_ok-rules.rules, c.in_ok-certificate.certificate, (program, said, spelled), named)
