@@ -1,6 +1,6 @@
 -- What the rules of one global say of a reference to it.
-use Rattle.std.proofs.Common.{◌≡◌, ◌≢◌, ◌⊎◌, inl, inr, ℕ, zero, suc, ◌<◌, Bool, true, false, List, [], ◌∷◌, Option, Some, None, length, arith, refl, sym, ap, ◌∙◌, subst, ⊎_elim}
-use Rattle.std.specs.Prelude.{Contains, bytes_eq}
+use Rattle.std.proofs.Common.{◌≡◌, ◌≢◌, ◌⊎◌, inl, inr, Bool, true, false, List, [], ◌∷◌, Option, Some, None, Result, Ok, Err, Vec, refl, sym, subst, ⊎_elim}
+use Rattle.std.specs.Prelude.{Contains, IfErr, IfOk, OnOk, bytes_eq}
 use Rattle.std.specs.List.{filter}
 use Rattle.std.proofs.lemmas.Bool.{cases_Bool}
 use Rattle.std.proofs.lemmas.Slice.Eq.{bytes_eq-Decides}
@@ -12,8 +12,8 @@ use Rattle.mlk_rules.specs.declared.pattern.Pattern.{Pattern}
 use Rattle.mlk_rules.specs.declared.cover.Cover.{Cover}
 use Rattle.mlk_rules.specs.declared.rules.RuleLists.{RuleLists}
 use Rattle.mlk_rules.specs.Patterns.{MayMeet, SurelyLies, SurelyAbove}
-use Rattle.mlk_rules.specs.Coverage.{IsPattern, OfCover, OfPrivate, OfReadonly, IsRuled, KeepsReadonly, KeepsPrivate, KeepsCovers, IsAnswer, Lacks, AreLacking}
-use Rattle.mlk_rules.specs.Groups.{covers_of, patterns_of, of_global, HasNoRule}
+use Rattle.mlk_rules.specs.Coverage.{OfCover, OfPrivate, OfReadonly, IsRuled, KeepsReadonly, KeepsPrivate, KeepsCovers, IsAnswer, AreLacking}
+use Rattle.mlk_rules.specs.Groups.{covers_of, of_global, HasNoRule}
 use Rattle.mlk_rules.proofs.MeetLemmas.{meet_root}
 use Rattle.mlk_rules.proofs.Computing.{in_front, in_rest, in_list}
 
@@ -24,7 +24,7 @@ module _ {X : Type 0} (f : X → Bool) where
   left (y ∷ ys) x h =
       ⊎_elim
       (λ e. let k : Contains (y ∷ filter f ys) x = rw e at h in
-            ⊎_elim (λ d. let P : X → Type 0 = λ z. Contains (y ∷ ys) z in subst P d (in_front y ys)) (λ d. in_rest y x ys (left ys x d)) (in_list y x (filter f ys) k))
+      ⊎_elim (λ d. let P : X → Type 0 = λ z. Contains (y ∷ ys) z in subst P d (in_front y ys)) (λ d. in_rest y x ys (left ys x d)) (in_list y x (filter f ys) k))
       (λ e. let k : Contains (filter f ys) x = rw e at h in in_rest y x ys (left ys x k))
       (cases_Bool (f y))
 
@@ -33,11 +33,11 @@ module _ {X : Type 0} (f : X → Bool) where
   kept (y ∷ ys) x h e =
       ⊎_elim
       (λ d. let P : X → Type 0 = λ z. Contains (filter f (z ∷ ys)) x in
-            subst P (sym d) (rw e (in_front x (filter f ys))))
+      subst P (sym d) (rw e (in_front x (filter f ys))))
       (λ k. ⊎_elim
-            (λ i. rw i (in_rest y x (filter f ys) (kept ys x k e)))
-            (λ i. rw i (kept ys x k e))
-            (cases_Bool (f y)))
+      (λ i. rw i (in_rest y x (filter f ys) (kept ys x k e)))
+      (λ i. rw i (kept ys x k e))
+      (cases_Bool (f y)))
       (in_list y x ys h)
 
 -- a pattern that says something of a reference names its global
@@ -121,18 +121,35 @@ module _ (rules : RuleLists) (r : Reference) where
   lacking_out held [] ts h = h
   lacking_out held (c ∷ cs) ts h =
       ⊎_elim
-      (λ e. more (rw e at h))
+      (λ e. more (λ us k. lacking_out held cs us k) (rw e at h))
       (λ e. inr (λ l. absurd (clash e (meet_named c.pattern r l.0)), lacking_out held cs ts (rw e at h)))
       (cases_Bool (cover_test c))
     where
       clash : cover_test c ≡ false → cover_test c ≡ true → ⊥
       clash e d = cc
 
-      more : AreLacking held r (c ∷ covers_of r.root cs) ts → AreLacking held r (c ∷ cs) ts
-      more (inl (l, (rest, e, k))) = inl (l, (rest, e, lacking_out held cs rest k))
-      more (inr (n, k)) = inr (n, lacking_out held cs ts k)
+      more : ((us : List LockTerm) → AreLacking held r (covers_of r.root cs) us → AreLacking held r cs us) → AreLacking held r (c ∷ covers_of r.root cs) ts → AreLacking held r (c ∷ cs) ts
+      more rec (inl (l, (rest, e, k))) = inl (l, (rest, e, rec rest k))
+      more rec (inr (n, k)) = inr (n, rec ts k)
 
   pub none_lacking : (held : List LockTerm) (covers : List Cover) → ((c : Cover) → Contains covers c → c.pattern.global ≢ r.root) → AreLacking held r covers []
   none_lacking held [] none = refl
   none_lacking held (c ∷ cs) none =
       inr (λ l. none c (in_front c cs) (meet_root c.pattern r l.0), none_lacking held cs (λ d is. none d (in_rest c d cs is)))
+
+-- what is answered, in the words of all rules
+pub answer_ok : (rules : RuleLists) (held : List LockTerm) (r : Reference) (g : RuleLists) (found : Result (Unit {0}) Code) → g ≡ of_global rules r.root → OnOk found (IsAnswer g held r None) → OnOk found (IsAnswer rules held r None)
+answer_ok rules held r g (Ok x) e h =
+    let P : RuleLists → Type 0 = λ l. IsAnswer l held r None in answer_out rules r held None (subst P e h)
+answer_ok rules held r g (Err y) e h = tt
+
+pub answer_err : (rules : RuleLists) (held : List LockTerm) (r : Reference) (g : RuleLists) (found : Result (Unit {0}) Code) → g ≡ of_global rules r.root → IfErr found (λ code. IsAnswer g held r (Some code)) → IfErr found (λ code. IsAnswer rules held r (Some code))
+answer_err rules held r g (Ok x) e h = tt
+answer_err rules held r g (Err y) e h =
+    let P : RuleLists → Type 0 = λ l. IsAnswer l held r (Some y) in answer_out rules r held (Some y) (subst P e h)
+
+-- what is lacking, in the words of all rules
+pub lacking_ok : {E A : Type 0} (rules : RuleLists) (held : List LockTerm) (r : Reference) (cs : List Cover) (found : Result (Vec LockTerm A) E) → cs ≡ (of_global rules r.root).covers → IfOk found (λ v. AreLacking held r cs v.items) → IfOk found (λ v. AreLacking held r rules.covers v.items)
+lacking_ok rules held r cs (Ok v) e h =
+    let P : List Cover → Type 0 = λ l. AreLacking held r l v.items in lacking_out rules r held rules.covers v.items (subst P e h)
+lacking_ok rules held r cs (Err y) e h = tt

@@ -5,6 +5,7 @@ pub mod Apart
 pub mod RankLemmas
 pub mod Computing
 pub mod Grouping
+pub mod GroupTables
 pub mod Examples
 pub mod FrontLemmas
 pub mod MeetLemmas

@@ -1,6 +1,6 @@
 -- Rules by the global that their patterns name, so that a reference asks those of its own global alone. This project's
 -- own choice.
-use Rattle.std.specs.Prelude.{◌≡◌, ◌≢◌, ℕ, Bool, true, false, ◌||◌, if◌then◌else◌, List, [], ◌∷◌, ◌++◌, Option, Some, None, Contains, bytes_eq, is_some}
+use Rattle.std.specs.Prelude.{◌≡◌, ◌≢◌, ℕ, true, if◌then◌else◌, List, [], ◌∷◌, Option, Some, None, Contains, bytes_eq, is_some}
 use Rattle.std.specs.List.{filter}
 use Rattle.mlk_rules.specs.declared.pattern.Pattern.{Pattern}
 use Rattle.mlk_rules.specs.declared.cover.Cover.{Cover}

@@ -113,5 +113,6 @@ pub fn read_rules(alloc: Global, bytes: &[u8]) -> Result<Rules, RulesError>
     if let Some(index) = first_meeting(lists.families.as_slice()) {
         return Err(refused(Code::FamiliesMeet, Section::Lock, index));
     }
-    Ok(Rules::sound(alloc, lists)?)
+    let rules = Rules::sound(alloc, lists)?;
+    Ok(rules)
 }

@@ -1,10 +1,13 @@
-use Rattle.std.proofs.Common.{Some, subst}
-use Rattle.std.specs.Prelude.{IfErr}
-use Rattle.mlk_rules.specs.declared.rules.RuleLists.{RuleLists}
-use Rattle.mlk_rules.specs.Coverage.{IsAnswer}
+use Rattle.mlk_rules.proofs.Grouping.{answer_ok, answer_err, unruled}
 use Rattle.mlk_rules.proofs.check.covered.Goals as goal
 
-pub returns-clause-err : goal.returns-clause-err
-returns-clause-err c =
-    let P : RuleLists → Type 0 = λ x. IfErr c.covered_by.result (λ code. IsAnswer x c.args.held.now c.args.reference.now (Some code)) in
-    subst P c.lists.ensures.value c.covered_by.ensures.err
+pub returns-in-Some-clause-ok : goal.returns-in-Some-clause-ok
+returns-in-Some-clause-ok c =
+    answer_ok c.args.rules.now c.args.held.now c.args.reference.now c.in-Some.group.now c.covered_by.result c.in-Some.ensures c.covered_by.ensures.ok
+
+pub returns-in-Some-clause-err : goal.returns-in-Some-clause-err
+returns-in-Some-clause-err c =
+    answer_err c.args.rules.now c.args.held.now c.args.reference.now c.in-Some.group.now c.covered_by.result c.in-Some.ensures c.covered_by.ensures.err
+
+pub returns-in-None-clause-err : goal.returns-in-None-clause-err
+returns-in-None-clause-err c = unruled c.args.rules.now c.args.reference.now c.in-None.ensures

@@ -14,4 +14,4 @@ pub returns-clause-ok : goal.returns-clause-ok
 returns-clause-ok c =
     let apart : FamiliesApart c.in_ok-lists.lists.families = subst FamiliesApart c.as_slice.ensures c.in_default.ensures in
     let says : SaysRules c.args.bytes.now c.in_ok-lists.lists = (table_view c.in_ok-table.table, c.in_ok-table.ensures.ok, (c.in_ok-lists.ensures, apart)) in
-    subst (SaysRules c.args.bytes.now) (sym c.sound.ensures) says
+    subst (SaysRules c.args.bytes.now) (sym c.in_ok-rules.ensures) says
