@@ -69,7 +69,7 @@ impl Elements {
         for element in self.items.iter() {
             items.push(element.copy()?)?;
         }
-        Ok(Elements { items })
+        Ok(Elements::of(items))
     }
 }
 

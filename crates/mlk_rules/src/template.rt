@@ -66,7 +66,7 @@ impl Parts {
         for part in self.items.iter() {
             items.push(part.copy()?)?;
         }
-        Ok(Parts { items })
+        Ok(Parts::of(items))
     }
 }
 
