@@ -163,6 +163,8 @@ fn reads_these(rt: HostRuntime) {
         b"cover = [{global = \"^G(...)\", lock = \"X\"}, {global = \"^G(...)\", lock = \"X\"}]",
         b"cover = [{global = \"^G\", lock = \"^X(1)\"}]",
         b"cover = [{global = \"^G(a,b,c,d,e,f,g,h,...)\", lock = \"X(h)\"}]",
+        b"lock = [{name = \"A234567890123456789012345678901(0000000000000000000000001)\", rank = 1}]",
+        b"private = [{global = \"^G(1,2,3,4,5,6,7,$J,...)\"}]",
         b"private = [{global = \"^G(1,a,$J)\"}, {global = \"^G($J,b,...)\"}]",
         b"readonly = [{global = \"^G\"}, {global = \"^G(a,.5,...)\"}]",
     ];

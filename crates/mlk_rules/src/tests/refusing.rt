@@ -80,6 +80,10 @@ fn refuses_locks(rt: HostRuntime) {
         (b"lock = [{name = \"A(1,...)\", rank = 1}]", 403),
         (b"lock = [{name = \"A(1,)\", rank = 1}]", 403),
         (b"lock = [{name = \"A(1) \", rank = 1}]", 403),
+        (
+            b"lock = [{name = \"A2345678901234567890123456789012\", rank = 1}]",
+            403,
+        ),
     ];
     for file in files {
         assert!(rt; refuses(rt.alloc(), file.0, file.1, Section::Lock, 1));
