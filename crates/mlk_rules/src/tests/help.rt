@@ -27,6 +27,14 @@ pub(super) fn refuses(
     }
 }
 
+// A file with a family of one subscript, as this text spells it.
+pub(super) fn family_with(alloc: Global, text: &[u8]) -> Result<Vec<u8>, AllocError> {
+    let mut file = Vec::from_slice(alloc, b"lock = [{name = 'A(")?;
+    file.extend_from_slice(text)?;
+    file.extend_from_slice(b")', rank = 1}]")?;
+    Ok(file)
+}
+
 pub(super) fn name(alloc: Global, text: &[u8]) -> Result<Name, AllocError> {
     Ok(Name::new(Vec::from_slice(alloc, text)?))
 }

@@ -1,13 +1,10 @@
 // Rule files that are read.
 
-use super::help::{BASE, reads};
-use crate::{Element, Part, Pattern, entries, read_rules};
+use super::help::{BASE, family_with, reads};
+use crate::{Cover, Element, Family, Part, Pattern, entries, read_rules};
 use mlk_names::{Extent, Root};
+use mlk_text::Value;
 use std::test::Fail;
-
-fn is_text(bytes: &[u8], text: &[u8]) -> bool {
-    bytes == text
-}
 
 fn is_global(root: &Root, name: &[u8]) -> bool {
     match root {
@@ -23,24 +20,35 @@ fn is_local(root: &Root, name: &[u8]) -> bool {
     }
 }
 
-fn is_literal(element: &Element, text: &[u8]) -> bool {
-    match element {
-        Element::Literal(v) => v.as_bytes() == text,
+fn has_element(elements: &[Element], i: usize, text: &[u8]) -> bool {
+    match elements.get(i) {
+        Some(Element::Literal(v)) => v.as_bytes() == text,
         _ => false,
     }
 }
 
-fn is_place(part: &Part, place: usize) -> bool {
-    match part {
-        Part::Literal(_) => false,
-        Part::Place(k) => *k == place,
+fn has_place(parts: &[Part], i: usize, place: usize) -> bool {
+    match parts.get(i) {
+        Some(Part::Place(k)) => *k == place,
+        _ => false,
     }
 }
 
-fn is_part(part: &Part, text: &[u8]) -> bool {
-    match part {
-        Part::Literal(v) => v.as_bytes() == text,
-        Part::Place(_) => false,
+fn has_part(parts: &[Part], i: usize, text: &[u8]) -> bool {
+    match parts.get(i) {
+        Some(Part::Literal(v)) => v.as_bytes() == text,
+        _ => false,
+    }
+}
+
+// Whether the first subscript of the first family is this.
+fn has_subscript(families: &[Family], value: &[u8]) -> bool {
+    let Some((family, _)) = families.split_first() else {
+        return false;
+    };
+    match family.name.subs.as_slice().split_first() {
+        Some((first, _)) => first.as_bytes() == value,
+        None => false,
     }
 }
 
@@ -68,41 +76,67 @@ fn reads_the_base_rules(rt: HostRuntime) -> Result<(), Fail> {
     Ok(())
 }
 
+fn has_tree(patterns: &[Pattern], global: &[u8], size: usize) -> bool {
+    match patterns.split_first() {
+        Some((first, others)) => others.is_empty() && is_tree(first, global, size),
+        None => false,
+    }
+}
+
+fn has_entry(entries: &[Value], text: &[u8]) -> bool {
+    match entries.split_first() {
+        Some((first, others)) => others.is_empty() && first.as_bytes() == text,
+        None => false,
+    }
+}
+
 #[test]
 fn reads_the_other_sections(rt: HostRuntime) -> Result<(), Fail> {
     let rules = read_rules(rt.alloc(), BASE)?;
-    let private = rules.lists().private.as_slice();
-    assert_eq!(rt; private.len(), 1);
-    assert!(rt; is_tree(&private[0], b"TMP", 1));
-    let readonly = rules.lists().readonly.as_slice();
-    assert_eq!(rt; readonly.len(), 1);
-    assert!(rt; is_tree(&readonly[0], b"CONF", 0));
-    let entries = entries(&rules);
-    assert_eq!(rt; entries.len(), 1);
-    assert!(rt; is_text(entries[0].as_bytes(), b"DEP^BANK"));
+    let lists = rules.lists();
+    assert!(rt; has_tree(lists.private.as_slice(), b"TMP", 1));
+    assert!(rt; has_tree(lists.readonly.as_slice(), b"CONF", 0));
+    assert!(rt; has_entry(entries(&rules), b"DEP^BANK"));
     Ok(())
 }
 
 #[test]
 fn reads_literals(rt: HostRuntime) -> Result<(), Fail> {
-    let rules = read_rules(
-        rt.alloc(),
-        b"[[lock]]\nname = 'LOG(-05,-0,007,\"a\"\"b\",00.50,-.5,5.,2.10)'\nrank = 0x0\n",
-    )?;
-    let families = rules.families();
-    assert_eq!(rt; families.len(), 1);
-    assert!(rt; is_local(&families[0].name.root, b"LOG"));
-    let subs = families[0].name.subs.as_slice();
-    assert_eq!(rt; subs.len(), 8);
-    assert!(rt; is_text(subs[0].as_bytes(), b"-5"));
-    assert!(rt; is_text(subs[1].as_bytes(), b"0"));
-    assert!(rt; is_text(subs[2].as_bytes(), b"7"));
-    assert!(rt; is_text(subs[3].as_bytes(), b"a\"b"));
-    assert!(rt; is_text(subs[4].as_bytes(), b".5"));
-    assert!(rt; is_text(subs[5].as_bytes(), b"-.5"));
-    assert!(rt; is_text(subs[6].as_bytes(), b"5"));
-    assert!(rt; is_text(subs[7].as_bytes(), b"2.1"));
+    let rows: &[(&[u8], &[u8])] = &[
+        (b"-05", b"-5"),
+        (b"-0", b"0"),
+        (b"007", b"7"),
+        (b"\"a\"\"b\"", b"a\"b"),
+        (b"00.50", b".5"),
+        (b"-.5", b"-.5"),
+        (b"5.", b"5"),
+        (b"2.10", b"2.1"),
+        (b"123456789012345", b"123456789012345"),
+    ];
+    for row in rows {
+        let file = family_with(rt.alloc(), row.0)?;
+        let rules = read_rules(rt.alloc(), file.as_slice())?;
+        assert!(rt; has_subscript(rules.families(), row.1));
+    }
     Ok(())
+}
+
+// Whether the lock has the pattern's variables in the other order, with a 1 between them.
+fn is_turned(cover: &Cover) -> bool {
+    let parts = cover.lock.parts.as_slice();
+    is_local(&cover.lock.root, b"L")
+        && has_place(parts, 0, 2)
+        && has_part(parts, 1, b"1")
+        && has_place(parts, 2, 0)
+}
+
+fn has_turned(covers: &[Cover]) -> bool {
+    let Some((first, _)) = covers.split_first() else {
+        return false;
+    };
+    first.pattern.extent == Extent::Node
+        && has_element(first.pattern.elements.as_slice(), 1, b"k")
+        && is_turned(first)
 }
 
 #[test]
@@ -111,19 +145,7 @@ fn reads_places(rt: HostRuntime) -> Result<(), Fail> {
         rt.alloc(),
         b"[[cover]]\nglobal = '^A(x,\"k\",y)'\nlock = 'L(y,1,x)'\n",
     )?;
-    let covers = rules.lists().covers.as_slice();
-    assert_eq!(rt; covers.len(), 1);
-    let cover = &covers[0];
-    let elements = cover.pattern.elements.as_slice();
-    assert_eq!(rt; elements.len(), 3);
-    assert!(rt; is_literal(&elements[1], b"k"));
-    assert!(rt; cover.pattern.extent == Extent::Node);
-    assert!(rt; is_local(&cover.lock.root, b"L"));
-    let parts = cover.lock.parts.as_slice();
-    assert_eq!(rt; parts.len(), 3);
-    assert!(rt; is_place(&parts[0], 2));
-    assert!(rt; is_part(&parts[1], b"1"));
-    assert!(rt; is_place(&parts[2], 0));
+    assert!(rt; has_turned(rules.lists().covers.as_slice()));
     Ok(())
 }
 
@@ -141,6 +163,8 @@ fn reads_these(rt: HostRuntime) {
         b"cover = [{global = \"^G(...)\", lock = \"X\"}, {global = \"^G(...)\", lock = \"X\"}]",
         b"cover = [{global = \"^G\", lock = \"^X(1)\"}]",
         b"cover = [{global = \"^G(a,b,c,d,e,f,g,h,...)\", lock = \"X(h)\"}]",
+        b"lock = [{name = \"A234567890123456789012345678901(0000000000000000000000001)\", rank = 1}]",
+        b"private = [{global = \"^G(1,2,3,4,5,6,7,$J,...)\"}]",
         b"private = [{global = \"^G(1,a,$J)\"}, {global = \"^G($J,b,...)\"}]",
         b"readonly = [{global = \"^G\"}, {global = \"^G(a,.5,...)\"}]",
     ];

@@ -1,8 +1,7 @@
 // Rule files that are refused, and where.
 
-use super::help::{reads, refuses};
+use super::help::{family_with, reads, refuses};
 use crate::Section;
-use std::alloc::Global;
 use std::test::Fail;
 
 #[test]
@@ -81,23 +80,18 @@ fn refuses_locks(rt: HostRuntime) {
         (b"lock = [{name = \"A(1,...)\", rank = 1}]", 403),
         (b"lock = [{name = \"A(1,)\", rank = 1}]", 403),
         (b"lock = [{name = \"A(1) \", rank = 1}]", 403),
+        (
+            b"lock = [{name = \"A2345678901234567890123456789012\", rank = 1}]",
+            403,
+        ),
     ];
     for file in files {
         assert!(rt; refuses(rt.alloc(), file.0, file.1, Section::Lock, 1));
     }
 }
 
-fn refuses_subscript(alloc: Global, text: &[u8]) -> bool {
-    let Ok(mut file) = Vec::from_slice(alloc, b"lock = [{name = 'A(") else {
-        return false;
-    };
-    file.extend_from_slice(text).is_ok()
-        && file.extend_from_slice(b")', rank = 1}]").is_ok()
-        && refuses(alloc, file.as_slice(), 403, Section::Lock, 1)
-}
-
 #[test]
-fn refuses_literals(rt: HostRuntime) {
+fn refuses_literals(rt: HostRuntime) -> Result<(), Fail> {
     let texts: &[&[u8]] = &[
         b"-\"1\"",
         b"--1",
@@ -114,8 +108,10 @@ fn refuses_literals(rt: HostRuntime) {
         b"$JOB",
     ];
     for text in texts {
-        assert!(rt; refuses_subscript(rt.alloc(), *text));
+        let file = family_with(rt.alloc(), *text)?;
+        assert!(rt; refuses(rt.alloc(), file.as_slice(), 403, Section::Lock, 1));
     }
+    Ok(())
 }
 
 #[test]
