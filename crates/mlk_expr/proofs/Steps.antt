@@ -3,18 +3,19 @@ use Rattle.std.proofs.Common.{◌≡◌, ◌<◌, ◌≤◌, ◌-◌, ℕ, suc, 
 use Rattle.std.specs.Prelude.{Option, nat_lt, nat_le, not, ◌==◌, ◌&&◌}
 use Rattle.std.proofs.lemmas.Bool.{cases_Bool, ne_eqb, ltb-false}
 use Rattle.mlk_text.specs.Reading.{◌>>=◌, with, put, many}
-use Rattle.mlk_text.specs.Lexemes.{byte_at}
+use Rattle.mlk_text.specs.Lexemes.{byte_at, name_at}
 use Rattle.mlk_text.proofs.Readers.{pair_parts, with_some, behind_length}
 use Rattle.mlk_expr.specs.declared.tree.Callee.{Callee}
 use Rattle.mlk_expr.specs.declared.tree.Function.{Function}
 use Rattle.mlk_expr.specs.declared.tree.Subscript.{Subscript}
+use Rattle.mlk_expr.specs.declared.lexeme.Kind.TheVariants as kind
 use Rattle.mlk_expr.specs.declared.refusal.Refusal.{Refusal}
 use Rattle.mlk_expr.specs.declared.refusal.Refusal.TheVariants.{OutOfMemory, Refused}
 use Rattle.mlk_expr.specs.Trees.{Tree, LocalName, GlobalName, CallOf, Applied, ActualTree, subs_from, trees_from, actuals_from, sub_of}
 use Rattle.mlk_expr.specs.Words.{is_select, function_of}
-use Rattle.mlk_expr.specs.Lexemes.{count_at, starts_reference}
+use Rattle.mlk_expr.specs.Lexemes.{column_of, kind_of, count_at, starts_reference}
 use Rattle.mlk_expr.specs.Grammar.{named, has_subscript, asks_subscript}
-use Rattle.mlk_expr.specs.Reading.{at_most, next, list_with, matcher_by, some_atoms, pattern_at, others_by, callee_at, actuals_with, call_with, function_with, arguments_with}
+use Rattle.mlk_expr.specs.Reading.{at_most, next, list_with, matcher_by, some_atoms, pattern_at, subs_with, local_with, global_with, chain_with, operand_with, others_by, callee_at, actuals_with, call_with, function_with, arguments_with}
 use Rattle.mlk_expr.specs.Outcome.{Fails}
 use Rattle.mlk_expr.proofs.Parts.{pattern-exact}
 use Rattle.mlk_expr.proofs.Loops.{pattern-above, at_most-some, at_most-is}
@@ -63,6 +64,30 @@ pattern-found k xs rest some h = pattern-above k xs some ∙ all-atoms (many cou
 
 pub pattern-shorter : (k : ℕ) (text xs rest : List ℕ) → pattern_at k xs ≡ Some (text, rest) → length rest ≤ length xs
 pattern-shorter k text xs rest h = behind_length xs rest ((pattern-exact k).behind text xs rest ((pattern-exact k).sound text xs rest h))
+
+-- names with subscripts
+module _ (end : ℕ) (item : List ℕ → Option (Tree × List ℕ)) (xs name m : List ℕ) where
+  pub local-gives : (ss : List (ℕ × Tree)) (ys : List ℕ) → name_at xs ≡ Some (name, m) → subs_with end item m ≡ Some (ss, ys) → local_with end item xs ≡ Some (LocalName name (subs_from ss), ys)
+  local-gives ss ys n s = rw n (rw s refl)
+
+  pub global-gives : (column : ℕ) (ss : List (ℕ × Tree)) (ys : List ℕ) → name_at xs ≡ Some (name, m) → subs_with end item m ≡ Some (ss, ys) → global_with end column item xs ≡ Some (GlobalName column name (subs_from ss), ys)
+  global-gives column ss ys n s = rw n (rw s refl)
+
+  pub local-fails : (e : Refusal) → name_at xs ≡ Some (name, m) → Fails e (subs_with end item m) → Fails e (local_with end item xs)
+  local-fails OutOfMemory n s = tt
+  local-fails (Refused r) n s = rw n (rw s refl)
+
+  pub global-fails : (e : Refusal) (column : ℕ) → name_at xs ≡ Some (name, m) → Fails e (subs_with end item m) → Fails e (global_with end column item xs)
+  global-fails OutOfMemory column n s = tt
+  global-fails (Refused r) column n s = rw n (rw s refl)
+
+-- an operand that begins with a letter or a caret
+module _ (end : ℕ) (deep : List ℕ → Option (Tree × List ℕ)) (pattern : List ℕ → Option (List ℕ × List ℕ)) (b : ℕ) (m xs : List ℕ) where
+  pub operand-local : xs ≡ b ∷ m → kind_of b ≡ kind.Letter → operand_with end deep pattern xs ≡ local_with end (chain_with deep pattern) xs
+  operand-local is k = rw is (rw k refl)
+
+  pub operand-global : xs ≡ b ∷ m → kind_of b ≡ kind.Caret → operand_with end deep pattern xs ≡ global_with end (column_of end xs) (chain_with deep pattern) m
+  operand-global is k = rw is (rw k refl)
 
 -- calls
 pub call-listed : (item : List ℕ → Option (Tree × List ℕ)) (column : ℕ) (xs : List ℕ) (callee : Callee) (m n : List ℕ) (given : List ActualTree) (ys : List ℕ)

@@ -181,6 +181,10 @@ local_with end item xs = name_at xs >>= λ name. with (λ ss. LocalName name.0 (
 abbrev pub global_with : ℕ → ℕ → (List ℕ → Option (Tree × List ℕ)) → List ℕ → Option (Tree × List ℕ)
 global_with end column item xs = name_at xs >>= λ name. with (λ ss. GlobalName column name.0 (subs_from ss)) (subs_with end item name.1)
 
+-- an expression and a closing parenthesis
+abbrev pub enclosed_with : (List ℕ → Option (Tree × List ℕ)) → List ℕ → Option (Tree × List ℕ)
+enclosed_with item xs = item xs >>= λ inner. with (λ _. inner.0) (byte_at 41 inner.1)
+
 -- an operand, by its first byte
 abbrev pub atom_by : ℕ → (List ℕ → Option (Tree × List ℕ)) → (List ℕ → Option (List ℕ × List ℕ)) → Kind → ℕ → List ℕ → Option (Tree × List ℕ)
 atom_by end deep pattern kind.Numeral b xs = with number_of (numeral_at (b ∷ xs))
@@ -188,7 +192,7 @@ atom_by end deep pattern kind.Quote b xs = with Literal (inside xs)
 atom_by end deep pattern kind.Letter b xs = local_with end (chain_with deep pattern) (b ∷ xs)
 atom_by end deep pattern kind.Caret b xs = global_with end (column_of end (b ∷ xs)) (chain_with deep pattern) xs
 atom_by end deep pattern kind.Dollar b xs = dollar_with deep (chain_with deep pattern) (column_of end (b ∷ xs)) xs
-atom_by end deep pattern kind.Open b xs = chain_with deep pattern xs >>= λ inner. with (λ _. inner.0) (byte_at 41 inner.1)
+atom_by end deep pattern kind.Open b xs = enclosed_with (chain_with deep pattern) xs
 atom_by end deep pattern (kind.Prefix op) b xs = with (Prefixed op) (deep xs)
 atom_by end deep pattern kind.Other b xs = None
 

@@ -1,7 +1,7 @@
-// The smallest parts of expressions: operators, numerals, counts of patterns, labels.
+// The smallest parts of expressions: operators, counts and codes of patterns, and what a byte begins.
 
 ghost use Rattle.std.specs.Prelude.{◌≡◌, ◌≤◌, length, option_map};
-ghost use Rattle.mlk_expr.specs.Lexemes.{column_of, arithmetic_of, relation_of, relation_at, arithmetic_at, op_at, is_match, unary_of, kind_of, point_len, signed_len, exponent_len, mantissa_len, lacks_exponent, numeral_at, count_at, is_pattern_code, pattern_codes, pattern_codes_at, starts_reference, is_missing, ends};
+ghost use Rattle.mlk_expr.specs.Lexemes.{column_of, arithmetic_of, relation_of, relation_at, arithmetic_at, op_at, is_match, unary_of, kind_of, count_at, is_pattern_code, pattern_codes, pattern_codes_at, starts_reference, is_missing, ends};
 
 use mlk_text::lexeme::{byte_of, digits, is_digit, is_letter};
 use mlk_text::{Op, Relation, UnaryOp};
@@ -156,81 +156,6 @@ pub fn kind_of(b: u8) -> Kind
         b'(' => Kind::Open,
         _ => Kind::Other,
     }
-}
-
-/// How many bytes of a numeric literal stand before its exponent: 0 where no digit does.
-#[tactic(auto, unfolding(crate::specs::Lexemes::mantissa_len))]
-pub fn mantissa_len(bytes: &[u8]) -> usize
-    ensures value { result ≡ mantissa_len bytes.now }
-    ensures within { result ≤ length bytes.now }
-{
-    let whole = digits(bytes);
-    let (_, rest) = bytes.split_at(whole);
-    let Some((first, behind)) = rest.split_first() else {
-        return whole;
-    };
-    if *first != b'.' {
-        return whole;
-    }
-    let fraction = digits(behind);
-    if whole == 0 && fraction == 0 {
-        return 0;
-    }
-    whole + 1 + fraction
-}
-
-fn signed_len(bytes: &[u8]) -> usize
-    ensures value { result ≡ signed_len bytes.now }
-    ensures within { result ≤ length bytes.now }
-{
-    let Some((first, behind)) = bytes.split_first() else {
-        return 0;
-    };
-    if *first != b'+' && *first != b'-' {
-        return digits(bytes);
-    }
-    let n = digits(behind);
-    if n == 0 { 0 } else { n + 1 }
-}
-
-fn exponent_len(bytes: &[u8]) -> usize
-    ensures value { result ≡ exponent_len bytes.now }
-    ensures within { result ≤ length bytes.now }
-{
-    let Some((first, behind)) = bytes.split_first() else {
-        return 0;
-    };
-    if *first != b'E' {
-        return 0;
-    }
-    let n = signed_len(behind);
-    if n == 0 { 0 } else { n + 1 }
-}
-
-// Whether an `E` stands here that no exponent follows.
-fn lacks_exponent(bytes: &[u8]) -> bool
-    ensures { result ≡ lacks_exponent bytes.now }
-{
-    match bytes.split_first() {
-        Some((first, behind)) => *first == b'E' && signed_len(behind) == 0,
-        None => false,
-    }
-}
-
-/// The numeric literal at the front, as it is written, and what is behind it.
-#[tactic(auto, unfolding(crate::specs::Lexemes::numeral_at))]
-pub fn numeral_at(bytes: &[u8]) -> Option<(&[u8], &[u8])>
-    ensures { option_map (λ x. (x.0.now, x.1.now)) result ≡ numeral_at bytes.now }
-{
-    let n = mantissa_len(bytes);
-    if n == 0 {
-        return None;
-    }
-    let (_, rest) = bytes.split_at(n);
-    if lacks_exponent(rest) {
-        return None;
-    }
-    Some(bytes.split_at(n + exponent_len(rest)))
 }
 
 /// The count of a pattern atom, and what is behind it.

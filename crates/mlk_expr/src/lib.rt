@@ -4,6 +4,7 @@
 mod fault;
 mod law;
 pub mod lexeme;
+mod numeral;
 mod part;
 mod pattern;
 mod public;

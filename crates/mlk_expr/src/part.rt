@@ -4,12 +4,12 @@ ghost use Rattle.std.specs.Prelude.{◌≡◌, IfOk};
 ghost use Rattle.mlk_text.specs.Lexemes.{name_at, inside};
 ghost use Rattle.mlk_text.specs.Reading.{with};
 ghost use Rattle.mlk_expr.specs.Lexemes.{numeral_at, label_at, lent_at};
-ghost use Rattle.mlk_expr.specs.Trees.{tree_of};
+ghost use Rattle.mlk_expr.specs.Trees.{Literal, tree_of};
 ghost use Rattle.mlk_expr.specs.Grammar.{named, has_subscript, asks_subscript};
 ghost use Rattle.mlk_expr.specs.Reading.{number_of, callee_at};
 ghost use Rattle.mlk_expr.specs.Outcome.{Gives, IsRefused};
 
-use crate::lexeme::numeral_at;
+use crate::numeral::numeral_at;
 use crate::refusal::{Refusal, no_global, no_name, no_number, no_routine, refused};
 use crate::tree::{Callee, Expr, Function};
 use mlk_text::lexeme::{self, ReadError, byte_of, digits, is_text_byte};
@@ -49,6 +49,14 @@ pub fn quoted(alloc: Global, bytes: &[u8]) -> Result<(Value, &[u8]), Refusal>
         Err(ReadError::OutOfMemory) => Err(Refusal::OutOfMemory),
         Err(ReadError::Refused) => Err(no_text(bytes)),
     }
+}
+
+/// The text up to the closing quote, and what is behind it.
+pub fn text(alloc: Global, bytes: &[u8]) -> Result<(Expr, &[u8]), Refusal>
+    ensures { Gives (λ x. (tree_of x.0, x.1.now)) result (with Literal (inside bytes.now)) }
+{
+    let (value, rest) = quoted(alloc, bytes)?;
+    Ok((Expr::Lit(value), rest))
 }
 
 // The tree of a numeric literal.

@@ -9,7 +9,8 @@ ghost use Rattle.mlk_expr.specs.Theorem.{Stands, Only, Refuses};
 
 use crate::fault::{ReadError, located};
 use crate::lexeme::{may_end, starts_reference};
-use crate::read::{actuals, atom, chain};
+use crate::read::actuals::actuals;
+use crate::read::{atom, chain};
 use crate::refusal::{Refusal, no_end, no_operand, refused};
 use crate::tree::{Actual, Expr};
 use mlk_text::Code;

@@ -4,7 +4,8 @@ ghost use Rattle.std.specs.Prelude.{◌≡◌};
 ghost use Rattle.mlk_expr.specs.Outcome.{IsRefused, IsLike};
 ghost use Rattle.mlk_expr.specs.declared.refusal.Refusal.TheVariants.{OutOfMemory};
 
-use crate::lexeme::{Kind, count_at, kind_of, mantissa_len};
+use crate::lexeme::{Kind, count_at, kind_of};
+use crate::numeral::mantissa_len;
 use crate::tree::{Actual, Expr};
 use crate::words::{function_of, is_select, special_of, word_at};
 use mlk_text::lexeme::byte_of;

@@ -218,3 +218,12 @@ fn many_arguments(rt: HostRuntime) {
         assert_eq!(rt; next_of(alloc, text), Some(text.len()), "{text:?}");
     }
 }
+
+// Nothing limits how many operators stand in a row.
+#[test]
+fn a_long_chain(rt: HostRuntime) -> Result<(), Fail> {
+    let alloc = rt.alloc();
+    let text = nested(alloc, 500_000, b"1+", b"1", b"")?;
+    assert_eq!(rt; next_of(alloc, text.as_slice()), Some(1_000_001));
+    Ok(())
+}

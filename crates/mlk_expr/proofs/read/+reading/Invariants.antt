@@ -18,59 +18,71 @@ decreases-chain_rest l = 24 * l.left + 2
 abbrev pub decreases-chain : goal.decreases-chain
 decreases-chain l = 24 * l.left + 3
 
-abbrev pub decreases-exprs_rest : goal.decreases-exprs_rest
-decreases-exprs_rest l = 24 * l.left + 4
+abbrev pub decreases-functions::exprs_rest : goal.decreases-functions::exprs_rest
+decreases-functions::exprs_rest l = 24 * l.left + 4
 
-abbrev pub decreases-exprs : goal.decreases-exprs
-decreases-exprs l = 24 * l.left + 5
+abbrev pub decreases-functions::exprs : goal.decreases-functions::exprs
+decreases-functions::exprs l = 24 * l.left + 5
 
-abbrev pub decreases-subscript : goal.decreases-subscript
-decreases-subscript l = 24 * l.left + 4
+abbrev pub decreases-names::subscript : goal.decreases-names::subscript
+decreases-names::subscript l = 24 * l.left + 4
 
-abbrev pub decreases-subs_rest : goal.decreases-subs_rest
-decreases-subs_rest l = 24 * l.left + 5
+abbrev pub decreases-names::subs_rest : goal.decreases-names::subs_rest
+decreases-names::subs_rest l = 24 * l.left + 5
 
-abbrev pub decreases-subs : goal.decreases-subs
-decreases-subs l = 24 * l.left + 6
+abbrev pub decreases-names::subs : goal.decreases-names::subs
+decreases-names::subs l = 24 * l.left + 6
 
-abbrev pub decreases-subscripts : goal.decreases-subscripts
-decreases-subscripts l = 24 * l.left + 7
+abbrev pub decreases-names::subscripts : goal.decreases-names::subscripts
+decreases-names::subscripts l = 24 * l.left + 7
 
-abbrev pub decreases-choice : goal.decreases-choice
-decreases-choice l = 24 * l.left + 4
+abbrev pub decreases-functions::choice : goal.decreases-functions::choice
+decreases-functions::choice l = 24 * l.left + 4
 
-abbrev pub decreases-choices_rest : goal.decreases-choices_rest
-decreases-choices_rest l = 24 * l.left + 5
+abbrev pub decreases-functions::choices_rest : goal.decreases-functions::choices_rest
+decreases-functions::choices_rest l = 24 * l.left + 5
 
-abbrev pub decreases-choices : goal.decreases-choices
-decreases-choices l = 24 * l.left + 6
+abbrev pub decreases-functions::choices : goal.decreases-functions::choices
+decreases-functions::choices l = 24 * l.left + 6
 
-abbrev pub decreases-actual : goal.decreases-actual
-decreases-actual l = 24 * l.left + 4
+abbrev pub decreases-actuals::actual : goal.decreases-actuals::actual
+decreases-actuals::actual l = 24 * l.left + 4
 
-abbrev pub decreases-actuals_rest : goal.decreases-actuals_rest
-decreases-actuals_rest l = 24 * l.left + 5
+abbrev pub decreases-actuals::actuals_rest : goal.decreases-actuals::actuals_rest
+decreases-actuals::actuals_rest l = 24 * l.left + 5
 
-abbrev pub decreases-actuals : goal.decreases-actuals
-decreases-actuals l = 24 * l.left + 7
+abbrev pub decreases-actuals::actuals : goal.decreases-actuals::actuals
+decreases-actuals::actuals l = 24 * l.left + 7
 
-abbrev pub decreases-some_actuals : goal.decreases-some_actuals
-decreases-some_actuals l = 24 * l.left + 6
+abbrev pub decreases-actuals::some_actuals : goal.decreases-actuals::some_actuals
+decreases-actuals::some_actuals l = 24 * l.left + 6
 
-abbrev pub decreases-others : goal.decreases-others
-decreases-others l = 24 * l.left + 4
+abbrev pub decreases-functions::others : goal.decreases-functions::others
+decreases-functions::others l = 24 * l.left + 4
 
-abbrev pub decreases-arguments : goal.decreases-arguments
-decreases-arguments l = 24 * l.left + 6
+abbrev pub decreases-functions::arguments : goal.decreases-functions::arguments
+decreases-functions::arguments l = 24 * l.left + 6
 
-abbrev pub decreases-function : goal.decreases-function
-decreases-function l = 24 * l.left + 7
+abbrev pub decreases-functions::function : goal.decreases-functions::function
+decreases-functions::function l = 24 * l.left + 7
 
-abbrev pub decreases-call : goal.decreases-call
-decreases-call l = 24 * l.left + 8
+abbrev pub decreases-actuals::call : goal.decreases-actuals::call
+decreases-actuals::call l = 24 * l.left + 8
 
-abbrev pub decreases-dollar : goal.decreases-dollar
-decreases-dollar l = 24 * l.left + 9
+abbrev pub decreases-functions::dollar : goal.decreases-functions::dollar
+decreases-functions::dollar l = 24 * l.left + 9
+
+abbrev pub decreases-names::local : goal.decreases-names::local
+decreases-names::local l = 24 * l.left + 8
+
+abbrev pub decreases-names::global : goal.decreases-names::global
+decreases-names::global l = 24 * l.left + 8
+
+abbrev pub decreases-enclosed : goal.decreases-enclosed
+decreases-enclosed l = 24 * l.left + 4
+
+abbrev pub decreases-prefixed : goal.decreases-prefixed
+decreases-prefixed l = 24 * l.left + 1
 
 abbrev pub decreases-operand : goal.decreases-operand
 decreases-operand l = 24 * l.deeper + 23
@@ -82,37 +94,37 @@ invariant-chain_rest-loop-op l =
 abbrev pub decreases-chain_rest-loop-op : goal.decreases-chain_rest-loop-op
 decreases-chain_rest-loop-op l = length l.rest
 
-abbrev pub invariant-exprs_rest-loop-behind : goal.invariant-exprs_rest-loop-behind
-invariant-exprs_rest-loop-behind l =
+abbrev pub invariant-functions::exprs_rest-loop-behind : goal.invariant-functions::exprs_rest-loop-behind
+invariant-functions::exprs_rest-loop-behind l =
     (n : ℕ) × (length l.rest < n) × (put (trees l.found.items) (many (byte_at 44) (next (nested_at l.end l.left)) n l.rest) ≡ put (tree_of l.fn.first ∷ []) (many (byte_at 44) (next (nested_at l.end l.left)) (suc (length l.bytes)) l.bytes))
 
-abbrev pub decreases-exprs_rest-loop-behind : goal.decreases-exprs_rest-loop-behind
-decreases-exprs_rest-loop-behind l = length l.rest
+abbrev pub decreases-functions::exprs_rest-loop-behind : goal.decreases-functions::exprs_rest-loop-behind
+decreases-functions::exprs_rest-loop-behind l = length l.rest
 
-abbrev pub invariant-others-loop-behind : goal.invariant-others-loop-behind
-invariant-others-loop-behind l =
+abbrev pub invariant-functions::others-loop-behind : goal.invariant-functions::others-loop-behind
+invariant-functions::others-loop-behind l =
     (n : ℕ) × (length l.rest < n) × (put (trees l.found.items) (many (byte_at 44) (next (nested_at l.end l.left)) n l.rest) ≡ put (tree_of l.fn.first ∷ []) (many (byte_at 44) (next (nested_at l.end l.left)) (suc (length l.bytes)) l.bytes)) × (length l.found.items ≤ suc l.most)
 
-abbrev pub decreases-others-loop-behind : goal.decreases-others-loop-behind
-decreases-others-loop-behind l = length l.rest
+abbrev pub decreases-functions::others-loop-behind : goal.decreases-functions::others-loop-behind
+decreases-functions::others-loop-behind l = length l.rest
 
-abbrev pub invariant-subs_rest-loop-behind : goal.invariant-subs_rest-loop-behind
-invariant-subs_rest-loop-behind l =
+abbrev pub invariant-names::subs_rest-loop-behind : goal.invariant-names::subs_rest-loop-behind
+invariant-names::subs_rest-loop-behind l =
     (n : ℕ) × (length l.rest < n) × (put (sub_trees l.found.items) (many (byte_at 44) (next (placed l.end (nested_at l.end l.left))) n l.rest) ≡ put (sub_of l.fn.first ∷ []) (many (byte_at 44) (next (placed l.end (nested_at l.end l.left))) (suc (length l.bytes)) l.bytes)) × (length l.found.items ≤ 32)
 
-abbrev pub decreases-subs_rest-loop-behind : goal.decreases-subs_rest-loop-behind
-decreases-subs_rest-loop-behind l = length l.rest
+abbrev pub decreases-names::subs_rest-loop-behind : goal.decreases-names::subs_rest-loop-behind
+decreases-names::subs_rest-loop-behind l = length l.rest
 
-abbrev pub invariant-choices_rest-loop-behind : goal.invariant-choices_rest-loop-behind
-invariant-choices_rest-loop-behind l =
+abbrev pub invariant-functions::choices_rest-loop-behind : goal.invariant-functions::choices_rest-loop-behind
+invariant-functions::choices_rest-loop-behind l =
     (n : ℕ) × (length l.rest < n) × (put (choices l.found.items) (many (byte_at 44) (next (choice_with (nested_at l.end l.left))) n l.rest) ≡ put (choice_of l.fn.first ∷ []) (many (byte_at 44) (next (choice_with (nested_at l.end l.left))) (suc (length l.bytes)) l.bytes))
 
-abbrev pub decreases-choices_rest-loop-behind : goal.decreases-choices_rest-loop-behind
-decreases-choices_rest-loop-behind l = length l.rest
+abbrev pub decreases-functions::choices_rest-loop-behind : goal.decreases-functions::choices_rest-loop-behind
+decreases-functions::choices_rest-loop-behind l = length l.rest
 
-abbrev pub invariant-actuals_rest-loop-behind : goal.invariant-actuals_rest-loop-behind
-invariant-actuals_rest-loop-behind l =
+abbrev pub invariant-actuals::actuals_rest-loop-behind : goal.invariant-actuals::actuals_rest-loop-behind
+invariant-actuals::actuals_rest-loop-behind l =
     (n : ℕ) × (length l.rest < n) × (put (actual_trees l.found.items) (many (byte_at 44) (next (actual_with (nested_at l.end l.left))) n l.rest) ≡ put (actual_of l.fn.first ∷ []) (many (byte_at 44) (next (actual_with (nested_at l.end l.left))) (suc (length l.bytes)) l.bytes))
 
-abbrev pub decreases-actuals_rest-loop-behind : goal.decreases-actuals_rest-loop-behind
-decreases-actuals_rest-loop-behind l = length l.rest
+abbrev pub decreases-actuals::actuals_rest-loop-behind : goal.decreases-actuals::actuals_rest-loop-behind
+decreases-actuals::actuals_rest-loop-behind l = length l.rest

@@ -1,0 +1,120 @@
+// Locals and globals with their subscripts.
+
+ghost use Rattle.std.specs.Prelude.{◌∷◌, [], suc, length};
+ghost use Rattle.mlk_text.specs.Lexemes.{byte_at};
+ghost use Rattle.mlk_text.specs.Reading.{many, put};
+ghost use Rattle.mlk_expr.specs.Lexemes.{column_of};
+ghost use Rattle.mlk_expr.specs.Trees.{tree_of, sub_of, sub_trees};
+ghost use Rattle.mlk_expr.specs.Reading.{few, next, nested_at, list_with, placed, subs_with, local_with, global_with};
+ghost use Rattle.mlk_expr.specs.Outcome.{Gives};
+
+use crate::lexeme::column_of;
+use crate::part::{global_name, name};
+use crate::read::chain;
+use crate::refusal::{Refusal, no_end, refused};
+use crate::tree::{Expr, Subscript};
+use mlk_text::Code;
+use mlk_text::lexeme::byte_of;
+use std::alloc::Global;
+
+const MOST_SUBSCRIPTS: usize = 32;
+
+#[cycle(reading)]
+fn subscript(
+    alloc: Global,
+    end: usize,
+    left: u8,
+    bytes: &[u8],
+) -> Result<(Subscript, &[u8]), Refusal>
+    ensures { Gives (λ x. (sub_of x.0, x.1.now)) result (placed end (nested_at end left) bytes.now) }
+{
+    let column = column_of(end, bytes);
+    let (value, rest) = chain(alloc, end, left, bytes)?;
+    Ok((Subscript { column, value }, rest))
+}
+
+// Subscripts to the closing parenthesis, at most 32.
+#[tactic(auto, unfolding(crate::specs::Reading::list_with))]
+#[cycle(reading)]
+fn subs(
+    alloc: Global,
+    end: usize,
+    left: u8,
+    bytes: &[u8],
+) -> Result<(Vec<Subscript>, &[u8]), Refusal>
+    ensures { Gives (λ x. (sub_trees x.0.items, x.1.now)) result (few 32 (list_with (placed end (nested_at end left)) bytes.now)) }
+{
+    let (first, rest) = subscript(alloc, end, left, bytes)?;
+    let (found, rest) = subs_rest(alloc, end, left, first, rest)?;
+    let Some(rest) = byte_of(b')', rest) else {
+        return Err(no_end(rest));
+    };
+    Ok((found, rest))
+}
+
+#[cycle(reading)]
+fn subs_rest(
+    alloc: Global,
+    end: usize,
+    left: u8,
+    first: Subscript,
+    bytes: &[u8],
+) -> Result<(Vec<Subscript>, &[u8]), Refusal>
+    ensures { Gives (λ x. (sub_trees x.0.items, x.1.now)) result (few 32 (put (sub_of first ∷ []) (many (byte_at 44) (next (placed end (nested_at end left))) (suc (length bytes.now)) bytes.now))) }
+{
+    let mut found = Vec::new(alloc);
+    found.push(first)?;
+    let mut rest = bytes;
+    while let Some(behind) = byte_of(b',', rest) {
+        if found.len() == MOST_SUBSCRIPTS {
+            return Err(refused(Code::ExprForm, rest));
+        }
+        let (item, behind) = subscript(alloc, end, left, behind)?;
+        found.push(item)?;
+        rest = behind;
+    }
+    Ok((found, rest))
+}
+
+/// The subscripts at the front, which may be none, and what is behind them.
+#[tactic(auto, unfolding(crate::specs::Reading::subs_with))]
+#[cycle(reading)]
+fn subscripts(
+    alloc: Global,
+    end: usize,
+    left: u8,
+    bytes: &[u8],
+) -> Result<(Vec<Subscript>, &[u8]), Refusal>
+    ensures { Gives (λ x. (sub_trees x.0.items, x.1.now)) result (subs_with end (nested_at end left) bytes.now) }
+{
+    let Some(rest) = byte_of(b'(', bytes) else {
+        return Ok((Vec::new(alloc), bytes));
+    };
+    subs(alloc, end, left, rest)
+}
+
+/// A local with its subscripts.
+#[cycle(reading)]
+pub fn local(alloc: Global, end: usize, left: u8, bytes: &[u8]) -> Result<(Expr, &[u8]), Refusal>
+    ensures { Gives (λ x. (tree_of x.0, x.1.now)) result (local_with end (nested_at end left) bytes.now) }
+{
+    let (name, rest) = name(alloc, bytes)?;
+    let (subs, rest) = subscripts(alloc, end, left, rest)?;
+    Ok((Expr::Local(name, subs), rest))
+}
+
+/// A global with its subscripts behind its caret, at which the whole begins.
+#[cycle(reading)]
+pub fn global<'a>(
+    alloc: Global,
+    end: usize,
+    left: u8,
+    whole: &[u8],
+    bytes: &'a [u8],
+) -> Result<(Expr, &'a [u8]), Refusal>
+    ensures { Gives (λ x. (tree_of x.0, x.1.now)) result (global_with end (column_of end whole.now) (nested_at end left) bytes.now) }
+{
+    let (name, rest) = global_name(alloc, whole, bytes)?;
+    let (subs, rest) = subscripts(alloc, end, left, rest)?;
+    Ok((Expr::Global(column_of(end, whole), name, subs), rest))
+}
