@@ -7,6 +7,7 @@ use crate::{
 };
 use mlk_names::{Access, Extent, LockTerm, Reference, prefix};
 use std::alloc::{AllocError, Global};
+use std::slice;
 use std::test::Fail;
 
 const NODE: Extent = Extent::Node;
@@ -33,25 +34,46 @@ fn answer(
     }
 }
 
+// The same of a write of an unknown account, where this term is held.
+fn answer_under(alloc: Global, rules: &Rules, held: &LockTerm) -> Result<u16, AllocError> {
+    answer(
+        alloc,
+        rules,
+        slice::from_ref(held),
+        b"ACCT",
+        b"?",
+        (NODE, WRITES),
+    )
+}
+
 #[test]
 fn what_an_account_held_covers(rt: HostRuntime) -> Result<(), Fail> {
     let rules = read_rules(rt.alloc(), BASE)?;
-    let held = [term(rt.alloc(), b"ACCT", b"")?];
-    let found = answer(rt.alloc(), &rules, &held, b"ACCT", b"?", (NODE, WRITES))?;
-    assert_eq!(rt; found, 0);
-    let held = [constant(rt.alloc(), b"ACCT", b"1")?];
-    let found = answer(rt.alloc(), &rules, &held, b"ACCT", b"?", (NODE, WRITES))?;
-    assert_eq!(rt; found, 702);
+    let whole = term(rt.alloc(), b"ACCT", b"")?;
+    assert_eq!(rt; answer_under(rt.alloc(), &rules, &whole)?, 0);
     Ok(())
+}
+
+#[test]
+fn what_one_account_held_covers(rt: HostRuntime) -> Result<(), Fail> {
+    let rules = read_rules(rt.alloc(), BASE)?;
+    let one = constant(rt.alloc(), b"ACCT", b"1")?;
+    assert_eq!(rt; answer_under(rt.alloc(), &rules, &one)?, 702);
+    Ok(())
+}
+
+fn account_and_log(alloc: Global) -> Result<Vec<LockTerm>, AllocError> {
+    let mut held = Vec::new(alloc);
+    held.push(term(alloc, b"ACCT", b"ID")?)?;
+    held.push(term(alloc, b"LOG", b"")?)?;
+    Ok(held)
 }
 
 #[test]
 fn what_two_locks_held_cover(rt: HostRuntime) -> Result<(), Fail> {
     let rules = read_rules(rt.alloc(), BASE)?;
-    let held = [
-        term(rt.alloc(), b"ACCT", b"ID")?,
-        term(rt.alloc(), b"LOG", b"")?,
-    ];
+    let held = account_and_log(rt.alloc())?;
+    let held = held.as_slice();
     let rows: &[(&[u8], &[u8], u16)] = &[
         (b"ACCT", b"ID", 0),
         (b"ACCT", b"1", 702),
@@ -60,7 +82,7 @@ fn what_two_locks_held_cover(rt: HostRuntime) -> Result<(), Fail> {
         (b"OTHER", b"", 701),
     ];
     for row in rows {
-        let found = answer(rt.alloc(), &rules, &held, row.0, row.1, (NODE, WRITES))?;
+        let found = answer(rt.alloc(), &rules, held, row.0, row.1, (NODE, WRITES))?;
         assert_eq!(rt; found, row.2);
     }
     Ok(())
@@ -97,27 +119,46 @@ fn a_write_of_what_may_be_readonly(rt: HostRuntime) -> Result<(), Fail> {
     Ok(())
 }
 
+// What a write of an unknown account lacks, where this term is held.
+fn lacking(alloc: Global, rules: &Rules, held: &LockTerm) -> Result<Vec<LockTerm>, AllocError> {
+    let unknown = reference(alloc, b"ACCT", b"?", NODE, WRITES)?;
+    templates(alloc, rules, &unknown, slice::from_ref(held))
+}
+
+fn is_alone(found: &[LockTerm], whole: &LockTerm) -> bool {
+    match found.split_first() {
+        Some((first, others)) => {
+            others.is_empty() && prefix(first, whole) && prefix(whole, first)
+        }
+        None => false,
+    }
+}
+
 #[test]
 fn what_an_unknown_account_lacks(rt: HostRuntime) -> Result<(), Fail> {
     let rules = read_rules(rt.alloc(), BASE)?;
-    let unknown = reference(rt.alloc(), b"ACCT", b"?", NODE, WRITES)?;
-    let held = [constant(rt.alloc(), b"ACCT", b"1")?];
-    let found = templates(rt.alloc(), &rules, &unknown, &held)?;
+    let one = constant(rt.alloc(), b"ACCT", b"1")?;
+    let found = lacking(rt.alloc(), &rules, &one)?;
     let whole = term(rt.alloc(), b"ACCT", b"")?;
-    assert_eq!(rt; found.len(), 1);
-    assert!(rt; prefix(&found[0], &whole));
-    assert!(rt; prefix(&whole, &found[0]));
+    assert!(rt; is_alone(found.as_slice(), &whole));
     Ok(())
+}
+
+fn rank(
+    alloc: Global,
+    rules: &Rules,
+    global: &[u8],
+    sub: &[u8],
+) -> Result<Option<u32>, AllocError> {
+    let term = term(alloc, global, sub)?;
+    Ok(rank_of(rules, &term))
 }
 
 #[test]
 fn ranks_of_terms(rt: HostRuntime) -> Result<(), Fail> {
     let rules = read_rules(rt.alloc(), BASE)?;
-    assert_eq!(rt;
-        rank_of(&rules, &term(rt.alloc(), b"ACCT", b"ID")?),
-        Some(10)
-    );
-    assert_eq!(rt; rank_of(&rules, &term(rt.alloc(), b"B", b"")?), None);
+    assert_eq!(rt; rank(rt.alloc(), &rules, b"ACCT", b"ID")?, Some(10));
+    assert_eq!(rt; rank(rt.alloc(), &rules, b"B", b"")?, None);
     Ok(())
 }
 

@@ -59,20 +59,45 @@ fn is_tree(pattern: &Pattern, global: &[u8], size: usize) -> bool {
         && pattern.extent == Extent::Tree
 }
 
+fn has_family(families: &[Family], i: usize, global: &[u8], rank: u32) -> bool {
+    match families.get(i) {
+        Some(family) => {
+            is_global(&family.name.root, global)
+                && family.name.subs.as_slice().is_empty()
+                && family.rank == rank
+        }
+        None => false,
+    }
+}
+
+fn has_cover(covers: &[Cover], i: usize, global: &[u8], size: usize) -> bool {
+    match covers.get(i) {
+        Some(cover) => {
+            is_tree(&cover.pattern, global, size)
+                && is_global(&cover.lock.root, global)
+                && cover.lock.parts.as_slice().len() == size
+        }
+        None => false,
+    }
+}
+
 #[test]
-fn reads_the_base_rules(rt: HostRuntime) -> Result<(), Fail> {
+fn reads_the_families(rt: HostRuntime) -> Result<(), Fail> {
     let rules = read_rules(rt.alloc(), BASE)?;
     let families = rules.families();
     assert_eq!(rt; families.len(), 2);
-    assert!(rt; is_global(&families[0].name.root, b"ACCT"));
-    assert_eq!(rt; families[0].name.subs.as_slice().len(), 0);
-    assert_eq!(rt; families[0].rank, 10);
-    assert_eq!(rt; families[1].rank, 20);
+    assert!(rt; has_family(families, 0, b"ACCT", 10));
+    assert!(rt; has_family(families, 1, b"LOG", 20));
+    Ok(())
+}
+
+#[test]
+fn reads_the_covers(rt: HostRuntime) -> Result<(), Fail> {
+    let rules = read_rules(rt.alloc(), BASE)?;
     let covers = rules.lists().covers.as_slice();
     assert_eq!(rt; covers.len(), 2);
-    assert!(rt; is_tree(&covers[0].pattern, b"ACCT", 1));
-    assert!(rt; is_global(&covers[0].lock.root, b"ACCT"));
-    assert!(rt; is_tree(&covers[1].pattern, b"LOG", 0));
+    assert!(rt; has_cover(covers, 0, b"ACCT", 1));
+    assert!(rt; has_cover(covers, 1, b"LOG", 0));
     Ok(())
 }
 
