@@ -10,7 +10,8 @@ use Rattle.mlk_expr.specs.Trees.{Tree, ActualTree, Given, Lent, Left}
 use Rattle.mlk_expr.specs.declared.tree.Callee.{Callee}
 use Rattle.mlk_expr.specs.declared.tree.Function.{Function}
 use Rattle.mlk_expr.specs.Lexemes.{label_at, lent_at, is_missing, starts_reference}
-use Rattle.mlk_expr.specs.Grammar.{Next, IsList, IsActual, IsActuals, has_subscript, asks_subscript, IsArguments, IsChoice, IsCallee}
+use Rattle.mlk_expr.specs.Grammar.{has_subscript, asks_subscript}
+use Rattle.mlk_expr.proofs.Behind.{Next, IsList, IsActual, IsActuals, IsArguments, IsChoice, IsCallee}
 use Rattle.mlk_expr.specs.Reading.{next, list_with, actual_by, actual_with, actuals_by, actuals_with, label_alone, label_in, routine_alone, routine_by, callee_by, callee_at, choice_with, others_by, name_and, arguments_by}
 use Rattle.mlk_expr.proofs.LexemeLemmas.{label-behind, lent-behind, label-caret}
 use Rattle.mlk_expr.proofs.Parts.{next-exact, list-exact}

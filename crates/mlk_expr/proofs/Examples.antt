@@ -1,89 +1,147 @@
 -- Expressions, worked out by hand.
-use Rattle.std.proofs.Common.{◌≡◌, [], Some, None, refl, codes}
+use Rattle.std.proofs.Common.{◌≡◌, ℕ, suc, List, [], ◌∷◌, length, Some, None, refl, sym, ap, ◌∙◌, arith, subst, append-nil, codes}
 use Rattle.mlk_text.specs.declared.operator.Op.TheVariants.{Add, Multiply, Is, IsNot}
 use Rattle.mlk_text.specs.declared.operator.Relation.TheVariants.{SortsAfter, Matches}
 use Rattle.mlk_text.specs.declared.operator.UnaryOp.TheVariants.{Minus}
 use Rattle.mlk_text.specs.Reading.{many}
+use Rattle.mlk_text.proofs.Readers.{pair_parts}
 use Rattle.mlk_text.specs.Lexemes.{name_at, digits_at, inside}
 use Rattle.mlk_expr.specs.declared.tree.Special.TheVariants.{Test}
-use Rattle.mlk_expr.specs.declared.tree.Function.TheVariants.{Get}
-use Rattle.mlk_expr.specs.Trees.{Literal, Inexact, LocalName, GlobalName, SpecialName, Prefixed, Chain, PatternText, Applied, Selected, BareCall, CallOf, no_links, link, no_subs, sub, no_trees, tree, no_choices, choice, no_actuals, actual, Given, Lent, Left}
+use Rattle.mlk_expr.specs.declared.tree.Function.TheVariants.{Get, Order}
+use Rattle.mlk_expr.specs.Trees.{Tree, Literal, Inexact, LocalName, GlobalName, SpecialName, Prefixed, Chain, PatternText, Applied, Selected, BareCall, CallOf, no_links, link, no_subs, sub, no_trees, tree, no_choices, choice, no_actuals, actual, Given, Lent, Left}
 use Rattle.mlk_expr.specs.Words.{special_of, special_to_principal, special_from_quit, function_of, function_to_fnumber, function_to_piece, function_from_qlength, is_select}
 use Rattle.mlk_expr.specs.Lexemes.{relation_of, relation_at, arithmetic_of, arithmetic_at, op_at, unary_of, kind_of, mantissa_len, numeral_at, count_at, pattern_codes_at, label_at, lent_at, ends}
 use Rattle.mlk_expr.specs.Grammar.{IsExpr, IsReference}
+use Rattle.mlk_expr.proofs.Behind as behind
 use Rattle.mlk_expr.specs.Reading.{canonical_of, list_with, pattern_at, chain_with, subs_with, actual_with, actuals_with, callee_at, call_with, arguments_with, function_with, dollar_with, atom_at, reference_at}
-use Rattle.mlk_expr.proofs.Whole.{spelled, reference-exact}
+use Rattle.mlk_expr.proofs.Whole.{reference-exact}
+use Rattle.mlk_expr.proofs.Operands.{expr-exact}
+use Rattle.mlk_expr.proofs.Joined.{same-expr, same-reference}
 
--- from left to right, without precedence
-left_to_right : IsExpr 8 (Chain (Literal (codes "1")) (link Add (Literal (codes "2")) (link Multiply (Literal (codes "3")) no_links))) (codes "1+2*3 ") (codes " ")
-unfolding many chain_with atom_at op_at relation_at relation_of arithmetic_at arithmetic_of kind_of unary_of numeral_at mantissa_len canonical_of ends name_at digits_at inside special_of special_to_principal special_from_quit function_of function_to_fnumber function_to_piece function_from_qlength is_select count_at pattern_codes_at label_at lent_at list_with pattern_at subs_with actual_with actuals_with callee_at call_with arguments_with function_with dollar_with
-left_to_right = spelled 8 _ (codes "1+2*3 ") (codes " ") refl refl
+-- what reading says of a whole text
+spelled : (t : Tree) (s : List ℕ) → chain_with (atom_at (suc (length s)) 64) (pattern_at 64) s ≡ Some (t, []) → IsExpr 1 t s
+unfolding behind.IsExpr ends
+spelled t s h =
+    let r = same-expr.apart (suc (length s)) 1 t s [] (omega arith) ((expr-exact (suc (length s)) 64).sound t s [] h, refl) in
+    subst (λ z. IsExpr 1 t z) (sym (append-nil r.0) ∙ sym (r.1)) r.2
 
--- parentheses leave no node
-parentheses : IsExpr 8 (Chain (Literal (codes "1")) (link Multiply (Chain (Literal (codes "2")) (link Add (Literal (codes "3")) no_links)) no_links)) (codes "1*(2+3)") []
-unfolding many chain_with atom_at op_at relation_at relation_of arithmetic_at arithmetic_of kind_of unary_of numeral_at mantissa_len canonical_of ends name_at digits_at inside special_of special_to_principal special_from_quit function_of function_to_fnumber function_to_piece function_from_qlength is_select count_at pattern_codes_at label_at lent_at list_with pattern_at subs_with actual_with actuals_with callee_at call_with arguments_with function_with dollar_with
-parentheses = spelled 8 _ (codes "1*(2+3)") [] refl refl
+whole : (t : Tree) (s : List ℕ) → IsExpr 1 t s → chain_with (atom_at (suc (length s)) 64) (pattern_at 64) s ≡ Some (t, [])
+unfolding behind.IsExpr ends
+whole t s is =
+    let same = append-nil s in
+    let size = ap length same in
+    let g : behind.IsExpr (suc (length s)) t s [] = subst (λ z. behind.IsExpr (suc (length s)) t z []) same (same-expr.together (suc (length s)) 1 t s [] (omega arith) is refl) in
+    (expr-exact (suc (length s)) 64).complete t s [] g.0
 
--- a number is its canonical text
-numbers : IsExpr 6 (Literal (codes ".5")) (codes "00.50") []
-unfolding many chain_with atom_at op_at relation_at relation_of arithmetic_at arithmetic_of kind_of unary_of numeral_at mantissa_len canonical_of ends name_at digits_at inside special_of special_to_principal special_from_quit function_of function_to_fnumber function_to_piece function_from_qlength is_select count_at pattern_codes_at label_at lent_at list_with pattern_at subs_with actual_with actuals_with callee_at call_with arguments_with function_with dollar_with
-numbers = spelled 6 _ (codes "00.50") [] refl refl
+-- no reading at all, or one that ends too early
+unspelled : (s : List ℕ) → chain_with (atom_at (suc (length s)) 64) (pattern_at 64) s ≡ None → (t : Tree) → IsExpr 1 t s → ⊥
+unspelled s h t is = let bad = sym h ∙ whole t s is in cc bad
 
--- or any value
-inexact : IsExpr 4 (Inexact) (codes "1E3") []
-unfolding many chain_with atom_at op_at relation_at relation_of arithmetic_at arithmetic_of kind_of unary_of numeral_at mantissa_len canonical_of ends name_at digits_at inside special_of special_to_principal special_from_quit function_of function_to_fnumber function_to_piece function_from_qlength is_select count_at pattern_codes_at label_at lent_at list_with pattern_at subs_with actual_with actuals_with callee_at call_with arguments_with function_with dollar_with
-inexact = spelled 4 _ (codes "1E3") [] refl refl
+unfinished : (s : List ℕ) (u : Tree) (b : ℕ) (rest : List ℕ) → chain_with (atom_at (suc (length s)) 64) (pattern_at 64) s ≡ Some (u, b ∷ rest) → (t : Tree) → IsExpr 1 t s → ⊥
+unfinished s u b rest h t is = let bad = (pair_parts u t (b ∷ rest) [] (sym h ∙ whole t s is)).1 in cc bad
 
--- a sign before an operand
-less : IsExpr 3 (Prefixed Minus (LocalName (codes "X") no_subs)) (codes "-X") []
-unfolding many chain_with atom_at op_at relation_at relation_of arithmetic_at arithmetic_of kind_of unary_of numeral_at mantissa_len canonical_of ends name_at digits_at inside special_of special_to_principal special_from_quit function_of function_to_fnumber function_to_piece function_from_qlength is_select count_at pattern_codes_at label_at lent_at list_with pattern_at subs_with actual_with actuals_with callee_at call_with arguments_with function_with dollar_with
-less = spelled 3 _ (codes "-X") [] refl refl
+reference : (t : Tree) (s : List ℕ) → reference_at (suc (length s)) s ≡ Some (t, []) → IsReference 1 t s
+reference t s h =
+    let r = same-reference.apart (suc (length s)) 1 t s [] (omega arith) ((reference-exact (suc (length s))).sound t s [] h) in
+    subst (λ z. IsReference 1 t z) (sym (append-nil r.0) ∙ sym (r.1)) r.2
 
--- the longest operator
-sorts : IsExpr 6 (Chain (LocalName (codes "X") no_subs) (link (IsNot SortsAfter) (LocalName (codes "Y") no_subs) no_links)) (codes "X']]Y") []
-unfolding many chain_with atom_at op_at relation_at relation_of arithmetic_at arithmetic_of kind_of unary_of numeral_at mantissa_len canonical_of ends name_at digits_at inside special_of special_to_principal special_from_quit function_of function_to_fnumber function_to_piece function_from_qlength is_select count_at pattern_codes_at label_at lent_at list_with pattern_at subs_with actual_with actuals_with callee_at call_with arguments_with function_with dollar_with
-sorts = spelled 6 _ (codes "X']]Y") [] refl refl
-
--- a pattern stands behind its operator alone
-matches : IsExpr 8 (Chain (LocalName (codes "X") no_subs) (link (Is Matches) (PatternText (codes "1N.2A")) no_links)) (codes "X?1N.2A") []
-unfolding many chain_with atom_at op_at relation_at relation_of arithmetic_at arithmetic_of kind_of unary_of numeral_at mantissa_len canonical_of ends name_at digits_at inside special_of special_to_principal special_from_quit function_of function_to_fnumber function_to_piece function_from_qlength is_select count_at pattern_codes_at label_at lent_at list_with pattern_at subs_with actual_with actuals_with callee_at call_with arguments_with function_with dollar_with
-matches = spelled 8 _ (codes "X?1N.2A") [] refl refl
-
--- a special variable, in either case
-test : IsExpr 4 (SpecialName Test) (codes "$t:1") (codes ":1")
-unfolding many chain_with atom_at op_at relation_at relation_of arithmetic_at arithmetic_of kind_of unary_of numeral_at mantissa_len canonical_of ends name_at digits_at inside special_of special_to_principal special_from_quit function_of function_to_fnumber function_to_piece function_from_qlength is_select count_at pattern_codes_at label_at lent_at list_with pattern_at subs_with actual_with actuals_with callee_at call_with arguments_with function_with dollar_with
-test = spelled 4 _ (codes "$t:1") (codes ":1") refl refl
-
--- a function
-get : IsExpr 8 (Applied Get (tree (LocalName (codes "X") no_subs) (tree (Literal (codes "0")) no_trees))) (codes "$G(X,0)") []
-unfolding many chain_with atom_at op_at relation_at relation_of arithmetic_at arithmetic_of kind_of unary_of numeral_at mantissa_len canonical_of ends name_at digits_at inside special_of special_to_principal special_from_quit function_of function_to_fnumber function_to_piece function_from_qlength is_select count_at pattern_codes_at label_at lent_at list_with pattern_at subs_with actual_with actuals_with callee_at call_with arguments_with function_with dollar_with
-get = spelled 8 _ (codes "$G(X,0)") [] refl refl
-
--- $SELECT
-select : IsExpr 8 (Selected (choice (LocalName (codes "X") no_subs) (Literal (codes "1")) no_choices)) (codes "$S(X:1)") []
-unfolding many chain_with atom_at op_at relation_at relation_of arithmetic_at arithmetic_of kind_of unary_of numeral_at mantissa_len canonical_of ends name_at digits_at inside special_of special_to_principal special_from_quit function_of function_to_fnumber function_to_piece function_from_qlength is_select count_at pattern_codes_at label_at lent_at list_with pattern_at subs_with actual_with actuals_with callee_at call_with arguments_with function_with dollar_with
-select = spelled 8 _ (codes "$S(X:1)") [] refl refl
-
--- a call with a name by reference, nothing, and a value
-call : IsExpr 13 (CallOf 1 (record { label = Some (codes "F"); routine = Some (codes "R") }) (actual (Lent (codes "X")) (actual Left (actual (Given (Literal (codes "1"))) no_actuals)))) (codes "$$F^R(.X,,1)") []
-unfolding many chain_with atom_at op_at relation_at relation_of arithmetic_at arithmetic_of kind_of unary_of numeral_at mantissa_len canonical_of ends name_at digits_at inside special_of special_to_principal special_from_quit function_of function_to_fnumber function_to_piece function_from_qlength is_select count_at pattern_codes_at label_at lent_at list_with pattern_at subs_with actual_with actuals_with callee_at call_with arguments_with function_with dollar_with
-call = spelled 13 _ (codes "$$F^R(.X,,1)") [] refl refl
-
--- a call without a list
-bare : IsExpr 5 (BareCall 1 (record { label = None; routine = Some (codes "R") })) (codes "$$^R") []
-unfolding many chain_with atom_at op_at relation_at relation_of arithmetic_at arithmetic_of kind_of unary_of numeral_at mantissa_len canonical_of ends name_at digits_at inside special_of special_to_principal special_from_quit function_of function_to_fnumber function_to_piece function_from_qlength is_select count_at pattern_codes_at label_at lent_at list_with pattern_at subs_with actual_with actuals_with callee_at call_with arguments_with function_with dollar_with
-bare = spelled 5 _ (codes "$$^R") [] refl refl
-
--- a global with the columns of its name and of its subscript
-lock_name : IsReference 8 (GlobalName 1 (codes "A") (sub 4 (LocalName (codes "K") no_subs) no_subs)) (codes "^A(K)=2") (codes "=2")
+-- each of these computes
+examples : Unit {0}
 unfolding many chain_with atom_at op_at relation_at relation_of arithmetic_at arithmetic_of kind_of unary_of numeral_at mantissa_len canonical_of ends name_at digits_at inside special_of special_to_principal special_from_quit function_of function_to_fnumber function_to_piece function_from_qlength is_select count_at pattern_codes_at label_at lent_at list_with pattern_at subs_with actual_with actuals_with callee_at call_with arguments_with function_with dollar_with reference_at
-lock_name = (reference-exact 8).sound _ (codes "^A(K)=2") (codes "=2") refl
+examples = tt
+  where
+    -- from left to right, without precedence
+    left_to_right : IsExpr 1 (Chain (Literal (codes "1")) (link Add (Literal (codes "2")) (link Multiply (Literal (codes "3")) no_links))) (codes "1+2*3")
+    left_to_right = spelled _ (codes "1+2*3") refl
 
--- indirection is no expression, nor is an operator without its second operand
-indirection : chain_with (atom_at 3 64) (pattern_at 64) (codes "@X") ≡ None
-unfolding many chain_with atom_at op_at relation_at relation_of arithmetic_at arithmetic_of kind_of unary_of numeral_at mantissa_len canonical_of ends name_at digits_at inside special_of special_to_principal special_from_quit function_of function_to_fnumber function_to_piece function_from_qlength is_select count_at pattern_codes_at label_at lent_at list_with pattern_at subs_with actual_with actuals_with callee_at call_with arguments_with function_with dollar_with
-indirection = refl
+    -- parentheses leave no node
+    parentheses : IsExpr 1 (Chain (Literal (codes "1")) (link Multiply (Chain (Literal (codes "2")) (link Add (Literal (codes "3")) no_links)) no_links)) (codes "1*(2+3)")
+    parentheses = spelled _ (codes "1*(2+3)") refl
 
-broken : chain_with (atom_at 3 64) (pattern_at 64) (codes "1+") ≡ None
-unfolding many chain_with atom_at op_at relation_at relation_of arithmetic_at arithmetic_of kind_of unary_of numeral_at mantissa_len canonical_of ends name_at digits_at inside special_of special_to_principal special_from_quit function_of function_to_fnumber function_to_piece function_from_qlength is_select count_at pattern_codes_at label_at lent_at list_with pattern_at subs_with actual_with actuals_with callee_at call_with arguments_with function_with dollar_with
-broken = refl
+    -- a number is its canonical text
+    numbers : IsExpr 1 (Literal (codes ".5")) (codes "00.50")
+    numbers = spelled _ (codes "00.50") refl
+
+    -- or any value
+    inexact : IsExpr 1 (Inexact) (codes "1E3")
+    inexact = spelled _ (codes "1E3") refl
+
+    -- a sign before an operand
+    less : IsExpr 1 (Prefixed Minus (LocalName (codes "X") no_subs)) (codes "-X")
+    less = spelled _ (codes "-X") refl
+
+    -- the longest operator
+    sorts : IsExpr 1 (Chain (LocalName (codes "X") no_subs) (link (IsNot SortsAfter) (LocalName (codes "Y") no_subs) no_links)) (codes "X']]Y")
+    sorts = spelled _ (codes "X']]Y") refl
+
+    -- a pattern stands behind its operator alone
+    matches : IsExpr 1 (Chain (LocalName (codes "X") no_subs) (link (Is Matches) (PatternText (codes "1N.2A")) no_links)) (codes "X?1N.2A")
+    matches = spelled _ (codes "X?1N.2A") refl
+
+    -- a special variable, in either case
+    test : IsExpr 1 (SpecialName Test) (codes "$t")
+    test = spelled _ (codes "$t") refl
+
+    -- a function
+    get : IsExpr 1 (Applied Get (tree (LocalName (codes "X") no_subs) (tree (Literal (codes "0")) no_trees))) (codes "$G(X,0)")
+    get = spelled _ (codes "$G(X,0)") refl
+
+    -- $SELECT
+    select : IsExpr 1 (Selected (choice (LocalName (codes "X") no_subs) (Literal (codes "1")) no_choices)) (codes "$S(X:1)")
+    select = spelled _ (codes "$S(X:1)") refl
+
+    -- a call with a name by reference, nothing, and a value
+    call : IsExpr 1 (CallOf 1 (record { label = Some (codes "F"); routine = Some (codes "R") }) (actual (Lent (codes "X")) (actual Left (actual (Given (Literal (codes "1"))) no_actuals)))) (codes "$$F^R(.X,,1)")
+    call = spelled _ (codes "$$F^R(.X,,1)") refl
+
+    -- a call without a list
+    bare : IsExpr 1 (BareCall 1 (record { label = None; routine = Some (codes "R") })) (codes "$$^R")
+    bare = spelled _ (codes "$$^R") refl
+
+    -- a global with the columns of its name and of its subscript
+    lock_name : IsReference 1 (GlobalName 1 (codes "A") (sub 4 (LocalName (codes "K") no_subs) no_subs)) (codes "^A(K)")
+    lock_name = reference _ (codes "^A(K)") refl
+
+    -- indirection is no expression, nor is an operator without its second operand
+    indirection : (t : Tree) → IsExpr 1 t (codes "@X") → ⊥
+    indirection = unspelled (codes "@X") refl
+
+    broken : (t : Tree) → IsExpr 1 t (codes "1+") → ⊥
+    broken = unspelled (codes "1+") refl
+
+    -- a sign belongs to its operand
+    signed : IsExpr 1 (Chain (Prefixed Minus (Literal (codes "1"))) (link Add (Literal (codes "2")) no_links)) (codes "-1+2")
+    signed = spelled _ (codes "-1+2") refl
+
+    -- a pattern of alternatives
+    alternatives : IsExpr 1 (Chain (LocalName (codes "X") no_subs) (link (Is Matches) (PatternText (codes "1(1N,2A)")) no_links)) (codes "X?1(1N,2A)")
+    alternatives = spelled _ (codes "X?1(1N,2A)") refl
+
+    -- a call with an empty list, and one of a label of digits
+    empty_list : IsExpr 1 (CallOf 1 (record { label = Some (codes "F"); routine = None }) no_actuals) (codes "$$F()")
+    empty_list = spelled _ (codes "$$F()") refl
+
+    digits_called : IsExpr 1 (BareCall 1 (record { label = Some (codes "12"); routine = None })) (codes "$$12")
+    digits_called = spelled _ (codes "$$12") refl
+
+    -- $ORDER of a name with a subscript, which may be empty
+    order : IsExpr 1 (Applied Order (tree (GlobalName 4 (codes "A") (sub 7 (Literal []) no_subs)) no_trees)) (codes "$O(^A(\"\"))")
+    order = spelled _ (codes "$O(^A(\"\"))") refl
+
+    -- but of no name without one; nor has $DATA a second argument
+    bare_order : (t : Tree) → IsExpr 1 t (codes "$O(^A)") → ⊥
+    bare_order = unspelled (codes "$O(^A)") refl
+
+    second_argument : (t : Tree) → IsExpr 1 t (codes "$D(X,1)") → ⊥
+    second_argument = unspelled (codes "$D(X,1)") refl
+
+    -- an exponent has digits, and behind `'` stands a relation
+    no_exponent : (t : Tree) → IsExpr 1 t (codes "1E") → ⊥
+    no_exponent = unspelled (codes "1E") refl
+
+    no_relation : (t : Tree) → IsExpr 1 t (codes "1'+2") → ⊥
+    no_relation = unfinished (codes "1'+2") _ _ _ refl
+
+    -- a naked reference is left out
+    naked : (t : Tree) → IsExpr 1 t (codes "^(1)") → ⊥
+    naked = unspelled (codes "^(1)") refl

@@ -1,3 +1,13 @@
+pub mod Behind
+pub mod Runs
+pub mod OperatorSpelling
+pub mod NameSpelling
+pub mod NumberSpelling
+pub mod JoinedParts
+pub mod JoinedArguments
+pub mod JoinedPatterns
+pub mod JoinedOperands
+pub mod Joined
 pub mod CanonicalReading
 pub mod LexemeLemmas
 pub mod Parts

@@ -12,7 +12,7 @@ use Rattle.mlk_expr.specs.declared.refusal.Refusal.TheVariants.{OutOfMemory, Ref
 use Rattle.mlk_expr.specs.Trees.{Tree}
 use Rattle.mlk_expr.specs.Lexemes.{op_at, is_match, count_at}
 use Rattle.mlk_expr.specs.Reading.{at_most, right_by, matcher_by, some_atoms, pattern_at, operand_with, atom_at, rest_of}
-use Rattle.mlk_expr.specs.Grammar.{IsPattern, IsRight, IsAtom, IsMatcher}
+use Rattle.mlk_expr.proofs.Behind.{IsPattern, IsRight, IsAtom, IsMatcher}
 use Rattle.mlk_expr.specs.Outcome.{Fails, IsRefused, IsLike}
 use Rattle.mlk_expr.proofs.LexemeLemmas.{op-takes, count-takes}
 use Rattle.mlk_expr.proofs.Parts.{right-exact, matcher-exact, pattern-exact}

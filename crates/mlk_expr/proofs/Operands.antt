@@ -12,7 +12,8 @@ use Rattle.mlk_expr.specs.declared.lexeme.Kind.TheVariants as kind
 use Rattle.mlk_expr.specs.Trees.{Tree, Literal, Inexact, LocalName, GlobalName, SpecialName, Prefixed, Chain, PatternText, Applied, Selected, BareCall, CallOf}
 use Rattle.mlk_expr.specs.Words.{word_at, special_of, function_of, is_select}
 use Rattle.mlk_expr.specs.Lexemes.{column_of, kind_of, numeral_at}
-use Rattle.mlk_expr.specs.Grammar.{IsPattern, IsChain, IsPlain, IsOperand, IsAtom, IsChoice, named}
+use Rattle.mlk_expr.specs.Grammar.{named}
+use Rattle.mlk_expr.proofs.Behind.{IsPattern, IsChain, IsPlain, IsOperand, IsAtom, IsChoice}
 use Rattle.mlk_expr.specs.Reading.{canonical_of, number_by, number_of, pattern_at, chain_with, subs_with, actuals_with, callee_at, call_by, call_with, arguments_by, arguments_with, choice_with, list_with, function_with, special_by, word_by, dollar_by, dollar_with, atom_by, operand_with, atom_at}
 use Rattle.mlk_expr.proofs.CanonicalReading.{canonical-sound, canonical-complete, canonical-none}
 use Rattle.mlk_expr.proofs.LexemeLemmas.{numeral-behind, word-behind, kind-open, kind-quote, kind-caret, kind-dollar, prefix-is, prefix-from, is-open, is-quote, is-caret, is-dollar, name-first, numeral-first, word-none, no-special, no-function, no-select, function-no-select}

@@ -10,7 +10,8 @@ use Rattle.mlk_text.proofs.Lexemes.{byte-is, byte-takes, quoted-sound, quoted-co
 use Rattle.mlk_text.proofs.Readers.{then_some, pair_parts, with_some, Behind, behind-self, behind-one, behind_then, Exact, many_sound, many_behind, many_complete}
 use Rattle.mlk_expr.specs.Trees.{Tree, PatternText}
 use Rattle.mlk_expr.specs.Lexemes.{op_at, is_match, count_at, pattern_codes_at}
-use Rattle.mlk_expr.specs.Grammar.{Next, IsList, IsMatcher, IsPattern, IsRight, IsLink, chained, IsChain, IsPlaced, IsSubs}
+use Rattle.mlk_expr.specs.Grammar.{chained}
+use Rattle.mlk_expr.proofs.Behind.{Next, IsList, IsMatcher, IsPattern, IsRight, IsLink, IsChain, IsPlaced, IsSubs}
 use Rattle.mlk_expr.specs.Reading.{next, list_with, matcher_by, some_atoms, pattern_at, right_by, linked, chain_with, at_most, placed, subs_by, subs_with}
 use Rattle.mlk_expr.proofs.LexemeLemmas.{op-takes, count-takes, codes-behind}
 

@@ -9,11 +9,12 @@ use Rattle.mlk_expr.specs.declared.refusal.Refusal.TheVariants as refusal
 use Rattle.mlk_expr.specs.declared.fault.ReadError.{ReadError}
 use Rattle.mlk_expr.specs.declared.fault.ReadError.TheVariants as told
 use Rattle.mlk_expr.specs.Lexemes.{ends}
-use Rattle.mlk_expr.specs.Grammar.{IsExpr}
+use Rattle.mlk_expr.proofs.Behind.{IsExpr}
 use Rattle.mlk_expr.specs.Reading.{chain_with, atom_at, pattern_at, ended, expr_at}
 use Rattle.mlk_expr.specs.Outcome.{Fails, Tells}
-use Rattle.mlk_expr.specs.Theorem.{Refuses}
+use Rattle.mlk_expr.specs.Theorem.{Stands, Only, Refuses}
 use Rattle.mlk_expr.proofs.Operands.{expr-exact}
+use Rattle.mlk_expr.proofs.Joined.{Same}
 
 pub whole-exact : (end : ℕ) → Exact (expr_at end) (IsExpr end)
 unfolding expr_at IsExpr
@@ -31,14 +32,19 @@ whole-exact end = record {
   behind = λ t xs ys h. (expr-exact end 64).behind t xs ys h.0;
 }
 
-module _ {A : Type 0} (read : List ℕ → Option (A × List ℕ)) (Is : A → List ℕ → List ℕ → Type 0) (e : Exact read Is) (line : List ℕ) (at : ℕ) where
-  pub rest-within : (a : A) (ys : List ℕ) → read (drop at line) ≡ Some (a, ys) → length ys ≤ length line
+-- what a reading that computes says of a line
+module _ {A : Type 0} (read : ℕ → List ℕ → Option (A × List ℕ)) (Is : ℕ → A → List ℕ → List ℕ → Type 0) (Text : ℕ → A → List ℕ → Type 0) (Ends : A → List ℕ → Type 0)
+    (exact : (end : ℕ) → Exact (read end) (Is end)) (same : Same Is Text Ends) (line : List ℕ) (at : ℕ) where
+  e : Exact (read (suc (length line))) (Is (suc (length line)))
+  e = exact (suc (length line))
+
+  pub rest-within : (a : A) (ys : List ℕ) → read (suc (length line)) (drop at line) ≡ Some (a, ys) → length ys ≤ length line
   rest-within a ys h =
       let f = behind_length (drop at line) ys (e.behind a (drop at line) ys (e.sound a (drop at line) ys h)) in
       let d = length-drop at line in
       omega arith
 
-  pub place-behind : (a : A) (ys : List ℕ) → read (drop at line) ≡ Some (a, ys) → drop (length line - length ys) line ≡ ys
+  place-behind : (a : A) (ys : List ℕ) → read (suc (length line)) (drop at line) ≡ Some (a, ys) → drop (length line - length ys) line ≡ ys
   place-behind a ys h =
       let f = e.behind a (drop at line) ys (e.sound a (drop at line) ys h) in
       let whole : (take at line ++ f.0) ++ ys ≡ line = append_assoc (take at line) f.0 ys ∙ ap (λ l. take at line ++ l) f.1 ∙ take-append-drop at line in
@@ -46,17 +52,29 @@ module _ {A : Type 0} (read : List ℕ → Option (A × List ℕ)) (Is : A → L
       let n : length line - length ys ≡ length (take at line ++ f.0) = omega arith in
       rw n (subst (λ l. drop (length (take at line ++ f.0)) l ≡ ys) whole (drop-append_seam (take at line ++ f.0) ys))
 
-  pub read-is : (a : A) (ys : List ℕ) → read (drop at line) ≡ Some (a, ys) → Is a (drop at line) (drop (length line - length ys) line)
-  read-is a ys h = subst (λ l. Is a (drop at line) l) (sym (place-behind a ys h)) (e.sound a (drop at line) ys h)
+  -- the column of the place
+  placed : at ≤ length line → suc (length line) ≡ suc at + length (drop at line)
+  placed less = let d = length-drop at line in omega arith
 
-  pub read-only : (a : A) (ys : List ℕ) → read (drop at line) ≡ Some (a, ys) → (b : A) (rest : List ℕ) → Is b (drop at line) rest → (b ≡ a) × (rest ≡ drop (length line - length ys) line)
-  read-only a ys h b rest g =
-      let p = one_reading read Is e b a (drop at line) rest ys g (e.sound a (drop at line) ys h) in
+  pub stands : at ≤ length line → (a : A) (ys : List ℕ) → read (suc (length line)) (drop at line) ≡ Some (a, ys) → Stands Text Ends line at a (length line - length ys)
+  stands less a ys h =
+      let f = same.apart (suc (length line)) (suc at) a (drop at line) ys (placed less) (e.sound a (drop at line) ys h) in
+      let back = sym (place-behind a ys h) in
+      record { text = f.0; within = omega arith; joined = f.1 ∙ ap (λ l. f.0 ++ l) back; spelled = f.2; ended = subst (λ l. Ends a l) back (f.3) }
+
+  -- every text that is written there is read
+  written : at ≤ length line → (b : A) (text rest : List ℕ) → drop at line ≡ text ++ rest → Text (suc at) b text → Ends b rest → Is (suc (length line)) b (drop at line) rest
+  written less b text rest is one ended =
+      subst (λ l. Is (suc (length line)) b l rest) (sym is) (same.together (suc (length line)) (suc at) b text rest (placed less ∙ ap (λ l. suc at + length l) is) one ended)
+
+  pub only : at ≤ length line → (a : A) (ys : List ℕ) → read (suc (length line)) (drop at line) ≡ Some (a, ys) → Only Text Ends line at a (length line - length ys)
+  only less a ys h b text rest is one ended =
+      let p = one_reading (read (suc (length line))) (Is (suc (length line))) e b a (drop at line) rest ys (written less b text rest is one ended) (e.sound a (drop at line) ys h) in
       (p.0, p.1 ∙ sym (place-behind a ys h))
 
-  pub read-none : (r : Refusal) (t : ReadError) → Fails r (read (drop at line)) → Tells r t → (Is' : ℕ → A → List ℕ → List ℕ → Type 0) → ((b : A) (rest : List ℕ) → Is' (suc (length line)) b (drop at line) rest → Is b (drop at line) rest)
-      → Refuses Is' line at t
-  read-none refusal.OutOfMemory told.OutOfMemory h g Is' same = tt
-  read-none refusal.OutOfMemory (told.Refused f) h g Is' same = absurd g
-  read-none (refusal.Refused o) told.OutOfMemory h g Is' same = tt
-  read-none (refusal.Refused o) (told.Refused f) h g Is' same = λ b rest is. let bad = sym h ∙ e.complete b (drop at line) rest (same b rest is) in cc bad
+  pub refuses : at ≤ length line → (r : Refusal) (t : ReadError) → Fails r (read (suc (length line)) (drop at line)) → Tells r t → Refuses Text Ends line at t
+  refuses less refusal.OutOfMemory told.OutOfMemory h g = tt
+  refuses less refusal.OutOfMemory (told.Refused f) h g = absurd g
+  refuses less (refusal.Refused o) told.OutOfMemory h g = tt
+  refuses less (refusal.Refused o) (told.Refused f) h g = λ b text rest is one ended.
+      let bad = sym h ∙ e.complete b (drop at line) rest (written less b text rest is one ended) in cc bad

@@ -1,15 +1,14 @@
 -- Whole expressions, names with subscripts, and actual lists.
-use Rattle.std.proofs.Common.{◌≡◌, ℕ, List, ◌∷◌, Some, None, true, refl, sym, subst, inl, inr}
+use Rattle.std.proofs.Common.{◌≡◌, ℕ, List, ◌∷◌, Some, None, refl, sym, subst, inl, inr}
 use Rattle.std.specs.Prelude.{Option}
 use Rattle.std.proofs.lemmas.Bool.{cases_Bool}
 use Rattle.mlk_text.specs.Lexemes.{byte_at}
 use Rattle.mlk_text.proofs.Lexemes.{byte-is}
-use Rattle.mlk_text.proofs.Readers.{Behind, behind-one, behind_then, Exact, one_reading}
-use Rattle.mlk_expr.specs.Trees.{Tree, ActualTree}
-use Rattle.mlk_expr.specs.Lexemes.{starts_reference, ends}
-use Rattle.mlk_expr.specs.Grammar.{IsPattern, IsChain, IsActuals, IsAtom, IsExpr, IsReference, IsActualList}
+use Rattle.mlk_text.proofs.Readers.{Behind, behind-one, behind_then, Exact}
+use Rattle.mlk_expr.specs.Trees.{ActualTree}
+use Rattle.mlk_expr.specs.Lexemes.{starts_reference}
+use Rattle.mlk_expr.proofs.Behind.{IsPattern, IsChain, IsActuals, IsAtom, IsReference, IsActualList}
 use Rattle.mlk_expr.specs.Reading.{pattern_at, chain_with, actuals_with, atom_at, reference_at, behind_open, actual_list_at}
-use Rattle.mlk_expr.specs.Theorem.{OneTree}
 use Rattle.mlk_expr.proofs.Arguments.{actuals-exact}
 use Rattle.mlk_expr.proofs.Operands.{atom-exact, expr-exact}
 
@@ -39,19 +38,3 @@ actual_list-exact end = by-list (actuals-exact (chain_with (atom_at end 63) (pat
             → (m : List ℕ) × (xs ≡ 40 ∷ m) × IsActuals (IsChain (IsAtom end 63) (IsPattern 63)) given m ys
         go given xs ys None b h = cc h
         go given xs ys (Some o) b h = (o.1, byte-is 40 o.0 xs o.1 b, l.sound given o.1 ys h)
-
-one-expr : (end : ℕ) (t u : Tree) (xs ys zs : List ℕ) → IsExpr end t xs ys → IsExpr end u xs zs → (t ≡ u) × (ys ≡ zs)
-unfolding IsExpr
-one-expr end t u xs ys zs f g = one_reading (chain_with (atom_at end 64) (pattern_at 64)) (IsChain (IsAtom end 64) (IsPattern 64)) (expr-exact end 64) t u xs ys zs f.0 g.0
-
-pub one_tree : OneTree
-one_tree = record {
-  expressions = one-expr;
-  references = λ end. one_reading (reference_at end) (IsReference end) (reference-exact end);
-  actuals = λ end. one_reading (actual_list_at end) (IsActualList end) (actual_list-exact end);
-}
-
--- what a reading that computes says
-pub spelled : (end : ℕ) (t : Tree) (xs ys : List ℕ) → chain_with (atom_at end 64) (pattern_at 64) xs ≡ Some (t, ys) → ends ys ≡ true → IsExpr end t xs ys
-unfolding IsExpr
-spelled end t xs ys h e = ((expr-exact end 64).sound t xs ys h, e)

@@ -1,48 +1,55 @@
--- The expressions of M, from trees to texts. `Is.. t xs ys` says that t is spelled at the front of xs and that ys is
--- behind it; two parts that follow each other share what is between them. `end` is the column of the line's end.
-use Rattle.std.specs.Prelude.{ℕ, zero, suc, ◌≡◌, ◌<◌, ◌≤◌, ◌⊎◌, Bool, true, false, List, [], ◌∷◌, ◌++◌, length, Option, Some, None}
-use Rattle.mlk_text.specs.Reading.{Many}
-use Rattle.mlk_text.specs.Lexemes.{byte_at, name_at, IsQuoted}
+-- The expressions of M, from trees to texts. `Is.. at t s` says that t is written as the text s, where s begins in the
+-- column `at`; a tree keeps the columns of some of its parts. What follows each other is joined by `++`.
+use Rattle.std.specs.Prelude.{ℕ, zero, suc, ◌≡◌, ◌≢◌, ◌<◌, ◌≤◌, ◌+◌, ◌⊎◌, Bool, true, false, List, [], ◌∷◌, ◌++◌, length, Option, Some, None}
 use Rattle.mlk_text.specs.Numbers.{IsCanonical}
 use Rattle.mlk_text.specs.declared.operator.Op.{Op}
 use Rattle.mlk_expr.specs.declared.tree.Function.{Function}
 use Rattle.mlk_expr.specs.declared.tree.Function.TheVariants as function
 use Rattle.mlk_expr.specs.Trees.{Tree, Literal, Inexact, LocalName, GlobalName, SpecialName, Prefixed, Chain, PatternText, Applied, Selected, BareCall, CallOf, sub, ActualTree, Given, Lent, Left, trees_from, subs_from, links_from, choices_from, actuals_from}
-use Rattle.mlk_expr.specs.Words.{word_at, special_of, function_of, is_select}
-use Rattle.mlk_expr.specs.Lexemes.{column_of, op_at, is_match, unary_of, numeral_at, count_at, pattern_codes_at, label_at, lent_at, starts_reference, is_missing, ends}
+use Rattle.mlk_expr.specs.Words.{special_of, function_of, is_select}
+use Rattle.mlk_expr.specs.Lexemes.{is_match, starts_reference}
+use Rattle.mlk_expr.specs.Spellings.{IsName, IsLabel, IsWord, IsNumber, IsQuoted, IsCount, IsCodes, op_text, unary_text}
 
--- what a reader of a thing relates: the thing, the text that begins with it, and what is behind it
-abbrev pub Spelled : Type 0 → Type 1
-Spelled A = A → List ℕ → List ℕ → Type 0
+-- items, each behind a comma
+abbrev pub AreNext : {A : Type 0} → (ℕ → A → List ℕ → Type 0) → ℕ → List A → List ℕ → Type 0
+AreNext Item at [] s = s ≡ []
+AreNext Item at (a ∷ items) s = (front rest : List ℕ) × (s ≡ 44 ∷ (front ++ rest)) × Item (suc at) a front × AreNext Item (suc (at + length front)) items rest
 
--- behind a comma
-abbrev pub Next : {A : Type 0} → (A → List ℕ → List ℕ → Type 0) → ℕ → A → List ℕ → List ℕ → Type 0
-Next Item comma a xs ys = Item a xs ys
+-- one or more items with commas between them
+abbrev pub IsList : {A : Type 0} → (ℕ → A → List ℕ → Type 0) → ℕ → List A → List ℕ → Type 0
+IsList {A = A} Item at items s = (first : A) × (others : List A) × (front rest : List ℕ)
+    × (items ≡ first ∷ others) × (s ≡ front ++ rest) × Item at first front × AreNext Item (at + length front) others rest
 
--- one or more items with commas between them, and a closing parenthesis
-abbrev pub IsList : {A : Type 0} → (A → List ℕ → List ℕ → Type 0) → List A → List ℕ → List ℕ → Type 0
-IsList {A = A} Item items xs ys = (first : A) × (others : List A) × (m : List ℕ) × Item first xs m × Many (byte_at 44) (Next Item) others m (41 ∷ ys) × (items ≡ first ∷ others)
+-- a text in parentheses
+abbrev pub IsEnclosed : List ℕ → List ℕ → Type 0
+IsEnclosed inner s = s ≡ 40 ∷ (inner ++ 41 ∷ [])
 
 -- What a pattern atom has behind its count: codes, a text, or one of several patterns. Standard: pattern match, patatom.
-abbrev pub IsMatcher : (List ℕ → List ℕ → List ℕ → Type 0) → List ℕ → List ℕ → List ℕ → List ℕ → Type 0
-IsMatcher Deep count c xs ys = (c ≡ count) × (
-    ((codes : List ℕ) × (pattern_codes_at xs ≡ Some (codes, ys)))
-    ⊎ ((value : List ℕ) × IsQuoted value xs ys)
-    ⊎ ((m : List ℕ) × (choices : List (List ℕ)) × (xs ≡ 40 ∷ m) × IsList Deep choices m ys))
+abbrev pub IsMatcher : (List ℕ → Type 0) → List ℕ → Type 0
+IsMatcher Deep s = IsCodes s
+    ⊎ ((value : List ℕ) × IsQuoted value s)
+    ⊎ ((inner : List ℕ) × (choices : List (List ℕ)) × IsEnclosed inner s × IsList (λ at choice t. (t ≡ choice) × Deep choice) 0 choices inner)
 
--- A pattern as it is written: one or more atoms, each behind its count, as far as counts go; alternatives lie one
--- deeper. Standard: pattern match.
-unfoldable pub IsPattern : ℕ → List ℕ → List ℕ → List ℕ → Type 0
-IsPattern zero text xs ys = ⊥
-IsPattern (suc k) text xs ys = (counts : List (List ℕ)) × Many count_at (IsMatcher (IsPattern k)) counts xs ys × (0 < length counts) × (xs ≡ text ++ ys)
+-- counts, each with its matcher behind it
+abbrev pub AreAtoms : (List ℕ → Type 0) → List (List ℕ) → List ℕ → Type 0
+AreAtoms Deep [] s = s ≡ []
+AreAtoms Deep (count ∷ counts) s = (matcher rest : List ℕ) × (s ≡ count ++ (matcher ++ rest)) × IsCount count × IsMatcher Deep matcher × AreAtoms Deep counts rest
+
+-- A pattern: one or more atoms; alternatives lie one deeper. Standard: pattern match.
+unfoldable pub IsPattern : ℕ → List ℕ → Type 0
+IsPattern zero s = ⊥
+IsPattern (suc k) s = (counts : List (List ℕ)) × (0 < length counts) × AreAtoms (IsPattern k) counts s
 
 -- what stands behind an operator: a pattern behind a pattern match, an operand behind any other
-abbrev pub IsRight : (Tree → List ℕ → List ℕ → Type 0) → (List ℕ → List ℕ → List ℕ → Type 0) → Bool → Tree → List ℕ → List ℕ → Type 0
-IsRight Atom Pattern false t xs ys = Atom t xs ys
-IsRight Atom Pattern true t xs ys = (text : List ℕ) × Pattern text xs ys × (t ≡ PatternText text)
+abbrev pub IsRight : (ℕ → Tree → List ℕ → Type 0) → (List ℕ → Type 0) → Bool → ℕ → Tree → List ℕ → Type 0
+IsRight Atom Pattern false at t s = Atom at t s
+IsRight Atom Pattern true at t s = (t ≡ PatternText s) × Pattern s
 
-abbrev pub IsLink : (Tree → List ℕ → List ℕ → Type 0) → (List ℕ → List ℕ → List ℕ → Type 0) → Op → Op × Tree → List ℕ → List ℕ → Type 0
-IsLink Atom Pattern op l xs ys = (l.0 ≡ op) × IsRight Atom Pattern (is_match op) l.1 xs ys
+-- operators, each with what stands behind it
+abbrev pub AreLinks : (ℕ → Tree → List ℕ → Type 0) → (List ℕ → Type 0) → ℕ → List (Op × Tree) → List ℕ → Type 0
+AreLinks Atom Pattern at [] s = s ≡ []
+AreLinks Atom Pattern at (l ∷ links) s = (right rest : List ℕ) × (s ≡ op_text l.0 ++ (right ++ rest))
+    × IsRight Atom Pattern (is_match l.0) (at + length (op_text l.0)) l.1 right × AreLinks Atom Pattern (at + length (op_text l.0) + length right) links rest
 
 -- one operand stands for itself, more for a chain, which is assigned from the left
 abbrev pub chained : Tree → List (Op × Tree) → Tree
@@ -50,29 +57,30 @@ chained t [] = t
 chained t (l ∷ ls) = Chain t (links_from (l ∷ ls))
 
 -- Operands with operators between them. Standard: expr, without precedence.
-abbrev pub IsChain : (Tree → List ℕ → List ℕ → Type 0) → (List ℕ → List ℕ → List ℕ → Type 0) → Tree → List ℕ → List ℕ → Type 0
-IsChain Atom Pattern t xs ys = (first : Tree) × (links : List (Op × Tree)) × (m : List ℕ) × Atom first xs m × Many op_at (IsLink Atom Pattern) links m ys × (t ≡ chained first links)
+abbrev pub IsChain : (ℕ → Tree → List ℕ → Type 0) → (List ℕ → Type 0) → ℕ → Tree → List ℕ → Type 0
+IsChain Atom Pattern at t s = (first : Tree) × (links : List (Op × Tree)) × (front rest : List ℕ)
+    × (t ≡ chained first links) × (s ≡ front ++ rest) × Atom at first front × AreLinks Atom Pattern (at + length front) links rest
 
 -- an item with its column
-abbrev pub IsPlaced : ℕ → (Tree → List ℕ → List ℕ → Type 0) → ℕ × Tree → List ℕ → List ℕ → Type 0
-IsPlaced end Item s xs ys = (s.0 ≡ column_of end xs) × Item s.1 xs ys
+abbrev pub IsPlaced : (ℕ → Tree → List ℕ → Type 0) → ℕ → ℕ × Tree → List ℕ → Type 0
+IsPlaced Item at p s = (p.0 ≡ at) × Item at p.1 s
 
 -- Subscripts: none, or a list in parentheses; at most 32. Standard: local and global variables; the number is this
 -- project's own choice.
-abbrev pub IsSubs : ℕ → (Tree → List ℕ → List ℕ → Type 0) → List (ℕ × Tree) → List ℕ → List ℕ → Type 0
-IsSubs end Item [] xs ys = (xs ≡ ys) × (byte_at 40 xs ≡ None)
-IsSubs end Item (s ∷ ss) xs ys = (m : List ℕ) × (xs ≡ 40 ∷ m) × IsList (IsPlaced end Item) (s ∷ ss) m ys × (length (s ∷ ss) ≤ 32)
+abbrev pub IsSubs : (ℕ → Tree → List ℕ → Type 0) → ℕ → List (ℕ × Tree) → List ℕ → Type 0
+IsSubs Item at [] s = s ≡ []
+IsSubs Item at (p ∷ subs) s = (inner : List ℕ) × IsEnclosed inner s × IsList (IsPlaced Item) (suc at) (p ∷ subs) inner × (length (p ∷ subs) ≤ 32)
 
 -- An actual: a name behind a point, nothing, or an expression. Standard: actual parameters.
-abbrev pub IsActual : (Tree → List ℕ → List ℕ → Type 0) → ActualTree → List ℕ → List ℕ → Type 0
-IsActual Item (Lent name) xs ys = lent_at xs ≡ Some (name, ys)
-IsActual Item Left xs ys = (xs ≡ ys) × (lent_at xs ≡ None) × (is_missing xs ≡ true)
-IsActual Item (Given t) xs ys = Item t xs ys × (lent_at xs ≡ None) × (is_missing xs ≡ false)
+abbrev pub IsActual : (ℕ → Tree → List ℕ → Type 0) → ℕ → ActualTree → List ℕ → Type 0
+IsActual Item at (Lent name) s = (s ≡ 46 ∷ name) × IsName name
+IsActual Item at Left s = s ≡ []
+IsActual Item at (Given t) s = Item at t s
 
--- actuals behind an opening parenthesis: `()` has none
-abbrev pub IsActuals : (Tree → List ℕ → List ℕ → Type 0) → List ActualTree → List ℕ → List ℕ → Type 0
-IsActuals Item [] xs ys = xs ≡ 41 ∷ ys
-IsActuals Item (a ∷ more) xs ys = IsList (IsActual Item) (a ∷ more) xs ys × (byte_at 41 xs ≡ None)
+-- actuals in parentheses: `()` has none
+abbrev pub IsActuals : (ℕ → Tree → List ℕ → Type 0) → ℕ → List ActualTree → List ℕ → Type 0
+IsActuals Item at [] s = s ≡ 40 ∷ 41 ∷ []
+IsActuals Item at (a ∷ more) s = (inner : List ℕ) × IsEnclosed inner s × IsList (IsActual Item) (suc at) (a ∷ more) inner × (inner ≢ [])
 
 -- the first argument of these names a variable, and they have so many arguments behind it at most
 abbrev pub named : Function → Option ℕ
@@ -94,70 +102,69 @@ asks_subscript function.Order = true
 asks_subscript f = false
 
 -- Arguments: expressions, or a name and what may stand behind it. Standard: functions.
-abbrev pub IsArguments : (Tree → List ℕ → List ℕ → Type 0) → (Tree → List ℕ → List ℕ → Type 0) → Function → Option ℕ → List Tree → List ℕ → List ℕ → Type 0
-IsArguments Atom Item f None args xs ys = IsList Item args xs ys
-IsArguments Atom Item f (Some most) args xs ys = (first : Tree) × (others : List Tree) × (m : List ℕ)
-    × Atom first xs m × (starts_reference xs ≡ true) × (asks_subscript f ≡ true → has_subscript first ≡ true)
-    × Many (byte_at 44) (Next Item) others m (41 ∷ ys) × (length others ≤ most) × (args ≡ first ∷ others)
+abbrev pub AreArguments : (ℕ → Tree → List ℕ → Type 0) → (ℕ → Tree → List ℕ → Type 0) → Function → Option ℕ → ℕ → List Tree → List ℕ → Type 0
+AreArguments Atom Item f None at args s = IsList Item at args s
+AreArguments Atom Item f (Some most) at args s = (first : Tree) × (others : List Tree) × (front rest : List ℕ)
+    × (args ≡ first ∷ others) × (s ≡ front ++ rest) × Atom at first front × (starts_reference front ≡ true) × (asks_subscript f ≡ true → has_subscript first ≡ true)
+    × AreNext Item (at + length front) others rest × (length others ≤ most)
 
 -- a condition and its value
-abbrev pub IsChoice : (Tree → List ℕ → List ℕ → Type 0) → Tree × Tree → List ℕ → List ℕ → Type 0
-IsChoice Item c xs ys = (m : List ℕ) × Item c.0 xs (58 ∷ m) × Item c.1 m ys
+abbrev pub IsChoice : (ℕ → Tree → List ℕ → Type 0) → ℕ → Tree × Tree → List ℕ → Type 0
+IsChoice Item at c s = (front rest : List ℕ) × (s ≡ front ++ 58 ∷ rest) × Item at c.0 front × Item (suc (at + length front)) c.1 rest
 
 -- What a call names, behind `$$`. Standard: extrinsic functions, labelref.
-abbrev pub IsCallee : Option (List ℕ) → Option (List ℕ) → List ℕ → List ℕ → Type 0
-IsCallee (Some label) None xs ys = (label_at xs ≡ Some (label, ys)) × (byte_at 94 ys ≡ None)
-IsCallee (Some label) (Some routine) xs ys = (m : List ℕ) × (label_at xs ≡ Some (label, 94 ∷ m)) × (name_at m ≡ Some (routine, ys))
-IsCallee None (Some routine) xs ys = (m : List ℕ) × (xs ≡ 94 ∷ m) × (name_at m ≡ Some (routine, ys))
-IsCallee None None xs ys = ⊥
+abbrev pub IsCallee : Option (List ℕ) → Option (List ℕ) → List ℕ → Type 0
+IsCallee (Some label) None s = (s ≡ label) × IsLabel label
+IsCallee (Some label) (Some routine) s = (s ≡ label ++ 94 ∷ routine) × IsLabel label × IsName routine
+IsCallee None (Some routine) s = (s ≡ 94 ∷ routine) × IsName routine
+IsCallee None None s = ⊥
 
 -- An operand without parentheses round it. `Atom` and `Pattern` are what lies one deeper. Standard: expratom. What has
 -- no case here is left out: indirection, naked references, structured system variables, other functions and special
 -- variables, external calls, environments.
-abbrev pub IsPlain : ℕ → (Tree → List ℕ → List ℕ → Type 0) → (List ℕ → List ℕ → List ℕ → Type 0) → Tree → List ℕ → List ℕ → Type 0
-IsPlain end Atom Pattern (Literal value) xs ys =
-    ((text : List ℕ) × (numeral_at xs ≡ Some (text, ys)) × IsCanonical text value) ⊎ IsQuoted value xs ys
-IsPlain end Atom Pattern Inexact xs ys = (text : List ℕ) × (numeral_at xs ≡ Some (text, ys)) × ((value : List ℕ) → IsCanonical text value → ⊥)
-IsPlain end Atom Pattern (LocalName name subs) xs ys = (m : List ℕ) × (ss : List (ℕ × Tree))
-    × (name_at xs ≡ Some (name, m)) × IsSubs end (IsChain Atom Pattern) ss m ys × (subs ≡ subs_from ss)
-IsPlain end Atom Pattern (GlobalName column name subs) xs ys = (m n : List ℕ) × (ss : List (ℕ × Tree))
-    × (xs ≡ 94 ∷ m) × (column ≡ column_of end xs) × (name_at m ≡ Some (name, n)) × IsSubs end (IsChain Atom Pattern) ss n ys × (subs ≡ subs_from ss)
-IsPlain end Atom Pattern (SpecialName special) xs ys = (m w : List ℕ)
-    × (xs ≡ 36 ∷ m) × (word_at m ≡ (w, ys)) × (special_of w ≡ Some special) × (byte_at 40 ys ≡ None)
-IsPlain end Atom Pattern (Prefixed op t) xs ys = (b : ℕ) × (m : List ℕ) × (xs ≡ b ∷ m) × (unary_of b ≡ Some op) × Atom t m ys
-IsPlain end Atom Pattern (Chain t ls) xs ys = ⊥
-IsPlain end Atom Pattern (PatternText text) xs ys = ⊥
-IsPlain end Atom Pattern (Applied f args) xs ys = (m n w : List ℕ) × (ts : List Tree)
-    × (xs ≡ 36 ∷ m) × (word_at m ≡ (w, 40 ∷ n)) × (function_of w ≡ Some f) × IsArguments Atom (IsChain Atom Pattern) f (named f) ts n ys × (args ≡ trees_from ts)
-IsPlain end Atom Pattern (Selected choices) xs ys = (m n w : List ℕ) × (cs : List (Tree × Tree))
-    × (xs ≡ 36 ∷ m) × (word_at m ≡ (w, 40 ∷ n)) × (is_select w ≡ true) × IsList (IsChoice (IsChain Atom Pattern)) cs n ys × (choices ≡ choices_from cs)
-IsPlain end Atom Pattern (BareCall column callee) xs ys = (m : List ℕ)
-    × (xs ≡ 36 ∷ 36 ∷ m) × (column ≡ column_of end xs) × IsCallee callee.label callee.routine m ys × (byte_at 40 ys ≡ None)
-IsPlain end Atom Pattern (CallOf column callee actuals) xs ys = (m n : List ℕ) × (given : List ActualTree)
-    × (xs ≡ 36 ∷ 36 ∷ m) × (column ≡ column_of end xs) × IsCallee callee.label callee.routine m (40 ∷ n)
-    × IsActuals (IsChain Atom Pattern) given n ys × (actuals ≡ actuals_from given)
+abbrev pub IsPlain : (ℕ → Tree → List ℕ → Type 0) → (List ℕ → Type 0) → ℕ → Tree → List ℕ → Type 0
+IsPlain Atom Pattern at (Literal value) s = (IsNumber s × IsCanonical s value) ⊎ IsQuoted value s
+IsPlain Atom Pattern at Inexact s = IsNumber s × ((value : List ℕ) → IsCanonical s value → ⊥)
+IsPlain Atom Pattern at (LocalName name subs) s = (part : List ℕ) × (items : List (ℕ × Tree))
+    × (s ≡ name ++ part) × IsName name × IsSubs (IsChain Atom Pattern) (at + length name) items part × (subs ≡ subs_from items)
+IsPlain Atom Pattern at (GlobalName column name subs) s = (part : List ℕ) × (items : List (ℕ × Tree))
+    × (s ≡ 94 ∷ (name ++ part)) × (column ≡ at) × IsName name × IsSubs (IsChain Atom Pattern) (suc at + length name) items part × (subs ≡ subs_from items)
+IsPlain Atom Pattern at (SpecialName special) s = (w : List ℕ) × (s ≡ 36 ∷ w) × IsWord w × (special_of w ≡ Some special)
+IsPlain Atom Pattern at (Prefixed op t) s = (operand : List ℕ) × (s ≡ unary_text op ++ operand) × Atom (suc at) t operand
+IsPlain Atom Pattern at (Chain t ls) s = ⊥
+IsPlain Atom Pattern at (PatternText text) s = ⊥
+IsPlain Atom Pattern at (Applied f args) s = (w inner part : List ℕ) × (items : List Tree)
+    × (s ≡ 36 ∷ (w ++ part)) × IsWord w × (function_of w ≡ Some f) × IsEnclosed inner part
+    × AreArguments Atom (IsChain Atom Pattern) f (named f) (2 + (at + length w)) items inner × (args ≡ trees_from items)
+IsPlain Atom Pattern at (Selected choices) s = (w inner part : List ℕ) × (items : List (Tree × Tree))
+    × (s ≡ 36 ∷ (w ++ part)) × IsWord w × (is_select w ≡ true) × IsEnclosed inner part
+    × IsList (IsChoice (IsChain Atom Pattern)) (2 + (at + length w)) items inner × (choices ≡ choices_from items)
+IsPlain Atom Pattern at (BareCall column callee) s = (called : List ℕ) × (s ≡ 36 ∷ 36 ∷ called) × (column ≡ at) × IsCallee callee.label callee.routine called
+IsPlain Atom Pattern at (CallOf column callee actuals) s = (called part : List ℕ) × (given : List ActualTree)
+    × (s ≡ 36 ∷ 36 ∷ (called ++ part)) × (column ≡ at) × IsCallee callee.label callee.routine called
+    × IsActuals (IsChain Atom Pattern) (2 + (at + length called)) given part × (actuals ≡ actuals_from given)
 
 -- an operand, perhaps in parentheses, which leave no node
-abbrev pub IsOperand : ℕ → (Tree → List ℕ → List ℕ → Type 0) → (List ℕ → List ℕ → List ℕ → Type 0) → Tree → List ℕ → List ℕ → Type 0
-IsOperand end Atom Pattern t xs ys = IsPlain end Atom Pattern t xs ys ⊎ ((m : List ℕ) × (xs ≡ 40 ∷ m) × IsChain Atom Pattern t m (41 ∷ ys))
+abbrev pub IsOperand : (ℕ → Tree → List ℕ → Type 0) → (List ℕ → Type 0) → ℕ → Tree → List ℕ → Type 0
+IsOperand Atom Pattern at t s = IsPlain Atom Pattern at t s ⊎ ((inner : List ℕ) × IsEnclosed inner s × IsChain Atom Pattern (suc at) t inner)
 
 -- an operand that nests at most this deep
-unfoldable pub IsAtom : ℕ → ℕ → Tree → List ℕ → List ℕ → Type 0
-IsAtom end zero t xs ys = ⊥
-IsAtom end (suc k) t xs ys = IsOperand end (IsAtom end k) (IsPattern k) t xs ys
+unfoldable pub IsAtom : ℕ → ℕ → Tree → List ℕ → Type 0
+IsAtom zero at t s = ⊥
+IsAtom (suc k) at t s = IsOperand (IsAtom k) (IsPattern k) at t s
 
 -- an expression that nests at most this deep
-abbrev pub IsNested : ℕ → ℕ → Tree → List ℕ → List ℕ → Type 0
-IsNested end k t xs ys = IsChain (IsAtom end k) (IsPattern k) t xs ys
+abbrev pub IsNested : ℕ → ℕ → Tree → List ℕ → Type 0
+IsNested k at t s = IsChain (IsAtom k) (IsPattern k) at t s
 
--- An expression with an end: the outermost is the first of at most 64. The depth is this project's own choice.
-unfoldable pub IsExpr : ℕ → Tree → List ℕ → List ℕ → Type 0
-IsExpr end t xs ys = IsNested end 64 t xs ys × (ends ys ≡ true)
+-- An expression: the outermost is the first of at most 64. The depth is this project's own choice.
+unfoldable pub IsExpr : ℕ → Tree → List ℕ → Type 0
+IsExpr at t s = IsNested 64 at t s
 
 -- a local or a global name with its subscripts, as it stands in SET, KILL or LOCK: what it holds lies one deeper
-unfoldable pub IsReference : ℕ → Tree → List ℕ → List ℕ → Type 0
-IsReference end t xs ys = IsAtom end 64 t xs ys × (starts_reference xs ≡ true)
+unfoldable pub IsReference : ℕ → Tree → List ℕ → Type 0
+IsReference at t s = IsAtom 64 at t s × (starts_reference s ≡ true)
 
 -- an actual list in parentheses, as it stands in DO and JOB: what it holds lies one deeper
-unfoldable pub IsActualList : ℕ → List ActualTree → List ℕ → List ℕ → Type 0
-IsActualList end given xs ys = (m : List ℕ) × (xs ≡ 40 ∷ m) × IsActuals (IsNested end 63) given m ys
+unfoldable pub IsActualList : ℕ → List ActualTree → List ℕ → Type 0
+IsActualList at given s = IsActuals (IsNested 63) at given s

@@ -1,6 +1,7 @@
 pub mod Trees
 pub mod Words
 pub mod Lexemes
+pub mod Spellings
 pub mod Grammar
 pub mod Reading
 pub mod Theorem

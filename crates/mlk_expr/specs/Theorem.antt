@@ -1,27 +1,51 @@
--- What the grammar keeps to.
-use Rattle.std.specs.Prelude.{ℕ, suc, ◌≡◌, ◌≤◌, List, length, drop}
+-- What the grammar keeps to, and what its readers answer.
+use Rattle.std.specs.Prelude.{ℕ, suc, ◌≡◌, ◌≤◌, ◌||◌, not, Bool, true, false, List, [], ◌∷◌, ◌++◌, length, drop, ◌==◌}
+use Rattle.mlk_text.specs.Lexemes.{is_name_byte}
 use Rattle.mlk_expr.specs.declared.fault.ReadError.{ReadError}
 use Rattle.mlk_expr.specs.declared.fault.ReadError.TheVariants.{OutOfMemory, Refused}
 use Rattle.mlk_expr.specs.Trees.{Tree, ActualTree}
-use Rattle.mlk_expr.specs.Grammar.{IsExpr, IsReference, IsActualList}
+use Rattle.mlk_expr.specs.Lexemes.{ends}
+use Rattle.mlk_expr.specs.Grammar.{has_subscript, IsExpr, IsReference, IsActualList}
 
--- What stands at a place of a line has at most one tree and one end: an expression, a name with its subscripts, an
--- actual list. A whole line has at most one tree.
-pub record OneTree : Type 0 where
-  pub expressions : (end : ℕ) (t u : Tree) (xs ys zs : List ℕ) → IsExpr end t xs ys → IsExpr end u xs zs → (t ≡ u) × (ys ≡ zs)
-  pub references : (end : ℕ) (t u : Tree) (xs ys zs : List ℕ) → IsReference end t xs ys → IsReference end u xs zs → (t ≡ u) × (ys ≡ zs)
-  pub actuals : (end : ℕ) (a b : List ActualTree) (xs ys zs : List ℕ) → IsActualList end a xs ys → IsActualList end b xs zs → (a ≡ b) × (ys ≡ zs)
+-- What may stand behind an expression: the line's end, or one of the bytes that end one;
+abbrev pub ExprEnds : Tree → List ℕ → Type 0
+ExprEnds t ys = ends ys ≡ true
 
--- At this place of a line such a thing stands, up to `next`,
-pub record Stands {A : Type 0} (Is : ℕ → A → List ℕ → List ℕ → Type 0) (line : List ℕ) (at : ℕ) (a : A) (next : ℕ) : Type 0 where
+-- behind a name without subscripts: nothing that goes on with it, or with subscripts;
+abbrev pub goes_on : List ℕ → Bool
+goes_on [] = false
+goes_on (b ∷ ys) = is_name_byte b || (b == 40)
+
+abbrev pub ReferenceEnds : Tree → List ℕ → Type 0
+ReferenceEnds t ys = (has_subscript t || not (goes_on ys)) ≡ true
+
+-- behind an actual list: anything.
+abbrev pub ListEnds : List ActualTree → List ℕ → Type 0
+ListEnds given ys = Unit {0}
+
+-- A thing is written at the place of a line up to `next`, and may end there.
+pub record Stands {A : Type 0} (Is : ℕ → A → List ℕ → Type 0) (Ends : A → List ℕ → Type 0) (line : List ℕ) (at : ℕ) (a : A) (next : ℕ) : Type 0 where
+  pub text : List ℕ
   pub within : next ≤ length line
-  pub spelled : Is (suc (length line)) a (drop at line) (drop next line)
+  pub joined : drop at line ≡ text ++ drop next line
+  pub spelled : Is (suc at) a text
+  pub ended : Ends a (drop next line)
 
--- and nothing else does.
-abbrev pub Only : {A : Type 0} → (ℕ → A → List ℕ → List ℕ → Type 0) → List ℕ → ℕ → A → ℕ → Type 0
-Only {A = A} Is line at a next = (b : A) (rest : List ℕ) → Is (suc (length line)) b (drop at line) rest → (b ≡ a) × (rest ≡ drop next line)
+-- Nothing else does.
+abbrev pub Only : {A : Type 0} → (ℕ → A → List ℕ → Type 0) → (A → List ℕ → Type 0) → List ℕ → ℕ → A → ℕ → Type 0
+Only {A = A} Is Ends line at a next = (b : A) (text rest : List ℕ) → drop at line ≡ text ++ rest → Is (suc at) b text → Ends b rest → (b ≡ a) × (rest ≡ drop next line)
 
 -- Nothing of this kind stands here, unless memory ran out.
-abbrev pub Refuses : {A : Type 0} → (ℕ → A → List ℕ → List ℕ → Type 0) → List ℕ → ℕ → ReadError → Type 0
-Refuses Is line at OutOfMemory = Unit {0}
-Refuses {A = A} Is line at (Refused fault) = (a : A) (rest : List ℕ) → Is (suc (length line)) a (drop at line) rest → ⊥
+abbrev pub Refuses : {A : Type 0} → (ℕ → A → List ℕ → Type 0) → (A → List ℕ → Type 0) → List ℕ → ℕ → ReadError → Type 0
+Refuses Is Ends line at OutOfMemory = Unit {0}
+Refuses {A = A} Is Ends line at (Refused fault) = (a : A) (text rest : List ℕ) → drop at line ≡ text ++ rest → Is (suc at) a text → Ends a rest → ⊥
+
+-- What stands at a place has at most one tree and one end, in whatever ways a line is cut into a text and what is behind
+-- it: an expression, a name with its subscripts, an actual list. A whole text has at most one tree.
+abbrev pub One : {A : Type 0} → (ℕ → A → List ℕ → Type 0) → (A → List ℕ → Type 0) → Type 0
+One {A = A} Is Ends = (at : ℕ) (a b : A) (s t ys zs : List ℕ) → s ++ ys ≡ t ++ zs → Is at a s → Ends a ys → Is at b t → Ends b zs → (a ≡ b) × (ys ≡ zs)
+
+pub record OneTree : Type 0 where
+  pub expressions : One IsExpr ExprEnds
+  pub references : One IsReference ReferenceEnds
+  pub actuals : One IsActualList ListEnds

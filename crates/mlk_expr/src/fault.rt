@@ -16,7 +16,7 @@ pub enum ReadError {
 }
 
 /// The refusal with its column in the line.
-pub fn located(alloc: Global, line: &[u8], refusal: Refusal) -> ReadError
+pub(crate) fn located(alloc: Global, line: &[u8], refusal: Refusal) -> ReadError
     ensures { Tells refusal result }
 {
     let offence = match refusal {

@@ -7,7 +7,7 @@ use mlk_text::lexeme::digits;
 
 /// How many bytes of a numeric literal stand before its exponent: 0 where no digit does.
 #[tactic(auto, unfolding(crate::specs::Lexemes::mantissa_len))]
-pub fn mantissa_len(bytes: &[u8]) -> usize
+pub(crate) fn mantissa_len(bytes: &[u8]) -> usize
     ensures value { result ≡ mantissa_len bytes.now }
     ensures within { result ≤ length bytes.now }
 {
@@ -66,7 +66,7 @@ fn lacks_exponent(bytes: &[u8]) -> bool
 
 /// The numeric literal at the front, as it is written, and what is behind it.
 #[tactic(auto, unfolding(crate::specs::Lexemes::numeral_at))]
-pub fn numeral_at(bytes: &[u8]) -> Option<(&[u8], &[u8])>
+pub(crate) fn numeral_at(bytes: &[u8]) -> Option<(&[u8], &[u8])>
     ensures { option_map (λ x. (x.0.now, x.1.now)) result ≡ numeral_at bytes.now }
 {
     let n = mantissa_len(bytes);

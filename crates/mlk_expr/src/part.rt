@@ -17,7 +17,7 @@ use mlk_text::{Code, Name, Value, canonical, literal};
 use std::alloc::{AllocError, Global};
 
 /// The name at the front, and what is behind it.
-pub fn name(alloc: Global, bytes: &[u8]) -> Result<(Name, &[u8]), Refusal>
+pub(crate) fn name(alloc: Global, bytes: &[u8]) -> Result<(Name, &[u8]), Refusal>
     ensures { Gives (λ x. (x.0, x.1.now)) result (name_at bytes.now) }
 {
     match lexeme::name(alloc, bytes) {
@@ -41,7 +41,7 @@ fn no_text(bytes: &[u8]) -> Refusal
 }
 
 /// The value up to the closing quote, and what is behind it.
-pub fn quoted(alloc: Global, bytes: &[u8]) -> Result<(Value, &[u8]), Refusal>
+pub(crate) fn quoted(alloc: Global, bytes: &[u8]) -> Result<(Value, &[u8]), Refusal>
     ensures { Gives (λ x. (x.0, x.1.now)) result (inside bytes.now) }
 {
     match literal::quoted(alloc, bytes) {
@@ -52,7 +52,7 @@ pub fn quoted(alloc: Global, bytes: &[u8]) -> Result<(Value, &[u8]), Refusal>
 }
 
 /// The text up to the closing quote, and what is behind it.
-pub fn text(alloc: Global, bytes: &[u8]) -> Result<(Expr, &[u8]), Refusal>
+pub(crate) fn text(alloc: Global, bytes: &[u8]) -> Result<(Expr, &[u8]), Refusal>
     ensures { Gives (λ x. (tree_of x.0, x.1.now)) result (with Literal (inside bytes.now)) }
 {
     let (value, rest) = quoted(alloc, bytes)?;
@@ -70,7 +70,7 @@ fn number_of(alloc: Global, text: &[u8]) -> Result<Expr, AllocError>
 }
 
 /// The numeric literal at the front, and what is behind it.
-pub fn number(alloc: Global, bytes: &[u8]) -> Result<(Expr, &[u8]), Refusal>
+pub(crate) fn number(alloc: Global, bytes: &[u8]) -> Result<(Expr, &[u8]), Refusal>
     ensures { Gives (λ x. (tree_of x.0, x.1.now)) result (with number_of (numeral_at bytes.now)) }
 {
     let Some((text, rest)) = numeral_at(bytes) else {
@@ -110,7 +110,7 @@ fn routine(alloc: Global, bytes: &[u8]) -> Result<(Name, &[u8]), Refusal>
 
 /// What a call names, behind `$$`, and what is behind it.
 #[tactic(auto, unfolding(crate::specs::Reading::callee_at))]
-pub fn callee(alloc: Global, bytes: &[u8]) -> Result<(Callee, &[u8]), Refusal>
+pub(crate) fn callee(alloc: Global, bytes: &[u8]) -> Result<(Callee, &[u8]), Refusal>
     ensures { Gives (λ x. (x.0, x.1.now)) result (callee_at bytes.now) }
 {
     if let Some(behind) = byte_of(b'^', bytes) {
@@ -136,7 +136,7 @@ pub fn callee(alloc: Global, bytes: &[u8]) -> Result<(Callee, &[u8]), Refusal>
 }
 
 /// The name of a global behind its caret, at which the whole begins, and what is behind it.
-pub fn global_name<'a>(
+pub(crate) fn global_name<'a>(
     alloc: Global,
     whole: &[u8],
     bytes: &'a [u8],
@@ -151,7 +151,7 @@ pub fn global_name<'a>(
 }
 
 /// How many arguments may stand behind the first, where that is a name.
-pub fn named(function: Function) -> Option<usize>
+pub(crate) fn named(function: Function) -> Option<usize>
     ensures { result ≡ named function }
 {
     match function {
@@ -162,7 +162,7 @@ pub fn named(function: Function) -> Option<usize>
 }
 
 /// Whether the first argument must have a subscript.
-pub fn asks_subscript(function: Function) -> bool
+pub(crate) fn asks_subscript(function: Function) -> bool
     ensures { result ≡ asks_subscript function }
 {
     match function {
@@ -172,7 +172,7 @@ pub fn asks_subscript(function: Function) -> bool
 }
 
 /// Whether this is a name with a subscript.
-pub fn has_subscript(tree: &Expr) -> bool
+pub(crate) fn has_subscript(tree: &Expr) -> bool
     ensures { result ≡ has_subscript (tree_of tree.now) }
 {
     match tree {

@@ -16,7 +16,7 @@ use std::alloc::Global;
 
 /// The pattern at the front, as it is written, and what is behind it; its alternatives nest so deep at most.
 #[cycle(patterns)]
-pub fn pattern(alloc: Global, left: u8, bytes: &[u8]) -> Result<(&[u8], &[u8]), Refusal>
+pub(crate) fn pattern(alloc: Global, left: u8, bytes: &[u8]) -> Result<(&[u8], &[u8]), Refusal>
     ensures { Gives (λ x. (x.0.now, x.1.now)) result (pattern_at left bytes.now) }
 {
     if left == 0 {

@@ -5,7 +5,7 @@ ghost use Rattle.mlk_expr.specs.Trees.{tree_of, actual_trees};
 ghost use Rattle.mlk_expr.specs.Grammar.{IsExpr, IsReference, IsActualList};
 ghost use Rattle.mlk_expr.specs.Reading.{expr_at, reference_at, actual_list_at};
 ghost use Rattle.mlk_expr.specs.Outcome.{Gives};
-ghost use Rattle.mlk_expr.specs.Theorem.{Stands, Only, Refuses};
+ghost use Rattle.mlk_expr.specs.Theorem.{ExprEnds, ReferenceEnds, ListEnds, Stands, Only, Refuses};
 
 use crate::fault::{ReadError, located};
 use crate::lexeme::{may_end, starts_reference};
@@ -55,9 +55,9 @@ fn actual_list(alloc: Global, end: usize, bytes: &[u8]) -> Result<(Vec<Actual>, 
 /// The expression that begins at this byte of a line, and the byte behind it.
 pub fn read_expr(alloc: Global, line: &[u8], at: usize) -> Result<(Expr, usize), ReadError>
     requires { at ≤ length line.now }
-    ensures found { IfOk result (λ r. Stands IsExpr line.now at (tree_of r.0) r.1) }
-    ensures only { IfOk result (λ r. Only IsExpr line.now at (tree_of r.0) r.1) }
-    ensures refused { IfErr result (λ e. Refuses IsExpr line.now at e) }
+    ensures found { IfOk result (λ r. Stands IsExpr ExprEnds line.now at (tree_of r.0) r.1) }
+    ensures only { IfOk result (λ r. Only IsExpr ExprEnds line.now at (tree_of r.0) r.1) }
+    ensures refused { IfErr result (λ e. Refuses IsExpr ExprEnds line.now at e) }
 {
     let (_, bytes) = line.split_at(at);
     match expr(alloc, line.len() + 1, bytes) {
@@ -69,9 +69,9 @@ pub fn read_expr(alloc: Global, line: &[u8], at: usize) -> Result<(Expr, usize),
 /// The local or global name with its subscripts that begins at this byte of a line, and the byte behind it.
 pub fn read_ref(alloc: Global, line: &[u8], at: usize) -> Result<(Expr, usize), ReadError>
     requires { at ≤ length line.now }
-    ensures found { IfOk result (λ r. Stands IsReference line.now at (tree_of r.0) r.1) }
-    ensures only { IfOk result (λ r. Only IsReference line.now at (tree_of r.0) r.1) }
-    ensures refused { IfErr result (λ e. Refuses IsReference line.now at e) }
+    ensures found { IfOk result (λ r. Stands IsReference ReferenceEnds line.now at (tree_of r.0) r.1) }
+    ensures only { IfOk result (λ r. Only IsReference ReferenceEnds line.now at (tree_of r.0) r.1) }
+    ensures refused { IfErr result (λ e. Refuses IsReference ReferenceEnds line.now at e) }
 {
     let (_, bytes) = line.split_at(at);
     match reference(alloc, line.len() + 1, bytes) {
@@ -87,9 +87,9 @@ pub fn read_actuals(
     at: usize,
 ) -> Result<(Vec<Actual>, usize), ReadError>
     requires { at ≤ length line.now }
-    ensures found { IfOk result (λ r. Stands IsActualList line.now at (actual_trees r.0.items) r.1) }
-    ensures only { IfOk result (λ r. Only IsActualList line.now at (actual_trees r.0.items) r.1) }
-    ensures refused { IfErr result (λ e. Refuses IsActualList line.now at e) }
+    ensures found { IfOk result (λ r. Stands IsActualList ListEnds line.now at (actual_trees r.0.items) r.1) }
+    ensures only { IfOk result (λ r. Only IsActualList ListEnds line.now at (actual_trees r.0.items) r.1) }
+    ensures refused { IfErr result (λ e. Refuses IsActualList ListEnds line.now at e) }
 {
     let (_, bytes) = line.split_at(at);
     match actual_list(alloc, line.len() + 1, bytes) {

@@ -25,7 +25,12 @@ use std::alloc::Global;
 /// The expression at the front that nests so deep at most, and what is behind it.
 #[tactic(auto, unfolding(crate::specs::Reading::chain_with))]
 #[cycle(reading)]
-pub fn chain(alloc: Global, end: usize, left: u8, bytes: &[u8]) -> Result<(Expr, &[u8]), Refusal>
+pub(crate) fn chain(
+    alloc: Global,
+    end: usize,
+    left: u8,
+    bytes: &[u8],
+) -> Result<(Expr, &[u8]), Refusal>
     ensures { Gives (λ x. (tree_of x.0, x.1.now)) result (nested_at end left bytes.now) }
 {
     let (first, rest) = atom(alloc, end, left, bytes)?;
@@ -124,7 +129,12 @@ fn operand(alloc: Global, end: usize, deeper: u8, bytes: &[u8]) -> Result<(Expr,
 
 /// The operand at the front that nests so deep at most, and what is behind it.
 #[cycle(reading)]
-pub fn atom(alloc: Global, end: usize, left: u8, bytes: &[u8]) -> Result<(Expr, &[u8]), Refusal>
+pub(crate) fn atom(
+    alloc: Global,
+    end: usize,
+    left: u8,
+    bytes: &[u8],
+) -> Result<(Expr, &[u8]), Refusal>
     ensures { Gives (λ x. (tree_of x.0, x.1.now)) result (atom_at end left bytes.now) }
 {
     if left == 0 {

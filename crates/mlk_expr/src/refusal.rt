@@ -44,7 +44,7 @@ impl<T: Drop> From<AllocFailed<T>> for Refusal {
 }
 
 /// A fault where these bytes begin.
-pub fn refused(code: Code, bytes: &[u8]) -> Refusal
+pub(crate) fn refused(code: Code, bytes: &[u8]) -> Refusal
     ensures { IsRefused result }
 {
     Refusal::Refused(Offence {
@@ -65,7 +65,7 @@ fn leaves_out(what: LeftOut, bytes: &[u8]) -> Refusal
 }
 
 /// Why no name stands here: it is too long, or there is none.
-pub fn no_name(bytes: &[u8]) -> Refusal
+pub(crate) fn no_name(bytes: &[u8]) -> Refusal
     ensures { IsRefused result }
 {
     let Some((first, _)) = bytes.split_first() else {
@@ -86,7 +86,7 @@ fn behind_sign(bytes: &[u8]) -> &[u8] {
 }
 
 /// Why no number stands here, at the byte that should be a digit.
-pub fn no_number(bytes: &[u8]) -> Refusal
+pub(crate) fn no_number(bytes: &[u8]) -> Refusal
     ensures { IsRefused result }
 {
     let (_, rest) = bytes.split_at(mantissa_len(bytes));
@@ -100,7 +100,7 @@ pub fn no_number(bytes: &[u8]) -> Refusal
 }
 
 /// Why an expression neither goes on nor ends here: behind `'` a relation is asked for.
-pub fn no_end(bytes: &[u8]) -> Refusal
+pub(crate) fn no_end(bytes: &[u8]) -> Refusal
     ensures { IsRefused result }
 {
     match byte_of(b'\'', bytes) {
@@ -110,7 +110,7 @@ pub fn no_end(bytes: &[u8]) -> Refusal
 }
 
 /// Why no actual stands here, where an expression is refused so: a point may stand before a name that is too long or an indirection.
-pub fn no_actual(refusal: Refusal, bytes: &[u8]) -> Refusal
+pub(crate) fn no_actual(refusal: Refusal, bytes: &[u8]) -> Refusal
     ensures { IsLike refusal result }
 {
     let Refusal::Refused(offence) = refusal else {
@@ -127,7 +127,7 @@ pub fn no_actual(refusal: Refusal, bytes: &[u8]) -> Refusal
 }
 
 /// Why arguments of which the first is a name neither go on nor end behind these.
-pub fn no_arguments_end(args: &[Expr], bytes: &[u8]) -> Refusal
+pub(crate) fn no_arguments_end(args: &[Expr], bytes: &[u8]) -> Refusal
     ensures { IsRefused result }
 {
     if args.len() == 1 {
@@ -137,7 +137,7 @@ pub fn no_arguments_end(args: &[Expr], bytes: &[u8]) -> Refusal
 }
 
 /// Why actuals neither go on nor end behind these.
-pub fn no_actuals_end(given: &[Actual], bytes: &[u8]) -> Refusal
+pub(crate) fn no_actuals_end(given: &[Actual], bytes: &[u8]) -> Refusal
     ensures { IsRefused result }
 {
     match given.last() {
@@ -147,7 +147,7 @@ pub fn no_actuals_end(given: &[Actual], bytes: &[u8]) -> Refusal
 }
 
 /// Why no global stands here, behind its caret.
-pub fn no_global(bytes: &[u8], behind: &[u8]) -> Refusal
+pub(crate) fn no_global(bytes: &[u8], behind: &[u8]) -> Refusal
     ensures { IsRefused result }
 {
     match behind.first().copied() {
@@ -159,7 +159,7 @@ pub fn no_global(bytes: &[u8], behind: &[u8]) -> Refusal
 }
 
 /// Why no name of a routine stands here, behind its caret.
-pub fn no_routine(behind: &[u8]) -> Refusal
+pub(crate) fn no_routine(behind: &[u8]) -> Refusal
     ensures { IsRefused result }
 {
     match behind.first().copied() {
@@ -170,7 +170,7 @@ pub fn no_routine(behind: &[u8]) -> Refusal
 }
 
 /// Why no function and no special variable stands here, behind its `$`.
-pub fn no_word(bytes: &[u8], behind: &[u8]) -> Refusal
+pub(crate) fn no_word(bytes: &[u8], behind: &[u8]) -> Refusal
     ensures { IsRefused result }
 {
     if let Some(b'&') = behind.first().copied() {
@@ -187,14 +187,14 @@ pub fn no_word(bytes: &[u8], behind: &[u8]) -> Refusal
 }
 
 /// Why no function stands here, from its `$`.
-pub fn no_function(bytes: &[u8]) -> Refusal
+pub(crate) fn no_function(bytes: &[u8]) -> Refusal
     ensures { IsRefused result }
 {
     leaves_out(LeftOut::Function, bytes)
 }
 
 /// Why no operand and no pattern begins here.
-pub fn no_operand(bytes: &[u8]) -> Refusal
+pub(crate) fn no_operand(bytes: &[u8]) -> Refusal
     ensures { IsRefused result }
 {
     match bytes.first().copied() {
@@ -204,7 +204,7 @@ pub fn no_operand(bytes: &[u8]) -> Refusal
 }
 
 /// Why a pattern here would be too deep; that it begins with no count comes before that.
-pub fn too_deep_pattern(bytes: &[u8]) -> Refusal
+pub(crate) fn too_deep_pattern(bytes: &[u8]) -> Refusal
     ensures { IsRefused result }
 {
     match count_at(bytes) {
@@ -226,7 +226,7 @@ fn is_left_out(behind: &[u8]) -> bool {
 }
 
 /// Why an operand here would be too deep; another fault of its first byte comes before that.
-pub fn too_deep(bytes: &[u8]) -> Refusal
+pub(crate) fn too_deep(bytes: &[u8]) -> Refusal
     ensures { IsRefused result }
 {
     let Some((first, behind)) = bytes.split_first() else {

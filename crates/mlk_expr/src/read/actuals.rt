@@ -58,7 +58,7 @@ fn some_actuals(
 /// The actuals behind an opening parenthesis, and what is behind the closing one.
 #[tactic(auto, unfolding(crate::specs::Reading::actuals_with))]
 #[cycle(reading)]
-pub fn actuals(
+pub(crate) fn actuals(
     alloc: Global,
     end: usize,
     left: u8,
@@ -96,7 +96,7 @@ fn actuals_rest(
 /// A call behind its `$$`.
 #[tactic(auto, unfolding(crate::specs::Reading::call_with))]
 #[cycle(reading)]
-pub fn call(
+pub(crate) fn call(
     alloc: Global,
     end: usize,
     left: u8,

@@ -196,7 +196,7 @@ fn function<'a>(
 /// What a `$` begins, at which the whole begins.
 #[tactic(auto, unfolding(crate::specs::Reading::dollar_with))]
 #[cycle(reading)]
-pub fn dollar<'a>(
+pub(crate) fn dollar<'a>(
     alloc: Global,
     end: usize,
     left: u8,

@@ -95,7 +95,12 @@ fn subscripts(
 
 /// A local with its subscripts.
 #[cycle(reading)]
-pub fn local(alloc: Global, end: usize, left: u8, bytes: &[u8]) -> Result<(Expr, &[u8]), Refusal>
+pub(crate) fn local(
+    alloc: Global,
+    end: usize,
+    left: u8,
+    bytes: &[u8],
+) -> Result<(Expr, &[u8]), Refusal>
     ensures { Gives (λ x. (tree_of x.0, x.1.now)) result (local_with end (nested_at end left) bytes.now) }
 {
     let (name, rest) = name(alloc, bytes)?;
@@ -105,7 +110,7 @@ pub fn local(alloc: Global, end: usize, left: u8, bytes: &[u8]) -> Result<(Expr,
 
 /// A global with its subscripts behind its caret, at which the whole begins.
 #[cycle(reading)]
-pub fn global<'a>(
+pub(crate) fn global<'a>(
     alloc: Global,
     end: usize,
     left: u8,

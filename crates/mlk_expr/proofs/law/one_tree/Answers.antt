@@ -1,5 +1,15 @@
-use Rattle.mlk_expr.proofs.Whole.{one_tree}
+use Rattle.mlk_expr.specs.Grammar.{IsExpr, IsReference, IsActualList}
+use Rattle.mlk_expr.specs.Theorem.{ExprEnds, ReferenceEnds, ListEnds}
+use Rattle.mlk_expr.specs.Reading.{expr_at, reference_at, actual_list_at}
+use Rattle.mlk_expr.proofs.Behind as behind
+use Rattle.mlk_expr.proofs.Whole.{reference-exact, actual_list-exact}
+use Rattle.mlk_expr.proofs.Places.{whole-exact}
+use Rattle.mlk_expr.proofs.Joined.{same-expr, same-reference, same-list, one-of}
 use Rattle.mlk_expr.proofs.law.one_tree.Goals as goal
 
 pub returns : goal.returns
-returns c = one_tree
+returns c = record {
+  expressions = one-of expr_at behind.IsExpr IsExpr ExprEnds whole-exact same-expr;
+  references = one-of reference_at behind.IsReference IsReference ReferenceEnds reference-exact same-reference;
+  actuals = one-of actual_list_at behind.IsActualList IsActualList ListEnds actual_list-exact same-list;
+}
