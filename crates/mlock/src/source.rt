@@ -5,7 +5,7 @@ ghost use Rattle.std.specs.IoError.{error_kind};
 ghost use Rattle.mlock.specs.Files.{IsFileName, IsNameStem, IsPathStem, IsSource, AreSources, AreTexts, bytes_of, paths_of, Loses, LosesFirst};
 
 use crate::words::Request;
-use std::alloc::{AllocError, Global};
+use std::alloc::Global;
 use std::io::{self, ErrorKind};
 
 /// Where the texts of files come from.
@@ -28,12 +28,6 @@ pub(crate) enum FileError<'a> {
     OutOfMemory,
     /// The path of the file.
     Unread(&'a str),
-}
-
-impl From<AllocError> for FileError<'_> {
-    fn from(_e: AllocError) -> Self {
-        FileError::OutOfMemory
-    }
 }
 
 /// A routine's file: the stem of its name, and its bytes.
