@@ -3,6 +3,7 @@ use Rattle.std.proofs.Common.{◌≡◌, ℕ, suc, List, [], ◌∷◌, length, 
 use Rattle.mlk_text.specs.declared.operator.Op.TheVariants.{Add, Multiply, Is, IsNot}
 use Rattle.mlk_text.specs.declared.operator.Relation.TheVariants.{SortsAfter, Matches}
 use Rattle.mlk_text.specs.declared.operator.UnaryOp.TheVariants.{Minus}
+use Rattle.mlk_text.specs.Canonical.{canonical_text}
 use Rattle.mlk_text.specs.Reading.{many}
 use Rattle.mlk_text.proofs.Readers.{pair_parts}
 use Rattle.mlk_text.specs.Lexemes.{name_at, digits_at, inside}
@@ -13,7 +14,7 @@ use Rattle.mlk_expr.specs.Words.{special_of, special_to_principal, special_from_
 use Rattle.mlk_expr.specs.Lexemes.{relation_of, relation_at, arithmetic_of, arithmetic_at, op_at, unary_of, kind_of, mantissa_len, numeral_at, count_at, pattern_codes_at, label_at, lent_at, ends}
 use Rattle.mlk_expr.specs.Grammar.{IsExpr, IsReference}
 use Rattle.mlk_expr.proofs.Behind as behind
-use Rattle.mlk_expr.specs.Reading.{canonical_of, list_with, pattern_at, chain_with, subs_with, actual_with, actuals_with, callee_at, call_with, arguments_with, function_with, dollar_with, atom_at, reference_at}
+use Rattle.mlk_expr.specs.Reading.{list_with, pattern_at, chain_with, subs_with, actual_with, actuals_with, callee_at, call_with, arguments_with, function_with, dollar_with, atom_at, reference_at}
 use Rattle.mlk_expr.proofs.Whole.{reference-exact}
 use Rattle.mlk_expr.proofs.Operands.{expr-exact}
 use Rattle.mlk_expr.proofs.Joined.{same-expr, same-reference}
@@ -47,7 +48,7 @@ reference t s h =
 
 -- each of these computes
 examples : Unit {0}
-unfolding many chain_with atom_at op_at relation_at relation_of arithmetic_at arithmetic_of kind_of unary_of numeral_at mantissa_len canonical_of ends name_at digits_at inside special_of special_to_principal special_from_quit function_of function_to_fnumber function_to_piece function_from_qlength is_select count_at pattern_codes_at label_at lent_at list_with pattern_at subs_with actual_with actuals_with callee_at call_with arguments_with function_with dollar_with reference_at
+unfolding many chain_with atom_at op_at relation_at relation_of arithmetic_at arithmetic_of kind_of unary_of numeral_at mantissa_len canonical_text ends name_at digits_at inside special_of special_to_principal special_from_quit function_of function_to_fnumber function_to_piece function_from_qlength is_select count_at pattern_codes_at label_at lent_at list_with pattern_at subs_with actual_with actuals_with callee_at call_with arguments_with function_with dollar_with reference_at
 examples = tt
   where
     -- from left to right, without precedence

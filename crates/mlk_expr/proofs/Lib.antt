@@ -8,7 +8,6 @@ pub mod JoinedArguments
 pub mod JoinedPatterns
 pub mod JoinedOperands
 pub mod Joined
-pub mod CanonicalReading
 pub mod LexemeLemmas
 pub mod Parts
 pub mod Arguments

@@ -3,6 +3,7 @@ use Rattle.std.proofs.Common.{◌≡◌, ℕ, zero, suc, List, [], ◌∷◌, So
 use Rattle.std.specs.Prelude.{Option}
 use Rattle.std.proofs.lemmas.Bool.{cases_Bool}
 use Rattle.mlk_text.specs.Lexemes.{byte_at, name_at, inside, IsQuoted}
+use Rattle.mlk_text.specs.Canonical.{canonical_text}
 use Rattle.mlk_text.proofs.Lexemes.{byte-is, name-behind, quoted-sound, quoted-complete, quoted-behind}
 use Rattle.mlk_text.proofs.Readers.{then_some, pair_parts, with_some, Behind, behind-one, behind_then, Exact}
 use Rattle.mlk_expr.specs.declared.tree.Callee.{Callee}
@@ -14,8 +15,8 @@ use Rattle.mlk_expr.specs.Words.{word_at, special_of, function_of, is_select}
 use Rattle.mlk_expr.specs.Lexemes.{column_of, kind_of, numeral_at}
 use Rattle.mlk_expr.specs.Grammar.{named}
 use Rattle.mlk_expr.proofs.Behind.{IsPattern, IsChain, IsPlain, IsOperand, IsAtom, IsChoice}
-use Rattle.mlk_expr.specs.Reading.{canonical_of, number_by, number_of, pattern_at, chain_with, subs_with, actuals_with, callee_at, call_by, call_with, arguments_by, arguments_with, choice_with, list_with, function_with, special_by, word_by, dollar_by, dollar_with, atom_by, operand_with, atom_at}
-use Rattle.mlk_expr.proofs.CanonicalReading.{canonical-sound, canonical-complete, canonical-none}
+use Rattle.mlk_expr.specs.Reading.{number_by, number_of, pattern_at, chain_with, subs_with, actuals_with, callee_at, call_by, call_with, arguments_by, arguments_with, choice_with, list_with, function_with, special_by, word_by, dollar_by, dollar_with, atom_by, operand_with, atom_at}
+use Rattle.mlk_text.proofs.CanonicalReading.{canonical-sound, canonical-complete, canonical-none}
 use Rattle.mlk_expr.proofs.LexemeLemmas.{numeral-behind, word-behind, kind-open, kind-quote, kind-caret, kind-dollar, prefix-is, prefix-from, is-open, is-quote, is-caret, is-dollar, name-first, numeral-first, word-none, no-special, no-function, no-select, function-no-select}
 use Rattle.mlk_expr.proofs.Parts.{list-exact, chain-exact, subs-exact, pattern-exact}
 use Rattle.mlk_expr.proofs.Arguments.{CalleeIs, actuals-exact, callee-exact, choice-exact, arguments-exact}
@@ -29,7 +30,7 @@ module _ (end : ℕ) (read : List ℕ → Option (Tree × List ℕ)) (Is : Tree 
   chains : Exact (chain_with read pattern) (IsChain Is Pattern)
   chains = chain-exact read Is pattern Pattern l.atoms l.patterns
 
-  number-plain : (text xs ys : List ℕ) (o : Option (List ℕ)) → canonical_of text ≡ o → numeral_at xs ≡ Some (text, ys) → IsPlain end Is Pattern (number_by o) xs ys
+  number-plain : (text xs ys : List ℕ) (o : Option (List ℕ)) → canonical_text text ≡ o → numeral_at xs ≡ Some (text, ys) → IsPlain end Is Pattern (number_by o) xs ys
   number-plain text xs ys None is n = (text, n, λ value h. let bad = sym is ∙ canonical-complete text value h in cc bad)
   number-plain text xs ys (Some value) is n = inl (text, n, canonical-sound text value is)
 
@@ -116,7 +117,7 @@ module _ (end : ℕ) (read : List ℕ → Option (Tree × List ℕ)) (Is : Tree 
   operand-sound : (k : Kind) (b : ℕ) → kind_of b ≡ k → (t : Tree) (xs ys : List ℕ) → atom_by end read pattern k b xs ≡ Some (t, ys) → IsOperand end Is Pattern t (b ∷ xs) ys
   operand-sound kind.Numeral b is t xs ys h =
       let w = with_some number_of (numeral_at (b ∷ xs)) t ys h in
-      subst (λ u. IsOperand end Is Pattern u (b ∷ xs) ys) (sym w.2) (inl (number-plain w.0 (b ∷ xs) ys (canonical_of w.0) refl w.1))
+      subst (λ u. IsOperand end Is Pattern u (b ∷ xs) ys) (sym w.2) (inl (number-plain w.0 (b ∷ xs) ys (canonical_text w.0) refl w.1))
   operand-sound kind.Quote b is t xs ys h =
       let w = with_some Literal (inside xs) t ys h in
       let q = subst (λ c. IsQuoted w.0 (c ∷ xs) ys) (sym (is-quote b is)) (quoted-sound w.0 xs ys w.1) in

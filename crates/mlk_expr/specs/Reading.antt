@@ -1,8 +1,8 @@
 -- Reading expressions, as functions on lists: what the code's readers give.
-use Rattle.std.specs.Prelude.{ℕ, zero, suc, ◌+◌, ◌-◌, ◌==◌, ◌&&◌, nat_le, nat_lt, if◌then◌else◌, Bool, true, false, not, List, [], ◌∷◌, ◌++◌, length, Option, Some, None, take, drop}
+use Rattle.std.specs.Prelude.{ℕ, zero, suc, ◌-◌, ◌==◌, ◌&&◌, nat_le, if◌then◌else◌, Bool, true, false, not, List, [], ◌∷◌, length, Option, Some, None, take}
 use Rattle.mlk_text.specs.Reading.{◌>>=◌, with, many}
-use Rattle.mlk_text.specs.Lexemes.{digits, zeros, to_last, byte_at, name_at, inside}
-use Rattle.mlk_text.specs.Numbers.{are_digits, pointed, behind_point}
+use Rattle.mlk_text.specs.Lexemes.{byte_at, name_at, inside}
+use Rattle.mlk_text.specs.Canonical.{canonical_text}
 use Rattle.mlk_text.specs.declared.operator.Op.{Op}
 use Rattle.mlk_expr.specs.declared.tree.Callee.{Callee}
 use Rattle.mlk_expr.specs.declared.tree.Function.{Function}
@@ -14,25 +14,13 @@ use Rattle.mlk_expr.specs.Words.{word_at, special_of, function_of, is_select}
 use Rattle.mlk_expr.specs.Lexemes.{column_of, kind_of, op_at, is_match, numeral_at, count_at, pattern_codes_at, label_at, lent_at, starts_reference, is_missing, ends}
 use Rattle.mlk_expr.specs.Grammar.{chained, named, has_subscript, asks_subscript}
 
--- the canonical text of an exact literal
-abbrev pub is_exact : List ℕ → List ℕ → Bool
-is_exact before after = nat_le (length before) 25 && nat_le (length after) 25 && nat_le (to_last (before ++ after)) (zeros (before ++ after) + 15)
-
-abbrev pub canonical_by : List ℕ → Option (List ℕ) → Option (List ℕ)
-canonical_by before None = None
-canonical_by before (Some after) =
-    if are_digits after && nat_lt 0 (length before + length after) && is_exact before after
-    then Some (pointed (drop (zeros before) before) (take (to_last after) after)) else None
-
-unfoldable pub canonical_of : List ℕ → Option (List ℕ)
-canonical_of text = canonical_by (take (digits text) text) (behind_point (drop (digits text) text))
-
+-- the tree of a numeric literal
 abbrev pub number_by : Option (List ℕ) → Tree
 number_by None = Inexact
 number_by (Some value) = Literal value
 
 abbrev pub number_of : List ℕ → Tree
-number_of text = number_by (canonical_of text)
+number_of text = number_by (canonical_text text)
 
 -- lists in parentheses
 abbrev pub next : {A : Type 0} → (List ℕ → Option (A × List ℕ)) → ℕ → List ℕ → Option (A × List ℕ)

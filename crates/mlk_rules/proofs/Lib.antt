@@ -12,7 +12,6 @@ pub mod MeetLemmas
 pub mod SoundLemmas
 pub mod CheckLemmas
 pub mod RuleTables
-pub mod RuleNumbers
 pub mod RuleTexts
 pub mod RuleMeetings
 pub mod RuleEach

@@ -8,12 +8,13 @@ use Rattle.mlk_text.proofs.Lexemes.{byte-takes, name-behind, quoted-sound, quote
 use Rattle.mlk_text.proofs.Readers.{pair_parts, with_some, behind_length}
 use Rattle.mlk_rules.specs.declared.read.kinds.Item.{Item}
 use Rattle.mlk_rules.specs.declared.read.kinds.Item.TheVariants.{Literal, Variable}
-use Rattle.mlk_rules.specs.RuleNumbers.{canonical_of, numeral_len, valued, number_at, negative, negative_at}
+use Rattle.mlk_text.specs.Canonical.{canonical_text}
+use Rattle.mlk_rules.specs.RuleNumbers.{numeral_len, valued, number_at, negative, negative_at}
 use Rattle.mlk_rules.specs.RuleTexts.{job, item_at, comma_at}
 
 number-length : (v xs ys : List ℕ) → number_at xs ≡ Some (v, ys) → length ys ≤ length xs
 unfolding number_at
-number-length v xs ys h = go (canonical_of (take (numeral_len xs) xs)) h
+number-length v xs ys h = go (canonical_text (take (numeral_len xs) xs)) h
   where
     go : (o : Option (List ℕ)) → valued (drop (numeral_len xs) xs) o ≡ Some (v, ys) → length ys ≤ length xs
     go None h = cc h

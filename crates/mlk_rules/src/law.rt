@@ -1,7 +1,6 @@
 // What rules are good for.
 
 ghost use Rattle.mlk_rules.specs.Laws.{SharePattern, LocksOfNodes, SurelyLiesWhole, CoveredApart, OneRank, ComputedAnswers};
-ghost use Rattle.mlk_rules.specs.RuleNumbers.{GivesCanonical};
 ghost use Rattle.mlk_rules.specs.RuleSections.{OneAnswer};
 
 /// Two ruled references that overlap share a node of a pattern that both may meet.
@@ -32,11 +31,6 @@ pub fn one_rank()
 /// Each reference has one answer, whatever is held: the one that is computed place by place.
 pub fn computed_answers()
     ensures { ComputedAnswers }
-{}
-
-/// The value of a number in a rule file is the canonical text of its literal.
-pub fn literals_canonical()
-    ensures { GivesCanonical }
 {}
 
 /// The bytes of a rule file say one thing at most: these rules, or this refusal.

@@ -26,8 +26,7 @@ pub use entry::EntryTexts;
 pub use family::{Families, Family};
 pub use lacking::templates;
 pub use law::{
-    computed_answers, covered_apart, literals_canonical, lock_of_node, one_answer, one_rank,
-    share_pattern, surely_lies,
+    computed_answers, covered_apart, lock_of_node, one_answer, one_rank, share_pattern, surely_lies,
 };
 pub use meet::may_meet;
 pub use pattern::{Element, Elements, Pattern};

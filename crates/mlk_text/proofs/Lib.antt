@@ -8,4 +8,5 @@ pub mod CanonicalTexts
 pub mod WholeTexts
 pub mod Folds
 pub mod NumberLaws
+pub mod CanonicalReading
 pub mod Examples

@@ -3,6 +3,7 @@ pub mod Words
 pub mod Reading
 pub mod Lexemes
 pub mod Numbers
+pub mod Canonical
 pub mod Folding
 pub mod NumberLaws
 pub mod Outcome

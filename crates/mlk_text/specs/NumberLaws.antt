@@ -1,8 +1,9 @@
 -- What numbers, their texts and exact literals keep to.
-use Rattle.std.specs.Prelude.{ℕ, ◌≡◌, ◌<◌, ◌^◌, true, ℤ, unsigned_abs, List, length}
+use Rattle.std.specs.Prelude.{ℕ, ◌≡◌, ◌↔◌, ◌<◌, ◌^◌, true, ℤ, unsigned_abs, List, length, Some}
 use Rattle.std.specs.Fmt.{signed_decimal}
 use Rattle.mlk_text.specs.Lexemes.{is_exact, canonical}
 use Rattle.mlk_text.specs.Numbers.{are_digits, IsEqual, IsLowest, IsTextOf, IsNumeral, IsExact, IsCanonical}
+use Rattle.mlk_text.specs.Canonical.{canonical_text}
 use Rattle.mlk_text.specs.Folding.{IsWhole}
 
 -- A number has one pair in lowest form, and a pair one text.
@@ -15,6 +16,10 @@ pub record OneCanonical : Type 0 where
   pub some : (before after literal : List ℕ) → IsNumeral before after literal → IsExact before after → (text : List ℕ) × IsCanonical literal text
   pub one : (literal text other : List ℕ) → IsCanonical literal text → IsCanonical literal other → text ≡ other
   pub itself : (literal text : List ℕ) → IsCanonical literal text → IsCanonical text text
+
+-- `canonical_text` gives the canonical text of each literal that has one, and nothing else.
+abbrev pub GivesCanonical : Type 0
+GivesCanonical = (literal text : List ℕ) → (canonical_text literal ≡ Some text) ↔ IsCanonical literal text
 
 -- The text of a whole number below 10^15 is that number's alone.
 pub record OneWhole : Type 0 where

@@ -17,7 +17,7 @@ mod value;
 pub use code::Code;
 pub use fault::{Fault, LeftOut, Place};
 pub use folding::{fold, fold_number, fold_unary, whole};
-pub use law::{both_read, one_canonical, one_text, one_whole};
+pub use law::{both_read, literals_canonical, one_canonical, one_text, one_whole};
 pub use name::Name;
 pub use numeral::canonical;
 pub use operator::{Op, Relation, UnaryOp};

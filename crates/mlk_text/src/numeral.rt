@@ -4,6 +4,7 @@ ghost use Rattle.std.specs.Prelude.{◌≡◌, ◌==◌, ◌≤◌, ◌+◌, ◌
 ghost use Rattle.mlk_text.specs.Lexemes.{zeros, to_last};
 ghost use Rattle.mlk_text.specs.Outcome.{Finds};
 ghost use Rattle.mlk_text.specs.Numbers.{are_digits, pointed, behind_point, IsNumeral, IsExact, IsCanonical};
+ghost use Rattle.mlk_text.specs.Canonical.{canonical_text};
 
 use crate::lexeme::{byte_of, digits};
 use crate::literal::{to_last, zeros};
@@ -100,7 +101,8 @@ fn pointed(alloc: Global, before: &[u8], after: &[u8]) -> Result<Value, AllocErr
 /// The canonical text of a numeric literal.
 #[tactic(auto, using(crate::proofs::Zeros::last_within))]
 pub fn canonical(alloc: Global, literal: &[u8]) -> Result<Option<Value>, AllocError>
-    ensures { IfOk result (Finds (IsCanonical literal.now)) }
+    ensures found { IfOk result (Finds (IsCanonical literal.now)) }
+    ensures same { IfOk result (λ v. v ≡ canonical_text literal.now) }
 {
     let Some((before, after)) = parts(literal) else {
         return Ok(None);

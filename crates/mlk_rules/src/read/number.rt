@@ -2,7 +2,7 @@
 
 ghost use Rattle.std.specs.Prelude.{◌≡◌, ◌≤◌, ◌∷◌, [], length, bytes_eq, IfOk};
 ghost use Rattle.mlk_text.specs.Outcome.{Gives};
-ghost use Rattle.mlk_rules.specs.RuleNumbers.{canonical_of, fraction_len, numeral_len, number_at, negative, negative_at};
+ghost use Rattle.mlk_rules.specs.RuleNumbers.{fraction_len, numeral_len, number_at, negative, negative_at};
 
 use mlk_text::lexeme::{ReadError, digits};
 use mlk_text::{Value, canonical};
@@ -34,21 +34,13 @@ fn numeral_len(bytes: &[u8]) -> usize
     whole + fraction_len(rest)
 }
 
-// The canonical text of a literal.
-fn canonical_of(alloc: Global, literal: &[u8]) -> Result<Option<Value>, AllocError>
-    ensures { IfOk result (λ v. v ≡ canonical_of literal.now) }
-{
-    let found = canonical(alloc, literal)?;
-    Ok(found)
-}
-
 /// The value of the number at the front, and what is behind it.
 #[tactic(auto, unfolding(crate::specs::RuleNumbers::number_at))]
 pub fn number(alloc: Global, bytes: &[u8]) -> Result<(Value, &[u8]), ReadError>
     ensures { Gives (λ x. (x.0, x.1.now)) result (number_at bytes.now) }
 {
     let (text, rest) = bytes.split_at(numeral_len(bytes));
-    match canonical_of(alloc, text)? {
+    match canonical(alloc, text)? {
         Some(value) => Ok((value, rest)),
         None => Err(ReadError::Refused),
     }

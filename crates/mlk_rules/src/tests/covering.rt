@@ -2,8 +2,8 @@
 
 use super::help::{BASE, constant, reference, term};
 use crate::{
-    Pattern, Rules, covered, covered_apart, literals_canonical, lock_of_node, may_meet, one_answer,
-    one_rank, rank_of, read_rules, share_pattern, surely_lies, templates,
+    Pattern, Rules, covered, covered_apart, lock_of_node, may_meet, one_answer, one_rank, rank_of,
+    read_rules, share_pattern, surely_lies, templates,
 };
 use mlk_names::{Access, Extent, LockTerm, Reference, prefix};
 use std::alloc::{AllocError, Global};
@@ -198,7 +198,6 @@ fn laws_are_called(_rt: HostRuntime) -> Result<(), Fail> {
     lock_of_node();
     covered_apart();
     one_rank();
-    literals_canonical();
     one_answer();
     Ok(())
 }

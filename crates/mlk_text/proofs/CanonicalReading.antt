@@ -10,9 +10,10 @@ use Rattle.mlk_text.proofs.Zeros.{significant-from, significant-to}
 use Rattle.mlk_text.proofs.CanonicalTexts.{canonical-made}
 use Rattle.mlk_text.proofs.NumberLaws.{one_canonical}
 use Rattle.mlk_text.specs.Outcome.{Finds}
-use Rattle.mlk_rules.specs.RuleNumbers.{is_exact, canonical_by, canonical_of, GivesCanonical}
+use Rattle.mlk_text.specs.Canonical.{are_exact, canonical_by, canonical_text}
+use Rattle.mlk_text.specs.NumberLaws.{GivesCanonical}
 
-exact-from : (before after : List ℕ) → is_exact before after ≡ true → IsExact before after
+exact-from : (before after : List ℕ) → are_exact before after ≡ true → IsExact before after
 exact-from before after h =
     let p = and_parts (nat_le (length before) 25 && nat_le (length after) 25) (nat_le (to_last (before ++ after)) (zeros (before ++ after) + 15)) h in
     let q = and_parts (nat_le (length before) 25) (nat_le (length after) 25) p.0 in
@@ -22,32 +23,32 @@ exact-from before after h =
       significant = significant-from 15 (before ++ after) (leb-true (to_last (before ++ after)) (zeros (before ++ after) + 15) p.1);
     }
 
-exact-to : (before after : List ℕ) → IsExact before after → is_exact before after ≡ true
+exact-to : (before after : List ℕ) → IsExact before after → are_exact before after ≡ true
 exact-to before after h =
     and_from (nat_le (length before) 25 && nat_le (length after) 25) (nat_le (to_last (before ++ after)) (zeros (before ++ after) + 15))
     (and_from (nat_le (length before) 25) (nat_le (length after) 25) (le-leb (length before) 25 h.few_before) (le-leb (length after) 25 h.few_after))
     (le-leb (to_last (before ++ after)) (zeros (before ++ after) + 15) (significant-to 15 (before ++ after) h.significant))
 
-pub canonical-sound : (text value : List ℕ) → canonical_of text ≡ Some value → IsCanonical text value
-unfolding canonical_of
+pub canonical-sound : (text value : List ℕ) → canonical_text text ≡ Some value → IsCanonical text value
+unfolding canonical_text
 canonical-sound text value h = go (behind_point (drop (digits text) text)) refl h
   where
     go : (o : Option (List ℕ)) → behind_point (drop (digits text) text) ≡ o → canonical_by (take (digits text) text) o ≡ Some value → IsCanonical text value
     go None is h = cc h
     go (Some after) is h =
         let before : List ℕ = take (digits text) text in
-        elim (cases_Bool (are_digits after && nat_lt 0 (length before + length after) && is_exact before after)) [
+        elim (cases_Bool (are_digits after && nat_lt 0 (length before + length after) && are_exact before after)) [
           | inr e ↦ cc (rw e at h)
           | inl e ↦
-              let p = and_parts (are_digits after && nat_lt 0 (length before + length after)) (is_exact before after) e in
+              let p = and_parts (are_digits after && nat_lt 0 (length before + length after)) (are_exact before after) e in
               let q = and_parts (are_digits after) (nat_lt 0 (length before + length after)) p.0 in
               let numeral = numeral-from after text is q.0 (ltb-true 0 (length before + length after) q.1) in
               let made = canonical-made before after text numeral (exact-from before after p.1) in
               subst (IsCanonical text) (same_Some (pointed (drop (zeros before) before) (take (to_last after) after)) value (rw e at h)) made
         ]
 
-pub canonical-complete : (text value : List ℕ) → IsCanonical text value → canonical_of text ≡ Some value
-unfolding canonical_of
+pub canonical-complete : (text value : List ℕ) → IsCanonical text value → canonical_text text ≡ Some value
+unfolding canonical_text
 canonical-complete text value h =
     let r = numeral-to h.before h.after text h.numeral in
     let made = canonical-made h.before h.after text h.numeral h.exact in
@@ -56,13 +57,17 @@ canonical-complete text value h =
     rw (r.0, r.1) (rw (h.numeral.fraction, some, exact-to h.before h.after h.exact) (ap Some (sym same)))
 
 -- what finds the canonical text gives this function's
-pub canonical-finds : (text : List ℕ) (o : Option (List ℕ)) → Finds (IsCanonical text) o → canonical_of text ≡ o
+pub canonical-finds : (text : List ℕ) (o : Option (List ℕ)) → Finds (IsCanonical text) o → canonical_text text ≡ o
 canonical-finds text (Some value) h = canonical-complete text value h
-canonical-finds text None h = go (canonical_of text) refl
+canonical-finds text None h = go (canonical_text text) refl
   where
-    go : (o : Option (List ℕ)) → canonical_of text ≡ o → o ≡ None
+    go : (o : Option (List ℕ)) → canonical_text text ≡ o → o ≡ None
     go None is = refl
     go (Some value) is = absurd (h value (canonical-sound text value is))
+
+-- where there is no canonical text, none is given
+pub canonical-none : (text : List ℕ) → ((value : List ℕ) → IsCanonical text value → ⊥) → canonical_text text ≡ None
+canonical-none text h = canonical-finds text None h
 
 pub gives_canonical : GivesCanonical
 gives_canonical literal text = (canonical-sound literal text, canonical-complete literal text)
