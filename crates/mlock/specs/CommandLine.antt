@@ -3,8 +3,11 @@ use Rattle.std.specs.Prelude.{◌≡◌, List, Option, Some, None, codes, true, 
 use Rattle.clap.specs.Lexer.{usize_max}
 use Rattle.clap.specs.Words.{App, Row, Rule, Text, all_of, first_of, new_app, new_rule, subcommand_of, with_rule, with_subcommand}
 use Rattle.clap.specs.Simple.{on_top}
+use Rattle.clap.specs.Takes.{takes}
 use Rattle.clap.specs.declared.builder.action.ArgAction.TheVariants.{Set, Append}
 use Rattle.mlock.specs.declared.words.Request.{Request}
+use Rattle.mlock.specs.declared.words.UsageError.{UsageError}
+use Rattle.mlock.specs.declared.words.UsageError.TheVariants as usage
 use Rattle.mlock.specs.Files.{bytes_of}
 
 -- a path that must be given, once
@@ -29,23 +32,36 @@ pub record IsGiven (rows : List Row) (request : Request) : Type 0 where
   pub certificate : first_of (codes "CERT") rows ≡ Some request.certificate.now
   pub routines : all_of (codes "ROUTINE") rows ≡ Some (bytes_of request.routines.items)
 
--- what a command's own matches give, if anything
+-- what a command's own matches give: nothing where no request has these paths
 abbrev pub GivesPaths : List Row → Option Request → Type 0
-GivesPaths rows None = Unit {0}
+GivesPaths rows None = (request : Request) → IsGiven rows request → ⊥
 GivesPaths rows (Some request) = IsGiven rows request
 
--- what the command that was met gives, if anything
+-- the command that was met was given the paths of the request
+abbrev pub IsMet : Option (Text × List Row) → Request → Type 0
+IsMet met request = (name : Text) × (rows : List Row) × (met ≡ Some (name, rows)) × IsGiven rows request
+
+-- what the command that was met gives: nothing where it was given those of no request
 abbrev pub GivesRequest : Option (Text × List Row) → Option Request → Type 0
-GivesRequest met None = Unit {0}
-GivesRequest met (Some request) = (name : Text) × (rows : List Row) × (met ≡ Some (name, rows)) × IsGiven rows request
+GivesRequest met None = (request : Request) → IsMet met request → ⊥
+GivesRequest met (Some request) = IsMet met request
 
 abbrev pub texts_of : {A : Type 0} → List (String A) → List Text
 texts_of words = map string_bytes words
 
--- The words name a command and give it the paths of the request, as `clap` reads them.
-abbrev pub IsRequest : {A : Type 0} → List (String A) → Request → Type 0
-IsRequest words request = GivesRequest (subcommand_of mlock_app (texts_of words)) (Some request)
-
 -- what the words ask for, if anything
 abbrev pub Asks : {A : Type 0} → List (String A) → Option Request → Type 0
 Asks words asked = GivesRequest (subcommand_of mlock_app (texts_of words)) asked
+
+-- The words name a command and give it the paths of the request, as `clap` reads them.
+abbrev pub IsRequest : {A : Type 0} → List (String A) → Request → Type 0
+IsRequest words request = IsMet (subcommand_of mlock_app (texts_of words)) request
+
+-- `clap` does not take the words, or they are those of no request.
+abbrev pub AsksNothing : {A : Type 0} → List (String A) → Type 0
+AsksNothing words = takes mlock_app (texts_of words) ≡ true → (request : Request) → IsRequest words request → ⊥
+
+-- Why there is no request. Want of memory says nothing.
+abbrev pub LacksRequest : {A : Type 0} → List (String A) → UsageError → Type 0
+LacksRequest words usage.OutOfMemory = Unit {0}
+LacksRequest words (usage.Usage text) = AsksNothing words

@@ -12,7 +12,7 @@ use Rattle.mlock.specs.declared.program.Answer.{Answer}
 use Rattle.mlock.specs.declared.program.Answer.TheVariants as answer
 use Rattle.mlock.specs.Printed.{report_text, fault_line, rules_line, certificate_line, missing_line, file_line}
 use Rattle.mlock.specs.Files.{Texts, AreTexts, IsFirstLost, paths_of}
-use Rattle.mlock.specs.CommandLine.{IsRequest}
+use Rattle.mlock.specs.CommandLine.{IsRequest, AsksNothing}
 use Rattle.mlock.specs.Checked.{IsChecked, IsRefusedBy}
 
 -- 0 for `yes`, 1 for `no`
@@ -91,12 +91,12 @@ IsSaid (answer.Unread line) old new status = (status ≡ 3) × Keeps old new
 IsSaid (answer.Usage text) old new status = (status ≡ 2) × Keeps old new
 IsSaid answer.OutOfMemory old new status = (status ≡ 3) × Keeps old new
 
--- What the program answers to its words: the answer to their request, unless they ask for nothing.
+-- What the program answers to its words: the answer to their request, or that they ask for nothing.
 abbrev pub AnswersWords : {A : Type 0} → Texts → (List ℕ → Type 0) → List (String A) → Answer → Type 0
 AnswersWords holds lacks words (answer.Report text status) = (request : Request) × IsRequest words request × IsReported holds request text status
 AnswersWords holds lacks words (answer.Refused line) = (request : Request) × IsRequest words request × IsRefusedThere holds request line
 AnswersWords holds lacks words (answer.Unread line) = (request : Request) × IsRequest words request × IsUnread holds lacks request line
-AnswersWords holds lacks words (answer.Usage text) = Unit {0}
+AnswersWords holds lacks words (answer.Usage text) = AsksNothing words
 AnswersWords holds lacks words answer.OutOfMemory = Unit {0}
 
 -- What is answered is said.

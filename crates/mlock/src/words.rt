@@ -1,9 +1,11 @@
 // The command line, as `clap` reads it.
 
-ghost use Rattle.std.specs.Prelude.{◌≡◌, IfOk, false};
-ghost use Rattle.clap.specs.Words.{app_of, rule_of, found_of, rows_of};
+ghost use Rattle.std.specs.Prelude.{◌≡◌, IfOk, IfErr, true, false};
+ghost use Rattle.clap.specs.Words.{app_of, rule_of, found_of, rows_of, kind_of};
+ghost use Rattle.clap.specs.Takes.{takes};
+ghost use Rattle.clap.specs.declared.error.kind.ErrorKind.TheVariants.{OutOfMemory};
 ghost use Rattle.clap.specs.Simple.{subcommand_rows_of};
-ghost use Rattle.mlock.specs.CommandLine.{path_rule, routines_rule, check_app, mlock_app, GivesPaths, GivesRequest, IsRequest, Asks};
+ghost use Rattle.mlock.specs.CommandLine.{path_rule, routines_rule, check_app, mlock_app, GivesPaths, GivesRequest, texts_of, Asks, IsRequest, LacksRequest};
 
 use clap::error::ErrorKind;
 use clap::{Arg, ArgAction, ArgMatches, Command, Error};
@@ -86,11 +88,13 @@ fn grammar<'a>(alloc: Global) -> Result<Command<'a>, AllocError>
 fn paths_of<'a>(alloc: Global, matches: &ArgMatches<'a>) -> Result<Option<Request<'a>>, AllocError>
     ensures { IfOk result (GivesPaths (rows_of (found_of matches.now))) }
 {
-    let (Some(rules), Some(certificate), Some(paths)) = (
-        matches.get_str("RULES"),
-        matches.get_str("CERT"),
-        matches.get_strs("ROUTINE"),
-    ) else {
+    let Some(rules) = matches.get_str("RULES") else {
+        return Ok(None);
+    };
+    let Some(certificate) = matches.get_str("CERT") else {
+        return Ok(None);
+    };
+    let Some(paths) = matches.get_strs("ROUTINE") else {
         return Ok(None);
     };
     let routines = Vec::from_slice(alloc, paths)?;
@@ -114,7 +118,8 @@ fn request_of<'a>(
 }
 
 fn read_words<'a>(alloc: Global, words: &'a [String]) -> Result<Option<Request<'a>>, Error>
-    ensures { IfOk result (Asks words.now) }
+    ensures asks { IfOk result (Asks words.now) }
+    ensures passes { IfErr result (λ e. takes mlock_app (texts_of words.now) ≡ true → kind_of e ≡ OutOfMemory) }
 {
     let matches = grammar(alloc)?.try_get_matches_from(words)?;
     Ok(request_of(alloc, &matches)?)
@@ -125,7 +130,8 @@ pub(crate) fn read_request<'a>(
     alloc: Global,
     words: &'a [String],
 ) -> Result<Request<'a>, UsageError>
-    ensures { IfOk result (IsRequest words.now) }
+    ensures asks { IfOk result (IsRequest words.now) }
+    ensures refused { IfErr result (LacksRequest words.now) }
 {
     match read_words(alloc, words) {
         Ok(Some(request)) => Ok(request),
