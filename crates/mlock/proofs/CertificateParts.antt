@@ -13,7 +13,8 @@ use Rattle.mlk_machine.specs.declared.plain.tree.LockName.{LockName}
 use Rattle.mlk_machine.specs.declared.plain.tree.Root.{Root}
 use Rattle.mlk_machine.specs.declared.plain.tree.Root.TheVariants.{Global, Local}
 use Rattle.mlock.specs.CertificateSpelling.{each, Each, hex, is_plain, spell_byte, spell_constant, spell_next, spell_subs, spell_root, spell_term, spell_more, spell_terms, spell_case, IsValue, IsName, IsRoot, IsTerm}
-use Rattle.mlock.specs.CertificateLexing.{strip, word_at, hex_value, escaped_at, piece_at, keep, constant_at, next, list_at, subs_by, subs_at, root_by, root_at, lock_name, term_at, terms_by, terms_at, case_at}
+use Rattle.mlock.specs.LockRoots.{root_by, root_at, lock_name}
+use Rattle.mlock.specs.CertificateLexing.{strip, word_at, hex_value, escaped_at, piece_at, keep, constant_at, next, list_at, subs_by, subs_at, term_at, terms_by, terms_at, case_at}
 use Rattle.mlock.proofs.CertificateEach.{many_spelled}
 
 pub byte-is : (b c : ℕ) (xs ys : List ℕ) → byte_at b xs ≡ Some (c, ys) → xs ≡ b ∷ ys

@@ -11,7 +11,8 @@ use Rattle.mlk_machine.specs.declared.plain.tree.LockName.{LockName}
 use Rattle.mlk_machine.specs.declared.plain.tree.Root.{Root}
 use Rattle.mlk_machine.specs.declared.plain.tree.Root.TheVariants.{Global, Local}
 use Rattle.mlock.specs.CertificateSpelling.{each, Each, hex, decimal, is_plain, spell_byte, spell_constant, spell_next, spell_subs, spell_root, spell_term, spell_more, spell_terms, spell_case, IsValue, IsName, IsRoot, IsTerm}
-use Rattle.mlock.specs.CertificateLexing.{strip, word_at, value_after, leads_zero, number_at, hex_value, escaped_at, piece_at, keep, constant_at, next, list_at, subs_at, root_at, term_at, terms_at, case_at}
+use Rattle.mlock.specs.LockRoots.{root_at}
+use Rattle.mlock.specs.CertificateLexing.{strip, word_at, value_after, leads_zero, number_at, hex_value, escaped_at, piece_at, keep, constant_at, next, list_at, subs_at, term_at, terms_at, case_at}
 use Rattle.mlock.proofs.CertificateEach.{many_back}
 use Rattle.mlock.proofs.CertificateParts.{plain-spelled, coded-spelled, quote-spelled}
 use Rattle.mlock.proofs.CertificateRoom.{byte-longer, constant-longer, term-longer}

@@ -22,7 +22,8 @@ use Rattle.mlock.specs.declared.routine.words.LineFault.TheVariants as bad
 use Rattle.mlock.specs.RoutineOutcomes.{Blames, StopsAt, CommandsFail}
 use Rattle.mlock.specs.RoutineWords.{letters, column_of, word_at, word_of}
 use Rattle.mlock.specs.RoutineGrammar.{IsRoot, IsLockName, IsAction, spaces, at_end, gap_of, IsGap, IsCommand}
-use Rattle.mlock.specs.RoutineReading.{root_by, root_at, lock_name, lock_name_at, setting, set_at, lock_by, lock_at, action_by, action_at, gap_at, placed, command_at, commands_at}
+use Rattle.mlock.specs.LockRoots.{root_by, root_at, lock_name}
+use Rattle.mlock.specs.RoutineReading.{lock_name_at, setting, set_at, lock_by, lock_at, action_by, action_at, gap_at, placed, command_at, commands_at}
 
 -- no name begins with a caret
 name-no-caret : (text xs ys : List ℕ) → name_at xs ≡ Some (text, ys) → byte_at 94 xs ≡ None

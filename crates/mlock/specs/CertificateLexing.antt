@@ -1,11 +1,10 @@
 -- Reading the parts of a certificate's lines, as functions on lists.
 use Rattle.std.specs.Prelude.{ℕ, suc, ◌+◌, ◌-◌, ◌*◌, ◌==◌, ◌&&◌, ◌||◌, nat_le, if◌then◌else◌, Bool, false, List, [], ◌∷◌, length, Option, Some, None, codes, option_map}
 use Rattle.mlk_text.specs.Reading.{◌>>=◌, with, many}
-use Rattle.mlk_text.specs.Lexemes.{name_at, digits_at, byte_at}
+use Rattle.mlk_text.specs.Lexemes.{digits_at, byte_at}
 use Rattle.mlk_machine.specs.declared.plain.tree.LockName.{LockName}
-use Rattle.mlk_machine.specs.declared.plain.tree.Root.{Root}
-use Rattle.mlk_machine.specs.declared.plain.tree.Root.TheVariants.{Global, Local}
 use Rattle.mlock.specs.CertificateSpelling.{is_plain}
+use Rattle.mlock.specs.LockRoots.{root_at, lock_name}
 
 -- what is behind a word
 abbrev pub strip : List ℕ → List ℕ → Option (List ℕ)
@@ -84,19 +83,6 @@ subs_by xs (Some front) = list_at front.1
 -- the subscripts that stand here
 unfoldable pub subs_at : List ℕ → Option (List (List ℕ) × List ℕ)
 subs_at xs = subs_by xs (byte_at 40 xs)
-
--- a global behind a caret, else a local
-abbrev pub root_by : List ℕ → Option (ℕ × List ℕ) → Option (Root × List ℕ)
-root_by xs None = with Local (name_at xs)
-root_by xs (Some caret) = with Global (name_at caret.1)
-
--- the root that stands here
-unfoldable pub root_at : List ℕ → Option (Root × List ℕ)
-root_at xs = root_by xs (byte_at 94 xs)
-
--- the lock name of its parts
-abbrev pub lock_name : Root → List (List ℕ) → LockName
-lock_name r vs = record { root = r; subs = vs }
 
 -- the term that stands here
 unfoldable pub term_at : List ℕ → Option (LockName × List ℕ)

@@ -1,4 +1,5 @@
 pub mod Printed
+pub mod LockRoots
 pub mod RoutineWords
 pub mod RoutineGrammar
 pub mod Twice

@@ -7,25 +7,11 @@ use Rattle.mlk_machine.specs.declared.plain.tree.Action.TheVariants.{Set, Lock, 
 use Rattle.mlk_machine.specs.declared.plain.tree.Command.{Command}
 use Rattle.mlk_machine.specs.declared.plain.tree.Line.{Line}
 use Rattle.mlk_machine.specs.declared.plain.tree.LockName.{LockName}
-use Rattle.mlk_machine.specs.declared.plain.tree.Root.{Root}
-use Rattle.mlk_machine.specs.declared.plain.tree.Root.TheVariants as root
 use Rattle.mlock.specs.declared.routine.words.Word.{Word}
 use Rattle.mlock.specs.declared.routine.words.Word.TheVariants as word
+use Rattle.mlock.specs.LockRoots.{root_at, lock_name}
 use Rattle.mlock.specs.RoutineWords.{column_of, word_at, word_of}
 use Rattle.mlock.specs.RoutineGrammar.{spaces, at_end, gap_of, closes, start_at}
-
--- a local's name, or a global's behind its caret
-abbrev pub root_by : List ℕ → Option (ℕ × List ℕ) → Option (Root × List ℕ)
-root_by xs None = with root.Local (name_at xs)
-root_by xs (Some caret) = with root.Global (name_at caret.1)
-
--- the root at the front
-unfoldable pub root_at : List ℕ → Option (Root × List ℕ)
-root_at xs = root_by xs (byte_at 94 xs)
-
--- a root with its subscripts
-abbrev pub lock_name : Root → List (List ℕ) → LockName
-lock_name r s = record { root = r; subs = s }
 
 -- the lock name at the front
 unfoldable pub lock_name_at : List ℕ → Option (LockName × List ℕ)

@@ -3,6 +3,7 @@
 
 mod certificate;
 mod checked;
+mod lock_root;
 mod printed;
 mod program;
 mod routine;

@@ -5,11 +5,12 @@ ghost use Rattle.mlk_text.specs.Reading.{many, put};
 ghost use Rattle.mlk_text.specs.Outcome.{Gives};
 ghost use Rattle.mlk_text.specs.Lexemes.{byte_at};
 ghost use Rattle.mlock.specs.CertificateSpelling.{spell_term, ascends, terms_upto, upto};
-ghost use Rattle.mlock.specs.CertificateLexing.{next, constant_at, list_at, subs_at, root_at, term_at, terms_at, case_at};
+ghost use Rattle.mlock.specs.CertificateLexing.{next, constant_at, list_at, subs_at, term_at, terms_at, case_at};
 
 use crate::certificate::lexeme::{constant, front_of, is_upto, word_of};
-use mlk_machine::plain::{LockName, Root};
-use mlk_text::lexeme::{ReadError, byte_of, name};
+use crate::lock_root::root;
+use mlk_machine::plain::LockName;
+use mlk_text::lexeme::{ReadError, byte_of};
 use mlk_text::{Value, Values};
 use std::alloc::Global;
 
@@ -52,18 +53,6 @@ fn subs(alloc: Global, bytes: &[u8]) -> Result<(Values, &[u8]), ReadError>
     };
     let (values, rest) = list(alloc, rest)?;
     Ok((Values::of(values), rest))
-}
-
-#[tactic(auto, unfolding(crate::specs::CertificateLexing::root_at))]
-fn root(alloc: Global, bytes: &[u8]) -> Result<(Root, &[u8]), ReadError>
-    ensures { Gives (λ x. (x.0, x.1.now)) result (root_at bytes.now) }
-{
-    let Some(rest) = byte_of(b'^', bytes) else {
-        let (name, rest) = name(alloc, bytes)?;
-        return Ok((Root::Local(name), rest));
-    };
-    let (name, rest) = name(alloc, rest)?;
-    Ok((Root::Global(name), rest))
 }
 
 #[tactic(auto, unfolding(crate::specs::CertificateLexing::term_at))]

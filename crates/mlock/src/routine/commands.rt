@@ -3,27 +3,16 @@
 ghost use Rattle.std.specs.Prelude.{◌≡◌, ◌≤◌, length, option_map};
 ghost use Rattle.mlk_text.specs.Outcome.{Gives};
 ghost use Rattle.mlock.specs.RoutineGrammar.{spaces, at_end, gap_of};
-ghost use Rattle.mlock.specs.RoutineReading.{root_at, lock_name_at, set_at, lock_at, action_at, gap_at, command_at, commands_at};
+ghost use Rattle.mlock.specs.RoutineReading.{lock_name_at, set_at, lock_at, action_at, gap_at, command_at, commands_at};
 ghost use Rattle.mlock.specs.RoutineOutcomes.{Answers, CommandsFail};
 
+use crate::lock_root::root;
 use crate::routine::known::blame;
 use crate::routine::words::{LineError, Word, column_of, word_at, word_of};
-use mlk_machine::plain::{Action, Command, LockName, Node, Root};
+use mlk_machine::plain::{Action, Command, LockName, Node};
 use mlk_text::lexeme::{ReadError, byte_of, name};
 use mlk_text::literal::{literal, subscripts};
 use std::alloc::Global;
-
-#[tactic(auto, unfolding(crate::specs::RoutineReading::root_at))]
-fn root(alloc: Global, bytes: &[u8]) -> Result<(Root, &[u8]), ReadError>
-    ensures { Gives (λ x. (x.0, x.1.now)) result (root_at bytes.now) }
-{
-    let Some(behind) = byte_of(b'^', bytes) else {
-        let (local, rest) = name(alloc, bytes)?;
-        return Ok((Root::Local(local), rest));
-    };
-    let (global, rest) = name(alloc, behind)?;
-    Ok((Root::Global(global), rest))
-}
 
 #[tactic(auto, unfolding(crate::specs::RoutineReading::lock_name_at))]
 fn lock_name(alloc: Global, bytes: &[u8]) -> Result<(LockName, &[u8]), ReadError>
