@@ -21,7 +21,7 @@ use Rattle.mlk_expr.proofs.NumberSpelling.{number-spelled}
 use Rattle.mlk_expr.proofs.JoinedParts.{Joins}
 use Rattle.mlk_expr.proofs.JoinedArguments.{at-column, starts-front, actuals-apart, actuals-together}
 use Rattle.mlk_expr.proofs.JoinedPatterns.{pattern-joins}
-use Rattle.mlk_expr.proofs.JoinedOperands.{number-opens, variable-together, atom-joins, atom-opens, nested-joins, nested-opens}
+use Rattle.mlk_expr.proofs.JoinedOperands.{canonical-number, number-opens, variable-together, atom-joins, atom-opens, nested-joins, nested-opens}
 
 -- The two grammars say the same of a thing.
 pub record Same {A : Type 0} (Is : ℕ → A → List ℕ → List ℕ → Type 0) (Text : ℕ → A → List ℕ → Type 0) (Ends : A → List ℕ → Type 0) : Type 0 where
@@ -101,7 +101,7 @@ module _ (end k : ℕ) where
 
   plain-reference : (at : ℕ) (t : Tree) (s ys : List ℕ) → end ≡ at + length (s ++ ys) → IsPlain (IsAtom k) (IsPattern k) at t s → starts_reference s ≡ true → ReferenceEnds t ys
       → behind.IsPlain end (behind.IsAtom end k) (behind.IsPattern k) t (s ++ ys) ys
-  plain-reference at (Literal value) s ys h (inl (number, same)) first ended = absurd (number-first s number first)
+  plain-reference at (Literal value) s ys h (inl same) first ended = absurd (number-first s (canonical-number s value same) first)
   plain-reference at (Literal value) s ys h (inr (is, good)) first ended = cc (subst (λ z. starts_reference z ≡ true) is first)
   plain-reference at Inexact s ys h (number, none) first ended = absurd (number-first s number first)
   plain-reference at (LocalName name subs) s ys h (part, ss, is, good, list, same) first ended =

@@ -1,12 +1,12 @@
 -- The two grammars say the same of operands, so of expressions of every depth.
-use Rattle.std.proofs.Common.{◌≡◌, ◌<◌, ◌+◌, ℕ, zero, suc, ◌++◌, List, [], ◌∷◌, length, Some, None, true, false, refl, sym, ap, ◌∙◌, arith, subst, inl, inr, append_assoc, length-append}
+use Rattle.std.proofs.Common.{◌≡◌, ◌<◌, ◌+◌, ℕ, zero, suc, ◌++◌, List, [], ◌∷◌, length, Some, None, true, false, refl, sym, ap, ◌∙◌, arith, subst, inl, inr, append-nil, append_assoc, length-append}
 use Rattle.std.specs.Prelude.{◌⊎◌, ◌==◌, ◌||◌}
 use Rattle.std.proofs.lemmas.Bool.{and_parts}
 use Rattle.std.proofs.lemmas.Bool.Decides.{nat_tests}
 use Rattle.mlk_text.specs.declared.operator.UnaryOp.{UnaryOp}
 use Rattle.mlk_text.specs.declared.operator.UnaryOp.TheVariants as unary
 use Rattle.mlk_text.specs.Lexemes.{is_digit, is_letter, byte_at, name_at, doubled}
-use Rattle.mlk_text.specs.Numbers.{are_digits, IsNumeral}
+use Rattle.mlk_text.specs.Numbers.{are_digits, IsNumeral, IsCanonical}
 use Rattle.mlk_expr.specs.Trees.{Tree, Literal, Inexact, LocalName, GlobalName, SpecialName, Prefixed, Chain, PatternText, Applied, Selected, BareCall, CallOf}
 use Rattle.mlk_expr.specs.Lexemes.{ends}
 use Rattle.mlk_expr.specs.Spellings.{IsName, IsNumber, unary_text}
@@ -41,6 +41,10 @@ goes-open (b ∷ ys) h = let no : (b == 40) ≡ false = grind (arith, nat_tests)
 goes-name : (ys : List ℕ) → goes_on ys ≡ false → behind_name ys ≡ true
 goes-name [] h = refl
 goes-name (b ∷ ys) h = grind (arith, nat_tests)
+
+-- an exact literal is a number without an exponent
+pub canonical-number : (s value : List ℕ) → IsCanonical s value → IsNumber s
+canonical-number s value h = (h.before, h.after, s, [], h.numeral, inl refl, sym (append-nil s))
 
 -- a number begins with a digit, or with a point and a digit
 digits-open : (d : ℕ) (ds s : List ℕ) → are_digits (d ∷ ds) ≡ true → opens (d ∷ s) ≡ true
@@ -103,7 +107,7 @@ module _ (end : ℕ) (Atom : Tree → List ℕ → List ℕ → Type 0) (Text : 
   )
 
   plain-apart : (at : ℕ) (t : Tree) (xs ys : List ℕ) → end ≡ at + length xs → behind.IsPlain end Atom Pattern t xs ys → (s : List ℕ) × (xs ≡ s ++ ys) × IsPlain Text PatternOf at t s
-  plain-apart at (Literal value) xs ys h (inl (text, n, same)) = let f = number-spelled text xs ys n in (text, f.1, inl (f.0, same))
+  plain-apart at (Literal value) xs ys h (inl (text, n, same)) = let f = number-spelled text xs ys n in (text, f.1, inl same)
   plain-apart at (Literal value) xs ys h (inr (is, good, none)) = (34 ∷ (doubled value ++ 34 ∷ []), is ∙ sym (quoted-behind value ys), inr (refl, good))
   plain-apart at Inexact xs ys h (text, n, none) = let f = number-spelled text xs ys n in (text, f.1, (f.0, none))
   plain-apart at (LocalName name subs) xs ys h (m, ss, n, list, same) =
@@ -154,7 +158,7 @@ module _ (end : ℕ) (Atom : Tree → List ℕ → List ℕ → Type 0) (Text : 
 
   -- what may stand behind an operand: anything that does not go on with it
   plain-together : (at : ℕ) (t : Tree) (s ys : List ℕ) → end ≡ at + length (s ++ ys) → IsPlain Text PatternOf at t s → tame ys ≡ true → behind.IsPlain end Atom Pattern t (s ++ ys) ys
-  plain-together at (Literal value) s ys h (inl (number, same)) may = inl (s, number-reads s ys number may, same)
+  plain-together at (Literal value) s ys h (inl same) may = inl (s, number-reads s ys (canonical-number s value same) may, same)
   plain-together at (Literal value) s ys h (inr (is, good)) may = inr (ap (λ l. l ++ ys) is ∙ quoted-behind value ys, good, tame-quote ys may)
   plain-together at Inexact s ys h (number, none) may = (s, number-reads s ys number may, none)
   plain-together at (LocalName name subs) s ys h (part, ss, is, good, list, same) may =
@@ -197,7 +201,7 @@ module _ (end : ℕ) (Atom : Tree → List ℕ → List ℕ → Type 0) (Text : 
       (called ++ 40 ∷ g.0, g.0, given, whole, col ∙ sym (at-column end at (s ++ ys) h), callee-together callee.label callee.routine called (40 ∷ g.0) name refl refl, g.2, same)
 
   plain-opens : (at : ℕ) (t : Tree) (s : List ℕ) → IsPlain Text PatternOf at t s → opens s ≡ true
-  plain-opens at (Literal value) s (inl (number, same)) = number-opens s number
+  plain-opens at (Literal value) s (inl same) = number-opens s (canonical-number s value same)
   plain-opens at (Literal value) s (inr (is, good)) = rw is refl
   plain-opens at Inexact s (number, none) = number-opens s number
   plain-opens at (LocalName name subs) s (part, ss, is, good, list, same) = subst (λ z. opens z ≡ true) (sym is) (name-opens name part good)

@@ -24,7 +24,8 @@ IsList {A = A} Item at items s = (first : A) × (others : List A) × (front rest
 abbrev pub IsEnclosed : List ℕ → List ℕ → Type 0
 IsEnclosed inner s = s ≡ 40 ∷ (inner ++ 41 ∷ [])
 
--- What a pattern atom has behind its count: codes, a text, or one of several patterns. Standard: pattern match, patatom.
+-- What a pattern atom has behind its count: codes, a text, or one of several patterns, whose columns nobody keeps.
+-- Standard: pattern match, patatom.
 abbrev pub IsMatcher : (List ℕ → Type 0) → List ℕ → Type 0
 IsMatcher Deep s = IsCodes s
     ⊎ ((value : List ℕ) × IsQuoted value s)
@@ -123,7 +124,7 @@ IsCallee None None s = ⊥
 -- no case here is left out: indirection, naked references, structured system variables, other functions and special
 -- variables, external calls, environments.
 abbrev pub IsPlain : (ℕ → Tree → List ℕ → Type 0) → (List ℕ → Type 0) → ℕ → Tree → List ℕ → Type 0
-IsPlain Atom Pattern at (Literal value) s = (IsNumber s × IsCanonical s value) ⊎ IsQuoted value s
+IsPlain Atom Pattern at (Literal value) s = IsCanonical s value ⊎ IsQuoted value s
 IsPlain Atom Pattern at Inexact s = IsNumber s × ((value : List ℕ) → IsCanonical s value → ⊥)
 IsPlain Atom Pattern at (LocalName name subs) s = (part : List ℕ) × (items : List (ℕ × Tree))
     × (s ≡ name ++ part) × IsName name × IsSubs (IsChain Atom Pattern) (at + length name) items part × (subs ≡ subs_from items)
