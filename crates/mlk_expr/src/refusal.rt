@@ -186,11 +186,14 @@ pub(crate) fn no_word(bytes: &[u8], behind: &[u8]) -> Refusal
     }
 }
 
-/// Why no function stands here, from its `$`.
-pub(crate) fn no_function(bytes: &[u8]) -> Refusal
+/// Why no function of this word stands here, from its `$`.
+pub(crate) fn no_function(bytes: &[u8], word: &[u8]) -> Refusal
     ensures { IsRefused result }
 {
-    leaves_out(LeftOut::Function, bytes)
+    match bytes.split_first() {
+        Some((_, behind)) if word.is_empty() => refused(Code::ExprForm, behind),
+        _ => leaves_out(LeftOut::Function, bytes),
+    }
 }
 
 /// Why no operand and no pattern begins here.

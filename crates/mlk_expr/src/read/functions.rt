@@ -187,7 +187,7 @@ fn function<'a>(
         return Ok((Expr::Select(choices), rest));
     }
     let Some(function) = function_of(word) else {
-        return Err(no_function(whole));
+        return Err(no_function(whole, word));
     };
     let (args, rest) = arguments(alloc, end, left, function, bytes)?;
     Ok((Expr::Func(function, args), rest))

@@ -54,7 +54,7 @@ fn left_out(rt: HostRuntime) {
 #[test]
 fn no_operand(rt: HostRuntime) {
     let alloc = rt.alloc();
-    let rows: [(&[u8], u32); 14] = [
+    let rows: [(&[u8], u32); 15] = [
         (b"", 1),
         (b" 1", 1),
         (b")", 1),
@@ -66,6 +66,7 @@ fn no_operand(rt: HostRuntime) {
         (b"$", 2),
         (b"$1", 2),
         (b"$@X", 2),
+        (b"$(X)", 2),
         (b"$$", 3),
         (b"$$A^1", 5),
         (b"()", 2),
