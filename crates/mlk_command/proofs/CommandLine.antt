@@ -1,0 +1,44 @@
+-- What the words of a command line ask for.
+use Rattle.std.proofs.Common.{◌≡◌, List, [], ◌∷◌, Bool, true, false, not, Some, refl, codes, option_map}
+use Rattle.clap.specs.Words.{Text, all_of, first_of, is_simple, subcommand_of}
+use Rattle.clap.specs.Takes.{takes}
+use Rattle.clap.proofs.OnLiterals.{clap_on_literals}
+use Rattle.mlk_command.specs.CommandLine.{mlock_app}
+
+pub not-true : (b : Bool) → not b ≡ true → b ≡ false
+not-true true h = cc h
+not-true false h = refl
+
+-- the grammar is one whose matches `clap` states exactly
+pub is-exact : is_simple mlock_app ≡ true
+unfolding clap_on_literals
+is-exact = refl
+
+-- examples: words, and the paths that they give
+abbrev words : List Text
+words = codes "mlock" ∷ codes "check" ∷ codes "r" ∷ codes "c" ∷ codes "A.m" ∷ codes "B.m" ∷ []
+
+reads_rules : option_map (λ p. first_of (codes "RULES") p.1) (subcommand_of mlock_app words) ≡ Some (Some (codes "r"))
+unfolding clap_on_literals
+reads_rules = refl
+
+reads_certificate : option_map (λ p. first_of (codes "CERT") p.1) (subcommand_of mlock_app words) ≡ Some (Some (codes "c"))
+unfolding clap_on_literals
+reads_certificate = refl
+
+reads_routines : option_map (λ p. all_of (codes "ROUTINE") p.1) (subcommand_of mlock_app words) ≡ Some (Some (codes "A.m" ∷ codes "B.m" ∷ []))
+unfolding clap_on_literals
+reads_routines = refl
+
+-- words that are taken, and words that are not
+takes_words : takes mlock_app words ≡ true
+unfolding clap_on_literals
+takes_words = refl
+
+takes_no_command : takes mlock_app (codes "mlock" ∷ []) ≡ false
+unfolding clap_on_literals
+takes_no_command = refl
+
+takes_no_routine : takes mlock_app (codes "mlock" ∷ codes "check" ∷ codes "r" ∷ codes "c" ∷ []) ≡ false
+unfolding clap_on_literals
+takes_no_routine = refl

@@ -1,0 +1,49 @@
+-- What is answered to a request.
+use Rattle.std.proofs.Common.{ℕ, List}
+use Rattle.std.specs.Prelude.{String}
+use Rattle.mlk_command.specs.declared.source.Sources.{Sources}
+use Rattle.mlk_command.specs.declared.words.Request.{Request}
+use Rattle.mlk_command.specs.declared.checked.Checked.{Checked}
+use Rattle.mlk_command.specs.declared.checked.Refusal.{Refusal}
+use Rattle.mlk_command.specs.declared.program.Answer.{Answer}
+use Rattle.mlk_command.specs.declared.program.Answer.TheVariants as answer
+use Rattle.mlk_command.specs.Files.{Texts, AreTexts}
+use Rattle.mlk_command.specs.CommandLine.{IsRequest}
+use Rattle.mlk_command.specs.Checked.{IsChecked, IsRefusedBy}
+use Rattle.mlk_command.specs.Ran.{PrintsReport, TellsRefusal, Answers, AnswersWords}
+
+pub report-answers : (holds : Texts) (lacks : List ℕ → Type 0) (request : Request) (sources : Sources) (checked : Checked) (a : Answer) → AreTexts holds request sources → IsChecked sources checked → PrintsReport checked a
+    → Answers holds lacks request a
+report-answers holds lacks request sources checked (answer.Report text status) texts answered printed = record {
+  sources = sources;
+  texts = texts;
+  checked = checked;
+  answered = answered;
+  printed = printed.0;
+  ended = printed.1;
+}
+report-answers holds lacks request sources checked (answer.Refused line) texts answered printed = absurd printed
+report-answers holds lacks request sources checked (answer.Unread line) texts answered printed = absurd printed
+report-answers holds lacks request sources checked (answer.Usage text) texts answered printed = absurd printed
+report-answers holds lacks request sources checked answer.OutOfMemory texts answered printed = record {}
+
+pub refusal-answers : (holds : Texts) (lacks : List ℕ → Type 0) (request : Request) (sources : Sources) (r : Refusal) (a : Answer) → AreTexts holds request sources → IsRefusedBy sources r → TellsRefusal r a
+    → Answers holds lacks request a
+refusal-answers holds lacks request sources r (answer.Report text status) texts refused told = absurd told
+refusal-answers holds lacks request sources r (answer.Refused line) texts refused told = record {
+  sources = sources;
+  texts = texts;
+  refusal = r;
+  refused = refused;
+  told = told;
+}
+refusal-answers holds lacks request sources r (answer.Unread line) texts refused told = absurd told
+refusal-answers holds lacks request sources r (answer.Usage text) texts refused told = absurd told
+refusal-answers holds lacks request sources r answer.OutOfMemory texts refused told = record {}
+
+pub words-answer : {A : Type 0} → (holds : Texts) (lacks : List ℕ → Type 0) (words : List (String A)) (request : Request) (a : Answer) → IsRequest words request → Answers holds lacks request a → AnswersWords holds lacks words a
+words-answer holds lacks words request (answer.Report text status) asked h = (request, asked, h)
+words-answer holds lacks words request (answer.Refused line) asked h = (request, asked, h)
+words-answer holds lacks words request (answer.Unread line) asked h = (request, asked, h)
+words-answer holds lacks words request (answer.Usage text) asked h = absurd h
+words-answer holds lacks words request answer.OutOfMemory asked h = record {}

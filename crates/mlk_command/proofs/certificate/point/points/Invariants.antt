@@ -1,0 +1,14 @@
+use Rattle.std.proofs.Common.{◌≡◌, ◌<◌, ℕ, suc, length, codes, []}
+use Rattle.mlk_command.specs.CertificateSpelling.{last_place}
+use Rattle.mlk_command.specs.CertificateLexing.{word_at}
+use Rattle.mlk_command.specs.CertificateBlocks.{point_item, run}
+use Rattle.mlk_command.proofs.certificate.point.points.Given as goal
+
+abbrev pub invariant-loop-behind : goal.invariant-loop-behind
+invariant-loop-behind l = record {
+  reading : (n : ℕ) × (length l.rest < n) × (run (word_at (codes "at ")) point_item n l.found.items l.rest ≡ run (word_at (codes "at ")) point_item (suc (length l.bytes)) [] l.bytes);
+  last : l.last ≡ last_place l.found.items;
+}
+
+abbrev pub decreases-loop-behind : goal.decreases-loop-behind
+decreases-loop-behind l = length l.rest

@@ -1,0 +1,36 @@
+use Rattle.std.proofs.Common.{[], sym, ap, ◌∙◌, ◌&&◌}
+use Rattle.std.proofs.lemmas.Result.{err_from_is_err_and}
+use Rattle.mlk_text.specs.Lexemes.{byte_at}
+use Rattle.mlk_text.proofs.Readers.{many_stops, many_goes}
+use Rattle.mlk_command.specs.CertificateSpelling.{ascends, terms_upto, spell_term, upto}
+use Rattle.mlk_command.specs.CertificateLexing.{next, term_at}
+use Rattle.mlk_command.proofs.CertificateEach.{many_refused, last-push, ascends-push}
+use Rattle.mlk_command.proofs.CertificateRoom.{more-shorter}
+use Rattle.mlk_command.proofs.CertificateFronts.{term-text}
+use Rattle.mlk_command.proofs.certificate.term.more_terms.Goals as goal
+
+pub returns-in_err-item-clause-read : goal.returns-in_err-item-clause-read
+returns-in_err-item-clause-read c =
+    let p = err_from_is_err_and c.from_residual-in_err-item.result c.from_residual-in_err-item.ensures.1 in
+    rw (p.1, p.2) (many_refused (byte_at 59) (next term_at) _ c.loop-behind.invariant.reading.0 c.loop-behind.rest.now _ 59 c.in-Some.behind.now c.in_err-item.field-0.0
+    (sym c.in-Some.ensures) c.in_err-item.ensures c.loop-behind.invariant.reading.1 c.loop-behind.invariant.reading.2)
+
+pub loop-behind-smaller : goal.loop-behind-smaller
+loop-behind-smaller c = more-shorter c.in_ok-item.item c.loop-behind.rest.now c.in-Some.behind.now c.in_ok-item.after.now (sym c.in-Some.ensures) c.in_ok-item.ensures
+
+pub loop-behind-preserved : goal.loop-behind-preserved
+loop-behind-preserved c =
+    let shorter = more-shorter c.in_ok-item.item c.loop-behind.rest.now c.in-Some.behind.now c.in_ok-item.after.now (sym c.in-Some.ensures) c.in_ok-item.ensures in
+    let text = c.front_of-text.ensures ∙ term-text c.in_ok-item.item c.in-Some.behind.now c.in_ok-item.after.now c.in_ok-item.ensures in
+    rw c.in_ok-push-2.ensures.items (record {
+      reading = many_goes (byte_at 59) (next term_at) c.loop-behind.found.items c.loop-behind.invariant.reading.0 c.loop-behind.rest.now _ 59 c.in-Some.behind.now c.in_ok-item.item c.in_ok-item.after.now
+          (sym c.in-Some.ensures) c.in_ok-item.ensures shorter c.loop-behind.invariant.reading.1 c.loop-behind.invariant.reading.2;
+      last = (c.in_ok-item.item, last-push c.loop-behind.found.items c.in_ok-item.item, text);
+      order = c.joined-sorted.ensures ∙ ap (λ b. b && upto c.loop-behind.last.now c.front_of-text.result.now) c.loop-behind.invariant.order
+          ∙ ap (λ x. ascends terms_upto c.loop-behind.found.items && upto x c.front_of-text.result.now) c.loop-behind.invariant.last.2
+          ∙ ap (λ x. ascends terms_upto c.loop-behind.found.items && upto (spell_term c.loop-behind.invariant.last.0 []) x) text
+          ∙ sym (ascends-push terms_upto c.loop-behind.found.items c.loop-behind.invariant.last.0 c.in_ok-item.item c.loop-behind.invariant.last.1);
+    })
+
+pub returns-clause-read : goal.returns-clause-read
+returns-clause-read c = many_stops (byte_at 59) (next term_at) c.loop-behind.found.items c.loop-behind.invariant.reading.0 c.loop-behind.rest.now _ (sym c.in_default.ensures) c.loop-behind.invariant.reading.1 c.loop-behind.invariant.reading.2

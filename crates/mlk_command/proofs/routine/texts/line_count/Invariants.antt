@@ -1,0 +1,14 @@
+use Rattle.std.proofs.Common.{◌≡◌, ◌≤◌, ◌+◌, ℕ, List, length}
+use Rattle.mlk_text.specs.Reading.{Begins}
+use Rattle.mlk_command.specs.RoutineGrammar.{line_at}
+use Rattle.mlk_command.specs.RoutineRefusals.{AnyLine}
+use Rattle.mlk_command.proofs.routine.texts.line_count.Given as goal
+
+abbrev pub invariant-loop-behind : goal.invariant-loop-behind
+invariant-loop-behind l = record {
+  front : (lines : List (List ℕ)) × Begins line_at AnyLine lines l.text l.rest × (length lines ≡ l.n);
+  size : l.n + length l.rest ≤ length l.text;
+}
+
+abbrev pub decreases-loop-behind : goal.decreases-loop-behind
+decreases-loop-behind l = length l.rest

@@ -1,0 +1,67 @@
+-- The command line, by what `clap` makes of its words. This project's own choice.
+use Rattle.std.specs.Prelude.{◌≡◌, List, Option, Some, None, codes, true, map, string_bytes, String}
+use Rattle.clap.specs.Lexer.{usize_max}
+use Rattle.clap.specs.Words.{App, Row, Rule, Text, all_of, first_of, new_app, new_rule, subcommand_of, with_rule, with_subcommand}
+use Rattle.clap.specs.Simple.{on_top}
+use Rattle.clap.specs.Takes.{takes}
+use Rattle.clap.specs.declared.builder.action.ArgAction.TheVariants.{Set, Append}
+use Rattle.mlk_command.specs.declared.words.Request.{Request}
+use Rattle.mlk_command.specs.declared.words.UsageError.{UsageError}
+use Rattle.mlk_command.specs.declared.words.UsageError.TheVariants as usage
+use Rattle.mlk_command.specs.Files.{bytes_of}
+
+-- a path that must be given, once
+abbrev pub path_rule : Text → Rule
+path_rule id = record (new_rule id) { required = true; action = Some Set }
+
+-- the paths of the routines, one or more
+abbrev pub routines_rule : Rule
+routines_rule = record (new_rule (codes "ROUTINE")) { required = true; action = Some Append; range = Some (record { start_inclusive = 1; end_inclusive = usize_max }) }
+
+-- `check RULES CERT ROUTINE..`
+abbrev pub check_app : App
+check_app = with_rule (with_rule (with_rule (new_app (codes "check")) (path_rule (codes "RULES"))) (path_rule (codes "CERT"))) routines_rule
+
+-- `mlock` and one of its commands
+abbrev pub mlock_app : App
+mlock_app = with_subcommand (on_top (λ s. record s { subcommand_required = true }) (new_app (codes "mlock"))) check_app.top
+
+-- the request has the paths that a command was given
+pub record IsGiven (rows : List Row) (request : Request) : Type 0 where
+  pub rules : first_of (codes "RULES") rows ≡ Some request.rules.now
+  pub certificate : first_of (codes "CERT") rows ≡ Some request.certificate.now
+  pub routines : all_of (codes "ROUTINE") rows ≡ Some (bytes_of request.routines.items)
+
+-- what a command's own matches give: nothing where no request has these paths
+abbrev pub GivesPaths : List Row → Option Request → Type 0
+GivesPaths rows None = (request : Request) → IsGiven rows request → ⊥
+GivesPaths rows (Some request) = IsGiven rows request
+
+-- the command that was met was given the paths of the request
+abbrev pub IsMet : Option (Text × List Row) → Request → Type 0
+IsMet met request = (name : Text) × (rows : List Row) × (met ≡ Some (name, rows)) × IsGiven rows request
+
+-- what the command that was met gives: nothing where it was given those of no request
+abbrev pub GivesRequest : Option (Text × List Row) → Option Request → Type 0
+GivesRequest met None = (request : Request) → IsMet met request → ⊥
+GivesRequest met (Some request) = IsMet met request
+
+abbrev pub texts_of : {A : Type 0} → List (String A) → List Text
+texts_of words = map string_bytes words
+
+-- what the words ask for, if anything
+abbrev pub Asks : {A : Type 0} → List (String A) → Option Request → Type 0
+Asks words asked = GivesRequest (subcommand_of mlock_app (texts_of words)) asked
+
+-- The words name a command and give it the paths of the request, as `clap` reads them.
+abbrev pub IsRequest : {A : Type 0} → List (String A) → Request → Type 0
+IsRequest words request = IsMet (subcommand_of mlock_app (texts_of words)) request
+
+-- `clap` does not take the words, or they are those of no request.
+abbrev pub AsksNothing : {A : Type 0} → List (String A) → Type 0
+AsksNothing words = takes mlock_app (texts_of words) ≡ true → (request : Request) → IsRequest words request → ⊥
+
+-- Why there is no request. Want of memory says nothing.
+abbrev pub LacksRequest : {A : Type 0} → List (String A) → UsageError → Type 0
+LacksRequest words usage.OutOfMemory = Unit {0}
+LacksRequest words (usage.Usage text) = AsksNothing words

@@ -1,0 +1,88 @@
+-- The lines that the program prints. This project's own choice.
+use Rattle.std.specs.Prelude.{ℕ, ◌-◌, List, [], ◌∷◌, ◌++◌, Option, Some, None, codes, slice_get, length}
+use Rattle.std.specs.Fmt.{decimal}
+use Rattle.mlk_text.specs.declared.code.Code.{Code}
+use Rattle.mlk_text.specs.declared.code.Code.TheVariants.{EntryMissing}
+use Rattle.mlk_text.specs.declared.fault.Fault.{Fault}
+use Rattle.mlk_text.specs.declared.fault.LeftOut.{LeftOut}
+use Rattle.mlk_text.specs.Codes.{number_of, word_of}
+use Rattle.mlk_text.specs.Words.{left_out_word}
+use Rattle.mlk_machine.specs.declared.plain.tree.Line.{Line}
+use Rattle.mlk_machine.specs.declared.plain.tree.Routine.{Routine}
+use Rattle.mlk_walk.specs.declared.report.Row.{Row}
+use Rattle.mlk_rules.specs.declared.read.fault.RulesFault.{RulesFault}
+use Rattle.mlk_command.specs.declared.certificate.read.CertificateFault.{CertificateFault}
+use Rattle.mlk_rules.specs.RuleAnswers.{section_word}
+use Rattle.mlk_walk.specs.declared.verdict.WalkFault.{WalkFault}
+
+abbrev pub space : List ℕ
+space = 32 ∷ []
+
+abbrev pub line_end : List ℕ
+line_end = 10 ∷ []
+
+-- `CODE NAME`
+abbrev pub code_text : Code → List ℕ
+code_text code = decimal (number_of code) ++ space ++ word_of code
+
+-- `line:column`
+abbrev pub place_text : ℕ → ℕ → List ℕ
+place_text line column = decimal line ++ codes ":" ++ decimal column
+
+-- the word after a code that leaves something out
+abbrev pub left_out_text : Option LeftOut → List ℕ
+left_out_text None = []
+left_out_text (Some what) = space ++ left_out_word what
+
+-- `refused ROUTINE line:column CODE NAME`, with the word of what is left out
+abbrev pub fault_line : Fault → List ℕ
+fault_line f =
+    codes "refused " ++ f.place.routine ++ space ++ place_text f.place.line f.place.column ++ space ++ code_text f.code ++ left_out_text f.left_out ++ line_end
+
+-- `refused entry TEXT 901 EntryMissing`
+abbrev pub missing_line : List ℕ → List ℕ
+missing_line text = codes "refused entry " ++ text ++ space ++ code_text EntryMissing ++ line_end
+
+-- `refused rules SECTION INDEX CODE NAME`
+abbrev pub rules_line : RulesFault → List ℕ
+rules_line f = codes "refused rules " ++ section_word f.section ++ space ++ decimal f.index ++ space ++ code_text f.code ++ line_end
+
+-- `refused cert LINE CODE NAME`
+abbrev pub certificate_line : CertificateFault → List ℕ
+certificate_line f = codes "refused cert " ++ decimal f.line ++ space ++ code_text f.code ++ line_end
+
+-- `error file PATH`
+abbrev pub file_line : List ℕ → List ℕ
+file_line path = codes "error file " ++ path ++ line_end
+
+-- an entry: `LABEL^ROUTINE`, or `^ROUTINE` where its line has no label
+abbrev pub label_text : Option Line → List ℕ
+label_text None = []
+label_text (Some l) = by (l.label)
+  where
+    by : Option (List ℕ) → List ℕ
+    by None = []
+    by (Some label) = label
+
+abbrev pub entry_text : Option Routine → ℕ → List ℕ
+entry_text None n = codes "^"
+entry_text (Some x) n = label_text (slice_get x.lines (n - 1)) ++ codes "^" ++ x.name
+
+-- `LABEL^ROUTINE line:column CODE NAME`
+abbrev pub fault_text : WalkFault → List ℕ
+fault_text f = space ++ place_text f.line f.column ++ space ++ code_text f.code ++ line_end
+
+abbrev pub row_line : List Routine → Row → List ℕ
+row_line routines r = entry_text (slice_get routines r.entry.routine) r.entry.line ++ fault_text r.fault
+
+abbrev pub row_lines : List Routine → List Row → List ℕ
+row_lines routines [] = []
+row_lines routines (r ∷ rows) = row_line routines r ++ row_lines routines rows
+
+-- the last line: `yes`, or `no N` with the number of rows
+abbrev pub last_line : List Row → List ℕ
+last_line [] = codes "yes" ++ line_end
+last_line (r ∷ rows) = codes "no " ++ decimal (length (r ∷ rows)) ++ line_end
+
+abbrev pub report_text : List Routine → List Row → List ℕ
+report_text routines rows = row_lines routines rows ++ last_line rows

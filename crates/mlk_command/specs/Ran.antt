@@ -1,0 +1,106 @@
+-- What the program says: what it prints on standard output, what it tells on the error stream, and the status that
+-- it ends with. This project's own choice.
+use Rattle.std.specs.Prelude.{◌≡◌, ◌⊎◌, ℕ, List, [], ◌∷◌, Option, String}
+use Rattle.std.specs.Io.KnownBytes.{Keeps, Appends}
+use Rattle.mlk_walk.specs.declared.report.Row.{Row}
+use Rattle.mlk_command.specs.declared.source.Sources.{Sources}
+use Rattle.mlk_command.specs.declared.words.Request.{Request}
+use Rattle.mlk_command.specs.declared.checked.Checked.{Checked}
+use Rattle.mlk_command.specs.declared.checked.Refusal.{Refusal}
+use Rattle.mlk_command.specs.declared.checked.Refusal.TheVariants as refusal
+use Rattle.mlk_command.specs.declared.program.Answer.{Answer}
+use Rattle.mlk_command.specs.declared.program.Answer.TheVariants as answer
+use Rattle.mlk_command.specs.Printed.{report_text, fault_line, rules_line, certificate_line, missing_line, file_line}
+use Rattle.mlk_command.specs.Files.{Texts, AreTexts, IsFirstLost, paths_of}
+use Rattle.mlk_command.specs.CommandLine.{IsRequest, AsksNothing}
+use Rattle.mlk_command.specs.Checked.{IsChecked, IsRefusedBy}
+
+-- 0 for `yes`, 1 for `no`
+abbrev pub status_of : List Row → ℕ
+status_of [] = 0
+status_of (r ∷ rows) = 1
+
+-- the line of a refusal
+abbrev pub IsRefusalLine : Refusal → List ℕ → Type 0
+IsRefusalLine refusal.OutOfMemory line = ⊥
+IsRefusalLine (refusal.Routine fault) line = line ≡ fault_line fault
+IsRefusalLine (refusal.Rules fault) line = line ≡ rules_line fault
+IsRefusalLine (refusal.Certificate fault) line = line ≡ certificate_line fault
+IsRefusalLine (refusal.Entry entry) line = line ≡ missing_line entry
+
+-- the text and the status of a report, where memory doesn't run out
+abbrev pub PrintsReport : Checked → Answer → Type 0
+PrintsReport checked (answer.Report text status) = (text ≡ report_text checked.plain checked.report) × (status ≡ status_of checked.report)
+PrintsReport checked (answer.Refused line) = ⊥
+PrintsReport checked (answer.Unread line) = ⊥
+PrintsReport checked (answer.Usage text) = ⊥
+PrintsReport checked answer.OutOfMemory = Unit {0}
+
+-- the line of a refusal, where memory doesn't run out
+abbrev pub TellsRefusal : Refusal → Answer → Type 0
+TellsRefusal r (answer.Report text status) = ⊥
+TellsRefusal r (answer.Refused line) = IsRefusalLine r line
+TellsRefusal r (answer.Unread line) = ⊥
+TellsRefusal r (answer.Usage text) = ⊥
+TellsRefusal r answer.OutOfMemory = Unit {0}
+
+-- the line of a path that can't be read, where memory doesn't run out
+abbrev pub TellsUnread : List ℕ → Answer → Type 0
+TellsUnread path (answer.Report text status) = ⊥
+TellsUnread path (answer.Refused line) = ⊥
+TellsUnread path (answer.Unread line) = line ≡ file_line path
+TellsUnread path (answer.Usage text) = ⊥
+TellsUnread path answer.OutOfMemory = Unit {0}
+
+-- the report of the texts at the paths
+pub record IsReported (holds : Texts) (request : Request) (text : List ℕ) (status : ℕ) : Type 0 where
+  pub sources : Sources
+  pub texts : AreTexts holds request sources
+  pub checked : Checked
+  pub answered : IsChecked sources checked
+  pub printed : text ≡ report_text checked.plain checked.report
+  pub ended : status ≡ status_of checked.report
+
+-- the refusal of the texts at the paths
+pub record IsRefusedThere (holds : Texts) (request : Request) (line : List ℕ) : Type 0 where
+  pub sources : Sources
+  pub texts : AreTexts holds request sources
+  pub refusal : Refusal
+  pub refused : IsRefusedBy sources refusal
+  pub told : IsRefusalLine refusal line
+
+-- the first path that can't be read
+pub record IsUnread (holds : Texts) (lacks : List ℕ → Type 0) (request : Request) (line : List ℕ) : Type 0 where
+  pub path : List ℕ
+  pub lost : IsFirstLost holds lacks (paths_of request) path
+  pub told : line ≡ file_line path
+
+-- What the program answers to a request. Want of memory says nothing.
+abbrev pub Answers : Texts → (List ℕ → Type 0) → Request → Answer → Type 0
+Answers holds lacks request (answer.Report text status) = IsReported holds request text status
+Answers holds lacks request (answer.Refused line) = IsRefusedThere holds request line
+Answers holds lacks request (answer.Unread line) = IsUnread holds lacks request line
+Answers holds lacks request (answer.Usage text) = ⊥
+Answers holds lacks request answer.OutOfMemory = Unit {0}
+
+-- how it is said: 3 where standard output takes no more
+abbrev pub IsSaid : Answer → Option (List ℕ) → Option (List ℕ) → ℕ → Type 0
+IsSaid (answer.Report text ended) old new status = (status ≡ 3) ⊎ ((status ≡ ended) × Appends old new text)
+IsSaid (answer.Refused line) old new status = (status ≡ 2) × Keeps old new
+IsSaid (answer.Unread line) old new status = (status ≡ 3) × Keeps old new
+IsSaid (answer.Usage text) old new status = (status ≡ 2) × Keeps old new
+IsSaid answer.OutOfMemory old new status = (status ≡ 3) × Keeps old new
+
+-- What the program answers to its words: the answer to their request, or that they ask for nothing.
+abbrev pub AnswersWords : {A : Type 0} → Texts → (List ℕ → Type 0) → List (String A) → Answer → Type 0
+AnswersWords holds lacks words (answer.Report text status) = (request : Request) × IsRequest words request × IsReported holds request text status
+AnswersWords holds lacks words (answer.Refused line) = (request : Request) × IsRequest words request × IsRefusedThere holds request line
+AnswersWords holds lacks words (answer.Unread line) = (request : Request) × IsRequest words request × IsUnread holds lacks request line
+AnswersWords holds lacks words (answer.Usage text) = AsksNothing words
+AnswersWords holds lacks words answer.OutOfMemory = Unit {0}
+
+-- What is answered is said.
+pub record Ran {A : Type 0} (holds : Texts) (lacks : List ℕ → Type 0) (words : List (String A)) (old new : Option (List ℕ)) (status : ℕ) : Type 0 where
+  pub answer : Answer
+  pub answered : AnswersWords holds lacks words answer
+  pub said : IsSaid answer old new status

@@ -1,0 +1,188 @@
+// The program, from its words to its status.
+
+ghost use Rattle.std.specs.Prelude.{◌≡◌, ◌⊎◌, IfOk, OnOk};
+ghost use Rattle.std.specs.Io.KnownBytes.{Appends};
+ghost use Rattle.mlk_command.specs.Ran.{status_of, PrintsReport, IsRefusalLine, TellsRefusal, TellsUnread, Answers, AnswersWords, IsSaid, Ran};
+
+use crate::checked::{Checked, Refusal, check_texts};
+use crate::printed::{
+    certificate_line, fault_line, file_line, missing_line, report_text, rules_line,
+};
+use crate::source::{FileError, Files, read_files};
+use crate::text::Text;
+use crate::words::{Request, UsageError, read_request};
+use mlk_walk::Report;
+use std::alloc::{AllocError, Global};
+use std::io;
+use std::io::Write;
+
+const YES: u8 = 0;
+
+const NO: u8 = 1;
+
+const REFUSED: u8 = 2;
+
+const FAILED: u8 = 3;
+
+// What the program says, before it is said.
+#[derive(Drop, Debug)]
+enum Answer {
+    /// The text of a report, and the status that it ends with.
+    Report(Text, u8),
+    /// The line that tells why the input is refused.
+    Refused(Text),
+    /// The line that tells which file can't be read.
+    Unread(Text),
+    /// `clap`'s text, where the words ask for nothing.
+    Usage(String),
+    OutOfMemory,
+}
+
+fn status_of(report: &Report) -> u8
+    ensures { result ≡ status_of report.now }
+{
+    if report.is_yes() { YES } else { NO }
+}
+
+fn report_answer(alloc: Global, checked: &Checked) -> Answer
+    ensures { PrintsReport checked.now result }
+{
+    match report_text(alloc, &checked.plain, &checked.report) {
+        Ok(text) => Answer::Report(text, status_of(&checked.report)),
+        Err(AllocError) => Answer::OutOfMemory,
+    }
+}
+
+fn refusal_line(alloc: Global, refusal: &Refusal) -> Result<Text, AllocError>
+    ensures { IfOk result (IsRefusalLine refusal.now) }
+{
+    match refusal {
+        Refusal::OutOfMemory => Err(AllocError),
+        Refusal::Routine(fault) => fault_line(alloc, fault),
+        Refusal::Rules(fault) => rules_line(alloc, fault),
+        Refusal::Certificate(fault) => certificate_line(alloc, fault),
+        Refusal::Entry(entry) => missing_line(alloc, entry),
+    }
+}
+
+fn refusal_answer(alloc: Global, refusal: &Refusal) -> Answer
+    ensures { TellsRefusal refusal.now result }
+{
+    match refusal_line(alloc, refusal) {
+        Ok(line) => Answer::Refused(line),
+        Err(AllocError) => Answer::OutOfMemory,
+    }
+}
+
+fn unread_answer(alloc: Global, path: &str) -> Answer
+    ensures { TellsUnread path.now result }
+{
+    match file_line(alloc, path) {
+        Ok(line) => Answer::Unread(line),
+        Err(AllocError) => Answer::OutOfMemory,
+    }
+}
+
+// What is answered to a request, from the texts of the files.
+fn answer_request<F: Files>(alloc: Global, request: &Request<'_>, files: &F) -> Answer
+    ensures { Answers (F.holds files.now) (F.lacks files.now) request.now result }
+{
+    match read_files(alloc, files, request) {
+        Ok(sources) => match check_texts(alloc, &sources) {
+            Ok(checked) => report_answer(alloc, &checked),
+            Err(refusal) => refusal_answer(alloc, &refusal),
+        },
+        Err(FileError::OutOfMemory) => Answer::OutOfMemory,
+        Err(FileError::Unread(path)) => unread_answer(alloc, path),
+    }
+}
+
+fn answer_words<F: Files>(alloc: Global, words: &[String], files: &F) -> Answer
+    ensures { AnswersWords (F.holds files.now) (F.lacks files.now) words.now result }
+{
+    match read_request(alloc, words) {
+        Ok(request) => answer_request(alloc, &request, files),
+        Err(UsageError::OutOfMemory) => Answer::OutOfMemory,
+        Err(UsageError::Usage(text)) => Answer::Usage(text),
+    }
+}
+
+// Says one thing on the error stream, whose faults change nothing.
+fn tell<E: Write>(err: &mut E, line: &[u8]) {
+    let _ = err.write_all(line);
+    let _ = err.flush();
+}
+
+fn write<O: Write>(out: &mut O, text: &Text) -> io::Result<()>
+    ensures { OnOk result (Appends (O.contents out.old) (O.contents out.new) text.now) }
+{
+    out.write_all(text.as_bytes())?;
+    out.flush()
+}
+
+fn print<O: Write, E: Write>(out: &mut O, err: &mut E, text: &Text, status: u8) -> u8
+    ensures { (result ≡ 3) ⊎ ((result ≡ status) × Appends (O.contents out.old) (O.contents out.new) text.now) }
+{
+    match write(out, text) {
+        Ok(()) => status,
+        Err(_) => {
+            tell(err, b"error file -\n");
+            FAILED
+        }
+    }
+}
+
+fn tell_memory<E: Write>(err: &mut E) -> u8
+    ensures { result ≡ 3 }
+{
+    tell(err, b"error memory\n");
+    FAILED
+}
+
+// Says an answer, and answers the status.
+fn say<O: Write, E: Write>(answer: &Answer, out: &mut O, err: &mut E) -> u8
+    ensures { IsSaid answer.now (O.contents out.old) (O.contents out.new) result }
+{
+    match answer {
+        Answer::Report(text, status) => print(out, err, text, *status),
+        Answer::Refused(line) => {
+            tell(err, line.as_bytes());
+            REFUSED
+        }
+        Answer::Unread(line) => {
+            tell(err, line.as_bytes());
+            FAILED
+        }
+        Answer::Usage(text) => {
+            tell(err, text.as_bytes());
+            REFUSED
+        }
+        Answer::OutOfMemory => tell_memory(err),
+    }
+}
+
+/// Says that the words could not be had: want of memory, or a word that is no UTF-8.
+pub(crate) fn wrong_words<E: Write>(error: &io::Error, err: &mut E) -> u8 {
+    if error.kind() == io::ErrorKind::OutOfMemory {
+        return tell_memory(err);
+    }
+    tell(err, b"error: a word of the command line is no UTF-8 text\n");
+    REFUSED
+}
+
+/// Does what the words ask for, of which the first is the program's name, and answers the status: 0 for `yes`, 1 for
+/// `no`, 2 for refused input, 3 for want of memory or a file that can't be read or written.
+///
+/// Reports go to `out`, all else to `err`; a fault of `err` changes nothing.
+pub fn run<F: Files, O: Write, E: Write>(
+    alloc: Global,
+    words: &[String],
+    files: &F,
+    out: &mut O,
+    err: &mut E,
+) -> u8
+    ensures { Ran (F.holds files.now) (F.lacks files.now) words.now (O.contents out.old) (O.contents out.new) result }
+{
+    let answer = answer_words(alloc, words, files);
+    say(&answer, out, err)
+}

@@ -1,0 +1,141 @@
+// The files that a command names.
+
+ghost use Rattle.std.specs.Prelude.{◌≡◌, ◌≢◌, List, ℕ, IfOk, IfErr, length};
+ghost use Rattle.std.specs.IoError.{error_kind};
+ghost use Rattle.mlk_command.specs.Files.{IsFileName, IsNameStem, IsPathStem, IsSource, AreSources, AreTexts, bytes_of, paths_of, Loses, LosesFirst};
+
+use crate::words::Request;
+use std::alloc::Global;
+use std::io::{self, ErrorKind};
+
+/// Where the texts of files come from.
+pub trait Files {
+    // Which text a path may have, as far as is known.
+    ghost holds: { Self → List ℕ → List ℕ → Type 0 } = { λ _ _ _. Unit {0} };
+
+    // Which paths may have none that can be read.
+    ghost lacks: { Self → List ℕ → Type 0 } = { λ _ _. Unit {0} };
+
+    /// The bytes of the file at a path. An error of the kind `OutOfMemory` says nothing of the file.
+    fn read(&self, alloc: Global, path: &str) -> io::Result<Vec<u8>>
+        ensures ok { IfOk result (λ text. holds self.now path.now text.items) }
+        ensures err { IfErr result (λ e. error_kind e ≢ ErrorKind.OutOfMemory → lacks self.now path.now) };
+}
+
+/// Why a file was not read.
+#[derive(Drop, Debug)]
+pub(crate) enum FileError<'a> {
+    OutOfMemory,
+    /// The path of the file.
+    Unread(&'a str),
+}
+
+/// A routine's file: the stem of its name, and its bytes.
+#[derive(Drop, Debug)]
+pub(crate) struct Source<'a> {
+    pub stem: &'a [u8],
+    pub text: Vec<u8>,
+}
+
+/// The texts that a check reads.
+#[derive(Drop, Debug)]
+pub(crate) struct Sources<'a> {
+    pub rules: Vec<u8>,
+    pub certificate: Vec<u8>,
+    pub routines: Vec<Source<'a>>,
+}
+
+fn file_name(path: &str) -> &str
+    ensures { IsFileName path.now result.now }
+{
+    match path.rsplit_once('/') {
+        None => path,
+        Some((_, name)) => name,
+    }
+}
+
+fn name_stem(name: &str) -> &str
+    ensures { IsNameStem name.now result.now }
+{
+    match name.rsplit_once('.') {
+        None => name,
+        Some((stem, _)) => stem,
+    }
+}
+
+// The last part of a path, up to its last dot; all of it where it has none.
+fn stem_of(path: &str) -> &str
+    ensures { IsPathStem path.now result.now }
+{
+    name_stem(file_name(path))
+}
+
+fn read_file<'a, F: Files>(
+    alloc: Global,
+    files: &F,
+    path: &'a str,
+) -> Result<Vec<u8>, FileError<'a>>
+    ensures ok { IfOk result (λ text. F.holds files.now path.now text.items) }
+    ensures lost { IfErr result (Loses (F.lacks files.now) path.now) }
+{
+    match files.read(alloc, path) {
+        Ok(text) => Ok(text),
+        Err(error) => {
+            if error.kind() == ErrorKind::OutOfMemory {
+                Err(FileError::OutOfMemory)
+            } else {
+                Err(FileError::Unread(path))
+            }
+        }
+    }
+}
+
+fn read_source<'a, F: Files>(
+    alloc: Global,
+    files: &F,
+    path: &'a str,
+) -> Result<Source<'a>, FileError<'a>>
+    ensures ok { IfOk result (IsSource (F.holds files.now) path.now) }
+    ensures lost { IfErr result (Loses (F.lacks files.now) path.now) }
+{
+    let text = read_file(alloc, files, path)?;
+    let stem = stem_of(path).as_bytes();
+    Ok(Source { stem, text })
+}
+
+fn read_sources<'a, F: Files>(
+    alloc: Global,
+    files: &F,
+    paths: &[&'a str],
+) -> Result<Vec<Source<'a>>, FileError<'a>>
+    ensures ok { IfOk result (λ sources. AreSources (F.holds files.now) paths.now sources.items) }
+    ensures lost { IfErr result (LosesFirst (F.holds files.now) (F.lacks files.now) (bytes_of paths.now)) }
+{
+    let mut sources = Vec::new(alloc);
+    for path in paths {
+        let source = read_source(alloc, files, *path)?;
+        if sources.push(source).is_err() {
+            return Err(FileError::OutOfMemory);
+        }
+    }
+    Ok(sources)
+}
+
+/// Reads all files, in the order of the words.
+pub(crate) fn read_files<'a, F: Files>(
+    alloc: Global,
+    files: &F,
+    request: &Request<'a>,
+) -> Result<Sources<'a>, FileError<'a>>
+    ensures ok { IfOk result (AreTexts (F.holds files.now) request.now) }
+    ensures lost { IfErr result (LosesFirst (F.holds files.now) (F.lacks files.now) (paths_of request.now)) }
+{
+    let rules = read_file(alloc, files, request.rules)?;
+    let certificate = read_file(alloc, files, request.certificate)?;
+    let routines = read_sources(alloc, files, request.routines.as_slice())?;
+    Ok(Sources {
+        rules,
+        certificate,
+        routines,
+    })
+}

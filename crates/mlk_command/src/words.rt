@@ -1,0 +1,149 @@
+// The command line, as `clap` reads it.
+
+ghost use Rattle.std.specs.Prelude.{◌≡◌, IfOk, IfErr, true, false};
+ghost use Rattle.clap.specs.Words.{app_of, rule_of, found_of, rows_of, kind_of};
+ghost use Rattle.clap.specs.Takes.{takes};
+ghost use Rattle.clap.specs.declared.error.kind.ErrorKind.TheVariants.{OutOfMemory};
+ghost use Rattle.clap.specs.Simple.{subcommand_rows_of};
+ghost use Rattle.mlk_command.specs.CommandLine.{path_rule, routines_rule, check_app, mlock_app, GivesPaths, GivesRequest, texts_of, Asks, IsRequest, LacksRequest};
+
+use clap::error::ErrorKind;
+use clap::{Arg, ArgAction, ArgMatches, Command, Error};
+use std::alloc::{AllocError, Global};
+
+/// What `mlock check` is asked for.
+#[derive(Drop, Debug)]
+pub(crate) struct Request<'a> {
+    pub rules: &'a str,
+    pub certificate: &'a str,
+    pub routines: Vec<&'a str>,
+}
+
+/// Why the words ask for nothing.
+#[derive(Drop, Debug)]
+pub(crate) enum UsageError {
+    OutOfMemory,
+    /// `clap`'s text, help that was asked for too.
+    Usage(String),
+}
+
+const RULES_HELP: &str = "The rule file: which lock covers which global (TOML)";
+
+const CERT_HELP: &str = "The certificate: for each line, the locks that are held there";
+
+const ROUTINE_HELP: &str =
+    "Routine texts, one routine a file; the file's name up to its last dot is the routine's";
+
+const CHECK_HELP: &str = "Checks routines against a rule file and a certificate";
+
+const CHECK_MORE: &str = "Checks routines against a rule file and a certificate.
+
+Prints `yes` where every run of the declared entries, by any number of jobs, keeps the rules; else a line for each
+fault, as `LABEL^ROUTINE line:column CODE NAME`, and `no N`.
+
+Status: 0 yes, 1 no, 2 refused input, 3 want of memory or a file that can't be read or written.";
+
+const ABOUT: &str = "Checks that M routines touch shared data only under their locks";
+
+fn path<'a>(alloc: Global, id: &'a str, help: &'a str) -> Arg<'a>
+    ensures rule { rule_of result ≡ path_rule id.entry.now }
+    ensures local { result.global ≡ false }
+{
+    Arg::new(alloc, id)
+        .required(true)
+        .action(ArgAction::Set)
+        .help(help)
+}
+
+fn routines<'a>(alloc: Global) -> Arg<'a>
+    ensures rule { rule_of result ≡ routines_rule }
+    ensures local { result.global ≡ false }
+{
+    path(alloc, "ROUTINE", ROUTINE_HELP)
+        .action(ArgAction::Append)
+        .num_args(1..)
+}
+
+fn check_command<'a>(alloc: Global) -> Result<Command<'a>, AllocError>
+    ensures { IfOk result (λ c. app_of c ≡ check_app) }
+{
+    Command::new(alloc, "check")
+        .about(CHECK_HELP)
+        .long_about(CHECK_MORE)
+        .arg(path(alloc, "RULES", RULES_HELP))?
+        .arg(path(alloc, "CERT", CERT_HELP))?
+        .arg(routines(alloc))
+}
+
+fn grammar<'a>(alloc: Global) -> Result<Command<'a>, AllocError>
+    ensures { IfOk result (λ c. app_of c ≡ mlock_app) }
+{
+    Command::new(alloc, "mlock")
+        .about(ABOUT)
+        .subcommand_required(true)
+        .subcommand(check_command(alloc)?)
+}
+
+// The paths that a command was given.
+fn paths_of<'a>(alloc: Global, matches: &ArgMatches<'a>) -> Result<Option<Request<'a>>, AllocError>
+    ensures { IfOk result (GivesPaths (rows_of (found_of matches.now))) }
+{
+    let Some(rules) = matches.get_str("RULES") else {
+        return Ok(None);
+    };
+    let Some(certificate) = matches.get_str("CERT") else {
+        return Ok(None);
+    };
+    let Some(paths) = matches.get_strs("ROUTINE") else {
+        return Ok(None);
+    };
+    let routines = Vec::from_slice(alloc, paths)?;
+    Ok(Some(Request {
+        rules,
+        certificate,
+        routines,
+    }))
+}
+
+fn request_of<'a>(
+    alloc: Global,
+    matches: &ArgMatches<'a>,
+) -> Result<Option<Request<'a>>, AllocError>
+    ensures { IfOk result (GivesRequest (subcommand_rows_of matches.now)) }
+{
+    match matches.subcommand() {
+        None => Ok(None),
+        Some((_, inner)) => paths_of(alloc, inner),
+    }
+}
+
+fn read_words<'a>(alloc: Global, words: &'a [String]) -> Result<Option<Request<'a>>, Error>
+    ensures asks { IfOk result (Asks words.now) }
+    ensures passes { IfErr result (λ e. takes mlock_app (texts_of words.now) ≡ true → kind_of e ≡ OutOfMemory) }
+{
+    let matches = grammar(alloc)?.try_get_matches_from(words)?;
+    Ok(request_of(alloc, &matches)?)
+}
+
+/// What the words ask for, of which the first is the program's name.
+pub(crate) fn read_request<'a>(
+    alloc: Global,
+    words: &'a [String],
+) -> Result<Request<'a>, UsageError>
+    ensures asks { IfOk result (IsRequest words.now) }
+    ensures refused { IfErr result (LacksRequest words.now) }
+{
+    match read_words(alloc, words) {
+        Ok(Some(request)) => Ok(request),
+        Ok(None) => Err(UsageError::Usage(String::new(alloc))),
+        Err(error) => {
+            if error.kind() == ErrorKind::OutOfMemory {
+                return Err(UsageError::OutOfMemory);
+            }
+            match error.to_string(alloc) {
+                Ok(text) => Err(UsageError::Usage(text)),
+                Err(AllocError) => Err(UsageError::OutOfMemory),
+            }
+        }
+    }
+}
