@@ -8,7 +8,7 @@ use Rattle.mlk_command.specs.Twice.{FirstTwice}
 use Rattle.mlk_command.specs.RoutineRefusals.{Places}
 use Rattle.mlk_command.specs.RoutineOutcomes.{RefusesAs}
 use Rattle.mlk_rules.specs.RuleSections.{SaysRules, RefusesRules}
-use Rattle.mlk_command.specs.CertificateTheorem.{FirstFault}
+use Rattle.mlk_command.specs.CertificateTheorem.{NoCertificate, FirstFault}
 use Rattle.mlk_command.specs.declared.certificate.read.CertificateError.{CertificateError}
 use Rattle.mlk_command.specs.declared.certificate.read.CertificateError.TheVariants as certificate_error
 use Rattle.mlk_command.specs.declared.routine.refusal.RoutineError.{RoutineError}
@@ -69,7 +69,7 @@ pub by-rules : (sources : Sources) (trees : List Routine) (e : RulesError) → I
 by-rules sources trees rules_error.OutOfMemory program refused = record {}
 by-rules sources trees (rules_error.Refused fault) program refused = (trees, program, refused)
 
-pub by-certificate : (sources : Sources) (trees : List Routine) (rules : RuleLists) (e : CertificateError) → IsProgram sources trees → SaysRules sources.rules.items rules → FirstFault sources.certificate.items e
-    → IsRefusedBy sources (refusal_of_certificate e)
-by-certificate sources trees rules certificate_error.OutOfMemory program said refused = record {}
-by-certificate sources trees rules (certificate_error.Refused fault) program said refused = (trees, rules, program, said, refused)
+pub by-certificate : (sources : Sources) (trees : List Routine) (rules : RuleLists) (e : CertificateError) → IsProgram sources trees → SaysRules sources.rules.items rules
+    → NoCertificate sources.certificate.items e → FirstFault sources.certificate.items e → IsRefusedBy sources (refusal_of_certificate e)
+by-certificate sources trees rules certificate_error.OutOfMemory program said none refused = record {}
+by-certificate sources trees rules (certificate_error.Refused fault) program said none refused = (trees, rules, program, said, none, refused)

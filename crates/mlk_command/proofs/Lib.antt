@@ -19,3 +19,4 @@ pub mod CertificateEntries
 pub mod CertificateBlocks
 pub mod CertificatePartsBack
 pub mod CertificateBack
+pub mod FileLemmas

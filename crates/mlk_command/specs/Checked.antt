@@ -11,7 +11,7 @@ use Rattle.mlk_command.specs.Twice.{FirstTwice, NamesDiffer}
 use Rattle.mlk_command.specs.RoutineGrammar.{IsRoutine}
 use Rattle.mlk_command.specs.RoutineRefusals.{fault_at, IsRefusal}
 use Rattle.mlk_command.specs.CertificateSpelling.{Spells}
-use Rattle.mlk_command.specs.CertificateTheorem.{FirstFault}
+use Rattle.mlk_command.specs.CertificateTheorem.{NoCertificate, FirstFault}
 use Rattle.mlk_rules.specs.RuleSections.{SaysRules, RefusesRules}
 use Rattle.mlk_command.specs.declared.certificate.read.CertificateError.{CertificateError}
 use Rattle.mlk_command.specs.declared.certificate.read.CertificateError.TheVariants as certificate_error
@@ -82,7 +82,8 @@ IsRefusedBy sources refusal.OutOfMemory = Unit {0}
 IsRefusedBy sources (refusal.Routine fault) = IsFirstRefused sources.routines.items fault ⊎ ((trees : List Routine) × AreRead sources.routines.items trees × IsTwice trees fault)
 IsRefusedBy sources (refusal.Rules fault) = (trees : List Routine) × IsProgram sources trees × RefusesRules sources.rules.items (rules_error.Refused fault)
 IsRefusedBy sources (refusal.Certificate fault) = (trees : List Routine) × (rules : RuleLists)
-    × IsProgram sources trees × SaysRules sources.rules.items rules × FirstFault sources.certificate.items (certificate_error.Refused fault)
+    × IsProgram sources trees × SaysRules sources.rules.items rules
+    × NoCertificate sources.certificate.items (certificate_error.Refused fault) × FirstFault sources.certificate.items (certificate_error.Refused fault)
 IsRefusedBy sources (refusal.Entry entry) = (trees : List Routine) × (rules : RuleLists) × (certificate : Certificate)
     × AreSpelled sources trees rules certificate × (missing trees rules certificate ≡ Some entry)
 

@@ -24,7 +24,7 @@ check_app = with_rule (with_rule (with_rule (new_app (codes "check")) (path_rule
 
 -- `mlock` and one of its commands
 abbrev pub mlock_app : App
-mlock_app = with_subcommand (on_top (λ s. record s { subcommand_required = true }) (new_app (codes "mlock"))) check_app.top
+mlock_app = with_subcommand (on_top (λ s. record s { subcommand_required = true; has_version = true }) (new_app (codes "mlock"))) check_app.top
 
 -- the request has the paths that a command was given
 pub record IsGiven (rows : List Row) (request : Request) : Type 0 where

@@ -9,6 +9,3 @@ mod read;
 mod term;
 
 pub use read::{CertificateError, CertificateFault, read_certificate};
-
-#[cfg(test)]
-mod tests;

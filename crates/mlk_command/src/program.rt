@@ -1,6 +1,7 @@
 // The program, from its words to its status.
 
-ghost use Rattle.std.specs.Prelude.{◌≡◌, ◌⊎◌, IfOk, OnOk};
+ghost use Rattle.std.specs.Prelude.{◌≡◌, ◌≢◌, ◌⊎◌, IfOk, OnOk};
+ghost use Rattle.std.specs.IoError.{error_kind};
 ghost use Rattle.std.specs.Io.KnownBytes.{Appends};
 ghost use Rattle.mlk_command.specs.Ran.{status_of, PrintsReport, IsRefusalLine, TellsRefusal, TellsUnread, Answers, AnswersWords, IsSaid, Ran};
 
@@ -13,8 +14,7 @@ use crate::text::Text;
 use crate::words::{Request, UsageError, read_request};
 use mlk_walk::Report;
 use std::alloc::{AllocError, Global};
-use std::io;
-use std::io::Write;
+use std::io::{self, ErrorKind, Write};
 
 const YES: u8 = 0;
 
@@ -161,9 +161,12 @@ fn say<O: Write, E: Write>(answer: &Answer, out: &mut O, err: &mut E) -> u8
     }
 }
 
-/// Says that the words could not be had: want of memory, or a word that is no UTF-8.
-pub(crate) fn wrong_words<E: Write>(error: &io::Error, err: &mut E) -> u8 {
-    if error.kind() == io::ErrorKind::OutOfMemory {
+/// Says that the words could not be had, and answers the status: 3 for want of memory, 2 for a word that is no UTF-8.
+pub fn wrong_words<E: Write>(error: &io::Error, err: &mut E) -> u8
+    ensures memory { error_kind error.now ≡ ErrorKind.OutOfMemory → result ≡ 3 }
+    ensures word { error_kind error.now ≢ ErrorKind.OutOfMemory → result ≡ 2 }
+{
+    if error.kind() == ErrorKind::OutOfMemory {
         return tell_memory(err);
     }
     tell(err, b"error: a word of the command line is no UTF-8 text\n");

@@ -54,6 +54,3 @@ pub fn one_tree()
 pub fn one_refusal()
     ensures { OneRefusal }
 {}
-
-#[cfg(test)]
-mod tests;

@@ -43,6 +43,9 @@ fault, as `LABEL^ROUTINE line:column CODE NAME`, and `no N`.
 
 Status: 0 yes, 1 no, 2 refused input, 3 want of memory or a file that can't be read or written.";
 
+// The program's version, and the kit that it is proved with.
+const VERSION: &str = "0.1.0, proved with rattle-kit-13b logic dac8208d650f15bf";
+
 const ABOUT: &str = "Checks that M routines touch shared data only under their locks";
 
 fn path<'a>(alloc: Global, id: &'a str, help: &'a str) -> Arg<'a>
@@ -80,6 +83,7 @@ fn grammar<'a>(alloc: Global) -> Result<Command<'a>, AllocError>
 {
     Command::new(alloc, "mlock")
         .about(ABOUT)
+        .version(VERSION)
         .subcommand_required(true)
         .subcommand(check_command(alloc)?)
 }

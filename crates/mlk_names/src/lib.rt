@@ -10,8 +10,6 @@ mod overlap;
 mod reference;
 mod symbol;
 mod term;
-#[cfg(test)]
-mod tests;
 
 pub use actual::substitute;
 pub use known_symbol::KnownSym;

@@ -1,5 +1,5 @@
 -- The numbers of the codes, and the names that are printed behind them. This project's own choice.
-use Rattle.std.specs.Prelude.{ℕ, List, codes}
+use Rattle.std.specs.Prelude.{◌≡◌, ℕ, List, codes}
 use Rattle.mlk_text.specs.declared.code.Code.{Code}
 use Rattle.mlk_text.specs.declared.code.Code.TheVariants.{ExprForm, ExprLeftOut, ExprDeep, NameLong, Byte, LineForm, LabelTwice, LevelJump, UnknownCommand, CommandLeftOut, ArgumentForm, Spacing, BlockUnreached, TooLarge, RoutineName, RoutineTwice, UnknownLabel, Arity, TooMany, Toml, Key, Pattern, TemplateVariable, FamiliesMeet, RulesLimit, NotEnabled, BadChoice, UnknownJob, EventForm, Head, Form, Order, EntryTwice, CertLimit, NoEnd, Unruled, Uncovered, ReadOnly, NotPrivate, Pinned, NotHeld, Unranked, RankOrder, HeldAtEnd, CaseNotListed, NeedMissing, SummaryShort, NoCertificate, SharedName, UnknownSubscript, FallsIntoFormals, TooManyCases, NameEscapes, DropsFrame, GaveUp, EntryMissing, Workers, GateShut}
 
@@ -62,6 +62,10 @@ number_of GaveUp = 801
 number_of EntryMissing = 901
 number_of Workers = 902
 number_of GateShut = 903
+
+-- no number stands twice
+abbrev pub OneCode : Type 0
+OneCode = (a b : Code) → number_of a ≡ number_of b → a ≡ b
 
 abbrev pub word_of : Code → List ℕ
 word_of ExprForm = codes "ExprForm"

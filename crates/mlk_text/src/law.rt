@@ -1,6 +1,12 @@
-// What numbers and their texts keep to.
+// What codes, numbers and their texts keep to.
 
+ghost use Rattle.mlk_text.specs.Codes.{OneCode};
 ghost use Rattle.mlk_text.specs.NumberLaws.{OneText, OneCanonical, GivesCanonical, OneWhole, BothRead};
+
+/// No two codes have one number.
+pub fn one_code()
+    ensures { OneCode }
+{}
 
 /// A number is written in one way: it is one pair in lowest form, and a pair has one text.
 pub fn one_text()

@@ -13,8 +13,6 @@ pub mod literal;
 mod name;
 mod numeral;
 mod operator;
-#[cfg(test)]
-mod tests;
 mod value;
 
 pub use code::Code;
@@ -22,7 +20,7 @@ pub use copy::copy_of;
 pub use failure::Failure;
 pub use fault::{Fault, LeftOut, Place};
 pub use folding::{fold, fold_number, fold_unary, whole};
-pub use law::{both_read, literals_canonical, one_canonical, one_text, one_whole};
+pub use law::{both_read, literals_canonical, one_canonical, one_code, one_text, one_whole};
 pub use list::List;
 pub use name::Name;
 pub use numeral::canonical;

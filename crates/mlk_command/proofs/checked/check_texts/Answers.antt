@@ -1,7 +1,7 @@
 use Rattle.std.proofs.Common.{◌≡◌, ◌∙◌, Some, ap, rules, sym, subst}
 use Rattle.std.specs.Prelude.{option_map}
 use Rattle.mlk_command.specs.CertificateSpelling.{Spells}
-use Rattle.mlk_command.specs.CertificateTheorem.{FirstFault}
+use Rattle.mlk_command.specs.CertificateTheorem.{NoCertificate, FirstFault}
 use Rattle.mlk_rules.specs.RuleSections.{SaysRules, RefusesRules}
 use Rattle.mlk_command.specs.Checked.{AreRead, IsProgram}
 use Rattle.mlk_command.proofs.Checks.{by-rules, by-certificate}
@@ -24,7 +24,8 @@ returns-in_err-certificate-clause-refused c =
     let e = c.in_err-certificate.field-0.0 in
     let said = subst (λ bytes. SaysRules bytes c.in_ok-rules.rules) c.as_slice-2.ensures.value c.in_ok-rules.ensures.ok in
     let first = subst (λ bytes. FirstFault bytes e) c.as_slice-3.ensures.value c.in_err-certificate.ensures.place in
-    let refused = by-certificate sources trees c.in_ok-rules.rules e (read, c.in_ok-plain.ensures.ok.1) said first in
+    let none = subst (λ bytes. NoCertificate bytes e) c.as_slice-3.ensures.value c.in_err-certificate.ensures.refused in
+    let refused = by-certificate sources trees c.in_ok-rules.rules e (read, c.in_ok-plain.ensures.ok.1) said none first in
     grind rules
 
 pub returns-clause-ok : goal.returns-clause-ok

@@ -1,10 +1,11 @@
 // Rows on `run`: words and files, and what must be answered.
 
 mod faults;
+mod limits;
+mod reading;
 mod refusals;
 
-use crate::program::run;
-use crate::source::Files;
+use mlk_command::{Files, run};
 use std::alloc::{AllocError, Global};
 use std::io;
 use std::process::Abort;

@@ -1,8 +1,7 @@
 // Faults of the command line, of files, of streams and of memory.
 
 use super::{CERT, CHECK, Memory, RULES, TAKE, expect, texts};
-use crate::program::run;
-use crate::source::Files;
+use mlk_command::{Files, run};
 use std::alloc::Global;
 use std::io::{self, ErrorKind, Write};
 use std::test::Fail;
@@ -65,6 +64,21 @@ fn wrong_words(rt: HostRuntime) -> Result<(), Fail> {
     ] {
         expect(&rt, rt.alloc(), words, &files, 2, "", "any")?;
     }
+    Ok(())
+}
+
+#[test]
+fn version(rt: HostRuntime) -> Result<(), Fail> {
+    let alloc = rt.alloc();
+    let words = texts(alloc, &["mlock", "--version"])?;
+    let mut out: Vec<u8> = Vec::new(alloc);
+    let mut err: Vec<u8> = Vec::new(alloc);
+    let files = Memory { files: &[] };
+    assert_eq!(&rt; run(alloc, words.as_slice(), &files, &mut out, &mut err), 2);
+    assert!(&rt; out.is_empty());
+    let told = String::from_utf8_lossy(alloc, err.as_slice())?;
+    assert!(&rt; told.starts_with("mlock 0.1.0"), "{told}");
+    assert!(&rt; told.contains("rattle-kit-13b logic"), "{told}");
     Ok(())
 }
 

@@ -1,6 +1,6 @@
 // Rows on the public calls, with answers from outside the program.
 
-use crate::{
+use mlk_names::{
     Access, Extent, LockName, LockTerm, Reference, Root, Sym, conflict, may_overlap, mentions,
     prefix, substitute,
 };

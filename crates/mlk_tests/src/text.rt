@@ -1,4 +1,4 @@
-use crate::{Name, Op, UnaryOp, Value, canonical, fold, fold_number, fold_unary, whole};
+use mlk_text::{Name, Op, UnaryOp, Value, canonical, fold, fold_number, fold_unary, whole};
 use std::alloc::Global;
 use std::process::Abort;
 use std::test::Fail;

@@ -1,9 +1,9 @@
 // Routines that are read, and routines that are refused.
 
-use super::*;
-use mlk_machine::plain::Action;
+use mlk_command::{RoutineError, read_routine};
+use mlk_machine::plain::{Action, Routine};
 use mlk_text::Fault;
-use std::alloc::AllocError;
+use std::alloc::{AllocError, Global};
 use std::test::Fail;
 
 fn action_column(action: &Action) -> u32 {
