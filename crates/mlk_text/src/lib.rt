@@ -10,6 +10,7 @@ mod law;
 pub mod lexeme;
 mod list;
 pub mod literal;
+mod meaning;
 mod name;
 mod numeral;
 mod operator;
