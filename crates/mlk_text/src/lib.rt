@@ -14,6 +14,7 @@ mod meaning;
 mod name;
 mod numeral;
 mod operator;
+mod subscripts;
 #[cfg(test)]
 mod tests;
 mod value;
@@ -28,4 +29,5 @@ pub use list::List;
 pub use name::Name;
 pub use numeral::canonical;
 pub use operator::{Op, Relation, UnaryOp};
+pub use subscripts::Subscripts;
 pub use value::Value;
