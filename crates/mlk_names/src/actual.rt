@@ -7,7 +7,7 @@ ghost use Rattle.mlk_names.specs.Actuals.{passed, put_in, Puts, PutsIn, NamesAli
 use crate::known_symbol::KnownSym;
 use crate::symbol::Sym;
 use crate::term::LockTerm;
-use mlk_text::{List, Name, copy_of};
+use mlk_text::{Name, Subscripts, copy_of};
 use std::alloc::{AllocError, Global};
 
 // What was passed at a place, where it is known.
@@ -48,17 +48,17 @@ fn put_in_all(
     symbols: &[KnownSym],
     formals: &[Name],
     actuals: &[Option<Sym>],
-) -> Result<Option<List<KnownSym>>, AllocError>
+) -> Result<Option<Subscripts<KnownSym>>, AllocError>
     ensures { IfOk result (λ found. Puts formals.now actuals.now symbols.now found) }
 {
-    let mut items = Vec::new(alloc);
+    let mut found = Subscripts::new(alloc);
     for symbol in symbols {
         let Some(item) = put_in_one(symbol, formals, actuals)? else {
             return Ok(None);
         };
-        items.push(item)?;
+        found.push(item)?;
     }
-    Ok(Some(List::of(items)))
+    Ok(Some(found))
 }
 
 /// The callee's term as its caller has it: each formal is replaced by what was passed at its place, and an actual

@@ -1,6 +1,8 @@
 // Symbols that stand for one value.
 
 use mlk_text::{Name, Value};
+use std::alloc::Global;
+use std::default::MadeWith;
 
 /// A symbol that stands for one value in a job at a moment.
 ///
@@ -14,4 +16,11 @@ pub enum KnownSym {
     Local(Name),
     /// the number of the job
     Job,
+}
+
+// What stands where a list has no subscript yet.
+impl MadeWith<Global> for KnownSym {
+    fn made_with(_alloc: Global) -> KnownSym {
+        KnownSym::Job
+    }
 }

@@ -4,7 +4,7 @@ ghost use Rattle.std.specs.Prelude.{◌↔◌, IsTrue};
 ghost use Rattle.mlk_names.specs.LockNames.{IsAbove, Conflict};
 
 use crate::list::begins;
-use mlk_text::{List, Name, Value};
+use mlk_text::{Name, Subscripts, Value};
 
 /// What a lock name begins with: a global's name, or a local's, which is a name of its own.
 #[derive(Clone, Drop, Debug, PartialEq, Eq)]
@@ -17,7 +17,7 @@ pub enum Root {
 #[derive(Clone, Drop, Debug, PartialEq, Eq)]
 pub struct LockName {
     pub root: Root,
-    pub subs: List<Value>,
+    pub subs: Subscripts<Value>,
 }
 
 impl LockName {

@@ -1,7 +1,7 @@
 // References to nodes of globals.
 
 use crate::symbol::Sym;
-use mlk_text::{List, Name};
+use mlk_text::{Name, Subscripts};
 
 /// How far a reference goes.
 #[derive(Clone, Copy, Debug, PartialEq, Eq)]
@@ -24,7 +24,7 @@ pub enum Access {
 pub struct Reference {
     /// The global's name, without its `^`.
     pub root: Name,
-    pub subs: List<Sym>,
+    pub subs: Subscripts<Sym>,
     pub extent: Extent,
     pub access: Access,
 }

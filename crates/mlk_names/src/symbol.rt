@@ -5,7 +5,8 @@ ghost use Rattle.mlk_names.specs.Symbols.{known_of};
 
 use crate::known_symbol::KnownSym;
 use mlk_text::{Name, Value};
-use std::alloc::AllocError;
+use std::alloc::{AllocError, Global};
+use std::default::MadeWith;
 
 /// A symbol of a subscript, or of what is passed to an entry.
 #[derive(Clone, Drop, Debug, PartialEq, Eq)]
@@ -31,5 +32,12 @@ impl Sym {
             Sym::Job => Ok(Some(KnownSym::Job)),
             Sym::Unknown => Ok(None),
         }
+    }
+}
+
+// What stands where a list has no subscript yet.
+impl MadeWith<Global> for Sym {
+    fn made_with(_alloc: Global) -> Sym {
+        Sym::Unknown
     }
 }

@@ -7,13 +7,13 @@ ghost use Rattle.mlk_names.specs.Terms.{IsPrefix, Mentions, NamesAbove, NamesWit
 use crate::known_symbol::KnownSym;
 use crate::list::begins;
 use crate::lock_name::Root;
-use mlk_text::{List, Name};
+use mlk_text::{Name, Subscripts};
 
 /// A lock name whose subscripts are symbols, each of which stands for one value.
 #[derive(Clone, Drop, Debug, PartialEq, Eq)]
 pub struct LockTerm {
     pub root: Root,
-    pub subs: List<KnownSym>,
+    pub subs: Subscripts<KnownSym>,
 }
 
 /// Whether the second term is the first with any subscripts behind it. It takes no memory.

@@ -4,7 +4,7 @@ use mlk_names::{
     Access, Extent, LockName, LockTerm, Reference, Root, Sym, conflict, may_overlap, mentions,
     prefix, substitute,
 };
-use mlk_text::{List, Name, Value};
+use mlk_text::{Name, Subscripts, Value};
 use std::alloc::{AllocError, Global};
 use std::test::Fail;
 
@@ -54,7 +54,7 @@ fn reference(alloc: Global, text: &str, extent: Extent) -> Result<Reference, All
     let (global, subs) = parts(text);
     Ok(Reference {
         root: name(alloc, global)?,
-        subs: List::of(symbols(alloc, subs)?),
+        subs: Subscripts::of(symbols(alloc, subs)?),
         extent,
         access: Access::Writes,
     })
@@ -70,13 +70,13 @@ fn term(alloc: Global, text: &str) -> Result<LockTerm, AllocError> {
     }
     Ok(LockTerm {
         root: root(alloc, first)?,
-        subs: List::of(items),
+        subs: Subscripts::of(items),
     })
 }
 
 fn lock_name(alloc: Global, text: &str) -> Result<LockName, AllocError> {
     let (first, subs) = parts(text);
-    let mut values = List::new(alloc);
+    let mut values = Subscripts::new(alloc);
     for word in subs.split_whitespace() {
         values.push(value(alloc, word)?)?;
     }

@@ -5,6 +5,7 @@ ghost use Rattle.mlk_text.specs.Words.{left_out_word};
 
 use crate::code::Code;
 use crate::value::Value;
+use thiserror::Error;
 
 /// A place in a routine text. Lines and columns count from 1, columns in bytes.
 #[derive(Drop, Debug)]
@@ -73,7 +74,8 @@ impl LeftOut {
 }
 
 /// Why a routine text, or the linking of routines, is refused.
-#[derive(Drop, Debug)]
+#[derive(Drop, Debug, Error)]
+#[error("{code}, at line {}, column {}", .place.line, .place.column)]
 pub struct Fault {
     pub code: Code,
     pub place: Place,

@@ -10,9 +10,11 @@ mod law;
 pub mod lexeme;
 mod list;
 pub mod literal;
+mod meaning;
 mod name;
 mod numeral;
 mod operator;
+mod subscripts;
 mod value;
 
 pub use code::Code;
@@ -25,4 +27,5 @@ pub use list::List;
 pub use name::Name;
 pub use numeral::canonical;
 pub use operator::{Op, Relation, UnaryOp};
+pub use subscripts::Subscripts;
 pub use value::Value;

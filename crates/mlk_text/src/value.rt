@@ -3,7 +3,8 @@
 ghost use Rattle.std.specs.Prelude.{◌≡◌, IfOk};
 
 use crate::name::Name;
-use std::alloc::AllocError;
+use std::alloc::{AllocError, Global};
+use std::default::MadeWith;
 use std::marker::Model;
 
 /// A value of M: a text of any bytes. A number is its canonical text.
@@ -49,6 +50,13 @@ impl Value {
         ensures { IfOk result (λ copy. copy ≡ self.now) }
     {
         self.clone()
+    }
+}
+
+// What stands where a list has no subscript yet.
+impl MadeWith<Global> for Value {
+    fn made_with(alloc: Global) -> Value {
+        Value::new(Vec::new(alloc))
     }
 }
 

@@ -5,4 +5,4 @@ use Rattle.mlk_names.specs.Actuals.{put_in}
 use Rattle.mlk_names.proofs.actual.put_in_all.Given as goal
 
 abbrev pub invariant-loop-symbol : goal.invariant-loop-symbol
-invariant-loop-symbol l = map sym_of l.items.items ≡ map (put_in l.formals l.actuals) (take l.symbol-index l.symbols)
+invariant-loop-symbol l = map sym_of l.found ≡ map (put_in l.formals l.actuals) (take l.symbol-index l.symbols)
