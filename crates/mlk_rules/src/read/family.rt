@@ -6,11 +6,11 @@ ghost use Rattle.mlk_rules.specs.RuleAnswers.{Answers};
 ghost use Rattle.mlk_rules.specs.RuleKinds.{values_of, family_name};
 ghost use Rattle.mlk_rules.specs.RuleSections.{rank_of, family_by, family_of};
 
-use crate::family::Family;
 use crate::read::fault::{RulesError, Section, refused};
 use crate::read::kinds::{Item, Spelling, is_family_name, is_long};
 use crate::read::spelling::spelled_name;
 use crate::read::tables::family_keys;
+use mlk_coverage::Family;
 use mlk_names::LockName;
 use mlk_text::{Code, Value, Values};
 use std::alloc::{AllocError, Global};
