@@ -3,7 +3,7 @@ use Rattle.std.proofs.Common.{◌≡◌, ℕ, ◌<◌, ◌≤◌, ◌+◌, ◌++
 use Rattle.std.specs.Prelude.{slice_get}
 use Rattle.std.proofs.lemmas.List.{drop_all, drop_more, take_more}
 use Rattle.mlk_machine.specs.declared.plain.tree.Routine.{Routine}
-use Rattle.mlk_rules.specs.declared.rules.RuleLists.{RuleLists}
+use Rattle.mlk_coverage.specs.declared.rules.RuleLists.{RuleLists}
 use Rattle.mlk_command.specs.Twice.{FirstTwice}
 use Rattle.mlk_command.specs.RoutineRefusals.{Places}
 use Rattle.mlk_command.specs.RoutineOutcomes.{RefusesAs}

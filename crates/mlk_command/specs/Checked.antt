@@ -3,7 +3,7 @@ use Rattle.std.specs.Prelude.{ℕ, ◌≡◌, ◌⊎◌, List, [], ◌∷◌, �
 use Rattle.mlk_text.specs.declared.code.Code.TheVariants as code
 use Rattle.mlk_text.specs.declared.fault.Fault.{Fault}
 use Rattle.mlk_machine.specs.declared.plain.tree.Routine.{Routine}
-use Rattle.mlk_rules.specs.declared.rules.RuleLists.{RuleLists}
+use Rattle.mlk_coverage.specs.declared.rules.RuleLists.{RuleLists}
 use Rattle.mlk_walk.specs.declared.cert.Certificate.{Certificate}
 use Rattle.mlk_walk.specs.Report.{IsReport, all_entries, missing}
 use Rattle.mlk_walk.specs.Theorem.{EachRunIsBalanced, NoJobsClash}

@@ -6,8 +6,8 @@ use Rattle.toml.specs.declared.value.Value.{Value}
 use Rattle.toml.specs.View.{view, items_view}
 use Rattle.mlk_rules.specs.RuleAnswers.{Answer, Read, Refused, next, answer_map}
 use Rattle.mlk_rules.specs.RuleSections.{put, each}
-use Rattle.mlk_rules.proofs.CheckLemmas.{drop_step}
-use Rattle.mlk_rules.proofs.SoundLemmas.{Each, each_cons}
+use Rattle.mlk_coverage.proofs.CheckLemmas.{drop_step}
+use Rattle.mlk_coverage.proofs.SoundLemmas.{Each, each_cons}
 
 put-put : {A : Type 0} (front more : List A) (o : Answer (List A)) → put front (put more o) ≡ put (front ++ more) o
 put-put front more (Read xs) = ap Read (sym (append_assoc front more xs))

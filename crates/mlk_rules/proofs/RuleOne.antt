@@ -2,13 +2,13 @@
 use Rattle.std.proofs.Common.{◌≡◌, inl, inr, sym, ap, ◌∙◌, subst}
 use Rattle.std.proofs.lemmas.Option.{same_Some}
 use Rattle.toml.specs.Data.{Members}
-use Rattle.mlk_rules.specs.declared.rules.RuleLists.{RuleLists}
+use Rattle.mlk_coverage.specs.declared.rules.RuleLists.{RuleLists}
 use Rattle.mlk_rules.specs.declared.read.fault.RulesFault.{RulesFault}
-use Rattle.mlk_rules.specs.Ranks.{FamiliesApart}
+use Rattle.mlk_coverage.specs.Ranks.{FamiliesApart, IsFirstMeeting}
 use Rattle.mlk_rules.specs.RuleAnswers.{Answer, Read, Refused}
-use Rattle.mlk_rules.specs.RuleSections.{lists_of, IsFirstMeeting, SomeMeet, TableSays, OneAnswer}
+use Rattle.mlk_rules.specs.RuleSections.{lists_of, SomeMeet, TableSays, OneAnswer}
 use Rattle.mlk_rules.proofs.RuleEach.{same_Read}
-use Rattle.mlk_rules.proofs.RuleMeetings.{not_apart, first_one}
+use Rattle.mlk_coverage.proofs.FamilyMeetings.{not_apart, first_one}
 
 apart_or_meet : (ms : Members) (r : RuleLists) (f : RulesFault) → lists_of ms ≡ Read r → FamiliesApart r.families → SomeMeet ms f → ⊥
 apart_or_meet ms r f h apart m =

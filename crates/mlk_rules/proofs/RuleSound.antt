@@ -3,22 +3,22 @@ use Rattle.std.proofs.Common.{◌≡◌, ℕ, List, [], ◌∷◌, length, Some,
 use Rattle.std.specs.Prelude.{Option, ◌&&◌, nat_lt, codes}
 use Rattle.std.proofs.lemmas.Bool.{cases_Bool, and_parts}
 use Rattle.toml.specs.Data.{Data, Members, as_table}
-use Rattle.mlk_rules.specs.declared.pattern.Element.TheVariants as element
-use Rattle.mlk_rules.specs.declared.pattern.Pattern.{Pattern}
-use Rattle.mlk_rules.specs.declared.family.Family.{Family}
-use Rattle.mlk_rules.specs.declared.cover.Cover.{Cover}
-use Rattle.mlk_rules.specs.declared.rules.RuleLists.{RuleLists}
+use Rattle.mlk_coverage.specs.declared.pattern.Element.TheVariants as element
+use Rattle.mlk_coverage.specs.declared.pattern.Pattern.{Pattern}
+use Rattle.mlk_coverage.specs.declared.family.Family.{Family}
+use Rattle.mlk_coverage.specs.declared.cover.Cover.{Cover}
+use Rattle.mlk_coverage.specs.declared.rules.RuleLists.{RuleLists}
 use Rattle.mlk_rules.specs.declared.read.fault.Section.TheVariants.{File, Lock, Cover as CoverSection, Private, Readonly, Entry}
 use Rattle.mlk_rules.specs.declared.read.kinds.Item.{Item}
 use Rattle.mlk_rules.specs.declared.read.kinds.Item.TheVariants.{Literal, Variable, Job}
 use Rattle.mlk_rules.specs.declared.read.kinds.Spelling.{Spelling}
-use Rattle.mlk_rules.specs.Ranks.{FamiliesApart}
-use Rattle.mlk_rules.specs.Sound.{HasNoJob, HasOneJob, IsSound}
+use Rattle.mlk_coverage.specs.Ranks.{FamiliesApart}
+use Rattle.mlk_coverage.specs.Sound.{HasNoJob, HasOneJob, IsSound}
 use Rattle.mlk_rules.specs.RuleAnswers.{Answer, Read, Refused, next}
 use Rattle.mlk_rules.specs.RuleTexts.{pattern_of}
 use Rattle.mlk_rules.specs.RuleKinds.{is_jobless, has_one_job, is_distinct, is_pattern, elements_of, pattern}
 use Rattle.mlk_rules.specs.RuleSections.{has_only, text_key, pattern_with, pattern_by, pattern_at, family_of, cover_of, rule_pattern_of, entry_of, section_of, each, all_of, lists_of}
-use Rattle.mlk_rules.proofs.SoundLemmas.{Each, no_job_cons, one_job_first, one_job_later}
+use Rattle.mlk_coverage.proofs.SoundLemmas.{Each, no_job_cons, one_job_first, one_job_later}
 use Rattle.mlk_rules.proofs.RuleEach.{next_read, same_Read, each_have}
 
 no_job : (items : List Item) → is_jobless items ≡ true → HasNoJob (elements_of items)

@@ -5,12 +5,12 @@ use Rattle.mlk_names.specs.declared.lock_name.Root.{Root}
 use Rattle.mlk_names.specs.declared.lock_name.Root.TheVariants as root
 use Rattle.mlk_names.specs.declared.reference.Extent.{Extent}
 use Rattle.mlk_names.specs.declared.reference.Extent.TheVariants.{Node, Tree}
-use Rattle.mlk_rules.specs.declared.pattern.Element.{Element}
-use Rattle.mlk_rules.specs.declared.pattern.Element.TheVariants as element
-use Rattle.mlk_rules.specs.declared.pattern.Pattern.{Pattern}
-use Rattle.mlk_rules.specs.declared.template.Part.{Part}
-use Rattle.mlk_rules.specs.declared.template.Part.TheVariants as part
-use Rattle.mlk_rules.specs.declared.template.Template.{Template}
+use Rattle.mlk_coverage.specs.declared.pattern.Element.{Element}
+use Rattle.mlk_coverage.specs.declared.pattern.Element.TheVariants as element
+use Rattle.mlk_coverage.specs.declared.pattern.Pattern.{Pattern}
+use Rattle.mlk_coverage.specs.declared.template.Part.{Part}
+use Rattle.mlk_coverage.specs.declared.template.Part.TheVariants as part
+use Rattle.mlk_coverage.specs.declared.template.Template.{Template}
 use Rattle.mlk_rules.specs.declared.read.fault.Section.{Section}
 use Rattle.mlk_rules.specs.declared.read.fault.Section.TheVariants.{File, Lock, Cover, Private, Readonly, Entry}
 use Rattle.mlk_rules.specs.declared.read.kinds.Item.{Item}

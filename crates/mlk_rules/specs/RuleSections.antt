@@ -1,21 +1,20 @@
 -- What a rule file says, or why it is refused. This project's own choice.
-use Rattle.std.specs.Prelude.{ℕ, suc, ℤ, pos, negsuc, ◌≡◌, ◌&&◌, ◌||◌, ◌⊎◌, if◌then◌else◌, nat_lt, nat_le, Bool, true, List, [], ◌∷◌, ◌++◌, length, Contains, Option, Some, None, option_and_then, codes, bytes_eq, is_some, IsUtf8}
+use Rattle.std.specs.Prelude.{ℕ, suc, ℤ, pos, negsuc, ◌≡◌, ◌&&◌, ◌||◌, ◌⊎◌, if◌then◌else◌, nat_lt, nat_le, Bool, true, List, [], ◌∷◌, ◌++◌, Option, Some, None, option_and_then, codes, bytes_eq, is_some, IsUtf8}
 use Rattle.toml.specs.Data.{Data, array, Items, no_items, item, Members, no_members, member, as_str, as_integer, as_table, get_member}
 use Rattle.toml.specs.Parse.{parse_document}
 use Rattle.mlk_text.specs.declared.code.Code.TheVariants as code
-use Rattle.mlk_names.specs.LockNames.{Conflict}
-use Rattle.mlk_rules.specs.declared.family.Family.{Family}
-use Rattle.mlk_rules.specs.declared.cover.Cover.{Cover}
-use Rattle.mlk_rules.specs.declared.pattern.Pattern.{Pattern}
-use Rattle.mlk_rules.specs.declared.template.Part.{Part}
-use Rattle.mlk_rules.specs.declared.rules.RuleLists.{RuleLists}
+use Rattle.mlk_coverage.specs.declared.family.Family.{Family}
+use Rattle.mlk_coverage.specs.declared.cover.Cover.{Cover}
+use Rattle.mlk_coverage.specs.declared.pattern.Pattern.{Pattern}
+use Rattle.mlk_coverage.specs.declared.template.Part.{Part}
+use Rattle.mlk_coverage.specs.declared.rules.RuleLists.{RuleLists}
 use Rattle.mlk_rules.specs.declared.read.fault.Section.{Section}
 use Rattle.mlk_rules.specs.declared.read.fault.Section.TheVariants.{File, Lock, Cover as CoverSection, Private, Readonly, Entry}
 use Rattle.mlk_rules.specs.declared.read.fault.RulesFault.{RulesFault}
 use Rattle.mlk_rules.specs.declared.read.fault.RulesError.{RulesError}
 use Rattle.mlk_rules.specs.declared.read.fault.RulesError.TheVariants as error
 use Rattle.mlk_rules.specs.declared.read.kinds.Spelling.{Spelling}
-use Rattle.mlk_rules.specs.Ranks.{FamiliesApart}
+use Rattle.mlk_coverage.specs.Ranks.{FamiliesApart, IsFirstMeeting}
 use Rattle.mlk_rules.specs.RuleAnswers.{section_word, Answer, Read, Refused, refused, next, answer_map}
 use Rattle.mlk_rules.specs.RuleTexts.{spelling_of, pattern_of, is_entry}
 use Rattle.mlk_rules.specs.RuleKinds.{is_long, is_family_name, family_name, is_pattern, pattern, is_template, parts_of, template}
@@ -189,18 +188,6 @@ lists_of ms =
     next (all_of entry_of Entry ms) (λ entries.
     lists families covers private readonly entries))))))
     else refused code.Key File 0
-
--- The family with this index, counted from 1, is the first that is an earlier one, above it or below it.
-pub record IsFirstMeeting (families : List Family) (index : ℕ) : Type 0 where
-  pub before : List Family
-  pub family : Family
-  pub behind : List Family
-  pub are : before ++ family ∷ behind ≡ families
-  pub place : suc (length before) ≡ index
-  pub apart : FamiliesApart before
-  pub earlier : Family
-  pub stands : Contains before earlier
-  pub meets : Conflict family.name earlier.name
 
 -- 405: what the sections say is well, but for two families that meet
 pub record SomeMeet (ms : Members) (f : RulesFault) : Type 0 where

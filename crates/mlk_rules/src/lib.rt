@@ -1,36 +1,16 @@
-//! Rules: which locks are to be held where a global is touched, and in which order they are claimed.
+//! Rules: which locks are to be held where a global is touched, and in which order they are claimed. The reader of rule
+//! files stands here; what rules mean, and what is asked of them, is `mlk_coverage`.
 #![tactic(auto)]
 
-mod check;
-mod cover;
-mod entry;
-mod family;
-mod groups;
-mod held;
-mod lacking;
 mod law;
-mod lies;
-mod meet;
-mod pattern;
-mod rank;
 mod read;
-mod rules;
-mod sound;
-mod template;
 #[cfg(test)]
 mod tests;
 
-pub use check::covered;
-pub use cover::{Cover, Covers};
-pub use entry::EntryTexts;
-pub use family::{Families, Family};
-pub use lacking::templates;
-pub use law::{
-    computed_answers, covered_apart, lock_of_node, one_answer, one_rank, share_pattern, surely_lies,
+pub use law::one_answer;
+pub use mlk_coverage::{
+    Cover, Covers, Element, Elements, EntryTexts, Families, Family, Part, Parts, Pattern, Patterns,
+    RuleLists, Rules, Template, computed_answers, covered, covered_apart, entries, first_meeting,
+    lock_of_node, may_meet, one_rank, rank_of, share_pattern, surely_lies, templates,
 };
-pub use meet::may_meet;
-pub use pattern::{Element, Elements, Pattern};
-pub use rank::rank_of;
 pub use read::{RulesError, RulesFault, Section, read_rules};
-pub use rules::{Patterns, RuleLists, Rules, entries};
-pub use template::{Part, Parts, Template};

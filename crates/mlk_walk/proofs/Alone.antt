@@ -21,7 +21,7 @@ use Rattle.mlk_machine.proofs.NameLemmas.{same_self}
 use Rattle.mlk_machine.proofs.Counting.{one, count_of-raised, count_of-lowered}
 use Rattle.mlk_machine.proofs.EntryLemmas.{HasLine, named_line}
 use Rattle.mlk_machine.proofs.Runs.{written_job}
-use Rattle.mlk_rules.specs.declared.rules.RuleLists.{RuleLists}
+use Rattle.mlk_coverage.specs.declared.rules.RuleLists.{RuleLists}
 use Rattle.mlk_walk.specs.declared.cert.EntryCert.{EntryCert}
 use Rattle.mlk_walk.specs.declared.cert.Certificate.{Certificate}
 use Rattle.mlk_walk.specs.declared.verdict.WalkFault.{WalkFault}

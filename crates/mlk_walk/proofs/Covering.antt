@@ -22,13 +22,13 @@ use Rattle.mlk_names.specs.Symbols.{Assignment, StandsFor, sym_of}
 use Rattle.mlk_names.specs.Terms.{Names}
 use Rattle.mlk_names.specs.References.{GlobalNode, Touch, Touches, Overlap}
 use Rattle.mlk_names.proofs.ListLemmas.{begins_past, begins_head, begins_tail}
-use Rattle.mlk_rules.specs.declared.rules.RuleLists.{RuleLists}
-use Rattle.mlk_rules.specs.Coverage.{IsCovered, IsAnswer}
-use Rattle.mlk_rules.specs.Sound.{IsSound}
-use Rattle.mlk_rules.specs.Laws.{HoldConflict}
-use Rattle.mlk_rules.proofs.Computing.{computed_answers}
-use Rattle.mlk_rules.proofs.Apart.{covered_apart}
-use Rattle.mlk_rules.proofs.SoundLemmas.{by_job}
+use Rattle.mlk_coverage.specs.declared.rules.RuleLists.{RuleLists}
+use Rattle.mlk_coverage.specs.Coverage.{IsCovered, IsAnswer}
+use Rattle.mlk_coverage.specs.Sound.{IsSound}
+use Rattle.mlk_coverage.specs.Laws.{HoldConflict}
+use Rattle.mlk_coverage.proofs.Computing.{computed_answers}
+use Rattle.mlk_coverage.proofs.Apart.{covered_apart}
+use Rattle.mlk_coverage.proofs.SoundLemmas.{by_job}
 use Rattle.mlk_walk.specs.Rules.{root_of, term_of, written, uncovered}
 use Rattle.mlk_walk.specs.Walk.{Held}
 

@@ -8,7 +8,7 @@ use Rattle.mlk_machine.specs.declared.plain.program.EntryId.{EntryId}
 use Rattle.mlk_machine.specs.Entries.{named, names, first_with, paired, by_label, texts_of, line_entries, entries_from}
 use Rattle.mlk_machine.proofs.Tables.{first_with-both}
 use Rattle.mlk_machine.proofs.EntryLemmas.{either, in_paired}
-use Rattle.mlk_rules.specs.declared.rules.RuleLists.{RuleLists}
+use Rattle.mlk_coverage.specs.declared.rules.RuleLists.{RuleLists}
 use Rattle.mlk_walk.specs.declared.cert.EntryCert.{EntryCert}
 use Rattle.mlk_walk.specs.declared.cert.Certificate.{Certificate}
 use Rattle.mlk_walk.specs.declared.verdict.WalkFault.{WalkFault}
@@ -22,7 +22,7 @@ use Rattle.mlk_walk.specs.Theorem.{IsClean, EachRunIsBalanced, NoJobsClash}
 use Rattle.mlk_walk.proofs.CaseLemmas.{nothing_among}
 use Rattle.mlk_walk.proofs.PlaceLemmas.{Table, any-place, no_block, block_at_place}
 use Rattle.mlk_walk.proofs.Alone.{some_names, one_job}
-use Rattle.mlk_rules.specs.Sound.{IsSound}
+use Rattle.mlk_coverage.specs.Sound.{IsSound}
 use Rattle.mlk_walk.proofs.Together.{all_jobs}
 
 -- what the tables of a check say

@@ -4,7 +4,7 @@ use Rattle.std.specs.Prelude.{map}
 use Rattle.mlk_text.specs.declared.code.Code.TheVariants.{TooManyCases}
 use Rattle.mlk_machine.specs.declared.plain.tree.Line.{Line}
 use Rattle.mlk_machine.specs.declared.plain.tree.Command.{Command}
-use Rattle.mlk_rules.specs.declared.rules.RuleLists.{RuleLists}
+use Rattle.mlk_coverage.specs.declared.rules.RuleLists.{RuleLists}
 use Rattle.mlk_walk.specs.declared.verdict.WalkFault.{WalkFault}
 use Rattle.mlk_walk.specs.declared.walk.Outcome.{Outcome}
 use Rattle.mlk_walk.specs.declared.walk.Outcome.TheVariants.{Goes, Faulty, Ends}

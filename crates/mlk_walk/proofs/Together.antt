@@ -11,11 +11,11 @@ use Rattle.mlk_machine.specs.Laws.{Apart}
 use Rattle.mlk_machine.specs.Plain.{Job, begun, lone_run, ready, ready_in, after, Event, Clash}
 use Rattle.mlk_machine.proofs.Apart.{held_apart}
 use Rattle.mlk_machine.proofs.Runs.{one_run_of_many}
-use Rattle.mlk_rules.specs.declared.rules.RuleLists.{RuleLists}
+use Rattle.mlk_coverage.specs.declared.rules.RuleLists.{RuleLists}
 use Rattle.mlk_walk.specs.declared.cert.EntryCert.{EntryCert}
 use Rattle.mlk_walk.specs.declared.cert.Certificate.{Certificate}
-use Rattle.mlk_rules.specs.Coverage.{IsCovered}
-use Rattle.mlk_rules.specs.Sound.{IsSound}
+use Rattle.mlk_coverage.specs.Coverage.{IsCovered}
+use Rattle.mlk_coverage.specs.Sound.{IsSound}
 use Rattle.mlk_walk.specs.Rules.{term_of, written}
 use Rattle.mlk_walk.specs.Walk.{Held, walk_lines, is_declared}
 use Rattle.mlk_walk.specs.Theorem.{Describes, declared_lines, IsClean, AllJobs}

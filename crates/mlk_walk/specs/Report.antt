@@ -4,7 +4,7 @@ use Rattle.mlk_machine.specs.declared.plain.tree.Line.{Line}
 use Rattle.mlk_machine.specs.declared.plain.tree.Routine.{Routine}
 use Rattle.mlk_machine.specs.declared.plain.program.EntryId.{EntryId}
 use Rattle.mlk_machine.specs.Entries.{named}
-use Rattle.mlk_rules.specs.declared.rules.RuleLists.{RuleLists}
+use Rattle.mlk_coverage.specs.declared.rules.RuleLists.{RuleLists}
 use Rattle.mlk_walk.specs.declared.cert.Certificate.{Certificate}
 use Rattle.mlk_walk.specs.declared.verdict.WalkFault.{WalkFault}
 use Rattle.mlk_walk.specs.declared.report.Row.{Row}

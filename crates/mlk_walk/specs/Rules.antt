@@ -13,8 +13,8 @@ use Rattle.mlk_names.specs.declared.term.LockTerm.{LockTerm}
 use Rattle.mlk_names.specs.declared.reference.Extent.TheVariants as extent
 use Rattle.mlk_names.specs.declared.reference.Access.TheVariants.{Writes}
 use Rattle.mlk_names.specs.declared.reference.Reference.{Reference}
-use Rattle.mlk_rules.specs.declared.rules.RuleLists.{RuleLists}
-use Rattle.mlk_rules.specs.Computed.{answer}
+use Rattle.mlk_coverage.specs.declared.rules.RuleLists.{RuleLists}
+use Rattle.mlk_coverage.specs.Computed.{answer}
 
 -- a held name as a term: each subscript is a constant
 abbrev pub root_of : Root → TermRoot

@@ -9,11 +9,11 @@ use Rattle.mlk_machine.specs.declared.plain.program.EntryId.{EntryId}
 use Rattle.mlk_machine.specs.LockNames.{times, count_of}
 use Rattle.mlk_machine.specs.Entries.{lines_of}
 use Rattle.mlk_machine.specs.Plain.{Job, Task, RunLines, RunCommands, Evaluate, Touch, Claim, Release, EndFrame, Act, Event, Entries, begun, lone_run, ready, HasEnded, Clash, after}
-use Rattle.mlk_rules.specs.declared.rules.RuleLists.{RuleLists}
+use Rattle.mlk_coverage.specs.declared.rules.RuleLists.{RuleLists}
 use Rattle.mlk_walk.specs.declared.cert.EntryCert.{EntryCert}
 use Rattle.mlk_walk.specs.declared.cert.Certificate.{Certificate}
-use Rattle.mlk_rules.specs.Coverage.{IsCovered}
-use Rattle.mlk_rules.specs.Sound.{IsSound}
+use Rattle.mlk_coverage.specs.Coverage.{IsCovered}
+use Rattle.mlk_coverage.specs.Sound.{IsSound}
 use Rattle.mlk_walk.specs.Rules.{term_of, written}
 use Rattle.mlk_walk.specs.Sets.{Among}
 use Rattle.mlk_walk.specs.Walk.{Held, listed, walked, is_declared, block_of, verdict}

@@ -9,8 +9,8 @@ ghost use Rattle.mlk_walk.specs.Walk.{is_declared, first_block, block_of, verdic
 use crate::cert::{Certificate, EntryCert};
 use crate::entry::check_lines;
 use crate::verdict::Verdict;
+use mlk_coverage::{Rules, entries};
 use mlk_machine::plain::{EntryId, Plain};
-use mlk_rules::{Rules, entries};
 use mlk_text::Value;
 use std::alloc::{AllocError, Global};
 

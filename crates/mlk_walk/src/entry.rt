@@ -10,8 +10,8 @@ use crate::case::is_listed;
 use crate::cert::{Case, EntryCert, Point};
 use crate::verdict::{Verdict, WalkFault};
 use crate::walk::{Rows, walk_line};
+use mlk_coverage::Rules;
 use mlk_machine::plain::Line;
-use mlk_rules::Rules;
 use mlk_text::Code;
 use std::alloc::{AllocError, Global};
 

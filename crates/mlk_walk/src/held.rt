@@ -5,9 +5,9 @@ ghost use Rattle.mlk_walk.specs.Rules.{term_of, uncovered};
 
 use crate::cert::Case;
 use crate::term::{term_of, written};
+use mlk_coverage::{Rules, covered};
 use mlk_machine::plain::{LockName, Node};
 use mlk_names::LockTerm;
-use mlk_rules::{Rules, covered};
 use mlk_text::Code;
 use std::alloc::{AllocError, Global};
 use std::marker::Model;

@@ -11,8 +11,8 @@ use crate::entry::check_lines;
 use crate::places::{Places, block_places, places_of};
 use crate::report::Report;
 use crate::verdict::Verdict;
+use mlk_coverage::{Rules, entries};
 use mlk_machine::plain::{EntryId, Line, Plain, Routine};
-use mlk_rules::{Rules, entries};
 use mlk_text::Value;
 use std::alloc::{AllocError, Global};
 

@@ -7,7 +7,7 @@ ghost use Rattle.mlk_walk.specs.Rules.{root_of, term_of, written};
 
 use mlk_machine::plain::{LockName, Node, Root};
 use mlk_names::{Access, Extent, KnownSym, LockTerm, Reference, Sym};
-use mlk_text::{List, Value};
+use mlk_text::{Subscripts, Value};
 use std::alloc::{AllocError, Global};
 
 fn root_of(root: &Root) -> Result<mlk_names::Root, AllocError>
@@ -19,24 +19,24 @@ fn root_of(root: &Root) -> Result<mlk_names::Root, AllocError>
     }
 }
 
-fn known_constants(alloc: Global, values: &[Value]) -> Result<List<KnownSym>, AllocError>
+fn known_constants(alloc: Global, values: &[Value]) -> Result<Subscripts<KnownSym>, AllocError>
     ensures { IfOk result (λ l. l ≡ map known.Const values.now) }
 {
     let mut items = Vec::new(alloc);
     for value in values {
         items.push(KnownSym::Const(value.copy()?))?;
     }
-    Ok(List::of(items))
+    Ok(Subscripts::of(items))
 }
 
-fn constants(alloc: Global, values: &[Value]) -> Result<List<Sym>, AllocError>
+fn constants(alloc: Global, values: &[Value]) -> Result<Subscripts<Sym>, AllocError>
     ensures { IfOk result (λ l. l ≡ map Const values.now) }
 {
     let mut items = Vec::new(alloc);
     for value in values {
         items.push(Sym::Const(value.copy()?))?;
     }
-    Ok(List::of(items))
+    Ok(Subscripts::of(items))
 }
 
 /// The term of a lock name.

@@ -9,8 +9,8 @@ use crate::case::{all_held, is_listed, place_of};
 use crate::cert::Case;
 use crate::held::{Held, uncovered};
 use crate::verdict::{Verdict, WalkFault};
+use mlk_coverage::Rules;
 use mlk_machine::plain::{Action, Command, Line};
-use mlk_rules::Rules;
 use mlk_text::Code;
 use std::alloc::{AllocError, Global};
 

@@ -6,13 +6,12 @@ ghost use Rattle.mlk_rules.specs.RuleAnswers.{Answers};
 ghost use Rattle.mlk_rules.specs.RuleKinds.{place_of, part_of, parts_of};
 ghost use Rattle.mlk_rules.specs.RuleSections.{cover_placed, cover_by, cover_of};
 
-use crate::cover::Cover;
 use crate::read::fault::{RulesError, Section, refused};
 use crate::read::kinds::{Item, Spelling, is_item, is_long, is_pattern, is_template};
 use crate::read::pattern::pattern;
 use crate::read::spelling::{spelled_name, spelled_pattern};
 use crate::read::tables::cover_keys;
-use crate::template::{Part, Parts, Template};
+use mlk_coverage::{Cover, Part, Parts, Template};
 use mlk_text::{Code, Name, copy_of};
 use std::alloc::{AllocError, Global};
 

@@ -1,21 +1,16 @@
 // Rule files as a whole.
 
-ghost use Rattle.std.specs.Prelude.{◌≡◌, IfOk, IfErr, MatchOption};
+ghost use Rattle.std.specs.Prelude.{◌≡◌, IfOk, IfErr};
 ghost use Rattle.toml.specs.View.{table_view};
-ghost use Rattle.mlk_rules.specs.Ranks.{FamiliesApart};
-ghost use Rattle.mlk_rules.specs.Sound.{IsSound};
+ghost use Rattle.mlk_coverage.specs.Sound.{IsSound};
 ghost use Rattle.mlk_rules.specs.RuleAnswers.{Answers};
-ghost use Rattle.mlk_rules.specs.RuleSections.{all_of, family_of, cover_of, rule_pattern_of, entry_of, lists_of, IsFirstMeeting, IsDocument, NoTable, SaysRules, RefusesRules};
+ghost use Rattle.mlk_rules.specs.RuleSections.{all_of, family_of, cover_of, rule_pattern_of, entry_of, lists_of, IsDocument, NoTable, SaysRules, RefusesRules};
 ghost use Rattle.mlk_rules.specs.declared.read.fault.Section.TheVariants.{Lock, Cover as CoverSection, Entry};
 
-use crate::cover::Covers;
-use crate::entry::EntryTexts;
-use crate::family::{Families, Family};
 use crate::read::fault::{RulesError, Section, refused};
 use crate::read::sections::{covers, entries, families, patterns, section_of};
 use crate::read::tables::has_only;
-use crate::rules::{Patterns, RuleLists, Rules};
-use crate::sound::some_conflicts;
+use mlk_coverage::{Covers, EntryTexts, Families, Patterns, RuleLists, Rules, first_meeting};
 use mlk_text::Code;
 use std::alloc::Global;
 use toml::Table;
@@ -83,19 +78,6 @@ fn lists_of(alloc: Global, table: &Table) -> Result<RuleLists, RulesError>
         readonly,
         entries,
     })
-}
-
-// The index, from 1, of the first family that meets an earlier one.
-fn first_meeting(families: &[Family]) -> Option<usize>
-    ensures { MatchOption result (FamiliesApart families.now) (IsFirstMeeting families.now) }
-{
-    for (i, family) in families.iter().enumerate() {
-        let (earlier, _) = families.split_at(i);
-        if some_conflicts(earlier, &family.name) {
-            return Some(i + 1);
-        }
-    }
-    None
 }
 
 /// Reads the rules from the bytes of a rule file. Of what is refused the first refusal counts, in the order of the

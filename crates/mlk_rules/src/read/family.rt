@@ -6,13 +6,13 @@ ghost use Rattle.mlk_rules.specs.RuleAnswers.{Answers};
 ghost use Rattle.mlk_rules.specs.RuleKinds.{values_of, family_name};
 ghost use Rattle.mlk_rules.specs.RuleSections.{rank_of, family_by, family_of};
 
-use crate::family::Family;
 use crate::read::fault::{RulesError, Section, refused};
 use crate::read::kinds::{Item, Spelling, is_family_name, is_long};
 use crate::read::spelling::spelled_name;
 use crate::read::tables::family_keys;
+use mlk_coverage::Family;
 use mlk_names::LockName;
-use mlk_text::{Code, List, Value, copy_of};
+use mlk_text::{Code, Subscripts, Value, copy_of};
 use std::alloc::{AllocError, Global};
 
 fn push_values(found: &mut Vec<Value>, items: &[Item]) -> Result<(), AllocError>
@@ -35,7 +35,7 @@ fn family_name(alloc: Global, s: &Spelling) -> Result<LockName, AllocError>
     push_values(&mut found, s.items.as_slice())?;
     Ok(LockName {
         root: copy_of(&s.root)?,
-        subs: List::of(found),
+        subs: Subscripts::of(found),
     })
 }
 

@@ -6,11 +6,11 @@ ghost use Rattle.mlk_rules.specs.RuleAnswers.{Answers};
 ghost use Rattle.mlk_rules.specs.RuleKinds.{elements_of, name_of, pattern};
 ghost use Rattle.mlk_rules.specs.RuleSections.{pattern_by, rule_pattern_of};
 
-use crate::pattern::{Element, Elements, Pattern};
 use crate::read::fault::{RulesError, Section, refused};
 use crate::read::kinds::{Item, Spelling, is_long, is_pattern};
 use crate::read::spelling::spelled_pattern;
 use crate::read::tables::text_key;
+use mlk_coverage::{Element, Elements, Pattern};
 use mlk_names::Root;
 use mlk_text::{Code, Name};
 use std::alloc::{AllocError, Global};

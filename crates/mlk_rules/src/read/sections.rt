@@ -6,15 +6,12 @@ ghost use Rattle.toml.specs.View.{view, table_view, items_view};
 ghost use Rattle.mlk_rules.specs.RuleAnswers.{Answers};
 ghost use Rattle.mlk_rules.specs.RuleSections.{is_tables, tables_in, elements_in, count, section_of, each, family_of, cover_of, rule_pattern_of, entry_of};
 
-use crate::cover::Covers;
-use crate::entry::EntryTexts;
-use crate::family::Families;
 use crate::read::cover::cover;
 use crate::read::entry::entry;
 use crate::read::family::family;
 use crate::read::fault::{RulesError, Section, refused};
 use crate::read::pattern::rule_pattern;
-use crate::rules::Patterns;
+use mlk_coverage::{Covers, EntryTexts, Families, Patterns};
 use mlk_text::Code;
 use std::alloc::Global;
 use toml::{Table, Value};

@@ -2,7 +2,7 @@
 
 use crate::{RulesError, Section, read_rules};
 use mlk_names::{Access, Extent, KnownSym, LockTerm, Reference, Root, Sym};
-use mlk_text::{List, Name, Value};
+use mlk_text::{Name, Subscripts, Value};
 use std::alloc::{AllocError, Global};
 
 pub(super) const BASE: &[u8] =
@@ -63,7 +63,7 @@ pub(super) fn reference(
 ) -> Result<Reference, AllocError> {
     Ok(Reference {
         root: name(alloc, global)?,
-        subs: List::of(symbols(alloc, sub)?),
+        subs: Subscripts::of(symbols(alloc, sub)?),
         extent,
         access,
     })
@@ -77,7 +77,7 @@ pub(super) fn term(alloc: Global, global: &[u8], sub: &[u8]) -> Result<LockTerm,
     }
     Ok(LockTerm {
         root: Root::Global(name(alloc, global)?),
-        subs: List::of(items),
+        subs: Subscripts::of(items),
     })
 }
 
@@ -86,6 +86,6 @@ pub(super) fn constant(alloc: Global, global: &[u8], sub: &[u8]) -> Result<LockT
     let value = Value::new(Vec::from_slice(alloc, sub)?);
     Ok(LockTerm {
         root: Root::Global(name(alloc, global)?),
-        subs: List::of(vec![in alloc; KnownSym::Const(value)]?),
+        subs: Subscripts::of(vec![in alloc; KnownSym::Const(value)]?),
     })
 }

@@ -6,7 +6,7 @@ use crate::{
     RuleLists, Rules, Template,
 };
 use mlk_names::{Extent, LockName, Root};
-use mlk_text::List;
+use mlk_text::Subscripts;
 use std::alloc::{AllocError, Global};
 use std::test::Fail;
 
@@ -32,7 +32,7 @@ fn cover(alloc: Global) -> Result<Cover, AllocError> {
 fn family(alloc: Global) -> Result<Family, AllocError> {
     let name = LockName {
         root: Root::Global(name(alloc, b"ACCT")?),
-        subs: List::new(alloc),
+        subs: Subscripts::new(alloc),
     };
     Ok(Family { name, rank: 10 })
 }

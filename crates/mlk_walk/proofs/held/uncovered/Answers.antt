@@ -1,7 +1,7 @@
 use Rattle.std.proofs.Common.{List, None, Some, map, subst}
 use Rattle.mlk_names.specs.declared.term.LockTerm.{LockTerm}
 use Rattle.mlk_names.specs.declared.reference.Reference.{Reference}
-use Rattle.mlk_rules.specs.Coverage.{IsAnswer}
+use Rattle.mlk_coverage.specs.Coverage.{IsAnswer}
 use Rattle.mlk_walk.specs.Rules.{term_of}
 use Rattle.mlk_walk.proofs.Covering.{answered}
 use Rattle.mlk_walk.proofs.held.uncovered.Goals as goal

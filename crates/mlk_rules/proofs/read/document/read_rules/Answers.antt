@@ -1,6 +1,6 @@
 use Rattle.std.proofs.Common.{sym, subst}
 use Rattle.toml.specs.View.{table_view}
-use Rattle.mlk_rules.specs.Ranks.{FamiliesApart}
+use Rattle.mlk_coverage.specs.Ranks.{FamiliesApart}
 use Rattle.mlk_rules.specs.RuleSections.{SaysRules}
 use Rattle.mlk_rules.proofs.RuleSound.{lists_sound}
 use Rattle.mlk_rules.proofs.read.document.read_rules.Goals as goal

@@ -1,0 +1,14 @@
+pub mod Places
+pub mod Meetings
+pub mod Instances
+pub mod Apart
+pub mod RankLemmas
+pub mod Computing
+pub mod Grouping
+pub mod GroupTables
+pub mod Examples
+pub mod FrontLemmas
+pub mod MeetLemmas
+pub mod SoundLemmas
+pub mod CheckLemmas
+pub mod FamilyMeetings

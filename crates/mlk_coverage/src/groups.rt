@@ -1,0 +1,136 @@
+// Rules by the global that their patterns name.
+
+ghost use Rattle.std.specs.Prelude.{◌≡◌, [], IfOk, OnOk, Contains, option_copied};
+ghost use Rattle.mlk_coverage.specs.declared.cover.Cover.{Cover as cover_rule};
+ghost use Rattle.mlk_coverage.specs.declared.pattern.Pattern.{Pattern as pattern};
+ghost use Rattle.mlk_coverage.specs.Groups.{covers_of, patterns_of, of_global, group_of, AreGroups, HasGroup, AreComplete, Gains, GainsAll};
+
+use crate::cover::{Cover, Covers};
+use crate::entry::EntryTexts;
+use crate::family::Families;
+use crate::pattern::Pattern;
+use crate::rules::{Patterns, RuleLists};
+use indexmap::IndexMap;
+use mlk_text::Name;
+use std::alloc::{AllocError, Global};
+use std::marker::Model;
+
+fn covers_of(alloc: Global, name: &Name, covers: &[Cover]) -> Result<Covers, AllocError>
+    ensures { IfOk result (λ l. l ≡ covers_of name.now covers.now) }
+{
+    let mut items = Vec::new(alloc);
+    for cover in covers {
+        if *name == cover.pattern.global {
+            items.push(cover.copy(alloc)?)?;
+        }
+    }
+    Ok(Covers::of(items))
+}
+
+fn patterns_of(alloc: Global, name: &Name, patterns: &[Pattern]) -> Result<Patterns, AllocError>
+    ensures { IfOk result (λ l. l ≡ patterns_of name.now patterns.now) }
+{
+    let mut items = Vec::new(alloc);
+    for pattern in patterns {
+        if *name == pattern.global {
+            items.push(pattern.copy(alloc)?)?;
+        }
+    }
+    Ok(Patterns::of(items))
+}
+
+fn of_global(alloc: Global, rules: &RuleLists, name: &Name) -> Result<RuleLists, AllocError>
+    ensures { IfOk result (λ l. l ≡ of_global rules.now name.now) }
+{
+    Ok(RuleLists {
+        families: Families::of(Vec::new(alloc)),
+        covers: covers_of(alloc, name, rules.covers.as_slice())?,
+        private: patterns_of(alloc, name, rules.private.as_slice())?,
+        readonly: patterns_of(alloc, name, rules.readonly.as_slice())?,
+        entries: EntryTexts::of(Vec::new(alloc)),
+    })
+}
+
+/// The rules of each global that a pattern names.
+#[derive(Drop, Debug)]
+pub(crate) struct Groups {
+    by_global: IndexMap<Vec<u8>, RuleLists>,
+}
+
+impl Model for Groups {
+    ghost use Rattle.std.specs.Prelude.{List, ℕ, map};
+    ghost use Rattle.mlk_coverage.specs.declared.rules.RuleLists.{RuleLists};
+
+    ghost Value = { List (List ℕ × RuleLists) };
+
+    ghost view = { λ g. map (λ p. (p.0.items, p.1)) g.by_global.entries };
+}
+
+impl Groups {
+    fn new(alloc: Global) -> Groups
+        ensures { result ≡ [] }
+    {
+        Groups {
+            by_global: IndexMap::new(alloc),
+        }
+    }
+
+    /// The rules of a global, where a pattern names it.
+    pub fn group(&self, name: &Name) -> Option<&RuleLists>
+        ensures { option_copied result ≡ group_of name.now self.now }
+    {
+        self.by_global.get(name.as_bytes())
+    }
+
+    // Adds the rules of a global, where they are not there.
+    fn add(&mut self, alloc: Global, rules: &RuleLists, name: &Name) -> Result<(), AllocError>
+        ensures { OnOk result (Gains rules.now name.now self.old self.new) }
+    {
+        let key = Vec::from_slice(alloc, name.as_bytes())?;
+        if self.by_global.contains_key(&key) {
+            return Ok(());
+        }
+        self.by_global.insert(key, of_global(alloc, rules, name)?)?;
+        Ok(())
+    }
+}
+
+fn add_covers(
+    alloc: Global,
+    groups: &mut Groups,
+    rules: &RuleLists,
+    covers: &[Cover],
+) -> Result<(), AllocError>
+    ensures { OnOk result (GainsAll rules.now (λ name. (c : cover_rule) × Contains covers.now c × (c.pattern.global ≡ name)) groups.old groups.new) }
+{
+    for cover in covers {
+        groups.add(alloc, rules, &cover.pattern.global)?;
+    }
+    Ok(())
+}
+
+fn add_patterns(
+    alloc: Global,
+    groups: &mut Groups,
+    rules: &RuleLists,
+    patterns: &[Pattern],
+) -> Result<(), AllocError>
+    ensures { OnOk result (GainsAll rules.now (λ name. (p : pattern) × Contains patterns.now p × (p.global ≡ name)) groups.old groups.new) }
+{
+    for pattern in patterns {
+        groups.add(alloc, rules, &pattern.global)?;
+    }
+    Ok(())
+}
+
+/// The groups of rules.
+pub(crate) fn groups_of(alloc: Global, rules: &RuleLists) -> Result<Groups, AllocError>
+    ensures are { IfOk result (AreGroups rules.now) }
+    ensures complete { IfOk result (AreComplete rules.now) }
+{
+    let mut groups = Groups::new(alloc);
+    add_covers(alloc, &mut groups, rules, rules.covers.as_slice())?;
+    add_patterns(alloc, &mut groups, rules, rules.private.as_slice())?;
+    add_patterns(alloc, &mut groups, rules, rules.readonly.as_slice())?;
+    Ok(groups)
+}

@@ -1,0 +1,72 @@
+// Whether a rule's lock is held where a reference touches.
+
+ghost use Rattle.std.specs.Prelude.{◌≡◌, ◌↔◌, IsTrue, Some};
+ghost use Rattle.mlk_names.specs.Symbols.{known_of};
+ghost use Rattle.mlk_names.specs.Terms.{IsPrefix};
+ghost use Rattle.mlk_coverage.specs.Coverage.{symbol_at, cut_template, HoldsLock};
+ghost use Rattle.mlk_coverage.specs.Fronts.{BeginsCut};
+
+use crate::template::{Part, Template};
+use mlk_names::{KnownSym, LockTerm, Reference, Sym};
+
+// Whether the symbol is this known one.
+fn is_known_as(symbol: &Sym, known: &KnownSym) -> bool
+    ensures { IsTrue result ↔ (known_of symbol.now ≡ Some known.now) }
+{
+    match (symbol, known) {
+        (Sym::Const(a), KnownSym::Const(b)) => a == b,
+        (Sym::Local(a), KnownSym::Local(b)) => a == b,
+        (Sym::Job, KnownSym::Job) => true,
+        _ => false,
+    }
+}
+
+// Whether the part of a rule's lock at the subscripts is this symbol.
+fn stands_at(known: &KnownSym, part: &Part, symbols: &[Sym]) -> bool
+    ensures { IsTrue result ↔ (symbol_at symbols.now part.now ≡ Some known.now) }
+{
+    match part {
+        Part::Literal(value) => { matches!(known, KnownSym::Const(constant) if constant == value) }
+        Part::Place(place) => match symbols.get(*place) {
+            Some(symbol) => is_known_as(symbol, known),
+            None => false,
+        },
+    }
+}
+
+// Whether the symbols begin the subscripts of a rule's lock, up to the first that is absent or unknown.
+fn begins_cut(known: &[KnownSym], parts: &[Part], symbols: &[Sym]) -> bool
+    ensures { IsTrue result ↔ BeginsCut known.now parts.now symbols.now }
+{
+    let Some((h, hs)) = known.split_first() else {
+        return true;
+    };
+    let Some((p, ps)) = parts.split_first() else {
+        return false;
+    };
+    stands_at(h, p, symbols) && begins_cut(hs, ps, symbols)
+}
+
+// Whether the term is the rule's lock, or above it.
+fn is_lock(term: &LockTerm, lock: &Template, reference: &Reference) -> bool
+    ensures { IsTrue result ↔ IsPrefix term.now (cut_template lock.now reference.now) }
+{
+    term.root == lock.root
+        && begins_cut(
+            term.subs.as_slice(),
+            lock.parts.as_slice(),
+            reference.subs.as_slice(),
+        )
+}
+
+// Whether some held term is the rule's lock, or above it.
+pub(crate) fn holds_lock(held: &[LockTerm], lock: &Template, reference: &Reference) -> bool
+    ensures { IsTrue result ↔ HoldsLock held.now lock.now reference.now }
+{
+    for term in held {
+        if is_lock(term, lock, reference) {
+            return true;
+        }
+    }
+    false
+}

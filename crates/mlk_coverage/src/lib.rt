@@ -1,0 +1,33 @@
+//! What rules mean: which locks are to be held where a global is touched, and in which order they are claimed.
+#![tactic(auto)]
+
+mod check;
+mod cover;
+mod entry;
+mod family;
+mod groups;
+mod held;
+mod lacking;
+mod law;
+mod lies;
+mod meet;
+mod pattern;
+mod rank;
+mod rules;
+mod sound;
+mod template;
+
+pub use check::covered;
+pub use cover::{Cover, Covers};
+pub use entry::EntryTexts;
+pub use family::{Families, Family};
+pub use lacking::templates;
+pub use law::{
+    computed_answers, covered_apart, lock_of_node, one_rank, share_pattern, surely_lies,
+};
+pub use meet::may_meet;
+pub use pattern::{Element, Elements, Pattern};
+pub use rank::rank_of;
+pub use rules::{Patterns, RuleLists, Rules, entries};
+pub use sound::first_meeting;
+pub use template::{Part, Parts, Template};

@@ -1,0 +1,50 @@
+// Which references a pattern may meet.
+
+ghost use Rattle.std.specs.Prelude.{◌≡◌, ◌↔◌, IsTrue, map};
+ghost use Rattle.mlk_names.specs.References.{SymsMayMeet, SubsMayMeet};
+ghost use Rattle.mlk_coverage.specs.Patterns.{MayMeet};
+ghost use Rattle.mlk_coverage.specs.Fronts.{symbol_of};
+
+use crate::pattern::{Element, Pattern};
+use mlk_names::{Extent, Reference, Sym};
+
+// Whether some value may be that of both.
+fn element_may_meet(element: &Element, symbol: &Sym) -> bool
+    ensures { IsTrue result ↔ SymsMayMeet (symbol_of element.now) symbol.now }
+{
+    let Element::Literal(value) = element else {
+        return true;
+    };
+    let Sym::Const(constant) = symbol else {
+        return true;
+    };
+    value == constant
+}
+
+// Whether subscripts that the elements take reach subscripts that the symbols may reach too.
+fn elements_may_meet(elements: &[Element], wide: Extent, symbols: &[Sym], far: Extent) -> bool
+    ensures { IsTrue result ↔ SubsMayMeet (map symbol_of elements.now) wide symbols.now far }
+{
+    match (elements.split_first(), symbols.split_first()) {
+        (None, None) => true,
+        (None, Some(_)) => matches!(wide, Extent::Tree),
+        (Some(_), None) => matches!(far, Extent::Tree),
+        (Some((e, es)), Some((s, ss))) => {
+            element_may_meet(e, s) && elements_may_meet(es, wide, ss, far)
+        }
+    }
+}
+
+/// Whether some node of the pattern may be one that the reference reaches, each subscript that is no constant being
+/// any value. It takes no memory.
+pub fn may_meet(pattern: &Pattern, reference: &Reference) -> bool
+    ensures { IsTrue result ↔ MayMeet pattern.now reference.now }
+{
+    pattern.global == reference.root
+        && elements_may_meet(
+            pattern.elements.as_slice(),
+            pattern.extent,
+            reference.subs.as_slice(),
+            reference.extent,
+        )
+}
