@@ -3,8 +3,8 @@
 ghost use Rattle.std.specs.Prelude.{◌≡◌};
 ghost use Rattle.mlk_expr.specs.Outcome.{Tells};
 
-use crate::refusal::Refusal;
-use mlk_text::{Fault, Place, Value};
+use crate::refusal::{Refusal, Wrong};
+use mlk_text::{Code, Fault, Place, Value};
 use std::alloc::Global;
 
 /// Why a part of a line was not read.
@@ -15,27 +15,47 @@ pub enum ReadError {
     Refused(Fault),
 }
 
-/// The refusal with its column in the line.
-pub(crate) fn located(alloc: Global, line: &[u8], refusal: Refusal) -> ReadError
+fn code_of(wrong: &Wrong) -> Code {
+    match wrong {
+        Wrong::Form => Code::ExprForm,
+        Wrong::LeftOut(_) => Code::ExprLeftOut,
+        Wrong::Deep => Code::ExprDeep,
+        Wrong::NameLong => Code::NameLong,
+        Wrong::Lent => Code::ArgumentForm,
+    }
+}
+
+// The column of the byte before which these stand, in a line of at least so many.
+fn column_behind(before: usize) -> u32 {
+    if before >= u32::MAX as usize {
+        u32::MAX
+    } else {
+        before as u32 + 1
+    }
+}
+
+/// The refusal with its place in the line, from this byte on.
+pub(crate) fn located(alloc: Global, line: &[u8], at: usize, refusal: Refusal) -> ReadError
     ensures { Tells refusal result }
 {
     let offence = match refusal {
         Refusal::OutOfMemory => return ReadError::OutOfMemory,
         Refusal::Refused(offence) => offence,
     };
-    let before = line.len().saturating_sub(offence.left);
-    let column = if before >= u32::MAX as usize {
-        u32::MAX
-    } else {
-        before as u32 + 1
+    let before = line.len().saturating_sub(offence.left).max(at);
+    let place = Place {
+        routine: Value::new(Vec::new(alloc)),
+        line: 1,
+        column: column_behind(before),
+    };
+    let code = code_of(&offence.wrong);
+    let left_out = match offence.wrong {
+        Wrong::LeftOut(what) => Some(what),
+        _ => None,
     };
     ReadError::Refused(Fault {
-        code: offence.code,
-        place: Place {
-            routine: Value::new(Vec::new(alloc)),
-            line: 1,
-            column,
-        },
-        left_out: offence.left_out,
+        code,
+        place,
+        left_out,
     })
 }
