@@ -6,7 +6,8 @@ ghost use Rattle.mlk_expr.specs.Touches.{may_stand, subs_stand, given_stand, Sta
 ghost use Rattle.mlk_expr.specs.Grammar.{IsExpr, IsReference, IsActualList};
 ghost use Rattle.mlk_expr.specs.Reading.{expr_in, reference_in, actual_list_in};
 ghost use Rattle.mlk_expr.specs.Outcome.{Gives};
-ghost use Rattle.mlk_expr.specs.Theorem.{ExprEnds, ReferenceEnds, ListEnds, Stands, Only, Refuses};
+ghost use Rattle.mlk_expr.specs.Theorem.{ExprEnds, ReferenceEnds, ListEnds, Stands, Only, Refuses, Faults};
+ghost use Rattle.mlk_expr.specs.declared.scope.Passing.TheVariants.{ByReference};
 
 use crate::fault::{ReadError, located};
 use crate::lexeme::{column_of, may_end, starts_reference};
@@ -69,6 +70,7 @@ pub fn read_expr(alloc: Global, line: &[u8], at: usize) -> Result<(Expr, usize),
     ensures found { IfOk result (λ r. Stands IsExpr ExprEnds line.now at (tree_of r.0) r.1) }
     ensures only { IfOk result (λ r. Only IsExpr ExprEnds line.now at (tree_of r.0) r.1) }
     ensures refused { IfErr result (λ e. Refuses IsExpr ExprEnds line.now at e) }
+    ensures fault { IfErr result (λ e. Faults ByReference line.now at e) }
 {
     read_expr_where(alloc, Allows::Everything, line, at)
 }
@@ -84,6 +86,7 @@ pub fn read_expr_where(
     ensures found { IfOk result (λ r. Stands (Standing (may_stand allows) IsExpr) ExprEnds line.now at (tree_of r.0) r.1) }
     ensures only { IfOk result (λ r. Only (Standing (may_stand allows) IsExpr) ExprEnds line.now at (tree_of r.0) r.1) }
     ensures refused { IfErr result (λ e. Refuses (Standing (may_stand allows) IsExpr) ExprEnds line.now at e) }
+    ensures fault { IfErr result (λ e. Faults ByReference line.now at e) }
 {
     let (_, bytes) = line.split_at(at);
     let scope = Scope {
@@ -93,7 +96,7 @@ pub fn read_expr_where(
     };
     match expr(alloc, scope, bytes) {
         Ok((tree, rest)) => Ok((tree, line.len() - rest.len())),
-        Err(refusal) => Err(located(alloc, line, at, refusal)),
+        Err(refusal) => Err(located(alloc, Passing::ByReference, line, at, refusal)),
     }
 }
 
@@ -103,6 +106,7 @@ pub fn read_ref(alloc: Global, line: &[u8], at: usize) -> Result<(Expr, usize), 
     ensures found { IfOk result (λ r. Stands IsReference ReferenceEnds line.now at (tree_of r.0) r.1) }
     ensures only { IfOk result (λ r. Only IsReference ReferenceEnds line.now at (tree_of r.0) r.1) }
     ensures refused { IfErr result (λ e. Refuses IsReference ReferenceEnds line.now at e) }
+    ensures fault { IfErr result (λ e. Faults ByReference line.now at e) }
 {
     read_ref_where(alloc, Allows::Everything, line, at)
 }
@@ -118,6 +122,7 @@ pub fn read_ref_where(
     ensures found { IfOk result (λ r. Stands (Standing (subs_stand allows) IsReference) ReferenceEnds line.now at (tree_of r.0) r.1) }
     ensures only { IfOk result (λ r. Only (Standing (subs_stand allows) IsReference) ReferenceEnds line.now at (tree_of r.0) r.1) }
     ensures refused { IfErr result (λ e. Refuses (Standing (subs_stand allows) IsReference) ReferenceEnds line.now at e) }
+    ensures fault { IfErr result (λ e. Faults ByReference line.now at e) }
 {
     let (_, bytes) = line.split_at(at);
     let scope = Scope {
@@ -127,7 +132,7 @@ pub fn read_ref_where(
     };
     match reference(alloc, scope, bytes) {
         Ok((tree, rest)) => Ok((tree, line.len() - rest.len())),
-        Err(refusal) => Err(located(alloc, line, at, refusal)),
+        Err(refusal) => Err(located(alloc, Passing::ByReference, line, at, refusal)),
     }
 }
 
@@ -141,6 +146,7 @@ pub fn read_actuals(
     ensures found { IfOk result (λ r. Stands IsActualList ListEnds line.now at (actual_trees r.0.items) r.1) }
     ensures only { IfOk result (λ r. Only IsActualList ListEnds line.now at (actual_trees r.0.items) r.1) }
     ensures refused { IfErr result (λ e. Refuses IsActualList ListEnds line.now at e) }
+    ensures fault { IfErr result (λ e. Faults ByReference line.now at e) }
 {
     read_actuals_where(alloc, Allows::Everything, Passing::ByReference, line, at)
 }
@@ -157,6 +163,7 @@ pub fn read_actuals_where(
     ensures found { IfOk result (λ r. Stands (Standing (given_stand allows passing) IsActualList) ListEnds line.now at (actual_trees r.0.items) r.1) }
     ensures only { IfOk result (λ r. Only (Standing (given_stand allows passing) IsActualList) ListEnds line.now at (actual_trees r.0.items) r.1) }
     ensures refused { IfErr result (λ e. Refuses (Standing (given_stand allows passing) IsActualList) ListEnds line.now at e) }
+    ensures fault { IfErr result (λ e. Faults passing line.now at e) }
 {
     let (_, bytes) = line.split_at(at);
     let scope = Scope {
@@ -166,6 +173,6 @@ pub fn read_actuals_where(
     };
     match actual_list(alloc, scope, passing, bytes) {
         Ok((given, rest)) => Ok((given, line.len() - rest.len())),
-        Err(refusal) => Err(located(alloc, line, at, refusal)),
+        Err(refusal) => Err(located(alloc, passing, line, at, refusal)),
     }
 }
