@@ -6,57 +6,60 @@ use Rattle.mlk_text.specs.Reading.{many, Many}
 use Rattle.mlk_text.specs.Lexemes.{byte_at, name_at}
 use Rattle.mlk_text.proofs.Lexemes.{byte-is, byte-takes, name-behind}
 use Rattle.mlk_text.proofs.Readers.{then_some, pair_parts, with_some, Behind, behind-self, behind-one, behind_then, Exact, many_sound, many_behind, many_complete}
-use Rattle.mlk_expr.specs.Trees.{Tree, ActualTree, Given, Lent, Left}
+use Rattle.mlk_expr.specs.Trees.{Tree, ActualTree, Given, ByRef, Missing}
 use Rattle.mlk_expr.specs.declared.tree.Callee.{Callee}
 use Rattle.mlk_expr.specs.declared.tree.Function.{Function}
-use Rattle.mlk_expr.specs.Lexemes.{label_at, lent_at, is_missing, starts_reference}
+use Rattle.mlk_expr.specs.declared.scope.Allows.TheVariants.{NoTouches}
+use Rattle.mlk_expr.specs.declared.scope.Passing.TheVariants.{ByReference}
+use Rattle.mlk_expr.specs.Touches.{may_stand}
+use Rattle.mlk_expr.specs.Lexemes.{column_of, label_at, lent_at, is_missing, starts_reference}
 use Rattle.mlk_expr.specs.Grammar.{has_subscript, asks_subscript}
-use Rattle.mlk_expr.proofs.Behind.{Next, IsList, IsActual, IsActuals, IsArguments, IsChoice, IsCallee}
-use Rattle.mlk_expr.specs.Reading.{next, list_with, actual_by, actual_with, actuals_by, actuals_with, label_alone, label_in, routine_alone, routine_by, callee_by, callee_at, choice_with, others_by, name_and, arguments_by}
+use Rattle.mlk_expr.proofs.Behind.{Quiet, Next, IsList, IsActual, IsActuals, IsArguments, IsChoice, IsCallee}
+use Rattle.mlk_expr.specs.Reading.{quietly, next, list_with, actual_by, actual_with, actuals_by, actuals_with, label_alone, label_in, routine_alone, routine_by, callee_by, callee_at, choice_with, others_by, name_and, arguments_by}
 use Rattle.mlk_expr.proofs.LexemeLemmas.{label-behind, lent-behind, label-caret}
-use Rattle.mlk_expr.proofs.Parts.{next-exact, list-exact}
+use Rattle.mlk_expr.proofs.Parts.{kept-exact, next-exact, list-exact}
 
-pub actual-exact : (read : List ℕ → Option (Tree × List ℕ)) (Is : Tree → List ℕ → List ℕ → Type 0) → Exact read Is → Exact (actual_with read) (IsActual Is)
+pub actual-exact : (end : ℕ) (read : List ℕ → Option (Tree × List ℕ)) (Is : Tree → List ℕ → List ℕ → Type 0) → Exact read Is → Exact (actual_with ByReference end read) (IsActual end Is)
 unfolding actual_with
-actual-exact read Is e = record { sound = λ a xs ys h. go a xs ys (lent_at xs) refl h; complete = done; behind = back }
+actual-exact end read Is e = record { sound = λ a xs ys h. go a xs ys (lent_at xs) refl h; complete = done; behind = back }
   where
-    go : (a : ActualTree) (xs ys : List ℕ) (o : Option (List ℕ × List ℕ)) → lent_at xs ≡ o → actual_by read xs o ≡ Some (a, ys) → IsActual Is a xs ys
-    go a xs ys (Some n) is h = let p = pair_parts (Lent n.0) a n.1 ys h in subst (λ u. IsActual Is u xs ys) p.0 (is ∙ ap (λ l. Some (n.0, l)) p.1)
+    go : (a : ActualTree) (xs ys : List ℕ) (o : Option (List ℕ × List ℕ)) → lent_at xs ≡ o → actual_by ByReference end read xs o ≡ Some (a, ys) → IsActual end Is a xs ys
+    go a xs ys (Some n) is h = let p = pair_parts (ByRef (column_of end xs) n.0) a n.1 ys h in subst (λ u. IsActual end Is u xs ys) p.0 (refl, is ∙ ap (λ l. Some (n.0, l)) p.1)
     go a xs ys None is h = elim (cases_Bool (is_missing xs)) [
-      | inl l ↦ let p = pair_parts Left a xs ys (rw l at h) in subst (λ u. IsActual Is u xs ys) p.0 (p.1, is, l)
-      | inr l ↦ let w = with_some Given (read xs) a ys (rw l at h) in subst (λ u. IsActual Is u xs ys) (sym w.2) (e.sound w.0 xs ys w.1, is, l)
+      | inl l ↦ let p = pair_parts Missing a xs ys (rw l at h) in subst (λ u. IsActual end Is u xs ys) p.0 (p.1, is, l)
+      | inr l ↦ let w = with_some Given (read xs) a ys (rw l at h) in subst (λ u. IsActual end Is u xs ys) (sym w.2) (e.sound w.0 xs ys w.1, is, l)
     ]
 
-    done : (a : ActualTree) (xs ys : List ℕ) → IsActual Is a xs ys → actual_by read xs (lent_at xs) ≡ Some (a, ys)
-    done (Lent n) xs ys h = rw h refl
-    done Left xs ys (same, none, out) = rw none (rw out (ap (λ l. Some (Left, l)) same))
+    done : (a : ActualTree) (xs ys : List ℕ) → IsActual end Is a xs ys → actual_by ByReference end read xs (lent_at xs) ≡ Some (a, ys)
+    done (ByRef column n) xs ys (at, h) = rw h (ap (λ z. Some (ByRef z n, ys)) (sym at))
+    done Missing xs ys (same, none, out) = rw none (rw out (ap (λ l. Some (Missing, l)) same))
     done (Given t) xs ys (is, none, out) = rw none (rw out (rw (e.complete t xs ys is) refl))
 
-    back : (a : ActualTree) (xs ys : List ℕ) → IsActual Is a xs ys → Behind ys xs
-    back (Lent n) xs ys h = lent-behind n xs ys h
-    back Left xs ys (same, none, out) = subst (λ l. Behind l xs) same (behind-self xs)
+    back : (a : ActualTree) (xs ys : List ℕ) → IsActual end Is a xs ys → Behind ys xs
+    back (ByRef column n) xs ys (at, h) = lent-behind n xs ys h
+    back Missing xs ys (same, none, out) = subst (λ l. Behind l xs) same (behind-self xs)
     back (Given t) xs ys (is, none, out) = e.behind t xs ys is
 
-pub actuals-exact : (read : List ℕ → Option (Tree × List ℕ)) (Is : Tree → List ℕ → List ℕ → Type 0) → Exact read Is → Exact (actuals_with read) (IsActuals Is)
+pub actuals-exact : (end : ℕ) (read : List ℕ → Option (Tree × List ℕ)) (Is : Tree → List ℕ → List ℕ → Type 0) → Exact read Is → Exact (actuals_with ByReference end read) (IsActuals end Is)
 unfolding actuals_with
-actuals-exact read Is e = by-list (list-exact (actual_with read) (IsActual Is) (actual-exact read Is e))
+actuals-exact end read Is e = by-list (list-exact (actual_with ByReference end read) (IsActual end Is) (actual-exact end read Is e))
   where
-    by-list : Exact (list_with (actual_with read)) (IsList (IsActual Is)) → Exact (actuals_with read) (IsActuals Is)
+    by-list : Exact (list_with (actual_with ByReference end read)) (IsList (IsActual end Is)) → Exact (actuals_with ByReference end read) (IsActuals end Is)
     by-list l = record { sound = λ given xs ys h. go given xs ys (byte_at 41 xs) refl h; complete = done; behind = back }
       where
-        filled : (given : List ActualTree) (xs ys : List ℕ) → IsList (IsActual Is) given xs ys → byte_at 41 xs ≡ None → IsActuals Is given xs ys
+        filled : (given : List ActualTree) (xs ys : List ℕ) → IsList (IsActual end Is) given xs ys → byte_at 41 xs ≡ None → IsActuals end Is given xs ys
         filled [] xs ys (first, others, n, one, more, f) none = cc f
         filled (a ∷ more) xs ys is none = (is, none)
 
-        go : (given : List ActualTree) (xs ys : List ℕ) (o : Option (ℕ × List ℕ)) → byte_at 41 xs ≡ o → actuals_by read xs o ≡ Some (given, ys) → IsActuals Is given xs ys
-        go given xs ys (Some c) is h = let p = pair_parts [] given c.1 ys h in subst (λ u. IsActuals Is u xs ys) p.0 (byte-is 41 c.0 xs c.1 is ∙ ap (λ z. 41 ∷ z) p.1)
+        go : (given : List ActualTree) (xs ys : List ℕ) (o : Option (ℕ × List ℕ)) → byte_at 41 xs ≡ o → actuals_by ByReference end read xs o ≡ Some (given, ys) → IsActuals end Is given xs ys
+        go given xs ys (Some c) is h = let p = pair_parts [] given c.1 ys h in subst (λ u. IsActuals end Is u xs ys) p.0 (byte-is 41 c.0 xs c.1 is ∙ ap (λ z. 41 ∷ z) p.1)
         go given xs ys None is h = filled given xs ys (l.sound given xs ys h) is
 
-        done : (given : List ActualTree) (xs ys : List ℕ) → IsActuals Is given xs ys → actuals_by read xs (byte_at 41 xs) ≡ Some (given, ys)
+        done : (given : List ActualTree) (xs ys : List ℕ) → IsActuals end Is given xs ys → actuals_by ByReference end read xs (byte_at 41 xs) ≡ Some (given, ys)
         done [] xs ys h = rw h refl
         done (a ∷ more) xs ys (is, none) = rw none (l.complete (a ∷ more) xs ys is)
 
-        back : (given : List ActualTree) (xs ys : List ℕ) → IsActuals Is given xs ys → Behind ys xs
+        back : (given : List ActualTree) (xs ys : List ℕ) → IsActuals end Is given xs ys → Behind ys xs
         back [] xs ys h = subst (λ z. Behind ys z) (sym h) (behind-one 41 ys)
         back (a ∷ more) xs ys (is, none) = l.behind (a ∷ more) xs ys is
 
@@ -128,44 +131,47 @@ ask f t h = elim (cases_Bool (asks_subscript f)) [
 ]
 
 pub arguments-exact : (atom : List ℕ → Option (Tree × List ℕ)) (Atom : Tree → List ℕ → List ℕ → Type 0) (item : List ℕ → Option (Tree × List ℕ)) (Item : Tree → List ℕ → List ℕ → Type 0)
-    → Exact atom Atom → Exact item Item → (f : Function) (most : Option ℕ) → Exact (arguments_by atom item f most) (IsArguments Atom Item f most)
+    → Exact atom Atom → Exact item Item → (f : Function) (most : Option ℕ) → Exact (arguments_by atom item (quietly item) f most) (IsArguments Atom Item f most)
 arguments-exact atom Atom item Item a e f None = let l = list-exact item Item e in record { sound = l.sound; complete = l.complete; behind = l.behind }
 arguments-exact atom Atom item Item a e f (Some most) = record { sound = go; complete = done; behind = back }
   where
-    n : (comma : ℕ) → Exact (next item comma) (Next Item comma)
-    n = next-exact item Item e
+    q : Exact (quietly item) (Quiet Item)
+    q = kept-exact (may_stand NoTouches) item Item e
+
+    n : (comma : ℕ) → Exact (next (quietly item) comma) (Next (Quiet Item) comma)
+    n = next-exact (quietly item) (Quiet Item) q
 
     ended : (xs : List ℕ) (first : Tree) (m : List ℕ) (others : List Tree) (rest : List ℕ) (args : List Tree) (ys : List ℕ)
         → Atom first xs m → starts_reference xs ≡ true → (asks_subscript f ≡ true → has_subscript first ≡ true)
-        → Many (byte_at 44) (Next Item) others m rest → others_by most first (others, rest) ≡ Some (args, ys) → IsArguments Atom Item f (Some most) args xs ys
+        → Many (byte_at 44) (Next (Quiet Item)) others m rest → others_by most first (others, rest) ≡ Some (args, ys) → IsArguments Atom Item f (Some most) args xs ys
     ended xs first m others rest args ys one starts asks more h = elim (cases_Bool (nat_le (length others) most)) [
       | inr b ↦ cc (rw b at h)
       | inl b ↦
           let c = with_some _ (byte_at 41 rest) args ys (rw b at h) in
-          (first, others, m, one, starts, asks, subst (λ z. Many (byte_at 44) (Next Item) others m z) (byte-is 41 c.0 rest ys c.1) more, leb-true (length others) most b, c.2)
+          (first, others, m, one, starts, asks, subst (λ z. Many (byte_at 44) (Next (Quiet Item)) others m z) (byte-is 41 c.0 rest ys c.1) more, leb-true (length others) most b, c.2)
     ]
 
-    go : (args : List Tree) (xs ys : List ℕ) → arguments_by atom item f (Some most) xs ≡ Some (args, ys) → IsArguments Atom Item f (Some most) args xs ys
+    go : (args : List Tree) (xs ys : List ℕ) → arguments_by atom item (quietly item) f (Some most) xs ≡ Some (args, ys) → IsArguments Atom Item f (Some most) args xs ys
     go args xs ys h = elim (cases_Bool (starts_reference xs)) [
       | inr s ↦ cc (rw s at h)
       | inl s ↦
-          let r = then_some (atom xs) (name_and item f most) (args, ys) (rw s at h) in
+          let r = then_some (atom xs) (name_and (quietly item) f most) (args, ys) (rw s at h) in
           elim (cases_Bool (asks_subscript f && not (has_subscript r.0.0))) [
             | inl b ↦ cc (rw b at (r.2))
             | inr b ↦
-                let o = then_some (many (byte_at 44) (next item) (suc (length r.0.1)) r.0.1) (others_by most r.0.0) (args, ys) (rw b at (r.2)) in
+                let o = then_some (many (byte_at 44) (next (quietly item)) (suc (length r.0.1)) r.0.1) (others_by most r.0.0) (args, ys) (rw b at (r.2)) in
                 ended xs r.0.0 r.0.1 o.0.0 o.0.1 args ys (a.sound r.0.0 xs r.0.1 r.1) s (asked f r.0.0 b)
-                (many_sound (byte_at 44) (next item) (Next Item) n _ o.0.0 r.0.1 o.0.1 o.1) o.2
+                (many_sound (byte_at 44) (next (quietly item)) (Next (Quiet Item)) n _ o.0.0 r.0.1 o.0.1 o.1) o.2
           ]
     ]
 
-    done : (args : List Tree) (xs ys : List ℕ) → IsArguments Atom Item f (Some most) args xs ys → arguments_by atom item f (Some most) xs ≡ Some (args, ys)
+    done : (args : List Tree) (xs ys : List ℕ) → IsArguments Atom Item f (Some most) args xs ys → arguments_by atom item (quietly item) f (Some most) xs ≡ Some (args, ys)
     done args xs ys (first, others, m, one, starts, asks, more, few, is) =
         let small : nat_le (length others) most ≡ true = le-leb (length others) most few in
         rw starts (rw (a.complete first xs m one) (rw (ask f first asks)
-        (rw (many_complete (byte_at 44) (next item) (Next Item) (byte-takes 44) n (suc (length m)) others m (41 ∷ ys) (omega arith) more) (rw small (rw is refl)))))
+        (rw (many_complete (byte_at 44) (next (quietly item)) (Next (Quiet Item)) (byte-takes 44) n (suc (length m)) others m (41 ∷ ys) (omega arith) more) (rw small (rw is refl)))))
 
     back : (args : List Tree) (xs ys : List ℕ) → IsArguments Atom Item f (Some most) args xs ys → Behind ys xs
     back args xs ys (first, others, m, one, starts, asks, more, few, is) =
-        let far = many_behind (byte_at 44) (next item) (Next Item) (byte-takes 44) n others m (41 ∷ ys) more in
+        let far = many_behind (byte_at 44) (next (quietly item)) (Next (Quiet Item)) (byte-takes 44) n others m (41 ∷ ys) more in
         behind_then xs m ys (a.behind first xs m one) (behind_then m (41 ∷ ys) ys far (behind-one 41 ys))

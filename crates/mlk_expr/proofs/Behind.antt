@@ -7,7 +7,9 @@ use Rattle.mlk_text.specs.Lexemes.{byte_at, name_at, IsQuoted}
 use Rattle.mlk_text.specs.Numbers.{IsCanonical}
 use Rattle.mlk_text.specs.declared.operator.Op.{Op}
 use Rattle.mlk_expr.specs.declared.tree.Function.{Function}
-use Rattle.mlk_expr.specs.Trees.{Tree, Literal, Inexact, LocalName, GlobalName, SpecialName, Prefixed, Chain, PatternText, Applied, Selected, BareCall, CallOf, ActualTree, Given, Lent, Left, trees_from, subs_from, choices_from, actuals_from}
+use Rattle.mlk_expr.specs.Trees.{Tree, Lit, Free, LocalName, GlobalName, SpecialName, Prefixed, Chain, PatternText, Func, Selected, BareCall, CallOf, ActualTree, Given, ByRef, Missing, trees_from, subs_from, choices_from, actuals_from}
+use Rattle.mlk_expr.specs.declared.scope.Allows.TheVariants.{NoTouches}
+use Rattle.mlk_expr.specs.Touches.{may_stand}
 use Rattle.mlk_expr.specs.Grammar.{chained, named, has_subscript, asks_subscript}
 use Rattle.mlk_expr.specs.Words.{word_at, special_of, function_of, is_select}
 use Rattle.mlk_expr.specs.Lexemes.{column_of, op_at, is_match, unary_of, numeral_at, count_at, pattern_codes_at, label_at, lent_at, starts_reference, is_missing, ends}
@@ -56,22 +58,26 @@ IsSubs end Item [] xs ys = (xs ≡ ys) × (byte_at 40 xs ≡ None)
 IsSubs end Item (s ∷ ss) xs ys = (m : List ℕ) × (xs ≡ 40 ∷ m) × IsList (IsPlaced end Item) (s ∷ ss) m ys × (length (s ∷ ss) ≤ 32)
 
 -- An actual: a name behind a point, nothing, or an expression. Standard: actual parameters.
-abbrev pub IsActual : (Tree → List ℕ → List ℕ → Type 0) → ActualTree → List ℕ → List ℕ → Type 0
-IsActual Item (Lent name) xs ys = lent_at xs ≡ Some (name, ys)
-IsActual Item Left xs ys = (xs ≡ ys) × (lent_at xs ≡ None) × (is_missing xs ≡ true)
-IsActual Item (Given t) xs ys = Item t xs ys × (lent_at xs ≡ None) × (is_missing xs ≡ false)
+abbrev pub IsActual : ℕ → (Tree → List ℕ → List ℕ → Type 0) → ActualTree → List ℕ → List ℕ → Type 0
+IsActual end Item (ByRef column name) xs ys = (column ≡ column_of end xs) × (lent_at xs ≡ Some (name, ys))
+IsActual end Item Missing xs ys = (xs ≡ ys) × (lent_at xs ≡ None) × (is_missing xs ≡ true)
+IsActual end Item (Given t) xs ys = Item t xs ys × (lent_at xs ≡ None) × (is_missing xs ≡ false)
 
 -- actuals behind an opening parenthesis: `()` has none
-abbrev pub IsActuals : (Tree → List ℕ → List ℕ → Type 0) → List ActualTree → List ℕ → List ℕ → Type 0
-IsActuals Item [] xs ys = xs ≡ 41 ∷ ys
-IsActuals Item (a ∷ more) xs ys = IsList (IsActual Item) (a ∷ more) xs ys × (byte_at 41 xs ≡ None)
+abbrev pub IsActuals : ℕ → (Tree → List ℕ → List ℕ → Type 0) → List ActualTree → List ℕ → List ℕ → Type 0
+IsActuals end Item [] xs ys = xs ≡ 41 ∷ ys
+IsActuals end Item (a ∷ more) xs ys = IsList (IsActual end Item) (a ∷ more) xs ys × (byte_at 41 xs ≡ None)
+
+-- what holds no global and no call
+abbrev pub Quiet : (Tree → List ℕ → List ℕ → Type 0) → Tree → List ℕ → List ℕ → Type 0
+Quiet Item t xs ys = Item t xs ys × (may_stand NoTouches t ≡ true)
 
 -- Arguments: expressions, or a name and what may stand behind it. Standard: functions.
 abbrev pub IsArguments : (Tree → List ℕ → List ℕ → Type 0) → (Tree → List ℕ → List ℕ → Type 0) → Function → Option ℕ → List Tree → List ℕ → List ℕ → Type 0
 IsArguments Atom Item f None args xs ys = IsList Item args xs ys
 IsArguments Atom Item f (Some most) args xs ys = (first : Tree) × (others : List Tree) × (m : List ℕ)
     × Atom first xs m × (starts_reference xs ≡ true) × (asks_subscript f ≡ true → has_subscript first ≡ true)
-    × Many (byte_at 44) (Next Item) others m (41 ∷ ys) × (length others ≤ most) × (args ≡ first ∷ others)
+    × Many (byte_at 44) (Next (Quiet Item)) others m (41 ∷ ys) × (length others ≤ most) × (args ≡ first ∷ others)
 
 -- a condition and its value
 abbrev pub IsChoice : (Tree → List ℕ → List ℕ → Type 0) → Tree × Tree → List ℕ → List ℕ → Type 0
@@ -88,9 +94,9 @@ IsCallee None None xs ys = ⊥
 -- no case here is left out: indirection, naked references, structured system variables, other functions and special
 -- variables, external calls, environments.
 abbrev pub IsPlain : ℕ → (Tree → List ℕ → List ℕ → Type 0) → (List ℕ → List ℕ → List ℕ → Type 0) → Tree → List ℕ → List ℕ → Type 0
-IsPlain end Atom Pattern (Literal value) xs ys =
+IsPlain end Atom Pattern (Lit value) xs ys =
     ((text : List ℕ) × (numeral_at xs ≡ Some (text, ys)) × IsCanonical text value) ⊎ IsQuoted value xs ys
-IsPlain end Atom Pattern Inexact xs ys = (text : List ℕ) × (numeral_at xs ≡ Some (text, ys)) × ((value : List ℕ) → IsCanonical text value → ⊥)
+IsPlain end Atom Pattern Free xs ys = (text : List ℕ) × (numeral_at xs ≡ Some (text, ys)) × ((value : List ℕ) → IsCanonical text value → ⊥)
 IsPlain end Atom Pattern (LocalName name subs) xs ys = (m : List ℕ) × (ss : List (ℕ × Tree))
     × (name_at xs ≡ Some (name, m)) × IsSubs end (IsChain Atom Pattern) ss m ys × (subs ≡ subs_from ss)
 IsPlain end Atom Pattern (GlobalName column name subs) xs ys = (m n : List ℕ) × (ss : List (ℕ × Tree))
@@ -100,7 +106,7 @@ IsPlain end Atom Pattern (SpecialName special) xs ys = (m w : List ℕ)
 IsPlain end Atom Pattern (Prefixed op t) xs ys = (b : ℕ) × (m : List ℕ) × (xs ≡ b ∷ m) × (unary_of b ≡ Some op) × Atom t m ys
 IsPlain end Atom Pattern (Chain t ls) xs ys = ⊥
 IsPlain end Atom Pattern (PatternText text) xs ys = ⊥
-IsPlain end Atom Pattern (Applied f args) xs ys = (m n w : List ℕ) × (ts : List Tree)
+IsPlain end Atom Pattern (Func f args) xs ys = (m n w : List ℕ) × (ts : List Tree)
     × (xs ≡ 36 ∷ m) × (word_at m ≡ (w, 40 ∷ n)) × (function_of w ≡ Some f) × IsArguments Atom (IsChain Atom Pattern) f (named f) ts n ys × (args ≡ trees_from ts)
 IsPlain end Atom Pattern (Selected choices) xs ys = (m n w : List ℕ) × (cs : List (Tree × Tree))
     × (xs ≡ 36 ∷ m) × (word_at m ≡ (w, 40 ∷ n)) × (is_select w ≡ true) × IsList (IsChoice (IsChain Atom Pattern)) cs n ys × (choices ≡ choices_from cs)
@@ -108,7 +114,7 @@ IsPlain end Atom Pattern (BareCall column callee) xs ys = (m : List ℕ)
     × (xs ≡ 36 ∷ 36 ∷ m) × (column ≡ column_of end xs) × IsCallee callee.label callee.routine m ys × (byte_at 40 ys ≡ None)
 IsPlain end Atom Pattern (CallOf column callee actuals) xs ys = (m n : List ℕ) × (given : List ActualTree)
     × (xs ≡ 36 ∷ 36 ∷ m) × (column ≡ column_of end xs) × IsCallee callee.label callee.routine m (40 ∷ n)
-    × IsActuals (IsChain Atom Pattern) given n ys × (actuals ≡ actuals_from given)
+    × IsActuals end (IsChain Atom Pattern) given n ys × (actuals ≡ actuals_from given)
 
 -- an operand, perhaps in parentheses, which leave no node
 abbrev pub IsOperand : ℕ → (Tree → List ℕ → List ℕ → Type 0) → (List ℕ → List ℕ → List ℕ → Type 0) → Tree → List ℕ → List ℕ → Type 0
@@ -133,4 +139,4 @@ IsReference end t xs ys = IsAtom end 64 t xs ys × (starts_reference xs ≡ true
 
 -- an actual list in parentheses, as it stands in DO and JOB: what it holds lies one deeper
 unfoldable pub IsActualList : ℕ → List ActualTree → List ℕ → List ℕ → Type 0
-IsActualList end given xs ys = (m : List ℕ) × (xs ≡ 40 ∷ m) × IsActuals (IsNested end 63) given m ys
+IsActualList end given xs ys = (m : List ℕ) × (xs ≡ 40 ∷ m) × IsActuals end (IsNested end 63) given m ys

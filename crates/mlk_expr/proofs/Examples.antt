@@ -9,7 +9,7 @@ use Rattle.mlk_text.proofs.Readers.{pair_parts}
 use Rattle.mlk_text.specs.Lexemes.{name_at, digits_at, inside}
 use Rattle.mlk_expr.specs.declared.tree.Special.TheVariants.{Test}
 use Rattle.mlk_expr.specs.declared.tree.Function.TheVariants.{Get, Order}
-use Rattle.mlk_expr.specs.Trees.{Tree, Literal, Inexact, LocalName, GlobalName, SpecialName, Prefixed, Chain, PatternText, Applied, Selected, BareCall, CallOf, no_links, link, no_subs, sub, no_trees, tree, no_choices, choice, no_actuals, actual, Given, Lent, Left}
+use Rattle.mlk_expr.specs.Trees.{Tree, Lit, Free, LocalName, GlobalName, SpecialName, Prefixed, Chain, PatternText, Func, Selected, BareCall, CallOf, no_links, link, no_subs, sub, no_trees, tree, no_choices, choice, no_actuals, actual, Given, ByRef, Missing}
 use Rattle.mlk_expr.specs.Words.{special_of, special_to_principal, special_from_quit, function_of, function_to_fnumber, function_to_piece, function_from_qlength, is_select}
 use Rattle.mlk_expr.specs.Lexemes.{relation_of, relation_at, arithmetic_of, arithmetic_at, op_at, unary_of, kind_of, mantissa_len, numeral_at, count_at, pattern_codes_at, label_at, lent_at, ends}
 use Rattle.mlk_expr.specs.Grammar.{IsExpr, IsReference}
@@ -52,19 +52,19 @@ unfolding many chain_with atom_at op_at relation_at relation_of arithmetic_at ar
 examples = tt
   where
     -- from left to right, without precedence
-    left_to_right : IsExpr 1 (Chain (Literal (codes "1")) (link Add (Literal (codes "2")) (link Multiply (Literal (codes "3")) no_links))) (codes "1+2*3")
+    left_to_right : IsExpr 1 (Chain (Lit (codes "1")) (link Add (Lit (codes "2")) (link Multiply (Lit (codes "3")) no_links))) (codes "1+2*3")
     left_to_right = spelled _ (codes "1+2*3") refl
 
     -- parentheses leave no node
-    parentheses : IsExpr 1 (Chain (Literal (codes "1")) (link Multiply (Chain (Literal (codes "2")) (link Add (Literal (codes "3")) no_links)) no_links)) (codes "1*(2+3)")
+    parentheses : IsExpr 1 (Chain (Lit (codes "1")) (link Multiply (Chain (Lit (codes "2")) (link Add (Lit (codes "3")) no_links)) no_links)) (codes "1*(2+3)")
     parentheses = spelled _ (codes "1*(2+3)") refl
 
     -- a number is its canonical text
-    numbers : IsExpr 1 (Literal (codes ".5")) (codes "00.50")
+    numbers : IsExpr 1 (Lit (codes ".5")) (codes "00.50")
     numbers = spelled _ (codes "00.50") refl
 
     -- or any value
-    inexact : IsExpr 1 (Inexact) (codes "1E3")
+    inexact : IsExpr 1 (Free) (codes "1E3")
     inexact = spelled _ (codes "1E3") refl
 
     -- a sign before an operand
@@ -84,15 +84,15 @@ examples = tt
     test = spelled _ (codes "$t") refl
 
     -- a function
-    get : IsExpr 1 (Applied Get (tree (LocalName (codes "X") no_subs) (tree (Literal (codes "0")) no_trees))) (codes "$G(X,0)")
+    get : IsExpr 1 (Func Get (tree (LocalName (codes "X") no_subs) (tree (Lit (codes "0")) no_trees))) (codes "$G(X,0)")
     get = spelled _ (codes "$G(X,0)") refl
 
     -- $SELECT
-    select : IsExpr 1 (Selected (choice (LocalName (codes "X") no_subs) (Literal (codes "1")) no_choices)) (codes "$S(X:1)")
+    select : IsExpr 1 (Selected (choice (LocalName (codes "X") no_subs) (Lit (codes "1")) no_choices)) (codes "$S(X:1)")
     select = spelled _ (codes "$S(X:1)") refl
 
     -- a call with a name by reference, nothing, and a value
-    call : IsExpr 1 (CallOf 1 (record { label = Some (codes "F"); routine = Some (codes "R") }) (actual (Lent (codes "X")) (actual Left (actual (Given (Literal (codes "1"))) no_actuals)))) (codes "$$F^R(.X,,1)")
+    call : IsExpr 1 (CallOf 1 (record { label = Some (codes "F"); routine = Some (codes "R") }) (actual (ByRef 7 (codes "X")) (actual Missing (actual (Given (Lit (codes "1"))) no_actuals)))) (codes "$$F^R(.X,,1)")
     call = spelled _ (codes "$$F^R(.X,,1)") refl
 
     -- a call without a list
@@ -111,7 +111,7 @@ examples = tt
     broken = unspelled (codes "1+") refl
 
     -- a sign belongs to its operand
-    signed : IsExpr 1 (Chain (Prefixed Minus (Literal (codes "1"))) (link Add (Literal (codes "2")) no_links)) (codes "-1+2")
+    signed : IsExpr 1 (Chain (Prefixed Minus (Lit (codes "1"))) (link Add (Lit (codes "2")) no_links)) (codes "-1+2")
     signed = spelled _ (codes "-1+2") refl
 
     -- a pattern of alternatives
@@ -126,7 +126,7 @@ examples = tt
     digits_called = spelled _ (codes "$$12") refl
 
     -- $ORDER of a name with a subscript, which may be empty
-    order : IsExpr 1 (Applied Order (tree (GlobalName 4 (codes "A") (sub 7 (Literal []) no_subs)) no_trees)) (codes "$O(^A(\"\"))")
+    order : IsExpr 1 (Func Order (tree (GlobalName 4 (codes "A") (sub 7 (Lit []) no_subs)) no_trees)) (codes "$O(^A(\"\"))")
     order = spelled _ (codes "$O(^A(\"\"))") refl
 
     -- but of no name without one; nor has $DATA a second argument
@@ -142,6 +142,13 @@ examples = tt
 
     no_relation : (t : Tree) → IsExpr 1 t (codes "1'+2") → ⊥
     no_relation = unfinished (codes "1'+2") _ _ _ refl
+
+    -- after the name of $GET stands no global and no call, but in its subscripts
+    touched : (t : Tree) → IsExpr 1 t (codes "$G(X,^A)") → ⊥
+    touched = unspelled (codes "$G(X,^A)") refl
+
+    untouched : IsExpr 1 (Func Get (tree (GlobalName 4 (codes "A") (sub 7 (GlobalName 7 (codes "B") no_subs) no_subs)) (tree (Lit (codes "1")) no_trees))) (codes "$G(^A(^B),1)")
+    untouched = spelled _ (codes "$G(^A(^B),1)") refl
 
     -- a naked reference is left out
     naked : (t : Tree) → IsExpr 1 t (codes "^(1)") → ⊥

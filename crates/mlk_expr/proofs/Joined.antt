@@ -8,7 +8,7 @@ use Rattle.mlk_text.specs.declared.operator.UnaryOp.TheVariants as unary
 use Rattle.mlk_text.specs.Lexemes.{is_digit, is_letter, byte_at}
 use Rattle.mlk_text.specs.Numbers.{are_digits}
 use Rattle.mlk_text.proofs.Readers.{Exact, one_reading}
-use Rattle.mlk_expr.specs.Trees.{Tree, Literal, Inexact, LocalName, GlobalName, SpecialName, Prefixed, Chain, PatternText, Applied, Selected, BareCall, CallOf, subs_from}
+use Rattle.mlk_expr.specs.Trees.{Tree, Lit, Free, LocalName, GlobalName, SpecialName, Prefixed, Chain, PatternText, Func, Selected, BareCall, CallOf, subs_from}
 use Rattle.mlk_expr.specs.Lexemes.{numeral_at, starts_reference, ends}
 use Rattle.mlk_expr.specs.Spellings.{IsNumber, unary_text}
 use Rattle.mlk_expr.specs.Grammar.{IsChain, IsPlain, IsOperand, IsPattern, IsAtom, IsExpr, IsReference, IsActualList}
@@ -101,9 +101,9 @@ module _ (end k : ℕ) where
 
   plain-reference : (at : ℕ) (t : Tree) (s ys : List ℕ) → end ≡ at + length (s ++ ys) → IsPlain (IsAtom k) (IsPattern k) at t s → starts_reference s ≡ true → ReferenceEnds t ys
       → behind.IsPlain end (behind.IsAtom end k) (behind.IsPattern k) t (s ++ ys) ys
-  plain-reference at (Literal value) s ys h (inl same) first ended = absurd (number-first s (canonical-number s value same) first)
-  plain-reference at (Literal value) s ys h (inr (is, good)) first ended = cc (subst (λ z. starts_reference z ≡ true) is first)
-  plain-reference at Inexact s ys h (number, none) first ended = absurd (number-first s number first)
+  plain-reference at (Lit value) s ys h (inl same) first ended = absurd (number-first s (canonical-number s value same) first)
+  plain-reference at (Lit value) s ys h (inr (is, good)) first ended = cc (subst (λ z. starts_reference z ≡ true) is first)
+  plain-reference at Free s ys h (number, none) first ended = absurd (number-first s number first)
   plain-reference at (LocalName name subs) s ys h (part, ss, is, good, list, same) first ended =
       let whole : s ++ ys ≡ name ++ (part ++ ys) = ap (λ l. l ++ ys) is ∙ append_assoc name part ys in
       let quiet = quiet-from ss name ys (subst (λ z. ReferenceEnds (LocalName name z) ys) same ended) in
@@ -119,16 +119,16 @@ module _ (end k : ℕ) where
   plain-reference at (Prefixed op t) s ys h (operand, is, deep) first ended = absurd (sign-first op operand (subst (λ z. starts_reference z ≡ true) is first))
   plain-reference at (Chain t ls) s ys h none first ended = absurd none
   plain-reference at (PatternText text) s ys h none first ended = absurd none
-  plain-reference at (Applied f args) s ys h (w, inner, part, ts, is, word, found, held, list, same) first ended = cc (subst (λ z. starts_reference z ≡ true) is first)
+  plain-reference at (Func f args) s ys h (w, inner, part, ts, is, word, found, held, list, same) first ended = cc (subst (λ z. starts_reference z ≡ true) is first)
   plain-reference at (Selected pairs) s ys h (w, inner, part, cs, is, word, found, held, list, same) first ended = cc (subst (λ z. starts_reference z ≡ true) is first)
   plain-reference at (BareCall column callee) s ys h (called, is, col, name) first ended = cc (subst (λ z. starts_reference z ≡ true) is first)
   plain-reference at (CallOf column callee tail) s ys h (called, part, given, is, col, name, list, same) first ended = cc (subst (λ z. starts_reference z ≡ true) is first)
 
   -- and what stands behind one does not
   plain-ended : (t : Tree) (xs ys : List ℕ) → behind.IsPlain end (behind.IsAtom end k) (behind.IsPattern k) t xs ys → starts_reference xs ≡ true → ReferenceEnds t ys
-  plain-ended (Literal value) xs ys (inl (text, n, same)) first = absurd (numeral-reference text xs ys n first)
-  plain-ended (Literal value) xs ys (inr (is, good, none)) first = cc (subst (λ z. starts_reference z ≡ true) is first)
-  plain-ended Inexact xs ys (text, n, none) first = absurd (numeral-reference text xs ys n first)
+  plain-ended (Lit value) xs ys (inl (text, n, same)) first = absurd (numeral-reference text xs ys n first)
+  plain-ended (Lit value) xs ys (inr (is, good, none)) first = cc (subst (λ z. starts_reference z ≡ true) is first)
+  plain-ended Free xs ys (text, n, none) first = absurd (numeral-reference text xs ys n first)
   plain-ended (LocalName name subs) xs ys (m, ss, n, list, same) first =
       subst (λ z. ReferenceEnds (LocalName name z) ys) (sym same) (ends-from end (behind.IsChain (behind.IsAtom end k) (behind.IsPattern k)) ss name m ys ((name-spelled name xs m n).2) list)
   plain-ended (GlobalName column name subs) xs ys (m, n, ss, is, col, text, list, same) first =
@@ -138,7 +138,7 @@ module _ (end k : ℕ) where
   plain-ended (Prefixed op t) xs ys (b, m, is, o, deep) first = absurd (sign-first op m (subst (λ z. starts_reference z ≡ true) (is ∙ sym (ap (λ l. l ++ m) (unary-spelled op b o))) first))
   plain-ended (Chain t ls) xs ys none first = absurd none
   plain-ended (PatternText text) xs ys none first = absurd none
-  plain-ended (Applied f args) xs ys (m, n, w, ts, is, word, found, list, same) first = cc (subst (λ z. starts_reference z ≡ true) is first)
+  plain-ended (Func f args) xs ys (m, n, w, ts, is, word, found, list, same) first = cc (subst (λ z. starts_reference z ≡ true) is first)
   plain-ended (Selected pairs) xs ys (m, n, w, cs, is, word, found, list, same) first = cc (subst (λ z. starts_reference z ≡ true) is first)
   plain-ended (BareCall column callee) xs ys (m, is, col, called, none) first = cc (subst (λ z. starts_reference z ≡ true) is first)
   plain-ended (CallOf column callee tail) xs ys (m, n, given, is, col, called, list, same) first = cc (subst (λ z. starts_reference z ≡ true) is first)

@@ -6,8 +6,10 @@ use Rattle.std.proofs.lemmas.Bool.Decides.{nat_tests}
 use Rattle.mlk_text.specs.Lexemes.{is_digit, is_letter, byte_at, name_at}
 use Rattle.mlk_text.proofs.Lexemes.{byte-is}
 use Rattle.mlk_expr.specs.declared.tree.Function.{Function}
-use Rattle.mlk_expr.specs.Trees.{Tree, ActualTree, Given, Lent, Left}
+use Rattle.mlk_expr.specs.Trees.{Tree, ActualTree, Given, ByRef, Missing}
 use Rattle.mlk_expr.specs.Lexemes.{column_of, lent_by, lent_at, is_missing, starts_reference, ends}
+use Rattle.mlk_expr.specs.declared.scope.Allows.TheVariants.{NoTouches}
+use Rattle.mlk_expr.specs.Touches.{may_stand, Standing}
 use Rattle.mlk_expr.specs.Grammar.{AreNext, IsPlaced, IsSubs, IsActual, IsActuals, AreArguments, IsChoice, IsCallee}
 use Rattle.mlk_expr.proofs.Behind as behind
 use Rattle.mlk_expr.proofs.Runs.{behind_name, tame}
@@ -78,14 +80,14 @@ opens-given (b ∷ c ∷ s) h = elim (cases_Bool (b == 46)) [
 ]
 
 module _ (end : ℕ) (Is : Tree → List ℕ → List ℕ → Type 0) (Text : ℕ → Tree → List ℕ → Type 0) (j : Joins end Is Text ends) (first-byte : (at : ℕ) (t : Tree) (s : List ℕ) → Text at t s → opens s ≡ true) where
-  actual-apart : (at : ℕ) (a : ActualTree) (xs ys : List ℕ) → end ≡ at + length xs → behind.IsActual Is a xs ys → (s : List ℕ) × (xs ≡ s ++ ys) × IsActual Text at a s
+  actual-apart : (at : ℕ) (a : ActualTree) (xs ys : List ℕ) → end ≡ at + length xs → behind.IsActual end Is a xs ys → (s : List ℕ) × (xs ≡ s ++ ys) × IsActual Text at a s
   unfolding lent_at
-  actual-apart at (Lent name) xs ys h is = go (byte_at 46 xs) refl is
+  actual-apart at (ByRef column name) xs ys h (col, is) = go (byte_at 46 xs) refl is
     where
-      go : (o : Option (ℕ × List ℕ)) → byte_at 46 xs ≡ o → lent_by o ≡ Some (name, ys) → (s : List ℕ) × (xs ≡ s ++ ys) × IsActual Text at (Lent name) s
+      go : (o : Option (ℕ × List ℕ)) → byte_at 46 xs ≡ o → lent_by o ≡ Some (name, ys) → (s : List ℕ) × (xs ≡ s ++ ys) × IsActual Text at (ByRef column name) s
       go None b n = cc n
-      go (Some p) b n = let f = name-spelled name p.1 ys n in (46 ∷ name, byte-is 46 p.0 xs p.1 b ∙ ap (λ l. 46 ∷ l) f.1, (refl, f.0))
-  actual-apart at Left xs ys h (same, none, missing) = ([], same, refl)
+      go (Some p) b n = let f = name-spelled name p.1 ys n in (46 ∷ name, byte-is 46 p.0 xs p.1 b ∙ ap (λ l. 46 ∷ l) f.1, (refl, col ∙ at-column end at xs h, f.0))
+  actual-apart at Missing xs ys h (same, none, missing) = ([], same, refl)
   actual-apart at (Given t) xs ys h (one, none, missing) = j.apart at t xs ys h one
 
   missing-name : (ys : List ℕ) → is_missing ys ≡ true → (behind_name ys ≡ true) × (lent_at ys ≡ None)
@@ -93,42 +95,49 @@ module _ (end : ℕ) (Is : Tree → List ℕ → List ℕ → Type 0) (Text : �
   missing-name [] h = cc h
   missing-name (b ∷ ys) h = let no : (b == 46) ≡ false = grind (arith, nat_tests) in (grind (arith, nat_tests), rw no refl)
 
-  actual-together : (at : ℕ) (a : ActualTree) (s ys : List ℕ) → end ≡ at + length (s ++ ys) → IsActual Text at a s → is_missing ys ≡ true → behind.IsActual Is a (s ++ ys) ys
+  actual-together : (at : ℕ) (a : ActualTree) (s ys : List ℕ) → end ≡ at + length (s ++ ys) → IsActual Text at a s → is_missing ys ≡ true → behind.IsActual end Is a (s ++ ys) ys
   unfolding lent_at
-  actual-together at (Lent name) s ys h (is, good) may = rw is (name-reads name ys good (missing-name ys may).0)
-  actual-together at Left s ys h is may = subst (λ l. behind.IsActual Is Left (l ++ ys) ys) (sym is) (refl, (missing-name ys may).1, may)
+  actual-together at (ByRef column name) s ys h (is, col, good) may = (col ∙ sym (at-column end at (s ++ ys) h), rw is (name-reads name ys good (missing-name ys may).0))
+  actual-together at Missing s ys h is may = subst (λ l. behind.IsActual end Is Missing (l ++ ys) ys) (sym is) (refl, (missing-name ys may).1, may)
   actual-together at (Given t) s ys h one may =
       let g = opens-given (s ++ ys) (opens-more s ys (first-byte at t s one)) in
       (j.together at t s ys h one (missing-ends ys may), g.0, g.1)
 
-  actual-joins : Joins end (behind.IsActual Is) (IsActual Text) is_missing
+  actual-joins : Joins end (behind.IsActual end Is) (IsActual Text) is_missing
   actual-joins = record { apart = actual-apart; together = actual-together }
 
-  pub actuals-apart : (at : ℕ) (given : List ActualTree) (n ys : List ℕ) → end ≡ at + length (40 ∷ n) → behind.IsActuals Is given n ys → (s : List ℕ) × (40 ∷ n ≡ s ++ ys) × IsActuals Text at given s
+  pub actuals-apart : (at : ℕ) (given : List ActualTree) (n ys : List ℕ) → end ≡ at + length (40 ∷ n) → behind.IsActuals end Is given n ys → (s : List ℕ) × (40 ∷ n ≡ s ++ ys) × IsActuals Text at given s
   actuals-apart at [] n ys h is = (40 ∷ 41 ∷ [], ap (λ l. 40 ∷ l) is, refl)
   actuals-apart at (a ∷ more) n ys h (list, none) =
-      let f = list-apart end (behind.IsActual Is) (IsActual Text) actual-joins (suc at) (a ∷ more) n ys (omega arith) list in
+      let f = list-apart end (behind.IsActual end Is) (IsActual Text) actual-joins (suc at) (a ∷ more) n ys (omega arith) list in
       let some : f.0 ≢ [] = λ e. let bad : byte_at 41 n ≡ Some (41, ys) = ap (byte_at 41) (f.1 ∙ ap (λ l. l ++ 41 ∷ ys) e) in cc (none, bad) in
       (40 ∷ (f.0 ++ 41 ∷ []), ap (λ l. 40 ∷ l) f.1 ∙ sym (enclosed-behind f.0 ys), (f.0, refl, f.2, some))
 
   -- no actual begins with a closing parenthesis
   given-first : (at : ℕ) (a : ActualTree) (others : List ActualTree) (inner front rest ys : List ℕ) → inner ≡ front ++ rest → IsActual Text at a front → AreNext (IsActual Text) (at + length front) others rest → inner ≢ []
       → byte_at 41 (inner ++ ys) ≡ None
-  given-first at (Lent name) others inner front rest ys is (one, good) more some = let e : inner ≡ 46 ∷ (name ++ rest) = is ∙ ap (λ l. l ++ rest) one in rw e refl
-  given-first at Left [] inner front rest ys is one more some = absurd (some (is ∙ ap (λ l. l ++ rest) one ∙ more))
-  given-first at Left (b ∷ others) inner front rest ys is one (g, r, same, two, more) some = let e : inner ≡ 44 ∷ (g ++ r) = is ∙ ap (λ l. l ++ rest) one ∙ same in rw e refl
+  given-first at (ByRef column name) others inner front rest ys is (one, col, good) more some = let e : inner ≡ 46 ∷ (name ++ rest) = is ∙ ap (λ l. l ++ rest) one in rw e refl
+  given-first at Missing [] inner front rest ys is one more some = absurd (some (is ∙ ap (λ l. l ++ rest) one ∙ more))
+  given-first at Missing (b ∷ others) inner front rest ys is one (g, r, same, two, more) some = let e : inner ≡ 44 ∷ (g ++ r) = is ∙ ap (λ l. l ++ rest) one ∙ same in rw e refl
   given-first at (Given t) others inner front rest ys is one more some =
       let o = opens-more (front ++ rest) ys (opens-more front rest (first-byte at t front one)) in
       rw is ((opens-given ((front ++ rest) ++ ys) o).2)
 
-  pub actuals-together : (at : ℕ) (given : List ActualTree) (s ys : List ℕ) → end ≡ at + length (s ++ ys) → IsActuals Text at given s → (n : List ℕ) × (s ++ ys ≡ 40 ∷ n) × behind.IsActuals Is given n ys
+  pub actuals-together : (at : ℕ) (given : List ActualTree) (s ys : List ℕ) → end ≡ at + length (s ++ ys) → IsActuals Text at given s → (n : List ℕ) × (s ++ ys ≡ 40 ∷ n) × behind.IsActuals end Is given n ys
   actuals-together at [] s ys h is = (41 ∷ ys, ap (λ l. l ++ ys) is, refl)
   actuals-together at (a ∷ more) s ys h (inner, is, list, some) =
       let whole : s ++ ys ≡ 40 ∷ (inner ++ 41 ∷ ys) = ap (λ l. l ++ ys) is ∙ enclosed-behind inner ys in
       let size = ap length whole in
-      let f = list-together end (behind.IsActual Is) (IsActual Text) actual-joins (suc at) (a ∷ more) inner ys (omega arith) list in
+      let f = list-together end (behind.IsActual end Is) (IsActual Text) actual-joins (suc at) (a ∷ more) inner ys (omega arith) list in
       let first = given-first (suc at) list.0 list.1 inner list.2 list.3 (41 ∷ ys) list.5 list.6 list.7 some in
       (inner ++ 41 ∷ ys, whole, (f, first))
+
+-- what may stand
+quiet-joins : (end : ℕ) (Item : Tree → List ℕ → List ℕ → Type 0) (Text : ℕ → Tree → List ℕ → Type 0) → Joins end Item Text ends → Joins end (behind.Quiet Item) (Standing (may_stand NoTouches) Text) is_missing
+quiet-joins end Item Text j = record {
+  apart = λ at t xs ys h (one, may). let f = j.apart at t xs ys h one in (f.0, f.1, (f.2, may));
+  together = λ at t s ys h (one, may) ends. (j.together at t s ys h one (missing-ends ys ends), may);
+}
 
 -- whether a name begins is seen at the first byte
 pub starts-front : (front m : List ℕ) → opens front ≡ true → starts_reference (front ++ m) ≡ starts_reference front
@@ -142,7 +151,7 @@ module _ (end : ℕ) (Atom : Tree → List ℕ → List ℕ → Type 0) (AtomTex
   arguments-apart f None at args xs ys h list = list-apart end Item Text (weaker end Item Text j) at args xs ys h list
   arguments-apart f (Some most) at args xs ys h (first, others, m, one, is-name, asks, more, few, same) =
       let r = a.apart at first xs m h one in
-      let g = next-apart end Item Text (weaker end Item Text j) (at + length r.0) others m (41 ∷ ys) (moved end at xs r.0 m h r.1) more in
+      let g = next-apart end (behind.Quiet Item) (Standing (may_stand NoTouches) Text) (quiet-joins end Item Text j) (at + length r.0) others m (41 ∷ ys) (moved end at xs r.0 m h r.1) more in
       let name = sym (starts-front r.0 m (first-byte at first r.0 r.2)) ∙ ap starts_reference (sym (r.1)) ∙ is-name in
       (r.0 ++ g.0, r.1 ∙ ap (λ l. r.0 ++ l) g.1 ∙ sym (append_assoc r.0 g.0 (41 ∷ ys)), (first, others, r.0, g.0, same, refl, r.2, name, asks, g.2, few))
 
@@ -152,9 +161,9 @@ module _ (end : ℕ) (Atom : Tree → List ℕ → List ℕ → Type 0) (AtomTex
   arguments-together f (Some most) at args inner ys h (first, others, front, rest, same, is, one, is-name, asks, more, few) =
       let whole : inner ++ 41 ∷ ys ≡ front ++ (rest ++ 41 ∷ ys) = ap (λ l. l ++ 41 ∷ ys) is ∙ append_assoc front rest (41 ∷ ys) in
       let far = moved end at (inner ++ 41 ∷ ys) front (rest ++ 41 ∷ ys) h whole in
-      let may = next-missing end Item Text (weaker end Item Text j) (at + length front) others rest ys more in
+      let may = next-missing end (behind.Quiet Item) (Standing (may_stand NoTouches) Text) (quiet-joins end Item Text j) (at + length front) others rest ys more in
       let r = a.together at first front (rest ++ 41 ∷ ys) (h ∙ ap (λ z. at + length z) whole) one (ends-tame (rest ++ 41 ∷ ys) (missing-ends (rest ++ 41 ∷ ys) may)) in
-      let g = next-together end Item Text (weaker end Item Text j) (at + length front) others rest ys far more in
+      let g = next-together end (behind.Quiet Item) (Standing (may_stand NoTouches) Text) (quiet-joins end Item Text j) (at + length front) others rest ys far more in
       let name = starts-front front (rest ++ 41 ∷ ys) (first-byte at first front one) ∙ is-name in
       subst (λ z. behind.IsArguments Atom Item f (Some most) args z ys) (sym whole) (first, others, rest ++ 41 ∷ ys, r, name, asks, g, few, same)
 

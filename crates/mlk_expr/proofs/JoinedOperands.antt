@@ -7,7 +7,7 @@ use Rattle.mlk_text.specs.declared.operator.UnaryOp.{UnaryOp}
 use Rattle.mlk_text.specs.declared.operator.UnaryOp.TheVariants as unary
 use Rattle.mlk_text.specs.Lexemes.{is_digit, is_letter, byte_at, name_at, doubled}
 use Rattle.mlk_text.specs.Numbers.{are_digits, IsNumeral, IsCanonical}
-use Rattle.mlk_expr.specs.Trees.{Tree, Literal, Inexact, LocalName, GlobalName, SpecialName, Prefixed, Chain, PatternText, Applied, Selected, BareCall, CallOf}
+use Rattle.mlk_expr.specs.Trees.{Tree, Lit, Free, LocalName, GlobalName, SpecialName, Prefixed, Chain, PatternText, Func, Selected, BareCall, CallOf}
 use Rattle.mlk_expr.specs.Lexemes.{ends}
 use Rattle.mlk_expr.specs.Spellings.{IsName, IsNumber, unary_text}
 use Rattle.mlk_expr.specs.Grammar.{IsSubs, IsChoice, IsChain, IsPlain, IsOperand, IsPattern, IsAtom, named}
@@ -107,9 +107,9 @@ module _ (end : ℕ) (Atom : Tree → List ℕ → List ℕ → Type 0) (Text : 
   )
 
   plain-apart : (at : ℕ) (t : Tree) (xs ys : List ℕ) → end ≡ at + length xs → behind.IsPlain end Atom Pattern t xs ys → (s : List ℕ) × (xs ≡ s ++ ys) × IsPlain Text PatternOf at t s
-  plain-apart at (Literal value) xs ys h (inl (text, n, same)) = let f = number-spelled text xs ys n in (text, f.1, inl same)
-  plain-apart at (Literal value) xs ys h (inr (is, good, none)) = (34 ∷ (doubled value ++ 34 ∷ []), is ∙ sym (quoted-behind value ys), inr (refl, good))
-  plain-apart at Inexact xs ys h (text, n, none) = let f = number-spelled text xs ys n in (text, f.1, (f.0, none))
+  plain-apart at (Lit value) xs ys h (inl (text, n, same)) = let f = number-spelled text xs ys n in (text, f.1, inl same)
+  plain-apart at (Lit value) xs ys h (inr (is, good, none)) = (34 ∷ (doubled value ++ 34 ∷ []), is ∙ sym (quoted-behind value ys), inr (refl, good))
+  plain-apart at Free xs ys h (text, n, none) = let f = number-spelled text xs ys n in (text, f.1, (f.0, none))
   plain-apart at (LocalName name subs) xs ys h (m, ss, n, list, same) =
       let f = name-spelled name xs m n in
       let g = subs-apart end (behind.IsChain Atom Pattern) (IsChain Text PatternOf) chains (at + length name) ss m ys (moved end at xs name m h (f.1)) list in
@@ -129,7 +129,7 @@ module _ (end : ℕ) (Atom : Tree → List ℕ → List ℕ → Type 0) (Text : 
       (unary_text op ++ f.0, is ∙ ap (λ l. b ∷ l) f.1 ∙ sym (ap (λ l. (l ++ f.0) ++ ys) text), (f.0, refl, f.2))
   plain-apart at (Chain t ls) xs ys h none = absurd none
   plain-apart at (PatternText text) xs ys h none = absurd none
-  plain-apart at (Applied f args) xs ys h (m, n, w, ts, is, word, found, list, same) =
+  plain-apart at (Func f args) xs ys h (m, n, w, ts, is, word, found, list, same) =
       let r = word-spelled w m (40 ∷ n) word in
       let whole : xs ≡ 36 ∷ (w ++ 40 ∷ n) = is ∙ ap (λ l. 36 ∷ l) r.1 in
       let size = ap length whole in
@@ -158,9 +158,9 @@ module _ (end : ℕ) (Atom : Tree → List ℕ → List ℕ → Type 0) (Text : 
 
   -- what may stand behind an operand: anything that does not go on with it
   plain-together : (at : ℕ) (t : Tree) (s ys : List ℕ) → end ≡ at + length (s ++ ys) → IsPlain Text PatternOf at t s → tame ys ≡ true → behind.IsPlain end Atom Pattern t (s ++ ys) ys
-  plain-together at (Literal value) s ys h (inl same) may = inl (s, number-reads s ys (canonical-number s value same) may, same)
-  plain-together at (Literal value) s ys h (inr (is, good)) may = inr (ap (λ l. l ++ ys) is ∙ quoted-behind value ys, good, tame-quote ys may)
-  plain-together at Inexact s ys h (number, none) may = (s, number-reads s ys number may, none)
+  plain-together at (Lit value) s ys h (inl same) may = inl (s, number-reads s ys (canonical-number s value same) may, same)
+  plain-together at (Lit value) s ys h (inr (is, good)) may = inr (ap (λ l. l ++ ys) is ∙ quoted-behind value ys, good, tame-quote ys may)
+  plain-together at Free s ys h (number, none) may = (s, number-reads s ys number may, none)
   plain-together at (LocalName name subs) s ys h (part, ss, is, good, list, same) may =
       let whole : s ++ ys ≡ name ++ (part ++ ys) = ap (λ l. l ++ ys) is ∙ append_assoc name part ys in
       let f = variable-together at name part ys ss (h ∙ ap (λ z. at + length z) whole) good list (λ e. tame-goes ys may) in
@@ -178,7 +178,7 @@ module _ (end : ℕ) (Atom : Tree → List ℕ → List ℕ → Type 0) (Text : 
       (r.0, operand ++ ys, whole, r.2, a.together (suc at) t operand ys (omega arith) deep may)
   plain-together at (Chain t ls) s ys h none may = absurd none
   plain-together at (PatternText text) s ys h none may = absurd none
-  plain-together at (Applied f args) s ys h (w, inner, part, ts, is, word, found, held, list, same) may =
+  plain-together at (Func f args) s ys h (w, inner, part, ts, is, word, found, held, list, same) may =
       let whole : s ++ ys ≡ 36 ∷ (w ++ 40 ∷ (inner ++ 41 ∷ ys)) = ap (λ l. l ++ ys) is ∙ ap (λ l. 36 ∷ l) (append_assoc w part ys ∙ ap (λ l. w ++ (l ++ ys)) held ∙ ap (λ l. w ++ l) (enclosed-behind inner ys)) in
       let size = ap length whole in
       let sum = length-append w (40 ∷ (inner ++ 41 ∷ ys)) in
@@ -201,16 +201,16 @@ module _ (end : ℕ) (Atom : Tree → List ℕ → List ℕ → Type 0) (Text : 
       (called ++ 40 ∷ g.0, g.0, given, whole, col ∙ sym (at-column end at (s ++ ys) h), callee-together callee.label callee.routine called (40 ∷ g.0) name refl refl, g.2, same)
 
   plain-opens : (at : ℕ) (t : Tree) (s : List ℕ) → IsPlain Text PatternOf at t s → opens s ≡ true
-  plain-opens at (Literal value) s (inl same) = number-opens s (canonical-number s value same)
-  plain-opens at (Literal value) s (inr (is, good)) = rw is refl
-  plain-opens at Inexact s (number, none) = number-opens s number
+  plain-opens at (Lit value) s (inl same) = number-opens s (canonical-number s value same)
+  plain-opens at (Lit value) s (inr (is, good)) = rw is refl
+  plain-opens at Free s (number, none) = number-opens s number
   plain-opens at (LocalName name subs) s (part, ss, is, good, list, same) = subst (λ z. opens z ≡ true) (sym is) (name-opens name part good)
   plain-opens at (GlobalName column name subs) s (part, ss, is, col, good, list, same) = rw is refl
   plain-opens at (SpecialName special) s (w, is, word, found) = rw is refl
   plain-opens at (Prefixed op t) s (operand, is, deep) = subst (λ z. opens z ≡ true) (sym is) (unary-opens op operand)
   plain-opens at (Chain t ls) s none = absurd none
   plain-opens at (PatternText text) s none = absurd none
-  plain-opens at (Applied f args) s (w, inner, part, ts, is, word, found, held, list, same) = rw is refl
+  plain-opens at (Func f args) s (w, inner, part, ts, is, word, found, held, list, same) = rw is refl
   plain-opens at (Selected pairs) s (w, inner, part, cs, is, word, found, held, list, same) = rw is refl
   plain-opens at (BareCall column callee) s (called, is, col, name) = rw is refl
   plain-opens at (CallOf column callee tail) s (called, part, given, is, col, name, list, same) = rw is refl

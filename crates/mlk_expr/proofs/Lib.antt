@@ -12,9 +12,11 @@ pub mod LexemeLemmas
 pub mod Parts
 pub mod Arguments
 pub mod Operands
+pub mod Kept
 pub mod Whole
 pub mod Examples
 pub mod Loops
+pub mod Scopes
 pub mod Steps
 pub mod Variants
 pub mod Places

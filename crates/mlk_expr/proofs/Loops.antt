@@ -11,7 +11,8 @@ use Rattle.mlk_expr.specs.declared.refusal.Refusal.{Refusal}
 use Rattle.mlk_expr.specs.declared.refusal.Refusal.TheVariants.{OutOfMemory, Refused}
 use Rattle.mlk_expr.specs.Trees.{Tree}
 use Rattle.mlk_expr.specs.Lexemes.{op_at, is_match, count_at}
-use Rattle.mlk_expr.specs.Reading.{at_most, right_by, matcher_by, some_atoms, pattern_at, operand_with, atom_at, rest_of}
+use Rattle.mlk_expr.specs.declared.scope.Allows.TheVariants.{Everything}
+use Rattle.mlk_expr.specs.Reading.{quietly, chain_with, at_most, right_by, matcher_by, some_atoms, pattern_at, operand_with, atom_at, rest_of}
 use Rattle.mlk_expr.proofs.Behind.{IsPattern, IsRight, IsAtom, IsMatcher}
 use Rattle.mlk_expr.specs.Outcome.{Fails, IsRefused, IsLike}
 use Rattle.mlk_expr.proofs.LexemeLemmas.{op-takes, count-takes}
@@ -97,17 +98,12 @@ pub item-shorter : {A : Type 0} (read : List ℕ → Option (A × List ℕ)) (Is
     → (a : A) (xs m ys : List ℕ) → byte_at 44 xs ≡ Some (44, m) → read m ≡ Some (a, ys) → length ys < length xs
 item-shorter read Is e a xs m ys is one = shorter (byte_at 44) read Is (byte-takes 44) e 44 a xs m ys is one
 
-pub link-shorter : (end k : ℕ) (op : Op) (t : Tree) (xs m ys : List ℕ) → op_at xs ≡ Some (op, m) → right_by (atom_at end k) (pattern_at k) (is_match op) m ≡ Some (t, ys) → length ys < length xs
-link-shorter end k op t xs m ys is one =
-    shorter op_at (right_by (atom_at end k) (pattern_at k) (is_match op)) (IsRight (IsAtom end k) (IsPattern k) (is_match op)) op-takes
-    (right-exact (atom_at end k) (IsAtom end k) (pattern_at k) (IsPattern k) (atom-exact end k) (pattern-exact k) (is_match op)) op t xs m ys is one
-
 pub matcher-shorter : (k : ℕ) (count : List ℕ) (xs m ys : List ℕ) → count_at xs ≡ Some (count, m) → matcher_by (pattern_at k) count m ≡ Some (count, ys) → length ys < length xs
 matcher-shorter k count xs m ys is one =
     shorter count_at (matcher_by (pattern_at k) count) (IsMatcher (IsPattern k) count) count-takes (matcher-exact (pattern_at k) (IsPattern k) (pattern-exact k) count) count count xs m ys is one
 
 -- one level
-pub atom-above : (end k : ℕ) (xs : List ℕ) → 0 < k → atom_at end k xs ≡ operand_with end (atom_at end (k - 1)) (pattern_at (k - 1)) xs
+pub atom-above : (end k : ℕ) (xs : List ℕ) → 0 < k → atom_at end k xs ≡ operand_with Everything end (atom_at end (k - 1)) (quietly (chain_with (atom_at end (k - 1)) (pattern_at (k - 1)))) (pattern_at (k - 1)) xs
 unfolding atom_at
 atom-above end zero xs h = absurd (omega arith)
 atom-above end (suc k) xs h = let e : suc k - 1 ≡ k = omega arith in rw e refl

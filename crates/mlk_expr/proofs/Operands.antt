@@ -10,12 +10,14 @@ use Rattle.mlk_expr.specs.declared.tree.Callee.{Callee}
 use Rattle.mlk_expr.specs.declared.tree.Special.{Special}
 use Rattle.mlk_expr.specs.declared.lexeme.Kind.{Kind}
 use Rattle.mlk_expr.specs.declared.lexeme.Kind.TheVariants as kind
-use Rattle.mlk_expr.specs.Trees.{Tree, Literal, Inexact, LocalName, GlobalName, SpecialName, Prefixed, Chain, PatternText, Applied, Selected, BareCall, CallOf}
+use Rattle.mlk_expr.specs.Trees.{Tree, Lit, Free, LocalName, GlobalName, SpecialName, Prefixed, Chain, PatternText, Func, Selected, BareCall, CallOf}
+use Rattle.mlk_expr.specs.declared.scope.Allows.TheVariants.{Everything}
+use Rattle.mlk_expr.specs.declared.scope.Passing.TheVariants.{ByReference}
 use Rattle.mlk_expr.specs.Words.{word_at, special_of, function_of, is_select}
 use Rattle.mlk_expr.specs.Lexemes.{column_of, kind_of, numeral_at}
 use Rattle.mlk_expr.specs.Grammar.{named}
 use Rattle.mlk_expr.proofs.Behind.{IsPattern, IsChain, IsPlain, IsOperand, IsAtom, IsChoice}
-use Rattle.mlk_expr.specs.Reading.{number_by, number_of, pattern_at, chain_with, subs_with, actuals_with, callee_at, call_by, call_with, arguments_by, arguments_with, choice_with, list_with, function_with, special_by, word_by, dollar_by, dollar_with, atom_by, operand_with, atom_at}
+use Rattle.mlk_expr.specs.Reading.{quietly, number_by, number_of, pattern_at, chain_with, subs_with, actuals_with, callee_at, call_by, call_with, arguments_by, arguments_with, choice_with, list_with, function_with, special_by, word_by, dollar_by, dollar_with, atom_by, operand_with, atom_at}
 use Rattle.mlk_text.proofs.CanonicalReading.{canonical-sound, canonical-complete, canonical-none}
 use Rattle.mlk_expr.proofs.LexemeLemmas.{numeral-behind, word-behind, kind-open, kind-quote, kind-caret, kind-dollar, prefix-is, prefix-from, is-open, is-quote, is-caret, is-dollar, name-first, numeral-first, word-none, no-special, no-function, no-select, function-no-select}
 use Rattle.mlk_expr.proofs.Parts.{list-exact, chain-exact, subs-exact, pattern-exact}
@@ -34,20 +36,20 @@ module _ (end : ℕ) (read : List ℕ → Option (Tree × List ℕ)) (Is : Tree 
   number-plain text xs ys None is n = (text, n, λ value h. let bad = sym is ∙ canonical-complete text value h in cc bad)
   number-plain text xs ys (Some value) is n = inl (text, n, canonical-sound text value is)
 
-  call-sound : (t : Tree) (xs ys : List ℕ) → call_with (chain_with read pattern) (column_of end (36 ∷ 36 ∷ xs)) xs ≡ Some (t, ys) → IsPlain end Is Pattern t (36 ∷ 36 ∷ xs) ys
+  call-sound : (t : Tree) (xs ys : List ℕ) → call_with true end (chain_with read pattern) (column_of end (36 ∷ 36 ∷ xs)) xs ≡ Some (t, ys) → IsPlain end Is Pattern t (36 ∷ 36 ∷ xs) ys
   unfolding call_with
   call-sound t xs ys h =
       let c = then_some (callee_at xs) _ (t, ys) h in
       go c.0.0 c.0.1 (byte_at 40 c.0.1) (callee-exact.sound c.0.0 xs c.0.1 c.1) refl c.2
     where
       go : (callee : Callee) (rest : List ℕ) (o : Option (ℕ × List ℕ)) → CalleeIs callee xs rest → byte_at 40 rest ≡ o
-          → call_by (chain_with read pattern) (column_of end (36 ∷ 36 ∷ xs)) callee rest o ≡ Some (t, ys) → IsPlain end Is Pattern t (36 ∷ 36 ∷ xs) ys
+          → call_by end (chain_with read pattern) (column_of end (36 ∷ 36 ∷ xs)) callee rest o ≡ Some (t, ys) → IsPlain end Is Pattern t (36 ∷ 36 ∷ xs) ys
       go callee rest None is b h =
           let p = pair_parts (BareCall (column_of end (36 ∷ 36 ∷ xs)) callee) t rest ys h in
           subst (λ z. IsPlain end Is Pattern z (36 ∷ 36 ∷ xs) ys) p.0
           (xs, refl, refl, subst (λ z. CalleeIs callee xs z) p.1 is, subst (λ z. byte_at 40 z ≡ None) p.1 b)
       go callee rest (Some o) is b h =
-          let w = with_some _ (actuals_with (chain_with read pattern) o.1) t ys h in
+          let w = with_some _ (actuals_with ByReference end (chain_with read pattern) o.1) t ys h in
           subst (λ z. IsPlain end Is Pattern z (36 ∷ 36 ∷ xs) ys) (sym w.2) (
             xs,
             o.1,
@@ -55,11 +57,11 @@ module _ (end : ℕ) (read : List ℕ → Option (Tree × List ℕ)) (Is : Tree 
             refl,
             refl,
             subst (λ z. CalleeIs callee xs z) (byte-is 40 o.0 rest o.1 b) is,
-            (actuals-exact (chain_with read pattern) (IsChain Is Pattern) chains).sound w.0 o.1 ys w.1,
+            (actuals-exact end (chain_with read pattern) (IsChain Is Pattern) chains).sound w.0 o.1 ys w.1,
             refl,
           )
 
-  function-sound : (t : Tree) (w m xs ys : List ℕ) → word_at m ≡ (w, 40 ∷ xs) → function_with read (chain_with read pattern) w xs ≡ Some (t, ys) → IsPlain end Is Pattern t (36 ∷ m) ys
+  function-sound : (t : Tree) (w m xs ys : List ℕ) → word_at m ≡ (w, 40 ∷ xs) → function_with read (chain_with read pattern) (quietly (chain_with read pattern)) w xs ≡ Some (t, ys) → IsPlain end Is Pattern t (36 ∷ m) ys
   unfolding function_with arguments_with
   function-sound t w m xs ys is h = elim (cases_Bool (is_select w)) [
     | inl s ↦
@@ -77,7 +79,7 @@ module _ (end : ℕ) (read : List ℕ → Option (Tree × List ℕ)) (Is : Tree 
         )
     | inr s ↦
         let f = then_some (function_of w) _ (t, ys) (rw s at h) in
-        let a = with_some _ (arguments_by read (chain_with read pattern) f.0 (named f.0) xs) t ys f.2 in
+        let a = with_some _ (arguments_by read (chain_with read pattern) (quietly (chain_with read pattern)) f.0 (named f.0) xs) t ys f.2 in
         subst (λ z. IsPlain end Is Pattern z (36 ∷ m) ys) (sym a.2) (
           m,
           xs,
@@ -98,28 +100,28 @@ module _ (end : ℕ) (read : List ℕ → Option (Tree × List ℕ)) (Is : Tree 
       let p = pair_parts (SpecialName v) t rest ys h in
       subst (λ z. IsPlain end Is Pattern z (36 ∷ m) ys) p.0 (m, w, refl, is ∙ ap (λ z. (w, z)) p.1, s, subst (λ z. byte_at 40 z ≡ None) p.1 b)
 
-  word-sound : (t : Tree) (m ys : List ℕ) (o : Option (ℕ × List ℕ)) → byte_at 40 (word_at m).1 ≡ o → word_by read (chain_with read pattern) (word_at m) o ≡ Some (t, ys) → IsPlain end Is Pattern t (36 ∷ m) ys
+  word-sound : (t : Tree) (m ys : List ℕ) (o : Option (ℕ × List ℕ)) → byte_at 40 (word_at m).1 ≡ o → word_by read (chain_with read pattern) (quietly (chain_with read pattern)) (word_at m) o ≡ Some (t, ys) → IsPlain end Is Pattern t (36 ∷ m) ys
   word-sound t m ys None b h = special-sound t (word_at m).0 (word_at m).1 m ys (special_of (word_at m).0) refl b refl h
   word-sound t m ys (Some o) b h = function-sound t (word_at m).0 m o.1 ys (ap (λ z. ((word_at m).0, z)) (byte-is 40 o.0 (word_at m).1 o.1 b)) h
 
-  dollar-sound : (t : Tree) (xs ys : List ℕ) → dollar_with read (chain_with read pattern) (column_of end (36 ∷ xs)) xs ≡ Some (t, ys) → IsPlain end Is Pattern t (36 ∷ xs) ys
+  dollar-sound : (t : Tree) (xs ys : List ℕ) → dollar_with true end read (chain_with read pattern) (quietly (chain_with read pattern)) (column_of end (36 ∷ xs)) xs ≡ Some (t, ys) → IsPlain end Is Pattern t (36 ∷ xs) ys
   unfolding dollar_with
   dollar-sound t xs ys h = go (byte_at 36 xs) refl h
     where
-      go : (o : Option (ℕ × List ℕ)) → byte_at 36 xs ≡ o → dollar_by read (chain_with read pattern) (column_of end (36 ∷ xs)) xs o ≡ Some (t, ys) → IsPlain end Is Pattern t (36 ∷ xs) ys
+      go : (o : Option (ℕ × List ℕ)) → byte_at 36 xs ≡ o → dollar_by true end read (chain_with read pattern) (quietly (chain_with read pattern)) (column_of end (36 ∷ xs)) xs o ≡ Some (t, ys) → IsPlain end Is Pattern t (36 ∷ xs) ys
       go None b h = word-sound t xs ys (byte_at 40 (word_at xs).1) refl h
       go (Some d) b h =
           let is = byte-is 36 d.0 xs d.1 b in
-          let moved : call_with (chain_with read pattern) (column_of end (36 ∷ 36 ∷ d.1)) d.1 ≡ Some (t, ys) =
-          subst (λ z. call_with (chain_with read pattern) (column_of end (36 ∷ z)) d.1 ≡ Some (t, ys)) is h in
+          let moved : call_with true end (chain_with read pattern) (column_of end (36 ∷ 36 ∷ d.1)) d.1 ≡ Some (t, ys) =
+          subst (λ z. call_with true end (chain_with read pattern) (column_of end (36 ∷ z)) d.1 ≡ Some (t, ys)) is h in
           subst (λ z. IsPlain end Is Pattern t (36 ∷ z) ys) (sym is) (call-sound t d.1 ys moved)
 
-  operand-sound : (k : Kind) (b : ℕ) → kind_of b ≡ k → (t : Tree) (xs ys : List ℕ) → atom_by end read pattern k b xs ≡ Some (t, ys) → IsOperand end Is Pattern t (b ∷ xs) ys
+  operand-sound : (k : Kind) (b : ℕ) → kind_of b ≡ k → (t : Tree) (xs ys : List ℕ) → atom_by Everything end read (quietly (chain_with read pattern)) pattern k b xs ≡ Some (t, ys) → IsOperand end Is Pattern t (b ∷ xs) ys
   operand-sound kind.Numeral b is t xs ys h =
       let w = with_some number_of (numeral_at (b ∷ xs)) t ys h in
       subst (λ u. IsOperand end Is Pattern u (b ∷ xs) ys) (sym w.2) (inl (number-plain w.0 (b ∷ xs) ys (canonical_text w.0) refl w.1))
   operand-sound kind.Quote b is t xs ys h =
-      let w = with_some Literal (inside xs) t ys h in
+      let w = with_some Lit (inside xs) t ys h in
       let q = subst (λ c. IsQuoted w.0 (c ∷ xs) ys) (sym (is-quote b is)) (quoted-sound w.0 xs ys w.1) in
       subst (λ u. IsOperand end Is Pattern u (b ∷ xs) ys) (sym w.2) (inl (inr q))
   operand-sound kind.Letter b is t xs ys h =
@@ -134,8 +136,8 @@ module _ (end : ℕ) (read : List ℕ → Option (Tree × List ℕ)) (Is : Tree 
       subst (λ u. IsOperand end Is Pattern u (b ∷ xs) ys) (sym w.2) (inl (xs, n.0.1, w.0, ap (λ c. c ∷ xs) (is-caret b is), refl, n.1, subs, refl))
   operand-sound kind.Dollar b is t xs ys h =
       let eq = is-dollar b is in
-      let moved : dollar_with read (chain_with read pattern) (column_of end (36 ∷ xs)) xs ≡ Some (t, ys) =
-      subst (λ c. dollar_with read (chain_with read pattern) (column_of end (c ∷ xs)) xs ≡ Some (t, ys)) eq h in
+      let moved : dollar_with true end read (chain_with read pattern) (quietly (chain_with read pattern)) (column_of end (36 ∷ xs)) xs ≡ Some (t, ys) =
+      subst (λ c. dollar_with true end read (chain_with read pattern) (quietly (chain_with read pattern)) (column_of end (c ∷ xs)) xs ≡ Some (t, ys)) eq h in
       inl (subst (λ c. IsPlain end Is Pattern t (c ∷ xs) ys) (sym eq) (dollar-sound t xs ys moved))
   operand-sound kind.Open b is t xs ys h =
       let n = then_some (chain_with read pattern xs) _ (t, ys) h in
@@ -151,15 +153,15 @@ module _ (end : ℕ) (read : List ℕ → Option (Tree × List ℕ)) (Is : Tree 
   word-is : (m w ys : List ℕ) → word_at m ≡ (w, ys) → ((word_at m).0 ≡ w) × ((word_at m).1 ≡ ys)
   word-is m w ys h = (ap (λ p. p.0) h, ap (λ p. p.1) h)
 
-  plain-complete : (t : Tree) (xs ys : List ℕ) → IsPlain end Is Pattern t xs ys → operand_with end read pattern xs ≡ Some (t, ys)
+  plain-complete : (t : Tree) (xs ys : List ℕ) → IsPlain end Is Pattern t xs ys → operand_with Everything end read (quietly (chain_with read pattern)) pattern xs ≡ Some (t, ys)
   unfolding call_with function_with arguments_with dollar_with
-  plain-complete (Literal value) xs ys (inl (text, n, same)) =
+  plain-complete (Lit value) xs ys (inl (text, n, same)) =
       let f = numeral-first text xs ys n in
       rw (f.2) (rw (f.3) (rw (← f.2) (rw n (ap (λ o. Some (number_by o, ys)) (canonical-complete text value same)))))
-  plain-complete (Literal value) xs ys (inr q) =
+  plain-complete (Lit value) xs ys (inr q) =
       let f = quoted-complete value xs ys q in
       rw (f.1) (rw kind-quote (rw (f.2) refl))
-  plain-complete Inexact xs ys (text, n, none) =
+  plain-complete Free xs ys (text, n, none) =
       let f = numeral-first text xs ys n in
       rw (f.2) (rw (f.3) (rw (← f.2) (rw n (ap (λ o. Some (number_by o, ys)) (canonical-none text none)))))
   plain-complete (LocalName name subs) xs ys (m, ss, n, list, same) =
@@ -177,7 +179,7 @@ module _ (end : ℕ) (read : List ℕ → Option (Tree × List ℕ)) (Is : Tree 
   plain-complete (Prefixed op t) xs ys (b, m, is, o, deep) = rw is (rw (prefix-from b op o) (rw (l.atoms.complete t m ys deep) refl))
   plain-complete (Chain t ls) xs ys h = absurd h
   plain-complete (PatternText text) xs ys h = absurd h
-  plain-complete (Applied f args) xs ys (m, n, w, ts, is, word, found, list, same) =
+  plain-complete (Func f args) xs ys (m, n, w, ts, is, word, found, list, same) =
       let some : w ≡ [] → ⊥ = λ e. let bad : None ≡ Some f = sym no-function ∙ ap function_of (sym e) ∙ found in cc bad in
       let no = word-none m w (40 ∷ n) word some in
       let p = word-is m w (40 ∷ n) word in
@@ -194,17 +196,17 @@ module _ (end : ℕ) (read : List ℕ → Option (Tree × List ℕ)) (Is : Tree 
       rw is (rw kind-dollar (rw c (rw none (rw (at, is) refl))))
   plain-complete (CallOf column callee as') xs ys (m, n, given, is, at, named-is, list, same) =
       let c = callee-exact.complete callee m (40 ∷ n) named-is in
-      let more = (actuals-exact (chain_with read pattern) (IsChain Is Pattern) chains).complete given n ys list in
+      let more = (actuals-exact end (chain_with read pattern) (IsChain Is Pattern) chains).complete given n ys list in
       rw is (rw kind-dollar (rw c (rw more (rw (same, at, is) refl))))
 
-  operand-complete : (t : Tree) (xs ys : List ℕ) → IsOperand end Is Pattern t xs ys → operand_with end read pattern xs ≡ Some (t, ys)
+  operand-complete : (t : Tree) (xs ys : List ℕ) → IsOperand end Is Pattern t xs ys → operand_with Everything end read (quietly (chain_with read pattern)) pattern xs ≡ Some (t, ys)
   operand-complete t xs ys (inl h) = plain-complete t xs ys h
   operand-complete t xs ys (inr (m, is, inner)) = rw is (rw kind-open (rw (chains.complete t m (41 ∷ ys) inner) refl))
 
   plain-behind : (t : Tree) (xs ys : List ℕ) → IsPlain end Is Pattern t xs ys → Behind ys xs
-  plain-behind (Literal value) xs ys (inl (text, n, same)) = numeral-behind text xs ys n
-  plain-behind (Literal value) xs ys (inr q) = quoted-behind value xs ys q
-  plain-behind Inexact xs ys (text, n, none) = numeral-behind text xs ys n
+  plain-behind (Lit value) xs ys (inl (text, n, same)) = numeral-behind text xs ys n
+  plain-behind (Lit value) xs ys (inr q) = quoted-behind value xs ys q
+  plain-behind Free xs ys (text, n, none) = numeral-behind text xs ys n
   plain-behind (LocalName name subs) xs ys (m, ss, n, list, same) =
       behind_then xs m ys (name-behind name xs m n) ((subs-exact end (chain_with read pattern) (IsChain Is Pattern) chains).behind ss m ys list)
   plain-behind (GlobalName column name subs) xs ys (m, n, ss, is, at, text, list, same) =
@@ -215,7 +217,7 @@ module _ (end : ℕ) (read : List ℕ → Option (Tree × List ℕ)) (Is : Tree 
   plain-behind (Prefixed op t) xs ys (b, m, is, o, deep) = subst (λ z. Behind ys z) (sym is) (behind_then (b ∷ m) m ys (behind-one b m) (l.atoms.behind t m ys deep))
   plain-behind (Chain t ls) xs ys h = absurd h
   plain-behind (PatternText text) xs ys h = absurd h
-  plain-behind (Applied f args) xs ys (m, n, w, ts, is, word, found, list, same) =
+  plain-behind (Func f args) xs ys (m, n, w, ts, is, word, found, list, same) =
       let more = (arguments-exact read Is (chain_with read pattern) (IsChain Is Pattern) l.atoms chains f (named f)).behind ts n ys list in
       subst (λ z. Behind ys z) (sym is)
       (behind_then (36 ∷ m) m ys (behind-one 36 m) (behind_then m (40 ∷ n) ys (word-behind w m (40 ∷ n) word) (behind_then (40 ∷ n) n ys (behind-one 40 n) more)))
@@ -226,7 +228,7 @@ module _ (end : ℕ) (read : List ℕ → Option (Tree × List ℕ)) (Is : Tree 
   plain-behind (BareCall column callee) xs ys (m, is, at, named-is, none) =
       subst (λ z. Behind ys z) (sym is) (behind_then (36 ∷ 36 ∷ m) m ys (36 ∷ 36 ∷ [], refl) (callee-exact.behind callee m ys named-is))
   plain-behind (CallOf column callee as') xs ys (m, n, given, is, at, named-is, list, same) =
-      let more = (actuals-exact (chain_with read pattern) (IsChain Is Pattern) chains).behind given n ys list in
+      let more = (actuals-exact end (chain_with read pattern) (IsChain Is Pattern) chains).behind given n ys list in
       subst (λ z. Behind ys z) (sym is)
       (behind_then (36 ∷ 36 ∷ m) m ys (36 ∷ 36 ∷ [], refl) (behind_then m (40 ∷ n) ys (callee-exact.behind callee m (40 ∷ n) named-is) (behind_then (40 ∷ n) n ys (behind-one 40 n) more)))
 
@@ -235,10 +237,10 @@ module _ (end : ℕ) (read : List ℕ → Option (Tree × List ℕ)) (Is : Tree 
   operand-behind t xs ys (inr (m, is, inner)) =
       subst (λ z. Behind ys z) (sym is) (behind_then (40 ∷ m) m ys (behind-one 40 m) (behind_then m (41 ∷ ys) ys (chains.behind t m (41 ∷ ys) inner) (behind-one 41 ys)))
 
-  pub operand-exact : Exact (operand_with end read pattern) (IsOperand end Is Pattern)
+  pub operand-exact : Exact (operand_with Everything end read (quietly (chain_with read pattern)) pattern) (IsOperand end Is Pattern)
   operand-exact = record { sound = start; complete = operand-complete; behind = operand-behind }
     where
-      start : (t : Tree) (xs ys : List ℕ) → operand_with end read pattern xs ≡ Some (t, ys) → IsOperand end Is Pattern t xs ys
+      start : (t : Tree) (xs ys : List ℕ) → operand_with Everything end read (quietly (chain_with read pattern)) pattern xs ≡ Some (t, ys) → IsOperand end Is Pattern t xs ys
       start t [] ys h = cc h
       start t (b ∷ xs) ys h = operand-sound (kind_of b) b refl t xs ys h
 

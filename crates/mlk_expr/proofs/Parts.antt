@@ -12,8 +12,24 @@ use Rattle.mlk_expr.specs.Trees.{Tree, PatternText}
 use Rattle.mlk_expr.specs.Lexemes.{op_at, is_match, count_at, pattern_codes_at}
 use Rattle.mlk_expr.specs.Grammar.{chained}
 use Rattle.mlk_expr.proofs.Behind.{Next, IsList, IsMatcher, IsPattern, IsRight, IsLink, IsChain, IsPlaced, IsSubs}
-use Rattle.mlk_expr.specs.Reading.{next, list_with, matcher_by, some_atoms, pattern_at, right_by, linked, chain_with, at_most, placed, subs_by, subs_with}
+use Rattle.mlk_expr.specs.Reading.{kept, next, list_with, matcher_by, some_atoms, pattern_at, right_by, linked, chain_with, at_most, placed, subs_by, subs_with}
 use Rattle.mlk_expr.proofs.LexemeLemmas.{op-takes, count-takes, codes-behind}
+
+-- what may stand of what is read
+pub kept-exact : {A : Type 0} (may : A → Bool) (read : List ℕ → Option (A × List ℕ)) (Is : A → List ℕ → List ℕ → Type 0) → Exact read Is
+    → Exact (λ xs. kept may (read xs)) (λ a xs ys. Is a xs ys × (may a ≡ true))
+kept-exact may read Is e = record {
+  sound = λ a xs ys h. let r = kept_some may (read xs) a ys h in (e.sound a xs ys r.0, r.1);
+  complete = λ a xs ys h. rw (e.complete a xs ys h.0) (rw (h.1) refl);
+  behind = λ a xs ys h. e.behind a xs ys h.0;
+}
+  where
+    kept_some : {A : Type 0} (may : A → Bool) (o : Option (A × List ℕ)) (a : A) (ys : List ℕ) → kept may o ≡ Some (a, ys) → (o ≡ Some (a, ys)) × (may a ≡ true)
+    kept_some may None a ys h = cc h
+    kept_some may (Some r) a ys h = elim (cases_Bool (may r.0)) [
+      | inl m ↦ let is = rw m at h in (is, subst (λ z. may z ≡ true) ((pair_parts r.0 a r.1 ys is).0) m)
+      | inr m ↦ cc (rw m at h)
+    ]
 
 -- items behind commas
 pub next-exact : {A : Type 0} (read : List ℕ → Option (A × List ℕ)) (Is : A → List ℕ → List ℕ → Type 0) → Exact read Is → (comma : ℕ) → Exact (next read comma) (Next Is comma)

@@ -11,11 +11,14 @@ use Rattle.mlk_expr.specs.declared.tree.Subscript.{Subscript}
 use Rattle.mlk_expr.specs.declared.lexeme.Kind.TheVariants as kind
 use Rattle.mlk_expr.specs.declared.refusal.Refusal.{Refusal}
 use Rattle.mlk_expr.specs.declared.refusal.Refusal.TheVariants.{OutOfMemory, Refused}
-use Rattle.mlk_expr.specs.Trees.{Tree, LocalName, GlobalName, CallOf, Applied, ActualTree, subs_from, trees_from, actuals_from, sub_of}
+use Rattle.mlk_expr.specs.Trees.{Tree, LocalName, GlobalName, CallOf, Func, ActualTree, subs_from, trees_from, actuals_from, sub_of}
+use Rattle.mlk_expr.specs.declared.scope.Allows.{Allows}
+use Rattle.mlk_expr.specs.declared.scope.Passing.TheVariants.{ByReference}
+use Rattle.mlk_expr.specs.Touches.{globals_may}
 use Rattle.mlk_expr.specs.Words.{is_select, function_of}
 use Rattle.mlk_expr.specs.Lexemes.{column_of, kind_of, count_at, starts_reference}
 use Rattle.mlk_expr.specs.Grammar.{named, has_subscript, asks_subscript}
-use Rattle.mlk_expr.specs.Reading.{at_most, next, list_with, matcher_by, some_atoms, pattern_at, subs_with, local_with, global_with, chain_with, operand_with, others_by, callee_at, actuals_with, call_with, function_with, arguments_with}
+use Rattle.mlk_expr.specs.Reading.{where_may, at_most, next, list_with, matcher_by, some_atoms, pattern_at, subs_with, local_with, global_with, chain_with, operand_with, others_by, callee_at, actuals_with, call_with, function_with, arguments_with}
 use Rattle.mlk_expr.specs.Outcome.{Fails}
 use Rattle.mlk_expr.proofs.Parts.{pattern-exact}
 use Rattle.mlk_expr.proofs.Loops.{pattern-above, at_most-some, at_most-is}
@@ -66,52 +69,52 @@ pub pattern-shorter : (k : ℕ) (text xs rest : List ℕ) → pattern_at k xs �
 pattern-shorter k text xs rest h = behind_length xs rest ((pattern-exact k).behind text xs rest ((pattern-exact k).sound text xs rest h))
 
 -- names with subscripts
-module _ (end : ℕ) (item : List ℕ → Option (Tree × List ℕ)) (xs name m : List ℕ) where
+module _ (may : Bool) (end : ℕ) (item : List ℕ → Option (Tree × List ℕ)) (xs name m : List ℕ) where
   pub local-gives : (ss : List (ℕ × Tree)) (ys : List ℕ) → name_at xs ≡ Some (name, m) → subs_with end item m ≡ Some (ss, ys) → local_with end item xs ≡ Some (LocalName name (subs_from ss), ys)
   local-gives ss ys n s = rw n (rw s refl)
 
-  pub global-gives : (column : ℕ) (ss : List (ℕ × Tree)) (ys : List ℕ) → name_at xs ≡ Some (name, m) → subs_with end item m ≡ Some (ss, ys) → global_with end column item xs ≡ Some (GlobalName column name (subs_from ss), ys)
+  pub global-gives : (column : ℕ) (ss : List (ℕ × Tree)) (ys : List ℕ) → where_may may (name_at xs) ≡ Some (name, m) → subs_with end item m ≡ Some (ss, ys) → global_with may end column item xs ≡ Some (GlobalName column name (subs_from ss), ys)
   global-gives column ss ys n s = rw n (rw s refl)
 
   pub local-fails : (e : Refusal) → name_at xs ≡ Some (name, m) → Fails e (subs_with end item m) → Fails e (local_with end item xs)
   local-fails OutOfMemory n s = tt
   local-fails (Refused r) n s = rw n (rw s refl)
 
-  pub global-fails : (e : Refusal) (column : ℕ) → name_at xs ≡ Some (name, m) → Fails e (subs_with end item m) → Fails e (global_with end column item xs)
+  pub global-fails : (e : Refusal) (column : ℕ) → where_may may (name_at xs) ≡ Some (name, m) → Fails e (subs_with end item m) → Fails e (global_with may end column item xs)
   global-fails OutOfMemory column n s = tt
   global-fails (Refused r) column n s = rw n (rw s refl)
 
 -- an operand that begins with a letter or a caret
-module _ (end : ℕ) (deep : List ℕ → Option (Tree × List ℕ)) (pattern : List ℕ → Option (List ℕ × List ℕ)) (b : ℕ) (m xs : List ℕ) where
-  pub operand-local : xs ≡ b ∷ m → kind_of b ≡ kind.Letter → operand_with end deep pattern xs ≡ local_with end (chain_with deep pattern) xs
+module _ (a : Allows) (end : ℕ) (deep quiet : List ℕ → Option (Tree × List ℕ)) (pattern : List ℕ → Option (List ℕ × List ℕ)) (b : ℕ) (m xs : List ℕ) where
+  pub operand-local : xs ≡ b ∷ m → kind_of b ≡ kind.Letter → operand_with a end deep quiet pattern xs ≡ local_with end (chain_with deep pattern) xs
   operand-local is k = rw is (rw k refl)
 
-  pub operand-global : xs ≡ b ∷ m → kind_of b ≡ kind.Caret → operand_with end deep pattern xs ≡ global_with end (column_of end xs) (chain_with deep pattern) m
+  pub operand-global : xs ≡ b ∷ m → kind_of b ≡ kind.Caret → operand_with a end deep quiet pattern xs ≡ global_with (globals_may a) end (column_of end xs) (chain_with deep pattern) m
   operand-global is k = rw is (rw k refl)
 
 -- calls
-pub call-listed : (item : List ℕ → Option (Tree × List ℕ)) (column : ℕ) (xs : List ℕ) (callee : Callee) (m n : List ℕ) (given : List ActualTree) (ys : List ℕ)
-    → callee_at xs ≡ Some (callee, m) → byte_at 40 m ≡ Some (40, n) → actuals_with item n ≡ Some (given, ys) → call_with item column xs ≡ Some (CallOf column callee (actuals_from given), ys)
+pub call-listed : (may : Bool) (end : ℕ) (item : List ℕ → Option (Tree × List ℕ)) (column : ℕ) (xs : List ℕ) (callee : Callee) (m n : List ℕ) (given : List ActualTree) (ys : List ℕ)
+    → may ≡ true → callee_at xs ≡ Some (callee, m) → byte_at 40 m ≡ Some (40, n) → actuals_with ByReference end item n ≡ Some (given, ys) → call_with may end item column xs ≡ Some (CallOf column callee (actuals_from given), ys)
 unfolding call_with
-call-listed item column xs callee m n given ys f g h = rw f (rw g (rw h refl))
+call-listed may end item column xs callee m n given ys b f g h = rw b (rw f (rw g (rw h refl)))
 
-pub call-fails : (e : Refusal) (item : List ℕ → Option (Tree × List ℕ)) (column : ℕ) (xs : List ℕ) (callee : Callee) (m n : List ℕ)
-    → callee_at xs ≡ Some (callee, m) → byte_at 40 m ≡ Some (40, n) → Fails e (actuals_with item n) → Fails e (call_with item column xs)
+pub call-fails : (e : Refusal) (may : Bool) (end : ℕ) (item : List ℕ → Option (Tree × List ℕ)) (column : ℕ) (xs : List ℕ) (callee : Callee) (m n : List ℕ)
+    → may ≡ true → callee_at xs ≡ Some (callee, m) → byte_at 40 m ≡ Some (40, n) → Fails e (actuals_with ByReference end item n) → Fails e (call_with may end item column xs)
 unfolding call_with
-call-fails OutOfMemory item column xs callee m n f g h = tt
-call-fails (Refused r) item column xs callee m n f g h = rw f (rw g (rw h refl))
+call-fails OutOfMemory may end item column xs callee m n b f g h = tt
+call-fails (Refused r) may end item column xs callee m n b f g h = rw b (rw f (rw g (rw h refl)))
 
 -- functions
-pub function-gives : (atom item : List ℕ → Option (Tree × List ℕ)) (w xs : List ℕ) (f : Function) (ts : List Tree) (ys : List ℕ)
-    → is_select w ≡ false → function_of w ≡ Some f → arguments_with atom item f xs ≡ Some (ts, ys) → function_with atom item w xs ≡ Some (Applied f (trees_from ts), ys)
+pub function-gives : (atom item quiet : List ℕ → Option (Tree × List ℕ)) (w xs : List ℕ) (f : Function) (ts : List Tree) (ys : List ℕ)
+    → is_select w ≡ false → function_of w ≡ Some f → arguments_with atom item quiet f xs ≡ Some (ts, ys) → function_with atom item quiet w xs ≡ Some (Func f (trees_from ts), ys)
 unfolding function_with
-function-gives atom item w xs f ts ys s g h = rw s (rw g (rw h refl))
+function-gives atom item quiet w xs f ts ys s g h = rw s (rw g (rw h refl))
 
-pub function-fails : (e : Refusal) (atom item : List ℕ → Option (Tree × List ℕ)) (w xs : List ℕ) (f : Function)
-    → is_select w ≡ false → function_of w ≡ Some f → Fails e (arguments_with atom item f xs) → Fails e (function_with atom item w xs)
+pub function-fails : (e : Refusal) (atom item quiet : List ℕ → Option (Tree × List ℕ)) (w xs : List ℕ) (f : Function)
+    → is_select w ≡ false → function_of w ≡ Some f → Fails e (arguments_with atom item quiet f xs) → Fails e (function_with atom item quiet w xs)
 unfolding function_with
-function-fails OutOfMemory atom item w xs f s g h = tt
-function-fails (Refused r) atom item w xs f s g h = rw s (rw g (rw h refl))
+function-fails OutOfMemory atom item quiet w xs f s g h = tt
+function-fails (Refused r) atom item quiet w xs f s g h = rw s (rw g (rw h refl))
 
 -- a list with no more items than this
 module _ {A : Type 0} (item : List ℕ → Option (A × List ℕ)) (most : ℕ) (xs : List ℕ) (first : A) (m : List ℕ) where
@@ -154,27 +157,27 @@ list-fails item most xs OutOfMemory h = tt
 list-fails item most xs (Refused r) h = rw h refl
 
 -- a name and what stands behind it
-module _ (atom item : List ℕ → Option (Tree × List ℕ)) (f : Function) (most : ℕ) (xs : List ℕ) (first : Tree) (m : List ℕ) where
+module _ (atom item quiet : List ℕ → Option (Tree × List ℕ)) (f : Function) (most : ℕ) (xs : List ℕ) (first : Tree) (m : List ℕ) where
   abbrev argued : Option (List Tree × List ℕ)
-  argued = put (first ∷ []) (many (byte_at 44) (next item) (suc (length m)) m) >>= at_most (suc most)
+  argued = put (first ∷ []) (many (byte_at 44) (next quiet) (suc (length m)) m) >>= at_most (suc most)
 
   pub arguments-give : (args : List Tree) (rest ys : List ℕ) → named f ≡ Some most → starts_reference xs ≡ true → atom xs ≡ Some (first, m) → (asks_subscript f && not (has_subscript first)) ≡ false
-      → argued ≡ Some (args, rest) → byte_at 41 rest ≡ Some (41, ys) → arguments_with atom item f xs ≡ Some (args, ys)
+      → argued ≡ Some (args, rest) → byte_at 41 rest ≡ Some (41, ys) → arguments_with atom item quiet f xs ≡ Some (args, ys)
   unfolding arguments_with
   arguments-give args rest ys n starts one asks more close =
-      let p = at_most-some (suc most) (put (first ∷ []) (many (byte_at 44) (next item) (suc (length m)) m)) args rest more in
-      let w = with_some (λ items. (first ∷ []) ++ items) (many (byte_at 44) (next item) (suc (length m)) m) args rest p.0 in
+      let p = at_most-some (suc most) (put (first ∷ []) (many (byte_at 44) (next quiet) (suc (length m)) m)) args rest more in
+      let w = with_some (λ items. (first ∷ []) ++ items) (many (byte_at 44) (next quiet) (suc (length m)) m) args rest p.0 in
       let size = ap length w.2 in
       let few = p.1 in
       let small : nat_le (length w.0) most ≡ true = le-leb (length w.0) most (omega arith) in
       rw n (rw starts (rw one (rw asks (rw (w.1) (rw small (rw close (ap (λ l. Some (l, ys)) (sym w.2))))))))
 
   pub arguments-close : (args : List Tree) (rest : List ℕ) → named f ≡ Some most → starts_reference xs ≡ true → atom xs ≡ Some (first, m) → (asks_subscript f && not (has_subscript first)) ≡ false
-      → argued ≡ Some (args, rest) → byte_at 41 rest ≡ None → arguments_with atom item f xs ≡ None
+      → argued ≡ Some (args, rest) → byte_at 41 rest ≡ None → arguments_with atom item quiet f xs ≡ None
   unfolding arguments_with
   arguments-close args rest n starts one asks more close =
-      let p = at_most-some (suc most) (put (first ∷ []) (many (byte_at 44) (next item) (suc (length m)) m)) args rest more in
-      let w = with_some (λ items. (first ∷ []) ++ items) (many (byte_at 44) (next item) (suc (length m)) m) args rest p.0 in
+      let p = at_most-some (suc most) (put (first ∷ []) (many (byte_at 44) (next quiet) (suc (length m)) m)) args rest more in
+      let w = with_some (λ items. (first ∷ []) ++ items) (many (byte_at 44) (next quiet) (suc (length m)) m) args rest p.0 in
       let size = ap length w.2 in
       let few = p.1 in
       let small : nat_le (length w.0) most ≡ true = le-leb (length w.0) most (omega arith) in
@@ -191,7 +194,7 @@ module _ (atom item : List ℕ → Option (Tree × List ℕ)) (f : Function) (mo
   ]
 
   pub arguments-fail : (e : Refusal) → named f ≡ Some most → starts_reference xs ≡ true → atom xs ≡ Some (first, m) → (asks_subscript f && not (has_subscript first)) ≡ false
-      → Fails e argued → Fails e (arguments_with atom item f xs)
+      → Fails e argued → Fails e (arguments_with atom item quiet f xs)
   unfolding arguments_with
   arguments-fail OutOfMemory n starts one asks more = tt
-  arguments-fail (Refused r) n starts one asks more = rw n (rw starts (rw one (rw asks (others-lack (many (byte_at 44) (next item) (suc (length m)) m) more))))
+  arguments-fail (Refused r) n starts one asks more = rw n (rw starts (rw one (rw asks (others-lack (many (byte_at 44) (next quiet) (suc (length m)) m) more))))

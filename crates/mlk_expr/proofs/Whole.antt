@@ -5,6 +5,7 @@ use Rattle.std.proofs.lemmas.Bool.{cases_Bool}
 use Rattle.mlk_text.specs.Lexemes.{byte_at}
 use Rattle.mlk_text.proofs.Lexemes.{byte-is}
 use Rattle.mlk_text.proofs.Readers.{Behind, behind-one, behind_then, Exact}
+use Rattle.mlk_expr.specs.declared.scope.Passing.TheVariants.{ByReference}
 use Rattle.mlk_expr.specs.Trees.{ActualTree}
 use Rattle.mlk_expr.specs.Lexemes.{starts_reference}
 use Rattle.mlk_expr.proofs.Behind.{IsPattern, IsChain, IsActuals, IsAtom, IsReference, IsActualList}
@@ -25,9 +26,9 @@ reference-exact end = record {
 
 pub actual_list-exact : (end : ℕ) → Exact (actual_list_at end) (IsActualList end)
 unfolding actual_list_at IsActualList
-actual_list-exact end = by-list (actuals-exact (chain_with (atom_at end 63) (pattern_at 63)) (IsChain (IsAtom end 63) (IsPattern 63)) (expr-exact end 63))
+actual_list-exact end = by-list (actuals-exact end (chain_with (atom_at end 63) (pattern_at 63)) (IsChain (IsAtom end 63) (IsPattern 63)) (expr-exact end 63))
   where
-    by-list : Exact (actuals_with (chain_with (atom_at end 63) (pattern_at 63))) (IsActuals (IsChain (IsAtom end 63) (IsPattern 63))) → Exact (actual_list_at end) (IsActualList end)
+    by-list : Exact (actuals_with ByReference end (chain_with (atom_at end 63) (pattern_at 63))) (IsActuals end (IsChain (IsAtom end 63) (IsPattern 63))) → Exact (actual_list_at end) (IsActualList end)
     by-list l = record {
       sound = λ given xs ys h. go given xs ys (byte_at 40 xs) refl h;
       complete = λ given xs ys (m, is, list). rw is (l.complete given m ys list);
@@ -35,6 +36,6 @@ actual_list-exact end = by-list (actuals-exact (chain_with (atom_at end 63) (pat
     }
       where
         go : (given : List ActualTree) (xs ys : List ℕ) (o : Option (ℕ × List ℕ)) → byte_at 40 xs ≡ o → behind_open end o ≡ Some (given, ys)
-            → (m : List ℕ) × (xs ≡ 40 ∷ m) × IsActuals (IsChain (IsAtom end 63) (IsPattern 63)) given m ys
+            → (m : List ℕ) × (xs ≡ 40 ∷ m) × IsActuals end (IsChain (IsAtom end 63) (IsPattern 63)) given m ys
         go given xs ys None b h = cc h
         go given xs ys (Some o) b h = (o.1, byte-is 40 o.0 xs o.1 b, l.sound given o.1 ys h)

@@ -5,7 +5,9 @@ use Rattle.mlk_text.specs.Numbers.{IsCanonical}
 use Rattle.mlk_text.specs.declared.operator.Op.{Op}
 use Rattle.mlk_expr.specs.declared.tree.Function.{Function}
 use Rattle.mlk_expr.specs.declared.tree.Function.TheVariants as function
-use Rattle.mlk_expr.specs.Trees.{Tree, Literal, Inexact, LocalName, GlobalName, SpecialName, Prefixed, Chain, PatternText, Applied, Selected, BareCall, CallOf, sub, ActualTree, Given, Lent, Left, trees_from, subs_from, links_from, choices_from, actuals_from}
+use Rattle.mlk_expr.specs.Trees.{Tree, Lit, Free, LocalName, GlobalName, SpecialName, Prefixed, Chain, PatternText, Func, Selected, BareCall, CallOf, sub, ActualTree, Given, ByRef, Missing, trees_from, subs_from, links_from, choices_from, actuals_from}
+use Rattle.mlk_expr.specs.declared.scope.Allows.TheVariants.{NoTouches}
+use Rattle.mlk_expr.specs.Touches.{may_stand, Standing}
 use Rattle.mlk_expr.specs.Words.{special_of, function_of, is_select}
 use Rattle.mlk_expr.specs.Lexemes.{is_match, starts_reference}
 use Rattle.mlk_expr.specs.Spellings.{IsName, IsLabel, IsWord, IsNumber, IsQuoted, IsCount, IsCodes, op_text, unary_text}
@@ -74,8 +76,8 @@ IsSubs Item at (p ∷ subs) s = (inner : List ℕ) × IsEnclosed inner s × IsLi
 
 -- An actual: a name behind a point, nothing, or an expression. Standard: actual parameters.
 abbrev pub IsActual : (ℕ → Tree → List ℕ → Type 0) → ℕ → ActualTree → List ℕ → Type 0
-IsActual Item at (Lent name) s = (s ≡ 46 ∷ name) × IsName name
-IsActual Item at Left s = s ≡ []
+IsActual Item at (ByRef column name) s = (s ≡ 46 ∷ name) × (column ≡ at) × IsName name
+IsActual Item at Missing s = s ≡ []
 IsActual Item at (Given t) s = Item at t s
 
 -- actuals in parentheses: `()` has none
@@ -102,12 +104,13 @@ abbrev pub asks_subscript : Function → Bool
 asks_subscript function.Order = true
 asks_subscript f = false
 
--- Arguments: expressions, or a name and what may stand behind it. Standard: functions.
+-- Arguments: expressions, or a name and what may stand after it, which holds no global and no call, since it is not
+-- certain whether the name's node or that is evaluated first. Standard: functions.
 abbrev pub AreArguments : (ℕ → Tree → List ℕ → Type 0) → (ℕ → Tree → List ℕ → Type 0) → Function → Option ℕ → ℕ → List Tree → List ℕ → Type 0
 AreArguments Atom Item f None at args s = IsList Item at args s
 AreArguments Atom Item f (Some most) at args s = (first : Tree) × (others : List Tree) × (front rest : List ℕ)
     × (args ≡ first ∷ others) × (s ≡ front ++ rest) × Atom at first front × (starts_reference front ≡ true) × (asks_subscript f ≡ true → has_subscript first ≡ true)
-    × AreNext Item (at + length front) others rest × (length others ≤ most)
+    × AreNext (Standing (may_stand NoTouches) Item) (at + length front) others rest × (length others ≤ most)
 
 -- a condition and its value
 abbrev pub IsChoice : (ℕ → Tree → List ℕ → Type 0) → ℕ → Tree × Tree → List ℕ → Type 0
@@ -124,8 +127,8 @@ IsCallee None None s = ⊥
 -- no case here is left out: indirection, naked references, structured system variables, other functions and special
 -- variables, external calls, environments.
 abbrev pub IsPlain : (ℕ → Tree → List ℕ → Type 0) → (List ℕ → Type 0) → ℕ → Tree → List ℕ → Type 0
-IsPlain Atom Pattern at (Literal value) s = IsCanonical s value ⊎ IsQuoted value s
-IsPlain Atom Pattern at Inexact s = IsNumber s × ((value : List ℕ) → IsCanonical s value → ⊥)
+IsPlain Atom Pattern at (Lit value) s = IsCanonical s value ⊎ IsQuoted value s
+IsPlain Atom Pattern at Free s = IsNumber s × ((value : List ℕ) → IsCanonical s value → ⊥)
 IsPlain Atom Pattern at (LocalName name subs) s = (part : List ℕ) × (items : List (ℕ × Tree))
     × (s ≡ name ++ part) × IsName name × IsSubs (IsChain Atom Pattern) (at + length name) items part × (subs ≡ subs_from items)
 IsPlain Atom Pattern at (GlobalName column name subs) s = (part : List ℕ) × (items : List (ℕ × Tree))
@@ -134,7 +137,7 @@ IsPlain Atom Pattern at (SpecialName special) s = (w : List ℕ) × (s ≡ 36 �
 IsPlain Atom Pattern at (Prefixed op t) s = (operand : List ℕ) × (s ≡ unary_text op ++ operand) × Atom (suc at) t operand
 IsPlain Atom Pattern at (Chain t ls) s = ⊥
 IsPlain Atom Pattern at (PatternText text) s = ⊥
-IsPlain Atom Pattern at (Applied f args) s = (w inner part : List ℕ) × (items : List Tree)
+IsPlain Atom Pattern at (Func f args) s = (w inner part : List ℕ) × (items : List Tree)
     × (s ≡ 36 ∷ (w ++ part)) × IsWord w × (function_of w ≡ Some f) × IsEnclosed inner part
     × AreArguments Atom (IsChain Atom Pattern) f (named f) (2 + (at + length w)) items inner × (args ≡ trees_from items)
 IsPlain Atom Pattern at (Selected choices) s = (w inner part : List ℕ) × (items : List (Tree × Tree))

@@ -1,4 +1,5 @@
 pub mod Trees
+pub mod Touches
 pub mod Words
 pub mod Lexemes
 pub mod Spellings

@@ -9,15 +9,31 @@ use Rattle.mlk_expr.specs.declared.tree.Function.{Function}
 use Rattle.mlk_expr.specs.declared.tree.Special.{Special}
 use Rattle.mlk_expr.specs.declared.lexeme.Kind.{Kind}
 use Rattle.mlk_expr.specs.declared.lexeme.Kind.TheVariants as kind
-use Rattle.mlk_expr.specs.Trees.{Tree, Literal, Inexact, LocalName, GlobalName, SpecialName, Prefixed, PatternText, Applied, Selected, BareCall, CallOf, ActualTree, Given, Lent, Left, trees_from, subs_from, choices_from, actuals_from}
+use Rattle.mlk_expr.specs.Trees.{Tree, Lit, Free, LocalName, GlobalName, SpecialName, Prefixed, PatternText, Func, Selected, BareCall, CallOf, ActualTree, Given, ByRef, Missing, trees_from, subs_from, choices_from, actuals_from}
+use Rattle.mlk_expr.specs.declared.scope.Allows.{Allows}
+use Rattle.mlk_expr.specs.declared.scope.Allows.TheVariants.{Everything, NoTouches}
+use Rattle.mlk_expr.specs.declared.scope.Scope.{Scope}
+use Rattle.mlk_expr.specs.declared.scope.Passing.{Passing}
+use Rattle.mlk_expr.specs.declared.scope.Passing.TheVariants.{ByReference}
+use Rattle.mlk_expr.specs.Touches.{globals_may, calls_may, may_stand, lends}
 use Rattle.mlk_expr.specs.Words.{word_at, special_of, function_of, is_select}
 use Rattle.mlk_expr.specs.Lexemes.{column_of, kind_of, op_at, is_match, numeral_at, count_at, pattern_codes_at, label_at, lent_at, starts_reference, is_missing, ends}
 use Rattle.mlk_expr.specs.Grammar.{chained, named, has_subscript, asks_subscript}
 
+-- what was read, where it may stand
+abbrev pub kept : {A : Type 0} → (A → Bool) → Option (A × List ℕ) → Option (A × List ℕ)
+kept may None = None
+kept may (Some r) = if may r.0 then Some r else None
+
+-- nothing, where nothing may stand
+abbrev pub where_may : {A : Type 0} → Bool → Option A → Option A
+where_may true read = read
+where_may false read = None
+
 -- the tree of a numeric literal
 abbrev pub number_by : Option (List ℕ) → Tree
-number_by None = Inexact
-number_by (Some value) = Literal value
+number_by None = Free
+number_by (Some value) = Lit value
 
 abbrev pub number_of : List ℕ → Tree
 number_of text = number_by (canonical_text text)
@@ -81,19 +97,19 @@ unfoldable pub subs_with : ℕ → (List ℕ → Option (Tree × List ℕ)) → 
 subs_with end item xs = subs_by end item xs (byte_at 40 xs)
 
 -- actuals
-abbrev pub actual_by : (List ℕ → Option (Tree × List ℕ)) → List ℕ → Option (List ℕ × List ℕ) → Option (ActualTree × List ℕ)
-actual_by item xs (Some n) = Some (Lent n.0, n.1)
-actual_by item xs None = if is_missing xs then Some (Left, xs) else with Given (item xs)
+abbrev pub actual_by : Passing → ℕ → (List ℕ → Option (Tree × List ℕ)) → List ℕ → Option (List ℕ × List ℕ) → Option (ActualTree × List ℕ)
+actual_by passing end item xs (Some n) = where_may (lends passing) (Some (ByRef (column_of end xs) n.0, n.1))
+actual_by passing end item xs None = if is_missing xs then Some (Missing, xs) else with Given (item xs)
 
-unfoldable pub actual_with : (List ℕ → Option (Tree × List ℕ)) → List ℕ → Option (ActualTree × List ℕ)
-actual_with item xs = actual_by item xs (lent_at xs)
+unfoldable pub actual_with : Passing → ℕ → (List ℕ → Option (Tree × List ℕ)) → List ℕ → Option (ActualTree × List ℕ)
+actual_with passing end item xs = actual_by passing end item xs (lent_at xs)
 
-abbrev pub actuals_by : (List ℕ → Option (Tree × List ℕ)) → List ℕ → Option (ℕ × List ℕ) → Option (List ActualTree × List ℕ)
-actuals_by item xs (Some close) = Some ([], close.1)
-actuals_by item xs None = list_with (actual_with item) xs
+abbrev pub actuals_by : Passing → ℕ → (List ℕ → Option (Tree × List ℕ)) → List ℕ → Option (ℕ × List ℕ) → Option (List ActualTree × List ℕ)
+actuals_by passing end item xs (Some close) = Some ([], close.1)
+actuals_by passing end item xs None = list_with (actual_with passing end item) xs
 
-unfoldable pub actuals_with : (List ℕ → Option (Tree × List ℕ)) → List ℕ → Option (List ActualTree × List ℕ)
-actuals_with item xs = actuals_by item xs (byte_at 41 xs)
+unfoldable pub actuals_with : Passing → ℕ → (List ℕ → Option (Tree × List ℕ)) → List ℕ → Option (List ActualTree × List ℕ)
+actuals_with passing end item xs = actuals_by passing end item xs (byte_at 41 xs)
 
 -- calls
 abbrev pub label_alone : List ℕ → Callee
@@ -116,12 +132,12 @@ callee_by xs None = label_at xs >>= λ label. routine_by label.0 label.1 (byte_a
 unfoldable pub callee_at : List ℕ → Option (Callee × List ℕ)
 callee_at xs = callee_by xs (byte_at 94 xs)
 
-abbrev pub call_by : (List ℕ → Option (Tree × List ℕ)) → ℕ → Callee → List ℕ → Option (ℕ × List ℕ) → Option (Tree × List ℕ)
-call_by item column callee rest None = Some (BareCall column callee, rest)
-call_by item column callee rest (Some open') = with (λ given. CallOf column callee (actuals_from given)) (actuals_with item open'.1)
+abbrev pub call_by : ℕ → (List ℕ → Option (Tree × List ℕ)) → ℕ → Callee → List ℕ → Option (ℕ × List ℕ) → Option (Tree × List ℕ)
+call_by end item column callee rest None = Some (BareCall column callee, rest)
+call_by end item column callee rest (Some open') = with (λ given. CallOf column callee (actuals_from given)) (actuals_with ByReference end item open'.1)
 
-unfoldable pub call_with : (List ℕ → Option (Tree × List ℕ)) → ℕ → List ℕ → Option (Tree × List ℕ)
-call_with item column xs = callee_at xs >>= λ callee. call_by item column callee.0 callee.1 (byte_at 40 callee.1)
+unfoldable pub call_with : Bool → ℕ → (List ℕ → Option (Tree × List ℕ)) → ℕ → List ℕ → Option (Tree × List ℕ)
+call_with may end item column xs = where_may may (callee_at xs) >>= λ callee. call_by end item column callee.0 callee.1 (byte_at 40 callee.1)
 
 -- functions
 abbrev pub choice_with : (List ℕ → Option (Tree × List ℕ)) → List ℕ → Option ((Tree × Tree) × List ℕ)
@@ -135,62 +151,80 @@ name_and item f most first =
     if asks_subscript f && not (has_subscript first.0) then None
     else many (byte_at 44) (next item) (suc (length first.1)) first.1 >>= others_by most first.0
 
-abbrev pub arguments_by : (List ℕ → Option (Tree × List ℕ)) → (List ℕ → Option (Tree × List ℕ)) → Function → Option ℕ → List ℕ → Option (List Tree × List ℕ)
-arguments_by atom item f None xs = list_with item xs
-arguments_by atom item f (Some most) xs = if starts_reference xs then atom xs >>= name_and item f most else None
+-- `quiet` reads what stands after a name
+abbrev pub arguments_by : (List ℕ → Option (Tree × List ℕ)) → (List ℕ → Option (Tree × List ℕ)) → (List ℕ → Option (Tree × List ℕ)) → Function → Option ℕ → List ℕ → Option (List Tree × List ℕ)
+arguments_by atom item quiet f None xs = list_with item xs
+arguments_by atom item quiet f (Some most) xs = if starts_reference xs then atom xs >>= name_and quiet f most else None
 
-unfoldable pub arguments_with : (List ℕ → Option (Tree × List ℕ)) → (List ℕ → Option (Tree × List ℕ)) → Function → List ℕ → Option (List Tree × List ℕ)
-arguments_with atom item f xs = arguments_by atom item f (named f) xs
+unfoldable pub arguments_with : (List ℕ → Option (Tree × List ℕ)) → (List ℕ → Option (Tree × List ℕ)) → (List ℕ → Option (Tree × List ℕ)) → Function → List ℕ → Option (List Tree × List ℕ)
+arguments_with atom item quiet f xs = arguments_by atom item quiet f (named f) xs
 
-unfoldable pub function_with : (List ℕ → Option (Tree × List ℕ)) → (List ℕ → Option (Tree × List ℕ)) → List ℕ → List ℕ → Option (Tree × List ℕ)
-function_with atom item w xs =
+unfoldable pub function_with : (List ℕ → Option (Tree × List ℕ)) → (List ℕ → Option (Tree × List ℕ)) → (List ℕ → Option (Tree × List ℕ)) → List ℕ → List ℕ → Option (Tree × List ℕ)
+function_with atom item quiet w xs =
     if is_select w then with (λ cs. Selected (choices_from cs)) (list_with (choice_with item) xs)
-    else function_of w >>= λ f. with (λ ts. Applied f (trees_from ts)) (arguments_with atom item f xs)
+    else function_of w >>= λ f. with (λ ts. Func f (trees_from ts)) (arguments_with atom item quiet f xs)
 
 abbrev pub special_by : Option Special → List ℕ → Option (Tree × List ℕ)
 special_by None rest = None
 special_by (Some special) rest = Some (SpecialName special, rest)
 
-abbrev pub word_by : (List ℕ → Option (Tree × List ℕ)) → (List ℕ → Option (Tree × List ℕ)) → List ℕ × List ℕ → Option (ℕ × List ℕ) → Option (Tree × List ℕ)
-word_by atom item w None = special_by (special_of w.0) w.1
-word_by atom item w (Some open') = function_with atom item w.0 open'.1
+abbrev pub word_by : (List ℕ → Option (Tree × List ℕ)) → (List ℕ → Option (Tree × List ℕ)) → (List ℕ → Option (Tree × List ℕ)) → List ℕ × List ℕ → Option (ℕ × List ℕ) → Option (Tree × List ℕ)
+word_by atom item quiet w None = special_by (special_of w.0) w.1
+word_by atom item quiet w (Some open') = function_with atom item quiet w.0 open'.1
 
-abbrev pub dollar_by : (List ℕ → Option (Tree × List ℕ)) → (List ℕ → Option (Tree × List ℕ)) → ℕ → List ℕ → Option (ℕ × List ℕ) → Option (Tree × List ℕ)
-dollar_by atom item column xs (Some dollar) = call_with item column dollar.1
-dollar_by atom item column xs None = word_by atom item (word_at xs) (byte_at 40 (word_at xs).1)
+abbrev pub dollar_by : Bool → ℕ → (List ℕ → Option (Tree × List ℕ)) → (List ℕ → Option (Tree × List ℕ)) → (List ℕ → Option (Tree × List ℕ)) → ℕ → List ℕ → Option (ℕ × List ℕ) → Option (Tree × List ℕ)
+dollar_by may end atom item quiet column xs (Some dollar) = call_with may end item column dollar.1
+dollar_by may end atom item quiet column xs None = word_by atom item quiet (word_at xs) (byte_at 40 (word_at xs).1)
 
-unfoldable pub dollar_with : (List ℕ → Option (Tree × List ℕ)) → (List ℕ → Option (Tree × List ℕ)) → ℕ → List ℕ → Option (Tree × List ℕ)
-dollar_with atom item column xs = dollar_by atom item column xs (byte_at 36 xs)
+unfoldable pub dollar_with : Bool → ℕ → (List ℕ → Option (Tree × List ℕ)) → (List ℕ → Option (Tree × List ℕ)) → (List ℕ → Option (Tree × List ℕ)) → ℕ → List ℕ → Option (Tree × List ℕ)
+dollar_with may end atom item quiet column xs = dollar_by may end atom item quiet column xs (byte_at 36 xs)
 
 -- names
 abbrev pub local_with : ℕ → (List ℕ → Option (Tree × List ℕ)) → List ℕ → Option (Tree × List ℕ)
 local_with end item xs = name_at xs >>= λ name. with (λ ss. LocalName name.0 (subs_from ss)) (subs_with end item name.1)
 
-abbrev pub global_with : ℕ → ℕ → (List ℕ → Option (Tree × List ℕ)) → List ℕ → Option (Tree × List ℕ)
-global_with end column item xs = name_at xs >>= λ name. with (λ ss. GlobalName column name.0 (subs_from ss)) (subs_with end item name.1)
+abbrev pub global_with : Bool → ℕ → ℕ → (List ℕ → Option (Tree × List ℕ)) → List ℕ → Option (Tree × List ℕ)
+global_with may end column item xs = where_may may (name_at xs) >>= λ name. with (λ ss. GlobalName column name.0 (subs_from ss)) (subs_with end item name.1)
 
 -- an expression and a closing parenthesis
 abbrev pub enclosed_with : (List ℕ → Option (Tree × List ℕ)) → List ℕ → Option (Tree × List ℕ)
 enclosed_with item xs = item xs >>= λ inner. with (λ _. inner.0) (byte_at 41 inner.1)
 
--- an operand, by its first byte
-abbrev pub atom_by : ℕ → (List ℕ → Option (Tree × List ℕ)) → (List ℕ → Option (List ℕ × List ℕ)) → Kind → ℕ → List ℕ → Option (Tree × List ℕ)
-atom_by end deep pattern kind.Numeral b xs = with number_of (numeral_at (b ∷ xs))
-atom_by end deep pattern kind.Quote b xs = with Literal (inside xs)
-atom_by end deep pattern kind.Letter b xs = local_with end (chain_with deep pattern) (b ∷ xs)
-atom_by end deep pattern kind.Caret b xs = global_with end (column_of end (b ∷ xs)) (chain_with deep pattern) xs
-atom_by end deep pattern kind.Dollar b xs = dollar_with deep (chain_with deep pattern) (column_of end (b ∷ xs)) xs
-atom_by end deep pattern kind.Open b xs = enclosed_with (chain_with deep pattern) xs
-atom_by end deep pattern (kind.Prefix op) b xs = with (Prefixed op) (deep xs)
-atom_by end deep pattern kind.Other b xs = None
+-- an operand, by its first byte; `deep` reads what lies one deeper
+abbrev pub atom_by : Allows → ℕ → (List ℕ → Option (Tree × List ℕ)) → (List ℕ → Option (Tree × List ℕ)) → (List ℕ → Option (List ℕ × List ℕ)) → Kind → ℕ → List ℕ → Option (Tree × List ℕ)
+atom_by a end deep quiet pattern kind.Numeral b xs = with number_of (numeral_at (b ∷ xs))
+atom_by a end deep quiet pattern kind.Quote b xs = with Lit (inside xs)
+atom_by a end deep quiet pattern kind.Letter b xs = local_with end (chain_with deep pattern) (b ∷ xs)
+atom_by a end deep quiet pattern kind.Caret b xs = global_with (globals_may a) end (column_of end (b ∷ xs)) (chain_with deep pattern) xs
+atom_by a end deep quiet pattern kind.Dollar b xs = dollar_with (calls_may a) end deep (chain_with deep pattern) quiet (column_of end (b ∷ xs)) xs
+atom_by a end deep quiet pattern kind.Open b xs = enclosed_with (chain_with deep pattern) xs
+atom_by a end deep quiet pattern (kind.Prefix op) b xs = with (Prefixed op) (deep xs)
+atom_by a end deep quiet pattern kind.Other b xs = None
 
-abbrev pub operand_with : ℕ → (List ℕ → Option (Tree × List ℕ)) → (List ℕ → Option (List ℕ × List ℕ)) → List ℕ → Option (Tree × List ℕ)
-operand_with end deep pattern [] = None
-operand_with end deep pattern (b ∷ xs) = atom_by end deep pattern (kind_of b) b xs
+abbrev pub operand_with : Allows → ℕ → (List ℕ → Option (Tree × List ℕ)) → (List ℕ → Option (Tree × List ℕ)) → (List ℕ → Option (List ℕ × List ℕ)) → List ℕ → Option (Tree × List ℕ)
+operand_with a end deep quiet pattern [] = None
+operand_with a end deep quiet pattern (b ∷ xs) = atom_by a end deep quiet pattern (kind_of b) b xs
+
+-- the same reading, of what holds no global and no call
+abbrev pub quietly : (List ℕ → Option (Tree × List ℕ)) → List ℕ → Option (Tree × List ℕ)
+quietly item xs = kept (may_stand NoTouches) (item xs)
 
 unfoldable pub atom_at : ℕ → ℕ → List ℕ → Option (Tree × List ℕ)
 atom_at end zero xs = None
-atom_at end (suc k) xs = operand_with end (atom_at end k) (pattern_at k) xs
+atom_at end (suc k) xs = operand_with Everything end (atom_at end k) (quietly (chain_with (atom_at end k) (pattern_at k))) (pattern_at k) xs
+
+-- the same where a reader is
+unfoldable pub atom_in : Scope → List ℕ → Option (Tree × List ℕ)
+atom_in here xs = kept (may_stand here.allows) (atom_at here.end here.left xs)
+
+abbrev pub nested_in : Scope → List ℕ → Option (Tree × List ℕ)
+nested_in here xs = chain_with (atom_in here) (pattern_at here.left) xs
+
+abbrev pub quiet : Scope → Scope
+quiet here = record { end = here.end; left = here.left; allows = NoTouches }
+
+abbrev pub operand_in : Scope → List ℕ → Option (Tree × List ℕ)
+operand_in here xs = operand_with here.allows here.end (atom_in here) (nested_in (quiet here)) (pattern_at here.left) xs
 
 -- an expression that nests at most so deep
 abbrev pub nested_at : ℕ → ℕ → List ℕ → Option (Tree × List ℕ)
@@ -202,7 +236,7 @@ reference_at end xs = if starts_reference xs then atom_at end 64 xs else None
 
 abbrev pub behind_open : ℕ → Option (ℕ × List ℕ) → Option (List ActualTree × List ℕ)
 behind_open end None = None
-behind_open end (Some open') = actuals_with (chain_with (atom_at end 63) (pattern_at 63)) open'.1
+behind_open end (Some open') = actuals_with ByReference end (chain_with (atom_at end 63) (pattern_at 63)) open'.1
 
 unfoldable pub actual_list_at : ℕ → List ℕ → Option (List ActualTree × List ℕ)
 actual_list_at end xs = behind_open end (byte_at 40 xs)
@@ -218,3 +252,21 @@ ended r = if ends r.1 then Some r else None
 
 unfoldable pub expr_at : ℕ → List ℕ → Option (Tree × List ℕ)
 expr_at end xs = nested_at end 64 xs >>= ended
+
+-- the same where a reader is
+unfoldable pub expr_in : Scope → List ℕ → Option (Tree × List ℕ)
+expr_in here xs = nested_in here xs >>= ended
+
+abbrev pub reference_by : Scope → List ℕ → Option (ℕ × List ℕ) → Option (Tree × List ℕ)
+reference_by here xs (Some caret) = global_with true here.end (column_of here.end xs) (nested_in here) caret.1
+reference_by here xs None = if starts_reference xs then local_with here.end (nested_in here) xs else None
+
+unfoldable pub reference_in : Scope → List ℕ → Option (Tree × List ℕ)
+reference_in here xs = reference_by here xs (byte_at 94 xs)
+
+abbrev pub list_by : Passing → Scope → Option (ℕ × List ℕ) → Option (List ActualTree × List ℕ)
+list_by passing here None = None
+list_by passing here (Some open') = actuals_with passing here.end (nested_in here) open'.1
+
+unfoldable pub actual_list_in : Passing → Scope → List ℕ → Option (List ActualTree × List ℕ)
+actual_list_in passing here xs = list_by passing here (byte_at 40 xs)

@@ -1,6 +1,10 @@
 -- What the grammar keeps to, and what its readers answer.
-use Rattle.std.specs.Prelude.{ℕ, suc, ◌≡◌, ◌≤◌, ◌||◌, not, Bool, true, false, List, [], ◌∷◌, ◌++◌, length, drop, ◌==◌}
+use Rattle.std.specs.Prelude.{ℕ, suc, ◌≡◌, ◌≤◌, min, nat_le, ◌&&◌, ◌||◌, not, is_some, Bool, true, false, List, [], ◌∷◌, ◌++◌, length, drop, ◌==◌}
 use Rattle.mlk_text.specs.Lexemes.{is_name_byte}
+use Rattle.mlk_text.specs.Codes.{number_of}
+use Rattle.mlk_text.specs.declared.fault.Fault.{Fault}
+use Rattle.mlk_expr.specs.declared.scope.Passing.{Passing}
+use Rattle.mlk_expr.specs.Touches.{lends}
 use Rattle.mlk_expr.specs.declared.fault.ReadError.{ReadError}
 use Rattle.mlk_expr.specs.declared.fault.ReadError.TheVariants.{OutOfMemory, Refused}
 use Rattle.mlk_expr.specs.Trees.{Tree, ActualTree}
@@ -39,6 +43,28 @@ Only {A = A} Is Ends line at a next = (b : A) (text rest : List ℕ) → drop at
 abbrev pub Refuses : {A : Type 0} → (ℕ → A → List ℕ → Type 0) → (A → List ℕ → Type 0) → List ℕ → ℕ → ReadError → Type 0
 Refuses Is Ends line at OutOfMemory = Unit {0}
 Refuses {A = A} Is Ends line at (Refused fault) = (a : A) (text rest : List ℕ) → drop at line ≡ text ++ rest → Is (suc at) a text → Ends a rest → ⊥
+
+-- The greatest column that a place can tell. This project's own choice.
+abbrev pub greatest_column : ℕ
+greatest_column = 4294967295
+
+-- The numbers of what is told: 101 to 104, and 207 where names may not be passed by reference.
+abbrev pub may_tell : Passing → ℕ → Bool
+may_tell p n = (nat_le 101 n && nat_le n 104) || (not (lends p) && (n == 207))
+
+-- A fault of what is read from the byte `at` of a line on. A word stands with it just where something is left out. Its
+-- column is after that byte, as far as columns go, and at most one past the line's end.
+pub record IsFault (p : Passing) (line : List ℕ) (at : ℕ) (fault : Fault) : Type 0 where
+  pub coded : may_tell p (number_of fault.code) ≡ true
+  pub worded : is_some fault.left_out ≡ (number_of fault.code == 102)
+  pub unnamed : fault.place.routine ≡ []
+  pub on_line : fault.place.line ≡ 1
+  pub after : min (suc at) greatest_column ≤ fault.place.column
+  pub within : fault.place.column ≤ suc (length line)
+
+abbrev pub Faults : Passing → List ℕ → ℕ → ReadError → Type 0
+Faults p line at OutOfMemory = Unit {0}
+Faults p line at (Refused fault) = IsFault p line at fault
 
 -- What stands at a place has at most one tree and one end, in whatever ways a line is cut into a text and what is behind
 -- it: an expression, a name with its subscripts, an actual list. A whole text has at most one tree.

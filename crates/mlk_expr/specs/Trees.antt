@@ -13,15 +13,15 @@ use Rattle.mlk_expr.specs.declared.tree.Actual.TheOpen.{Expr-F, Actual-F, Subscr
 
 mutual
   pub data Tree : Type 0 where
-    Literal : (value : List ℕ) → Tree
-    Inexact : Tree
+    Lit : (value : List ℕ) → Tree
+    Free : Tree
     LocalName : (name : List ℕ) → (subs : Subs) → Tree
     GlobalName : (column : ℕ) → (name : List ℕ) → (subs : Subs) → Tree
     SpecialName : (special : Special) → Tree
     Prefixed : (op : UnaryOp) → (operand : Tree) → Tree
     Chain : (first : Tree) → (rest : Links) → Tree
     PatternText : (text : List ℕ) → Tree
-    Applied : (function : Function) → (args : Trees) → Tree
+    Func : (function : Function) → (args : Trees) → Tree
     Selected : (choices : Choices) → Tree
     BareCall : (column : ℕ) → (callee : Callee) → Tree
     CallOf : (column : ℕ) → (callee : Callee) → (actuals : Actuals) → Tree
@@ -44,8 +44,8 @@ mutual
 
   pub data ActualTree : Type 0 where
     Given : (t : Tree) → ActualTree
-    Lent : (name : List ℕ) → ActualTree
-    Left : ActualTree
+    ByRef : (column : ℕ) → (name : List ℕ) → ActualTree
+    Missing : ActualTree
 
   pub data Actuals : Type 0 where
     no_actuals : Actuals
@@ -77,22 +77,22 @@ call_from column callee None = BareCall column callee
 call_from column callee (Some given) = CallOf column callee (actuals_from given)
 
 abbrev pub expr_step : Expr-F ActualTree Tree (ℕ × Tree) → Tree
-expr_step (open'.Lit value) = Literal value
-expr_step open'.Free = Inexact
+expr_step (open'.Lit value) = Lit value
+expr_step open'.Free = Free
 expr_step (open'.Local name v) = LocalName name (subs_from v.items)
 expr_step (open'.Global column name v) = GlobalName column name (subs_from v.items)
 expr_step (open'.Special s) = SpecialName s
 expr_step (open'.Unary op b) = Prefixed op b.value
 expr_step (open'.Binary b v) = Chain b.value (links_from v.items)
 expr_step (open'.Pattern text) = PatternText text
-expr_step (open'.Func f v) = Applied f (trees_from v.items)
+expr_step (open'.Func f v) = Func f (trees_from v.items)
 expr_step (open'.Select v) = Selected (choices_from v.items)
 expr_step (open'.Call column callee o) = call_from column callee (option_map (λ v. v.items) o)
 
 abbrev pub actual_step : Actual-F ActualTree Tree (ℕ × Tree) → ActualTree
 actual_step (open'.Value t) = Given t
-actual_step (open'.ByRef name) = Lent name
-actual_step open'.Missing = Left
+actual_step (open'.ByRef column name) = ByRef column name
+actual_step open'.Missing = Missing
 
 abbrev pub subscript_step : Subscript-F ActualTree Tree (ℕ × Tree) → ℕ × Tree
 subscript_step s = (s.column, s.value)

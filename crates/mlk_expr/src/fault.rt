@@ -1,10 +1,13 @@
 // Why a part of a line was not read, as callers see it.
 
-ghost use Rattle.std.specs.Prelude.{◌≡◌};
+ghost use Rattle.std.specs.Prelude.{◌≡◌, ◌≤◌, suc, min, length, true, is_some, ◌==◌};
+ghost use Rattle.mlk_text.specs.Codes.{number_of};
 ghost use Rattle.mlk_expr.specs.Outcome.{Tells};
+ghost use Rattle.mlk_expr.specs.Theorem.{greatest_column, may_tell, Faults};
 
-use crate::refusal::Refusal;
-use mlk_text::{Fault, Place, Value};
+use crate::refusal::{Refusal, Wrong};
+use crate::scope::Passing;
+use mlk_text::{Code, Fault, LeftOut, Place, Value};
 use std::alloc::Global;
 
 /// Why a part of a line was not read.
@@ -15,27 +18,58 @@ pub enum ReadError {
     Refused(Fault),
 }
 
-/// The refusal with its column in the line.
-pub(crate) fn located(alloc: Global, line: &[u8], refusal: Refusal) -> ReadError
-    ensures { Tells refusal result }
+// The code of what is wrong, and what is left out. A name by reference is refused only where it may not be passed.
+fn told(passing: Passing, wrong: Wrong) -> (Code, Option<LeftOut>)
+    ensures coded { may_tell passing (number_of result.0) ≡ true }
+    ensures worded { is_some result.1 ≡ (number_of result.0 == 102) }
+{
+    match wrong {
+        Wrong::Form => (Code::ExprForm, None),
+        Wrong::LeftOut(what) => (Code::ExprLeftOut, Some(what)),
+        Wrong::Deep => (Code::ExprDeep, None),
+        Wrong::NameLong => (Code::NameLong, None),
+        Wrong::Lent if passing.lends() => (Code::ExprForm, None),
+        Wrong::Lent => (Code::ArgumentForm, None),
+    }
+}
+
+// The column of the byte before which so many stand.
+fn column_after(before: usize) -> u32
+    ensures least { min (suc before) greatest_column ≤ result }
+    ensures most { result ≤ suc before }
+{
+    if before >= u32::MAX as usize {
+        u32::MAX
+    } else {
+        before as u32 + 1
+    }
+}
+
+/// The refusal with its place in the line, from this byte on.
+pub(crate) fn located(
+    alloc: Global,
+    passing: Passing,
+    line: &[u8],
+    at: usize,
+    refusal: Refusal,
+) -> ReadError
+    requires { at ≤ length line.now }
+    ensures tells { Tells refusal result }
+    ensures placed { Faults passing line.now at result }
 {
     let offence = match refusal {
         Refusal::OutOfMemory => return ReadError::OutOfMemory,
         Refusal::Refused(offence) => offence,
     };
-    let before = line.len().saturating_sub(offence.left);
-    let column = if before >= u32::MAX as usize {
-        u32::MAX
-    } else {
-        before as u32 + 1
-    };
+    let before = line.len().saturating_sub(offence.left).max(at);
+    let (code, left_out) = told(passing, offence.wrong);
     ReadError::Refused(Fault {
-        code: offence.code,
+        code,
         place: Place {
             routine: Value::new(Vec::new(alloc)),
             line: 1,
-            column,
+            column: column_after(before),
         },
-        left_out: offence.left_out,
+        left_out,
     })
 }

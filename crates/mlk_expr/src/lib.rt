@@ -10,6 +10,7 @@ mod pattern;
 mod public;
 mod read;
 mod refusal;
+mod scope;
 #[cfg(test)]
 mod tests;
 mod tree;
@@ -18,5 +19,8 @@ pub mod words;
 pub use fault::ReadError;
 pub use law::one_tree;
 pub use mlk_text::{Op, Relation, UnaryOp};
-pub use public::{read_actuals, read_expr, read_ref};
+pub use public::{
+    read_actuals, read_actuals_where, read_expr, read_expr_where, read_ref, read_ref_where,
+};
+pub use scope::{Allows, Passing};
 pub use tree::{Actual, Callee, Expr, Function, Special, Subscript};

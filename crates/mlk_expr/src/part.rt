@@ -4,16 +4,20 @@ ghost use Rattle.std.specs.Prelude.{◌≡◌, IfOk};
 ghost use Rattle.mlk_text.specs.Lexemes.{name_at, inside};
 ghost use Rattle.mlk_text.specs.Reading.{with};
 ghost use Rattle.mlk_expr.specs.Lexemes.{numeral_at, label_at, lent_at};
-ghost use Rattle.mlk_expr.specs.Trees.{Literal, tree_of};
+ghost use Rattle.mlk_expr.specs.Trees.{Lit, tree_of};
 ghost use Rattle.mlk_expr.specs.Grammar.{named, has_subscript, asks_subscript};
-ghost use Rattle.mlk_expr.specs.Reading.{number_of, callee_at};
+ghost use Rattle.mlk_expr.specs.Reading.{where_may, number_of, callee_at};
+ghost use Rattle.mlk_expr.specs.Touches.{globals_may};
 ghost use Rattle.mlk_expr.specs.Outcome.{Gives, IsRefused};
 
 use crate::numeral::numeral_at;
-use crate::refusal::{Refusal, no_global, no_name, no_number, no_routine, refused};
+use crate::refusal::{
+    Refusal, Wrong, no_global, no_label, no_name, no_number, no_routine, refused,
+};
+use crate::scope::Allows;
 use crate::tree::{Callee, Expr, Function};
 use mlk_text::lexeme::{self, ReadError, byte_of, digits, is_text_byte};
-use mlk_text::{Code, Name, Value, canonical, literal};
+use mlk_text::{Name, Value, canonical, literal};
 use std::alloc::{AllocError, Global};
 
 /// The name at the front, and what is behind it.
@@ -34,10 +38,10 @@ fn no_text(bytes: &[u8]) -> Refusal
     for (i, b) in bytes.iter().enumerate() {
         if !is_text_byte(*b) {
             let (_, rest) = bytes.split_at(i);
-            return refused(Code::ExprForm, rest);
+            return refused(Wrong::Form, rest);
         }
     }
-    refused(Code::ExprForm, &[])
+    refused(Wrong::Form, &[])
 }
 
 /// The value up to the closing quote, and what is behind it.
@@ -53,7 +57,7 @@ pub(crate) fn quoted(alloc: Global, bytes: &[u8]) -> Result<(Value, &[u8]), Refu
 
 /// The text up to the closing quote, and what is behind it.
 pub(crate) fn text(alloc: Global, bytes: &[u8]) -> Result<(Expr, &[u8]), Refusal>
-    ensures { Gives (λ x. (tree_of x.0, x.1.now)) result (with Literal (inside bytes.now)) }
+    ensures { Gives (λ x. (tree_of x.0, x.1.now)) result (with Lit (inside bytes.now)) }
 {
     let (value, rest) = quoted(alloc, bytes)?;
     Ok((Expr::Lit(value), rest))
@@ -87,10 +91,10 @@ fn label(alloc: Global, bytes: &[u8]) -> Result<(Name, &[u8]), Refusal>
     match name(alloc, bytes) {
         Ok((name, rest)) => Ok((name, rest)),
         Err(Refusal::OutOfMemory) => Err(Refusal::OutOfMemory),
-        Err(refusal) => {
+        Err(Refusal::Refused(_)) => {
             let n = digits(bytes);
             if n == 0 {
-                return Err(refusal);
+                return Err(no_label(bytes));
             }
             let (text, rest) = bytes.split_at(n);
             Ok((Name::new(Vec::from_slice(alloc, text)?), rest))
@@ -98,13 +102,14 @@ fn label(alloc: Global, bytes: &[u8]) -> Result<(Name, &[u8]), Refusal>
     }
 }
 
-fn routine(alloc: Global, bytes: &[u8]) -> Result<(Name, &[u8]), Refusal>
+// The name of a routine after its caret, at which the whole begins, and what is after it.
+fn routine<'a>(alloc: Global, whole: &[u8], bytes: &'a [u8]) -> Result<(Name, &'a [u8]), Refusal>
     ensures { Gives (λ x. (x.0, x.1.now)) result (name_at bytes.now) }
 {
     match name(alloc, bytes) {
         Ok((name, rest)) => Ok((name, rest)),
         Err(Refusal::OutOfMemory) => Err(Refusal::OutOfMemory),
-        Err(Refusal::Refused(_)) => Err(no_routine(bytes)),
+        Err(Refusal::Refused(_)) => Err(no_routine(whole, bytes)),
     }
 }
 
@@ -114,7 +119,7 @@ pub(crate) fn callee(alloc: Global, bytes: &[u8]) -> Result<(Callee, &[u8]), Ref
     ensures { Gives (λ x. (x.0, x.1.now)) result (callee_at bytes.now) }
 {
     if let Some(behind) = byte_of(b'^', bytes) {
-        let (routine, rest) = routine(alloc, behind)?;
+        let (routine, rest) = routine(alloc, bytes, behind)?;
         let routine = Some(routine);
         return Ok((
             Callee {
@@ -130,7 +135,7 @@ pub(crate) fn callee(alloc: Global, bytes: &[u8]) -> Result<(Callee, &[u8]), Ref
         let routine = None;
         return Ok((Callee { label, routine }, rest));
     };
-    let (routine, rest) = routine(alloc, behind)?;
+    let (routine, rest) = routine(alloc, rest, behind)?;
     let routine = Some(routine);
     Ok((Callee { label, routine }, rest))
 }
@@ -138,15 +143,19 @@ pub(crate) fn callee(alloc: Global, bytes: &[u8]) -> Result<(Callee, &[u8]), Ref
 /// The name of a global behind its caret, at which the whole begins, and what is behind it.
 pub(crate) fn global_name<'a>(
     alloc: Global,
+    allows: Allows,
     whole: &[u8],
     bytes: &'a [u8],
 ) -> Result<(Name, &'a [u8]), Refusal>
-    ensures { Gives (λ x. (x.0, x.1.now)) result (name_at bytes.now) }
+    ensures { Gives (λ x. (x.0, x.1.now)) result (where_may (globals_may allows) (name_at bytes.now)) }
 {
+    if !allows.globals() {
+        return Err(no_global(allows, whole, bytes));
+    }
     match name(alloc, bytes) {
         Ok((name, rest)) => Ok((name, rest)),
         Err(Refusal::OutOfMemory) => Err(Refusal::OutOfMemory),
-        Err(Refusal::Refused(_)) => Err(no_global(whole, bytes)),
+        Err(Refusal::Refused(_)) => Err(no_global(allows, whole, bytes)),
     }
 }
 

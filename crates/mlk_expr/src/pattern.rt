@@ -9,8 +9,7 @@ ghost use Rattle.mlk_expr.specs.Outcome.{Gives};
 
 use crate::lexeme::{count_at, pattern_codes_at};
 use crate::part::quoted;
-use crate::refusal::{Refusal, no_operand, refused, too_deep_pattern};
-use mlk_text::Code;
+use crate::refusal::{Refusal, Wrong, no_operand, refused, too_deep_pattern};
 use mlk_text::lexeme::byte_of;
 use std::alloc::Global;
 
@@ -55,7 +54,7 @@ fn matcher<'a>(
     ensures { Gives (λ x. (count.now, x.now)) result (matcher_by (pattern_at deeper) count.now bytes.now) }
 {
     let Some((first, behind)) = bytes.split_first() else {
-        return Err(refused(Code::ExprForm, bytes));
+        return Err(refused(Wrong::Form, bytes));
     };
     if *first == b'"' {
         let (_, rest) = quoted(alloc, behind)?;
@@ -66,7 +65,7 @@ fn matcher<'a>(
         return Ok(rest);
     }
     let Some((_, rest)) = pattern_codes_at(bytes) else {
-        return Err(refused(Code::ExprForm, bytes));
+        return Err(refused(Wrong::Form, bytes));
     };
     Ok(rest)
 }
@@ -80,7 +79,7 @@ fn alternatives(alloc: Global, deeper: u8, bytes: &[u8]) -> Result<&[u8], Refusa
     let (_, rest) = pattern(alloc, deeper, bytes)?;
     let rest = alternatives_rest(alloc, deeper, rest)?;
     let Some(rest) = byte_of(b')', rest) else {
-        return Err(refused(Code::ExprForm, rest));
+        return Err(refused(Wrong::Form, rest));
     };
     Ok(rest)
 }

@@ -2,85 +2,141 @@
 
 ghost use Rattle.std.specs.Prelude.{◌≡◌, ◌≤◌, length, IfOk, IfErr};
 ghost use Rattle.mlk_expr.specs.Trees.{tree_of, actual_trees};
+ghost use Rattle.mlk_expr.specs.Touches.{may_stand, subs_stand, given_stand, Standing};
 ghost use Rattle.mlk_expr.specs.Grammar.{IsExpr, IsReference, IsActualList};
-ghost use Rattle.mlk_expr.specs.Reading.{expr_at, reference_at, actual_list_at};
+ghost use Rattle.mlk_expr.specs.Reading.{expr_in, reference_in, actual_list_in};
 ghost use Rattle.mlk_expr.specs.Outcome.{Gives};
-ghost use Rattle.mlk_expr.specs.Theorem.{ExprEnds, ReferenceEnds, ListEnds, Stands, Only, Refuses};
+ghost use Rattle.mlk_expr.specs.Theorem.{ExprEnds, ReferenceEnds, ListEnds, Stands, Only, Refuses, Faults};
+ghost use Rattle.mlk_expr.specs.declared.scope.Passing.TheVariants.{ByReference};
 
 use crate::fault::{ReadError, located};
-use crate::lexeme::{may_end, starts_reference};
+use crate::lexeme::{column_of, may_end, starts_reference};
+use crate::part::global_name;
 use crate::read::actuals::actuals;
-use crate::read::{atom, chain};
-use crate::refusal::{Refusal, no_end, no_operand, refused};
+use crate::read::chain;
+use crate::read::names::{local, subscripts};
+use crate::refusal::{Refusal, Wrong, no_end, no_operand, refused};
+use crate::scope::{Allows, Passing, Scope};
 use crate::tree::{Actual, Expr};
-use mlk_text::Code;
 use mlk_text::lexeme::byte_of;
 use std::alloc::Global;
 
 const DEEPEST: u8 = 64;
 
-#[tactic(auto, unfolding(crate::specs::Reading::expr_at))]
-fn expr(alloc: Global, end: usize, bytes: &[u8]) -> Result<(Expr, &[u8]), Refusal>
-    ensures { Gives (λ x. (tree_of x.0, x.1.now)) result (expr_at end bytes.now) }
+#[tactic(auto, unfolding(crate::specs::Reading::expr_in))]
+fn expr(alloc: Global, scope: Scope, bytes: &[u8]) -> Result<(Expr, &[u8]), Refusal>
+    ensures { Gives (λ x. (tree_of x.0, x.1.now)) result (expr_in scope bytes.now) }
 {
-    let (tree, rest) = chain(alloc, end, DEEPEST, bytes)?;
+    let (tree, rest) = chain(alloc, scope, bytes)?;
     if !may_end(rest) {
         return Err(no_end(rest));
     }
     Ok((tree, rest))
 }
 
-#[tactic(auto, unfolding(crate::specs::Reading::reference_at))]
-fn reference(alloc: Global, end: usize, bytes: &[u8]) -> Result<(Expr, &[u8]), Refusal>
-    ensures { Gives (λ x. (tree_of x.0, x.1.now)) result (reference_at end bytes.now) }
+#[tactic(auto, unfolding(crate::specs::Reading::reference_in))]
+fn reference(alloc: Global, scope: Scope, bytes: &[u8]) -> Result<(Expr, &[u8]), Refusal>
+    ensures { Gives (λ x. (tree_of x.0, x.1.now)) result (reference_in scope bytes.now) }
 {
+    if let Some(behind) = byte_of(b'^', bytes) {
+        let (name, rest) = global_name(alloc, Allows::Everything, bytes, behind)?;
+        let (subs, rest) = subscripts(alloc, scope, rest)?;
+        return Ok((Expr::Global(column_of(scope.end, bytes), name, subs), rest));
+    }
     if !starts_reference(bytes) {
         return Err(no_operand(bytes));
     }
-    let (tree, rest) = atom(alloc, end, DEEPEST, bytes)?;
-    Ok((tree, rest))
+    local(alloc, scope, bytes)
 }
 
-#[tactic(auto, unfolding(crate::specs::Reading::actual_list_at))]
-fn actual_list(alloc: Global, end: usize, bytes: &[u8]) -> Result<(Vec<Actual>, &[u8]), Refusal>
-    ensures { Gives (λ x. (actual_trees x.0.items, x.1.now)) result (actual_list_at end bytes.now) }
+#[tactic(auto, unfolding(crate::specs::Reading::actual_list_in))]
+fn actual_list(
+    alloc: Global,
+    scope: Scope,
+    passing: Passing,
+    bytes: &[u8],
+) -> Result<(Vec<Actual>, &[u8]), Refusal>
+    ensures { Gives (λ x. (actual_trees x.0.items, x.1.now)) result (actual_list_in passing scope bytes.now) }
 {
     let Some(behind) = byte_of(b'(', bytes) else {
-        return Err(refused(Code::ExprForm, bytes));
+        return Err(refused(Wrong::Form, bytes));
     };
-    let (given, rest) = actuals(alloc, end, DEEPEST - 1, behind)?;
-    Ok((given, rest))
+    actuals(alloc, scope, passing, behind)
 }
 
-/// The expression that begins at this byte of a line, and the byte behind it.
+/// The expression that begins at this byte of a line, and the byte after it.
 pub fn read_expr(alloc: Global, line: &[u8], at: usize) -> Result<(Expr, usize), ReadError>
     requires { at ≤ length line.now }
     ensures found { IfOk result (λ r. Stands IsExpr ExprEnds line.now at (tree_of r.0) r.1) }
     ensures only { IfOk result (λ r. Only IsExpr ExprEnds line.now at (tree_of r.0) r.1) }
     ensures refused { IfErr result (λ e. Refuses IsExpr ExprEnds line.now at e) }
+    ensures fault { IfErr result (λ e. Faults ByReference line.now at e) }
+{
+    read_expr_where(alloc, Allows::Everything, line, at)
+}
+
+/// The same where not everything may stand.
+pub fn read_expr_where(
+    alloc: Global,
+    allows: Allows,
+    line: &[u8],
+    at: usize,
+) -> Result<(Expr, usize), ReadError>
+    requires { at ≤ length line.now }
+    ensures found { IfOk result (λ r. Stands (Standing (may_stand allows) IsExpr) ExprEnds line.now at (tree_of r.0) r.1) }
+    ensures only { IfOk result (λ r. Only (Standing (may_stand allows) IsExpr) ExprEnds line.now at (tree_of r.0) r.1) }
+    ensures refused { IfErr result (λ e. Refuses (Standing (may_stand allows) IsExpr) ExprEnds line.now at e) }
+    ensures fault { IfErr result (λ e. Faults ByReference line.now at e) }
 {
     let (_, bytes) = line.split_at(at);
-    match expr(alloc, line.len() + 1, bytes) {
+    let scope = Scope {
+        end: line.len() + 1,
+        left: DEEPEST,
+        allows,
+    };
+    match expr(alloc, scope, bytes) {
         Ok((tree, rest)) => Ok((tree, line.len() - rest.len())),
-        Err(refusal) => Err(located(alloc, line, refusal)),
+        Err(refusal) => Err(located(alloc, Passing::ByReference, line, at, refusal)),
     }
 }
 
-/// The local or global name with its subscripts that begins at this byte of a line, and the byte behind it.
+/// The local or global name with its subscripts that begins at this byte of a line, and the byte after it.
 pub fn read_ref(alloc: Global, line: &[u8], at: usize) -> Result<(Expr, usize), ReadError>
     requires { at ≤ length line.now }
     ensures found { IfOk result (λ r. Stands IsReference ReferenceEnds line.now at (tree_of r.0) r.1) }
     ensures only { IfOk result (λ r. Only IsReference ReferenceEnds line.now at (tree_of r.0) r.1) }
     ensures refused { IfErr result (λ e. Refuses IsReference ReferenceEnds line.now at e) }
+    ensures fault { IfErr result (λ e. Faults ByReference line.now at e) }
+{
+    read_ref_where(alloc, Allows::Everything, line, at)
+}
+
+/// The same where not everything may stand in its subscripts.
+pub fn read_ref_where(
+    alloc: Global,
+    allows: Allows,
+    line: &[u8],
+    at: usize,
+) -> Result<(Expr, usize), ReadError>
+    requires { at ≤ length line.now }
+    ensures found { IfOk result (λ r. Stands (Standing (subs_stand allows) IsReference) ReferenceEnds line.now at (tree_of r.0) r.1) }
+    ensures only { IfOk result (λ r. Only (Standing (subs_stand allows) IsReference) ReferenceEnds line.now at (tree_of r.0) r.1) }
+    ensures refused { IfErr result (λ e. Refuses (Standing (subs_stand allows) IsReference) ReferenceEnds line.now at e) }
+    ensures fault { IfErr result (λ e. Faults ByReference line.now at e) }
 {
     let (_, bytes) = line.split_at(at);
-    match reference(alloc, line.len() + 1, bytes) {
+    let scope = Scope {
+        end: line.len() + 1,
+        left: DEEPEST - 1,
+        allows,
+    };
+    match reference(alloc, scope, bytes) {
         Ok((tree, rest)) => Ok((tree, line.len() - rest.len())),
-        Err(refusal) => Err(located(alloc, line, refusal)),
+        Err(refusal) => Err(located(alloc, Passing::ByReference, line, at, refusal)),
     }
 }
 
-/// The actual list that begins at this byte of a line, and the byte behind it.
+/// The actual list that begins at this byte of a line, and the byte after it.
 pub fn read_actuals(
     alloc: Global,
     line: &[u8],
@@ -90,10 +146,33 @@ pub fn read_actuals(
     ensures found { IfOk result (λ r. Stands IsActualList ListEnds line.now at (actual_trees r.0.items) r.1) }
     ensures only { IfOk result (λ r. Only IsActualList ListEnds line.now at (actual_trees r.0.items) r.1) }
     ensures refused { IfErr result (λ e. Refuses IsActualList ListEnds line.now at e) }
+    ensures fault { IfErr result (λ e. Faults ByReference line.now at e) }
+{
+    read_actuals_where(alloc, Allows::Everything, Passing::ByReference, line, at)
+}
+
+/// The same where not everything may stand in them, or be passed.
+pub fn read_actuals_where(
+    alloc: Global,
+    allows: Allows,
+    passing: Passing,
+    line: &[u8],
+    at: usize,
+) -> Result<(Vec<Actual>, usize), ReadError>
+    requires { at ≤ length line.now }
+    ensures found { IfOk result (λ r. Stands (Standing (given_stand allows passing) IsActualList) ListEnds line.now at (actual_trees r.0.items) r.1) }
+    ensures only { IfOk result (λ r. Only (Standing (given_stand allows passing) IsActualList) ListEnds line.now at (actual_trees r.0.items) r.1) }
+    ensures refused { IfErr result (λ e. Refuses (Standing (given_stand allows passing) IsActualList) ListEnds line.now at e) }
+    ensures fault { IfErr result (λ e. Faults passing line.now at e) }
 {
     let (_, bytes) = line.split_at(at);
-    match actual_list(alloc, line.len() + 1, bytes) {
+    let scope = Scope {
+        end: line.len() + 1,
+        left: DEEPEST - 1,
+        allows,
+    };
+    match actual_list(alloc, scope, passing, bytes) {
         Ok((given, rest)) => Ok((given, line.len() - rest.len())),
-        Err(refusal) => Err(located(alloc, line, refusal)),
+        Err(refusal) => Err(located(alloc, passing, line, at, refusal)),
     }
 }

@@ -4,37 +4,33 @@ ghost use Rattle.std.specs.Prelude.{suc, length};
 ghost use Rattle.mlk_text.specs.Reading.{with, many};
 ghost use Rattle.mlk_expr.specs.Lexemes.{op_at, is_match};
 ghost use Rattle.mlk_expr.specs.Trees.{Prefixed, tree_of, links};
-ghost use Rattle.mlk_expr.specs.Reading.{nested_at, pattern_at, right_by, linked, enclosed_with, operand_with, atom_at};
+ghost use Rattle.mlk_expr.specs.Reading.{nested_in, pattern_at, right_by, linked, enclosed_with, operand_in, atom_in};
 ghost use Rattle.mlk_expr.specs.Outcome.{Gives};
 
 pub mod actuals;
 mod functions;
-mod names;
+pub mod names;
 
 use crate::lexeme::{Kind, is_match, kind_of, op_at};
 use crate::part::{number, text};
 use crate::pattern::pattern;
 use crate::read::functions::dollar;
 use crate::read::names::{global, local};
-use crate::refusal::{Refusal, no_end, no_operand, refused, too_deep};
+use crate::refusal::{Refusal, Wrong, no_end, no_operand, refused, too_deep};
+use crate::scope::Scope;
 use crate::tree::Expr;
 use mlk_text::lexeme::byte_of;
-use mlk_text::{Code, Op, UnaryOp, Value};
+use mlk_text::{Op, UnaryOp, Value};
 use std::alloc::Global;
 
 /// The expression at the front that nests so deep at most, and what is behind it.
 #[tactic(auto, unfolding(crate::specs::Reading::chain_with))]
 #[cycle(reading)]
-pub(crate) fn chain(
-    alloc: Global,
-    end: usize,
-    left: u8,
-    bytes: &[u8],
-) -> Result<(Expr, &[u8]), Refusal>
-    ensures { Gives (λ x. (tree_of x.0, x.1.now)) result (nested_at end left bytes.now) }
+pub(crate) fn chain(alloc: Global, scope: Scope, bytes: &[u8]) -> Result<(Expr, &[u8]), Refusal>
+    ensures { Gives (λ x. (tree_of x.0, x.1.now)) result (nested_in scope bytes.now) }
 {
-    let (first, rest) = atom(alloc, end, left, bytes)?;
-    let (links, rest) = chain_rest(alloc, end, left, rest)?;
+    let (first, rest) = atom(alloc, scope, bytes)?;
+    let (links, rest) = chain_rest(alloc, scope, rest)?;
     if links.is_empty() {
         return Ok((first, rest));
     }
@@ -44,16 +40,15 @@ pub(crate) fn chain(
 #[cycle(reading)]
 fn chain_rest(
     alloc: Global,
-    end: usize,
-    left: u8,
+    scope: Scope,
     bytes: &[u8],
 ) -> Result<(Vec<(Op, Expr)>, &[u8]), Refusal>
-    ensures { Gives (λ x. (links x.0.items, x.1.now)) result (many op_at (linked (atom_at end left) (pattern_at left)) (suc (length bytes.now)) bytes.now) }
+    ensures { Gives (λ x. (links x.0.items, x.1.now)) result (many op_at (linked (atom_in scope) (pattern_at scope.left)) (suc (length bytes.now)) bytes.now) }
 {
     let mut found = Vec::new(alloc);
     let mut rest = bytes;
     while let Some((op, behind)) = op_at(rest) {
-        let (item, behind) = right(alloc, end, left, op, behind)?;
+        let (item, behind) = right(alloc, scope, op, behind)?;
         found.push((op, item))?;
         rest = behind;
     }
@@ -62,31 +57,25 @@ fn chain_rest(
 
 // What stands behind an operator.
 #[cycle(reading)]
-fn right(
-    alloc: Global,
-    end: usize,
-    left: u8,
-    op: Op,
-    behind: &[u8],
-) -> Result<(Expr, &[u8]), Refusal>
-    ensures { Gives (λ x. (tree_of x.0, x.1.now)) result (right_by (atom_at end left) (pattern_at left) (is_match op) behind.now) }
+fn right(alloc: Global, scope: Scope, op: Op, behind: &[u8]) -> Result<(Expr, &[u8]), Refusal>
+    ensures { Gives (λ x. (tree_of x.0, x.1.now)) result (right_by (atom_in scope) (pattern_at scope.left) (is_match op) behind.now) }
 {
     if is_match(op) {
-        let (text, rest) = pattern(alloc, left, behind)?;
+        let (text, rest) = pattern(alloc, scope.left, behind)?;
         return Ok((
             Expr::Pattern(Value::new(Vec::from_slice(alloc, text)?)),
             rest,
         ));
     }
-    atom(alloc, end, left, behind)
+    atom(alloc, scope, behind)
 }
 
 // An expression and a closing parenthesis.
 #[cycle(reading)]
-fn enclosed(alloc: Global, end: usize, left: u8, bytes: &[u8]) -> Result<(Expr, &[u8]), Refusal>
-    ensures { Gives (λ x. (tree_of x.0, x.1.now)) result (enclosed_with (nested_at end left) bytes.now) }
+fn enclosed(alloc: Global, scope: Scope, bytes: &[u8]) -> Result<(Expr, &[u8]), Refusal>
+    ensures { Gives (λ x. (tree_of x.0, x.1.now)) result (enclosed_with (nested_in scope) bytes.now) }
 {
-    let (inner, rest) = chain(alloc, end, left, bytes)?;
+    let (inner, rest) = chain(alloc, scope, bytes)?;
     let Some(rest) = byte_of(b')', rest) else {
         return Err(no_end(rest));
     };
@@ -97,48 +86,46 @@ fn enclosed(alloc: Global, end: usize, left: u8, bytes: &[u8]) -> Result<(Expr, 
 #[cycle(reading)]
 fn prefixed(
     alloc: Global,
-    end: usize,
-    left: u8,
+    scope: Scope,
     op: UnaryOp,
     bytes: &[u8],
 ) -> Result<(Expr, &[u8]), Refusal>
-    ensures { Gives (λ x. (tree_of x.0, x.1.now)) result (with (Prefixed op) (atom_at end left bytes.now)) }
+    ensures { Gives (λ x. (tree_of x.0, x.1.now)) result (with (Prefixed op) (atom_in scope bytes.now)) }
 {
-    let (operand, rest) = atom(alloc, end, left, bytes)?;
+    let (operand, rest) = atom(alloc, scope, bytes)?;
     Ok((Expr::Unary(op, Box::new(alloc, operand)?), rest))
 }
 
 #[cycle(reading)]
-fn operand(alloc: Global, end: usize, deeper: u8, bytes: &[u8]) -> Result<(Expr, &[u8]), Refusal>
-    ensures { Gives (λ x. (tree_of x.0, x.1.now)) result (operand_with end (atom_at end deeper) (pattern_at deeper) bytes.now) }
+fn operand(alloc: Global, scope: Scope, bytes: &[u8]) -> Result<(Expr, &[u8]), Refusal>
+    ensures { Gives (λ x. (tree_of x.0, x.1.now)) result (operand_in scope bytes.now) }
 {
     let Some((first, behind)) = bytes.split_first() else {
-        return Err(refused(Code::ExprForm, bytes));
+        return Err(refused(Wrong::Form, bytes));
     };
     match kind_of(*first) {
         Kind::Numeral => number(alloc, bytes),
         Kind::Quote => text(alloc, behind),
-        Kind::Letter => local(alloc, end, deeper, bytes),
-        Kind::Caret => global(alloc, end, deeper, bytes, behind),
-        Kind::Dollar => dollar(alloc, end, deeper, bytes, behind),
-        Kind::Open => enclosed(alloc, end, deeper, behind),
-        Kind::Prefix(op) => prefixed(alloc, end, deeper, op, behind),
+        Kind::Letter => local(alloc, scope, bytes),
+        Kind::Caret => global(alloc, scope, bytes, behind),
+        Kind::Dollar => dollar(alloc, scope, bytes, behind),
+        Kind::Open => enclosed(alloc, scope, behind),
+        Kind::Prefix(op) => prefixed(alloc, scope, op, behind),
         Kind::Other => Err(no_operand(bytes)),
     }
 }
 
 /// The operand at the front that nests so deep at most, and what is behind it.
 #[cycle(reading)]
-pub(crate) fn atom(
-    alloc: Global,
-    end: usize,
-    left: u8,
-    bytes: &[u8],
-) -> Result<(Expr, &[u8]), Refusal>
-    ensures { Gives (λ x. (tree_of x.0, x.1.now)) result (atom_at end left bytes.now) }
+pub(crate) fn atom(alloc: Global, scope: Scope, bytes: &[u8]) -> Result<(Expr, &[u8]), Refusal>
+    ensures { Gives (λ x. (tree_of x.0, x.1.now)) result (atom_in scope bytes.now) }
 {
-    if left == 0 {
-        return Err(too_deep(bytes));
+    if scope.left == 0 {
+        return Err(too_deep(scope.allows, bytes));
     }
-    operand(alloc, end, left - 1, bytes)
+    let deeper = Scope {
+        left: scope.left - 1,
+        ..scope
+    };
+    operand(alloc, deeper, bytes)
 }

@@ -6,17 +6,29 @@ ghost use Rattle.mlk_expr.specs.declared.refusal.Refusal.TheVariants.{OutOfMemor
 
 use crate::lexeme::{Kind, count_at, kind_of};
 use crate::numeral::mantissa_len;
+use crate::scope::Allows;
 use crate::tree::{Actual, Expr};
 use crate::words::{function_of, is_select, special_of, word_at};
-use mlk_text::lexeme::byte_of;
-use mlk_text::{Code, LeftOut};
+use mlk_text::LeftOut;
+use mlk_text::lexeme::{byte_of, is_digit};
 use std::alloc::{AllocError, AllocFailed};
+
+/// What is wrong.
+#[derive(Drop, Debug)]
+pub enum Wrong {
+    /// this byte can't stand here
+    Form,
+    LeftOut(LeftOut),
+    Deep,
+    NameLong,
+    /// a name by reference where values alone may be passed
+    Lent,
+}
 
 /// What is wrong, and how many bytes of the line are left there.
 #[derive(Drop, Debug)]
 pub struct Offence {
-    pub code: Code,
-    pub left_out: Option<LeftOut>,
+    pub wrong: Wrong,
     pub left: usize,
 }
 
@@ -44,12 +56,11 @@ impl<T: Drop> From<AllocFailed<T>> for Refusal {
 }
 
 /// A fault where these bytes begin.
-pub(crate) fn refused(code: Code, bytes: &[u8]) -> Refusal
+pub(crate) fn refused(wrong: Wrong, bytes: &[u8]) -> Refusal
     ensures { IsRefused result }
 {
     Refusal::Refused(Offence {
-        code,
-        left_out: None,
+        wrong,
         left: bytes.len(),
     })
 }
@@ -57,11 +68,7 @@ pub(crate) fn refused(code: Code, bytes: &[u8]) -> Refusal
 fn leaves_out(what: LeftOut, bytes: &[u8]) -> Refusal
     ensures { IsRefused result }
 {
-    Refusal::Refused(Offence {
-        code: Code::ExprLeftOut,
-        left_out: Some(what),
-        left: bytes.len(),
-    })
+    refused(Wrong::LeftOut(what), bytes)
 }
 
 /// Why no name stands here: it is too long, or there is none.
@@ -69,11 +76,11 @@ pub(crate) fn no_name(bytes: &[u8]) -> Refusal
     ensures { IsRefused result }
 {
     let Some((first, _)) = bytes.split_first() else {
-        return refused(Code::ExprForm, bytes);
+        return refused(Wrong::Form, bytes);
     };
     match kind_of(*first) {
-        Kind::Letter => refused(Code::NameLong, bytes),
-        _ => refused(Code::ExprForm, bytes),
+        Kind::Letter => refused(Wrong::NameLong, bytes),
+        _ => refused(Wrong::Form, bytes),
     }
 }
 
@@ -91,12 +98,12 @@ pub(crate) fn no_number(bytes: &[u8]) -> Refusal
 {
     let (_, rest) = bytes.split_at(mantissa_len(bytes));
     let Some((first, behind)) = rest.split_first() else {
-        return refused(Code::ExprForm, rest);
+        return refused(Wrong::Form, rest);
     };
     if *first == b'E' {
-        return refused(Code::ExprForm, behind_sign(behind));
+        return refused(Wrong::Form, behind_sign(behind));
     }
-    refused(Code::ExprForm, behind)
+    refused(Wrong::Form, behind)
 }
 
 /// Why an expression neither goes on nor ends here: behind `'` a relation is asked for.
@@ -104,12 +111,12 @@ pub(crate) fn no_end(bytes: &[u8]) -> Refusal
     ensures { IsRefused result }
 {
     match byte_of(b'\'', bytes) {
-        Some(behind) => refused(Code::ExprForm, behind),
-        None => refused(Code::ExprForm, bytes),
+        Some(behind) => refused(Wrong::Form, behind),
+        None => refused(Wrong::Form, bytes),
     }
 }
 
-/// Why no actual stands here, where an expression is refused so: a point may stand before a name that is too long or an indirection.
+/// Why no actual stands here, where an expression is refused so: after a point stands neither a name nor a digit.
 pub(crate) fn no_actual(refusal: Refusal, bytes: &[u8]) -> Refusal
     ensures { IsLike refusal result }
 {
@@ -121,8 +128,8 @@ pub(crate) fn no_actual(refusal: Refusal, bytes: &[u8]) -> Refusal
     };
     match behind.first().copied() {
         Some(b'@') => leaves_out(LeftOut::Indirection, behind),
-        Some(first) if kind_of(first) == Kind::Letter => refused(Code::NameLong, behind),
-        _ => Refusal::Refused(offence),
+        Some(first) if is_digit(first) => Refusal::Refused(offence),
+        _ => no_name(behind),
     }
 }
 
@@ -131,7 +138,7 @@ pub(crate) fn no_arguments_end(args: &[Expr], bytes: &[u8]) -> Refusal
     ensures { IsRefused result }
 {
     if args.len() == 1 {
-        return refused(Code::ExprForm, bytes);
+        return refused(Wrong::Form, bytes);
     }
     no_end(bytes)
 }
@@ -142,30 +149,48 @@ pub(crate) fn no_actuals_end(given: &[Actual], bytes: &[u8]) -> Refusal
 {
     match given.last() {
         Some(Actual::Value(_)) => no_end(bytes),
-        _ => refused(Code::ExprForm, bytes),
+        _ => refused(Wrong::Form, bytes),
     }
 }
 
-/// Why no global stands here, behind its caret.
-pub(crate) fn no_global(bytes: &[u8], behind: &[u8]) -> Refusal
+/// Why no global stands here, behind its caret, at which the whole begins.
+pub(crate) fn no_global(allows: Allows, whole: &[u8], behind: &[u8]) -> Refusal
     ensures { IsRefused result }
 {
     match behind.first().copied() {
-        Some(b'(') => leaves_out(LeftOut::Naked, bytes),
-        Some(b'|') => leaves_out(LeftOut::Environment, bytes),
-        Some(b'$') => leaves_out(LeftOut::Ssvn, bytes),
-        _ => no_name(behind),
-    }
-}
-
-/// Why no name of a routine stands here, behind its caret.
-pub(crate) fn no_routine(behind: &[u8]) -> Refusal
-    ensures { IsRefused result }
-{
-    match behind.first().copied() {
-        Some(b'|') => leaves_out(LeftOut::Environment, behind),
+        Some(b'(') => leaves_out(LeftOut::Naked, whole),
+        Some(b'|') => leaves_out(LeftOut::Environment, whole),
+        Some(b'$') => leaves_out(LeftOut::Ssvn, whole),
         Some(b'@') => leaves_out(LeftOut::Indirection, behind),
+        _ if !allows.globals() => leaves_out(LeftOut::Order, whole),
         _ => no_name(behind),
+    }
+}
+
+/// A call where none may stand, from its `$$`.
+pub(crate) fn no_call(whole: &[u8]) -> Refusal
+    ensures { IsRefused result }
+{
+    leaves_out(LeftOut::Order, whole)
+}
+
+/// Why no label stands here.
+pub(crate) fn no_label(bytes: &[u8]) -> Refusal
+    ensures { IsRefused result }
+{
+    match bytes.first().copied() {
+        Some(b'@') => leaves_out(LeftOut::Indirection, bytes),
+        _ => no_name(bytes),
+    }
+}
+
+/// Why no name of a routine stands here, behind its caret, at which the whole begins.
+pub(crate) fn no_routine(whole: &[u8], behind: &[u8]) -> Refusal
+    ensures { IsRefused result }
+{
+    match behind.first().copied() {
+        Some(b'|') => leaves_out(LeftOut::Environment, whole),
+        _ => no_label(behind),
     }
 }
 
@@ -178,7 +203,7 @@ pub(crate) fn no_word(bytes: &[u8], behind: &[u8]) -> Refusal
     }
     let (word, rest) = word_at(behind);
     if word.is_empty() {
-        return refused(Code::ExprForm, behind);
+        return refused(Wrong::Form, behind);
     }
     match byte_of(b'(', rest) {
         Some(_) => leaves_out(LeftOut::Function, bytes),
@@ -191,7 +216,7 @@ pub(crate) fn no_function(bytes: &[u8], word: &[u8]) -> Refusal
     ensures { IsRefused result }
 {
     match bytes.split_first() {
-        Some((_, behind)) if word.is_empty() => refused(Code::ExprForm, behind),
+        Some((_, behind)) if word.is_empty() => refused(Wrong::Form, behind),
         _ => leaves_out(LeftOut::Function, bytes),
     }
 }
@@ -202,7 +227,7 @@ pub(crate) fn no_operand(bytes: &[u8]) -> Refusal
 {
     match bytes.first().copied() {
         Some(b'@') => leaves_out(LeftOut::Indirection, bytes),
-        _ => refused(Code::ExprForm, bytes),
+        _ => refused(Wrong::Form, bytes),
     }
 }
 
@@ -211,7 +236,7 @@ pub(crate) fn too_deep_pattern(bytes: &[u8]) -> Refusal
     ensures { IsRefused result }
 {
     match count_at(bytes) {
-        Some(_) => refused(Code::ExprDeep, bytes),
+        Some(_) => refused(Wrong::Deep, bytes),
         None => no_operand(bytes),
     }
 }
@@ -229,24 +254,28 @@ fn is_left_out(behind: &[u8]) -> bool {
 }
 
 /// Why an operand here would be too deep; another fault of its first byte comes before that.
-pub(crate) fn too_deep(bytes: &[u8]) -> Refusal
+pub(crate) fn too_deep(allows: Allows, bytes: &[u8]) -> Refusal
     ensures { IsRefused result }
 {
     let Some((first, behind)) = bytes.split_first() else {
-        return refused(Code::ExprForm, bytes);
+        return refused(Wrong::Form, bytes);
     };
     match kind_of(*first) {
         Kind::Other => no_operand(bytes),
         Kind::Caret => match behind.first().copied() {
-            Some(b'(' | b'|' | b'$') => no_global(bytes, behind),
-            _ => refused(Code::ExprDeep, bytes),
+            Some(b'(' | b'|' | b'$') => no_global(allows, bytes, behind),
+            _ if !allows.globals() => leaves_out(LeftOut::Order, bytes),
+            _ => refused(Wrong::Deep, bytes),
         },
         Kind::Dollar => {
+            if behind.first().copied() == Some(b'$') && !allows.calls() {
+                return no_call(bytes);
+            }
             if is_left_out(behind) {
                 return no_word(bytes, behind);
             }
-            refused(Code::ExprDeep, bytes)
+            refused(Wrong::Deep, bytes)
         }
-        _ => refused(Code::ExprDeep, bytes),
+        _ => refused(Wrong::Deep, bytes),
     }
 }

@@ -3,6 +3,7 @@
 mod faults;
 mod limits;
 mod operators;
+mod order;
 mod words;
 
 use crate::{Actual, Expr, ReadError, read_actuals, read_expr, read_ref};
@@ -82,7 +83,7 @@ fn is_x_and_1(given: &[Actual]) -> bool {
         return false;
     }
     let lent = match &given[0] {
-        Actual::ByRef(name) => name.as_bytes() == b"X".as_slice(),
+        Actual::ByRef(column, name) => *column == 2 && name.as_bytes() == b"X".as_slice(),
         _ => false,
     };
     match &given[1] {

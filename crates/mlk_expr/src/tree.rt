@@ -62,8 +62,8 @@ pub struct Subscript {
 #[cycle(syntax)]
 pub enum Actual {
     Value(Expr),
-    /// a name behind a point
-    ByRef(Name),
+    /// a name after a point, with the column of the point
+    ByRef(usize, Name),
     /// nothing
     Missing,
 }

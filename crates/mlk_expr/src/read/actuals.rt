@@ -3,26 +3,37 @@
 ghost use Rattle.std.specs.Prelude.{◌∷◌, [], suc, length};
 ghost use Rattle.mlk_text.specs.Lexemes.{byte_at};
 ghost use Rattle.mlk_text.specs.Reading.{many, put};
+ghost use Rattle.mlk_expr.specs.Lexemes.{column_of};
 ghost use Rattle.mlk_expr.specs.Trees.{tree_of, actual_of, actual_trees};
-ghost use Rattle.mlk_expr.specs.Reading.{next, nested_at, list_with, actual_with, actuals_with, call_with};
+ghost use Rattle.mlk_expr.specs.Reading.{next, nested_in, list_with, actual_with, actuals_with, call_with};
+ghost use Rattle.mlk_expr.specs.Touches.{calls_may};
 ghost use Rattle.mlk_expr.specs.Outcome.{Gives};
 
-use crate::lexeme::is_missing;
+use crate::lexeme::{column_of, is_missing};
 use crate::part::{callee, name};
 use crate::read::chain;
-use crate::refusal::{Refusal, no_actual, no_actuals_end};
+use crate::refusal::{Refusal, Wrong, no_actual, no_actuals_end, no_call, refused};
+use crate::scope::{Passing, Scope};
 use crate::tree::{Actual, Expr};
 use mlk_text::lexeme::byte_of;
 use std::alloc::Global;
 
 #[tactic(auto, unfolding(crate::specs::Reading::actual_with, crate::specs::Lexemes::lent_at))]
 #[cycle(reading)]
-fn actual(alloc: Global, end: usize, left: u8, bytes: &[u8]) -> Result<(Actual, &[u8]), Refusal>
-    ensures { Gives (λ x. (actual_of x.0, x.1.now)) result (actual_with (nested_at end left) bytes.now) }
+fn actual(
+    alloc: Global,
+    scope: Scope,
+    passing: Passing,
+    bytes: &[u8],
+) -> Result<(Actual, &[u8]), Refusal>
+    ensures { Gives (λ x. (actual_of x.0, x.1.now)) result (actual_with passing scope.end (nested_in scope) bytes.now) }
 {
     if let Some(behind) = byte_of(b'.', bytes) {
         match name(alloc, behind) {
-            Ok((name, rest)) => return Ok((Actual::ByRef(name), rest)),
+            Ok(_) if !passing.lends() => return Err(refused(Wrong::Lent, bytes)),
+            Ok((name, rest)) => {
+                return Ok((Actual::ByRef(column_of(scope.end, bytes), name), rest));
+            }
             Err(Refusal::OutOfMemory) => return Err(Refusal::OutOfMemory),
             Err(Refusal::Refused(_)) => {}
         }
@@ -30,7 +41,7 @@ fn actual(alloc: Global, end: usize, left: u8, bytes: &[u8]) -> Result<(Actual, 
     if is_missing(bytes) {
         return Ok((Actual::Missing, bytes));
     }
-    match chain(alloc, end, left, bytes) {
+    match chain(alloc, scope, bytes) {
         Ok((value, rest)) => Ok((Actual::Value(value), rest)),
         Err(refusal) => Err(no_actual(refusal, bytes)),
     }
@@ -41,14 +52,14 @@ fn actual(alloc: Global, end: usize, left: u8, bytes: &[u8]) -> Result<(Actual, 
 #[cycle(reading)]
 fn some_actuals(
     alloc: Global,
-    end: usize,
-    left: u8,
+    scope: Scope,
+    passing: Passing,
     bytes: &[u8],
 ) -> Result<(Vec<Actual>, &[u8]), Refusal>
-    ensures { Gives (λ x. (actual_trees x.0.items, x.1.now)) result (list_with (actual_with (nested_at end left)) bytes.now) }
+    ensures { Gives (λ x. (actual_trees x.0.items, x.1.now)) result (list_with (actual_with passing scope.end (nested_in scope)) bytes.now) }
 {
-    let (first, rest) = actual(alloc, end, left, bytes)?;
-    let (found, rest) = actuals_rest(alloc, end, left, first, rest)?;
+    let (first, rest) = actual(alloc, scope, passing, bytes)?;
+    let (found, rest) = actuals_rest(alloc, scope, passing, first, rest)?;
     let Some(rest) = byte_of(b')', rest) else {
         return Err(no_actuals_end(&found, rest));
     };
@@ -60,55 +71,58 @@ fn some_actuals(
 #[cycle(reading)]
 pub(crate) fn actuals(
     alloc: Global,
-    end: usize,
-    left: u8,
+    scope: Scope,
+    passing: Passing,
     bytes: &[u8],
 ) -> Result<(Vec<Actual>, &[u8]), Refusal>
-    ensures { Gives (λ x. (actual_trees x.0.items, x.1.now)) result (actuals_with (nested_at end left) bytes.now) }
+    ensures { Gives (λ x. (actual_trees x.0.items, x.1.now)) result (actuals_with passing scope.end (nested_in scope) bytes.now) }
 {
     if let Some(rest) = byte_of(b')', bytes) {
         return Ok((Vec::new(alloc), rest));
     }
-    some_actuals(alloc, end, left, bytes)
+    some_actuals(alloc, scope, passing, bytes)
 }
 
 #[cycle(reading)]
 fn actuals_rest(
     alloc: Global,
-    end: usize,
-    left: u8,
+    scope: Scope,
+    passing: Passing,
     first: Actual,
     bytes: &[u8],
 ) -> Result<(Vec<Actual>, &[u8]), Refusal>
-    ensures { Gives (λ x. (actual_trees x.0.items, x.1.now)) result (put (actual_of first ∷ []) (many (byte_at 44) (next (actual_with (nested_at end left))) (suc (length bytes.now)) bytes.now)) }
+    ensures { Gives (λ x. (actual_trees x.0.items, x.1.now)) result (put (actual_of first ∷ []) (many (byte_at 44) (next (actual_with passing scope.end (nested_in scope))) (suc (length bytes.now)) bytes.now)) }
 {
     let mut found = Vec::new(alloc);
     found.push(first)?;
     let mut rest = bytes;
     while let Some(behind) = byte_of(b',', rest) {
-        let (item, behind) = actual(alloc, end, left, behind)?;
+        let (item, behind) = actual(alloc, scope, passing, behind)?;
         found.push(item)?;
         rest = behind;
     }
     Ok((found, rest))
 }
 
-/// A call behind its `$$`.
+/// A call behind its `$$`, at which the whole begins.
 #[tactic(auto, unfolding(crate::specs::Reading::call_with))]
 #[cycle(reading)]
-pub(crate) fn call(
+pub(crate) fn call<'a>(
     alloc: Global,
-    end: usize,
-    left: u8,
-    column: usize,
-    bytes: &[u8],
-) -> Result<(Expr, &[u8]), Refusal>
-    ensures { Gives (λ x. (tree_of x.0, x.1.now)) result (call_with (nested_at end left) column bytes.now) }
+    scope: Scope,
+    whole: &[u8],
+    bytes: &'a [u8],
+) -> Result<(Expr, &'a [u8]), Refusal>
+    ensures { Gives (λ x. (tree_of x.0, x.1.now)) result (call_with (calls_may scope.allows) scope.end (nested_in scope) (column_of scope.end whole.now) bytes.now) }
 {
+    if !scope.allows.calls() {
+        return Err(no_call(whole));
+    }
     let (callee, rest) = callee(alloc, bytes)?;
+    let column = column_of(scope.end, whole);
     let Some(behind) = byte_of(b'(', rest) else {
         return Ok((Expr::Call(column, callee, None), rest));
     };
-    let (given, rest) = actuals(alloc, end, left, behind)?;
+    let (given, rest) = actuals(alloc, scope, Passing::ByReference, behind)?;
     Ok((Expr::Call(column, callee, Some(given)), rest))
 }

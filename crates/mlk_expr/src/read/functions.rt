@@ -5,30 +5,31 @@ ghost use Rattle.mlk_text.specs.Lexemes.{byte_at};
 ghost use Rattle.mlk_text.specs.Reading.{many, put};
 ghost use Rattle.mlk_expr.specs.Lexemes.{column_of};
 ghost use Rattle.mlk_expr.specs.Trees.{tree_of, trees, choice_of, choices};
-ghost use Rattle.mlk_expr.specs.Reading.{few, next, nested_at, list_with, choice_with, arguments_with, function_with, dollar_with, atom_at};
+ghost use Rattle.mlk_expr.specs.Reading.{few, next, nested_in, list_with, choice_with, arguments_with, function_with, dollar_with, atom_in, quiet};
+ghost use Rattle.mlk_expr.specs.Touches.{calls_may};
 ghost use Rattle.mlk_expr.specs.Outcome.{Gives};
 
-use crate::lexeme::{column_of, starts_reference};
+use crate::lexeme::starts_reference;
 use crate::part::{asks_subscript, has_subscript, named};
 use crate::read::actuals::call;
 use crate::read::{atom, chain};
 use crate::refusal::{
-    Refusal, no_arguments_end, no_end, no_function, no_operand, no_word, refused,
+    Refusal, Wrong, no_arguments_end, no_end, no_function, no_operand, no_word, refused,
 };
+use crate::scope::{Allows, Scope};
 use crate::tree::{Expr, Function};
 use crate::words::{function_of, is_select, special_of, word_at};
-use mlk_text::Code;
 use mlk_text::lexeme::byte_of;
 use std::alloc::Global;
 
 // Expressions to the closing parenthesis.
 #[tactic(auto, unfolding(crate::specs::Reading::list_with))]
 #[cycle(reading)]
-fn exprs(alloc: Global, end: usize, left: u8, bytes: &[u8]) -> Result<(Vec<Expr>, &[u8]), Refusal>
-    ensures { Gives (λ x. (trees x.0.items, x.1.now)) result (list_with (nested_at end left) bytes.now) }
+fn exprs(alloc: Global, scope: Scope, bytes: &[u8]) -> Result<(Vec<Expr>, &[u8]), Refusal>
+    ensures { Gives (λ x. (trees x.0.items, x.1.now)) result (list_with (nested_in scope) bytes.now) }
 {
-    let (first, rest) = chain(alloc, end, left, bytes)?;
-    let (found, rest) = exprs_rest(alloc, end, left, first, rest)?;
+    let (first, rest) = chain(alloc, scope, bytes)?;
+    let (found, rest) = exprs_rest(alloc, scope, first, rest)?;
     let Some(rest) = byte_of(b')', rest) else {
         return Err(no_end(rest));
     };
@@ -38,18 +39,17 @@ fn exprs(alloc: Global, end: usize, left: u8, bytes: &[u8]) -> Result<(Vec<Expr>
 #[cycle(reading)]
 fn exprs_rest(
     alloc: Global,
-    end: usize,
-    left: u8,
+    scope: Scope,
     first: Expr,
     bytes: &[u8],
 ) -> Result<(Vec<Expr>, &[u8]), Refusal>
-    ensures { Gives (λ x. (trees x.0.items, x.1.now)) result (put (tree_of first ∷ []) (many (byte_at 44) (next (nested_at end left)) (suc (length bytes.now)) bytes.now)) }
+    ensures { Gives (λ x. (trees x.0.items, x.1.now)) result (put (tree_of first ∷ []) (many (byte_at 44) (next (nested_in scope)) (suc (length bytes.now)) bytes.now)) }
 {
     let mut found = Vec::new(alloc);
     found.push(first)?;
     let mut rest = bytes;
     while let Some(behind) = byte_of(b',', rest) {
-        let (item, behind) = chain(alloc, end, left, behind)?;
+        let (item, behind) = chain(alloc, scope, behind)?;
         found.push(item)?;
         rest = behind;
     }
@@ -60,22 +60,21 @@ fn exprs_rest(
 #[cycle(reading)]
 fn others(
     alloc: Global,
-    end: usize,
-    left: u8,
+    scope: Scope,
     most: usize,
     first: Expr,
     bytes: &[u8],
 ) -> Result<(Vec<Expr>, &[u8]), Refusal>
-    ensures { Gives (λ x. (trees x.0.items, x.1.now)) result (few (suc most) (put (tree_of first ∷ []) (many (byte_at 44) (next (nested_at end left)) (suc (length bytes.now)) bytes.now))) }
+    ensures { Gives (λ x. (trees x.0.items, x.1.now)) result (few (suc most) (put (tree_of first ∷ []) (many (byte_at 44) (next (nested_in scope)) (suc (length bytes.now)) bytes.now))) }
 {
     let mut found = Vec::new(alloc);
     found.push(first)?;
     let mut rest = bytes;
     while let Some(behind) = byte_of(b',', rest) {
         if found.len() > most {
-            return Err(refused(Code::ExprForm, rest));
+            return Err(refused(Wrong::Form, rest));
         }
-        let (item, behind) = chain(alloc, end, left, behind)?;
+        let (item, behind) = chain(alloc, scope, behind)?;
         found.push(item)?;
         rest = behind;
     }
@@ -87,24 +86,27 @@ fn others(
 #[cycle(reading)]
 fn arguments(
     alloc: Global,
-    end: usize,
-    left: u8,
+    scope: Scope,
     function: Function,
     bytes: &[u8],
 ) -> Result<(Vec<Expr>, &[u8]), Refusal>
-    ensures { Gives (λ x. (trees x.0.items, x.1.now)) result (arguments_with (atom_at end left) (nested_at end left) function bytes.now) }
+    ensures { Gives (λ x. (trees x.0.items, x.1.now)) result (arguments_with (atom_in scope) (nested_in scope) (nested_in (quiet scope)) function bytes.now) }
 {
     let Some(most) = named(function) else {
-        return exprs(alloc, end, left, bytes);
+        return exprs(alloc, scope, bytes);
     };
     if !starts_reference(bytes) {
         return Err(no_operand(bytes));
     }
-    let (first, rest) = atom(alloc, end, left, bytes)?;
+    let (first, rest) = atom(alloc, scope, bytes)?;
     if asks_subscript(function) && !has_subscript(&first) {
-        return Err(refused(Code::ExprForm, rest));
+        return Err(refused(Wrong::Form, rest));
     }
-    let (args, rest) = others(alloc, end, left, most, first, rest)?;
+    let quiet = Scope {
+        allows: Allows::NoTouches,
+        ..scope
+    };
+    let (args, rest) = others(alloc, quiet, most, first, rest)?;
     let Some(rest) = byte_of(b')', rest) else {
         return Err(no_arguments_end(&args, rest));
     };
@@ -113,35 +115,25 @@ fn arguments(
 
 // A condition and its value.
 #[cycle(reading)]
-fn choice(
-    alloc: Global,
-    end: usize,
-    left: u8,
-    bytes: &[u8],
-) -> Result<((Expr, Expr), &[u8]), Refusal>
-    ensures { Gives (λ x. (choice_of x.0, x.1.now)) result (choice_with (nested_at end left) bytes.now) }
+fn choice(alloc: Global, scope: Scope, bytes: &[u8]) -> Result<((Expr, Expr), &[u8]), Refusal>
+    ensures { Gives (λ x. (choice_of x.0, x.1.now)) result (choice_with (nested_in scope) bytes.now) }
 {
-    let (condition, rest) = chain(alloc, end, left, bytes)?;
+    let (condition, rest) = chain(alloc, scope, bytes)?;
     let Some(rest) = byte_of(b':', rest) else {
         return Err(no_end(rest));
     };
-    let (value, rest) = chain(alloc, end, left, rest)?;
+    let (value, rest) = chain(alloc, scope, rest)?;
     Ok(((condition, value), rest))
 }
 
 // Choices to the closing parenthesis.
 #[tactic(auto, unfolding(crate::specs::Reading::list_with))]
 #[cycle(reading)]
-fn choices(
-    alloc: Global,
-    end: usize,
-    left: u8,
-    bytes: &[u8],
-) -> Result<(Vec<(Expr, Expr)>, &[u8]), Refusal>
-    ensures { Gives (λ x. (choices x.0.items, x.1.now)) result (list_with (choice_with (nested_at end left)) bytes.now) }
+fn choices(alloc: Global, scope: Scope, bytes: &[u8]) -> Result<(Vec<(Expr, Expr)>, &[u8]), Refusal>
+    ensures { Gives (λ x. (choices x.0.items, x.1.now)) result (list_with (choice_with (nested_in scope)) bytes.now) }
 {
-    let (first, rest) = choice(alloc, end, left, bytes)?;
-    let (found, rest) = choices_rest(alloc, end, left, first, rest)?;
+    let (first, rest) = choice(alloc, scope, bytes)?;
+    let (found, rest) = choices_rest(alloc, scope, first, rest)?;
     let Some(rest) = byte_of(b')', rest) else {
         return Err(no_end(rest));
     };
@@ -151,18 +143,17 @@ fn choices(
 #[cycle(reading)]
 fn choices_rest(
     alloc: Global,
-    end: usize,
-    left: u8,
+    scope: Scope,
     first: (Expr, Expr),
     bytes: &[u8],
 ) -> Result<(Vec<(Expr, Expr)>, &[u8]), Refusal>
-    ensures { Gives (λ x. (choices x.0.items, x.1.now)) result (put (choice_of first ∷ []) (many (byte_at 44) (next (choice_with (nested_at end left))) (suc (length bytes.now)) bytes.now)) }
+    ensures { Gives (λ x. (choices x.0.items, x.1.now)) result (put (choice_of first ∷ []) (many (byte_at 44) (next (choice_with (nested_in scope))) (suc (length bytes.now)) bytes.now)) }
 {
     let mut found = Vec::new(alloc);
     found.push(first)?;
     let mut rest = bytes;
     while let Some(behind) = byte_of(b',', rest) {
-        let (item, behind) = choice(alloc, end, left, behind)?;
+        let (item, behind) = choice(alloc, scope, behind)?;
         found.push(item)?;
         rest = behind;
     }
@@ -174,22 +165,21 @@ fn choices_rest(
 #[cycle(reading)]
 fn function<'a>(
     alloc: Global,
-    end: usize,
-    left: u8,
+    scope: Scope,
     whole: &[u8],
     word: &[u8],
     bytes: &'a [u8],
 ) -> Result<(Expr, &'a [u8]), Refusal>
-    ensures { Gives (λ x. (tree_of x.0, x.1.now)) result (function_with (atom_at end left) (nested_at end left) word.now bytes.now) }
+    ensures { Gives (λ x. (tree_of x.0, x.1.now)) result (function_with (atom_in scope) (nested_in scope) (nested_in (quiet scope)) word.now bytes.now) }
 {
     if is_select(word) {
-        let (choices, rest) = choices(alloc, end, left, bytes)?;
+        let (choices, rest) = choices(alloc, scope, bytes)?;
         return Ok((Expr::Select(choices), rest));
     }
     let Some(function) = function_of(word) else {
         return Err(no_function(whole, word));
     };
-    let (args, rest) = arguments(alloc, end, left, function, bytes)?;
+    let (args, rest) = arguments(alloc, scope, function, bytes)?;
     Ok((Expr::Func(function, args), rest))
 }
 
@@ -198,19 +188,18 @@ fn function<'a>(
 #[cycle(reading)]
 pub(crate) fn dollar<'a>(
     alloc: Global,
-    end: usize,
-    left: u8,
+    scope: Scope,
     whole: &[u8],
     bytes: &'a [u8],
 ) -> Result<(Expr, &'a [u8]), Refusal>
-    ensures { Gives (λ x. (tree_of x.0, x.1.now)) result (dollar_with (atom_at end left) (nested_at end left) (column_of end whole.now) bytes.now) }
+    ensures { Gives (λ x. (tree_of x.0, x.1.now)) result (dollar_with (calls_may scope.allows) scope.end (atom_in scope) (nested_in scope) (nested_in (quiet scope)) (column_of scope.end whole.now) bytes.now) }
 {
     if let Some(rest) = byte_of(b'$', bytes) {
-        return call(alloc, end, left, column_of(end, whole), rest);
+        return call(alloc, scope, whole, rest);
     }
     let (word, rest) = word_at(bytes);
     if let Some(behind) = byte_of(b'(', rest) {
-        return function(alloc, end, left, whole, word, behind);
+        return function(alloc, scope, whole, word, behind);
     }
     let Some(special) = special_of(word) else {
         return Err(no_word(whole, bytes));

@@ -5,47 +5,38 @@ ghost use Rattle.mlk_text.specs.Lexemes.{byte_at};
 ghost use Rattle.mlk_text.specs.Reading.{many, put};
 ghost use Rattle.mlk_expr.specs.Lexemes.{column_of};
 ghost use Rattle.mlk_expr.specs.Trees.{tree_of, sub_of, sub_trees};
-ghost use Rattle.mlk_expr.specs.Reading.{few, next, nested_at, list_with, placed, subs_with, local_with, global_with};
+ghost use Rattle.mlk_expr.specs.Reading.{few, next, nested_in, list_with, placed, subs_with, local_with, global_with};
+ghost use Rattle.mlk_expr.specs.Touches.{globals_may};
 ghost use Rattle.mlk_expr.specs.Outcome.{Gives};
 
 use crate::lexeme::column_of;
 use crate::part::{global_name, name};
 use crate::read::chain;
-use crate::refusal::{Refusal, no_end, refused};
+use crate::refusal::{Refusal, Wrong, no_end, refused};
+use crate::scope::Scope;
 use crate::tree::{Expr, Subscript};
-use mlk_text::Code;
 use mlk_text::lexeme::byte_of;
 use std::alloc::Global;
 
 const MOST_SUBSCRIPTS: usize = 32;
 
 #[cycle(reading)]
-fn subscript(
-    alloc: Global,
-    end: usize,
-    left: u8,
-    bytes: &[u8],
-) -> Result<(Subscript, &[u8]), Refusal>
-    ensures { Gives (λ x. (sub_of x.0, x.1.now)) result (placed end (nested_at end left) bytes.now) }
+fn subscript(alloc: Global, scope: Scope, bytes: &[u8]) -> Result<(Subscript, &[u8]), Refusal>
+    ensures { Gives (λ x. (sub_of x.0, x.1.now)) result (placed scope.end (nested_in scope) bytes.now) }
 {
-    let column = column_of(end, bytes);
-    let (value, rest) = chain(alloc, end, left, bytes)?;
+    let column = column_of(scope.end, bytes);
+    let (value, rest) = chain(alloc, scope, bytes)?;
     Ok((Subscript { column, value }, rest))
 }
 
 // Subscripts to the closing parenthesis, at most 32.
 #[tactic(auto, unfolding(crate::specs::Reading::list_with))]
 #[cycle(reading)]
-fn subs(
-    alloc: Global,
-    end: usize,
-    left: u8,
-    bytes: &[u8],
-) -> Result<(Vec<Subscript>, &[u8]), Refusal>
-    ensures { Gives (λ x. (sub_trees x.0.items, x.1.now)) result (few 32 (list_with (placed end (nested_at end left)) bytes.now)) }
+fn subs(alloc: Global, scope: Scope, bytes: &[u8]) -> Result<(Vec<Subscript>, &[u8]), Refusal>
+    ensures { Gives (λ x. (sub_trees x.0.items, x.1.now)) result (few 32 (list_with (placed scope.end (nested_in scope)) bytes.now)) }
 {
-    let (first, rest) = subscript(alloc, end, left, bytes)?;
-    let (found, rest) = subs_rest(alloc, end, left, first, rest)?;
+    let (first, rest) = subscript(alloc, scope, bytes)?;
+    let (found, rest) = subs_rest(alloc, scope, first, rest)?;
     let Some(rest) = byte_of(b')', rest) else {
         return Err(no_end(rest));
     };
@@ -55,21 +46,20 @@ fn subs(
 #[cycle(reading)]
 fn subs_rest(
     alloc: Global,
-    end: usize,
-    left: u8,
+    scope: Scope,
     first: Subscript,
     bytes: &[u8],
 ) -> Result<(Vec<Subscript>, &[u8]), Refusal>
-    ensures { Gives (λ x. (sub_trees x.0.items, x.1.now)) result (few 32 (put (sub_of first ∷ []) (many (byte_at 44) (next (placed end (nested_at end left))) (suc (length bytes.now)) bytes.now))) }
+    ensures { Gives (λ x. (sub_trees x.0.items, x.1.now)) result (few 32 (put (sub_of first ∷ []) (many (byte_at 44) (next (placed scope.end (nested_in scope))) (suc (length bytes.now)) bytes.now))) }
 {
     let mut found = Vec::new(alloc);
     found.push(first)?;
     let mut rest = bytes;
     while let Some(behind) = byte_of(b',', rest) {
         if found.len() == MOST_SUBSCRIPTS {
-            return Err(refused(Code::ExprForm, rest));
+            return Err(refused(Wrong::Form, rest));
         }
-        let (item, behind) = subscript(alloc, end, left, behind)?;
+        let (item, behind) = subscript(alloc, scope, behind)?;
         found.push(item)?;
         rest = behind;
     }
@@ -79,32 +69,26 @@ fn subs_rest(
 /// The subscripts at the front, which may be none, and what is behind them.
 #[tactic(auto, unfolding(crate::specs::Reading::subs_with))]
 #[cycle(reading)]
-fn subscripts(
+pub(crate) fn subscripts(
     alloc: Global,
-    end: usize,
-    left: u8,
+    scope: Scope,
     bytes: &[u8],
 ) -> Result<(Vec<Subscript>, &[u8]), Refusal>
-    ensures { Gives (λ x. (sub_trees x.0.items, x.1.now)) result (subs_with end (nested_at end left) bytes.now) }
+    ensures { Gives (λ x. (sub_trees x.0.items, x.1.now)) result (subs_with scope.end (nested_in scope) bytes.now) }
 {
     let Some(rest) = byte_of(b'(', bytes) else {
         return Ok((Vec::new(alloc), bytes));
     };
-    subs(alloc, end, left, rest)
+    subs(alloc, scope, rest)
 }
 
 /// A local with its subscripts.
 #[cycle(reading)]
-pub(crate) fn local(
-    alloc: Global,
-    end: usize,
-    left: u8,
-    bytes: &[u8],
-) -> Result<(Expr, &[u8]), Refusal>
-    ensures { Gives (λ x. (tree_of x.0, x.1.now)) result (local_with end (nested_at end left) bytes.now) }
+pub(crate) fn local(alloc: Global, scope: Scope, bytes: &[u8]) -> Result<(Expr, &[u8]), Refusal>
+    ensures { Gives (λ x. (tree_of x.0, x.1.now)) result (local_with scope.end (nested_in scope) bytes.now) }
 {
     let (name, rest) = name(alloc, bytes)?;
-    let (subs, rest) = subscripts(alloc, end, left, rest)?;
+    let (subs, rest) = subscripts(alloc, scope, rest)?;
     Ok((Expr::Local(name, subs), rest))
 }
 
@@ -112,14 +96,13 @@ pub(crate) fn local(
 #[cycle(reading)]
 pub(crate) fn global<'a>(
     alloc: Global,
-    end: usize,
-    left: u8,
+    scope: Scope,
     whole: &[u8],
     bytes: &'a [u8],
 ) -> Result<(Expr, &'a [u8]), Refusal>
-    ensures { Gives (λ x. (tree_of x.0, x.1.now)) result (global_with end (column_of end whole.now) (nested_at end left) bytes.now) }
+    ensures { Gives (λ x. (tree_of x.0, x.1.now)) result (global_with (globals_may scope.allows) scope.end (column_of scope.end whole.now) (nested_in scope) bytes.now) }
 {
-    let (name, rest) = global_name(alloc, whole, bytes)?;
-    let (subs, rest) = subscripts(alloc, end, left, rest)?;
-    Ok((Expr::Global(column_of(end, whole), name, subs), rest))
+    let (name, rest) = global_name(alloc, scope.allows, whole, bytes)?;
+    let (subs, rest) = subscripts(alloc, scope, rest)?;
+    Ok((Expr::Global(column_of(scope.end, whole), name, subs), rest))
 }

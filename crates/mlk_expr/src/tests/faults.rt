@@ -22,20 +22,25 @@ fn is_no_list(alloc: Global, text: &[u8], number: u16, column: u32, word: &[u8])
 #[test]
 fn left_out(rt: HostRuntime) {
     let alloc = rt.alloc();
-    let rows: [(&[u8], u32, &[u8]); 21] = [
+    let rows: [(&[u8], u32, &[u8]); 26] = [
         (b"@X", 1, b"INDIRECTION"),
         (b"1+@X", 3, b"INDIRECTION"),
         (b"X(@Y)", 3, b"INDIRECTION"),
         (b"$G(@X)", 4, b"INDIRECTION"),
         (b"$$A^@R", 5, b"INDIRECTION"),
         (b"$$^@R", 4, b"INDIRECTION"),
+        (b"$$@X", 3, b"INDIRECTION"),
+        (b"^@X", 2, b"INDIRECTION"),
+        (b"$G(^@X)", 5, b"INDIRECTION"),
+        (b"$$^|1|R(@X)", 3, b"ENVIRONMENT"),
+        (b"$$F(.@", 6, b"INDIRECTION"),
         (b"X?@Y", 3, b"INDIRECTION"),
         (b"$$F(.@X)", 6, b"INDIRECTION"),
         (b"^(1)", 1, b"NAKED"),
         (b"X=^(1)", 3, b"NAKED"),
         (b"^|1|A", 1, b"ENVIRONMENT"),
-        (b"$$A^|1|R", 5, b"ENVIRONMENT"),
-        (b"$$^|1|R", 4, b"ENVIRONMENT"),
+        (b"$$A^|1|R", 4, b"ENVIRONMENT"),
+        (b"$$^|1|R", 3, b"ENVIRONMENT"),
         (b"^$JOB", 1, b"SSVN"),
         (b"$&F", 1, b"EXTERNAL"),
         (b"1+$&F(1)", 3, b"EXTERNAL"),
@@ -80,7 +85,7 @@ fn no_operand(rt: HostRuntime) {
 #[test]
 fn no_literal(rt: HostRuntime) {
     let alloc = rt.alloc();
-    let rows: [(&[u8], u32); 11] = [
+    let rows: [(&[u8], u32); 13] = [
         (b".", 2),
         (b".E1", 2),
         (b"1E", 3),
@@ -90,6 +95,8 @@ fn no_literal(rt: HostRuntime) {
         (b"1e3", 2),
         (b"1.2.3", 4),
         (b"\"a", 3),
+        (b"\"a\x01b\"", 3),
+        (b"\"a\x7f\"", 3),
         (b"\"a\"b", 4),
         (b"1_\"a\"\"", 7),
     ];
@@ -102,7 +109,7 @@ fn no_literal(rt: HostRuntime) {
 #[test]
 fn no_list(rt: HostRuntime) {
     let alloc = rt.alloc();
-    let rows: [(&[u8], u32); 18] = [
+    let rows: [(&[u8], u32); 20] = [
         (b"(1", 3),
         (b"(1,2)", 3),
         (b"X()", 3),
@@ -121,6 +128,8 @@ fn no_list(rt: HostRuntime) {
         (b"$S(1:2:3)", 7),
         (b"$$F(1", 6),
         (b"$$F(.X+1)", 7),
+        (b"$$F(.X'", 7),
+        (b"$$F(.)", 6),
     ];
     for (text, column) in rows.iter() {
         assert!(rt; is_refused(alloc, text, 101, *column, b""), "{text:?}");

@@ -79,14 +79,18 @@ fn sixty_four_deep(rt: HostRuntime) -> Result<(), Fail> {
 #[test]
 fn too_deep_and_worse(rt: HostRuntime) -> Result<(), Fail> {
     let alloc = rt.alloc();
-    let rows: [(&[u8], u16, &[u8]); 7] = [
+    let rows: [(&[u8], u16, &[u8]); 11] = [
         (b")", 101, b""),
         (b"@X", 102, b"INDIRECTION"),
         (b"^(1)", 102, b"NAKED"),
+        (b"^|1|A", 102, b"ENVIRONMENT"),
+        (b"^$J", 102, b"SSVN"),
         (b"$&F", 102, b"EXTERNAL"),
         (b"$ZF(1)", 102, b"FUNCTION"),
         (b"^1", 103, b""),
         (b"$1", 103, b""),
+        (b"$S(1:1)", 103, b""),
+        (b".5", 103, b""),
     ];
     for (inner, number, word) in rows.iter() {
         let deep = nested(alloc, 64, b"(", inner, b")")?;
@@ -95,6 +99,28 @@ fn too_deep_and_worse(rt: HostRuntime) -> Result<(), Fail> {
             "{inner:?}"
         );
     }
+    Ok(())
+}
+
+// Where no global and no call may stand that comes before depth; a lone point is refused at the byte after it.
+#[test]
+fn too_deep_and_left_out(rt: HostRuntime) -> Result<(), Fail> {
+    let alloc = rt.alloc();
+    let rows: [(&[u8], u16, &[u8]); 4] = [
+        (b"^A", 102, b"ORDER"),
+        (b"$$F", 102, b"ORDER"),
+        (b"^(1)", 102, b"NAKED"),
+        (b"X", 103, b""),
+    ];
+    for (inner, number, word) in rows.iter() {
+        let deep = between(alloc, b"$G(X,", nested(alloc, 63, b"(", inner, b")")?, b")")?;
+        assert!(rt;
+            is_refused(alloc, deep.as_slice(), *number, 69, word),
+            "{inner:?}"
+        );
+    }
+    let lone = nested(alloc, 64, b"$$F(", b".", b")")?;
+    assert!(rt; is_refused(alloc, lone.as_slice(), 101, 258, b""));
     Ok(())
 }
 

@@ -1,35 +1,14 @@
-use Rattle.std.proofs.Common.{◌≡◌, ◌+◌, length, drop, Some, subst, add-one}
+use Rattle.mlk_expr.specs.declared.scope.Allows.TheVariants.{Everything}
+use Rattle.mlk_expr.specs.declared.scope.Passing.TheVariants.{ByReference}
 use Rattle.mlk_expr.specs.Trees.{actual_trees}
+use Rattle.mlk_expr.specs.Touches.{given_stand}
 use Rattle.mlk_expr.specs.Grammar.{IsActualList}
 use Rattle.mlk_expr.specs.Theorem.{ListEnds}
-use Rattle.mlk_expr.proofs.Behind as behind
-use Rattle.mlk_expr.specs.Reading.{actual_list_at}
-use Rattle.mlk_expr.specs.Outcome.{Fails}
-use Rattle.mlk_expr.proofs.Whole.{actual_list-exact}
-use Rattle.mlk_expr.proofs.Places.{rest-within, stands, only, refuses}
-use Rattle.mlk_expr.proofs.Joined.{same-list}
+use Rattle.mlk_expr.proofs.Scopes.{given-anything, only-freely, refuses-freely, if_ok, if_err}
 use Rattle.mlk_expr.proofs.public.read_actuals.Goals as goal
 
-pub overflow_sub-result : goal.overflow_sub-result
-overflow_sub-result c =
-    let moved = subst (λ l. actual_list_at (length c.args.line.now + 1) l ≡ Some (actual_trees c.in-Ok.given.items, c.in-Ok.rest.now)) c.split_at.ensures.back c.in-Ok.ensures in
-    let h = subst (λ n. actual_list_at n (drop c.args.at c.args.line.now) ≡ Some (actual_trees c.in-Ok.given.items, c.in-Ok.rest.now)) (add-one (length c.args.line.now)) moved in
-    rest-within actual_list_at behind.IsActualList IsActualList ListEnds actual_list-exact same-list c.args.line.now c.args.at (actual_trees c.in-Ok.given.items) c.in-Ok.rest.now h
+pub returns-clause-only : goal.returns-clause-only
+returns-clause-only c = if_ok c.read_actuals_where.result _ _ (λ r. only-freely (given_stand Everything ByReference) given-anything IsActualList ListEnds c.args.line.now c.args.at (actual_trees r.0.items) r.1) c.read_actuals_where.ensures.only
 
-pub returns-in-Ok-clause-found : goal.returns-in-Ok-clause-found
-returns-in-Ok-clause-found c =
-    let moved = subst (λ l. actual_list_at (length c.args.line.now + 1) l ≡ Some (actual_trees c.in-Ok.given.items, c.in-Ok.rest.now)) c.split_at.ensures.back c.in-Ok.ensures in
-    let h = subst (λ n. actual_list_at n (drop c.args.at c.args.line.now) ≡ Some (actual_trees c.in-Ok.given.items, c.in-Ok.rest.now)) (add-one (length c.args.line.now)) moved in
-    stands actual_list_at behind.IsActualList IsActualList ListEnds actual_list-exact same-list c.args.line.now c.args.at c.requires (actual_trees c.in-Ok.given.items) c.in-Ok.rest.now h
-
-pub returns-in-Ok-clause-only : goal.returns-in-Ok-clause-only
-returns-in-Ok-clause-only c =
-    let moved = subst (λ l. actual_list_at (length c.args.line.now + 1) l ≡ Some (actual_trees c.in-Ok.given.items, c.in-Ok.rest.now)) c.split_at.ensures.back c.in-Ok.ensures in
-    let h = subst (λ n. actual_list_at n (drop c.args.at c.args.line.now) ≡ Some (actual_trees c.in-Ok.given.items, c.in-Ok.rest.now)) (add-one (length c.args.line.now)) moved in
-    only actual_list_at behind.IsActualList IsActualList ListEnds actual_list-exact same-list c.args.line.now c.args.at c.requires (actual_trees c.in-Ok.given.items) c.in-Ok.rest.now h
-
-pub returns-in-Err-clause-refused : goal.returns-in-Err-clause-refused
-returns-in-Err-clause-refused c =
-    let moved = subst (λ l. Fails c.in-Err.refusal (actual_list_at (length c.args.line.now + 1) l)) c.split_at.ensures.back c.in-Err.ensures in
-    let h = subst (λ n. Fails c.in-Err.refusal (actual_list_at n (drop c.args.at c.args.line.now))) (add-one (length c.args.line.now)) moved in
-    refuses actual_list_at behind.IsActualList IsActualList ListEnds actual_list-exact same-list c.args.line.now c.args.at c.requires c.in-Err.refusal c.located.result h c.located.ensures
+pub returns-clause-refused : goal.returns-clause-refused
+returns-clause-refused c = if_err c.read_actuals_where.result _ _ (refuses-freely (given_stand Everything ByReference) given-anything IsActualList ListEnds c.args.line.now c.args.at) c.read_actuals_where.ensures.refused

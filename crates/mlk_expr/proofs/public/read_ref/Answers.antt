@@ -1,35 +1,13 @@
-use Rattle.std.proofs.Common.{◌≡◌, ◌+◌, length, drop, Some, subst, add-one}
+use Rattle.mlk_expr.specs.declared.scope.Allows.TheVariants.{Everything}
 use Rattle.mlk_expr.specs.Trees.{tree_of}
+use Rattle.mlk_expr.specs.Touches.{subs_stand}
 use Rattle.mlk_expr.specs.Grammar.{IsReference}
 use Rattle.mlk_expr.specs.Theorem.{ReferenceEnds}
-use Rattle.mlk_expr.proofs.Behind as behind
-use Rattle.mlk_expr.specs.Reading.{reference_at}
-use Rattle.mlk_expr.specs.Outcome.{Fails}
-use Rattle.mlk_expr.proofs.Whole.{reference-exact}
-use Rattle.mlk_expr.proofs.Places.{rest-within, stands, only, refuses}
-use Rattle.mlk_expr.proofs.Joined.{same-reference}
+use Rattle.mlk_expr.proofs.Scopes.{subs-anything, only-freely, refuses-freely, if_ok, if_err}
 use Rattle.mlk_expr.proofs.public.read_ref.Goals as goal
 
-pub overflow_sub-result : goal.overflow_sub-result
-overflow_sub-result c =
-    let moved = subst (λ l. reference_at (length c.args.line.now + 1) l ≡ Some (tree_of c.in-Ok.tree, c.in-Ok.rest.now)) c.split_at.ensures.back c.in-Ok.ensures in
-    let h = subst (λ n. reference_at n (drop c.args.at c.args.line.now) ≡ Some (tree_of c.in-Ok.tree, c.in-Ok.rest.now)) (add-one (length c.args.line.now)) moved in
-    rest-within reference_at behind.IsReference IsReference ReferenceEnds reference-exact same-reference c.args.line.now c.args.at (tree_of c.in-Ok.tree) c.in-Ok.rest.now h
+pub returns-clause-only : goal.returns-clause-only
+returns-clause-only c = if_ok c.read_ref_where.result _ _ (λ r. only-freely (subs_stand Everything) subs-anything IsReference ReferenceEnds c.args.line.now c.args.at (tree_of r.0) r.1) c.read_ref_where.ensures.only
 
-pub returns-in-Ok-clause-found : goal.returns-in-Ok-clause-found
-returns-in-Ok-clause-found c =
-    let moved = subst (λ l. reference_at (length c.args.line.now + 1) l ≡ Some (tree_of c.in-Ok.tree, c.in-Ok.rest.now)) c.split_at.ensures.back c.in-Ok.ensures in
-    let h = subst (λ n. reference_at n (drop c.args.at c.args.line.now) ≡ Some (tree_of c.in-Ok.tree, c.in-Ok.rest.now)) (add-one (length c.args.line.now)) moved in
-    stands reference_at behind.IsReference IsReference ReferenceEnds reference-exact same-reference c.args.line.now c.args.at c.requires (tree_of c.in-Ok.tree) c.in-Ok.rest.now h
-
-pub returns-in-Ok-clause-only : goal.returns-in-Ok-clause-only
-returns-in-Ok-clause-only c =
-    let moved = subst (λ l. reference_at (length c.args.line.now + 1) l ≡ Some (tree_of c.in-Ok.tree, c.in-Ok.rest.now)) c.split_at.ensures.back c.in-Ok.ensures in
-    let h = subst (λ n. reference_at n (drop c.args.at c.args.line.now) ≡ Some (tree_of c.in-Ok.tree, c.in-Ok.rest.now)) (add-one (length c.args.line.now)) moved in
-    only reference_at behind.IsReference IsReference ReferenceEnds reference-exact same-reference c.args.line.now c.args.at c.requires (tree_of c.in-Ok.tree) c.in-Ok.rest.now h
-
-pub returns-in-Err-clause-refused : goal.returns-in-Err-clause-refused
-returns-in-Err-clause-refused c =
-    let moved = subst (λ l. Fails c.in-Err.refusal (reference_at (length c.args.line.now + 1) l)) c.split_at.ensures.back c.in-Err.ensures in
-    let h = subst (λ n. Fails c.in-Err.refusal (reference_at n (drop c.args.at c.args.line.now))) (add-one (length c.args.line.now)) moved in
-    refuses reference_at behind.IsReference IsReference ReferenceEnds reference-exact same-reference c.args.line.now c.args.at c.requires c.in-Err.refusal c.located.result h c.located.ensures
+pub returns-clause-refused : goal.returns-clause-refused
+returns-clause-refused c = if_err c.read_ref_where.result _ _ (refuses-freely (subs_stand Everything) subs-anything IsReference ReferenceEnds c.args.line.now c.args.at) c.read_ref_where.ensures.refused

@@ -3,128 +3,128 @@ use Rattle.mlk_text.specs.Lexemes.{byte_at}
 use Rattle.mlk_text.specs.Reading.{many, put}
 use Rattle.mlk_expr.specs.Lexemes.{op_at}
 use Rattle.mlk_expr.specs.Trees.{tree_of, trees, sub_of, sub_trees, links, choice_of, choices, actual_of, actual_trees}
-use Rattle.mlk_expr.specs.Reading.{next, nested_at, atom_at, pattern_at, linked, placed, choice_with, actual_with}
+use Rattle.mlk_expr.specs.Reading.{next, nested_in, atom_in, pattern_at, linked, placed, choice_with, actual_with}
 use Rattle.mlk_expr.proofs.read.+reading.Given as goal
 
 abbrev pub decreases-atom : goal.decreases-atom
-decreases-atom l = 24 * l.left + 0
+decreases-atom l = 24 * l.scope.left + 0
 
 abbrev pub decreases-right : goal.decreases-right
-decreases-right l = 24 * l.left + 1
+decreases-right l = 24 * l.scope.left + 1
 
 abbrev pub decreases-chain_rest : goal.decreases-chain_rest
-decreases-chain_rest l = 24 * l.left + 2
+decreases-chain_rest l = 24 * l.scope.left + 2
 
 abbrev pub decreases-chain : goal.decreases-chain
-decreases-chain l = 24 * l.left + 3
+decreases-chain l = 24 * l.scope.left + 3
 
 abbrev pub decreases-functions::exprs_rest : goal.decreases-functions::exprs_rest
-decreases-functions::exprs_rest l = 24 * l.left + 4
+decreases-functions::exprs_rest l = 24 * l.scope.left + 4
 
 abbrev pub decreases-functions::exprs : goal.decreases-functions::exprs
-decreases-functions::exprs l = 24 * l.left + 5
+decreases-functions::exprs l = 24 * l.scope.left + 5
 
 abbrev pub decreases-names::subscript : goal.decreases-names::subscript
-decreases-names::subscript l = 24 * l.left + 4
+decreases-names::subscript l = 24 * l.scope.left + 4
 
 abbrev pub decreases-names::subs_rest : goal.decreases-names::subs_rest
-decreases-names::subs_rest l = 24 * l.left + 5
+decreases-names::subs_rest l = 24 * l.scope.left + 5
 
 abbrev pub decreases-names::subs : goal.decreases-names::subs
-decreases-names::subs l = 24 * l.left + 6
+decreases-names::subs l = 24 * l.scope.left + 6
 
 abbrev pub decreases-names::subscripts : goal.decreases-names::subscripts
-decreases-names::subscripts l = 24 * l.left + 7
+decreases-names::subscripts l = 24 * l.scope.left + 7
 
 abbrev pub decreases-functions::choice : goal.decreases-functions::choice
-decreases-functions::choice l = 24 * l.left + 4
+decreases-functions::choice l = 24 * l.scope.left + 4
 
 abbrev pub decreases-functions::choices_rest : goal.decreases-functions::choices_rest
-decreases-functions::choices_rest l = 24 * l.left + 5
+decreases-functions::choices_rest l = 24 * l.scope.left + 5
 
 abbrev pub decreases-functions::choices : goal.decreases-functions::choices
-decreases-functions::choices l = 24 * l.left + 6
+decreases-functions::choices l = 24 * l.scope.left + 6
 
 abbrev pub decreases-actuals::actual : goal.decreases-actuals::actual
-decreases-actuals::actual l = 24 * l.left + 4
+decreases-actuals::actual l = 24 * l.scope.left + 4
 
 abbrev pub decreases-actuals::actuals_rest : goal.decreases-actuals::actuals_rest
-decreases-actuals::actuals_rest l = 24 * l.left + 5
+decreases-actuals::actuals_rest l = 24 * l.scope.left + 5
 
 abbrev pub decreases-actuals::actuals : goal.decreases-actuals::actuals
-decreases-actuals::actuals l = 24 * l.left + 7
+decreases-actuals::actuals l = 24 * l.scope.left + 7
 
 abbrev pub decreases-actuals::some_actuals : goal.decreases-actuals::some_actuals
-decreases-actuals::some_actuals l = 24 * l.left + 6
+decreases-actuals::some_actuals l = 24 * l.scope.left + 6
 
 abbrev pub decreases-functions::others : goal.decreases-functions::others
-decreases-functions::others l = 24 * l.left + 4
+decreases-functions::others l = 24 * l.scope.left + 4
 
 abbrev pub decreases-functions::arguments : goal.decreases-functions::arguments
-decreases-functions::arguments l = 24 * l.left + 6
+decreases-functions::arguments l = 24 * l.scope.left + 6
 
 abbrev pub decreases-functions::function : goal.decreases-functions::function
-decreases-functions::function l = 24 * l.left + 7
+decreases-functions::function l = 24 * l.scope.left + 7
 
 abbrev pub decreases-actuals::call : goal.decreases-actuals::call
-decreases-actuals::call l = 24 * l.left + 8
+decreases-actuals::call l = 24 * l.scope.left + 8
 
 abbrev pub decreases-functions::dollar : goal.decreases-functions::dollar
-decreases-functions::dollar l = 24 * l.left + 9
+decreases-functions::dollar l = 24 * l.scope.left + 9
 
 abbrev pub decreases-names::local : goal.decreases-names::local
-decreases-names::local l = 24 * l.left + 8
+decreases-names::local l = 24 * l.scope.left + 8
 
 abbrev pub decreases-names::global : goal.decreases-names::global
-decreases-names::global l = 24 * l.left + 8
+decreases-names::global l = 24 * l.scope.left + 8
 
 abbrev pub decreases-enclosed : goal.decreases-enclosed
-decreases-enclosed l = 24 * l.left + 4
+decreases-enclosed l = 24 * l.scope.left + 4
 
 abbrev pub decreases-prefixed : goal.decreases-prefixed
-decreases-prefixed l = 24 * l.left + 1
+decreases-prefixed l = 24 * l.scope.left + 1
 
 abbrev pub decreases-operand : goal.decreases-operand
-decreases-operand l = 24 * l.deeper + 23
+decreases-operand l = 24 * l.scope.left + 23
 
 abbrev pub invariant-chain_rest-loop-op : goal.invariant-chain_rest-loop-op
 invariant-chain_rest-loop-op l =
-    (n : ℕ) × (length l.rest < n) × (put (links l.found.items) (many op_at (linked (atom_at l.end l.left) (pattern_at l.left)) n l.rest) ≡ many op_at (linked (atom_at l.end l.left) (pattern_at l.left)) (suc (length l.bytes)) l.bytes)
+    (n : ℕ) × (length l.rest < n) × (put (links l.found.items) (many op_at (linked (atom_in l.scope) (pattern_at l.scope.left)) n l.rest) ≡ many op_at (linked (atom_in l.scope) (pattern_at l.scope.left)) (suc (length l.bytes)) l.bytes)
 
 abbrev pub decreases-chain_rest-loop-op : goal.decreases-chain_rest-loop-op
 decreases-chain_rest-loop-op l = length l.rest
 
 abbrev pub invariant-functions::exprs_rest-loop-behind : goal.invariant-functions::exprs_rest-loop-behind
 invariant-functions::exprs_rest-loop-behind l =
-    (n : ℕ) × (length l.rest < n) × (put (trees l.found.items) (many (byte_at 44) (next (nested_at l.end l.left)) n l.rest) ≡ put (tree_of l.fn.first ∷ []) (many (byte_at 44) (next (nested_at l.end l.left)) (suc (length l.bytes)) l.bytes))
+    (n : ℕ) × (length l.rest < n) × (put (trees l.found.items) (many (byte_at 44) (next (nested_in l.scope)) n l.rest) ≡ put (tree_of l.fn.first ∷ []) (many (byte_at 44) (next (nested_in l.scope)) (suc (length l.bytes)) l.bytes))
 
 abbrev pub decreases-functions::exprs_rest-loop-behind : goal.decreases-functions::exprs_rest-loop-behind
 decreases-functions::exprs_rest-loop-behind l = length l.rest
 
 abbrev pub invariant-functions::others-loop-behind : goal.invariant-functions::others-loop-behind
 invariant-functions::others-loop-behind l =
-    (n : ℕ) × (length l.rest < n) × (put (trees l.found.items) (many (byte_at 44) (next (nested_at l.end l.left)) n l.rest) ≡ put (tree_of l.fn.first ∷ []) (many (byte_at 44) (next (nested_at l.end l.left)) (suc (length l.bytes)) l.bytes)) × (length l.found.items ≤ suc l.most)
+    (n : ℕ) × (length l.rest < n) × (put (trees l.found.items) (many (byte_at 44) (next (nested_in l.scope)) n l.rest) ≡ put (tree_of l.fn.first ∷ []) (many (byte_at 44) (next (nested_in l.scope)) (suc (length l.bytes)) l.bytes)) × (length l.found.items ≤ suc l.most)
 
 abbrev pub decreases-functions::others-loop-behind : goal.decreases-functions::others-loop-behind
 decreases-functions::others-loop-behind l = length l.rest
 
 abbrev pub invariant-names::subs_rest-loop-behind : goal.invariant-names::subs_rest-loop-behind
 invariant-names::subs_rest-loop-behind l =
-    (n : ℕ) × (length l.rest < n) × (put (sub_trees l.found.items) (many (byte_at 44) (next (placed l.end (nested_at l.end l.left))) n l.rest) ≡ put (sub_of l.fn.first ∷ []) (many (byte_at 44) (next (placed l.end (nested_at l.end l.left))) (suc (length l.bytes)) l.bytes)) × (length l.found.items ≤ 32)
+    (n : ℕ) × (length l.rest < n) × (put (sub_trees l.found.items) (many (byte_at 44) (next (placed l.scope.end (nested_in l.scope))) n l.rest) ≡ put (sub_of l.fn.first ∷ []) (many (byte_at 44) (next (placed l.scope.end (nested_in l.scope))) (suc (length l.bytes)) l.bytes)) × (length l.found.items ≤ 32)
 
 abbrev pub decreases-names::subs_rest-loop-behind : goal.decreases-names::subs_rest-loop-behind
 decreases-names::subs_rest-loop-behind l = length l.rest
 
 abbrev pub invariant-functions::choices_rest-loop-behind : goal.invariant-functions::choices_rest-loop-behind
 invariant-functions::choices_rest-loop-behind l =
-    (n : ℕ) × (length l.rest < n) × (put (choices l.found.items) (many (byte_at 44) (next (choice_with (nested_at l.end l.left))) n l.rest) ≡ put (choice_of l.fn.first ∷ []) (many (byte_at 44) (next (choice_with (nested_at l.end l.left))) (suc (length l.bytes)) l.bytes))
+    (n : ℕ) × (length l.rest < n) × (put (choices l.found.items) (many (byte_at 44) (next (choice_with (nested_in l.scope))) n l.rest) ≡ put (choice_of l.fn.first ∷ []) (many (byte_at 44) (next (choice_with (nested_in l.scope))) (suc (length l.bytes)) l.bytes))
 
 abbrev pub decreases-functions::choices_rest-loop-behind : goal.decreases-functions::choices_rest-loop-behind
 decreases-functions::choices_rest-loop-behind l = length l.rest
 
 abbrev pub invariant-actuals::actuals_rest-loop-behind : goal.invariant-actuals::actuals_rest-loop-behind
 invariant-actuals::actuals_rest-loop-behind l =
-    (n : ℕ) × (length l.rest < n) × (put (actual_trees l.found.items) (many (byte_at 44) (next (actual_with (nested_at l.end l.left))) n l.rest) ≡ put (actual_of l.fn.first ∷ []) (many (byte_at 44) (next (actual_with (nested_at l.end l.left))) (suc (length l.bytes)) l.bytes))
+    (n : ℕ) × (length l.rest < n) × (put (actual_trees l.found.items) (many (byte_at 44) (next (actual_with l.passing l.scope.end (nested_in l.scope))) n l.rest) ≡ put (actual_of l.fn.first ∷ []) (many (byte_at 44) (next (actual_with l.passing l.scope.end (nested_in l.scope))) (suc (length l.bytes)) l.bytes))
 
 abbrev pub decreases-actuals::actuals_rest-loop-behind : goal.decreases-actuals::actuals_rest-loop-behind
 decreases-actuals::actuals_rest-loop-behind l = length l.rest

@@ -1,0 +1,85 @@
+-- What may stand where the order of evaluation is not certain: nothing that it could matter for. The standard says little
+-- of that order; which places these are is this project's own choice.
+use Rattle.std.specs.Prelude.{ℕ, ◌≡◌, ◌&&◌, Bool, true, false, List}
+use Rattle.std.specs.List.{list_all}
+use Rattle.mlk_expr.specs.declared.scope.Allows.{Allows}
+use Rattle.mlk_expr.specs.declared.scope.Allows.TheVariants as allows
+use Rattle.mlk_expr.specs.declared.scope.Passing.{Passing}
+use Rattle.mlk_expr.specs.declared.scope.Passing.TheVariants as passing
+use Rattle.mlk_expr.specs.Trees.{Tree, Lit, Free, LocalName, GlobalName, SpecialName, Prefixed, Chain, PatternText, Func, Selected, BareCall, CallOf, Trees, no_trees, tree, Subs, no_subs, sub, Links, no_links, link, Choices, no_choices, choice, ActualTree, Given, ByRef, Missing, Actuals, no_actuals, actual}
+
+-- whether a global reference may stand there,
+abbrev pub globals_may : Allows → Bool
+globals_may allows.Everything = true
+globals_may allows.NoCalls = true
+globals_may allows.NoTouches = false
+
+-- and an extrinsic call
+abbrev pub calls_may : Allows → Bool
+calls_may allows.Everything = true
+calls_may allows.NoCalls = false
+calls_may allows.NoTouches = false
+
+-- Whether all that a tree holds may stand there, at any depth.
+abbrev mutual
+  pub may_stand : Allows → Tree → Bool
+  may_stand a (Lit value) = true
+  may_stand a Free = true
+  may_stand a (LocalName name subs) = subs_may a subs
+  may_stand a (GlobalName column name subs) = globals_may a && subs_may a subs
+  may_stand a (SpecialName special) = true
+  may_stand a (Prefixed op t) = may_stand a t
+  may_stand a (Chain first rest) = may_stand a first && links_may a rest
+  may_stand a (PatternText text) = true
+  may_stand a (Func function args) = trees_may a args
+  may_stand a (Selected choices) = choices_may a choices
+  may_stand a (BareCall column callee) = calls_may a
+  may_stand a (CallOf column callee actuals) = calls_may a && actuals_may a actuals
+
+  pub trees_may : Allows → Trees → Bool
+  trees_may a no_trees = true
+  trees_may a (tree t ts) = may_stand a t && trees_may a ts
+
+  pub subs_may : Allows → Subs → Bool
+  subs_may a no_subs = true
+  subs_may a (sub column t rest) = may_stand a t && subs_may a rest
+
+  pub links_may : Allows → Links → Bool
+  links_may a no_links = true
+  links_may a (link op t rest) = may_stand a t && links_may a rest
+
+  pub choices_may : Allows → Choices → Bool
+  choices_may a no_choices = true
+  choices_may a (choice condition value rest) = (may_stand a condition && may_stand a value) && choices_may a rest
+
+  pub actual_may : Allows → ActualTree → Bool
+  actual_may a (Given t) = may_stand a t
+  actual_may a (ByRef column name) = true
+  actual_may a Missing = true
+
+  pub actuals_may : Allows → Actuals → Bool
+  actuals_may a no_actuals = true
+  actuals_may a (actual given rest) = actual_may a given && actuals_may a rest
+
+-- whether names may be passed by reference
+abbrev pub lends : Passing → Bool
+lends passing.ByReference = true
+lends passing.ByValue = false
+
+-- what a name with subscripts holds
+abbrev pub subs_stand : Allows → Tree → Bool
+subs_stand a (LocalName name subs) = subs_may a subs
+subs_stand a (GlobalName column name subs) = subs_may a subs
+subs_stand a t = true
+
+-- an actual list
+abbrev pub passes : Passing → ActualTree → Bool
+passes p (ByRef column name) = lends p
+passes p a = true
+
+abbrev pub given_stand : Allows → Passing → List ActualTree → Bool
+given_stand a p given = list_all (λ actual. actual_may a actual && passes p actual) given
+
+-- a thing that is written so, and may stand there
+abbrev pub Standing : {A : Type 0} → (A → Bool) → (ℕ → A → List ℕ → Type 0) → ℕ → A → List ℕ → Type 0
+Standing may Is at a s = Is at a s × (may a ≡ true)
