@@ -1,13 +1,7 @@
-//! Tests of the public calls of all crates: worked examples, with answers from outside the program.
+//! Tests of names, expressions and rules, by their public calls: worked examples, with answers from outside the program.
 #![tactic(auto)]
 
 #[cfg(test)]
-mod certificate;
-#[cfg(test)]
 mod names;
-#[cfg(test)]
-mod routine;
-#[cfg(test)]
-mod run;
 #[cfg(test)]
 mod text;
