@@ -1,4 +1,7 @@
-use mlk_text::{Name, Op, UnaryOp, Value, canonical, fold, fold_number, fold_unary, whole};
+use mlk_text::{
+    Code, List, Name, Op, Subscripts, UnaryOp, Value, canonical, copy_of, fold, fold_number,
+    fold_unary, whole,
+};
 use std::alloc::Global;
 use std::process::Abort;
 use std::test::Fail;
@@ -131,5 +134,38 @@ fn copies(rt: HostRuntime) -> Result<(), Fail> {
     assert!(rt; name.clone()? == name);
     let text = value(alloc, b"12")?;
     assert!(rt; text.clone()? == text);
+    Ok(())
+}
+
+#[test]
+fn lists(rt: HostRuntime) -> Result<(), Fail> {
+    let alloc = rt.alloc();
+    let mut names = List::new(alloc);
+    let mut subs = Subscripts::new(alloc);
+    for text in [b"A", b"B", b"C", b"D", b"E"] {
+        names.push(Name::new(Vec::from_slice(alloc, text)?))?;
+        subs.push(value(alloc, text)?)?;
+    }
+    assert_eq!(rt; names.as_slice().len(), 5);
+    assert_eq!(rt; subs.as_slice().len(), 5);
+    assert!(rt; names.as_slice()[4].as_bytes() == b"E".as_slice());
+    assert!(rt; subs.as_slice()[4].as_bytes() == b"E".as_slice());
+    let names_again = names.clone()?;
+    let subs_again = copy_of(&subs)?;
+    assert!(rt; names_again == names);
+    assert!(rt; subs_again == subs);
+    subs.push(value(alloc, b"F")?)?;
+    assert!(rt; subs_again != subs, "a copy is a list of its own");
+    assert!(rt; List::of(names_again.into_vec()) == names);
+    Ok(())
+}
+
+#[test]
+fn codes_as_sentences(rt: HostRuntime) -> Result<(), Fail> {
+    let text = Code::Uncovered.to_string(rt.alloc())?;
+    assert_eq!(rt;
+        text.as_str(),
+        "a cover rule may be met and its lock is not held"
+    );
     Ok(())
 }
