@@ -55,7 +55,7 @@ in_list x y xs (zero, l, e) = inl e
 in_list x y xs (suc k, l, e) = inr (k, omega arith, e)
 
 module _ {X : Type 0} (f : X → Bool) (P : X → Type 0) (each : (x : X) → Decides (f x) (P x)) where
-  any_decides : (xs : List X) → Decides (list_any f xs) ((x : X) × Contains xs x × P x)
+  pub any_decides : (xs : List X) → Decides (list_any f xs) ((x : X) × Contains xs x × P x)
   any_decides [] = no (λ h. let l = h.1.1 in omega arith)
   any_decides (x ∷ xs) =
       Decides-like (f x || list_any f xs) from to (Decides-or (f x) (list_any f xs) (each x) (any_decides xs))
@@ -67,7 +67,7 @@ module _ {X : Type 0} (f : X → Bool) (P : X → Type 0) (each : (x : X) → De
       to : (y : X) × Contains (x ∷ xs) y × P y → P x ⊎ ((y : X) × Contains xs y × P y)
       to (y, c, p) = ⊎_elim (λ e. inl (subst P (sym e) p)) (λ d. inr (y, d, p)) (in_list x y xs c)
 
-  all_decides : (xs : List X) → Decides (list_all f xs) ((x : X) → Contains xs x → P x)
+  pub all_decides : (xs : List X) → Decides (list_all f xs) ((x : X) → Contains xs x → P x)
   all_decides [] = yes (λ x c. let l = c.1 in absurd (omega arith))
   all_decides (x ∷ xs) =
       Decides-like (f x && list_all f xs) from to (Decides-and (f x) (list_all f xs) (each x) (all_decides xs))

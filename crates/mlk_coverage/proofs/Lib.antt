@@ -12,3 +12,4 @@ pub mod MeetLemmas
 pub mod SoundLemmas
 pub mod CheckLemmas
 pub mod FamilyMeetings
+pub mod Marked

@@ -1,13 +1,15 @@
 -- What rules are good for: two jobs never touch one node, of which one writes, and claims have an order.
-use Rattle.std.specs.Prelude.{◌≡◌, ◌⊎◌, ℕ, List, Option, Contains}
+use Rattle.std.specs.Prelude.{◌≡◌, ◌⊎◌, ◌↔◌, if◌then◌else◌, ℕ, List, Option, Contains, bytes_eq, map}
 use Rattle.mlk_text.specs.declared.code.Code.{Code}
 use Rattle.mlk_names.specs.declared.lock_name.LockName.{LockName}
+use Rattle.mlk_names.specs.declared.symbol.Sym.{Sym}
+use Rattle.mlk_names.specs.declared.symbol.Sym.TheVariants.{Const, Local, Job, Unknown}
 use Rattle.mlk_names.specs.declared.term.LockTerm.{LockTerm}
 use Rattle.mlk_names.specs.declared.reference.Reference.{Reference}
 use Rattle.mlk_names.specs.declared.reference.Access.TheVariants.{Writes}
 use Rattle.mlk_names.specs.LockNames.{IsAbove, Conflict}
 use Rattle.mlk_names.specs.Symbols.{Assignment}
-use Rattle.mlk_names.specs.Terms.{Names, IsPrefix}
+use Rattle.mlk_names.specs.Terms.{Names, IsPrefix, Mentions}
 use Rattle.mlk_names.specs.References.{GlobalNode, Touch, Touches, InRegion, MayTouch, Overlap}
 use Rattle.mlk_coverage.specs.declared.pattern.Element.TheVariants as element
 use Rattle.mlk_coverage.specs.declared.pattern.Pattern.{Pattern}
@@ -88,3 +90,21 @@ pub record HasOneAnswer (rules : RuleLists) (held : List LockTerm) (r : Referenc
 
 abbrev pub ComputedAnswers : Type 0
 ComputedAnswers = (rules : RuleLists) (held : List LockTerm) (r : Reference) → HasOneAnswer rules held r
+
+-- unknown in place of this local
+abbrev pub mark : List ℕ → Sym → Sym
+mark name (Const value) = Const value
+mark name (Local other) = if bytes_eq name other then Unknown else Local other
+mark name Job = Job
+mark name Unknown = Unknown
+
+-- a reference whose subscripts that are this local are unknown
+abbrev pub marked : List ℕ → Reference → Reference
+marked name r = record { root = r.root; subs = map (mark name) r.subs; extent = r.extent; access = r.access }
+
+-- Where no held term mentions a local, the answer of a reference is the same when its subscripts that are this local
+-- become unknown: what was wrong stays wrong, and what was covered stays covered.
+abbrev pub MarkedAlike : Type 0
+MarkedAlike =
+    (rules : RuleLists) (held : List LockTerm) (r : Reference) (name : List ℕ) → ((h : LockTerm) → Contains held h → ¬ Mentions h name)
+    → (found : Option Code) → IsAnswer rules held r found ↔ IsAnswer rules held (marked name r) found

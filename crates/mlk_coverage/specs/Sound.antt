@@ -1,20 +1,49 @@
 -- What the lists of rules have to keep. This project's own choice.
-use Rattle.std.specs.Prelude.{◌≡◌, ℕ, List, Some, slice_get}
+use Rattle.std.specs.Prelude.{◌≡◌, ◌==◌, ◌&&◌, ◌||◌, nat_le, ℕ, Bool, true, false, List, [], ◌∷◌, length}
+use Rattle.std.specs.List.{list_all, count_by}
+use Rattle.mlk_text.specs.Lexemes.{is_letter, is_name_byte}
+use Rattle.mlk_names.specs.declared.lock_name.Root.{Root}
+use Rattle.mlk_names.specs.declared.lock_name.Root.TheVariants as root
 use Rattle.mlk_coverage.specs.declared.pattern.Element.{Element}
-use Rattle.mlk_coverage.specs.declared.pattern.Element.TheVariants.{Job}
+use Rattle.mlk_coverage.specs.declared.pattern.Element.TheVariants as element
 use Rattle.mlk_coverage.specs.declared.pattern.Pattern.{Pattern}
+use Rattle.mlk_coverage.specs.declared.family.Family.{Family}
+use Rattle.mlk_coverage.specs.declared.cover.Cover.{Cover}
 use Rattle.mlk_coverage.specs.declared.rules.RuleLists.{RuleLists}
 use Rattle.mlk_coverage.specs.Ranks.{FamiliesApart}
 
--- `$J` stands nowhere among the elements
-abbrev pub HasNoJob : List Element → Type 0
-HasNoJob es = (k : ℕ) → slice_get es k ≡ Some Job → ⊥
+-- `%` or a letter, then letters and digits (ISO/IEC 11756, name), of at most 31 bytes
+abbrev pub is_name : List ℕ → Bool
+is_name [] = false
+is_name (b ∷ bs) = (is_letter b || (b == 37)) && (nat_le (length bs) 30 && list_all is_name_byte bs)
 
--- `$J` stands at one place, and at no other
-abbrev pub HasOneJob : List Element → Type 0
-HasOneJob es = (k : ℕ) × (slice_get es k ≡ Some Job) × ((j : ℕ) → slice_get es j ≡ Some Job → j ≡ k)
+abbrev pub is_root : Root → Bool
+is_root (root.Global name) = is_name name
+is_root (root.Local name) = is_name name
 
--- no two families meet, and each private pattern has `$J` once
+abbrev pub is_job : Element → Bool
+is_job (element.Literal value) = false
+is_job element.Variable = false
+is_job element.Job = true
+
+-- a name, and a rank from 0 to 999,999
+abbrev pub is_family : Family → Bool
+is_family f = is_root f.name.root && nat_le f.rank 999999
+
+-- a name, and `$J` so often
+abbrev pub is_pattern : ℕ → Pattern → Bool
+is_pattern jobs p = is_name p.global && (count_by is_job p.elements == jobs)
+
+-- no `$J`, and a lock of a name
+abbrev pub is_cover : Cover → Bool
+is_cover c = is_pattern 0 c.pattern && is_root c.lock.root
+
+-- `$J` stands once in each private pattern, and in no other
+abbrev pub are_formed : RuleLists → Bool
+are_formed rules =
+    list_all is_family rules.families && (list_all is_cover rules.covers && (list_all (is_pattern 1) rules.private && list_all (is_pattern 0) rules.readonly))
+
+-- Each rule is well formed, and no two families meet.
 pub record IsSound (rules : RuleLists) : Type 0 where
+  pub formed : are_formed rules ≡ true
   pub apart : FamiliesApart rules.families
-  pub private : (k : ℕ) (p : Pattern) → slice_get rules.private k ≡ Some p → HasOneJob p.elements

@@ -5,49 +5,51 @@ ghost use Rattle.mlk_coverage.specs.declared.cover.Cover.{Cover as cover_rule};
 ghost use Rattle.mlk_coverage.specs.declared.pattern.Pattern.{Pattern as pattern};
 ghost use Rattle.mlk_coverage.specs.Groups.{covers_of, patterns_of, of_global, group_of, AreGroups, HasGroup, AreComplete, Gains, GainsAll};
 
-use crate::cover::{Cover, Covers};
-use crate::entry::EntryTexts;
-use crate::family::Families;
+use crate::cover::Cover;
 use crate::pattern::Pattern;
-use crate::rules::{Patterns, RuleLists};
+use crate::rules::RuleLists;
 use indexmap::IndexMap;
-use mlk_text::Name;
+use mlk_text::{List, Name, copy_of};
 use std::alloc::{AllocError, Global};
 use std::marker::Model;
 
-fn covers_of(alloc: Global, name: &Name, covers: &[Cover]) -> Result<Covers, AllocError>
+fn covers_of(alloc: Global, name: &Name, covers: &[Cover]) -> Result<List<Cover>, AllocError>
     ensures { IfOk result (λ l. l ≡ covers_of name.now covers.now) }
 {
     let mut items = Vec::new(alloc);
     for cover in covers {
         if *name == cover.pattern.global {
-            items.push(cover.copy(alloc)?)?;
+            items.push(copy_of(cover)?)?;
         }
     }
-    Ok(Covers::of(items))
+    Ok(List::of(items))
 }
 
-fn patterns_of(alloc: Global, name: &Name, patterns: &[Pattern]) -> Result<Patterns, AllocError>
+fn patterns_of(
+    alloc: Global,
+    name: &Name,
+    patterns: &[Pattern],
+) -> Result<List<Pattern>, AllocError>
     ensures { IfOk result (λ l. l ≡ patterns_of name.now patterns.now) }
 {
     let mut items = Vec::new(alloc);
     for pattern in patterns {
         if *name == pattern.global {
-            items.push(pattern.copy(alloc)?)?;
+            items.push(copy_of(pattern)?)?;
         }
     }
-    Ok(Patterns::of(items))
+    Ok(List::of(items))
 }
 
 fn of_global(alloc: Global, rules: &RuleLists, name: &Name) -> Result<RuleLists, AllocError>
     ensures { IfOk result (λ l. l ≡ of_global rules.now name.now) }
 {
     Ok(RuleLists {
-        families: Families::of(Vec::new(alloc)),
+        families: List::new(alloc),
         covers: covers_of(alloc, name, rules.covers.as_slice())?,
         private: patterns_of(alloc, name, rules.private.as_slice())?,
         readonly: patterns_of(alloc, name, rules.readonly.as_slice())?,
-        entries: EntryTexts::of(Vec::new(alloc)),
+        entries: List::new(alloc),
     })
 }
 

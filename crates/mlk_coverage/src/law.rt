@@ -1,6 +1,6 @@
 // What rules are good for.
 
-ghost use Rattle.mlk_coverage.specs.Laws.{SharePattern, LocksOfNodes, SurelyLiesWhole, CoveredApart, OneRank, ComputedAnswers};
+ghost use Rattle.mlk_coverage.specs.Laws.{SharePattern, LocksOfNodes, SurelyLiesWhole, CoveredApart, OneRank, ComputedAnswers, MarkedAlike};
 
 /// Two ruled references that overlap share a node of a pattern that both may meet.
 pub fn share_pattern()
@@ -30,4 +30,9 @@ pub fn one_rank()
 /// Each reference has one answer, whatever is held: the one that is computed place by place.
 pub fn computed_answers()
     ensures { ComputedAnswers }
+{}
+
+/// The answer stays when a local that no held term mentions becomes unknown in a reference.
+pub fn marked_alike()
+    ensures { MarkedAlike }
 {}

@@ -3,7 +3,6 @@
 
 mod check;
 mod cover;
-mod entry;
 mod family;
 mod groups;
 mod held;
@@ -18,16 +17,16 @@ mod sound;
 mod template;
 
 pub use check::covered;
-pub use cover::{Cover, Covers};
-pub use entry::EntryTexts;
-pub use family::{Families, Family};
+pub use cover::Cover;
+pub use family::Family;
 pub use lacking::templates;
 pub use law::{
-    computed_answers, covered_apart, lock_of_node, one_rank, share_pattern, surely_lies,
+    computed_answers, covered_apart, lock_of_node, marked_alike, one_rank, share_pattern,
+    surely_lies,
 };
 pub use meet::may_meet;
-pub use pattern::{Element, Elements, Pattern};
+pub use pattern::{Element, Pattern};
 pub use rank::rank_of;
-pub use rules::{Patterns, RuleLists, Rules, entries};
+pub use rules::{RuleLists, Rules, entries};
 pub use sound::first_meeting;
-pub use template::{Part, Parts, Template};
+pub use template::{Part, Template};

@@ -5,60 +5,30 @@ ghost use Rattle.mlk_coverage.specs.Groups.{IsGroup};
 ghost use Rattle.mlk_coverage.specs.Ranks.{FamiliesApart};
 ghost use Rattle.mlk_coverage.specs.Sound.{IsSound};
 
-use crate::cover::Covers;
-use crate::entry::EntryTexts;
-use crate::family::{Families, Family};
+use crate::cover::Cover;
+use crate::family::Family;
 use crate::groups::{Groups, groups_of};
 use crate::pattern::Pattern;
 use crate::sound::is_sound;
-use mlk_text::{Name, Value};
+use mlk_text::{List, Name, Value};
 use std::alloc::{AllocError, Global};
 use std::marker::Model;
-
-/// Patterns of a rule file, in its order.
-#[derive(Drop, Debug)]
-pub struct Patterns {
-    items: Vec<Pattern>,
-}
-
-impl Model for Patterns {
-    ghost use Rattle.std.specs.Prelude.{List};
-    ghost use Rattle.mlk_coverage.specs.declared.pattern.Pattern.{Pattern};
-
-    ghost Value = { List Pattern };
-
-    ghost view = { λ l. l.items.items };
-}
-
-impl Patterns {
-    /// The list of these.
-    pub fn of(items: Vec<Pattern>) -> Patterns
-        ensures { result ≡ items.items }
-    {
-        Patterns { items }
-    }
-
-    /// The list as a slice.
-    pub fn as_slice(&self) -> &[Pattern]
-        ensures { result.now ≡ self.now }
-    {
-        self.items.as_slice()
-    }
-}
 
 /// The rules of a file, list by list.
 #[derive(Drop, Debug)]
 pub struct RuleLists {
-    pub families: Families,
-    pub covers: Covers,
+    pub families: List<Family>,
+    pub covers: List<Cover>,
     /// Patterns of which each job has its own part, by its number at the place of `$J`.
-    pub private: Patterns,
+    pub private: List<Pattern>,
     /// Patterns that are never written.
-    pub readonly: Patterns,
-    pub entries: EntryTexts,
+    pub readonly: List<Pattern>,
+    /// The entries at which jobs begin, as `LABEL^ROUTINE` or `^ROUTINE`.
+    pub entries: List<Value>,
 }
 
-/// What routines keep to: lists of rules in which no two families meet and each private pattern has `$J` once.
+/// What routines keep to: lists of rules in which no two families meet, ranks are from 0 to 999,999, each root is a
+/// name, and `$J` stands once in each private pattern and nowhere else.
 ///
 /// Beside the lists stand the rules of each global, so that a reference asks no others; they take as much memory again.
 #[derive(Drop, Debug)]
@@ -79,7 +49,7 @@ impl Model for Rules {
 }
 
 impl Rules {
-    /// The rules of these lists; none where two families meet, or a private pattern has not `$J` once.
+    /// The rules of these lists; none where they lack what rules keep.
     pub fn new(alloc: Global, lists: RuleLists) -> Result<Option<Rules>, AllocError>
         ensures { IfOk result (λ found. MatchOption found (¬ IsSound lists) (λ r. (r ≡ lists) × IsSound lists)) }
     {

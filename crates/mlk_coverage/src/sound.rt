@@ -1,48 +1,98 @@
 // Whether lists of rules keep what they have to.
 
-ghost use Rattle.std.specs.Prelude.{◌≡◌, ◌↔◌, IsTrue, ℕ, Some, Contains, MatchOption, slice_get};
+ghost use Rattle.std.specs.Prelude.{◌≡◌, ◌↔◌, IsTrue, Contains, MatchOption};
+ghost use Rattle.std.specs.List.{count_by, list_all};
+ghost use Rattle.mlk_text.specs.Lexemes.{is_name_byte};
 ghost use Rattle.mlk_names.specs.LockNames.{Conflict};
 ghost use Rattle.mlk_coverage.specs.declared.family.Family.{Family as family};
-ghost use Rattle.mlk_coverage.specs.declared.pattern.Pattern.{Pattern as pattern};
 ghost use Rattle.mlk_coverage.specs.Ranks.{FamiliesApart, IsFirstMeeting};
-ghost use Rattle.mlk_coverage.specs.Sound.{HasNoJob, HasOneJob, IsSound};
+ghost use Rattle.mlk_coverage.specs.Sound.{is_name, is_root, is_job, is_family, is_pattern, is_cover, are_formed, IsSound};
 
+use crate::cover::Cover;
 use crate::family::Family;
 use crate::pattern::{Element, Pattern};
 use crate::rules::RuleLists;
-use mlk_names::{LockName, conflict};
+use mlk_names::{LockName, Root, conflict};
+use mlk_text::Name;
+use mlk_text::lexeme::{is_digit, is_letter};
 
-fn has_no_job(elements: &[Element]) -> bool
-    ensures { IsTrue result ↔ HasNoJob elements.now }
+fn are_name_bytes(bytes: &[u8]) -> bool
+    ensures { result ≡ list_all is_name_byte bytes.now }
 {
-    let Some((e, es)) = elements.split_first() else {
-        return true;
-    };
-    match e {
-        Element::Job => false,
-        _ => has_no_job(es),
-    }
+    bytes.iter().all(|b| is_digit(*b) || is_letter(*b))
 }
 
-fn has_one_job(elements: &[Element]) -> bool
-    ensures { IsTrue result ↔ HasOneJob elements.now }
+fn is_name(name: &Name) -> bool
+    ensures { result ≡ is_name name.now }
 {
-    let Some((e, es)) = elements.split_first() else {
+    let Some((first, rest)) = name.as_bytes().split_first() else {
         return false;
     };
-    match e {
-        Element::Job => has_no_job(es),
-        _ => has_one_job(es),
+    (is_letter(*first) || *first == b'%') && (rest.len() <= 30 && are_name_bytes(rest))
+}
+
+fn is_root(root: &Root) -> bool
+    ensures { result ≡ is_root root.now }
+{
+    match root {
+        Root::Global(name) => is_name(name),
+        Root::Local(name) => is_name(name),
     }
 }
 
-fn each_has_one_job(patterns: &[Pattern]) -> bool
-    ensures { IsTrue result ↔ ((k : ℕ) (p : pattern) → slice_get patterns.now k ≡ Some p → HasOneJob p.elements) }
+fn is_family(family: &Family) -> bool
+    ensures { result ≡ is_family family.now }
 {
-    let Some((p, ps)) = patterns.split_first() else {
-        return true;
-    };
-    has_one_job(p.elements.as_slice()) && each_has_one_job(ps)
+    is_root(&family.name.root) && family.rank <= 999_999
+}
+
+// How often `$J` stands among the elements.
+fn jobs_in(elements: &[Element]) -> usize
+    ensures { result ≡ count_by is_job elements.now }
+{
+    elements
+        .iter()
+        .filter(|element| matches!(*element, Element::Job))
+        .count()
+}
+
+fn is_pattern(jobs: usize, pattern: &Pattern) -> bool
+    ensures { result ≡ is_pattern jobs pattern.now }
+{
+    is_name(&pattern.global) && jobs_in(pattern.elements.as_slice()) == jobs
+}
+
+fn is_cover(cover: &Cover) -> bool
+    ensures { result ≡ is_cover cover.now }
+{
+    is_pattern(0, &cover.pattern) && is_root(&cover.lock.root)
+}
+
+fn are_families(families: &[Family]) -> bool
+    ensures { result ≡ list_all is_family families.now }
+{
+    families.iter().all(|family| is_family(family))
+}
+
+fn are_covers(covers: &[Cover]) -> bool
+    ensures { result ≡ list_all is_cover covers.now }
+{
+    covers.iter().all(|cover| is_cover(cover))
+}
+
+fn are_patterns(jobs: usize, patterns: &[Pattern]) -> bool
+    ensures { result ≡ list_all (is_pattern jobs) patterns.now }
+{
+    patterns.iter().all(|pattern| is_pattern(jobs, pattern))
+}
+
+fn are_formed(rules: &RuleLists) -> bool
+    ensures { result ≡ are_formed rules.now }
+{
+    are_families(rules.families.as_slice())
+        && (are_covers(rules.covers.as_slice())
+            && (are_patterns(1, rules.private.as_slice())
+                && are_patterns(0, rules.readonly.as_slice())))
 }
 
 // Whether one of the families conflicts with the name.
@@ -76,8 +126,9 @@ fn families_apart(families: &[Family]) -> bool
     first_meeting(families).is_none()
 }
 
+/// Whether the lists keep what rules have to.
 pub(crate) fn is_sound(rules: &RuleLists) -> bool
     ensures { IsTrue result ↔ IsSound rules.now }
 {
-    families_apart(rules.families.as_slice()) && each_has_one_job(rules.private.as_slice())
+    families_apart(rules.families.as_slice()) && are_formed(rules)
 }

@@ -1,4 +1,5 @@
 pub mod RuleTables
+pub mod Quotes
 pub mod RuleTexts
 pub mod RuleEach
 pub mod RuleSound

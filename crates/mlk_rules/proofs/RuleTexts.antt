@@ -1,16 +1,17 @@
 -- Laws of the texts of rule files.
-use Rattle.std.proofs.Common.{◌≡◌, ◌<◌, ◌≤◌, ℕ, List, [], ◌∷◌, length, drop, take, Some, None, arith, inl, inr, ap, length-append}
+use Rattle.std.proofs.Common.{◌≡◌, ◌<◌, ◌≤◌, ℕ, List, [], ◌∷◌, length, drop, take, Some, None, arith, inl, inr, ap}
 use Rattle.std.specs.Prelude.{Option, ◌==◌, ◌||◌, codes, bytes_eq}
 use Rattle.std.proofs.lemmas.Bool.{cases_Bool}
 use Rattle.std.proofs.lemmas.List.{length-drop}
-use Rattle.mlk_text.specs.Lexemes.{is_digit, byte_at, name_at, doubled, inside}
-use Rattle.mlk_text.proofs.Lexemes.{byte-takes, name-behind, quoted-sound, quoted-behind}
+use Rattle.mlk_text.specs.Lexemes.{is_digit, byte_at, name_at}
+use Rattle.mlk_text.proofs.Lexemes.{byte-takes, name-behind}
 use Rattle.mlk_text.proofs.Readers.{pair_parts, with_some, behind_length}
 use Rattle.mlk_rules.specs.declared.read.kinds.Item.{Item}
 use Rattle.mlk_rules.specs.declared.read.kinds.Item.TheVariants.{Literal, Variable}
 use Rattle.mlk_text.specs.Canonical.{canonical_text}
 use Rattle.mlk_rules.specs.RuleNumbers.{numeral_len, valued, number_at, negative, negative_at}
-use Rattle.mlk_rules.specs.RuleTexts.{job, item_at, comma_at}
+use Rattle.mlk_rules.specs.RuleTexts.{job, quoted, item_at, comma_at}
+use Rattle.mlk_rules.proofs.Quotes.{quoted-behind}
 
 number-length : (v xs ys : List ℕ) → number_at xs ≡ Some (v, ys) → length ys ≤ length xs
 unfolding number_at
@@ -24,13 +25,8 @@ number-length v xs ys h = go (canonical_text (take (numeral_len xs) xs)) h
         let same = ap length p.1 in
         omega arith
 
-quoted-length : (v xs ys : List ℕ) → inside xs ≡ Some (v, ys) → length ys ≤ length xs
-quoted-length v xs ys h =
-    let size = behind_length (34 ∷ xs) ys (quoted-behind v (34 ∷ xs) ys (quoted-sound v xs ys h)) in
-    let q = quoted-sound v xs ys h in
-    let is = ap length q.0 in
-    let front = length-append (doubled v) (34 ∷ ys) in
-    omega arith
+quoted-length : (v xs ys : List ℕ) → quoted xs ≡ Some (v, ys) → length ys ≤ length xs
+quoted-length v xs ys h = behind_length xs ys (quoted-behind v xs ys h)
 
 item-length : (i : Item) (xs ys : List ℕ) → item_at xs ≡ Some (i, ys) → length ys ≤ length xs
 unfolding item_at
@@ -48,7 +44,7 @@ item-length i (b ∷ xs) ys h = elim (cases_Bool (b == 36)) [
         omega arith
     | inr f ↦ elim (cases_Bool (b == 34)) [
       | inl q ↦
-          let w = with_some Literal (inside xs) i ys (rw (e, f, q) at h) in
+          let w = with_some Literal (quoted xs) i ys (rw (e, f, q) at h) in
           let s = quoted-length w.0 xs ys w.1 in
           omega arith
       | inr q ↦ elim (cases_Bool ((b == 46) || is_digit b)) [

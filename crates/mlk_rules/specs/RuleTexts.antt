@@ -1,7 +1,7 @@
 -- The texts of a rule file: patterns, lock names and entries. This project's own choice.
 use Rattle.std.specs.Prelude.{ℕ, suc, ◌==◌, ◌||◌, if◌then◌else◌, Bool, true, false, List, [], ◌∷◌, length, Option, Some, None, codes, bytes_eq, drop}
-use Rattle.mlk_text.specs.Reading.{◌>>=◌, with, many}
-use Rattle.mlk_text.specs.Lexemes.{is_digit, digits, byte_at, name_at, inside}
+use Rattle.mlk_text.specs.Reading.{◌>>=◌, with, put, many}
+use Rattle.mlk_text.specs.Lexemes.{is_digit, digits, byte_at, name_at}
 use Rattle.mlk_names.specs.declared.lock_name.Root.{Root}
 use Rattle.mlk_names.specs.declared.lock_name.Root.TheVariants as root
 use Rattle.mlk_names.specs.declared.reference.Extent.{Extent}
@@ -10,6 +10,18 @@ use Rattle.mlk_rules.specs.declared.read.kinds.Item.{Item}
 use Rattle.mlk_rules.specs.declared.read.kinds.Item.TheVariants.{Literal, Variable, Job}
 use Rattle.mlk_rules.specs.declared.read.kinds.Spelling.{Spelling}
 use Rattle.mlk_rules.specs.RuleNumbers.{number_at, negative_at}
+
+-- A text in quotes, which may have any byte; a quote inside stands twice.
+unfoldable mutual
+  -- after the opening quote
+  pub quoted : List ℕ → Option (List ℕ × List ℕ)
+  quoted [] = None
+  quoted (b ∷ xs) = if b == 34 then closed xs else put (b ∷ []) (quoted xs)
+
+  -- after a quote: it closes the text, or a second one follows
+  pub closed : List ℕ → Option (List ℕ × List ℕ)
+  closed [] = Some ([], [])
+  closed (b ∷ xs) = if b == 34 then put (34 ∷ []) (quoted xs) else Some ([], b ∷ xs)
 
 -- The item at the front: `$J`, a number behind a minus, a text in quotes, a number, or a variable.
 abbrev pub job : ℕ → Item
@@ -20,7 +32,7 @@ item_at [] = None
 item_at (b ∷ xs) =
     if b == 36 then with job (byte_at 74 xs)
     else if b == 45 then with Literal (negative_at xs)
-    else if b == 34 then with Literal (inside xs)
+    else if b == 34 then with Literal (quoted xs)
     else if (b == 46) || is_digit b then with Literal (number_at (b ∷ xs))
     else with Variable (name_at (b ∷ xs))
 

@@ -9,8 +9,8 @@ mod tests;
 
 pub use law::one_answer;
 pub use mlk_coverage::{
-    Cover, Covers, Element, Elements, EntryTexts, Families, Family, Part, Parts, Pattern, Patterns,
-    RuleLists, Rules, Template, computed_answers, covered, covered_apart, entries, first_meeting,
-    lock_of_node, may_meet, one_rank, rank_of, share_pattern, surely_lies, templates,
+    Cover, Element, Family, Part, Pattern, RuleLists, Rules, Template, computed_answers, covered,
+    covered_apart, entries, first_meeting, lock_of_node, marked_alike, may_meet, one_rank, rank_of,
+    share_pattern, surely_lies, templates,
 };
 pub use read::{RulesError, RulesFault, Section, read_rules};

@@ -8,6 +8,7 @@ mod fault;
 mod kinds;
 mod number;
 mod pattern;
+mod quoted;
 mod sections;
 mod spelling;
 mod tables;

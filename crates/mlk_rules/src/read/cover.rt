@@ -11,8 +11,8 @@ use crate::read::kinds::{Item, Spelling, is_item, is_long, is_pattern, is_templa
 use crate::read::pattern::pattern;
 use crate::read::spelling::{spelled_name, spelled_pattern};
 use crate::read::tables::cover_keys;
-use mlk_coverage::{Cover, Part, Parts, Template};
-use mlk_text::{Code, Name, copy_of};
+use mlk_coverage::{Cover, Part, Template};
+use mlk_text::{Code, List, Name, copy_of};
 use std::alloc::{AllocError, Global};
 
 fn place_of(name: &Name, items: &[Item]) -> Option<usize>
@@ -39,7 +39,7 @@ fn part_of(items: &[Item], item: &Item) -> Result<Option<Part>, AllocError>
     }
 }
 
-fn parts_of(alloc: Global, items: &[Item], lock: &[Item]) -> Result<Option<Parts>, AllocError>
+fn parts_of(alloc: Global, items: &[Item], lock: &[Item]) -> Result<Option<List<Part>>, AllocError>
     ensures { IfOk result (λ p. p ≡ parts_of items.now lock.now) }
 {
     let mut found = Vec::new(alloc);
@@ -49,7 +49,7 @@ fn parts_of(alloc: Global, items: &[Item], lock: &[Item]) -> Result<Option<Parts
         };
         found.push(part)?;
     }
-    Ok(Some(Parts::of(found)))
+    Ok(Some(List::of(found)))
 }
 
 fn cover_placed(

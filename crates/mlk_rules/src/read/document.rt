@@ -10,8 +10,8 @@ ghost use Rattle.mlk_rules.specs.declared.read.fault.Section.TheVariants.{Lock, 
 use crate::read::fault::{RulesError, Section, refused};
 use crate::read::sections::{covers, entries, families, patterns, section_of};
 use crate::read::tables::has_only;
-use mlk_coverage::{Covers, EntryTexts, Families, Patterns, RuleLists, Rules, first_meeting};
-use mlk_text::Code;
+use mlk_coverage::{Cover, Family, Pattern, RuleLists, Rules, first_meeting};
+use mlk_text::{Code, List, Value};
 use std::alloc::Global;
 use toml::Table;
 
@@ -31,28 +31,28 @@ fn table_of(alloc: Global, bytes: &[u8]) -> Result<Table, RulesError>
     }
 }
 
-fn families_in(alloc: Global, table: &Table) -> Result<Families, RulesError>
+fn families_in(alloc: Global, table: &Table) -> Result<List<Family>, RulesError>
     ensures { Answers (λ x. x) result (all_of family_of Lock (table_view table.now)) }
 {
     let values = section_of(Section::Lock, table)?;
     families(alloc, values)
 }
 
-fn covers_in(alloc: Global, table: &Table) -> Result<Covers, RulesError>
+fn covers_in(alloc: Global, table: &Table) -> Result<List<Cover>, RulesError>
     ensures { Answers (λ x. x) result (all_of cover_of CoverSection (table_view table.now)) }
 {
     let values = section_of(Section::Cover, table)?;
     covers(alloc, values)
 }
 
-fn patterns_in(alloc: Global, section: Section, table: &Table) -> Result<Patterns, RulesError>
+fn patterns_in(alloc: Global, section: Section, table: &Table) -> Result<List<Pattern>, RulesError>
     ensures { Answers (λ x. x) result (all_of (rule_pattern_of section) section (table_view table.now)) }
 {
     let values = section_of(section, table)?;
     patterns(alloc, section, values)
 }
 
-fn entries_in(alloc: Global, table: &Table) -> Result<EntryTexts, RulesError>
+fn entries_in(alloc: Global, table: &Table) -> Result<List<Value>, RulesError>
     ensures { Answers (λ x. x) result (all_of entry_of Entry (table_view table.now)) }
 {
     let values = section_of(Section::Entry, table)?;

@@ -5,8 +5,7 @@ ghost use Rattle.mlk_rules.specs.RuleKinds.{is_long, is_node, is_literals, is_jo
 
 use crate::read::fault::Section;
 use mlk_names::{Extent, Root};
-use mlk_text::{Name, Value};
-use std::marker::Model;
+use mlk_text::{List, Name, Value};
 
 /// What stands between the parentheses of a name or a pattern.
 #[derive(Drop, Debug)]
@@ -16,42 +15,11 @@ pub enum Item {
     Job,
 }
 
-/// Items, in order.
-#[derive(Drop, Debug)]
-pub struct Items {
-    items: Vec<Item>,
-}
-
-impl Model for Items {
-    ghost use Rattle.std.specs.Prelude.{List};
-    ghost use Rattle.mlk_rules.specs.declared.read.kinds.Item.{Item};
-
-    ghost Value = { List Item };
-
-    ghost view = { λ l. l.items.items };
-}
-
-impl Items {
-    /// The items of a list.
-    pub fn of(items: Vec<Item>) -> Items
-        ensures { result ≡ items.items }
-    {
-        Items { items }
-    }
-
-    /// The items as a slice.
-    pub fn as_slice(&self) -> &[Item]
-        ensures { result.now ≡ self.now }
-    {
-        self.items.as_slice()
-    }
-}
-
 /// A name or a pattern as it is spelled: a tree where `...` stands last.
 #[derive(Drop, Debug)]
 pub struct Spelling {
     pub root: Root,
-    pub items: Items,
+    pub items: List<Item>,
     pub extent: Extent,
 }
 

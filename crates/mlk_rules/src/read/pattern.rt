@@ -10,9 +10,9 @@ use crate::read::fault::{RulesError, Section, refused};
 use crate::read::kinds::{Item, Spelling, is_long, is_pattern};
 use crate::read::spelling::spelled_pattern;
 use crate::read::tables::text_key;
-use mlk_coverage::{Element, Elements, Pattern};
+use mlk_coverage::{Element, Pattern};
 use mlk_names::Root;
-use mlk_text::{Code, Name};
+use mlk_text::{Code, List, Name};
 use std::alloc::{AllocError, Global};
 
 fn push_elements(found: &mut Vec<Element>, items: &[Item]) -> Result<(), AllocError>
@@ -45,7 +45,7 @@ pub fn pattern(alloc: Global, s: &Spelling) -> Result<Pattern, AllocError>
     push_elements(&mut found, s.items.as_slice())?;
     Ok(Pattern {
         global: name_copy(&s.root)?,
-        elements: Elements::of(found),
+        elements: List::of(found),
         extent: s.extent,
     })
 }

@@ -11,8 +11,8 @@ use crate::read::entry::entry;
 use crate::read::family::family;
 use crate::read::fault::{RulesError, Section, refused};
 use crate::read::pattern::rule_pattern;
-use mlk_coverage::{Covers, EntryTexts, Families, Patterns};
-use mlk_text::Code;
+use mlk_coverage::{Cover, Family, Pattern};
+use mlk_text::{Code, List, Value as Text};
 use std::alloc::Global;
 use toml::{Table, Value};
 
@@ -69,45 +69,49 @@ pub fn section_of(section: Section, table: &Table) -> Result<&[Value], RulesErro
 }
 
 /// The families of elements.
-pub fn families(alloc: Global, values: &[Value]) -> Result<Families, RulesError>
+pub fn families(alloc: Global, values: &[Value]) -> Result<List<Family>, RulesError>
     ensures { Answers (λ x. x) result (each family_of 1 (items_view values.now)) }
 {
     let mut found = Vec::new(alloc);
     for (i, value) in values.iter().enumerate() {
         found.push(family(alloc, i + 1, value)?)?;
     }
-    Ok(Families::of(found))
+    Ok(List::of(found))
 }
 
 /// The covers of elements.
-pub fn covers(alloc: Global, values: &[Value]) -> Result<Covers, RulesError>
+pub fn covers(alloc: Global, values: &[Value]) -> Result<List<Cover>, RulesError>
     ensures { Answers (λ x. x) result (each cover_of 1 (items_view values.now)) }
 {
     let mut found = Vec::new(alloc);
     for (i, value) in values.iter().enumerate() {
         found.push(cover(alloc, i + 1, value)?)?;
     }
-    Ok(Covers::of(found))
+    Ok(List::of(found))
 }
 
 /// The private or readonly patterns of elements.
-pub fn patterns(alloc: Global, section: Section, values: &[Value]) -> Result<Patterns, RulesError>
+pub fn patterns(
+    alloc: Global,
+    section: Section,
+    values: &[Value],
+) -> Result<List<Pattern>, RulesError>
     ensures { Answers (λ x. x) result (each (rule_pattern_of section) 1 (items_view values.now)) }
 {
     let mut found = Vec::new(alloc);
     for (i, value) in values.iter().enumerate() {
         found.push(rule_pattern(alloc, section, i + 1, value)?)?;
     }
-    Ok(Patterns::of(found))
+    Ok(List::of(found))
 }
 
 /// The entries of elements.
-pub fn entries(alloc: Global, values: &[Value]) -> Result<EntryTexts, RulesError>
+pub fn entries(alloc: Global, values: &[Value]) -> Result<List<Text>, RulesError>
     ensures { Answers (λ x. x) result (each entry_of 1 (items_view values.now)) }
 {
     let mut found = Vec::new(alloc);
     for (i, value) in values.iter().enumerate() {
         found.push(entry(alloc, i + 1, value)?)?;
     }
-    Ok(EntryTexts::of(found))
+    Ok(List::of(found))
 }

@@ -4,11 +4,12 @@ ghost use Rattle.std.specs.Prelude.{◌≡◌, bytes_eq, IfOk, option_map};
 ghost use Rattle.mlk_text.specs.Outcome.{Gives};
 ghost use Rattle.mlk_rules.specs.RuleTexts.{item_at, comma_at, items_behind, end_of, list_of, parts_of, root_at, spelling_of, pattern_of};
 
-use crate::read::kinds::{Item, Items, Spelling};
+use crate::read::kinds::{Item, Spelling};
 use crate::read::number::{negative_number, number};
+use crate::read::quoted::quoted;
 use mlk_names::{Extent, Root};
+use mlk_text::List;
 use mlk_text::lexeme::{ReadError, byte_of, is_digit, name};
-use mlk_text::literal::quoted;
 use std::alloc::{AllocError, Global};
 
 fn is_same(bytes: &[u8], text: &[u8]) -> bool
@@ -82,26 +83,26 @@ fn end(bytes: &[u8]) -> Option<Extent>
 }
 
 #[tactic(auto, unfolding(crate::specs::RuleTexts::list_of))]
-fn list(alloc: Global, bytes: &[u8]) -> Result<(Items, Extent), ReadError>
+fn list(alloc: Global, bytes: &[u8]) -> Result<(List<Item>, Extent), ReadError>
     ensures { Gives (λ x. x) result (list_of bytes.now) }
 {
     if is_same(bytes, b"...)") {
-        return Ok((Items::of(Vec::new(alloc)), Extent::Tree));
+        return Ok((List::new(alloc), Extent::Tree));
     }
     let (first, rest) = item(alloc, bytes)?;
     let (items, rest) = items_behind(alloc, first, rest)?;
     let Some(extent) = end(rest) else {
         return Err(ReadError::Refused);
     };
-    Ok((Items::of(items), extent))
+    Ok((List::of(items), extent))
 }
 
 #[tactic(auto, unfolding(crate::specs::RuleTexts::parts_of))]
-fn parts(alloc: Global, bytes: &[u8]) -> Result<(Items, Extent), ReadError>
+fn parts(alloc: Global, bytes: &[u8]) -> Result<(List<Item>, Extent), ReadError>
     ensures { Gives (λ x. x) result (parts_of bytes.now) }
 {
     let Some((first, behind)) = bytes.split_first() else {
-        return Ok((Items::of(Vec::new(alloc)), Extent::Node));
+        return Ok((List::new(alloc), Extent::Node));
     };
     if *first != b'(' {
         return Err(ReadError::Refused);

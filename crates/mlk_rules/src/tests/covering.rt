@@ -2,8 +2,8 @@
 
 use super::help::{BASE, constant, reference, term};
 use crate::{
-    Pattern, Rules, covered, covered_apart, lock_of_node, may_meet, one_answer, one_rank, rank_of,
-    read_rules, share_pattern, surely_lies, templates,
+    Pattern, Rules, covered, covered_apart, lock_of_node, marked_alike, may_meet, one_answer,
+    one_rank, rank_of, read_rules, share_pattern, surely_lies, templates,
 };
 use mlk_names::{Access, Extent, LockTerm, Reference, prefix};
 use std::alloc::{AllocError, Global};
@@ -125,6 +125,102 @@ fn lacking(alloc: Global, rules: &Rules, held: &LockTerm) -> Result<Vec<LockTerm
     templates(alloc, rules, &unknown, slice::from_ref(held))
 }
 
+const TWO_COVERS: &[u8] =
+    b"cover = [{global = \"^A(x,...)\", lock = \"^A(x)\"}, {global = \"^A(1,...)\", lock = \"^L\"}]";
+
+fn pair(first: LockTerm, second: LockTerm, alloc: Global) -> Result<Vec<LockTerm>, AllocError> {
+    let mut held = Vec::new(alloc);
+    held.push(first)?;
+    held.push(second)?;
+    Ok(held)
+}
+
+#[test]
+fn both_rules_that_may_be_met_are_asked(rt: HostRuntime) -> Result<(), Fail> {
+    let alloc = rt.alloc();
+    let rules = read_rules(alloc, TWO_COVERS)?;
+    let one = constant(alloc, b"A", b"1")?;
+    let other = term(alloc, b"L", b"")?;
+    let write = (NODE, WRITES);
+    assert_eq!(rt; answer(alloc, &rules, &[], b"A", b"1", write)?, 702);
+    assert_eq!(rt;
+        answer(alloc, &rules, slice::from_ref(&one), b"A", b"1", write)?,
+        702
+    );
+    assert_eq!(rt;
+        answer(alloc, &rules, slice::from_ref(&other), b"A", b"1", write)?,
+        702
+    );
+    let both = pair(one, other, alloc)?;
+    assert_eq!(rt;
+        answer(alloc, &rules, both.as_slice(), b"A", b"1", write)?,
+        0
+    );
+    Ok(())
+}
+
+#[test]
+fn a_rule_that_is_not_met_is_not_asked(rt: HostRuntime) -> Result<(), Fail> {
+    let alloc = rt.alloc();
+    let rules = read_rules(alloc, TWO_COVERS)?;
+    let two = constant(alloc, b"A", b"2")?;
+    let write = (NODE, WRITES);
+    assert_eq!(rt;
+        answer(alloc, &rules, slice::from_ref(&two), b"A", b"2", write)?,
+        0
+    );
+    Ok(())
+}
+
+#[test]
+fn both_locks_are_lacking(rt: HostRuntime) -> Result<(), Fail> {
+    let alloc = rt.alloc();
+    let rules = read_rules(alloc, TWO_COVERS)?;
+    let unknown = reference(alloc, b"A", b"?", NODE, WRITES)?;
+    let found = templates(alloc, &rules, &unknown, &[])?;
+    assert_eq!(rt; found.len(), 2);
+    let whole = term(alloc, b"A", b"")?;
+    let other = term(alloc, b"L", b"")?;
+    assert!(rt; is_at(found.as_slice(), 0, &whole));
+    assert!(rt; is_at(found.as_slice(), 1, &other));
+    let held = pair(whole, other, alloc)?;
+    let left = templates(alloc, &rules, &unknown, held.as_slice())?;
+    assert!(rt; left.is_empty());
+    Ok(())
+}
+
+// Rules of three kinds that one reference may all meet.
+const THREE_KINDS: &[u8] =
+    b"cover = [{global = \"^A(x,...)\", lock = \"^A(x)\"}]\nprivate = [{global = \"^A($J,...)\"}]\nreadonly = [{global = \"^A(7,...)\"}]";
+
+#[test]
+fn the_first_that_is_wrong_is_told(rt: HostRuntime) -> Result<(), Fail> {
+    let alloc = rt.alloc();
+    let rules = read_rules(alloc, THREE_KINDS)?;
+    let rows: &[(&[u8], (Extent, Access), u16)] = &[
+        (b"", (NODE, WRITES), 701),
+        (b"?", (NODE, WRITES), 703),
+        (b"7", (NODE, WRITES), 703),
+        (b"8", (NODE, WRITES), 704),
+        (b"?", (NODE, READS), 704),
+        (b"$J", (NODE, READS), 702),
+        (b"$J", (NODE, WRITES), 703),
+        (b"", (TREE, WRITES), 703),
+    ];
+    for row in rows {
+        assert_eq!(rt; answer(alloc, &rules, &[], b"A", row.0, row.1)?, row.2);
+    }
+    Ok(())
+}
+
+// Whether this term stands at the place.
+fn is_at(found: &[LockTerm], i: usize, whole: &LockTerm) -> bool {
+    match found.get(i) {
+        Some(term) => prefix(term, whole) && prefix(whole, term),
+        None => false,
+    }
+}
+
 fn is_alone(found: &[LockTerm], whole: &LockTerm) -> bool {
     match found.split_first() {
         Some((first, others)) => {
@@ -198,6 +294,7 @@ fn laws_are_called(_rt: HostRuntime) -> Result<(), Fail> {
     lock_of_node();
     covered_apart();
     one_rank();
+    marked_alike();
     one_answer();
     Ok(())
 }

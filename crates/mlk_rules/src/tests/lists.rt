@@ -1,10 +1,7 @@
 // Lists that were made by hand.
 
 use super::help::name;
-use crate::{
-    Cover, Covers, Element, Elements, EntryTexts, Families, Family, Part, Parts, Pattern, Patterns,
-    RuleLists, Rules, Template,
-};
+use crate::{Cover, Element, Family, Part, Pattern, RuleLists, Rules, Template};
 use mlk_names::{Extent, LockName, Root};
 use mlk_text::Subscripts;
 use std::alloc::{AllocError, Global};
@@ -13,7 +10,7 @@ use std::test::Fail;
 fn pattern(alloc: Global, global: &[u8], element: Element) -> Result<Pattern, AllocError> {
     Ok(Pattern {
         global: name(alloc, global)?,
-        elements: Elements::of(vec![in alloc; element]?),
+        elements: List::of(vec![in alloc; element]?),
         extent: Extent::Tree,
     })
 }
@@ -21,7 +18,7 @@ fn pattern(alloc: Global, global: &[u8], element: Element) -> Result<Pattern, Al
 fn cover(alloc: Global) -> Result<Cover, AllocError> {
     let lock = Template {
         root: Root::Global(name(alloc, b"ACCT")?),
-        parts: Parts::of(vec![in alloc; Part::Place(0)]?),
+        parts: List::of(vec![in alloc; Part::Place(0)]?),
     };
     Ok(Cover {
         pattern: pattern(alloc, b"ACCT", Element::Variable)?,
@@ -39,11 +36,11 @@ fn family(alloc: Global) -> Result<Family, AllocError> {
 
 fn lists(alloc: Global, families: Vec<Family>, private: Element) -> Result<RuleLists, AllocError> {
     Ok(RuleLists {
-        families: Families::of(families),
-        covers: Covers::of(vec![in alloc; cover(alloc)?]?),
-        private: Patterns::of(vec![in alloc; pattern(alloc, b"TMP", private)?]?),
-        readonly: Patterns::of(Vec::new(alloc)),
-        entries: EntryTexts::of(Vec::new(alloc)),
+        families: List::of(families),
+        covers: List::of(vec![in alloc; cover(alloc)?]?),
+        private: List::of(vec![in alloc; pattern(alloc, b"TMP", private)?]?),
+        readonly: List::of(Vec::new(alloc)),
+        entries: List::of(Vec::new(alloc)),
     })
 }
 

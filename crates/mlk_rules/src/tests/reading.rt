@@ -146,6 +146,32 @@ fn reads_literals(rt: HostRuntime) -> Result<(), Fail> {
     Ok(())
 }
 
+#[test]
+fn texts_have_any_byte(rt: HostRuntime) -> Result<(), Fail> {
+    let rows: &[(&[u8], &[u8])] = &[
+        (b"lock = [{name = 'A(\"a\tb\")', rank = 1}]", b"a\tb"),
+        (
+            b"lock = [{name = \"A(\\\"\\u0001\\\")\", rank = 1}]",
+            b"\x01",
+        ),
+        (
+            b"lock = [{name = \"A(\\\"\\u007f\\\")\", rank = 1}]",
+            b"\x7f",
+        ),
+        (b"[[lock]]\nname = '''A(\"a\nb\")'''\nrank = 1\n", b"a\nb"),
+        (b"lock = [{name = 'A(\"\")', rank = 1}]", b""),
+        (
+            b"lock = [{name = 'A(\"\xc3\xa4\")', rank = 1}]",
+            b"\xc3\xa4",
+        ),
+    ];
+    for row in rows {
+        let rules = read_rules(rt.alloc(), row.0)?;
+        assert!(rt; has_subscript(rules.families(), row.1));
+    }
+    Ok(())
+}
+
 // Whether the lock has the pattern's variables in the other order, with a 1 between them.
 fn is_turned(cover: &Cover) -> bool {
     let parts = cover.lock.parts.as_slice();

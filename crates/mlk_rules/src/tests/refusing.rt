@@ -21,6 +21,17 @@ fn refuses_files(rt: HostRuntime) {
 }
 
 #[test]
+fn a_long_file_that_is_no_toml_is_refused(rt: HostRuntime) -> Result<(), Fail> {
+    let mut text = Vec::from_slice(rt.alloc(), b"# ")?;
+    for _ in 0..20_000 {
+        text.extend_from_slice(b"a long comment ")?;
+    }
+    text.extend_from_slice(b"\n[[lock]\n")?;
+    assert!(rt; refuses(rt.alloc(), text.as_slice(), 401, Section::File, 0));
+    Ok(())
+}
+
+#[test]
 fn refuses_sections(rt: HostRuntime) {
     let files: &[(&[u8], Section, usize)] = &[
         (b"lock = 1", Section::Lock, 0),

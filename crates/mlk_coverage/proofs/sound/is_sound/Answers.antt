@@ -1,10 +1,10 @@
+use Rattle.std.proofs.Common.{sym, ◌∙◌}
 use Rattle.mlk_coverage.proofs.sound.is_sound.Goals as goal
 
 pub returns-then-families_apart : goal.returns-then-families_apart
 returns-then-families_apart c =
     let apart = rw c.as_slice.ensures at (c.families_apart.ensures.0 c.if-families_apart.true) in
-    let each = rw c.as_slice-then-families_apart.ensures at c.each_has_one_job.ensures in
-    (λ is. record { apart = apart; private = each.0 is }, λ h. each.1 h.private)
+    (λ is. record { formed = sym c.are_formed.ensures ∙ is; apart = apart }, λ h. c.are_formed.ensures ∙ h.formed)
 
 pub returns-else-families_apart : goal.returns-else-families_apart
 returns-else-families_apart c =

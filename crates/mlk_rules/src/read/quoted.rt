@@ -1,0 +1,29 @@
+// Texts in quotes.
+
+ghost use Rattle.mlk_text.specs.Outcome.{Gives};
+ghost use Rattle.mlk_rules.specs.RuleTexts.{quoted};
+
+use mlk_text::Value;
+use mlk_text::lexeme::{ReadError, byte_of};
+use std::alloc::Global;
+
+/// The value up to the closing quote, and what is after it. It may have any byte.
+pub fn quoted(alloc: Global, bytes: &[u8]) -> Result<(Value, &[u8]), ReadError>
+    ensures { Gives (λ x. (x.0, x.1.now)) result (quoted bytes.now) }
+{
+    let mut value = Vec::new(alloc);
+    let mut rest = bytes;
+    while let Some((first, behind)) = rest.split_first() {
+        if *first != b'"' {
+            value.push(*first)?;
+            rest = behind;
+            continue;
+        }
+        let Some(after) = byte_of(b'"', behind) else {
+            return Ok((Value::new(value), behind));
+        };
+        value.push(b'"')?;
+        rest = after;
+    }
+    Err(ReadError::Refused)
+}
