@@ -179,7 +179,7 @@ class SecondReader:
     def caret(self, i, less):
         self.leaves_out(i, {"^(": "NAKED", "^|": "ENVIRONMENT", "^$": "SSVN"})
         self.leaves_out(i + 1, {"@": "INDIRECTION"} if self.at(i) == "^" else {})
-        if less < NO_TOUCHES or self.at(i + 1) == "@":
+        if less < NO_TOUCHES or self.at(i + 1) in ("(", "|", "$", "@"):
             return self.take({i}, "^")
         self.leaves_out(i, {"^": "ORDER"})
         return set()
@@ -223,7 +223,8 @@ class SecondReader:
         """Tells the fault of what begins here, though no more levels are left."""
         if self.at(i) == "^":
             self.leaves_out(i, {"^(": "NAKED", "^|": "ENVIRONMENT", "^$": "SSVN"})
-            self.leaves_out(i, {"^": "ORDER"} if less == NO_TOUCHES else {})
+            named = self.at(i + 1) in ("(", "|", "$")
+            self.leaves_out(i, {"^": "ORDER"} if less == NO_TOUCHES and not named else {})
         if self.at(i) == "$":
             self.leaves_out(i, {"$$": "ORDER"} if less else {})
             self.word(i)
