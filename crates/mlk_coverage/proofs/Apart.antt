@@ -20,21 +20,21 @@ use Rattle.mlk_coverage.proofs.Instances.{lock_of_node, reach_begins}
 use Rattle.mlk_coverage.proofs.Meetings.{share_pattern}
 
 -- where `$JOB` stands at a place of a reference, each node that it reaches has the job's number there
-own_number : (a : Assignment) (r : Reference) (t : Touch) (n : GlobalNode) (k : ℕ) → Touches a r t → InRegion t n → slice_get r.subs k ≡ Some Job → slice_get n.subs k ≡ Some a.job
+own_number : (a : Assignment) (r : Reference) (t : Touch) (n : GlobalNode) (k : ℕ) → Touches a r t → InRegion t.region n → slice_get r.subs k ≡ Some Job → slice_get n.subs k ≡ Some a.job
 own_number a r t n k h i e =
-    let w = zip_at (StandsFor a) r.subs t.node.subs k Job h.subs e in
-    let at = begins_at t.node.subs n.subs k w.0 (reach_begins t.extent t.node.subs n.subs i.subs) w.1 in
+    let w = zip_at (StandsFor a) r.subs t.region.node.subs k Job h.subs e in
+    let at = begins_at t.region.node.subs n.subs k w.0 (reach_begins t.region.extent t.region.node.subs n.subs i.subs) w.1 in
     let v = w.2 in cc
 
 module _ (rules : RuleLists) (a b : Assignment) (held kept : List LockTerm) (r s : Reference) (t u : Touch) (first : Touches a r t) (second : Touches b s u) where
-  by_number : (p : Pattern) (n : GlobalNode) → Contains p.elements element.Job → IsOwn p r → IsOwn p s → InRegion t n → InRegion u n → a.job ≡ b.job
+  by_number : (p : Pattern) (n : GlobalNode) → Contains p.elements element.Job → IsOwn p r → IsOwn p s → InRegion t.region n → InRegion u.region n → a.job ≡ b.job
   by_number p n (k, l, e) own own' i j =
       let at : slice_get p.elements k ≡ Some element.Job =
       slice_get-get_or p.elements k element.Job l ∙ ap Some e in
       let x = own_number a r t n k first i (own k at) in
       let y = own_number b s u n k second j (own' k at) in cc
 
-  by_lock : (c : Cover) (n : GlobalNode) → HoldsLock held c.lock r → HoldsLock kept c.lock s → InRegion t n → InRegion u n → HoldConflict a held b kept
+  by_lock : (c : Cover) (n : GlobalNode) → HoldsLock held c.lock r → HoldsLock kept c.lock s → InRegion t.region n → InRegion u.region n → HoldConflict a held b kept
   by_lock c n (h, in_held, p) (k, in_kept, q) i j = record {
     first = h;
     second = k;
@@ -43,7 +43,7 @@ module _ (rules : RuleLists) (a b : Assignment) (held kept : List LockTerm) (r s
     conflict = λ x y d e. (lock_of_node c.lock n).conflict a b r s t u h k x y first i p d second j q e;
   }
 
-  apart : PrivateByJob rules → IsCovered rules held r → IsCovered rules kept s → (r.access ≡ Writes) ⊎ (s.access ≡ Writes) → (p : Pattern) (n : GlobalNode) → IsPattern rules p → InRegion t n → InRegion u n → MayMeet p r → MayMeet p s → (a.job ≡ b.job) ⊎ HoldConflict a held b kept
+  apart : PrivateByJob rules → IsCovered rules held r → IsCovered rules kept s → (r.access ≡ Writes) ⊎ (s.access ≡ Writes) → (p : Pattern) (n : GlobalNode) → IsPattern rules p → InRegion t.region n → InRegion u.region n → MayMeet p r → MayMeet p s → (a.job ≡ b.job) ⊎ HoldConflict a held b kept
   apart by_job x y w p n (OfCover c is e) i j m m' =
       let P : Pattern → Type 0 = λ q. MayMeet q r in
       let Q : Pattern → Type 0 = λ q. MayMeet q s in
@@ -58,4 +58,5 @@ module _ (rules : RuleLists) (a b : Assignment) (held kept : List LockTerm) (r s
 pub covered_apart : CoveredApart
 covered_apart rules a b held kept r s t u by_job x y h k o w =
     let m = share_pattern rules a b r s t u x.ruled y.ruled h k o in
-    apart rules a b held kept r s t u h k by_job x y w m.pattern m.node m.is_rule m.first m.second m.meets_first m.meets_second
+    let writes : (r.access ≡ Writes) ⊎ (s.access ≡ Writes) = elim w [ inl e ↦ inl (sym h.access ∙ e) | inr e ↦ inr (sym k.access ∙ e) ] in
+    apart rules a b held kept r s t u h k by_job x y writes m.pattern m.node m.is_rule m.first m.second m.meets_first m.meets_second

@@ -82,10 +82,10 @@ module _ (a : Assignment) (symbols : List Sym) (values all : List (List ℕ)) (s
           rw (at) (begins_cons v w.0 vs (before_missing (map (value_at all) ps)) i j)
 
 -- a term that begins the rule's lock at a reference stands for a name at or above the lock of a node that it reaches
-cut_above : (lock : Template) (n : GlobalNode) (a : Assignment) (r : Reference) (t : Touch) (h : LockTerm) (x : LockName) → Touches a r t → InRegion t n → IsPrefix h (cut_template lock r) → Names a h x → IsAbove x (lock_at lock n)
+cut_above : (lock : Template) (n : GlobalNode) (a : Assignment) (r : Reference) (t : Touch) (h : LockTerm) (x : LockName) → Touches a r t → InRegion t.region n → IsPrefix h (cut_template lock r) → Names a h x → IsAbove x (lock_at lock n)
 cut_above lock n a r t h x touches i p names = record {
   root = names.root ∙ p.root;
-  subs = cut_begins a r.subs t.node.subs n.subs touches.subs (reach_begins t.extent t.node.subs n.subs i.subs) lock.parts h.subs x.subs p.subs names.subs;
+  subs = cut_begins a r.subs t.region.node.subs n.subs touches.subs (reach_begins t.region.extent t.region.node.subs n.subs i.subs) lock.parts h.subs x.subs p.subs names.subs;
 }
 
 pub lock_of_node : LocksOfNodes

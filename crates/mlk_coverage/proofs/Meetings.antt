@@ -7,7 +7,7 @@ use Rattle.mlk_names.specs.declared.reference.Extent.{Extent}
 use Rattle.mlk_names.specs.declared.reference.Extent.TheVariants.{Node, Tree}
 use Rattle.mlk_names.specs.declared.reference.Reference.{Reference}
 use Rattle.mlk_names.specs.Lists.{Begins}
-use Rattle.mlk_names.specs.References.{GlobalNode, Touch, InRegion, MayBe, MayTouch, Reaches}
+use Rattle.mlk_names.specs.References.{GlobalNode, Region, InRegion, MayBe, MayReach, Reaches}
 use Rattle.mlk_names.proofs.ListLemmas.{begins_two}
 use Rattle.mlk_names.proofs.OverlapLemmas.{may_touch, reaches_itself}
 use Rattle.mlk_coverage.specs.declared.pattern.Element.{Element}
@@ -57,11 +57,11 @@ some_taken (element.Variable ∷ es) = let vs = some_taken es in ([] ∷ vs.0, (
 some_taken (element.Job ∷ es) = let vs = some_taken es in ([] ∷ vs.0, (tt, vs.1))
 
 -- below a tree that is surely above a pattern there is a node of the pattern
-pub record BelowAbove (p : Pattern) (u : Touch) : Type 0 where
+pub record BelowAbove (p : Pattern) (u : Region) : Type 0 where
   pub more : List (List ℕ)
   pub lies : LiesIn p (record { root = p.global; subs = u.node.subs ++ more })
 
-below_above : (p : Pattern) (s : Reference) (u : Touch) → SurelyAbove p s → MayTouch s u → BelowAbove p u
+below_above : (p : Pattern) (s : Reference) (u : Region) → SurelyAbove p s → MayReach s u → BelowAbove p u
 below_above p s u l m =
     let own = zip_through Suits MayBe Takes takes l.front s.subs u.node.subs l.suits m.subs in
     let more = some_taken l.rest in
@@ -78,7 +78,7 @@ below_above p s u l m =
     }
 
 -- two trees that are surely above patterns, of which the first begins the second: the second's pattern is met below
-meets_below : (rules : RuleLists) (r s : Reference) (t u : Touch) (q : Pattern) → IsPattern rules q → SurelyAbove q s → MayTouch r t → MayTouch s u → r.extent ≡ Tree → t.node.root ≡ u.node.root → Begins t.node.subs u.node.subs → SharesPattern rules r s t u
+meets_below : (rules : RuleLists) (r s : Reference) (t u : Region) (q : Pattern) → IsPattern rules q → SurelyAbove q s → MayReach r t → MayReach s u → r.extent ≡ Tree → t.node.root ≡ u.node.root → Begins t.node.subs u.node.subs → SharesPattern rules r s t u
 meets_below rules r s t u q is above m k tree root b =
     let w = below_above q s u above k in
     let node : GlobalNode = record { root = q.global; subs = u.node.subs ++ w.more } in
@@ -101,7 +101,7 @@ meets_below rules r s t u q is above m k tree root b =
       meets_second = (u, node, k, second, w.lies);
     }
 
-turned : (rules : RuleLists) (r s : Reference) (t u : Touch) → SharesPattern rules s r u t → SharesPattern rules r s t u
+turned : (rules : RuleLists) (r s : Reference) (t u : Region) → SharesPattern rules s r u t → SharesPattern rules r s t u
 turned rules r s t u h = record {
   pattern = h.pattern;
   is_rule = h.is_rule;
@@ -114,7 +114,7 @@ turned rules r s t u h = record {
 }
 
 -- the shared node itself, where the first reference surely lies in a pattern
-meets_here : (rules : RuleLists) (r s : Reference) (t u : Touch) (p : Pattern) (n : GlobalNode) → IsPattern rules p → SurelyLies p r → MayTouch r t → MayTouch s u → InRegion t n → InRegion u n → SharesPattern rules r s t u
+meets_here : (rules : RuleLists) (r s : Reference) (t u : Region) (p : Pattern) (n : GlobalNode) → IsPattern rules p → SurelyLies p r → MayReach r t → MayReach s u → InRegion t n → InRegion u n → SharesPattern rules r s t u
 meets_here rules r s t u p n is lies m k i j =
     let l = surely_lies p r t n lies m i in
     record {
@@ -128,11 +128,11 @@ meets_here rules r s t u p n is lies m k i j =
       meets_second = (u, n, k, j, l);
     }
 
-tree_begins : (t : Touch) (n : GlobalNode) → t.extent ≡ Tree → InRegion t n → Begins t.node.subs n.subs
+tree_begins : (t : Region) (n : GlobalNode) → t.extent ≡ Tree → InRegion t n → Begins t.node.subs n.subs
 tree_begins t n is i =
     let R : Extent → Type 0 = λ e. Reaches e t.node.subs n.subs in subst R is i.subs
 
-both_above : (rules : RuleLists) (r s : Reference) (t u : Touch) (p q : Pattern) (n : GlobalNode) → IsPattern rules p → IsPattern rules q → SurelyAbove p r → SurelyAbove q s → MayTouch r t → MayTouch s u → InRegion t n → InRegion u n → SharesPattern rules r s t u
+both_above : (rules : RuleLists) (r s : Reference) (t u : Region) (p q : Pattern) (n : GlobalNode) → IsPattern rules p → IsPattern rules q → SurelyAbove p r → SurelyAbove q s → MayReach r t → MayReach s u → InRegion t n → InRegion u n → SharesPattern rules r s t u
 both_above rules r s t u p q n is are a b m k i j =
     let root : t.node.root ≡ u.node.root = sym i.root ∙ j.root in
     elim (begins_two t.node.subs u.node.subs n.subs (tree_begins t n (m.extent ∙ a.tree) i) (tree_begins u n (k.extent ∙ b.tree) j)) [
@@ -140,11 +140,11 @@ both_above rules r s t u p q n is are a b m k i j =
       | inr c ↦ turned rules r s t u (meets_below rules s r u t p is a k m b.tree (sym root) c)
     ]
 
-shares : (rules : RuleLists) (r s : Reference) (t u : Touch) (n : GlobalNode) → IsRuled rules r → IsRuled rules s → MayTouch r t → MayTouch s u → InRegion t n → InRegion u n → SharesPattern rules r s t u
+shares : (rules : RuleLists) (r s : Reference) (t u : Region) (n : GlobalNode) → IsRuled rules r → IsRuled rules s → MayReach r t → MayReach s u → InRegion t n → InRegion u n → SharesPattern rules r s t u
 shares rules r s t u n (p, is, inl lies) k m m' i j = meets_here rules r s t u p n is lies m m' i j
 shares rules r s t u n (p, is, inr above) (q, are, inl lies) m m' i j =
     turned rules r s t u (meets_here rules s r u t q n are lies m' m j i)
 shares rules r s t u n (p, is, inr above) (q, are, inr below) m m' i j = both_above rules r s t u p q n is are above below m m' i j
 
 pub share_pattern : SharePattern
-share_pattern rules a b r s t u h k m m' o = shares rules r s t u o.0 h k (may_touch a r t m) (may_touch b s u m') o.1 o.2
+share_pattern rules a b r s t u h k m m' o = shares rules r s t.region u.region o.0 h k (may_touch a r t m) (may_touch b s u m') o.1 o.2

@@ -10,7 +10,7 @@ use Rattle.mlk_names.specs.declared.reference.Access.TheVariants.{Writes}
 use Rattle.mlk_names.specs.LockNames.{IsAbove, Conflict}
 use Rattle.mlk_names.specs.Symbols.{Assignment}
 use Rattle.mlk_names.specs.Terms.{Names, IsPrefix, Mentions}
-use Rattle.mlk_names.specs.References.{GlobalNode, Touch, Touches, InRegion, MayTouch, Overlap}
+use Rattle.mlk_names.specs.References.{GlobalNode, Region, Touch, Touches, InRegion, MayReach, Overlap}
 use Rattle.mlk_coverage.specs.declared.pattern.Element.TheVariants as element
 use Rattle.mlk_coverage.specs.declared.pattern.Pattern.{Pattern}
 use Rattle.mlk_coverage.specs.declared.template.Template.{Template}
@@ -22,12 +22,12 @@ use Rattle.mlk_coverage.specs.Computed.{answer}
 use Rattle.mlk_coverage.specs.Ranks.{HasRank, NameHasRank, FamiliesApart}
 
 -- some node that both reach lies in the pattern of a rule, which both may meet
-pub record SharesPattern (rules : RuleLists) (r s : Reference) (t u : Touch) : Type 0 where
+pub record SharesPattern (rules : RuleLists) (r s : Reference) (g h : Region) : Type 0 where
   pub pattern : Pattern
   pub is_rule : IsPattern rules pattern
   pub node : GlobalNode
-  pub first : InRegion t node
-  pub second : InRegion u node
+  pub first : InRegion g node
+  pub second : InRegion h node
   pub lies : LiesIn pattern node
   pub meets_first : MayMeet pattern r
   pub meets_second : MayMeet pattern s
@@ -37,18 +37,19 @@ pub record SharesPattern (rules : RuleLists) (r s : Reference) (t u : Touch) : T
 abbrev pub SharePattern : Type 0
 SharePattern =
     (rules : RuleLists) (a b : Assignment) (r s : Reference) (t u : Touch)
-    → IsRuled rules r → IsRuled rules s → Touches a r t → Touches b s u → Overlap t u → SharesPattern rules r s t u
+    → IsRuled rules r → IsRuled rules s → Touches a r t → Touches b s u → Overlap t.region u.region
+    → SharesPattern rules r s t.region u.region
 
 -- All that a reference may reach lies in each pattern in which it surely lies.
 abbrev pub SurelyLiesWhole : Type 0
-SurelyLiesWhole = (p : Pattern) (r : Reference) (t : Touch) (n : GlobalNode) → SurelyLies p r → MayTouch r t → InRegion t n → LiesIn p n
+SurelyLiesWhole = (p : Pattern) (r : Reference) (g : Region) (n : GlobalNode) → SurelyLies p r → MayReach r g → InRegion g n → LiesIn p n
 
 -- A term that begins a rule's lock as a reference has it stands for a name at or above the rule's lock at each node
 -- that the reference reaches; so two such terms, each of a job of its own, stand for names that conflict where both
 -- references reach one node.
 pub record LockOfNode (lock : Template) (n : GlobalNode) : Type 0 where
-  pub above : (a : Assignment) (r : Reference) (t : Touch) (h : LockTerm) (x : LockName) → Touches a r t → InRegion t n → IsPrefix h (cut_template lock r) → Names a h x → IsAbove x (lock_at lock n)
-  pub conflict : (a b : Assignment) (r s : Reference) (t u : Touch) (h k : LockTerm) (x y : LockName) → Touches a r t → InRegion t n → IsPrefix h (cut_template lock r) → Names a h x → Touches b s u → InRegion u n → IsPrefix k (cut_template lock s) → Names b k y → Conflict x y
+  pub above : (a : Assignment) (r : Reference) (t : Touch) (h : LockTerm) (x : LockName) → Touches a r t → InRegion t.region n → IsPrefix h (cut_template lock r) → Names a h x → IsAbove x (lock_at lock n)
+  pub conflict : (a b : Assignment) (r s : Reference) (t u : Touch) (h k : LockTerm) (x y : LockName) → Touches a r t → InRegion t.region n → IsPrefix h (cut_template lock r) → Names a h x → Touches b s u → InRegion u.region n → IsPrefix k (cut_template lock s) → Names b k y → Conflict x y
 
 abbrev pub LocksOfNodes : Type 0
 LocksOfNodes = (lock : Template) (n : GlobalNode) → LockOfNode lock n
@@ -70,8 +71,8 @@ pub record HoldConflict (a : Assignment) (held : List LockTerm) (b : Assignment)
 abbrev pub CoveredApart : Type 0
 CoveredApart =
     (rules : RuleLists) (a b : Assignment) (held kept : List LockTerm) (r s : Reference) (t u : Touch) → PrivateByJob rules
-    → IsCovered rules held r → IsCovered rules kept s → Touches a r t → Touches b s u → Overlap t u
-    → (r.access ≡ Writes) ⊎ (s.access ≡ Writes) → (a.job ≡ b.job) ⊎ HoldConflict a held b kept
+    → IsCovered rules held r → IsCovered rules kept s → Touches a r t → Touches b s u → Overlap t.region u.region
+    → (t.access ≡ Writes) ⊎ (u.access ≡ Writes) → (a.job ≡ b.job) ⊎ HoldConflict a held b kept
 
 -- Where no two families meet: a term has one rank at most, the names that it stands for have it, and names that
 -- conflict have one rank.

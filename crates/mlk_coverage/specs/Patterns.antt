@@ -6,7 +6,7 @@ use Rattle.mlk_names.specs.declared.symbol.Sym.TheVariants.{Const, Job}
 use Rattle.mlk_names.specs.declared.reference.Extent.{Extent}
 use Rattle.mlk_names.specs.declared.reference.Extent.TheVariants.{Node, Tree}
 use Rattle.mlk_names.specs.declared.reference.Reference.{Reference}
-use Rattle.mlk_names.specs.References.{GlobalNode, Touch, InRegion, MayTouch}
+use Rattle.mlk_names.specs.References.{GlobalNode, Region, InRegion, MayReach}
 use Rattle.mlk_coverage.specs.declared.pattern.Element.{Element}
 use Rattle.mlk_coverage.specs.declared.pattern.Element.TheVariants as element
 use Rattle.mlk_coverage.specs.declared.pattern.Pattern.{Pattern}
@@ -18,18 +18,18 @@ Takes element.Variable v = Unit {0}
 Takes element.Job v = Unit {0}
 
 -- the pattern names this one, each place by itself
-pub record IsInstance (p : Pattern) (t : Touch) : Type 0 where
+pub record IsInstance (p : Pattern) (t : Region) : Type 0 where
   pub root : t.node.root ≡ p.global
   pub extent : t.extent ≡ p.extent
   pub subs : AllZip Takes p.elements t.node.subs
 
 -- the region of a pattern, as a test on nodes: what its instances reach
 abbrev pub LiesIn : Pattern → GlobalNode → Type 0
-LiesIn p n = (t : Touch) × IsInstance p t × InRegion t n
+LiesIn p n = (t : Region) × IsInstance p t × InRegion t n
 
 -- some node of what the reference may be lies in the pattern
 abbrev pub MayMeet : Pattern → Reference → Type 0
-MayMeet p r = (t : Touch) × (n : GlobalNode) × MayTouch r t × InRegion t n × LiesIn p n
+MayMeet p r = (t : Region) × (n : GlobalNode) × MayReach r t × InRegion t n × LiesIn p n
 
 -- the symbol surely is what the element asks for
 abbrev pub Suits : Element → Sym → Type 0

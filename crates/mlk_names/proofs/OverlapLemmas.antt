@@ -9,7 +9,7 @@ use Rattle.mlk_names.specs.declared.reference.Extent.TheVariants.{Node, Tree}
 use Rattle.mlk_names.specs.declared.reference.Reference.{Reference}
 use Rattle.mlk_names.specs.Symbols.{Assignment, StandsFor}
 use Rattle.mlk_names.specs.Laws.{OverlapsForeseen}
-use Rattle.mlk_names.specs.References.{Reaches, MayBe, SymsMayMeet, SubsMayMeet, MayOverlap, MayTouch, GlobalNode, Touch, Touches}
+use Rattle.mlk_names.specs.References.{Reaches, MayBe, SymsMayMeet, SubsMayMeet, MayOverlap, MayReach, GlobalNode, Touch, Touches}
 use Rattle.mlk_names.proofs.ListLemmas.{begins_none, begins_past, begins_cons, begins_head, begins_tail, all_zip_at}
 
 -- each symbol may be some value
@@ -133,8 +133,8 @@ may_be a Unknown v h = tt
 all_may_be : (a : Assignment) (ss : List Sym) (vs : List (List ℕ)) → AllZip (StandsFor a) ss vs → AllZip MayBe ss vs
 all_may_be a ss vs h = all_zip_at (StandsFor a) MayBe ss vs (λ s v c k. may_be a s v k) h
 
-pub may_touch : (a : Assignment) (r : Reference) (t : Touch) → Touches a r t → MayTouch r t
-may_touch a r t h = record { root = h.root; extent = h.extent; subs = all_may_be a r.subs t.node.subs h.subs }
+pub may_touch : (a : Assignment) (r : Reference) (t : Touch) → Touches a r t → MayReach r t.region
+may_touch a r t h = record { root = h.root; extent = h.extent; subs = all_may_be a r.subs t.region.node.subs h.subs }
 
 pub overlaps_foreseen : OverlapsForeseen
-overlaps_foreseen a b r s t u h k o = (t, u, may_touch a r t h, may_touch b s u k, o)
+overlaps_foreseen a b r s t u h k o = (t.region, u.region, may_touch a r t h, may_touch b s u k, o)

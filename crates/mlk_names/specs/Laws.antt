@@ -1,11 +1,11 @@
 -- What holds of all names, terms and references.
-use Rattle.std.specs.Prelude.{◌≡◌, ◌↔◌, ◌⊎◌, ℕ, List, Some}
+use Rattle.std.specs.Prelude.{◌≡◌, ◌↔◌, ◌⊎◌}
 use Rattle.mlk_names.specs.declared.lock_name.LockName.{LockName}
 use Rattle.mlk_names.specs.declared.reference.Reference.{Reference}
 use Rattle.mlk_names.specs.declared.term.LockTerm.{LockTerm}
 use Rattle.mlk_names.specs.LockNames.{IsAbove, Conflict}
 use Rattle.mlk_names.specs.Symbols.{Assignment}
-use Rattle.mlk_names.specs.Terms.{Names, IsPrefix, Mentions, HasValues, SameWhereMentioned}
+use Rattle.mlk_names.specs.Terms.{Names, IsPrefix, HasValues, SameWhereMentioned}
 use Rattle.mlk_names.specs.References.{Touch, Touches, Overlap, MayOverlap}
 
 -- Two names at or above one name conflict, and of two prefixes of one term one is a prefix of the other.
@@ -28,4 +28,4 @@ pub record NamesByMentioned : Type 0 where
 -- Where two references overlap, each as it stands in a job of its own, they may overlap.
 abbrev pub OverlapsForeseen : Type 0
 OverlapsForeseen =
-    (a b : Assignment) (r s : Reference) (t u : Touch) → Touches a r t → Touches b s u → Overlap t u → MayOverlap r s
+    (a b : Assignment) (r s : Reference) (t u : Touch) → Touches a r t → Touches b s u → Overlap t.region u.region → MayOverlap r s

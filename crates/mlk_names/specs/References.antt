@@ -4,6 +4,7 @@ use Rattle.std.specs.Prelude.{◌≡◌, ℕ, List}
 use Rattle.std.specs.List.{AllZip}
 use Rattle.mlk_names.specs.declared.symbol.Sym.{Sym}
 use Rattle.mlk_names.specs.declared.symbol.Sym.TheVariants.{Const, Local, Job, Unknown}
+use Rattle.mlk_names.specs.declared.reference.Access.{Access}
 use Rattle.mlk_names.specs.declared.reference.Extent.{Extent}
 use Rattle.mlk_names.specs.declared.reference.Extent.TheVariants.{Node, Tree}
 use Rattle.mlk_names.specs.declared.reference.Reference.{Reference}
@@ -15,30 +16,36 @@ pub record GlobalNode : Type 0 where
   pub root : List ℕ
   pub subs : List (List ℕ)
 
--- a reference whose subscripts are values
-pub record Touch : Type 0 where
+-- a region of nodes: one node, or a node and all below it
+pub record Region : Type 0 where
   pub node : GlobalNode
   pub extent : Extent
+
+-- what a reference touches at a moment, and whether it reads or writes there
+pub record Touch : Type 0 where
+  pub region : Region
+  pub access : Access
 
 -- the subscripts that one goes to from these: none but these, or these with any tail
 abbrev pub Reaches : Extent → List (List ℕ) → List (List ℕ) → Type 0
 Reaches Node subs xs = xs ≡ subs
 Reaches Tree subs xs = Begins subs xs
 
--- the region of a reference, as a test on nodes: the one node, or the node and all below it
-pub record InRegion (t : Touch) (n : GlobalNode) : Type 0 where
-  pub root : n.root ≡ t.node.root
-  pub subs : Reaches t.extent t.node.subs n.subs
+-- the region, as a test on nodes
+pub record InRegion (g : Region) (n : GlobalNode) : Type 0 where
+  pub root : n.root ≡ g.node.root
+  pub subs : Reaches g.extent g.node.subs n.subs
 
 -- the regions share a node
-abbrev pub Overlap : Touch → Touch → Type 0
-Overlap s t = (n : GlobalNode) × InRegion s n × InRegion t n
+abbrev pub Overlap : Region → Region → Type 0
+Overlap g h = (n : GlobalNode) × InRegion g n × InRegion h n
 
--- the reference stands for this one, subscript by subscript
+-- the reference touches this, each subscript being what its symbol stands for
 pub record Touches (a : Assignment) (r : Reference) (t : Touch) : Type 0 where
-  pub root : t.node.root ≡ r.root
-  pub extent : t.extent ≡ r.extent
-  pub subs : AllZip (StandsFor a) r.subs t.node.subs
+  pub root : t.region.node.root ≡ r.root
+  pub extent : t.region.extent ≡ r.extent
+  pub subs : AllZip (StandsFor a) r.subs t.region.node.subs
+  pub access : t.access ≡ r.access
 
 -- a constant may be its own value alone, and all else any value
 abbrev pub MayBe : Sym → List ℕ → Type 0
@@ -47,15 +54,15 @@ MayBe (Local name) v = Unit {0}
 MayBe Job v = Unit {0}
 MayBe Unknown v = Unit {0}
 
--- the reference may be this one, each place by itself
-pub record MayTouch (r : Reference) (t : Touch) : Type 0 where
-  pub root : t.node.root ≡ r.root
-  pub extent : t.extent ≡ r.extent
-  pub subs : AllZip MayBe r.subs t.node.subs
+-- the reference may reach this region, each place by itself
+pub record MayReach (r : Reference) (g : Region) : Type 0 where
+  pub root : g.node.root ≡ r.root
+  pub extent : g.extent ≡ r.extent
+  pub subs : AllZip MayBe r.subs g.node.subs
 
--- what the two may be overlaps
+-- what the two may reach overlaps
 abbrev pub MayOverlap : Reference → Reference → Type 0
-MayOverlap r s = (t u : Touch) × MayTouch r t × MayTouch s u × Overlap t u
+MayOverlap r s = (g h : Region) × MayReach r g × MayReach s h × Overlap g h
 
 -- some value may be that of both
 abbrev pub SymsMayMeet : Sym → Sym → Type 0

@@ -15,6 +15,7 @@ use Rattle.mlk_machine.proofs.Counting.{times-front}
 use Rattle.mlk_names.specs.declared.symbol.Sym.TheVariants.{Const}
 use Rattle.mlk_names.specs.declared.known_symbol.KnownSym.TheVariants as known
 use Rattle.mlk_names.specs.declared.term.LockTerm.{LockTerm}
+use Rattle.mlk_names.specs.declared.reference.Access.TheVariants as access
 use Rattle.mlk_names.specs.declared.reference.Extent.TheVariants as extent
 use Rattle.mlk_names.specs.Lists.{Begins}
 use Rattle.mlk_names.specs.LockNames.{IsAbove}
@@ -61,12 +62,12 @@ abbrev node_of : Node → GlobalNode
 node_of n = record { root = n.name; subs = n.subs }
 
 abbrev touch_of : Node → Touch
-touch_of n = record { node = node_of n; extent = extent.Node }
+touch_of n = record { region = record { node = node_of n; extent = extent.Node }; access = access.Writes }
 
 touches_it : (a : Assignment) (n : Node) → Touches a (written n) (touch_of n)
-touches_it a n = record { root = refl; extent = refl; subs = subs_stand a n.subs }
+touches_it a n = record { root = refl; extent = refl; subs = subs_stand a n.subs; access = refl }
 
-overlaps_itself : (n : Node) → Overlap (touch_of n) (touch_of n)
+overlaps_itself : (n : Node) → Overlap (touch_of n).region (touch_of n).region
 overlaps_itself n = (node_of n, record { root = refl; subs = refl }, record { root = refl; subs = refl })
 
 -- names that conflict as terms have them conflict in the machine
