@@ -7,5 +7,6 @@ pub use Rattle.mlk_coverage.specs.Laws
 pub mod RuleAnswers
 pub mod RuleNumbers
 pub mod RuleTexts
+pub mod RuleGrammar
 pub mod RuleKinds
 pub mod RuleSections

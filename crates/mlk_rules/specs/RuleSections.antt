@@ -1,4 +1,5 @@
--- What a rule file says, or why it is refused. This project's own choice.
+-- What a rule file says, or why it is refused: a text that is written as `RuleGrammar` says is read so, and one that is
+-- not is refused with 403. This project's own choice.
 use Rattle.std.specs.Prelude.{ℕ, suc, ℤ, pos, negsuc, ◌≡◌, ◌&&◌, ◌||◌, ◌⊎◌, if◌then◌else◌, nat_lt, nat_le, Bool, true, List, [], ◌∷◌, ◌++◌, Option, Some, None, option_and_then, codes, bytes_eq, is_some, IsUtf8}
 use Rattle.toml.specs.Data.{Data, array, Items, no_items, item, Members, no_members, member, as_str, as_integer, as_table, get_member}
 use Rattle.toml.specs.Parse.{parse_document}

@@ -1,4 +1,5 @@
--- The texts of a rule file: patterns, lock names and entries. This project's own choice.
+-- The texts of a rule file as functions that read them: patterns, lock names and entries. What they find is what
+-- `RuleGrammar` says, and nothing else: the law `AreWritten`. This project's own choice.
 use Rattle.std.specs.Prelude.{ℕ, suc, ◌==◌, ◌||◌, if◌then◌else◌, Bool, true, false, List, [], ◌∷◌, length, Option, Some, None, codes, bytes_eq, drop}
 use Rattle.mlk_text.specs.Reading.{◌>>=◌, with, put, many}
 use Rattle.mlk_text.specs.Lexemes.{is_digit, digits, byte_at, name_at}

@@ -7,7 +7,7 @@ mod read;
 #[cfg(test)]
 mod tests;
 
-pub use law::one_answer;
+pub use law::{are_written, one_answer};
 pub use mlk_coverage::{
     Cover, Element, Family, Part, Pattern, RuleLists, Rules, Template, computed_answers, covered,
     covered_apart, entries, first_meeting, lock_of_node, marked_alike, may_meet, one_rank, rank_of,
