@@ -2,7 +2,7 @@
 use Rattle.std.proofs.Common.{◌≡◌, ◌⊎◌, inl, inr, List, [], ◌∷◌, ◌++◌, length, arith, refl, sym, ◌∙◌, subst}
 use Rattle.std.specs.Prelude.{Contains, map}
 use Rattle.std.specs.List.{AllZip}
-use Rattle.std.proofs.lemmas.List.Elements.{Contains-append_left, Contains-append_right, Contains-push}
+use Rattle.std.proofs.lemmas.List.Elements.{Contains-append_cases, Contains-append_left, Contains-append_right, Contains-push, Contains-push_cases}
 use Rattle.mlk_names.specs.Lists.{Begins}
 
 pub begins_none : {X : Type 0} (ys : List X) → Begins [] ys
@@ -29,6 +29,13 @@ begins_tail {X} x y xs ys h =
 pub begins_itself : {X : Type 0} (xs : List X) → Begins xs xs
 begins_itself [] = begins_none []
 begins_itself (x ∷ xs) = begins_cons x x xs xs refl (begins_itself xs)
+
+pub begins_on : {X : Type 0} (xs ys zs : List X) → Begins xs ys → Begins ys zs → Begins xs zs
+begins_on [] ys zs h k = begins_none zs
+begins_on (x ∷ xs) [] zs h k = absurd (begins_past x xs h)
+begins_on (x ∷ xs) (y ∷ ys) [] h k = absurd (begins_past y ys k)
+begins_on (x ∷ xs) (y ∷ ys) (z ∷ zs) h k =
+    begins_cons x z xs zs (begins_head x y xs ys h ∙ begins_head y z ys zs k) (begins_on xs ys zs (begins_tail x y xs ys h) (begins_tail y z ys zs k))
 
 -- two beginnings of one list begin one another
 pub begins_two : {X : Type 0} (xs ys zs : List X) → Begins xs zs → Begins ys zs → Begins xs ys ⊎ Begins ys xs
@@ -62,6 +69,40 @@ all_zip_at R S (x ∷ xs) [] f h = absurd h
 all_zip_at R S (x ∷ xs) (y ∷ ys) f h =
     (f x y (Contains-append_left (x ∷ []) xs x (Contains-push [] x)) h.0, all_zip_at R S xs ys (λ z v c. f z v (Contains-append_right (x ∷ []) xs z c)) h.1)
 
+pub contains_first : {X : Type 0} (x : X) (xs : List X) → Contains (x ∷ xs) x
+contains_first x xs = Contains-append_left (x ∷ []) xs x (Contains-push [] x)
+
+pub contains_later : {X : Type 0} (y : X) (xs : List X) (x : X) → Contains xs x → Contains (y ∷ xs) x
+contains_later y xs x c = Contains-append_right (y ∷ []) xs x c
+
+pub contains_cases : {X : Type 0} (y : X) (xs : List X) (x : X) → Contains (y ∷ xs) x → (y ≡ x) ⊎ Contains xs x
+contains_cases y xs x c =
+    elim (Contains-append_cases (y ∷ []) xs x c) [
+      | inl h ↦ elim (Contains-push_cases [] y x h) [
+        | inl none ↦ absurd (omega (arith, none.1))
+        | inr e ↦ inl e
+      ]
+      | inr h ↦ inr h
+    ]
+
+-- what stands in the first list has something at its place
+pub zip_has : {X Y : Type 0} (R : X → Y → Type 0) (xs : List X) (ys : List Y) (x : X) → AllZip R xs ys → Contains xs x → (y : Y) × R x y
+zip_has R [] ys x h c = absurd (omega (arith, c.1))
+zip_has R (z ∷ xs) [] x h c = absurd h
+zip_has {X} {Y} R (z ∷ xs) (y ∷ ys) x h c =
+    elim (contains_cases z xs x c) [
+      | inl e ↦ let P : X → Type 0 = λ w. R w y in (y, subst P e h.0)
+      | inr d ↦ zip_has R xs ys x h.1 d
+    ]
+
+-- where each has something, so have all together
+pub zip_of_each : {X Y : Type 0} (R : X → Y → Type 0) (xs : List X) → ((x : X) → Contains xs x → (y : Y) × R x y) → (ys : List Y) × AllZip R xs ys
+zip_of_each R [] f = ([], tt)
+zip_of_each {X} {Y} R (x ∷ xs) f =
+    let here = f x (contains_first x xs) in
+    let rest : (ys : List Y) × AllZip R xs ys = zip_of_each R xs (λ z c. f z (contains_later x xs z c)) in
+    (here.0 ∷ rest.0, (here.1, rest.1))
+
 -- where a relation gives one value, so it does place by place
 pub zip_one : {X Y : Type 0} (R : X → Y → Type 0) → ((x : X) (v w : Y) → R x v → R x w → v ≡ w) → (xs : List X) (vs ws : List Y) → AllZip R xs vs → AllZip R xs ws → vs ≡ ws
 zip_one R one [] [] [] h k = refl
@@ -74,13 +115,17 @@ zip_one R one (x ∷ xs) (v ∷ vs) (w ∷ ws) h k =
     let f = zip_one R one xs vs ws h.1 k.1 in cc
 
 -- two lists that one image ties, and relations that follow of what has one image, follow place by place
-pub zip_along : {X Y Z V : Type 0} (f : X → Z) (g : Y → Z) (R : X → V → Type 0) (S : Y → V → Type 0) → ((x : X) (y : Y) (v : V) → f x ≡ g y → R x v → S y v) → (xs : List X) (ys : List Y) (vs : List V) → map f xs ≡ map g ys → AllZip R xs vs → AllZip S ys vs
-zip_along f g R S one [] [] [] e h = tt
-zip_along f g R S one [] [] (v ∷ vs) e h = absurd h
-zip_along f g R S one [] (y ∷ ys) vs e h = cc
-zip_along f g R S one (x ∷ xs) [] vs e h = cc
-zip_along f g R S one (x ∷ xs) (y ∷ ys) [] e h = absurd h
-zip_along {X} {Y} {Z} {V} f g R S one (x ∷ xs) (y ∷ ys) (v ∷ vs) e h =
+pub zip_along : {X Y Z V : Type 0} (f : X → Z) (g : Y → Z) (R : X → V → Type 0) (S : Y → V → Type 0) (xs : List X) (ys : List Y) (vs : List V)
+    → ((x : X) (y : Y) (v : V) → Contains xs x → Contains ys y → f x ≡ g y → R x v → S y v) → map f xs ≡ map g ys → AllZip R xs vs → AllZip S ys vs
+zip_along f g R S [] [] [] one e h = tt
+zip_along f g R S [] [] (v ∷ vs) one e h = absurd h
+zip_along f g R S [] (y ∷ ys) vs one e h = cc
+zip_along f g R S (x ∷ xs) [] vs one e h = cc
+zip_along f g R S (x ∷ xs) (y ∷ ys) [] one e h = absurd h
+zip_along {X} {Y} {Z} {V} f g R S (x ∷ xs) (y ∷ ys) (v ∷ vs) one e h =
     let d : f x ∷ map f xs ≡ g y ∷ map g ys = e in
     let i : f x ≡ g y = cc in
-    let j : map f xs ≡ map g ys = cc in (one x y v i h.0, zip_along f g R S one xs ys vs j h.1)
+    let j : map f xs ≡ map g ys = cc in (
+      one x y v (contains_first x xs) (contains_first y ys) i h.0,
+      zip_along f g R S xs ys vs (λ w z u c k. one w z u (contains_later x xs w c) (contains_later y ys z k)) j h.1,
+    )

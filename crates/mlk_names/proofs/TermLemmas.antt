@@ -1,5 +1,5 @@
 -- What terms stand for.
-use Rattle.std.proofs.Common.{◌≡◌, ◌↔◌, ◌⊎◌, inl, inr, ℕ, List, sym, ap, ◌∙◌, subst}
+use Rattle.std.proofs.Common.{◌≡◌, ◌↔◌, ◌⊎◌, inl, inr, ℕ, List, refl, sym, ap, ◌∙◌, subst}
 use Rattle.std.specs.Prelude.{Contains}
 use Rattle.mlk_names.specs.declared.lock_name.LockName.{LockName}
 use Rattle.mlk_names.specs.declared.lock_name.Root.{Root}
@@ -7,8 +7,8 @@ use Rattle.mlk_names.specs.declared.known_symbol.KnownSym.{KnownSym}
 use Rattle.mlk_names.specs.declared.known_symbol.KnownSym.TheVariants.{Const, Local, Job}
 use Rattle.mlk_names.specs.declared.term.LockTerm.{LockTerm}
 use Rattle.mlk_names.specs.Symbols.{Assignment, StandsFor, sym_of}
-use Rattle.mlk_names.specs.Terms.{Names, IsPrefix, Mentions, NamesAbove, NamesWithout, SameWhereMentioned}
-use Rattle.mlk_names.proofs.ListLemmas.{begins_two, begins_zip, zip_one, all_zip_at}
+use Rattle.mlk_names.specs.Terms.{Names, IsPrefix, HasValues, Mentions, NamesAbove, NamesWithout, SameWhereMentioned}
+use Rattle.mlk_names.proofs.ListLemmas.{begins_two, begins_zip, zip_has, zip_of_each, zip_one, all_zip_at}
 
 -- a known symbol stands for one value
 pub one_value : (a : Assignment) (s : KnownSym) (v w : List ℕ) → StandsFor a (sym_of s) v → StandsFor a (sym_of s) w → v ≡ w
@@ -61,3 +61,17 @@ pub names_without : (t : LockTerm) (name : List ℕ) → (Mentions t name → �
 names_without t name unmentioned a b n same =
     let P : List ℕ → Type 0 = λ x. Mentions t x in
     names_same a b t n (record { locals = λ other c. same.locals other (λ e. unmentioned (subst P e c)); job = same.job })
+
+-- a symbol among a term's has a value where the term's locals have values
+value_there : (a : Assignment) (t : LockTerm) → HasValues a t → (s : KnownSym) → Contains t.subs s → (v : List ℕ) × StandsFor a (sym_of s) v
+value_there a t has (Const value) c = (value, refl)
+value_there a t has (Local name) c = has name c
+value_there a t has Job c = (a.job, refl)
+
+-- a term stands for a name exactly where each local that it mentions has a value
+pub some_name : (a : Assignment) (t : LockTerm) → ((n : LockName) × Names a t n) ↔ HasValues a t
+some_name a t = (
+  λ h name c. zip_has (λ s v. StandsFor a (sym_of s) v) t.subs h.0.subs (Local name) h.1.subs c,
+  λ has. let each = zip_of_each (λ s v. StandsFor a (sym_of s) v) t.subs (value_there a t has) in
+      (record { root = t.root; subs = each.0 }, record { root = refl; subs = each.1 }),
+)

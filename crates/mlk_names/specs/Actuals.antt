@@ -8,7 +8,7 @@ use Rattle.mlk_names.specs.declared.known_symbol.KnownSym.{KnownSym}
 use Rattle.mlk_names.specs.declared.known_symbol.KnownSym.TheVariants as known
 use Rattle.mlk_names.specs.declared.term.LockTerm.{LockTerm}
 use Rattle.mlk_names.specs.Symbols.{Assignment, StandsFor, sym_of}
-use Rattle.mlk_names.specs.Terms.{Names}
+use Rattle.mlk_names.specs.Terms.{Names, Mentions}
 
 -- what was passed: an actual that is left out, or that the list is too short for, is unknown
 abbrev pub passed : Option (Option Sym) → Sym
@@ -37,12 +37,14 @@ abbrev pub PutsIn : List (List ℕ) → List (Option Sym) → LockTerm → Optio
 PutsIn formals actuals t (Some u) = (u.root ≡ t.root) × Puts formals actuals t.subs (Some u.subs)
 PutsIn formals actuals t None = Puts formals actuals t.subs None
 
--- the moment of the call: a local of the callee has the value that the caller's symbol for it stands for, if known
-pub record IsCall (formals : List (List ℕ)) (actuals : List (Option Sym)) (caller callee : Assignment) : Type 0 where
-  pub locals : (name : List ℕ) (s : KnownSym) → put_in formals actuals (known.Local name) ≡ sym_of s → (v : List ℕ) → (callee.locals name ≡ Some v) ↔ StandsFor caller (sym_of s) v
+-- A moment of the call, at its begin or its end: each local that the callee's term mentions has the value that the
+-- caller's symbol for it stands for, where that is known. Nothing is asked of other locals.
+pub record IsCall (formals : List (List ℕ)) (actuals : List (Option Sym)) (t : LockTerm) (caller callee : Assignment) : Type 0 where
+  pub locals : (name : List ℕ) → Mentions t name → (s : KnownSym) → put_in formals actuals (known.Local name) ≡ sym_of s
+      → (v : List ℕ) → (callee.locals name ≡ Some v) ↔ StandsFor caller (sym_of s) v
   pub job : callee.job ≡ caller.job
 
 -- the callee's term and the caller's stand for the same name
 abbrev pub NamesAlike : List (List ℕ) → List (Option Sym) → LockTerm → LockTerm → Type 0
 NamesAlike formals actuals t u =
-    (caller callee : Assignment) (n : LockName) → IsCall formals actuals caller callee → Names caller u n ↔ Names callee t n
+    (caller callee : Assignment) (n : LockName) → IsCall formals actuals t caller callee → Names caller u n ↔ Names callee t n

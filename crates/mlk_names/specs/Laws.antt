@@ -1,11 +1,11 @@
 -- What holds of all names, terms and references.
-use Rattle.std.specs.Prelude.{◌≡◌, ◌↔◌, ◌⊎◌}
+use Rattle.std.specs.Prelude.{◌≡◌, ◌↔◌, ◌⊎◌, ℕ, List, Some}
 use Rattle.mlk_names.specs.declared.lock_name.LockName.{LockName}
 use Rattle.mlk_names.specs.declared.reference.Reference.{Reference}
 use Rattle.mlk_names.specs.declared.term.LockTerm.{LockTerm}
 use Rattle.mlk_names.specs.LockNames.{IsAbove, Conflict}
 use Rattle.mlk_names.specs.Symbols.{Assignment}
-use Rattle.mlk_names.specs.Terms.{Names, IsPrefix, SameWhereMentioned}
+use Rattle.mlk_names.specs.Terms.{Names, IsPrefix, Mentions, HasValues, SameWhereMentioned}
 use Rattle.mlk_names.specs.References.{Touch, Touches, Overlap, MayOverlap}
 
 -- Two names at or above one name conflict, and of two prefixes of one term one is a prefix of the other.
@@ -13,8 +13,15 @@ pub record AboveOneMeet : Type 0 where
   pub names : (m n o : LockName) → IsAbove m o → IsAbove n o → Conflict m n
   pub terms : (s t u : LockTerm) → IsPrefix s u → IsPrefix t u → IsPrefix s t ⊎ IsPrefix t s
 
--- A term stands for one name at most, and which one rests on the locals that it mentions and on the job alone.
+-- What conflicts with a name conflicts with every name above it. So where nobody else's name conflicts with one that a
+-- job holds, none conflicts with a name at or below that one.
+abbrev pub ConflictsAbove : Type 0
+ConflictsAbove = (m n o : LockName) → IsAbove m n → Conflict n o → Conflict m o
+
+-- A term stands for one name at most, and for one exactly where each local that it mentions has a value. Which one rests
+-- on these locals and on the job alone.
 pub record NamesByMentioned : Type 0 where
+  pub some : (a : Assignment) (t : LockTerm) → ((n : LockName) × Names a t n) ↔ HasValues a t
   pub one : (a : Assignment) (t : LockTerm) (m n : LockName) → Names a t m → Names a t n → m ≡ n
   pub same : (a b : Assignment) (t : LockTerm) (n : LockName) → SameWhereMentioned t a b → Names a t n ↔ Names b t n
 

@@ -1,5 +1,5 @@
 -- What lock terms stand for, and what they have in common. This project's own choice.
-use Rattle.std.specs.Prelude.{◌≡◌, ◌≢◌, ◌↔◌, ℕ, List, Contains}
+use Rattle.std.specs.Prelude.{◌≡◌, ◌≢◌, ◌↔◌, ℕ, List, Some, Contains}
 use Rattle.std.specs.List.{AllZip}
 use Rattle.mlk_names.specs.declared.lock_name.LockName.{LockName}
 use Rattle.mlk_names.specs.declared.known_symbol.KnownSym.TheVariants.{Local}
@@ -21,6 +21,10 @@ pub record IsPrefix (s t : LockTerm) : Type 0 where
 -- the local stands among the term's subscripts
 abbrev pub Mentions : LockTerm → List ℕ → Type 0
 Mentions t name = Contains t.subs (Local name)
+
+-- each local that the term mentions has a value
+abbrev pub HasValues : Assignment → LockTerm → Type 0
+HasValues a t = (name : List ℕ) → Mentions t name → (v : List ℕ) × (a.locals name ≡ Some v)
 
 -- under one assignment, the first term's name is at or above the second's
 abbrev pub NamesAbove : LockTerm → LockTerm → Type 0

@@ -4,10 +4,10 @@ ghost use Rattle.std.specs.Prelude.{◌≡◌, IfOk, IfSome, position, slice_get
 ghost use Rattle.mlk_names.specs.Symbols.{known_of};
 ghost use Rattle.mlk_names.specs.Actuals.{passed, put_in, Puts, PutsIn, NamesAlike};
 
-use crate::known_symbol::{KnownSym, KnownSyms};
+use crate::known_symbol::KnownSym;
 use crate::symbol::Sym;
 use crate::term::LockTerm;
-use mlk_text::Name;
+use mlk_text::{List, Name, copy_of};
 use std::alloc::{AllocError, Global};
 
 // What was passed at a place, where it is known.
@@ -24,7 +24,7 @@ fn known_at(actuals: &[Option<Sym>], place: usize) -> Result<Option<KnownSym>, A
 fn place_of(name: &Name, formals: &[Name]) -> Option<usize>
     ensures { result ≡ position (λ formal. bytes_eq formal name.now) formals.now }
 {
-    formals.iter().position(|formal| formal.is_same(name))
+    formals.iter().position(|formal| *formal == *name)
 }
 
 // What stands for the symbol at the caller, where it is known.
@@ -40,7 +40,7 @@ fn put_in_one(
             return known_at(actuals, place);
         }
     }
-    Ok(Some(symbol.copy()?))
+    Ok(Some(symbol.clone()?))
 }
 
 fn put_in_all(
@@ -48,7 +48,7 @@ fn put_in_all(
     symbols: &[KnownSym],
     formals: &[Name],
     actuals: &[Option<Sym>],
-) -> Result<Option<KnownSyms>, AllocError>
+) -> Result<Option<List<KnownSym>>, AllocError>
     ensures { IfOk result (λ found. Puts formals.now actuals.now symbols.now found) }
 {
     let mut items = Vec::new(alloc);
@@ -58,13 +58,14 @@ fn put_in_all(
         };
         items.push(item)?;
     }
-    Ok(Some(KnownSyms::of(items)))
+    Ok(Some(List::of(items)))
 }
 
 /// The callee's term as its caller has it: each formal is replaced by what was passed at its place, and an actual
 /// that is missing, or past the end of the list, is unknown. There is none where an unknown would enter.
 ///
-/// At the moment of the call both terms stand for one name.
+/// At the begin of the call, and at its end, both terms stand for one name, where the locals that the callee's term
+/// mentions have there what was passed for them.
 pub fn substitute(
     alloc: Global,
     term: &LockTerm,
@@ -77,6 +78,6 @@ pub fn substitute(
     let Some(subs) = put_in_all(alloc, term.subs.as_slice(), formals, actuals)? else {
         return Ok(None);
     };
-    let root = term.root.copy()?;
+    let root = copy_of(&term.root)?;
     Ok(Some(LockTerm { root, subs }))
 }

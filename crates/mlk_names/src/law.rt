@@ -1,13 +1,19 @@
 // What holds of all names, terms and references.
 
-ghost use Rattle.mlk_names.specs.Laws.{AboveOneMeet, NamesByMentioned, OverlapsForeseen};
+ghost use Rattle.mlk_names.specs.Laws.{AboveOneMeet, ConflictsAbove, NamesByMentioned, OverlapsForeseen};
 
 /// Two names at or above one name conflict, and two prefixes of one term are prefixes one of the other.
 pub fn above_one_meet()
     ensures { AboveOneMeet }
 {}
 
-/// A term stands for one name at most, which the locals that it mentions and the job decide.
+/// What conflicts with a name conflicts with every name above it.
+pub fn conflicts_above()
+    ensures { ConflictsAbove }
+{}
+
+/// A term stands for one name at most, which the locals that it mentions and the job decide; it stands for one exactly
+/// where each local that it mentions has a value.
 pub fn names_by_mentioned()
     ensures { NamesByMentioned }
 {}

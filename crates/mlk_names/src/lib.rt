@@ -14,10 +14,10 @@ mod term;
 mod tests;
 
 pub use actual::substitute;
-pub use known_symbol::{KnownSym, KnownSyms};
-pub use law::{above_one_meet, names_by_mentioned, overlaps_foreseen};
+pub use known_symbol::KnownSym;
+pub use law::{above_one_meet, conflicts_above, names_by_mentioned, overlaps_foreseen};
 pub use lock_name::{LockName, Root, conflict};
 pub use overlap::may_overlap;
 pub use reference::{Access, Extent, Reference};
-pub use symbol::{Sym, Syms};
+pub use symbol::Sym;
 pub use term::{LockTerm, mentions, prefix};

@@ -1,47 +1,23 @@
 // Lock names, and which of them conflict.
 
-ghost use Rattle.std.specs.Prelude.{◌≡◌, ◌↔◌, IsTrue, IfOk};
+ghost use Rattle.std.specs.Prelude.{◌↔◌, IsTrue};
 ghost use Rattle.mlk_names.specs.LockNames.{IsAbove, Conflict};
 
 use crate::list::begins;
-use mlk_text::{Name, Values};
-use std::alloc::AllocError;
+use mlk_text::{List, Name, Value};
 
 /// What a lock name begins with: a global's name, or a local's, which is a name of its own.
-#[derive(Drop, Debug)]
+#[derive(Clone, Drop, Debug, PartialEq, Eq)]
 pub enum Root {
     Global(Name),
     Local(Name),
 }
 
-impl Root {
-    /// Whether both are the same name of one kind. It takes no memory.
-    pub fn is_same(&self, other: &Root) -> bool
-        ensures { IsTrue result ↔ (self.now ≡ other.now) }
-    {
-        match (self, other) {
-            (Root::Global(a), Root::Global(b)) => a.is_same(b),
-            (Root::Local(a), Root::Local(b)) => a.is_same(b),
-            _ => false,
-        }
-    }
-
-    /// An equal root.
-    pub fn copy(&self) -> Result<Root, AllocError>
-        ensures { IfOk result (λ r. r ≡ self.now) }
-    {
-        match self {
-            Root::Global(name) => Ok(Root::Global(name.copy()?)),
-            Root::Local(name) => Ok(Root::Local(name.copy()?)),
-        }
-    }
-}
-
 /// A lock name, whose subscripts are values.
-#[derive(Drop, Debug)]
+#[derive(Clone, Drop, Debug, PartialEq, Eq)]
 pub struct LockName {
     pub root: Root,
-    pub subs: Values,
+    pub subs: List<Value>,
 }
 
 impl LockName {
@@ -49,17 +25,7 @@ impl LockName {
     pub fn is_above(&self, other: &LockName) -> bool
         ensures { IsTrue result ↔ IsAbove self.now other.now }
     {
-        self.root.is_same(&other.root) && begins(self.subs.as_slice(), other.subs.as_slice())
-    }
-
-    /// An equal lock name.
-    pub fn copy(&self) -> Result<LockName, AllocError>
-        ensures { IfOk result (λ n. n ≡ self.now) }
-    {
-        Ok(LockName {
-            root: self.root.copy()?,
-            subs: self.subs.copy()?,
-        })
+        self.root == other.root && begins(self.subs.as_slice(), other.subs.as_slice())
     }
 }
 

@@ -1,6 +1,6 @@
 // Which references may overlap.
 
-ghost use Rattle.std.specs.Prelude.{◌≡◌, ◌↔◌, IsTrue};
+ghost use Rattle.std.specs.Prelude.{◌↔◌, IsTrue};
 ghost use Rattle.mlk_names.specs.References.{SymsMayMeet, SubsMayMeet, MayOverlap};
 
 use crate::reference::{Extent, Reference};
@@ -16,7 +16,7 @@ fn syms_may_meet(first: &Sym, second: &Sym) -> bool
     let Sym::Const(b) = second else {
         return true;
     };
-    a.is_same(b)
+    a == b
 }
 
 // Whether subscripts that may be the first's reach subscripts that the second's may reach too.
@@ -36,7 +36,7 @@ fn subs_may_meet(first: &[Sym], far: Extent, second: &[Sym], wide: Extent) -> bo
 pub fn may_overlap(first: &Reference, second: &Reference) -> bool
     ensures { IsTrue result ↔ MayOverlap first.now second.now }
 {
-    first.root.is_same(&second.root)
+    first.root == second.root
         && subs_may_meet(
             first.subs.as_slice(),
             first.extent,

@@ -1,10 +1,7 @@
 // References to nodes of globals.
 
-ghost use Rattle.std.specs.Prelude.{◌≡◌, IfOk};
-
-use crate::symbol::Syms;
-use mlk_text::Name;
-use std::alloc::AllocError;
+use crate::symbol::Sym;
+use mlk_text::{List, Name};
 
 /// How far a reference goes.
 #[derive(Clone, Copy, Debug, PartialEq, Eq)]
@@ -23,25 +20,11 @@ pub enum Access {
 }
 
 /// A reference to a global, whose subscripts are symbols.
-#[derive(Drop, Debug)]
+#[derive(Clone, Drop, Debug, PartialEq, Eq)]
 pub struct Reference {
     /// The global's name, without its `^`.
     pub root: Name,
-    pub subs: Syms,
+    pub subs: List<Sym>,
     pub extent: Extent,
     pub access: Access,
-}
-
-impl Reference {
-    /// An equal reference.
-    pub fn copy(&self) -> Result<Reference, AllocError>
-        ensures { IfOk result (λ r. r ≡ self.now) }
-    {
-        Ok(Reference {
-            root: self.root.copy()?,
-            subs: self.subs.copy()?,
-            extent: self.extent,
-            access: self.access,
-        })
-    }
 }

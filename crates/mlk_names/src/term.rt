@@ -1,32 +1,19 @@
 // Lock terms: lock names as a routine's text gives them.
 
-ghost use Rattle.std.specs.Prelude.{◌≡◌, ◌↔◌, IsTrue, IsFalse, IfOk, Contains};
+ghost use Rattle.std.specs.Prelude.{◌↔◌, IsTrue, IsFalse, Contains};
 ghost use Rattle.mlk_names.specs.declared.known_symbol.KnownSym.TheVariants.{Local};
 ghost use Rattle.mlk_names.specs.Terms.{IsPrefix, Mentions, NamesAbove, NamesWithout};
 
-use crate::known_symbol::{KnownSym, KnownSyms};
+use crate::known_symbol::KnownSym;
 use crate::list::begins;
 use crate::lock_name::Root;
-use mlk_text::Name;
-use std::alloc::AllocError;
+use mlk_text::{List, Name};
 
 /// A lock name whose subscripts are symbols, each of which stands for one value.
-#[derive(Drop, Debug)]
+#[derive(Clone, Drop, Debug, PartialEq, Eq)]
 pub struct LockTerm {
     pub root: Root,
-    pub subs: KnownSyms,
-}
-
-impl LockTerm {
-    /// An equal term.
-    pub fn copy(&self) -> Result<LockTerm, AllocError>
-        ensures { IfOk result (λ t. t ≡ self.now) }
-    {
-        Ok(LockTerm {
-            root: self.root.copy()?,
-            subs: self.subs.copy()?,
-        })
-    }
+    pub subs: List<KnownSym>,
 }
 
 /// Whether the second term is the first with any subscripts behind it. It takes no memory.
@@ -36,14 +23,14 @@ pub fn prefix(first: &LockTerm, second: &LockTerm) -> bool
     ensures exact { IsTrue result ↔ IsPrefix first.now second.now }
     ensures above { IsTrue result → NamesAbove first.now second.now }
 {
-    first.root.is_same(&second.root) && begins(first.subs.as_slice(), second.subs.as_slice())
+    first.root == second.root && begins(first.subs.as_slice(), second.subs.as_slice())
 }
 
 // Whether one of the symbols is this local.
 fn has_local(symbols: &[KnownSym], name: &Name) -> bool
     ensures { IsTrue result ↔ Contains symbols.now (Local name.now) }
 {
-    symbols.iter().any(|symbol| matches!(symbol, KnownSym::Local(local) if local.is_same(name)))
+    symbols.iter().any(|symbol| matches!(symbol, KnownSym::Local(local) if local == name))
 }
 
 /// Whether a subscript of the term is this local; the term's own root is no mention. It takes no memory.

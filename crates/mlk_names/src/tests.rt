@@ -1,10 +1,10 @@
 // Rows on the public calls, with answers from outside the program.
 
 use crate::{
-    Access, Extent, KnownSyms, LockName, LockTerm, Reference, Root, Sym, Syms, conflict,
-    may_overlap, mentions, prefix, substitute,
+    Access, Extent, LockName, LockTerm, Reference, Root, Sym, conflict, may_overlap, mentions,
+    prefix, substitute,
 };
-use mlk_text::{Name, Value, Values};
+use mlk_text::{List, Name, Value};
 use std::alloc::{AllocError, Global};
 use std::test::Fail;
 
@@ -54,7 +54,7 @@ fn reference(alloc: Global, text: &str, extent: Extent) -> Result<Reference, All
     let (global, subs) = parts(text);
     Ok(Reference {
         root: name(alloc, global)?,
-        subs: Syms::of(symbols(alloc, subs)?),
+        subs: List::of(symbols(alloc, subs)?),
         extent,
         access: Access::Writes,
     })
@@ -70,13 +70,13 @@ fn term(alloc: Global, text: &str) -> Result<LockTerm, AllocError> {
     }
     Ok(LockTerm {
         root: root(alloc, first)?,
-        subs: KnownSyms::of(items),
+        subs: List::of(items),
     })
 }
 
 fn lock_name(alloc: Global, text: &str) -> Result<LockName, AllocError> {
     let (first, subs) = parts(text);
-    let mut values = Values::new(alloc);
+    let mut values = List::new(alloc);
     for word in subs.split_whitespace() {
         values.push(value(alloc, word)?)?;
     }
@@ -95,7 +95,7 @@ fn overlap(
 ) -> Result<bool, AllocError> {
     let first = reference(alloc, first, far)?;
     let second = reference(alloc, second, wide)?;
-    Ok(may_overlap(&first.copy()?, &second))
+    Ok(may_overlap(&first.clone()?, &second))
 }
 
 // Rows: two references, and the answers for two nodes, a node and a tree, a tree and a node, two trees.
@@ -169,7 +169,11 @@ fn conflicts(rt: HostRuntime) -> Result<(), Fail> {
     for (first, second, answer) in rows {
         let a = lock_name(rt.alloc(), first)?;
         let b = lock_name(rt.alloc(), second)?;
-        assert_eq!(rt; conflict(&a, &b.copy()?), answer, "at {first} and {second}");
+        assert_eq!(rt;
+            conflict(&a, &b.clone()?),
+            answer,
+            "at {first} and {second}"
+        );
     }
     Ok(())
 }
@@ -187,7 +191,7 @@ fn prefixes(rt: HostRuntime) -> Result<(), Fail> {
     for (first, second, answer) in rows {
         let a = term(rt.alloc(), first)?;
         let b = term(rt.alloc(), second)?;
-        assert_eq!(rt; prefix(&a.copy()?, &b), answer, "at {first} and {second}");
+        assert_eq!(rt; prefix(&a.clone()?, &b), answer, "at {first} and {second}");
     }
     Ok(())
 }
@@ -215,7 +219,7 @@ fn put_in(alloc: Global, text: &str) -> Result<Option<LockTerm>, AllocError> {
     }
     let mut actuals = Vec::new(alloc);
     for item in symbols(alloc, "ID ?")?.iter() {
-        actuals.push(Some(item.copy()?))?;
+        actuals.push(Some(item.clone()?))?;
     }
     actuals.push(None)?;
     substitute(

@@ -20,7 +20,7 @@ fn covers_of(alloc: Global, name: &Name, covers: &[Cover]) -> Result<Covers, All
 {
     let mut items = Vec::new(alloc);
     for cover in covers {
-        if name.is_same(&cover.pattern.global) {
+        if *name == cover.pattern.global {
             items.push(cover.copy(alloc)?)?;
         }
     }
@@ -32,7 +32,7 @@ fn patterns_of(alloc: Global, name: &Name, patterns: &[Pattern]) -> Result<Patte
 {
     let mut items = Vec::new(alloc);
     for pattern in patterns {
-        if name.is_same(&pattern.global) {
+        if *name == pattern.global {
             items.push(pattern.copy(alloc)?)?;
         }
     }

@@ -14,8 +14,8 @@ fn is_known_as(symbol: &Sym, known: &KnownSym) -> bool
     ensures { IsTrue result ↔ (known_of symbol.now ≡ Some known.now) }
 {
     match (symbol, known) {
-        (Sym::Const(a), KnownSym::Const(b)) => a.is_same(b),
-        (Sym::Local(a), KnownSym::Local(b)) => a.is_same(b),
+        (Sym::Const(a), KnownSym::Const(b)) => a == b,
+        (Sym::Local(a), KnownSym::Local(b)) => a == b,
         (Sym::Job, KnownSym::Job) => true,
         _ => false,
     }
@@ -26,9 +26,7 @@ fn stands_at(known: &KnownSym, part: &Part, symbols: &[Sym]) -> bool
     ensures { IsTrue result ↔ (symbol_at symbols.now part.now ≡ Some known.now) }
 {
     match part {
-        Part::Literal(value) => {
-            matches!(known, KnownSym::Const(constant) if constant.is_same(value))
-        }
+        Part::Literal(value) => { matches!(known, KnownSym::Const(constant) if constant == value) }
         Part::Place(place) => match symbols.get(*place) {
             Some(symbol) => is_known_as(symbol, known),
             None => false,
@@ -53,7 +51,7 @@ fn begins_cut(known: &[KnownSym], parts: &[Part], symbols: &[Sym]) -> bool
 fn is_lock(term: &LockTerm, lock: &Template, reference: &Reference) -> bool
     ensures { IsTrue result ↔ IsPrefix term.now (cut_template lock.now reference.now) }
 {
-    term.root.is_same(&lock.root)
+    term.root == lock.root
         && begins_cut(
             term.subs.as_slice(),
             lock.parts.as_slice(),

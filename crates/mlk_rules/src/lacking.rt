@@ -8,7 +8,8 @@ use crate::held::holds_lock;
 use crate::meet::may_meet;
 use crate::rules::Rules;
 use crate::template::{Part, Template};
-use mlk_names::{KnownSym, KnownSyms, LockTerm, Reference, Sym};
+use mlk_names::{KnownSym, LockTerm, Reference, Sym};
+use mlk_text::{List, copy_of};
 use std::alloc::{AllocError, Global};
 
 // The part of a rule's lock at the subscripts, where it is there and known.
@@ -24,17 +25,17 @@ fn part_at(part: &Part, symbols: &[Sym]) -> Result<Option<KnownSym>, AllocError>
     }
 }
 
-fn cut_subs(alloc: Global, parts: &[Part], symbols: &[Sym]) -> Result<KnownSyms, AllocError>
+fn cut_subs(alloc: Global, parts: &[Part], symbols: &[Sym]) -> Result<List<KnownSym>, AllocError>
     ensures { IfOk result (λ l. l ≡ before_missing (map (symbol_at symbols.now) parts.now)) }
 {
     let mut items = Vec::new(alloc);
     for part in parts {
         let Some(symbol) = part_at(part, symbols)? else {
-            return Ok(KnownSyms::of(items));
+            return Ok(List::of(items));
         };
         items.push(symbol)?;
     }
-    Ok(KnownSyms::of(items))
+    Ok(List::of(items))
 }
 
 // The rule's lock at the reference, up to the first subscript that is absent or unknown.
@@ -42,7 +43,7 @@ fn cut(alloc: Global, lock: &Template, reference: &Reference) -> Result<LockTerm
     ensures { IfOk result (λ t. t ≡ cut_template lock.now reference.now) }
 {
     Ok(LockTerm {
-        root: lock.root.copy()?,
+        root: copy_of(&lock.root)?,
         subs: cut_subs(alloc, lock.parts.as_slice(), reference.subs.as_slice())?,
     })
 }

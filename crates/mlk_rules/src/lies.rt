@@ -12,9 +12,7 @@ fn suits(element: &Element, symbol: &Sym) -> bool
     ensures { IsTrue result ↔ Suits element.now symbol.now }
 {
     match element {
-        Element::Literal(value) => {
-            matches!(symbol, Sym::Const(constant) if constant.is_same(value))
-        }
+        Element::Literal(value) => { matches!(symbol, Sym::Const(constant) if constant == value) }
         Element::Variable => true,
         Element::Job => matches!(symbol, Sym::Job),
     }
@@ -59,7 +57,7 @@ fn subs_above(elements: &[Element], symbols: &[Sym]) -> bool
 fn surely_lies(pattern: &Pattern, reference: &Reference) -> bool
     ensures { IsTrue result ↔ SurelyLies pattern.now reference.now }
 {
-    reference.root.is_same(&pattern.global)
+    reference.root == pattern.global
         && subs_lie(
             pattern.elements.as_slice(),
             pattern.extent,
@@ -73,7 +71,7 @@ fn surely_above(pattern: &Pattern, reference: &Reference) -> bool
     ensures { IsTrue result ↔ SurelyAbove pattern.now reference.now }
 {
     matches!(reference.extent, Extent::Tree)
-        && reference.root.is_same(&pattern.global)
+        && reference.root == pattern.global
         && subs_above(pattern.elements.as_slice(), reference.subs.as_slice())
 }
 

@@ -18,7 +18,7 @@ fn element_may_meet(element: &Element, symbol: &Sym) -> bool
     let Sym::Const(constant) = symbol else {
         return true;
     };
-    value.is_same(constant)
+    value == constant
 }
 
 // Whether subscripts that the elements take reach subscripts that the symbols may reach too.
@@ -40,7 +40,7 @@ fn elements_may_meet(elements: &[Element], wide: Extent, symbols: &[Sym], far: E
 pub fn may_meet(pattern: &Pattern, reference: &Reference) -> bool
     ensures { IsTrue result ↔ MayMeet pattern.now reference.now }
 {
-    pattern.global.is_same(&reference.root)
+    pattern.global == reference.root
         && elements_may_meet(
             pattern.elements.as_slice(),
             pattern.extent,

@@ -21,14 +21,14 @@ fn begin_with(values: &[Value], symbols: &[KnownSym]) -> bool
     let Some((s, ss)) = symbols.split_first() else {
         return false;
     };
-    matches!(s, KnownSym::Const(constant) if constant.is_same(v)) && begin_with(vs, ss)
+    matches!(s, KnownSym::Const(constant) if constant == v) && begin_with(vs, ss)
 }
 
 // Whether the name is the term or above it, by equal constants.
 fn is_above(name: &LockName, term: &LockTerm) -> bool
     ensures { IsTrue result ↔ IsPrefix (constant_term name.now) term.now }
 {
-    name.root.is_same(&term.root) && begin_with(name.subs.as_slice(), term.subs.as_slice())
+    name.root == term.root && begin_with(name.subs.as_slice(), term.subs.as_slice())
 }
 
 fn rank_among(families: &[Family], term: &LockTerm) -> Option<u32>

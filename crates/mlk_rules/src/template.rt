@@ -3,7 +3,7 @@
 ghost use Rattle.std.specs.Prelude.{◌≡◌, IfOk};
 
 use mlk_names::Root;
-use mlk_text::Value;
+use mlk_text::{Value, copy_of};
 use std::alloc::{AllocError, Global};
 use std::marker::Model;
 
@@ -83,7 +83,7 @@ impl Template {
         ensures { IfOk result (λ l. l ≡ self.now) }
     {
         Ok(Template {
-            root: self.root.copy()?,
+            root: copy_of(&self.root)?,
             parts: self.parts.copy(alloc)?,
         })
     }

@@ -7,3 +7,4 @@ pub mod Canonical
 pub mod Folding
 pub mod NumberLaws
 pub mod Outcome
+pub mod Failures

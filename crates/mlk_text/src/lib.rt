@@ -2,10 +2,13 @@
 #![tactic(auto)]
 
 mod code;
+mod copy;
+mod failure;
 mod fault;
 mod folding;
 mod law;
 pub mod lexeme;
+mod list;
 pub mod literal;
 mod name;
 mod numeral;
@@ -15,10 +18,13 @@ mod tests;
 mod value;
 
 pub use code::Code;
+pub use copy::copy_of;
+pub use failure::Failure;
 pub use fault::{Fault, LeftOut, Place};
 pub use folding::{fold, fold_number, fold_unary, whole};
 pub use law::{both_read, literals_canonical, one_canonical, one_text, one_whole};
+pub use list::List;
 pub use name::Name;
 pub use numeral::canonical;
 pub use operator::{Op, Relation, UnaryOp};
-pub use value::{Value, Values};
+pub use value::Value;

@@ -6,7 +6,8 @@ ghost use Rattle.mlk_text.specs.Reading.{many, put};
 ghost use Rattle.mlk_text.specs.Outcome.{Gives};
 
 use crate::lexeme::{ReadError, byte_of, digits, is_text_byte};
-use crate::value::{Value, Values};
+use crate::list::List;
+use crate::value::Value;
 use std::alloc::Global;
 
 /// How many zeros stand at the front.
@@ -127,15 +128,15 @@ fn list(alloc: Global, bytes: &[u8]) -> Result<(Vec<Value>, &[u8]), ReadError>
 
 /// The subscripts at the front, which may be none, and what is behind them.
 #[tactic(auto, unfolding(crate::specs::Lexemes::subs_at))]
-pub fn subscripts(alloc: Global, bytes: &[u8]) -> Result<(Values, &[u8]), ReadError>
+pub fn subscripts(alloc: Global, bytes: &[u8]) -> Result<(List<Value>, &[u8]), ReadError>
     ensures { Gives (λ x. (x.0, x.1.now)) result (subs_at bytes.now) }
 {
     let Some(rest) = byte_of(b'(', bytes) else {
-        return Ok((Values::new(alloc), bytes));
+        return Ok((List::new(alloc), bytes));
     };
     let (subs, rest) = list(alloc, rest)?;
     if subs.len() > 32 {
         return Err(ReadError::Refused);
     }
-    Ok((Values::of(subs), rest))
+    Ok((List::of(subs), rest))
 }

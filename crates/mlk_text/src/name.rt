@@ -1,6 +1,6 @@
 // Names of routines, labels, globals and locals.
 
-ghost use Rattle.std.specs.Prelude.{◌≡◌, IfOk, bytes_eq};
+ghost use Rattle.std.specs.Prelude.{◌≡◌, IfOk};
 
 use std::alloc::AllocError;
 use std::marker::Model;
@@ -44,19 +44,41 @@ impl Name {
         self.bytes.as_slice()
     }
 
-    /// Whether both have the same bytes.
-    pub fn is_same(&self, other: &Name) -> bool
-        ensures { result ≡ bytes_eq self.now other.now }
-    {
-        self.as_bytes() == other.as_bytes()
-    }
-
     /// An equal name, on the same allocator.
     pub fn copy(&self) -> Result<Name, AllocError>
-        ensures { IfOk result (λ n. n ≡ self.now) }
+        ensures { IfOk result (λ copy. copy ≡ self.now) }
     {
+        self.clone()
+    }
+}
+
+impl Clone for Name {
+    ghost is_clone = { λ source clone. clone ≡ source };
+
+    fn clone(&self) -> Result<Name, AllocError> {
         Ok(Name {
             bytes: self.bytes.clone()?,
         })
     }
+}
+
+impl PartialEq for Name {
+    ghost use Rattle.std.specs.Prelude.{bytes_eq};
+    ghost use Rattle.std.specs.Cmp.Rules.{comparing};
+    ghost use Rattle.std.proofs.Common.{rules};
+
+    ghost eq = { bytes_eq };
+
+    ghost laws = { Prim.search (comparing, rules) };
+
+    fn eq(&self, other: &Name) -> bool {
+        self.as_bytes() == other.as_bytes()
+    }
+}
+
+impl Eq for Name {
+    ghost use Rattle.std.specs.Cmp.Rules.{comparing};
+    ghost use Rattle.std.proofs.Common.{rules};
+
+    ghost laws = { Prim.search (comparing, rules) };
 }

@@ -6,8 +6,8 @@ ghost use Rattle.mlk_names.specs.declared.known_symbol.KnownSym.TheVariants as k
 ghost use Rattle.mlk_walk.specs.Rules.{root_of, term_of, written};
 
 use mlk_machine::plain::{LockName, Node, Root};
-use mlk_names::{Access, Extent, KnownSym, KnownSyms, LockTerm, Reference, Sym, Syms};
-use mlk_text::Value;
+use mlk_names::{Access, Extent, KnownSym, LockTerm, Reference, Sym};
+use mlk_text::{List, Value};
 use std::alloc::{AllocError, Global};
 
 fn root_of(root: &Root) -> Result<mlk_names::Root, AllocError>
@@ -19,24 +19,24 @@ fn root_of(root: &Root) -> Result<mlk_names::Root, AllocError>
     }
 }
 
-fn known_constants(alloc: Global, values: &[Value]) -> Result<KnownSyms, AllocError>
+fn known_constants(alloc: Global, values: &[Value]) -> Result<List<KnownSym>, AllocError>
     ensures { IfOk result (λ l. l ≡ map known.Const values.now) }
 {
     let mut items = Vec::new(alloc);
     for value in values {
         items.push(KnownSym::Const(value.copy()?))?;
     }
-    Ok(KnownSyms::of(items))
+    Ok(List::of(items))
 }
 
-fn constants(alloc: Global, values: &[Value]) -> Result<Syms, AllocError>
+fn constants(alloc: Global, values: &[Value]) -> Result<List<Sym>, AllocError>
     ensures { IfOk result (λ l. l ≡ map Const values.now) }
 {
     let mut items = Vec::new(alloc);
     for value in values {
         items.push(Sym::Const(value.copy()?))?;
     }
-    Ok(Syms::of(items))
+    Ok(List::of(items))
 }
 
 /// The term of a lock name.

@@ -16,7 +16,7 @@ fn subs_begin(a: &[Value], b: &[Value]) -> bool
     let Some((y, ys)) = b.split_first() else {
         return false;
     };
-    x.is_same(y) && subs_begin(xs, ys)
+    x == y && subs_begin(xs, ys)
 }
 
 impl Root {
@@ -25,8 +25,8 @@ impl Root {
         ensures { result ≡ same_root self.now other.now }
     {
         match (self, other) {
-            (Root::Global(a), Root::Global(b)) => a.is_same(b),
-            (Root::Local(a), Root::Local(b)) => a.is_same(b),
+            (Root::Global(a), Root::Global(b)) => a == b,
+            (Root::Local(a), Root::Local(b)) => a == b,
             _ => false,
         }
     }

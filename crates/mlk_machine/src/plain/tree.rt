@@ -2,7 +2,7 @@
 
 ghost use Rattle.std.specs.Prelude.{◌≡◌, IfOk};
 
-use mlk_text::{Name, Value, Values};
+use mlk_text::{List, Name, Value, copy_of};
 use std::alloc::AllocError;
 use std::marker::Model;
 
@@ -29,7 +29,7 @@ impl Root {
 #[derive(Drop, Debug)]
 pub struct LockName {
     pub root: Root,
-    pub subs: Values,
+    pub subs: List<Value>,
 }
 
 impl LockName {
@@ -39,7 +39,7 @@ impl LockName {
     {
         Ok(LockName {
             root: self.root.copy()?,
-            subs: self.subs.copy()?,
+            subs: copy_of(&self.subs)?,
         })
     }
 }
@@ -48,7 +48,7 @@ impl LockName {
 #[derive(Drop, Debug)]
 pub struct Node {
     pub name: Name,
-    pub subs: Values,
+    pub subs: List<Value>,
 }
 
 /// What a command does. A column is that of the `^` or the name where the reference or the lock name begins.

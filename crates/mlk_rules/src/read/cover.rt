@@ -13,7 +13,7 @@ use crate::read::pattern::pattern;
 use crate::read::spelling::{spelled_name, spelled_pattern};
 use crate::read::tables::cover_keys;
 use crate::template::{Part, Parts, Template};
-use mlk_text::{Code, Name};
+use mlk_text::{Code, Name, copy_of};
 use std::alloc::{AllocError, Global};
 
 fn place_of(name: &Name, items: &[Item]) -> Option<usize>
@@ -67,7 +67,7 @@ fn cover_placed(
     Ok(Cover {
         pattern: pattern(alloc, p)?,
         lock: Template {
-            root: l.root.copy()?,
+            root: copy_of(&l.root)?,
             parts,
         },
     })

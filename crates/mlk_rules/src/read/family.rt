@@ -12,7 +12,7 @@ use crate::read::kinds::{Item, Spelling, is_family_name, is_long};
 use crate::read::spelling::spelled_name;
 use crate::read::tables::family_keys;
 use mlk_names::LockName;
-use mlk_text::{Code, Value, Values};
+use mlk_text::{Code, List, Value, copy_of};
 use std::alloc::{AllocError, Global};
 
 fn push_values(found: &mut Vec<Value>, items: &[Item]) -> Result<(), AllocError>
@@ -34,8 +34,8 @@ fn family_name(alloc: Global, s: &Spelling) -> Result<LockName, AllocError>
     let mut found = Vec::new(alloc);
     push_values(&mut found, s.items.as_slice())?;
     Ok(LockName {
-        root: s.root.copy()?,
-        subs: Values::of(found),
+        root: copy_of(&s.root)?,
+        subs: List::of(found),
     })
 }
 

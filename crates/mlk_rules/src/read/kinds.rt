@@ -119,7 +119,7 @@ pub fn is_item(name: &Name, item: &Item) -> bool
 {
     match item {
         Item::Literal(_) => false,
-        Item::Variable(n) => name.is_same(n),
+        Item::Variable(n) => name == n,
         Item::Job => false,
     }
 }

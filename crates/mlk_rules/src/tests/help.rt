@@ -1,8 +1,8 @@
 // Rule files and references from short texts.
 
 use crate::{RulesError, Section, read_rules};
-use mlk_names::{Access, Extent, KnownSym, KnownSyms, LockTerm, Reference, Root, Sym, Syms};
-use mlk_text::{Name, Value};
+use mlk_names::{Access, Extent, KnownSym, LockTerm, Reference, Root, Sym};
+use mlk_text::{List, Name, Value};
 use std::alloc::{AllocError, Global};
 
 pub(super) const BASE: &[u8] =
@@ -63,7 +63,7 @@ pub(super) fn reference(
 ) -> Result<Reference, AllocError> {
     Ok(Reference {
         root: name(alloc, global)?,
-        subs: Syms::of(symbols(alloc, sub)?),
+        subs: List::of(symbols(alloc, sub)?),
         extent,
         access,
     })
@@ -77,7 +77,7 @@ pub(super) fn term(alloc: Global, global: &[u8], sub: &[u8]) -> Result<LockTerm,
     }
     Ok(LockTerm {
         root: Root::Global(name(alloc, global)?),
-        subs: KnownSyms::of(items),
+        subs: List::of(items),
     })
 }
 
@@ -86,6 +86,6 @@ pub(super) fn constant(alloc: Global, global: &[u8], sub: &[u8]) -> Result<LockT
     let value = Value::new(Vec::from_slice(alloc, sub)?);
     Ok(LockTerm {
         root: Root::Global(name(alloc, global)?),
-        subs: KnownSyms::of(vec![in alloc; KnownSym::Const(value)]?),
+        subs: List::of(vec![in alloc; KnownSym::Const(value)]?),
     })
 }

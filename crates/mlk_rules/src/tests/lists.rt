@@ -6,7 +6,7 @@ use crate::{
     RuleLists, Rules, Template,
 };
 use mlk_names::{Extent, LockName, Root};
-use mlk_text::Values;
+use mlk_text::List;
 use std::alloc::{AllocError, Global};
 use std::test::Fail;
 
@@ -32,7 +32,7 @@ fn cover(alloc: Global) -> Result<Cover, AllocError> {
 fn family(alloc: Global) -> Result<Family, AllocError> {
     let name = LockName {
         root: Root::Global(name(alloc, b"ACCT")?),
-        subs: Values::new(alloc),
+        subs: List::new(alloc),
     };
     Ok(Family { name, rank: 10 })
 }

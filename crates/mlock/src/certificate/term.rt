@@ -11,7 +11,7 @@ use crate::certificate::lexeme::{constant, front_of, is_upto, word_of};
 use crate::lock_root::root;
 use mlk_machine::plain::LockName;
 use mlk_text::lexeme::{ReadError, byte_of};
-use mlk_text::{Value, Values};
+use mlk_text::{List, Value};
 use std::alloc::Global;
 
 fn more_constants(
@@ -45,14 +45,14 @@ fn list(alloc: Global, bytes: &[u8]) -> Result<(Vec<Value>, &[u8]), ReadError>
 }
 
 #[tactic(auto, unfolding(crate::specs::CertificateLexing::subs_at))]
-fn subs(alloc: Global, bytes: &[u8]) -> Result<(Values, &[u8]), ReadError>
+fn subs(alloc: Global, bytes: &[u8]) -> Result<(List<Value>, &[u8]), ReadError>
     ensures { Gives (λ x. (x.0, x.1.now)) result (subs_at bytes.now) }
 {
     let Some(rest) = byte_of(b'(', bytes) else {
-        return Ok((Values::new(alloc), bytes));
+        return Ok((List::new(alloc), bytes));
     };
     let (values, rest) = list(alloc, rest)?;
-    Ok((Values::of(values), rest))
+    Ok((List::of(values), rest))
 }
 
 #[tactic(auto, unfolding(crate::specs::CertificateLexing::term_at))]

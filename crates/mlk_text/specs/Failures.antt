@@ -1,0 +1,29 @@
+-- What a call answers that may fail, where memory can always run out. This project's own.
+use Rattle.std.specs.Prelude.{◌≡◌, Option, Some, None, Result, Ok, Err}
+use Rattle.mlk_text.specs.declared.failure.Failure.{Failure}
+use Rattle.mlk_text.specs.declared.failure.Failure.TheVariants.{OutOfMemory, Refused}
+
+-- the second failure is the first with another reason
+abbrev pub IsTurned : {E F : Type 0} → (E → F → Type 0) → Failure E → Failure F → Type 0
+IsTurned R OutOfMemory g = g ≡ OutOfMemory
+IsTurned {E} {F} R (Refused e) g = (f : F) × R e f × (g ≡ Refused f)
+
+-- want of memory says nothing; a reason is the one that the definition gives
+abbrev pub FailsAs : {Y E : Type 0} → Failure E → Result Y E → Type 0
+FailsAs OutOfMemory answer = Unit {0}
+FailsAs (Refused e) answer = answer ≡ Err e
+
+-- What is answered is what the definition gives, its reason too.
+abbrev pub Answers : {X Y E : Type 0} → (X → Y) → Result X (Failure E) → Result Y E → Type 0
+Answers view (Ok x) answer = answer ≡ Ok (view x)
+Answers view (Err e) answer = FailsAs e answer
+
+-- want of memory says nothing; any reason says that there is nothing
+abbrev pub FailsOn : {Y E : Type 0} → Failure E → Option Y → Type 0
+FailsOn OutOfMemory found = Unit {0}
+FailsOn (Refused e) found = found ≡ None
+
+-- What is read is what the definition gives; where it gives nothing, the reason is not said.
+abbrev pub Reads : {X Y E : Type 0} → (X → Y) → Result X (Failure E) → Option Y → Type 0
+Reads view (Ok x) found = found ≡ Some (view x)
+Reads view (Err e) found = FailsOn e found
