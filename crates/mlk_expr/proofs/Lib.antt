@@ -17,6 +17,7 @@ pub mod Whole
 pub mod Examples
 pub mod Loops
 pub mod Scopes
+pub mod Labels
 pub mod Steps
 pub mod Variants
 pub mod Places

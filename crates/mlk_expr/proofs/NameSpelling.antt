@@ -79,7 +79,7 @@ codes-spelled c xs ys h =
     (subst IsCodes r.0 (all, r.2), r.3)
 
 -- a name begins with no digit
-digit-no-name : (ds ys : List ℕ) → are_digits ds ≡ true → 0 < length ds → name_at (ds ++ ys) ≡ None
+pub digit-no-name : (ds ys : List ℕ) → are_digits ds ≡ true → 0 < length ds → name_at (ds ++ ys) ≡ None
 unfolding name_at
 digit-no-name [] ys all some = absurd (omega arith)
 digit-no-name (d ∷ ds) ys all some =

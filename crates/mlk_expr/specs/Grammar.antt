@@ -3,6 +3,7 @@
 use Rattle.std.specs.Prelude.{ℕ, zero, suc, ◌≡◌, ◌≢◌, ◌<◌, ◌≤◌, ◌+◌, ◌⊎◌, Bool, true, false, List, [], ◌∷◌, ◌++◌, length, Option, Some, None}
 use Rattle.mlk_text.specs.Numbers.{IsCanonical}
 use Rattle.mlk_text.specs.declared.operator.Op.{Op}
+use Rattle.mlk_expr.specs.declared.tree.Callee.{Callee}
 use Rattle.mlk_expr.specs.declared.tree.Function.{Function}
 use Rattle.mlk_expr.specs.declared.tree.Function.TheVariants as function
 use Rattle.mlk_expr.specs.Trees.{Tree, Lit, Free, LocalName, GlobalName, SpecialName, Prefixed, Chain, PatternText, Func, Selected, BareCall, CallOf, sub, ActualTree, Given, ByRef, Missing, trees_from, subs_from, links_from, choices_from, actuals_from}
@@ -172,3 +173,13 @@ IsReference at t s = IsAtom 64 at t s × (starts_reference s ≡ true)
 -- an actual list in parentheses, as it stands in DO and JOB: what it holds lies one deeper
 unfoldable pub IsActualList : ℕ → List ActualTree → List ℕ → Type 0
 IsActualList at given s = IsActuals (IsNested 63) at given s
+
+-- a name, a label, and what a call names, as they stand in commands; no column is kept of them
+abbrev pub IsNameText : ℕ → List ℕ → List ℕ → Type 0
+IsNameText at name s = (s ≡ name) × IsName name
+
+abbrev pub IsLabelText : ℕ → List ℕ → List ℕ → Type 0
+IsLabelText at label s = (s ≡ label) × IsLabel label
+
+abbrev pub IsCalleeText : ℕ → Callee → List ℕ → Type 0
+IsCalleeText at c s = IsCallee c.label c.routine s

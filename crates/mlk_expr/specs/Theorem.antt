@@ -1,9 +1,10 @@
 -- What the grammar keeps to, and what its readers answer.
-use Rattle.std.specs.Prelude.{ℕ, suc, ◌≡◌, ◌≤◌, min, nat_le, ◌&&◌, ◌||◌, not, is_some, Bool, true, false, List, [], ◌∷◌, ◌++◌, length, drop, ◌==◌}
-use Rattle.mlk_text.specs.Lexemes.{is_name_byte}
+use Rattle.std.specs.Prelude.{ℕ, suc, ◌≡◌, ◌≤◌, min, nat_le, ◌&&◌, ◌||◌, not, is_some, if◌then◌else◌, Option, Some, None, Bool, true, false, List, [], ◌∷◌, ◌++◌, length, drop, ◌==◌}
+use Rattle.mlk_text.specs.Lexemes.{is_digit, is_name_byte}
 use Rattle.mlk_text.specs.Codes.{number_of}
 use Rattle.mlk_text.specs.declared.fault.Fault.{Fault}
 use Rattle.mlk_expr.specs.declared.scope.Passing.{Passing}
+use Rattle.mlk_expr.specs.declared.tree.Callee.{Callee}
 use Rattle.mlk_expr.specs.Touches.{lends}
 use Rattle.mlk_expr.specs.declared.fault.ReadError.{ReadError}
 use Rattle.mlk_expr.specs.declared.fault.ReadError.TheVariants.{OutOfMemory, Refused}
@@ -11,11 +12,11 @@ use Rattle.mlk_expr.specs.Trees.{Tree, ActualTree}
 use Rattle.mlk_expr.specs.Lexemes.{ends}
 use Rattle.mlk_expr.specs.Grammar.{has_subscript, IsExpr, IsReference, IsActualList}
 
--- What may stand behind an expression: the line's end, or one of the bytes that end one;
+-- What may stand after an expression: the line's end, or one of the bytes that end one;
 abbrev pub ExprEnds : Tree → List ℕ → Type 0
 ExprEnds t ys = ends ys ≡ true
 
--- behind a name without subscripts: nothing that goes on with it, or with subscripts;
+-- after a name without subscripts: nothing that goes on with it, or with subscripts;
 abbrev pub goes_on : List ℕ → Bool
 goes_on [] = false
 goes_on (b ∷ ys) = is_name_byte b || (b == 40)
@@ -23,9 +24,31 @@ goes_on (b ∷ ys) = is_name_byte b || (b == 40)
 abbrev pub ReferenceEnds : Tree → List ℕ → Type 0
 ReferenceEnds t ys = (has_subscript t || not (goes_on ys)) ≡ true
 
--- behind an actual list: anything.
+-- after an actual list: anything;
 abbrev pub ListEnds : List ActualTree → List ℕ → Type 0
 ListEnds given ys = Unit {0}
+
+-- after a name or a label: nothing that goes on with it, which for digits is a digit;
+abbrev pub label_ends : List ℕ → List ℕ → Bool
+label_ends [] ys = true
+label_ends (d ∷ label) [] = true
+label_ends (d ∷ label) (b ∷ ys) = not (if is_digit d then is_digit b else is_name_byte b)
+
+abbrev pub LabelEnds : List ℕ → List ℕ → Type 0
+LabelEnds label ys = label_ends label ys ≡ true
+
+-- after what a call names: nothing that goes on with its last part, nor a caret after a label alone.
+abbrev pub starts_caret : List ℕ → Bool
+starts_caret [] = false
+starts_caret (b ∷ ys) = b == 94
+
+abbrev pub callee_ends : Option (List ℕ) → Option (List ℕ) → List ℕ → Bool
+callee_ends label (Some routine) ys = label_ends routine ys
+callee_ends (Some label) None ys = label_ends label ys && not (starts_caret ys)
+callee_ends None None ys = true
+
+abbrev pub CalleeEnds : Callee → List ℕ → Type 0
+CalleeEnds c ys = callee_ends c.label c.routine ys ≡ true
 
 -- A thing is written at the place of a line up to `next`, and may end there.
 pub record Stands {A : Type 0} (Is : ℕ → A → List ℕ → Type 0) (Ends : A → List ℕ → Type 0) (line : List ℕ) (at : ℕ) (a : A) (next : ℕ) : Type 0 where

@@ -4,6 +4,7 @@
 mod fault;
 mod law;
 pub mod lexeme;
+mod named;
 mod numeral;
 mod part;
 mod pattern;
@@ -19,6 +20,7 @@ pub mod words;
 pub use fault::ReadError;
 pub use law::one_tree;
 pub use mlk_text::{Op, Relation, UnaryOp};
+pub use named::{read_callee, read_label, read_name};
 pub use public::{
     read_actuals, read_actuals_where, read_expr, read_expr_where, read_ref, read_ref_where,
 };

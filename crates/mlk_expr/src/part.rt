@@ -83,9 +83,20 @@ pub(crate) fn number(alloc: Global, bytes: &[u8]) -> Result<(Expr, &[u8]), Refus
     Ok((number_of(alloc, text)?, rest))
 }
 
-// The label at the front, and what is behind it.
+/// The same where what is left out is told.
+pub(crate) fn plain_name(alloc: Global, bytes: &[u8]) -> Result<(Name, &[u8]), Refusal>
+    ensures { Gives (λ x. (x.0, x.1.now)) result (name_at bytes.now) }
+{
+    match name(alloc, bytes) {
+        Ok((name, rest)) => Ok((name, rest)),
+        Err(Refusal::OutOfMemory) => Err(Refusal::OutOfMemory),
+        Err(Refusal::Refused(_)) => Err(no_label(bytes)),
+    }
+}
+
+/// The label at the front, and what is after it.
 #[tactic(auto, unfolding(crate::specs::Lexemes::label_at, mlk_text::specs::Lexemes::digits_at))]
-fn label(alloc: Global, bytes: &[u8]) -> Result<(Name, &[u8]), Refusal>
+pub(crate) fn label(alloc: Global, bytes: &[u8]) -> Result<(Name, &[u8]), Refusal>
     ensures { Gives (λ x. (x.0, x.1.now)) result (label_at bytes.now) }
 {
     match name(alloc, bytes) {

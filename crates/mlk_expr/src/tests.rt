@@ -2,6 +2,7 @@
 
 mod faults;
 mod limits;
+mod names;
 mod operators;
 mod order;
 mod words;

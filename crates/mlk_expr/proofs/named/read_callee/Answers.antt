@@ -1,0 +1,29 @@
+use Rattle.std.proofs.Common.{◌≡◌, Some, subst}
+use Rattle.mlk_expr.specs.Reading.{callee_at}
+use Rattle.mlk_expr.specs.Grammar.{IsCalleeText}
+use Rattle.mlk_expr.specs.Theorem.{CalleeEnds}
+use Rattle.mlk_expr.specs.Outcome.{Fails}
+use Rattle.mlk_expr.proofs.Arguments.{CalleeIs, callee-exact}
+use Rattle.mlk_expr.proofs.Labels.{same-callee}
+use Rattle.mlk_expr.proofs.Places.{rest-within, stands, only, refuses}
+use Rattle.mlk_expr.proofs.named.read_callee.Goals as goal
+
+pub overflow_sub-result : goal.overflow_sub-result
+overflow_sub-result c =
+    let h = subst (λ l. callee_at l ≡ Some (c.in-Ok.callee, c.in-Ok.rest.now)) c.split_at.ensures.back c.in-Ok.ensures in
+    rest-within (λ end. callee_at) (λ end. CalleeIs) IsCalleeText CalleeEnds (λ end. callee-exact) same-callee c.args.line.now c.args.at c.in-Ok.callee c.in-Ok.rest.now h
+
+pub returns-in-Ok-clause-found : goal.returns-in-Ok-clause-found
+returns-in-Ok-clause-found c =
+    let h = subst (λ l. callee_at l ≡ Some (c.in-Ok.callee, c.in-Ok.rest.now)) c.split_at.ensures.back c.in-Ok.ensures in
+    stands (λ end. callee_at) (λ end. CalleeIs) IsCalleeText CalleeEnds (λ end. callee-exact) same-callee c.args.line.now c.args.at c.requires c.in-Ok.callee c.in-Ok.rest.now h
+
+pub returns-in-Ok-clause-only : goal.returns-in-Ok-clause-only
+returns-in-Ok-clause-only c =
+    let h = subst (λ l. callee_at l ≡ Some (c.in-Ok.callee, c.in-Ok.rest.now)) c.split_at.ensures.back c.in-Ok.ensures in
+    only (λ end. callee_at) (λ end. CalleeIs) IsCalleeText CalleeEnds (λ end. callee-exact) same-callee c.args.line.now c.args.at c.requires c.in-Ok.callee c.in-Ok.rest.now h
+
+pub returns-in-Err-clause-refused : goal.returns-in-Err-clause-refused
+returns-in-Err-clause-refused c =
+    let h = subst (λ l. Fails c.in-Err.refusal (callee_at l)) c.split_at.ensures.back c.in-Err.ensures in
+    refuses (λ end. callee_at) (λ end. CalleeIs) IsCalleeText CalleeEnds (λ end. callee-exact) same-callee c.args.line.now c.args.at c.requires c.in-Err.refusal c.located.result h c.located.ensures.tells

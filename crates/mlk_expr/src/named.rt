@@ -1,0 +1,58 @@
+// The readers of names, labels and what calls name, as they stand in commands.
+
+ghost use Rattle.std.specs.Prelude.{◌≡◌, ◌≤◌, length, IfOk, IfErr};
+ghost use Rattle.mlk_expr.specs.declared.scope.Passing.TheVariants.{ByReference};
+ghost use Rattle.mlk_expr.specs.Grammar.{IsNameText, IsLabelText, IsCalleeText};
+ghost use Rattle.mlk_expr.specs.Theorem.{LabelEnds, CalleeEnds, Stands, Only, Refuses, Faults};
+
+use crate::fault::{ReadError, located};
+use crate::part::{callee, label, plain_name};
+use crate::scope::Passing;
+use crate::tree::Callee;
+use mlk_text::Name;
+use std::alloc::Global;
+
+/// The name that begins at this byte of a line, and the byte after it.
+pub fn read_name(alloc: Global, line: &[u8], at: usize) -> Result<(Name, usize), ReadError>
+    requires { at ≤ length line.now }
+    ensures found { IfOk result (λ r. Stands IsNameText LabelEnds line.now at r.0 r.1) }
+    ensures only { IfOk result (λ r. Only IsNameText LabelEnds line.now at r.0 r.1) }
+    ensures refused { IfErr result (λ e. Refuses IsNameText LabelEnds line.now at e) }
+    ensures fault { IfErr result (λ e. Faults ByReference line.now at e) }
+{
+    let (_, bytes) = line.split_at(at);
+    match plain_name(alloc, bytes) {
+        Ok((name, rest)) => Ok((name, line.len() - rest.len())),
+        Err(refusal) => Err(located(alloc, Passing::ByReference, line, at, refusal)),
+    }
+}
+
+/// The label that begins at this byte of a line, a name or digits, and the byte after it.
+pub fn read_label(alloc: Global, line: &[u8], at: usize) -> Result<(Name, usize), ReadError>
+    requires { at ≤ length line.now }
+    ensures found { IfOk result (λ r. Stands IsLabelText LabelEnds line.now at r.0 r.1) }
+    ensures only { IfOk result (λ r. Only IsLabelText LabelEnds line.now at r.0 r.1) }
+    ensures refused { IfErr result (λ e. Refuses IsLabelText LabelEnds line.now at e) }
+    ensures fault { IfErr result (λ e. Faults ByReference line.now at e) }
+{
+    let (_, bytes) = line.split_at(at);
+    match label(alloc, bytes) {
+        Ok((label, rest)) => Ok((label, line.len() - rest.len())),
+        Err(refusal) => Err(located(alloc, Passing::ByReference, line, at, refusal)),
+    }
+}
+
+/// What a call names that begins at this byte of a line, and the byte after it.
+pub fn read_callee(alloc: Global, line: &[u8], at: usize) -> Result<(Callee, usize), ReadError>
+    requires { at ≤ length line.now }
+    ensures found { IfOk result (λ r. Stands IsCalleeText CalleeEnds line.now at r.0 r.1) }
+    ensures only { IfOk result (λ r. Only IsCalleeText CalleeEnds line.now at r.0 r.1) }
+    ensures refused { IfErr result (λ e. Refuses IsCalleeText CalleeEnds line.now at e) }
+    ensures fault { IfErr result (λ e. Faults ByReference line.now at e) }
+{
+    let (_, bytes) = line.split_at(at);
+    match callee(alloc, bytes) {
+        Ok((callee, rest)) => Ok((callee, line.len() - rest.len())),
+        Err(refusal) => Err(located(alloc, Passing::ByReference, line, at, refusal)),
+    }
+}
