@@ -7,9 +7,10 @@ use Rattle.mlk_names.specs.declared.symbol.Sym.TheVariants.{Unknown}
 use Rattle.mlk_names.specs.declared.known_symbol.KnownSym.{KnownSym}
 use Rattle.mlk_names.specs.declared.reference.Extent.{Extent}
 use Rattle.mlk_names.specs.Lists.{Begins}
-use Rattle.mlk_names.specs.References.{MayBe, SymsMayMeet}
+use Rattle.mlk_names.specs.declared.reference.Extent.TheVariants.{Node, Tree}
+use Rattle.mlk_names.specs.References.{MayBe, SymsMayMeet, SubsMayMeet}
 use Rattle.mlk_names.proofs.ListLemmas.{begins_past, begins_cons, begins_head, begins_tail}
-use Rattle.mlk_names.proofs.OverlapLemmas.{free_meets}
+use Rattle.mlk_names.proofs.OverlapLemmas.{free_meets, subs_meet_not_below}
 use Rattle.mlk_coverage.specs.declared.pattern.Element.{Element}
 use Rattle.mlk_coverage.specs.declared.pattern.Element.TheVariants as element
 use Rattle.mlk_coverage.specs.declared.template.Part.{Part}
@@ -25,6 +26,13 @@ element_meets element.Job s free = free_meets Unknown s (λ v e. cc)
 pub no_symbols : (es : List Element) → length es ≡ 0 → length (map symbol_of es) ≡ 0
 no_symbols [] h = refl
 no_symbols (e ∷ es) h = absurd (omega arith)
+
+-- where no element is left, some symbols are, and the pattern does not go on, nothing is met
+pub meet_ends : (es : List Element) (wide : Extent) (ss : List Sym) (far : Extent) → length es ≡ 0 → (length ss ≡ 0 → ⊥) → (wide ≡ Tree → ⊥) → SubsMayMeet (map symbol_of es) wide ss far → ⊥
+meet_ends [] wide [] far h some node m = some refl
+meet_ends [] Tree (s ∷ ss) far h some node m = node refl
+meet_ends [] Node (s ∷ ss) far h some node m = subs_meet_not_below far s ss m
+meet_ends (e ∷ es) wide ss far h some node m = absurd (omega arith)
 
 -- what an element takes is what its symbol may be
 pub takes_may_be : (es : List Element) (vs : List (List ℕ)) → AllZip Takes es vs → AllZip MayBe (map symbol_of es) vs

@@ -38,13 +38,19 @@ fn stands_at(known: &KnownSym, part: &Part, symbols: &[Sym]) -> bool
 fn begins_cut(known: &[KnownSym], parts: &[Part], symbols: &[Sym]) -> bool
     ensures { IsTrue result ↔ BeginsCut known.now parts.now symbols.now }
 {
-    let Some((h, hs)) = known.split_first() else {
-        return true;
-    };
-    let Some((p, ps)) = parts.split_first() else {
-        return false;
-    };
-    stands_at(h, p, symbols) && begins_cut(hs, ps, symbols)
+    let mut known = known;
+    let mut parts = parts;
+    while let Some((symbol, other_symbols)) = known.split_first() {
+        let Some((part, other_parts)) = parts.split_first() else {
+            return false;
+        };
+        if !stands_at(symbol, part, symbols) {
+            return false;
+        }
+        known = other_symbols;
+        parts = other_parts;
+    }
+    true
 }
 
 // Whether the term is the rule's lock, or above it.

@@ -32,25 +32,37 @@ fn stays_in(wide: Extent, far: Extent, symbols: &[Sym]) -> bool
 fn subs_lie(elements: &[Element], wide: Extent, symbols: &[Sym], far: Extent) -> bool
     ensures { IsTrue result ↔ SubsLie elements.now wide symbols.now far }
 {
-    let Some((e, es)) = elements.split_first() else {
-        return stays_in(wide, far, symbols);
-    };
-    let Some((s, ss)) = symbols.split_first() else {
-        return false;
-    };
-    suits(e, s) && subs_lie(es, wide, ss, far)
+    let mut elements = elements;
+    let mut symbols = symbols;
+    while let Some((element, other_elements)) = elements.split_first() {
+        let Some((symbol, other_symbols)) = symbols.split_first() else {
+            return false;
+        };
+        if !suits(element, symbol) {
+            return false;
+        }
+        elements = other_elements;
+        symbols = other_symbols;
+    }
+    stays_in(wide, far, symbols)
 }
 
 fn subs_above(elements: &[Element], symbols: &[Sym]) -> bool
     ensures { IsTrue result ↔ SubsAbove elements.now symbols.now }
 {
-    let Some((s, ss)) = symbols.split_first() else {
-        return true;
-    };
-    let Some((e, es)) = elements.split_first() else {
-        return false;
-    };
-    suits(e, s) && subs_above(es, ss)
+    let mut elements = elements;
+    let mut symbols = symbols;
+    while let Some((symbol, other_symbols)) = symbols.split_first() {
+        let Some((element, other_elements)) = elements.split_first() else {
+            return false;
+        };
+        if !suits(element, symbol) {
+            return false;
+        }
+        elements = other_elements;
+        symbols = other_symbols;
+    }
+    true
 }
 
 // Whether all that the reference may reach lies in the pattern.

@@ -25,14 +25,19 @@ fn element_may_meet(element: &Element, symbol: &Sym) -> bool
 fn elements_may_meet(elements: &[Element], wide: Extent, symbols: &[Sym], far: Extent) -> bool
     ensures { IsTrue result ↔ SubsMayMeet (map symbol_of elements.now) wide symbols.now far }
 {
-    match (elements.split_first(), symbols.split_first()) {
-        (None, None) => true,
-        (None, Some(_)) => matches!(wide, Extent::Tree),
-        (Some(_), None) => matches!(far, Extent::Tree),
-        (Some((e, es)), Some((s, ss))) => {
-            element_may_meet(e, s) && elements_may_meet(es, wide, ss, far)
+    let mut elements = elements;
+    let mut symbols = symbols;
+    while let Some((element, other_elements)) = elements.split_first() {
+        let Some((symbol, other_symbols)) = symbols.split_first() else {
+            return matches!(far, Extent::Tree);
+        };
+        if !element_may_meet(element, symbol) {
+            return false;
         }
+        elements = other_elements;
+        symbols = other_symbols;
     }
+    symbols.is_empty() || matches!(wide, Extent::Tree)
 }
 
 /// Whether some node of the pattern may be one that the reference reaches, each subscript that is no constant being

@@ -15,13 +15,19 @@ use mlk_text::Value;
 fn begin_with(values: &[Value], symbols: &[KnownSym]) -> bool
     ensures { IsTrue result ↔ Begins (map Const values.now) symbols.now }
 {
-    let Some((v, vs)) = values.split_first() else {
-        return true;
-    };
-    let Some((s, ss)) = symbols.split_first() else {
-        return false;
-    };
-    matches!(s, KnownSym::Const(constant) if constant == v) && begin_with(vs, ss)
+    let mut values = values;
+    let mut symbols = symbols;
+    while let Some((value, other_values)) = values.split_first() {
+        let Some((symbol, other_symbols)) = symbols.split_first() else {
+            return false;
+        };
+        if !matches!(symbol, KnownSym::Const(constant) if constant == value) {
+            return false;
+        }
+        values = other_values;
+        symbols = other_symbols;
+    }
+    true
 }
 
 // Whether the name is the term or above it, by equal constants.

@@ -1,15 +1,21 @@
 use Rattle.mlk_coverage.proofs.FrontLemmas.{above_cons, above_suits}
-use Rattle.mlk_coverage.proofs.lies.+subs_above.Goals as goal
+use Rattle.mlk_coverage.proofs.lies.subs_above.Goals as goal
 
-pub returns-then-suits : goal.returns-then-suits
-returns-then-suits t c =
+pub returns-then-not-suits : goal.returns-then-not-suits
+returns-then-not-suits c =
     let v = c.in-Some in
     let w = c.in-Some-split_first in
-    let parts = above_cons w.e.now w.es.now v.s.now v.ss.now (c.suits.ensures.0 c.if-suits.true) in
-    rw (v.ensures.cases.0, w.ensures.cases.0) (λ is. parts.0 (c.subs_above.ensures.0 is), λ m. c.subs_above.ensures.1 (parts.1 m))
+    let whole = rw (v.ensures.cases.0, w.ensures.cases.0) at c.loop-symbol.invariant in (
+      λ is. absurd (cc),
+      λ h.
+          let is = c.suits.ensures.1 (above_suits w.element.now w.other_elements.now v.symbol.now v.other_symbols.now (whole.1 h)) in
+          absurd (cc (is, c.if-not-suits.true)),
+    )
 
-pub returns-else-suits : goal.returns-else-suits
-returns-else-suits t c =
+pub loop-symbol-preserved : goal.loop-symbol-preserved
+loop-symbol-preserved c =
     let v = c.in-Some in
     let w = c.in-Some-split_first in
-    rw (v.ensures.cases.0, w.ensures.cases.0) (λ is. absurd (cc), λ m. c.suits.ensures.1 (above_suits w.e.now w.es.now v.s.now v.ss.now m))
+    let whole = rw (v.ensures.cases.0, w.ensures.cases.0) at c.loop-symbol.invariant in
+    let parts = above_cons w.element.now w.other_elements.now v.symbol.now v.other_symbols.now (c.suits.ensures.0 c.if-not-suits.false) in
+    (λ k. whole.0 (parts.0 k), λ h. parts.1 (whole.1 h))
