@@ -86,7 +86,8 @@ is_ruled_by r p = surely_lies p r || surely_above p r
 
 abbrev pub is_ruled : RuleLists → Reference → Bool
 is_ruled rules r =
-    list_any (λ (c : Cover). is_ruled_by r c.pattern) rules.covers || (list_any (is_ruled_by r) rules.private || list_any (is_ruled_by r) rules.readonly)
+    list_any (λ (c : Cover). is_ruled_by r c.pattern) rules.covers
+    || (list_any (is_ruled_by r) rules.private || list_any (is_ruled_by r) rules.readonly)
 
 abbrev pub only_reads : Access → Bool
 only_reads Reads = true
@@ -149,7 +150,8 @@ abbrev pub holds_lock : List LockTerm → Reference → Template → Bool
 holds_lock held r lock = list_any (λ h. is_prefix h (cut_template lock r)) held
 
 abbrev pub keeps_covers : RuleLists → List LockTerm → Reference → Bool
-keeps_covers rules held r = list_all (λ (c : Cover). not (may_meet c.pattern r) || holds_lock held r c.lock) rules.covers
+keeps_covers rules held r =
+    list_all (λ (c : Cover). not (may_meet c.pattern r) || holds_lock held r c.lock) rules.covers
 
 -- what is wrong with a reference while these terms are held, or nothing
 unfoldable pub answer : RuleLists → List LockTerm → Reference → Option Code

@@ -61,21 +61,33 @@ pub data IsPattern (rules : RuleLists) (p : Pattern) : Type 0 where
   OfPrivate : Contains rules.private p → IsPattern rules p
   OfReadonly : Contains rules.readonly p → IsPattern rules p
 
--- the reference surely lies in the pattern of some rule, or is a tree surely above one
+-- the pattern is a rule for all of the reference, which surely lies in it, or is a tree surely above it
+abbrev pub IsFor : Reference → Pattern → Type 0
+IsFor r p = SurelyLies p r ⊎ SurelyAbove p r
+
+-- the pattern of some rule is for all of the reference
 abbrev pub IsRuled : RuleLists → Reference → Type 0
-IsRuled rules r = (p : Pattern) × IsPattern rules p × (SurelyLies p r ⊎ SurelyAbove p r)
+IsRuled rules r = (p : Pattern) × IsPattern rules p × IsFor r p
 
 -- it writes nothing that is never written
 abbrev pub KeepsReadonly : RuleLists → Reference → Type 0
 KeepsReadonly rules r = (p : Pattern) → Contains rules.readonly p → MayMeet p r → r.access ≡ Reads
 
+-- each of the patterns that it may meet is met by the job's own number
+abbrev pub EachIsOwn : List Pattern → Reference → Type 0
+EachIsOwn patterns r = (p : Pattern) → Contains patterns p → MayMeet p r → IsOwn p r
+
 -- it meets what jobs have to themselves by its own number alone
 abbrev pub KeepsPrivate : RuleLists → Reference → Type 0
-KeepsPrivate rules r = (p : Pattern) → Contains rules.private p → MayMeet p r → IsOwn p r
+KeepsPrivate rules r = EachIsOwn rules.private r
+
+-- of each of the covers that it may meet, the lock is held
+abbrev pub EachIsHeld : List Cover → List LockTerm → Reference → Type 0
+EachIsHeld covers held r = (c : Cover) → Contains covers c → MayMeet c.pattern r → HoldsLock held c.lock r
 
 -- of each cover rule that it may meet, the lock is held
 abbrev pub KeepsCovers : RuleLists → List LockTerm → Reference → Type 0
-KeepsCovers rules held r = (c : Cover) → Contains rules.covers c → MayMeet c.pattern r → HoldsLock held c.lock r
+KeepsCovers rules held r = EachIsHeld rules.covers held r
 
 -- each rule that it may meet is satisfied, and there is a rule for all of it
 pub record IsCovered (rules : RuleLists) (held : List LockTerm) (r : Reference) : Type 0 where
@@ -91,7 +103,8 @@ IsAnswer rules held r None = IsCovered rules held r
 IsAnswer rules held r (Some Unruled) = ¬ IsRuled rules r
 IsAnswer rules held r (Some ReadOnly) = IsRuled rules r × ¬ KeepsReadonly rules r
 IsAnswer rules held r (Some NotPrivate) = IsRuled rules r × KeepsReadonly rules r × ¬ KeepsPrivate rules r
-IsAnswer rules held r (Some Uncovered) = IsRuled rules r × KeepsReadonly rules r × KeepsPrivate rules r × ¬ KeepsCovers rules held r
+IsAnswer rules held r (Some Uncovered) =
+    IsRuled rules r × KeepsReadonly rules r × KeepsPrivate rules r × ¬ KeepsCovers rules held r
 IsAnswer rules held r (Some _) = ⊥
 
 -- the rule may be met, and its lock is not held
@@ -102,4 +115,5 @@ Lacks held r c = MayMeet c.pattern r × ¬ HoldsLock held c.lock r
 abbrev pub AreLacking : List LockTerm → Reference → List Cover → List LockTerm → Type 0
 AreLacking held r [] ts = ts ≡ []
 AreLacking held r (c ∷ cs) ts =
-    (Lacks held r c × ((rest : List LockTerm) × (ts ≡ cut_template c.lock r ∷ rest) × AreLacking held r cs rest)) ⊎ (¬ Lacks held r c × AreLacking held r cs ts)
+    (Lacks held r c × ((rest : List LockTerm) × (ts ≡ cut_template c.lock r ∷ rest) × AreLacking held r cs rest))
+    ⊎ (¬ Lacks held r c × AreLacking held r cs ts)

@@ -52,6 +52,13 @@ pub record Gains (rules : RuleLists) (name : List ℕ) (old new : Table) : Type 
   pub has : HasGroup new name
   pub keeps : (other : List ℕ) → HasGroup old other → HasGroup new other
 
+-- the global is named by one of the patterns, or by that of one of the covers
+abbrev pub NamedByPatterns : List Pattern → List ℕ → Type 0
+NamedByPatterns patterns name = (p : Pattern) × Contains patterns p × (p.global ≡ name)
+
+abbrev pub NamedByCovers : List Cover → List ℕ → Type 0
+NamedByCovers covers name = (c : Cover) × Contains covers c × (c.pattern.global ≡ name)
+
 -- the groups of these globals were added, unless they were there
 pub record GainsAll (rules : RuleLists) (these : List ℕ → Type 0) (old new : Table) : Type 0 where
   pub are : AreGroups rules old → AreGroups rules new

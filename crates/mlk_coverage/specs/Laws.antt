@@ -42,14 +42,19 @@ SharePattern =
 
 -- All that a reference may reach lies in each pattern in which it surely lies.
 abbrev pub SurelyLiesWhole : Type 0
-SurelyLiesWhole = (p : Pattern) (r : Reference) (g : Region) (n : GlobalNode) → SurelyLies p r → MayReach r g → InRegion g n → LiesIn p n
+SurelyLiesWhole =
+    (p : Pattern) (r : Reference) (g : Region) (n : GlobalNode)
+    → SurelyLies p r → MayReach r g → InRegion g n → LiesIn p n
 
 -- A term that begins a rule's lock as a reference has it stands for a name at or above the rule's lock at each node
 -- that the reference reaches; so two such terms, each of a job of its own, stand for names that conflict where both
 -- references reach one node.
 pub record LockOfNode (lock : Template) (n : GlobalNode) : Type 0 where
-  pub above : (a : Assignment) (r : Reference) (t : Touch) (h : LockTerm) (x : LockName) → Touches a r t → InRegion t.region n → IsPrefix h (cut_template lock r) → Names a h x → IsAbove x (lock_at lock n)
-  pub conflict : (a b : Assignment) (r s : Reference) (t u : Touch) (h k : LockTerm) (x y : LockName) → Touches a r t → InRegion t.region n → IsPrefix h (cut_template lock r) → Names a h x → Touches b s u → InRegion u.region n → IsPrefix k (cut_template lock s) → Names b k y → Conflict x y
+  pub above : (a : Assignment) (r : Reference) (t : Touch) (h : LockTerm) (x : LockName)
+      → Touches a r t → InRegion t.region n → IsPrefix h (cut_template lock r) → Names a h x → IsAbove x (lock_at lock n)
+  pub conflict : (a b : Assignment) (r s : Reference) (t u : Touch) (h k : LockTerm) (x y : LockName)
+      → Touches a r t → InRegion t.region n → IsPrefix h (cut_template lock r) → Names a h x
+      → Touches b s u → InRegion u.region n → IsPrefix k (cut_template lock s) → Names b k y → Conflict x y
 
 abbrev pub LocksOfNodes : Type 0
 LocksOfNodes = (lock : Template) (n : GlobalNode) → LockOfNode lock n
@@ -70,7 +75,8 @@ pub record HoldConflict (a : Assignment) (held : List LockTerm) (b : Assignment)
 -- number, or jobs that hold names that conflict.
 abbrev pub CoveredApart : Type 0
 CoveredApart =
-    (rules : RuleLists) (a b : Assignment) (held kept : List LockTerm) (r s : Reference) (t u : Touch) → PrivateByJob rules
+    (rules : RuleLists) (a b : Assignment) (held kept : List LockTerm) (r s : Reference) (t u : Touch)
+    → PrivateByJob rules
     → IsCovered rules held r → IsCovered rules kept s → Touches a r t → Touches b s u → Overlap t.region u.region
     → (t.access ≡ Writes) ⊎ (u.access ≡ Writes) → (a.job ≡ b.job) ⊎ HoldConflict a held b kept
 
@@ -78,7 +84,8 @@ CoveredApart =
 -- conflict have one rank.
 pub record RankedOnce (families : List Family) : Type 0 where
   pub once : (t : LockTerm) (j k : ℕ) → HasRank families t j → HasRank families t k → j ≡ k
-  pub names : (a : Assignment) (t : LockTerm) (n : LockName) (k : ℕ) → HasRank families t k → Names a t n → NameHasRank families n k
+  pub names : (a : Assignment) (t : LockTerm) (n : LockName) (k : ℕ)
+      → HasRank families t k → Names a t n → NameHasRank families n k
   pub alike : (m n : LockName) (j k : ℕ) → NameHasRank families m j → NameHasRank families n k → Conflict m n → j ≡ k
 
 abbrev pub OneRank : Type 0
@@ -107,5 +114,6 @@ marked name r = record { root = r.root; subs = map (mark name) r.subs; extent = 
 -- become unknown: what was wrong stays wrong, and what was covered stays covered.
 abbrev pub MarkedAlike : Type 0
 MarkedAlike =
-    (rules : RuleLists) (held : List LockTerm) (r : Reference) (name : List ℕ) → ((h : LockTerm) → Contains held h → ¬ Mentions h name)
+    (rules : RuleLists) (held : List LockTerm) (r : Reference) (name : List ℕ)
+    → ((h : LockTerm) → Contains held h → ¬ Mentions h name)
     → (found : Option Code) → IsAnswer rules held r found ↔ IsAnswer rules held (marked name r) found

@@ -41,7 +41,9 @@ is_cover c = is_pattern 0 c.pattern && is_root c.lock.root
 -- `$J` stands once in each private pattern, and in no other
 abbrev pub are_formed : RuleLists → Bool
 are_formed rules =
-    list_all is_family rules.families && (list_all is_cover rules.covers && (list_all (is_pattern 1) rules.private && list_all (is_pattern 0) rules.readonly))
+    list_all is_family rules.families
+    && (list_all is_cover rules.covers
+    && (list_all (is_pattern 1) rules.private && list_all (is_pattern 0) rules.readonly))
 
 -- Each rule is well formed, and no two families meet.
 pub record IsSound (rules : RuleLists) : Type 0 where

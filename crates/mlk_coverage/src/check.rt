@@ -1,10 +1,10 @@
 // Whether a reference is covered by what is held.
 
-ghost use Rattle.std.specs.Prelude.{◌≡◌, ◌⊎◌, ◌↔◌, IsTrue, OnOk, IfErr, None, Some, Contains};
+ghost use Rattle.std.specs.Prelude.{◌≡◌, ◌↔◌, IsTrue, OnOk, IfErr, None, Some, Contains};
 ghost use Rattle.mlk_coverage.specs.declared.cover.Cover.{Cover as cover_rule};
 ghost use Rattle.mlk_coverage.specs.declared.pattern.Pattern.{Pattern as pattern};
-ghost use Rattle.mlk_coverage.specs.Patterns.{MayMeet, SurelyLies, SurelyAbove};
-ghost use Rattle.mlk_coverage.specs.Coverage.{IsOwn, HoldsLock, IsRuled, KeepsReadonly, KeepsPrivate, KeepsCovers, IsAnswer};
+ghost use Rattle.mlk_coverage.specs.Patterns.{MayMeet};
+ghost use Rattle.mlk_coverage.specs.Coverage.{IsFor, IsRuled, KeepsReadonly, EachIsOwn, EachIsHeld, IsAnswer};
 ghost use Rattle.mlk_coverage.specs.Fronts.{OwnSubs};
 
 use crate::cover::Cover;
@@ -18,7 +18,7 @@ use mlk_text::Code;
 
 // Whether the pattern of some of the rules is a rule for all of the reference.
 fn some_cover_rules(covers: &[Cover], reference: &Reference) -> bool
-    ensures { IsTrue result ↔ ((c : cover_rule) × Contains covers.now c × (SurelyLies c.pattern reference.now ⊎ SurelyAbove c.pattern reference.now)) }
+    ensures { IsTrue result ↔ ((c : cover_rule) × Contains covers.now c × IsFor reference.now c.pattern) }
 {
     for cover in covers {
         if is_ruled_by(&cover.pattern, reference) {
@@ -29,7 +29,7 @@ fn some_cover_rules(covers: &[Cover], reference: &Reference) -> bool
 }
 
 fn some_pattern_rules(patterns: &[Pattern], reference: &Reference) -> bool
-    ensures { IsTrue result ↔ ((p : pattern) × Contains patterns.now p × (SurelyLies p reference.now ⊎ SurelyAbove p reference.now)) }
+    ensures { IsTrue result ↔ ((p : pattern) × Contains patterns.now p × IsFor reference.now p) }
 {
     for pattern in patterns {
         if is_ruled_by(pattern, reference) {
@@ -80,7 +80,7 @@ fn has_own_subs(elements: &[Element], symbols: &[Sym]) -> bool
 }
 
 fn each_is_own(patterns: &[Pattern], reference: &Reference) -> bool
-    ensures { IsTrue result ↔ ((p : pattern) → Contains patterns.now p → MayMeet p reference.now → IsOwn p reference.now) }
+    ensures { IsTrue result ↔ EachIsOwn patterns.now reference.now }
 {
     for pattern in patterns {
         if may_meet(pattern, reference)
@@ -93,7 +93,7 @@ fn each_is_own(patterns: &[Pattern], reference: &Reference) -> bool
 }
 
 fn each_is_held(covers: &[Cover], reference: &Reference, held: &[LockTerm]) -> bool
-    ensures { IsTrue result ↔ ((c : cover_rule) → Contains covers.now c → MayMeet c.pattern reference.now → HoldsLock held.now c.lock reference.now) }
+    ensures { IsTrue result ↔ EachIsHeld covers.now held.now reference.now }
 {
     for cover in covers {
         if may_meet(&cover.pattern, reference) && !holds_lock(held, &cover.lock, reference) {

@@ -1,9 +1,7 @@
 // Rules by the global that their patterns name.
 
-ghost use Rattle.std.specs.Prelude.{◌≡◌, [], IfOk, OnOk, Contains, option_copied};
-ghost use Rattle.mlk_coverage.specs.declared.cover.Cover.{Cover as cover_rule};
-ghost use Rattle.mlk_coverage.specs.declared.pattern.Pattern.{Pattern as pattern};
-ghost use Rattle.mlk_coverage.specs.Groups.{covers_of, patterns_of, of_global, group_of, AreGroups, HasGroup, AreComplete, Gains, GainsAll};
+ghost use Rattle.std.specs.Prelude.{◌≡◌, [], IfOk, OnOk, option_copied};
+ghost use Rattle.mlk_coverage.specs.Groups.{covers_of, patterns_of, of_global, group_of, AreGroups, AreComplete, Gains, GainsAll, NamedByCovers, NamedByPatterns};
 
 use crate::cover::Cover;
 use crate::pattern::Pattern;
@@ -103,7 +101,7 @@ fn add_covers(
     rules: &RuleLists,
     covers: &[Cover],
 ) -> Result<(), AllocError>
-    ensures { OnOk result (GainsAll rules.now (λ name. (c : cover_rule) × Contains covers.now c × (c.pattern.global ≡ name)) groups.old groups.new) }
+    ensures { OnOk result (GainsAll rules.now (NamedByCovers covers.now) groups.old groups.new) }
 {
     for cover in covers {
         groups.add(alloc, rules, &cover.pattern.global)?;
@@ -117,7 +115,7 @@ fn add_patterns(
     rules: &RuleLists,
     patterns: &[Pattern],
 ) -> Result<(), AllocError>
-    ensures { OnOk result (GainsAll rules.now (λ name. (p : pattern) × Contains patterns.now p × (p.global ≡ name)) groups.old groups.new) }
+    ensures { OnOk result (GainsAll rules.now (NamedByPatterns patterns.now) groups.old groups.new) }
 {
     for pattern in patterns {
         groups.add(alloc, rules, &pattern.global)?;

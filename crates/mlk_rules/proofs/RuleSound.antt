@@ -27,7 +27,7 @@ use Rattle.mlk_rules.specs.declared.read.kinds.Item.TheVariants.{Literal, Variab
 use Rattle.mlk_rules.specs.declared.read.kinds.Spelling.{Spelling}
 use Rattle.mlk_rules.specs.RuleAnswers.{Answer, Read, Refused, next}
 use Rattle.mlk_rules.specs.RuleTexts.{parts_of, root_by, root_at, spelling, spelling_of, pattern_of}
-use Rattle.mlk_rules.specs.RuleKinds.{is_long, is_jobless, has_one_job, is_distinct, has_its_job, is_family_name, is_pattern, is_template, elements_of, name_of, pattern, parts_of as places_of}
+use Rattle.mlk_rules.specs.RuleKinds.{is_long, is_own, is_jobless, has_one_job, is_distinct, has_its_job, is_family_name, is_pattern, is_template, elements_of, name_of, pattern, parts_of as places_of}
 use Rattle.mlk_rules.specs.RuleSections.{has_only, text_key, rank_of, family_keys, family_with, family_ranked, family_at, cover_keys, cover_of_parts, cover_with, cover_at, pattern_with, pattern_at, family_of, cover_of, rule_pattern_of, entry_of, section_of, each, all_of, lists_of, lists}
 use Rattle.mlk_rules.proofs.RuleEach.{next_read, same_Read, each_have}
 
@@ -87,18 +87,20 @@ no_job (Literal v ∷ items) h = no_job items h
 no_job (Variable n ∷ items) h = no_job items h
 no_job (Job ∷ items) h = cc h
 
-one_job : (items : List Item) → has_one_job items ≡ true → count_by sound.is_job (elements_of items) ≡ 1
-one_job [] h = cc h
-one_job (Literal v ∷ items) h = one_job items h
-one_job (Variable n ∷ items) h = one_job items h
-one_job (Job ∷ items) h =
-    let f : Element → ℕ = λ e. cond (sound.is_job e) 1 0 in sum_by-cons f element.Job (elements_of items) ∙ ap (λ n. 1 + n) (no_job items h)
+same_count : (items : List Item) → count_by sound.is_job (elements_of items) ≡ count_by is_own items
+same_count [] = refl
+same_count (Literal v ∷ items) = same_count items
+same_count (Variable n ∷ items) = same_count items
+same_count (Job ∷ items) =
+    let f : Element → ℕ = λ e. cond (sound.is_job e) 1 0 in
+    let g : Item → ℕ = λ i. cond (is_own i) 1 0 in
+    sum_by-cons f element.Job (elements_of items) ∙ ap (λ n. 1 + n) (same_count items) ∙ sym (sum_by-cons g Job items)
 
 never : (items : List Item) → is_jobless items ≡ true → (count_by sound.is_job (elements_of items) == 0) ≡ true
 never items h = rw (no_job items h) refl
 
 once : (items : List Item) → has_one_job items ≡ true → (count_by sound.is_job (elements_of items) == 1) ≡ true
-once items h = rw (one_job items h) refl
+once items h = ap (λ n. n == 1) (same_count items) ∙ h
 
 -- a pattern of its parts, with `$J` so often
 formed_pattern : (n : ℕ) (s : Spelling) → sound.is_name (name_of s.root) ≡ true → (count_by sound.is_job (elements_of s.items) == n) ≡ true → sound.is_pattern n (pattern s) ≡ true

@@ -1,5 +1,6 @@
 -- As which texts lock names, patterns and entries are written in a rule file, part joined to part. Names, numbers and
--- texts in quotes restate ISO/IEC 11756 (name, numlit without an exponent, strlit); the rest is this project's own choice.
+-- texts in quotes restate ISO/IEC 11756 (name, numlit without an exponent, strlit); the rest is this project's own
+-- choice.
 use Rattle.std.specs.Prelude.{◌≡◌, ◌⊎◌, ◌↔◌, ℕ, true, List, [], ◌∷◌, ◌++◌, Some, codes}
 use Rattle.mlk_text.specs.Lexemes.{doubled}
 use Rattle.mlk_text.specs.Numbers.{are_digits, IsCanonical}
@@ -20,7 +21,8 @@ IsQuoted value text = text ≡ 34 ∷ (doubled value ++ 34 ∷ [])
 
 -- a number after a minus
 abbrev pub IsNegative : List ℕ → List ℕ → Type 0
-IsNegative value text = (number canonical : List ℕ) × IsCanonical number canonical × (value ≡ negative canonical) × (text ≡ 45 ∷ number)
+IsNegative value text =
+    (number canonical : List ℕ) × IsCanonical number canonical × (value ≡ negative canonical) × (text ≡ 45 ∷ number)
 
 -- a literal is written in quotes, or as a number, whose value is its canonical text; a variable as its name
 abbrev pub IsItem : Item → List ℕ → Type 0
@@ -42,7 +44,8 @@ closing Tree = codes ",...)"
 abbrev pub IsParts : List Item → Extent → List ℕ → Type 0
 IsParts [] Node text = text ≡ []
 IsParts [] Tree text = text ≡ codes "(...)"
-IsParts (i ∷ items) extent text = (one more : List ℕ) × IsItem i one × IsMore items more × (text ≡ 40 ∷ (one ++ (more ++ closing extent)))
+IsParts (i ∷ items) extent text =
+    (one more : List ℕ) × IsItem i one × IsMore items more × (text ≡ 40 ∷ (one ++ (more ++ closing extent)))
 
 -- a global's name after its caret, or a local's
 abbrev pub IsRoot : Root → List ℕ → Type 0
@@ -59,7 +62,9 @@ IsSpelledPattern s text = IsSpelled s text × ((name : List ℕ) × (s.root ≡ 
 
 -- An entry: a label, which is a name, digits, or missing; a caret; and a routine's name.
 abbrev pub IsEntry : List ℕ → Type 0
-IsEntry text = (label routine : List ℕ) × ((are_digits label ≡ true) ⊎ (is_name label ≡ true)) × (is_name routine ≡ true) × (text ≡ label ++ 94 ∷ routine)
+IsEntry text =
+    (label routine : List ℕ) × ((are_digits label ≡ true) ⊎ (is_name label ≡ true)) × (is_name routine ≡ true)
+    × (text ≡ label ++ 94 ∷ routine)
 
 -- What is read is written so, and what is written so is read.
 pub record AreWritten : Type 0 where

@@ -1,5 +1,6 @@
 -- Which items may stand where in a rule file, and what is made of them. This project's own choice.
-use Rattle.std.specs.Prelude.{ℕ, suc, ◌&&◌, ◌||◌, not, if◌then◌else◌, nat_lt, Bool, true, false, List, [], ◌∷◌, ◌++◌, length, Option, Some, None, bytes_eq}
+use Rattle.std.specs.Prelude.{ℕ, ◌&&◌, ◌==◌, not, nat_lt, Bool, true, false, List, [], ◌∷◌, ◌++◌, length, Option, Some, None, bytes_eq}
+use Rattle.std.specs.List.{list_all, list_any, count_by, position}
 use Rattle.mlk_names.specs.declared.lock_name.LockName.{LockName}
 use Rattle.mlk_names.specs.declared.lock_name.Root.{Root}
 use Rattle.mlk_names.specs.declared.lock_name.Root.TheVariants as root
@@ -28,11 +29,13 @@ is_node Node = true
 is_node Tree = false
 
 -- literals alone
+abbrev pub is_literal : Item → Bool
+is_literal (Literal v) = true
+is_literal (Variable n) = false
+is_literal Job = false
+
 abbrev pub is_literals : List Item → Bool
-is_literals [] = true
-is_literals (Literal v ∷ items) = is_literals items
-is_literals (Variable n ∷ items) = false
-is_literals (Job ∷ items) = false
+is_literals items = list_all is_literal items
 
 -- their values
 abbrev pub values_of : List Item → List (List ℕ)
@@ -48,19 +51,19 @@ is_family_name s = is_literals s.items && is_node s.extent
 abbrev pub family_name : Spelling → LockName
 family_name s = record { root = s.root; subs = values_of s.items }
 
+-- `$J`
+abbrev pub is_own : Item → Bool
+is_own (Literal v) = false
+is_own (Variable n) = false
+is_own Job = true
+
 -- no `$J`
 abbrev pub is_jobless : List Item → Bool
-is_jobless [] = true
-is_jobless (Literal v ∷ items) = is_jobless items
-is_jobless (Variable n ∷ items) = is_jobless items
-is_jobless (Job ∷ items) = false
+is_jobless items = list_all (λ i. not (is_own i)) items
 
 -- `$J` once
 abbrev pub has_one_job : List Item → Bool
-has_one_job [] = false
-has_one_job (Literal v ∷ items) = has_one_job items
-has_one_job (Variable n ∷ items) = has_one_job items
-has_one_job (Job ∷ items) = is_jobless items
+has_one_job items = count_by is_own items == 1
 
 -- the variable of this name is among the items
 abbrev pub is_item : List ℕ → Item → Bool
@@ -69,8 +72,7 @@ is_item name (Variable n) = bytes_eq name n
 is_item name Job = false
 
 abbrev pub has_variable : List ℕ → List Item → Bool
-has_variable name [] = false
-has_variable name (i ∷ items) = is_item name i || has_variable name items
+has_variable name items = list_any (is_item name) items
 
 -- the item is no variable of the others
 abbrev pub is_new : Item → List Item → Bool
@@ -115,15 +117,9 @@ pattern s = record { global = name_of s.root; elements = elements_of s.items; ex
 unfoldable pub is_template : Spelling → Bool
 is_template s = is_jobless s.items && is_node s.extent
 
--- one place further
-abbrev pub further : Option ℕ → Option ℕ
-further None = None
-further (Some k) = Some (suc k)
-
 -- the place of a variable in a pattern, counted from 0
 abbrev pub place_of : List ℕ → List Item → Option ℕ
-place_of name [] = None
-place_of name (i ∷ items) = if is_item name i then Some 0 else further (place_of name items)
+place_of name items = position (is_item name) items
 
 -- the part that an item of a lock is, beside a pattern
 abbrev pub placed : Option ℕ → Option Part

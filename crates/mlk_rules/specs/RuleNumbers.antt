@@ -1,5 +1,5 @@
--- The numbers of a rule file. Restates ISO/IEC 11756, numeric literals without an exponent; that a number has to be exact
--- on every system is this project's own choice.
+-- The numbers of a rule file. Restates ISO/IEC 11756, numeric literals without an exponent; that a number has to be
+-- exact on every system is this project's own choice.
 use Rattle.std.specs.Prelude.{ℕ, suc, ◌+◌, ◌==◌, if◌then◌else◌, List, [], ◌∷◌, Option, Some, None, take, drop, bytes_eq}
 use Rattle.mlk_text.specs.Reading.{with}
 use Rattle.mlk_text.specs.Lexemes.{digits}

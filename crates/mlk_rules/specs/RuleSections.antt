@@ -22,7 +22,9 @@ use Rattle.mlk_rules.specs.RuleKinds.{is_long, is_family_name, family_name, is_p
 
 -- the keys at the top, and those of the elements of each section
 abbrev pub is_key : Section → List ℕ → Bool
-is_key File key = bytes_eq key (codes "lock") || bytes_eq key (codes "cover") || bytes_eq key (codes "private") || bytes_eq key (codes "readonly") || bytes_eq key (codes "entry")
+is_key File key =
+    bytes_eq key (codes "lock") || bytes_eq key (codes "cover")
+    || bytes_eq key (codes "private") || bytes_eq key (codes "readonly") || bytes_eq key (codes "entry")
 is_key Lock key = bytes_eq key (codes "name") || bytes_eq key (codes "rank")
 is_key CoverSection key = bytes_eq key (codes "global") || bytes_eq key (codes "lock")
 is_key Private key = bytes_eq key (codes "global")
@@ -50,12 +52,14 @@ both (Some a) (Some b) = Some (a, b)
 -- the name and the rank of a family
 abbrev pub family_keys : Option Members → Option (List ℕ × ℤ)
 family_keys None = None
-family_keys (Some ms) = if has_only Lock ms then both (text_at (codes "name") ms) (integer_at (codes "rank") ms) else None
+family_keys (Some ms) =
+    if has_only Lock ms then both (text_at (codes "name") ms) (integer_at (codes "rank") ms) else None
 
 -- the pattern and the lock of a cover
 abbrev pub cover_keys : Option Members → Option (List ℕ × List ℕ)
 cover_keys None = None
-cover_keys (Some ms) = if has_only CoverSection ms then both (text_at (codes "global") ms) (text_at (codes "lock") ms) else None
+cover_keys (Some ms) =
+    if has_only CoverSection ms then both (text_at (codes "global") ms) (text_at (codes "lock") ms) else None
 
 -- the one text of an element with one key
 abbrev pub text_key : Section → List ℕ → Option Members → Option (List ℕ)
@@ -70,7 +74,8 @@ rank_of (negsuc n) = None
 -- a family of its parts
 abbrev pub family_with : ℕ → Option Spelling → ℕ → Answer Family
 family_with k None r = refused code.Pattern Lock k
-family_with k (Some s) r = if is_family_name s then Read (record { name = family_name s; rank = r }) else refused code.Pattern Lock k
+family_with k (Some s) r =
+    if is_family_name s then Read (record { name = family_name s; rank = r }) else refused code.Pattern Lock k
 
 abbrev pub family_ranked : ℕ → Option Spelling → Option ℕ → Answer Family
 family_ranked k s None = refused code.RulesLimit Lock k
@@ -98,7 +103,8 @@ cover_placed k p l = cover_of_parts k p l (parts_of p.items l.items)
 abbrev pub cover_with : ℕ → Option Spelling → Option Spelling → Answer Cover
 cover_with k None l = refused code.Pattern CoverSection k
 cover_with k (Some p) None = refused code.Pattern CoverSection k
-cover_with k (Some p) (Some l) = if is_pattern CoverSection p && is_template l then cover_placed k p l else refused code.Pattern CoverSection k
+cover_with k (Some p) (Some l) =
+    if is_pattern CoverSection p && is_template l then cover_placed k p l else refused code.Pattern CoverSection k
 
 abbrev pub cover_by : ℕ → Option Spelling → Option Spelling → Answer Cover
 cover_by k p l = if is_long p || is_long l then refused code.RulesLimit CoverSection k else cover_with k p l
@@ -176,7 +182,8 @@ abbrev pub all_of : {A : Type 0} → (ℕ → Data → Answer A) → Section →
 all_of read s ms = next (section_of s ms) (each read 1)
 
 abbrev pub lists : List Family → List Cover → List Pattern → List Pattern → List (List ℕ) → Answer RuleLists
-lists families covers private readonly entries = Read (record { families = families; covers = covers; private = private; readonly = readonly; entries = entries })
+lists families covers private readonly entries =
+    Read (record { families = families; covers = covers; private = private; readonly = readonly; entries = entries })
 
 -- What the sections of a top table say: the first refusal counts, in the order of the sections.
 unfoldable pub lists_of : Members → Answer RuleLists
@@ -213,7 +220,8 @@ Says bytes answer = (ms : Members) × IsDocument bytes ms × TableSays ms answer
 
 -- 401: the bytes are no text, or TOML does not read them
 abbrev pub IsNoToml : List ℕ → RulesFault → Type 0
-IsNoToml bytes f = (f ≡ record { code = code.Toml; section = File; index = 0 }) × (IsUtf8 bytes → parse_document bytes ≡ None)
+IsNoToml bytes f =
+    (f ≡ record { code = code.Toml; section = File; index = 0 }) × (IsUtf8 bytes → parse_document bytes ≡ None)
 
 -- the same without a table, as far as memory goes
 abbrev pub NoTable : List ℕ → RulesError → Type 0

@@ -4,8 +4,6 @@
 
 mod law;
 mod read;
-#[cfg(test)]
-mod tests;
 
 pub use law::{are_written, one_answer};
 pub use mlk_coverage::{

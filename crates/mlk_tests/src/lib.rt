@@ -2,6 +2,10 @@
 #![tactic(auto)]
 
 #[cfg(test)]
+mod expr;
+#[cfg(test)]
 mod names;
+#[cfg(test)]
+mod rules;
 #[cfg(test)]
 mod text;

@@ -18,12 +18,7 @@ use std::alloc::{AllocError, Global};
 fn place_of(name: &Name, items: &[Item]) -> Option<usize>
     ensures { result ≡ place_of name.now items.now }
 {
-    for (i, item) in items.iter().enumerate() {
-        if is_item(name, item) {
-            return Some(i);
-        }
-    }
-    None
+    items.iter().position(|item| is_item(name, item))
 }
 
 fn part_of(items: &[Item], item: &Item) -> Result<Option<Part>, AllocError>

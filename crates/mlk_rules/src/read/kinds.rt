@@ -45,40 +45,23 @@ fn is_node(extent: Extent) -> bool
 fn is_literals(items: &[Item]) -> bool
     ensures { result ≡ is_literals items.now }
 {
-    let Some((first, others)) = items.split_first() else {
-        return true;
-    };
-    match first {
-        Item::Literal(_) => is_literals(others),
-        Item::Variable(_) => false,
-        Item::Job => false,
-    }
+    items.iter().all(|item| matches!(item, Item::Literal(_)))
 }
 
 fn is_jobless(items: &[Item]) -> bool
     ensures { result ≡ is_jobless items.now }
 {
-    let Some((first, others)) = items.split_first() else {
-        return true;
-    };
-    match first {
-        Item::Literal(_) => is_jobless(others),
-        Item::Variable(_) => is_jobless(others),
-        Item::Job => false,
-    }
+    items.iter().all(|item| !matches!(item, Item::Job))
 }
 
 fn has_one_job(items: &[Item]) -> bool
     ensures { result ≡ has_one_job items.now }
 {
-    let Some((first, others)) = items.split_first() else {
-        return false;
-    };
-    match first {
-        Item::Literal(_) => has_one_job(others),
-        Item::Variable(_) => has_one_job(others),
-        Item::Job => is_jobless(others),
-    }
+    items
+        .iter()
+        .filter(|item| matches!(*item, Item::Job))
+        .count()
+        == 1
 }
 
 /// Whether the item is the variable of this name.
@@ -95,10 +78,7 @@ pub fn is_item(name: &Name, item: &Item) -> bool
 fn has_variable(name: &Name, items: &[Item]) -> bool
     ensures { result ≡ has_variable name.now items.now }
 {
-    let Some((first, others)) = items.split_first() else {
-        return false;
-    };
-    is_item(name, first) || has_variable(name, others)
+    items.iter().any(|item| is_item(name, item))
 }
 
 fn is_new(item: &Item, others: &[Item]) -> bool
@@ -114,10 +94,14 @@ fn is_new(item: &Item, others: &[Item]) -> bool
 fn is_distinct(items: &[Item]) -> bool
     ensures { result ≡ is_distinct items.now }
 {
-    let Some((first, others)) = items.split_first() else {
-        return true;
-    };
-    is_new(first, others) && is_distinct(others)
+    let mut left = items;
+    while let Some((first, others)) = left.split_first() {
+        if !is_new(first, others) {
+            return false;
+        }
+        left = others;
+    }
+    true
 }
 
 fn has_its_job(section: Section, items: &[Item]) -> bool

@@ -1,8 +1,8 @@
 // Rule files that are read.
 
 use super::help::{BASE, family_with, reads};
-use crate::{Cover, Element, Family, Part, Pattern, entries, read_rules};
 use mlk_names::{Extent, Root};
+use mlk_rules::{Cover, Element, Family, Part, Pattern, entries, read_rules};
 use mlk_text::Value;
 use std::test::Fail;
 

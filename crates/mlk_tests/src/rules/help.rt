@@ -1,7 +1,7 @@
 // Rule files and references from short texts.
 
-use crate::{RulesError, Section, read_rules};
 use mlk_names::{Access, Extent, KnownSym, LockTerm, Reference, Root, Sym};
+use mlk_rules::{RulesError, Section, read_rules};
 use mlk_text::{Name, Subscripts, Value};
 use std::alloc::{AllocError, Global};
 

@@ -1,11 +1,11 @@
 // What rules that were read answer.
 
 use super::help::{BASE, constant, reference, term};
-use crate::{
+use mlk_names::{Access, Extent, LockTerm, Reference, prefix};
+use mlk_rules::{
     Pattern, Rules, covered, covered_apart, lock_of_node, marked_alike, may_meet, one_answer,
     one_rank, rank_of, read_rules, share_pattern, surely_lies, templates,
 };
-use mlk_names::{Access, Extent, LockTerm, Reference, prefix};
 use std::alloc::{AllocError, Global};
 use std::slice;
 use std::test::Fail;

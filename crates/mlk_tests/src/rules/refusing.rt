@@ -1,7 +1,7 @@
 // Rule files that are refused, and where.
 
 use super::help::{family_with, reads, refuses};
-use crate::Section;
+use mlk_rules::Section;
 use std::test::Fail;
 
 #[test]

@@ -1,9 +1,9 @@
 // Lists that were made by hand.
 
 use super::help::name;
-use crate::{Cover, Element, Family, Part, Pattern, RuleLists, Rules, Template};
 use mlk_names::{Extent, LockName, Root};
-use mlk_text::Subscripts;
+use mlk_rules::{Cover, Element, Family, Part, Pattern, RuleLists, Rules, Template};
+use mlk_text::{List, Subscripts};
 use std::alloc::{AllocError, Global};
 use std::test::Fail;
 
