@@ -1,5 +1,5 @@
--- The grammar of expressions with what stands behind each part: `Is.. t xs ys` says that t is spelled at the front of xs,
--- as far as its parts go, and that ys is behind it. The readers are exact for it, and it says what the grammar of whole
+-- The grammar of expressions with what stands after each part: `Is.. t xs ys` says that t is spelled at the front of xs,
+-- as far as its parts go, and that ys is after it. The readers are exact for it, and it says what the grammar of whole
 -- texts says (Joined). `end` is the column of the line's end.
 use Rattle.std.specs.Prelude.{ℕ, zero, suc, ◌≡◌, ◌<◌, ◌≤◌, ◌⊎◌, Bool, true, false, List, [], ◌∷◌, ◌++◌, length, Option, Some, None}
 use Rattle.mlk_text.specs.Reading.{Many}
@@ -14,7 +14,7 @@ use Rattle.mlk_expr.specs.Grammar.{chained, named, has_subscript, asks_subscript
 use Rattle.mlk_expr.specs.Words.{word_at, special_of, function_of, is_select}
 use Rattle.mlk_expr.specs.Lexemes.{column_of, op_at, is_match, unary_of, numeral_at, count_at, pattern_codes_at, label_at, lent_at, starts_reference, is_missing, ends}
 
--- behind a comma
+-- after a comma
 abbrev pub Next : {A : Type 0} → (A → List ℕ → List ℕ → Type 0) → ℕ → A → List ℕ → List ℕ → Type 0
 Next Item comma a xs ys = Item a xs ys
 
@@ -22,20 +22,20 @@ Next Item comma a xs ys = Item a xs ys
 abbrev pub IsList : {A : Type 0} → (A → List ℕ → List ℕ → Type 0) → List A → List ℕ → List ℕ → Type 0
 IsList {A = A} Item items xs ys = (first : A) × (others : List A) × (m : List ℕ) × Item first xs m × Many (byte_at 44) (Next Item) others m (41 ∷ ys) × (items ≡ first ∷ others)
 
--- What a pattern atom has behind its count: codes, a text, or one of several patterns. Standard: pattern match, patatom.
+-- What a pattern atom has after its count: codes, a text, or one of several patterns. Standard: pattern match, patatom.
 abbrev pub IsMatcher : (List ℕ → List ℕ → List ℕ → Type 0) → List ℕ → List ℕ → List ℕ → List ℕ → Type 0
 IsMatcher Deep count c xs ys = (c ≡ count) × (
     ((codes : List ℕ) × (pattern_codes_at xs ≡ Some (codes, ys)))
     ⊎ ((value : List ℕ) × IsQuoted value xs ys)
     ⊎ ((m : List ℕ) × (choices : List (List ℕ)) × (xs ≡ 40 ∷ m) × IsList Deep choices m ys))
 
--- A pattern as it is written: one or more atoms, each behind its count, as far as counts go; alternatives lie one
+-- A pattern as it is written: one or more atoms, each after its count, as far as counts go; alternatives lie one
 -- deeper. Standard: pattern match.
 unfoldable pub IsPattern : ℕ → List ℕ → List ℕ → List ℕ → Type 0
 IsPattern zero text xs ys = ⊥
 IsPattern (suc k) text xs ys = (counts : List (List ℕ)) × Many count_at (IsMatcher (IsPattern k)) counts xs ys × (0 < length counts) × (xs ≡ text ++ ys)
 
--- what stands behind an operator: a pattern behind a pattern match, an operand behind any other
+-- what stands after an operator: a pattern after a pattern match, an operand after any other
 abbrev pub IsRight : (Tree → List ℕ → List ℕ → Type 0) → (List ℕ → List ℕ → List ℕ → Type 0) → Bool → Tree → List ℕ → List ℕ → Type 0
 IsRight Atom Pattern false t xs ys = Atom t xs ys
 IsRight Atom Pattern true t xs ys = (text : List ℕ) × Pattern text xs ys × (t ≡ PatternText text)
@@ -57,13 +57,13 @@ abbrev pub IsSubs : ℕ → (Tree → List ℕ → List ℕ → Type 0) → List
 IsSubs end Item [] xs ys = (xs ≡ ys) × (byte_at 40 xs ≡ None)
 IsSubs end Item (s ∷ ss) xs ys = (m : List ℕ) × (xs ≡ 40 ∷ m) × IsList (IsPlaced end Item) (s ∷ ss) m ys × (length (s ∷ ss) ≤ 32)
 
--- An actual: a name behind a point, nothing, or an expression. Standard: actual parameters.
+-- An actual: a name after a point, nothing, or an expression. Standard: actual parameters.
 abbrev pub IsActual : ℕ → (Tree → List ℕ → List ℕ → Type 0) → ActualTree → List ℕ → List ℕ → Type 0
 IsActual end Item (ByRef column name) xs ys = (column ≡ column_of end xs) × (lent_at xs ≡ Some (name, ys))
 IsActual end Item Missing xs ys = (xs ≡ ys) × (lent_at xs ≡ None) × (is_missing xs ≡ true)
 IsActual end Item (Given t) xs ys = Item t xs ys × (lent_at xs ≡ None) × (is_missing xs ≡ false)
 
--- actuals behind an opening parenthesis: `()` has none
+-- actuals after an opening parenthesis: `()` has none
 abbrev pub IsActuals : ℕ → (Tree → List ℕ → List ℕ → Type 0) → List ActualTree → List ℕ → List ℕ → Type 0
 IsActuals end Item [] xs ys = xs ≡ 41 ∷ ys
 IsActuals end Item (a ∷ more) xs ys = IsList (IsActual end Item) (a ∷ more) xs ys × (byte_at 41 xs ≡ None)
@@ -72,7 +72,7 @@ IsActuals end Item (a ∷ more) xs ys = IsList (IsActual end Item) (a ∷ more) 
 abbrev pub Quiet : (Tree → List ℕ → List ℕ → Type 0) → Tree → List ℕ → List ℕ → Type 0
 Quiet Item t xs ys = Item t xs ys × (may_stand NoTouches t ≡ true)
 
--- Arguments: expressions, or a name and what may stand behind it. Standard: functions.
+-- Arguments: expressions, or a name and what may stand after it. Standard: functions.
 abbrev pub IsArguments : (Tree → List ℕ → List ℕ → Type 0) → (Tree → List ℕ → List ℕ → Type 0) → Function → Option ℕ → List Tree → List ℕ → List ℕ → Type 0
 IsArguments Atom Item f None args xs ys = IsList Item args xs ys
 IsArguments Atom Item f (Some most) args xs ys = (first : Tree) × (others : List Tree) × (m : List ℕ)
@@ -83,7 +83,7 @@ IsArguments Atom Item f (Some most) args xs ys = (first : Tree) × (others : Lis
 abbrev pub IsChoice : (Tree → List ℕ → List ℕ → Type 0) → Tree × Tree → List ℕ → List ℕ → Type 0
 IsChoice Item c xs ys = (m : List ℕ) × Item c.0 xs (58 ∷ m) × Item c.1 m ys
 
--- What a call names, behind `$$`. Standard: extrinsic functions, labelref.
+-- What a call names, after `$$`. Standard: extrinsic functions, labelref.
 abbrev pub IsCallee : Option (List ℕ) → Option (List ℕ) → List ℕ → List ℕ → Type 0
 IsCallee (Some label) None xs ys = (label_at xs ≡ Some (label, ys)) × (byte_at 94 ys ≡ None)
 IsCallee (Some label) (Some routine) xs ys = (m : List ℕ) × (label_at xs ≡ Some (label, 94 ∷ m)) × (name_at m ≡ Some (routine, ys))

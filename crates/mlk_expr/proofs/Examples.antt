@@ -75,7 +75,7 @@ examples = tt
     sorts : IsExpr 1 (Chain (LocalName (codes "X") no_subs) (link (IsNot SortsAfter) (LocalName (codes "Y") no_subs) no_links)) (codes "X']]Y")
     sorts = spelled _ (codes "X']]Y") refl
 
-    -- a pattern stands behind its operator alone
+    -- a pattern stands after its operator alone
     matches : IsExpr 1 (Chain (LocalName (codes "X") no_subs) (link (Is Matches) (PatternText (codes "1N.2A")) no_links)) (codes "X?1N.2A")
     matches = spelled _ (codes "X?1N.2A") refl
 
@@ -136,7 +136,7 @@ examples = tt
     second_argument : (t : Tree) → IsExpr 1 t (codes "$D(X,1)") → ⊥
     second_argument = unspelled (codes "$D(X,1)") refl
 
-    -- an exponent has digits, and behind `'` stands a relation
+    -- an exponent has digits, and after `'` stands a relation
     no_exponent : (t : Tree) → IsExpr 1 t (codes "1E") → ⊥
     no_exponent = unspelled (codes "1E") refl
 

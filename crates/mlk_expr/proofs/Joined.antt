@@ -1,4 +1,4 @@
--- What stands at a place by the grammar with what stands behind is what is written there by the grammar of whole texts.
+-- What stands at a place by the grammar with what stands after is what is written there by the grammar of whole texts.
 use Rattle.std.proofs.Common.{◌≡◌, ◌<◌, ◌+◌, ℕ, suc, ◌++◌, List, [], ◌∷◌, length, Some, None, true, false, refl, sym, ap, ◌∙◌, arith, subst, inl, inr, append_assoc}
 use Rattle.std.specs.Prelude.{Option, ◌⊎◌, ◌==◌, ◌||◌, not}
 use Rattle.std.proofs.lemmas.Bool.{cases_Bool, and_parts}
@@ -68,7 +68,7 @@ numeral-reference text xs ys n h =
     let f = number-spelled text xs ys n in
     number-first text f.0 (sym (starts-front text ys (number-opens text f.0)) ∙ ap starts_reference (sym (f.1)) ∙ h)
 
--- behind a name without subscripts nothing stands that goes on with it
+-- after a name without subscripts nothing stands that goes on with it
 quiet-from : (subs : List (ℕ × Tree)) (name ys : List ℕ) → ReferenceEnds (LocalName name (subs_from subs)) ys → subs ≡ [] → goes_on ys ≡ false
 quiet-from [] name ys h same = elim (cases_Bool (goes_on ys)) [ inl e ↦ cc (rw e at h) | inr e ↦ e ]
 quiet-from (p ∷ subs) name ys h same = cc same
@@ -94,7 +94,7 @@ local-global : (column : ℕ) (name : List ℕ) (subs : List (ℕ × Tree)) (ys 
 local-global column name [] ys h = h
 local-global column name (p ∷ subs) ys h = refl
 
--- a local or a global name: what may stand behind it is what does not go on with it
+-- a local or a global name: what may stand after it is what does not go on with it
 module _ (end k : ℕ) where
   chains : Joins end (behind.IsChain (behind.IsAtom end k) (behind.IsPattern k)) (IsChain (IsAtom k) (IsPattern k)) ends
   chains = nested-joins end k
@@ -124,7 +124,7 @@ module _ (end k : ℕ) where
   plain-reference at (BareCall column callee) s ys h (called, is, col, name) first ended = cc (subst (λ z. starts_reference z ≡ true) is first)
   plain-reference at (CallOf column callee tail) s ys h (called, part, given, is, col, name, list, same) first ended = cc (subst (λ z. starts_reference z ≡ true) is first)
 
-  -- and what stands behind one does not
+  -- and what stands after one does not
   plain-ended : (t : Tree) (xs ys : List ℕ) → behind.IsPlain end (behind.IsAtom end k) (behind.IsPattern k) t xs ys → starts_reference xs ≡ true → ReferenceEnds t ys
   plain-ended (Lit value) xs ys (inl (text, n, same)) first = absurd (numeral-reference text xs ys n first)
   plain-ended (Lit value) xs ys (inr (is, good, none)) first = cc (subst (λ z. starts_reference z ≡ true) is first)

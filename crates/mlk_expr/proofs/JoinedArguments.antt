@@ -16,7 +16,7 @@ use Rattle.mlk_expr.proofs.Runs.{behind_name, tame}
 use Rattle.mlk_expr.proofs.NameSpelling.{name-reads, name-spelled, label-reads, label-spelled}
 use Rattle.mlk_expr.proofs.JoinedParts.{opens, Joins, moved, weaker, missing-ends, ends-tame, opens-more, list-apart, list-together, next-apart, next-together, next-missing, enclosed-behind}
 
--- the column of a text with something behind it
+-- the column of a text with something after it
 pub at-column : (end at : ℕ) (xs : List ℕ) → end ≡ at + length xs → column_of end xs ≡ at
 at-column end at xs h = omega arith
 
@@ -38,7 +38,7 @@ module _ (end : ℕ) (Is : Tree → List ℕ → List ℕ → Type 0) (Text : �
       let f = list-apart end (behind.IsPlaced end Is) (IsPlaced Text) placed-joins (suc at) (p ∷ subs) m ys (omega arith) list in
       (40 ∷ (f.0 ++ 41 ∷ []), is ∙ ap (λ l. 40 ∷ l) f.1 ∙ sym (enclosed-behind f.0 ys), (f.0, refl, f.2, few))
 
-  -- behind a closing parenthesis anything may stand, behind no subscripts all but an opening one
+  -- after a closing parenthesis anything may stand, after no subscripts all but an opening one
   pub subs-together : (at : ℕ) (subs : List (ℕ × Tree)) (s ys : List ℕ) → end ≡ at + length (s ++ ys) → IsSubs Text at subs s → (subs ≡ [] → byte_at 40 ys ≡ None) → behind.IsSubs end Is subs (s ++ ys) ys
   subs-together at [] s ys h is none = subst (λ l. behind.IsSubs end Is [] (l ++ ys) ys) (sym is) (refl, none refl)
   subs-together at (p ∷ subs) s ys h (inner, is, list, few) none =
@@ -62,7 +62,7 @@ module _ (end : ℕ) (Is : Tree → List ℕ → List ℕ → Type 0) (Text : �
         subst (λ z. behind.IsChoice Is c z ys) (sym whole) (rest ++ ys, f, g);
   }
 
--- behind a point stands no name where a number stands, and an expression is not left out
+-- after a point stands no name where a number stands, and an expression is not left out
 pub opens-given : (s : List ℕ) → opens s ≡ true → (lent_at s ≡ None) × (is_missing s ≡ false) × (byte_at 41 s ≡ None)
 unfolding lent_at name_at
 opens-given [] h = cc h

@@ -156,7 +156,7 @@ module _ (end : ℕ) (Atom : Tree → List ℕ → List ℕ → Type 0) (Text : 
       let g = actuals-apart end (behind.IsChain Atom Pattern) (IsChain Text PatternOf) chains chain-first (2 + (at + length f.0)) given n ys (omega arith) list in
       (36 ∷ 36 ∷ (f.0 ++ g.0), whole ∙ ap (λ l. 36 ∷ 36 ∷ (f.0 ++ l)) g.1 ∙ sym (ap (λ l. 36 ∷ 36 ∷ l) (append_assoc f.0 g.0 ys)), (f.0, g.0, given, refl, col ∙ at-column end at xs h, f.2, g.2, same))
 
-  -- what may stand behind an operand: anything that does not go on with it
+  -- what may stand after an operand: anything that does not go on with it
   plain-together : (at : ℕ) (t : Tree) (s ys : List ℕ) → end ≡ at + length (s ++ ys) → IsPlain Text PatternOf at t s → tame ys ≡ true → behind.IsPlain end Atom Pattern t (s ++ ys) ys
   plain-together at (Lit value) s ys h (inl same) may = inl (s, number-reads s ys (canonical-number s value same) may, same)
   plain-together at (Lit value) s ys h (inr (is, good)) may = inr (ap (λ l. l ++ ys) is ∙ quoted-behind value ys, good, tame-quote ys may)

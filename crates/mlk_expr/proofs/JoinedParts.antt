@@ -1,4 +1,4 @@
--- The grammar of whole texts and the grammar with what stands behind say the same: lists, chains, subscripts, actuals.
+-- The grammar of whole texts and the grammar with what stands after say the same: lists, chains, subscripts, actuals.
 use Rattle.std.proofs.Common.{◌≡◌, ◌+◌, ℕ, suc, ◌++◌, List, [], ◌∷◌, length, Some, None, Bool, true, false, refl, sym, ap, ◌∙◌, arith, subst, inl, inr, append_assoc, length-append}
 use Rattle.std.specs.Prelude.{◌==◌, ◌||◌, if◌then◌else◌}
 use Rattle.std.proofs.lemmas.Bool.{cases_Bool}
@@ -31,7 +31,7 @@ pub record Joins {A : Type 0} (end : ℕ) (Is : A → List ℕ → List ℕ → 
   pub apart : (at : ℕ) (a : A) (xs ys : List ℕ) → end ≡ at + length xs → Is a xs ys → (s : List ℕ) × (xs ≡ s ++ ys) × Text at a s
   pub together : (at : ℕ) (a : A) (s ys : List ℕ) → end ≡ at + length (s ++ ys) → Text at a s → may ys ≡ true → Is a (s ++ ys) ys
 
--- the column of what is behind a text
+-- the column of what is after a text
 pub moved : (end at : ℕ) (xs s ys : List ℕ) → end ≡ at + length xs → xs ≡ s ++ ys → end ≡ at + length s + length ys
 moved end at xs s ys h is = let size = ap length is in let sum = length-append s ys in omega arith
 
@@ -54,11 +54,11 @@ ends-op (b ∷ ys) h = grind (arith, nat_tests)
 pub weaker : {A : Type 0} (end : ℕ) (Is : A → List ℕ → List ℕ → Type 0) (Text : ℕ → A → List ℕ → Type 0) → Joins end Is Text ends → Joins end Is Text is_missing
 weaker end Is Text j = record { apart = j.apart; together = λ at a s ys h text may. j.together at a s ys h text (missing-ends ys may) }
 
--- a text in parentheses with something behind it
+-- a text in parentheses with something after it
 pub enclosed-behind : (inner ys : List ℕ) → (40 ∷ (inner ++ 41 ∷ [])) ++ ys ≡ 40 ∷ (inner ++ 41 ∷ ys)
 enclosed-behind inner ys = ap (λ l. 40 ∷ l) (append_assoc inner (41 ∷ []) ys)
 
--- a text in quotes with something behind it
+-- a text in quotes with something after it
 pub quoted-behind : (value ys : List ℕ) → (34 ∷ (doubled value ++ 34 ∷ [])) ++ ys ≡ 34 ∷ (doubled value ++ 34 ∷ ys)
 quoted-behind value ys = ap (λ l. 34 ∷ l) (append_assoc (doubled value) (34 ∷ []) ys)
 

@@ -1,5 +1,5 @@
--- Patterns: what stands at the front with something behind it is spelled by itself, and what is spelled is read where
--- something tame stands behind it.
+-- Patterns: what stands at the front with something after it is spelled by itself, and what is spelled is read where
+-- something tame stands after it.
 use Rattle.std.proofs.Common.{◌≡◌, ◌<◌, ℕ, zero, suc, ◌++◌, List, [], ◌∷◌, length, take, None, Bool, true, false, refl, sym, ap, ◌∙◌, arith, subst, inl, inr, append_assoc, length-append}
 use Rattle.std.proofs.Math.Seq.{take-append_seam}
 use Rattle.std.specs.Prelude.{◌==◌, ◌||◌, not}
@@ -104,7 +104,7 @@ module _ (Near : List ℕ → List ℕ → List ℕ → Type 0) (Deep : List ℕ
     together = λ at choice s ys h (same, one) may. subst (λ l. Near choice (l ++ ys) ys) (sym same) (p.together choice ys one (ends-tame ys (missing-ends ys may)));
   }
 
-  -- a matcher with something behind it is a matcher
+  -- a matcher with something after it is a matcher
   matcher-apart : (count c xs ys : List ℕ)
       → behind.IsMatcher Near count c xs ys → (s : List ℕ) × IsMatcher Deep s × (xs ≡ s ++ ys)
   matcher-apart count c xs ys (same, inl (codes, is)) = let r = codes-spelled codes xs ys is in (codes, inl r.0, r.1)
@@ -114,7 +114,7 @@ module _ (Near : List ℕ → List ℕ → List ℕ → Type 0) (Deep : List ℕ
       let f = list-apart (length m) Near (Choice Deep) (alternatives (length m)) 0 choices m ys (omega arith) list in
       (40 ∷ (f.0 ++ 41 ∷ []), inr (inr (f.0, choices, refl, f.2)), is ∙ ap (λ l. 40 ∷ l) f.1 ∙ sym (enclosed-behind f.0 ys))
 
-  -- atoms with something behind them are atoms
+  -- atoms with something after them are atoms
   atoms-apart : (counts : List (List ℕ)) (xs ys : List ℕ)
       → Many count_at (behind.IsMatcher Near) counts xs ys → (s : List ℕ) × AreAtoms Deep counts s × (xs ≡ s ++ ys)
   atoms-apart [] xs ys h = ([], refl, h.0)
@@ -162,7 +162,7 @@ module _ (Near : List ℕ → List ℕ → List ℕ → Type 0) (Deep : List ℕ
       let first = matcher-together count matcher (rest ++ ys) atom (atoms-end counts rest ys atoms t) in
       (count, matcher ++ (rest ++ ys), rest ++ ys, reads, first, atoms-together counts rest ys atoms t)
 
--- a pattern is spelled as it is read, with something tame behind it
+-- a pattern is spelled as it is read, with something tame after it
 level-joins : (k : ℕ) → JoinsPattern (behind.IsPattern k) (IsPattern k) → JoinsPattern (behind.IsPattern (suc k)) (IsPattern (suc k))
 unfolding IsPattern behind.IsPattern
 level-joins k p = record { apart = apart; together = together; begins = begins }

@@ -1,9 +1,9 @@
 -- Names, labels and what calls name, as they stand in commands, are read exactly.
-use Rattle.std.proofs.Common.{◌≡◌, ◌<◌, ℕ, ◌++◌, List, [], ◌∷◌, length, Some, None, true, false, refl, sym, ap, ◌∙◌, arith, subst, inl, inr, append_assoc}
-use Rattle.std.specs.Prelude.{Option, ◌==◌, ◌&&◌, ◌||◌, not}
+use Rattle.std.proofs.Common.{◌≡◌, ◌<◌, ℕ, ◌++◌, List, [], ◌∷◌, length, Some, None, true, false, refl, ap, ◌∙◌, arith, subst, inl, inr, append_assoc}
+use Rattle.std.specs.Prelude.{Option, ◌==◌, ◌||◌, not}
 use Rattle.std.proofs.lemmas.Bool.{cases_Bool, and_parts}
 use Rattle.std.proofs.lemmas.Bool.Decides.{nat_tests}
-use Rattle.mlk_text.specs.Lexemes.{is_digit, is_letter, is_name_byte, digits, byte_at, name_at, digits_at}
+use Rattle.mlk_text.specs.Lexemes.{is_digit, is_letter, digits, byte_at, name_at, digits_at}
 use Rattle.mlk_text.specs.Numbers.{are_digits}
 use Rattle.mlk_text.proofs.Lexemes.{name-behind}
 use Rattle.mlk_text.proofs.Readers.{Exact}

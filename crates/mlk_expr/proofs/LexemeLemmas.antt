@@ -1,4 +1,4 @@
--- Laws of the lexemes: what is behind them, and what they begin with.
+-- Laws of the lexemes: what is after them, and what they begin with.
 use Rattle.std.proofs.Common.{Bool, ◌≡◌, ◌<◌, ◌+◌, ℕ, ◌++◌, List, [], ◌∷◌, length, take, drop, Some, None, true, false, refl, sym, ap, ◌∙◌, arith, subst, inl, inr, length-drop, take-append-drop}
 use Rattle.std.specs.Prelude.{Option, ◌==◌, ◌||◌, ◌⊎◌, if◌then◌else◌, codes}
 use Rattle.std.proofs.lemmas.Bool.{cases_Bool, eqb-true, eqb-false, or_cases, or_right}
@@ -19,7 +19,7 @@ use Rattle.mlk_expr.specs.declared.lexeme.Kind.TheVariants as kind
 use Rattle.mlk_expr.specs.Words.{or_else, letters, word_at, special_of, special_to_principal, special_from_quit, function_of, function_to_fnumber, function_to_piece, function_from_qlength, is_select, is_either}
 use Rattle.mlk_expr.specs.Lexemes.{one_byte, twice_or, relation_of, relation_at, arithmetic_of, arithmetic_at, op_by, op_at, unary_of, kind_by, kind_of, mantissa_len, exponent_len, lacks_exponent, numeral_at, count_len, count_at, pattern_codes, pattern_codes_at, label_at, lent_by, lent_at, starts_reference}
 
--- one byte and what is behind it
+-- one byte and what is after it
 abbrev Shorter : List ℕ → List ℕ → Type 0
 Shorter ys xs = Behind ys xs × (length ys < length xs)
 
@@ -68,7 +68,7 @@ op-takes o xs ys h = go (byte_at 39 xs) refl h
         let size = ap length text in
         (subst (λ l. Behind ys l) (sym text) (behind_then (39 ∷ quote.1) quote.1 ys (behind-one 39 quote.1) r.0), let less = r.1 in omega arith)
 
--- so many bytes and what is behind them
+-- so many bytes and what is after them
 unless : (b : Bool) (m : ℕ) (text xs ys : List ℕ) → if◌then◌else◌ {A = Option (List ℕ × List ℕ)} b None (Some (take m xs, drop m xs)) ≡ Some (text, ys)
     → (text ≡ take m xs) × (ys ≡ drop m xs)
 unless true m text xs ys h = cc h
@@ -235,7 +235,7 @@ label-caret label (b ∷ xs) ys h = elim (cases_Bool (b == 94)) [
   | inr e ↦ rw e refl
 ]
 
--- behind `$` stands a word that is not empty, or a second `$`
+-- after `$` stands a word that is not empty, or a second `$`
 pub word-none : (m w ys : List ℕ) → word_at m ≡ (w, ys) → (w ≡ [] → ⊥) → byte_at 36 m ≡ None
 word-none [] w ys h some = refl
 word-none (b ∷ m) w ys h some = elim (cases_Bool (b == 36)) [

@@ -2,22 +2,19 @@
 use Rattle.std.proofs.Common.{◌≡◌, ◌<◌, ◌≤◌, ◌-◌, ◌++◌, ℕ, zero, suc, List, [], ◌∷◌, length, Some, None, refl, sym, ◌∙◌, arith, subst, inl, inr, length-append, leb-true, le-leb}
 use Rattle.std.specs.Prelude.{Option, nat_le}
 use Rattle.std.proofs.lemmas.Bool.{cases_Bool, lt-leb}
-use Rattle.mlk_text.specs.declared.operator.Op.{Op}
 use Rattle.mlk_text.specs.Reading.{◌>>=◌, with, put, many}
 use Rattle.mlk_text.specs.Lexemes.{byte_at}
 use Rattle.mlk_text.proofs.Lexemes.{byte-takes}
 use Rattle.mlk_text.proofs.Readers.{Exact, Takes, pair_parts, behind_length, many_fails}
 use Rattle.mlk_expr.specs.declared.refusal.Refusal.{Refusal}
 use Rattle.mlk_expr.specs.declared.refusal.Refusal.TheVariants.{OutOfMemory, Refused}
-use Rattle.mlk_expr.specs.Trees.{Tree}
-use Rattle.mlk_expr.specs.Lexemes.{op_at, is_match, count_at}
+use Rattle.mlk_expr.specs.Lexemes.{count_at}
 use Rattle.mlk_expr.specs.declared.scope.Allows.TheVariants.{Everything}
-use Rattle.mlk_expr.specs.Reading.{quietly, chain_with, at_most, right_by, matcher_by, some_atoms, pattern_at, operand_with, atom_at, rest_of}
-use Rattle.mlk_expr.proofs.Behind.{IsPattern, IsRight, IsAtom, IsMatcher}
+use Rattle.mlk_expr.specs.Reading.{quietly, chain_with, at_most, matcher_by, some_atoms, pattern_at, operand_with, atom_at, rest_of}
+use Rattle.mlk_expr.proofs.Behind.{IsPattern, IsMatcher}
 use Rattle.mlk_expr.specs.Outcome.{Fails, IsRefused, IsLike}
-use Rattle.mlk_expr.proofs.LexemeLemmas.{op-takes, count-takes}
-use Rattle.mlk_expr.proofs.Parts.{right-exact, matcher-exact, pattern-exact}
-use Rattle.mlk_expr.proofs.Operands.{atom-exact}
+use Rattle.mlk_expr.proofs.LexemeLemmas.{count-takes}
+use Rattle.mlk_expr.proofs.Parts.{matcher-exact, pattern-exact}
 
 pub loop_fails : {A B : Type 0} (head : List ℕ → Option (B × List ℕ)) (item : B → List ℕ → Option (A × List ℕ)) (front : List A) (n : ℕ) (xs : List ℕ) (whole : Option (List A × List ℕ))
     (b : B) (m : List ℕ) (e : Refusal) → head xs ≡ Some (b, m) → Fails e (item b m) → length xs < n → put front (many head item n xs) ≡ whole → Fails e whole
@@ -44,7 +41,7 @@ too_many front a most (Some r) full =
     let size = length-append front (a ∷ r.0) in
     rw (lt-leb (length (front ++ a ∷ r.0)) most (omega arith)) refl
 
--- a head behind as many items as there may be
+-- a head after as many items as there may be
 pub surplus : {A B : Type 0} (head : List ℕ → Option (B × List ℕ)) (item : B → List ℕ → Option (A × List ℕ)) (front : List A) (n : ℕ) (xs : List ℕ) (whole : Option (List A × List ℕ)) (most : ℕ)
     (b : B) (m : List ℕ) → head xs ≡ Some (b, m) → length xs < n → most ≤ length front → put front (many head item n xs) ≡ whole → (whole >>= at_most most) ≡ None
 unfolding many
@@ -86,7 +83,7 @@ from_rest OutOfMemory o h = tt
 from_rest (Refused r) None h = refl
 from_rest (Refused r) (Some p) h = cc h
 
--- what stands behind a head and an item is shorter
+-- what stands after a head and an item is shorter
 pub shorter : {A B : Type 0} (head : List ℕ → Option (B × List ℕ)) (read : List ℕ → Option (A × List ℕ)) (Is : A → List ℕ → List ℕ → Type 0) → Takes head → Exact read Is
     → (b : B) (a : A) (xs m ys : List ℕ) → head xs ≡ Some (b, m) → read m ≡ Some (a, ys) → length ys < length xs
 shorter head read Is t e b a xs m ys is one =

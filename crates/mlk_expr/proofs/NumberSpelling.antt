@@ -119,7 +119,7 @@ signed-length sign (d ∷ ds) ys (inr s) all some stop = elim s [
     digit-length : (if digits ((d ∷ ds) ++ ys) == 0 then 0 else suc (digits ((d ∷ ds) ++ ys))) ≡ suc (length (d ∷ ds))
     digit-length = let size = digits-length (d ∷ ds) ys all stop in rw size (some-suc (length (d ∷ ds)) some)
 
--- what stands behind the digits of a literal
+-- what stands after the digits of a literal
 exponent-length : (exponent ys : List ℕ) → IsExponent exponent → tame ys ≡ true
     → (exponent_len (exponent ++ ys) ≡ length exponent) × (lacks_exponent (exponent ++ ys) ≡ false) × (behind_count (exponent ++ ys) ≡ true)
 exponent-length exponent ys (inl is) t =
@@ -207,7 +207,7 @@ mantissa-is xs some = let (before, rest, is, all, stop) = digits-are xs in go be
           point before after zs (is ∙ ap (λ l. before ++ l) behind) all second end (size ∙ ap (point_len (length before)) behind) _ refl
     ]
 
--- what stands behind `E` where its sign and digits have a length
+-- what stands after `E` where its sign and digits have a length
 abbrev Signed : List ℕ → Type 0
 Signed zs = (sign ds ys : List ℕ) × (zs ≡ (sign ++ ds) ++ ys) × IsSign sign × (are_digits ds ≡ true) × (0 < length ds) × (signed_len zs ≡ length (sign ++ ds))
 
@@ -238,7 +238,7 @@ signed-is (b ∷ zs) some = elim (cases_Bool ((b == 43) || (b == 45))) [
       rw e (rw size (some-suc (length (d ∷ ds)) (omega arith))),
     )
 
--- what stands behind a literal's digits, where no `E` lacks its digits
+-- what stands after a literal's digits, where no `E` lacks its digits
 exponent-is : (zs : List ℕ) → lacks_exponent zs ≡ false → (exponent ys : List ℕ) × (zs ≡ exponent ++ ys) × IsExponent exponent × (exponent_len zs ≡ length exponent)
 exponent-is [] h = ([], [], refl, inl refl, refl)
 exponent-is (b ∷ zs) h = elim (cases_Bool (b == 69)) [

@@ -31,7 +31,7 @@ kept-exact may read Is e = record {
       | inr m ↦ cc (rw m at h)
     ]
 
--- items behind commas
+-- items after commas
 pub next-exact : {A : Type 0} (read : List ℕ → Option (A × List ℕ)) (Is : A → List ℕ → List ℕ → Type 0) → Exact read Is → (comma : ℕ) → Exact (next read comma) (Next Is comma)
 next-exact read Is e comma = record { sound = e.sound; complete = e.complete; behind = e.behind }
 
@@ -66,7 +66,7 @@ coded read count codes (b ∷ xs) ys h = elim (cases_Bool (b == 34)) [
   ]
 ]
 
--- what a pattern atom has behind its count
+-- what a pattern atom has after its count
 pub matcher-exact : (read : List ℕ → Option (List ℕ × List ℕ)) (Is : List ℕ → List ℕ → List ℕ → Type 0) → Exact read Is → (count : List ℕ) → Exact (matcher_by read count) (IsMatcher Is count)
 matcher-exact read Is e count = record { sound = go; complete = done; behind = back }
   where

@@ -1,4 +1,4 @@
--- Bytes of one kind as far as they go, and what may stand behind them.
+-- Bytes of one kind as far as they go, and what may stand after them.
 use Rattle.std.proofs.Common.{◌≡◌, ◌<◌, ℕ, suc, ◌++◌, List, [], ◌∷◌, length, take, drop, Some, None, Bool, true, false, refl, sym, ap, ◌∙◌, arith, inl, inr}
 use Rattle.std.specs.Prelude.{Option, ◌==◌, ◌&&◌, ◌||◌, not, if◌then◌else◌}
 use Rattle.std.specs.List.{list_all}
@@ -21,7 +21,7 @@ abbrev pub stops : (ℕ → Bool) → List ℕ → Bool
 stops p [] = true
 stops p (b ∷ xs) = not (p b)
 
--- a text is such bytes, as far as they go, and what is behind them
+-- a text is such bytes, as far as they go, and what is after them
 abbrev pub Run : (ℕ → Bool) → List ℕ → Type 0
 Run p xs = (front rest : List ℕ) × (xs ≡ front ++ rest) × (list_all p front ≡ true) × (stops p rest ≡ true) × (run p xs ≡ length front)
 
@@ -44,11 +44,11 @@ run-is p (b ∷ xs) = elim (cases_Bool (p b)) [
   | inr e ↦ ([], b ∷ xs, refl, refl, not_from_false (p b) e, rw e refl)
 ]
 
--- so many bytes at the front, and what is behind them
+-- so many bytes at the front, and what is after them
 pub parted : (n : ℕ) (front rest xs : List ℕ) → xs ≡ front ++ rest → n ≡ length front → (take n xs ≡ front) × (drop n xs ≡ rest)
 parted n front rest xs is size = rw is (rw size (take-append_seam front rest, drop-append_seam front rest))
 
--- so many bytes, at least one, and what is behind them
+-- so many bytes, at least one, and what is after them
 pub cut-reads : (n : ℕ) (text ys : List ℕ) → n ≡ length text → 0 < length text
     → if◌then◌else◌ {A = Option (List ℕ × List ℕ)} (n == 0) None (Some (take n (text ++ ys), drop n (text ++ ys))) ≡ Some (text, ys)
 cut-reads n text ys size some =
@@ -99,7 +99,7 @@ digits-list (d ∷ ds) = ap (λ t. is_digit d && t) (digits-list ds)
 pub digits-length : (ds ys : List ℕ) → are_digits ds ≡ true → stops is_digit ys ≡ true → digits (ds ++ ys) ≡ length ds
 digits-length ds ys all stop = digits-run (ds ++ ys) ∙ run-length is_digit ds ys (digits-list ds ∙ all) stop
 
--- a text is digits, as far as they go, and what is behind them
+-- a text is digits, as far as they go, and what is after them
 abbrev pub Digits : List ℕ → Type 0
 Digits xs = (front rest : List ℕ) × (xs ≡ front ++ rest) × (are_digits front ≡ true) × (stops is_digit rest ≡ true)
 

@@ -1,5 +1,5 @@
 -- What a reader gives where it is, by what may stand there.
-use Rattle.std.proofs.Common.{◌≡◌, ◌<◌, ◌≤◌, ◌-◌, ℕ, suc, length, arith, List, [], ◌∷◌, Some, None, true, false, Bool, refl, sym, ap, ◌∙◌, subst, inl, inr}
+use Rattle.std.proofs.Common.{◌≡◌, ◌<◌, ◌≤◌, ◌-◌, ℕ, length, arith, List, [], ◌∷◌, Some, None, true, false, Bool, refl, sym, ap, ◌∙◌, subst, inl, inr}
 use Rattle.std.specs.Prelude.{Option, Result, Ok, Err, IfOk, IfErr, ◌&&◌, ◌||◌, ◌==◌, if◌then◌else◌}
 use Rattle.std.specs.List.{list_all}
 use Rattle.std.proofs.lemmas.Bool.{cases_Bool, and_parts, eqb-true}
@@ -11,14 +11,14 @@ use Rattle.mlk_text.proofs.Lexemes.{byte-takes}
 use Rattle.mlk_text.proofs.Readers.{pair_parts, with_some, behind_length, Exact}
 use Rattle.mlk_expr.specs.declared.lexeme.Kind.TheVariants as kind
 use Rattle.mlk_expr.specs.declared.scope.Allows.{Allows}
-use Rattle.mlk_expr.specs.declared.scope.Allows.TheVariants.{Everything, NoCalls, NoTouches}
+use Rattle.mlk_expr.specs.declared.scope.Allows.TheVariants.{Everything, NoTouches}
 use Rattle.mlk_expr.specs.declared.scope.Scope.{Scope}
 use Rattle.mlk_expr.specs.declared.scope.Passing.{Passing}
 use Rattle.mlk_expr.specs.declared.scope.Passing.TheVariants.{ByReference, ByValue}
 use Rattle.mlk_expr.specs.Trees.{Tree, Lit, Free, LocalName, GlobalName, SpecialName, Prefixed, Chain, PatternText, Func, Selected, BareCall, CallOf, Trees, no_trees, tree, Subs, no_subs, sub, Links, no_links, link, Choices, no_choices, choice, ActualTree, Given, ByRef, Missing, Actuals, no_actuals, actual, subs_from}
 use Rattle.mlk_expr.specs.Touches.{Standing, may_stand, trees_may, subs_may, links_may, choices_may, actual_may, actuals_may, subs_stand, given_stand}
 use Rattle.mlk_expr.specs.Lexemes.{column_of, kind_of, op_at, is_match, lent_at, is_missing, starts_reference, ends}
-use Rattle.mlk_expr.specs.Reading.{kept, quietly, chain_with, subs_with, local_with, global_with, right_by, actual_by, actual_with, actuals_with, pattern_at, operand_with, atom_at, atom_in, nested_at, nested_in, quiet, operand_in, ended, expr_at, expr_in, reference_at, reference_by, reference_in, behind_open, list_by, actual_list_at, actual_list_in}
+use Rattle.mlk_expr.specs.Reading.{kept, quietly, chain_with, subs_with, local_with, global_with, right_by, actual_by, actual_with, pattern_at, operand_with, atom_at, atom_in, nested_at, nested_in, quiet, operand_in, ended, expr_at, expr_in, reference_at, reference_in, after_open, list_by, actual_list_at, actual_list_in}
 use Rattle.mlk_expr.specs.declared.fault.ReadError.{ReadError}
 use Rattle.mlk_expr.specs.declared.fault.ReadError.TheVariants.{OutOfMemory, Refused}
 use Rattle.mlk_expr.specs.Theorem.{Stands, Only, Refuses}
@@ -31,7 +31,7 @@ use Rattle.mlk_expr.proofs.Whole.{reference-exact, actual_list-exact}
 use Rattle.mlk_expr.proofs.Joined.{Same}
 use Rattle.mlk_expr.proofs.Places.{whole-exact}
 use Rattle.mlk_expr.proofs.Loops.{shorter, atom-above, atom-none}
-use Rattle.mlk_expr.proofs.Kept.{if-none, kept-with, kept-then, kept-after, kept-pair, kept-chain, kept-subs, kept-actuals, kept-operand, subs-all, passes-all}
+use Rattle.mlk_expr.proofs.Kept.{if-none, kept-then, kept-after, kept-pair, kept-chain, kept-subs, kept-actuals, kept-operand, subs-all, passes-all}
 
 and_true : (a b : Bool) → a ≡ true → b ≡ true → (a && b) ≡ true
 and_true a b h g = rw (h, g) refl
@@ -256,7 +256,7 @@ module _ (a : Allows) (end : ℕ) where
   unfolding actual_list_at actual_list_in
   actual_list_in-kept p xs = go (byte_at 40 xs)
     where
-      go : (o : Option (ℕ × List ℕ)) → kept (given_stand a p) (behind_open end o) ≡ list_by p inside63 o
+      go : (o : Option (ℕ × List ℕ)) → kept (given_stand a p) (after_open end o) ≡ list_by p inside63 o
       go None = refl
       go (Some b) = kept-actuals a end (chain_with (atom_at end 63) (pattern_at 63)) (nested_in inside63) chains63 p b.1
 

@@ -156,7 +156,7 @@ unfolding list_with
 list-fails item most xs OutOfMemory h = tt
 list-fails item most xs (Refused r) h = rw h refl
 
--- a name and what stands behind it
+-- a name and what stands after it
 module _ (atom item quiet : List ℕ → Option (Tree × List ℕ)) (f : Function) (most : ℕ) (xs : List ℕ) (first : Tree) (m : List ℕ) where
   abbrev argued : Option (List Tree × List ℕ)
   argued = put (first ∷ []) (many (byte_at 44) (next quiet) (suc (length m)) m) >>= at_most (suc most)

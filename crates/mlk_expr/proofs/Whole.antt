@@ -9,7 +9,7 @@ use Rattle.mlk_expr.specs.declared.scope.Passing.TheVariants.{ByReference}
 use Rattle.mlk_expr.specs.Trees.{ActualTree}
 use Rattle.mlk_expr.specs.Lexemes.{starts_reference}
 use Rattle.mlk_expr.proofs.Behind.{IsPattern, IsChain, IsActuals, IsAtom, IsReference, IsActualList}
-use Rattle.mlk_expr.specs.Reading.{pattern_at, chain_with, actuals_with, atom_at, reference_at, behind_open, actual_list_at}
+use Rattle.mlk_expr.specs.Reading.{pattern_at, chain_with, actuals_with, atom_at, reference_at, after_open, actual_list_at}
 use Rattle.mlk_expr.proofs.Arguments.{actuals-exact}
 use Rattle.mlk_expr.proofs.Operands.{atom-exact, expr-exact}
 
@@ -35,7 +35,7 @@ actual_list-exact end = by-list (actuals-exact end (chain_with (atom_at end 63) 
       behind = λ given xs ys (m, is, list). subst (λ z. Behind ys z) (sym is) (behind_then (40 ∷ m) m ys (behind-one 40 m) (l.behind given m ys list));
     }
       where
-        go : (given : List ActualTree) (xs ys : List ℕ) (o : Option (ℕ × List ℕ)) → byte_at 40 xs ≡ o → behind_open end o ≡ Some (given, ys)
+        go : (given : List ActualTree) (xs ys : List ℕ) (o : Option (ℕ × List ℕ)) → byte_at 40 xs ≡ o → after_open end o ≡ Some (given, ys)
             → (m : List ℕ) × (xs ≡ 40 ∷ m) × IsActuals end (IsChain (IsAtom end 63) (IsPattern 63)) given m ys
         go given xs ys None b h = cc h
         go given xs ys (Some o) b h = (o.1, byte-is 40 o.0 xs o.1 b, l.sound given o.1 ys h)

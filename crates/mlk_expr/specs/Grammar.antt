@@ -1,59 +1,73 @@
 -- The expressions of M, from trees to texts. `Is.. at t s` says that t is written as the text s, where s begins in the
 -- column `at`; a tree keeps the columns of some of its parts. What follows each other is joined by `++`.
-use Rattle.std.specs.Prelude.{ℕ, zero, suc, ◌≡◌, ◌≢◌, ◌<◌, ◌≤◌, ◌+◌, ◌⊎◌, Bool, true, false, List, [], ◌∷◌, ◌++◌, length, Option, Some, None}
+use Rattle.std.specs.Prelude.{ℕ, zero, suc, ◌≡◌, ◌≢◌, ◌<◌, ◌≤◌, ◌+◌, ◌⊎◌, Bool, true, false, List, [], ◌∷◌, ◌++◌}
+use Rattle.std.specs.Prelude.{length, Option, Some, None}
 use Rattle.mlk_text.specs.Numbers.{IsCanonical}
 use Rattle.mlk_text.specs.declared.operator.Op.{Op}
 use Rattle.mlk_expr.specs.declared.tree.Callee.{Callee}
 use Rattle.mlk_expr.specs.declared.tree.Function.{Function}
 use Rattle.mlk_expr.specs.declared.tree.Function.TheVariants as function
-use Rattle.mlk_expr.specs.Trees.{Tree, Lit, Free, LocalName, GlobalName, SpecialName, Prefixed, Chain, PatternText, Func, Selected, BareCall, CallOf, sub, ActualTree, Given, ByRef, Missing, trees_from, subs_from, links_from, choices_from, actuals_from}
+use Rattle.mlk_expr.specs.Trees.{Tree, Lit, Free, LocalName, GlobalName, SpecialName, Prefixed, Chain, PatternText}
+use Rattle.mlk_expr.specs.Trees.{Func, Selected, BareCall, CallOf, sub, ActualTree, Given, ByRef, Missing, trees_from}
+use Rattle.mlk_expr.specs.Trees.{subs_from, links_from, choices_from, actuals_from}
+use Rattle.mlk_expr.specs.declared.scope.Allows.{Allows}
 use Rattle.mlk_expr.specs.declared.scope.Allows.TheVariants.{NoTouches}
-use Rattle.mlk_expr.specs.Touches.{may_stand, Standing}
+use Rattle.mlk_expr.specs.declared.scope.Passing.{Passing}
+use Rattle.mlk_expr.specs.Touches.{may_stand, subs_stand, given_stand, Standing}
 use Rattle.mlk_expr.specs.Words.{special_of, function_of, is_select}
 use Rattle.mlk_expr.specs.Lexemes.{is_match, starts_reference}
 use Rattle.mlk_expr.specs.Spellings.{IsName, IsLabel, IsWord, IsNumber, IsQuoted, IsCount, IsCodes, op_text, unary_text}
 
--- items, each behind a comma
-abbrev pub AreNext : {A : Type 0} → (ℕ → A → List ℕ → Type 0) → ℕ → List A → List ℕ → Type 0
+-- how a thing is written, where its text begins in this column
+abbrev pub Spelled : Type 0 → Type 1
+Spelled A = ℕ → A → List ℕ → Type 0
+
+-- items, each after a comma
+abbrev pub AreNext : {A : Type 0} → Spelled A → ℕ → List A → List ℕ → Type 0
 AreNext Item at [] s = s ≡ []
-AreNext Item at (a ∷ items) s = (front rest : List ℕ) × (s ≡ 44 ∷ (front ++ rest)) × Item (suc at) a front × AreNext Item (suc (at + length front)) items rest
+AreNext Item at (a ∷ items) s = (front rest : List ℕ) × (s ≡ 44 ∷ (front ++ rest)) × Item (suc at) a front
+    × AreNext Item (suc (at + length front)) items rest
 
 -- one or more items with commas between them
-abbrev pub IsList : {A : Type 0} → (ℕ → A → List ℕ → Type 0) → ℕ → List A → List ℕ → Type 0
+abbrev pub IsList : {A : Type 0} → Spelled A → ℕ → List A → List ℕ → Type 0
 IsList {A = A} Item at items s = (first : A) × (others : List A) × (front rest : List ℕ)
-    × (items ≡ first ∷ others) × (s ≡ front ++ rest) × Item at first front × AreNext Item (at + length front) others rest
+    × (items ≡ first ∷ others) × (s ≡ front ++ rest) × Item at first front
+    × AreNext Item (at + length front) others rest
 
 -- a text in parentheses
 abbrev pub IsEnclosed : List ℕ → List ℕ → Type 0
 IsEnclosed inner s = s ≡ 40 ∷ (inner ++ 41 ∷ [])
 
--- What a pattern atom has behind its count: codes, a text, or one of several patterns, whose columns nobody keeps.
+-- What a pattern atom has after its count: codes, a text, or one of several patterns, whose columns nobody keeps.
 -- Standard: pattern match, patatom.
 abbrev pub IsMatcher : (List ℕ → Type 0) → List ℕ → Type 0
 IsMatcher Deep s = IsCodes s
     ⊎ ((value : List ℕ) × IsQuoted value s)
-    ⊎ ((inner : List ℕ) × (choices : List (List ℕ)) × IsEnclosed inner s × IsList (λ at choice t. (t ≡ choice) × Deep choice) 0 choices inner)
+    ⊎ ((inner : List ℕ) × (choices : List (List ℕ)) × IsEnclosed inner s
+    × IsList (λ at choice t. (t ≡ choice) × Deep choice) 0 choices inner)
 
--- counts, each with its matcher behind it
+-- counts, each with its matcher after it
 abbrev pub AreAtoms : (List ℕ → Type 0) → List (List ℕ) → List ℕ → Type 0
 AreAtoms Deep [] s = s ≡ []
-AreAtoms Deep (count ∷ counts) s = (matcher rest : List ℕ) × (s ≡ count ++ (matcher ++ rest)) × IsCount count × IsMatcher Deep matcher × AreAtoms Deep counts rest
+AreAtoms Deep (count ∷ counts) s = (matcher rest : List ℕ) × (s ≡ count ++ (matcher ++ rest)) × IsCount count
+    × IsMatcher Deep matcher × AreAtoms Deep counts rest
 
 -- A pattern: one or more atoms; alternatives lie one deeper. Standard: pattern match.
 unfoldable pub IsPattern : ℕ → List ℕ → Type 0
 IsPattern zero s = ⊥
 IsPattern (suc k) s = (counts : List (List ℕ)) × (0 < length counts) × AreAtoms (IsPattern k) counts s
 
--- what stands behind an operator: a pattern behind a pattern match, an operand behind any other
-abbrev pub IsRight : (ℕ → Tree → List ℕ → Type 0) → (List ℕ → Type 0) → Bool → ℕ → Tree → List ℕ → Type 0
+-- what stands after an operator: a pattern after a pattern match, an operand after any other
+abbrev pub IsRight : Spelled Tree → (List ℕ → Type 0) → Bool → ℕ → Tree → List ℕ → Type 0
 IsRight Atom Pattern false at t s = Atom at t s
 IsRight Atom Pattern true at t s = (t ≡ PatternText s) × Pattern s
 
--- operators, each with what stands behind it
-abbrev pub AreLinks : (ℕ → Tree → List ℕ → Type 0) → (List ℕ → Type 0) → ℕ → List (Op × Tree) → List ℕ → Type 0
+-- operators, each with what stands after it
+abbrev pub AreLinks : Spelled Tree → (List ℕ → Type 0) → ℕ → List (Op × Tree) → List ℕ → Type 0
 AreLinks Atom Pattern at [] s = s ≡ []
 AreLinks Atom Pattern at (l ∷ links) s = (right rest : List ℕ) × (s ≡ op_text l.0 ++ (right ++ rest))
-    × IsRight Atom Pattern (is_match l.0) (at + length (op_text l.0)) l.1 right × AreLinks Atom Pattern (at + length (op_text l.0) + length right) links rest
+    × IsRight Atom Pattern (is_match l.0) (at + length (op_text l.0)) l.1 right
+    × AreLinks Atom Pattern (at + length (op_text l.0) + length right) links rest
 
 -- one operand stands for itself, more for a chain, which is assigned from the left
 abbrev pub chained : Tree → List (Op × Tree) → Tree
@@ -61,32 +75,35 @@ chained t [] = t
 chained t (l ∷ ls) = Chain t (links_from (l ∷ ls))
 
 -- Operands with operators between them. Standard: expr, without precedence.
-abbrev pub IsChain : (ℕ → Tree → List ℕ → Type 0) → (List ℕ → Type 0) → ℕ → Tree → List ℕ → Type 0
+abbrev pub IsChain : Spelled Tree → (List ℕ → Type 0) → ℕ → Tree → List ℕ → Type 0
 IsChain Atom Pattern at t s = (first : Tree) × (links : List (Op × Tree)) × (front rest : List ℕ)
-    × (t ≡ chained first links) × (s ≡ front ++ rest) × Atom at first front × AreLinks Atom Pattern (at + length front) links rest
+    × (t ≡ chained first links) × (s ≡ front ++ rest) × Atom at first front
+    × AreLinks Atom Pattern (at + length front) links rest
 
 -- an item with its column
-abbrev pub IsPlaced : (ℕ → Tree → List ℕ → Type 0) → ℕ → ℕ × Tree → List ℕ → Type 0
+abbrev pub IsPlaced : Spelled Tree → ℕ → ℕ × Tree → List ℕ → Type 0
 IsPlaced Item at p s = (p.0 ≡ at) × Item at p.1 s
 
 -- Subscripts: none, or a list in parentheses; at most 32. Standard: local and global variables; the number is this
 -- project's own choice.
-abbrev pub IsSubs : (ℕ → Tree → List ℕ → Type 0) → ℕ → List (ℕ × Tree) → List ℕ → Type 0
+abbrev pub IsSubs : Spelled Tree → ℕ → List (ℕ × Tree) → List ℕ → Type 0
 IsSubs Item at [] s = s ≡ []
-IsSubs Item at (p ∷ subs) s = (inner : List ℕ) × IsEnclosed inner s × IsList (IsPlaced Item) (suc at) (p ∷ subs) inner × (length (p ∷ subs) ≤ 32)
+IsSubs Item at (p ∷ subs) s = (inner : List ℕ) × IsEnclosed inner s × IsList (IsPlaced Item) (suc at) (p ∷ subs) inner
+    × (length (p ∷ subs) ≤ 32)
 
--- An actual: a name behind a point, nothing, or an expression. Standard: actual parameters.
-abbrev pub IsActual : (ℕ → Tree → List ℕ → Type 0) → ℕ → ActualTree → List ℕ → Type 0
+-- An actual: a name after a point, nothing, or an expression. Standard: actual parameters.
+abbrev pub IsActual : Spelled Tree → ℕ → ActualTree → List ℕ → Type 0
 IsActual Item at (ByRef column name) s = (s ≡ 46 ∷ name) × (column ≡ at) × IsName name
 IsActual Item at Missing s = s ≡ []
 IsActual Item at (Given t) s = Item at t s
 
 -- actuals in parentheses: `()` has none
-abbrev pub IsActuals : (ℕ → Tree → List ℕ → Type 0) → ℕ → List ActualTree → List ℕ → Type 0
+abbrev pub IsActuals : Spelled Tree → ℕ → List ActualTree → List ℕ → Type 0
 IsActuals Item at [] s = s ≡ 40 ∷ 41 ∷ []
-IsActuals Item at (a ∷ more) s = (inner : List ℕ) × IsEnclosed inner s × IsList (IsActual Item) (suc at) (a ∷ more) inner × (inner ≢ [])
+IsActuals Item at (a ∷ more) s = (inner : List ℕ) × IsEnclosed inner s
+    × IsList (IsActual Item) (suc at) (a ∷ more) inner × (inner ≢ [])
 
--- the first argument of these names a variable, and they have so many arguments behind it at most
+-- the first argument of these names a variable, and they have so many arguments after it at most
 abbrev pub named : Function → Option ℕ
 named function.Data = Some 0
 named function.Get = Some 1
@@ -107,17 +124,19 @@ asks_subscript f = false
 
 -- Arguments: expressions, or a name and what may stand after it, which holds no global and no call, since it is not
 -- certain whether the name's node or that is evaluated first. Standard: functions.
-abbrev pub AreArguments : (ℕ → Tree → List ℕ → Type 0) → (ℕ → Tree → List ℕ → Type 0) → Function → Option ℕ → ℕ → List Tree → List ℕ → Type 0
+abbrev pub AreArguments : Spelled Tree → Spelled Tree → Function → Option ℕ → ℕ → List Tree → List ℕ → Type 0
 AreArguments Atom Item f None at args s = IsList Item at args s
 AreArguments Atom Item f (Some most) at args s = (first : Tree) × (others : List Tree) × (front rest : List ℕ)
-    × (args ≡ first ∷ others) × (s ≡ front ++ rest) × Atom at first front × (starts_reference front ≡ true) × (asks_subscript f ≡ true → has_subscript first ≡ true)
+    × (args ≡ first ∷ others) × (s ≡ front ++ rest) × Atom at first front × (starts_reference front ≡ true)
+    × (asks_subscript f ≡ true → has_subscript first ≡ true)
     × AreNext (Standing (may_stand NoTouches) Item) (at + length front) others rest × (length others ≤ most)
 
 -- a condition and its value
-abbrev pub IsChoice : (ℕ → Tree → List ℕ → Type 0) → ℕ → Tree × Tree → List ℕ → Type 0
-IsChoice Item at c s = (front rest : List ℕ) × (s ≡ front ++ 58 ∷ rest) × Item at c.0 front × Item (suc (at + length front)) c.1 rest
+abbrev pub IsChoice : Spelled Tree → ℕ → Tree × Tree → List ℕ → Type 0
+IsChoice Item at c s = (front rest : List ℕ) × (s ≡ front ++ 58 ∷ rest) × Item at c.0 front
+    × Item (suc (at + length front)) c.1 rest
 
--- What a call names, behind `$$`. Standard: extrinsic functions, labelref.
+-- What a call names, after `$$`. Standard: extrinsic functions, labelref.
 abbrev pub IsCallee : Option (List ℕ) → Option (List ℕ) → List ℕ → Type 0
 IsCallee (Some label) None s = (s ≡ label) × IsLabel label
 IsCallee (Some label) (Some routine) s = (s ≡ label ++ 94 ∷ routine) × IsLabel label × IsName routine
@@ -127,15 +146,18 @@ IsCallee None None s = ⊥
 -- An operand without parentheses round it. `Atom` and `Pattern` are what lies one deeper. Standard: expratom. What has
 -- no case here is left out: indirection, naked references, structured system variables, other functions and special
 -- variables, external calls, environments.
-abbrev pub IsPlain : (ℕ → Tree → List ℕ → Type 0) → (List ℕ → Type 0) → ℕ → Tree → List ℕ → Type 0
+abbrev pub IsPlain : Spelled Tree → (List ℕ → Type 0) → ℕ → Tree → List ℕ → Type 0
 IsPlain Atom Pattern at (Lit value) s = IsCanonical s value ⊎ IsQuoted value s
 IsPlain Atom Pattern at Free s = IsNumber s × ((value : List ℕ) → IsCanonical s value → ⊥)
 IsPlain Atom Pattern at (LocalName name subs) s = (part : List ℕ) × (items : List (ℕ × Tree))
-    × (s ≡ name ++ part) × IsName name × IsSubs (IsChain Atom Pattern) (at + length name) items part × (subs ≡ subs_from items)
+    × (s ≡ name ++ part) × IsName name × IsSubs (IsChain Atom Pattern) (at + length name) items part
+    × (subs ≡ subs_from items)
 IsPlain Atom Pattern at (GlobalName column name subs) s = (part : List ℕ) × (items : List (ℕ × Tree))
-    × (s ≡ 94 ∷ (name ++ part)) × (column ≡ at) × IsName name × IsSubs (IsChain Atom Pattern) (suc at + length name) items part × (subs ≡ subs_from items)
+    × (s ≡ 94 ∷ (name ++ part)) × (column ≡ at) × IsName name
+    × IsSubs (IsChain Atom Pattern) (suc at + length name) items part × (subs ≡ subs_from items)
 IsPlain Atom Pattern at (SpecialName special) s = (w : List ℕ) × (s ≡ 36 ∷ w) × IsWord w × (special_of w ≡ Some special)
-IsPlain Atom Pattern at (Prefixed op t) s = (operand : List ℕ) × (s ≡ unary_text op ++ operand) × Atom (suc at) t operand
+IsPlain Atom Pattern at (Prefixed op t) s = (operand : List ℕ) × (s ≡ unary_text op ++ operand)
+    × Atom (suc at) t operand
 IsPlain Atom Pattern at (Chain t ls) s = ⊥
 IsPlain Atom Pattern at (PatternText text) s = ⊥
 IsPlain Atom Pattern at (Func f args) s = (w inner part : List ℕ) × (items : List Tree)
@@ -144,14 +166,16 @@ IsPlain Atom Pattern at (Func f args) s = (w inner part : List ℕ) × (items : 
 IsPlain Atom Pattern at (Selected choices) s = (w inner part : List ℕ) × (items : List (Tree × Tree))
     × (s ≡ 36 ∷ (w ++ part)) × IsWord w × (is_select w ≡ true) × IsEnclosed inner part
     × IsList (IsChoice (IsChain Atom Pattern)) (2 + (at + length w)) items inner × (choices ≡ choices_from items)
-IsPlain Atom Pattern at (BareCall column callee) s = (called : List ℕ) × (s ≡ 36 ∷ 36 ∷ called) × (column ≡ at) × IsCallee callee.label callee.routine called
+IsPlain Atom Pattern at (BareCall column callee) s = (called : List ℕ) × (s ≡ 36 ∷ 36 ∷ called) × (column ≡ at)
+    × IsCallee callee.label callee.routine called
 IsPlain Atom Pattern at (CallOf column callee actuals) s = (called part : List ℕ) × (given : List ActualTree)
     × (s ≡ 36 ∷ 36 ∷ (called ++ part)) × (column ≡ at) × IsCallee callee.label callee.routine called
     × IsActuals (IsChain Atom Pattern) (2 + (at + length called)) given part × (actuals ≡ actuals_from given)
 
 -- an operand, perhaps in parentheses, which leave no node
-abbrev pub IsOperand : (ℕ → Tree → List ℕ → Type 0) → (List ℕ → Type 0) → ℕ → Tree → List ℕ → Type 0
-IsOperand Atom Pattern at t s = IsPlain Atom Pattern at t s ⊎ ((inner : List ℕ) × IsEnclosed inner s × IsChain Atom Pattern (suc at) t inner)
+abbrev pub IsOperand : Spelled Tree → (List ℕ → Type 0) → ℕ → Tree → List ℕ → Type 0
+IsOperand Atom Pattern at t s = IsPlain Atom Pattern at t s
+    ⊎ ((inner : List ℕ) × IsEnclosed inner s × IsChain Atom Pattern (suc at) t inner)
 
 -- an operand that nests at most this deep
 unfoldable pub IsAtom : ℕ → ℕ → Tree → List ℕ → Type 0
@@ -183,3 +207,14 @@ IsLabelText at label s = (s ≡ label) × IsLabel label
 
 abbrev pub IsCalleeText : ℕ → Callee → List ℕ → Type 0
 IsCalleeText at c s = IsCallee c.label c.routine s
+
+-- the same where not everything may stand: in an expression; in the subscripts of a name; in an actual list, where it
+-- may be that names can't be passed by reference either
+abbrev pub IsExprWhere : Allows → ℕ → Tree → List ℕ → Type 0
+IsExprWhere a = Standing (may_stand a) IsExpr
+
+abbrev pub IsReferenceWhere : Allows → ℕ → Tree → List ℕ → Type 0
+IsReferenceWhere a = Standing (subs_stand a) IsReference
+
+abbrev pub IsActualListWhere : Allows → Passing → ℕ → List ActualTree → List ℕ → Type 0
+IsActualListWhere a p = Standing (given_stand a p) IsActualList

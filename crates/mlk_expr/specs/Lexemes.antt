@@ -1,5 +1,6 @@
 -- The smallest parts of expressions, each as long as it goes.
-use Rattle.std.specs.Prelude.{ℕ, suc, ◌+◌, ◌-◌, ◌==◌, ◌&&◌, ◌||◌, if◌then◌else◌, Bool, true, false, List, [], ◌∷◌, length, Option, Some, None, take, drop}
+use Rattle.std.specs.Prelude.{ℕ, suc, ◌+◌, ◌-◌, ◌==◌, ◌&&◌, ◌||◌, if◌then◌else◌, Bool, true, false, List, [], ◌∷◌}
+use Rattle.std.specs.Prelude.{length, Option, Some, None, take, drop}
 use Rattle.mlk_text.specs.Lexemes.{is_digit, is_letter, digits, byte_at, name_at, digits_at}
 use Rattle.mlk_text.specs.Reading.{with}
 use Rattle.mlk_text.specs.declared.operator.Op.{Op}
@@ -41,7 +42,7 @@ relation_of b =
     else if b == 63 then Some relation.Matches
     else None
 
--- what a byte stands for, with what is behind it
+-- what a byte stands for, with what is after it
 abbrev pub one_byte : {A : Type 0} → Option A → List ℕ → Option (A × List ℕ)
 one_byte None xs = None
 one_byte (Some a) xs = Some (a, xs)
@@ -54,14 +55,16 @@ twice_or two (Some second) one = Some (two, second.1)
 -- `]]` is longer than `]`
 unfoldable pub relation_at : List ℕ → Option (Relation × List ℕ)
 relation_at [] = None
-relation_at (b ∷ xs) = if b == 93 then twice_or relation.SortsAfter (byte_at 93 xs) (Some (relation.Follows, xs)) else one_byte (relation_of b) xs
+relation_at (b ∷ xs) = if b == 93 then twice_or relation.SortsAfter (byte_at 93 xs) (Some (relation.Follows, xs))
+    else one_byte (relation_of b) xs
 
 -- `**` is longer than `*`
 unfoldable pub arithmetic_at : List ℕ → Option (Op × List ℕ)
 arithmetic_at [] = None
-arithmetic_at (b ∷ xs) = if b == 42 then twice_or op.Power (byte_at 42 xs) (Some (op.Multiply, xs)) else one_byte (arithmetic_of b) xs
+arithmetic_at (b ∷ xs) = if b == 42 then twice_or op.Power (byte_at 42 xs) (Some (op.Multiply, xs))
+    else one_byte (arithmetic_of b) xs
 
--- the longest operator at the front: a relation may stand behind `'`
+-- the longest operator at the front: a relation may stand after `'`
 abbrev pub op_by : List ℕ → Option (ℕ × List ℕ) → Option (Op × List ℕ)
 op_by xs None = or_else (with op.Is (relation_at xs)) (arithmetic_at xs)
 op_by xs (Some quote) = with op.IsNot (relation_at quote.1)
@@ -99,15 +102,17 @@ kind_of b =
     else if is_letter b || (b == 37) then kind.Letter
     else kind_by b (unary_of b)
 
--- the length of digits with a point among, before or behind them: 0 where no digit stands
+-- the length of digits with a point among, before or after them: 0 where no digit stands
 abbrev pub point_len : ℕ → List ℕ → ℕ
 point_len whole [] = whole
-point_len whole (b ∷ xs) = if b == 46 then (if (whole == 0) && (digits xs == 0) then 0 else whole + suc (digits xs)) else whole
+point_len whole (b ∷ xs) = if b == 46 then (if (whole == 0) && (digits xs == 0) then 0 else whole + suc (digits xs))
+    else whole
 
 -- the length of `E`, an optional sign and digits: 0 where it stands not whole. Standard: numeric literals, exponent
 abbrev pub signed_len : List ℕ → ℕ
 signed_len [] = 0
-signed_len (b ∷ xs) = if (b == 43) || (b == 45) then (if digits xs == 0 then 0 else suc (digits xs)) else digits (b ∷ xs)
+signed_len (b ∷ xs) = if (b == 43) || (b == 45) then (if digits xs == 0 then 0 else suc (digits xs))
+    else digits (b ∷ xs)
 
 abbrev pub exponent_len : List ℕ → ℕ
 exponent_len [] = 0
@@ -118,7 +123,7 @@ abbrev pub lacks_exponent : List ℕ → Bool
 lacks_exponent [] = false
 lacks_exponent (b ∷ xs) = (b == 69) && (signed_len xs == 0)
 
--- A numeric literal as it is written; with an `E` behind it that has no digits it is none. Standard: numeric literals.
+-- A numeric literal as it is written; with an `E` after it that has no digits it is none. Standard: numeric literals.
 unfoldable pub mantissa_len : List ℕ → ℕ
 mantissa_len xs = point_len (digits xs) (drop (digits xs) xs)
 
@@ -156,7 +161,7 @@ pattern_codes_at xs = let n = pattern_codes xs in if n == 0 then None else Some 
 unfoldable pub label_at : List ℕ → Option (List ℕ × List ℕ)
 label_at xs = or_else (name_at xs) (digits_at xs)
 
--- a name behind a point: an actual by reference
+-- a name after a point: an actual by reference
 abbrev pub lent_by : Option (ℕ × List ℕ) → Option (List ℕ × List ℕ)
 lent_by None = None
 lent_by (Some p) = name_at p.1

@@ -1,5 +1,6 @@
 -- Reading expressions, as functions on lists: what the code's readers give.
-use Rattle.std.specs.Prelude.{ℕ, zero, suc, ◌-◌, ◌==◌, ◌&&◌, nat_le, if◌then◌else◌, Bool, true, false, not, List, [], ◌∷◌, length, Option, Some, None, take}
+use Rattle.std.specs.Prelude.{ℕ, zero, suc, ◌-◌, ◌==◌, ◌&&◌, nat_le, if◌then◌else◌, Bool, true, false, not, List, []}
+use Rattle.std.specs.Prelude.{◌∷◌, length, Option, Some, None, take}
 use Rattle.mlk_text.specs.Reading.{◌>>=◌, with, many}
 use Rattle.mlk_text.specs.Lexemes.{byte_at, name_at, inside}
 use Rattle.mlk_text.specs.Canonical.{canonical_text}
@@ -9,7 +10,9 @@ use Rattle.mlk_expr.specs.declared.tree.Function.{Function}
 use Rattle.mlk_expr.specs.declared.tree.Special.{Special}
 use Rattle.mlk_expr.specs.declared.lexeme.Kind.{Kind}
 use Rattle.mlk_expr.specs.declared.lexeme.Kind.TheVariants as kind
-use Rattle.mlk_expr.specs.Trees.{Tree, Lit, Free, LocalName, GlobalName, SpecialName, Prefixed, PatternText, Func, Selected, BareCall, CallOf, ActualTree, Given, ByRef, Missing, trees_from, subs_from, choices_from, actuals_from}
+use Rattle.mlk_expr.specs.Trees.{Tree, Lit, Free, LocalName, GlobalName, SpecialName, Prefixed, PatternText, Func}
+use Rattle.mlk_expr.specs.Trees.{Selected, BareCall, CallOf, ActualTree, Given, ByRef, Missing, trees_from, subs_from}
+use Rattle.mlk_expr.specs.Trees.{choices_from, actuals_from}
 use Rattle.mlk_expr.specs.declared.scope.Allows.{Allows}
 use Rattle.mlk_expr.specs.declared.scope.Allows.TheVariants.{Everything, NoTouches}
 use Rattle.mlk_expr.specs.declared.scope.Scope.{Scope}
@@ -17,8 +20,13 @@ use Rattle.mlk_expr.specs.declared.scope.Passing.{Passing}
 use Rattle.mlk_expr.specs.declared.scope.Passing.TheVariants.{ByReference}
 use Rattle.mlk_expr.specs.Touches.{globals_may, calls_may, may_stand, lends}
 use Rattle.mlk_expr.specs.Words.{word_at, special_of, function_of, is_select}
-use Rattle.mlk_expr.specs.Lexemes.{column_of, kind_of, op_at, is_match, numeral_at, count_at, pattern_codes_at, label_at, lent_at, starts_reference, is_missing, ends}
+use Rattle.mlk_expr.specs.Lexemes.{column_of, kind_of, op_at, is_match, numeral_at, count_at, pattern_codes_at}
+use Rattle.mlk_expr.specs.Lexemes.{label_at, lent_at, starts_reference, is_missing, ends}
 use Rattle.mlk_expr.specs.Grammar.{chained, named, has_subscript, asks_subscript}
+
+-- what reads something gives it with what is after it, or nothing
+abbrev pub Reader : Type 0 → Type 0
+Reader A = List ℕ → Option (A × List ℕ)
 
 -- what was read, where it may stand
 abbrev pub kept : {A : Type 0} → (A → Bool) → Option (A × List ℕ) → Option (A × List ℕ)
@@ -39,10 +47,10 @@ abbrev pub number_of : List ℕ → Tree
 number_of text = number_by (canonical_text text)
 
 -- lists in parentheses
-abbrev pub next : {A : Type 0} → (List ℕ → Option (A × List ℕ)) → ℕ → List ℕ → Option (A × List ℕ)
+abbrev pub next : {A : Type 0} → Reader A → ℕ → Reader A
 next item comma xs = item xs
 
-unfoldable pub list_with : {A : Type 0} → (List ℕ → Option (A × List ℕ)) → List ℕ → Option (List A × List ℕ)
+unfoldable pub list_with : {A : Type 0} → Reader A → Reader (List A)
 list_with item xs =
     item xs >>= λ first.
     many (byte_at 44) (next item) (suc (length first.1)) first.1 >>= λ others.
@@ -56,7 +64,7 @@ abbrev pub few : {A : Type 0} → ℕ → Option (List A × List ℕ) → Option
 few most read = read >>= at_most most
 
 -- patterns
-abbrev pub matcher_by : (List ℕ → Option (List ℕ × List ℕ)) → List ℕ → List ℕ → Option (List ℕ × List ℕ)
+abbrev pub matcher_by : Reader (List ℕ) → List ℕ → Reader (List ℕ)
 matcher_by deep count [] = None
 matcher_by deep count (b ∷ xs) =
     if b == 34 then with (λ _. count) (inside xs)
@@ -67,48 +75,48 @@ abbrev pub some_atoms : List ℕ → List (List ℕ) × List ℕ → Option (Lis
 some_atoms xs ([], rest) = None
 some_atoms xs (c ∷ cs, rest) = Some (take (length xs - length rest) xs, rest)
 
-unfoldable pub pattern_at : ℕ → List ℕ → Option (List ℕ × List ℕ)
+unfoldable pub pattern_at : ℕ → Reader (List ℕ)
 pattern_at zero xs = None
 pattern_at (suc k) xs = many count_at (matcher_by (pattern_at k)) (suc (length xs)) xs >>= some_atoms xs
 
 -- chains
-abbrev pub right_by : (List ℕ → Option (Tree × List ℕ)) → (List ℕ → Option (List ℕ × List ℕ)) → Bool → List ℕ → Option (Tree × List ℕ)
+abbrev pub right_by : Reader Tree → Reader (List ℕ) → Bool → Reader Tree
 right_by atom pattern false xs = atom xs
 right_by atom pattern true xs = with PatternText (pattern xs)
 
-abbrev pub linked : (List ℕ → Option (Tree × List ℕ)) → (List ℕ → Option (List ℕ × List ℕ)) → Op → List ℕ → Option ((Op × Tree) × List ℕ)
+abbrev pub linked : Reader Tree → Reader (List ℕ) → Op → Reader (Op × Tree)
 linked atom pattern op xs = with (λ t. (op, t)) (right_by atom pattern (is_match op) xs)
 
-unfoldable pub chain_with : (List ℕ → Option (Tree × List ℕ)) → (List ℕ → Option (List ℕ × List ℕ)) → List ℕ → Option (Tree × List ℕ)
+unfoldable pub chain_with : Reader Tree → Reader (List ℕ) → Reader Tree
 chain_with atom pattern xs =
     atom xs >>= λ first.
     many op_at (linked atom pattern) (suc (length first.1)) first.1 >>= λ rest.
     Some (chained first.0 rest.0, rest.1)
 
 -- subscripts
-abbrev pub placed : ℕ → (List ℕ → Option (Tree × List ℕ)) → List ℕ → Option ((ℕ × Tree) × List ℕ)
+abbrev pub placed : ℕ → Reader Tree → Reader (ℕ × Tree)
 placed end item xs = with (λ t. (column_of end xs, t)) (item xs)
 
-abbrev pub subs_by : ℕ → (List ℕ → Option (Tree × List ℕ)) → List ℕ → Option (ℕ × List ℕ) → Option (List (ℕ × Tree) × List ℕ)
+abbrev pub subs_by : ℕ → Reader Tree → List ℕ → Option (ℕ × List ℕ) → Option (List (ℕ × Tree) × List ℕ)
 subs_by end item xs None = Some ([], xs)
 subs_by end item xs (Some open') = list_with (placed end item) open'.1 >>= at_most 32
 
-unfoldable pub subs_with : ℕ → (List ℕ → Option (Tree × List ℕ)) → List ℕ → Option (List (ℕ × Tree) × List ℕ)
+unfoldable pub subs_with : ℕ → Reader Tree → Reader (List (ℕ × Tree))
 subs_with end item xs = subs_by end item xs (byte_at 40 xs)
 
 -- actuals
-abbrev pub actual_by : Passing → ℕ → (List ℕ → Option (Tree × List ℕ)) → List ℕ → Option (List ℕ × List ℕ) → Option (ActualTree × List ℕ)
+abbrev pub actual_by : Passing → ℕ → Reader Tree → List ℕ → Option (List ℕ × List ℕ) → Option (ActualTree × List ℕ)
 actual_by passing end item xs (Some n) = where_may (lends passing) (Some (ByRef (column_of end xs) n.0, n.1))
 actual_by passing end item xs None = if is_missing xs then Some (Missing, xs) else with Given (item xs)
 
-unfoldable pub actual_with : Passing → ℕ → (List ℕ → Option (Tree × List ℕ)) → List ℕ → Option (ActualTree × List ℕ)
+unfoldable pub actual_with : Passing → ℕ → Reader Tree → Reader ActualTree
 actual_with passing end item xs = actual_by passing end item xs (lent_at xs)
 
-abbrev pub actuals_by : Passing → ℕ → (List ℕ → Option (Tree × List ℕ)) → List ℕ → Option (ℕ × List ℕ) → Option (List ActualTree × List ℕ)
+abbrev pub actuals_by : Passing → ℕ → Reader Tree → List ℕ → Option (ℕ × List ℕ) → Option (List ActualTree × List ℕ)
 actuals_by passing end item xs (Some close) = Some ([], close.1)
 actuals_by passing end item xs None = list_with (actual_with passing end item) xs
 
-unfoldable pub actuals_with : Passing → ℕ → (List ℕ → Option (Tree × List ℕ)) → List ℕ → Option (List ActualTree × List ℕ)
+unfoldable pub actuals_with : Passing → ℕ → Reader Tree → Reader (List ActualTree)
 actuals_with passing end item xs = actuals_by passing end item xs (byte_at 41 xs)
 
 -- calls
@@ -132,116 +140,126 @@ callee_by xs None = label_at xs >>= λ label. routine_by label.0 label.1 (byte_a
 unfoldable pub callee_at : List ℕ → Option (Callee × List ℕ)
 callee_at xs = callee_by xs (byte_at 94 xs)
 
-abbrev pub call_by : ℕ → (List ℕ → Option (Tree × List ℕ)) → ℕ → Callee → List ℕ → Option (ℕ × List ℕ) → Option (Tree × List ℕ)
+abbrev pub call_by : ℕ → Reader Tree → ℕ → Callee → List ℕ → Option (ℕ × List ℕ) → Option (Tree × List ℕ)
 call_by end item column callee rest None = Some (BareCall column callee, rest)
-call_by end item column callee rest (Some open') = with (λ given. CallOf column callee (actuals_from given)) (actuals_with ByReference end item open'.1)
+call_by end item column callee rest (Some open') =
+    with (λ given. CallOf column callee (actuals_from given)) (actuals_with ByReference end item open'.1)
 
-unfoldable pub call_with : Bool → ℕ → (List ℕ → Option (Tree × List ℕ)) → ℕ → List ℕ → Option (Tree × List ℕ)
-call_with may end item column xs = where_may may (callee_at xs) >>= λ callee. call_by end item column callee.0 callee.1 (byte_at 40 callee.1)
+unfoldable pub call_with : Bool → ℕ → Reader Tree → ℕ → Reader Tree
+call_with may end item column xs = where_may may (callee_at xs) >>=
+    λ callee. call_by end item column callee.0 callee.1 (byte_at 40 callee.1)
 
 -- functions
-abbrev pub choice_with : (List ℕ → Option (Tree × List ℕ)) → List ℕ → Option ((Tree × Tree) × List ℕ)
-choice_with item xs = item xs >>= λ condition. byte_at 58 condition.1 >>= λ colon. with (λ value. (condition.0, value)) (item colon.1)
+abbrev pub choice_with : Reader Tree → Reader (Tree × Tree)
+choice_with item xs = item xs >>= λ condition. byte_at 58 condition.1 >>=
+    λ colon. with (λ value. (condition.0, value)) (item colon.1)
 
 abbrev pub others_by : ℕ → Tree → List Tree × List ℕ → Option (List Tree × List ℕ)
-others_by most first others = if nat_le (length others.0) most then with (λ _. first ∷ others.0) (byte_at 41 others.1) else None
+others_by most first others = if nat_le (length others.0) most then with (λ _. first ∷ others.0) (byte_at 41 others.1)
+    else None
 
-abbrev pub name_and : (List ℕ → Option (Tree × List ℕ)) → Function → ℕ → Tree × List ℕ → Option (List Tree × List ℕ)
+abbrev pub name_and : Reader Tree → Function → ℕ → Tree × List ℕ → Option (List Tree × List ℕ)
 name_and item f most first =
     if asks_subscript f && not (has_subscript first.0) then None
     else many (byte_at 44) (next item) (suc (length first.1)) first.1 >>= others_by most first.0
 
 -- `quiet` reads what stands after a name
-abbrev pub arguments_by : (List ℕ → Option (Tree × List ℕ)) → (List ℕ → Option (Tree × List ℕ)) → (List ℕ → Option (Tree × List ℕ)) → Function → Option ℕ → List ℕ → Option (List Tree × List ℕ)
+abbrev pub arguments_by : Reader Tree → Reader Tree → Reader Tree → Function → Option ℕ → Reader (List Tree)
 arguments_by atom item quiet f None xs = list_with item xs
 arguments_by atom item quiet f (Some most) xs = if starts_reference xs then atom xs >>= name_and quiet f most else None
 
-unfoldable pub arguments_with : (List ℕ → Option (Tree × List ℕ)) → (List ℕ → Option (Tree × List ℕ)) → (List ℕ → Option (Tree × List ℕ)) → Function → List ℕ → Option (List Tree × List ℕ)
+unfoldable pub arguments_with : Reader Tree → Reader Tree → Reader Tree → Function → Reader (List Tree)
 arguments_with atom item quiet f xs = arguments_by atom item quiet f (named f) xs
 
-unfoldable pub function_with : (List ℕ → Option (Tree × List ℕ)) → (List ℕ → Option (Tree × List ℕ)) → (List ℕ → Option (Tree × List ℕ)) → List ℕ → List ℕ → Option (Tree × List ℕ)
+unfoldable pub function_with : Reader Tree → Reader Tree → Reader Tree → List ℕ → Reader Tree
 function_with atom item quiet w xs =
     if is_select w then with (λ cs. Selected (choices_from cs)) (list_with (choice_with item) xs)
     else function_of w >>= λ f. with (λ ts. Func f (trees_from ts)) (arguments_with atom item quiet f xs)
 
-abbrev pub special_by : Option Special → List ℕ → Option (Tree × List ℕ)
+abbrev pub special_by : Option Special → Reader Tree
 special_by None rest = None
 special_by (Some special) rest = Some (SpecialName special, rest)
 
-abbrev pub word_by : (List ℕ → Option (Tree × List ℕ)) → (List ℕ → Option (Tree × List ℕ)) → (List ℕ → Option (Tree × List ℕ)) → List ℕ × List ℕ → Option (ℕ × List ℕ) → Option (Tree × List ℕ)
+abbrev pub word_by : Reader Tree → Reader Tree → Reader Tree → List ℕ
+    × List ℕ → Option (ℕ × List ℕ) → Option (Tree × List ℕ)
 word_by atom item quiet w None = special_by (special_of w.0) w.1
 word_by atom item quiet w (Some open') = function_with atom item quiet w.0 open'.1
 
-abbrev pub dollar_by : Bool → ℕ → (List ℕ → Option (Tree × List ℕ)) → (List ℕ → Option (Tree × List ℕ)) → (List ℕ → Option (Tree × List ℕ)) → ℕ → List ℕ → Option (ℕ × List ℕ) → Option (Tree × List ℕ)
+abbrev pub dollar_by : Bool → ℕ → Reader Tree → Reader Tree → Reader Tree → ℕ → List ℕ → Option (ℕ
+    × List ℕ) → Option (Tree × List ℕ)
 dollar_by may end atom item quiet column xs (Some dollar) = call_with may end item column dollar.1
 dollar_by may end atom item quiet column xs None = word_by atom item quiet (word_at xs) (byte_at 40 (word_at xs).1)
 
-unfoldable pub dollar_with : Bool → ℕ → (List ℕ → Option (Tree × List ℕ)) → (List ℕ → Option (Tree × List ℕ)) → (List ℕ → Option (Tree × List ℕ)) → ℕ → List ℕ → Option (Tree × List ℕ)
+unfoldable pub dollar_with : Bool → ℕ → Reader Tree → Reader Tree → Reader Tree → ℕ → Reader Tree
 dollar_with may end atom item quiet column xs = dollar_by may end atom item quiet column xs (byte_at 36 xs)
 
 -- names
-abbrev pub local_with : ℕ → (List ℕ → Option (Tree × List ℕ)) → List ℕ → Option (Tree × List ℕ)
+abbrev pub local_with : ℕ → Reader Tree → Reader Tree
 local_with end item xs = name_at xs >>= λ name. with (λ ss. LocalName name.0 (subs_from ss)) (subs_with end item name.1)
 
-abbrev pub global_with : Bool → ℕ → ℕ → (List ℕ → Option (Tree × List ℕ)) → List ℕ → Option (Tree × List ℕ)
-global_with may end column item xs = where_may may (name_at xs) >>= λ name. with (λ ss. GlobalName column name.0 (subs_from ss)) (subs_with end item name.1)
+abbrev pub global_with : Bool → ℕ → ℕ → Reader Tree → Reader Tree
+global_with may end column item xs = where_may may (name_at xs) >>=
+    λ name. with (λ ss. GlobalName column name.0 (subs_from ss)) (subs_with end item name.1)
 
 -- an expression and a closing parenthesis
-abbrev pub enclosed_with : (List ℕ → Option (Tree × List ℕ)) → List ℕ → Option (Tree × List ℕ)
+abbrev pub enclosed_with : Reader Tree → Reader Tree
 enclosed_with item xs = item xs >>= λ inner. with (λ _. inner.0) (byte_at 41 inner.1)
 
 -- an operand, by its first byte; `deep` reads what lies one deeper
-abbrev pub atom_by : Allows → ℕ → (List ℕ → Option (Tree × List ℕ)) → (List ℕ → Option (Tree × List ℕ)) → (List ℕ → Option (List ℕ × List ℕ)) → Kind → ℕ → List ℕ → Option (Tree × List ℕ)
+abbrev pub atom_by : Allows → ℕ → Reader Tree → Reader Tree → Reader (List ℕ) → Kind → ℕ → Reader Tree
 atom_by a end deep quiet pattern kind.Numeral b xs = with number_of (numeral_at (b ∷ xs))
 atom_by a end deep quiet pattern kind.Quote b xs = with Lit (inside xs)
 atom_by a end deep quiet pattern kind.Letter b xs = local_with end (chain_with deep pattern) (b ∷ xs)
-atom_by a end deep quiet pattern kind.Caret b xs = global_with (globals_may a) end (column_of end (b ∷ xs)) (chain_with deep pattern) xs
-atom_by a end deep quiet pattern kind.Dollar b xs = dollar_with (calls_may a) end deep (chain_with deep pattern) quiet (column_of end (b ∷ xs)) xs
+atom_by a end deep quiet pattern kind.Caret b xs =
+    global_with (globals_may a) end (column_of end (b ∷ xs)) (chain_with deep pattern) xs
+atom_by a end deep quiet pattern kind.Dollar b xs =
+    dollar_with (calls_may a) end deep (chain_with deep pattern) quiet (column_of end (b ∷ xs)) xs
 atom_by a end deep quiet pattern kind.Open b xs = enclosed_with (chain_with deep pattern) xs
 atom_by a end deep quiet pattern (kind.Prefix op) b xs = with (Prefixed op) (deep xs)
 atom_by a end deep quiet pattern kind.Other b xs = None
 
-abbrev pub operand_with : Allows → ℕ → (List ℕ → Option (Tree × List ℕ)) → (List ℕ → Option (Tree × List ℕ)) → (List ℕ → Option (List ℕ × List ℕ)) → List ℕ → Option (Tree × List ℕ)
+abbrev pub operand_with : Allows → ℕ → Reader Tree → Reader Tree → Reader (List ℕ) → Reader Tree
 operand_with a end deep quiet pattern [] = None
 operand_with a end deep quiet pattern (b ∷ xs) = atom_by a end deep quiet pattern (kind_of b) b xs
 
 -- the same reading, of what holds no global and no call
-abbrev pub quietly : (List ℕ → Option (Tree × List ℕ)) → List ℕ → Option (Tree × List ℕ)
+abbrev pub quietly : Reader Tree → Reader Tree
 quietly item xs = kept (may_stand NoTouches) (item xs)
 
-unfoldable pub atom_at : ℕ → ℕ → List ℕ → Option (Tree × List ℕ)
+unfoldable pub atom_at : ℕ → ℕ → Reader Tree
 atom_at end zero xs = None
-atom_at end (suc k) xs = operand_with Everything end (atom_at end k) (quietly (chain_with (atom_at end k) (pattern_at k))) (pattern_at k) xs
+atom_at end (suc k) xs =
+    operand_with Everything end (atom_at end k) (quietly (chain_with (atom_at end k) (pattern_at k))) (pattern_at k) xs
 
 -- the same where a reader is
-unfoldable pub atom_in : Scope → List ℕ → Option (Tree × List ℕ)
+unfoldable pub atom_in : Scope → Reader Tree
 atom_in here xs = kept (may_stand here.allows) (atom_at here.end here.left xs)
 
-abbrev pub nested_in : Scope → List ℕ → Option (Tree × List ℕ)
+abbrev pub nested_in : Scope → Reader Tree
 nested_in here xs = chain_with (atom_in here) (pattern_at here.left) xs
 
 abbrev pub quiet : Scope → Scope
 quiet here = record { end = here.end; left = here.left; allows = NoTouches }
 
-abbrev pub operand_in : Scope → List ℕ → Option (Tree × List ℕ)
+abbrev pub operand_in : Scope → Reader Tree
 operand_in here xs = operand_with here.allows here.end (atom_in here) (nested_in (quiet here)) (pattern_at here.left) xs
 
 -- an expression that nests at most so deep
-abbrev pub nested_at : ℕ → ℕ → List ℕ → Option (Tree × List ℕ)
+abbrev pub nested_at : ℕ → ℕ → Reader Tree
 nested_at end k xs = chain_with (atom_at end k) (pattern_at k) xs
 
 -- a name with its subscripts, and an actual list in parentheses
-unfoldable pub reference_at : ℕ → List ℕ → Option (Tree × List ℕ)
+unfoldable pub reference_at : ℕ → Reader Tree
 reference_at end xs = if starts_reference xs then atom_at end 64 xs else None
 
-abbrev pub behind_open : ℕ → Option (ℕ × List ℕ) → Option (List ActualTree × List ℕ)
-behind_open end None = None
-behind_open end (Some open') = actuals_with ByReference end (chain_with (atom_at end 63) (pattern_at 63)) open'.1
+abbrev pub after_open : ℕ → Option (ℕ × List ℕ) → Option (List ActualTree × List ℕ)
+after_open end None = None
+after_open end (Some open') = actuals_with ByReference end (chain_with (atom_at end 63) (pattern_at 63)) open'.1
 
-unfoldable pub actual_list_at : ℕ → List ℕ → Option (List ActualTree × List ℕ)
-actual_list_at end xs = behind_open end (byte_at 40 xs)
+unfoldable pub actual_list_at : ℕ → Reader (List ActualTree)
+actual_list_at end xs = after_open end (byte_at 40 xs)
 
--- what is behind a thing that was read
+-- what is after a thing that was read
 abbrev pub rest_of : {A : Type 0} → Option (A × List ℕ) → Option (List ℕ)
 rest_of None = None
 rest_of (Some r) = Some r.1
@@ -250,23 +268,23 @@ rest_of (Some r) = Some r.1
 abbrev pub ended : Tree × List ℕ → Option (Tree × List ℕ)
 ended r = if ends r.1 then Some r else None
 
-unfoldable pub expr_at : ℕ → List ℕ → Option (Tree × List ℕ)
+unfoldable pub expr_at : ℕ → Reader Tree
 expr_at end xs = nested_at end 64 xs >>= ended
 
 -- the same where a reader is
-unfoldable pub expr_in : Scope → List ℕ → Option (Tree × List ℕ)
+unfoldable pub expr_in : Scope → Reader Tree
 expr_in here xs = nested_in here xs >>= ended
 
 abbrev pub reference_by : Scope → List ℕ → Option (ℕ × List ℕ) → Option (Tree × List ℕ)
 reference_by here xs (Some caret) = global_with true here.end (column_of here.end xs) (nested_in here) caret.1
 reference_by here xs None = if starts_reference xs then local_with here.end (nested_in here) xs else None
 
-unfoldable pub reference_in : Scope → List ℕ → Option (Tree × List ℕ)
+unfoldable pub reference_in : Scope → Reader Tree
 reference_in here xs = reference_by here xs (byte_at 94 xs)
 
 abbrev pub list_by : Passing → Scope → Option (ℕ × List ℕ) → Option (List ActualTree × List ℕ)
 list_by passing here None = None
 list_by passing here (Some open') = actuals_with passing here.end (nested_in here) open'.1
 
-unfoldable pub actual_list_in : Passing → Scope → List ℕ → Option (List ActualTree × List ℕ)
+unfoldable pub actual_list_in : Passing → Scope → Reader (List ActualTree)
 actual_list_in passing here xs = list_by passing here (byte_at 40 xs)

@@ -31,12 +31,15 @@ IsSign s = (s ≡ []) ⊎ (s ≡ codes "+") ⊎ (s ≡ codes "-")
 
 -- Nothing, or `E`, perhaps a sign, and digits. Standard: numeric literals, exponent.
 abbrev pub IsExponent : List ℕ → Type 0
-IsExponent s = (s ≡ []) ⊎ ((sign digits : List ℕ) × (s ≡ 69 ∷ (sign ++ digits)) × IsSign sign × (are_digits digits ≡ true) × (0 < length digits))
+IsExponent s = (s ≡ [])
+    ⊎ ((sign digits : List ℕ) × (s ≡ 69 ∷ (sign ++ digits)) × IsSign sign × (are_digits digits ≡ true)
+    × (0 < length digits))
 
--- A numeric literal: digits with a point before, behind or among them, and perhaps an exponent. Standard: numeric
+-- A numeric literal: digits with a point before, after or among them, and perhaps an exponent. Standard: numeric
 -- literals.
 abbrev pub IsNumber : List ℕ → Type 0
-IsNumber text = (before after mantissa exponent : List ℕ) × IsNumeral before after mantissa × IsExponent exponent × (text ≡ mantissa ++ exponent)
+IsNumber text = (before after mantissa exponent : List ℕ) × IsNumeral before after mantissa × IsExponent exponent
+    × (text ≡ mantissa ++ exponent)
 
 -- A text in quotes, with each quote inside doubled. Standard: string literals.
 abbrev pub IsQuoted : List ℕ → List ℕ → Type 0
@@ -45,7 +48,8 @@ IsQuoted value s = (s ≡ 34 ∷ (doubled value ++ 34 ∷ [])) × (is_text value
 -- The count of a pattern atom: digits, or a point with digits or none on either side. Standard: pattern match,
 -- repcount.
 abbrev pub IsCount : List ℕ → Type 0
-IsCount c = (before after : List ℕ) × (are_digits before ≡ true) × (are_digits after ≡ true) × (((c ≡ before) × (0 < length before)) ⊎ (c ≡ before ++ 46 ∷ after))
+IsCount c = (before after : List ℕ) × (are_digits before ≡ true) × (are_digits after ≡ true)
+    × (((c ≡ before) × (0 < length before)) ⊎ (c ≡ before ++ 46 ∷ after))
 
 -- Pattern codes: letters of `ACELNPU` in either case, at least one. Standard: pattern match, patcode.
 abbrev pub IsCodes : List ℕ → Type 0
@@ -63,7 +67,7 @@ relation_text relation.And = codes "&"
 relation_text relation.Or = codes "!"
 relation_text relation.Matches = codes "?"
 
--- Standard: arithmetic binary operators, concatenation; a relation behind `'` is not to hold
+-- Standard: arithmetic binary operators, concatenation; a relation after `'` is not to hold
 abbrev pub op_text : Op → List ℕ
 op_text op.Add = codes "+"
 op_text op.Subtract = codes "-"

@@ -1,5 +1,6 @@
 -- What the grammar keeps to, and what its readers answer.
-use Rattle.std.specs.Prelude.{ℕ, suc, ◌≡◌, ◌≤◌, min, nat_le, ◌&&◌, ◌||◌, not, is_some, if◌then◌else◌, Option, Some, None, Bool, true, false, List, [], ◌∷◌, ◌++◌, length, drop, ◌==◌}
+use Rattle.std.specs.Prelude.{ℕ, suc, ◌≡◌, ◌≤◌, min, nat_le, ◌&&◌, ◌||◌, not, is_some, if◌then◌else◌, Option, Some}
+use Rattle.std.specs.Prelude.{None, Bool, true, false, List, [], ◌∷◌, ◌++◌, length, drop, ◌==◌}
 use Rattle.mlk_text.specs.Lexemes.{is_digit, is_name_byte}
 use Rattle.mlk_text.specs.Codes.{number_of}
 use Rattle.mlk_text.specs.declared.fault.Fault.{Fault}
@@ -51,7 +52,8 @@ abbrev pub CalleeEnds : Callee → List ℕ → Type 0
 CalleeEnds c ys = callee_ends c.label c.routine ys ≡ true
 
 -- A thing is written at the place of a line up to `next`, and may end there.
-pub record Stands {A : Type 0} (Is : ℕ → A → List ℕ → Type 0) (Ends : A → List ℕ → Type 0) (line : List ℕ) (at : ℕ) (a : A) (next : ℕ) : Type 0 where
+pub record Stands {A : Type 0} (Is : ℕ → A → List ℕ → Type 0) (Ends : A → List ℕ
+    → Type 0) (line : List ℕ) (at : ℕ) (a : A) (next : ℕ) : Type 0 where
   pub text : List ℕ
   pub within : next ≤ length line
   pub joined : drop at line ≡ text ++ drop next line
@@ -60,12 +62,14 @@ pub record Stands {A : Type 0} (Is : ℕ → A → List ℕ → Type 0) (Ends : 
 
 -- Nothing else does.
 abbrev pub Only : {A : Type 0} → (ℕ → A → List ℕ → Type 0) → (A → List ℕ → Type 0) → List ℕ → ℕ → A → ℕ → Type 0
-Only {A = A} Is Ends line at a next = (b : A) (text rest : List ℕ) → drop at line ≡ text ++ rest → Is (suc at) b text → Ends b rest → (b ≡ a) × (rest ≡ drop next line)
+Only {A = A} Is Ends line at a next = (b : A) (text rest : List ℕ) → drop at line ≡ text ++ rest → Is (suc at) b text
+    → Ends b rest → (b ≡ a) × (rest ≡ drop next line)
 
 -- Nothing of this kind stands here, unless memory ran out.
 abbrev pub Refuses : {A : Type 0} → (ℕ → A → List ℕ → Type 0) → (A → List ℕ → Type 0) → List ℕ → ℕ → ReadError → Type 0
 Refuses Is Ends line at OutOfMemory = Unit {0}
-Refuses {A = A} Is Ends line at (Refused fault) = (a : A) (text rest : List ℕ) → drop at line ≡ text ++ rest → Is (suc at) a text → Ends a rest → ⊥
+Refuses {A = A} Is Ends line at (Refused fault) = (a : A) (text rest : List ℕ) → drop at line ≡ text ++ rest
+    → Is (suc at) a text → Ends a rest → ⊥
 
 -- The greatest column that a place can tell. This project's own choice.
 abbrev pub greatest_column : ℕ
@@ -89,10 +93,11 @@ abbrev pub Faults : Passing → List ℕ → ℕ → ReadError → Type 0
 Faults p line at OutOfMemory = Unit {0}
 Faults p line at (Refused fault) = IsFault p line at fault
 
--- What stands at a place has at most one tree and one end, in whatever ways a line is cut into a text and what is behind
+-- What stands at a place has at most one tree and one end, in whatever ways a line is cut into a text and what is after
 -- it: an expression, a name with its subscripts, an actual list. A whole text has at most one tree.
 abbrev pub One : {A : Type 0} → (ℕ → A → List ℕ → Type 0) → (A → List ℕ → Type 0) → Type 0
-One {A = A} Is Ends = (at : ℕ) (a b : A) (s t ys zs : List ℕ) → s ++ ys ≡ t ++ zs → Is at a s → Ends a ys → Is at b t → Ends b zs → (a ≡ b) × (ys ≡ zs)
+One {A = A} Is Ends = (at : ℕ) (a b : A) (s t ys zs : List ℕ) → s ++ ys ≡ t ++ zs → Is at a s → Ends a ys → Is at b t
+    → Ends b zs → (a ≡ b) × (ys ≡ zs)
 
 pub record OneTree : Type 0 where
   pub expressions : One IsExpr ExprEnds

@@ -1,12 +1,15 @@
--- What may stand where the order of evaluation is not certain: nothing that it could matter for. The standard says little
--- of that order; which places these are is this project's own choice.
+-- What may stand where the order of evaluation is not certain: nothing that it could matter for. The standard says
+-- little of that order; which places these are is this project's own choice.
 use Rattle.std.specs.Prelude.{ℕ, ◌≡◌, ◌&&◌, Bool, true, false, List}
 use Rattle.std.specs.List.{list_all}
 use Rattle.mlk_expr.specs.declared.scope.Allows.{Allows}
 use Rattle.mlk_expr.specs.declared.scope.Allows.TheVariants as allows
 use Rattle.mlk_expr.specs.declared.scope.Passing.{Passing}
 use Rattle.mlk_expr.specs.declared.scope.Passing.TheVariants as passing
-use Rattle.mlk_expr.specs.Trees.{Tree, Lit, Free, LocalName, GlobalName, SpecialName, Prefixed, Chain, PatternText, Func, Selected, BareCall, CallOf, Trees, no_trees, tree, Subs, no_subs, sub, Links, no_links, link, Choices, no_choices, choice, ActualTree, Given, ByRef, Missing, Actuals, no_actuals, actual}
+use Rattle.mlk_expr.specs.Trees.{Tree, Lit, Free, LocalName, GlobalName, SpecialName, Prefixed, Chain, PatternText}
+use Rattle.mlk_expr.specs.Trees.{Func, Selected, BareCall, CallOf, Trees, no_trees, tree, Subs, no_subs, sub, Links}
+use Rattle.mlk_expr.specs.Trees.{no_links, link, Choices, no_choices, choice, ActualTree, Given, ByRef, Missing}
+use Rattle.mlk_expr.specs.Trees.{Actuals, no_actuals, actual}
 
 -- whether a global reference may stand there,
 abbrev pub globals_may : Allows → Bool

@@ -1,4 +1,4 @@
--- The words behind `$`, each in either case, short or whole: special variables and functions. Standard: special
+-- The words after `$`, each in either case, short or whole: special variables and functions. Standard: special
 -- variables, functions. Which of them are read is this project's own choice.
 use Rattle.std.specs.Prelude.{ℕ, suc, ◌||◌, if◌then◌else◌, Bool, List, [], ◌∷◌, Option, Some, None, take, drop, codes}
 use Rattle.std.specs.Str.{str_eq_ignore_ascii_case}
@@ -13,7 +13,7 @@ abbrev pub letters : List ℕ → ℕ
 letters [] = 0
 letters (b ∷ xs) = if is_letter b then suc (letters xs) else 0
 
--- the letters at the front, as far as they go, and what is behind them
+-- the letters at the front, as far as they go, and what is after them
 abbrev pub word_at : List ℕ → List ℕ × List ℕ
 word_at xs = (take (letters xs) xs, drop (letters xs) xs)
 

@@ -1,7 +1,9 @@
 // The smallest parts of expressions: operators, counts and codes of patterns, and what a byte begins.
 
 ghost use Rattle.std.specs.Prelude.{◌≡◌, ◌≤◌, length, option_map};
-ghost use Rattle.mlk_expr.specs.Lexemes.{column_of, arithmetic_of, relation_of, relation_at, arithmetic_at, op_at, is_match, unary_of, kind_of, count_at, is_pattern_code, pattern_codes, pattern_codes_at, starts_reference, is_missing, ends};
+ghost use Rattle.mlk_expr.specs.Lexemes.{column_of, arithmetic_of, relation_of, relation_at, arithmetic_at, op_at};
+ghost use Rattle.mlk_expr.specs.Lexemes.{is_match, unary_of, kind_of, count_at, is_pattern_code, pattern_codes};
+ghost use Rattle.mlk_expr.specs.Lexemes.{pattern_codes_at, starts_reference, is_missing, ends};
 
 use mlk_text::lexeme::{byte_of, digits, is_digit, is_letter};
 use mlk_text::{Op, Relation, UnaryOp};
@@ -59,7 +61,7 @@ fn relation_of(b: u8) -> Option<Relation>
     }
 }
 
-// The relation at the front, and what is behind it.
+// The relation at the front, and what is after it.
 #[tactic(auto, unfolding(crate::specs::Lexemes::relation_at))]
 fn relation_at(bytes: &[u8]) -> Option<(Relation, &[u8])>
     ensures { option_map (λ x. (x.0, x.1.now)) result ≡ relation_at bytes.now }
@@ -69,7 +71,7 @@ fn relation_at(bytes: &[u8]) -> Option<(Relation, &[u8])>
     };
     if *first == b']' {
         return match byte_of(b']', rest) {
-            Some(behind) => Some((Relation::SortsAfter, behind)),
+            Some(after) => Some((Relation::SortsAfter, after)),
             None => Some((Relation::Follows, rest)),
         };
     }
@@ -86,7 +88,7 @@ fn arithmetic_at(bytes: &[u8]) -> Option<(Op, &[u8])>
     };
     if *first == b'*' {
         return match byte_of(b'*', rest) {
-            Some(behind) => Some((Op::Power, behind)),
+            Some(after) => Some((Op::Power, after)),
             None => Some((Op::Multiply, rest)),
         };
     }
@@ -94,13 +96,13 @@ fn arithmetic_at(bytes: &[u8]) -> Option<(Op, &[u8])>
     Some((op, rest))
 }
 
-/// The longest operator at the front, and what is behind it.
+/// The longest operator at the front, and what is after it.
 #[tactic(auto, unfolding(crate::specs::Lexemes::op_at))]
 pub fn op_at(bytes: &[u8]) -> Option<(Op, &[u8])>
     ensures { option_map (λ x. (x.0, x.1.now)) result ≡ op_at bytes.now }
 {
-    if let Some(behind) = byte_of(b'\'', bytes) {
-        return match relation_at(behind) {
+    if let Some(after) = byte_of(b'\'', bytes) {
+        return match relation_at(after) {
             Some((relation, rest)) => Some((Op::IsNot(relation), rest)),
             None => None,
         };
@@ -158,7 +160,7 @@ pub fn kind_of(b: u8) -> Kind
     }
 }
 
-/// The count of a pattern atom, and what is behind it.
+/// The count of a pattern atom, and what is after it.
 #[tactic(auto, unfolding(crate::specs::Lexemes::count_at))]
 pub fn count_at(bytes: &[u8]) -> Option<(&[u8], &[u8])>
     ensures { option_map (λ x. (x.0.now, x.1.now)) result ≡ count_at bytes.now }
@@ -193,7 +195,7 @@ fn pattern_codes(bytes: &[u8]) -> usize
     bytes.len()
 }
 
-/// The pattern codes at the front, and what is behind them.
+/// The pattern codes at the front, and what is after them.
 #[tactic(auto, unfolding(crate::specs::Lexemes::pattern_codes_at))]
 pub fn pattern_codes_at(bytes: &[u8]) -> Option<(&[u8], &[u8])>
     ensures { option_map (λ x. (x.0.now, x.1.now)) result ≡ pattern_codes_at bytes.now }

@@ -13,13 +13,13 @@ pub(crate) fn mantissa_len(bytes: &[u8]) -> usize
 {
     let whole = digits(bytes);
     let (_, rest) = bytes.split_at(whole);
-    let Some((first, behind)) = rest.split_first() else {
+    let Some((first, after)) = rest.split_first() else {
         return whole;
     };
     if *first != b'.' {
         return whole;
     }
-    let fraction = digits(behind);
+    let fraction = digits(after);
     if whole == 0 && fraction == 0 {
         return 0;
     }
@@ -30,13 +30,13 @@ fn signed_len(bytes: &[u8]) -> usize
     ensures value { result ≡ signed_len bytes.now }
     ensures within { result ≤ length bytes.now }
 {
-    let Some((first, behind)) = bytes.split_first() else {
+    let Some((first, after)) = bytes.split_first() else {
         return 0;
     };
     if *first != b'+' && *first != b'-' {
         return digits(bytes);
     }
-    let n = digits(behind);
+    let n = digits(after);
     if n == 0 { 0 } else { n + 1 }
 }
 
@@ -44,13 +44,13 @@ fn exponent_len(bytes: &[u8]) -> usize
     ensures value { result ≡ exponent_len bytes.now }
     ensures within { result ≤ length bytes.now }
 {
-    let Some((first, behind)) = bytes.split_first() else {
+    let Some((first, after)) = bytes.split_first() else {
         return 0;
     };
     if *first != b'E' {
         return 0;
     }
-    let n = signed_len(behind);
+    let n = signed_len(after);
     if n == 0 { 0 } else { n + 1 }
 }
 
@@ -59,12 +59,12 @@ fn lacks_exponent(bytes: &[u8]) -> bool
     ensures { result ≡ lacks_exponent bytes.now }
 {
     match bytes.split_first() {
-        Some((first, behind)) => *first == b'E' && signed_len(behind) == 0,
+        Some((first, after)) => *first == b'E' && signed_len(after) == 0,
         None => false,
     }
 }
 
-/// The numeric literal at the front, as it is written, and what is behind it.
+/// The numeric literal at the front, as it is written, and what is after it.
 #[tactic(auto, unfolding(crate::specs::Lexemes::numeral_at))]
 pub(crate) fn numeral_at(bytes: &[u8]) -> Option<(&[u8], &[u8])>
     ensures { option_map (λ x. (x.0.now, x.1.now)) result ≡ numeral_at bytes.now }

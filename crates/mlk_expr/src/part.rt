@@ -20,7 +20,7 @@ use mlk_text::lexeme::{self, ReadError, byte_of, digits, is_text_byte};
 use mlk_text::{Name, Value, canonical, literal};
 use std::alloc::{AllocError, Global};
 
-/// The name at the front, and what is behind it.
+/// The name at the front, and what is after it.
 pub(crate) fn name(alloc: Global, bytes: &[u8]) -> Result<(Name, &[u8]), Refusal>
     ensures { Gives (λ x. (x.0, x.1.now)) result (name_at bytes.now) }
 {
@@ -31,7 +31,7 @@ pub(crate) fn name(alloc: Global, bytes: &[u8]) -> Result<(Name, &[u8]), Refusal
     }
 }
 
-// Why no text in quotes stands here, behind the opening one: at a byte that can't stand in it, or at the line's end.
+// Why no text in quotes stands here, after the opening one: at a byte that can't stand in it, or at the line's end.
 fn no_text(bytes: &[u8]) -> Refusal
     ensures { IsRefused result }
 {
@@ -44,7 +44,7 @@ fn no_text(bytes: &[u8]) -> Refusal
     refused(Wrong::Form, &[])
 }
 
-/// The value up to the closing quote, and what is behind it.
+/// The value up to the closing quote, and what is after it.
 pub(crate) fn quoted(alloc: Global, bytes: &[u8]) -> Result<(Value, &[u8]), Refusal>
     ensures { Gives (λ x. (x.0, x.1.now)) result (inside bytes.now) }
 {
@@ -55,7 +55,7 @@ pub(crate) fn quoted(alloc: Global, bytes: &[u8]) -> Result<(Value, &[u8]), Refu
     }
 }
 
-/// The text up to the closing quote, and what is behind it.
+/// The text up to the closing quote, and what is after it.
 pub(crate) fn text(alloc: Global, bytes: &[u8]) -> Result<(Expr, &[u8]), Refusal>
     ensures { Gives (λ x. (tree_of x.0, x.1.now)) result (with Lit (inside bytes.now)) }
 {
@@ -73,7 +73,7 @@ fn number_of(alloc: Global, text: &[u8]) -> Result<Expr, AllocError>
     }
 }
 
-/// The numeric literal at the front, and what is behind it.
+/// The numeric literal at the front, and what is after it.
 pub(crate) fn number(alloc: Global, bytes: &[u8]) -> Result<(Expr, &[u8]), Refusal>
     ensures { Gives (λ x. (tree_of x.0, x.1.now)) result (with number_of (numeral_at bytes.now)) }
 {
@@ -124,13 +124,13 @@ fn routine<'a>(alloc: Global, whole: &[u8], bytes: &'a [u8]) -> Result<(Name, &'
     }
 }
 
-/// What a call names, behind `$$`, and what is behind it.
+/// What a call names, after `$$`, and what is after it.
 #[tactic(auto, unfolding(crate::specs::Reading::callee_at))]
 pub(crate) fn callee(alloc: Global, bytes: &[u8]) -> Result<(Callee, &[u8]), Refusal>
     ensures { Gives (λ x. (x.0, x.1.now)) result (callee_at bytes.now) }
 {
-    if let Some(behind) = byte_of(b'^', bytes) {
-        let (routine, rest) = routine(alloc, bytes, behind)?;
+    if let Some(after) = byte_of(b'^', bytes) {
+        let (routine, rest) = routine(alloc, bytes, after)?;
         let routine = Some(routine);
         return Ok((
             Callee {
@@ -142,16 +142,16 @@ pub(crate) fn callee(alloc: Global, bytes: &[u8]) -> Result<(Callee, &[u8]), Ref
     }
     let (label, rest) = label(alloc, bytes)?;
     let label = Some(label);
-    let Some(behind) = byte_of(b'^', rest) else {
+    let Some(after) = byte_of(b'^', rest) else {
         let routine = None;
         return Ok((Callee { label, routine }, rest));
     };
-    let (routine, rest) = routine(alloc, rest, behind)?;
+    let (routine, rest) = routine(alloc, rest, after)?;
     let routine = Some(routine);
     Ok((Callee { label, routine }, rest))
 }
 
-/// The name of a global behind its caret, at which the whole begins, and what is behind it.
+/// The name of a global after its caret, at which the whole begins, and what is after it.
 pub(crate) fn global_name<'a>(
     alloc: Global,
     allows: Allows,
@@ -170,7 +170,7 @@ pub(crate) fn global_name<'a>(
     }
 }
 
-/// How many arguments may stand behind the first, where that is a name.
+/// How many arguments may stand after the first, where that is a name.
 pub(crate) fn named(function: Function) -> Option<usize>
     ensures { result ≡ named function }
 {

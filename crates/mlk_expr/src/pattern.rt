@@ -13,7 +13,7 @@ use crate::refusal::{Refusal, Wrong, no_operand, refused, too_deep_pattern};
 use mlk_text::lexeme::byte_of;
 use std::alloc::Global;
 
-/// The pattern at the front, as it is written, and what is behind it; its alternatives nest so deep at most.
+/// The pattern at the front, as it is written, and what is after it; its alternatives nest so deep at most.
 #[cycle(patterns)]
 pub(crate) fn pattern(alloc: Global, left: u8, bytes: &[u8]) -> Result<(&[u8], &[u8]), Refusal>
     ensures { Gives (λ x. (x.0.now, x.1.now)) result (pattern_at left bytes.now) }
@@ -29,21 +29,23 @@ pub(crate) fn pattern(alloc: Global, left: u8, bytes: &[u8]) -> Result<(&[u8], &
     Ok((text, rest))
 }
 
-// All pattern atoms at the front: whether there is one, and what is behind them.
+// All pattern atoms at the front: whether there is one, and what is after them.
 #[cycle(patterns)]
 fn atoms(alloc: Global, deeper: u8, bytes: &[u8]) -> Result<(bool, &[u8]), Refusal>
-    ensures { Gives (λ x. (x.0, x.1.now)) result (with (λ l. nat_lt 0 (length l)) (many count_at (matcher_by (pattern_at deeper)) (suc (length bytes.now)) bytes.now)) }
+    ensures { Gives (λ x. (x.0, x.1.now)) result
+        (with (λ l. nat_lt 0 (length l))
+        (many count_at (matcher_by (pattern_at deeper)) (suc (length bytes.now)) bytes.now)) }
 {
     let mut found = false;
     let mut rest = bytes;
-    while let Some((count, behind)) = count_at(rest) {
-        rest = matcher(alloc, deeper, count, behind)?;
+    while let Some((count, after)) = count_at(rest) {
+        rest = matcher(alloc, deeper, count, after)?;
         found = true;
     }
     Ok((found, rest))
 }
 
-// What a pattern atom has behind its count.
+// What a pattern atom has after its count.
 #[cycle(patterns)]
 fn matcher<'a>(
     alloc: Global,
@@ -53,15 +55,15 @@ fn matcher<'a>(
 ) -> Result<&'a [u8], Refusal>
     ensures { Gives (λ x. (count.now, x.now)) result (matcher_by (pattern_at deeper) count.now bytes.now) }
 {
-    let Some((first, behind)) = bytes.split_first() else {
+    let Some((first, after)) = bytes.split_first() else {
         return Err(refused(Wrong::Form, bytes));
     };
     if *first == b'"' {
-        let (_, rest) = quoted(alloc, behind)?;
+        let (_, rest) = quoted(alloc, after)?;
         return Ok(rest);
     }
     if *first == b'(' {
-        let rest = alternatives(alloc, deeper, behind)?;
+        let rest = alternatives(alloc, deeper, after)?;
         return Ok(rest);
     }
     let Some((_, rest)) = pattern_codes_at(bytes) else {
@@ -70,7 +72,7 @@ fn matcher<'a>(
     Ok(rest)
 }
 
-// One or more patterns with commas between them, behind an opening parenthesis: what is behind the closing one.
+// One or more patterns with commas between them, after an opening parenthesis: what is after the closing one.
 #[tactic(auto, unfolding(crate::specs::Reading::list_with))]
 #[cycle(patterns)]
 fn alternatives(alloc: Global, deeper: u8, bytes: &[u8]) -> Result<&[u8], Refusal>
@@ -86,11 +88,12 @@ fn alternatives(alloc: Global, deeper: u8, bytes: &[u8]) -> Result<&[u8], Refusa
 
 #[cycle(patterns)]
 fn alternatives_rest(alloc: Global, deeper: u8, bytes: &[u8]) -> Result<&[u8], Refusal>
-    ensures { Gives (λ x. x.now) result (rest_of (many (byte_at 44) (next (pattern_at deeper)) (suc (length bytes.now)) bytes.now)) }
+    ensures { Gives (λ x. x.now) result
+        (rest_of (many (byte_at 44) (next (pattern_at deeper)) (suc (length bytes.now)) bytes.now)) }
 {
     let mut rest = bytes;
-    while let Some(behind) = byte_of(b',', rest) {
-        let (_, item_rest) = pattern(alloc, deeper, behind)?;
+    while let Some(after) = byte_of(b',', rest) {
+        let (_, item_rest) = pattern(alloc, deeper, after)?;
         rest = item_rest;
     }
     Ok(rest)

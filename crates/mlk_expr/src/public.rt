@@ -2,8 +2,8 @@
 
 ghost use Rattle.std.specs.Prelude.{◌≡◌, ◌≤◌, length, IfOk, IfErr};
 ghost use Rattle.mlk_expr.specs.Trees.{tree_of, actual_trees};
-ghost use Rattle.mlk_expr.specs.Touches.{may_stand, subs_stand, given_stand, Standing};
 ghost use Rattle.mlk_expr.specs.Grammar.{IsExpr, IsReference, IsActualList};
+ghost use Rattle.mlk_expr.specs.Grammar.{IsExprWhere, IsReferenceWhere, IsActualListWhere};
 ghost use Rattle.mlk_expr.specs.Reading.{expr_in, reference_in, actual_list_in};
 ghost use Rattle.mlk_expr.specs.Outcome.{Gives};
 ghost use Rattle.mlk_expr.specs.Theorem.{ExprEnds, ReferenceEnds, ListEnds, Stands, Only, Refuses, Faults};
@@ -38,8 +38,8 @@ fn expr(alloc: Global, scope: Scope, bytes: &[u8]) -> Result<(Expr, &[u8]), Refu
 fn reference(alloc: Global, scope: Scope, bytes: &[u8]) -> Result<(Expr, &[u8]), Refusal>
     ensures { Gives (λ x. (tree_of x.0, x.1.now)) result (reference_in scope bytes.now) }
 {
-    if let Some(behind) = byte_of(b'^', bytes) {
-        let (name, rest) = global_name(alloc, Allows::Everything, bytes, behind)?;
+    if let Some(after) = byte_of(b'^', bytes) {
+        let (name, rest) = global_name(alloc, Allows::Everything, bytes, after)?;
         let (subs, rest) = subscripts(alloc, scope, rest)?;
         return Ok((Expr::Global(column_of(scope.end, bytes), name, subs), rest));
     }
@@ -58,10 +58,10 @@ fn actual_list(
 ) -> Result<(Vec<Actual>, &[u8]), Refusal>
     ensures { Gives (λ x. (actual_trees x.0.items, x.1.now)) result (actual_list_in passing scope bytes.now) }
 {
-    let Some(behind) = byte_of(b'(', bytes) else {
+    let Some(after) = byte_of(b'(', bytes) else {
         return Err(refused(Wrong::Form, bytes));
     };
-    actuals(alloc, scope, passing, behind)
+    actuals(alloc, scope, passing, after)
 }
 
 /// The expression that begins at this byte of a line, and the byte after it.
@@ -83,9 +83,9 @@ pub fn read_expr_where(
     at: usize,
 ) -> Result<(Expr, usize), ReadError>
     requires { at ≤ length line.now }
-    ensures found { IfOk result (λ r. Stands (Standing (may_stand allows) IsExpr) ExprEnds line.now at (tree_of r.0) r.1) }
-    ensures only { IfOk result (λ r. Only (Standing (may_stand allows) IsExpr) ExprEnds line.now at (tree_of r.0) r.1) }
-    ensures refused { IfErr result (λ e. Refuses (Standing (may_stand allows) IsExpr) ExprEnds line.now at e) }
+    ensures found { IfOk result (λ r. Stands (IsExprWhere allows) ExprEnds line.now at (tree_of r.0) r.1) }
+    ensures only { IfOk result (λ r. Only (IsExprWhere allows) ExprEnds line.now at (tree_of r.0) r.1) }
+    ensures refused { IfErr result (λ e. Refuses (IsExprWhere allows) ExprEnds line.now at e) }
     ensures fault { IfErr result (λ e. Faults ByReference line.now at e) }
 {
     let (_, bytes) = line.split_at(at);
@@ -119,9 +119,9 @@ pub fn read_ref_where(
     at: usize,
 ) -> Result<(Expr, usize), ReadError>
     requires { at ≤ length line.now }
-    ensures found { IfOk result (λ r. Stands (Standing (subs_stand allows) IsReference) ReferenceEnds line.now at (tree_of r.0) r.1) }
-    ensures only { IfOk result (λ r. Only (Standing (subs_stand allows) IsReference) ReferenceEnds line.now at (tree_of r.0) r.1) }
-    ensures refused { IfErr result (λ e. Refuses (Standing (subs_stand allows) IsReference) ReferenceEnds line.now at e) }
+    ensures found { IfOk result (λ r. Stands (IsReferenceWhere allows) ReferenceEnds line.now at (tree_of r.0) r.1) }
+    ensures only { IfOk result (λ r. Only (IsReferenceWhere allows) ReferenceEnds line.now at (tree_of r.0) r.1) }
+    ensures refused { IfErr result (λ e. Refuses (IsReferenceWhere allows) ReferenceEnds line.now at e) }
     ensures fault { IfErr result (λ e. Faults ByReference line.now at e) }
 {
     let (_, bytes) = line.split_at(at);
@@ -160,9 +160,11 @@ pub fn read_actuals_where(
     at: usize,
 ) -> Result<(Vec<Actual>, usize), ReadError>
     requires { at ≤ length line.now }
-    ensures found { IfOk result (λ r. Stands (Standing (given_stand allows passing) IsActualList) ListEnds line.now at (actual_trees r.0.items) r.1) }
-    ensures only { IfOk result (λ r. Only (Standing (given_stand allows passing) IsActualList) ListEnds line.now at (actual_trees r.0.items) r.1) }
-    ensures refused { IfErr result (λ e. Refuses (Standing (given_stand allows passing) IsActualList) ListEnds line.now at e) }
+    ensures found { IfOk result
+        (λ r. Stands (IsActualListWhere allows passing) ListEnds line.now at (actual_trees r.0.items) r.1) }
+    ensures only { IfOk result
+        (λ r. Only (IsActualListWhere allows passing) ListEnds line.now at (actual_trees r.0.items) r.1) }
+    ensures refused { IfErr result (λ e. Refuses (IsActualListWhere allows passing) ListEnds line.now at e) }
     ensures fault { IfErr result (λ e. Faults passing line.now at e) }
 {
     let (_, bytes) = line.split_at(at);

@@ -23,7 +23,7 @@ use mlk_text::lexeme::byte_of;
 use mlk_text::{Op, UnaryOp, Value};
 use std::alloc::Global;
 
-/// The expression at the front that nests so deep at most, and what is behind it.
+/// The expression at the front that nests so deep at most, and what is after it.
 #[tactic(auto, unfolding(crate::specs::Reading::chain_with))]
 #[cycle(reading)]
 pub(crate) fn chain(alloc: Global, scope: Scope, bytes: &[u8]) -> Result<(Expr, &[u8]), Refusal>
@@ -43,31 +43,33 @@ fn chain_rest(
     scope: Scope,
     bytes: &[u8],
 ) -> Result<(Vec<(Op, Expr)>, &[u8]), Refusal>
-    ensures { Gives (λ x. (links x.0.items, x.1.now)) result (many op_at (linked (atom_in scope) (pattern_at scope.left)) (suc (length bytes.now)) bytes.now) }
+    ensures { Gives (λ x. (links x.0.items, x.1.now)) result
+        (many op_at (linked (atom_in scope) (pattern_at scope.left)) (suc (length bytes.now)) bytes.now) }
 {
     let mut found = Vec::new(alloc);
     let mut rest = bytes;
-    while let Some((op, behind)) = op_at(rest) {
-        let (item, behind) = right(alloc, scope, op, behind)?;
+    while let Some((op, after)) = op_at(rest) {
+        let (item, after) = right(alloc, scope, op, after)?;
         found.push((op, item))?;
-        rest = behind;
+        rest = after;
     }
     Ok((found, rest))
 }
 
-// What stands behind an operator.
+// What stands after an operator.
 #[cycle(reading)]
-fn right(alloc: Global, scope: Scope, op: Op, behind: &[u8]) -> Result<(Expr, &[u8]), Refusal>
-    ensures { Gives (λ x. (tree_of x.0, x.1.now)) result (right_by (atom_in scope) (pattern_at scope.left) (is_match op) behind.now) }
+fn right(alloc: Global, scope: Scope, op: Op, after: &[u8]) -> Result<(Expr, &[u8]), Refusal>
+    ensures { Gives (λ x. (tree_of x.0, x.1.now)) result
+        (right_by (atom_in scope) (pattern_at scope.left) (is_match op) after.now) }
 {
     if is_match(op) {
-        let (text, rest) = pattern(alloc, scope.left, behind)?;
+        let (text, rest) = pattern(alloc, scope.left, after)?;
         return Ok((
             Expr::Pattern(Value::new(Vec::from_slice(alloc, text)?)),
             rest,
         ));
     }
-    atom(alloc, scope, behind)
+    atom(alloc, scope, after)
 }
 
 // An expression and a closing parenthesis.
@@ -82,7 +84,7 @@ fn enclosed(alloc: Global, scope: Scope, bytes: &[u8]) -> Result<(Expr, &[u8]), 
     Ok((inner, rest))
 }
 
-// What stands behind a sign.
+// What stands after a sign.
 #[cycle(reading)]
 fn prefixed(
     alloc: Global,
@@ -100,22 +102,22 @@ fn prefixed(
 fn operand(alloc: Global, scope: Scope, bytes: &[u8]) -> Result<(Expr, &[u8]), Refusal>
     ensures { Gives (λ x. (tree_of x.0, x.1.now)) result (operand_in scope bytes.now) }
 {
-    let Some((first, behind)) = bytes.split_first() else {
+    let Some((first, after)) = bytes.split_first() else {
         return Err(refused(Wrong::Form, bytes));
     };
     match kind_of(*first) {
         Kind::Numeral => number(alloc, bytes),
-        Kind::Quote => text(alloc, behind),
+        Kind::Quote => text(alloc, after),
         Kind::Letter => local(alloc, scope, bytes),
-        Kind::Caret => global(alloc, scope, bytes, behind),
-        Kind::Dollar => dollar(alloc, scope, bytes, behind),
-        Kind::Open => enclosed(alloc, scope, behind),
-        Kind::Prefix(op) => prefixed(alloc, scope, op, behind),
+        Kind::Caret => global(alloc, scope, bytes, after),
+        Kind::Dollar => dollar(alloc, scope, bytes, after),
+        Kind::Open => enclosed(alloc, scope, after),
+        Kind::Prefix(op) => prefixed(alloc, scope, op, after),
         Kind::Other => Err(no_operand(bytes)),
     }
 }
 
-/// The operand at the front that nests so deep at most, and what is behind it.
+/// The operand at the front that nests so deep at most, and what is after it.
 #[cycle(reading)]
 pub(crate) fn atom(alloc: Global, scope: Scope, bytes: &[u8]) -> Result<(Expr, &[u8]), Refusal>
     ensures { Gives (λ x. (tree_of x.0, x.1.now)) result (atom_in scope bytes.now) }

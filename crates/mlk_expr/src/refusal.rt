@@ -84,10 +84,10 @@ pub(crate) fn no_name(bytes: &[u8]) -> Refusal
     }
 }
 
-// What is behind a sign, where one stands.
-fn behind_sign(bytes: &[u8]) -> &[u8] {
+// What is after a sign, where one stands.
+fn after_sign(bytes: &[u8]) -> &[u8] {
     match bytes.split_first() {
-        Some((first, behind)) if *first == b'+' || *first == b'-' => behind,
+        Some((first, after)) if *first == b'+' || *first == b'-' => after,
         _ => bytes,
     }
 }
@@ -97,21 +97,21 @@ pub(crate) fn no_number(bytes: &[u8]) -> Refusal
     ensures { IsRefused result }
 {
     let (_, rest) = bytes.split_at(mantissa_len(bytes));
-    let Some((first, behind)) = rest.split_first() else {
+    let Some((first, after)) = rest.split_first() else {
         return refused(Wrong::Form, rest);
     };
     if *first == b'E' {
-        return refused(Wrong::Form, behind_sign(behind));
+        return refused(Wrong::Form, after_sign(after));
     }
-    refused(Wrong::Form, behind)
+    refused(Wrong::Form, after)
 }
 
-/// Why an expression neither goes on nor ends here: behind `'` a relation is asked for.
+/// Why an expression neither goes on nor ends here: after `'` a relation is asked for.
 pub(crate) fn no_end(bytes: &[u8]) -> Refusal
     ensures { IsRefused result }
 {
     match byte_of(b'\'', bytes) {
-        Some(behind) => refused(Wrong::Form, behind),
+        Some(after) => refused(Wrong::Form, after),
         None => refused(Wrong::Form, bytes),
     }
 }
@@ -123,17 +123,17 @@ pub(crate) fn no_actual(refusal: Refusal, bytes: &[u8]) -> Refusal
     let Refusal::Refused(offence) = refusal else {
         return Refusal::OutOfMemory;
     };
-    let Some(behind) = byte_of(b'.', bytes) else {
+    let Some(after) = byte_of(b'.', bytes) else {
         return Refusal::Refused(offence);
     };
-    match behind.first().copied() {
-        Some(b'@') => leaves_out(LeftOut::Indirection, behind),
+    match after.first().copied() {
+        Some(b'@') => leaves_out(LeftOut::Indirection, after),
         Some(first) if is_digit(first) => Refusal::Refused(offence),
-        _ => no_name(behind),
+        _ => no_name(after),
     }
 }
 
-/// Why arguments of which the first is a name neither go on nor end behind these.
+/// Why arguments of which the first is a name neither go on nor end after these.
 pub(crate) fn no_arguments_end(args: &[Expr], bytes: &[u8]) -> Refusal
     ensures { IsRefused result }
 {
@@ -143,7 +143,7 @@ pub(crate) fn no_arguments_end(args: &[Expr], bytes: &[u8]) -> Refusal
     no_end(bytes)
 }
 
-/// Why actuals neither go on nor end behind these.
+/// Why actuals neither go on nor end after these.
 pub(crate) fn no_actuals_end(given: &[Actual], bytes: &[u8]) -> Refusal
     ensures { IsRefused result }
 {
@@ -153,17 +153,17 @@ pub(crate) fn no_actuals_end(given: &[Actual], bytes: &[u8]) -> Refusal
     }
 }
 
-/// Why no global stands here, behind its caret, at which the whole begins.
-pub(crate) fn no_global(allows: Allows, whole: &[u8], behind: &[u8]) -> Refusal
+/// Why no global stands here, after its caret, at which the whole begins.
+pub(crate) fn no_global(allows: Allows, whole: &[u8], after: &[u8]) -> Refusal
     ensures { IsRefused result }
 {
-    match behind.first().copied() {
+    match after.first().copied() {
         Some(b'(') => leaves_out(LeftOut::Naked, whole),
         Some(b'|') => leaves_out(LeftOut::Environment, whole),
         Some(b'$') => leaves_out(LeftOut::Ssvn, whole),
-        Some(b'@') => leaves_out(LeftOut::Indirection, behind),
+        Some(b'@') => leaves_out(LeftOut::Indirection, after),
         _ if !allows.globals() => leaves_out(LeftOut::Order, whole),
-        _ => no_name(behind),
+        _ => no_name(after),
     }
 }
 
@@ -184,26 +184,26 @@ pub(crate) fn no_label(bytes: &[u8]) -> Refusal
     }
 }
 
-/// Why no name of a routine stands here, behind its caret, at which the whole begins.
-pub(crate) fn no_routine(whole: &[u8], behind: &[u8]) -> Refusal
+/// Why no name of a routine stands here, after its caret, at which the whole begins.
+pub(crate) fn no_routine(whole: &[u8], after: &[u8]) -> Refusal
     ensures { IsRefused result }
 {
-    match behind.first().copied() {
+    match after.first().copied() {
         Some(b'|') => leaves_out(LeftOut::Environment, whole),
-        _ => no_label(behind),
+        _ => no_label(after),
     }
 }
 
-/// Why no function and no special variable stands here, behind its `$`.
-pub(crate) fn no_word(bytes: &[u8], behind: &[u8]) -> Refusal
+/// Why no function and no special variable stands here, after its `$`.
+pub(crate) fn no_word(bytes: &[u8], after: &[u8]) -> Refusal
     ensures { IsRefused result }
 {
-    if let Some(b'&') = behind.first().copied() {
+    if let Some(b'&') = after.first().copied() {
         return leaves_out(LeftOut::External, bytes);
     }
-    let (word, rest) = word_at(behind);
+    let (word, rest) = word_at(after);
     if word.is_empty() {
-        return refused(Wrong::Form, behind);
+        return refused(Wrong::Form, after);
     }
     match byte_of(b'(', rest) {
         Some(_) => leaves_out(LeftOut::Function, bytes),
@@ -216,7 +216,7 @@ pub(crate) fn no_function(bytes: &[u8], word: &[u8]) -> Refusal
     ensures { IsRefused result }
 {
     match bytes.split_first() {
-        Some((_, behind)) if word.is_empty() => refused(Wrong::Form, behind),
+        Some((_, after)) if word.is_empty() => refused(Wrong::Form, after),
         _ => leaves_out(LeftOut::Function, bytes),
     }
 }
@@ -241,11 +241,11 @@ pub(crate) fn too_deep_pattern(bytes: &[u8]) -> Refusal
     }
 }
 
-// Whether what stands behind a `$` is refused at the `$`, however deep it lies.
-fn is_left_out(behind: &[u8]) -> bool {
-    let (word, rest) = word_at(behind);
+// Whether what stands after a `$` is refused at the `$`, however deep it lies.
+fn is_left_out(after: &[u8]) -> bool {
+    let (word, rest) = word_at(after);
     if word.is_empty() {
-        return behind.first().copied() == Some(b'&');
+        return after.first().copied() == Some(b'&');
     }
     match byte_of(b'(', rest) {
         Some(_) => !is_select(word) && function_of(word).is_none(),
@@ -257,22 +257,22 @@ fn is_left_out(behind: &[u8]) -> bool {
 pub(crate) fn too_deep(allows: Allows, bytes: &[u8]) -> Refusal
     ensures { IsRefused result }
 {
-    let Some((first, behind)) = bytes.split_first() else {
+    let Some((first, after)) = bytes.split_first() else {
         return refused(Wrong::Form, bytes);
     };
     match kind_of(*first) {
         Kind::Other => no_operand(bytes),
-        Kind::Caret => match behind.first().copied() {
-            Some(b'(' | b'|' | b'$') => no_global(allows, bytes, behind),
+        Kind::Caret => match after.first().copied() {
+            Some(b'(' | b'|' | b'$') => no_global(allows, bytes, after),
             _ if !allows.globals() => leaves_out(LeftOut::Order, bytes),
             _ => refused(Wrong::Deep, bytes),
         },
         Kind::Dollar => {
-            if behind.first().copied() == Some(b'$') && !allows.calls() {
+            if after.first().copied() == Some(b'$') && !allows.calls() {
                 return no_call(bytes);
             }
-            if is_left_out(behind) {
-                return no_word(bytes, behind);
+            if is_left_out(after) {
+                return no_word(bytes, after);
             }
             refused(Wrong::Deep, bytes)
         }

@@ -81,7 +81,7 @@ pub enum Expr {
     Global(usize, Name, Vec<Subscript>),
     Special(Special),
     Unary(UnaryOp, Box<Expr>),
-    /// The first operand, and each further one behind its operator. It means the tree that is assigned from the left.
+    /// The first operand, and each further one after its operator. It means the tree that is assigned from the left.
     Binary(Box<Expr>, Vec<(Op, Expr)>),
     /// the atoms of a pattern as they are written: the operand of `?` and `'?` alone
     Pattern(Value),

@@ -1,7 +1,9 @@
-// The words behind `$`.
+// The words after `$`.
 
 ghost use Rattle.std.specs.Prelude.{◌≡◌, ◌≤◌, length};
-ghost use Rattle.mlk_expr.specs.Words.{letters, word_at, is_either, special_to_principal, special_from_quit, special_of, function_to_fnumber, function_to_piece, function_from_qlength, function_of, is_select};
+ghost use Rattle.mlk_expr.specs.Words.{letters, word_at, is_either, special_to_principal, special_from_quit};
+ghost use Rattle.mlk_expr.specs.Words.{special_of, function_to_fnumber, function_to_piece, function_from_qlength};
+ghost use Rattle.mlk_expr.specs.Words.{function_of, is_select};
 
 use crate::tree::{Function, Special};
 use mlk_text::lexeme::is_letter;
@@ -18,7 +20,7 @@ fn letters(bytes: &[u8]) -> usize
     bytes.len()
 }
 
-/// The letters at the front, and what is behind them.
+/// The letters at the front, and what is after them.
 pub fn word_at(bytes: &[u8]) -> (&[u8], &[u8])
     ensures { (result.0.now, result.1.now) ≡ word_at bytes.now }
 {

@@ -53,7 +53,7 @@ pub(crate) fn is_refused(
     }
 }
 
-// `+2*3` behind `1`.
+// `+2*3` after `1`.
 fn is_sum_times(tree: &Expr) -> bool {
     let Expr::Binary(first, links) = tree else {
         return false;
@@ -129,7 +129,7 @@ fn actuals(rt: HostRuntime) -> Result<(), Fail> {
     Ok(())
 }
 
-// Each byte that ends an expression, behind one.
+// Each byte that ends an expression, after one.
 #[test]
 fn what_ends_an_expression(rt: HostRuntime) {
     let alloc = rt.alloc();

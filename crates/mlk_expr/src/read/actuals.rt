@@ -26,10 +26,11 @@ fn actual(
     passing: Passing,
     bytes: &[u8],
 ) -> Result<(Actual, &[u8]), Refusal>
-    ensures { Gives (λ x. (actual_of x.0, x.1.now)) result (actual_with passing scope.end (nested_in scope) bytes.now) }
+    ensures { Gives (λ x. (actual_of x.0, x.1.now)) result
+        (actual_with passing scope.end (nested_in scope) bytes.now) }
 {
-    if let Some(behind) = byte_of(b'.', bytes) {
-        match name(alloc, behind) {
+    if let Some(after) = byte_of(b'.', bytes) {
+        match name(alloc, after) {
             Ok(_) if !passing.lends() => return Err(refused(Wrong::Lent, bytes)),
             Ok((name, rest)) => {
                 return Ok((Actual::ByRef(column_of(scope.end, bytes), name), rest));
@@ -56,7 +57,8 @@ fn some_actuals(
     passing: Passing,
     bytes: &[u8],
 ) -> Result<(Vec<Actual>, &[u8]), Refusal>
-    ensures { Gives (λ x. (actual_trees x.0.items, x.1.now)) result (list_with (actual_with passing scope.end (nested_in scope)) bytes.now) }
+    ensures { Gives (λ x. (actual_trees x.0.items, x.1.now)) result
+        (list_with (actual_with passing scope.end (nested_in scope)) bytes.now) }
 {
     let (first, rest) = actual(alloc, scope, passing, bytes)?;
     let (found, rest) = actuals_rest(alloc, scope, passing, first, rest)?;
@@ -66,7 +68,7 @@ fn some_actuals(
     Ok((found, rest))
 }
 
-/// The actuals behind an opening parenthesis, and what is behind the closing one.
+/// The actuals after an opening parenthesis, and what is after the closing one.
 #[tactic(auto, unfolding(crate::specs::Reading::actuals_with))]
 #[cycle(reading)]
 pub(crate) fn actuals(
@@ -75,7 +77,8 @@ pub(crate) fn actuals(
     passing: Passing,
     bytes: &[u8],
 ) -> Result<(Vec<Actual>, &[u8]), Refusal>
-    ensures { Gives (λ x. (actual_trees x.0.items, x.1.now)) result (actuals_with passing scope.end (nested_in scope) bytes.now) }
+    ensures { Gives (λ x. (actual_trees x.0.items, x.1.now)) result
+        (actuals_with passing scope.end (nested_in scope) bytes.now) }
 {
     if let Some(rest) = byte_of(b')', bytes) {
         return Ok((Vec::new(alloc), rest));
@@ -91,20 +94,23 @@ fn actuals_rest(
     first: Actual,
     bytes: &[u8],
 ) -> Result<(Vec<Actual>, &[u8]), Refusal>
-    ensures { Gives (λ x. (actual_trees x.0.items, x.1.now)) result (put (actual_of first ∷ []) (many (byte_at 44) (next (actual_with passing scope.end (nested_in scope))) (suc (length bytes.now)) bytes.now)) }
+    ensures { Gives (λ x. (actual_trees x.0.items, x.1.now)) result
+        (put (actual_of first ∷ [])
+        (many (byte_at 44) (next (actual_with passing scope.end (nested_in scope)))
+        (suc (length bytes.now)) bytes.now)) }
 {
     let mut found = Vec::new(alloc);
     found.push(first)?;
     let mut rest = bytes;
-    while let Some(behind) = byte_of(b',', rest) {
-        let (item, behind) = actual(alloc, scope, passing, behind)?;
+    while let Some(after) = byte_of(b',', rest) {
+        let (item, after) = actual(alloc, scope, passing, after)?;
         found.push(item)?;
-        rest = behind;
+        rest = after;
     }
     Ok((found, rest))
 }
 
-/// A call behind its `$$`, at which the whole begins.
+/// A call after its `$$`, at which the whole begins.
 #[tactic(auto, unfolding(crate::specs::Reading::call_with))]
 #[cycle(reading)]
 pub(crate) fn call<'a>(
@@ -113,16 +119,17 @@ pub(crate) fn call<'a>(
     whole: &[u8],
     bytes: &'a [u8],
 ) -> Result<(Expr, &'a [u8]), Refusal>
-    ensures { Gives (λ x. (tree_of x.0, x.1.now)) result (call_with (calls_may scope.allows) scope.end (nested_in scope) (column_of scope.end whole.now) bytes.now) }
+    ensures { Gives (λ x. (tree_of x.0, x.1.now)) result
+        (call_with (calls_may scope.allows) scope.end (nested_in scope) (column_of scope.end whole.now) bytes.now) }
 {
     if !scope.allows.calls() {
         return Err(no_call(whole));
     }
     let (callee, rest) = callee(alloc, bytes)?;
     let column = column_of(scope.end, whole);
-    let Some(behind) = byte_of(b'(', rest) else {
+    let Some(after) = byte_of(b'(', rest) else {
         return Ok((Expr::Call(column, callee, None), rest));
     };
-    let (given, rest) = actuals(alloc, scope, Passing::ByReference, behind)?;
+    let (given, rest) = actuals(alloc, scope, Passing::ByReference, after)?;
     Ok((Expr::Call(column, callee, Some(given)), rest))
 }

@@ -5,7 +5,8 @@ ghost use Rattle.mlk_text.specs.Lexemes.{byte_at};
 ghost use Rattle.mlk_text.specs.Reading.{many, put};
 ghost use Rattle.mlk_expr.specs.Lexemes.{column_of};
 ghost use Rattle.mlk_expr.specs.Trees.{tree_of, trees, choice_of, choices};
-ghost use Rattle.mlk_expr.specs.Reading.{few, next, nested_in, list_with, choice_with, arguments_with, function_with, dollar_with, atom_in, quiet};
+ghost use Rattle.mlk_expr.specs.Reading.{few, next, nested_in, list_with, choice_with, arguments_with, function_with};
+ghost use Rattle.mlk_expr.specs.Reading.{dollar_with, atom_in, quiet};
 ghost use Rattle.mlk_expr.specs.Touches.{calls_may};
 ghost use Rattle.mlk_expr.specs.Outcome.{Gives};
 
@@ -43,20 +44,21 @@ fn exprs_rest(
     first: Expr,
     bytes: &[u8],
 ) -> Result<(Vec<Expr>, &[u8]), Refusal>
-    ensures { Gives (λ x. (trees x.0.items, x.1.now)) result (put (tree_of first ∷ []) (many (byte_at 44) (next (nested_in scope)) (suc (length bytes.now)) bytes.now)) }
+    ensures { Gives (λ x. (trees x.0.items, x.1.now)) result
+        (put (tree_of first ∷ []) (many (byte_at 44) (next (nested_in scope)) (suc (length bytes.now)) bytes.now)) }
 {
     let mut found = Vec::new(alloc);
     found.push(first)?;
     let mut rest = bytes;
-    while let Some(behind) = byte_of(b',', rest) {
-        let (item, behind) = chain(alloc, scope, behind)?;
+    while let Some(after) = byte_of(b',', rest) {
+        let (item, after) = chain(alloc, scope, after)?;
         found.push(item)?;
-        rest = behind;
+        rest = after;
     }
     Ok((found, rest))
 }
 
-// An argument that is a name, and at most so many behind it.
+// An argument that is a name, and at most so many after it.
 #[cycle(reading)]
 fn others(
     alloc: Global,
@@ -65,18 +67,20 @@ fn others(
     first: Expr,
     bytes: &[u8],
 ) -> Result<(Vec<Expr>, &[u8]), Refusal>
-    ensures { Gives (λ x. (trees x.0.items, x.1.now)) result (few (suc most) (put (tree_of first ∷ []) (many (byte_at 44) (next (nested_in scope)) (suc (length bytes.now)) bytes.now))) }
+    ensures { Gives (λ x. (trees x.0.items, x.1.now)) result
+        (few (suc most) (put (tree_of first ∷ [])
+        (many (byte_at 44) (next (nested_in scope)) (suc (length bytes.now)) bytes.now))) }
 {
     let mut found = Vec::new(alloc);
     found.push(first)?;
     let mut rest = bytes;
-    while let Some(behind) = byte_of(b',', rest) {
+    while let Some(after) = byte_of(b',', rest) {
         if found.len() > most {
             return Err(refused(Wrong::Form, rest));
         }
-        let (item, behind) = chain(alloc, scope, behind)?;
+        let (item, after) = chain(alloc, scope, after)?;
         found.push(item)?;
-        rest = behind;
+        rest = after;
     }
     Ok((found, rest))
 }
@@ -90,7 +94,8 @@ fn arguments(
     function: Function,
     bytes: &[u8],
 ) -> Result<(Vec<Expr>, &[u8]), Refusal>
-    ensures { Gives (λ x. (trees x.0.items, x.1.now)) result (arguments_with (atom_in scope) (nested_in scope) (nested_in (quiet scope)) function bytes.now) }
+    ensures { Gives (λ x. (trees x.0.items, x.1.now)) result
+        (arguments_with (atom_in scope) (nested_in scope) (nested_in (quiet scope)) function bytes.now) }
 {
     let Some(most) = named(function) else {
         return exprs(alloc, scope, bytes);
@@ -147,20 +152,22 @@ fn choices_rest(
     first: (Expr, Expr),
     bytes: &[u8],
 ) -> Result<(Vec<(Expr, Expr)>, &[u8]), Refusal>
-    ensures { Gives (λ x. (choices x.0.items, x.1.now)) result (put (choice_of first ∷ []) (many (byte_at 44) (next (choice_with (nested_in scope))) (suc (length bytes.now)) bytes.now)) }
+    ensures { Gives (λ x. (choices x.0.items, x.1.now)) result
+        (put (choice_of first ∷ [])
+        (many (byte_at 44) (next (choice_with (nested_in scope))) (suc (length bytes.now)) bytes.now)) }
 {
     let mut found = Vec::new(alloc);
     found.push(first)?;
     let mut rest = bytes;
-    while let Some(behind) = byte_of(b',', rest) {
-        let (item, behind) = choice(alloc, scope, behind)?;
+    while let Some(after) = byte_of(b',', rest) {
+        let (item, after) = choice(alloc, scope, after)?;
         found.push(item)?;
-        rest = behind;
+        rest = after;
     }
     Ok((found, rest))
 }
 
-// A function behind its opening parenthesis.
+// A function after its opening parenthesis.
 #[tactic(auto, unfolding(crate::specs::Reading::function_with))]
 #[cycle(reading)]
 fn function<'a>(
@@ -170,7 +177,8 @@ fn function<'a>(
     word: &[u8],
     bytes: &'a [u8],
 ) -> Result<(Expr, &'a [u8]), Refusal>
-    ensures { Gives (λ x. (tree_of x.0, x.1.now)) result (function_with (atom_in scope) (nested_in scope) (nested_in (quiet scope)) word.now bytes.now) }
+    ensures { Gives (λ x. (tree_of x.0, x.1.now)) result
+        (function_with (atom_in scope) (nested_in scope) (nested_in (quiet scope)) word.now bytes.now) }
 {
     if is_select(word) {
         let (choices, rest) = choices(alloc, scope, bytes)?;
@@ -192,14 +200,16 @@ pub(crate) fn dollar<'a>(
     whole: &[u8],
     bytes: &'a [u8],
 ) -> Result<(Expr, &'a [u8]), Refusal>
-    ensures { Gives (λ x. (tree_of x.0, x.1.now)) result (dollar_with (calls_may scope.allows) scope.end (atom_in scope) (nested_in scope) (nested_in (quiet scope)) (column_of scope.end whole.now) bytes.now) }
+    ensures { Gives (λ x. (tree_of x.0, x.1.now)) result
+        (dollar_with (calls_may scope.allows) scope.end (atom_in scope) (nested_in scope)
+        (nested_in (quiet scope)) (column_of scope.end whole.now) bytes.now) }
 {
     if let Some(rest) = byte_of(b'$', bytes) {
         return call(alloc, scope, whole, rest);
     }
     let (word, rest) = word_at(bytes);
-    if let Some(behind) = byte_of(b'(', rest) {
-        return function(alloc, scope, whole, word, behind);
+    if let Some(after) = byte_of(b'(', rest) {
+        return function(alloc, scope, whole, word, after);
     }
     let Some(special) = special_of(word) else {
         return Err(no_word(whole, bytes));

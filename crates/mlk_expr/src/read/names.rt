@@ -33,7 +33,8 @@ fn subscript(alloc: Global, scope: Scope, bytes: &[u8]) -> Result<(Subscript, &[
 #[tactic(auto, unfolding(crate::specs::Reading::list_with))]
 #[cycle(reading)]
 fn subs(alloc: Global, scope: Scope, bytes: &[u8]) -> Result<(Vec<Subscript>, &[u8]), Refusal>
-    ensures { Gives (λ x. (sub_trees x.0.items, x.1.now)) result (few 32 (list_with (placed scope.end (nested_in scope)) bytes.now)) }
+    ensures { Gives (λ x. (sub_trees x.0.items, x.1.now)) result
+        (few 32 (list_with (placed scope.end (nested_in scope)) bytes.now)) }
 {
     let (first, rest) = subscript(alloc, scope, bytes)?;
     let (found, rest) = subs_rest(alloc, scope, first, rest)?;
@@ -50,23 +51,25 @@ fn subs_rest(
     first: Subscript,
     bytes: &[u8],
 ) -> Result<(Vec<Subscript>, &[u8]), Refusal>
-    ensures { Gives (λ x. (sub_trees x.0.items, x.1.now)) result (few 32 (put (sub_of first ∷ []) (many (byte_at 44) (next (placed scope.end (nested_in scope))) (suc (length bytes.now)) bytes.now))) }
+    ensures { Gives (λ x. (sub_trees x.0.items, x.1.now)) result
+        (few 32 (put (sub_of first ∷ [])
+        (many (byte_at 44) (next (placed scope.end (nested_in scope))) (suc (length bytes.now)) bytes.now))) }
 {
     let mut found = Vec::new(alloc);
     found.push(first)?;
     let mut rest = bytes;
-    while let Some(behind) = byte_of(b',', rest) {
+    while let Some(after) = byte_of(b',', rest) {
         if found.len() == MOST_SUBSCRIPTS {
             return Err(refused(Wrong::Form, rest));
         }
-        let (item, behind) = subscript(alloc, scope, behind)?;
+        let (item, after) = subscript(alloc, scope, after)?;
         found.push(item)?;
-        rest = behind;
+        rest = after;
     }
     Ok((found, rest))
 }
 
-/// The subscripts at the front, which may be none, and what is behind them.
+/// The subscripts at the front, which may be none, and what is after them.
 #[tactic(auto, unfolding(crate::specs::Reading::subs_with))]
 #[cycle(reading)]
 pub(crate) fn subscripts(
@@ -92,7 +95,7 @@ pub(crate) fn local(alloc: Global, scope: Scope, bytes: &[u8]) -> Result<(Expr, 
     Ok((Expr::Local(name, subs), rest))
 }
 
-/// A global with its subscripts behind its caret, at which the whole begins.
+/// A global with its subscripts after its caret, at which the whole begins.
 #[cycle(reading)]
 pub(crate) fn global<'a>(
     alloc: Global,
@@ -100,7 +103,8 @@ pub(crate) fn global<'a>(
     whole: &[u8],
     bytes: &'a [u8],
 ) -> Result<(Expr, &'a [u8]), Refusal>
-    ensures { Gives (λ x. (tree_of x.0, x.1.now)) result (global_with (globals_may scope.allows) scope.end (column_of scope.end whole.now) (nested_in scope) bytes.now) }
+    ensures { Gives (λ x. (tree_of x.0, x.1.now)) result
+        (global_with (globals_may scope.allows) scope.end (column_of scope.end whole.now) (nested_in scope) bytes.now) }
 {
     let (name, rest) = global_name(alloc, scope.allows, whole, bytes)?;
     let (subs, rest) = subscripts(alloc, scope, rest)?;

@@ -12,7 +12,7 @@ fn nested(
     depth: usize,
     before: &[u8],
     inner: &[u8],
-    behind: &[u8],
+    after: &[u8],
 ) -> Result<Vec<u8>, Fail> {
     let mut text = Vec::new(alloc);
     for _ in 0..depth {
@@ -20,27 +20,27 @@ fn nested(
     }
     text.extend_from_slice(inner)?;
     for _ in 0..depth {
-        text.extend_from_slice(behind)?;
+        text.extend_from_slice(after)?;
     }
     Ok(text)
 }
 
-fn between(alloc: Global, front: &[u8], inner: Vec<u8>, behind: &[u8]) -> Result<Vec<u8>, Fail> {
+fn between(alloc: Global, front: &[u8], inner: Vec<u8>, after: &[u8]) -> Result<Vec<u8>, Fail> {
     let mut text = Vec::new(alloc);
     text.extend_from_slice(front)?;
     text.extend_from_slice(inner.as_slice())?;
-    text.extend_from_slice(behind)?;
+    text.extend_from_slice(after)?;
     Ok(text)
 }
 
 // A name of so many letters between two texts.
-fn named(alloc: Global, front: &[u8], letters: usize, behind: &[u8]) -> Result<Vec<u8>, Fail> {
+fn named(alloc: Global, front: &[u8], letters: usize, after: &[u8]) -> Result<Vec<u8>, Fail> {
     let mut text = Vec::new(alloc);
     text.extend_from_slice(front)?;
     for _ in 0..letters {
         text.push(b'N')?;
     }
-    text.extend_from_slice(behind)?;
+    text.extend_from_slice(after)?;
     Ok(text)
 }
 
@@ -59,14 +59,14 @@ fn sixty_four_deep(rt: HostRuntime) -> Result<(), Fail> {
         (b"$S(", 63, b"1", b":1)", 193),
         (b"$G(X(", 31, b"1", b"))", 161),
     ];
-    for (before, most, inner, behind, column) in rows.iter() {
-        let good = nested(alloc, *most, before, inner, behind)?;
+    for (before, most, inner, after, column) in rows.iter() {
+        let good = nested(alloc, *most, before, inner, after)?;
         assert_eq!(rt;
             next_of(alloc, good.as_slice()),
             Some(good.len()),
             "{before:?}"
         );
-        let deep = nested(alloc, *most + 1, before, inner, behind)?;
+        let deep = nested(alloc, *most + 1, before, inner, after)?;
         assert!(rt;
             is_refused(alloc, deep.as_slice(), 103, *column, b""),
             "{before:?}"
@@ -184,14 +184,14 @@ fn long_names(rt: HostRuntime) -> Result<(), Fail> {
         (b"$$A^", 31, b"", 5),
         (b"$$F(.", 31, b")", 6),
     ];
-    for (front, most, behind, column) in rows.iter() {
-        let good = named(alloc, front, *most, behind)?;
+    for (front, most, after, column) in rows.iter() {
+        let good = named(alloc, front, *most, after)?;
         assert_eq!(rt;
             next_of(alloc, good.as_slice()),
             Some(good.len()),
             "{front:?}"
         );
-        let long = named(alloc, front, *most + 1, behind)?;
+        let long = named(alloc, front, *most + 1, after)?;
         assert!(rt;
             is_refused(alloc, long.as_slice(), 104, *column, b""),
             "{front:?}"
@@ -209,7 +209,7 @@ fn long_labels_of_digits(rt: HostRuntime) -> Result<(), Fail> {
     Ok(())
 }
 
-// 32 subscripts are read; the comma before one more is refused, whatever stands behind it.
+// 32 subscripts are read; the comma before one more is refused, whatever stands after it.
 #[test]
 fn many_subscripts(rt: HostRuntime) -> Result<(), Fail> {
     let alloc = rt.alloc();

@@ -67,7 +67,7 @@ fn relations(rt: HostRuntime) {
     }
 }
 
-// What can't stand behind the longest operator, or behind a `'` that begins one.
+// What can't stand after the longest operator, or after a `'` that begins one.
 #[test]
 fn no_longer_operators(rt: HostRuntime) {
     let alloc = rt.alloc();

@@ -1,16 +1,16 @@
-// Each word behind `$`: whole, short, and in either case.
+// Each word after `$`: whole, short, and in either case.
 
 use mlk_expr::{Expr, Function, Special, read_expr};
 use std::alloc::Global;
 use std::process::Abort;
 use std::test::Fail;
 
-// A `$`, a word, and what stands behind it.
-fn dollar(alloc: Global, word: &[u8], behind: &[u8]) -> Result<Vec<u8>, Fail> {
+// A `$`, a word, and what stands after it.
+fn dollar(alloc: Global, word: &[u8], after: &[u8]) -> Result<Vec<u8>, Fail> {
     let mut text = Vec::new(alloc);
     text.push(b'$')?;
     text.extend_from_slice(word)?;
-    text.extend_from_slice(behind)?;
+    text.extend_from_slice(after)?;
     Ok(text)
 }
 

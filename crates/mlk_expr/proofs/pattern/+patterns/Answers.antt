@@ -11,43 +11,43 @@ use Rattle.mlk_expr.proofs.Loops.{loop_fails, with_fails, rest_fails, refused_fa
 use Rattle.mlk_expr.proofs.Steps.{put-nothing, some-length, any, no-atoms, atoms-fail, pattern-found, pattern-shorter}
 use Rattle.mlk_expr.proofs.pattern.+patterns.Goals as goal
 
-pub alternatives_rest-loop-behind-init : goal.alternatives_rest-loop-behind-init
-alternatives_rest-loop-behind-init t c = ([], suc (length c.args.bytes.now), omega arith, put-nothing (many (byte_at 44) (next (pattern_at c.args.deeper)) (suc (length c.args.bytes.now)) c.args.bytes.now))
+pub alternatives_rest-loop-after-init : goal.alternatives_rest-loop-after-init
+alternatives_rest-loop-after-init t c = ([], suc (length c.args.bytes.now), omega arith, put-nothing (many (byte_at 44) (next (pattern_at c.args.deeper)) (suc (length c.args.bytes.now)) c.args.bytes.now))
 
-pub alternatives_rest-loop-behind-smaller : goal.alternatives_rest-loop-behind-smaller
-alternatives_rest-loop-behind-smaller t c =
-    item-shorter (pattern_at c.args.deeper) (IsPattern c.args.deeper) (pattern-exact c.args.deeper) c.in_ok-item_rest.field-0-0.now c.loop-behind.rest.now c.in-Some.behind.now c.in_ok-item_rest.item_rest.now
+pub alternatives_rest-loop-after-smaller : goal.alternatives_rest-loop-after-smaller
+alternatives_rest-loop-after-smaller t c =
+    item-shorter (pattern_at c.args.deeper) (IsPattern c.args.deeper) (pattern-exact c.args.deeper) c.in_ok-item_rest.field-0-0.now c.loop-after.rest.now c.in-Some.after.now c.in_ok-item_rest.item_rest.now
     (sym c.in-Some.ensures) c.in_ok-item_rest.ensures
 
-pub alternatives_rest-loop-behind-preserved : goal.alternatives_rest-loop-behind-preserved
-alternatives_rest-loop-behind-preserved t c =
-    let less = item-shorter (pattern_at c.args.deeper) (IsPattern c.args.deeper) (pattern-exact c.args.deeper) c.in_ok-item_rest.field-0-0.now c.loop-behind.rest.now c.in-Some.behind.now c.in_ok-item_rest.item_rest.now
+pub alternatives_rest-loop-after-preserved : goal.alternatives_rest-loop-after-preserved
+alternatives_rest-loop-after-preserved t c =
+    let less = item-shorter (pattern_at c.args.deeper) (IsPattern c.args.deeper) (pattern-exact c.args.deeper) c.in_ok-item_rest.field-0-0.now c.loop-after.rest.now c.in-Some.after.now c.in_ok-item_rest.item_rest.now
     (sym c.in-Some.ensures) c.in_ok-item_rest.ensures in
-    let more = many_goes (byte_at 44) (next (pattern_at c.args.deeper)) c.loop-behind.invariant.0 c.loop-behind.invariant.1 c.loop-behind.rest.now _ 44 c.in-Some.behind.now
-    c.in_ok-item_rest.field-0-0.now c.in_ok-item_rest.item_rest.now (sym c.in-Some.ensures) c.in_ok-item_rest.ensures less c.loop-behind.invariant.2 c.loop-behind.invariant.3 in
-    (c.loop-behind.invariant.0 ++ c.in_ok-item_rest.field-0-0.now ∷ [], more.0, more.1, more.2)
+    let more = many_goes (byte_at 44) (next (pattern_at c.args.deeper)) c.loop-after.invariant.0 c.loop-after.invariant.1 c.loop-after.rest.now _ 44 c.in-Some.after.now
+    c.in_ok-item_rest.field-0-0.now c.in_ok-item_rest.item_rest.now (sym c.in-Some.ensures) c.in_ok-item_rest.ensures less c.loop-after.invariant.2 c.loop-after.invariant.3 in
+    (c.loop-after.invariant.0 ++ c.in_ok-item_rest.field-0-0.now ∷ [], more.0, more.1, more.2)
 
 pub alternatives_rest-returns : goal.alternatives_rest-returns
 alternatives_rest-returns t c =
-    ap rest_of (many_stops (byte_at 44) (next (pattern_at c.args.deeper)) c.loop-behind.invariant.0 c.loop-behind.invariant.1 c.loop-behind.rest.now _ (sym c.in_default.ensures) c.loop-behind.invariant.2 c.loop-behind.invariant.3)
+    ap rest_of (many_stops (byte_at 44) (next (pattern_at c.args.deeper)) c.loop-after.invariant.0 c.loop-after.invariant.1 c.loop-after.rest.now _ (sym c.in_default.ensures) c.loop-after.invariant.2 c.loop-after.invariant.3)
 
 pub alternatives_rest-returns-in_err-item_rest : goal.alternatives_rest-returns-in_err-item_rest
 alternatives_rest-returns-in_err-item_rest t c =
     let p = err_from_is_err_and c.from_residual.result c.from_residual.ensures.1 in
-    rw (p.1, p.2) (rest_fails _ _ (loop_fails (byte_at 44) (next (pattern_at c.args.deeper)) c.loop-behind.invariant.0 c.loop-behind.invariant.1 c.loop-behind.rest.now _ 44 c.in-Some.behind.now c.in_err-item_rest.field-0.0
-    (sym c.in-Some.ensures) c.in_err-item_rest.ensures c.loop-behind.invariant.2 c.loop-behind.invariant.3))
+    rw (p.1, p.2) (rest_fails _ _ (loop_fails (byte_at 44) (next (pattern_at c.args.deeper)) c.loop-after.invariant.0 c.loop-after.invariant.1 c.loop-after.rest.now _ 44 c.in-Some.after.now c.in_err-item_rest.field-0.0
+    (sym c.in-Some.ensures) c.in_err-item_rest.ensures c.loop-after.invariant.2 c.loop-after.invariant.3))
 
 pub atoms-loop-count-init : goal.atoms-loop-count-init
 atoms-loop-count-init t c =
     ([], suc (length c.args.bytes.now), refl, omega arith, put-nothing (many count_at (matcher_by (pattern_at c.args.deeper)) (suc (length c.args.bytes.now)) c.args.bytes.now))
 
 pub atoms-loop-count-smaller : goal.atoms-loop-count-smaller
-atoms-loop-count-smaller t c = matcher-shorter c.args.deeper c.in-Some.count.now c.loop-count.rest.now c.in-Some.behind.now c.in_ok-rest.rest.now (sym c.in-Some.ensures) c.in_ok-rest.ensures
+atoms-loop-count-smaller t c = matcher-shorter c.args.deeper c.in-Some.count.now c.loop-count.rest.now c.in-Some.after.now c.in_ok-rest.rest.now (sym c.in-Some.ensures) c.in_ok-rest.ensures
 
 pub atoms-loop-count-preserved : goal.atoms-loop-count-preserved
 atoms-loop-count-preserved t c =
-    let less = matcher-shorter c.args.deeper c.in-Some.count.now c.loop-count.rest.now c.in-Some.behind.now c.in_ok-rest.rest.now (sym c.in-Some.ensures) c.in_ok-rest.ensures in
-    let more = many_goes count_at (matcher_by (pattern_at c.args.deeper)) c.loop-count.invariant.0 c.loop-count.invariant.1 c.loop-count.rest.now _ c.in-Some.count.now c.in-Some.behind.now
+    let less = matcher-shorter c.args.deeper c.in-Some.count.now c.loop-count.rest.now c.in-Some.after.now c.in_ok-rest.rest.now (sym c.in-Some.ensures) c.in_ok-rest.ensures in
+    let more = many_goes count_at (matcher_by (pattern_at c.args.deeper)) c.loop-count.invariant.0 c.loop-count.invariant.1 c.loop-count.rest.now _ c.in-Some.count.now c.in-Some.after.now
     c.in-Some.count.now c.in_ok-rest.rest.now (sym c.in-Some.ensures) c.in_ok-rest.ensures less c.loop-count.invariant.3 c.loop-count.invariant.4 in
     (c.loop-count.invariant.0 ++ c.in-Some.count.now ∷ [], more.0, some-length c.loop-count.invariant.0 c.in-Some.count.now, more.1, more.2)
 
@@ -59,7 +59,7 @@ atoms-returns t c =
 pub atoms-returns-in_err-rest : goal.atoms-returns-in_err-rest
 atoms-returns-in_err-rest t c =
     let p = err_from_is_err_and c.from_residual.result c.from_residual.ensures.1 in
-    rw (p.1, p.2) (with_fails any _ _ (loop_fails count_at (matcher_by (pattern_at c.args.deeper)) c.loop-count.invariant.0 c.loop-count.invariant.1 c.loop-count.rest.now _ c.in-Some.count.now c.in-Some.behind.now c.in_err-rest.field-0.0
+    rw (p.1, p.2) (with_fails any _ _ (loop_fails count_at (matcher_by (pattern_at c.args.deeper)) c.loop-count.invariant.0 c.loop-count.invariant.1 c.loop-count.rest.now _ c.in-Some.count.now c.in-Some.after.now c.in_err-rest.field-0.0
     (sym c.in-Some.ensures) c.in_err-rest.ensures c.loop-count.invariant.3 c.loop-count.invariant.4))
 
 pub pattern-overflow_sub-bytes : goal.pattern-overflow_sub-bytes

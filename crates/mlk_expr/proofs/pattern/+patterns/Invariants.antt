@@ -29,10 +29,10 @@ invariant-atoms-loop-count l =
 abbrev pub decreases-atoms-loop-count : goal.decreases-atoms-loop-count
 decreases-atoms-loop-count l = length l.rest
 
-abbrev pub invariant-alternatives_rest-loop-behind : goal.invariant-alternatives_rest-loop-behind
-invariant-alternatives_rest-loop-behind l =
+abbrev pub invariant-alternatives_rest-loop-after : goal.invariant-alternatives_rest-loop-after
+invariant-alternatives_rest-loop-after l =
     (front : List (List ℕ)) × (n : ℕ) × (length l.rest < n)
     × (put front (many (byte_at 44) (next (pattern_at l.deeper)) n l.rest) ≡ many (byte_at 44) (next (pattern_at l.deeper)) (suc (length l.bytes)) l.bytes)
 
-abbrev pub decreases-alternatives_rest-loop-behind : goal.decreases-alternatives_rest-loop-behind
-decreases-alternatives_rest-loop-behind l = length l.rest
+abbrev pub decreases-alternatives_rest-loop-after : goal.decreases-alternatives_rest-loop-after
+decreases-alternatives_rest-loop-after l = length l.rest

@@ -30,17 +30,17 @@ atom-returns t c = rw (atom_in-above c.args.scope c.args.bytes.now (omega (arith
 pub chain_rest-returns-in_err-item : goal.chain_rest-returns-in_err-item
 chain_rest-returns-in_err-item t c =
     let p = err_from_is_err_and c.from_residual.result c.from_residual.ensures.1 in
-    rw (p.1, p.2) (loop_fails op_at (linked (atom_in c.args.scope) (pattern_at c.args.scope.left)) _ c.loop-op.invariant.0 c.loop-op.rest.now _ c.in-Some.op c.in-Some.behind.now c.in_err-item.field-0.0
+    rw (p.1, p.2) (loop_fails op_at (linked (atom_in c.args.scope) (pattern_at c.args.scope.left)) _ c.loop-op.invariant.0 c.loop-op.rest.now _ c.in-Some.op c.in-Some.after.now c.in_err-item.field-0.0
     (sym c.in-Some.ensures) (with_fails _ _ _ c.in_err-item.ensures) c.loop-op.invariant.1 c.loop-op.invariant.2)
 
 pub chain_rest-loop-op-smaller : goal.chain_rest-loop-op-smaller
-chain_rest-loop-op-smaller t c = link-shorter c.args.scope c.in-Some.op (tree_of c.in_ok-item.item) c.loop-op.rest.now c.in-Some.behind.now c.in_ok-item.behind.now (sym c.in-Some.ensures) c.in_ok-item.ensures
+chain_rest-loop-op-smaller t c = link-shorter c.args.scope c.in-Some.op (tree_of c.in_ok-item.item) c.loop-op.rest.now c.in-Some.after.now c.in_ok-item.after.now (sym c.in-Some.ensures) c.in_ok-item.ensures
 
 pub chain_rest-loop-op-preserved : goal.chain_rest-loop-op-preserved
 chain_rest-loop-op-preserved t c =
-    let less = link-shorter c.args.scope c.in-Some.op (tree_of c.in_ok-item.item) c.loop-op.rest.now c.in-Some.behind.now c.in_ok-item.behind.now (sym c.in-Some.ensures) c.in_ok-item.ensures in
-    let more = many_goes op_at (linked (atom_in c.args.scope) (pattern_at c.args.scope.left)) (links c.loop-op.found.items) c.loop-op.invariant.0 c.loop-op.rest.now _ c.in-Some.op c.in-Some.behind.now
-    (c.in-Some.op, tree_of c.in_ok-item.item) c.in_ok-item.behind.now (sym c.in-Some.ensures) (ap (with (λ u. (c.in-Some.op, u))) c.in_ok-item.ensures) less c.loop-op.invariant.1 c.loop-op.invariant.2 in
+    let less = link-shorter c.args.scope c.in-Some.op (tree_of c.in_ok-item.item) c.loop-op.rest.now c.in-Some.after.now c.in_ok-item.after.now (sym c.in-Some.ensures) c.in_ok-item.ensures in
+    let more = many_goes op_at (linked (atom_in c.args.scope) (pattern_at c.args.scope.left)) (links c.loop-op.found.items) c.loop-op.invariant.0 c.loop-op.rest.now _ c.in-Some.op c.in-Some.after.now
+    (c.in-Some.op, tree_of c.in_ok-item.item) c.in_ok-item.after.now (sym c.in-Some.ensures) (ap (with (λ u. (c.in-Some.op, u))) c.in_ok-item.ensures) less c.loop-op.invariant.1 c.loop-op.invariant.2 in
     rw (c.in_ok-push.ensures.items, map-append) more
 
 pub chain_rest-returns : goal.chain_rest-returns
@@ -49,55 +49,55 @@ chain_rest-returns t c = many_stops op_at (linked (atom_in c.args.scope) (patter
 pub functions::exprs_rest-returns-in_err-item : goal.functions::exprs_rest-returns-in_err-item
 functions::exprs_rest-returns-in_err-item t c =
     let p = err_from_is_err_and c.from_residual-in_err-item.result c.from_residual-in_err-item.ensures.1 in
-    rw (p.1, p.2) (loop_fails (byte_at 44) (next (nested_in c.args.scope)) _ c.loop-behind.invariant.0 c.loop-behind.rest.now _ 44 c.in-Some.behind.now c.in_err-item.field-0.0
-    (sym c.in-Some.ensures) c.in_err-item.ensures c.loop-behind.invariant.1 c.loop-behind.invariant.2)
+    rw (p.1, p.2) (loop_fails (byte_at 44) (next (nested_in c.args.scope)) _ c.loop-after.invariant.0 c.loop-after.rest.now _ 44 c.in-Some.after.now c.in_err-item.field-0.0
+    (sym c.in-Some.ensures) c.in_err-item.ensures c.loop-after.invariant.1 c.loop-after.invariant.2)
 
-pub functions::exprs_rest-loop-behind-smaller : goal.functions::exprs_rest-loop-behind-smaller
-functions::exprs_rest-loop-behind-smaller t c = item-shorter (nested_in c.args.scope) (IsNestedIn c.args.scope) (nested_in-exact c.args.scope) (tree_of c.in_ok-item.item) c.loop-behind.rest.now c.in-Some.behind.now c.in_ok-item.behind.now (sym c.in-Some.ensures) c.in_ok-item.ensures
+pub functions::exprs_rest-loop-after-smaller : goal.functions::exprs_rest-loop-after-smaller
+functions::exprs_rest-loop-after-smaller t c = item-shorter (nested_in c.args.scope) (IsNestedIn c.args.scope) (nested_in-exact c.args.scope) (tree_of c.in_ok-item.item) c.loop-after.rest.now c.in-Some.after.now c.in_ok-item.after.now (sym c.in-Some.ensures) c.in_ok-item.ensures
 
-pub functions::exprs_rest-loop-behind-preserved : goal.functions::exprs_rest-loop-behind-preserved
-functions::exprs_rest-loop-behind-preserved t c =
-    let less = item-shorter (nested_in c.args.scope) (IsNestedIn c.args.scope) (nested_in-exact c.args.scope) (tree_of c.in_ok-item.item) c.loop-behind.rest.now c.in-Some.behind.now c.in_ok-item.behind.now (sym c.in-Some.ensures) c.in_ok-item.ensures in
-    let more = many_goes (byte_at 44) (next (nested_in c.args.scope)) (trees c.loop-behind.found.items) c.loop-behind.invariant.0 c.loop-behind.rest.now _ 44 c.in-Some.behind.now
-    (tree_of c.in_ok-item.item) c.in_ok-item.behind.now (sym c.in-Some.ensures) c.in_ok-item.ensures less c.loop-behind.invariant.1 c.loop-behind.invariant.2 in
+pub functions::exprs_rest-loop-after-preserved : goal.functions::exprs_rest-loop-after-preserved
+functions::exprs_rest-loop-after-preserved t c =
+    let less = item-shorter (nested_in c.args.scope) (IsNestedIn c.args.scope) (nested_in-exact c.args.scope) (tree_of c.in_ok-item.item) c.loop-after.rest.now c.in-Some.after.now c.in_ok-item.after.now (sym c.in-Some.ensures) c.in_ok-item.ensures in
+    let more = many_goes (byte_at 44) (next (nested_in c.args.scope)) (trees c.loop-after.found.items) c.loop-after.invariant.0 c.loop-after.rest.now _ 44 c.in-Some.after.now
+    (tree_of c.in_ok-item.item) c.in_ok-item.after.now (sym c.in-Some.ensures) c.in_ok-item.ensures less c.loop-after.invariant.1 c.loop-after.invariant.2 in
     rw (c.in_ok-push-2.ensures.items, map-append) more
 
 pub functions::exprs_rest-returns : goal.functions::exprs_rest-returns
-functions::exprs_rest-returns t c = many_stops (byte_at 44) (next (nested_in c.args.scope)) (trees c.loop-behind.found.items) c.loop-behind.invariant.0 c.loop-behind.rest.now _ (sym c.in_default.ensures) c.loop-behind.invariant.1 c.loop-behind.invariant.2
+functions::exprs_rest-returns t c = many_stops (byte_at 44) (next (nested_in c.args.scope)) (trees c.loop-after.found.items) c.loop-after.invariant.0 c.loop-after.rest.now _ (sym c.in_default.ensures) c.loop-after.invariant.1 c.loop-after.invariant.2
 
 pub names::subs_rest-returns-in_err-item : goal.names::subs_rest-returns-in_err-item
 names::subs_rest-returns-in_err-item t c =
     let p = err_from_is_err_and c.from_residual-in_err-item.result c.from_residual-in_err-item.ensures.1 in
-    rw (p.1, p.2) (then_fails c.in_err-item.field-0.0 _ (at_most 32) (loop_fails (byte_at 44) (next (placed c.args.scope.end (nested_in c.args.scope))) _ c.loop-behind.invariant.0 c.loop-behind.rest.now _ 44 c.in-Some.behind.now c.in_err-item.field-0.0
-    (sym c.in-Some.ensures) c.in_err-item.ensures c.loop-behind.invariant.1 c.loop-behind.invariant.2))
+    rw (p.1, p.2) (then_fails c.in_err-item.field-0.0 _ (at_most 32) (loop_fails (byte_at 44) (next (placed c.args.scope.end (nested_in c.args.scope))) _ c.loop-after.invariant.0 c.loop-after.rest.now _ 44 c.in-Some.after.now c.in_err-item.field-0.0
+    (sym c.in-Some.ensures) c.in_err-item.ensures c.loop-after.invariant.1 c.loop-after.invariant.2))
 
 pub names::subs_rest-returns-then-len-eq-MOST_SUBSCRIPTS : goal.names::subs_rest-returns-then-len-eq-MOST_SUBSCRIPTS
 names::subs_rest-returns-then-len-eq-MOST_SUBSCRIPTS t c =
-    let size : length (sub_trees c.loop-behind.found.items) ≡ vec_len c.loop-behind.found = omega (arith, c.loop-behind.found.ok, length-map c.loop-behind.found.items sub_of) in
+    let size : length (sub_trees c.loop-after.found.items) ≡ vec_len c.loop-after.found = omega (arith, c.loop-after.found.ok, length-map c.loop-after.found.items sub_of) in
     let counted = c.len.ensures in
     let full = c.if-len-eq-MOST_SUBSCRIPTS.true in
     refused_fails c.refused.result _ c.refused.ensures
-    (surplus (byte_at 44) (next (placed c.args.scope.end (nested_in c.args.scope))) (sub_trees c.loop-behind.found.items) c.loop-behind.invariant.0 c.loop-behind.rest.now _ 32 44 c.in-Some.behind.now
-    (sym c.in-Some.ensures) c.loop-behind.invariant.1 (omega arith) c.loop-behind.invariant.2)
+    (surplus (byte_at 44) (next (placed c.args.scope.end (nested_in c.args.scope))) (sub_trees c.loop-after.found.items) c.loop-after.invariant.0 c.loop-after.rest.now _ 32 44 c.in-Some.after.now
+    (sym c.in-Some.ensures) c.loop-after.invariant.1 (omega arith) c.loop-after.invariant.2)
 
-pub names::subs_rest-loop-behind-smaller : goal.names::subs_rest-loop-behind-smaller
-names::subs_rest-loop-behind-smaller t c = item-shorter (placed c.args.scope.end (nested_in c.args.scope)) (IsPlaced c.args.scope.end (IsNestedIn c.args.scope)) (placed-exact c.args.scope.end (nested_in c.args.scope) (IsNestedIn c.args.scope) (nested_in-exact c.args.scope)) (sub_of c.in_ok-item.item) c.loop-behind.rest.now c.in-Some.behind.now c.in_ok-item.behind.now (sym c.in-Some.ensures) c.in_ok-item.ensures
+pub names::subs_rest-loop-after-smaller : goal.names::subs_rest-loop-after-smaller
+names::subs_rest-loop-after-smaller t c = item-shorter (placed c.args.scope.end (nested_in c.args.scope)) (IsPlaced c.args.scope.end (IsNestedIn c.args.scope)) (placed-exact c.args.scope.end (nested_in c.args.scope) (IsNestedIn c.args.scope) (nested_in-exact c.args.scope)) (sub_of c.in_ok-item.item) c.loop-after.rest.now c.in-Some.after.now c.in_ok-item.after.now (sym c.in-Some.ensures) c.in_ok-item.ensures
 
-pub names::subs_rest-loop-behind-preserved : goal.names::subs_rest-loop-behind-preserved
-names::subs_rest-loop-behind-preserved t c =
-    let less = item-shorter (placed c.args.scope.end (nested_in c.args.scope)) (IsPlaced c.args.scope.end (IsNestedIn c.args.scope)) (placed-exact c.args.scope.end (nested_in c.args.scope) (IsNestedIn c.args.scope) (nested_in-exact c.args.scope)) (sub_of c.in_ok-item.item) c.loop-behind.rest.now c.in-Some.behind.now c.in_ok-item.behind.now (sym c.in-Some.ensures) c.in_ok-item.ensures in
-    let more = many_goes (byte_at 44) (next (placed c.args.scope.end (nested_in c.args.scope))) (sub_trees c.loop-behind.found.items) c.loop-behind.invariant.0 c.loop-behind.rest.now _ 44 c.in-Some.behind.now
-    (sub_of c.in_ok-item.item) c.in_ok-item.behind.now (sym c.in-Some.ensures) c.in_ok-item.ensures less c.loop-behind.invariant.1 c.loop-behind.invariant.2 in
-    let room : length (c.loop-behind.found.items ++ c.in_ok-item.item ∷ []) ≤ 32 =
-    (let same = c.if-len-eq-MOST_SUBSCRIPTS.false in let counted = c.len.ensures in let few = c.loop-behind.invariant.3 in let grown = length-append c.loop-behind.found.items (c.in_ok-item.item ∷ []) in omega (arith, c.loop-behind.found.ok)) in
+pub names::subs_rest-loop-after-preserved : goal.names::subs_rest-loop-after-preserved
+names::subs_rest-loop-after-preserved t c =
+    let less = item-shorter (placed c.args.scope.end (nested_in c.args.scope)) (IsPlaced c.args.scope.end (IsNestedIn c.args.scope)) (placed-exact c.args.scope.end (nested_in c.args.scope) (IsNestedIn c.args.scope) (nested_in-exact c.args.scope)) (sub_of c.in_ok-item.item) c.loop-after.rest.now c.in-Some.after.now c.in_ok-item.after.now (sym c.in-Some.ensures) c.in_ok-item.ensures in
+    let more = many_goes (byte_at 44) (next (placed c.args.scope.end (nested_in c.args.scope))) (sub_trees c.loop-after.found.items) c.loop-after.invariant.0 c.loop-after.rest.now _ 44 c.in-Some.after.now
+    (sub_of c.in_ok-item.item) c.in_ok-item.after.now (sym c.in-Some.ensures) c.in_ok-item.ensures less c.loop-after.invariant.1 c.loop-after.invariant.2 in
+    let room : length (c.loop-after.found.items ++ c.in_ok-item.item ∷ []) ≤ 32 =
+    (let same = c.if-len-eq-MOST_SUBSCRIPTS.false in let counted = c.len.ensures in let few = c.loop-after.invariant.3 in let grown = length-append c.loop-after.found.items (c.in_ok-item.item ∷ []) in omega (arith, c.loop-after.found.ok)) in
     rw (c.in_ok-push-2.ensures.items, map-append) (more.0, more.1, more.2, room)
 
 pub names::subs_rest-returns : goal.names::subs_rest-returns
 names::subs_rest-returns t c =
-    let size = length-map c.loop-behind.found.items sub_of in
-    let few = c.loop-behind.invariant.3 in
-    let whole = many_stops (byte_at 44) (next (placed c.args.scope.end (nested_in c.args.scope))) (sub_trees c.loop-behind.found.items) c.loop-behind.invariant.0 c.loop-behind.rest.now _ (sym c.in_default.ensures) c.loop-behind.invariant.1 c.loop-behind.invariant.2 in
-    ap (λ o. o >>= at_most 32) whole ∙ at_most-is 32 (sub_trees c.loop-behind.found.items) c.loop-behind.rest.now (omega arith)
+    let size = length-map c.loop-after.found.items sub_of in
+    let few = c.loop-after.invariant.3 in
+    let whole = many_stops (byte_at 44) (next (placed c.args.scope.end (nested_in c.args.scope))) (sub_trees c.loop-after.found.items) c.loop-after.invariant.0 c.loop-after.rest.now _ (sym c.in_default.ensures) c.loop-after.invariant.1 c.loop-after.invariant.2 in
+    ap (λ o. o >>= at_most 32) whole ∙ at_most-is 32 (sub_trees c.loop-after.found.items) c.loop-after.rest.now (omega arith)
 
 pub names::subs-returns : goal.names::subs-returns
 names::subs-returns t c = few-give (placed c.args.scope.end (nested_in c.args.scope)) 32 c.args.bytes.now (sub_of c.in_ok-first.first) c.in_ok-first.rest.now (sub_trees c.in_ok-found.found.items) c.in_ok-found.rest.now c.in-Some.rest.now
@@ -122,74 +122,74 @@ names::subs-returns-in_err-found t c =
 pub functions::others-returns-in_err-item : goal.functions::others-returns-in_err-item
 functions::others-returns-in_err-item t c =
     let p = err_from_is_err_and c.from_residual-in_err-item.result c.from_residual-in_err-item.ensures.1 in
-    rw (p.1, p.2) (then_fails c.in_err-item.field-0.0 _ (at_most (suc c.args.most)) (loop_fails (byte_at 44) (next (nested_in c.args.scope)) _ c.loop-behind.invariant.0 c.loop-behind.rest.now _ 44 c.in-Some.behind.now c.in_err-item.field-0.0
-    (sym c.in-Some.ensures) c.in_err-item.ensures c.loop-behind.invariant.1 c.loop-behind.invariant.2))
+    rw (p.1, p.2) (then_fails c.in_err-item.field-0.0 _ (at_most (suc c.args.most)) (loop_fails (byte_at 44) (next (nested_in c.args.scope)) _ c.loop-after.invariant.0 c.loop-after.rest.now _ 44 c.in-Some.after.now c.in_err-item.field-0.0
+    (sym c.in-Some.ensures) c.in_err-item.ensures c.loop-after.invariant.1 c.loop-after.invariant.2))
 
 pub functions::others-returns-then-len-most : goal.functions::others-returns-then-len-most
 functions::others-returns-then-len-most t c =
-    let size : length (trees c.loop-behind.found.items) ≡ vec_len c.loop-behind.found = omega (arith, c.loop-behind.found.ok, length-map c.loop-behind.found.items tree_of) in
+    let size : length (trees c.loop-after.found.items) ≡ vec_len c.loop-after.found = omega (arith, c.loop-after.found.ok, length-map c.loop-after.found.items tree_of) in
     let counted = c.len.ensures in
     let full = c.if-len-most.true in
     refused_fails c.refused.result _ c.refused.ensures
-    (surplus (byte_at 44) (next (nested_in c.args.scope)) (trees c.loop-behind.found.items) c.loop-behind.invariant.0 c.loop-behind.rest.now _ (suc c.args.most) 44 c.in-Some.behind.now
-    (sym c.in-Some.ensures) c.loop-behind.invariant.1 (omega arith) c.loop-behind.invariant.2)
+    (surplus (byte_at 44) (next (nested_in c.args.scope)) (trees c.loop-after.found.items) c.loop-after.invariant.0 c.loop-after.rest.now _ (suc c.args.most) 44 c.in-Some.after.now
+    (sym c.in-Some.ensures) c.loop-after.invariant.1 (omega arith) c.loop-after.invariant.2)
 
-pub functions::others-loop-behind-smaller : goal.functions::others-loop-behind-smaller
-functions::others-loop-behind-smaller t c = item-shorter (nested_in c.args.scope) (IsNestedIn c.args.scope) (nested_in-exact c.args.scope) (tree_of c.in_ok-item.item) c.loop-behind.rest.now c.in-Some.behind.now c.in_ok-item.behind.now (sym c.in-Some.ensures) c.in_ok-item.ensures
+pub functions::others-loop-after-smaller : goal.functions::others-loop-after-smaller
+functions::others-loop-after-smaller t c = item-shorter (nested_in c.args.scope) (IsNestedIn c.args.scope) (nested_in-exact c.args.scope) (tree_of c.in_ok-item.item) c.loop-after.rest.now c.in-Some.after.now c.in_ok-item.after.now (sym c.in-Some.ensures) c.in_ok-item.ensures
 
-pub functions::others-loop-behind-preserved : goal.functions::others-loop-behind-preserved
-functions::others-loop-behind-preserved t c =
-    let less = item-shorter (nested_in c.args.scope) (IsNestedIn c.args.scope) (nested_in-exact c.args.scope) (tree_of c.in_ok-item.item) c.loop-behind.rest.now c.in-Some.behind.now c.in_ok-item.behind.now (sym c.in-Some.ensures) c.in_ok-item.ensures in
-    let more = many_goes (byte_at 44) (next (nested_in c.args.scope)) (trees c.loop-behind.found.items) c.loop-behind.invariant.0 c.loop-behind.rest.now _ 44 c.in-Some.behind.now
-    (tree_of c.in_ok-item.item) c.in_ok-item.behind.now (sym c.in-Some.ensures) c.in_ok-item.ensures less c.loop-behind.invariant.1 c.loop-behind.invariant.2 in
-    let room : length (c.loop-behind.found.items ++ c.in_ok-item.item ∷ []) ≤ (suc c.args.most) =
-    (let same = c.if-len-most.false in let counted = c.len.ensures in let grown = length-append c.loop-behind.found.items (c.in_ok-item.item ∷ []) in omega (arith, c.loop-behind.found.ok)) in
+pub functions::others-loop-after-preserved : goal.functions::others-loop-after-preserved
+functions::others-loop-after-preserved t c =
+    let less = item-shorter (nested_in c.args.scope) (IsNestedIn c.args.scope) (nested_in-exact c.args.scope) (tree_of c.in_ok-item.item) c.loop-after.rest.now c.in-Some.after.now c.in_ok-item.after.now (sym c.in-Some.ensures) c.in_ok-item.ensures in
+    let more = many_goes (byte_at 44) (next (nested_in c.args.scope)) (trees c.loop-after.found.items) c.loop-after.invariant.0 c.loop-after.rest.now _ 44 c.in-Some.after.now
+    (tree_of c.in_ok-item.item) c.in_ok-item.after.now (sym c.in-Some.ensures) c.in_ok-item.ensures less c.loop-after.invariant.1 c.loop-after.invariant.2 in
+    let room : length (c.loop-after.found.items ++ c.in_ok-item.item ∷ []) ≤ (suc c.args.most) =
+    (let same = c.if-len-most.false in let counted = c.len.ensures in let grown = length-append c.loop-after.found.items (c.in_ok-item.item ∷ []) in omega (arith, c.loop-after.found.ok)) in
     rw (c.in_ok-push-2.ensures.items, map-append) (more.0, more.1, more.2, room)
 
 pub functions::others-returns : goal.functions::others-returns
 functions::others-returns t c =
-    let size = length-map c.loop-behind.found.items tree_of in
-    let few = c.loop-behind.invariant.3 in
-    let whole = many_stops (byte_at 44) (next (nested_in c.args.scope)) (trees c.loop-behind.found.items) c.loop-behind.invariant.0 c.loop-behind.rest.now _ (sym c.in_default.ensures) c.loop-behind.invariant.1 c.loop-behind.invariant.2 in
-    ap (λ o. o >>= at_most (suc c.args.most)) whole ∙ at_most-is (suc c.args.most) (trees c.loop-behind.found.items) c.loop-behind.rest.now (omega arith)
+    let size = length-map c.loop-after.found.items tree_of in
+    let few = c.loop-after.invariant.3 in
+    let whole = many_stops (byte_at 44) (next (nested_in c.args.scope)) (trees c.loop-after.found.items) c.loop-after.invariant.0 c.loop-after.rest.now _ (sym c.in_default.ensures) c.loop-after.invariant.1 c.loop-after.invariant.2 in
+    ap (λ o. o >>= at_most (suc c.args.most)) whole ∙ at_most-is (suc c.args.most) (trees c.loop-after.found.items) c.loop-after.rest.now (omega arith)
 
 pub functions::choices_rest-returns-in_err-item : goal.functions::choices_rest-returns-in_err-item
 functions::choices_rest-returns-in_err-item t c =
     let p = err_from_is_err_and c.from_residual-in_err-item.result c.from_residual-in_err-item.ensures.1 in
-    rw (p.1, p.2) (loop_fails (byte_at 44) (next (choice_with (nested_in c.args.scope))) _ c.loop-behind.invariant.0 c.loop-behind.rest.now _ 44 c.in-Some.behind.now c.in_err-item.field-0.0
-    (sym c.in-Some.ensures) c.in_err-item.ensures c.loop-behind.invariant.1 c.loop-behind.invariant.2)
+    rw (p.1, p.2) (loop_fails (byte_at 44) (next (choice_with (nested_in c.args.scope))) _ c.loop-after.invariant.0 c.loop-after.rest.now _ 44 c.in-Some.after.now c.in_err-item.field-0.0
+    (sym c.in-Some.ensures) c.in_err-item.ensures c.loop-after.invariant.1 c.loop-after.invariant.2)
 
-pub functions::choices_rest-loop-behind-smaller : goal.functions::choices_rest-loop-behind-smaller
-functions::choices_rest-loop-behind-smaller t c = item-shorter (choice_with (nested_in c.args.scope)) (IsChoice (IsNestedIn c.args.scope)) (choice-exact (nested_in c.args.scope) (IsNestedIn c.args.scope) (nested_in-exact c.args.scope)) (choice_of c.in_ok-item.item) c.loop-behind.rest.now c.in-Some.behind.now c.in_ok-item.behind.now (sym c.in-Some.ensures) c.in_ok-item.ensures
+pub functions::choices_rest-loop-after-smaller : goal.functions::choices_rest-loop-after-smaller
+functions::choices_rest-loop-after-smaller t c = item-shorter (choice_with (nested_in c.args.scope)) (IsChoice (IsNestedIn c.args.scope)) (choice-exact (nested_in c.args.scope) (IsNestedIn c.args.scope) (nested_in-exact c.args.scope)) (choice_of c.in_ok-item.item) c.loop-after.rest.now c.in-Some.after.now c.in_ok-item.after.now (sym c.in-Some.ensures) c.in_ok-item.ensures
 
-pub functions::choices_rest-loop-behind-preserved : goal.functions::choices_rest-loop-behind-preserved
-functions::choices_rest-loop-behind-preserved t c =
-    let less = item-shorter (choice_with (nested_in c.args.scope)) (IsChoice (IsNestedIn c.args.scope)) (choice-exact (nested_in c.args.scope) (IsNestedIn c.args.scope) (nested_in-exact c.args.scope)) (choice_of c.in_ok-item.item) c.loop-behind.rest.now c.in-Some.behind.now c.in_ok-item.behind.now (sym c.in-Some.ensures) c.in_ok-item.ensures in
-    let more = many_goes (byte_at 44) (next (choice_with (nested_in c.args.scope))) (choices c.loop-behind.found.items) c.loop-behind.invariant.0 c.loop-behind.rest.now _ 44 c.in-Some.behind.now
-    (choice_of c.in_ok-item.item) c.in_ok-item.behind.now (sym c.in-Some.ensures) c.in_ok-item.ensures less c.loop-behind.invariant.1 c.loop-behind.invariant.2 in
+pub functions::choices_rest-loop-after-preserved : goal.functions::choices_rest-loop-after-preserved
+functions::choices_rest-loop-after-preserved t c =
+    let less = item-shorter (choice_with (nested_in c.args.scope)) (IsChoice (IsNestedIn c.args.scope)) (choice-exact (nested_in c.args.scope) (IsNestedIn c.args.scope) (nested_in-exact c.args.scope)) (choice_of c.in_ok-item.item) c.loop-after.rest.now c.in-Some.after.now c.in_ok-item.after.now (sym c.in-Some.ensures) c.in_ok-item.ensures in
+    let more = many_goes (byte_at 44) (next (choice_with (nested_in c.args.scope))) (choices c.loop-after.found.items) c.loop-after.invariant.0 c.loop-after.rest.now _ 44 c.in-Some.after.now
+    (choice_of c.in_ok-item.item) c.in_ok-item.after.now (sym c.in-Some.ensures) c.in_ok-item.ensures less c.loop-after.invariant.1 c.loop-after.invariant.2 in
     rw (c.in_ok-push-2.ensures.items, map-append) more
 
 pub functions::choices_rest-returns : goal.functions::choices_rest-returns
-functions::choices_rest-returns t c = many_stops (byte_at 44) (next (choice_with (nested_in c.args.scope))) (choices c.loop-behind.found.items) c.loop-behind.invariant.0 c.loop-behind.rest.now _ (sym c.in_default.ensures) c.loop-behind.invariant.1 c.loop-behind.invariant.2
+functions::choices_rest-returns t c = many_stops (byte_at 44) (next (choice_with (nested_in c.args.scope))) (choices c.loop-after.found.items) c.loop-after.invariant.0 c.loop-after.rest.now _ (sym c.in_default.ensures) c.loop-after.invariant.1 c.loop-after.invariant.2
 
 pub actuals::actuals_rest-returns-in_err-item : goal.actuals::actuals_rest-returns-in_err-item
 actuals::actuals_rest-returns-in_err-item t c =
     let p = err_from_is_err_and c.from_residual-in_err-item.result c.from_residual-in_err-item.ensures.1 in
-    rw (p.1, p.2) (loop_fails (byte_at 44) (next (actual_with c.args.passing c.args.scope.end (nested_in c.args.scope))) _ c.loop-behind.invariant.0 c.loop-behind.rest.now _ 44 c.in-Some.behind.now c.in_err-item.field-0.0
-    (sym c.in-Some.ensures) c.in_err-item.ensures c.loop-behind.invariant.1 c.loop-behind.invariant.2)
+    rw (p.1, p.2) (loop_fails (byte_at 44) (next (actual_with c.args.passing c.args.scope.end (nested_in c.args.scope))) _ c.loop-after.invariant.0 c.loop-after.rest.now _ 44 c.in-Some.after.now c.in_err-item.field-0.0
+    (sym c.in-Some.ensures) c.in_err-item.ensures c.loop-after.invariant.1 c.loop-after.invariant.2)
 
-pub actuals::actuals_rest-loop-behind-smaller : goal.actuals::actuals_rest-loop-behind-smaller
-actuals::actuals_rest-loop-behind-smaller t c = actual-shorter c.args.passing c.args.scope (actual_of c.in_ok-item.item) c.loop-behind.rest.now c.in-Some.behind.now c.in_ok-item.behind.now (sym c.in-Some.ensures) c.in_ok-item.ensures
+pub actuals::actuals_rest-loop-after-smaller : goal.actuals::actuals_rest-loop-after-smaller
+actuals::actuals_rest-loop-after-smaller t c = actual-shorter c.args.passing c.args.scope (actual_of c.in_ok-item.item) c.loop-after.rest.now c.in-Some.after.now c.in_ok-item.after.now (sym c.in-Some.ensures) c.in_ok-item.ensures
 
-pub actuals::actuals_rest-loop-behind-preserved : goal.actuals::actuals_rest-loop-behind-preserved
-actuals::actuals_rest-loop-behind-preserved t c =
-    let less = actual-shorter c.args.passing c.args.scope (actual_of c.in_ok-item.item) c.loop-behind.rest.now c.in-Some.behind.now c.in_ok-item.behind.now (sym c.in-Some.ensures) c.in_ok-item.ensures in
-    let more = many_goes (byte_at 44) (next (actual_with c.args.passing c.args.scope.end (nested_in c.args.scope))) (actual_trees c.loop-behind.found.items) c.loop-behind.invariant.0 c.loop-behind.rest.now _ 44 c.in-Some.behind.now
-    (actual_of c.in_ok-item.item) c.in_ok-item.behind.now (sym c.in-Some.ensures) c.in_ok-item.ensures less c.loop-behind.invariant.1 c.loop-behind.invariant.2 in
+pub actuals::actuals_rest-loop-after-preserved : goal.actuals::actuals_rest-loop-after-preserved
+actuals::actuals_rest-loop-after-preserved t c =
+    let less = actual-shorter c.args.passing c.args.scope (actual_of c.in_ok-item.item) c.loop-after.rest.now c.in-Some.after.now c.in_ok-item.after.now (sym c.in-Some.ensures) c.in_ok-item.ensures in
+    let more = many_goes (byte_at 44) (next (actual_with c.args.passing c.args.scope.end (nested_in c.args.scope))) (actual_trees c.loop-after.found.items) c.loop-after.invariant.0 c.loop-after.rest.now _ 44 c.in-Some.after.now
+    (actual_of c.in_ok-item.item) c.in_ok-item.after.now (sym c.in-Some.ensures) c.in_ok-item.ensures less c.loop-after.invariant.1 c.loop-after.invariant.2 in
     rw (c.in_ok-push-2.ensures.items, map-append) more
 
 pub actuals::actuals_rest-returns : goal.actuals::actuals_rest-returns
-actuals::actuals_rest-returns t c = many_stops (byte_at 44) (next (actual_with c.args.passing c.args.scope.end (nested_in c.args.scope))) (actual_trees c.loop-behind.found.items) c.loop-behind.invariant.0 c.loop-behind.rest.now _ (sym c.in_default.ensures) c.loop-behind.invariant.1 c.loop-behind.invariant.2
+actuals::actuals_rest-returns t c = many_stops (byte_at 44) (next (actual_with c.args.passing c.args.scope.end (nested_in c.args.scope))) (actual_trees c.loop-after.found.items) c.loop-after.invariant.0 c.loop-after.rest.now _ (sym c.in_default.ensures) c.loop-after.invariant.1 c.loop-after.invariant.2
 
 pub functions::arguments-returns : goal.functions::arguments-returns
 functions::arguments-returns t c =
@@ -242,22 +242,22 @@ names::global-returns-in_err-subs t c =
 
 pub operand-returns-in-Letter : goal.operand-returns-in-Letter
 operand-returns-in-Letter t c =
-    rw (operand-local c.args.scope.allows c.args.scope.end (atom_in c.args.scope) (nested_in (quiet c.args.scope)) (pattern_at c.args.scope.left) c.in-Some.first.now c.in-Some.behind.now c.args.bytes.now c.in-Some.ensures.cases.0 (sym c.in-Letter.ensures)) c.local.ensures
+    rw (operand-local c.args.scope.allows c.args.scope.end (atom_in c.args.scope) (nested_in (quiet c.args.scope)) (pattern_at c.args.scope.left) c.in-Some.first.now c.in-Some.after.now c.args.bytes.now c.in-Some.ensures.cases.0 (sym c.in-Letter.ensures)) c.local.ensures
 
 pub operand-returns-in-Caret : goal.operand-returns-in-Caret
 operand-returns-in-Caret t c =
-    rw (operand-global c.args.scope.allows c.args.scope.end (atom_in c.args.scope) (nested_in (quiet c.args.scope)) (pattern_at c.args.scope.left) c.in-Some.first.now c.in-Some.behind.now c.args.bytes.now c.in-Some.ensures.cases.0 (sym c.in-Caret.ensures)) c.global.ensures
+    rw (operand-global c.args.scope.allows c.args.scope.end (atom_in c.args.scope) (nested_in (quiet c.args.scope)) (pattern_at c.args.scope.left) c.in-Some.first.now c.in-Some.after.now c.args.bytes.now c.in-Some.ensures.cases.0 (sym c.in-Caret.ensures)) c.global.ensures
 
 pub actuals::call-returns : goal.actuals::call-returns
 actuals::call-returns t c =
     let whole = tree_call c.column_of-column.result c.in_ok-callee.callee c.in_ok-given.given in
-    rw (sym c.column_of-column.ensures) (call-listed (calls_may c.args.scope.allows) c.args.scope.end (nested_in c.args.scope) c.column_of-column.result c.args.bytes.now c.in_ok-callee.callee c.in_ok-callee.rest.now c.in-Some.behind.now (actual_trees c.in_ok-given.given.items) c.in_ok-given.rest.now
+    rw (sym c.column_of-column.ensures) (call-listed (calls_may c.args.scope.allows) c.args.scope.end (nested_in c.args.scope) c.column_of-column.result c.args.bytes.now c.in_ok-callee.callee c.in_ok-callee.rest.now c.in-Some.after.now (actual_trees c.in_ok-given.given.items) c.in_ok-given.rest.now
     (sym c.if-not-calls.ensures) c.in_ok-callee.ensures (sym c.in-Some.ensures) c.in_ok-given.ensures ∙ ap (λ z. Some (z, c.in_ok-given.rest.now)) (sym whole))
 
 pub actuals::call-returns-in_err-given : goal.actuals::call-returns-in_err-given
 actuals::call-returns-in_err-given t c =
     let p = err_from_is_err_and c.from_residual-in_err-given.result c.from_residual-in_err-given.ensures.1 in
-    rw (p.1, p.2) (call-fails c.in_err-given.field-0.0 (calls_may c.args.scope.allows) c.args.scope.end (nested_in c.args.scope) (column_of c.args.scope.end c.args.whole.now) c.args.bytes.now c.in_ok-callee.callee c.in_ok-callee.rest.now c.in-Some.behind.now
+    rw (p.1, p.2) (call-fails c.in_err-given.field-0.0 (calls_may c.args.scope.allows) c.args.scope.end (nested_in c.args.scope) (column_of c.args.scope.end c.args.whole.now) c.args.bytes.now c.in_ok-callee.callee c.in_ok-callee.rest.now c.in-Some.after.now
     (sym c.if-not-calls.ensures) c.in_ok-callee.ensures (sym c.in-Some.ensures) c.in_err-given.ensures)
 
 pub functions::function-returns : goal.functions::function-returns

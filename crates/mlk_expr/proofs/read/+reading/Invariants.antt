@@ -94,37 +94,37 @@ invariant-chain_rest-loop-op l =
 abbrev pub decreases-chain_rest-loop-op : goal.decreases-chain_rest-loop-op
 decreases-chain_rest-loop-op l = length l.rest
 
-abbrev pub invariant-functions::exprs_rest-loop-behind : goal.invariant-functions::exprs_rest-loop-behind
-invariant-functions::exprs_rest-loop-behind l =
+abbrev pub invariant-functions::exprs_rest-loop-after : goal.invariant-functions::exprs_rest-loop-after
+invariant-functions::exprs_rest-loop-after l =
     (n : ℕ) × (length l.rest < n) × (put (trees l.found.items) (many (byte_at 44) (next (nested_in l.scope)) n l.rest) ≡ put (tree_of l.fn.first ∷ []) (many (byte_at 44) (next (nested_in l.scope)) (suc (length l.bytes)) l.bytes))
 
-abbrev pub decreases-functions::exprs_rest-loop-behind : goal.decreases-functions::exprs_rest-loop-behind
-decreases-functions::exprs_rest-loop-behind l = length l.rest
+abbrev pub decreases-functions::exprs_rest-loop-after : goal.decreases-functions::exprs_rest-loop-after
+decreases-functions::exprs_rest-loop-after l = length l.rest
 
-abbrev pub invariant-functions::others-loop-behind : goal.invariant-functions::others-loop-behind
-invariant-functions::others-loop-behind l =
+abbrev pub invariant-functions::others-loop-after : goal.invariant-functions::others-loop-after
+invariant-functions::others-loop-after l =
     (n : ℕ) × (length l.rest < n) × (put (trees l.found.items) (many (byte_at 44) (next (nested_in l.scope)) n l.rest) ≡ put (tree_of l.fn.first ∷ []) (many (byte_at 44) (next (nested_in l.scope)) (suc (length l.bytes)) l.bytes)) × (length l.found.items ≤ suc l.most)
 
-abbrev pub decreases-functions::others-loop-behind : goal.decreases-functions::others-loop-behind
-decreases-functions::others-loop-behind l = length l.rest
+abbrev pub decreases-functions::others-loop-after : goal.decreases-functions::others-loop-after
+decreases-functions::others-loop-after l = length l.rest
 
-abbrev pub invariant-names::subs_rest-loop-behind : goal.invariant-names::subs_rest-loop-behind
-invariant-names::subs_rest-loop-behind l =
+abbrev pub invariant-names::subs_rest-loop-after : goal.invariant-names::subs_rest-loop-after
+invariant-names::subs_rest-loop-after l =
     (n : ℕ) × (length l.rest < n) × (put (sub_trees l.found.items) (many (byte_at 44) (next (placed l.scope.end (nested_in l.scope))) n l.rest) ≡ put (sub_of l.fn.first ∷ []) (many (byte_at 44) (next (placed l.scope.end (nested_in l.scope))) (suc (length l.bytes)) l.bytes)) × (length l.found.items ≤ 32)
 
-abbrev pub decreases-names::subs_rest-loop-behind : goal.decreases-names::subs_rest-loop-behind
-decreases-names::subs_rest-loop-behind l = length l.rest
+abbrev pub decreases-names::subs_rest-loop-after : goal.decreases-names::subs_rest-loop-after
+decreases-names::subs_rest-loop-after l = length l.rest
 
-abbrev pub invariant-functions::choices_rest-loop-behind : goal.invariant-functions::choices_rest-loop-behind
-invariant-functions::choices_rest-loop-behind l =
+abbrev pub invariant-functions::choices_rest-loop-after : goal.invariant-functions::choices_rest-loop-after
+invariant-functions::choices_rest-loop-after l =
     (n : ℕ) × (length l.rest < n) × (put (choices l.found.items) (many (byte_at 44) (next (choice_with (nested_in l.scope))) n l.rest) ≡ put (choice_of l.fn.first ∷ []) (many (byte_at 44) (next (choice_with (nested_in l.scope))) (suc (length l.bytes)) l.bytes))
 
-abbrev pub decreases-functions::choices_rest-loop-behind : goal.decreases-functions::choices_rest-loop-behind
-decreases-functions::choices_rest-loop-behind l = length l.rest
+abbrev pub decreases-functions::choices_rest-loop-after : goal.decreases-functions::choices_rest-loop-after
+decreases-functions::choices_rest-loop-after l = length l.rest
 
-abbrev pub invariant-actuals::actuals_rest-loop-behind : goal.invariant-actuals::actuals_rest-loop-behind
-invariant-actuals::actuals_rest-loop-behind l =
+abbrev pub invariant-actuals::actuals_rest-loop-after : goal.invariant-actuals::actuals_rest-loop-after
+invariant-actuals::actuals_rest-loop-after l =
     (n : ℕ) × (length l.rest < n) × (put (actual_trees l.found.items) (many (byte_at 44) (next (actual_with l.passing l.scope.end (nested_in l.scope))) n l.rest) ≡ put (actual_of l.fn.first ∷ []) (many (byte_at 44) (next (actual_with l.passing l.scope.end (nested_in l.scope))) (suc (length l.bytes)) l.bytes))
 
-abbrev pub decreases-actuals::actuals_rest-loop-behind : goal.decreases-actuals::actuals_rest-loop-behind
-decreases-actuals::actuals_rest-loop-behind l = length l.rest
+abbrev pub decreases-actuals::actuals_rest-loop-after : goal.decreases-actuals::actuals_rest-loop-after
+decreases-actuals::actuals_rest-loop-after l = length l.rest
