@@ -18,18 +18,18 @@ Takes element.Variable v = Unit {0}
 Takes element.Job v = Unit {0}
 
 -- the pattern names this one, each place by itself
-pub record IsInstance (p : Pattern) (t : Region) : Type 0 where
-  pub root : t.node.root ≡ p.global
-  pub extent : t.extent ≡ p.extent
-  pub subs : AllZip Takes p.elements t.node.subs
+pub record IsInstance (p : Pattern) (g : Region) : Type 0 where
+  pub root : g.node.root ≡ p.global
+  pub extent : g.extent ≡ p.extent
+  pub subs : AllZip Takes p.elements g.node.subs
 
 -- the region of a pattern, as a test on nodes: what its instances reach
 abbrev pub LiesIn : Pattern → GlobalNode → Type 0
-LiesIn p n = (t : Region) × IsInstance p t × InRegion t n
+LiesIn p n = (g : Region) × IsInstance p g × InRegion g n
 
 -- some node of what the reference may be lies in the pattern
 abbrev pub MayMeet : Pattern → Reference → Type 0
-MayMeet p r = (t : Region) × (n : GlobalNode) × MayReach r t × InRegion t n × LiesIn p n
+MayMeet p r = (g : Region) × (n : GlobalNode) × MayReach r g × InRegion g n × LiesIn p n
 
 -- the symbol surely is what the element asks for
 abbrev pub Suits : Element → Sym → Type 0
