@@ -32,7 +32,7 @@ use Rattle.mlk_coverage.specs.declared.rules.RuleLists.{RuleLists}
 use Rattle.mlk_coverage.specs.Patterns.{MayMeet, Suits, StaysIn, SurelyLies, SurelyAbove}
 use Rattle.mlk_coverage.specs.Coverage.{cut_template, HoldsLock, IsOwn, OfCover, OfPrivate, OfReadonly, IsRuled, KeepsReadonly, KeepsPrivate, KeepsCovers, IsAnswer}
 use Rattle.mlk_coverage.specs.Fronts.{symbol_of, SubsLie, SubsAbove, OwnSubs}
-use Rattle.mlk_coverage.specs.Computed.{goes_on, may_be_same, subs_may_meet, may_meet, suits, stays_in, subs_lie, subs_above, surely_lies, surely_above, is_ruled_by, is_ruled, only_reads, keeps_readonly, is_job, first_of, behind_first, own_subs, keeps_private, same_root, same_symbol, begins, is_prefix, holds_lock, keeps_covers, answer}
+use Rattle.mlk_coverage.specs.Computed.{goes_on, may_be_same, subs_may_meet, may_meet, suits, stays_in, subs_lie, subs_above, surely_lies, surely_above, is_ruled_by, is_ruled, only_reads, keeps_readonly, is_job, first_of, after_first, own_subs, keeps_private, same_root, same_symbol, begins, is_prefix, holds_lock, keeps_covers, answer}
 use Rattle.mlk_coverage.specs.Laws.{ComputedAnswers}
 use Rattle.mlk_coverage.proofs.FrontLemmas.{element_meets, lie_none, lie_no_subs, lie_suits, lie_cons, above_none, above_no_elements, above_suits, above_cons}
 use Rattle.mlk_coverage.proofs.MeetLemmas.{meet_from, meet_root, meet_fronts}
@@ -220,26 +220,26 @@ first_at : (ss : List Sym) → slice_get ss 0 ≡ first_of ss
 first_at [] = refl
 first_at (s ∷ ss) = refl
 
-behind_at : (ss : List Sym) (k : ℕ) → slice_get ss (suc k) ≡ slice_get (behind_first ss) k
+behind_at : (ss : List Sym) (k : ℕ) → slice_get ss (suc k) ≡ slice_get (after_first ss) k
 behind_at [] k = refl
 behind_at (s ∷ ss) k = refl
 
-own_cons : (e : Element) (es : List Element) (ss : List Sym) → (e ≡ element.Job → slice_get ss 0 ≡ Some Job) → OwnSubs es (behind_first ss) → OwnSubs (e ∷ es) ss
+own_cons : (e : Element) (es : List Element) (ss : List Sym) → (e ≡ element.Job → slice_get ss 0 ≡ Some Job) → OwnSubs es (after_first ss) → OwnSubs (e ∷ es) ss
 own_cons e es ss h f zero i = h (cc)
 own_cons e es ss h f (suc k) i = behind_at ss k ∙ f k i
 
-own_behind : (e : Element) (es : List Element) (ss : List Sym) → OwnSubs (e ∷ es) ss → OwnSubs es (behind_first ss)
+own_behind : (e : Element) (es : List Element) (ss : List Sym) → OwnSubs (e ∷ es) ss → OwnSubs es (after_first ss)
 own_behind e es ss f k i = sym (behind_at ss k) ∙ f (suc k) i
 
 own_decides : (es : List Element) (ss : List Sym) → Decides (own_subs es ss) (OwnSubs es ss)
 own_decides [] ss = yes (λ k i. cc)
-own_decides (element.Literal value ∷ es) ss = Decides-like (own_subs es (behind_first ss)) (own_cons (element.Literal value) es ss (λ e. cc)) (own_behind (element.Literal value) es ss) (own_decides es (behind_first ss))
-own_decides (element.Variable ∷ es) ss = Decides-like (own_subs es (behind_first ss)) (own_cons element.Variable es ss (λ e. cc)) (own_behind element.Variable es ss) (own_decides es (behind_first ss))
+own_decides (element.Literal value ∷ es) ss = Decides-like (own_subs es (after_first ss)) (own_cons (element.Literal value) es ss (λ e. cc)) (own_behind (element.Literal value) es ss) (own_decides es (after_first ss))
+own_decides (element.Variable ∷ es) ss = Decides-like (own_subs es (after_first ss)) (own_cons element.Variable es ss (λ e. cc)) (own_behind element.Variable es ss) (own_decides es (after_first ss))
 own_decides (element.Job ∷ es) ss =
-    Decides-like (is_job (first_of ss) && own_subs es (behind_first ss))
+    Decides-like (is_job (first_of ss) && own_subs es (after_first ss))
     (λ h. own_cons element.Job es ss (λ e. first_at ss ∙ h.0) h.1)
     (λ f. (sym (first_at ss) ∙ f 0 refl, own_behind element.Job es ss f))
-    (Decides-and (is_job (first_of ss)) (own_subs es (behind_first ss)) (job_decides (first_of ss)) (own_decides es (behind_first ss)))
+    (Decides-and (is_job (first_of ss)) (own_subs es (after_first ss)) (job_decides (first_of ss)) (own_decides es (after_first ss)))
 
 private_decides : (rules : RuleLists) (r : Reference) → Decides (keeps_private rules r) (KeepsPrivate rules r)
 private_decides rules r =

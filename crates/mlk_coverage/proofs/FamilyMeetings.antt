@@ -30,7 +30,7 @@ first_found fs i f l is h m =
     record {
       before = take i fs;
       family = f;
-      behind = drop (i + 1) fs;
+      after = drop (i + 1) fs;
       are = ap (λ gs. take i fs ++ gs) (sym (drop_step fs i f l is)) ∙ take-append-drop i fs;
       place = omega arith;
       apart = h;
@@ -47,18 +47,18 @@ met_within front rest fs k is m within apart =
     let q : ℕ = length m.before in
     let place : suc q ≡ k = m.place in
     let below : p < q = m.stands.1 in
-    let whole : front ++ rest ≡ m.before ++ m.family ∷ m.behind = is ∙ sym m.are in
+    let whole : front ++ rest ≡ m.before ++ m.family ∷ m.after = is ∙ sym m.are in
     let first : slice_index_or front p d ≡ d =
-    sym (get_or_append_left front rest d p (omega arith)) ∙ ap (λ l. slice_index_or l p d) whole ∙ get_or_append_left m.before (m.family ∷ m.behind) d p below ∙ m.stands.2 in
+    sym (get_or_append_left front rest d p (omega arith)) ∙ ap (λ l. slice_index_or l p d) whole ∙ get_or_append_left m.before (m.family ∷ m.after) d p below ∙ m.stands.2 in
     let second : slice_index_or front q d ≡ m.family =
-    sym (get_or_append_left front rest d q (omega arith)) ∙ ap (λ l. slice_index_or l q d) whole ∙ get_or_at m.before m.family m.behind d q refl in
+    sym (get_or_append_left front rest d q (omega arith)) ∙ ap (λ l. slice_index_or l q d) whole ∙ get_or_at m.before m.family m.after d q refl in
     let P : Family → Type 0 = λ x. Conflict x.name (slice_index_or front q d).name in
     let Q : Family → Type 0 = λ x. Conflict m.earlier.name x.name in
     apart p q d below (omega arith) (subst P (sym first) (subst Q (sym second) (turned m.family.name m.earlier.name m.meets)))
 
 pub not_apart : (fs : List Family) (k : ℕ) → IsFirstMeeting fs k → FamiliesApart fs → ⊥
 not_apart fs k m apart =
-    let size = length-append m.before (m.family ∷ m.behind) in
+    let size = length-append m.before (m.family ∷ m.after) in
     let whole = ap length m.are in
     let place = m.place in
     met_within fs [] fs k (append-nil fs) m (omega arith) apart
@@ -70,8 +70,8 @@ first_one fs j k m n =
     elim (cases_order j k) [
       | inl same ↦ same
       | inr other ↦ elim other [
-        | inl less ↦ absurd (met_within n.before (n.family ∷ n.behind) fs j n.are m (omega arith) n.apart)
-        | inr more ↦ absurd (met_within m.before (m.family ∷ m.behind) fs k m.are n (omega arith) m.apart)
+        | inl less ↦ absurd (met_within n.before (n.family ∷ n.after) fs j n.are m (omega arith) n.apart)
+        | inr more ↦ absurd (met_within m.before (m.family ∷ m.after) fs k m.are n (omega arith) m.apart)
       ]
     ]
 

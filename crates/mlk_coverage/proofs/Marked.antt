@@ -24,7 +24,7 @@ use Rattle.mlk_coverage.specs.declared.template.Template.{Template}
 use Rattle.mlk_coverage.specs.declared.cover.Cover.{Cover}
 use Rattle.mlk_coverage.specs.declared.rules.RuleLists.{RuleLists}
 use Rattle.mlk_coverage.specs.Coverage.{before_missing, symbol_at, cut_template, IsAnswer}
-use Rattle.mlk_coverage.specs.Computed.{may_be_same, subs_may_meet, may_meet, suits, stays_in, subs_lie, subs_above, goes_on, is_ruled_by, is_ruled, only_reads, keeps_readonly, is_job, first_of, behind_first, own_subs, keeps_private, same_root, same_symbol, begins, is_prefix, holds_lock, keeps_covers, answer}
+use Rattle.mlk_coverage.specs.Computed.{may_be_same, subs_may_meet, may_meet, suits, stays_in, subs_lie, subs_above, goes_on, is_ruled_by, is_ruled, only_reads, keeps_readonly, is_job, first_of, after_first, own_subs, keeps_private, same_root, same_symbol, begins, is_prefix, holds_lock, keeps_covers, answer}
 use Rattle.mlk_coverage.specs.Laws.{mark, marked, MarkedAlike}
 use Rattle.mlk_coverage.proofs.Computing.{in_front, in_rest, computed_answers}
 
@@ -89,18 +89,18 @@ module _ (n : List ℕ) where
   first_same (Job ∷ ss) = refl
   first_same (Unknown ∷ ss) = refl
 
-  rest_same : (ss : List Sym) → behind_first (map (mark n) ss) ≡ map (mark n) (behind_first ss)
+  rest_same : (ss : List Sym) → after_first (map (mark n) ss) ≡ map (mark n) (after_first ss)
   rest_same [] = refl
   rest_same (s ∷ ss) = refl
 
   own_same : (es : List Element) (ss : List Sym) → own_subs es (map (mark n) ss) ≡ own_subs es ss
   own_same [] ss = refl
-  own_same (element.Literal value ∷ es) ss = ap (own_subs es) (rest_same ss) ∙ own_same es (behind_first ss)
-  own_same (element.Variable ∷ es) ss = ap (own_subs es) (rest_same ss) ∙ own_same es (behind_first ss)
+  own_same (element.Literal value ∷ es) ss = ap (own_subs es) (rest_same ss) ∙ own_same es (after_first ss)
+  own_same (element.Variable ∷ es) ss = ap (own_subs es) (rest_same ss) ∙ own_same es (after_first ss)
   own_same (element.Job ∷ es) ss =
-      let others : own_subs es (behind_first (map (mark n) ss)) ≡ own_subs es (behind_first ss) =
-      ap (own_subs es) (rest_same ss) ∙ own_same es (behind_first ss) in
-      ap (λ b. b && own_subs es (behind_first (map (mark n) ss))) (first_same ss) ∙ ap (λ b. is_job (first_of ss) && b) others
+      let others : own_subs es (after_first (map (mark n) ss)) ≡ own_subs es (after_first ss) =
+      ap (own_subs es) (rest_same ss) ∙ own_same es (after_first ss) in
+      ap (λ b. b && own_subs es (after_first (map (mark n) ss))) (first_same ss) ∙ ap (λ b. is_job (first_of ss) && b) others
 
   -- a subscript of a rule's lock is as it was, or was this local and is missing
   got : (ss : List Sym) (k : ℕ) → (option_and_then known_of (slice_get (map (mark n) ss) k) ≡ option_and_then known_of (slice_get ss k))

@@ -108,15 +108,15 @@ abbrev pub first_of : List Sym → Option Sym
 first_of [] = None
 first_of (s ∷ ss) = Some s
 
-abbrev pub behind_first : List Sym → List Sym
-behind_first [] = []
-behind_first (s ∷ ss) = ss
+abbrev pub after_first : List Sym → List Sym
+after_first [] = []
+after_first (s ∷ ss) = ss
 
 abbrev pub own_subs : List Element → List Sym → Bool
 own_subs [] ss = true
-own_subs (element.Literal value ∷ es) ss = own_subs es (behind_first ss)
-own_subs (element.Variable ∷ es) ss = own_subs es (behind_first ss)
-own_subs (element.Job ∷ es) ss = is_job (first_of ss) && own_subs es (behind_first ss)
+own_subs (element.Literal value ∷ es) ss = own_subs es (after_first ss)
+own_subs (element.Variable ∷ es) ss = own_subs es (after_first ss)
+own_subs (element.Job ∷ es) ss = is_job (first_of ss) && own_subs es (after_first ss)
 
 abbrev pub keeps_private : RuleLists → Reference → Bool
 keeps_private rules r = list_all (λ p. not (may_meet p r) || own_subs p.elements r.subs) rules.private

@@ -18,7 +18,7 @@ symbol_of (element.Literal value) = Const value
 symbol_of element.Variable = Unknown
 symbol_of element.Job = Unknown
 
--- each element has a subscript that suits it, and the subscripts behind these stay in
+-- each element has a subscript that suits it, and the subscripts after these stay in
 pub record SubsLie (es : List Element) (wide : Extent) (subs : List Sym) (far : Extent) : Type 0 where
   pub front : List Sym
   pub rest : List Sym

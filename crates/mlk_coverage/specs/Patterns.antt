@@ -37,7 +37,7 @@ Suits (element.Literal value) s = s ≡ Const value
 Suits element.Variable s = Unit {0}
 Suits element.Job s = s ≡ Job
 
--- a reference of this extent, with these subscripts behind those that suit, goes no further than the pattern
+-- a reference of this extent, with these subscripts after those that suit, goes no further than the pattern
 abbrev pub StaysIn : Extent → Extent → List Sym → Type 0
 StaysIn Tree far rest = Unit {0}
 StaysIn Node Node rest = rest ≡ []

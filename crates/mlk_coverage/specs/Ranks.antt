@@ -27,8 +27,8 @@ FamiliesApart families = AllPairs (λ f g. ¬ Conflict f.name g.name) families
 pub record IsFirstMeeting (families : List Family) (index : ℕ) : Type 0 where
   pub before : List Family
   pub family : Family
-  pub behind : List Family
-  pub are : before ++ family ∷ behind ≡ families
+  pub after : List Family
+  pub are : before ++ family ∷ after ≡ families
   pub place : suc (length before) ≡ index
   pub apart : FamiliesApart before
   pub earlier : Family

@@ -18,7 +18,7 @@ fn suits(element: &Element, symbol: &Sym) -> bool
     }
 }
 
-// Whether a reference with these subscripts behind those that suit goes no further than the pattern.
+// Whether a reference with these subscripts after those that suit goes no further than the pattern.
 fn stays_in(wide: Extent, far: Extent, symbols: &[Sym]) -> bool
     ensures { IsTrue result ↔ StaysIn wide far symbols.now }
 {

@@ -12,7 +12,7 @@ use Rattle.mlk_rules.specs.declared.read.kinds.Item.TheVariants.{Literal, Variab
 use Rattle.mlk_rules.specs.RuleAnswers.{Read, refused}
 use Rattle.mlk_text.specs.Canonical.{canonical_text}
 use Rattle.mlk_rules.specs.RuleNumbers.{numeral_len, number_at}
-use Rattle.mlk_rules.specs.RuleTexts.{item_at, list_of, parts_of, root_at, spelling_of, pattern_of, behind_label, is_entry}
+use Rattle.mlk_rules.specs.RuleTexts.{item_at, list_of, parts_of, root_at, spelling_of, pattern_of, after_label, is_entry}
 use Rattle.mlk_rules.specs.RuleKinds.{is_pattern}
 use Rattle.mlk_rules.specs.RuleSections.{section_of, family_of, rule_pattern_of, entry_of, lists_of}
 
@@ -47,15 +47,15 @@ no_dots_before = refl
 
 -- entries
 an_entry : is_entry (codes "DEP^BANK") ≡ true
-unfolding is_entry behind_label name_at
+unfolding is_entry after_label name_at
 an_entry = refl
 
 an_entry_without_label : is_entry (codes "^BANK") ≡ true
-unfolding is_entry behind_label name_at
+unfolding is_entry after_label name_at
 an_entry_without_label = refl
 
 no_entry : is_entry (codes "DEP") ≡ false
-unfolding is_entry behind_label name_at
+unfolding is_entry after_label name_at
 no_entry = refl
 
 -- files: the key of a section, the order of refusals
@@ -75,7 +75,7 @@ unfolding lists_of section_of
 no_array = refl
 
 one_entry : lists_of (section_with (codes "entry") (codes "label") (codes "^BANK")) ≡ Read (record { families = []; covers = []; private = []; readonly = []; entries = codes "^BANK" ∷ [] })
-unfolding lists_of section_of entry_of is_entry behind_label name_at section_with
+unfolding lists_of section_of entry_of is_entry after_label name_at section_with
 one_entry = refl
 
 a_wrong_key : lists_of (section_with (codes "entry") (codes "name") (codes "^BANK")) ≡ refused code.Key Entry 1

@@ -24,7 +24,7 @@ use Rattle.mlk_rules.specs.declared.read.kinds.Item.{Item}
 use Rattle.mlk_rules.specs.declared.read.kinds.Item.TheVariants.{Literal, Variable, Job}
 use Rattle.mlk_rules.specs.declared.read.kinds.Spelling.{Spelling}
 use Rattle.mlk_rules.specs.RuleNumbers.{fraction_len, numeral_len, valued, number_at, negative, negative_at}
-use Rattle.mlk_rules.specs.RuleTexts.{quoted, job, item_at, comma_at, item_behind, end_of, ended, items_behind, list_of, parts_of, root_by, root_at, spelling, spelling_of, pattern_of, behind, unlabelled, behind_label, names_all, ends_entry, is_entry_by, is_entry}
+use Rattle.mlk_rules.specs.RuleTexts.{quoted, job, item_at, comma_at, item_after, end_of, ended, items_after, list_of, parts_of, root_by, root_at, spelling, spelling_of, pattern_of, after as after_name, unlabelled, after_label, names_all, ends_entry, is_entry_by, is_entry}
 use Rattle.mlk_rules.specs.RuleGrammar.{IsItem, IsMore, closing, IsParts, IsRoot, IsSpelled, IsSpelledPattern, IsEntry, AreWritten}
 use Rattle.mlk_rules.proofs.Quotes.{quoted-sound, quoted-complete}
 use Rattle.mlk_rules.proofs.RuleSound.{name_read}
@@ -222,7 +222,7 @@ no_item_there i xs ys h = elim (cases_Bool (bytes_eq xs (codes "...)"))) [
 abbrev Reads : ℕ → Item → List ℕ → List ℕ → Type 0
 Reads comma i xs ys = item_at xs ≡ Some (i, ys)
 
-reads_exact : (comma : ℕ) → Exact (item_behind comma) (Reads comma)
+reads_exact : (comma : ℕ) → Exact (item_after comma) (Reads comma)
 reads_exact comma = record {
   sound = λ i xs ys h. h;
   complete = λ i xs ys h. h;
@@ -302,11 +302,11 @@ parts_sound (b ∷ xs) p h = elim (cases_Bool (b == 40)) [
         subst (λ q. AreParts q (b ∷ xs)) (same_Some ([], Tree) p (rw (e, d) at h)) whole
     | inr d ↦
         let f = then_some (item_at xs) _ p (rw (e, d) at h) in
-        let r = then_some (items_behind f.0.0 f.0.1) ended p f.2 in
-        let w = with_some (λ more. f.0.0 ∷ more) (many comma_at item_behind (suc (length f.0.1)) f.0.1) r.0.0 r.0.1 r.1 in
+        let r = then_some (items_after f.0.0 f.0.1) ended p f.2 in
+        let w = with_some (λ more. f.0.0 ∷ more) (many comma_at item_after (suc (length f.0.1)) f.0.1) r.0.0 r.0.1 r.1 in
         let x = then_some (end_of r.0.1) _ p r.2 in
         let one = item_sound f.0.0 xs f.0.1 f.1 in
-        let more = more_sound w.0 f.0.1 r.0.1 (many_sound comma_at item_behind Reads reads_exact (suc (length f.0.1)) w.0 f.0.1 r.0.1 w.1) in
+        let more = more_sound w.0 f.0.1 r.0.1 (many_sound comma_at item_after Reads reads_exact (suc (length f.0.1)) w.0 f.0.1 r.0.1 w.1) in
         let whole : b ∷ xs ≡ 40 ∷ (one.0 ++ (more.0 ++ closing x.0)) =
         ap (λ c. c ∷ xs) (eqb-true b 40 e) ∙ ap (λ l. 40 ∷ l) (one.2 ∙ ap (λ l. one.0 ++ l) (more.2 ∙ ap (λ l. more.0 ++ l) (end_is r.0.1 x.0 x.1))) in
         let parts : AreParts (f.0.0 ∷ w.0, x.0) (b ∷ xs) = (one.0, more.0, one.1, more.1, whole) in
@@ -321,8 +321,8 @@ parts_complete [] Tree text h = rw h refl
 parts_complete (i ∷ items) e text (one, more, is, rest, same) =
     let after : List ℕ = more ++ closing e in
     let read : item_at (one ++ after) ≡ Some (i, after) = item_complete i one after is (more_ends items more e rest) in
-    let others : many comma_at item_behind (suc (length after)) after ≡ Some (items, closing e) =
-    many_complete comma_at item_behind Reads comma-takes reads_exact (suc (length after)) items after (closing e) (omega arith) (more_complete items more e rest) in
+    let others : many comma_at item_after (suc (length after)) after ≡ Some (items, closing e) =
+    many_complete comma_at item_after Reads comma-takes reads_exact (suc (length after)) items after (closing e) (omega arith) (more_complete items more e rest) in
     rw same (rw (no_item_there i (one ++ after) after read) (rw read (rw others (rw (end_closes e) refl))))
 
 -- roots
@@ -400,7 +400,7 @@ name_no_digits (b ∷ bs) ys h =
     rw (first_no_digit b first) refl
 
 entries_complete : (text : List ℕ) → IsEntry text → is_entry text ≡ true
-unfolding is_entry behind_label
+unfolding is_entry after_label
 entries_complete text ([], routine, inl h, good, is) = rw is (routine_ends routine good)
 entries_complete text (d ∷ ds, routine, inl h, good, is) =
     let r = digits-front (d ∷ ds) (94 ∷ routine) h refl in
@@ -429,7 +429,7 @@ digits_taken [] = refl
 digits_taken (b ∷ xs) = elim (cases_Bool (is_digit b)) [ inl e ↦ rw e (rw e (digits_taken xs)) | inr e ↦ rw e refl ]
 
 entries_sound : (text : List ℕ) → is_entry text ≡ true → IsEntry text
-unfolding is_entry behind_label
+unfolding is_entry after_label
 entries_sound text h = elim (cases_Bool (digits text == 0)) [
   | inr e ↦
       let r = routine_read (drop (digits text) text) (rw e at h) in
@@ -437,7 +437,7 @@ entries_sound text h = elim (cases_Bool (digits text == 0)) [
   | inl e ↦ unlabeled (byte_at 94 text) (rw e at h)
 ]
   where
-    labelled : (o : Option (List ℕ × List ℕ)) → name_at text ≡ o → is_entry_by (behind o) ≡ true → IsEntry text
+    labelled : (o : Option (List ℕ × List ℕ)) → name_at text ≡ o → is_entry_by (after_name o) ≡ true → IsEntry text
     labelled None is i = cc i
     labelled (Some n) is i =
         let r = routine_read n.1 i in

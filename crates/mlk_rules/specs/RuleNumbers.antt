@@ -5,7 +5,7 @@ use Rattle.mlk_text.specs.Reading.{with}
 use Rattle.mlk_text.specs.Lexemes.{digits}
 use Rattle.mlk_text.specs.Canonical.{canonical_text}
 
--- how far a literal goes: digits, and a point with the digits behind it
+-- how far a literal goes: digits, and a point with the digits after it
 abbrev pub fraction_len : List ℕ → ℕ
 fraction_len [] = 0
 fraction_len (b ∷ xs) = if b == 46 then suc (digits xs) else 0
@@ -13,7 +13,7 @@ fraction_len (b ∷ xs) = if b == 46 then suc (digits xs) else 0
 unfoldable pub numeral_len : List ℕ → ℕ
 numeral_len xs = digits xs + fraction_len (drop (digits xs) xs)
 
--- what stands behind a value
+-- what stands after a value
 abbrev pub valued : List ℕ → Option (List ℕ) → Option (List ℕ × List ℕ)
 valued ys None = None
 valued ys (Some value) = Some (value, ys)
@@ -22,7 +22,7 @@ valued ys (Some value) = Some (value, ys)
 unfoldable pub number_at : List ℕ → Option (List ℕ × List ℕ)
 number_at xs = valued (drop (numeral_len xs) xs) (canonical_text (take (numeral_len xs) xs))
 
--- the value of a number behind a minus
+-- the value of a number after a minus
 abbrev pub negative : List ℕ → List ℕ
 negative v = if bytes_eq v (48 ∷ []) then v else 45 ∷ v
 

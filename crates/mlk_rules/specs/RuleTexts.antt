@@ -24,7 +24,7 @@ unfoldable mutual
   closed [] = Some ([], [])
   closed (b ∷ xs) = if b == 34 then put (34 ∷ []) (quoted xs) else Some ([], b ∷ xs)
 
--- The item at the front: `$J`, a number behind a minus, a text in quotes, a number, or a variable.
+-- The item at the front: `$J`, a number after a minus, a text in quotes, a number, or a variable.
 abbrev pub job : ℕ → Item
 job j = Job
 
@@ -37,13 +37,13 @@ item_at (b ∷ xs) =
     else if (b == 46) || is_digit b then with Literal (number_at (b ∷ xs))
     else with Variable (name_at (b ∷ xs))
 
--- a comma, unless `...` ends the list behind it
+-- a comma, unless `...` ends the list after it
 abbrev pub comma_at : List ℕ → Option (ℕ × List ℕ)
 comma_at xs = if bytes_eq xs (codes ",...)") then None else byte_at 44 xs
 
--- behind a comma
-abbrev pub item_behind : ℕ → List ℕ → Option (Item × List ℕ)
-item_behind comma xs = item_at xs
+-- after a comma
+abbrev pub item_after : ℕ → List ℕ → Option (Item × List ℕ)
+item_after comma xs = item_at xs
 
 -- the end of a list: by `...` it means all below too
 abbrev pub end_of : List ℕ → Option Extent
@@ -53,22 +53,22 @@ end_of xs = if bytes_eq xs (codes ")") then Some Node else if bytes_eq xs (codes
 abbrev pub ended : List Item × List ℕ → Option (List Item × Extent)
 ended r = end_of r.1 >>= λ extent. Some (r.0, extent)
 
--- more items behind the first one
-abbrev pub items_behind : Item → List ℕ → Option (List Item × List ℕ)
-items_behind first xs = with (λ more. first ∷ more) (many comma_at item_behind (suc (length xs)) xs)
+-- more items after the first one
+abbrev pub items_after : Item → List ℕ → Option (List Item × List ℕ)
+items_after first xs = with (λ more. first ∷ more) (many comma_at item_after (suc (length xs)) xs)
 
 -- one or more items, of which `...` may be the last, up to the closing parenthesis, which ends the text
 unfoldable pub list_of : List ℕ → Option (List Item × Extent)
 list_of xs =
     if bytes_eq xs (codes "...)") then Some ([], Tree)
-    else (item_at xs >>= λ first. items_behind first.0 first.1 >>= ended)
+    else (item_at xs >>= λ first. items_after first.0 first.1 >>= ended)
 
--- what is behind a root: nothing, or a list in parentheses
+-- what is after a root: nothing, or a list in parentheses
 unfoldable pub parts_of : List ℕ → Option (List Item × Extent)
 parts_of [] = Some ([], Node)
 parts_of (b ∷ xs) = if b == 40 then list_of xs else None
 
--- a local's name, or a global's behind its caret
+-- a local's name, or a global's after its caret
 abbrev pub root_by : List ℕ → Option (ℕ × List ℕ) → Option (Root × List ℕ)
 root_by xs None = with root.Local (name_at xs)
 root_by xs (Some caret) = with root.Global (name_at caret.1)
@@ -88,39 +88,39 @@ spelling_of xs = root_at xs >>= λ r. parts_of r.1 >>= λ p. Some (spelling r.0 
 abbrev pub pattern_of : List ℕ → Option Spelling
 pattern_of xs = byte_at 94 xs >>= λ caret. spelling_of xs
 
--- what is behind a name,
-abbrev pub behind : Option (List ℕ × List ℕ) → Option (List ℕ)
-behind None = None
-behind (Some r) = Some r.1
+-- what is after a name,
+abbrev pub after : Option (List ℕ × List ℕ) → Option (List ℕ)
+after None = None
+after (Some r) = Some r.1
 
--- and behind a label, which may be digits or missing
+-- and after a label, which may be digits or missing
 abbrev pub unlabelled : List ℕ → Option (ℕ × List ℕ) → Option (List ℕ)
 unlabelled xs (Some caret) = Some xs
-unlabelled xs None = behind (name_at xs)
+unlabelled xs None = after (name_at xs)
 
-unfoldable pub behind_label : List ℕ → Option (List ℕ)
-behind_label xs = if digits xs == 0 then unlabelled xs (byte_at 94 xs) else Some (drop (digits xs) xs)
+unfoldable pub after_label : List ℕ → Option (List ℕ)
+after_label xs = if digits xs == 0 then unlabelled xs (byte_at 94 xs) else Some (drop (digits xs) xs)
 
 -- a list that is used up
 abbrev pub used_up : List ℕ → Bool
 used_up [] = true
 used_up (b ∷ xs) = false
 
--- a name and nothing behind it
+-- a name and nothing after it
 abbrev pub names_all : Option (List ℕ × List ℕ) → Bool
 names_all None = false
 names_all (Some r) = used_up r.1
 
--- the routine of an entry, behind its caret
+-- the routine of an entry, after its caret
 abbrev pub ends_entry : Option (ℕ × List ℕ) → Bool
 ends_entry None = false
 ends_entry (Some caret) = names_all (name_at caret.1)
 
--- behind the label of an entry
+-- after the label of an entry
 abbrev pub is_entry_by : Option (List ℕ) → Bool
 is_entry_by None = false
 is_entry_by (Some xs) = ends_entry (byte_at 94 xs)
 
 -- whether the text is an entry: a label that may be missing, a caret and a routine
 unfoldable pub is_entry : List ℕ → Bool
-is_entry xs = is_entry_by (behind_label xs)
+is_entry xs = is_entry_by (after_label xs)

@@ -3,7 +3,7 @@
 ghost use Rattle.std.specs.Prelude.{◌≡◌, IfOk};
 ghost use Rattle.toml.specs.View.{view};
 ghost use Rattle.mlk_text.specs.Outcome.{Gives};
-ghost use Rattle.mlk_rules.specs.RuleTexts.{behind_label, is_entry_by, is_entry};
+ghost use Rattle.mlk_rules.specs.RuleTexts.{after_label, is_entry_by, is_entry};
 ghost use Rattle.mlk_rules.specs.RuleAnswers.{Answers};
 ghost use Rattle.mlk_rules.specs.RuleSections.{entry_of};
 
@@ -13,9 +13,9 @@ use mlk_text::lexeme::{ReadError, byte_of, digits, name};
 use mlk_text::{Code, Value};
 use std::alloc::{AllocError, Global};
 
-#[tactic(auto, unfolding(crate::specs::RuleTexts::behind_label))]
-fn behind_label(alloc: Global, bytes: &[u8]) -> Result<&[u8], ReadError>
-    ensures { Gives (λ x. x.now) result (behind_label bytes.now) }
+#[tactic(auto, unfolding(crate::specs::RuleTexts::after_label))]
+fn after_label(alloc: Global, bytes: &[u8]) -> Result<&[u8], ReadError>
+    ensures { Gives (λ x. x.now) result (after_label bytes.now) }
 {
     let n = digits(bytes);
     if n != 0 {
@@ -32,10 +32,10 @@ fn behind_label(alloc: Global, bytes: &[u8]) -> Result<&[u8], ReadError>
 fn ends_entry(alloc: Global, bytes: &[u8]) -> Result<bool, AllocError>
     ensures { IfOk result (λ b. b ≡ is_entry_by (Some bytes.now)) }
 {
-    let Some(behind) = byte_of(b'^', bytes) else {
+    let Some(after) = byte_of(b'^', bytes) else {
         return Ok(false);
     };
-    match name(alloc, behind) {
+    match name(alloc, after) {
         Ok((_, rest)) => Ok(rest.is_empty()),
         Err(ReadError::Refused) => Ok(false),
         Err(ReadError::OutOfMemory) => Err(AllocError),
@@ -46,7 +46,7 @@ fn ends_entry(alloc: Global, bytes: &[u8]) -> Result<bool, AllocError>
 fn is_entry(alloc: Global, bytes: &[u8]) -> Result<bool, AllocError>
     ensures { IfOk result (λ b. b ≡ is_entry bytes.now) }
 {
-    match behind_label(alloc, bytes) {
+    match after_label(alloc, bytes) {
         Ok(rest) => ends_entry(alloc, rest),
         Err(ReadError::Refused) => Ok(false),
         Err(ReadError::OutOfMemory) => Err(AllocError),

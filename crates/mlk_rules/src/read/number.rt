@@ -8,19 +8,15 @@ use mlk_text::lexeme::{ReadError, digits};
 use mlk_text::{Value, canonical};
 use std::alloc::{AllocError, Global};
 
-// How many bytes at the front are a point and digits behind it.
+// How many bytes at the front are a point and digits after it.
 fn fraction_len(bytes: &[u8]) -> usize
     ensures value { result ≡ fraction_len bytes.now }
     ensures within { result ≤ length bytes.now }
 {
-    let Some((first, behind)) = bytes.split_first() else {
+    let Some((first, after)) = bytes.split_first() else {
         return 0;
     };
-    if *first == b'.' {
-        1 + digits(behind)
-    } else {
-        0
-    }
+    if *first == b'.' { 1 + digits(after) } else { 0 }
 }
 
 // How many bytes at the front belong to a number.
@@ -34,7 +30,7 @@ fn numeral_len(bytes: &[u8]) -> usize
     whole + fraction_len(rest)
 }
 
-/// The value of the number at the front, and what is behind it.
+/// The value of the number at the front, and what is after it.
 #[tactic(auto, unfolding(crate::specs::RuleNumbers::number_at))]
 pub fn number(alloc: Global, bytes: &[u8]) -> Result<(Value, &[u8]), ReadError>
     ensures { Gives (λ x. (x.0, x.1.now)) result (number_at bytes.now) }
@@ -52,7 +48,7 @@ fn is_zero(text: &[u8]) -> bool
     text == b"0".as_slice()
 }
 
-// The value of a number behind a minus.
+// The value of a number after a minus.
 fn negative(alloc: Global, value: Value) -> Result<Value, AllocError>
     ensures { IfOk result (λ v. v ≡ negative value) }
 {
@@ -64,7 +60,7 @@ fn negative(alloc: Global, value: Value) -> Result<Value, AllocError>
     Ok(Value::new(text))
 }
 
-/// The value of the number at the front, behind a minus, and what is behind it.
+/// The value of the number at the front, after a minus, and what is after it.
 pub fn negative_number(alloc: Global, bytes: &[u8]) -> Result<(Value, &[u8]), ReadError>
     ensures { Gives (λ x. (x.0, x.1.now)) result (negative_at bytes.now) }
 {

@@ -2,7 +2,7 @@
 
 ghost use Rattle.std.specs.Prelude.{◌≡◌, bytes_eq, IfOk, option_map};
 ghost use Rattle.mlk_text.specs.Outcome.{Gives};
-ghost use Rattle.mlk_rules.specs.RuleTexts.{item_at, comma_at, items_behind, end_of, list_of, parts_of, root_at, spelling_of, pattern_of};
+ghost use Rattle.mlk_rules.specs.RuleTexts.{item_at, comma_at, items_after, end_of, list_of, parts_of, root_at, spelling_of, pattern_of};
 
 use crate::read::kinds::{Item, Spelling};
 use crate::read::number::{negative_number, number};
@@ -22,21 +22,21 @@ fn is_same(bytes: &[u8], text: &[u8]) -> bool
 fn item(alloc: Global, bytes: &[u8]) -> Result<(Item, &[u8]), ReadError>
     ensures { Gives (λ x. (x.0, x.1.now)) result (item_at bytes.now) }
 {
-    let Some((first, behind)) = bytes.split_first() else {
+    let Some((first, after)) = bytes.split_first() else {
         return Err(ReadError::Refused);
     };
     if *first == b'$' {
-        let Some(rest) = byte_of(b'J', behind) else {
+        let Some(rest) = byte_of(b'J', after) else {
             return Err(ReadError::Refused);
         };
         return Ok((Item::Job, rest));
     }
     if *first == b'-' {
-        let (value, rest) = negative_number(alloc, behind)?;
+        let (value, rest) = negative_number(alloc, after)?;
         return Ok((Item::Literal(value), rest));
     }
     if *first == b'"' {
-        let (value, rest) = quoted(alloc, behind)?;
+        let (value, rest) = quoted(alloc, after)?;
         return Ok((Item::Literal(value), rest));
     }
     if *first == b'.' || is_digit(*first) {
@@ -56,16 +56,16 @@ fn comma(bytes: &[u8]) -> Option<&[u8]>
     byte_of(b',', bytes)
 }
 
-fn items_behind(alloc: Global, first: Item, bytes: &[u8]) -> Result<(Vec<Item>, &[u8]), ReadError>
-    ensures { Gives (λ x. (x.0.items, x.1.now)) result (items_behind first bytes.now) }
+fn items_after(alloc: Global, first: Item, bytes: &[u8]) -> Result<(Vec<Item>, &[u8]), ReadError>
+    ensures { Gives (λ x. (x.0.items, x.1.now)) result (items_after first bytes.now) }
 {
     let mut found = Vec::new(alloc);
     found.push(first)?;
     let mut rest = bytes;
-    while let Some(behind) = comma(rest) {
-        let (item, behind) = item(alloc, behind)?;
+    while let Some(after) = comma(rest) {
+        let (item, after) = item(alloc, after)?;
         found.push(item)?;
-        rest = behind;
+        rest = after;
     }
     Ok((found, rest))
 }
@@ -90,7 +90,7 @@ fn list(alloc: Global, bytes: &[u8]) -> Result<(List<Item>, Extent), ReadError>
         return Ok((List::new(alloc), Extent::Tree));
     }
     let (first, rest) = item(alloc, bytes)?;
-    let (items, rest) = items_behind(alloc, first, rest)?;
+    let (items, rest) = items_after(alloc, first, rest)?;
     let Some(extent) = end(rest) else {
         return Err(ReadError::Refused);
     };
@@ -101,24 +101,24 @@ fn list(alloc: Global, bytes: &[u8]) -> Result<(List<Item>, Extent), ReadError>
 fn parts(alloc: Global, bytes: &[u8]) -> Result<(List<Item>, Extent), ReadError>
     ensures { Gives (λ x. x) result (parts_of bytes.now) }
 {
-    let Some((first, behind)) = bytes.split_first() else {
+    let Some((first, after)) = bytes.split_first() else {
         return Ok((List::new(alloc), Extent::Node));
     };
     if *first != b'(' {
         return Err(ReadError::Refused);
     }
-    list(alloc, behind)
+    list(alloc, after)
 }
 
 #[tactic(auto, unfolding(crate::specs::RuleTexts::root_at))]
 fn root(alloc: Global, bytes: &[u8]) -> Result<(Root, &[u8]), ReadError>
     ensures { Gives (λ x. (x.0, x.1.now)) result (root_at bytes.now) }
 {
-    let Some(behind) = byte_of(b'^', bytes) else {
+    let Some(after) = byte_of(b'^', bytes) else {
         let (local, rest) = name(alloc, bytes)?;
         return Ok((Root::Local(local), rest));
     };
-    let (global, rest) = name(alloc, behind)?;
+    let (global, rest) = name(alloc, after)?;
     Ok((Root::Global(global), rest))
 }
 
