@@ -22,6 +22,9 @@ fn is_callee(
     routine: &[u8],
     end: usize,
 ) -> bool {
+    if at > line.len() {
+        return false;
+    }
     match read_callee(alloc, line, at) {
         Ok((callee, next)) => {
             let Callee {
