@@ -148,8 +148,16 @@ fn lists(rt: HostRuntime) -> Result<(), Fail> {
     }
     assert_eq!(rt; names.as_slice().len(), 5);
     assert_eq!(rt; subs.as_slice().len(), 5);
-    assert!(rt; names.as_slice()[4].as_bytes() == b"E".as_slice());
-    assert!(rt; subs.as_slice()[4].as_bytes() == b"E".as_slice());
+    let last = names
+        .as_slice()
+        .last()
+        .is_some_and(|name| name.as_bytes() == b"E".as_slice());
+    assert!(rt; last, "the fifth name");
+    let last = subs
+        .as_slice()
+        .last()
+        .is_some_and(|sub| sub.as_bytes() == b"E".as_slice());
+    assert!(rt; last, "the fifth subscript");
     let names_again = names.clone()?;
     let subs_again = copy_of(&subs)?;
     assert!(rt; names_again == names);
