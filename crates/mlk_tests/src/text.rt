@@ -1,7 +1,4 @@
-use mlk_text::{
-    Code, List, Name, Op, Subscripts, UnaryOp, Value, canonical, copy_of, fold, fold_number,
-    fold_unary, whole,
-};
+use mlk_text::{Code, Name, Op, UnaryOp, Value, canonical, fold, fold_number, fold_unary, whole};
 use std::alloc::Global;
 use std::process::Abort;
 use std::test::Fail;
@@ -134,37 +131,6 @@ fn copies(rt: HostRuntime) -> Result<(), Fail> {
     assert!(rt; name.clone()? == name);
     let text = value(alloc, b"12")?;
     assert!(rt; text.clone()? == text);
-    Ok(())
-}
-
-#[test]
-fn lists(rt: HostRuntime) -> Result<(), Fail> {
-    let alloc = rt.alloc();
-    let mut names = List::new(alloc);
-    let mut subs = Subscripts::new(alloc);
-    for text in [b"A", b"B", b"C", b"D", b"E"] {
-        names.push(Name::new(Vec::from_slice(alloc, text)?))?;
-        subs.push(value(alloc, text)?)?;
-    }
-    assert_eq!(rt; names.as_slice().len(), 5);
-    assert_eq!(rt; subs.as_slice().len(), 5);
-    let last = names
-        .as_slice()
-        .last()
-        .is_some_and(|name| name.as_bytes() == b"E".as_slice());
-    assert!(rt; last, "the fifth name");
-    let last = subs
-        .as_slice()
-        .last()
-        .is_some_and(|sub| sub.as_bytes() == b"E".as_slice());
-    assert!(rt; last, "the fifth subscript");
-    let names_again = names.clone()?;
-    let subs_again = copy_of(&subs)?;
-    assert!(rt; names_again == names);
-    assert!(rt; subs_again == subs);
-    subs.push(value(alloc, b"F")?)?;
-    assert!(rt; subs_again != subs, "a copy is a list of its own");
-    assert!(rt; List::of(names_again.into_vec()) == names);
     Ok(())
 }
 
