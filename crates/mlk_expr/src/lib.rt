@@ -12,6 +12,8 @@ mod public;
 mod read;
 mod refusal;
 mod scope;
+#[cfg(test)]
+mod tests;
 mod tree;
 pub mod words;
 

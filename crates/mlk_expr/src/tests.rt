@@ -7,7 +7,7 @@ mod operators;
 mod order;
 mod words;
 
-use mlk_expr::{Actual, Expr, ReadError, read_actuals, read_expr, read_ref};
+use crate::{Actual, Expr, ReadError, read_actuals, read_expr, read_ref};
 use std::alloc::Global;
 use std::process::Abort;
 use std::test::Fail;
@@ -63,9 +63,9 @@ fn is_sum_times(tree: &Expr) -> bool {
     }
     let (plus, two) = &links[0];
     let (times, three) = &links[1];
-    *plus == mlk_expr::Op::Add
+    *plus == crate::Op::Add
         && is_lit(two, b"2")
-        && *times == mlk_expr::Op::Multiply
+        && *times == crate::Op::Multiply
         && is_lit(three, b"3")
 }
 
