@@ -4,7 +4,7 @@ use Rattle.std.proofs.Common.{◌≡◌, List, [], ◌∷◌, ◌++◌, inl, inr
 use Rattle.std.specs.Prelude.{codes, Contains}
 use Rattle.std.specs.List.{AllZip}
 use Rattle.std.proofs.lemmas.List.Elements.{Contains-push, Contains-push_cases}
-use Rattle.mlk_names.specs.declared.lock_name.Root.TheVariants.{Global}
+use Rattle.mlk_text.specs.declared.root.Root.TheVariants.{Global}
 use Rattle.mlk_names.specs.declared.symbol.Sym.{Sym}
 use Rattle.mlk_names.specs.declared.symbol.Sym.TheVariants.{Const, Local, Unknown}
 use Rattle.mlk_names.specs.declared.known_symbol.KnownSym.{KnownSym}

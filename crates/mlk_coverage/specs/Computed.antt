@@ -4,8 +4,8 @@ use Rattle.std.specs.Prelude.{Bool, true, false, not, ◌&&◌, ◌||◌, if◌t
 use Rattle.std.specs.List.{list_any, list_all}
 use Rattle.mlk_text.specs.declared.code.Code.{Code}
 use Rattle.mlk_text.specs.declared.code.Code.TheVariants.{Unruled, Uncovered, ReadOnly, NotPrivate}
-use Rattle.mlk_names.specs.declared.lock_name.Root.{Root}
-use Rattle.mlk_names.specs.declared.lock_name.Root.TheVariants as root
+use Rattle.mlk_text.specs.declared.root.Root.{Root}
+use Rattle.mlk_text.specs.declared.root.Root.TheVariants as root
 use Rattle.mlk_names.specs.declared.symbol.Sym.{Sym}
 use Rattle.mlk_names.specs.declared.symbol.Sym.TheVariants.{Const, Local, Job, Unknown}
 use Rattle.mlk_names.specs.declared.known_symbol.KnownSym.{KnownSym}

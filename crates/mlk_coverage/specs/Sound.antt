@@ -2,8 +2,8 @@
 use Rattle.std.specs.Prelude.{◌≡◌, ◌==◌, ◌&&◌, ◌||◌, nat_le, ℕ, Bool, true, false, List, [], ◌∷◌, length}
 use Rattle.std.specs.List.{list_all, count_by}
 use Rattle.mlk_text.specs.Lexemes.{is_letter, is_name_byte}
-use Rattle.mlk_names.specs.declared.lock_name.Root.{Root}
-use Rattle.mlk_names.specs.declared.lock_name.Root.TheVariants as root
+use Rattle.mlk_text.specs.declared.root.Root.{Root}
+use Rattle.mlk_text.specs.declared.root.Root.TheVariants as root
 use Rattle.mlk_coverage.specs.declared.pattern.Element.{Element}
 use Rattle.mlk_coverage.specs.declared.pattern.Element.TheVariants as element
 use Rattle.mlk_coverage.specs.declared.pattern.Pattern.{Pattern}

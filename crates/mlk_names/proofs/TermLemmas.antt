@@ -2,7 +2,7 @@
 use Rattle.std.proofs.Common.{◌≡◌, ◌↔◌, ◌⊎◌, inl, inr, ℕ, List, refl, sym, ap, ◌∙◌, subst}
 use Rattle.std.specs.Prelude.{Contains}
 use Rattle.mlk_names.specs.declared.lock_name.LockName.{LockName}
-use Rattle.mlk_names.specs.declared.lock_name.Root.{Root}
+use Rattle.mlk_text.specs.declared.root.Root.{Root}
 use Rattle.mlk_names.specs.declared.known_symbol.KnownSym.{KnownSym}
 use Rattle.mlk_names.specs.declared.known_symbol.KnownSym.TheVariants.{Const, Local, Job}
 use Rattle.mlk_names.specs.declared.term.LockTerm.{LockTerm}

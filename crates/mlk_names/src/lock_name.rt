@@ -4,14 +4,7 @@ ghost use Rattle.std.specs.Prelude.{◌↔◌, IsTrue};
 ghost use Rattle.mlk_names.specs.LockNames.{IsAbove, Conflict};
 
 use crate::list::begins;
-use mlk_text::{Name, Subscripts, Value};
-
-/// What a lock name begins with: a global's name, or a local's, which is a name of its own.
-#[derive(Clone, Drop, Debug, PartialEq, Eq)]
-pub enum Root {
-    Global(Name),
-    Local(Name),
-}
+use mlk_text::{Root, Subscripts, Value};
 
 /// A lock name, whose subscripts are values.
 #[derive(Clone, Drop, Debug, PartialEq, Eq)]

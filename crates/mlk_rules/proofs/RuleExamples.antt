@@ -5,7 +5,7 @@ use Rattle.toml.specs.Data.{array, table, string, integer, Members, no_members, 
 use Rattle.mlk_text.specs.Reading.{many}
 use Rattle.mlk_text.specs.Lexemes.{name_at}
 use Rattle.mlk_text.specs.declared.code.Code.TheVariants as code
-use Rattle.mlk_names.specs.declared.lock_name.Root.TheVariants as root
+use Rattle.mlk_text.specs.declared.root.Root.TheVariants as root
 use Rattle.mlk_names.specs.declared.reference.Extent.TheVariants.{Tree}
 use Rattle.mlk_rules.specs.declared.read.fault.Section.TheVariants.{File, Lock, Private, Readonly, Entry}
 use Rattle.mlk_rules.specs.declared.read.kinds.Item.TheVariants.{Literal, Variable, Job}

@@ -8,8 +8,8 @@ use Rattle.std.proofs.lemmas.Option.{same_Some}
 use Rattle.toml.specs.Data.{Data, Members, as_table}
 use Rattle.mlk_text.specs.Lexemes.{is_letter, is_name_byte, name_bytes, byte_at, name_at}
 use Rattle.mlk_text.proofs.Readers.{then_some, pair_parts, with_some}
-use Rattle.mlk_names.specs.declared.lock_name.Root.{Root}
-use Rattle.mlk_names.specs.declared.lock_name.Root.TheVariants as root
+use Rattle.mlk_text.specs.declared.root.Root.{Root}
+use Rattle.mlk_text.specs.declared.root.Root.TheVariants as root
 use Rattle.mlk_coverage.specs.declared.pattern.Element.{Element}
 use Rattle.mlk_coverage.specs.declared.pattern.Element.TheVariants as element
 use Rattle.mlk_coverage.specs.declared.pattern.Pattern.{Pattern}

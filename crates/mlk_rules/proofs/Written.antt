@@ -15,8 +15,8 @@ use Rattle.mlk_text.proofs.Lexemes.{byte-is, byte-takes, name-is}
 use Rattle.mlk_text.proofs.Numerals.{digits-parts, digits-front}
 use Rattle.mlk_text.proofs.CanonicalReading.{canonical-sound, canonical-complete}
 use Rattle.mlk_text.proofs.Readers.{then_some, pair_parts, with_some, Exact, Takes, many_sound, many_complete}
-use Rattle.mlk_names.specs.declared.lock_name.Root.{Root}
-use Rattle.mlk_names.specs.declared.lock_name.Root.TheVariants as root
+use Rattle.mlk_text.specs.declared.root.Root.{Root}
+use Rattle.mlk_text.specs.declared.root.Root.TheVariants as root
 use Rattle.mlk_names.specs.declared.reference.Extent.{Extent}
 use Rattle.mlk_names.specs.declared.reference.Extent.TheVariants.{Node, Tree}
 use Rattle.mlk_coverage.specs.Sound.{is_name}

@@ -2,6 +2,9 @@ pub mod CodeLemmas
 pub mod Readers
 pub mod Lexemes
 pub mod Outcomes
+pub mod Runs
+pub mod Spelled
+pub mod Entries
 pub mod Numerals
 pub mod Zeros
 pub mod CanonicalTexts

@@ -3,13 +3,13 @@ use Rattle.std.proofs.Common.{◌≡◌, ◌≢◌, ◌<◌, ◌≤◌, ◌+◌,
 use Rattle.std.specs.Prelude.{◌⊎◌, ◌&&◌, ◌==◌, nat_le}
 use Rattle.std.proofs.Math.Nat.{one-le-pow, pow-le-pow_right}
 use Rattle.std.proofs.lemmas.Nat.{same_from_place}
-use Rattle.std.proofs.lemmas.Bool.{cases_order, cases_Bool, eqb-true, and_parts, and_from}
+use Rattle.std.proofs.lemmas.Bool.{cases_order, cases_Bool, eqb-true, eqb-false, and_parts, and_from}
 use lib.ListN.{length-replicate}
 use Rattle.mlk_text.specs.Lexemes.{zeros, to_last, is_exact, canonical, canonical_of}
 use Rattle.mlk_text.specs.Numbers.{are_digits, number_of_digits, pointed, HasSignificant, IsNumeral, IsExact, IsEqual, IsLowest, IsTextOf, IsCanonical}
 use Rattle.mlk_text.specs.NumberLaws.{OneText, OneCanonical, OneWhole, OneReading, BothRead}
 use Rattle.mlk_text.proofs.Numerals.{digits-parts, digit-bounds, number-append, number-below, one_numeral}
-use Rattle.mlk_text.proofs.Zeros.{zeros-split, zeros-behind, zeros_append, last_append, last-behind, last-split, zeros-first, last_within, significant-from, significant-to, tens}
+use Rattle.mlk_text.proofs.Zeros.{zeros-split, zeros-behind, zeros-some, last_append, last-behind, last-split, zeros-first, last_within, significant-from, significant-to, tens}
 use Rattle.mlk_text.proofs.CanonicalTexts.{canonical-made, kept-whole, kept-fraction, kept-lowest}
 use Rattle.mlk_text.proofs.Folds as folds
 
@@ -139,7 +139,7 @@ significant-inner a n ds h =
           let end : to_last (replicate a 48 ++ all) ≡ a + to_last all = last_append (replicate a 48) all ∙ rw e (ap (λ k. k + to_last all) size) in
           elim (cases_Bool (zeros ds == length ds)) [
             | inl whole ↦ let all-zeros = eqb-true (zeros ds) (length ds) whole in let within = last_within ds in omega arith
-            | inr part ↦ let same : zeros all ≡ zeros ds = zeros_append ds (replicate n 48) ∙ rw part refl in omega arith
+            | inr part ↦ let same : zeros all ≡ zeros ds = zeros-some ds (replicate n 48) (eqb-false (zeros ds) (length ds) part) in omega arith
           ]
     ])
 

@@ -1,8 +1,7 @@
 -- Digits and the numbers that they denote.
-use Rattle.std.proofs.Common.{◌≡◌, ◌<◌, ◌≤◌, ◌+◌, ◌-◌, ◌*◌, ◌^◌, ℕ, zero, suc, ◌++◌, List, [], ◌∷◌, length, take, drop, replicate, true, false, Some, None, refl, sym, ap, ◌∙◌, arith, subst, inl, inr, length-append, take-append-drop, append-nil, rules, pow-add, pow-suc, mul-le-mul_right}
-use Prim.Native.Nat.compare
+use Rattle.std.proofs.Common.{◌≡◌, ◌<◌, ◌≤◌, ◌+◌, ◌-◌, ◌*◌, ◌^◌, ℕ, zero, suc, ◌++◌, List, [], ◌∷◌, length, take, drop, replicate, true, false, Some, None, refl, sym, ap, ◌∙◌, arith, subst, inl, inr, length-append, take-append-drop, append-nil, rules, one-add, pow-add, pow-suc, mul-le-mul_right}
 use Rattle.std.specs.Prelude.{◌==◌, nat_le, nat_lt, ◌⊎◌}
-use Rattle.std.proofs.lemmas.Bool.{cases_Bool, eqb-true, and_parts, and_from, leb-true, le-leb, ltb-false, both_ways, ne_eqb}
+use Rattle.std.proofs.lemmas.Bool.{cases_Bool, eqb-true, and_parts, and_from, leb-true, le-leb, ltb-false, both_ways}
 use Rattle.std.proofs.lemmas.Option.{same_Some, none-some}
 use Rattle.std.proofs.lemmas.Str.Parse.{IsNumeralModel, IsDigitsTest, numerals_by_weight}
 use Rattle.mlk_text.specs.Lexemes.{is_digit, digits}
@@ -59,18 +58,10 @@ number-below (d ∷ ds) h =
     let nine : (d - 48) * 10 ^ length ds ≤ 9 * 10 ^ length ds = mul-le-mul_right (10 ^ length ds) (omega arith) in
     rw (pow-suc 10 (length ds)) (omega arith)
 
--- as many digits stand at the front as there are bytes
-pub all_digits : (ds : List ℕ) → (digits ds == length ds) ≡ are_digits ds
-all_digits [] = refl
-all_digits (d ∷ ds) = elim (cases_Bool (is_digit d)) [
-  | inl e ↦ rw e (rw compare.suc-suc (all_digits ds))
-  | inr e ↦ rw e (ne_eqb 0 (suc (length ds)) (λ h. omega arith))
-]
-
 pub digits-take : (xs : List ℕ) → are_digits (take (digits xs) xs) ≡ true
 digits-take [] = refl
 digits-take (d ∷ xs) = elim (cases_Bool (is_digit d)) [
-  | inl e ↦ rw e (digits-more d (take (digits xs) xs) e (digits-take xs))
+  | inl e ↦ rw (e, one-add) (digits-more d (take (digits xs) xs) e (digits-take xs))
   | inr e ↦ rw e refl
 ]
 
@@ -80,7 +71,7 @@ digits-front [] ys h none = rw none (refl, refl)
 digits-front (d ∷ ds) ys h none =
     let p = digits-parts d ds h in
     let r = digits-front ds ys p.1 none in
-    rw p.0 (ap (λ l. d ∷ l) r.0, r.1)
+    rw (p.0, one-add) (ap (λ l. d ∷ l) r.0, r.1)
 
 -- the parts of a literal are found at its point
 pub numeral-to : (before after text : List ℕ) → IsNumeral before after text → (take (digits text) text ≡ before) × (behind_point (drop (digits text) text) ≡ Some after)

@@ -1,7 +1,6 @@
 -- The zeros before and behind digits.
-use Rattle.std.proofs.Common.{◌≡◌, ◌≢◌, ◌<◌, ◌≤◌, ◌+◌, ◌-◌, ◌*◌, ◌%◌, ◌^◌, ℕ, zero, suc, ◌++◌, List, [], ◌∷◌, length, take, drop, get_or, replicate, true, false, Bool, refl, sym, ap, ◌∙◌, arith, subst, append_assoc, length-append, length-take-le, pow-suc, inl, inr}
+use Rattle.std.proofs.Common.{◌≡◌, ◌≢◌, ◌<◌, ◌≤◌, ◌+◌, ◌-◌, ◌*◌, ◌%◌, ◌^◌, ℕ, zero, suc, ◌++◌, List, [], ◌∷◌, length, take, drop, get_or, replicate, true, refl, sym, ap, ◌∙◌, arith, subst, append_assoc, length-append, length-take-le, one-add, pow-suc, inl, inr}
 use Rattle.std.specs.Prelude.{◌==◌, ◌&&◌, if◌then◌else◌}
-use Prim.Native.Nat.compare
 use Rattle.std.proofs.lemmas.Bool.{cases_Bool, eqb-true, eqb-false, and_right, and_parts, ne_eqb}
 use lib.ListN.{length-replicate}
 use Rattle.mlk_text.specs.Lexemes.{zeros, to_last}
@@ -12,7 +11,7 @@ use Rattle.mlk_text.proofs.Numerals.{digit-bounds, digits-parts}
 pub zeros-split : (ds : List ℕ) → ds ≡ replicate (zeros ds) 48 ++ drop (zeros ds) ds
 zeros-split [] = refl
 zeros-split (d ∷ ds) = elim (cases_Bool (d == 48)) [
-  | inl e ↦ rw e (rw (eqb-true d 48 e) (ap (λ l. 48 ∷ l) (zeros-split ds)))
+  | inl e ↦ rw (e, one-add) (rw (eqb-true d 48 e) (ap (λ l. 48 ∷ l) (zeros-split ds)))
   | inr e ↦ rw e refl
 ]
 
@@ -26,7 +25,7 @@ zeros-within (d ∷ ds) = elim (cases_Bool (d == 48)) [
 pub zeros-first : (ds : List ℕ) → get_or (drop (zeros ds) ds) 0 0 ≢ 48
 zeros-first [] = λ h. absurd (omega arith)
 zeros-first (d ∷ ds) = elim (cases_Bool (d == 48)) [
-  | inl e ↦ rw e (zeros-first ds)
+  | inl e ↦ rw (e, one-add) (zeros-first ds)
   | inr e ↦ rw e (eqb-false d 48 e)
 ]
 
@@ -34,16 +33,26 @@ pub zeros-behind : (n : ℕ) (ds : List ℕ) → zeros (replicate n 48 ++ ds) �
 zeros-behind zero ds = omega arith
 zeros-behind (suc n) ds = rw (zeros-behind n ds) (omega arith)
 
-pub zeros_append : (xs ys : List ℕ) → zeros (xs ++ ys) ≡ (if zeros xs == length xs then length xs + zeros ys else zeros xs)
-zeros_append [] ys = omega arith
-zeros_append (d ∷ xs) ys = elim (cases_Bool (d == 48)) [
-  | inl e ↦ rw e (rw (zeros_append xs ys, compare.suc-suc) (more (zeros xs == length xs)))
-  | inr e ↦ rw e (rw (ne_eqb 0 (suc (length xs)) (λ h. omega arith)) refl)
+-- of two lists together: where the first are zeros alone, and where they are not
+pub zeros-all : (xs ys : List ℕ) → zeros xs ≡ length xs → zeros (xs ++ ys) ≡ zeros xs + zeros ys
+zeros-all [] ys h = omega arith
+zeros-all (d ∷ xs) ys h = elim (cases_Bool (d == 48)) [
+  | inl e ↦
+      let same : 1 + zeros xs ≡ length (d ∷ xs) = rw e at h in
+      let r = zeros-all xs ys (omega (arith, same)) in
+      rw e (omega (arith, r))
+  | inr e ↦ let none : 0 ≡ length (d ∷ xs) = rw e at h in absurd (omega (arith, none))
 ]
-  where
-    more : (b : Bool) → suc (if b then length xs + zeros ys else zeros xs) ≡ (if b then suc (length xs) + zeros ys else suc (zeros xs))
-    more true = omega arith
-    more false = refl
+
+pub zeros-some : (xs ys : List ℕ) → zeros xs ≢ length xs → zeros (xs ++ ys) ≡ zeros xs
+zeros-some [] ys h = absurd (h refl)
+zeros-some (d ∷ xs) ys h = elim (cases_Bool (d == 48)) [
+  | inl e ↦
+      let other : 1 + zeros xs ≢ length (d ∷ xs) = rw e at h in
+      let r = zeros-some xs ys (λ same. other (omega (arith, same))) in
+      rw e (omega (arith, r))
+  | inr e ↦ rw e refl
+]
 
 -- digits are what stands up to the last that is no zero, and zeros
 pub last_within : (ds : List ℕ) → to_last ds ≤ length ds

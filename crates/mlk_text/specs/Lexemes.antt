@@ -1,19 +1,12 @@
 -- The smallest parts of M's texts, each as long as it goes: names, digits, quoted texts, literals and
 -- subscripts.
 use Rattle.std.specs.Prelude.{ℕ, suc, ◌≡◌, ◌≤◌, ◌⊎◌, ◌==◌, ◌&&◌, ◌||◌, nat_le, if◌then◌else◌, Bool, true, List, [], ◌∷◌, ◌++◌, length, Option, Some, None, take, drop}
+use Rattle.std.specs.List.{list_all, prefix_len}
+use Rattle.mlk_text.specs.declared.root.Root.{Root}
+use Rattle.mlk_text.specs.declared.root.Root.TheVariants as root
 use Rattle.mlk_text.specs.Reading.{◌>>=◌, with, put, many, Many}
-
--- a digit: ISO/IEC 11756, graphic
-abbrev pub is_digit : ℕ → Bool
-is_digit b = nat_le 48 b && nat_le b 57
-
--- a letter of ASCII: ISO/IEC 11756, ident
-abbrev pub is_letter : ℕ → Bool
-is_letter b = (nat_le 65 b && nat_le b 90) || (nat_le 97 b && nat_le b 122)
-
--- what may follow in a name
-abbrev pub is_name_byte : ℕ → Bool
-is_name_byte b = is_digit b || is_letter b
+pub use Rattle.mlk_text.specs.Spellings.{is_digit, is_letter, is_name_byte}
+use Rattle.mlk_text.specs.Spellings.{is_name}
 
 -- a byte of a quoted text or a comment: TAB, or 32 and above without 127 (this project's own choice)
 abbrev pub is_text_byte : ℕ → Bool
@@ -21,18 +14,19 @@ is_text_byte b = (b == 9) || (nat_le 32 b && nat_le b 126) || (nat_le 128 b && n
 
 -- whether all bytes are such
 abbrev pub is_text : List ℕ → Bool
-is_text [] = true
-is_text (b ∷ bs) = is_text_byte b && is_text bs
+is_text = list_all is_text_byte
 
 -- how many bytes at the front belong to a name
 abbrev pub name_bytes : List ℕ → ℕ
-name_bytes [] = 0
-name_bytes (b ∷ xs) = if is_name_byte b then suc (name_bytes xs) else 0
+name_bytes = prefix_len is_name_byte
 
 -- how many digits stand at the front
 abbrev pub digits : List ℕ → ℕ
-digits [] = 0
-digits (b ∷ xs) = if is_digit b then suc (digits xs) else 0
+digits = prefix_len is_digit
+
+-- how many letters stand at the front
+abbrev pub letters : List ℕ → ℕ
+letters = prefix_len is_letter
 
 -- the list behind this byte
 abbrev pub byte_at : ℕ → List ℕ → Option (ℕ × List ℕ)
@@ -44,14 +38,44 @@ unfoldable pub name_at : List ℕ → Option (List ℕ × List ℕ)
 name_at [] = None
 name_at (b ∷ xs) = let n = name_bytes xs in if (is_letter b || (b == 37)) && nat_le n 30 then Some (b ∷ take n xs, drop n xs) else None
 
+-- the letters at the front, as far as they go, and what is after them
+abbrev pub word_at : List ℕ → List ℕ × List ℕ
+word_at xs = (take (letters xs) xs, drop (letters xs) xs)
+
+-- what stands first
+abbrev pub or_else : {A : Type 0} → Option A → Option A → Option A
+or_else None other = other
+or_else (Some a) other = Some a
+
 -- Digits, at least one (ISO/IEC 11756, intlit).
 unfoldable pub digits_at : List ℕ → Option (List ℕ × List ℕ)
 digits_at xs = let n = digits xs in if n == 0 then None else Some (take n xs, drop n xs)
 
+-- A label: a name, or digits as they are written (ISO/IEC 11756, label).
+unfoldable pub label_at : List ℕ → Option (List ℕ × List ℕ)
+label_at xs = or_else (name_at xs) (digits_at xs)
+
+-- a local's name, or a global's after its caret
+abbrev pub root_by : List ℕ → Option (ℕ × List ℕ) → Option (Root × List ℕ)
+root_by xs None = with root.Local (name_at xs)
+root_by xs (Some caret) = with root.Global (name_at caret.1)
+
+-- the root of a lock name at the front
+unfoldable pub root_at : List ℕ → Option (Root × List ℕ)
+root_at xs = root_by xs (byte_at 94 xs)
+
+-- the routine of an entry after its caret, beside its label
+abbrev pub entry_by : List ℕ → Option (ℕ × List ℕ) → Option (List ℕ × List ℕ)
+entry_by label None = None
+entry_by label (Some caret) = if is_name caret.1 then Some (label, caret.1) else None
+
+-- The label and the routine of an entry's text: that these are its parts in the sense of `IsEntry` is a law.
+unfoldable pub entry_of : List ℕ → Option (List ℕ × List ℕ)
+entry_of text = let l = or_else (label_at text) (Some ([], text)) in l >>= λ label. entry_by label.0 (byte_at 94 label.1)
+
 -- how many zeros stand at the front
 abbrev pub zeros : List ℕ → ℕ
-zeros [] = 0
-zeros (b ∷ xs) = if b == 48 then suc (zeros xs) else 0
+zeros = prefix_len (λ b. b == 48)
 
 -- the length without the zeros at the end
 abbrev pub to_last : List ℕ → ℕ

@@ -1,10 +1,12 @@
 pub mod Codes
 pub mod Words
 pub mod Reading
+pub mod Spellings
 pub mod Lexemes
 pub mod Numbers
 pub mod Canonical
 pub mod Folding
 pub mod NumberLaws
+pub mod SpellingLaws
 pub mod Outcome
 pub mod Failures

@@ -1,11 +1,11 @@
 -- Numeric literals, the numbers that they denote, and the one text of each number.
-use Rattle.std.specs.Prelude.{ℕ, ◌≡◌, ◌≢◌, ◌≤◌, ◌<◌, ◌+◌, ◌-◌, ◌*◌, ◌%◌, ◌^◌, ◌⊎◌, ◌&&◌, Bool, true, Option, Some, None, ◌==◌, if◌then◌else◌, List, [], ◌∷◌, ◌++◌, length, get_or, replicate}
+use Rattle.std.specs.Prelude.{ℕ, ◌≡◌, ◌≢◌, ◌≤◌, ◌<◌, ◌+◌, ◌-◌, ◌*◌, ◌%◌, ◌^◌, ◌⊎◌, Bool, true, Option, Some, None, ◌==◌, if◌then◌else◌, List, [], ◌∷◌, ◌++◌, length, get_or, replicate}
+use Rattle.std.specs.List.{list_all}
 use Rattle.mlk_text.specs.Lexemes.{is_digit}
 
 -- digits and nothing else
 abbrev pub are_digits : List ℕ → Bool
-are_digits [] = true
-are_digits (d ∷ ds) = is_digit d && are_digits ds
+are_digits = list_all is_digit
 
 -- the whole number that digits denote: each counts times the power of ten of its place
 abbrev pub number_of_digits : List ℕ → ℕ

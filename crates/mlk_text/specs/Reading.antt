@@ -1,6 +1,6 @@
 -- How readers of byte texts are put together, as functions on lists and as relations. A reader gives what it
 -- read and what is left behind it, or nothing. This project's own.
-use Rattle.std.specs.Prelude.{ℕ, zero, suc, ◌≡◌, List, [], ◌∷◌, ◌++◌, Option, Some, None, ◌==◌, if◌then◌else◌}
+use Rattle.std.specs.Prelude.{ℕ, zero, suc, ◌≡◌, List, [], ◌∷◌, ◌++◌, length, ◌≤◌, ◌<◌, Option, Some, None, ◌==◌, if◌then◌else◌}
 
 -- and then
 infixl 10 ◌>>=◌
@@ -26,6 +26,11 @@ unfoldable pub many : {A B : Type 0} → (List ℕ → Option (B × List ℕ)) �
 many head item zero xs = None
 many head item (suc n) xs = many_by item (many head item n) xs (head xs)
 
+-- an item, and more items, each after a separator, which `next` finds
+abbrev pub separated : {A : Type 0} → (List ℕ → Option (ℕ × List ℕ)) → (List ℕ → Option (A × List ℕ)) → List ℕ → Option (List A × List ℕ)
+separated next item xs =
+    item xs >>= λ first. put (first.0 ∷ []) (many next (λ _. item) (suc (length first.1)) first.1)
+
 -- the same as a relation: items, each behind a head, as far as heads go, and what is behind them
 abbrev pub Many : {A B : Type 0} → (List ℕ → Option (B × List ℕ)) → (B → A → List ℕ → List ℕ → Type 0) → List A → List ℕ → List ℕ → Type 0
 Many head Item [] xs ys = (xs ≡ ys) × (head xs ≡ None)
@@ -40,3 +45,10 @@ behind_byte b (x ∷ xs) = if x == b then Some xs else None
 abbrev pub Begins : {A B : Type 0} → (List ℕ → Option (B × List ℕ)) → (B → A → List ℕ → List ℕ → Type 0) → List A → List ℕ → List ℕ → Type 0
 Begins head Item [] xs ys = xs ≡ ys
 Begins {B = B} head Item (a ∷ items) xs ys = (b : B) × (m n : List ℕ) × (head xs ≡ Some (b, m)) × Item b a m n × Begins head Item items n ys
+
+-- a reader that leaves no more than it was given, and one that takes something
+abbrev pub Leaves : {A : Type 0} → (List ℕ → Option (A × List ℕ)) → Type 0
+Leaves {A} item = (a : A) (xs ys : List ℕ) → item xs ≡ Some (a, ys) → length ys ≤ length xs
+
+abbrev pub Shortens : {A : Type 0} → (List ℕ → Option (A × List ℕ)) → Type 0
+Shortens {A} head = (a : A) (xs ys : List ℕ) → head xs ≡ Some (a, ys) → length ys < length xs

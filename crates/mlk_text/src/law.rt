@@ -1,6 +1,7 @@
 // What codes, numbers and their texts keep to.
 
 ghost use Rattle.mlk_text.specs.Codes.{OneCode};
+ghost use Rattle.mlk_text.specs.SpellingLaws.{EntriesWritten};
 ghost use Rattle.mlk_text.specs.NumberLaws.{OneText, OneCanonical, GivesCanonical, OneWhole, BothRead};
 
 /// No two codes have one number.
@@ -31,4 +32,9 @@ pub fn one_whole()
 /// Of digits alone, `literal::literal` and `canonical` give one value.
 pub fn both_read()
     ensures { BothRead }
+{}
+
+/// `spelling::entry` finds the parts of each text of an entry, and nothing else.
+pub fn entries_written()
+    ensures { EntriesWritten }
 {}

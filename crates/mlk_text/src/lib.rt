@@ -14,6 +14,9 @@ mod meaning;
 mod name;
 mod numeral;
 mod operator;
+mod root;
+mod sequence;
+pub mod spelling;
 mod subscripts;
 mod value;
 
@@ -22,10 +25,15 @@ pub use copy::copy_of;
 pub use failure::Failure;
 pub use fault::{Fault, LeftOut, Place};
 pub use folding::{fold, fold_number, fold_unary, whole};
-pub use law::{both_read, literals_canonical, one_canonical, one_code, one_text, one_whole};
+pub use law::{
+    both_read, entries_written, literals_canonical, one_canonical, one_code, one_text, one_whole,
+};
 pub use list::List;
 pub use name::Name;
 pub use numeral::canonical;
 pub use operator::{Op, Relation, UnaryOp};
+pub use root::Root;
+pub use sequence::{Items, separated};
+pub use spelling::NotThere;
 pub use subscripts::Subscripts;
 pub use value::Value;

@@ -3,10 +3,12 @@
 ghost use Rattle.std.specs.Prelude.{◌≡◌, ◌≤◌, ◌∷◌, [], suc, length, nat_le, ◌&&◌};
 ghost use Rattle.mlk_text.specs.Lexemes.{zeros, to_last, digits_at, number_at, inside, literal_at, list_at, subs_at, byte_at, next, canonical, canonical_of, is_exact};
 ghost use Rattle.mlk_text.specs.Reading.{many, put};
-ghost use Rattle.mlk_text.specs.Outcome.{Gives};
+ghost use Rattle.mlk_text.specs.Failures.{Reads};
 
-use crate::lexeme::{ReadError, byte_of, digits, is_text_byte};
+use crate::failure::Failure;
+use crate::lexeme::{byte_of, digits, is_text_byte};
 use crate::list::List;
+use crate::spelling::NotThere;
 use crate::value::Value;
 use std::alloc::Global;
 
@@ -15,12 +17,7 @@ pub(crate) fn zeros(bytes: &[u8]) -> usize
     ensures value { result ≡ zeros bytes.now }
     ensures within { result ≤ length bytes.now }
 {
-    for (i, b) in bytes.iter().enumerate() {
-        if *b != b'0' {
-            return i;
-        }
-    }
-    bytes.len()
+    bytes.iter().take_while(|b| **b == b'0').count()
 }
 
 /// The length without the zeros at the end.
@@ -44,17 +41,17 @@ fn is_exact(digits: &[u8], kept: &[u8]) -> bool
 
 /// The value of the digits at the front, and what is behind them.
 #[tactic(auto, unfolding(crate::specs::Lexemes::number_at, crate::specs::Lexemes::digits_at, crate::specs::Lexemes::canonical, crate::specs::Lexemes::is_exact))]
-fn number(alloc: Global, bytes: &[u8]) -> Result<(Value, &[u8]), ReadError>
-    ensures { Gives (λ x. (x.0, x.1.now)) result (number_at bytes.now) }
+fn number(alloc: Global, bytes: &[u8]) -> Result<(Value, &[u8]), Failure<NotThere>>
+    ensures { Reads (λ x. (x.0, x.1.now)) result (number_at bytes.now) }
 {
     let n = digits(bytes);
     if n == 0 {
-        return Err(ReadError::Refused);
+        return Err(Failure::Refused(NotThere));
     }
     let (text, rest) = bytes.split_at(n);
     let (_, kept) = text.split_at(zeros(text));
     if !is_exact(text, kept) {
-        return Err(ReadError::Refused);
+        return Err(Failure::Refused(NotThere));
     }
     if kept.is_empty() {
         return Ok((Value::new(Vec::from_slice(alloc, b"0")?), rest));
@@ -63,15 +60,15 @@ fn number(alloc: Global, bytes: &[u8]) -> Result<(Value, &[u8]), ReadError>
 }
 
 /// The value up to the closing quote, and what is behind it.
-pub fn quoted(alloc: Global, bytes: &[u8]) -> Result<(Value, &[u8]), ReadError>
-    ensures { Gives (λ x. (x.0, x.1.now)) result (inside bytes.now) }
+pub fn quoted(alloc: Global, bytes: &[u8]) -> Result<(Value, &[u8]), Failure<NotThere>>
+    ensures { Reads (λ x. (x.0, x.1.now)) result (inside bytes.now) }
 {
     let mut value = Vec::new(alloc);
     let mut rest = bytes;
     while let Some((first, behind)) = rest.split_first() {
         if *first != b'"' {
             if !is_text_byte(*first) {
-                return Err(ReadError::Refused);
+                return Err(Failure::Refused(NotThere));
             }
             value.push(*first)?;
             rest = behind;
@@ -83,16 +80,16 @@ pub fn quoted(alloc: Global, bytes: &[u8]) -> Result<(Value, &[u8]), ReadError>
         value.push(b'"')?;
         rest = after;
     }
-    Err(ReadError::Refused)
+    Err(Failure::Refused(NotThere))
 }
 
 /// The value of the literal at the front, and what is behind it.
 #[tactic(auto, unfolding(crate::specs::Lexemes::literal_at))]
-pub fn literal(alloc: Global, bytes: &[u8]) -> Result<(Value, &[u8]), ReadError>
-    ensures { Gives (λ x. (x.0, x.1.now)) result (literal_at bytes.now) }
+pub fn literal(alloc: Global, bytes: &[u8]) -> Result<(Value, &[u8]), Failure<NotThere>>
+    ensures { Reads (λ x. (x.0, x.1.now)) result (literal_at bytes.now) }
 {
     let Some((first, behind)) = bytes.split_first() else {
-        return Err(ReadError::Refused);
+        return Err(Failure::Refused(NotThere));
     };
     if *first == b'"' {
         return quoted(alloc, behind);
@@ -100,8 +97,12 @@ pub fn literal(alloc: Global, bytes: &[u8]) -> Result<(Value, &[u8]), ReadError>
     number(alloc, bytes)
 }
 
-fn list_rest(alloc: Global, first: Value, bytes: &[u8]) -> Result<(Vec<Value>, &[u8]), ReadError>
-    ensures { Gives (λ x. (x.0.items, x.1.now)) result (put (first ∷ []) (many (byte_at 44) next (suc (length bytes.now)) bytes.now)) }
+fn list_rest(
+    alloc: Global,
+    first: Value,
+    bytes: &[u8],
+) -> Result<(Vec<Value>, &[u8]), Failure<NotThere>>
+    ensures { Reads (λ x. (x.0.items, x.1.now)) result (put (first ∷ []) (many (byte_at 44) next (suc (length bytes.now)) bytes.now)) }
 {
     let mut found = Vec::new(alloc);
     found.push(first)?;
@@ -115,28 +116,28 @@ fn list_rest(alloc: Global, first: Value, bytes: &[u8]) -> Result<(Vec<Value>, &
 }
 
 #[tactic(auto, unfolding(crate::specs::Lexemes::list_at))]
-fn list(alloc: Global, bytes: &[u8]) -> Result<(Vec<Value>, &[u8]), ReadError>
-    ensures { Gives (λ x. (x.0.items, x.1.now)) result (list_at bytes.now) }
+fn list(alloc: Global, bytes: &[u8]) -> Result<(Vec<Value>, &[u8]), Failure<NotThere>>
+    ensures { Reads (λ x. (x.0.items, x.1.now)) result (list_at bytes.now) }
 {
     let (first, rest) = literal(alloc, bytes)?;
     let (items, rest) = list_rest(alloc, first, rest)?;
     let Some(rest) = byte_of(b')', rest) else {
-        return Err(ReadError::Refused);
+        return Err(Failure::Refused(NotThere));
     };
     Ok((items, rest))
 }
 
 /// The subscripts at the front, which may be none, and what is behind them.
 #[tactic(auto, unfolding(crate::specs::Lexemes::subs_at))]
-pub fn subscripts(alloc: Global, bytes: &[u8]) -> Result<(List<Value>, &[u8]), ReadError>
-    ensures { Gives (λ x. (x.0, x.1.now)) result (subs_at bytes.now) }
+pub fn subscripts(alloc: Global, bytes: &[u8]) -> Result<(List<Value>, &[u8]), Failure<NotThere>>
+    ensures { Reads (λ x. (x.0, x.1.now)) result (subs_at bytes.now) }
 {
     let Some(rest) = byte_of(b'(', bytes) else {
         return Ok((List::new(alloc), bytes));
     };
     let (subs, rest) = list(alloc, rest)?;
     if subs.len() > 32 {
-        return Err(ReadError::Refused);
+        return Err(Failure::Refused(NotThere));
     }
     Ok((List::of(subs), rest))
 }

@@ -6,17 +6,16 @@ ghost use Rattle.mlk_text.specs.Outcome.{Finds};
 ghost use Rattle.mlk_text.specs.Numbers.{are_digits, pointed, behind_point, IsNumeral, IsExact, IsCanonical};
 ghost use Rattle.mlk_text.specs.Canonical.{canonical_text};
 
-use crate::lexeme::{byte_of, digits};
+use crate::lexeme::{byte_of, digits, is_digit};
 use crate::literal::{to_last, zeros};
 use crate::value::Value;
 use std::alloc::{AllocError, Global};
 
 /// Whether these are digits and nothing else.
-#[tactic(auto, using(crate::proofs::Numerals::all_digits))]
 pub(crate) fn are_digits(bytes: &[u8]) -> bool
     ensures { result ≡ are_digits bytes.now }
 {
-    digits(bytes) == bytes.len()
+    bytes.iter().all(|b| is_digit(*b))
 }
 
 fn has_digit(before: &[u8], after: &[u8]) -> bool
@@ -48,7 +47,6 @@ fn parts(literal: &[u8]) -> Option<(&[u8], &[u8])>
 }
 
 // How many zeros stand at the front of both together.
-#[tactic(auto, using(crate::proofs::Zeros::zeros_append))]
 fn leading_zeros(before: &[u8], after: &[u8]) -> usize
     requires { length before.now + length after.now ≤ 50 }
     ensures { result ≡ zeros (before.now ++ after.now) }

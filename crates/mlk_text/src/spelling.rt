@@ -1,0 +1,122 @@
+// How names, labels, roots of lock names and entries are read.
+
+ghost use Rattle.std.specs.Prelude.{◌≡◌, option_map};
+ghost use Rattle.std.specs.List.{list_all};
+ghost use Rattle.mlk_text.specs.Lexemes.{digits_at, name_at, label_at, root_at, entry_of};
+ghost use Rattle.mlk_text.specs.Spellings.{is_name, is_name_byte};
+ghost use Rattle.mlk_text.specs.Failures.{Reads};
+
+use crate::failure::Failure;
+use crate::lexeme::{byte_of, digits, is_letter, is_name_byte, name_bytes};
+use crate::name::Name;
+use crate::root::Root;
+use std::alloc::Global;
+use thiserror::Error;
+
+/// What was asked for does not stand there; whoever asked knows what that means.
+#[derive(Clone, Copy, Debug, Drop, PartialEq, Eq, Error)]
+#[error("nothing of this kind stands here")]
+pub struct NotThere;
+
+/// The label and the routine of an entry, as they are written.
+#[derive(Clone, Copy, Debug, Drop)]
+pub struct EntryText<'a> {
+    /// Empty where the entry is the routine's first line.
+    pub label: &'a [u8],
+    pub routine: &'a [u8],
+}
+
+fn are_name_bytes(bytes: &[u8]) -> bool
+    ensures { result ≡ list_all is_name_byte bytes.now }
+{
+    bytes.iter().all(|b| is_name_byte(*b))
+}
+
+/// Whether the text is a name. It takes no memory.
+pub fn is_name(text: &[u8]) -> bool
+    ensures { result ≡ is_name text.now }
+{
+    let Some((first, rest)) = text.split_first() else {
+        return false;
+    };
+    (is_letter(*first) || *first == b'%') && (rest.len() <= 30 && are_name_bytes(rest))
+}
+
+/// The text of the name at the front, and what is after it. It takes no memory.
+#[tactic(auto, unfolding(crate::specs::Lexemes::name_at))]
+pub fn name_text(bytes: &[u8]) -> Option<(&[u8], &[u8])>
+    ensures { option_map (λ x. (x.0.now, x.1.now)) result ≡ name_at bytes.now }
+{
+    let Some((first, after)) = bytes.split_first() else {
+        return None;
+    };
+    if !is_letter(*first) && *first != b'%' {
+        return None;
+    }
+    let n = name_bytes(after);
+    if n > 30 {
+        return None;
+    }
+    Some(bytes.split_at(n + 1))
+}
+
+/// The name at the front, and what is after it.
+pub fn name(alloc: Global, bytes: &[u8]) -> Result<(Name, &[u8]), Failure<NotThere>>
+    ensures { Reads (λ x. (x.0, x.1.now)) result (name_at bytes.now) }
+{
+    let Some((text, rest)) = name_text(bytes) else {
+        return Err(Failure::Refused(NotThere));
+    };
+    Ok((Name::new(Vec::from_slice(alloc, text)?), rest))
+}
+
+/// The text of the label at the front, a name or digits, and what is after it. It takes no memory.
+#[tactic(auto, unfolding(crate::specs::Lexemes::label_at, crate::specs::Lexemes::digits_at))]
+pub fn label_text(bytes: &[u8]) -> Option<(&[u8], &[u8])>
+    ensures { option_map (λ x. (x.0.now, x.1.now)) result ≡ label_at bytes.now }
+{
+    if let Some(name) = name_text(bytes) {
+        return Some(name);
+    }
+    let n = digits(bytes);
+    if n == 0 {
+        return None;
+    }
+    Some(bytes.split_at(n))
+}
+
+/// The root of a lock name at the front, a global's name after its caret or a local's, and what is after it.
+#[tactic(auto, unfolding(crate::specs::Lexemes::root_at))]
+pub fn root(alloc: Global, bytes: &[u8]) -> Result<(Root, &[u8]), Failure<NotThere>>
+    ensures { Reads (λ x. (x.0, x.1.now)) result (root_at bytes.now) }
+{
+    let Some(after) = byte_of(b'^', bytes) else {
+        let (local, rest) = name(alloc, bytes)?;
+        return Ok((Root::Local(local), rest));
+    };
+    let (global, rest) = name(alloc, after)?;
+    Ok((Root::Global(global), rest))
+}
+
+/// The parts of the text of an entry, where it is one: a label that may be missing, a caret and a routine's name. It
+/// takes no memory.
+#[tactic(auto, unfolding(crate::specs::Lexemes::entry_of))]
+pub fn entry(text: &[u8]) -> Option<EntryText<'_>>
+    ensures { option_map (λ e. (e.label.now, e.routine.now)) result ≡ entry_of text.now }
+{
+    let (label, rest) = match label_text(text) {
+        Some(found) => found,
+        None => text.split_at(0),
+    };
+    let Some(after) = byte_of(b'^', rest) else {
+        return None;
+    };
+    if is_name(after) {
+        Some(EntryText {
+            label,
+            routine: after,
+        })
+    } else {
+        None
+    }
+}
