@@ -3,7 +3,7 @@ use Rattle.std.proofs.Common.{◌≡◌, ℕ, suc, List, [], ◌∷◌, length, 
 use Rattle.std.specs.Prelude.{Option, ◌&&◌, nat_le, not}
 use Rattle.std.proofs.lemmas.Bool.{cases_Bool}
 use Rattle.mlk_text.specs.Reading.{many, Many}
-use Rattle.mlk_text.specs.Lexemes.{byte_at, name_at}
+use Rattle.mlk_text.specs.Lexemes.{byte_at, name_at, label_at}
 use Rattle.mlk_text.proofs.Lexemes.{byte-is, byte-takes, name-behind}
 use Rattle.mlk_text.proofs.Readers.{then_some, pair_parts, with_some, Behind, behind-self, behind-one, behind_then, Exact, many_sound, many_behind, many_complete}
 use Rattle.mlk_expr.specs.Trees.{Tree, ActualTree, Given, ByRef, Missing}
@@ -12,7 +12,7 @@ use Rattle.mlk_expr.specs.declared.tree.Function.{Function}
 use Rattle.mlk_expr.specs.declared.scope.Allows.TheVariants.{NoTouches}
 use Rattle.mlk_expr.specs.declared.scope.Passing.TheVariants.{ByReference}
 use Rattle.mlk_expr.specs.Touches.{may_stand}
-use Rattle.mlk_expr.specs.Lexemes.{column_of, label_at, lent_at, is_missing, starts_reference}
+use Rattle.mlk_expr.specs.Lexemes.{column_of, lent_at, is_missing, starts_reference}
 use Rattle.mlk_expr.specs.Grammar.{has_subscript, asks_subscript}
 use Rattle.mlk_expr.proofs.Behind.{Quiet, Next, IsList, IsActual, IsActuals, IsArguments, IsChoice, IsCallee}
 use Rattle.mlk_expr.specs.Reading.{quietly, next, list_with, actual_by, actual_with, actuals_by, actuals_with, label_alone, label_in, routine_alone, routine_by, callee_by, callee_at, choice_with, others_by, name_and, arguments_by}

@@ -3,7 +3,7 @@
 -- texts says (Joined). `end` is the column of the line's end.
 use Rattle.std.specs.Prelude.{ℕ, zero, suc, ◌≡◌, ◌<◌, ◌≤◌, ◌⊎◌, Bool, true, false, List, [], ◌∷◌, ◌++◌, length, Option, Some, None}
 use Rattle.mlk_text.specs.Reading.{Many}
-use Rattle.mlk_text.specs.Lexemes.{byte_at, name_at, IsQuoted}
+use Rattle.mlk_text.specs.Lexemes.{byte_at, name_at, IsQuoted, label_at, word_at}
 use Rattle.mlk_text.specs.Numbers.{IsCanonical}
 use Rattle.mlk_text.specs.declared.operator.Op.{Op}
 use Rattle.mlk_expr.specs.declared.tree.Function.{Function}
@@ -11,8 +11,8 @@ use Rattle.mlk_expr.specs.Trees.{Tree, Lit, Free, LocalName, GlobalName, Special
 use Rattle.mlk_expr.specs.declared.scope.Allows.TheVariants.{NoTouches}
 use Rattle.mlk_expr.specs.Touches.{may_stand}
 use Rattle.mlk_expr.specs.Grammar.{chained, named, has_subscript, asks_subscript}
-use Rattle.mlk_expr.specs.Words.{word_at, special_of, function_of, is_select}
-use Rattle.mlk_expr.specs.Lexemes.{column_of, op_at, is_match, unary_of, numeral_at, count_at, pattern_codes_at, label_at, lent_at, starts_reference, is_missing, ends}
+use Rattle.mlk_expr.specs.Words.{special_of, function_of, is_select}
+use Rattle.mlk_expr.specs.Lexemes.{column_of, op_at, is_match, unary_of, numeral_at, count_at, pattern_codes_at, lent_at, starts_reference, is_missing, ends}
 
 -- after a comma
 abbrev pub Next : {A : Type 0} → (A → List ℕ → List ℕ → Type 0) → ℕ → A → List ℕ → List ℕ → Type 0

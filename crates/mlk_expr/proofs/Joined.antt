@@ -14,9 +14,9 @@ use Rattle.mlk_expr.specs.Spellings.{IsNumber, unary_text}
 use Rattle.mlk_expr.specs.Grammar.{IsChain, IsPlain, IsOperand, IsPattern, IsAtom, IsExpr, IsReference, IsActualList}
 use Rattle.mlk_expr.specs.Theorem.{ExprEnds, goes_on, ReferenceEnds, ListEnds, One}
 use Rattle.mlk_expr.proofs.Behind as behind
-use Rattle.mlk_expr.proofs.Runs.{behind_name}
+use Rattle.mlk_expr.proofs.Runs.{after_name}
 use Rattle.mlk_expr.proofs.OperatorSpelling.{unary-spelled}
-use Rattle.mlk_expr.proofs.NameSpelling.{name-spelled}
+use Rattle.mlk_text.proofs.Spelled.{name-spelled}
 use Rattle.mlk_expr.proofs.NumberSpelling.{number-spelled}
 use Rattle.mlk_expr.proofs.JoinedParts.{Joins}
 use Rattle.mlk_expr.proofs.JoinedArguments.{at-column, starts-front, actuals-apart, actuals-together}
@@ -73,10 +73,10 @@ quiet-from : (subs : List (ℕ × Tree)) (name ys : List ℕ) → ReferenceEnds 
 quiet-from [] name ys h same = elim (cases_Bool (goes_on ys)) [ inl e ↦ cc (rw e at h) | inr e ↦ e ]
 quiet-from (p ∷ subs) name ys h same = cc same
 
-ends-from : (end : ℕ) (Is : Tree → List ℕ → List ℕ → Type 0) (subs : List (ℕ × Tree)) (name m ys : List ℕ) → behind_name m ≡ true → behind.IsSubs end Is subs m ys → ReferenceEnds (LocalName name (subs_from subs)) ys
-ends-from end Is [] name m ys quiet (is, none) = go ys (subst (λ z. behind_name z ≡ true) is quiet) (subst (λ z. byte_at 40 z ≡ None) is none)
+ends-from : (end : ℕ) (Is : Tree → List ℕ → List ℕ → Type 0) (subs : List (ℕ × Tree)) (name m ys : List ℕ) → after_name m ≡ true → behind.IsSubs end Is subs m ys → ReferenceEnds (LocalName name (subs_from subs)) ys
+ends-from end Is [] name m ys quiet (is, none) = go ys (subst (λ z. after_name z ≡ true) is quiet) (subst (λ z. byte_at 40 z ≡ None) is none)
   where
-    go : (zs : List ℕ) → behind_name zs ≡ true → byte_at 40 zs ≡ None → (not (goes_on zs)) ≡ true
+    go : (zs : List ℕ) → after_name zs ≡ true → byte_at 40 zs ≡ None → (not (goes_on zs)) ≡ true
     go [] q n = refl
     go (b ∷ zs) q n = elim (cases_Bool (b == 40)) [ inl e ↦ cc (rw e at n) | inr e ↦ grind (arith, nat_tests) ]
 ends-from end Is (p ∷ subs) name m ys quiet list = refl

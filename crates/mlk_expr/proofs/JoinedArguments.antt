@@ -12,8 +12,8 @@ use Rattle.mlk_expr.specs.declared.scope.Allows.TheVariants.{NoTouches}
 use Rattle.mlk_expr.specs.Touches.{may_stand, Standing}
 use Rattle.mlk_expr.specs.Grammar.{AreNext, IsPlaced, IsSubs, IsActual, IsActuals, AreArguments, IsChoice, IsCallee}
 use Rattle.mlk_expr.proofs.Behind as behind
-use Rattle.mlk_expr.proofs.Runs.{behind_name, tame}
-use Rattle.mlk_expr.proofs.NameSpelling.{name-reads, name-spelled, label-reads, label-spelled}
+use Rattle.mlk_expr.proofs.Runs.{after_name, tame}
+use Rattle.mlk_text.proofs.Spelled.{name-reads, name-spelled, label-reads, label-spelled}
 use Rattle.mlk_expr.proofs.JoinedParts.{opens, Joins, moved, weaker, missing-ends, ends-tame, opens-more, list-apart, list-together, next-apart, next-together, next-missing, enclosed-behind}
 
 -- the column of a text with something after it
@@ -90,7 +90,7 @@ module _ (end : ℕ) (Is : Tree → List ℕ → List ℕ → Type 0) (Text : �
   actual-apart at Missing xs ys h (same, none, missing) = ([], same, refl)
   actual-apart at (Given t) xs ys h (one, none, missing) = j.apart at t xs ys h one
 
-  missing-name : (ys : List ℕ) → is_missing ys ≡ true → (behind_name ys ≡ true) × (lent_at ys ≡ None)
+  missing-name : (ys : List ℕ) → is_missing ys ≡ true → (after_name ys ≡ true) × (lent_at ys ≡ None)
   unfolding lent_at
   missing-name [] h = cc h
   missing-name (b ∷ ys) h = let no : (b == 46) ≡ false = grind (arith, nat_tests) in (grind (arith, nat_tests), rw no refl)
@@ -182,7 +182,7 @@ tame-caret [] h = refl
 tame-caret (b ∷ ys) h = let no : (b == 94) ≡ false = grind (arith, nat_tests) in rw no refl
 
 -- a call is followed by what is tame, or by its actuals
-pub callee-together : (label routine : Option (List ℕ)) (s ys : List ℕ) → IsCallee label routine s → behind_name ys ≡ true → byte_at 94 ys ≡ None → behind.IsCallee label routine (s ++ ys) ys
+pub callee-together : (label routine : Option (List ℕ)) (s ys : List ℕ) → IsCallee label routine s → after_name ys ≡ true → byte_at 94 ys ≡ None → behind.IsCallee label routine (s ++ ys) ys
 callee-together (Some label) None s ys (is, good) may none = (rw is (label-reads label ys good may), none)
 callee-together (Some label) (Some routine) s ys (is, good, name) may none =
     let whole : s ++ ys ≡ label ++ 94 ∷ (routine ++ ys) = ap (λ z. z ++ ys) is ∙ append_assoc label (94 ∷ routine) ys in

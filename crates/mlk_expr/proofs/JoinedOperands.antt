@@ -9,13 +9,14 @@ use Rattle.mlk_text.specs.Lexemes.{is_digit, is_letter, byte_at, name_at, double
 use Rattle.mlk_text.specs.Numbers.{are_digits, IsNumeral, IsCanonical}
 use Rattle.mlk_expr.specs.Trees.{Tree, Lit, Free, LocalName, GlobalName, SpecialName, Prefixed, Chain, PatternText, Func, Selected, BareCall, CallOf}
 use Rattle.mlk_expr.specs.Lexemes.{ends}
-use Rattle.mlk_expr.specs.Spellings.{IsName, IsNumber, unary_text}
+use Rattle.mlk_text.specs.Spellings.{IsName}
+use Rattle.mlk_expr.specs.Spellings.{IsNumber, unary_text}
 use Rattle.mlk_expr.specs.Grammar.{IsSubs, IsChoice, IsChain, IsPlain, IsOperand, IsPattern, IsAtom, named}
 use Rattle.mlk_expr.specs.Theorem.{goes_on}
 use Rattle.mlk_expr.proofs.Behind as behind
-use Rattle.mlk_expr.proofs.Runs.{behind_name, tame, tame-name, name-word}
+use Rattle.mlk_expr.proofs.Runs.{after_name, tame, tame-name, name-word}
 use Rattle.mlk_expr.proofs.OperatorSpelling.{unary-reads, unary-spelled}
-use Rattle.mlk_expr.proofs.NameSpelling.{name-reads, name-spelled, word-reads, word-spelled}
+use Rattle.mlk_text.proofs.Spelled.{name-parts, name-reads, name-spelled, word-reads, word-spelled}
 use Rattle.mlk_expr.proofs.NumberSpelling.{number-reads, number-spelled}
 use Rattle.mlk_expr.proofs.JoinedParts.{opens, Joins, JoinsPattern, moved, list-apart, list-together, chain-joins, chain-opens, enclosed-behind, quoted-behind}
 use Rattle.mlk_expr.proofs.JoinedPatterns.{pattern-joins}
@@ -38,7 +39,7 @@ pub goes-open : (ys : List ℕ) → goes_on ys ≡ false → byte_at 40 ys ≡ N
 goes-open [] h = refl
 goes-open (b ∷ ys) h = let no : (b == 40) ≡ false = grind (arith, nat_tests) in rw no refl
 
-goes-name : (ys : List ℕ) → goes_on ys ≡ false → behind_name ys ≡ true
+goes-name : (ys : List ℕ) → goes_on ys ≡ false → after_name ys ≡ true
 goes-name [] h = refl
 goes-name (b ∷ ys) h = grind (arith, nat_tests)
 
@@ -67,9 +68,9 @@ pub number-opens : (s : List ℕ) → IsNumber s → opens s ≡ true
 number-opens s (before, after, mantissa, exponent, n, e, is) = subst (λ z. opens z ≡ true) (sym is) (mantissa-opens before after mantissa exponent n)
 
 name-opens : (name rest : List ℕ) → IsName name → opens (name ++ rest) ≡ true
-name-opens [] rest h = absurd h
+name-opens [] rest h = cc h
 name-opens (b ∷ name) rest h =
-    let first = h.0 in
+    let first = (name-parts b name h).0 in
     let no : (b == 46) ≡ false = grind (arith, nat_tests) in
     let some : (is_digit b || is_letter b || (b == 37) || (b == 34) || (b == 94) || (b == 36) || (b == 40) || (b == 43) || (b == 45) || (b == 39)) ≡ true = grind (arith, nat_tests) in
     rw no some
@@ -92,8 +93,8 @@ module _ (end : ℕ) (Atom : Tree → List ℕ → List ℕ → Type 0) (Text : 
   chain-first = chain-opens end Atom Text a first-byte Pattern PatternOf p
 
   -- subscripts go on with no name
-  subs-name : (at : ℕ) (subs : List (ℕ × Tree)) (part ys : List ℕ) → IsSubs (IsChain Text PatternOf) at subs part → (subs ≡ [] → goes_on ys ≡ false) → behind_name (part ++ ys) ≡ true
-  subs-name at [] part ys is quiet = subst (λ z. behind_name (z ++ ys) ≡ true) (sym is) (goes-name ys (quiet refl))
+  subs-name : (at : ℕ) (subs : List (ℕ × Tree)) (part ys : List ℕ) → IsSubs (IsChain Text PatternOf) at subs part → (subs ≡ [] → goes_on ys ≡ false) → after_name (part ++ ys) ≡ true
+  subs-name at [] part ys is quiet = subst (λ z. after_name (z ++ ys) ≡ true) (sym is) (goes-name ys (quiet refl))
   subs-name at (q ∷ subs) part ys (inner, is, list, few) quiet = rw is refl
 
   quiet-open : (subs : List (ℕ × Tree)) (ys : List ℕ) → (subs ≡ [] → goes_on ys ≡ false) → subs ≡ [] → byte_at 40 ys ≡ None

@@ -13,8 +13,8 @@ use Rattle.mlk_expr.specs.Lexemes.{count_at, is_pattern_code, is_missing}
 use Rattle.mlk_expr.specs.Spellings.{IsCount}
 use Rattle.mlk_expr.specs.Grammar.{IsMatcher, AreAtoms, IsPattern}
 use Rattle.mlk_expr.proofs.Behind as behind
-use Rattle.mlk_expr.proofs.Runs.{behind_count, behind_word, tame, starts}
-use Rattle.mlk_expr.proofs.NameSpelling.{codes-reads, codes-spelled}
+use Rattle.mlk_expr.proofs.Runs.{after_count, after_word, tame, starts}
+use Rattle.mlk_expr.proofs.CodeSpelling.{codes-reads, codes-spelled}
 use Rattle.mlk_expr.proofs.NumberSpelling.{count-reads, count-spelled}
 use Rattle.mlk_expr.proofs.JoinedParts.{Joins, JoinsPattern, missing-ends, ends-tame, enclosed-behind, quoted-behind, list-apart, list-together}
 
@@ -79,7 +79,7 @@ on-ends [] h = refl
 on-ends (b ∷ ys) h = grind (arith, nat_tests)
 
 -- what ends them ends words
-ends-word : (ys : List ℕ) → ends_atom ys ≡ true → behind_word ys ≡ true
+ends-word : (ys : List ℕ) → ends_atom ys ≡ true → after_word ys ≡ true
 ends-word [] h = refl
 ends-word (b ∷ ys) h = grind (arith, nat_tests)
 
@@ -136,11 +136,11 @@ module _ (Near : List ℕ → List ℕ → List ℕ → Type 0) (Deep : List ℕ
       subst (λ l. ends_atom l ≡ true) (sym (ap (λ l. l ++ ys) is ∙ append_assoc count (matcher ++ rest) ys)) (on-ends (count ++ ((matcher ++ rest) ++ ys)) (count-first count ((matcher ++ rest) ++ ys) one))
 
   -- no count goes on with a matcher
-  matcher-count : (s zs : List ℕ) → IsMatcher Deep s → behind_count (s ++ zs) ≡ true
+  matcher-count : (s zs : List ℕ) → IsMatcher Deep s → after_count (s ++ zs) ≡ true
   matcher-count [] zs (inl (all, some)) = absurd (omega arith)
   matcher-count (b ∷ s) zs (inl (all, some)) = rw (code-count b (and_parts (is_pattern_code b) (list_all is_pattern_code s) all).0) refl
-  matcher-count s zs (inr (inl (value, (is, text)))) = subst (λ l. behind_count (l ++ zs) ≡ true) (sym is) refl
-  matcher-count s zs (inr (inr (inner, choices, is, list))) = subst (λ l. behind_count (l ++ zs) ≡ true) (sym is) refl
+  matcher-count s zs (inr (inl (value, (is, text)))) = subst (λ l. after_count (l ++ zs) ≡ true) (sym is) refl
+  matcher-count s zs (inr (inr (inner, choices, is, list))) = subst (λ l. after_count (l ++ zs) ≡ true) (sym is) refl
 
   -- a matcher is read where it ends
   matcher-together : (count s zs : List ℕ)

@@ -5,7 +5,7 @@ use Rattle.std.specs.List.{list_all}
 use Rattle.std.proofs.lemmas.Bool.{cases_Bool}
 use Rattle.mlk_text.specs.declared.operator.Op.{Op}
 use Rattle.mlk_text.specs.Reading.{◌>>=◌, with, put, many_by, many}
-use Rattle.mlk_text.specs.Lexemes.{byte_at, name_at, inside}
+use Rattle.mlk_text.specs.Lexemes.{byte_at, name_at, inside, word_at}
 use Rattle.mlk_expr.specs.declared.tree.Callee.{Callee}
 use Rattle.mlk_expr.specs.declared.tree.Function.{Function}
 use Rattle.mlk_expr.specs.declared.tree.Special.{Special}
@@ -17,7 +17,7 @@ use Rattle.mlk_expr.specs.declared.scope.Passing.{Passing}
 use Rattle.mlk_expr.specs.declared.scope.Passing.TheVariants.{ByReference, ByValue}
 use Rattle.mlk_expr.specs.Trees.{Tree, Lit, LocalName, GlobalName, Prefixed, PatternText, Func, Selected, CallOf, ActualTree, Given, ByRef, Missing, trees_from, subs_from, links_from, choices_from, actuals_from}
 use Rattle.mlk_expr.specs.Touches.{globals_may, calls_may, may_stand, trees_may, subs_may, links_may, choices_may, actual_may, actuals_may, passes, given_stand}
-use Rattle.mlk_expr.specs.Words.{word_at, special_of, function_of, is_select}
+use Rattle.mlk_expr.specs.Words.{special_of, function_of, is_select}
 use Rattle.mlk_expr.specs.Lexemes.{column_of, kind_of, op_at, is_match, numeral_at, lent_at, starts_reference, is_missing}
 use Rattle.mlk_expr.specs.Grammar.{chained, named, has_subscript, asks_subscript}
 use Rattle.mlk_expr.specs.Reading.{kept, where_may, number_by, number_of, next, list_with, at_most, right_by, linked, chain_with, placed, subs_by, subs_with, actual_by, actual_with, actuals_by, actuals_with, callee_at, call_by, call_with, choice_with, others_by, name_and, arguments_by, arguments_with, function_with, special_by, word_by, dollar_by, dollar_with, local_with, global_with, enclosed_with, atom_by, operand_with}

@@ -3,18 +3,17 @@ use Rattle.std.proofs.Common.{◌≡◌, ◌<◌, ℕ, ◌++◌, List, [], ◌�
 use Rattle.std.specs.Prelude.{Option, ◌==◌, ◌||◌, not}
 use Rattle.std.proofs.lemmas.Bool.{cases_Bool, and_parts}
 use Rattle.std.proofs.lemmas.Bool.Decides.{nat_tests}
-use Rattle.mlk_text.specs.Lexemes.{is_digit, is_letter, digits, byte_at, name_at, digits_at}
+use Rattle.mlk_text.specs.Lexemes.{is_digit, is_letter, digits, byte_at, name_at, digits_at, label_at, or_else}
 use Rattle.mlk_text.specs.Numbers.{are_digits}
 use Rattle.mlk_text.proofs.Lexemes.{name-behind}
 use Rattle.mlk_text.proofs.Readers.{Exact}
-use Rattle.mlk_expr.specs.Words.{or_else}
-use Rattle.mlk_expr.specs.Lexemes.{label_at}
-use Rattle.mlk_expr.specs.Spellings.{IsName, IsLabel}
+use Rattle.mlk_text.specs.Spellings.{IsName, IsLabel}
 use Rattle.mlk_expr.specs.Grammar.{IsCallee, IsNameText, IsLabelText, IsCalleeText}
 use Rattle.mlk_expr.specs.Theorem.{label_ends, LabelEnds, starts_caret, callee_ends, CalleeEnds}
 use Rattle.mlk_expr.proofs.Behind as behind
-use Rattle.mlk_expr.proofs.Runs.{stops, behind_name, digits-are, digits-length, cut-reads, cut-spelled}
-use Rattle.mlk_expr.proofs.NameSpelling.{name-reads, name-spelled, label-spelled, digit-no-name}
+use Rattle.mlk_text.proofs.Runs.{stops, cut-reads, cut-spelled}
+use Rattle.mlk_expr.proofs.Runs.{after_name, digits-are, digits-length}
+use Rattle.mlk_text.proofs.Spelled.{name-parts, name-reads, name-spelled, label-spelled, digit-no-name}
 use Rattle.mlk_expr.proofs.LexemeLemmas.{label-behind}
 use Rattle.mlk_expr.proofs.Arguments.{CalleeIs}
 use Rattle.mlk_expr.proofs.JoinedArguments.{callee-apart}
@@ -24,15 +23,15 @@ use Rattle.mlk_expr.proofs.Joined.{Same}
 name-digit : (b : ℕ) → (is_letter b || (b == 37)) ≡ true → is_digit b ≡ false
 name-digit b h = grind (arith, nat_tests)
 
-ends-name : (name ys : List ℕ) → IsName name → behind_name ys ≡ true → label_ends name ys ≡ true
-ends-name [] ys h stop = absurd h
+ends-name : (name ys : List ℕ) → IsName name → after_name ys ≡ true → label_ends name ys ≡ true
+ends-name [] ys h stop = cc h
 ends-name (d ∷ name) [] h stop = refl
-ends-name (d ∷ name) (b ∷ ys) h stop = rw (name-digit d h.0) stop
+ends-name (d ∷ name) (b ∷ ys) h stop = rw (name-digit d (name-parts d name h).0) stop
 
-name-ends : (name ys : List ℕ) → IsName name → label_ends name ys ≡ true → behind_name ys ≡ true
-name-ends [] ys h ends = absurd h
+name-ends : (name ys : List ℕ) → IsName name → label_ends name ys ≡ true → after_name ys ≡ true
+name-ends [] ys h ends = cc h
 name-ends (d ∷ name) [] h ends = refl
-name-ends (d ∷ name) (b ∷ ys) h ends = let letter = name-digit d h.0 in rw letter at ends
+name-ends (d ∷ name) (b ∷ ys) h ends = let letter = name-digit d (name-parts d name h).0 in rw letter at ends
 
 ends-digits : (ds ys : List ℕ) → are_digits ds ≡ true → stops is_digit ys ≡ true → label_ends ds ys ≡ true
 ends-digits [] ys all stop = refl

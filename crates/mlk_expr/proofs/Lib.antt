@@ -1,7 +1,7 @@
 pub mod Behind
 pub mod Runs
 pub mod OperatorSpelling
-pub mod NameSpelling
+pub mod CodeSpelling
 pub mod NumberSpelling
 pub mod JoinedParts
 pub mod JoinedArguments

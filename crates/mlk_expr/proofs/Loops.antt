@@ -6,18 +6,19 @@ use Rattle.mlk_text.specs.Reading.{◌>>=◌, with, put, many}
 use Rattle.mlk_text.specs.Lexemes.{byte_at}
 use Rattle.mlk_text.proofs.Lexemes.{byte-takes}
 use Rattle.mlk_text.proofs.Readers.{Exact, Takes, pair_parts, behind_length, many_fails}
-use Rattle.mlk_expr.specs.declared.refusal.Refusal.{Refusal}
-use Rattle.mlk_expr.specs.declared.refusal.Refusal.TheVariants.{OutOfMemory, Refused}
+use Rattle.mlk_text.specs.declared.failure.Failure.{Failure}
+use Rattle.mlk_expr.specs.declared.refusal.Offence.{Offence}
+use Rattle.mlk_text.specs.declared.failure.Failure.TheVariants.{OutOfMemory, Refused}
 use Rattle.mlk_expr.specs.Lexemes.{count_at}
 use Rattle.mlk_expr.specs.declared.scope.Allows.TheVariants.{Everything}
 use Rattle.mlk_expr.specs.Reading.{quietly, chain_with, at_most, matcher_by, some_atoms, pattern_at, operand_with, atom_at, rest_of}
 use Rattle.mlk_expr.proofs.Behind.{IsPattern, IsMatcher}
-use Rattle.mlk_expr.specs.Outcome.{Fails, IsRefused, IsLike}
+use Rattle.mlk_text.specs.Failures.{FailsOn, IsRefused, IsLike}
 use Rattle.mlk_expr.proofs.LexemeLemmas.{count-takes}
 use Rattle.mlk_expr.proofs.Parts.{matcher-exact, pattern-exact}
 
 pub loop_fails : {A B : Type 0} (head : List ℕ → Option (B × List ℕ)) (item : B → List ℕ → Option (A × List ℕ)) (front : List A) (n : ℕ) (xs : List ℕ) (whole : Option (List A × List ℕ))
-    (b : B) (m : List ℕ) (e : Refusal) → head xs ≡ Some (b, m) → Fails e (item b m) → length xs < n → put front (many head item n xs) ≡ whole → Fails e whole
+    (b : B) (m : List ℕ) (e : Failure Offence) → head xs ≡ Some (b, m) → FailsOn e (item b m) → length xs < n → put front (many head item n xs) ≡ whole → FailsOn e whole
 loop_fails head item front n xs whole b m OutOfMemory is one less h = tt
 loop_fails head item front n xs whole b m (Refused o) is one less h = many_fails head item front n xs whole b m is one less h
 
@@ -52,33 +53,33 @@ surplus {A = A} head item front (suc n) xs whole most b m is less full h = rw (s
     go None = refl
     go (Some a) = too_many front a.0 most (many head item n a.1) full
 
-pub with_fails : {A B : Type 0} (f : A → B) (e : Refusal) (o : Option (A × List ℕ)) → Fails e o → Fails e (with f o)
+pub with_fails : {A B : Type 0} (f : A → B) (e : Failure Offence) (o : Option (A × List ℕ)) → FailsOn e o → FailsOn e (with f o)
 with_fails f OutOfMemory o h = tt
 with_fails f (Refused r) o h = rw h refl
 
-pub like_fails : {A : Type 0} (e f : Refusal) (o : Option A) → IsLike e f → Fails e o → Fails f o
+pub like_fails : {A : Type 0} (e f : Failure Offence) (o : Option A) → IsLike e f → FailsOn e o → FailsOn f o
 like_fails OutOfMemory OutOfMemory o l h = tt
 like_fails OutOfMemory (Refused f) o l h = absurd l
 like_fails (Refused e) OutOfMemory o l h = absurd l
 like_fails (Refused e) (Refused f) o l h = h
 
-pub refused_fails : {A : Type 0} (e : Refusal) (o : Option A) → IsRefused e → o ≡ None → Fails e o
+pub refused_fails : {A : Type 0} (e : Failure Offence) (o : Option A) → IsRefused e → o ≡ None → FailsOn e o
 refused_fails OutOfMemory o h none = tt
 refused_fails (Refused r) o h none = none
 
-pub same_fails : {A : Type 0} (e : Refusal) (o p : Option A) → o ≡ p → Fails e o → Fails e p
+pub same_fails : {A : Type 0} (e : Failure Offence) (o p : Option A) → o ≡ p → FailsOn e o → FailsOn e p
 same_fails OutOfMemory o p is h = tt
 same_fails (Refused r) o p is h = sym is ∙ h
 
-pub then_fails : {A B : Type 0} (e : Refusal) (o : Option A) (f : A → Option B) → Fails e o → Fails e (o >>= f)
+pub then_fails : {A B : Type 0} (e : Failure Offence) (o : Option A) (f : A → Option B) → FailsOn e o → FailsOn e (o >>= f)
 then_fails OutOfMemory o f h = tt
 then_fails (Refused r) o f h = rw h refl
 
-pub rest_fails : {A : Type 0} (e : Refusal) (o : Option (A × List ℕ)) → Fails e o → Fails e (rest_of o)
+pub rest_fails : {A : Type 0} (e : Failure Offence) (o : Option (A × List ℕ)) → FailsOn e o → FailsOn e (rest_of o)
 rest_fails OutOfMemory o h = tt
 rest_fails (Refused r) o h = rw h refl
 
-pub from_rest : {A : Type 0} (e : Refusal) (o : Option (A × List ℕ)) → Fails e (rest_of o) → Fails e o
+pub from_rest : {A : Type 0} (e : Failure Offence) (o : Option (A × List ℕ)) → FailsOn e (rest_of o) → FailsOn e o
 from_rest OutOfMemory o h = tt
 from_rest (Refused r) None h = refl
 from_rest (Refused r) (Some p) h = cc h

@@ -9,7 +9,8 @@ use Rattle.mlk_text.specs.Numbers.{are_digits, IsNumeral}
 use Rattle.mlk_text.proofs.Lexemes.{byte-is}
 use Rattle.mlk_expr.specs.Lexemes.{point_len, signed_len, exponent_len, lacks_exponent, mantissa_len, numeral_at, count_len, count_at}
 use Rattle.mlk_expr.specs.Spellings.{IsSign, IsExponent, IsNumber, IsCount}
-use Rattle.mlk_expr.proofs.Runs.{stops, parted, cut-reads, cut-spelled, digits-length, digits-are, behind_count, tame, tame-count, count-digits}
+use Rattle.mlk_text.proofs.Runs.{stops, parted, cut-reads, cut-spelled}
+use Rattle.mlk_expr.proofs.Runs.{digits-length, digits-are, after_count, tame, tame-count, count-digits}
 
 -- the length of a count whose first digits are these
 count-length : (before rest : List ℕ) → are_digits before ≡ true → stops is_digit rest ≡ true
@@ -17,7 +18,7 @@ count-length : (before rest : List ℕ) → are_digits before ≡ true → stops
 count-length before rest all stop = rw (digits-length before rest all stop) (rw (drop-append_seam before rest) refl)
 
 -- no point stands here
-count-point : (ys : List ℕ) → behind_count ys ≡ true → byte_at 46 ys ≡ None
+count-point : (ys : List ℕ) → after_count ys ≡ true → byte_at 46 ys ≡ None
 count-point [] h = refl
 count-point (b ∷ ys) h = let e : (b == 46) ≡ false = grind (arith, nat_tests) in rw e refl
 
@@ -31,7 +32,7 @@ count-pointed : (before after ys : List ℕ) → are_digits before ≡ true → 
 count-pointed before after ys first second stop = count-length before (46 ∷ (after ++ ys)) first refl ∙ pointed-length before after ys second stop
 
 -- a count is read as far as it goes
-pub count-reads : (c ys : List ℕ) → IsCount c → behind_count ys ≡ true → count_at (c ++ ys) ≡ Some (c, ys)
+pub count-reads : (c ys : List ℕ) → IsCount c → after_count ys ≡ true → count_at (c ++ ys) ≡ Some (c, ys)
 unfolding count_at
 count-reads c ys (before, after, first, second, inl (is, some)) stop =
     let P : List ℕ → Type 0 = λ l. count_at (l ++ ys) ≡ Some (l, ys) in
@@ -68,7 +69,7 @@ unfolding mantissa_len
 mantissa-length before rest all stop = rw (digits-length before rest all stop) (rw (drop-append_seam before rest) refl)
 
 -- where no point stands, the digits are all
-point-none : (n : ℕ) (zs : List ℕ) → behind_count zs ≡ true → point_len n zs ≡ n
+point-none : (n : ℕ) (zs : List ℕ) → after_count zs ≡ true → point_len n zs ≡ n
 point-none n [] h = refl
 point-none n (b ∷ zs) h = let e : (b == 46) ≡ false = grind (arith, nat_tests) in rw e refl
 
@@ -81,7 +82,7 @@ point-some before after zs all stop some =
     rw none (pointed-length before after zs all stop)
 
 -- the length of a literal without its exponent
-numeral-length : (before after text zs : List ℕ) → IsNumeral before after text → behind_count zs ≡ true → mantissa_len (text ++ zs) ≡ length text
+numeral-length : (before after text zs : List ℕ) → IsNumeral before after text → after_count zs ≡ true → mantissa_len (text ++ zs) ≡ length text
 numeral-length before after text zs h stop = elim h.spelled [
   | inl e ↦
       let P : List ℕ → Type 0 = λ l. mantissa_len (l ++ zs) ≡ length l in
@@ -121,16 +122,16 @@ signed-length sign (d ∷ ds) ys (inr s) all some stop = elim s [
 
 -- what stands after the digits of a literal
 exponent-length : (exponent ys : List ℕ) → IsExponent exponent → tame ys ≡ true
-    → (exponent_len (exponent ++ ys) ≡ length exponent) × (lacks_exponent (exponent ++ ys) ≡ false) × (behind_count (exponent ++ ys) ≡ true)
+    → (exponent_len (exponent ++ ys) ≡ length exponent) × (lacks_exponent (exponent ++ ys) ≡ false) × (after_count (exponent ++ ys) ≡ true)
 exponent-length exponent ys (inl is) t =
-    let P : List ℕ → Type 0 = λ l. (exponent_len (l ++ ys) ≡ length l) × (lacks_exponent (l ++ ys) ≡ false) × (behind_count (l ++ ys) ≡ true) in
+    let P : List ℕ → Type 0 = λ l. (exponent_len (l ++ ys) ≡ length l) × (lacks_exponent (l ++ ys) ≡ false) × (after_count (l ++ ys) ≡ true) in
     subst P (sym is) (none ys t)
   where
-    none : (zs : List ℕ) → tame zs ≡ true → (exponent_len zs ≡ 0) × (lacks_exponent zs ≡ false) × (behind_count zs ≡ true)
+    none : (zs : List ℕ) → tame zs ≡ true → (exponent_len zs ≡ 0) × (lacks_exponent zs ≡ false) × (after_count zs ≡ true)
     none [] h = (refl, refl, refl)
     none (b ∷ zs) h = let e : (b == 69) ≡ false = grind (arith, nat_tests) in (rw e refl, rw e refl, tame-count (b ∷ zs) h)
 exponent-length exponent ys (inr (sign, ds, is, s, all, some)) t =
-    let P : List ℕ → Type 0 = λ l. (exponent_len (l ++ ys) ≡ length l) × (lacks_exponent (l ++ ys) ≡ false) × (behind_count (l ++ ys) ≡ true) in
+    let P : List ℕ → Type 0 = λ l. (exponent_len (l ++ ys) ≡ length l) × (lacks_exponent (l ++ ys) ≡ false) × (after_count (l ++ ys) ≡ true) in
     let size = signed-length sign ds ys s all some (count-digits ys (tame-count ys t)) in
     let whole = length-append sign ds in
     let other : (length (sign ++ ds) == 0) ≡ false = grind (arith, nat_tests) in

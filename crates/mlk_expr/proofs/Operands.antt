@@ -2,7 +2,7 @@
 use Rattle.std.proofs.Common.{◌≡◌, ℕ, zero, suc, List, [], ◌∷◌, Some, None, true, false, refl, sym, ap, ◌∙◌, subst, inl, inr}
 use Rattle.std.specs.Prelude.{Option}
 use Rattle.std.proofs.lemmas.Bool.{cases_Bool}
-use Rattle.mlk_text.specs.Lexemes.{byte_at, name_at, inside, IsQuoted}
+use Rattle.mlk_text.specs.Lexemes.{byte_at, name_at, inside, IsQuoted, word_at}
 use Rattle.mlk_text.specs.Canonical.{canonical_text}
 use Rattle.mlk_text.proofs.Lexemes.{byte-is, name-behind, quoted-sound, quoted-complete, quoted-behind}
 use Rattle.mlk_text.proofs.Readers.{then_some, pair_parts, with_some, Behind, behind-one, behind_then, Exact}
@@ -13,7 +13,7 @@ use Rattle.mlk_expr.specs.declared.lexeme.Kind.TheVariants as kind
 use Rattle.mlk_expr.specs.Trees.{Tree, Lit, Free, LocalName, GlobalName, SpecialName, Prefixed, Chain, PatternText, Func, Selected, BareCall, CallOf}
 use Rattle.mlk_expr.specs.declared.scope.Allows.TheVariants.{Everything}
 use Rattle.mlk_expr.specs.declared.scope.Passing.TheVariants.{ByReference}
-use Rattle.mlk_expr.specs.Words.{word_at, special_of, function_of, is_select}
+use Rattle.mlk_expr.specs.Words.{special_of, function_of, is_select}
 use Rattle.mlk_expr.specs.Lexemes.{column_of, kind_of, numeral_at}
 use Rattle.mlk_expr.specs.Grammar.{named}
 use Rattle.mlk_expr.proofs.Behind.{IsPattern, IsChain, IsPlain, IsOperand, IsAtom, IsChoice}

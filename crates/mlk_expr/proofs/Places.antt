@@ -4,14 +4,14 @@ use Rattle.std.specs.Prelude.{Option}
 use Rattle.std.proofs.Math.Seq.{drop-append_seam}
 use Rattle.std.proofs.lemmas.Bool.{cases_Bool}
 use Rattle.mlk_text.proofs.Readers.{then_some, pair_parts, Exact, one_reading, behind_length}
-use Rattle.mlk_expr.specs.declared.refusal.Refusal.{Refusal}
-use Rattle.mlk_expr.specs.declared.refusal.Refusal.TheVariants as refusal
-use Rattle.mlk_expr.specs.declared.fault.ReadError.{ReadError}
-use Rattle.mlk_expr.specs.declared.fault.ReadError.TheVariants as told
+use Rattle.mlk_text.specs.declared.failure.Failure.{Failure}
+use Rattle.mlk_expr.specs.declared.refusal.Offence.{Offence}
+use Rattle.mlk_text.specs.declared.failure.Failure.TheVariants.{OutOfMemory, Refused}
+use Rattle.mlk_text.specs.declared.fault.Fault.{Fault}
 use Rattle.mlk_expr.specs.Lexemes.{ends}
 use Rattle.mlk_expr.proofs.Behind.{IsExpr}
 use Rattle.mlk_expr.specs.Reading.{chain_with, atom_at, pattern_at, ended, expr_at}
-use Rattle.mlk_expr.specs.Outcome.{Fails, Tells}
+use Rattle.mlk_text.specs.Failures.{FailsOn, IsLike}
 use Rattle.mlk_expr.specs.Theorem.{Stands, Only, Refuses}
 use Rattle.mlk_expr.proofs.Operands.{expr-exact}
 use Rattle.mlk_expr.proofs.Joined.{Same}
@@ -72,9 +72,9 @@ module _ {A : Type 0} (read : ℕ → List ℕ → Option (A × List ℕ)) (Is :
       let p = one_reading (read (suc (length line))) (Is (suc (length line))) e b a (drop at line) rest ys (written less b text rest is one ended) (e.sound a (drop at line) ys h) in
       (p.0, p.1 ∙ sym (place-behind a ys h))
 
-  pub refuses : at ≤ length line → (r : Refusal) (t : ReadError) → Fails r (read (suc (length line)) (drop at line)) → Tells r t → Refuses Text Ends line at t
-  refuses less refusal.OutOfMemory told.OutOfMemory h g = tt
-  refuses less refusal.OutOfMemory (told.Refused f) h g = absurd g
-  refuses less (refusal.Refused o) told.OutOfMemory h g = tt
-  refuses less (refusal.Refused o) (told.Refused f) h g = λ b text rest is one ended.
+  pub refuses : at ≤ length line → (r : Failure Offence) (t : Failure Fault) → FailsOn r (read (suc (length line)) (drop at line)) → IsLike r t → Refuses Text Ends line at t
+  refuses less OutOfMemory OutOfMemory h g = tt
+  refuses less OutOfMemory (Refused f) h g = absurd g
+  refuses less (Refused o) OutOfMemory h g = tt
+  refuses less (Refused o) (Refused f) h g = λ b text rest is one ended.
       let bad = sym h ∙ e.complete b (drop at line) rest (written less b text rest is one ended) in cc bad

@@ -19,8 +19,9 @@ use Rattle.mlk_expr.specs.Trees.{Tree, Lit, Free, LocalName, GlobalName, Special
 use Rattle.mlk_expr.specs.Touches.{Standing, may_stand, trees_may, subs_may, links_may, choices_may, actual_may, actuals_may, subs_stand, given_stand}
 use Rattle.mlk_expr.specs.Lexemes.{column_of, kind_of, op_at, is_match, lent_at, is_missing, starts_reference, ends}
 use Rattle.mlk_expr.specs.Reading.{kept, quietly, chain_with, subs_with, local_with, global_with, right_by, actual_by, actual_with, pattern_at, operand_with, atom_at, atom_in, nested_at, nested_in, quiet, operand_in, ended, expr_at, expr_in, reference_at, reference_in, after_open, list_by, actual_list_at, actual_list_in}
-use Rattle.mlk_expr.specs.declared.fault.ReadError.{ReadError}
-use Rattle.mlk_expr.specs.declared.fault.ReadError.TheVariants.{OutOfMemory, Refused}
+use Rattle.mlk_text.specs.declared.failure.Failure.{Failure}
+use Rattle.mlk_text.specs.declared.fault.Fault.{Fault}
+use Rattle.mlk_text.specs.declared.failure.Failure.TheVariants.{OutOfMemory, Refused}
 use Rattle.mlk_expr.specs.Theorem.{Stands, Only, Refuses}
 use Rattle.mlk_expr.proofs.Behind as behind
 use Rattle.mlk_expr.proofs.Behind.{IsPattern, IsChain, IsAtom}
@@ -318,7 +319,7 @@ module _ {A : Type 0} (may : A → Bool) (all : (a : A) → may a ≡ true) (Is 
   pub only-freely : (a : A) (next : ℕ) → Only (Standing may Is) Ends line at a next → Only Is Ends line at a next
   only-freely a next o b text rest is one ended = o b text rest is (one, all b) ended
 
-  pub refuses-freely : (e : ReadError) → Refuses (Standing may Is) Ends line at e → Refuses Is Ends line at e
+  pub refuses-freely : (e : Failure Fault) → Refuses (Standing may Is) Ends line at e → Refuses Is Ends line at e
   refuses-freely OutOfMemory r = tt
   refuses-freely (Refused fault) r = λ b text rest is one ended. r b text rest is (one, all b) ended
 

@@ -9,8 +9,9 @@ use Rattle.mlk_expr.specs.declared.tree.Callee.{Callee}
 use Rattle.mlk_expr.specs.declared.tree.Function.{Function}
 use Rattle.mlk_expr.specs.declared.tree.Subscript.{Subscript}
 use Rattle.mlk_expr.specs.declared.lexeme.Kind.TheVariants as kind
-use Rattle.mlk_expr.specs.declared.refusal.Refusal.{Refusal}
-use Rattle.mlk_expr.specs.declared.refusal.Refusal.TheVariants.{OutOfMemory, Refused}
+use Rattle.mlk_text.specs.declared.failure.Failure.{Failure}
+use Rattle.mlk_expr.specs.declared.refusal.Offence.{Offence}
+use Rattle.mlk_text.specs.declared.failure.Failure.TheVariants.{OutOfMemory, Refused}
 use Rattle.mlk_expr.specs.Trees.{Tree, LocalName, GlobalName, CallOf, Func, ActualTree, subs_from, trees_from, actuals_from, sub_of}
 use Rattle.mlk_expr.specs.declared.scope.Allows.{Allows}
 use Rattle.mlk_expr.specs.declared.scope.Passing.TheVariants.{ByReference}
@@ -19,7 +20,7 @@ use Rattle.mlk_expr.specs.Words.{is_select, function_of}
 use Rattle.mlk_expr.specs.Lexemes.{column_of, kind_of, count_at, starts_reference}
 use Rattle.mlk_expr.specs.Grammar.{named, has_subscript, asks_subscript}
 use Rattle.mlk_expr.specs.Reading.{where_may, at_most, next, list_with, matcher_by, some_atoms, pattern_at, subs_with, local_with, global_with, chain_with, operand_with, others_by, callee_at, actuals_with, call_with, function_with, arguments_with}
-use Rattle.mlk_expr.specs.Outcome.{Fails}
+use Rattle.mlk_text.specs.Failures.{FailsOn}
 use Rattle.mlk_expr.proofs.Parts.{pattern-exact}
 use Rattle.mlk_expr.proofs.Loops.{pattern-above, at_most-some, at_most-is}
 
@@ -56,7 +57,7 @@ all-atoms None rest xs h = cc h
 all-atoms (Some ([], r)) rest xs h = let p = pair_parts (any []) true r rest h in cc (p.0)
 all-atoms (Some (c ∷ cs, r)) rest xs h = let p = pair_parts (any (c ∷ cs)) true r rest h in rw p.1 refl
 
-pub atoms-fail : (e : Refusal) (o : Option (List (List ℕ) × List ℕ)) (xs : List ℕ) → Fails e (with any o) → Fails e (o >>= some_atoms xs)
+pub atoms-fail : (e : Failure Offence) (o : Option (List (List ℕ) × List ℕ)) (xs : List ℕ) → FailsOn e (with any o) → FailsOn e (o >>= some_atoms xs)
 atoms-fail OutOfMemory o xs h = tt
 atoms-fail (Refused r) None xs h = refl
 atoms-fail (Refused r) (Some p) xs h = cc h
@@ -76,11 +77,11 @@ module _ (may : Bool) (end : ℕ) (item : List ℕ → Option (Tree × List ℕ)
   pub global-gives : (column : ℕ) (ss : List (ℕ × Tree)) (ys : List ℕ) → where_may may (name_at xs) ≡ Some (name, m) → subs_with end item m ≡ Some (ss, ys) → global_with may end column item xs ≡ Some (GlobalName column name (subs_from ss), ys)
   global-gives column ss ys n s = rw n (rw s refl)
 
-  pub local-fails : (e : Refusal) → name_at xs ≡ Some (name, m) → Fails e (subs_with end item m) → Fails e (local_with end item xs)
+  pub local-fails : (e : Failure Offence) → name_at xs ≡ Some (name, m) → FailsOn e (subs_with end item m) → FailsOn e (local_with end item xs)
   local-fails OutOfMemory n s = tt
   local-fails (Refused r) n s = rw n (rw s refl)
 
-  pub global-fails : (e : Refusal) (column : ℕ) → where_may may (name_at xs) ≡ Some (name, m) → Fails e (subs_with end item m) → Fails e (global_with may end column item xs)
+  pub global-fails : (e : Failure Offence) (column : ℕ) → where_may may (name_at xs) ≡ Some (name, m) → FailsOn e (subs_with end item m) → FailsOn e (global_with may end column item xs)
   global-fails OutOfMemory column n s = tt
   global-fails (Refused r) column n s = rw n (rw s refl)
 
@@ -98,8 +99,8 @@ pub call-listed : (may : Bool) (end : ℕ) (item : List ℕ → Option (Tree × 
 unfolding call_with
 call-listed may end item column xs callee m n given ys b f g h = rw b (rw f (rw g (rw h refl)))
 
-pub call-fails : (e : Refusal) (may : Bool) (end : ℕ) (item : List ℕ → Option (Tree × List ℕ)) (column : ℕ) (xs : List ℕ) (callee : Callee) (m n : List ℕ)
-    → may ≡ true → callee_at xs ≡ Some (callee, m) → byte_at 40 m ≡ Some (40, n) → Fails e (actuals_with ByReference end item n) → Fails e (call_with may end item column xs)
+pub call-fails : (e : Failure Offence) (may : Bool) (end : ℕ) (item : List ℕ → Option (Tree × List ℕ)) (column : ℕ) (xs : List ℕ) (callee : Callee) (m n : List ℕ)
+    → may ≡ true → callee_at xs ≡ Some (callee, m) → byte_at 40 m ≡ Some (40, n) → FailsOn e (actuals_with ByReference end item n) → FailsOn e (call_with may end item column xs)
 unfolding call_with
 call-fails OutOfMemory may end item column xs callee m n b f g h = tt
 call-fails (Refused r) may end item column xs callee m n b f g h = rw b (rw f (rw g (rw h refl)))
@@ -110,8 +111,8 @@ pub function-gives : (atom item quiet : List ℕ → Option (Tree × List ℕ)) 
 unfolding function_with
 function-gives atom item quiet w xs f ts ys s g h = rw s (rw g (rw h refl))
 
-pub function-fails : (e : Refusal) (atom item quiet : List ℕ → Option (Tree × List ℕ)) (w xs : List ℕ) (f : Function)
-    → is_select w ≡ false → function_of w ≡ Some f → Fails e (arguments_with atom item quiet f xs) → Fails e (function_with atom item quiet w xs)
+pub function-fails : (e : Failure Offence) (atom item quiet : List ℕ → Option (Tree × List ℕ)) (w xs : List ℕ) (f : Function)
+    → is_select w ≡ false → function_of w ≡ Some f → FailsOn e (arguments_with atom item quiet f xs) → FailsOn e (function_with atom item quiet w xs)
 unfolding function_with
 function-fails OutOfMemory atom item quiet w xs f s g h = tt
 function-fails (Refused r) atom item quiet w xs f s g h = rw s (rw g (rw h refl))
@@ -146,12 +147,12 @@ module _ {A : Type 0} (item : List ℕ → Option (A × List ℕ)) (most : ℕ) 
   others-none None h = refl
   others-none (Some o) h = closed o (byte_at 41 o.1) h
 
-  pub few-fail : (e : Refusal) → item xs ≡ Some (first, m) → Fails e (listed >>= at_most most) → Fails e (list_with item xs >>= at_most most)
+  pub few-fail : (e : Failure Offence) → item xs ≡ Some (first, m) → FailsOn e (listed >>= at_most most) → FailsOn e (list_with item xs >>= at_most most)
   unfolding list_with
   few-fail OutOfMemory one more = tt
   few-fail (Refused r) one more = rw one (others-none (many (byte_at 44) (next item) (suc (length m)) m) more)
 
-pub list-fails : {A : Type 0} (item : List ℕ → Option (A × List ℕ)) (most : ℕ) (xs : List ℕ) (e : Refusal) → Fails e (item xs) → Fails e (list_with item xs >>= at_most most)
+pub list-fails : {A : Type 0} (item : List ℕ → Option (A × List ℕ)) (most : ℕ) (xs : List ℕ) (e : Failure Offence) → FailsOn e (item xs) → FailsOn e (list_with item xs >>= at_most most)
 unfolding list_with
 list-fails item most xs OutOfMemory h = tt
 list-fails item most xs (Refused r) h = rw h refl
@@ -193,8 +194,8 @@ module _ (atom item quiet : List ℕ → Option (Tree × List ℕ)) (f : Functio
         cc (rw small at h)
   ]
 
-  pub arguments-fail : (e : Refusal) → named f ≡ Some most → starts_reference xs ≡ true → atom xs ≡ Some (first, m) → (asks_subscript f && not (has_subscript first)) ≡ false
-      → Fails e argued → Fails e (arguments_with atom item quiet f xs)
+  pub arguments-fail : (e : Failure Offence) → named f ≡ Some most → starts_reference xs ≡ true → atom xs ≡ Some (first, m) → (asks_subscript f && not (has_subscript first)) ≡ false
+      → FailsOn e argued → FailsOn e (arguments_with atom item quiet f xs)
   unfolding arguments_with
   arguments-fail OutOfMemory n starts one asks more = tt
   arguments-fail (Refused r) n starts one asks more = rw n (rw starts (rw one (rw asks (others-lack (many (byte_at 44) (next quiet) (suc (length m)) m) more))))

@@ -16,7 +16,8 @@ use Rattle.mlk_expr.specs.declared.scope.Passing.{Passing}
 use Rattle.mlk_expr.specs.Touches.{may_stand, subs_stand, given_stand, Standing}
 use Rattle.mlk_expr.specs.Words.{special_of, function_of, is_select}
 use Rattle.mlk_expr.specs.Lexemes.{is_match, starts_reference}
-use Rattle.mlk_expr.specs.Spellings.{IsName, IsLabel, IsWord, IsNumber, IsQuoted, IsCount, IsCodes, op_text, unary_text}
+use Rattle.mlk_text.specs.Spellings.{IsName, IsLabel, IsWord}
+use Rattle.mlk_expr.specs.Spellings.{IsNumber, IsQuoted, IsCount, IsCodes, op_text, unary_text}
 
 -- how a thing is written, where its text begins in this column
 abbrev pub Spelled : Type 0 → Type 1

@@ -1,7 +1,8 @@
 -- The smallest parts of expressions, each as long as it goes.
 use Rattle.std.specs.Prelude.{ℕ, suc, ◌+◌, ◌-◌, ◌==◌, ◌&&◌, ◌||◌, if◌then◌else◌, Bool, true, false, List, [], ◌∷◌}
 use Rattle.std.specs.Prelude.{length, Option, Some, None, take, drop}
-use Rattle.mlk_text.specs.Lexemes.{is_digit, is_letter, digits, byte_at, name_at, digits_at}
+use Rattle.std.specs.List.{prefix_len}
+use Rattle.mlk_text.specs.Lexemes.{is_digit, is_letter, or_else, digits, byte_at, name_at}
 use Rattle.mlk_text.specs.Reading.{with}
 use Rattle.mlk_text.specs.declared.operator.Op.{Op}
 use Rattle.mlk_text.specs.declared.operator.Op.TheVariants as op
@@ -11,7 +12,6 @@ use Rattle.mlk_text.specs.declared.operator.UnaryOp.{UnaryOp}
 use Rattle.mlk_text.specs.declared.operator.UnaryOp.TheVariants as unary
 use Rattle.mlk_expr.specs.declared.lexeme.Kind.{Kind}
 use Rattle.mlk_expr.specs.declared.lexeme.Kind.TheVariants as kind
-use Rattle.mlk_expr.specs.Words.{or_else}
 
 -- the column where xs begins, in a line whose end has this column
 abbrev pub column_of : ℕ → List ℕ → ℕ
@@ -150,16 +150,11 @@ is_pattern_code b =
     || (b == 97) || (b == 99) || (b == 101) || (b == 108) || (b == 110) || (b == 112) || (b == 117)
 
 abbrev pub pattern_codes : List ℕ → ℕ
-pattern_codes [] = 0
-pattern_codes (b ∷ xs) = if is_pattern_code b then suc (pattern_codes xs) else 0
+pattern_codes = prefix_len is_pattern_code
 
 -- Pattern codes, at least one. Standard: pattern match, patcode.
 unfoldable pub pattern_codes_at : List ℕ → Option (List ℕ × List ℕ)
 pattern_codes_at xs = let n = pattern_codes xs in if n == 0 then None else Some (take n xs, drop n xs)
-
--- A label: a name, or digits as they are written. Standard: label.
-unfoldable pub label_at : List ℕ → Option (List ℕ × List ℕ)
-label_at xs = or_else (name_at xs) (digits_at xs)
 
 -- a name after a point: an actual by reference
 abbrev pub lent_by : Option (ℕ × List ℕ) → Option (List ℕ × List ℕ)

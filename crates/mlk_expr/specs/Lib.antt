@@ -6,4 +6,3 @@ pub mod Spellings
 pub mod Grammar
 pub mod Reading
 pub mod Theorem
-pub mod Outcome

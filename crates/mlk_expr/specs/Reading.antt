@@ -2,7 +2,7 @@
 use Rattle.std.specs.Prelude.{ℕ, zero, suc, ◌-◌, ◌==◌, ◌&&◌, nat_le, if◌then◌else◌, Bool, true, false, not, List, []}
 use Rattle.std.specs.Prelude.{◌∷◌, length, Option, Some, None, take}
 use Rattle.mlk_text.specs.Reading.{◌>>=◌, with, many}
-use Rattle.mlk_text.specs.Lexemes.{byte_at, name_at, inside}
+use Rattle.mlk_text.specs.Lexemes.{byte_at, word_at, name_at, label_at, inside}
 use Rattle.mlk_text.specs.Canonical.{canonical_text}
 use Rattle.mlk_text.specs.declared.operator.Op.{Op}
 use Rattle.mlk_expr.specs.declared.tree.Callee.{Callee}
@@ -19,9 +19,9 @@ use Rattle.mlk_expr.specs.declared.scope.Scope.{Scope}
 use Rattle.mlk_expr.specs.declared.scope.Passing.{Passing}
 use Rattle.mlk_expr.specs.declared.scope.Passing.TheVariants.{ByReference}
 use Rattle.mlk_expr.specs.Touches.{globals_may, calls_may, may_stand, lends}
-use Rattle.mlk_expr.specs.Words.{word_at, special_of, function_of, is_select}
+use Rattle.mlk_expr.specs.Words.{special_of, function_of, is_select}
 use Rattle.mlk_expr.specs.Lexemes.{column_of, kind_of, op_at, is_match, numeral_at, count_at, pattern_codes_at}
-use Rattle.mlk_expr.specs.Lexemes.{label_at, lent_at, starts_reference, is_missing, ends}
+use Rattle.mlk_expr.specs.Lexemes.{lent_at, starts_reference, is_missing, ends}
 use Rattle.mlk_expr.specs.Grammar.{chained, named, has_subscript, asks_subscript}
 
 -- what reads something gives it with what is after it, or nothing

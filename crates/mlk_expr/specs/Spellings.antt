@@ -1,5 +1,5 @@
--- The smallest parts of expressions as they are written: names, labels, numbers, texts, pattern counts and operators.
-use Rattle.std.specs.Prelude.{ℕ, ◌≡◌, ◌≤◌, ◌<◌, ◌⊎◌, ◌==◌, ◌||◌, true, List, [], ◌∷◌, ◌++◌, length, codes}
+-- The smallest parts of expressions as they are written, but names, labels and words: numbers, texts, pattern counts and operators.
+use Rattle.std.specs.Prelude.{ℕ, ◌≡◌, ◌<◌, ◌⊎◌, true, List, [], ◌∷◌, ◌++◌, length, codes}
 use Rattle.std.specs.List.{list_all}
 use Rattle.mlk_text.specs.declared.operator.Op.{Op}
 use Rattle.mlk_text.specs.declared.operator.Op.TheVariants as op
@@ -7,23 +7,9 @@ use Rattle.mlk_text.specs.declared.operator.Relation.{Relation}
 use Rattle.mlk_text.specs.declared.operator.Relation.TheVariants as relation
 use Rattle.mlk_text.specs.declared.operator.UnaryOp.{UnaryOp}
 use Rattle.mlk_text.specs.declared.operator.UnaryOp.TheVariants as unary
-use Rattle.mlk_text.specs.Lexemes.{is_letter, is_name_byte, is_text, doubled}
+use Rattle.mlk_text.specs.Lexemes.{is_text, doubled}
 use Rattle.mlk_text.specs.Numbers.{are_digits, IsNumeral}
 use Rattle.mlk_expr.specs.Lexemes.{is_pattern_code}
-
--- A name: `%` or a letter, then letters and digits. Standard: name. That it has at most 31 characters is this
--- project's own choice.
-abbrev pub IsName : List ℕ → Type 0
-IsName [] = ⊥
-IsName (b ∷ more) = ((is_letter b || (b == 37)) ≡ true) × (list_all is_name_byte more ≡ true) × (length more ≤ 30)
-
--- A label: a name, or digits. Standard: label.
-abbrev pub IsLabel : List ℕ → Type 0
-IsLabel label = IsName label ⊎ ((are_digits label ≡ true) × (0 < length label))
-
--- letters alone
-abbrev pub IsWord : List ℕ → Type 0
-IsWord w = list_all is_letter w ≡ true
 
 -- nothing, or a sign
 abbrev pub IsSign : List ℕ → Type 0

@@ -7,8 +7,8 @@ use Rattle.mlk_text.specs.declared.fault.Fault.{Fault}
 use Rattle.mlk_expr.specs.declared.scope.Passing.{Passing}
 use Rattle.mlk_expr.specs.declared.tree.Callee.{Callee}
 use Rattle.mlk_expr.specs.Touches.{lends}
-use Rattle.mlk_expr.specs.declared.fault.ReadError.{ReadError}
-use Rattle.mlk_expr.specs.declared.fault.ReadError.TheVariants.{OutOfMemory, Refused}
+use Rattle.mlk_text.specs.declared.failure.Failure.{Failure}
+use Rattle.mlk_text.specs.declared.failure.Failure.TheVariants.{OutOfMemory, Refused}
 use Rattle.mlk_expr.specs.Trees.{Tree, ActualTree}
 use Rattle.mlk_expr.specs.Lexemes.{ends}
 use Rattle.mlk_expr.specs.Grammar.{has_subscript, IsExpr, IsReference, IsActualList}
@@ -66,7 +66,7 @@ Only {A = A} Is Ends line at a next = (b : A) (text rest : List ℕ) → drop at
     → Ends b rest → (b ≡ a) × (rest ≡ drop next line)
 
 -- Nothing of this kind stands here, unless memory ran out.
-abbrev pub Refuses : {A : Type 0} → (ℕ → A → List ℕ → Type 0) → (A → List ℕ → Type 0) → List ℕ → ℕ → ReadError → Type 0
+abbrev pub Refuses : {A : Type 0} → (ℕ → A → List ℕ → Type 0) → (A → List ℕ → Type 0) → List ℕ → ℕ → Failure Fault → Type 0
 Refuses Is Ends line at OutOfMemory = Unit {0}
 Refuses {A = A} Is Ends line at (Refused fault) = (a : A) (text rest : List ℕ) → drop at line ≡ text ++ rest
     → Is (suc at) a text → Ends a rest → ⊥
@@ -89,7 +89,7 @@ pub record IsFault (p : Passing) (line : List ℕ) (at : ℕ) (fault : Fault) : 
   pub after : min (suc at) greatest_column ≤ fault.place.column
   pub within : fault.place.column ≤ suc (length line)
 
-abbrev pub Faults : Passing → List ℕ → ℕ → ReadError → Type 0
+abbrev pub Faults : Passing → List ℕ → ℕ → Failure Fault → Type 0
 Faults p line at OutOfMemory = Unit {0}
 Faults p line at (Refused fault) = IsFault p line at fault
 

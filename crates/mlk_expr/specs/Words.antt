@@ -1,29 +1,15 @@
 -- The words after `$`, each in either case, short or whole: special variables and functions. Standard: special
 -- variables, functions. Which of them are read is this project's own choice.
-use Rattle.std.specs.Prelude.{ℕ, suc, ◌||◌, if◌then◌else◌, Bool, List, [], ◌∷◌, Option, Some, None, take, drop, codes}
+use Rattle.std.specs.Prelude.{ℕ, ◌||◌, if◌then◌else◌, Bool, List, Option, Some, None, codes}
 use Rattle.std.specs.Str.{str_eq_ignore_ascii_case}
-use Rattle.mlk_text.specs.Lexemes.{is_letter}
+use Rattle.mlk_text.specs.Lexemes.{or_else}
 use Rattle.mlk_expr.specs.declared.tree.Special.{Special}
 use Rattle.mlk_expr.specs.declared.tree.Special.TheVariants as special
 use Rattle.mlk_expr.specs.declared.tree.Function.{Function}
 use Rattle.mlk_expr.specs.declared.tree.Function.TheVariants as function
 
--- how many letters stand at the front
-abbrev pub letters : List ℕ → ℕ
-letters [] = 0
-letters (b ∷ xs) = if is_letter b then suc (letters xs) else 0
-
--- the letters at the front, as far as they go, and what is after them
-abbrev pub word_at : List ℕ → List ℕ × List ℕ
-word_at xs = (take (letters xs) xs, drop (letters xs) xs)
-
 abbrev pub is_either : List ℕ → List ℕ → List ℕ → Bool
 is_either short whole w = str_eq_ignore_ascii_case w short || str_eq_ignore_ascii_case w whole
-
--- what stands first
-abbrev pub or_else : {A : Type 0} → Option A → Option A → Option A
-or_else None other = other
-or_else (Some a) other = Some a
 
 -- special variables, in two tables
 unfoldable pub special_to_principal : List ℕ → Option Special

@@ -2,21 +2,13 @@
 
 ghost use Rattle.std.specs.Prelude.{◌≡◌, ◌≤◌, suc, min, length, true, is_some, ◌==◌};
 ghost use Rattle.mlk_text.specs.Codes.{number_of};
-ghost use Rattle.mlk_expr.specs.Outcome.{Tells};
+ghost use Rattle.mlk_text.specs.Failures.{IsLike};
 ghost use Rattle.mlk_expr.specs.Theorem.{greatest_column, may_tell, Faults};
 
-use crate::refusal::{Refusal, Wrong};
+use crate::refusal::{Offence, Wrong};
 use crate::scope::Passing;
-use mlk_text::{Code, Fault, LeftOut, Place, Value};
+use mlk_text::{Code, Failure, Fault, LeftOut, Place, Value};
 use std::alloc::Global;
-
-/// Why a part of a line was not read.
-#[derive(Drop, Debug)]
-pub enum ReadError {
-    OutOfMemory,
-    /// The fault's routine is empty, and its line is 1.
-    Refused(Fault),
-}
 
 // The code of what is wrong, and what is left out. A name by reference is refused only where it may not be passed.
 fn told(passing: Passing, wrong: Wrong) -> (Code, Option<LeftOut>)
@@ -51,19 +43,19 @@ pub(crate) fn located(
     passing: Passing,
     line: &[u8],
     at: usize,
-    refusal: Refusal,
-) -> ReadError
+    refusal: Failure<Offence>,
+) -> Failure<Fault>
     requires { at ≤ length line.now }
-    ensures tells { Tells refusal result }
+    ensures tells { IsLike refusal result }
     ensures placed { Faults passing line.now at result }
 {
     let offence = match refusal {
-        Refusal::OutOfMemory => return ReadError::OutOfMemory,
-        Refusal::Refused(offence) => offence,
+        Failure::OutOfMemory => return Failure::OutOfMemory,
+        Failure::Refused(offence) => offence,
     };
     let before = line.len().saturating_sub(offence.left).max(at);
     let (code, left_out) = told(passing, offence.wrong);
-    ReadError::Refused(Fault {
+    Failure::Refused(Fault {
         code,
         place: Place {
             routine: Value::new(Vec::new(alloc)),

@@ -187,12 +187,7 @@ fn pattern_codes(bytes: &[u8]) -> usize
     ensures value { result ≡ pattern_codes bytes.now }
     ensures within { result ≤ length bytes.now }
 {
-    for (i, b) in bytes.iter().enumerate() {
-        if !is_pattern_code(*b) {
-            return i;
-        }
-    }
-    bytes.len()
+    bytes.iter().take_while(|b| is_pattern_code(**b)).count()
 }
 
 /// The pattern codes at the front, and what is after them.

@@ -17,7 +17,6 @@ mod tests;
 mod tree;
 pub mod words;
 
-pub use fault::ReadError;
 pub use law::one_tree;
 pub use mlk_text::{Op, Relation, UnaryOp};
 pub use named::{read_callee, read_label, read_name};

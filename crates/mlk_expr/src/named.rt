@@ -5,15 +5,15 @@ ghost use Rattle.mlk_expr.specs.declared.scope.Passing.TheVariants.{ByReference}
 ghost use Rattle.mlk_expr.specs.Grammar.{IsNameText, IsLabelText, IsCalleeText};
 ghost use Rattle.mlk_expr.specs.Theorem.{LabelEnds, CalleeEnds, Stands, Only, Refuses, Faults};
 
-use crate::fault::{ReadError, located};
+use crate::fault::located;
 use crate::part::{callee, label, plain_name};
 use crate::scope::Passing;
 use crate::tree::Callee;
-use mlk_text::Name;
+use mlk_text::{Failure, Fault, Name};
 use std::alloc::Global;
 
 /// The name that begins at this byte of a line, and the byte after it.
-pub fn read_name(alloc: Global, line: &[u8], at: usize) -> Result<(Name, usize), ReadError>
+pub fn read_name(alloc: Global, line: &[u8], at: usize) -> Result<(Name, usize), Failure<Fault>>
     requires { at ≤ length line.now }
     ensures found { IfOk result (λ r. Stands IsNameText LabelEnds line.now at r.0 r.1) }
     ensures only { IfOk result (λ r. Only IsNameText LabelEnds line.now at r.0 r.1) }
@@ -28,7 +28,7 @@ pub fn read_name(alloc: Global, line: &[u8], at: usize) -> Result<(Name, usize),
 }
 
 /// The label that begins at this byte of a line, a name or digits, and the byte after it.
-pub fn read_label(alloc: Global, line: &[u8], at: usize) -> Result<(Name, usize), ReadError>
+pub fn read_label(alloc: Global, line: &[u8], at: usize) -> Result<(Name, usize), Failure<Fault>>
     requires { at ≤ length line.now }
     ensures found { IfOk result (λ r. Stands IsLabelText LabelEnds line.now at r.0 r.1) }
     ensures only { IfOk result (λ r. Only IsLabelText LabelEnds line.now at r.0 r.1) }
@@ -43,7 +43,7 @@ pub fn read_label(alloc: Global, line: &[u8], at: usize) -> Result<(Name, usize)
 }
 
 /// What a call names that begins at this byte of a line, and the byte after it.
-pub fn read_callee(alloc: Global, line: &[u8], at: usize) -> Result<(Callee, usize), ReadError>
+pub fn read_callee(alloc: Global, line: &[u8], at: usize) -> Result<(Callee, usize), Failure<Fault>>
     requires { at ≤ length line.now }
     ensures found { IfOk result (λ r. Stands IsCalleeText CalleeEnds line.now at r.0 r.1) }
     ensures only { IfOk result (λ r. Only IsCalleeText CalleeEnds line.now at r.0 r.1) }

@@ -1,38 +1,38 @@
 // The readers of the parts that hold no expression.
 
 ghost use Rattle.std.specs.Prelude.{◌≡◌, IfOk};
-ghost use Rattle.mlk_text.specs.Lexemes.{name_at, inside};
+ghost use Rattle.mlk_text.specs.Failures.{Reads, IsRefused};
+ghost use Rattle.mlk_text.specs.Lexemes.{name_at, label_at, inside};
 ghost use Rattle.mlk_text.specs.Reading.{with};
-ghost use Rattle.mlk_expr.specs.Lexemes.{numeral_at, label_at, lent_at};
+ghost use Rattle.mlk_expr.specs.Lexemes.{numeral_at, lent_at};
 ghost use Rattle.mlk_expr.specs.Trees.{Lit, tree_of};
 ghost use Rattle.mlk_expr.specs.Grammar.{named, has_subscript, asks_subscript};
 ghost use Rattle.mlk_expr.specs.Reading.{where_may, number_of, callee_at};
 ghost use Rattle.mlk_expr.specs.Touches.{globals_may};
-ghost use Rattle.mlk_expr.specs.Outcome.{Gives, IsRefused};
 
 use crate::numeral::numeral_at;
 use crate::refusal::{
-    Refusal, Wrong, no_global, no_label, no_name, no_number, no_routine, refused,
+    Offence, Wrong, no_global, no_label, no_name, no_number, no_routine, refused,
 };
 use crate::scope::Allows;
 use crate::tree::{Callee, Expr, Function};
-use mlk_text::lexeme::{self, ReadError, byte_of, digits, is_text_byte};
-use mlk_text::{Name, Value, canonical, literal};
+use mlk_text::lexeme::{byte_of, is_text_byte};
+use mlk_text::spelling::{label_text, name_text};
+use mlk_text::{Failure, Name, Value, canonical, literal};
 use std::alloc::{AllocError, Global};
 
 /// The name at the front, and what is after it.
-pub(crate) fn name(alloc: Global, bytes: &[u8]) -> Result<(Name, &[u8]), Refusal>
-    ensures { Gives (λ x. (x.0, x.1.now)) result (name_at bytes.now) }
+pub(crate) fn name(alloc: Global, bytes: &[u8]) -> Result<(Name, &[u8]), Failure<Offence>>
+    ensures { Reads (λ x. (x.0, x.1.now)) result (name_at bytes.now) }
 {
-    match lexeme::name(alloc, bytes) {
-        Ok((name, rest)) => Ok((name, rest)),
-        Err(ReadError::OutOfMemory) => Err(Refusal::OutOfMemory),
-        Err(ReadError::Refused) => Err(no_name(bytes)),
-    }
+    let Some((text, rest)) = name_text(bytes) else {
+        return Err(no_name(bytes));
+    };
+    Ok((Name::new(Vec::from_slice(alloc, text)?), rest))
 }
 
 // Why no text in quotes stands here, after the opening one: at a byte that can't stand in it, or at the line's end.
-fn no_text(bytes: &[u8]) -> Refusal
+fn no_text(bytes: &[u8]) -> Failure<Offence>
     ensures { IsRefused result }
 {
     for (i, b) in bytes.iter().enumerate() {
@@ -45,19 +45,19 @@ fn no_text(bytes: &[u8]) -> Refusal
 }
 
 /// The value up to the closing quote, and what is after it.
-pub(crate) fn quoted(alloc: Global, bytes: &[u8]) -> Result<(Value, &[u8]), Refusal>
-    ensures { Gives (λ x. (x.0, x.1.now)) result (inside bytes.now) }
+pub(crate) fn quoted(alloc: Global, bytes: &[u8]) -> Result<(Value, &[u8]), Failure<Offence>>
+    ensures { Reads (λ x. (x.0, x.1.now)) result (inside bytes.now) }
 {
     match literal::quoted(alloc, bytes) {
         Ok((value, rest)) => Ok((value, rest)),
-        Err(ReadError::OutOfMemory) => Err(Refusal::OutOfMemory),
-        Err(ReadError::Refused) => Err(no_text(bytes)),
+        Err(Failure::OutOfMemory) => Err(Failure::OutOfMemory),
+        Err(Failure::Refused(_)) => Err(no_text(bytes)),
     }
 }
 
 /// The text up to the closing quote, and what is after it.
-pub(crate) fn text(alloc: Global, bytes: &[u8]) -> Result<(Expr, &[u8]), Refusal>
-    ensures { Gives (λ x. (tree_of x.0, x.1.now)) result (with Lit (inside bytes.now)) }
+pub(crate) fn text(alloc: Global, bytes: &[u8]) -> Result<(Expr, &[u8]), Failure<Offence>>
+    ensures { Reads (λ x. (tree_of x.0, x.1.now)) result (with Lit (inside bytes.now)) }
 {
     let (value, rest) = quoted(alloc, bytes)?;
     Ok((Expr::Lit(value), rest))
@@ -74,8 +74,8 @@ fn number_of(alloc: Global, text: &[u8]) -> Result<Expr, AllocError>
 }
 
 /// The numeric literal at the front, and what is after it.
-pub(crate) fn number(alloc: Global, bytes: &[u8]) -> Result<(Expr, &[u8]), Refusal>
-    ensures { Gives (λ x. (tree_of x.0, x.1.now)) result (with number_of (numeral_at bytes.now)) }
+pub(crate) fn number(alloc: Global, bytes: &[u8]) -> Result<(Expr, &[u8]), Failure<Offence>>
+    ensures { Reads (λ x. (tree_of x.0, x.1.now)) result (with number_of (numeral_at bytes.now)) }
 {
     let Some((text, rest)) = numeral_at(bytes) else {
         return Err(no_number(bytes));
@@ -84,50 +84,45 @@ pub(crate) fn number(alloc: Global, bytes: &[u8]) -> Result<(Expr, &[u8]), Refus
 }
 
 /// The same where what is left out is told.
-pub(crate) fn plain_name(alloc: Global, bytes: &[u8]) -> Result<(Name, &[u8]), Refusal>
-    ensures { Gives (λ x. (x.0, x.1.now)) result (name_at bytes.now) }
+pub(crate) fn plain_name(alloc: Global, bytes: &[u8]) -> Result<(Name, &[u8]), Failure<Offence>>
+    ensures { Reads (λ x. (x.0, x.1.now)) result (name_at bytes.now) }
 {
     match name(alloc, bytes) {
         Ok((name, rest)) => Ok((name, rest)),
-        Err(Refusal::OutOfMemory) => Err(Refusal::OutOfMemory),
-        Err(Refusal::Refused(_)) => Err(no_label(bytes)),
+        Err(Failure::OutOfMemory) => Err(Failure::OutOfMemory),
+        Err(Failure::Refused(_)) => Err(no_label(bytes)),
     }
 }
 
 /// The label at the front, and what is after it.
-#[tactic(auto, unfolding(crate::specs::Lexemes::label_at, mlk_text::specs::Lexemes::digits_at))]
-pub(crate) fn label(alloc: Global, bytes: &[u8]) -> Result<(Name, &[u8]), Refusal>
-    ensures { Gives (λ x. (x.0, x.1.now)) result (label_at bytes.now) }
+pub(crate) fn label(alloc: Global, bytes: &[u8]) -> Result<(Name, &[u8]), Failure<Offence>>
+    ensures { Reads (λ x. (x.0, x.1.now)) result (label_at bytes.now) }
 {
-    match name(alloc, bytes) {
-        Ok((name, rest)) => Ok((name, rest)),
-        Err(Refusal::OutOfMemory) => Err(Refusal::OutOfMemory),
-        Err(Refusal::Refused(_)) => {
-            let n = digits(bytes);
-            if n == 0 {
-                return Err(no_label(bytes));
-            }
-            let (text, rest) = bytes.split_at(n);
-            Ok((Name::new(Vec::from_slice(alloc, text)?), rest))
-        }
-    }
+    let Some((text, rest)) = label_text(bytes) else {
+        return Err(no_label(bytes));
+    };
+    Ok((Name::new(Vec::from_slice(alloc, text)?), rest))
 }
 
 // The name of a routine after its caret, at which the whole begins, and what is after it.
-fn routine<'a>(alloc: Global, whole: &[u8], bytes: &'a [u8]) -> Result<(Name, &'a [u8]), Refusal>
-    ensures { Gives (λ x. (x.0, x.1.now)) result (name_at bytes.now) }
+fn routine<'a>(
+    alloc: Global,
+    whole: &[u8],
+    bytes: &'a [u8],
+) -> Result<(Name, &'a [u8]), Failure<Offence>>
+    ensures { Reads (λ x. (x.0, x.1.now)) result (name_at bytes.now) }
 {
     match name(alloc, bytes) {
         Ok((name, rest)) => Ok((name, rest)),
-        Err(Refusal::OutOfMemory) => Err(Refusal::OutOfMemory),
-        Err(Refusal::Refused(_)) => Err(no_routine(whole, bytes)),
+        Err(Failure::OutOfMemory) => Err(Failure::OutOfMemory),
+        Err(Failure::Refused(_)) => Err(no_routine(whole, bytes)),
     }
 }
 
 /// What a call names, after `$$`, and what is after it.
 #[tactic(auto, unfolding(crate::specs::Reading::callee_at))]
-pub(crate) fn callee(alloc: Global, bytes: &[u8]) -> Result<(Callee, &[u8]), Refusal>
-    ensures { Gives (λ x. (x.0, x.1.now)) result (callee_at bytes.now) }
+pub(crate) fn callee(alloc: Global, bytes: &[u8]) -> Result<(Callee, &[u8]), Failure<Offence>>
+    ensures { Reads (λ x. (x.0, x.1.now)) result (callee_at bytes.now) }
 {
     if let Some(after) = byte_of(b'^', bytes) {
         let (routine, rest) = routine(alloc, bytes, after)?;
@@ -157,16 +152,16 @@ pub(crate) fn global_name<'a>(
     allows: Allows,
     whole: &[u8],
     bytes: &'a [u8],
-) -> Result<(Name, &'a [u8]), Refusal>
-    ensures { Gives (λ x. (x.0, x.1.now)) result (where_may (globals_may allows) (name_at bytes.now)) }
+) -> Result<(Name, &'a [u8]), Failure<Offence>>
+    ensures { Reads (λ x. (x.0, x.1.now)) result (where_may (globals_may allows) (name_at bytes.now)) }
 {
     if !allows.globals() {
         return Err(no_global(allows, whole, bytes));
     }
     match name(alloc, bytes) {
         Ok((name, rest)) => Ok((name, rest)),
-        Err(Refusal::OutOfMemory) => Err(Refusal::OutOfMemory),
-        Err(Refusal::Refused(_)) => Err(no_global(allows, whole, bytes)),
+        Err(Failure::OutOfMemory) => Err(Failure::OutOfMemory),
+        Err(Failure::Refused(_)) => Err(no_global(allows, whole, bytes)),
     }
 }
 

@@ -5,18 +5,23 @@ ghost use Rattle.mlk_text.specs.Lexemes.{byte_at};
 ghost use Rattle.mlk_text.specs.Reading.{with, many, put};
 ghost use Rattle.mlk_expr.specs.Lexemes.{count_at};
 ghost use Rattle.mlk_expr.specs.Reading.{next, list_with, matcher_by, some_atoms, pattern_at, rest_of};
-ghost use Rattle.mlk_expr.specs.Outcome.{Gives};
+ghost use Rattle.mlk_text.specs.Failures.{Reads};
 
 use crate::lexeme::{count_at, pattern_codes_at};
 use crate::part::quoted;
-use crate::refusal::{Refusal, Wrong, no_operand, refused, too_deep_pattern};
+use crate::refusal::{Offence, Wrong, no_operand, refused, too_deep_pattern};
+use mlk_text::Failure;
 use mlk_text::lexeme::byte_of;
 use std::alloc::Global;
 
 /// The pattern at the front, as it is written, and what is after it; its alternatives nest so deep at most.
 #[cycle(patterns)]
-pub(crate) fn pattern(alloc: Global, left: u8, bytes: &[u8]) -> Result<(&[u8], &[u8]), Refusal>
-    ensures { Gives (λ x. (x.0.now, x.1.now)) result (pattern_at left bytes.now) }
+pub(crate) fn pattern(
+    alloc: Global,
+    left: u8,
+    bytes: &[u8],
+) -> Result<(&[u8], &[u8]), Failure<Offence>>
+    ensures { Reads (λ x. (x.0.now, x.1.now)) result (pattern_at left bytes.now) }
 {
     if left == 0 {
         return Err(too_deep_pattern(bytes));
@@ -31,8 +36,8 @@ pub(crate) fn pattern(alloc: Global, left: u8, bytes: &[u8]) -> Result<(&[u8], &
 
 // All pattern atoms at the front: whether there is one, and what is after them.
 #[cycle(patterns)]
-fn atoms(alloc: Global, deeper: u8, bytes: &[u8]) -> Result<(bool, &[u8]), Refusal>
-    ensures { Gives (λ x. (x.0, x.1.now)) result
+fn atoms(alloc: Global, deeper: u8, bytes: &[u8]) -> Result<(bool, &[u8]), Failure<Offence>>
+    ensures { Reads (λ x. (x.0, x.1.now)) result
         (with (λ l. nat_lt 0 (length l))
         (many count_at (matcher_by (pattern_at deeper)) (suc (length bytes.now)) bytes.now)) }
 {
@@ -52,8 +57,8 @@ fn matcher<'a>(
     deeper: u8,
     count: &[u8],
     bytes: &'a [u8],
-) -> Result<&'a [u8], Refusal>
-    ensures { Gives (λ x. (count.now, x.now)) result (matcher_by (pattern_at deeper) count.now bytes.now) }
+) -> Result<&'a [u8], Failure<Offence>>
+    ensures { Reads (λ x. (count.now, x.now)) result (matcher_by (pattern_at deeper) count.now bytes.now) }
 {
     let Some((first, after)) = bytes.split_first() else {
         return Err(refused(Wrong::Form, bytes));
@@ -75,8 +80,8 @@ fn matcher<'a>(
 // One or more patterns with commas between them, after an opening parenthesis: what is after the closing one.
 #[tactic(auto, unfolding(crate::specs::Reading::list_with))]
 #[cycle(patterns)]
-fn alternatives(alloc: Global, deeper: u8, bytes: &[u8]) -> Result<&[u8], Refusal>
-    ensures { Gives (λ x. x.now) result (rest_of (list_with (pattern_at deeper) bytes.now)) }
+fn alternatives(alloc: Global, deeper: u8, bytes: &[u8]) -> Result<&[u8], Failure<Offence>>
+    ensures { Reads (λ x. x.now) result (rest_of (list_with (pattern_at deeper) bytes.now)) }
 {
     let (_, rest) = pattern(alloc, deeper, bytes)?;
     let rest = alternatives_rest(alloc, deeper, rest)?;
@@ -87,8 +92,8 @@ fn alternatives(alloc: Global, deeper: u8, bytes: &[u8]) -> Result<&[u8], Refusa
 }
 
 #[cycle(patterns)]
-fn alternatives_rest(alloc: Global, deeper: u8, bytes: &[u8]) -> Result<&[u8], Refusal>
-    ensures { Gives (λ x. x.now) result
+fn alternatives_rest(alloc: Global, deeper: u8, bytes: &[u8]) -> Result<&[u8], Failure<Offence>>
+    ensures { Reads (λ x. x.now) result
         (rest_of (many (byte_at 44) (next (pattern_at deeper)) (suc (length bytes.now)) bytes.now)) }
 {
     let mut rest = bytes;

@@ -5,27 +5,28 @@ ghost use Rattle.mlk_expr.specs.Trees.{tree_of, actual_trees};
 ghost use Rattle.mlk_expr.specs.Grammar.{IsExpr, IsReference, IsActualList};
 ghost use Rattle.mlk_expr.specs.Grammar.{IsExprWhere, IsReferenceWhere, IsActualListWhere};
 ghost use Rattle.mlk_expr.specs.Reading.{expr_in, reference_in, actual_list_in};
-ghost use Rattle.mlk_expr.specs.Outcome.{Gives};
+ghost use Rattle.mlk_text.specs.Failures.{Reads};
 ghost use Rattle.mlk_expr.specs.Theorem.{ExprEnds, ReferenceEnds, ListEnds, Stands, Only, Refuses, Faults};
 ghost use Rattle.mlk_expr.specs.declared.scope.Passing.TheVariants.{ByReference};
 
-use crate::fault::{ReadError, located};
+use crate::fault::located;
 use crate::lexeme::{column_of, may_end, starts_reference};
 use crate::part::global_name;
 use crate::read::actuals::actuals;
 use crate::read::chain;
 use crate::read::names::{local, subscripts};
-use crate::refusal::{Refusal, Wrong, no_end, no_operand, refused};
+use crate::refusal::{Offence, Wrong, no_end, no_operand, refused};
 use crate::scope::{Allows, Passing, Scope};
 use crate::tree::{Actual, Expr};
 use mlk_text::lexeme::byte_of;
+use mlk_text::{Failure, Fault};
 use std::alloc::Global;
 
 const DEEPEST: u8 = 64;
 
 #[tactic(auto, unfolding(crate::specs::Reading::expr_in))]
-fn expr(alloc: Global, scope: Scope, bytes: &[u8]) -> Result<(Expr, &[u8]), Refusal>
-    ensures { Gives (λ x. (tree_of x.0, x.1.now)) result (expr_in scope bytes.now) }
+fn expr(alloc: Global, scope: Scope, bytes: &[u8]) -> Result<(Expr, &[u8]), Failure<Offence>>
+    ensures { Reads (λ x. (tree_of x.0, x.1.now)) result (expr_in scope bytes.now) }
 {
     let (tree, rest) = chain(alloc, scope, bytes)?;
     if !may_end(rest) {
@@ -35,8 +36,8 @@ fn expr(alloc: Global, scope: Scope, bytes: &[u8]) -> Result<(Expr, &[u8]), Refu
 }
 
 #[tactic(auto, unfolding(crate::specs::Reading::reference_in))]
-fn reference(alloc: Global, scope: Scope, bytes: &[u8]) -> Result<(Expr, &[u8]), Refusal>
-    ensures { Gives (λ x. (tree_of x.0, x.1.now)) result (reference_in scope bytes.now) }
+fn reference(alloc: Global, scope: Scope, bytes: &[u8]) -> Result<(Expr, &[u8]), Failure<Offence>>
+    ensures { Reads (λ x. (tree_of x.0, x.1.now)) result (reference_in scope bytes.now) }
 {
     if let Some(after) = byte_of(b'^', bytes) {
         let (name, rest) = global_name(alloc, Allows::Everything, bytes, after)?;
@@ -55,8 +56,8 @@ fn actual_list(
     scope: Scope,
     passing: Passing,
     bytes: &[u8],
-) -> Result<(Vec<Actual>, &[u8]), Refusal>
-    ensures { Gives (λ x. (actual_trees x.0.items, x.1.now)) result (actual_list_in passing scope bytes.now) }
+) -> Result<(Vec<Actual>, &[u8]), Failure<Offence>>
+    ensures { Reads (λ x. (actual_trees x.0.items, x.1.now)) result (actual_list_in passing scope bytes.now) }
 {
     let Some(after) = byte_of(b'(', bytes) else {
         return Err(refused(Wrong::Form, bytes));
@@ -65,7 +66,7 @@ fn actual_list(
 }
 
 /// The expression that begins at this byte of a line, and the byte after it.
-pub fn read_expr(alloc: Global, line: &[u8], at: usize) -> Result<(Expr, usize), ReadError>
+pub fn read_expr(alloc: Global, line: &[u8], at: usize) -> Result<(Expr, usize), Failure<Fault>>
     requires { at ≤ length line.now }
     ensures found { IfOk result (λ r. Stands IsExpr ExprEnds line.now at (tree_of r.0) r.1) }
     ensures only { IfOk result (λ r. Only IsExpr ExprEnds line.now at (tree_of r.0) r.1) }
@@ -81,7 +82,7 @@ pub fn read_expr_where(
     allows: Allows,
     line: &[u8],
     at: usize,
-) -> Result<(Expr, usize), ReadError>
+) -> Result<(Expr, usize), Failure<Fault>>
     requires { at ≤ length line.now }
     ensures found { IfOk result (λ r. Stands (IsExprWhere allows) ExprEnds line.now at (tree_of r.0) r.1) }
     ensures only { IfOk result (λ r. Only (IsExprWhere allows) ExprEnds line.now at (tree_of r.0) r.1) }
@@ -101,7 +102,7 @@ pub fn read_expr_where(
 }
 
 /// The local or global name with its subscripts that begins at this byte of a line, and the byte after it.
-pub fn read_ref(alloc: Global, line: &[u8], at: usize) -> Result<(Expr, usize), ReadError>
+pub fn read_ref(alloc: Global, line: &[u8], at: usize) -> Result<(Expr, usize), Failure<Fault>>
     requires { at ≤ length line.now }
     ensures found { IfOk result (λ r. Stands IsReference ReferenceEnds line.now at (tree_of r.0) r.1) }
     ensures only { IfOk result (λ r. Only IsReference ReferenceEnds line.now at (tree_of r.0) r.1) }
@@ -117,7 +118,7 @@ pub fn read_ref_where(
     allows: Allows,
     line: &[u8],
     at: usize,
-) -> Result<(Expr, usize), ReadError>
+) -> Result<(Expr, usize), Failure<Fault>>
     requires { at ≤ length line.now }
     ensures found { IfOk result (λ r. Stands (IsReferenceWhere allows) ReferenceEnds line.now at (tree_of r.0) r.1) }
     ensures only { IfOk result (λ r. Only (IsReferenceWhere allows) ReferenceEnds line.now at (tree_of r.0) r.1) }
@@ -141,7 +142,7 @@ pub fn read_actuals(
     alloc: Global,
     line: &[u8],
     at: usize,
-) -> Result<(Vec<Actual>, usize), ReadError>
+) -> Result<(Vec<Actual>, usize), Failure<Fault>>
     requires { at ≤ length line.now }
     ensures found { IfOk result (λ r. Stands IsActualList ListEnds line.now at (actual_trees r.0.items) r.1) }
     ensures only { IfOk result (λ r. Only IsActualList ListEnds line.now at (actual_trees r.0.items) r.1) }
@@ -158,7 +159,7 @@ pub fn read_actuals_where(
     passing: Passing,
     line: &[u8],
     at: usize,
-) -> Result<(Vec<Actual>, usize), ReadError>
+) -> Result<(Vec<Actual>, usize), Failure<Fault>>
     requires { at ≤ length line.now }
     ensures found { IfOk result
         (λ r. Stands (IsActualListWhere allows passing) ListEnds line.now at (actual_trees r.0.items) r.1) }

@@ -5,7 +5,7 @@ ghost use Rattle.mlk_text.specs.Reading.{with, many};
 ghost use Rattle.mlk_expr.specs.Lexemes.{op_at, is_match};
 ghost use Rattle.mlk_expr.specs.Trees.{Prefixed, tree_of, links};
 ghost use Rattle.mlk_expr.specs.Reading.{nested_in, pattern_at, right_by, linked, enclosed_with, operand_in, atom_in};
-ghost use Rattle.mlk_expr.specs.Outcome.{Gives};
+ghost use Rattle.mlk_text.specs.Failures.{Reads};
 
 pub mod actuals;
 mod functions;
@@ -16,18 +16,22 @@ use crate::part::{number, text};
 use crate::pattern::pattern;
 use crate::read::functions::dollar;
 use crate::read::names::{global, local};
-use crate::refusal::{Refusal, Wrong, no_end, no_operand, refused, too_deep};
+use crate::refusal::{Offence, Wrong, no_end, no_operand, refused, too_deep};
 use crate::scope::Scope;
 use crate::tree::Expr;
 use mlk_text::lexeme::byte_of;
-use mlk_text::{Op, UnaryOp, Value};
+use mlk_text::{Failure, Op, UnaryOp, Value};
 use std::alloc::Global;
 
 /// The expression at the front that nests so deep at most, and what is after it.
 #[tactic(auto, unfolding(crate::specs::Reading::chain_with))]
 #[cycle(reading)]
-pub(crate) fn chain(alloc: Global, scope: Scope, bytes: &[u8]) -> Result<(Expr, &[u8]), Refusal>
-    ensures { Gives (λ x. (tree_of x.0, x.1.now)) result (nested_in scope bytes.now) }
+pub(crate) fn chain(
+    alloc: Global,
+    scope: Scope,
+    bytes: &[u8],
+) -> Result<(Expr, &[u8]), Failure<Offence>>
+    ensures { Reads (λ x. (tree_of x.0, x.1.now)) result (nested_in scope bytes.now) }
 {
     let (first, rest) = atom(alloc, scope, bytes)?;
     let (links, rest) = chain_rest(alloc, scope, rest)?;
@@ -42,8 +46,8 @@ fn chain_rest(
     alloc: Global,
     scope: Scope,
     bytes: &[u8],
-) -> Result<(Vec<(Op, Expr)>, &[u8]), Refusal>
-    ensures { Gives (λ x. (links x.0.items, x.1.now)) result
+) -> Result<(Vec<(Op, Expr)>, &[u8]), Failure<Offence>>
+    ensures { Reads (λ x. (links x.0.items, x.1.now)) result
         (many op_at (linked (atom_in scope) (pattern_at scope.left)) (suc (length bytes.now)) bytes.now) }
 {
     let mut found = Vec::new(alloc);
@@ -58,8 +62,13 @@ fn chain_rest(
 
 // What stands after an operator.
 #[cycle(reading)]
-fn right(alloc: Global, scope: Scope, op: Op, after: &[u8]) -> Result<(Expr, &[u8]), Refusal>
-    ensures { Gives (λ x. (tree_of x.0, x.1.now)) result
+fn right(
+    alloc: Global,
+    scope: Scope,
+    op: Op,
+    after: &[u8],
+) -> Result<(Expr, &[u8]), Failure<Offence>>
+    ensures { Reads (λ x. (tree_of x.0, x.1.now)) result
         (right_by (atom_in scope) (pattern_at scope.left) (is_match op) after.now) }
 {
     if is_match(op) {
@@ -74,8 +83,8 @@ fn right(alloc: Global, scope: Scope, op: Op, after: &[u8]) -> Result<(Expr, &[u
 
 // An expression and a closing parenthesis.
 #[cycle(reading)]
-fn enclosed(alloc: Global, scope: Scope, bytes: &[u8]) -> Result<(Expr, &[u8]), Refusal>
-    ensures { Gives (λ x. (tree_of x.0, x.1.now)) result (enclosed_with (nested_in scope) bytes.now) }
+fn enclosed(alloc: Global, scope: Scope, bytes: &[u8]) -> Result<(Expr, &[u8]), Failure<Offence>>
+    ensures { Reads (λ x. (tree_of x.0, x.1.now)) result (enclosed_with (nested_in scope) bytes.now) }
 {
     let (inner, rest) = chain(alloc, scope, bytes)?;
     let Some(rest) = byte_of(b')', rest) else {
@@ -91,16 +100,16 @@ fn prefixed(
     scope: Scope,
     op: UnaryOp,
     bytes: &[u8],
-) -> Result<(Expr, &[u8]), Refusal>
-    ensures { Gives (λ x. (tree_of x.0, x.1.now)) result (with (Prefixed op) (atom_in scope bytes.now)) }
+) -> Result<(Expr, &[u8]), Failure<Offence>>
+    ensures { Reads (λ x. (tree_of x.0, x.1.now)) result (with (Prefixed op) (atom_in scope bytes.now)) }
 {
     let (operand, rest) = atom(alloc, scope, bytes)?;
     Ok((Expr::Unary(op, Box::new(alloc, operand)?), rest))
 }
 
 #[cycle(reading)]
-fn operand(alloc: Global, scope: Scope, bytes: &[u8]) -> Result<(Expr, &[u8]), Refusal>
-    ensures { Gives (λ x. (tree_of x.0, x.1.now)) result (operand_in scope bytes.now) }
+fn operand(alloc: Global, scope: Scope, bytes: &[u8]) -> Result<(Expr, &[u8]), Failure<Offence>>
+    ensures { Reads (λ x. (tree_of x.0, x.1.now)) result (operand_in scope bytes.now) }
 {
     let Some((first, after)) = bytes.split_first() else {
         return Err(refused(Wrong::Form, bytes));
@@ -119,8 +128,12 @@ fn operand(alloc: Global, scope: Scope, bytes: &[u8]) -> Result<(Expr, &[u8]), R
 
 /// The operand at the front that nests so deep at most, and what is after it.
 #[cycle(reading)]
-pub(crate) fn atom(alloc: Global, scope: Scope, bytes: &[u8]) -> Result<(Expr, &[u8]), Refusal>
-    ensures { Gives (λ x. (tree_of x.0, x.1.now)) result (atom_in scope bytes.now) }
+pub(crate) fn atom(
+    alloc: Global,
+    scope: Scope,
+    bytes: &[u8],
+) -> Result<(Expr, &[u8]), Failure<Offence>>
+    ensures { Reads (λ x. (tree_of x.0, x.1.now)) result (atom_in scope bytes.now) }
 {
     if scope.left == 0 {
         return Err(too_deep(scope.allows, bytes));

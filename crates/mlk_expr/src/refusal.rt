@@ -1,17 +1,15 @@
 // Why nothing was read, and where.
 
 ghost use Rattle.std.specs.Prelude.{◌≡◌};
-ghost use Rattle.mlk_expr.specs.Outcome.{IsRefused, IsLike};
-ghost use Rattle.mlk_expr.specs.declared.refusal.Refusal.TheVariants.{OutOfMemory};
+ghost use Rattle.mlk_text.specs.Failures.{IsRefused, IsLike};
 
 use crate::lexeme::{Kind, count_at, kind_of};
 use crate::numeral::mantissa_len;
 use crate::scope::Allows;
 use crate::tree::{Actual, Expr};
-use crate::words::{function_of, is_select, special_of, word_at};
-use mlk_text::LeftOut;
-use mlk_text::lexeme::{byte_of, is_digit};
-use std::alloc::{AllocError, AllocFailed};
+use crate::words::{function_of, is_select, special_of};
+use mlk_text::lexeme::{byte_of, is_digit, word_at};
+use mlk_text::{Failure, LeftOut};
 
 /// What is wrong.
 #[derive(Drop, Debug)]
@@ -32,47 +30,24 @@ pub struct Offence {
     pub left: usize,
 }
 
-/// Why nothing was read.
-#[derive(Drop, Debug)]
-pub enum Refusal {
-    OutOfMemory,
-    Refused(Offence),
-}
-
-impl From<AllocError> for Refusal {
-    ghost from_gives = { λ _ e. e ≡ OutOfMemory };
-
-    fn from(_e: AllocError) -> Refusal {
-        Refusal::OutOfMemory
-    }
-}
-
-impl<T: Drop> From<AllocFailed<T>> for Refusal {
-    ghost from_gives = { λ _ e. e ≡ OutOfMemory };
-
-    fn from(_e: AllocFailed<T>) -> Refusal {
-        Refusal::OutOfMemory
-    }
-}
-
 /// A fault where these bytes begin.
-pub(crate) fn refused(wrong: Wrong, bytes: &[u8]) -> Refusal
+pub(crate) fn refused(wrong: Wrong, bytes: &[u8]) -> Failure<Offence>
     ensures { IsRefused result }
 {
-    Refusal::Refused(Offence {
+    Failure::Refused(Offence {
         wrong,
         left: bytes.len(),
     })
 }
 
-fn leaves_out(what: LeftOut, bytes: &[u8]) -> Refusal
+fn leaves_out(what: LeftOut, bytes: &[u8]) -> Failure<Offence>
     ensures { IsRefused result }
 {
     refused(Wrong::LeftOut(what), bytes)
 }
 
 /// Why no name stands here: it is too long, or there is none.
-pub(crate) fn no_name(bytes: &[u8]) -> Refusal
+pub(crate) fn no_name(bytes: &[u8]) -> Failure<Offence>
     ensures { IsRefused result }
 {
     let Some((first, _)) = bytes.split_first() else {
@@ -93,7 +68,7 @@ fn after_sign(bytes: &[u8]) -> &[u8] {
 }
 
 /// Why no number stands here, at the byte that should be a digit.
-pub(crate) fn no_number(bytes: &[u8]) -> Refusal
+pub(crate) fn no_number(bytes: &[u8]) -> Failure<Offence>
     ensures { IsRefused result }
 {
     let (_, rest) = bytes.split_at(mantissa_len(bytes));
@@ -107,7 +82,7 @@ pub(crate) fn no_number(bytes: &[u8]) -> Refusal
 }
 
 /// Why an expression neither goes on nor ends here: after `'` a relation is asked for.
-pub(crate) fn no_end(bytes: &[u8]) -> Refusal
+pub(crate) fn no_end(bytes: &[u8]) -> Failure<Offence>
     ensures { IsRefused result }
 {
     match byte_of(b'\'', bytes) {
@@ -117,24 +92,24 @@ pub(crate) fn no_end(bytes: &[u8]) -> Refusal
 }
 
 /// Why no actual stands here, where an expression is refused so: after a point stands neither a name nor a digit.
-pub(crate) fn no_actual(refusal: Refusal, bytes: &[u8]) -> Refusal
+pub(crate) fn no_actual(refusal: Failure<Offence>, bytes: &[u8]) -> Failure<Offence>
     ensures { IsLike refusal result }
 {
-    let Refusal::Refused(offence) = refusal else {
-        return Refusal::OutOfMemory;
+    let Failure::Refused(offence) = refusal else {
+        return Failure::OutOfMemory;
     };
     let Some(after) = byte_of(b'.', bytes) else {
-        return Refusal::Refused(offence);
+        return Failure::Refused(offence);
     };
     match after.first().copied() {
         Some(b'@') => leaves_out(LeftOut::Indirection, after),
-        Some(first) if is_digit(first) => Refusal::Refused(offence),
+        Some(first) if is_digit(first) => Failure::Refused(offence),
         _ => no_name(after),
     }
 }
 
 /// Why arguments of which the first is a name neither go on nor end after these.
-pub(crate) fn no_arguments_end(args: &[Expr], bytes: &[u8]) -> Refusal
+pub(crate) fn no_arguments_end(args: &[Expr], bytes: &[u8]) -> Failure<Offence>
     ensures { IsRefused result }
 {
     if args.len() == 1 {
@@ -144,7 +119,7 @@ pub(crate) fn no_arguments_end(args: &[Expr], bytes: &[u8]) -> Refusal
 }
 
 /// Why actuals neither go on nor end after these.
-pub(crate) fn no_actuals_end(given: &[Actual], bytes: &[u8]) -> Refusal
+pub(crate) fn no_actuals_end(given: &[Actual], bytes: &[u8]) -> Failure<Offence>
     ensures { IsRefused result }
 {
     match given.last() {
@@ -154,7 +129,7 @@ pub(crate) fn no_actuals_end(given: &[Actual], bytes: &[u8]) -> Refusal
 }
 
 /// Why no global stands here, after its caret, at which the whole begins.
-pub(crate) fn no_global(allows: Allows, whole: &[u8], after: &[u8]) -> Refusal
+pub(crate) fn no_global(allows: Allows, whole: &[u8], after: &[u8]) -> Failure<Offence>
     ensures { IsRefused result }
 {
     match after.first().copied() {
@@ -168,14 +143,14 @@ pub(crate) fn no_global(allows: Allows, whole: &[u8], after: &[u8]) -> Refusal
 }
 
 /// A call where none may stand, from its `$$`.
-pub(crate) fn no_call(whole: &[u8]) -> Refusal
+pub(crate) fn no_call(whole: &[u8]) -> Failure<Offence>
     ensures { IsRefused result }
 {
     leaves_out(LeftOut::Order, whole)
 }
 
 /// Why no label stands here.
-pub(crate) fn no_label(bytes: &[u8]) -> Refusal
+pub(crate) fn no_label(bytes: &[u8]) -> Failure<Offence>
     ensures { IsRefused result }
 {
     match bytes.first().copied() {
@@ -185,7 +160,7 @@ pub(crate) fn no_label(bytes: &[u8]) -> Refusal
 }
 
 /// Why no name of a routine stands here, after its caret, at which the whole begins.
-pub(crate) fn no_routine(whole: &[u8], after: &[u8]) -> Refusal
+pub(crate) fn no_routine(whole: &[u8], after: &[u8]) -> Failure<Offence>
     ensures { IsRefused result }
 {
     match after.first().copied() {
@@ -195,7 +170,7 @@ pub(crate) fn no_routine(whole: &[u8], after: &[u8]) -> Refusal
 }
 
 /// Why no function and no special variable stands here, after its `$`.
-pub(crate) fn no_word(bytes: &[u8], after: &[u8]) -> Refusal
+pub(crate) fn no_word(bytes: &[u8], after: &[u8]) -> Failure<Offence>
     ensures { IsRefused result }
 {
     if let Some(b'&') = after.first().copied() {
@@ -212,7 +187,7 @@ pub(crate) fn no_word(bytes: &[u8], after: &[u8]) -> Refusal
 }
 
 /// Why no function of this word stands here, from its `$`.
-pub(crate) fn no_function(bytes: &[u8], word: &[u8]) -> Refusal
+pub(crate) fn no_function(bytes: &[u8], word: &[u8]) -> Failure<Offence>
     ensures { IsRefused result }
 {
     match bytes.split_first() {
@@ -222,7 +197,7 @@ pub(crate) fn no_function(bytes: &[u8], word: &[u8]) -> Refusal
 }
 
 /// Why no operand and no pattern begins here.
-pub(crate) fn no_operand(bytes: &[u8]) -> Refusal
+pub(crate) fn no_operand(bytes: &[u8]) -> Failure<Offence>
     ensures { IsRefused result }
 {
     match bytes.first().copied() {
@@ -232,7 +207,7 @@ pub(crate) fn no_operand(bytes: &[u8]) -> Refusal
 }
 
 /// Why a pattern here would be too deep; that it begins with no count comes before that.
-pub(crate) fn too_deep_pattern(bytes: &[u8]) -> Refusal
+pub(crate) fn too_deep_pattern(bytes: &[u8]) -> Failure<Offence>
     ensures { IsRefused result }
 {
     match count_at(bytes) {
@@ -254,7 +229,7 @@ fn is_left_out(after: &[u8]) -> bool {
 }
 
 /// Why an operand here would be too deep; another fault of its first byte comes before that.
-pub(crate) fn too_deep(allows: Allows, bytes: &[u8]) -> Refusal
+pub(crate) fn too_deep(allows: Allows, bytes: &[u8]) -> Failure<Offence>
     ensures { IsRefused result }
 {
     let Some((first, after)) = bytes.split_first() else {

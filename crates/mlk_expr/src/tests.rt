@@ -7,7 +7,7 @@ mod operators;
 mod order;
 mod words;
 
-use crate::{Actual, Expr, ReadError, read_actuals, read_expr, read_ref};
+use crate::{Actual, Expr, read_actuals, read_expr, read_ref};
 use std::alloc::Global;
 use std::process::Abort;
 use std::test::Fail;
@@ -27,8 +27,8 @@ pub(crate) fn next_of(alloc: Global, text: &[u8]) -> Option<usize> {
 }
 
 // Whether this is the fault, in an empty routine's line 1; a fault that leaves nothing out has the empty word.
-pub(crate) fn is_fault(error: &ReadError, number: u16, column: u32, word: &[u8]) -> bool {
-    let ReadError::Refused(fault) = error else {
+pub(crate) fn is_fault(error: &Failure<Fault>, number: u16, column: u32, word: &[u8]) -> bool {
+    let Failure::Refused(fault) = error else {
         return false;
     };
     let same_word = match &fault.left_out {

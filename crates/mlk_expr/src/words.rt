@@ -1,31 +1,11 @@
 // The words after `$`.
 
-ghost use Rattle.std.specs.Prelude.{◌≡◌, ◌≤◌, length};
-ghost use Rattle.mlk_expr.specs.Words.{letters, word_at, is_either, special_to_principal, special_from_quit};
+ghost use Rattle.std.specs.Prelude.{◌≡◌};
+ghost use Rattle.mlk_expr.specs.Words.{is_either, special_to_principal, special_from_quit};
 ghost use Rattle.mlk_expr.specs.Words.{special_of, function_to_fnumber, function_to_piece, function_from_qlength};
 ghost use Rattle.mlk_expr.specs.Words.{function_of, is_select};
 
 use crate::tree::{Function, Special};
-use mlk_text::lexeme::is_letter;
-
-fn letters(bytes: &[u8]) -> usize
-    ensures value { result ≡ letters bytes.now }
-    ensures within { result ≤ length bytes.now }
-{
-    for (i, b) in bytes.iter().enumerate() {
-        if !is_letter(*b) {
-            return i;
-        }
-    }
-    bytes.len()
-}
-
-/// The letters at the front, and what is after them.
-pub fn word_at(bytes: &[u8]) -> (&[u8], &[u8])
-    ensures { (result.0.now, result.1.now) ≡ word_at bytes.now }
-{
-    bytes.split_at(letters(bytes))
-}
 
 /// Whether a word is this one, short or whole, in either case.
 pub fn is_either(short: &[u8], whole: &[u8], word: &[u8]) -> bool

@@ -7,14 +7,15 @@ ghost use Rattle.mlk_expr.specs.Lexemes.{column_of};
 ghost use Rattle.mlk_expr.specs.Trees.{tree_of, actual_of, actual_trees};
 ghost use Rattle.mlk_expr.specs.Reading.{next, nested_in, list_with, actual_with, actuals_with, call_with};
 ghost use Rattle.mlk_expr.specs.Touches.{calls_may};
-ghost use Rattle.mlk_expr.specs.Outcome.{Gives};
+ghost use Rattle.mlk_text.specs.Failures.{Reads};
 
 use crate::lexeme::{column_of, is_missing};
 use crate::part::{callee, name};
 use crate::read::chain;
-use crate::refusal::{Refusal, Wrong, no_actual, no_actuals_end, no_call, refused};
+use crate::refusal::{Offence, Wrong, no_actual, no_actuals_end, no_call, refused};
 use crate::scope::{Passing, Scope};
 use crate::tree::{Actual, Expr};
+use mlk_text::Failure;
 use mlk_text::lexeme::byte_of;
 use std::alloc::Global;
 
@@ -25,8 +26,8 @@ fn actual(
     scope: Scope,
     passing: Passing,
     bytes: &[u8],
-) -> Result<(Actual, &[u8]), Refusal>
-    ensures { Gives (λ x. (actual_of x.0, x.1.now)) result
+) -> Result<(Actual, &[u8]), Failure<Offence>>
+    ensures { Reads (λ x. (actual_of x.0, x.1.now)) result
         (actual_with passing scope.end (nested_in scope) bytes.now) }
 {
     if let Some(after) = byte_of(b'.', bytes) {
@@ -35,8 +36,8 @@ fn actual(
             Ok((name, rest)) => {
                 return Ok((Actual::ByRef(column_of(scope.end, bytes), name), rest));
             }
-            Err(Refusal::OutOfMemory) => return Err(Refusal::OutOfMemory),
-            Err(Refusal::Refused(_)) => {}
+            Err(Failure::OutOfMemory) => return Err(Failure::OutOfMemory),
+            Err(Failure::Refused(_)) => {}
         }
     }
     if is_missing(bytes) {
@@ -56,8 +57,8 @@ fn some_actuals(
     scope: Scope,
     passing: Passing,
     bytes: &[u8],
-) -> Result<(Vec<Actual>, &[u8]), Refusal>
-    ensures { Gives (λ x. (actual_trees x.0.items, x.1.now)) result
+) -> Result<(Vec<Actual>, &[u8]), Failure<Offence>>
+    ensures { Reads (λ x. (actual_trees x.0.items, x.1.now)) result
         (list_with (actual_with passing scope.end (nested_in scope)) bytes.now) }
 {
     let (first, rest) = actual(alloc, scope, passing, bytes)?;
@@ -76,8 +77,8 @@ pub(crate) fn actuals(
     scope: Scope,
     passing: Passing,
     bytes: &[u8],
-) -> Result<(Vec<Actual>, &[u8]), Refusal>
-    ensures { Gives (λ x. (actual_trees x.0.items, x.1.now)) result
+) -> Result<(Vec<Actual>, &[u8]), Failure<Offence>>
+    ensures { Reads (λ x. (actual_trees x.0.items, x.1.now)) result
         (actuals_with passing scope.end (nested_in scope) bytes.now) }
 {
     if let Some(rest) = byte_of(b')', bytes) {
@@ -93,8 +94,8 @@ fn actuals_rest(
     passing: Passing,
     first: Actual,
     bytes: &[u8],
-) -> Result<(Vec<Actual>, &[u8]), Refusal>
-    ensures { Gives (λ x. (actual_trees x.0.items, x.1.now)) result
+) -> Result<(Vec<Actual>, &[u8]), Failure<Offence>>
+    ensures { Reads (λ x. (actual_trees x.0.items, x.1.now)) result
         (put (actual_of first ∷ [])
         (many (byte_at 44) (next (actual_with passing scope.end (nested_in scope)))
         (suc (length bytes.now)) bytes.now)) }
@@ -118,8 +119,8 @@ pub(crate) fn call<'a>(
     scope: Scope,
     whole: &[u8],
     bytes: &'a [u8],
-) -> Result<(Expr, &'a [u8]), Refusal>
-    ensures { Gives (λ x. (tree_of x.0, x.1.now)) result
+) -> Result<(Expr, &'a [u8]), Failure<Offence>>
+    ensures { Reads (λ x. (tree_of x.0, x.1.now)) result
         (call_with (calls_may scope.allows) scope.end (nested_in scope) (column_of scope.end whole.now) bytes.now) }
 {
     if !scope.allows.calls() {

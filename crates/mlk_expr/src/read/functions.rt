@@ -8,26 +8,27 @@ ghost use Rattle.mlk_expr.specs.Trees.{tree_of, trees, choice_of, choices};
 ghost use Rattle.mlk_expr.specs.Reading.{few, next, nested_in, list_with, choice_with, arguments_with, function_with};
 ghost use Rattle.mlk_expr.specs.Reading.{dollar_with, atom_in, quiet};
 ghost use Rattle.mlk_expr.specs.Touches.{calls_may};
-ghost use Rattle.mlk_expr.specs.Outcome.{Gives};
+ghost use Rattle.mlk_text.specs.Failures.{Reads};
 
 use crate::lexeme::starts_reference;
 use crate::part::{asks_subscript, has_subscript, named};
 use crate::read::actuals::call;
 use crate::read::{atom, chain};
 use crate::refusal::{
-    Refusal, Wrong, no_arguments_end, no_end, no_function, no_operand, no_word, refused,
+    Offence, Wrong, no_arguments_end, no_end, no_function, no_operand, no_word, refused,
 };
 use crate::scope::{Allows, Scope};
 use crate::tree::{Expr, Function};
-use crate::words::{function_of, is_select, special_of, word_at};
-use mlk_text::lexeme::byte_of;
+use crate::words::{function_of, is_select, special_of};
+use mlk_text::Failure;
+use mlk_text::lexeme::{byte_of, word_at};
 use std::alloc::Global;
 
 // Expressions to the closing parenthesis.
 #[tactic(auto, unfolding(crate::specs::Reading::list_with))]
 #[cycle(reading)]
-fn exprs(alloc: Global, scope: Scope, bytes: &[u8]) -> Result<(Vec<Expr>, &[u8]), Refusal>
-    ensures { Gives (λ x. (trees x.0.items, x.1.now)) result (list_with (nested_in scope) bytes.now) }
+fn exprs(alloc: Global, scope: Scope, bytes: &[u8]) -> Result<(Vec<Expr>, &[u8]), Failure<Offence>>
+    ensures { Reads (λ x. (trees x.0.items, x.1.now)) result (list_with (nested_in scope) bytes.now) }
 {
     let (first, rest) = chain(alloc, scope, bytes)?;
     let (found, rest) = exprs_rest(alloc, scope, first, rest)?;
@@ -43,8 +44,8 @@ fn exprs_rest(
     scope: Scope,
     first: Expr,
     bytes: &[u8],
-) -> Result<(Vec<Expr>, &[u8]), Refusal>
-    ensures { Gives (λ x. (trees x.0.items, x.1.now)) result
+) -> Result<(Vec<Expr>, &[u8]), Failure<Offence>>
+    ensures { Reads (λ x. (trees x.0.items, x.1.now)) result
         (put (tree_of first ∷ []) (many (byte_at 44) (next (nested_in scope)) (suc (length bytes.now)) bytes.now)) }
 {
     let mut found = Vec::new(alloc);
@@ -66,8 +67,8 @@ fn others(
     most: usize,
     first: Expr,
     bytes: &[u8],
-) -> Result<(Vec<Expr>, &[u8]), Refusal>
-    ensures { Gives (λ x. (trees x.0.items, x.1.now)) result
+) -> Result<(Vec<Expr>, &[u8]), Failure<Offence>>
+    ensures { Reads (λ x. (trees x.0.items, x.1.now)) result
         (few (suc most) (put (tree_of first ∷ [])
         (many (byte_at 44) (next (nested_in scope)) (suc (length bytes.now)) bytes.now))) }
 {
@@ -93,8 +94,8 @@ fn arguments(
     scope: Scope,
     function: Function,
     bytes: &[u8],
-) -> Result<(Vec<Expr>, &[u8]), Refusal>
-    ensures { Gives (λ x. (trees x.0.items, x.1.now)) result
+) -> Result<(Vec<Expr>, &[u8]), Failure<Offence>>
+    ensures { Reads (λ x. (trees x.0.items, x.1.now)) result
         (arguments_with (atom_in scope) (nested_in scope) (nested_in (quiet scope)) function bytes.now) }
 {
     let Some(most) = named(function) else {
@@ -120,8 +121,12 @@ fn arguments(
 
 // A condition and its value.
 #[cycle(reading)]
-fn choice(alloc: Global, scope: Scope, bytes: &[u8]) -> Result<((Expr, Expr), &[u8]), Refusal>
-    ensures { Gives (λ x. (choice_of x.0, x.1.now)) result (choice_with (nested_in scope) bytes.now) }
+fn choice(
+    alloc: Global,
+    scope: Scope,
+    bytes: &[u8],
+) -> Result<((Expr, Expr), &[u8]), Failure<Offence>>
+    ensures { Reads (λ x. (choice_of x.0, x.1.now)) result (choice_with (nested_in scope) bytes.now) }
 {
     let (condition, rest) = chain(alloc, scope, bytes)?;
     let Some(rest) = byte_of(b':', rest) else {
@@ -134,8 +139,12 @@ fn choice(alloc: Global, scope: Scope, bytes: &[u8]) -> Result<((Expr, Expr), &[
 // Choices to the closing parenthesis.
 #[tactic(auto, unfolding(crate::specs::Reading::list_with))]
 #[cycle(reading)]
-fn choices(alloc: Global, scope: Scope, bytes: &[u8]) -> Result<(Vec<(Expr, Expr)>, &[u8]), Refusal>
-    ensures { Gives (λ x. (choices x.0.items, x.1.now)) result (list_with (choice_with (nested_in scope)) bytes.now) }
+fn choices(
+    alloc: Global,
+    scope: Scope,
+    bytes: &[u8],
+) -> Result<(Vec<(Expr, Expr)>, &[u8]), Failure<Offence>>
+    ensures { Reads (λ x. (choices x.0.items, x.1.now)) result (list_with (choice_with (nested_in scope)) bytes.now) }
 {
     let (first, rest) = choice(alloc, scope, bytes)?;
     let (found, rest) = choices_rest(alloc, scope, first, rest)?;
@@ -151,8 +160,8 @@ fn choices_rest(
     scope: Scope,
     first: (Expr, Expr),
     bytes: &[u8],
-) -> Result<(Vec<(Expr, Expr)>, &[u8]), Refusal>
-    ensures { Gives (λ x. (choices x.0.items, x.1.now)) result
+) -> Result<(Vec<(Expr, Expr)>, &[u8]), Failure<Offence>>
+    ensures { Reads (λ x. (choices x.0.items, x.1.now)) result
         (put (choice_of first ∷ [])
         (many (byte_at 44) (next (choice_with (nested_in scope))) (suc (length bytes.now)) bytes.now)) }
 {
@@ -176,8 +185,8 @@ fn function<'a>(
     whole: &[u8],
     word: &[u8],
     bytes: &'a [u8],
-) -> Result<(Expr, &'a [u8]), Refusal>
-    ensures { Gives (λ x. (tree_of x.0, x.1.now)) result
+) -> Result<(Expr, &'a [u8]), Failure<Offence>>
+    ensures { Reads (λ x. (tree_of x.0, x.1.now)) result
         (function_with (atom_in scope) (nested_in scope) (nested_in (quiet scope)) word.now bytes.now) }
 {
     if is_select(word) {
@@ -199,8 +208,8 @@ pub(crate) fn dollar<'a>(
     scope: Scope,
     whole: &[u8],
     bytes: &'a [u8],
-) -> Result<(Expr, &'a [u8]), Refusal>
-    ensures { Gives (λ x. (tree_of x.0, x.1.now)) result
+) -> Result<(Expr, &'a [u8]), Failure<Offence>>
+    ensures { Reads (λ x. (tree_of x.0, x.1.now)) result
         (dollar_with (calls_may scope.allows) scope.end (atom_in scope) (nested_in scope)
         (nested_in (quiet scope)) (column_of scope.end whole.now) bytes.now) }
 {

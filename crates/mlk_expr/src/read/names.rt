@@ -7,22 +7,27 @@ ghost use Rattle.mlk_expr.specs.Lexemes.{column_of};
 ghost use Rattle.mlk_expr.specs.Trees.{tree_of, sub_of, sub_trees};
 ghost use Rattle.mlk_expr.specs.Reading.{few, next, nested_in, list_with, placed, subs_with, local_with, global_with};
 ghost use Rattle.mlk_expr.specs.Touches.{globals_may};
-ghost use Rattle.mlk_expr.specs.Outcome.{Gives};
+ghost use Rattle.mlk_text.specs.Failures.{Reads};
 
 use crate::lexeme::column_of;
 use crate::part::{global_name, name};
 use crate::read::chain;
-use crate::refusal::{Refusal, Wrong, no_end, refused};
+use crate::refusal::{Offence, Wrong, no_end, refused};
 use crate::scope::Scope;
 use crate::tree::{Expr, Subscript};
+use mlk_text::Failure;
 use mlk_text::lexeme::byte_of;
 use std::alloc::Global;
 
 const MOST_SUBSCRIPTS: usize = 32;
 
 #[cycle(reading)]
-fn subscript(alloc: Global, scope: Scope, bytes: &[u8]) -> Result<(Subscript, &[u8]), Refusal>
-    ensures { Gives (λ x. (sub_of x.0, x.1.now)) result (placed scope.end (nested_in scope) bytes.now) }
+fn subscript(
+    alloc: Global,
+    scope: Scope,
+    bytes: &[u8],
+) -> Result<(Subscript, &[u8]), Failure<Offence>>
+    ensures { Reads (λ x. (sub_of x.0, x.1.now)) result (placed scope.end (nested_in scope) bytes.now) }
 {
     let column = column_of(scope.end, bytes);
     let (value, rest) = chain(alloc, scope, bytes)?;
@@ -32,8 +37,12 @@ fn subscript(alloc: Global, scope: Scope, bytes: &[u8]) -> Result<(Subscript, &[
 // Subscripts to the closing parenthesis, at most 32.
 #[tactic(auto, unfolding(crate::specs::Reading::list_with))]
 #[cycle(reading)]
-fn subs(alloc: Global, scope: Scope, bytes: &[u8]) -> Result<(Vec<Subscript>, &[u8]), Refusal>
-    ensures { Gives (λ x. (sub_trees x.0.items, x.1.now)) result
+fn subs(
+    alloc: Global,
+    scope: Scope,
+    bytes: &[u8],
+) -> Result<(Vec<Subscript>, &[u8]), Failure<Offence>>
+    ensures { Reads (λ x. (sub_trees x.0.items, x.1.now)) result
         (few 32 (list_with (placed scope.end (nested_in scope)) bytes.now)) }
 {
     let (first, rest) = subscript(alloc, scope, bytes)?;
@@ -50,8 +59,8 @@ fn subs_rest(
     scope: Scope,
     first: Subscript,
     bytes: &[u8],
-) -> Result<(Vec<Subscript>, &[u8]), Refusal>
-    ensures { Gives (λ x. (sub_trees x.0.items, x.1.now)) result
+) -> Result<(Vec<Subscript>, &[u8]), Failure<Offence>>
+    ensures { Reads (λ x. (sub_trees x.0.items, x.1.now)) result
         (few 32 (put (sub_of first ∷ [])
         (many (byte_at 44) (next (placed scope.end (nested_in scope))) (suc (length bytes.now)) bytes.now))) }
 {
@@ -76,8 +85,8 @@ pub(crate) fn subscripts(
     alloc: Global,
     scope: Scope,
     bytes: &[u8],
-) -> Result<(Vec<Subscript>, &[u8]), Refusal>
-    ensures { Gives (λ x. (sub_trees x.0.items, x.1.now)) result (subs_with scope.end (nested_in scope) bytes.now) }
+) -> Result<(Vec<Subscript>, &[u8]), Failure<Offence>>
+    ensures { Reads (λ x. (sub_trees x.0.items, x.1.now)) result (subs_with scope.end (nested_in scope) bytes.now) }
 {
     let Some(rest) = byte_of(b'(', bytes) else {
         return Ok((Vec::new(alloc), bytes));
@@ -87,8 +96,12 @@ pub(crate) fn subscripts(
 
 /// A local with its subscripts.
 #[cycle(reading)]
-pub(crate) fn local(alloc: Global, scope: Scope, bytes: &[u8]) -> Result<(Expr, &[u8]), Refusal>
-    ensures { Gives (λ x. (tree_of x.0, x.1.now)) result (local_with scope.end (nested_in scope) bytes.now) }
+pub(crate) fn local(
+    alloc: Global,
+    scope: Scope,
+    bytes: &[u8],
+) -> Result<(Expr, &[u8]), Failure<Offence>>
+    ensures { Reads (λ x. (tree_of x.0, x.1.now)) result (local_with scope.end (nested_in scope) bytes.now) }
 {
     let (name, rest) = name(alloc, bytes)?;
     let (subs, rest) = subscripts(alloc, scope, rest)?;
@@ -102,8 +115,8 @@ pub(crate) fn global<'a>(
     scope: Scope,
     whole: &[u8],
     bytes: &'a [u8],
-) -> Result<(Expr, &'a [u8]), Refusal>
-    ensures { Gives (λ x. (tree_of x.0, x.1.now)) result
+) -> Result<(Expr, &'a [u8]), Failure<Offence>>
+    ensures { Reads (λ x. (tree_of x.0, x.1.now)) result
         (global_with (globals_may scope.allows) scope.end (column_of scope.end whole.now) (nested_in scope) bytes.now) }
 {
     let (name, rest) = global_name(alloc, scope.allows, whole, bytes)?;

@@ -2,7 +2,7 @@ use Rattle.std.proofs.Common.{◌≡◌, Some, subst}
 use Rattle.mlk_expr.specs.Reading.{callee_at}
 use Rattle.mlk_expr.specs.Grammar.{IsCalleeText}
 use Rattle.mlk_expr.specs.Theorem.{CalleeEnds}
-use Rattle.mlk_expr.specs.Outcome.{Fails}
+use Rattle.mlk_text.specs.Failures.{FailsOn}
 use Rattle.mlk_expr.proofs.Arguments.{CalleeIs, callee-exact}
 use Rattle.mlk_expr.proofs.Labels.{same-callee}
 use Rattle.mlk_expr.proofs.Places.{rest-within, stands, only, refuses}
@@ -25,5 +25,5 @@ returns-in-Ok-clause-only c =
 
 pub returns-in-Err-clause-refused : goal.returns-in-Err-clause-refused
 returns-in-Err-clause-refused c =
-    let h = subst (λ l. Fails c.in-Err.refusal (callee_at l)) c.split_at.ensures.back c.in-Err.ensures in
+    let h = subst (λ l. FailsOn c.in-Err.refusal (callee_at l)) c.split_at.ensures.back c.in-Err.ensures in
     refuses (λ end. callee_at) (λ end. CalleeIs) IsCalleeText CalleeEnds (λ end. callee-exact) same-callee c.args.line.now c.args.at c.requires c.in-Err.refusal c.located.result h c.located.ensures.tells

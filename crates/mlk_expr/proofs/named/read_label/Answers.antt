@@ -1,8 +1,8 @@
+use Rattle.mlk_text.specs.Lexemes.{label_at}
 use Rattle.std.proofs.Common.{◌≡◌, Some, subst}
-use Rattle.mlk_expr.specs.Lexemes.{label_at}
 use Rattle.mlk_expr.specs.Grammar.{IsLabelText}
 use Rattle.mlk_expr.specs.Theorem.{LabelEnds}
-use Rattle.mlk_expr.specs.Outcome.{Fails}
+use Rattle.mlk_text.specs.Failures.{FailsOn}
 use Rattle.mlk_expr.proofs.Labels.{Labels, labels-exact, same-label}
 use Rattle.mlk_expr.proofs.Places.{rest-within, stands, only, refuses}
 use Rattle.mlk_expr.proofs.named.read_label.Goals as goal
@@ -24,5 +24,5 @@ returns-in-Ok-clause-only c =
 
 pub returns-in-Err-clause-refused : goal.returns-in-Err-clause-refused
 returns-in-Err-clause-refused c =
-    let h = subst (λ l. Fails c.in-Err.refusal (label_at l)) c.split_at.ensures.back c.in-Err.ensures in
+    let h = subst (λ l. FailsOn c.in-Err.refusal (label_at l)) c.split_at.ensures.back c.in-Err.ensures in
     refuses (λ end. label_at) Labels IsLabelText LabelEnds labels-exact same-label c.args.line.now c.args.at c.requires c.in-Err.refusal c.located.result h c.located.ensures.tells

@@ -2,7 +2,7 @@ use Rattle.std.proofs.Common.{◌≡◌, Some, subst}
 use Rattle.mlk_text.specs.Lexemes.{name_at}
 use Rattle.mlk_expr.specs.Grammar.{IsNameText}
 use Rattle.mlk_expr.specs.Theorem.{LabelEnds}
-use Rattle.mlk_expr.specs.Outcome.{Fails}
+use Rattle.mlk_text.specs.Failures.{FailsOn}
 use Rattle.mlk_expr.proofs.Labels.{Names, names-exact, same-name}
 use Rattle.mlk_expr.proofs.Places.{rest-within, stands, only, refuses}
 use Rattle.mlk_expr.proofs.named.read_name.Goals as goal
@@ -24,5 +24,5 @@ returns-in-Ok-clause-only c =
 
 pub returns-in-Err-clause-refused : goal.returns-in-Err-clause-refused
 returns-in-Err-clause-refused c =
-    let h = subst (λ l. Fails c.in-Err.refusal (name_at l)) c.split_at.ensures.back c.in-Err.ensures in
+    let h = subst (λ l. FailsOn c.in-Err.refusal (name_at l)) c.split_at.ensures.back c.in-Err.ensures in
     refuses (λ end. name_at) Names IsNameText LabelEnds names-exact same-name c.args.line.now c.args.at c.requires c.in-Err.refusal c.located.result h c.located.ensures.tells

@@ -5,7 +5,7 @@ use Rattle.mlk_expr.specs.Grammar.{IsActualList}
 use Rattle.mlk_expr.specs.Theorem.{ListEnds}
 use Rattle.mlk_expr.proofs.Behind as behind
 use Rattle.mlk_expr.specs.Reading.{actual_list_in}
-use Rattle.mlk_expr.specs.Outcome.{Fails}
+use Rattle.mlk_text.specs.Failures.{FailsOn}
 use Rattle.mlk_expr.proofs.Scopes.{actual_list_in-exact, same-standing}
 use Rattle.mlk_expr.proofs.Places.{rest-within, stands, only, refuses}
 use Rattle.mlk_expr.proofs.Joined.{same-list}
@@ -31,6 +31,6 @@ returns-in-Ok-clause-only c =
 
 pub returns-in-Err-clause-refused : goal.returns-in-Err-clause-refused
 returns-in-Err-clause-refused c =
-    let moved = subst (λ l. Fails c.in-Err.refusal (actual_list_in c.args.passing (record { end = length c.args.line.now + 1; left = 63; allows = c.args.allows }) l)) c.split_at.ensures.back c.in-Err.ensures in
-    let h = subst (λ n. Fails c.in-Err.refusal (actual_list_in c.args.passing (record { end = n; left = 63; allows = c.args.allows }) (drop c.args.at c.args.line.now))) (add-one (length c.args.line.now)) moved in
+    let moved = subst (λ l. FailsOn c.in-Err.refusal (actual_list_in c.args.passing (record { end = length c.args.line.now + 1; left = 63; allows = c.args.allows }) l)) c.split_at.ensures.back c.in-Err.ensures in
+    let h = subst (λ n. FailsOn c.in-Err.refusal (actual_list_in c.args.passing (record { end = n; left = 63; allows = c.args.allows }) (drop c.args.at c.args.line.now))) (add-one (length c.args.line.now)) moved in
     refuses (λ end. actual_list_in c.args.passing (record { end = end; left = 63; allows = c.args.allows })) (λ end a xs ys. behind.IsActualList end a xs ys × (given_stand c.args.allows c.args.passing a ≡ true)) (Standing (given_stand c.args.allows c.args.passing) IsActualList) ListEnds (actual_list_in-exact c.args.allows c.args.passing) (same-standing (given_stand c.args.allows c.args.passing) behind.IsActualList IsActualList ListEnds same-list) c.args.line.now c.args.at c.requires c.in-Err.refusal c.located.result h c.located.ensures.tells
