@@ -3,9 +3,10 @@ use Rattle.std.proofs.Common.{◌≡◌, ◌<◌, ◌≤◌, ℕ, zero, suc, ◌
 use Rattle.std.specs.Prelude.{Option, ◌&&◌}
 use Rattle.mlk_text.specs.Reading.{put, many, many_by}
 use Rattle.mlk_text.proofs.Readers.{then_some, pair_parts, with_some, many_fails}
-use Rattle.mlk_text.specs.declared.lexeme.ReadError.{ReadError}
-use Rattle.mlk_text.specs.declared.lexeme.ReadError.TheVariants.{OutOfMemory, Refused}
-use Rattle.mlk_text.specs.Outcome.{Fails}
+use Rattle.mlk_text.specs.declared.failure.Failure.{Failure}
+use Rattle.mlk_text.specs.declared.spelling.NotThere.{NotThere}
+use Rattle.mlk_text.specs.declared.failure.Failure.TheVariants.{OutOfMemory, Refused}
+use Rattle.mlk_text.specs.Failures.{FailsOn}
 use Rattle.mlk_command.specs.CertificateSpelling.{each, Each, last_of, ascends}
 
 pub many_spelled : {A B : Type 0} (head : List ℕ → Option (B × List ℕ)) (item : B → List ℕ → Option (A × List ℕ)) (spell : A → List ℕ → List ℕ) (Is : A → Type 0)
@@ -69,9 +70,9 @@ ascends-push before (x ∷ y ∷ xs) l a h = rw (ascends-push before (y ∷ xs) 
 
 -- A loop that stops at an item that was not read.
 pub many_refused : {A B : Type 0} (head : List ℕ → Option (B × List ℕ)) (item : B → List ℕ → Option (A × List ℕ)) (front : List A) (n : ℕ) (xs : List ℕ) (whole : Option (List A × List ℕ))
-    (b : B) (m : List ℕ) (e : ReadError) → head xs ≡ Some (b, m) → Fails e (item b m) → length xs < n → put front (many head item n xs) ≡ whole → Fails e whole
+    (b : B) (m : List ℕ) (e : Failure NotThere) → head xs ≡ Some (b, m) → FailsOn e (item b m) → length xs < n → put front (many head item n xs) ≡ whole → FailsOn e whole
 many_refused head item front n xs whole b m OutOfMemory is one less h = tt
-many_refused head item front n xs whole b m Refused is one less h = many_fails head item front n xs whole b m is one less h
+many_refused head item front n xs whole b m (Refused reason) is one less h = many_fails head item front n xs whole b m is one less h
 
 -- items take room
 pub each_longer : {A : Type 0} (spell : A → List ℕ → List ℕ) → ((a : A) (n : List ℕ) → length n < length (spell a n)) → (items : List A) (ys : List ℕ) → length ys ≤ length (each spell items ys)

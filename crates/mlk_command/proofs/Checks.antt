@@ -13,8 +13,9 @@ use Rattle.mlk_command.specs.declared.certificate.read.CertificateError.{Certifi
 use Rattle.mlk_command.specs.declared.certificate.read.CertificateError.TheVariants as certificate_error
 use Rattle.mlk_command.specs.declared.routine.refusal.RoutineError.{RoutineError}
 use Rattle.mlk_command.specs.declared.routine.refusal.RoutineError.TheVariants as routine_error
-use Rattle.mlk_rules.specs.declared.read.fault.RulesError.{RulesError}
-use Rattle.mlk_rules.specs.declared.read.fault.RulesError.TheVariants as rules_error
+use Rattle.mlk_text.specs.declared.failure.Failure.{Failure}
+use Rattle.mlk_rules.specs.declared.read.fault.RulesFault.{RulesFault}
+use Rattle.mlk_text.specs.declared.failure.Failure.TheVariants as rules_error
 use Rattle.mlk_command.specs.declared.source.Source.{Source}
 use Rattle.mlk_command.specs.declared.source.Sources.{Sources}
 use Rattle.mlk_command.specs.Checked.{IsRead, AreRead, IsProgram, IsRefusedBy, name_of, twice_fault, refusal_of_routine, refusal_of_rules, refusal_of_certificate, RefusesFirst, RefusesTwice}
@@ -65,7 +66,7 @@ pub by-twice : (sources : Sources) (trees : List Routine) (e : RoutineError) →
 by-twice sources trees routine_error.OutOfMemory read refused = record {}
 by-twice sources trees (routine_error.Refused fault) read refused = inr (trees, read, refused)
 
-pub by-rules : (sources : Sources) (trees : List Routine) (e : RulesError) → IsProgram sources trees → RefusesRules sources.rules.items e → IsRefusedBy sources (refusal_of_rules e)
+pub by-rules : (sources : Sources) (trees : List Routine) (e : Failure RulesFault) → IsProgram sources trees → RefusesRules sources.rules.items e → IsRefusedBy sources (refusal_of_rules e)
 by-rules sources trees rules_error.OutOfMemory program refused = record {}
 by-rules sources trees (rules_error.Refused fault) program refused = (trees, program, refused)
 

@@ -3,8 +3,10 @@ use Rattle.std.proofs.Common.{◌≡◌, ◌<◌, ℕ, zero, suc, ◌++◌, List
 use Rattle.std.specs.Prelude.{Option, ◌==◌, nat_le}
 use Rattle.std.proofs.lemmas.Bool.{cases_Bool, eqb-true}
 use Rattle.std.proofs.lemmas.Bool.Decides.{nat_tests}
-use Rattle.mlk_text.specs.declared.lexeme.ReadError.{ReadError}
-use Rattle.mlk_text.specs.Outcome.{Fails}
+use Rattle.mlk_text.specs.declared.failure.Failure.{Failure}
+use Rattle.mlk_text.specs.declared.spelling.NotThere.{NotThere}
+use Rattle.mlk_text.specs.declared.failure.Failure.TheVariants.{OutOfMemory, Refused}
+use Rattle.mlk_text.specs.Failures.{FailsOn, IsRefused}
 use Rattle.mlk_text.specs.Reading.{put, many, Begins}
 use Rattle.mlk_text.specs.Lexemes.{byte_at, name_at, subs_at, literal_at, IsSubs}
 use Rattle.mlk_text.proofs.Readers.{then_some, pair_parts, with_some, Behind, behind-self, behind-one, behind_then, behind_length, Exact, Takes, many_fails}
@@ -193,16 +195,21 @@ command-shorter end w c xs m ys is one =
     let near = behind_length m ys ((command-exact end w).behind c m ys ((command-exact end w).sound c m ys one)) in
     omega arith
 
+-- where there is a reason, nothing is read
+refused-none : {Y E : Type 0} (e : Failure E) (o : Option Y) → IsRefused e → FailsOn e o → o ≡ None
+refused-none OutOfMemory o h fails = absurd h
+refused-none (Refused reason) o h fails = fails
+
 -- where the word of a command is blamed, its command is not read
-pub commands-fail : (e : ReadError) (f : LineError) (end : ℕ) (found : List Command) (n : ℕ) (xs rest m : List ℕ) (w : List ℕ × ℕ)
-    → word_at end rest ≡ Some (w, m) → Fails e (command_at end w m) → Blames e w m f → length rest < n
+pub commands-fail : (e : Failure NotThere) (f : LineError) (end : ℕ) (found : List Command) (n : ℕ) (xs rest m : List ℕ) (w : List ℕ × ℕ)
+    → word_at end rest ≡ Some (w, m) → FailsOn e (command_at end w m) → Blames e w m f → length rest < n
     → put found (many (word_at end) (command_at end) n rest) ≡ commands_at end xs → Begins (word_at end) (IsCommand end) found xs rest → CommandsFail end xs f
 commands-fail e error.OutOfMemory end found n xs rest m w is fails blamed less all front = tt
 commands-fail e (error.Fault bad.Form) end found n xs rest m w is fails blamed less all front =
-    let none : command_at end w m ≡ None = subst (λ r. Fails r (command_at end w m)) blamed.0 fails in
+    let none : command_at end w m ≡ None = refused-none e (command_at end w m) blamed.0 fails in
     (many_fails (word_at end) (command_at end) found n rest _ w m is none less all, (w.1, (found, rest, m, w.0, front, is, blamed.1, none)))
 commands-fail e (error.Fault (bad.LeftOut column full)) end found n xs rest m w is fails blamed less all front =
-    let none : command_at end w m ≡ None = subst (λ r. Fails r (command_at end w m)) blamed.0 fails in
+    let none : command_at end w m ≡ None = refused-none e (command_at end w m) blamed.0 fails in
     let same : column ≡ w.1 = blamed.1.1 in (
       many_fails (word_at end) (command_at end) found n rest _ w m is none less all,
       subst (λ k. StopsAt end xs k (Some full)) (sym same) (found, rest, m, w.0, front, is, blamed.1.0, none),

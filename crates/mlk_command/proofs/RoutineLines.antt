@@ -4,9 +4,10 @@ use Rattle.std.specs.Prelude.{Option, ◌==◌, ◌||◌}
 use Rattle.std.proofs.lemmas.Option.{same_Some}
 use Rattle.std.proofs.lemmas.Bool.{cases_Bool}
 use Rattle.std.proofs.lemmas.Bool.Decides.{nat_tests}
-use Rattle.mlk_text.specs.declared.lexeme.ReadError.{ReadError}
-use Rattle.mlk_text.specs.declared.lexeme.ReadError.TheVariants as read
-use Rattle.mlk_text.specs.Outcome.{Fails}
+use Rattle.mlk_text.specs.declared.failure.Failure.{Failure}
+use Rattle.mlk_text.specs.declared.spelling.NotThere.{NotThere}
+use Rattle.mlk_text.specs.declared.failure.Failure.TheVariants as read
+use Rattle.mlk_text.specs.Failures.{FailsOn}
 use Rattle.mlk_text.specs.Reading.{Many, Begins}
 use Rattle.mlk_text.specs.Lexemes.{is_digit, is_letter, name_at, digits_at}
 use Rattle.mlk_text.proofs.Readers.{then_some, pair_parts, with_some, Behind, behind-self, Exact, many_sound, many_complete, one_reading, one_stuck, stuck_many}
@@ -216,9 +217,9 @@ commands-stop (error.Fault bad.Form) end n xs m is h = (rw is (rw h.0 refl), unk
 commands-stop (error.Fault (bad.LeftOut column full)) end n xs m is h = (rw is (rw h.0 refl), leaves-out end n xs m column full is h.1)
 
 -- what a label's failure says of its line
-pub label-stops : (text : List ℕ) (e : ReadError) → Fails e (label_at text) → LineFails text (line_error e)
+pub label-stops : (text : List ℕ) (e : Failure NotThere) → FailsOn e (label_at text) → LineFails text (line_error e)
 label-stops text read.OutOfMemory h = tt
-label-stops text read.Refused h = label-fails text h
+label-stops text (read.Refused reason) h = label-fails text h
 
 pub line-read : (text m : List ℕ) (l : Option (List ℕ)) (commands : List Command) → label_at text ≡ Some (l, m) → body_at (suc (length text)) m ≡ Some commands
     → line_of text ≡ Some (record { label = l; commands = commands; end = suc (length text) })

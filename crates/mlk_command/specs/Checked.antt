@@ -17,8 +17,9 @@ use Rattle.mlk_command.specs.declared.certificate.read.CertificateError.{Certifi
 use Rattle.mlk_command.specs.declared.certificate.read.CertificateError.TheVariants as certificate_error
 use Rattle.mlk_command.specs.declared.routine.refusal.RoutineError.{RoutineError}
 use Rattle.mlk_command.specs.declared.routine.refusal.RoutineError.TheVariants as routine_error
-use Rattle.mlk_rules.specs.declared.read.fault.RulesError.{RulesError}
-use Rattle.mlk_rules.specs.declared.read.fault.RulesError.TheVariants as rules_error
+use Rattle.mlk_text.specs.declared.failure.Failure.{Failure}
+use Rattle.mlk_rules.specs.declared.read.fault.RulesFault.{RulesFault}
+use Rattle.mlk_text.specs.declared.failure.Failure.TheVariants as rules_error
 use Rattle.mlk_command.specs.declared.source.Source.{Source}
 use Rattle.mlk_command.specs.declared.source.Sources.{Sources}
 use Rattle.mlk_command.specs.declared.checked.Checked.{Checked}
@@ -92,7 +93,7 @@ abbrev pub refusal_of_routine : RoutineError → Refusal
 refusal_of_routine routine_error.OutOfMemory = refusal.OutOfMemory
 refusal_of_routine (routine_error.Refused fault) = refusal.Routine fault
 
-abbrev pub refusal_of_rules : RulesError → Refusal
+abbrev pub refusal_of_rules : Failure RulesFault → Refusal
 refusal_of_rules rules_error.OutOfMemory = refusal.OutOfMemory
 refusal_of_rules (rules_error.Refused fault) = refusal.Rules fault
 

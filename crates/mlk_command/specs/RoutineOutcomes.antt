@@ -1,8 +1,10 @@
 -- What the private readers of the code answered, beside the functions on lists.
 use Rattle.std.specs.Prelude.{ℕ, suc, ◌≡◌, List, [], length, Option, Some, None, Result, Ok, Err}
 use Rattle.mlk_text.specs.Reading.{Begins, Many}
-use Rattle.mlk_text.specs.declared.lexeme.ReadError.{ReadError}
-use Rattle.mlk_text.specs.declared.lexeme.ReadError.TheVariants as read
+use Rattle.mlk_text.specs.declared.failure.Failure.{Failure}
+use Rattle.mlk_text.specs.declared.spelling.NotThere.{NotThere}
+use Rattle.mlk_text.specs.declared.failure.Failure.TheVariants as read
+use Rattle.mlk_text.specs.Failures.{IsRefused}
 use Rattle.mlk_machine.specs.declared.plain.tree.Command.{Command}
 use Rattle.mlk_machine.specs.declared.plain.tree.Line.{Line}
 use Rattle.mlk_command.specs.declared.routine.words.LineFault.{LineFault}
@@ -21,9 +23,9 @@ use Rattle.mlk_command.specs.RoutineReading.{command_at, commands_at, body_at, l
 use Rattle.mlk_command.specs.RoutineRefusals.{fault_at, AnyLine, BodyLeavesOut, CommandIsLeftOut, BadLineThere}
 
 -- what a lexeme's answer is for a line
-abbrev pub line_error : ReadError → LineError
+abbrev pub line_error : Failure NotThere → LineError
 line_error read.OutOfMemory = error.OutOfMemory
-line_error read.Refused = error.Fault bad.Form
+line_error (read.Refused reason) = error.Fault bad.Form
 
 -- a word whose command is not read: its full word, or none
 abbrev pub BlamesWord : List ℕ × ℕ → List ℕ → LineFault → Type 0
@@ -31,9 +33,9 @@ BlamesWord w xs bad.Form = full_word w.0 xs ≡ None
 BlamesWord w xs (bad.LeftOut column full) = (full_word w.0 xs ≡ Some full) × (column ≡ w.1)
 
 -- the same, where memory may run out
-abbrev pub Blames : ReadError → List ℕ × ℕ → List ℕ → LineError → Type 0
+abbrev pub Blames : Failure NotThere → List ℕ × ℕ → List ℕ → LineError → Type 0
 Blames e w xs error.OutOfMemory = Unit {0}
-Blames e w xs (error.Fault f) = (e ≡ read.Refused) × BlamesWord w xs f
+Blames e w xs (error.Fault f) = IsRefused e × BlamesWord w xs f
 
 -- what a reader answered: what the function gives, or why nothing can be read
 abbrev pub Answers : {X Y E : Type 0} → (X → Y) → (E → Type 0) → Result X E → Option Y → Type 0

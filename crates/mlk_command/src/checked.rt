@@ -9,7 +9,7 @@ use crate::routine::{RoutineError, read_routine, refused};
 use crate::source::{Source, Sources};
 use crate::twice::first_twice;
 use mlk_machine::plain::{EntryText, Plain, Routine};
-use mlk_rules::{RulesError, RulesFault, read_rules};
+use mlk_rules::{RulesFault, read_rules};
 use mlk_text::{Code, Fault};
 use mlk_walk::{Report, check_all, missing_entry};
 use std::alloc::{AllocError, Global};
@@ -44,13 +44,13 @@ impl From<RoutineError> for Refusal {
     }
 }
 
-impl From<RulesError> for Refusal {
+impl From<Failure<RulesFault>> for Refusal {
     ghost from_gives = { λ e r. r ≡ refusal_of_rules e };
 
-    fn from(error: RulesError) -> Refusal {
+    fn from(error: Failure<RulesFault>) -> Refusal {
         match error {
-            RulesError::OutOfMemory => Refusal::OutOfMemory,
-            RulesError::Refused(fault) => Refusal::Rules(fault),
+            Failure::OutOfMemory => Refusal::OutOfMemory,
+            Failure::Refused(fault) => Refusal::Rules(fault),
         }
     }
 }

@@ -1,16 +1,18 @@
 // The roots of lock names, as routines and certificates write them.
 
-ghost use Rattle.mlk_text.specs.Outcome.{Gives};
+ghost use Rattle.mlk_text.specs.Failures.{Reads};
 ghost use Rattle.mlk_command.specs.LockRoots.{root_at};
 
 use mlk_machine::plain::Root;
-use mlk_text::lexeme::{ReadError, byte_of, name};
+use mlk_text::lexeme::byte_of;
+use mlk_text::{Failure, NotThere};
+use mlk_text::spelling::name;
 use std::alloc::Global;
 
 /// The root at the front, a global behind a caret or a local, and what is behind it.
 #[tactic(auto, unfolding(crate::specs::LockRoots::root_at))]
-pub(crate) fn root(alloc: Global, bytes: &[u8]) -> Result<(Root, &[u8]), ReadError>
-    ensures { Gives (λ x. (x.0, x.1.now)) result (root_at bytes.now) }
+pub(crate) fn root(alloc: Global, bytes: &[u8]) -> Result<(Root, &[u8]), Failure<NotThere>>
+    ensures { Reads (λ x. (x.0, x.1.now)) result (root_at bytes.now) }
 {
     let Some(behind) = byte_of(b'^', bytes) else {
         let (local, rest) = name(alloc, bytes)?;

@@ -10,7 +10,8 @@ use Rattle.mlk_coverage.specs.declared.pattern.Element.TheVariants as element
 use Rattle.mlk_coverage.specs.declared.pattern.Pattern.{Pattern}
 use Rattle.mlk_coverage.specs.declared.rules.RuleLists.{RuleLists}
 use Rattle.mlk_coverage.specs.Ranks.{FamiliesApart}
-use Rattle.mlk_coverage.specs.Sound.{is_name, is_job, is_family, is_pattern, is_cover, IsSound}
+use Rattle.mlk_text.specs.Spellings.{is_name}
+use Rattle.mlk_coverage.specs.Sound.{is_job, is_family, is_pattern, is_cover, IsSound}
 use Rattle.mlk_coverage.specs.Laws.{PrivateByJob}
 use Rattle.mlk_coverage.proofs.Computing.{in_front, in_rest, all_decides}
 

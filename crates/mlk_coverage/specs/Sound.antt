@@ -1,7 +1,7 @@
 -- What the lists of rules have to keep. This project's own choice.
-use Rattle.std.specs.Prelude.{◌≡◌, ◌==◌, ◌&&◌, ◌||◌, nat_le, ℕ, Bool, true, false, List, [], ◌∷◌, length}
+use Rattle.std.specs.Prelude.{◌≡◌, ◌==◌, ◌&&◌, nat_le, ℕ, Bool, true, false, List, length}
 use Rattle.std.specs.List.{list_all, count_by}
-use Rattle.mlk_text.specs.Lexemes.{is_letter, is_name_byte}
+use Rattle.mlk_text.specs.Spellings.{is_name}
 use Rattle.mlk_text.specs.declared.root.Root.{Root}
 use Rattle.mlk_text.specs.declared.root.Root.TheVariants as root
 use Rattle.mlk_coverage.specs.declared.pattern.Element.{Element}
@@ -11,11 +11,6 @@ use Rattle.mlk_coverage.specs.declared.family.Family.{Family}
 use Rattle.mlk_coverage.specs.declared.cover.Cover.{Cover}
 use Rattle.mlk_coverage.specs.declared.rules.RuleLists.{RuleLists}
 use Rattle.mlk_coverage.specs.Ranks.{FamiliesApart}
-
--- `%` or a letter, then letters and digits (ISO/IEC 11756, name), of at most 31 bytes
-abbrev pub is_name : List ℕ → Bool
-is_name [] = false
-is_name (b ∷ bs) = (is_letter b || (b == 37)) && (nat_le (length bs) 30 && list_all is_name_byte bs)
 
 abbrev pub is_root : Root → Bool
 is_root (root.Global name) = is_name name

@@ -2,41 +2,25 @@
 
 ghost use Rattle.std.specs.Prelude.{◌≡◌, ◌↔◌, IsTrue, Contains, MatchOption};
 ghost use Rattle.std.specs.List.{count_by, list_all};
-ghost use Rattle.mlk_text.specs.Lexemes.{is_name_byte};
+ghost use Rattle.mlk_text.specs.Spellings.{is_name};
 ghost use Rattle.mlk_names.specs.LockNames.{Conflict};
 ghost use Rattle.mlk_coverage.specs.declared.family.Family.{Family as family};
 ghost use Rattle.mlk_coverage.specs.Ranks.{FamiliesApart, IsFirstMeeting};
-ghost use Rattle.mlk_coverage.specs.Sound.{is_name, is_root, is_job, is_family, is_pattern, is_cover, are_formed, IsSound};
+ghost use Rattle.mlk_coverage.specs.Sound.{is_root, is_job, is_family, is_pattern, is_cover, are_formed, IsSound};
 
 use crate::cover::Cover;
 use crate::family::Family;
 use crate::pattern::{Element, Pattern};
 use crate::rules::RuleLists;
 use mlk_names::{LockName, Root, conflict};
-use mlk_text::Name;
-use mlk_text::lexeme::{is_digit, is_letter};
-
-fn are_name_bytes(bytes: &[u8]) -> bool
-    ensures { result ≡ list_all is_name_byte bytes.now }
-{
-    bytes.iter().all(|b| is_digit(*b) || is_letter(*b))
-}
-
-fn is_name(name: &Name) -> bool
-    ensures { result ≡ is_name name.now }
-{
-    let Some((first, rest)) = name.as_bytes().split_first() else {
-        return false;
-    };
-    (is_letter(*first) || *first == b'%') && (rest.len() <= 30 && are_name_bytes(rest))
-}
+use mlk_text::spelling::is_name;
 
 fn is_root(root: &Root) -> bool
     ensures { result ≡ is_root root.now }
 {
     match root {
-        Root::Global(name) => is_name(name),
-        Root::Local(name) => is_name(name),
+        Root::Global(name) => is_name(name.as_bytes()),
+        Root::Local(name) => is_name(name.as_bytes()),
     }
 }
 
@@ -59,7 +43,7 @@ fn jobs_in(elements: &[Element]) -> usize
 fn is_pattern(jobs: usize, pattern: &Pattern) -> bool
     ensures { result ≡ is_pattern jobs pattern.now }
 {
-    is_name(&pattern.global) && jobs_in(pattern.elements.as_slice()) == jobs
+    is_name(pattern.global.as_bytes()) && jobs_in(pattern.elements.as_slice()) == jobs
 }
 
 fn is_cover(cover: &Cover) -> bool

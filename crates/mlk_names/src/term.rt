@@ -6,8 +6,7 @@ ghost use Rattle.mlk_names.specs.Terms.{IsPrefix, Mentions, NamesAbove, NamesWit
 
 use crate::known_symbol::KnownSym;
 use crate::list::begins;
-use crate::lock_name::Root;
-use mlk_text::{Name, Subscripts};
+use mlk_text::{Name, Root, Subscripts};
 
 /// A lock name whose subscripts are symbols, each of which stands for one value.
 #[derive(Clone, Drop, Debug, PartialEq, Eq)]

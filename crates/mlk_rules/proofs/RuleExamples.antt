@@ -1,18 +1,18 @@
 -- Worked examples of the definition of a rule file, with answers from outside the program.
 use Rattle.std.proofs.Common.{◌≡◌, ℕ, List, [], ◌∷◌, Some, None, true, false, refl}
-use Rattle.std.specs.Prelude.{codes, pos}
+use Rattle.std.specs.Prelude.{codes, pos, Ok}
 use Rattle.toml.specs.Data.{array, table, string, integer, Members, no_members, member, no_items, item}
 use Rattle.mlk_text.specs.Reading.{many}
-use Rattle.mlk_text.specs.Lexemes.{name_at}
+use Rattle.mlk_text.specs.Lexemes.{name_at, label_at, digits_at, root_at, entry_of as parts_of_entry}
 use Rattle.mlk_text.specs.declared.code.Code.TheVariants as code
 use Rattle.mlk_text.specs.declared.root.Root.TheVariants as root
 use Rattle.mlk_names.specs.declared.reference.Extent.TheVariants.{Tree}
 use Rattle.mlk_rules.specs.declared.read.fault.Section.TheVariants.{File, Lock, Private, Readonly, Entry}
 use Rattle.mlk_rules.specs.declared.read.kinds.Item.TheVariants.{Literal, Variable, Job}
-use Rattle.mlk_rules.specs.RuleAnswers.{Read, refused}
+use Rattle.mlk_rules.specs.RuleAnswers.{refused}
 use Rattle.mlk_text.specs.Canonical.{canonical_text}
 use Rattle.mlk_rules.specs.RuleNumbers.{numeral_len, number_at}
-use Rattle.mlk_rules.specs.RuleTexts.{item_at, list_of, parts_of, root_at, spelling_of, pattern_of, after_label, is_entry}
+use Rattle.mlk_rules.specs.RuleTexts.{item_at, list_of, parts_of, spelling_of, pattern_of, is_entry}
 use Rattle.mlk_rules.specs.RuleKinds.{is_pattern}
 use Rattle.mlk_rules.specs.RuleSections.{section_of, family_of, rule_pattern_of, entry_of, lists_of}
 
@@ -47,22 +47,22 @@ no_dots_before = refl
 
 -- entries
 an_entry : is_entry (codes "DEP^BANK") ≡ true
-unfolding is_entry after_label name_at
+unfolding parts_of_entry label_at name_at digits_at
 an_entry = refl
 
 an_entry_without_label : is_entry (codes "^BANK") ≡ true
-unfolding is_entry after_label name_at
+unfolding parts_of_entry label_at name_at digits_at
 an_entry_without_label = refl
 
 no_entry : is_entry (codes "DEP") ≡ false
-unfolding is_entry after_label name_at
+unfolding parts_of_entry label_at name_at digits_at
 no_entry = refl
 
 -- files: the key of a section, the order of refusals
 section_with : List ℕ → List ℕ → List ℕ → Members
 section_with section key text = member section (array (item (table (member key (string text) no_members)) no_items)) no_members
 
-no_section : lists_of no_members ≡ Read (record { families = []; covers = []; private = []; readonly = []; entries = [] })
+no_section : lists_of no_members ≡ Ok (record { families = []; covers = []; private = []; readonly = []; entries = [] })
 unfolding lists_of section_of
 no_section = refl
 
@@ -74,8 +74,8 @@ no_array : lists_of (member (codes "lock") (table no_members) no_members) ≡ re
 unfolding lists_of section_of
 no_array = refl
 
-one_entry : lists_of (section_with (codes "entry") (codes "label") (codes "^BANK")) ≡ Read (record { families = []; covers = []; private = []; readonly = []; entries = codes "^BANK" ∷ [] })
-unfolding lists_of section_of entry_of is_entry after_label name_at section_with
+one_entry : lists_of (section_with (codes "entry") (codes "label") (codes "^BANK")) ≡ Ok (record { families = []; covers = []; private = []; readonly = []; entries = codes "^BANK" ∷ [] })
+unfolding lists_of section_of entry_of parts_of_entry label_at name_at digits_at section_with
 one_entry = refl
 
 a_wrong_key : lists_of (section_with (codes "entry") (codes "name") (codes "^BANK")) ≡ refused code.Key Entry 1

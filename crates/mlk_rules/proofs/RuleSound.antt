@@ -1,13 +1,15 @@
 -- The lists of a rule file are sound: ranks are in range, roots are names, `$J` stands where it has to.
-use Rattle.std.proofs.Common.{◌≡◌, ℕ, ℤ, suc, ◌+◌, Bool, cond, List, [], ◌∷◌, length, take, Some, None, true, inl, inr, refl, sym, ◌∙◌, ap, subst}
-use Rattle.std.specs.Prelude.{Option, ◌==◌, ◌&&◌, ◌||◌, nat_le, codes, pos, negsuc}
+use Rattle.std.proofs.Common.{◌≡◌, ℕ, ℤ, ◌+◌, Bool, cond, List, [], ◌∷◌, Some, None, true, inl, inr, refl, sym, ◌∙◌, ap, subst}
+use Rattle.std.specs.Prelude.{Option, ◌==◌, ◌&&◌, ◌||◌, nat_le, codes, pos, negsuc, Ok, Err}
 use Rattle.std.specs.List.{list_all, count_by}
 use Rattle.std.proofs.lemmas.Bool.{cases_Bool, and_parts}
 use Rattle.std.proofs.lemmas.List.Sums.{sum_by-cons}
 use Rattle.std.proofs.lemmas.Option.{same_Some}
 use Rattle.toml.specs.Data.{Data, Members, as_table}
-use Rattle.mlk_text.specs.Lexemes.{is_letter, is_name_byte, name_bytes, byte_at, name_at}
-use Rattle.mlk_text.proofs.Readers.{then_some, pair_parts, with_some}
+use Rattle.mlk_text.specs.Spellings.{is_name, IsRoot}
+use Rattle.mlk_text.specs.Lexemes.{byte_at, root_at}
+use Rattle.mlk_text.proofs.Spelled.{root-spelled}
+use Rattle.mlk_text.proofs.Readers.{then_some}
 use Rattle.mlk_text.specs.declared.root.Root.{Root}
 use Rattle.mlk_text.specs.declared.root.Root.TheVariants as root
 use Rattle.mlk_coverage.specs.declared.pattern.Element.{Element}
@@ -25,44 +27,18 @@ use Rattle.mlk_rules.specs.declared.read.fault.Section.TheVariants.{File, Lock, 
 use Rattle.mlk_rules.specs.declared.read.kinds.Item.{Item}
 use Rattle.mlk_rules.specs.declared.read.kinds.Item.TheVariants.{Literal, Variable, Job}
 use Rattle.mlk_rules.specs.declared.read.kinds.Spelling.{Spelling}
-use Rattle.mlk_rules.specs.RuleAnswers.{Answer, Read, Refused, next}
-use Rattle.mlk_rules.specs.RuleTexts.{parts_of, root_by, root_at, spelling, spelling_of, pattern_of}
+use Rattle.mlk_rules.specs.RuleAnswers.{Answer, next}
+use Rattle.mlk_rules.specs.RuleTexts.{parts_of, spelling, spelling_of, pattern_of}
 use Rattle.mlk_rules.specs.RuleKinds.{is_long, is_own, is_jobless, has_one_job, is_distinct, has_its_job, is_family_name, is_pattern, is_template, elements_of, name_of, pattern, parts_of as places_of}
 use Rattle.mlk_rules.specs.RuleSections.{has_only, text_key, rank_of, family_keys, family_with, family_ranked, family_at, cover_keys, cover_of_parts, cover_with, cover_at, pattern_with, pattern_at, family_of, cover_of, rule_pattern_of, entry_of, section_of, each, all_of, lists_of, lists}
-use Rattle.mlk_rules.proofs.RuleEach.{next_read, same_Read, each_have}
+use Rattle.mlk_rules.proofs.RuleEach.{next_read, same_Ok, each_have}
 
--- the bytes of a name that is read, and how many they are
-named : (xs : List ℕ) → (list_all is_name_byte (take (name_bytes xs) xs) ≡ true) × (length (take (name_bytes xs) xs) ≡ name_bytes xs)
-named [] = (refl, refl)
-named (b ∷ xs) = elim (cases_Bool (is_name_byte b)) [
-  | inl e ↦ let r = named xs in rw e (rw e r.0, ap suc r.1)
-  | inr e ↦ rw e (refl, refl)
-]
-
-pub name_read : (n xs ys : List ℕ) → name_at xs ≡ Some (n, ys) → sound.is_name n ≡ true
-unfolding name_at
-name_read n [] ys h = cc h
-name_read n (b ∷ xs) ys h = elim (cases_Bool ((is_letter b || (b == 37)) && nat_le (name_bytes xs) 30)) [
-  | inr e ↦ cc (rw e at h)
-  | inl e ↦
-      let p = pair_parts (b ∷ take (name_bytes xs) xs) n _ ys (rw e at h) in
-      let parts = and_parts (is_letter b || (b == 37)) (nat_le (name_bytes xs) 30) e in
-      let bytes = named xs in
-      let is : sound.is_name (b ∷ take (name_bytes xs) xs) ≡ true = rw (parts.0, bytes.1, parts.1, bytes.0) refl in
-      subst (λ m. sound.is_name m ≡ true) p.0 is
-]
+root_is : (r : Root) (text : List ℕ) → IsRoot r text → sound.is_root r ≡ true
+root_is (root.Global name) text h = h.0
+root_is (root.Local name) text h = h.0
 
 root_read : (r : Root) (xs ys : List ℕ) → root_at xs ≡ Some (r, ys) → sound.is_root r ≡ true
-unfolding root_at
-root_read r xs ys h = go (byte_at 94 xs) h
-  where
-    go : (o : Option (ℕ × List ℕ)) → root_by xs o ≡ Some (r, ys) → sound.is_root r ≡ true
-    go None i =
-        let w = with_some root.Local (name_at xs) r ys i in
-        subst (λ q. sound.is_root q ≡ true) (sym w.2) (name_read w.0 xs ys w.1)
-    go (Some caret) i =
-        let w = with_some root.Global (name_at caret.1) r ys i in
-        subst (λ q. sound.is_root q ≡ true) (sym w.2) (name_read w.0 caret.1 ys w.1)
+root_read r xs ys h = let s = root-spelled r xs ys h in root_is r s.0 s.1
 
 spelled_root : (text : List ℕ) (s : Spelling) → spelling_of text ≡ Some s → sound.is_root s.root ≡ true
 unfolding spelling_of
@@ -72,11 +48,11 @@ spelled_root text s h =
     let is : spelling r.0.0 p.0 ≡ s = same_Some (spelling r.0.0 p.0) s p.2 in
     subst (λ (q : Spelling). sound.is_root q.root ≡ true) is (root_read r.0.0 text r.0.1 r.1)
 
-name_is : (r : Root) → sound.is_root r ≡ true → sound.is_name (name_of r) ≡ true
+name_is : (r : Root) → sound.is_root r ≡ true → is_name (name_of r) ≡ true
 name_is (root.Global n) h = h
 name_is (root.Local n) h = h
 
-patterned_root : (text : List ℕ) (s : Spelling) → pattern_of text ≡ Some s → sound.is_name (name_of s.root) ≡ true
+patterned_root : (text : List ℕ) (s : Spelling) → pattern_of text ≡ Some s → is_name (name_of s.root) ≡ true
 patterned_root text s h =
     let c = then_some (byte_at 94 text) _ s h in name_is s.root (spelled_root text s c.2)
 
@@ -103,7 +79,7 @@ once : (items : List Item) → has_one_job items ≡ true → (count_by sound.is
 once items h = ap (λ n. n == 1) (same_count items) ∙ h
 
 -- a pattern of its parts, with `$J` so often
-formed_pattern : (n : ℕ) (s : Spelling) → sound.is_name (name_of s.root) ≡ true → (count_by sound.is_job (elements_of s.items) == n) ≡ true → sound.is_pattern n (pattern s) ≡ true
+formed_pattern : (n : ℕ) (s : Spelling) → is_name (name_of s.root) ≡ true → (count_by sound.is_job (elements_of s.items) == n) ≡ true → sound.is_pattern n (pattern s) ≡ true
 formed_pattern n s name jobs = rw (name, jobs) refl
 
 -- families
@@ -114,24 +90,24 @@ rank_read (pos n) r h = elim (cases_Bool (nat_le n 999999)) [
   | inr e ↦ cc (rw e at h)
 ]
 
-family_formed : (k : ℕ) (d : Data) (f : Family) → family_of k d ≡ Read f → sound.is_family f ≡ true
+family_formed : (k : ℕ) (d : Data) (f : Family) → family_of k d ≡ Ok f → sound.is_family f ≡ true
 unfolding family_of
 family_formed k d f h = at (family_keys (as_table d)) h
   where
-    with_name : (s : Spelling) (r : ℕ) → sound.is_root s.root ≡ true → nat_le r 999999 ≡ true → family_with k (Some s) r ≡ Read f → sound.is_family f ≡ true
+    with_name : (s : Spelling) (r : ℕ) → sound.is_root s.root ≡ true → nat_le r 999999 ≡ true → family_with k (Some s) r ≡ Ok f → sound.is_family f ≡ true
     with_name s r name rank i = elim (cases_Bool (is_family_name s)) [
       | inr e ↦ cc (rw e at i)
       | inl e ↦
-          let is = same_Read _ f (rw e at i) in
+          let is = same_Ok _ f (rw e at i) in
           subst (λ q. sound.is_family q ≡ true) is (rw (name, rank) refl)
     ]
 
-    ranked : (text : List ℕ) (o : Option Spelling) (z : ℤ) (q : Option ℕ) → spelling_of text ≡ o → rank_of z ≡ q → family_ranked k o q ≡ Read f → sound.is_family f ≡ true
+    ranked : (text : List ℕ) (o : Option Spelling) (z : ℤ) (q : Option ℕ) → spelling_of text ≡ o → rank_of z ≡ q → family_ranked k o q ≡ Ok f → sound.is_family f ≡ true
     ranked text o z None is ranks i = cc i
     ranked text None z (Some r) is ranks i = cc i
     ranked text (Some s) z (Some r) is ranks i = with_name s r (spelled_root text s is) (rank_read z r ranks) i
 
-    at : (o : Option (List ℕ × ℤ)) → family_at k o ≡ Read f → sound.is_family f ≡ true
+    at : (o : Option (List ℕ × ℤ)) → family_at k o ≡ Ok f → sound.is_family f ≡ true
     at None i = cc i
     at (Some keys) i = elim (cases_Bool (is_long (spelling_of keys.0))) [
       | inl e ↦ cc (rw e at i)
@@ -139,17 +115,17 @@ family_formed k d f h = at (family_keys (as_table d)) h
     ]
 
 -- covers
-cover_formed : (k : ℕ) (d : Data) (c : Cover) → cover_of k d ≡ Read c → sound.is_cover c ≡ true
+cover_formed : (k : ℕ) (d : Data) (c : Cover) → cover_of k d ≡ Ok c → sound.is_cover c ≡ true
 unfolding cover_of is_pattern
 cover_formed k d c h = at (cover_keys (as_table d)) h
   where
-    placed : (p l : Spelling) (o : Option (List Part)) → sound.is_pattern 0 (pattern p) ≡ true → sound.is_root l.root ≡ true → cover_of_parts k p l o ≡ Read c → sound.is_cover c ≡ true
+    placed : (p l : Spelling) (o : Option (List Part)) → sound.is_pattern 0 (pattern p) ≡ true → sound.is_root l.root ≡ true → cover_of_parts k p l o ≡ Ok c → sound.is_cover c ≡ true
     placed p l None one two i = cc i
     placed p l (Some parts) one two i =
-        let is = same_Read _ c i in
+        let is = same_Ok _ c i in
         subst (λ q. sound.is_cover q ≡ true) is (rw (one, two) refl)
 
-    both : (ps ls : List ℕ) (o q : Option Spelling) → pattern_of ps ≡ o → spelling_of ls ≡ q → cover_with k o q ≡ Read c → sound.is_cover c ≡ true
+    both : (ps ls : List ℕ) (o q : Option Spelling) → pattern_of ps ≡ o → spelling_of ls ≡ q → cover_with k o q ≡ Ok c → sound.is_cover c ≡ true
     both ps ls None q one two i = cc i
     both ps ls (Some p) None one two i = cc i
     both ps ls (Some p) (Some l) one two i = elim (cases_Bool (is_pattern CoverSection p && is_template l)) [
@@ -160,7 +136,7 @@ cover_formed k d c h = at (cover_keys (as_table d)) h
           placed p l (places_of p.items l.items) (formed_pattern 0 p (patterned_root ps p one) (never p.items jobless)) (spelled_root ls l two) (rw e at i)
     ]
 
-    at : (o : Option (List ℕ × List ℕ)) → cover_at k o ≡ Read c → sound.is_cover c ≡ true
+    at : (o : Option (List ℕ × List ℕ)) → cover_at k o ≡ Ok c → sound.is_cover c ≡ true
     at None i = cc i
     at (Some keys) i = elim (cases_Bool (is_long (pattern_of keys.0) || is_long (spelling_of keys.1))) [
       | inl e ↦ cc (rw e at i)
@@ -169,21 +145,21 @@ cover_formed k d c h = at (cover_keys (as_table d)) h
 
 -- patterns by themselves, whose section asks for `$J` so often
 pattern_formed : (section : Section) (n : ℕ) → ((items : List Item) → has_its_job section items ≡ true → (count_by sound.is_job (elements_of items) == n) ≡ true)
-    → (k : ℕ) (d : Data) (p : Pattern) → rule_pattern_of section k d ≡ Read p → sound.is_pattern n p ≡ true
+    → (k : ℕ) (d : Data) (p : Pattern) → rule_pattern_of section k d ≡ Ok p → sound.is_pattern n p ≡ true
 unfolding rule_pattern_of is_pattern
 pattern_formed section n jobs k d p h = at (text_key section (codes "global") (as_table d)) h
   where
-    of_kind : (text : List ℕ) (o : Option Spelling) → pattern_of text ≡ o → pattern_with section k o ≡ Read p → sound.is_pattern n p ≡ true
+    of_kind : (text : List ℕ) (o : Option Spelling) → pattern_of text ≡ o → pattern_with section k o ≡ Ok p → sound.is_pattern n p ≡ true
     of_kind text None is i = cc i
     of_kind text (Some s) is i = elim (cases_Bool (is_pattern section s)) [
       | inr e ↦ cc (rw e at i)
       | inl e ↦
-          let same = same_Read (pattern s) p (rw e at i) in
+          let same = same_Ok (pattern s) p (rw e at i) in
           let own = (and_parts (has_its_job section s.items) (is_distinct s.items) e).0 in
           subst (λ q. sound.is_pattern n q ≡ true) same (formed_pattern n s (patterned_root text s is) (jobs s.items own))
     ]
 
-    at : (o : Option (List ℕ)) → pattern_at section k o ≡ Read p → sound.is_pattern n p ≡ true
+    at : (o : Option (List ℕ)) → pattern_at section k o ≡ Ok p → sound.is_pattern n p ≡ true
     at None i = cc i
     at (Some text) i = elim (cases_Bool (is_long (pattern_of text))) [
       | inl e ↦ cc (rw e at i)
@@ -192,25 +168,25 @@ pattern_formed section n jobs k d p h = at (text_key section (codes "global") (a
 
 -- where all five lists were read, the first four were
 four_read : (a : Answer (List Family)) (b : Answer (List Cover)) (c d : Answer (List Pattern)) (e : Answer (List (List ℕ))) (r : RuleLists)
-    → next a (λ x. next b (λ y. next c (λ z. next d (λ u. next e (λ v. lists x y z u v))))) ≡ Read r
-    → (a ≡ Read r.families) × (b ≡ Read r.covers) × (c ≡ Read r.private) × (d ≡ Read r.readonly)
-four_read (Read x) (Read y) (Read z) (Read u) (Read v) r h =
-    let is = same_Read _ r h in
-    (ap (λ (q : RuleLists). Read q.families) is, ap (λ (q : RuleLists). Read q.covers) is, ap (λ (q : RuleLists). Read q.private) is, ap (λ (q : RuleLists). Read q.readonly) is)
-four_read (Refused o) b c d e r h = cc h
-four_read (Read x) (Refused o) c d e r h = cc h
-four_read (Read x) (Read y) (Refused o) d e r h = cc h
-four_read (Read x) (Read y) (Read z) (Refused o) e r h = cc h
-four_read (Read x) (Read y) (Read z) (Read u) (Refused o) r h = cc h
+    → next a (λ x. next b (λ y. next c (λ z. next d (λ u. next e (λ v. lists x y z u v))))) ≡ Ok r
+    → (a ≡ Ok r.families) × (b ≡ Ok r.covers) × (c ≡ Ok r.private) × (d ≡ Ok r.readonly)
+four_read (Ok x) (Ok y) (Ok z) (Ok u) (Ok v) r h =
+    let is = same_Ok _ r h in
+    (ap (λ (q : RuleLists). Ok q.families) is, ap (λ (q : RuleLists). Ok q.covers) is, ap (λ (q : RuleLists). Ok q.private) is, ap (λ (q : RuleLists). Ok q.readonly) is)
+four_read (Err o) b c d e r h = cc h
+four_read (Ok x) (Err o) c d e r h = cc h
+four_read (Ok x) (Ok y) (Err o) d e r h = cc h
+four_read (Ok x) (Ok y) (Ok z) (Err o) e r h = cc h
+four_read (Ok x) (Ok y) (Ok z) (Ok u) (Err o) r h = cc h
 
 -- each of a section is formed
-section_formed : {A : Type 0} (read : ℕ → Data → Answer A) (s : Section) (ms : Members) (f : A → Bool) → ((k : ℕ) (d : Data) (x : A) → read k d ≡ Read x → f x ≡ true)
-    → (xs : List A) → all_of read s ms ≡ Read xs → list_all f xs ≡ true
+section_formed : {A : Type 0} (read : ℕ → Data → Answer A) (s : Section) (ms : Members) (f : A → Bool) → ((k : ℕ) (d : Data) (x : A) → read k d ≡ Ok x → f x ≡ true)
+    → (xs : List A) → all_of read s ms ≡ Ok xs → list_all f xs ≡ true
 section_formed read s ms f each_is xs h =
     let items = next_read (section_of s ms) (each read 1) xs h in
     all_each f xs (each_have read (λ x. f x ≡ true) each_is 1 items.0 xs items.2)
 
-formed : (ms : Members) (r : RuleLists) → lists_of ms ≡ Read r → sound.are_formed r ≡ true
+formed : (ms : Members) (r : RuleLists) → lists_of ms ≡ Ok r → sound.are_formed r ≡ true
 unfolding lists_of
 formed ms r h = elim (cases_Bool (has_only File ms)) [
   | inr e ↦ cc (rw e at h)
@@ -224,5 +200,5 @@ formed ms r h = elim (cases_Bool (has_only File ms)) [
       rw (families, covers, private, readonly) refl
 ]
 
-pub lists_sound : (ms : Members) (r : RuleLists) → lists_of ms ≡ Read r → FamiliesApart r.families → sound.IsSound r
+pub lists_sound : (ms : Members) (r : RuleLists) → lists_of ms ≡ Ok r → FamiliesApart r.families → sound.IsSound r
 lists_sound ms r h apart = record { formed = formed ms r h; apart = apart }

@@ -1,8 +1,9 @@
 -- Laws of the texts of rule files.
-use Rattle.std.proofs.Common.{◌≡◌, ◌<◌, ◌≤◌, ℕ, List, [], ◌∷◌, length, drop, take, Some, None, arith, inl, inr, ap}
+use Rattle.std.proofs.Common.{◌≡◌, ◌≤◌, ℕ, List, [], ◌∷◌, length, drop, take, Some, None, arith, inl, inr, ap}
 use Rattle.std.specs.Prelude.{Option, ◌==◌, ◌||◌, codes, bytes_eq}
 use Rattle.std.proofs.lemmas.Bool.{cases_Bool}
 use Rattle.std.proofs.lemmas.List.{length-drop}
+use Rattle.mlk_text.specs.Reading.{Leaves, Shortens}
 use Rattle.mlk_text.specs.Lexemes.{is_digit, byte_at, name_at}
 use Rattle.mlk_text.proofs.Lexemes.{byte-takes, name-behind}
 use Rattle.mlk_text.proofs.Readers.{pair_parts, with_some, behind_length}
@@ -59,15 +60,12 @@ item-length i (b ∷ xs) ys h = elim (cases_Bool (b == 36)) [
   ]
 ]
 
-comma-shorter : (c : ℕ) (xs ys : List ℕ) → comma_at xs ≡ Some (c, ys) → length ys < length xs
-comma-shorter c xs ys h = elim (cases_Bool (bytes_eq xs (codes ",...)"))) [
+pub commas-shorten : Shortens comma_at
+commas-shorten c xs ys h = elim (cases_Bool (bytes_eq xs (codes ",...)"))) [
   | inl e ↦ cc (rw e at h)
   | inr e ↦ (byte-takes 44 c xs ys (rw e at h)).1
 ]
 
--- an item of the code's loop leaves less
-pub item-shorter : (c : ℕ) (i : Item) (xs m ys : List ℕ) → comma_at xs ≡ Some (c, m) → item_at m ≡ Some (i, ys) → length ys < length xs
-item-shorter c i xs m ys is one =
-    let far = comma-shorter c xs m is in
-    let near = item-length i m ys one in
-    omega arith
+-- what the reader of items rests on
+pub items-leave : Leaves item_at
+items-leave i xs ys h = item-length i xs ys h

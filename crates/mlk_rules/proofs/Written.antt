@@ -1,39 +1,40 @@
 -- The texts of rule files are read exactly: what is read is written so, and what is written so is read.
-use Rattle.std.proofs.Common.{◌≡◌, ◌⊎◌, ◌+◌, ℕ, suc, Bool, true, false, List, [], ◌∷◌, ◌++◌, length, take, drop, Some, None, arith, inl, inr, refl, sym, ap, ◌∙◌, subst, append_assoc, length-append, take-append-drop, append-nil}
-use Rattle.std.specs.Prelude.{Option, ◌==◌, ◌&&◌, ◌||◌, nat_le, codes, bytes_eq}
-use Rattle.std.specs.List.{list_all}
+use Rattle.std.proofs.Common.{◌≡◌, ◌⊎◌, ◌+◌, ℕ, suc, Bool, true, false, List, [], ◌∷◌, ◌++◌, length, take, drop, Some, None, arith, inl, inr, refl, sym, ap, ◌∙◌, subst, append_assoc, length-append, take-append-drop}
+use Rattle.std.specs.Prelude.{Option, is_some, ◌==◌, ◌||◌, codes, bytes_eq}
 use Rattle.std.proofs.Math.Seq.{take-append_seam, drop-append_seam}
-use Rattle.std.proofs.lemmas.Bool.{cases_Bool, eqb-true, and_parts, and_from, ne_eqb}
+use Rattle.std.proofs.lemmas.Bool.{cases_Bool, eqb-true}
 use Rattle.std.proofs.lemmas.Bool.Decides.{nat_tests}
 use Rattle.std.proofs.lemmas.Option.{same_Some}
 use Rattle.std.proofs.lemmas.Slice.Eq.{bytes_eq-Decides}
-use Rattle.mlk_text.specs.Lexemes.{is_digit, is_letter, is_name_byte, name_bytes, digits, byte_at, name_at, doubled}
+use Rattle.mlk_text.specs.Spellings.{is_digit, is_letter, is_name_byte, IsName, IsRoot}
+use Rattle.mlk_text.specs.Lexemes.{digits, byte_at, name_at, root_at, entry_of, doubled}
 use Rattle.mlk_text.specs.Numbers.{are_digits, IsNumeral, IsCanonical}
 use Rattle.mlk_text.specs.Canonical.{canonical_text}
-use Rattle.mlk_text.specs.Reading.{many, Many}
-use Rattle.mlk_text.proofs.Lexemes.{byte-is, byte-takes, name-is}
-use Rattle.mlk_text.proofs.Numerals.{digits-parts, digits-front}
+use Rattle.mlk_text.specs.Reading.{Many, separated}
+use Rattle.mlk_text.proofs.Lexemes.{byte-is, byte-takes}
+use Rattle.mlk_text.proofs.Runs.{stops, run-length, parted}
+use Rattle.mlk_text.proofs.Spelled.{name-parts, name-reads, name-spelled, no-caret, root-reads, root-spelled}
+use Rattle.mlk_text.proofs.Entries.{entries-written}
+use Rattle.mlk_text.proofs.Numerals.{digits-parts}
 use Rattle.mlk_text.proofs.CanonicalReading.{canonical-sound, canonical-complete}
-use Rattle.mlk_text.proofs.Readers.{then_some, pair_parts, with_some, Exact, Takes, many_sound, many_complete}
+use Rattle.mlk_text.proofs.Readers.{then_some, pair_parts, with_some, Exact, Takes, separated-exact}
 use Rattle.mlk_text.specs.declared.root.Root.{Root}
 use Rattle.mlk_text.specs.declared.root.Root.TheVariants as root
 use Rattle.mlk_names.specs.declared.reference.Extent.{Extent}
 use Rattle.mlk_names.specs.declared.reference.Extent.TheVariants.{Node, Tree}
-use Rattle.mlk_coverage.specs.Sound.{is_name}
 use Rattle.mlk_rules.specs.declared.read.kinds.Item.{Item}
 use Rattle.mlk_rules.specs.declared.read.kinds.Item.TheVariants.{Literal, Variable, Job}
 use Rattle.mlk_rules.specs.declared.read.kinds.Spelling.{Spelling}
 use Rattle.mlk_rules.specs.RuleNumbers.{fraction_len, numeral_len, valued, number_at, negative, negative_at}
-use Rattle.mlk_rules.specs.RuleTexts.{quoted, job, item_at, comma_at, item_after, end_of, ended, items_after, list_of, parts_of, root_by, root_at, spelling, spelling_of, pattern_of, after as after_name, unlabelled, after_label, names_all, ends_entry, is_entry_by, is_entry}
-use Rattle.mlk_rules.specs.RuleGrammar.{IsItem, IsMore, closing, IsParts, IsRoot, IsSpelled, IsSpelledPattern, IsEntry, AreWritten}
+use Rattle.mlk_rules.specs.RuleTexts.{quoted, job, item_at, comma_at, end_of, ended, list_of, parts_of, spelling, spelling_of, pattern_of, is_entry}
+use Rattle.mlk_rules.specs.RuleGrammar.{IsItem, IsMore, closing, IsParts, IsSpelled, IsSpelledPattern, IsEntryText, AreWritten}
 use Rattle.mlk_rules.proofs.Quotes.{quoted-sound, quoted-complete}
-use Rattle.mlk_rules.proofs.RuleSound.{name_read}
 
 -- where an item ends: at a comma or a parenthesis
 abbrev Ends : List ℕ → Type 0
 Ends ys = (m : List ℕ) × ((ys ≡ 44 ∷ m) ⊎ (ys ≡ 41 ∷ m))
 
-ends_digits : (ys : List ℕ) → Ends ys → digits ys ≡ 0
+ends_digits : (ys : List ℕ) → Ends ys → stops is_digit ys ≡ true
 ends_digits ys (m, inl e) = rw e refl
 ends_digits ys (m, inr e) = rw e refl
 
@@ -41,7 +42,7 @@ ends_fraction : (ys : List ℕ) → Ends ys → fraction_len ys ≡ 0
 ends_fraction ys (m, inl e) = rw e refl
 ends_fraction ys (m, inr e) = rw e refl
 
-ends_name : (ys : List ℕ) → Ends ys → name_bytes ys ≡ 0
+ends_name : (ys : List ℕ) → Ends ys → stops is_name_byte ys ≡ true
 ends_name ys (m, inl e) = rw e refl
 ends_name ys (m, inr e) = rw e refl
 
@@ -64,41 +65,25 @@ not_first b c h other = elim (cases_Bool (b == c)) [
 first_no_digit : (b : ℕ) → is_first b ≡ true → is_digit b ≡ false
 first_no_digit b h = grind (arith, nat_tests)
 
-name_front : (bs ys : List ℕ) → list_all is_name_byte bs ≡ true → name_bytes ys ≡ 0
-    → (take (name_bytes (bs ++ ys)) (bs ++ ys) ≡ bs) × (drop (name_bytes (bs ++ ys)) (bs ++ ys) ≡ ys) × (name_bytes (bs ++ ys) ≡ length bs)
-name_front [] ys h none = rw none (refl, refl, refl)
-name_front (b ∷ bs) ys h none =
-    let p = and_parts (is_name_byte b) (list_all is_name_byte bs) h in
-    let r = name_front bs ys p.1 none in
-    rw p.0 (ap (λ l. b ∷ l) r.0, r.1, ap suc r.2)
-
-name_complete : (n ys : List ℕ) → is_name n ≡ true → name_bytes ys ≡ 0 → name_at (n ++ ys) ≡ Some (n, ys)
-unfolding name_at
-name_complete [] ys h none = cc h
-name_complete (b ∷ bs) ys h none =
-    let p = and_parts (is_first b) (nat_le (length bs) 30 && list_all is_name_byte bs) h in
-    let q = and_parts (nat_le (length bs) 30) (list_all is_name_byte bs) p.1 in
-    let f = name_front bs ys q.1 none in
-    let few : nat_le (name_bytes (bs ++ ys)) 30 ≡ true = subst (λ k. nat_le k 30 ≡ true) (sym f.2) q.0 in
-    let all : ((is_letter b || (b == 37)) && nat_le (name_bytes (bs ++ ys)) 30) ≡ true = and_from (is_first b) (nat_le (name_bytes (bs ++ ys)) 30) p.0 few in
-    rw all (ap (λ l. Some (b ∷ l, drop (name_bytes (bs ++ ys)) (bs ++ ys))) f.0 ∙ ap (λ l. Some (b ∷ bs, l)) f.1)
-
 -- numbers
-digits_len : (ds ys : List ℕ) → are_digits ds ≡ true → digits ys ≡ 0 → digits (ds ++ ys) ≡ length ds
-digits_len [] ys h none = none
-digits_len (d ∷ ds) ys h none = let p = digits-parts d ds h in rw p.0 (ap suc (digits_len ds ys p.1 none))
+digits_front : (ds ys : List ℕ) → are_digits ds ≡ true → stops is_digit ys ≡ true → (digits (ds ++ ys) ≡ length ds) × (drop (digits (ds ++ ys)) (ds ++ ys) ≡ ys)
+digits_front ds ys h stop =
+    let size = run-length is_digit ds ys h stop in
+    (size, (parted (digits (ds ++ ys)) ds ys (ds ++ ys) refl size).1)
 
 numeral_size : (before after text ys : List ℕ) → IsNumeral before after text → Ends ys → numeral_len (text ++ ys) ≡ length text
 unfolding numeral_len
 numeral_size before after text ys h end = elim h.spelled [
   | inl e ↦
-      let size = digits_len before ys h.whole_part (ends_digits ys end) in
-      let rest = (digits-front before ys h.whole_part (ends_digits ys end)).1 in
+      let front = digits_front before ys h.whole_part (ends_digits ys end) in
+      let size = front.0 in
+      let rest = front.1 in
       rw e.0 (ap (λ l. digits (before ++ ys) + fraction_len l) rest ∙ ap (λ n. digits (before ++ ys) + n) (ends_fraction ys end) ∙ (omega (arith, size)))
   | inr e ↦
-      let size = digits_len before (46 ∷ (after ++ ys)) h.whole_part refl in
-      let rest = (digits-front before (46 ∷ (after ++ ys)) h.whole_part refl).1 in
-      let last = digits_len after ys h.fraction (ends_digits ys end) in
+      let front = digits_front before (46 ∷ (after ++ ys)) h.whole_part refl in
+      let size = front.0 in
+      let rest = front.1 in
+      let last = (digits_front after ys h.fraction (ends_digits ys end)).0 in
       let whole : text ++ ys ≡ before ++ 46 ∷ (after ++ ys) = ap (λ l. l ++ ys) e ∙ append_assoc before (46 ∷ after) ys in
       let many : length text ≡ length before + suc (length after) = ap length e ∙ length-append before (46 ∷ after) in
       let fraction : fraction_len (drop (digits (before ++ 46 ∷ (after ++ ys))) (before ++ 46 ∷ (after ++ ys))) ≡ suc (length after) = ap fraction_len rest ∙ ap suc last in
@@ -153,12 +138,12 @@ not_started b c h other = elim (cases_Bool (b == c)) [
 item_complete : (i : Item) (text ys : List ℕ) → IsItem i text → Ends ys → item_at (text ++ ys) ≡ Some (i, ys)
 unfolding item_at
 item_complete Job text ys h end = rw h refl
-item_complete (Variable name) text ys (is, good) end = rw is (go name good (name_complete name ys good (ends_name ys end)))
+item_complete (Variable name) text ys (is, good) end = rw is (go name good (name-reads name ys good (ends_name ys end)))
   where
-    go : (n : List ℕ) → is_name n ≡ true → name_at (n ++ ys) ≡ Some (n, ys) → item_at (n ++ ys) ≡ Some (Variable n, ys)
+    go : (n : List ℕ) → IsName n → name_at (n ++ ys) ≡ Some (n, ys) → item_at (n ++ ys) ≡ Some (Variable n, ys)
     go [] h read = cc h
     go (b ∷ bs) h read =
-        let first = (and_parts (is_first b) (nat_le (length bs) 30 && list_all is_name_byte bs) h).0 in
+        let first = (name-parts b bs h).0 in
         let number : starts_number b ≡ false = rw (not_first b 46 first refl) (first_no_digit b first) in
         rw (not_first b 36 first refl, not_first b 45 first refl, not_first b 34 first refl, number) (rw read refl)
 item_complete (Literal value) text ys (inl is) end =
@@ -199,7 +184,7 @@ item_sound i (b ∷ xs) ys h = elim (cases_Bool (b == 36)) [
             (n.0, subst (λ j. IsItem j n.0) (sym w.2) (inr (inl n.1)), n.2)
         | inr g ↦
             let w = with_some Variable (name_at (b ∷ xs)) i ys (rw (e, f, q, g) at h) in
-            (w.0, subst (λ j. IsItem j w.0) (sym w.2) (refl, name_read w.0 (b ∷ xs) ys w.1), sym (name-is w.0 (b ∷ xs) ys w.1).0)
+            (w.0, subst (λ j. IsItem j w.0) (sym w.2) (refl, (name-spelled w.0 (b ∷ xs) ys w.1).0), (name-spelled w.0 (b ∷ xs) ys w.1).1)
       ]
     ]
   ]
@@ -219,11 +204,11 @@ no_item_there i xs ys h = elim (cases_Bool (bytes_eq xs (codes "...)"))) [
 ]
 
 -- an item as it is read, with what it leaves
-abbrev Reads : ℕ → Item → List ℕ → List ℕ → Type 0
-Reads comma i xs ys = item_at xs ≡ Some (i, ys)
+abbrev Reads : Item → List ℕ → List ℕ → Type 0
+Reads i xs ys = item_at xs ≡ Some (i, ys)
 
-reads_exact : (comma : ℕ) → Exact (item_after comma) (Reads comma)
-reads_exact comma = record {
+reads_exact : Exact item_at Reads
+reads_exact = record {
   sound = λ i xs ys h. h;
   complete = λ i xs ys h. h;
   behind = λ i xs ys h. let r = item_sound i xs ys h in (r.0, sym r.2);
@@ -241,7 +226,7 @@ comma-takes c xs ys h = elim (cases_Bool (bytes_eq xs (codes ",...)"))) [
   | inr e ↦ byte-takes 44 c xs ys (rw e at h)
 ]
 
-more_sound : (items : List Item) (xs ys : List ℕ) → Many comma_at Reads items xs ys → (more : List ℕ) × IsMore items more × (xs ≡ more ++ ys)
+more_sound : (items : List Item) (xs ys : List ℕ) → Many comma_at (λ _. Reads) items xs ys → (more : List ℕ) × IsMore items more × (xs ≡ more ++ ys)
 more_sound [] xs ys h = ([], refl, h.0)
 more_sound (i ∷ items) xs ys (c, m, n, is, one, rest) =
     let first = item_sound i m n one in
@@ -260,7 +245,7 @@ more_ends [] more Node h = rw h ([], inr refl)
 more_ends [] more Tree h = rw h (codes "...)", inl refl)
 more_ends (i ∷ items) more e (one, others, is, rest, same) = rw same ((one ++ others) ++ closing e, inl refl)
 
-more_complete : (items : List Item) (more : List ℕ) (e : Extent) → IsMore items more → Many comma_at Reads items (more ++ closing e) (closing e)
+more_complete : (items : List Item) (more : List ℕ) (e : Extent) → IsMore items more → Many comma_at (λ _. Reads) items (more ++ closing e) (closing e)
 more_complete [] more e h = rw h (refl, end_stops e)
 more_complete (i ∷ items) more e (one, others, is, rest, same) =
     let after : List ℕ = others ++ closing e in
@@ -301,16 +286,15 @@ parts_sound (b ∷ xs) p h = elim (cases_Bool (b == 40)) [
         let whole : b ∷ xs ≡ codes "(...)" = ap (λ c. c ∷ xs) (eqb-true b 40 e) ∙ ap (λ l. 40 ∷ l) is in
         subst (λ q. AreParts q (b ∷ xs)) (same_Some ([], Tree) p (rw (e, d) at h)) whole
     | inr d ↦
-        let f = then_some (item_at xs) _ p (rw (e, d) at h) in
-        let r = then_some (items_after f.0.0 f.0.1) ended p f.2 in
-        let w = with_some (λ more. f.0.0 ∷ more) (many comma_at item_after (suc (length f.0.1)) f.0.1) r.0.0 r.0.1 r.1 in
+        let r = then_some (separated comma_at item_at xs) ended p (rw (e, d) at h) in
+        let (first, others, m, is, rest, all) = (separated-exact comma_at item_at Reads comma-takes reads_exact).sound r.0.0 xs r.0.1 r.1 in
         let x = then_some (end_of r.0.1) _ p r.2 in
-        let one = item_sound f.0.0 xs f.0.1 f.1 in
-        let more = more_sound w.0 f.0.1 r.0.1 (many_sound comma_at item_after Reads reads_exact (suc (length f.0.1)) w.0 f.0.1 r.0.1 w.1) in
+        let one = item_sound first xs m is in
+        let more = more_sound others m r.0.1 rest in
         let whole : b ∷ xs ≡ 40 ∷ (one.0 ++ (more.0 ++ closing x.0)) =
         ap (λ c. c ∷ xs) (eqb-true b 40 e) ∙ ap (λ l. 40 ∷ l) (one.2 ∙ ap (λ l. one.0 ++ l) (more.2 ∙ ap (λ l. more.0 ++ l) (end_is r.0.1 x.0 x.1))) in
-        let parts : AreParts (f.0.0 ∷ w.0, x.0) (b ∷ xs) = (one.0, more.0, one.1, more.1, whole) in
-        subst (λ q. AreParts q (b ∷ xs)) (ap (λ l. (l, x.0)) (sym w.2) ∙ same_Some (r.0.0, x.0) p x.2) parts
+        let parts : AreParts (first ∷ others, x.0) (b ∷ xs) = (one.0, more.0, one.1, more.1, whole) in
+        subst (λ q. AreParts q (b ∷ xs)) (ap (λ l. (l, x.0)) (sym all) ∙ same_Some (r.0.0, x.0) p x.2) parts
   ]
 ]
 
@@ -321,35 +305,11 @@ parts_complete [] Tree text h = rw h refl
 parts_complete (i ∷ items) e text (one, more, is, rest, same) =
     let after : List ℕ = more ++ closing e in
     let read : item_at (one ++ after) ≡ Some (i, after) = item_complete i one after is (more_ends items more e rest) in
-    let others : many comma_at item_after (suc (length after)) after ≡ Some (items, closing e) =
-    many_complete comma_at item_after Reads comma-takes reads_exact (suc (length after)) items after (closing e) (omega arith) (more_complete items more e rest) in
-    rw same (rw (no_item_there i (one ++ after) after read) (rw read (rw others (rw (end_closes e) refl))))
+    let all : separated comma_at item_at (one ++ after) ≡ Some (i ∷ items, closing e) =
+    (separated-exact comma_at item_at Reads comma-takes reads_exact).complete (i ∷ items) (one ++ after) (closing e) (i, items, after, read, more_complete items more e rest, refl) in
+    rw same (rw (no_item_there i (one ++ after) after read) (rw all (rw (end_closes e) refl)))
 
--- roots
-root_sound : (r : Root) (xs ys : List ℕ) → root_at xs ≡ Some (r, ys) → (text : List ℕ) × IsRoot r text × (xs ≡ text ++ ys)
-unfolding root_at
-root_sound r xs ys h = go (byte_at 94 xs) refl h
-  where
-    go : (o : Option (ℕ × List ℕ)) → byte_at 94 xs ≡ o → root_by xs o ≡ Some (r, ys) → (text : List ℕ) × IsRoot r text × (xs ≡ text ++ ys)
-    go None is i =
-        let w = with_some root.Local (name_at xs) r ys i in
-        (w.0, subst (λ q. IsRoot q w.0) (sym w.2) (name_read w.0 xs ys w.1, refl), sym (name-is w.0 xs ys w.1).0)
-    go (Some caret) is i =
-        let w = with_some root.Global (name_at caret.1) r ys i in
-        (94 ∷ w.0, subst (λ q. IsRoot q (94 ∷ w.0)) (sym w.2) (name_read w.0 caret.1 ys w.1, refl), byte-is 94 caret.0 xs caret.1 is ∙ ap (λ l. 94 ∷ l) (sym (name-is w.0 caret.1 ys w.1).0))
-
-no_caret : (n ys : List ℕ) → is_name n ≡ true → byte_at 94 (n ++ ys) ≡ None
-no_caret [] ys h = cc h
-no_caret (b ∷ bs) ys h =
-    let first = (and_parts (is_first b) (nat_le (length bs) 30 && list_all is_name_byte bs) h).0 in
-    rw (not_first b 94 first refl) refl
-
-root_complete : (r : Root) (text ys : List ℕ) → IsRoot r text → name_bytes ys ≡ 0 → root_at (text ++ ys) ≡ Some (r, ys)
-unfolding root_at
-root_complete (root.Global name) text ys (good, is) none = rw is (rw (name_complete name ys good none) refl)
-root_complete (root.Local name) text ys (good, is) none = rw is (rw (no_caret name ys good) (rw (name_complete name ys good none) refl))
-
-parts_stop : (items : List Item) (e : Extent) (text : List ℕ) → IsParts items e text → name_bytes text ≡ 0
+parts_stop : (items : List Item) (e : Extent) (text : List ℕ) → IsParts items e text → stops is_name_byte text ≡ true
 parts_stop [] Node text h = rw h refl
 parts_stop [] Tree text h = rw h refl
 parts_stop (i ∷ items) e text (one, more, is, rest, same) = rw same refl
@@ -360,17 +320,17 @@ unfolding spelling_of
 names_sound text s h =
     let r = then_some (root_at text) _ s h in
     let p = then_some (parts_of r.0.1) _ s r.2 in
-    let front = root_sound r.0.0 text r.0.1 r.1 in
+    let front = root-spelled r.0.0 text r.0.1 r.1 in
     subst (λ q. IsSpelled q text) (same_Some (spelling r.0.0 p.0) s p.2) (front.0, r.0.1, front.1, parts_sound r.0.1 p.0 p.1, front.2)
 
 names_complete : (text : List ℕ) (s : Spelling) → IsSpelled s text → spelling_of text ≡ Some s
 unfolding spelling_of
 names_complete text s (front, rest, one, others, is) =
-    rw is (rw (root_complete s.root front rest one (parts_stop s.items s.extent rest others)) (rw (parts_complete s.items s.extent rest others) refl))
+    rw is (rw (root-reads s.root front rest one (parts_stop s.items s.extent rest others)) (rw (parts_complete s.items s.extent rest others) refl))
 
 global_root : (r : Root) (text ys : List ℕ) (c : ℕ) (m : List ℕ) → IsRoot r text → byte_at 94 (text ++ ys) ≡ Some (c, m) → (name : List ℕ) × (r ≡ root.Global name)
 global_root (root.Global name) text ys c m h i = (name, refl)
-global_root (root.Local name) text ys c m (good, is) i = cc (sym i ∙ ap (λ l. byte_at 94 (l ++ ys)) is ∙ no_caret name ys good)
+global_root (root.Local name) text ys c m (good, is) i = cc (sym i ∙ ap (λ l. byte_at 94 (l ++ ys)) is ∙ no-caret name ys good)
 
 patterns_sound : (text : List ℕ) (s : Spelling) → pattern_of text ≡ Some s → IsSpelledPattern s text
 patterns_sound text s h =
@@ -388,65 +348,15 @@ patterns_complete text s (is, (name, same)) =
     rw caret (names_complete text s is)
 
 -- entries
-routine_ends : (routine : List ℕ) → is_name routine ≡ true → is_entry_by (Some (94 ∷ routine)) ≡ true
-routine_ends routine h =
-    let read : name_at routine ≡ Some (routine, []) = subst (λ l. name_at l ≡ Some (routine, [])) (append-nil routine) (name_complete routine [] h refl) in
-    rw read refl
-
-name_no_digits : (n ys : List ℕ) → is_name n ≡ true → digits (n ++ ys) ≡ 0
-name_no_digits [] ys h = cc h
-name_no_digits (b ∷ bs) ys h =
-    let first = (and_parts (is_first b) (nat_le (length bs) 30 && list_all is_name_byte bs) h).0 in
-    rw (first_no_digit b first) refl
-
-entries_complete : (text : List ℕ) → IsEntry text → is_entry text ≡ true
-unfolding is_entry after_label
-entries_complete text ([], routine, inl h, good, is) = rw is (routine_ends routine good)
-entries_complete text (d ∷ ds, routine, inl h, good, is) =
-    let r = digits-front (d ∷ ds) (94 ∷ routine) h refl in
-    let size : digits ((d ∷ ds) ++ 94 ∷ routine) ≡ suc (length ds) = digits_len (d ∷ ds) (94 ∷ routine) h refl in
-    let some : (digits ((d ∷ ds) ++ 94 ∷ routine) == 0) ≡ false = ap (λ n. n == 0) size ∙ ne_eqb (suc (length ds)) 0 (λ i. omega arith) in
-    rw is (rw some (ap (λ l. is_entry_by (Some l)) r.1 ∙ routine_ends routine good))
-entries_complete text (label, routine, inr h, good, is) =
-    rw is (rw (name_no_digits label (94 ∷ routine) h) (rw (no_caret label (94 ∷ routine) h) (rw (name_complete label (94 ∷ routine) h refl) (routine_ends routine good))))
-
-routine_read : (xs : List ℕ) → is_entry_by (Some xs) ≡ true → (routine : List ℕ) × (is_name routine ≡ true) × (xs ≡ 94 ∷ routine)
-routine_read xs h = go (byte_at 94 xs) refl h
+entries_sound : (text : List ℕ) → is_entry text ≡ true → IsEntryText text
+entries_sound text h = go (entry_of text) refl h
   where
-    named : (m : List ℕ) (o : Option (List ℕ × List ℕ)) → name_at m ≡ o → names_all o ≡ true → is_name m ≡ true
-    named m None is i = cc i
-    named m (Some (n, [])) is i =
-        let whole : n ++ [] ≡ m = (name-is n m [] is).0 in
-        subst (λ l. is_name l ≡ true) (sym (append-nil n) ∙ whole) (name_read n m [] is)
-    named m (Some (n, b ∷ ys)) is i = cc i
-
-    go : (o : Option (ℕ × List ℕ)) → byte_at 94 xs ≡ o → ends_entry o ≡ true → (routine : List ℕ) × (is_name routine ≡ true) × (xs ≡ 94 ∷ routine)
+    go : (o : Option (List ℕ × List ℕ)) → entry_of text ≡ o → is_some o ≡ true → IsEntryText text
     go None is i = cc i
-    go (Some caret) is i = (caret.1, named caret.1 (name_at caret.1) refl i, byte-is 94 caret.0 xs caret.1 is)
+    go (Some e) is i = (e.0, e.1, (entries-written text e.0 e.1).0 is)
 
-digits_taken : (xs : List ℕ) → are_digits (take (digits xs) xs) ≡ true
-digits_taken [] = refl
-digits_taken (b ∷ xs) = elim (cases_Bool (is_digit b)) [ inl e ↦ rw e (rw e (digits_taken xs)) | inr e ↦ rw e refl ]
-
-entries_sound : (text : List ℕ) → is_entry text ≡ true → IsEntry text
-unfolding is_entry after_label
-entries_sound text h = elim (cases_Bool (digits text == 0)) [
-  | inr e ↦
-      let r = routine_read (drop (digits text) text) (rw e at h) in
-      (take (digits text) text, r.0, inl (digits_taken text), r.1, sym (take-append-drop (digits text) text) ∙ ap (λ l. take (digits text) text ++ l) r.2)
-  | inl e ↦ unlabeled (byte_at 94 text) (rw e at h)
-]
-  where
-    labelled : (o : Option (List ℕ × List ℕ)) → name_at text ≡ o → is_entry_by (after_name o) ≡ true → IsEntry text
-    labelled None is i = cc i
-    labelled (Some n) is i =
-        let r = routine_read n.1 i in
-        (n.0, r.0, inr (name_read n.0 text n.1 is), r.1, sym (name-is n.0 text n.1 is).0 ∙ ap (λ l. n.0 ++ l) r.2)
-
-    unlabeled : (o : Option (ℕ × List ℕ)) → is_entry_by (unlabelled text o) ≡ true → IsEntry text
-    unlabeled None i = labelled (name_at text) refl i
-    unlabeled (Some caret) i =
-        let r = routine_read text i in ([], r.0, inl refl, r.1, r.2)
+entries_complete : (text : List ℕ) → IsEntryText text → is_entry text ≡ true
+entries_complete text (label, routine, h) = rw ((entries-written text label routine).1 h) refl
 
 pub are_written : AreWritten
 are_written = record {

@@ -3,12 +3,11 @@
 -- choice.
 use Rattle.std.specs.Prelude.{◌≡◌, ◌⊎◌, ◌↔◌, ℕ, true, List, [], ◌∷◌, ◌++◌, Some, codes}
 use Rattle.mlk_text.specs.Lexemes.{doubled}
-use Rattle.mlk_text.specs.Numbers.{are_digits, IsCanonical}
-use Rattle.mlk_text.specs.declared.root.Root.{Root}
+use Rattle.mlk_text.specs.Spellings.{IsName, IsRoot, IsEntry}
+use Rattle.mlk_text.specs.Numbers.{IsCanonical}
 use Rattle.mlk_text.specs.declared.root.Root.TheVariants as root
 use Rattle.mlk_names.specs.declared.reference.Extent.{Extent}
 use Rattle.mlk_names.specs.declared.reference.Extent.TheVariants.{Node, Tree}
-use Rattle.mlk_coverage.specs.Sound.{is_name}
 use Rattle.mlk_rules.specs.declared.read.kinds.Item.{Item}
 use Rattle.mlk_rules.specs.declared.read.kinds.Item.TheVariants.{Literal, Variable, Job}
 use Rattle.mlk_rules.specs.declared.read.kinds.Spelling.{Spelling}
@@ -27,7 +26,7 @@ IsNegative value text =
 -- a literal is written in quotes, or as a number, whose value is its canonical text; a variable as its name
 abbrev pub IsItem : Item → List ℕ → Type 0
 IsItem (Literal value) text = IsQuoted value text ⊎ (IsCanonical text value ⊎ IsNegative value text)
-IsItem (Variable name) text = (text ≡ name) × (is_name name ≡ true)
+IsItem (Variable name) text = (text ≡ name) × IsName name
 IsItem Job text = text ≡ codes "$J"
 
 -- more items, each after a comma
@@ -47,11 +46,6 @@ IsParts [] Tree text = text ≡ codes "(...)"
 IsParts (i ∷ items) extent text =
     (one more : List ℕ) × IsItem i one × IsMore items more × (text ≡ 40 ∷ (one ++ (more ++ closing extent)))
 
--- a global's name after its caret, or a local's
-abbrev pub IsRoot : Root → List ℕ → Type 0
-IsRoot (root.Global name) text = (is_name name ≡ true) × (text ≡ 94 ∷ name)
-IsRoot (root.Local name) text = (is_name name ≡ true) × (text ≡ name)
-
 -- A lock name or a pattern: its root, then its parts.
 abbrev pub IsSpelled : Spelling → List ℕ → Type 0
 IsSpelled s text = (front rest : List ℕ) × IsRoot s.root front × IsParts s.items s.extent rest × (text ≡ front ++ rest)
@@ -60,14 +54,12 @@ IsSpelled s text = (front rest : List ℕ) × IsRoot s.root front × IsParts s.i
 abbrev pub IsSpelledPattern : Spelling → List ℕ → Type 0
 IsSpelledPattern s text = IsSpelled s text × ((name : List ℕ) × (s.root ≡ root.Global name))
 
--- An entry: a label, which is a name, digits, or missing; a caret; and a routine's name.
-abbrev pub IsEntry : List ℕ → Type 0
-IsEntry text =
-    (label routine : List ℕ) × ((are_digits label ≡ true) ⊎ (is_name label ≡ true)) × (is_name routine ≡ true)
-    × (text ≡ label ++ 94 ∷ routine)
+-- An entry has a label, which may be missing, and a routine.
+abbrev pub IsEntryText : List ℕ → Type 0
+IsEntryText text = (label routine : List ℕ) × IsEntry label routine text
 
 -- What is read is written so, and what is written so is read.
 pub record AreWritten : Type 0 where
   pub names : (text : List ℕ) (s : Spelling) → (spelling_of text ≡ Some s) ↔ IsSpelled s text
   pub patterns : (text : List ℕ) (s : Spelling) → (pattern_of text ≡ Some s) ↔ IsSpelledPattern s text
-  pub entries : (text : List ℕ) → (is_entry text ≡ true) ↔ IsEntry text
+  pub entries : (text : List ℕ) → (is_entry text ≡ true) ↔ IsEntryText text

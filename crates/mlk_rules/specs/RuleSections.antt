@@ -1,6 +1,6 @@
 -- What a rule file says, or why it is refused: a text that is written as `RuleGrammar` says is read so, and one that is
 -- not is refused with 403. This project's own choice.
-use Rattle.std.specs.Prelude.{ℕ, suc, ℤ, pos, negsuc, ◌≡◌, ◌&&◌, ◌||◌, ◌⊎◌, if◌then◌else◌, nat_lt, nat_le, Bool, true, List, [], ◌∷◌, ◌++◌, Option, Some, None, option_and_then, codes, bytes_eq, is_some, IsUtf8}
+use Rattle.std.specs.Prelude.{ℕ, suc, ℤ, pos, negsuc, ◌≡◌, ◌&&◌, ◌||◌, ◌⊎◌, if◌then◌else◌, nat_lt, nat_le, Bool, true, List, [], ◌∷◌, ◌++◌, Option, Some, None, option_and_then, codes, bytes_eq, is_some, IsUtf8, Ok, Err}
 use Rattle.toml.specs.Data.{Data, array, Items, no_items, item, Members, no_members, member, as_str, as_integer, as_table, get_member}
 use Rattle.toml.specs.Parse.{parse_document}
 use Rattle.mlk_text.specs.declared.code.Code.TheVariants as code
@@ -12,11 +12,11 @@ use Rattle.mlk_coverage.specs.declared.rules.RuleLists.{RuleLists}
 use Rattle.mlk_rules.specs.declared.read.fault.Section.{Section}
 use Rattle.mlk_rules.specs.declared.read.fault.Section.TheVariants.{File, Lock, Cover as CoverSection, Private, Readonly, Entry}
 use Rattle.mlk_rules.specs.declared.read.fault.RulesFault.{RulesFault}
-use Rattle.mlk_rules.specs.declared.read.fault.RulesError.{RulesError}
-use Rattle.mlk_rules.specs.declared.read.fault.RulesError.TheVariants as error
+use Rattle.mlk_text.specs.declared.failure.Failure.{Failure}
+use Rattle.mlk_text.specs.declared.failure.Failure.TheVariants.{OutOfMemory, Refused}
 use Rattle.mlk_rules.specs.declared.read.kinds.Spelling.{Spelling}
 use Rattle.mlk_coverage.specs.Ranks.{FamiliesApart, IsFirstMeeting}
-use Rattle.mlk_rules.specs.RuleAnswers.{section_word, Answer, Read, Refused, refused, next, answer_map}
+use Rattle.mlk_rules.specs.RuleAnswers.{section_word, Answer, refused, next, answer_map}
 use Rattle.mlk_rules.specs.RuleTexts.{spelling_of, pattern_of, is_entry}
 use Rattle.mlk_rules.specs.RuleKinds.{is_long, is_family_name, family_name, is_pattern, pattern, is_template, parts_of, template}
 
@@ -75,7 +75,7 @@ rank_of (negsuc n) = None
 abbrev pub family_with : ℕ → Option Spelling → ℕ → Answer Family
 family_with k None r = refused code.Pattern Lock k
 family_with k (Some s) r =
-    if is_family_name s then Read (record { name = family_name s; rank = r }) else refused code.Pattern Lock k
+    if is_family_name s then Ok (record { name = family_name s; rank = r }) else refused code.Pattern Lock k
 
 abbrev pub family_ranked : ℕ → Option Spelling → Option ℕ → Answer Family
 family_ranked k s None = refused code.RulesLimit Lock k
@@ -95,7 +95,7 @@ family_of k d = family_at k (family_keys (as_table d))
 -- a cover of its parts
 abbrev pub cover_of_parts : ℕ → Spelling → Spelling → Option (List Part) → Answer Cover
 cover_of_parts k p l None = refused code.TemplateVariable CoverSection k
-cover_of_parts k p l (Some parts) = Read (record { pattern = pattern p; lock = template l parts })
+cover_of_parts k p l (Some parts) = Ok (record { pattern = pattern p; lock = template l parts })
 
 abbrev pub cover_placed : ℕ → Spelling → Spelling → Answer Cover
 cover_placed k p l = cover_of_parts k p l (parts_of p.items l.items)
@@ -120,7 +120,7 @@ cover_of k d = cover_at k (cover_keys (as_table d))
 -- a pattern of a section by itself
 abbrev pub pattern_with : Section → ℕ → Option Spelling → Answer Pattern
 pattern_with s k None = refused code.Pattern s k
-pattern_with s k (Some p) = if is_pattern s p then Read (pattern p) else refused code.Pattern s k
+pattern_with s k (Some p) = if is_pattern s p then Ok (pattern p) else refused code.Pattern s k
 
 abbrev pub pattern_by : Section → ℕ → Option Spelling → Answer Pattern
 pattern_by s k p = if is_long p then refused code.RulesLimit s k else pattern_with s k p
@@ -135,7 +135,7 @@ rule_pattern_of s k d = pattern_at s k (text_key s (codes "global") (as_table d)
 
 abbrev pub entry_at : ℕ → Option (List ℕ) → Answer (List ℕ)
 entry_at k None = refused code.Key Entry k
-entry_at k (Some label) = if is_entry label then Read label else refused code.Pattern Entry k
+entry_at k (Some label) = if is_entry label then Ok label else refused code.Pattern Entry k
 
 -- the entry of the element with this index
 unfoldable pub entry_of : ℕ → Data → Answer (List ℕ)
@@ -147,7 +147,7 @@ put front others = answer_map (λ xs. front ++ xs) others
 
 -- what each element is, of which the first has this index
 abbrev pub each : {A : Type 0} → (ℕ → Data → Answer A) → ℕ → Items → Answer (List A)
-each read k no_items = Read []
+each read k no_items = Ok []
 each read k (item d ds) = next (read k d) (λ x. put (x ∷ []) (each read (suc k) ds))
 
 -- how many
@@ -172,7 +172,7 @@ elements_in (Some d) = tables_in d
 -- at most 1,024 of them
 abbrev pub limited : Section → Option Items → Answer Items
 limited s None = refused code.Key s 0
-limited s (Some ds) = if nat_lt 1024 (count ds) then refused code.RulesLimit s 0 else Read ds
+limited s (Some ds) = if nat_lt 1024 (count ds) then refused code.RulesLimit s 0 else Ok ds
 
 unfoldable pub section_of : Section → Members → Answer Items
 section_of s ms = limited s (elements_in (get_member (section_word s) ms))
@@ -183,7 +183,7 @@ all_of read s ms = next (section_of s ms) (each read 1)
 
 abbrev pub lists : List Family → List Cover → List Pattern → List Pattern → List (List ℕ) → Answer RuleLists
 lists families covers private readonly entries =
-    Read (record { families = families; covers = covers; private = private; readonly = readonly; entries = entries })
+    Ok (record { families = families; covers = covers; private = private; readonly = readonly; entries = entries })
 
 -- What the sections of a top table say: the first refusal counts, in the order of the sections.
 unfoldable pub lists_of : Members → Answer RuleLists
@@ -201,14 +201,14 @@ lists_of ms =
 pub record SomeMeet (ms : Members) (f : RulesFault) : Type 0 where
   pub rules : RuleLists
   pub index : ℕ
-  pub said : lists_of ms ≡ Read rules
+  pub said : lists_of ms ≡ Ok rules
   pub first : IsFirstMeeting rules.families index
   pub fault : f ≡ record { code = code.FamiliesMeet; section = Lock; index = index }
 
 -- What a top table says: the rules of its sections, if no two families meet.
 abbrev pub TableSays : Members → Answer RuleLists → Type 0
-TableSays ms (Read r) = (lists_of ms ≡ Read r) × FamiliesApart r.families
-TableSays ms (Refused f) = (lists_of ms ≡ Refused f) ⊎ SomeMeet ms f
+TableSays ms (Ok r) = (lists_of ms ≡ Ok r) × FamiliesApart r.families
+TableSays ms (Err f) = (lists_of ms ≡ Err f) ⊎ SomeMeet ms f
 
 -- the bytes are text, and this is their top table
 abbrev pub IsDocument : List ℕ → Members → Type 0
@@ -224,18 +224,18 @@ IsNoToml bytes f =
     (f ≡ record { code = code.Toml; section = File; index = 0 }) × (IsUtf8 bytes → parse_document bytes ≡ None)
 
 -- the same without a table, as far as memory goes
-abbrev pub NoTable : List ℕ → RulesError → Type 0
-NoTable bytes error.OutOfMemory = Unit {0}
-NoTable bytes (error.Refused f) = IsNoToml bytes f
+abbrev pub NoTable : List ℕ → Failure RulesFault → Type 0
+NoTable bytes OutOfMemory = Unit {0}
+NoTable bytes (Refused f) = IsNoToml bytes f
 
 -- The bytes say these rules.
 abbrev pub SaysRules : List ℕ → RuleLists → Type 0
-SaysRules bytes r = Says bytes (Read r)
+SaysRules bytes r = Says bytes (Ok r)
 
 -- Why the bytes are refused. Want of memory says nothing.
-abbrev pub RefusesRules : List ℕ → RulesError → Type 0
-RefusesRules bytes error.OutOfMemory = Unit {0}
-RefusesRules bytes (error.Refused f) = IsNoToml bytes f ⊎ Says bytes (Refused f)
+abbrev pub RefusesRules : List ℕ → Failure RulesFault → Type 0
+RefusesRules bytes OutOfMemory = Unit {0}
+RefusesRules bytes (Refused f) = IsNoToml bytes f ⊎ Says bytes (Err f)
 
 -- Bytes say one thing at most.
 abbrev pub OneAnswer : Type 0

@@ -1,10 +1,9 @@
 -- The texts of a rule file as functions that read them: patterns, lock names and entries. What they find is what
 -- `RuleGrammar` says, and nothing else: the law `AreWritten`. This project's own choice.
-use Rattle.std.specs.Prelude.{ℕ, suc, ◌==◌, ◌||◌, if◌then◌else◌, Bool, true, false, List, [], ◌∷◌, length, Option, Some, None, codes, bytes_eq, drop}
-use Rattle.mlk_text.specs.Reading.{◌>>=◌, with, put, many}
-use Rattle.mlk_text.specs.Lexemes.{is_digit, digits, byte_at, name_at}
+use Rattle.std.specs.Prelude.{ℕ, ◌==◌, ◌||◌, if◌then◌else◌, Bool, List, [], ◌∷◌, Option, Some, None, is_some, codes, bytes_eq}
+use Rattle.mlk_text.specs.Reading.{◌>>=◌, with, put, separated}
+use Rattle.mlk_text.specs.Lexemes.{is_digit, byte_at, name_at, root_at, entry_of}
 use Rattle.mlk_text.specs.declared.root.Root.{Root}
-use Rattle.mlk_text.specs.declared.root.Root.TheVariants as root
 use Rattle.mlk_names.specs.declared.reference.Extent.{Extent}
 use Rattle.mlk_names.specs.declared.reference.Extent.TheVariants.{Node, Tree}
 use Rattle.mlk_rules.specs.declared.read.kinds.Item.{Item}
@@ -41,10 +40,6 @@ item_at (b ∷ xs) =
 abbrev pub comma_at : List ℕ → Option (ℕ × List ℕ)
 comma_at xs = if bytes_eq xs (codes ",...)") then None else byte_at 44 xs
 
--- after a comma
-abbrev pub item_after : ℕ → List ℕ → Option (Item × List ℕ)
-item_after comma xs = item_at xs
-
 -- the end of a list: by `...` it means all below too
 abbrev pub end_of : List ℕ → Option Extent
 end_of xs = if bytes_eq xs (codes ")") then Some Node else if bytes_eq xs (codes ",...)") then Some Tree else None
@@ -53,28 +48,16 @@ end_of xs = if bytes_eq xs (codes ")") then Some Node else if bytes_eq xs (codes
 abbrev pub ended : List Item × List ℕ → Option (List Item × Extent)
 ended r = end_of r.1 >>= λ extent. Some (r.0, extent)
 
--- more items after the first one
-abbrev pub items_after : Item → List ℕ → Option (List Item × List ℕ)
-items_after first xs = with (λ more. first ∷ more) (many comma_at item_after (suc (length xs)) xs)
-
 -- one or more items, of which `...` may be the last, up to the closing parenthesis, which ends the text
 unfoldable pub list_of : List ℕ → Option (List Item × Extent)
 list_of xs =
     if bytes_eq xs (codes "...)") then Some ([], Tree)
-    else (item_at xs >>= λ first. items_after first.0 first.1 >>= ended)
+    else (separated comma_at item_at xs >>= ended)
 
 -- what is after a root: nothing, or a list in parentheses
 unfoldable pub parts_of : List ℕ → Option (List Item × Extent)
 parts_of [] = Some ([], Node)
 parts_of (b ∷ xs) = if b == 40 then list_of xs else None
-
--- a local's name, or a global's after its caret
-abbrev pub root_by : List ℕ → Option (ℕ × List ℕ) → Option (Root × List ℕ)
-root_by xs None = with root.Local (name_at xs)
-root_by xs (Some caret) = with root.Global (name_at caret.1)
-
-unfoldable pub root_at : List ℕ → Option (Root × List ℕ)
-root_at xs = root_by xs (byte_at 94 xs)
 
 -- a spelling of its parts
 abbrev pub spelling : Root → List Item × Extent → Spelling
@@ -88,39 +71,6 @@ spelling_of xs = root_at xs >>= λ r. parts_of r.1 >>= λ p. Some (spelling r.0 
 abbrev pub pattern_of : List ℕ → Option Spelling
 pattern_of xs = byte_at 94 xs >>= λ caret. spelling_of xs
 
--- what is after a name,
-abbrev pub after : Option (List ℕ × List ℕ) → Option (List ℕ)
-after None = None
-after (Some r) = Some r.1
-
--- and after a label, which may be digits or missing
-abbrev pub unlabelled : List ℕ → Option (ℕ × List ℕ) → Option (List ℕ)
-unlabelled xs (Some caret) = Some xs
-unlabelled xs None = after (name_at xs)
-
-unfoldable pub after_label : List ℕ → Option (List ℕ)
-after_label xs = if digits xs == 0 then unlabelled xs (byte_at 94 xs) else Some (drop (digits xs) xs)
-
--- a list that is used up
-abbrev pub used_up : List ℕ → Bool
-used_up [] = true
-used_up (b ∷ xs) = false
-
--- a name and nothing after it
-abbrev pub names_all : Option (List ℕ × List ℕ) → Bool
-names_all None = false
-names_all (Some r) = used_up r.1
-
--- the routine of an entry, after its caret
-abbrev pub ends_entry : Option (ℕ × List ℕ) → Bool
-ends_entry None = false
-ends_entry (Some caret) = names_all (name_at caret.1)
-
--- after the label of an entry
-abbrev pub is_entry_by : Option (List ℕ) → Bool
-is_entry_by None = false
-is_entry_by (Some xs) = ends_entry (byte_at 94 xs)
-
--- whether the text is an entry: a label that may be missing, a caret and a routine
-unfoldable pub is_entry : List ℕ → Bool
-is_entry xs = is_entry_by (after_label xs)
+-- whether the text is an entry
+abbrev pub is_entry : List ℕ → Bool
+is_entry text = is_some (entry_of text)

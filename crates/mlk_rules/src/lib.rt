@@ -11,4 +11,4 @@ pub use mlk_coverage::{
     covered_apart, entries, first_meeting, lock_of_node, marked_alike, may_meet, one_rank, rank_of,
     share_pattern, surely_lies, templates,
 };
-pub use read::{RulesError, RulesFault, Section, read_rules};
+pub use read::{RulesFault, Section, read_rules};

@@ -14,4 +14,4 @@ mod spelling;
 mod tables;
 
 pub use document::read_rules;
-pub use fault::{RulesError, RulesFault, Section};
+pub use fault::{RulesFault, Section};

@@ -1,11 +1,11 @@
 -- Laws of the lexemes: each is read exactly.
-use Rattle.std.proofs.Common.{◌≡◌, ◌<◌, ◌≤◌, ◌+◌, ℕ, suc, ◌++◌, List, [], ◌∷◌, length, take, drop, Some, None, true, false, refl, sym, ap, ◌∙◌, arith, subst, inl, inr, append_assoc, length-append, take-append-drop}
+use Rattle.std.proofs.Common.{◌≡◌, ◌<◌, ◌≤◌, ◌+◌, ℕ, ◌++◌, List, [], ◌∷◌, length, take, drop, Some, None, true, false, refl, sym, ap, ◌∙◌, arith, subst, inl, inr, append_assoc, length-append, take-append-drop}
 use Rattle.std.specs.Prelude.{Option, ◌==◌, ◌&&◌, ◌||◌, nat_le, ◌⊎◌}
 use Rattle.std.proofs.lemmas.Bool.{cases_Bool, eqb-true}
 use Rattle.std.proofs.lemmas.Bool.Decides.{nat_tests}
-use Rattle.mlk_text.specs.Reading.{put, many, Many}
-use Rattle.mlk_text.specs.Lexemes.{is_letter, is_text_byte, is_text, name_bytes, digits, byte_at, name_at, digits_at, is_exact, canonical, exactly, number_at, doubled, inside, closing, literal_at, IsNumber, IsQuoted, IsLiteral, Next, IsList, IsSubs, next, list_at, few, subs_by, subs_at}
-use Rattle.mlk_text.proofs.Readers.{then_some, pair_parts, with_some, Behind, behind-self, behind-one, behind_then, behind_length, Exact, Takes, many_sound, many_behind, many_complete}
+use Rattle.mlk_text.specs.Reading.{put, separated, Separated, Leaves, Shortens}
+use Rattle.mlk_text.specs.Lexemes.{is_letter, is_text_byte, is_text, name_bytes, digits, byte_at, name_at, digits_at, is_exact, canonical, exactly, number_at, doubled, inside, closing, literal_at, IsNumber, IsQuoted, IsLiteral, IsList, IsSubs, list_at, few, subs_by, subs_at}
+use Rattle.mlk_text.proofs.Readers.{then_some, pair_parts, with_some, Behind, behind-self, behind-one, behind_then, behind_length, Exact, Takes, separated-exact}
 
 pub byte-is : (b c : ℕ) (xs ys : List ℕ) → byte_at b xs ≡ Some (c, ys) → xs ≡ b ∷ ys
 byte-is b c [] ys h = cc h
@@ -172,36 +172,27 @@ literal-exact = record { sound = go; complete = done; behind = back }
     back value xs ys (inl h) = number-exact.behind value xs ys h
     back value xs ys (inr (is, good, none)) = (34 ∷ (doubled value ++ 34 ∷ []), ap (λ l. 34 ∷ l) (append_assoc (doubled value) (34 ∷ []) ys) ∙ sym is)
 
-next-exact : (b : ℕ) → Exact (next b) (Next b)
-next-exact b = record { sound = literal-exact.sound; complete = literal-exact.complete; behind = literal-exact.behind }
-
 pub list-exact : Exact list_at IsList
 unfolding list_at
 list-exact = record {
   sound = λ values xs ys h.
-      let f = then_some (literal_at xs) _ (values, ys) h in
-      let r = then_some (many (byte_at 44) next (suc (length f.0.1)) f.0.1) _ (values, ys) f.2 in
-      let c = with_some _ (byte_at 41 r.0.1) values ys r.2 in (
-        f.0.0,
-        r.0.0,
-        f.0.1,
-        literal-exact.sound f.0.0 xs f.0.1 f.1,
-        subst (λ l. Many (byte_at 44) Next r.0.0 f.0.1 l) (byte-is 41 c.0 r.0.1 ys c.1) (many_sound (byte_at 44) next Next next-exact _ r.0.0 f.0.1 r.0.1 r.1),
-        c.2,
-      );
-  complete = λ values xs ys (first, others, m, one, more, is).
-      rw (literal-exact.complete first xs m one) (rw (many_complete (byte_at 44) next Next (byte-takes 44) next-exact (suc (length m)) others m (41 ∷ ys) (omega arith) more)
-      (rw is refl));
-  behind = λ values xs ys (first, others, m, one, more, is).
-      behind_then xs m ys (literal-exact.behind first xs m one) (behind_then m (41 ∷ ys) ys (many_behind (byte_at 44) next Next (byte-takes 44) next-exact others m (41 ∷ ys) more) (behind-one 41 ys));
+      let r = then_some (separated (byte_at 44) literal_at xs) _ (values, ys) h in
+      let c = with_some _ (byte_at 41 r.0.1) values ys r.2 in
+      let one = literals.sound r.0.0 xs r.0.1 r.1 in
+      subst (λ l. IsList l xs ys) (sym c.2) (subst (λ l. Separated (byte_at 44) IsLiteral r.0.0 xs l) (byte-is 41 c.0 r.0.1 ys c.1) one);
+  complete = λ values xs ys h. rw (literals.complete values xs (41 ∷ ys) h) refl;
+  behind = λ values xs ys h. behind_then xs (41 ∷ ys) ys (literals.behind values xs (41 ∷ ys) h) (behind-one 41 ys);
 }
+  where
+    literals : Exact (separated (byte_at 44) literal_at) (Separated (byte_at 44) IsLiteral)
+    literals = separated-exact (byte_at 44) literal_at IsLiteral (byte-takes 44) literal-exact
 
--- an item of the code's loop leaves less
-pub next-shorter : (b : ℕ) (value xs m ys : List ℕ) → byte_at b xs ≡ Some (b, m) → literal_at m ≡ Some (value, ys) → length ys < length xs
-next-shorter b value xs m ys is one =
-    let far = (byte-takes b b xs m is).1 in
-    let near = behind_length m ys (literal-exact.behind value m ys (literal-exact.sound value m ys one)) in
-    omega arith
+-- what the code's loop rests on
+pub literal-leaves : Leaves literal_at
+literal-leaves value xs ys h = behind_length xs ys (literal-exact.behind value xs ys (literal-exact.sound value xs ys h))
+
+pub comma-shortens : (b : ℕ) → Shortens (byte_at b)
+comma-shortens b c xs ys h = (byte-takes b c xs ys h).1
 
 pub subs-exact : Exact subs_at IsSubs
 unfolding subs_at

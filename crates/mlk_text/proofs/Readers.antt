@@ -2,7 +2,7 @@
 use Rattle.std.proofs.Common.{◌≡◌, ◌<◌, ◌≤◌, ◌+◌, ℕ, zero, suc, ◌++◌, List, [], ◌∷◌, length, Some, None, refl, sym, ap, ◌∙◌, arith, subst, inl, inr, append_assoc, length-append, append-nil}
 use Rattle.std.specs.Prelude.{Option, ◌⊎◌}
 use Rattle.std.proofs.lemmas.Option.{same_Some}
-use Rattle.mlk_text.specs.Reading.{◌>>=◌, with, put, many, many_by, Many, Begins}
+use Rattle.mlk_text.specs.Reading.{◌>>=◌, with, put, many, many_by, Many, separated, Separated, Begins}
 
 -- a chain that gives something: each part gave something
 pub then_some : {A B : Type 0} (o : Option A) (f : A → Option B) (y : B) → (o >>= f) ≡ Some y → (x : A) × (o ≡ Some x) × (f x ≡ Some y)
@@ -85,6 +85,20 @@ many_complete head item Item t e (suc n) (a ∷ items) xs ys less (b, m, p, is, 
     let far = (t b xs m is).1 in
     let others = many_complete head item Item t e n items p ys (omega arith) rest in
     rw is (rw first (rw others refl))
+
+-- items with separators are read exactly
+pub separated-exact : {A : Type 0} (next : List ℕ → Option (ℕ × List ℕ)) (item : List ℕ → Option (A × List ℕ)) (Item : A → List ℕ → List ℕ → Type 0)
+    → Takes next → Exact item Item → Exact (separated next item) (Separated next Item)
+separated-exact {A = A} next item Item t e = record {
+  sound = λ items xs ys h.
+      let f = then_some (item xs) _ (items, ys) h in
+      let r = with_some _ (many next (λ _. item) (suc (length f.0.1)) f.0.1) items ys f.2 in
+      (f.0.0, r.0, f.0.1, e.sound f.0.0 xs f.0.1 f.1, many_sound next (λ _. item) (λ _. Item) (λ _. e) (suc (length f.0.1)) r.0 f.0.1 ys r.1, r.2);
+  complete = λ items xs ys (first, others, m, one, more, is).
+      rw (e.complete first xs m one) (rw (many_complete next (λ _. item) (λ _. Item) t (λ _. e) (suc (length m)) others m ys (omega arith) more) (rw is refl));
+  behind = λ items xs ys (first, others, m, one, more, is).
+      behind_then xs m ys (e.behind first xs m one) (many_behind next (λ _. item) (λ _. Item) t (λ _. e) others m ys more);
+}
 
 -- Steps of a loop that keeps `put` of its items before what is left: no head stands there,
 pub many_stops : {A B : Type 0} (head : List ℕ → Option (B × List ℕ)) (item : B → List ℕ → Option (A × List ℕ)) (front : List A) (n : ℕ) (xs : List ℕ) (whole : Option (List A × List ℕ))

@@ -5,9 +5,12 @@ use Rattle.std.specs.List.{list_all}
 use Rattle.std.proofs.lemmas.Bool.{cases_Bool, and_parts, and_from}
 use Rattle.std.proofs.Math.Seq.{take-append_seam, drop-append_seam}
 use Rattle.std.proofs.lemmas.Bool.Decides.{nat_tests}
-use Rattle.mlk_text.specs.Spellings.{is_digit, is_letter, is_name_byte, IsName, IsLabel, IsWord}
-use Rattle.mlk_text.specs.Lexemes.{or_else, letters, word_at, name_bytes, digits, name_at, digits_at, label_at}
-use Rattle.mlk_text.proofs.Readers.{pair_parts}
+use Rattle.mlk_text.specs.declared.root.Root.{Root}
+use Rattle.mlk_text.specs.declared.root.Root.TheVariants as root
+use Rattle.mlk_text.specs.Spellings.{is_digit, is_letter, is_name_byte, IsName, IsLabel, IsWord, IsRoot}
+use Rattle.mlk_text.specs.Lexemes.{byte_at, or_else, root_by, root_at, letters, word_at, name_bytes, digits, name_at, digits_at, label_at}
+use Rattle.mlk_text.proofs.Readers.{pair_parts, with_some}
+use Rattle.mlk_text.proofs.Lexemes.{byte-is}
 use Rattle.mlk_text.proofs.Runs.{stops, run-length, run-is, parted, cut-reads, cut-spelled}
 
 -- the parts of a name
@@ -94,3 +97,32 @@ label-spelled label xs ys h = go (name_at xs) refl h
         let (front, rest, is, all, stop, size) = run-is is_digit xs in
         let r = cut-spelled (digits xs) front rest label xs ys is size h in
         (subst IsLabel r.0 (inr (all, r.2)), r.3)
+
+-- no name begins with a caret
+pub no-caret : (n ys : List ℕ) → IsName n → byte_at 94 (n ++ ys) ≡ None
+no-caret [] ys h = cc h
+no-caret (b ∷ bs) ys h =
+    let first = (name-parts b bs h).0 in
+    let none : (b == 94) ≡ false = grind (arith, nat_tests) in
+    rw none refl
+
+-- a root is read as far as it goes
+pub root-reads : (r : Root) (text ys : List ℕ) → IsRoot r text → stops is_name_byte ys ≡ true → root_at (text ++ ys) ≡ Some (r, ys)
+unfolding root_at
+root-reads (root.Global name) text ys (good, is) stop = rw is (rw (name-reads name ys good stop) refl)
+root-reads (root.Local name) text ys (good, is) stop = rw is (rw (no-caret name ys good) (rw (name-reads name ys good stop) refl))
+
+-- the root that is read stands there
+pub root-spelled : (r : Root) (xs ys : List ℕ) → root_at xs ≡ Some (r, ys) → (text : List ℕ) × IsRoot r text × (xs ≡ text ++ ys)
+unfolding root_at
+root-spelled r xs ys h = go (byte_at 94 xs) refl h
+  where
+    go : (o : Option (ℕ × List ℕ)) → byte_at 94 xs ≡ o → root_by xs o ≡ Some (r, ys) → (text : List ℕ) × IsRoot r text × (xs ≡ text ++ ys)
+    go None is i =
+        let w = with_some root.Local (name_at xs) r ys i in
+        let n = name-spelled w.0 xs ys w.1 in
+        (w.0, subst (λ q. IsRoot q w.0) (sym w.2) (n.0, refl), n.1)
+    go (Some caret) is i =
+        let w = with_some root.Global (name_at caret.1) r ys i in
+        let n = name-spelled w.0 caret.1 ys w.1 in
+        (94 ∷ w.0, subst (λ q. IsRoot q (94 ∷ w.0)) (sym w.2) (n.0, refl), byte-is 94 caret.0 xs caret.1 is ∙ ap (λ l. 94 ∷ l) n.1)

@@ -8,6 +8,17 @@ abbrev pub IsTurned : {E F : Type 0} → (E → F → Type 0) → Failure E → 
 IsTurned R OutOfMemory g = g ≡ OutOfMemory
 IsTurned {E} {F} R (Refused e) g = (f : F) × R e f × (g ≡ Refused f)
 
+-- there is a reason
+abbrev pub IsRefused : {E : Type 0} → Failure E → Type 0
+IsRefused OutOfMemory = ⊥
+IsRefused (Refused e) = Unit {0}
+
+-- both are want of memory, or neither is
+abbrev pub IsLike : {E F : Type 0} → Failure E → Failure F → Type 0
+IsLike OutOfMemory OutOfMemory = Unit {0}
+IsLike (Refused e) (Refused f) = Unit {0}
+IsLike g h = ⊥
+
 -- want of memory says nothing; a reason is the one that the definition gives
 abbrev pub FailsAs : {Y E : Type 0} → Failure E → Result Y E → Type 0
 FailsAs OutOfMemory answer = Unit {0}

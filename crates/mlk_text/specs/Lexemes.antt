@@ -4,7 +4,7 @@ use Rattle.std.specs.Prelude.{ℕ, suc, ◌≡◌, ◌≤◌, ◌⊎◌, ◌==�
 use Rattle.std.specs.List.{list_all, prefix_len}
 use Rattle.mlk_text.specs.declared.root.Root.{Root}
 use Rattle.mlk_text.specs.declared.root.Root.TheVariants as root
-use Rattle.mlk_text.specs.Reading.{◌>>=◌, with, put, many, Many}
+use Rattle.mlk_text.specs.Reading.{◌>>=◌, with, put, separated, Separated}
 pub use Rattle.mlk_text.specs.Spellings.{is_digit, is_letter, is_name_byte}
 use Rattle.mlk_text.specs.Spellings.{is_name}
 
@@ -143,29 +143,18 @@ IsQuoted value xs ys = (xs ≡ 34 ∷ (doubled value ++ 34 ∷ ys)) × (is_text 
 unfoldable pub IsLiteral : List ℕ → List ℕ → List ℕ → Type 0
 IsLiteral value xs ys = IsNumber value xs ys ⊎ IsQuoted value xs ys
 
--- behind a comma
-abbrev pub Next : ℕ → List ℕ → List ℕ → List ℕ → Type 0
-Next comma value xs ys = IsLiteral value xs ys
-
 -- one or more literals with commas between them, and a closing parenthesis
 abbrev pub IsList : List (List ℕ) → List ℕ → List ℕ → Type 0
-IsList values xs ys = (first : List ℕ) × (others : List (List ℕ)) × (m : List ℕ) × IsLiteral first xs m × Many (byte_at 44) Next others m (41 ∷ ys) × (values ≡ first ∷ others)
+IsList values xs ys = Separated (byte_at 44) IsLiteral values xs (41 ∷ ys)
 
 -- Subscripts: none, or a list in parentheses (ISO/IEC 11756, glvn); at most 32.
 abbrev pub IsSubs : List (List ℕ) → List ℕ → List ℕ → Type 0
 IsSubs [] xs ys = (xs ≡ ys) × (byte_at 40 xs ≡ None)
 IsSubs (v ∷ vs) xs ys = (m : List ℕ) × (xs ≡ 40 ∷ m) × IsList (v ∷ vs) m ys × (length (v ∷ vs) ≤ 32)
 
--- reading them
-abbrev pub next : ℕ → List ℕ → Option (List ℕ × List ℕ)
-next comma xs = literal_at xs
-
--- the literals of a list, and what is behind its closing parenthesis
+-- the literals of a list, and what is after its closing parenthesis
 unfoldable pub list_at : List ℕ → Option (List (List ℕ) × List ℕ)
-list_at xs =
-    literal_at xs >>= λ first.
-    many (byte_at 44) next (suc (length first.1)) first.1 >>= λ others.
-    with (λ _. first.0 ∷ others.0) (byte_at 41 others.1)
+list_at xs = separated (byte_at 44) literal_at xs >>= λ values. with (λ _. values.0) (byte_at 41 values.1)
 
 -- no more than 32
 abbrev pub few : List (List ℕ) × List ℕ → Option (List (List ℕ) × List ℕ)

@@ -36,6 +36,11 @@ abbrev pub Many : {A B : Type 0} → (List ℕ → Option (B × List ℕ)) → (
 Many head Item [] xs ys = (xs ≡ ys) × (head xs ≡ None)
 Many {B = B} head Item (a ∷ items) xs ys = (b : B) × (m n : List ℕ) × (head xs ≡ Some (b, m)) × Item b a m n × Many head Item items n ys
 
+-- and of items, each but the first after a separator
+abbrev pub Separated : {A : Type 0} → (List ℕ → Option (ℕ × List ℕ)) → (A → List ℕ → List ℕ → Type 0) → List A → List ℕ → List ℕ → Type 0
+Separated {A = A} next Item items xs ys =
+    (first : A) × (others : List A) × (m : List ℕ) × Item first xs m × Many next (λ _. Item) others m ys × (items ≡ first ∷ others)
+
 -- the list behind this byte
 abbrev pub behind_byte : ℕ → List ℕ → Option (List ℕ)
 behind_byte b [] = None

@@ -73,7 +73,7 @@ pub fn byte_of(b: u8, bytes: &[u8]) -> Option<&[u8]>
 }
 
 /// The letters at the front, and what is after them.
-pub fn word(bytes: &[u8]) -> (&[u8], &[u8])
+pub fn word_at(bytes: &[u8]) -> (&[u8], &[u8])
     ensures { (result.0.now, result.1.now) ≡ word_at bytes.now }
 {
     bytes.split_at(letters(bytes))

@@ -1,13 +1,13 @@
 // Literals and subscripts of M.
 
 ghost use Rattle.std.specs.Prelude.{◌≡◌, ◌≤◌, ◌∷◌, [], suc, length, nat_le, ◌&&◌};
-ghost use Rattle.mlk_text.specs.Lexemes.{zeros, to_last, digits_at, number_at, inside, literal_at, list_at, subs_at, byte_at, next, canonical, canonical_of, is_exact};
-ghost use Rattle.mlk_text.specs.Reading.{many, put};
+ghost use Rattle.mlk_text.specs.Lexemes.{zeros, to_last, digits_at, number_at, inside, literal_at, list_at, subs_at, canonical, canonical_of, is_exact};
 ghost use Rattle.mlk_text.specs.Failures.{Reads};
 
 use crate::failure::Failure;
 use crate::lexeme::{byte_of, digits, is_text_byte};
 use crate::list::List;
+use crate::sequence::{Items, separated};
 use crate::spelling::NotThere;
 use crate::value::Value;
 use std::alloc::Global;
@@ -97,30 +97,40 @@ pub fn literal(alloc: Global, bytes: &[u8]) -> Result<(Value, &[u8]), Failure<No
     number(alloc, bytes)
 }
 
-fn list_rest(
-    alloc: Global,
-    first: Value,
-    bytes: &[u8],
-) -> Result<(Vec<Value>, &[u8]), Failure<NotThere>>
-    ensures { Reads (λ x. (x.0.items, x.1.now)) result (put (first ∷ []) (many (byte_at 44) next (suc (length bytes.now)) bytes.now)) }
-{
-    let mut found = Vec::new(alloc);
-    found.push(first)?;
-    let mut rest = bytes;
-    while let Some(behind) = byte_of(b',', rest) {
-        let (item, behind) = literal(alloc, behind)?;
-        found.push(item)?;
-        rest = behind;
+// Literals with commas between them.
+struct Literals;
+
+impl Items for Literals {
+    ghost use Rattle.mlk_text.specs.Lexemes.{literal_at, byte_at};
+
+    type Item = Value;
+
+    type Reason = NotThere;
+
+    ghost item_at = { λ _ xs. literal_at xs };
+
+    ghost separator_at = { λ _ xs. byte_at 44 xs };
+
+    ghost separator = { 44 };
+
+    fn item<'a>(
+        &self,
+        alloc: Global,
+        bytes: &'a [u8],
+    ) -> Result<(Value, &'a [u8]), Failure<NotThere>> {
+        literal(alloc, bytes)
     }
-    Ok((found, rest))
+
+    fn after_separator<'a>(&self, bytes: &'a [u8]) -> Option<&'a [u8]> {
+        byte_of(b',', bytes)
+    }
 }
 
 #[tactic(auto, unfolding(crate::specs::Lexemes::list_at))]
 fn list(alloc: Global, bytes: &[u8]) -> Result<(Vec<Value>, &[u8]), Failure<NotThere>>
     ensures { Reads (λ x. (x.0.items, x.1.now)) result (list_at bytes.now) }
 {
-    let (first, rest) = literal(alloc, bytes)?;
-    let (items, rest) = list_rest(alloc, first, rest)?;
+    let (items, rest) = separated(alloc, &Literals, bytes)?;
     let Some(rest) = byte_of(b')', rest) else {
         return Err(Failure::Refused(NotThere));
     };

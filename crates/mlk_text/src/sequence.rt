@@ -30,10 +30,6 @@ pub trait Items {
     /// What is after the separator at the front, where one stands there.
     fn after_separator<'a>(&self, bytes: &'a [u8]) -> Option<&'a [u8]>
         ensures { option_map (λ x. (separator, x.now)) result ≡ separator_at self.now bytes.now };
-
-    ghost leaves: { (s : Self) → Leaves (item_at s) };
-
-    ghost shortens: { (s : Self) → Shortens (separator_at s) };
 }
 
 /// One item or more, and what is after them. After a separator an item must stand.
@@ -42,6 +38,8 @@ pub fn separated<'a, R: Items>(
     items: &R,
     bytes: &'a [u8],
 ) -> Result<(Vec<R::Item>, &'a [u8]), Failure<R::Reason>>
+    requires leaves { Leaves (R.item_at items.now) }
+    requires shortens { Shortens (R.separator_at items.now) }
     ensures { Reads (λ x. (x.0.items, x.1.now)) result (separated (R.separator_at items.now) (R.item_at items.now) bytes.now) }
 {
     let (first, mut rest) = items.item(alloc, bytes)?;

@@ -1,7 +1,7 @@
 // The blocks of a certificate.
 
 ghost use Rattle.std.specs.Prelude.{◌≡◌, ◌∷◌, ◌++◌, [], suc, length, option_map, IfOk, map};
-ghost use Rattle.mlk_text.specs.Outcome.{Gives};
+ghost use Rattle.mlk_text.specs.Failures.{Reads};
 ghost use Rattle.mlk_command.specs.CertificateSpelling.{behind_label, entry_at};
 ghost use Rattle.mlk_command.specs.CertificateBlocks.{low_at, drops_at, settings_at, entry_line, body_at, block_given, blocks_at};
 ghost use Rattle.mlk_command.specs.CertificateOutcome.{GivesAt};
@@ -12,17 +12,18 @@ use crate::certificate::lexeme::{front_of, number, word_of};
 use crate::certificate::point::points;
 use indexmap::IndexSet;
 use mlk_machine::plain::EntryText;
-use mlk_text::Code;
-use mlk_text::lexeme::{ReadError, byte_of, digits, is_digit, name};
+use mlk_text::{Code, Failure, NotThere};
+use mlk_text::lexeme::{byte_of, digits, is_digit};
+use mlk_text::spelling::name;
 use mlk_walk::{Cases, EntryCert, Points};
 use std::alloc::Global;
 
 #[tactic(auto, unfolding(crate::specs::CertificateSpelling::behind_label))]
-fn behind_label(alloc: Global, bytes: &[u8]) -> Result<&[u8], ReadError>
-    ensures { Gives (λ x. x.now) result (behind_label bytes.now) }
+fn behind_label(alloc: Global, bytes: &[u8]) -> Result<&[u8], Failure<NotThere>>
+    ensures { Reads (λ x. x.now) result (behind_label bytes.now) }
 {
     let Some((first, _)) = bytes.split_first() else {
-        return Err(ReadError::Refused);
+        return Err(Failure::Refused(NotThere));
     };
     if *first == b'^' {
         return Ok(bytes);
@@ -36,12 +37,12 @@ fn behind_label(alloc: Global, bytes: &[u8]) -> Result<&[u8], ReadError>
 }
 
 #[tactic(auto, unfolding(crate::specs::CertificateSpelling::entry_at))]
-fn entry(alloc: Global, bytes: &[u8]) -> Result<(&[u8], &[u8]), ReadError>
-    ensures { Gives (λ x. (x.0.now, x.1.now)) result (entry_at bytes.now) }
+fn entry(alloc: Global, bytes: &[u8]) -> Result<(&[u8], &[u8]), Failure<NotThere>>
+    ensures { Reads (λ x. (x.0.now, x.1.now)) result (entry_at bytes.now) }
 {
     let rest = behind_label(alloc, bytes)?;
     let Some(rest) = byte_of(b'^', rest) else {
-        return Err(ReadError::Refused);
+        return Err(Failure::Refused(NotThere));
     };
     let (_, rest) = name(alloc, rest)?;
     Ok((front_of(bytes, rest), rest))
@@ -137,8 +138,8 @@ fn entry_line<'a>(
 {
     let (text, rest) = match entry(alloc, bytes) {
         Ok((text, rest)) => (text, rest),
-        Err(ReadError::OutOfMemory) => return Err(TextError::OutOfMemory),
-        Err(ReadError::Refused) => return Err(refused(bytes)),
+        Err(Failure::OutOfMemory) => return Err(TextError::OutOfMemory),
+        Err(Failure::Refused(_)) => return Err(refused(bytes)),
     };
     let Some(rest) = byte_of(b'\n', rest) else {
         return Err(refused(bytes));

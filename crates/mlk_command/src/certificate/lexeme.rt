@@ -2,12 +2,12 @@
 
 ghost use Rattle.std.specs.Prelude.{◌≡◌, ◌≤◌, ◌-◌, suc, length, option_map, take};
 ghost use Rattle.mlk_text.specs.Reading.{many};
-ghost use Rattle.mlk_text.specs.Outcome.{Gives};
+ghost use Rattle.mlk_text.specs.Failures.{Reads};
 ghost use Rattle.mlk_command.specs.CertificateSpelling.{is_plain, upto};
 ghost use Rattle.mlk_command.specs.CertificateLexing.{word_at, value_after, leads_zero, number_at, hex_value, escaped_at, piece_at, keep, constant_at};
 
-use mlk_text::Value;
-use mlk_text::lexeme::{ReadError, byte_of, digits};
+use mlk_text::{Failure, NotThere, Value};
+use mlk_text::lexeme::{byte_of, digits};
 use std::alloc::Global;
 
 /// The rest behind this word, where it stands at the front.
@@ -135,8 +135,8 @@ fn piece_of(bytes: &[u8]) -> Option<(u8, &[u8])>
     None
 }
 
-fn value_bytes(alloc: Global, bytes: &[u8]) -> Result<(Vec<u8>, &[u8]), ReadError>
-    ensures { Gives (λ x. (x.0.items, x.1.now)) result (many piece_at keep (suc (length bytes.now)) bytes.now) }
+fn value_bytes(alloc: Global, bytes: &[u8]) -> Result<(Vec<u8>, &[u8]), Failure<NotThere>>
+    ensures { Reads (λ x. (x.0.items, x.1.now)) result (many piece_at keep (suc (length bytes.now)) bytes.now) }
 {
     let mut value = Vec::new(alloc);
     let mut rest = bytes;
@@ -149,15 +149,15 @@ fn value_bytes(alloc: Global, bytes: &[u8]) -> Result<(Vec<u8>, &[u8]), ReadErro
 
 /// The constant at the front, and what is behind it.
 #[tactic(auto, unfolding(crate::specs::CertificateLexing::constant_at))]
-pub fn constant(alloc: Global, bytes: &[u8]) -> Result<(Value, &[u8]), ReadError>
-    ensures { Gives (λ x. (x.0, x.1.now)) result (constant_at bytes.now) }
+pub fn constant(alloc: Global, bytes: &[u8]) -> Result<(Value, &[u8]), Failure<NotThere>>
+    ensures { Reads (λ x. (x.0, x.1.now)) result (constant_at bytes.now) }
 {
     let Some(rest) = byte_of(b'"', bytes) else {
-        return Err(ReadError::Refused);
+        return Err(Failure::Refused(NotThere));
     };
     let (value, rest) = value_bytes(alloc, rest)?;
     let Some(rest) = byte_of(b'"', rest) else {
-        return Err(ReadError::Refused);
+        return Err(Failure::Refused(NotThere));
     };
     Ok((Value::new(value), rest))
 }

@@ -1,7 +1,7 @@
 // Reading commands.
 
 ghost use Rattle.std.specs.Prelude.{◌≡◌, ◌≤◌, length, option_map};
-ghost use Rattle.mlk_text.specs.Outcome.{Gives};
+ghost use Rattle.mlk_text.specs.Failures.{Reads};
 ghost use Rattle.mlk_command.specs.RoutineGrammar.{spaces, at_end, gap_of};
 ghost use Rattle.mlk_command.specs.RoutineReading.{lock_name_at, set_at, lock_at, action_at, gap_at, command_at, commands_at};
 ghost use Rattle.mlk_command.specs.RoutineOutcomes.{Answers, CommandsFail};
@@ -10,13 +10,15 @@ use crate::lock_root::root;
 use crate::routine::known::blame;
 use crate::routine::words::{LineError, Word, column_of, word_at, word_of};
 use mlk_machine::plain::{Action, Command, LockName, Node};
-use mlk_text::lexeme::{ReadError, byte_of, name};
+use mlk_text::lexeme::byte_of;
+use mlk_text::{Failure, NotThere};
+use mlk_text::spelling::name;
 use mlk_text::literal::{literal, subscripts};
 use std::alloc::Global;
 
 #[tactic(auto, unfolding(crate::specs::RoutineReading::lock_name_at))]
-fn lock_name(alloc: Global, bytes: &[u8]) -> Result<(LockName, &[u8]), ReadError>
-    ensures { Gives (λ x. (x.0, x.1.now)) result (lock_name_at bytes.now) }
+fn lock_name(alloc: Global, bytes: &[u8]) -> Result<(LockName, &[u8]), Failure<NotThere>>
+    ensures { Reads (λ x. (x.0, x.1.now)) result (lock_name_at bytes.now) }
 {
     let (root, rest) = root(alloc, bytes)?;
     let (subs, rest) = subscripts(alloc, rest)?;
@@ -24,16 +26,16 @@ fn lock_name(alloc: Global, bytes: &[u8]) -> Result<(LockName, &[u8]), ReadError
 }
 
 #[tactic(auto, unfolding(crate::specs::RoutineReading::set_at))]
-fn set(alloc: Global, end: u32, bytes: &[u8]) -> Result<(Action, &[u8]), ReadError>
-    ensures { Gives (λ x. (x.0, x.1.now)) result (set_at end bytes.now) }
+fn set(alloc: Global, end: u32, bytes: &[u8]) -> Result<(Action, &[u8]), Failure<NotThere>>
+    ensures { Reads (λ x. (x.0, x.1.now)) result (set_at end bytes.now) }
 {
     let Some(behind) = byte_of(b'^', bytes) else {
-        return Err(ReadError::Refused);
+        return Err(Failure::Refused(NotThere));
     };
     let (name, rest) = name(alloc, behind)?;
     let (subs, rest) = subscripts(alloc, rest)?;
     let Some(behind) = byte_of(b'=', rest) else {
-        return Err(ReadError::Refused);
+        return Err(Failure::Refused(NotThere));
     };
     let (value, rest) = literal(alloc, behind)?;
     let column = column_of(end, bytes);
@@ -49,8 +51,8 @@ fn set(alloc: Global, end: u32, bytes: &[u8]) -> Result<(Action, &[u8]), ReadErr
 }
 
 #[tactic(auto, unfolding(crate::specs::RoutineReading::lock_at))]
-fn lock(alloc: Global, end: u32, bytes: &[u8]) -> Result<(Action, &[u8]), ReadError>
-    ensures { Gives (λ x. (x.0, x.1.now)) result (lock_at end bytes.now) }
+fn lock(alloc: Global, end: u32, bytes: &[u8]) -> Result<(Action, &[u8]), Failure<NotThere>>
+    ensures { Reads (λ x. (x.0, x.1.now)) result (lock_at end bytes.now) }
 {
     if let Some(behind) = byte_of(b'+', bytes) {
         let (name, rest) = lock_name(alloc, behind)?;
@@ -58,7 +60,7 @@ fn lock(alloc: Global, end: u32, bytes: &[u8]) -> Result<(Action, &[u8]), ReadEr
         return Ok((Action::Lock { column, name }, rest));
     }
     let Some(behind) = byte_of(b'-', bytes) else {
-        return Err(ReadError::Refused);
+        return Err(Failure::Refused(NotThere));
     };
     let (name, rest) = lock_name(alloc, behind)?;
     let column = column_of(end, behind);
@@ -71,17 +73,17 @@ fn action<'a>(
     end: u32,
     word: &[u8],
     bytes: &'a [u8],
-) -> Result<(Action, &'a [u8]), ReadError>
-    ensures { Gives (λ x. (x.0, x.1.now)) result (action_at end word.now bytes.now) }
+) -> Result<(Action, &'a [u8]), Failure<NotThere>>
+    ensures { Reads (λ x. (x.0, x.1.now)) result (action_at end word.now bytes.now) }
 {
     let Some(word) = word_of(word) else {
-        return Err(ReadError::Refused);
+        return Err(Failure::Refused(NotThere));
     };
     if word == Word::Quit {
         return Ok((Action::Quit, bytes));
     }
     let Some(behind) = byte_of(b' ', bytes) else {
-        return Err(ReadError::Refused);
+        return Err(Failure::Refused(NotThere));
     };
     if word == Word::Set {
         return set(alloc, end, behind);
@@ -138,12 +140,12 @@ fn command<'a>(
     word: &[u8],
     column: u32,
     bytes: &'a [u8],
-) -> Result<(Command, &'a [u8]), ReadError>
-    ensures { Gives (λ x. (x.0, x.1.now)) result (command_at end (word.now, column) bytes.now) }
+) -> Result<(Command, &'a [u8]), Failure<NotThere>>
+    ensures { Reads (λ x. (x.0, x.1.now)) result (command_at end (word.now, column) bytes.now) }
 {
     let (action, rest) = action(alloc, end, word, bytes)?;
     let Some((_, rest)) = gap(gap_of(&action), rest) else {
-        return Err(ReadError::Refused);
+        return Err(Failure::Refused(NotThere));
     };
     Ok((Command { column, action }, rest))
 }

@@ -5,8 +5,7 @@ ghost use Rattle.mlk_command.specs.RoutineWords.{is_either, upper, full_do_to_ha
 ghost use Rattle.mlk_command.specs.RoutineOutcomes.{Blames, BlamesWord};
 
 use crate::routine::words::{LineError, LineFault, is_either};
-use mlk_text::Value;
-use mlk_text::lexeme::ReadError;
+use mlk_text::{Failure, NotThere, Value};
 use std::alloc::{AllocError, Global};
 
 #[tactic(auto, unfolding(crate::specs::RoutineWords::full_do_to_hang))]
@@ -198,12 +197,12 @@ fn blame_word(
 }
 
 /// What is wrong where a command is not read: it is left out, or its word is none of M.
-pub fn blame(alloc: Global, e: ReadError, word: &[u8], column: u32, bytes: &[u8]) -> LineError
+pub fn blame(alloc: Global, e: Failure<NotThere>, word: &[u8], column: u32, bytes: &[u8]) -> LineError
     ensures { Blames e (word.now, column) bytes.now result }
 {
     match e {
-        ReadError::OutOfMemory => LineError::OutOfMemory,
-        ReadError::Refused => match blame_word(alloc, word, column, bytes) {
+        Failure::OutOfMemory => LineError::OutOfMemory,
+        Failure::Refused(_) => match blame_word(alloc, word, column, bytes) {
             Ok(fault) => LineError::Fault(fault),
             Err(_) => LineError::OutOfMemory,
         },

@@ -1,7 +1,7 @@
 // Reading lines.
 
 ghost use Rattle.std.specs.Prelude.{◌≡◌, ◌≤◌, length, option_map};
-ghost use Rattle.mlk_text.specs.Outcome.{Gives};
+ghost use Rattle.mlk_text.specs.Failures.{Reads};
 ghost use Rattle.mlk_text.specs.Lexemes.{digits_at};
 ghost use Rattle.mlk_command.specs.RoutineGrammar.{blanks, closes, ends_here, line_len, behind_end, line_at, start_at};
 ghost use Rattle.mlk_command.specs.RoutineReading.{label_at, body_at, line_of};
@@ -10,17 +10,18 @@ ghost use Rattle.mlk_command.specs.RoutineOutcomes.{Answers, BodyFails, LineFail
 use crate::routine::commands::commands;
 use crate::routine::words::{LineError, LineFault};
 use mlk_machine::plain::{Command, Commands, Line};
-use mlk_text::Name;
-use mlk_text::lexeme::{ReadError, digits, is_digit, is_letter, is_text, name};
+use mlk_text::{Failure, Name, NotThere};
+use mlk_text::lexeme::{digits, is_digit, is_letter, is_text};
+use mlk_text::spelling::name;
 use std::alloc::Global;
 
 #[tactic(auto, unfolding(mlk_text::specs::Lexemes::digits_at))]
-fn digit_label(alloc: Global, bytes: &[u8]) -> Result<(Name, &[u8]), ReadError>
-    ensures { Gives (λ x. (x.0, x.1.now)) result (digits_at bytes.now) }
+fn digit_label(alloc: Global, bytes: &[u8]) -> Result<(Name, &[u8]), Failure<NotThere>>
+    ensures { Reads (λ x. (x.0, x.1.now)) result (digits_at bytes.now) }
 {
     let n = digits(bytes);
     if n == 0 {
-        return Err(ReadError::Refused);
+        return Err(Failure::Refused(NotThere));
     }
     let (text, rest) = bytes.split_at(n);
     let text = Vec::from_slice(alloc, text)?;
@@ -28,8 +29,8 @@ fn digit_label(alloc: Global, bytes: &[u8]) -> Result<(Name, &[u8]), ReadError>
 }
 
 #[tactic(auto, unfolding(crate::specs::RoutineReading::label_at))]
-fn label(alloc: Global, bytes: &[u8]) -> Result<(Option<Name>, &[u8]), ReadError>
-    ensures { Gives (λ x. (x.0, x.1.now)) result (label_at bytes.now) }
+fn label(alloc: Global, bytes: &[u8]) -> Result<(Option<Name>, &[u8]), Failure<NotThere>>
+    ensures { Reads (λ x. (x.0, x.1.now)) result (label_at bytes.now) }
 {
     let Some((first, _)) = bytes.split_first() else {
         return Ok((None, bytes));

@@ -12,8 +12,8 @@ use crate::routine::refusal::{RoutineError, refused};
 use crate::routine::words::{LineError, LineFault};
 use crate::twice::first_twice;
 use mlk_machine::plain::{Line, Lines, Routine};
-use mlk_text::lexeme::{ReadError, name};
-use mlk_text::{Code, LeftOut, Name};
+use mlk_text::spelling::name;
+use mlk_text::{Code, Failure, LeftOut, Name};
 use std::alloc::{AllocError, Global};
 
 // The lines of a text up to its first bad line, and what is wrong there.
@@ -140,7 +140,7 @@ pub fn stem_name(alloc: Global, stem: &[u8]) -> Result<Option<Name>, AllocError>
             }
             Ok(Some(found))
         }
-        Err(ReadError::OutOfMemory) => Err(AllocError),
-        Err(ReadError::Refused) => Ok(None),
+        Err(Failure::OutOfMemory) => Err(AllocError),
+        Err(Failure::Refused(_)) => Ok(None),
     }
 }

@@ -5,8 +5,8 @@ ghost use Rattle.mlk_command.specs.RoutineWords.{letters, column_of, word_at, wo
 ghost use Rattle.mlk_command.specs.RoutineOutcomes.{line_error};
 ghost use Rattle.mlk_command.specs.declared.routine.words.LineError.TheVariants.{OutOfMemory};
 
-use mlk_text::Value;
-use mlk_text::lexeme::{ReadError, is_letter};
+use mlk_text::{Failure, NotThere, Value};
+use mlk_text::lexeme::is_letter;
 use std::alloc::{AllocError, AllocFailed};
 
 /// The commands of straight lines.
@@ -48,13 +48,13 @@ impl<T: Drop> From<AllocFailed<T>> for LineError {
     }
 }
 
-impl From<ReadError> for LineError {
+impl From<Failure<NotThere>> for LineError {
     ghost from_gives = { λ r e. e ≡ line_error r };
 
-    fn from(e: ReadError) -> LineError {
+    fn from(e: Failure<NotThere>) -> LineError {
         match e {
-            ReadError::OutOfMemory => LineError::OutOfMemory,
-            ReadError::Refused => LineError::Fault(LineFault::Form),
+            Failure::OutOfMemory => LineError::OutOfMemory,
+            Failure::Refused(_) => LineError::Fault(LineFault::Form),
         }
     }
 }

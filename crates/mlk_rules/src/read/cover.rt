@@ -2,17 +2,17 @@
 
 ghost use Rattle.std.specs.Prelude.{◌≡◌, IfOk};
 ghost use Rattle.toml.specs.View.{view};
-ghost use Rattle.mlk_rules.specs.RuleAnswers.{Answers};
+ghost use Rattle.mlk_text.specs.Failures.{Answers};
 ghost use Rattle.mlk_rules.specs.RuleKinds.{place_of, part_of, parts_of};
 ghost use Rattle.mlk_rules.specs.RuleSections.{cover_placed, cover_by, cover_of};
 
-use crate::read::fault::{RulesError, Section, refused};
+use crate::read::fault::{RulesFault, Section, refused};
 use crate::read::kinds::{Item, Spelling, is_item, is_long, is_pattern, is_template};
 use crate::read::pattern::pattern;
 use crate::read::spelling::{spelled_name, spelled_pattern};
 use crate::read::tables::cover_keys;
 use mlk_coverage::{Cover, Part, Template};
-use mlk_text::{Code, List, Name, copy_of};
+use mlk_text::{Code, Failure, List, Name, copy_of};
 use std::alloc::{AllocError, Global};
 
 fn place_of(name: &Name, items: &[Item]) -> Option<usize>
@@ -52,7 +52,7 @@ fn cover_placed(
     index: usize,
     p: &Spelling,
     l: &Spelling,
-) -> Result<Cover, RulesError>
+) -> Result<Cover, Failure<RulesFault>>
     ensures { Answers (λ x. x) result (cover_placed index p.now l.now) }
 {
     let Some(parts) = parts_of(alloc, p.items.as_slice(), l.items.as_slice())? else {
@@ -72,7 +72,7 @@ fn cover_by(
     index: usize,
     pattern: Option<Spelling>,
     lock: Option<Spelling>,
-) -> Result<Cover, RulesError>
+) -> Result<Cover, Failure<RulesFault>>
     ensures { Answers (λ x. x) result (cover_by index pattern lock) }
 {
     if is_long(&pattern) || is_long(&lock) {
@@ -92,7 +92,11 @@ fn cover_by(
 
 /// The cover of an element, which has this index.
 #[tactic(auto, unfolding(crate::specs::RuleSections::cover_of))]
-pub fn cover(alloc: Global, index: usize, element: &toml::Value) -> Result<Cover, RulesError>
+pub fn cover(
+    alloc: Global,
+    index: usize,
+    element: &toml::Value,
+) -> Result<Cover, Failure<RulesFault>>
     ensures { Answers (λ x. x) result (cover_of index (view element.now)) }
 {
     let Some((global, lock)) = cover_keys(element) else {

@@ -2,17 +2,17 @@
 
 ghost use Rattle.std.specs.Prelude.{◌≡◌, ◌++◌, IfOk, OnOk};
 ghost use Rattle.toml.specs.View.{view};
-ghost use Rattle.mlk_rules.specs.RuleAnswers.{Answers};
+ghost use Rattle.mlk_text.specs.Failures.{Answers};
 ghost use Rattle.mlk_rules.specs.RuleKinds.{values_of, family_name};
 ghost use Rattle.mlk_rules.specs.RuleSections.{rank_of, family_by, family_of};
 
-use crate::read::fault::{RulesError, Section, refused};
+use crate::read::fault::{RulesFault, Section, refused};
 use crate::read::kinds::{Item, Spelling, is_family_name, is_long};
 use crate::read::spelling::spelled_name;
 use crate::read::tables::family_keys;
 use mlk_coverage::Family;
 use mlk_names::LockName;
-use mlk_text::{Code, Subscripts, Value, copy_of};
+use mlk_text::{Code, Failure, Subscripts, Value, copy_of};
 use std::alloc::{AllocError, Global};
 
 fn push_values(found: &mut Vec<Value>, items: &[Item]) -> Result<(), AllocError>
@@ -53,7 +53,7 @@ fn family_by(
     index: usize,
     name: Option<Spelling>,
     rank: i64,
-) -> Result<Family, RulesError>
+) -> Result<Family, Failure<RulesFault>>
     ensures { Answers (λ x. x) result (family_by index name rank) }
 {
     if is_long(&name) {
@@ -76,7 +76,11 @@ fn family_by(
 
 /// The family of an element, which has this index.
 #[tactic(auto, unfolding(crate::specs::RuleSections::family_of))]
-pub fn family(alloc: Global, index: usize, element: &toml::Value) -> Result<Family, RulesError>
+pub fn family(
+    alloc: Global,
+    index: usize,
+    element: &toml::Value,
+) -> Result<Family, Failure<RulesFault>>
     ensures { Answers (λ x. x) result (family_of index (view element.now)) }
 {
     let Some((name, rank)) = family_keys(element) else {

@@ -2,10 +2,11 @@
 
 ghost use Rattle.std.specs.Prelude.{◌≡◌};
 ghost use Rattle.mlk_rules.specs.RuleAnswers.{section_word};
-ghost use Rattle.mlk_rules.specs.declared.read.fault.RulesError.TheVariants.{OutOfMemory, Refused};
+ghost use Rattle.mlk_text.specs.declared.failure.Failure.TheVariants.{Refused};
 
-use mlk_text::Code;
-use std::alloc::{AllocError, AllocFailed};
+use mlk_text::{Code, Failure};
+use std::fmt::{self, Display, Formatter, Write};
+use thiserror::Error;
 
 /// Where in a rule file.
 #[derive(Clone, Copy, Debug, Drop, PartialEq, Eq)]
@@ -44,41 +45,25 @@ impl Section {
 
 /// Why a rule file is refused, and where: the index counts the elements of a section from 1; it is 0 where the
 /// section itself is meant.
-#[derive(Clone, Copy, Debug, Drop, PartialEq, Eq)]
+#[derive(Clone, Copy, Debug, Drop, PartialEq, Eq, Error)]
+#[error("{code}, in section {section}, element {index}")]
 pub struct RulesFault {
     pub code: Code,
     pub section: Section,
     pub index: usize,
 }
 
-/// Why a rule file was not read.
-#[derive(Debug, Drop)]
-pub enum RulesError {
-    OutOfMemory,
-    Refused(RulesFault),
-}
-
-impl From<AllocError> for RulesError {
-    ghost from_gives = { λ _ e. e ≡ OutOfMemory };
-
-    fn from(_e: AllocError) -> RulesError {
-        RulesError::OutOfMemory
-    }
-}
-
-impl<T: Drop> From<AllocFailed<T>> for RulesError {
-    ghost from_gives = { λ _ e. e ≡ OutOfMemory };
-
-    fn from(_e: AllocFailed<T>) -> RulesError {
-        RulesError::OutOfMemory
+impl Display for Section {
+    fn fmt<W: Write>(&self, f: &mut Formatter<W>) -> fmt::Result {
+        f.write_str(self.key())
     }
 }
 
 // The refusal with this code at a place of the file.
-pub(crate) fn refused(code: Code, section: Section, index: usize) -> RulesError
+pub(crate) fn refused(code: Code, section: Section, index: usize) -> Failure<RulesFault>
     ensures { result ≡ Refused (record { code = code; section = section; index = index }) }
 {
-    RulesError::Refused(RulesFault {
+    Failure::Refused(RulesFault {
         code,
         section,
         index,

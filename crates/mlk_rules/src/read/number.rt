@@ -1,11 +1,11 @@
 // Reading the numbers of rule files.
 
 ghost use Rattle.std.specs.Prelude.{◌≡◌, ◌≤◌, ◌∷◌, [], length, bytes_eq, IfOk};
-ghost use Rattle.mlk_text.specs.Outcome.{Gives};
+ghost use Rattle.mlk_text.specs.Failures.{Reads};
 ghost use Rattle.mlk_rules.specs.RuleNumbers.{fraction_len, numeral_len, number_at, negative, negative_at};
 
-use mlk_text::lexeme::{ReadError, digits};
-use mlk_text::{Value, canonical};
+use mlk_text::lexeme::digits;
+use mlk_text::{Failure, NotThere, Value, canonical};
 use std::alloc::{AllocError, Global};
 
 // How many bytes at the front are a point and digits after it.
@@ -32,13 +32,13 @@ fn numeral_len(bytes: &[u8]) -> usize
 
 /// The value of the number at the front, and what is after it.
 #[tactic(auto, unfolding(crate::specs::RuleNumbers::number_at))]
-pub fn number(alloc: Global, bytes: &[u8]) -> Result<(Value, &[u8]), ReadError>
-    ensures { Gives (λ x. (x.0, x.1.now)) result (number_at bytes.now) }
+pub fn number(alloc: Global, bytes: &[u8]) -> Result<(Value, &[u8]), Failure<NotThere>>
+    ensures { Reads (λ x. (x.0, x.1.now)) result (number_at bytes.now) }
 {
     let (text, rest) = bytes.split_at(numeral_len(bytes));
     match canonical(alloc, text)? {
         Some(value) => Ok((value, rest)),
-        None => Err(ReadError::Refused),
+        None => Err(Failure::Refused(NotThere)),
     }
 }
 
@@ -61,8 +61,8 @@ fn negative(alloc: Global, value: Value) -> Result<Value, AllocError>
 }
 
 /// The value of the number at the front, after a minus, and what is after it.
-pub fn negative_number(alloc: Global, bytes: &[u8]) -> Result<(Value, &[u8]), ReadError>
-    ensures { Gives (λ x. (x.0, x.1.now)) result (negative_at bytes.now) }
+pub fn negative_number(alloc: Global, bytes: &[u8]) -> Result<(Value, &[u8]), Failure<NotThere>>
+    ensures { Reads (λ x. (x.0, x.1.now)) result (negative_at bytes.now) }
 {
     let (value, rest) = number(alloc, bytes)?;
     Ok((negative(alloc, value)?, rest))

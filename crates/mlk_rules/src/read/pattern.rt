@@ -2,17 +2,17 @@
 
 ghost use Rattle.std.specs.Prelude.{◌≡◌, ◌++◌, IfOk, OnOk};
 ghost use Rattle.toml.specs.View.{view};
-ghost use Rattle.mlk_rules.specs.RuleAnswers.{Answers};
+ghost use Rattle.mlk_text.specs.Failures.{Answers};
 ghost use Rattle.mlk_rules.specs.RuleKinds.{elements_of, name_of, pattern};
 ghost use Rattle.mlk_rules.specs.RuleSections.{pattern_by, rule_pattern_of};
 
-use crate::read::fault::{RulesError, Section, refused};
+use crate::read::fault::{RulesFault, Section, refused};
 use crate::read::kinds::{Item, Spelling, is_long, is_pattern};
 use crate::read::spelling::spelled_pattern;
 use crate::read::tables::text_key;
 use mlk_coverage::{Element, Pattern};
 use mlk_names::Root;
-use mlk_text::{Code, List, Name};
+use mlk_text::{Code, Failure, List, Name};
 use std::alloc::{AllocError, Global};
 
 fn push_elements(found: &mut Vec<Element>, items: &[Item]) -> Result<(), AllocError>
@@ -55,7 +55,7 @@ fn pattern_by(
     section: Section,
     index: usize,
     found: Option<Spelling>,
-) -> Result<Pattern, RulesError>
+) -> Result<Pattern, Failure<RulesFault>>
     ensures { Answers (λ x. x) result (pattern_by section index found) }
 {
     if is_long(&found) {
@@ -77,7 +77,7 @@ pub fn rule_pattern(
     section: Section,
     index: usize,
     element: &toml::Value,
-) -> Result<Pattern, RulesError>
+) -> Result<Pattern, Failure<RulesFault>>
     ensures { Answers (λ x. x) result (rule_pattern_of section index (view element.now)) }
 {
     let Some(global) = text_key(section, "global", element) else {

@@ -1,15 +1,15 @@
 // Texts in quotes.
 
-ghost use Rattle.mlk_text.specs.Outcome.{Gives};
+ghost use Rattle.mlk_text.specs.Failures.{Reads};
 ghost use Rattle.mlk_rules.specs.RuleTexts.{quoted};
 
-use mlk_text::Value;
-use mlk_text::lexeme::{ReadError, byte_of};
+use mlk_text::lexeme::byte_of;
+use mlk_text::{Failure, NotThere, Value};
 use std::alloc::Global;
 
 /// The value up to the closing quote, and what is after it. It may have any byte.
-pub fn quoted(alloc: Global, bytes: &[u8]) -> Result<(Value, &[u8]), ReadError>
-    ensures { Gives (λ x. (x.0, x.1.now)) result (quoted bytes.now) }
+pub fn quoted(alloc: Global, bytes: &[u8]) -> Result<(Value, &[u8]), Failure<NotThere>>
+    ensures { Reads (λ x. (x.0, x.1.now)) result (quoted bytes.now) }
 {
     let mut value = Vec::new(alloc);
     let mut rest = bytes;
@@ -25,5 +25,5 @@ pub fn quoted(alloc: Global, bytes: &[u8]) -> Result<(Value, &[u8]), ReadError>
         value.push(b'"')?;
         rest = after;
     }
-    Err(ReadError::Refused)
+    Err(Failure::Refused(NotThere))
 }

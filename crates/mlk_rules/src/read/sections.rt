@@ -3,16 +3,16 @@
 ghost use Rattle.std.specs.Prelude.{◌≡◌, option_map};
 ghost use Rattle.toml.specs.Data.{get_member};
 ghost use Rattle.toml.specs.View.{view, table_view, items_view};
-ghost use Rattle.mlk_rules.specs.RuleAnswers.{Answers};
+ghost use Rattle.mlk_text.specs.Failures.{Answers};
 ghost use Rattle.mlk_rules.specs.RuleSections.{is_tables, tables_in, elements_in, count, section_of, each, family_of, cover_of, rule_pattern_of, entry_of};
 
 use crate::read::cover::cover;
 use crate::read::entry::entry;
 use crate::read::family::family;
-use crate::read::fault::{RulesError, Section, refused};
+use crate::read::fault::{RulesFault, Section, refused};
 use crate::read::pattern::rule_pattern;
 use mlk_coverage::{Cover, Family, Pattern};
-use mlk_text::{Code, List, Value as Text};
+use mlk_text::{Code, Failure, List, Value as Text};
 use std::alloc::Global;
 use toml::{Table, Value};
 
@@ -56,7 +56,7 @@ fn count(values: &[Value]) -> usize
 
 /// The elements of a section, at most 1,024 tables.
 #[tactic(auto, unfolding(crate::specs::RuleSections::section_of))]
-pub fn section_of(section: Section, table: &Table) -> Result<&[Value], RulesError>
+pub fn section_of(section: Section, table: &Table) -> Result<&[Value], Failure<RulesFault>>
     ensures { Answers (λ s. items_view s.now) result (section_of section (table_view table.now)) }
 {
     let Some(values) = elements_in(table, section.key()) else {
@@ -69,7 +69,7 @@ pub fn section_of(section: Section, table: &Table) -> Result<&[Value], RulesErro
 }
 
 /// The families of elements.
-pub fn families(alloc: Global, values: &[Value]) -> Result<List<Family>, RulesError>
+pub fn families(alloc: Global, values: &[Value]) -> Result<List<Family>, Failure<RulesFault>>
     ensures { Answers (λ x. x) result (each family_of 1 (items_view values.now)) }
 {
     let mut found = Vec::new(alloc);
@@ -80,7 +80,7 @@ pub fn families(alloc: Global, values: &[Value]) -> Result<List<Family>, RulesEr
 }
 
 /// The covers of elements.
-pub fn covers(alloc: Global, values: &[Value]) -> Result<List<Cover>, RulesError>
+pub fn covers(alloc: Global, values: &[Value]) -> Result<List<Cover>, Failure<RulesFault>>
     ensures { Answers (λ x. x) result (each cover_of 1 (items_view values.now)) }
 {
     let mut found = Vec::new(alloc);
@@ -95,7 +95,7 @@ pub fn patterns(
     alloc: Global,
     section: Section,
     values: &[Value],
-) -> Result<List<Pattern>, RulesError>
+) -> Result<List<Pattern>, Failure<RulesFault>>
     ensures { Answers (λ x. x) result (each (rule_pattern_of section) 1 (items_view values.now)) }
 {
     let mut found = Vec::new(alloc);
@@ -106,7 +106,7 @@ pub fn patterns(
 }
 
 /// The entries of elements.
-pub fn entries(alloc: Global, values: &[Value]) -> Result<List<Text>, RulesError>
+pub fn entries(alloc: Global, values: &[Value]) -> Result<List<Text>, Failure<RulesFault>>
     ensures { Answers (λ x. x) result (each entry_of 1 (items_view values.now)) }
 {
     let mut found = Vec::new(alloc);

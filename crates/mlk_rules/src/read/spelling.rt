@@ -1,15 +1,16 @@
 // Reading the texts of rule files.
 
 ghost use Rattle.std.specs.Prelude.{◌≡◌, bytes_eq, IfOk, option_map};
-ghost use Rattle.mlk_text.specs.Outcome.{Gives};
-ghost use Rattle.mlk_rules.specs.RuleTexts.{item_at, comma_at, items_after, end_of, list_of, parts_of, root_at, spelling_of, pattern_of};
+ghost use Rattle.mlk_text.specs.Failures.{Reads};
+ghost use Rattle.mlk_rules.specs.RuleTexts.{item_at, comma_at, end_of, list_of, parts_of, spelling_of, pattern_of};
 
 use crate::read::kinds::{Item, Spelling};
 use crate::read::number::{negative_number, number};
 use crate::read::quoted::quoted;
-use mlk_names::{Extent, Root};
-use mlk_text::List;
-use mlk_text::lexeme::{ReadError, byte_of, is_digit, name};
+use mlk_names::Extent;
+use mlk_text::lexeme::{byte_of, is_digit};
+use mlk_text::spelling::{name, root};
+use mlk_text::{Failure, Items, List, NotThere, separated};
 use std::alloc::{AllocError, Global};
 
 fn is_same(bytes: &[u8], text: &[u8]) -> bool
@@ -19,15 +20,15 @@ fn is_same(bytes: &[u8], text: &[u8]) -> bool
 }
 
 #[tactic(auto, unfolding(crate::specs::RuleTexts::item_at))]
-fn item(alloc: Global, bytes: &[u8]) -> Result<(Item, &[u8]), ReadError>
-    ensures { Gives (λ x. (x.0, x.1.now)) result (item_at bytes.now) }
+fn item(alloc: Global, bytes: &[u8]) -> Result<(Item, &[u8]), Failure<NotThere>>
+    ensures { Reads (λ x. (x.0, x.1.now)) result (item_at bytes.now) }
 {
     let Some((first, after)) = bytes.split_first() else {
-        return Err(ReadError::Refused);
+        return Err(Failure::Refused(NotThere));
     };
     if *first == b'$' {
         let Some(rest) = byte_of(b'J', after) else {
-            return Err(ReadError::Refused);
+            return Err(Failure::Refused(NotThere));
         };
         return Ok((Item::Job, rest));
     }
@@ -56,18 +57,33 @@ fn comma(bytes: &[u8]) -> Option<&[u8]>
     byte_of(b',', bytes)
 }
 
-fn items_after(alloc: Global, first: Item, bytes: &[u8]) -> Result<(Vec<Item>, &[u8]), ReadError>
-    ensures { Gives (λ x. (x.0.items, x.1.now)) result (items_after first bytes.now) }
-{
-    let mut found = Vec::new(alloc);
-    found.push(first)?;
-    let mut rest = bytes;
-    while let Some(after) = comma(rest) {
-        let (item, after) = item(alloc, after)?;
-        found.push(item)?;
-        rest = after;
+// Items with commas between them, of which none ends the list by `...`.
+struct PatternItems;
+
+impl Items for PatternItems {
+    ghost use Rattle.mlk_rules.specs.RuleTexts.{item_at, comma_at};
+
+    type Item = Item;
+
+    type Reason = NotThere;
+
+    ghost item_at = { λ _ xs. item_at xs };
+
+    ghost separator_at = { λ _ xs. comma_at xs };
+
+    ghost separator = { 44 };
+
+    fn item<'a>(
+        &self,
+        alloc: Global,
+        bytes: &'a [u8],
+    ) -> Result<(Item, &'a [u8]), Failure<NotThere>> {
+        item(alloc, bytes)
     }
-    Ok((found, rest))
+
+    fn after_separator<'a>(&self, bytes: &'a [u8]) -> Option<&'a [u8]> {
+        comma(bytes)
+    }
 }
 
 fn end(bytes: &[u8]) -> Option<Extent>
@@ -83,48 +99,35 @@ fn end(bytes: &[u8]) -> Option<Extent>
 }
 
 #[tactic(auto, unfolding(crate::specs::RuleTexts::list_of))]
-fn list(alloc: Global, bytes: &[u8]) -> Result<(List<Item>, Extent), ReadError>
-    ensures { Gives (λ x. x) result (list_of bytes.now) }
+fn list(alloc: Global, bytes: &[u8]) -> Result<(List<Item>, Extent), Failure<NotThere>>
+    ensures { Reads (λ x. x) result (list_of bytes.now) }
 {
     if is_same(bytes, b"...)") {
         return Ok((List::new(alloc), Extent::Tree));
     }
-    let (first, rest) = item(alloc, bytes)?;
-    let (items, rest) = items_after(alloc, first, rest)?;
+    let (items, rest) = separated(alloc, &PatternItems, bytes)?;
     let Some(extent) = end(rest) else {
-        return Err(ReadError::Refused);
+        return Err(Failure::Refused(NotThere));
     };
     Ok((List::of(items), extent))
 }
 
 #[tactic(auto, unfolding(crate::specs::RuleTexts::parts_of))]
-fn parts(alloc: Global, bytes: &[u8]) -> Result<(List<Item>, Extent), ReadError>
-    ensures { Gives (λ x. x) result (parts_of bytes.now) }
+fn parts(alloc: Global, bytes: &[u8]) -> Result<(List<Item>, Extent), Failure<NotThere>>
+    ensures { Reads (λ x. x) result (parts_of bytes.now) }
 {
     let Some((first, after)) = bytes.split_first() else {
         return Ok((List::new(alloc), Extent::Node));
     };
     if *first != b'(' {
-        return Err(ReadError::Refused);
+        return Err(Failure::Refused(NotThere));
     }
     list(alloc, after)
 }
 
-#[tactic(auto, unfolding(crate::specs::RuleTexts::root_at))]
-fn root(alloc: Global, bytes: &[u8]) -> Result<(Root, &[u8]), ReadError>
-    ensures { Gives (λ x. (x.0, x.1.now)) result (root_at bytes.now) }
-{
-    let Some(after) = byte_of(b'^', bytes) else {
-        let (local, rest) = name(alloc, bytes)?;
-        return Ok((Root::Local(local), rest));
-    };
-    let (global, rest) = name(alloc, after)?;
-    Ok((Root::Global(global), rest))
-}
-
 #[tactic(auto, unfolding(crate::specs::RuleTexts::spelling_of))]
-fn spelling(alloc: Global, bytes: &[u8]) -> Result<Spelling, ReadError>
-    ensures { Gives (λ x. x) result (spelling_of bytes.now) }
+fn spelling(alloc: Global, bytes: &[u8]) -> Result<Spelling, Failure<NotThere>>
+    ensures { Reads (λ x. x) result (spelling_of bytes.now) }
 {
     let (root, rest) = root(alloc, bytes)?;
     let (items, extent) = parts(alloc, rest)?;
@@ -141,8 +144,8 @@ pub fn spelled_name(alloc: Global, bytes: &[u8]) -> Result<Option<Spelling>, All
 {
     match spelling(alloc, bytes) {
         Ok(found) => Ok(Some(found)),
-        Err(ReadError::Refused) => Ok(None),
-        Err(ReadError::OutOfMemory) => Err(AllocError),
+        Err(Failure::Refused(_)) => Ok(None),
+        Err(Failure::OutOfMemory) => Err(AllocError),
     }
 }
 
