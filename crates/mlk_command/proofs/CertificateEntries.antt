@@ -1,5 +1,5 @@
 -- Names, labels and entry texts are read alike whatever follows, as long as it does not go on with them.
-use Rattle.std.proofs.Common.{◌≡◌, ◌≤◌, ◌-◌, ℕ, suc, ◌++◌, List, [], ◌∷◌, length, take, drop, map, Some, None, true, false, refl, sym, ap, ◌∙◌, arith, subst, inl, inr, append_assoc, take-append-drop, length-take, nat_eq}
+use Rattle.std.proofs.Common.{one-add, ◌≡◌, ◌≤◌, ◌-◌, ℕ, suc, ◌++◌, List, [], ◌∷◌, length, take, drop, map, Some, None, true, false, refl, sym, ap, ◌∙◌, arith, subst, inl, inr, append_assoc, take-append-drop, length-take, nat_eq}
 use Rattle.std.specs.Prelude.{Option, ◌==◌, ◌&&◌, ◌||◌, nat_le, option_map, Vec}
 use Rattle.std.proofs.Common.{Global}
 use Rattle.std.specs.Cmp.Lexicographic.{pointwise}
@@ -10,7 +10,7 @@ use Rattle.std.proofs.lemmas.Option.{same_Some}
 use Rattle.mlk_text.specs.Lexemes.{byte_at, name_at, name_bytes, is_name_byte, is_letter, is_digit, digits}
 use Rattle.mlk_text.proofs.Readers.{then_some, pair_parts}
 use Rattle.mlk_command.specs.CertificateSpelling.{behind_label, entry_at, has_text}
-use Rattle.mlk_command.proofs.CertificateParts.{byte-is, name-is, bytes-front}
+use Rattle.mlk_command.proofs.CertificateParts.{byte-is, name-is, run-front}
 use Rattle.mlk_command.proofs.CertificateFronts.{take-front}
 
 bytes-within : (xs : List ℕ) → name_bytes xs ≤ length xs
@@ -25,13 +25,6 @@ digits-within [] = omega arith
 digits-within (b ∷ xs) = elim (cases_Bool (is_digit b)) [
   | inl e ↦ rw e (let h = digits-within xs in omega arith)
   | inr e ↦ rw e (omega arith)
-]
-
-digits-front : (xs zs : List ℕ) → digits zs ≡ 0 → digits (take (digits xs) xs ++ zs) ≡ digits xs
-digits-front [] zs none = none
-digits-front (b ∷ xs) zs none = elim (cases_Bool (is_digit b)) [
-  | inl e ↦ rw e (rw e (ap suc (digits-front xs zs none)))
-  | inr e ↦ rw e none
 ]
 
 -- a front of its length
@@ -52,7 +45,7 @@ name-front-at : (b : ℕ) (xs zs : List ℕ) → ((is_letter b || (b == 37)) && 
     → name_at (b ∷ (take (name_bytes xs) xs ++ zs)) ≡ Some (b ∷ take (name_bytes xs) xs, zs)
 unfolding name_at
 name-front-at b xs zs e none =
-    let k = bytes-front xs zs none in
+    let k = run-front is_name_byte xs zs none in
     let l : length (take (name_bytes xs) xs) ≡ name_bytes xs = omega (arith, length-take (name_bytes xs) xs, bytes-within xs) in
     rw k (rw e (rw (take-own (name_bytes xs) (take (name_bytes xs) xs) zs l, drop-own (name_bytes xs) (take (name_bytes xs) xs) zs l) refl))
 
@@ -77,7 +70,7 @@ label-digits b xs m no94 isdigit h =
     let l : length (take (digits xs) xs) ≡ digits xs = omega (arith, length-take (digits xs) xs, digits-within xs) in (
       b ∷ take (digits xs) xs,
       ap (λ z. b ∷ z) (sym (take-append-drop (digits xs) xs) ∙ ap (λ z. take (digits xs) xs ++ z) h),
-      λ w. rw (no94, isdigit) (rw (digits-front xs (94 ∷ w) refl) (ap (λ z. Some z) (drop-own (digits xs) (take (digits xs) xs) (94 ∷ w) l))),
+      λ w. rw (no94, isdigit) (rw (run-front is_digit xs (94 ∷ w) refl, one-add) (ap (λ z. Some z) (drop-own (digits xs) (take (digits xs) xs) (94 ∷ w) l))),
     )
 
 label-name : (b : ℕ) (n xs m : List ℕ) → (b == 94) ≡ false → is_digit b ≡ false → name_at (b ∷ xs) ≡ Some (n, 94 ∷ m) → Label (b ∷ xs) m
@@ -96,7 +89,7 @@ label-front [] m h = cc h
 label-front (b ∷ xs) m h = elim (cases_Bool (b == 94)) [
   | inl e ↦ ([], same_Some (b ∷ xs) (94 ∷ m) (rw e at h), λ w. refl)
   | inr e ↦ elim (cases_Bool (is_digit b)) [
-    | inl d ↦ label-digits b xs m e d (same_Some (drop (digits xs) xs) (94 ∷ m) (rw (e, d) at h))
+    | inl d ↦ label-digits b xs m e d (same_Some (drop (digits xs) xs) (94 ∷ m) (rw (e, d, one-add) at h))
     | inr d ↦ go (name_at (b ∷ xs)) refl (rw (e, d) at h) e d
   ]
 ]

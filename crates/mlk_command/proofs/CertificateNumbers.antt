@@ -1,5 +1,5 @@
 -- Numbers are read from their decimal digits.
-use Rattle.std.proofs.Common.{◌≡◌, ◌<◌, ◌≤◌, ◌+◌, ◌-◌, ◌*◌, ◌/◌, ◌%◌, ℕ, suc, ◌++◌, List, [], ◌∷◌, length, map, take, drop, Some, true, false, refl, sym, ap, ◌∙◌, arith, subst, inl, inr, append_assoc, take-append-drop, append-nil}
+use Rattle.std.proofs.Common.{one-add, ◌≡◌, ◌<◌, ◌≤◌, ◌+◌, ◌-◌, ◌*◌, ◌/◌, ◌%◌, ℕ, suc, ◌++◌, List, [], ◌∷◌, length, map, take, drop, Some, true, false, refl, sym, ap, ◌∙◌, arith, subst, inl, inr, append_assoc, take-append-drop, append-nil}
 use Rattle.std.specs.Prelude.{◌==◌, nat_le}
 use Rattle.std.specs.Int.Digits.{digits_of}
 use Rattle.std.proofs.lemmas.Int.Digits.{digits_of_step}
@@ -28,7 +28,7 @@ digits-are : (xs : List ℕ) → Each IsDigit (take (digits xs) xs)
 digits-are [] = tt
 digits-are (b ∷ xs) = elim (cases_Bool (is_digit b)) [
   | inl e ↦ let P : ℕ → Type 0 = λ n. Each IsDigit (take n (b ∷ xs)) in
-      let s : suc (digits xs) ≡ digits (b ∷ xs) = rw e refl in
+      let s : suc (digits xs) ≡ digits (b ∷ xs) = rw (e, one-add) refl in
       subst P s (e, digits-are xs)
   | inr e ↦ let P : ℕ → Type 0 = λ n. Each IsDigit (take n (b ∷ xs)) in
       let s : 0 ≡ digits (b ∷ xs) = rw e refl in
@@ -48,7 +48,7 @@ digits-is ds xs ys h = elim (cases_Bool (digits xs == 0)) [
     some-digit : (xs : List ℕ) → (digits xs == 0) ≡ false → 0 < length (take (digits xs) xs)
     some-digit [] e = cc e
     some-digit (b ∷ xs) e = elim (cases_Bool (is_digit b)) [
-      | inl q ↦ let s : suc (digits xs) ≡ digits (b ∷ xs) = rw q refl in subst (λ n. 0 < length (take n (b ∷ xs))) s (omega arith)
+      | inl q ↦ let s : suc (digits xs) ≡ digits (b ∷ xs) = rw (q, one-add) refl in subst (λ n. 0 < length (take n (b ∷ xs))) s (omega arith)
       | inr q ↦ cc (rw q at e)
     ]
 

@@ -1,11 +1,12 @@
 -- What the readers of a line's parts read is what is spelled.
-use Rattle.std.proofs.Common.{◌≡◌, ◌<◌, ◌≤◌, ◌+◌, ◌*◌, ◌/◌, ◌%◌, ℕ, suc, ◌++◌, List, [], ◌∷◌, length, take, drop, Some, None, Bool, true, false, refl, sym, ap, ◌∙◌, arith, subst, inl, inr, take-append-drop, append-nil}
+use Rattle.std.proofs.Common.{one-add, ◌≡◌, ◌<◌, ◌≤◌, ◌+◌, ◌*◌, ◌/◌, ◌%◌, ℕ, suc, ◌++◌, List, [], ◌∷◌, length, take, drop, Some, None, Bool, true, false, refl, sym, ap, ◌∙◌, arith, subst, inl, inr, take-append-drop, append-nil}
 use Rattle.std.proofs.Common.{nat_eq, Bor, take_all, length-take}
 use Rattle.std.proofs.lemmas.List.{drop_all}
 use Rattle.std.specs.Cmp.Lexicographic.{pointwise}
 use Rattle.std.specs.Prelude.{MatchOption, Option, ◌==◌, ◌&&◌, ◌||◌, nat_le, codes, option_map}
 use Rattle.std.proofs.lemmas.Bool.{cases_Bool, eqb-true}
 use Rattle.std.proofs.lemmas.Bool.Decides.{nat_tests}
+use Rattle.std.specs.List.{prefix_len}
 use Rattle.mlk_text.specs.Reading.{many}
 use Rattle.mlk_text.specs.Lexemes.{byte_at, name_at, name_bytes, is_name_byte, is_letter}
 use Rattle.mlk_text.proofs.Readers.{then_some, pair_parts, with_some}
@@ -40,11 +41,11 @@ name-is text (b ∷ xs) ys h = elim (cases_Bool ((is_letter b || (b == 37)) && n
       sym (ap (λ l. b ∷ l) (take-append-drop (name_bytes xs) xs)) ∙ ap (λ l. l ++ drop (name_bytes xs) xs) p.0 ∙ ap (λ l. text ++ l) p.1
 ]
 
--- the name ends where no byte of a name stands
-pub bytes-front : (xs zs : List ℕ) → name_bytes zs ≡ 0 → name_bytes (take (name_bytes xs) xs ++ zs) ≡ name_bytes xs
-bytes-front [] zs none = none
-bytes-front (b ∷ xs) zs none = elim (cases_Bool (is_name_byte b)) [
-  | inl e ↦ rw e (rw e (ap suc (bytes-front xs zs none)))
+-- what is counted at the front ends where no such byte stands
+pub run-front : (p : ℕ → Bool) (xs zs : List ℕ) → prefix_len p zs ≡ 0 → prefix_len p (take (prefix_len p xs) xs ++ zs) ≡ prefix_len p xs
+run-front p [] zs none = none
+run-front p (b ∷ xs) zs none = elim (cases_Bool (p b)) [
+  | inl e ↦ rw (e, one-add) (rw e (one-add _ ∙ ap suc (run-front p xs zs none)))
   | inr e ↦ rw e none
 ]
 
@@ -57,7 +58,7 @@ name-rest b xs =
 name-again : (b : ℕ) (xs : List ℕ) → ((is_letter b || (b == 37)) && nat_le (name_bytes xs) 30) ≡ true → IsName (b ∷ take (name_bytes xs) xs)
 unfolding name_at
 name-again b xs e =
-    let n : name_bytes (take (name_bytes xs) xs) ≡ name_bytes xs = ap name_bytes (sym (append-nil (take (name_bytes xs) xs))) ∙ bytes-front xs [] refl in
+    let n : name_bytes (take (name_bytes xs) xs) ≡ name_bytes xs = ap name_bytes (sym (append-nil (take (name_bytes xs) xs))) ∙ run-front is_name_byte xs [] refl in
     rw n (rw e (name-rest b xs))
 
 -- a name is one name to its end

@@ -1,5 +1,5 @@
 -- What is spelled of a line's parts is read.
-use Rattle.std.proofs.Common.{◌≡◌, ◌<◌, ◌≤◌, ◌+◌, ◌-◌, ◌*◌, ◌/◌, ◌%◌, ℕ, suc, ◌++◌, List, [], ◌∷◌, length, map, get_or, Some, None, true, false, refl, sym, ap, ◌∙◌, arith, subst, inl, inr}
+use Rattle.std.proofs.Common.{one-add, ◌≡◌, ◌<◌, ◌≤◌, ◌+◌, ◌-◌, ◌*◌, ◌/◌, ◌%◌, ℕ, suc, ◌++◌, List, [], ◌∷◌, length, map, get_or, Some, None, true, false, refl, sym, ap, ◌∙◌, arith, subst, inl, inr}
 use Rattle.std.specs.Prelude.{Option, ◌==◌, ◌||◌, if◌then◌else◌, nat_le, nat_lt, codes}
 use Rattle.std.specs.Int.Digits.{digits_of, number_from_digits_after, number_from_digits, AllBelowBase}
 use Rattle.std.proofs.lemmas.Int.Digits.{number_after_ge, number_digits_of, all_below_base_digits_of, first_digits_of}
@@ -145,7 +145,7 @@ IsDigit b = is_digit b ≡ true
 
 digits-count : (ds ys : List ℕ) → Each IsDigit ds → digits ys ≡ 0 → digits (ds ++ ys) ≡ length ds
 digits-count [] ys is none = none
-digits-count (b ∷ ds) ys (is, more) none = rw is (ap suc (digits-count ds ys more none))
+digits-count (b ∷ ds) ys (is, more) none = rw (is, one-add) (ap suc (digits-count ds ys more none))
 
 digits-back : (ds ys : List ℕ) → Each IsDigit ds → 0 < length ds → digits ys ≡ 0 → digits_at (ds ++ ys) ≡ Some (ds, ys)
 unfolding digits_at

@@ -10,7 +10,7 @@ use crate::source::{Source, Sources};
 use crate::twice::first_twice;
 use mlk_machine::plain::{EntryText, Plain, Routine};
 use mlk_rules::{RulesFault, read_rules};
-use mlk_text::{Code, Fault};
+use mlk_text::{Code, Failure, Fault};
 use mlk_walk::{Report, check_all, missing_entry};
 use std::alloc::{AllocError, Global};
 

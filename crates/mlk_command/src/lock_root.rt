@@ -5,8 +5,8 @@ ghost use Rattle.mlk_command.specs.LockRoots.{root_at};
 
 use mlk_machine::plain::Root;
 use mlk_text::lexeme::byte_of;
-use mlk_text::{Failure, NotThere};
 use mlk_text::spelling::name;
+use mlk_text::{Failure, NotThere};
 use std::alloc::Global;
 
 /// The root at the front, a global behind a caret or a local, and what is behind it.

@@ -12,9 +12,9 @@ use crate::certificate::lexeme::{front_of, number, word_of};
 use crate::certificate::point::points;
 use indexmap::IndexSet;
 use mlk_machine::plain::EntryText;
-use mlk_text::{Code, Failure, NotThere};
 use mlk_text::lexeme::{byte_of, digits, is_digit};
 use mlk_text::spelling::name;
+use mlk_text::{Code, Failure, NotThere};
 use mlk_walk::{Cases, EntryCert, Points};
 use std::alloc::Global;
 

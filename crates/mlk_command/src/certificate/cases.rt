@@ -10,8 +10,8 @@ use crate::certificate::fault::{Refusal, TextError, refused};
 use crate::certificate::lexeme::{front_of, is_upto, number, word_of};
 use crate::certificate::term::case_of;
 use mlk_machine::plain::LockName;
-use mlk_text::{Code, Failure};
 use mlk_text::lexeme::byte_of;
+use mlk_text::{Code, Failure};
 use mlk_walk::Case;
 use std::alloc::Global;
 

@@ -6,8 +6,8 @@ ghost use Rattle.mlk_text.specs.Failures.{Reads};
 ghost use Rattle.mlk_command.specs.CertificateSpelling.{is_plain, upto};
 ghost use Rattle.mlk_command.specs.CertificateLexing.{word_at, value_after, leads_zero, number_at, hex_value, escaped_at, piece_at, keep, constant_at};
 
-use mlk_text::{Failure, NotThere, Value};
 use mlk_text::lexeme::{byte_of, digits};
+use mlk_text::{Failure, NotThere, Value};
 use std::alloc::Global;
 
 /// The rest behind this word, where it stands at the front.

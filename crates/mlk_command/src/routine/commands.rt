@@ -11,9 +11,9 @@ use crate::routine::known::blame;
 use crate::routine::words::{LineError, Word, column_of, word_at, word_of};
 use mlk_machine::plain::{Action, Command, LockName, Node};
 use mlk_text::lexeme::byte_of;
-use mlk_text::{Failure, NotThere};
-use mlk_text::spelling::name;
 use mlk_text::literal::{literal, subscripts};
+use mlk_text::spelling::name;
+use mlk_text::{Failure, NotThere};
 use std::alloc::Global;
 
 #[tactic(auto, unfolding(crate::specs::RoutineReading::lock_name_at))]

@@ -197,7 +197,13 @@ fn blame_word(
 }
 
 /// What is wrong where a command is not read: it is left out, or its word is none of M.
-pub fn blame(alloc: Global, e: Failure<NotThere>, word: &[u8], column: u32, bytes: &[u8]) -> LineError
+pub fn blame(
+    alloc: Global,
+    e: Failure<NotThere>,
+    word: &[u8],
+    column: u32,
+    bytes: &[u8],
+) -> LineError
     ensures { Blames e (word.now, column) bytes.now result }
 {
     match e {

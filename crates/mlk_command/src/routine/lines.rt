@@ -10,9 +10,9 @@ ghost use Rattle.mlk_command.specs.RoutineOutcomes.{Answers, BodyFails, LineFail
 use crate::routine::commands::commands;
 use crate::routine::words::{LineError, LineFault};
 use mlk_machine::plain::{Command, Commands, Line};
-use mlk_text::{Failure, Name, NotThere};
 use mlk_text::lexeme::{digits, is_digit, is_letter, is_text};
 use mlk_text::spelling::name;
+use mlk_text::{Failure, Name, NotThere};
 use std::alloc::Global;
 
 #[tactic(auto, unfolding(mlk_text::specs::Lexemes::digits_at))]

@@ -5,8 +5,8 @@ ghost use Rattle.mlk_command.specs.RoutineWords.{letters, column_of, word_at, wo
 ghost use Rattle.mlk_command.specs.RoutineOutcomes.{line_error};
 ghost use Rattle.mlk_command.specs.declared.routine.words.LineError.TheVariants.{OutOfMemory};
 
-use mlk_text::{Failure, NotThere, Value};
 use mlk_text::lexeme::is_letter;
+use mlk_text::{Failure, NotThere, Value};
 use std::alloc::{AllocError, AllocFailed};
 
 /// The commands of straight lines.
