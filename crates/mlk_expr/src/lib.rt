@@ -12,8 +12,6 @@ mod public;
 mod read;
 mod refusal;
 mod scope;
-#[cfg(test)]
-mod tests;
 mod tree;
 pub mod words;
 

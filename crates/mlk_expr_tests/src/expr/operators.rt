@@ -1,7 +1,7 @@
 // The operators: the longest is taken.
 
-use crate::tests::{is_lit, is_refused};
-use crate::{Expr, Op, Relation, read_expr};
+use crate::expr::{is_lit, is_refused};
+use mlk_expr::{Expr, Op, Relation, read_expr};
 use std::alloc::Global;
 use std::process::Abort;
 

@@ -1,7 +1,7 @@
 // Where the order of evaluation is not certain no global and no call stands, and where less may stand than everything.
 
-use crate::tests::{is_fault, is_refused, next_of};
-use crate::{
+use crate::expr::{is_fault, is_refused, next_of};
+use mlk_expr::{
     Actual, Allows, Passing, read_actuals, read_actuals_where, read_expr, read_expr_where,
     read_ref, read_ref_where,
 };

@@ -1,6 +1,6 @@
 // Each word after `$`: whole, short, and in either case.
 
-use crate::{Expr, Function, Special, read_expr};
+use mlk_expr::{Expr, Function, Special, read_expr};
 use std::alloc::Global;
 use std::process::Abort;
 use std::test::Fail;

@@ -1,7 +1,7 @@
 // Names, labels and what calls name, as they stand in commands.
 
-use crate::tests::is_fault;
-use crate::{Callee, read_callee, read_label, read_name};
+use crate::expr::is_fault;
+use mlk_expr::{Callee, read_callee, read_label, read_name};
 use mlk_text::Name;
 use std::alloc::Global;
 use std::process::Abort;

@@ -7,7 +7,8 @@ mod operators;
 mod order;
 mod words;
 
-use crate::{Actual, Expr, read_actuals, read_expr, read_ref};
+use mlk_expr::{Actual, Expr, read_actuals, read_expr, read_ref};
+use mlk_text::{Failure, Fault};
 use std::alloc::Global;
 use std::process::Abort;
 use std::test::Fail;
@@ -63,9 +64,9 @@ fn is_sum_times(tree: &Expr) -> bool {
     }
     let (plus, two) = &links[0];
     let (times, three) = &links[1];
-    *plus == crate::Op::Add
+    *plus == mlk_expr::Op::Add
         && is_lit(two, b"2")
-        && *times == crate::Op::Multiply
+        && *times == mlk_expr::Op::Multiply
         && is_lit(three, b"3")
 }
 

@@ -1,7 +1,7 @@
 // Faults, each with its column and, where something is left out, with the word for it.
 
-use crate::tests::{is_fault, is_refused};
-use crate::{read_actuals, read_ref};
+use crate::expr::{is_fault, is_refused};
+use mlk_expr::{read_actuals, read_ref};
 use std::alloc::Global;
 use std::process::Abort;
 

@@ -1,7 +1,7 @@
 // Each limit, on both sides of its edge.
 
-use crate::tests::{is_fault, is_refused, next_of};
-use crate::{read_actuals, read_ref};
+use crate::expr::{is_fault, is_refused, next_of};
+use mlk_expr::{read_actuals, read_ref};
 use std::alloc::Global;
 use std::process::Abort;
 use std::test::Fail;
