@@ -47,7 +47,11 @@ pub(crate) fn fault_line(alloc: Global, fault: &Fault) -> Result<Text, AllocErro
     text.push(b"refused ")?;
     text.push(fault.place.routine.as_bytes())?;
     text.push(b" ")?;
-    push_place(&mut text, fault.place.line as usize, fault.place.column)?;
+    push_place(
+        &mut text,
+        fault.place.line.number() as usize,
+        fault.place.column.number(),
+    )?;
     text.push(b" ")?;
     push_code(&mut text, fault.code)?;
     push_left_out(&mut text, &fault.left_out)?;

@@ -13,12 +13,13 @@ use Rattle.mlk_expr.specs.Touches.{may_stand, Standing}
 use Rattle.mlk_expr.specs.Grammar.{AreNext, IsPlaced, IsSubs, IsActual, IsActuals, AreArguments, IsChoice, IsCallee}
 use Rattle.mlk_expr.proofs.Behind as behind
 use Rattle.mlk_expr.proofs.Runs.{after_name, tame}
+use Rattle.mlk_text.specs.Places.{column_at}
 use Rattle.mlk_text.proofs.Spelled.{name-reads, name-spelled, label-reads, label-spelled}
 use Rattle.mlk_expr.proofs.JoinedParts.{opens, Joins, moved, weaker, missing-ends, ends-tame, opens-more, list-apart, list-together, next-apart, next-together, next-missing, enclosed-behind}
 
 -- the column of a text with something after it
-pub at-column : (end at : ℕ) (xs : List ℕ) → end ≡ at + length xs → column_of end xs ≡ at
-at-column end at xs h = omega arith
+pub at-column : (end at : ℕ) (xs : List ℕ) → end ≡ at + length xs → column_of end xs ≡ column_at at
+at-column end at xs h = ap column_at (omega arith)
 
 colon : (ys : List ℕ) → ends (58 ∷ ys) ≡ true
 unfolding ends

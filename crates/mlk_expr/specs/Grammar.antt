@@ -16,6 +16,7 @@ use Rattle.mlk_expr.specs.declared.scope.Passing.{Passing}
 use Rattle.mlk_expr.specs.Touches.{may_stand, subs_stand, given_stand, Standing}
 use Rattle.mlk_expr.specs.Words.{special_of, function_of, is_select}
 use Rattle.mlk_expr.specs.Lexemes.{is_match, starts_reference}
+use Rattle.mlk_text.specs.Places.{column_at}
 use Rattle.mlk_text.specs.Spellings.{IsName, IsLabel, IsWord}
 use Rattle.mlk_expr.specs.Spellings.{IsNumber, IsQuoted, IsCount, IsCodes, op_text, unary_text}
 
@@ -83,7 +84,7 @@ IsChain Atom Pattern at t s = (first : Tree) × (links : List (Op × Tree)) × (
 
 -- an item with its column
 abbrev pub IsPlaced : Spelled Tree → ℕ → ℕ × Tree → List ℕ → Type 0
-IsPlaced Item at p s = (p.0 ≡ at) × Item at p.1 s
+IsPlaced Item at p s = (p.0 ≡ column_at at) × Item at p.1 s
 
 -- Subscripts: none, or a list in parentheses; at most 32. Standard: local and global variables; the number is this
 -- project's own choice.
@@ -94,7 +95,7 @@ IsSubs Item at (p ∷ subs) s = (inner : List ℕ) × IsEnclosed inner s × IsLi
 
 -- An actual: a name after a point, nothing, or an expression. Standard: actual parameters.
 abbrev pub IsActual : Spelled Tree → ℕ → ActualTree → List ℕ → Type 0
-IsActual Item at (ByRef column name) s = (s ≡ 46 ∷ name) × (column ≡ at) × IsName name
+IsActual Item at (ByRef column name) s = (s ≡ 46 ∷ name) × (column ≡ column_at at) × IsName name
 IsActual Item at Missing s = s ≡ []
 IsActual Item at (Given t) s = Item at t s
 
@@ -154,7 +155,7 @@ IsPlain Atom Pattern at (LocalName name subs) s = (part : List ℕ) × (items : 
     × (s ≡ name ++ part) × IsName name × IsSubs (IsChain Atom Pattern) (at + length name) items part
     × (subs ≡ subs_from items)
 IsPlain Atom Pattern at (GlobalName column name subs) s = (part : List ℕ) × (items : List (ℕ × Tree))
-    × (s ≡ 94 ∷ (name ++ part)) × (column ≡ at) × IsName name
+    × (s ≡ 94 ∷ (name ++ part)) × (column ≡ column_at at) × IsName name
     × IsSubs (IsChain Atom Pattern) (suc at + length name) items part × (subs ≡ subs_from items)
 IsPlain Atom Pattern at (SpecialName special) s = (w : List ℕ) × (s ≡ 36 ∷ w) × IsWord w × (special_of w ≡ Some special)
 IsPlain Atom Pattern at (Prefixed op t) s = (operand : List ℕ) × (s ≡ unary_text op ++ operand)
@@ -167,10 +168,10 @@ IsPlain Atom Pattern at (Func f args) s = (w inner part : List ℕ) × (items : 
 IsPlain Atom Pattern at (Selected choices) s = (w inner part : List ℕ) × (items : List (Tree × Tree))
     × (s ≡ 36 ∷ (w ++ part)) × IsWord w × (is_select w ≡ true) × IsEnclosed inner part
     × IsList (IsChoice (IsChain Atom Pattern)) (2 + (at + length w)) items inner × (choices ≡ choices_from items)
-IsPlain Atom Pattern at (BareCall column callee) s = (called : List ℕ) × (s ≡ 36 ∷ 36 ∷ called) × (column ≡ at)
+IsPlain Atom Pattern at (BareCall column callee) s = (called : List ℕ) × (s ≡ 36 ∷ 36 ∷ called) × (column ≡ column_at at)
     × IsCallee callee.label callee.routine called
 IsPlain Atom Pattern at (CallOf column callee actuals) s = (called part : List ℕ) × (given : List ActualTree)
-    × (s ≡ 36 ∷ 36 ∷ (called ++ part)) × (column ≡ at) × IsCallee callee.label callee.routine called
+    × (s ≡ 36 ∷ 36 ∷ (called ++ part)) × (column ≡ column_at at) × IsCallee callee.label callee.routine called
     × IsActuals (IsChain Atom Pattern) (2 + (at + length called)) given part × (actuals ≡ actuals_from given)
 
 -- an operand, perhaps in parentheses, which leave no node

@@ -3,6 +3,7 @@ use Rattle.std.specs.Prelude.{ℕ, suc, ◌+◌, ◌-◌, ◌==◌, ◌&&◌, �
 use Rattle.std.specs.Prelude.{length, Option, Some, None, take, drop}
 use Rattle.std.specs.List.{prefix_len}
 use Rattle.mlk_text.specs.Lexemes.{is_digit, is_letter, or_else, digits, byte_at, name_at}
+use Rattle.mlk_text.specs.Places.{column_at}
 use Rattle.mlk_text.specs.Reading.{with}
 use Rattle.mlk_text.specs.declared.operator.Op.{Op}
 use Rattle.mlk_text.specs.declared.operator.Op.TheVariants as op
@@ -15,7 +16,7 @@ use Rattle.mlk_expr.specs.declared.lexeme.Kind.TheVariants as kind
 
 -- the column where xs begins, in a line whose end has this column
 abbrev pub column_of : ℕ → List ℕ → ℕ
-column_of end xs = end - length xs
+column_of end xs = column_at (end - length xs)
 
 -- An operator of one byte. Standard: arithmetic binary operators, concatenation,
 unfoldable pub arithmetic_of : ℕ → Option Op

@@ -2,6 +2,7 @@
 use Rattle.std.specs.Prelude.{ℕ, suc, ◌≡◌, ◌≤◌, min, nat_le, ◌&&◌, ◌||◌, not, is_some, if◌then◌else◌, Option, Some}
 use Rattle.std.specs.Prelude.{None, Bool, true, false, List, [], ◌∷◌, ◌++◌, length, drop, ◌==◌}
 use Rattle.mlk_text.specs.Lexemes.{is_digit, is_name_byte}
+use Rattle.mlk_text.specs.Places.{column_at}
 use Rattle.mlk_text.specs.Codes.{number_of}
 use Rattle.mlk_text.specs.declared.fault.Fault.{Fault}
 use Rattle.mlk_expr.specs.declared.scope.Passing.{Passing}
@@ -71,10 +72,6 @@ Refuses Is Ends line at OutOfMemory = Unit {0}
 Refuses {A = A} Is Ends line at (Refused fault) = (a : A) (text rest : List ℕ) → drop at line ≡ text ++ rest
     → Is (suc at) a text → Ends a rest → ⊥
 
--- The greatest column that a place can tell. This project's own choice.
-abbrev pub greatest_column : ℕ
-greatest_column = 4294967295
-
 -- The numbers of what is told: 101 to 104, and 207 where names may not be passed by reference.
 abbrev pub may_tell : Passing → ℕ → Bool
 may_tell p n = (nat_le 101 n && nat_le n 104) || (not (lends p) && (n == 207))
@@ -86,7 +83,7 @@ pub record IsFault (p : Passing) (line : List ℕ) (at : ℕ) (fault : Fault) : 
   pub worded : is_some fault.left_out ≡ (number_of fault.code == 102)
   pub unnamed : fault.place.routine ≡ []
   pub on_line : fault.place.line ≡ 1
-  pub after : min (suc at) greatest_column ≤ fault.place.column
+  pub after : column_at (suc at) ≤ fault.place.column
   pub within : fault.place.column ≤ suc (length line)
 
 abbrev pub Faults : Passing → List ℕ → ℕ → Failure Fault → Type 0

@@ -1,13 +1,13 @@
 // Why a part of a line was not read, as callers see it.
 
-ghost use Rattle.std.specs.Prelude.{◌≡◌, ◌≤◌, suc, min, length, true, is_some, ◌==◌};
+ghost use Rattle.std.specs.Prelude.{◌≡◌, ◌≤◌, length, true, is_some, ◌==◌};
 ghost use Rattle.mlk_text.specs.Codes.{number_of};
 ghost use Rattle.mlk_text.specs.Failures.{IsLike};
-ghost use Rattle.mlk_expr.specs.Theorem.{greatest_column, may_tell, Faults};
+ghost use Rattle.mlk_expr.specs.Theorem.{may_tell, Faults};
 
 use crate::refusal::{Offence, Wrong};
 use crate::scope::Passing;
-use mlk_text::{Code, Failure, Fault, LeftOut, Place, Value};
+use mlk_text::{Code, Column, Failure, Fault, LeftOut, LineNumber, Place, Value};
 use std::alloc::Global;
 
 // The code of what is wrong, and what is left out. A name by reference is refused only where it may not be passed.
@@ -22,18 +22,6 @@ fn told(passing: Passing, wrong: Wrong) -> (Code, Option<LeftOut>)
         Wrong::NameLong => (Code::NameLong, None),
         Wrong::Lent if passing.lends() => (Code::ExprForm, None),
         Wrong::Lent => (Code::ArgumentForm, None),
-    }
-}
-
-// The column of the byte before which so many stand.
-fn column_after(before: usize) -> u32
-    ensures least { min (suc before) greatest_column ≤ result }
-    ensures most { result ≤ suc before }
-{
-    if before >= u32::MAX as usize {
-        u32::MAX
-    } else {
-        before as u32 + 1
     }
 }
 
@@ -59,8 +47,8 @@ pub(crate) fn located(
         code,
         place: Place {
             routine: Value::new(Vec::new(alloc)),
-            line: 1,
-            column: column_after(before),
+            line: LineNumber::new(1),
+            column: Column::at(before + 1),
         },
         left_out,
     })

@@ -6,7 +6,7 @@ ghost use Rattle.mlk_expr.specs.Lexemes.{is_match, unary_of, kind_of, count_at, 
 ghost use Rattle.mlk_expr.specs.Lexemes.{pattern_codes_at, starts_reference, is_missing, ends};
 
 use mlk_text::lexeme::{byte_of, digits, is_digit, is_letter};
-use mlk_text::{Op, Relation, UnaryOp};
+use mlk_text::{Column, Op, Relation, UnaryOp};
 
 /// What a byte begins.
 #[derive(Clone, Copy, Debug, Drop, PartialEq, Eq)]
@@ -22,10 +22,10 @@ pub enum Kind {
 }
 
 /// The column where these bytes begin, in a line whose end has this column.
-pub fn column_of(end: usize, bytes: &[u8]) -> usize
+pub fn column_of(end: usize, bytes: &[u8]) -> Column
     ensures { result ≡ column_of end bytes.now }
 {
-    end.saturating_sub(bytes.len())
+    Column::at(end.saturating_sub(bytes.len()))
 }
 
 #[tactic(auto, unfolding(crate::specs::Lexemes::arithmetic_of))]

@@ -1,6 +1,6 @@
 // Syntax trees of expressions. Parentheses leave no node.
 
-use mlk_text::{Name, Op, UnaryOp, Value};
+use mlk_text::{Column, Name, Op, UnaryOp, Value};
 
 /// A special variable.
 #[derive(Clone, Copy, Debug, Drop, PartialEq, Eq)]
@@ -53,7 +53,7 @@ pub struct Callee {
 #[derive(Drop)]
 #[cycle(syntax)]
 pub struct Subscript {
-    pub column: usize,
+    pub column: Column,
     pub value: Expr,
 }
 
@@ -63,7 +63,7 @@ pub struct Subscript {
 pub enum Actual {
     Value(Expr),
     /// a name after a point, with the column of the point
-    ByRef(usize, Name),
+    ByRef(Column, Name),
     /// nothing
     Missing,
 }
@@ -78,7 +78,7 @@ pub enum Expr {
     Free,
     Local(Name, Vec<Subscript>),
     /// with the column of its `^`
-    Global(usize, Name, Vec<Subscript>),
+    Global(Column, Name, Vec<Subscript>),
     Special(Special),
     Unary(UnaryOp, Box<Expr>),
     /// The first operand, and each further one after its operator. It means the tree that is assigned from the left.
@@ -89,5 +89,5 @@ pub enum Expr {
     /// the conditions of `$SELECT`, each with its value
     Select(Vec<(Expr, Expr)>),
     /// with the column of its `$$`; without an actual list there are no actuals, not even an empty list of them
-    Call(usize, Callee, Option<Vec<Actual>>),
+    Call(Column, Callee, Option<Vec<Actual>>),
 }

@@ -37,7 +37,9 @@ pub(crate) fn is_fault(error: &Failure<Fault>, number: u16, column: u32, word: &
         None => word.is_empty(),
     };
     let place = &fault.place;
-    let placed = place.routine.as_bytes().is_empty() && place.line == 1 && place.column == column;
+    let placed = place.routine.as_bytes().is_empty()
+        && place.line.number() == 1
+        && place.column.number() == column;
     fault.code.number() == number && placed && same_word
 }
 
@@ -75,8 +77,8 @@ fn is_global_a_of_1(tree: &Expr) -> bool {
     let Expr::Global(column, name, subs) = tree else {
         return false;
     };
-    let named = *column == 1 && name.as_bytes() == b"A".as_slice();
-    named && subs.len() == 1 && subs[0].column == 4 && is_lit(&subs[0].value, b"1")
+    let named = column.number() == 1 && name.as_bytes() == b"A".as_slice();
+    named && subs.len() == 1 && subs[0].column.number() == 4 && is_lit(&subs[0].value, b"1")
 }
 
 // `.X,1` in parentheses.
@@ -85,7 +87,7 @@ fn is_x_and_1(given: &[Actual]) -> bool {
         return false;
     }
     let lent = match &given[0] {
-        Actual::ByRef(column, name) => *column == 2 && name.as_bytes() == b"X".as_slice(),
+        Actual::ByRef(column, name) => column.number() == 2 && name.as_bytes() == b"X".as_slice(),
         _ => false,
     };
     match &given[1] {

@@ -1,5 +1,6 @@
 pub mod Codes
 pub mod Words
+pub mod Places
 pub mod Reading
 pub mod Spellings
 pub mod Lexemes

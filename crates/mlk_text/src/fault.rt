@@ -4,17 +4,9 @@ ghost use Rattle.std.specs.Prelude.{◌≡◌};
 ghost use Rattle.mlk_text.specs.Words.{left_out_word};
 
 use crate::code::Code;
+use crate::place::Place;
 use crate::value::Value;
 use thiserror::Error;
-
-/// A place in a routine text. Lines and columns count from 1, columns in bytes.
-#[derive(Drop, Debug)]
-pub struct Place {
-    /// The routine's name as the program prints it: a text, since a stem may be no name.
-    pub routine: Value,
-    pub line: u32,
-    pub column: u32,
-}
 
 /// What a fault of 102 or 206 leaves out.
 #[derive(Drop, Debug)]

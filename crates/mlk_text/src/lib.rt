@@ -14,6 +14,7 @@ mod meaning;
 mod name;
 mod numeral;
 mod operator;
+mod place;
 mod root;
 mod sequence;
 pub mod spelling;
@@ -23,7 +24,7 @@ mod value;
 pub use code::Code;
 pub use copy::copy_of;
 pub use failure::Failure;
-pub use fault::{Fault, LeftOut, Place};
+pub use fault::{Fault, LeftOut};
 pub use folding::{fold, fold_number, fold_unary, whole};
 pub use law::{
     both_read, entries_written, literals_canonical, one_canonical, one_code, one_text, one_whole,
@@ -32,6 +33,7 @@ pub use list::List;
 pub use name::Name;
 pub use numeral::canonical;
 pub use operator::{Op, Relation, UnaryOp};
+pub use place::{Column, LineNumber, Place};
 pub use root::Root;
 pub use sequence::{Items, separated};
 pub use spelling::NotThere;

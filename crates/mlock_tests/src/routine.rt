@@ -41,7 +41,10 @@ fn is_fault(fault: &Fault, number: u16, line: u32, column: u32, word: &[u8]) -> 
         Some(left_out) => left_out.word() == word,
     };
     let place = &fault.place;
-    fault.code.number() == number && place.line == line && place.column == column && same_word
+    fault.code.number() == number
+        && place.line.number() == line
+        && place.column.number() == column
+        && same_word
 }
 
 fn is_refused(

@@ -5,7 +5,7 @@ ghost use Rattle.mlk_command.specs.RoutineRefusals.{fault_at};
 ghost use Rattle.mlk_command.specs.RoutineOutcomes.{RefusesAs};
 ghost use Rattle.mlk_command.specs.declared.routine.refusal.RoutineError.TheVariants.{OutOfMemory};
 
-use mlk_text::{Code, Fault, LeftOut, Place, Value};
+use mlk_text::{Code, Column, Fault, LeftOut, LineNumber, Place, Value};
 use std::alloc::{AllocError, Global};
 
 /// Why a routine was not read.
@@ -39,8 +39,8 @@ pub fn refused(
     };
     let place = Place {
         routine: Value::new(name),
-        line,
-        column,
+        line: LineNumber::new(line),
+        column: Column::new(column),
     };
     RoutineError::Refused(Fault {
         code,
