@@ -11,7 +11,7 @@ use Rattle.mlk_walk.specs.declared.cert.EntryCert.{EntryCert}
 use Rattle.mlk_walk.specs.declared.cert.Certificate.{Certificate}
 use Rattle.mlk_command.specs.CertificateSpelling.{each, Grows, decimal, spell_low, spell_drops, spell_heading, spell_exit_line, spell_point, spell_block, need_line, mods_line, head_line, end_line, exit_end, IsCase, IsPoint, IsLow, IsEntry, IsBlock, Spells, entry_at, has_text, entries}
 use Rattle.mlk_command.specs.CertificateLexing.{word_at, number_at}
-use Rattle.mlk_command.specs.CertificateBlocks.{Outcome, must, ended, low_by, low_at, drops_by, drops_at, entry_line, settings_at, block_of, body_at, block_given, block_item, blocks_at, certificate_of, finish, behind_head, certificate_at, cases_at, points_at}
+use Rattle.mlk_command.specs.CertificateBlocks.{Outcome, must, ended, low_by, low_at, drops_by, drops_at, entry_line, settings_at, block_of, body_at, block_given, block_item, blocks_at, certificate_of, finish, after_head, certificate_at, cases_at, points_at}
 use Rattle.mlk_command.proofs.CertificateParts.{byte-is, word-is}
 use Rattle.mlk_command.proofs.CertificateNumbers.{number-is}
 use Rattle.mlk_command.proofs.CertificateEntries.{entry-front}
@@ -147,7 +147,7 @@ certificate-is c text ys h = elim (cases_Bool (nat_lt 67108864 (length text))) [
     fits : (n : ℕ) → nat_lt 67108864 n ≡ false → n ≤ 67108864
     fits n e = grind (arith, nat_tests)
 
-    go : (o : Option (List ℕ × List ℕ)) → word_at head_line text ≡ o → behind_head text o ≡ Ok (c, ys) → length text ≤ 67108864 → Spells c text × (ys ≡ [])
+    go : (o : Option (List ℕ × List ℕ)) → word_at head_line text ≡ o → after_head text o ≡ Ok (c, ys) → length text ≤ 67108864 → Spells c text × (ys ≡ [])
     go None is k le = cc k
     go (Some w) is k le =
         let b = then_ok (blocks_at w.1) finish (c, ys) k in
@@ -156,7 +156,7 @@ certificate-is c text ys h = elim (cases_Bool (nat_lt 67108864 (length text))) [
         let P : Certificate → Type 0 = λ z. Spells z text in
         (subst P f.1 (word-is head_line w.0 text w.1 is ∙ ap (λ z. head_line ++ z) (s.0 ∙ ap (each spell_block b.0.0) f.0), s.1, le), f.2)
 
--- a block's line ends behind where it begins
+-- a block's line ends after where it begins
 pub block-shorter : (texts : List (List ℕ)) (b : EntryCert) (xs m ys : List ℕ) → word_at (codes "entry ") xs ≡ Some (codes "entry ", m) → block_given texts m ≡ Ok (b, ys) → length ys < length xs
 block-shorter texts b xs m ys h k =
     let s = block-is texts b m ys k in

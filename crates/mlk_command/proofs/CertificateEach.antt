@@ -30,7 +30,7 @@ many_spelled {A = A} {B = B} head item spell Is step (suc k) items xs ys h = go 
         let P : List A → Type 0 = λ l. (xs ≡ each spell l ys) × Each Is l in
         subst P (sym r.2) (one.0 ∙ ap (spell a.0.0) others.0, (one.1, others.1))
 
--- what is behind items may follow each of them
+-- what is after items may follow each of them
 each_ends : {A : Type 0} (spell : A → List ℕ → List ℕ) (Ends : List ℕ → Type 0) → ((a : A) (n : List ℕ) → Ends (spell a n))
     → (items : List A) (ys : List ℕ) → Ends ys → Ends (each spell items ys)
 each_ends spell Ends starts [] ys e = e

@@ -9,7 +9,7 @@ use Rattle.std.proofs.lemmas.Bool.{cases_Bool}
 use Rattle.std.proofs.lemmas.Option.{same_Some}
 use Rattle.mlk_text.specs.Lexemes.{byte_at, name_at, name_bytes, is_name_byte, is_letter, is_digit, digits}
 use Rattle.mlk_text.proofs.Readers.{then_some, pair_parts}
-use Rattle.mlk_command.specs.CertificateSpelling.{behind_label, entry_at, has_text}
+use Rattle.mlk_command.specs.CertificateSpelling.{after_label, entry_at, has_text}
 use Rattle.mlk_command.proofs.CertificateParts.{byte-is, name-is, run-front}
 use Rattle.mlk_command.proofs.CertificateFronts.{take-front}
 
@@ -62,10 +62,10 @@ name-front n (b ∷ xs) ys zs h none =
 
 -- a label before a `^`
 abbrev Label : List ℕ → List ℕ → Type 0
-Label xs m = (l : List ℕ) × (xs ≡ l ++ 94 ∷ m) × ((w : List ℕ) → behind_label (l ++ 94 ∷ w) ≡ Some (94 ∷ w))
+Label xs m = (l : List ℕ) × (xs ≡ l ++ 94 ∷ m) × ((w : List ℕ) → after_label (l ++ 94 ∷ w) ≡ Some (94 ∷ w))
 
 label-digits : (b : ℕ) (xs m : List ℕ) → (b == 94) ≡ false → is_digit b ≡ true → drop (digits xs) xs ≡ 94 ∷ m → Label (b ∷ xs) m
-unfolding behind_label
+unfolding after_label
 label-digits b xs m no94 isdigit h =
     let l : length (take (digits xs) xs) ≡ digits xs = omega (arith, length-take (digits xs) xs, digits-within xs) in (
       b ∷ take (digits xs) xs,
@@ -74,7 +74,7 @@ label-digits b xs m no94 isdigit h =
     )
 
 label-name : (b : ℕ) (n xs m : List ℕ) → (b == 94) ≡ false → is_digit b ≡ false → name_at (b ∷ xs) ≡ Some (n, 94 ∷ m) → Label (b ∷ xs) m
-unfolding behind_label
+unfolding after_label
 label-name b n xs m no94 nodigit h =
     let p = name-parts b n xs (94 ∷ m) h in
     let s = name-is n (b ∷ xs) (94 ∷ m) h in (
@@ -83,8 +83,8 @@ label-name b n xs m no94 nodigit h =
       λ w. rw (no94, nodigit) (rw (name-front-at b xs (94 ∷ w) p.0 refl) refl),
     )
 
-label-front : (xs m : List ℕ) → behind_label xs ≡ Some (94 ∷ m) → Label xs m
-unfolding behind_label
+label-front : (xs m : List ℕ) → after_label xs ≡ Some (94 ∷ m) → Label xs m
+unfolding after_label
 label-front [] m h = cc h
 label-front (b ∷ xs) m h = elim (cases_Bool (b == 94)) [
   | inl e ↦ ([], same_Some (b ∷ xs) (94 ∷ m) (rw e at h), λ w. refl)
@@ -98,17 +98,17 @@ label-front (b ∷ xs) m h = elim (cases_Bool (b == 94)) [
     go None is k e d = cc k
     go (Some r) is k e d = label-name b r.0 xs m e d (is ∙ ap (λ l. Some (r.0, l)) (same_Some r.1 (94 ∷ m) k))
 
-entry-again : (l n zs : List ℕ) → behind_label (l ++ 94 ∷ (n ++ zs)) ≡ Some (94 ∷ (n ++ zs)) → name_at (n ++ zs) ≡ Some (n, zs) → entry_at ((l ++ 94 ∷ n) ++ zs) ≡ Some (l ++ 94 ∷ n, zs)
+entry-again : (l n zs : List ℕ) → after_label (l ++ 94 ∷ (n ++ zs)) ≡ Some (94 ∷ (n ++ zs)) → name_at (n ++ zs) ≡ Some (n, zs) → entry_at ((l ++ 94 ∷ n) ++ zs) ≡ Some (l ++ 94 ∷ n, zs)
 unfolding entry_at
 entry-again l n zs a b =
-    let k : behind_label ((l ++ 94 ∷ n) ++ zs) ≡ Some (94 ∷ (n ++ zs)) = ap behind_label (append_assoc l (94 ∷ n) zs) ∙ a in
+    let k : after_label ((l ++ 94 ∷ n) ++ zs) ≡ Some (94 ∷ (n ++ zs)) = ap after_label (append_assoc l (94 ∷ n) zs) ∙ a in
     rw k (rw b (ap (λ z. Some (z, zs)) (take-front (l ++ 94 ∷ n) zs)))
 
--- an entry text stands before what is behind it, and is read alike before anything that does not go on with it
+-- an entry text stands before what is after it, and is read alike before anything that does not go on with it
 pub entry-front : (e xs ys zs : List ℕ) → entry_at xs ≡ Some (e, ys) → name_bytes zs ≡ 0 → (xs ≡ e ++ ys) × (entry_at (e ++ zs) ≡ Some (e, zs))
 unfolding entry_at
 entry-front e xs ys zs h none =
-    let l = then_some (behind_label xs) _ (e, ys) h in
+    let l = then_some (after_label xs) _ (e, ys) h in
     let c = then_some (byte_at 94 l.0) _ (e, ys) l.2 in
     let n = then_some (name_at c.0.1) _ (e, ys) c.2 in
     let p = pair_parts (take (length xs - length n.0.1) xs) e n.0.1 ys n.2 in

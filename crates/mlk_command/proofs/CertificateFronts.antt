@@ -1,4 +1,4 @@
--- What a spelling puts before the text behind it.
+-- What a spelling puts before the text after it.
 use Rattle.std.proofs.Common.{◌≡◌, ◌-◌, ℕ, ◌++◌, List, [], ◌∷◌, length, take, Some, refl, sym, ap, ◌∙◌, arith, inl, inr, append_assoc, length-append}
 use Rattle.std.specs.Prelude.{◌==◌, codes}
 use Rattle.std.proofs.lemmas.Bool.{cases_Bool}
@@ -9,7 +9,7 @@ use Rattle.mlk_command.specs.CertificateSpelling.{each, is_plain, spell_byte, sp
 use Rattle.mlk_command.specs.CertificateLexing.{term_at, case_at}
 use Rattle.mlk_command.proofs.CertificateParts.{term-is, case-is}
 
--- it does not look at the text behind
+-- it does not look at the text after
 abbrev pub Fronts : {A : Type 0} → (A → List ℕ → List ℕ) → Type 0
 Fronts {A = A} spell = (a : A) (m ys : List ℕ) → spell a (m ++ ys) ≡ spell a m ++ ys
 

@@ -43,7 +43,7 @@ pub fitted_ok : {A : Type 0} (o : Option Code) (r s : A × List ℕ) (left : ℕ
 fitted_ok None r s left h = (refl, same_Ok r s h)
 fitted_ok (Some code) r s left h = cc h
 
--- What `run` reads is what `each` spells, and grows behind what stands in front.
+-- What `run` reads is what `each` spells, and grows after what stands in front.
 pub run_spelled : {A B : Type 0} (head : List ℕ → Option (B × List ℕ)) (item : List A → B → List ℕ → Outcome A) (spell : A → List ℕ → List ℕ) (Fits : List A → A → Type 0)
     → ((front : List A) (b : B) (a : A) (xs m n : List ℕ) → head xs ≡ Some (b, m) → item front b m ≡ Ok (a, n) → (xs ≡ spell a n) × Fits front a)
     → (k : ℕ) (front all : List A) (xs ys : List ℕ) → run head item k front xs ≡ Ok (all, ys)
@@ -234,7 +234,7 @@ case-line-longer p c n =
 pub point-longer : (p : Point) (n : List ℕ) → length n ≤ length (spell_point p n)
 point-longer p n = each_longer (spell_case_line (p.line, p.round)) (case-line-longer (p.line, p.round)) p.cases n
 
--- a point's line ends behind where it begins
+-- a point's line ends after where it begins
 pub point-step-shorter : (last : Option (ℕ × ℕ)) (p : Point) (xs m ys : List ℕ) → word_at (codes "at ") xs ≡ Some (codes "at ", m) → point_given last m ≡ Ok (p, ys) → length ys < length xs
 point-step-shorter last p xs m ys h k =
     let s = point-is last p m ys k in

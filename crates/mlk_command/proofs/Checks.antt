@@ -40,7 +40,7 @@ first-refused sources i d source trees routine_error.OutOfMemory less there read
 first-refused sources i d source trees (routine_error.Refused fault) less there read refused = record {
   front = take i sources;
   source = source;
-  behind = drop (i + 1) sources;
+  after = drop (i + 1) sources;
   cut = sym (take-append-drop i sources) ∙ ap (λ l. take i sources ++ l) (drop_more sources i d less) ∙ ap (λ s. take i sources ++ s ∷ drop (i + 1) sources) (sym there);
   trees = trees;
   read = read;

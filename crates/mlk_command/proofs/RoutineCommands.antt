@@ -9,8 +9,8 @@ use Rattle.mlk_text.specs.declared.failure.Failure.TheVariants.{OutOfMemory, Ref
 use Rattle.mlk_text.specs.Failures.{FailsOn, IsRefused}
 use Rattle.mlk_text.specs.Reading.{put, many, Begins}
 use Rattle.mlk_text.specs.Lexemes.{byte_at, name_at, subs_at, literal_at, IsSubs}
-use Rattle.mlk_text.proofs.Readers.{then_some, pair_parts, with_some, Behind, behind-self, behind-one, behind_then, behind_length, Exact, Takes, many_fails}
-use Rattle.mlk_text.proofs.Lexemes.{byte-is, name-behind, subs-exact, literal-exact}
+use Rattle.mlk_text.proofs.Readers.{then_some, pair_parts, with_some, After, after-self, after-one, after_then, after_length, Exact, Takes, many_fails}
+use Rattle.mlk_text.proofs.Lexemes.{byte-is, name-after, subs-exact, literal-exact}
 use Rattle.mlk_machine.specs.declared.plain.tree.Action.{Action}
 use Rattle.mlk_machine.specs.declared.plain.tree.Action.TheVariants.{Set, Lock, Unlock, Quit}
 use Rattle.mlk_machine.specs.declared.plain.tree.Command.{Command}
@@ -38,7 +38,7 @@ name-no-caret text (b ∷ xs) ys h = elim (cases_Bool (b == 94)) [
 
 pub root-exact : Exact root_at IsRoot
 unfolding root_at
-root-exact = record { sound = λ r xs ys h. go r xs ys (byte_at 94 xs) refl h; complete = done; behind = back }
+root-exact = record { sound = λ r xs ys h. go r xs ys (byte_at 94 xs) refl h; complete = done; after = back }
   where
     go : (r : Root) (xs ys : List ℕ) (o : Option (ℕ × List ℕ)) → byte_at 94 xs ≡ o → root_by xs o ≡ Some (r, ys) → IsRoot r xs ys
     go r xs ys None is h = let w = with_some root.Local (name_at xs) r ys h in subst (λ u. IsRoot u xs ys) (sym w.2) w.1
@@ -50,9 +50,9 @@ root-exact = record { sound = λ r xs ys h. go r xs ys (byte_at 94 xs) refl h; c
     done (root.Global name) xs ys (m, is, n) = rw is (rw n refl)
     done (root.Local name) xs ys n = rw (name-no-caret name xs ys n) (rw n refl)
 
-    back : (r : Root) (xs ys : List ℕ) → IsRoot r xs ys → Behind ys xs
-    back (root.Global name) xs ys (m, is, n) = rw is (behind_then (94 ∷ m) m ys (behind-one 94 m) (name-behind name m ys n))
-    back (root.Local name) xs ys n = name-behind name xs ys n
+    back : (r : Root) (xs ys : List ℕ) → IsRoot r xs ys → After ys xs
+    back (root.Global name) xs ys (m, is, n) = rw is (after_then (94 ∷ m) m ys (after-one 94 m) (name-after name m ys n))
+    back (root.Local name) xs ys n = name-after name xs ys n
 
 pub lock_name-exact : Exact lock_name_at IsLockName
 unfolding lock_name_at
@@ -62,7 +62,7 @@ lock_name-exact = record {
       let s = with_some (lock_name r.0.0) (subs_at r.0.1) name ys r.2 in
       subst (λ u. IsLockName u xs ys) (sym s.2) (r.0.1, root-exact.sound r.0.0 xs r.0.1 r.1, subs-exact.sound s.0 r.0.1 ys s.1);
   complete = λ name xs ys (m, r, s). rw (root-exact.complete name.root xs m r) (rw (subs-exact.complete name.subs m ys s) refl);
-  behind = λ name xs ys (m, r, s). behind_then xs m ys (root-exact.behind name.root xs m r) (subs-exact.behind name.subs m ys s);
+  after = λ name xs ys (m, r, s). after_then xs m ys (root-exact.after name.root xs m r) (subs-exact.after name.subs m ys s);
 }
 
 set-sound : (end : ℕ) (w : List ℕ) (a : Action) (xs ys : List ℕ) → word_of w ≡ Some word.Set → set_at end xs ≡ Some (a, ys) → IsAction end w a (32 ∷ xs) ys
@@ -124,21 +124,21 @@ action-complete end w (Lock column name) xs ys (lock, (m, is, col, n)) = rw lock
 action-complete end w (Unlock column name) xs ys (lock, (m, is, col, n)) = rw lock (rw is (rw (lock_name-exact.complete name m ys n) (rw col refl)))
 action-complete end w Quit xs ys (quit, is) = rw quit (ap (λ l. Some (Quit, l)) is)
 
-action-behind : (end : ℕ) (w : List ℕ) (a : Action) (xs ys : List ℕ) → IsAction end w a xs ys → Behind ys xs
-action-behind end w (Set column node value) xs ys (set, (m, n, p, is, col, name, subs, lit)) =
-    rw is (behind_then (32 ∷ 94 ∷ m) m ys (32 ∷ 94 ∷ [], refl) (behind_then m n ys (name-behind node.name m n name)
-    (behind_then n (61 ∷ p) ys (subs-exact.behind node.subs n (61 ∷ p) subs) (behind_then (61 ∷ p) p ys (behind-one 61 p) (literal-exact.behind value p ys lit)))))
-action-behind end w (Lock column name) xs ys (lock, (m, is, col, n)) =
-    rw is (behind_then (32 ∷ 43 ∷ m) m ys (32 ∷ 43 ∷ [], refl) (lock_name-exact.behind name m ys n))
-action-behind end w (Unlock column name) xs ys (lock, (m, is, col, n)) =
-    rw is (behind_then (32 ∷ 45 ∷ m) m ys (32 ∷ 45 ∷ [], refl) (lock_name-exact.behind name m ys n))
-action-behind end w Quit xs ys (quit, is) = subst (λ l. Behind l xs) is (behind-self xs)
+action-after : (end : ℕ) (w : List ℕ) (a : Action) (xs ys : List ℕ) → IsAction end w a xs ys → After ys xs
+action-after end w (Set column node value) xs ys (set, (m, n, p, is, col, name, subs, lit)) =
+    rw is (after_then (32 ∷ 94 ∷ m) m ys (32 ∷ 94 ∷ [], refl) (after_then m n ys (name-after node.name m n name)
+    (after_then n (61 ∷ p) ys (subs-exact.after node.subs n (61 ∷ p) subs) (after_then (61 ∷ p) p ys (after-one 61 p) (literal-exact.after value p ys lit)))))
+action-after end w (Lock column name) xs ys (lock, (m, is, col, n)) =
+    rw is (after_then (32 ∷ 43 ∷ m) m ys (32 ∷ 43 ∷ [], refl) (lock_name-exact.after name m ys n))
+action-after end w (Unlock column name) xs ys (lock, (m, is, col, n)) =
+    rw is (after_then (32 ∷ 45 ∷ m) m ys (32 ∷ 45 ∷ [], refl) (lock_name-exact.after name m ys n))
+action-after end w Quit xs ys (quit, is) = subst (λ l. After l xs) is (after-self xs)
 
 pub action-exact : (end : ℕ) (w : List ℕ) → Exact (action_at end w) (IsAction end w)
 unfolding action_at
-action-exact end w = record { sound = λ a xs ys h. action-sound end w a xs ys (word_of w) refl h; complete = action-complete end w; behind = action-behind end w }
+action-exact end w = record { sound = λ a xs ys h. action-sound end w a xs ys (word_of w) refl h; complete = action-complete end w; after = action-after end w }
 
--- the spaces behind a command
+-- the spaces after a command
 gap-sound : (least n : ℕ) (xs ys : List ℕ) → gap_at least xs ≡ Some (n, ys) → IsGap least xs ys
 unfolding gap_at
 gap-sound least n xs ys h = elim (cases_Bool (nat_le least (spaces xs))) [
@@ -157,8 +157,8 @@ gap-complete least xs ys (is, inr end) = elim (cases_Bool (nat_le least (spaces 
   | inr e ↦ let f : at_end (drop (spaces xs) xs) ≡ true = sym (ap at_end is) ∙ end in rw (e, f) (rw is refl)
 ]
 
-gap-behind : (least : ℕ) (xs ys : List ℕ) → IsGap least xs ys → Behind ys xs
-gap-behind least xs ys (is, enough) = (take (spaces xs) xs, ap (λ l. take (spaces xs) xs ++ l) is ∙ take-append-drop (spaces xs) xs)
+gap-after : (least : ℕ) (xs ys : List ℕ) → IsGap least xs ys → After ys xs
+gap-after least xs ys (is, enough) = (take (spaces xs) xs, ap (λ l. take (spaces xs) xs ++ l) is ∙ take-append-drop (spaces xs) xs)
 
 pub command-exact : (end : ℕ) (w : List ℕ × ℕ) → Exact (command_at end w) (IsCommand end w)
 unfolding command_at
@@ -169,7 +169,7 @@ command-exact end w = record {
       subst (λ u. IsCommand end w u xs ys) (sym g.2) (a.0.1, refl, (action-exact end w.0).sound a.0.0 xs a.0.1 a.1, gap-sound (gap_of a.0.0) g.0 a.0.1 ys g.1);
   complete = λ c xs ys (m, col, a, g).
       rw ((action-exact end w.0).complete c.action xs m a) (rw (gap-complete (gap_of c.action) m ys g) (ap (λ k. Some (placed k c.action (spaces m), ys)) (sym col)));
-  behind = λ c xs ys (m, col, a, g). behind_then xs m ys ((action-exact end w.0).behind c.action xs m a) (gap-behind (gap_of c.action) m ys g);
+  after = λ c xs ys (m, col, a, g). after_then xs m ys ((action-exact end w.0).after c.action xs m a) (gap-after (gap_of c.action) m ys g);
 }
 
 -- a word has a letter
@@ -192,7 +192,7 @@ word-takes end w xs ys h = elim (cases_Bool (letters xs == 0)) [
 pub command-shorter : (end : ℕ) (w : List ℕ × ℕ) (c : Command) (xs m ys : List ℕ) → word_at end xs ≡ Some (w, m) → command_at end w m ≡ Some (c, ys) → length ys < length xs
 command-shorter end w c xs m ys is one =
     let far = (word-takes end w xs m is).1 in
-    let near = behind_length m ys ((command-exact end w).behind c m ys ((command-exact end w).sound c m ys one)) in
+    let near = after_length m ys ((command-exact end w).after c m ys ((command-exact end w).sound c m ys one)) in
     omega arith
 
 -- where there is a reason, nothing is read

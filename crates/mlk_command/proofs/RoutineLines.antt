@@ -10,8 +10,8 @@ use Rattle.mlk_text.specs.declared.failure.Failure.TheVariants as read
 use Rattle.mlk_text.specs.Failures.{FailsOn}
 use Rattle.mlk_text.specs.Reading.{Many, Begins}
 use Rattle.mlk_text.specs.Lexemes.{is_digit, is_letter, name_at, digits_at}
-use Rattle.mlk_text.proofs.Readers.{then_some, pair_parts, with_some, Behind, behind-self, Exact, many_sound, many_complete, one_reading, one_stuck, stuck_many}
-use Rattle.mlk_text.proofs.Lexemes.{name-behind, digits-behind}
+use Rattle.mlk_text.proofs.Readers.{then_some, pair_parts, with_some, After, after-self, Exact, many_sound, many_complete, one_reading, one_stuck, stuck_many}
+use Rattle.mlk_text.proofs.Lexemes.{name-after, digits-after}
 use Rattle.mlk_machine.specs.declared.plain.tree.Command.{Command}
 use Rattle.mlk_machine.specs.declared.plain.tree.Line.{Line}
 use Rattle.mlk_command.specs.declared.routine.words.LineError.{LineError}
@@ -56,7 +56,7 @@ no-start false l p h = (refl, h)
 
 pub label-exact : Exact label_at IsLabel
 unfolding label_at
-label-exact = record { sound = go; complete = done; behind = back }
+label-exact = record { sound = go; complete = done; after = back }
   where
     go : (label : Option (List ℕ)) (xs ys : List ℕ) → label_at xs ≡ Some (label, ys) → IsLabel label xs ys
     go label [] ys h = let p = pair_parts None label [] ys h in subst (λ l. IsLabel l [] ys) p.0 (p.1, refl)
@@ -80,10 +80,10 @@ label-exact = record { sound = go; complete = done; behind = back }
         rw (d, l) (rw n refl)
     done (Some label) (b ∷ xs) ys (inr n) = let d = digits-first label b xs ys n in rw d (rw n refl)
 
-    back : (label : Option (List ℕ)) (xs ys : List ℕ) → IsLabel label xs ys → Behind ys xs
-    back None xs ys h = subst (λ l. Behind l xs) h.0 (behind-self xs)
-    back (Some label) xs ys (inl n) = name-behind label xs ys n
-    back (Some label) xs ys (inr n) = digits-behind label xs ys n
+    back : (label : Option (List ℕ)) (xs ys : List ℕ) → IsLabel label xs ys → After ys xs
+    back None xs ys h = subst (λ l. After l xs) h.0 (after-self xs)
+    back (Some label) xs ys (inl n) = name-after label xs ys n
+    back (Some label) xs ys (inr n) = digits-after label xs ys n
 
 closed-some : (r : List Command × List ℕ) (commands : List Command) → closed r ≡ Some commands → (r.0 ≡ commands) × (closes r.1 ≡ true)
 closed-some r commands h = elim (cases_Bool (closes r.1)) [
@@ -136,7 +136,7 @@ pub item-exact : (text : List ℕ) → Exact (line_item text) (LineOf text)
 item-exact text = record {
   sound = λ line xs ys h. go (line_of text) refl line xs ys h;
   complete = λ line xs ys h. rw (line-complete line text h.0) (ap (λ l. Some (line, l)) h.1);
-  behind = λ line xs ys h. subst (λ l. Behind l xs) h.1 (behind-self xs);
+  after = λ line xs ys h. subst (λ l. After l xs) h.1 (after-self xs);
 }
   where
     go : (o : Option Line) → line_of text ≡ o → (line : Line) (xs ys : List ℕ) → kept xs o ≡ Some (line, ys) → LineOf text line xs ys

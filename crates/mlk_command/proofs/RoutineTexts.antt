@@ -3,7 +3,7 @@ use Rattle.std.proofs.Common.{◌≡◌, ◌<◌, ◌≤◌, ◌+◌, ℕ, zero,
 use Rattle.std.specs.Prelude.{Option, ◌==◌, slice_get, Result, Ok, Err, IfOk, IfErr}
 use Rattle.std.proofs.lemmas.Bool.{cases_Bool}
 use Rattle.mlk_text.specs.Reading.{Many, Begins}
-use Rattle.mlk_text.proofs.Readers.{pair_parts, Behind, behind-self, Exact, begins_more, begins_end, begins_of, begins_many, one_many}
+use Rattle.mlk_text.proofs.Readers.{pair_parts, After, after-self, Exact, begins_more, begins_end, begins_of, begins_many, one_many}
 use Rattle.mlk_machine.specs.declared.plain.tree.Line.{Line}
 use Rattle.mlk_machine.specs.declared.plain.tree.Routine.{Routine}
 use Rattle.mlk_text.specs.declared.code.Code.TheVariants as code
@@ -12,7 +12,7 @@ use Rattle.mlk_command.specs.declared.routine.words.LineFault.{LineFault}
 use Rattle.mlk_command.specs.declared.routine.words.LineFault.TheVariants as bad
 use Rattle.mlk_command.specs.declared.routine.refusal.RoutineError.{RoutineError}
 use Rattle.mlk_command.specs.declared.routine.refusal.RoutineError.TheVariants as refusal
-use Rattle.mlk_command.specs.RoutineGrammar.{IsLine, LineOf, ends_here, line_len, behind_end, line_at, LabelsDiffer, label_of, IsStem, IsRoutine}
+use Rattle.mlk_command.specs.RoutineGrammar.{IsLine, LineOf, ends_here, line_len, after_end, line_at, LabelsDiffer, label_of, IsStem, IsRoutine}
 use Rattle.mlk_command.specs.Twice.{Stands, FirstTwice}
 use Rattle.mlk_command.specs.RoutineReading.{line_of, line_item}
 use Rattle.mlk_command.specs.RoutineRefusals.{fault_at, AnyLine, IsTooLarge, FirstBad, BadLineThere, IsRefusal, Places, Refuses}
@@ -20,9 +20,9 @@ use Rattle.mlk_command.specs.RoutineOutcomes.{LinesFound, HasLines, line_fault, 
 use Rattle.mlk_command.proofs.RoutineLines.{line-sound, line-complete, item-exact}
 
 -- where a text is cut
-behind_end-less : (zs : List ℕ) → length (behind_end zs) ≤ length zs
-behind_end-less [] = omega arith
-behind_end-less (b ∷ xs) = elim (cases_Bool (b == 10)) [
+after_end-less : (zs : List ℕ) → length (after_end zs) ≤ length zs
+after_end-less [] = omega arith
+after_end-less (b ∷ xs) = elim (cases_Bool (b == 10)) [
   | inl e ↦ rw e (omega arith)
   | inr e ↦ rw e (let d = length-drop 1 xs in omega arith)
 ]
@@ -30,13 +30,13 @@ behind_end-less (b ∷ xs) = elim (cases_Bool (b == 10)) [
 take-less : (n : ℕ) (xs : List ℕ) → length (take n xs) ≤ length xs
 take-less n xs = let whole : length (take n xs) + length (drop n xs) ≡ length xs = sym (length-append (take n xs) (drop n xs)) ∙ ap length (take-append-drop n xs) in omega arith
 
-cut-less : (b : ℕ) (xs : List ℕ) → length (behind_end (drop (line_len (b ∷ xs)) (b ∷ xs))) < length (b ∷ xs)
+cut-less : (b : ℕ) (xs : List ℕ) → length (after_end (drop (line_len (b ∷ xs)) (b ∷ xs))) < length (b ∷ xs)
 cut-less b xs = elim (cases_Bool (ends_here b xs)) [
   | inl e ↦ rw e (first b xs)
-  | inr e ↦ rw e (let near = behind_end-less (drop (line_len xs) xs) in let d = length-drop (line_len xs) xs in omega arith)
+  | inr e ↦ rw e (let near = after_end-less (drop (line_len xs) xs) in let d = length-drop (line_len xs) xs in omega arith)
 ]
   where
-    first : (b : ℕ) (xs : List ℕ) → length (behind_end (b ∷ xs)) < suc (length xs)
+    first : (b : ℕ) (xs : List ℕ) → length (after_end (b ∷ xs)) < suc (length xs)
     first b xs = elim (cases_Bool (b == 10)) [
       | inl e ↦ rw e (omega arith)
       | inr e ↦ rw e (let d = length-drop 1 xs in omega arith)
@@ -46,7 +46,7 @@ pub line-less : (line xs ys : List ℕ) → line_at xs ≡ Some (line, ys) → (
 unfolding line_at
 line-less line [] ys h = cc h
 line-less line (b ∷ xs) ys h =
-    let p = pair_parts (take (line_len (b ∷ xs)) (b ∷ xs)) line (behind_end (drop (line_len (b ∷ xs)) (b ∷ xs))) ys h in
+    let p = pair_parts (take (line_len (b ∷ xs)) (b ∷ xs)) line (after_end (drop (line_len (b ∷ xs)) (b ∷ xs))) ys h in
     (subst (λ l. length l < suc (length xs)) p.1 (cut-less b xs), subst (λ l. length l ≤ suc (length xs)) p.0 (take-less (line_len (b ∷ xs)) (b ∷ xs)))
 
 pub line-none : (xs : List ℕ) → line_at xs ≡ None → xs ≡ []
@@ -67,7 +67,7 @@ unfolding any_item
 any-exact text = record {
   sound = λ line xs ys h. pair_parts text line xs ys h;
   complete = λ line xs ys h. rw (h.0, h.1) refl;
-  behind = λ line xs ys h. subst (λ l. Behind l xs) h.1 (behind-self xs);
+  after = λ line xs ys h. subst (λ l. After l xs) h.1 (after-self xs);
 }
 
 -- lines that are read are lines
@@ -154,16 +154,16 @@ one_routine stem text t u f g =
     ap (λ n. record t { name = n }) names ∙ ap (λ l. record u { lines = l }) lines
 
 -- the loops over lines
-pub lines-more : (found : List Line) (line : Line) (text rest bytes behind : List ℕ) → Begins line_at LineOf found text rest → line_at rest ≡ Some (bytes, behind) → line_of bytes ≡ Some line → Begins line_at LineOf (found ++ line ∷ []) text behind
-lines-more found line text rest bytes behind front cut read = begins_more line_at LineOf found line bytes text rest behind behind front cut (line-sound line bytes read, refl)
+pub lines-more : (found : List Line) (line : Line) (text rest bytes after : List ℕ) → Begins line_at LineOf found text rest → line_at rest ≡ Some (bytes, after) → line_of bytes ≡ Some line → Begins line_at LineOf (found ++ line ∷ []) text after
+lines-more found line text rest bytes after front cut read = begins_more line_at LineOf found line bytes text rest after after front cut (line-sound line bytes read, refl)
 
 pub lines-done : (found : List Line) (text rest : List ℕ) → Begins line_at LineOf found text rest → line_at rest ≡ None → Many line_at LineOf found text []
 lines-done found text rest front none = subst (λ l. Many line_at LineOf found text l) (line-none rest none) (begins_end line_at LineOf found text rest front none)
 
-pub count-more : (n : ℕ) (text rest bytes behind : List ℕ) → (lines : List (List ℕ)) × Begins line_at AnyLine lines text rest × (length lines ≡ n) → line_at rest ≡ Some (bytes, behind)
-    → (lines : List (List ℕ)) × Begins line_at AnyLine lines text behind × (length lines ≡ n + 1)
-count-more n text rest bytes behind (lines, front, size) cut =
-    (lines ++ bytes ∷ [], begins_more line_at AnyLine lines bytes bytes text rest behind behind front cut (refl, refl), let e = length-append lines (bytes ∷ []) in omega (arith, e, size))
+pub count-more : (n : ℕ) (text rest bytes after : List ℕ) → (lines : List (List ℕ)) × Begins line_at AnyLine lines text rest × (length lines ≡ n) → line_at rest ≡ Some (bytes, after)
+    → (lines : List (List ℕ)) × Begins line_at AnyLine lines text after × (length lines ≡ n + 1)
+count-more n text rest bytes after (lines, front, size) cut =
+    (lines ++ bytes ∷ [], begins_more line_at AnyLine lines bytes bytes text rest after after front cut (refl, refl), let e = length-append lines (bytes ∷ []) in omega (arith, e, size))
 
 pub count-done : (n : ℕ) (text rest : List ℕ) → (lines : List (List ℕ)) × Begins line_at AnyLine lines text rest × (length lines ≡ n) → line_at rest ≡ None → HasLines text n
 count-done n text rest (lines, front, size) none =

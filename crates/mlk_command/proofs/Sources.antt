@@ -6,7 +6,7 @@ use Rattle.mlk_command.specs.declared.source.FileError.TheVariants as error
 use Rattle.mlk_command.specs.declared.source.Source.{Source}
 use Rattle.mlk_command.specs.Files.{Texts, IsSource, AreSources, AreHeld, Loses, LosesFirst, bytes_of}
 
--- what stands before a path, the path, and what stands behind it
+-- what stands before a path, the path, and what stands after it
 cut-at : (paths : List (Bor (List ℕ))) (i : ℕ) (d : Bor (List ℕ)) → i < length paths → bytes_of paths ≡ bytes_of (take i paths) ++ (slice_index_or paths i d).now ∷ bytes_of (drop (i + 1) paths)
 cut-at paths i d less =
     ap bytes_of (sym (take-append-drop i paths)) ∙ map-append (λ p. p.now) (take i paths) (drop i paths) ∙ ap (λ l. bytes_of (take i paths) ++ bytes_of l) (drop_more paths i d less)
@@ -16,7 +16,7 @@ pub loses-first : (holds : Texts) (lacks : List ℕ → Type 0) (paths : List (B
 loses-first holds lacks paths i d error.OutOfMemory less held lost = record {}
 loses-first holds lacks paths i d (error.Unread path) less held (same, lost) = record {
   front = bytes_of (take i paths);
-  behind = bytes_of (drop (i + 1) paths);
+  after = bytes_of (drop (i + 1) paths);
   cut = cut-at paths i d less ∙ ap (λ p. bytes_of (take i paths) ++ p ∷ bytes_of (drop (i + 1) paths)) (sym same);
   held = held;
   lost = subst lacks (sym same) lost;
@@ -46,17 +46,17 @@ pub loses-front : (holds : Texts) (lacks : List ℕ → Type 0) (path : List ℕ
 loses-front holds lacks path paths error.OutOfMemory lost = record {}
 loses-front holds lacks path paths (error.Unread other) (same, lost) = record {
   front = [];
-  behind = paths;
+  after = paths;
   cut = ap (λ p. p ∷ paths) (sym same);
   held = record {};
   lost = subst lacks (sym same) lost;
 }
 
-pub loses-behind : (holds : Texts) (lacks : List ℕ → Type 0) (path text : List ℕ) (paths : List (List ℕ)) (e : FileError) → holds path text → LosesFirst holds lacks paths e → LosesFirst holds lacks (path ∷ paths) e
-loses-behind holds lacks path text paths error.OutOfMemory held lost = record {}
-loses-behind holds lacks path text paths (error.Unread other) held lost = record {
+pub loses-after : (holds : Texts) (lacks : List ℕ → Type 0) (path text : List ℕ) (paths : List (List ℕ)) (e : FileError) → holds path text → LosesFirst holds lacks paths e → LosesFirst holds lacks (path ∷ paths) e
+loses-after holds lacks path text paths error.OutOfMemory held lost = record {}
+loses-after holds lacks path text paths (error.Unread other) held lost = record {
   front = path ∷ lost.front;
-  behind = lost.behind;
+  after = lost.after;
   cut = ap (λ l. path ∷ l) lost.cut;
   held = ((text, held), lost.held);
   lost = lost.lost;

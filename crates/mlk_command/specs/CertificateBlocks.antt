@@ -13,7 +13,7 @@ use Rattle.mlk_walk.specs.declared.cert.Certificate.{Certificate}
 use Rattle.mlk_command.specs.CertificateSpelling.{exit_end, case_end, need_line, mods_line, head_line, end_line, entry_at, has_text, entries, is_later, last_place, last_text, case_fault}
 use Rattle.mlk_command.specs.CertificateLexing.{word_at, number_at, case_at}
 
--- what was read and what is behind it, or a fault
+-- what was read and what is after it, or a fault
 abbrev pub Outcome : Type 0 → Type 0
 Outcome A = Result (A × List ℕ) (Code × ℕ)
 
@@ -47,7 +47,7 @@ abbrev pub fitted : {A : Type 0} → Option Code → A × List ℕ → ℕ → O
 fitted None r left = Ok r
 fitted (Some code) r left = Err (code, left)
 
--- while a head stands at the front, an item must stand behind it that fits behind those in front of it
+-- while a head stands at the front, an item must stand after it that fits after those in front of it
 abbrev pub run_by : {A B : Type 0} → (List A → B → List ℕ → Outcome A) → (List A → List ℕ → Outcome (List A)) → List A → List ℕ → Option (B × List ℕ) → Outcome (List A)
 run_by item more front xs None = Ok (front, xs)
 run_by item more front xs (Some h) = item front h.0 h.1 >> λ a. more (front ++ a.0 ∷ []) a.1
@@ -57,12 +57,12 @@ unfoldable pub run : {A B : Type 0} → (List ℕ → Option (B × List ℕ)) �
 run head item zero front xs = Err (Form, 0)
 run head item (suc n) front xs = run_by item (run head item n) front xs (head xs)
 
--- a case and the end of its line, behind so many cases of which the last has this text; its faults are placed at
+-- a case and the end of its line, after so many cases of which the last has this text; its faults are placed at
 -- the list `line`
 unfoldable pub case_given : List ℕ → ℕ → Option (List ℕ) → List ℕ → List ℕ → Outcome (List LockName)
 case_given end count last line xs = must (ended (case_at end xs)) line >> λ c. fitted (case_fault end count last c.0) c (length line)
 
--- the line of a case behind those in front of it
+-- the line of a case after those in front of it
 abbrev pub case_item : List ℕ → List (List LockName) → List ℕ → List ℕ → Outcome (List LockName)
 case_item end front b xs = case_given end (length front) (last_text end front) xs xs
 
@@ -78,7 +78,7 @@ place_at xs =
     number_at 255 dot.1 >>= λ round.
     with (λ _. (line.0, round.0)) (byte_at 32 round.1)
 
--- what is behind a place, where it is this one
+-- what is after a place, where it is this one
 abbrev pub same_place : ℕ × ℕ → (ℕ × ℕ) × List ℕ → Option (List ℕ × List ℕ)
 same_place p r = if (r.0.0 == p.0) && (r.0.1 == p.1) then Some ([], r.1) else None
 
@@ -87,7 +87,7 @@ unfoldable pub lead_at : Option (ℕ × ℕ) → List ℕ → Option (List ℕ �
 lead_at None xs = with (λ _. []) (word_at (codes "exit ") xs)
 lead_at (Some p) xs = word_at (codes "at ") xs >>= λ word. place_at word.1 >>= same_place p
 
--- exits or cases, behind those that stand before them
+-- exits or cases, after those that stand before them
 abbrev pub cases_at : Option (ℕ × ℕ) → List ℕ → List (List LockName) → List ℕ → Outcome (List (List LockName))
 cases_at lead end front xs = run (lead_at lead) (case_item end) (suc (length xs)) front xs
 
@@ -95,7 +95,7 @@ cases_at lead end front xs = run (lead_at lead) (case_item end) (suc (length xs)
 abbrev pub point_of : (ℕ × ℕ) → List (List LockName) → Point
 point_of p cs = record { line = p.0; round = p.1; cases = cs }
 
--- a point, behind `at `
+-- a point, after `at `
 unfoldable pub point_given : Option (ℕ × ℕ) → List ℕ → Outcome Point
 point_given last xs =
     must (place_at xs) xs >> λ p.
@@ -103,7 +103,7 @@ point_given last xs =
     (if is_later last p.0.0 p.0.1 then cases_at (Some p.0) case_end (c.0 ∷ []) c.1 else Err (Order, length xs)) >> λ cs.
     Ok (point_of p.0 cs.0, cs.1)
 
--- a point behind those in front of it
+-- a point after those in front of it
 abbrev pub point_item : List Point → List ℕ → List ℕ → Outcome Point
 point_item front b xs = point_given (last_place front) xs
 
@@ -129,7 +129,7 @@ drops_by xs None = with (λ _. true) (byte_at 49 xs)
 unfoldable pub drops_at : List ℕ → Option (Bool × List ℕ)
 drops_at xs = word_at (codes "drops ") xs >>= λ word. drops_by word.1 (byte_at 48 word.1)
 
--- the entry text of a block, which must be new, behind `entry `
+-- the entry text of a block, which must be new, after `entry `
 unfoldable pub entry_line : List (List ℕ) → List ℕ → Outcome (List ℕ)
 entry_line texts xs = must (ended (entry_at xs)) xs >> λ e. if has_text texts e.0 then Err (EntryTwice, length xs) else Ok e
 
@@ -146,7 +146,7 @@ settings_at xs =
 abbrev pub block_of : List ℕ → Option ℕ × Bool → List (List LockName) → List Point → EntryCert
 block_of e s es ps = record { entry = e; low = s.0; drops = s.1; exits = es; points = ps }
 
--- a block behind its entry text
+-- a block after its entry text
 unfoldable pub body_at : List ℕ → List ℕ → Outcome EntryCert
 body_at e xs =
     settings_at xs >> λ s.
@@ -154,11 +154,11 @@ body_at e xs =
     points_at es.1 >> λ ps.
     Ok (block_of e s.0 es.0 ps.0, ps.1)
 
--- a block, behind `entry ` and behind blocks with these entry texts
+-- a block, after `entry ` and after blocks with these entry texts
 unfoldable pub block_given : List (List ℕ) → List ℕ → Outcome EntryCert
 block_given texts xs = entry_line texts xs >> λ e. body_at e.0 e.1
 
--- a block behind those in front of it
+-- a block after those in front of it
 abbrev pub block_item : List EntryCert → List ℕ → List ℕ → Outcome EntryCert
 block_item front b xs = block_given (entries front) xs
 
@@ -170,18 +170,18 @@ blocks_at xs = run (word_at (codes "entry ")) block_item (suc (length xs)) [] xs
 abbrev pub certificate_of : List EntryCert → Certificate
 certificate_of bs = record { blocks = bs }
 
--- the end line, and nothing behind it
+-- the end line, and nothing after it
 unfoldable pub finish : List EntryCert × List ℕ → Outcome Certificate
 finish r = must (word_at end_line r.1) r.1 >> λ e. if length e.1 == 0 then Ok (certificate_of r.0, []) else Err (Form, length e.1)
 
 -- what must follow the head line
-abbrev pub behind_head : List ℕ → Option (List ℕ × List ℕ) → Outcome Certificate
-behind_head text None = Err (Head, length text)
-behind_head text (Some h) = blocks_at h.1 >> finish
+abbrev pub after_head : List ℕ → Option (List ℕ × List ℕ) → Outcome Certificate
+after_head text None = Err (Head, length text)
+after_head text (Some h) = blocks_at h.1 >> finish
 
 -- a whole text
 unfoldable pub certificate_at : List ℕ → Outcome Certificate
-certificate_at text = if nat_lt 67108864 (length text) then Err (CertLimit, length text) else behind_head text (word_at head_line text)
+certificate_at text = if nat_lt 67108864 (length text) then Err (CertLimit, length text) else after_head text (word_at head_line text)
 
 -- how many lines end in a text
 abbrev pub lines_in : List ℕ → ℕ

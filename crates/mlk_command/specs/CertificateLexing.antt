@@ -6,17 +6,17 @@ use Rattle.mlk_machine.specs.declared.plain.tree.LockName.{LockName}
 use Rattle.mlk_command.specs.CertificateSpelling.{is_plain}
 use Rattle.mlk_command.specs.LockRoots.{root_at, lock_name}
 
--- what is behind a word
+-- what is after a word
 abbrev pub strip : List ℕ → List ℕ → Option (List ℕ)
 strip [] xs = Some xs
 strip (w ∷ ws) [] = None
 strip (w ∷ ws) (x ∷ xs) = if x == w then strip ws xs else None
 
--- a word, and what is behind it
+-- a word, and what is after it
 unfoldable pub word_at : List ℕ → List ℕ → Option (List ℕ × List ℕ)
 word_at word xs = option_map (λ rest. (word, rest)) (strip word xs)
 
--- the value of digits behind those whose value is given, up to a limit
+-- the value of digits after those whose value is given, up to a limit
 abbrev pub value_after : ℕ → ℕ → List ℕ → Option ℕ
 value_after limit n [] = Some n
 value_after limit n (b ∷ ds) = if nat_le (n * 10 + (b - 48)) limit then value_after limit (n * 10 + (b - 48)) ds else None
@@ -64,11 +64,11 @@ constant_at xs =
     many piece_at keep (suc (length front.1)) front.1 >>= λ value.
     with (λ _. value.0) (byte_at 34 value.1)
 
--- what is behind a comma or a semicolon
+-- what is after a comma or a semicolon
 abbrev pub next : {A : Type 0} → (List ℕ → Option (A × List ℕ)) → ℕ → List ℕ → Option (A × List ℕ)
 next item b xs = item xs
 
--- subscripts behind an opening parenthesis
+-- subscripts after an opening parenthesis
 unfoldable pub list_at : List ℕ → Option (List (List ℕ) × List ℕ)
 list_at xs =
     constant_at xs >>= λ first.
@@ -100,7 +100,7 @@ terms_by xs None =
 unfoldable pub terms_at : List ℕ → Option (List LockName × List ℕ)
 terms_at xs = terms_by xs (byte_at 45 xs)
 
--- a case, with what stands behind its terms
+-- a case, with what stands after its terms
 unfoldable pub case_at : List ℕ → List ℕ → Option (List LockName × List ℕ)
 case_at end xs =
     word_at (codes "T=* H=") xs >>= λ front.

@@ -1,4 +1,4 @@
--- Certificates and their texts. A spelling takes a value and the text behind it, and gives both as one text.
+-- Certificates and their texts. A spelling takes a value and the text after it, and gives both as one text.
 -- This project's own format.
 use Rattle.std.specs.Prelude.{ℕ, ◌≡◌, ◌+◌, ◌-◌, ◌/◌, ◌%◌, ◌<◌, ◌≤◌, ◌==◌, ◌&&◌, ◌||◌, not, nat_lt, nat_le, if◌then◌else◌, Bool, true, false, List, [], ◌∷◌, ◌++◌, length, map, Option, Some, None, codes, option_map, take, drop, bytes_eq}
 use Rattle.std.specs.Int.Digits.{digits_of}
@@ -38,7 +38,7 @@ spell_byte b ys = if is_plain b then b ∷ ys else (if b == 34 then 34 ∷ 34 �
 abbrev pub spell_constant : List ℕ → List ℕ → List ℕ
 spell_constant value ys = 34 ∷ each spell_byte value (34 ∷ ys)
 
--- behind a comma
+-- after a comma
 abbrev pub spell_next : List ℕ → List ℕ → List ℕ
 spell_next value ys = 44 ∷ spell_constant value ys
 
@@ -47,7 +47,7 @@ abbrev pub spell_subs : List (List ℕ) → List ℕ → List ℕ
 spell_subs [] ys = ys
 spell_subs (v ∷ vs) ys = 40 ∷ spell_constant v (each spell_next vs (41 ∷ ys))
 
--- a name, behind a caret for a global
+-- a name, after a caret for a global
 abbrev pub spell_root : Root → List ℕ → List ℕ
 spell_root (Global name) ys = 94 ∷ (name ++ ys)
 spell_root (Local name) ys = name ++ ys
@@ -56,7 +56,7 @@ spell_root (Local name) ys = name ++ ys
 abbrev pub spell_term : LockName → List ℕ → List ℕ
 spell_term t ys = spell_root t.root (spell_subs t.subs ys)
 
--- behind a semicolon
+-- after a semicolon
 abbrev pub spell_more : LockName → List ℕ → List ℕ
 spell_more t ys = 59 ∷ spell_term t ys
 
@@ -65,15 +65,15 @@ abbrev pub spell_terms : List LockName → List ℕ → List ℕ
 spell_terms [] ys = 45 ∷ ys
 spell_terms (t ∷ ts) ys = spell_term t (each spell_more ts ys)
 
--- what stands behind the terms of an exit
+-- what stands after the terms of an exit
 abbrev pub exit_end : List ℕ
 exit_end = codes " K=-"
 
--- what stands behind them in a case of a point
+-- what stands after them in a case of a point
 abbrev pub case_end : List ℕ
 case_end = codes " O=- K=- S=-"
 
--- a case, with what stands behind its terms
+-- a case, with what stands after its terms
 abbrev pub spell_case : List ℕ → List LockName → List ℕ → List ℕ
 spell_case end c ys = codes "T=* H=" ++ spell_terms c (end ++ ys)
 
@@ -133,7 +133,7 @@ abbrev pub Each : {A : Type 0} → (A → Type 0) → List A → Type 0
 Each Is [] = Unit {0}
 Each Is (a ∷ items) = Is a × Each Is items
 
--- each item may stand behind those in front of it
+-- each item may stand after those in front of it
 abbrev pub Grows : {A : Type 0} → (List A → A → Type 0) → List A → List A → Type 0
 Grows Fits front [] = Unit {0}
 Grows Fits front (a ∷ items) = Fits front a × Grows Fits (front ++ a ∷ []) items
@@ -186,7 +186,7 @@ above_text (Some last) text = not (upto text last)
 abbrev pub fault_by : ℕ → ℕ → Bool → Bool → Option Code
 fault_by terms count sorted above = if nat_lt 16 terms || nat_le 16 count then Some CertLimit else (if sorted && above then None else Some Order)
 
--- what is wrong with a case behind so many, of which the last has this text
+-- what is wrong with a case after so many, of which the last has this text
 unfoldable pub case_fault : List ℕ → ℕ → Option (List ℕ) → List LockName → Option Code
 case_fault end count last c = fault_by (length c) count (ascends terms_upto c) (above_text last (spell_case end c []))
 
@@ -194,11 +194,11 @@ case_fault end count last c = fault_by (length c) count (ascends terms_upto c) (
 abbrev pub last_text : List ℕ → List (List LockName) → Option (List ℕ)
 last_text end front = option_map (λ d. spell_case end d []) (last_of front)
 
--- a case whose terms are terms, and which has no fault behind those in front of it
+-- a case whose terms are terms, and which has no fault after those in front of it
 abbrev pub IsCase : List ℕ → List (List LockName) → List LockName → Type 0
 IsCase end front c = Each IsTerm c × (case_fault end (length front) (last_text end front) c ≡ None)
 
--- whether a place stands behind the last, where there is one
+-- whether a place stands after the last, where there is one
 abbrev pub is_later : Option (ℕ × ℕ) → ℕ → ℕ → Bool
 is_later None line round = true
 is_later (Some p) line round = nat_lt p.0 line || ((p.0 == line) && nat_lt p.1 round)
@@ -212,19 +212,19 @@ abbrev pub HasCases : List (List LockName) → Type 0
 HasCases [] = ⊥
 HasCases (c ∷ cs) = Unit {0}
 
--- a point in range with at least one case, whose cases grow, behind those in front of it
+-- a point in range with at least one case, whose cases grow, after those in front of it
 abbrev pub IsPoint : List Point → Point → Type 0
 IsPoint front p = (1 ≤ p.line) × (p.line ≤ 65535) × (p.round ≤ 255) × HasCases p.cases × Grows (IsCase case_end) [] p.cases × (is_later (last_place front) p.line p.round ≡ true)
 
--- what is behind a label: digits, a name, or none before a `^`
-unfoldable pub behind_label : List ℕ → Option (List ℕ)
-behind_label [] = None
-behind_label (b ∷ xs) = if b == 94 then Some (b ∷ xs) else (if is_digit b then Some (drop (digits (b ∷ xs)) (b ∷ xs)) else option_map (λ r. r.1) (name_at (b ∷ xs)))
+-- what is after a label: digits, a name, or none before a `^`
+unfoldable pub after_label : List ℕ → Option (List ℕ)
+after_label [] = None
+after_label (b ∷ xs) = if b == 94 then Some (b ∷ xs) else (if is_digit b then Some (drop (digits (b ∷ xs)) (b ∷ xs)) else option_map (λ r. r.1) (name_at (b ∷ xs)))
 
 -- an entry text: a label, `^` and a routine's name
 unfoldable pub entry_at : List ℕ → Option (List ℕ × List ℕ)
 entry_at xs =
-    behind_label xs >>= λ rest.
+    after_label xs >>= λ rest.
     byte_at 94 rest >>= λ caret.
     name_at caret.1 >>= λ name.
     Some (take (length xs - length name.1) xs, name.1)

@@ -62,8 +62,8 @@ pub record IsChecked (sources : Sources) (checked : Checked) : Type 0 where
 pub record IsFirstRefused (sources : List Source) (fault : Fault) : Type 0 where
   pub front : List Source
   pub source : Source
-  pub behind : List Source
-  pub cut : sources ≡ front ++ source ∷ behind
+  pub after : List Source
+  pub cut : sources ≡ front ++ source ∷ after
   pub trees : List Routine
   pub read : AreRead front trees
   pub refused : IsRefusal source.stem.now source.text.items fault

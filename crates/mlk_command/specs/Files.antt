@@ -12,7 +12,7 @@ use Rattle.mlk_command.specs.declared.words.Request.{Request}
 abbrev pub Lacks : ℕ → List ℕ → Type 0
 Lacks b text = (i : ℕ) → i < length text → slice_index text i ≡ b → ⊥
 
--- a file's name: what stands behind the last slash of its path, or the whole path
+-- a file's name: what stands after the last slash of its path, or the whole path
 abbrev pub IsFileName : List ℕ → List ℕ → Type 0
 IsFileName path name = Lacks 47 name × ((path ≡ name) ⊎ ((folder : List ℕ) × (path ≡ folder ++ 47 ∷ name)))
 
@@ -59,8 +59,8 @@ AreHeld holds (path ∷ paths) = ((text : List ℕ) × holds path text) × AreHe
 -- the first path of a list that can't be read
 pub record IsFirstLost (holds : Texts) (lacks : List ℕ → Type 0) (paths : List (List ℕ)) (path : List ℕ) : Type 0 where
   pub front : List (List ℕ)
-  pub behind : List (List ℕ)
-  pub cut : paths ≡ front ++ path ∷ behind
+  pub after : List (List ℕ)
+  pub cut : paths ≡ front ++ path ∷ after
   pub held : AreHeld holds front
   pub lost : lacks path
 

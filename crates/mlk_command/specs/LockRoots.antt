@@ -6,7 +6,7 @@ use Rattle.mlk_machine.specs.declared.plain.tree.LockName.{LockName}
 use Rattle.mlk_machine.specs.declared.plain.tree.Root.{Root}
 use Rattle.mlk_machine.specs.declared.plain.tree.Root.TheVariants.{Global, Local}
 
--- a global behind a caret, else a local
+-- a global after a caret, else a local
 abbrev pub root_by : List ℕ → Option (ℕ × List ℕ) → Option (Root × List ℕ)
 root_by xs None = with Local (name_at xs)
 root_by xs (Some caret) = with Global (name_at caret.1)

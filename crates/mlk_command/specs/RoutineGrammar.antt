@@ -1,5 +1,5 @@
 -- The routines that are read, from trees to texts. A relation `Is.. tree xs ys` says that the tree is spelled at
--- the front of xs and that ys is behind it.
+-- the front of xs and that ys is after it.
 use Rattle.std.specs.Prelude.{ℕ, suc, ◌≡◌, ◌≤◌, ◌⊎◌, ◌==◌, ◌&&◌, ◌||◌, if◌then◌else◌, Bool, true, false, List, [], ◌∷◌, length, Option, Some, None, take, drop}
 use Rattle.mlk_text.specs.Reading.{Many}
 use Rattle.mlk_text.specs.Lexemes.{is_digit, is_letter, is_text, name_at, digits_at, IsLiteral, IsSubs}
@@ -15,7 +15,7 @@ use Rattle.mlk_command.specs.declared.routine.words.Word.TheVariants as word
 use Rattle.mlk_command.specs.RoutineWords.{column_of, word_at, word_of}
 use Rattle.mlk_command.specs.Twice.{NamesDiffer}
 
--- the name of a global behind its caret, or a local's name: ISO/IEC 11756, LOCK, nref
+-- the name of a global after its caret, or a local's name: ISO/IEC 11756, LOCK, nref
 abbrev pub IsRoot : Root → List ℕ → List ℕ → Type 0
 IsRoot (root.Global name) xs ys = (m : List ℕ) × (xs ≡ 94 ∷ m) × (name_at m ≡ Some (name, ys))
 IsRoot (root.Local name) xs ys = name_at xs ≡ Some (name, ys)
@@ -24,7 +24,7 @@ IsRoot (root.Local name) xs ys = name_at xs ≡ Some (name, ys)
 abbrev pub IsLockName : LockName → List ℕ → List ℕ → Type 0
 IsLockName name xs ys = (m : List ℕ) × IsRoot name.root xs m × IsSubs name.subs m ys
 
--- What a command does, behind its word: one space and one argument, or nothing for QUIT (ISO/IEC 11756, SET,
+-- What a command does, after its word: one space and one argument, or nothing for QUIT (ISO/IEC 11756, SET,
 -- LOCK, QUIT; one argument of these forms is this project's own choice).
 abbrev pub IsAction : ℕ → List ℕ → Action → List ℕ → List ℕ → Type 0
 IsAction end w (Set column node value) xs ys = (word_of w ≡ Some word.Set)
@@ -45,7 +45,7 @@ abbrev pub at_end : List ℕ → Bool
 at_end [] = true
 at_end (b ∷ xs) = b == 59
 
--- how many spaces stand before the next command: two behind a command without an argument (ISO/IEC 11756, cs)
+-- how many spaces stand before the next command: two after a command without an argument (ISO/IEC 11756, cs)
 abbrev pub gap_of : Action → ℕ
 gap_of (Set column node value) = 1
 gap_of (Lock column name) = 1
@@ -56,7 +56,7 @@ gap_of Quit = 2
 abbrev pub IsGap : ℕ → List ℕ → List ℕ → Type 0
 IsGap least xs ys = (ys ≡ drop (spaces xs) xs) × ((least ≤ spaces xs) ⊎ (at_end ys ≡ true))
 
--- a command behind its word and the word's column, with the spaces behind it (ISO/IEC 11756, command)
+-- a command after its word and the word's column, with the spaces after it (ISO/IEC 11756, command)
 abbrev pub IsCommand : ℕ → List ℕ × ℕ → Command → List ℕ → List ℕ → Type 0
 IsCommand end w c xs ys = (m : List ℕ) × (c.column ≡ w.1) × IsAction end w.0 c.action xs m × IsGap (gap_of c.action) m ys
 
@@ -84,7 +84,7 @@ abbrev pub closes : List ℕ → Bool
 closes [] = true
 closes (b ∷ xs) = (b == 59) && is_text xs
 
--- behind the label: nothing or a comment, or a line start, commands as far as words go, and nothing or a comment
+-- after the label: nothing or a comment, or a line start, commands as far as words go, and nothing or a comment
 abbrev pub IsBody : ℕ → List Command → List ℕ → Type 0
 IsBody end commands xs = ((commands ≡ []) × (start_at xs ≡ None) × (closes xs ≡ true))
     ⊎ ((n : ℕ) × (m rest : List ℕ) × (start_at xs ≡ Some (n, m)) × Many (word_at end) (IsCommand end) commands m rest × (closes rest ≡ true))
@@ -98,21 +98,21 @@ abbrev pub ends_here : ℕ → List ℕ → Bool
 ends_here b [] = b == 10
 ends_here b (c ∷ xs) = (b == 10) || ((b == 13) && (c == 10))
 
--- the length of the first line, and what is behind its end (ISO/IEC 11756, eol; LF and CR LF are this project's
+-- the length of the first line, and what is after its end (ISO/IEC 11756, eol; LF and CR LF are this project's
 -- own choice)
 abbrev pub line_len : List ℕ → ℕ
 line_len [] = 0
 line_len (b ∷ xs) = if ends_here b xs then 0 else suc (line_len xs)
 
--- what is behind LF or CR LF
-abbrev pub behind_end : List ℕ → List ℕ
-behind_end [] = []
-behind_end (b ∷ xs) = if b == 10 then xs else drop 1 xs
+-- what is after LF or CR LF
+abbrev pub after_end : List ℕ → List ℕ
+after_end [] = []
+after_end (b ∷ xs) = if b == 10 then xs else drop 1 xs
 
 -- the first line of a text that is not empty
 unfoldable pub line_at : List ℕ → Option (List ℕ × List ℕ)
 line_at [] = None
-line_at (b ∷ xs) = let n = line_len (b ∷ xs) in Some (take n (b ∷ xs), behind_end (drop n (b ∷ xs)))
+line_at (b ∷ xs) = let n = line_len (b ∷ xs) in Some (take n (b ∷ xs), after_end (drop n (b ∷ xs)))
 
 -- a line's tree, from its bytes
 abbrev pub LineOf : List ℕ → Line → List ℕ → List ℕ → Type 0

@@ -54,7 +54,7 @@ CommandsFail end xs error.OutOfMemory = Unit {0}
 CommandsFail end xs (error.Fault bad.Form) = (commands_at end xs ≡ None) × ((column : ℕ) × StopsAt end xs column None)
 CommandsFail end xs (error.Fault (bad.LeftOut column full)) = (commands_at end xs ≡ None) × StopsAt end xs column (Some full)
 
--- what is behind a label is not read
+-- what is after a label is not read
 abbrev pub BodyFails : ℕ → List ℕ → LineError → Type 0
 BodyFails end xs error.OutOfMemory = Unit {0}
 BodyFails end xs (error.Fault bad.Form) = (body_at end xs ≡ None) × ((column : ℕ) (full : List ℕ) → BodyLeavesOut end xs column full → ⊥)
@@ -89,7 +89,7 @@ abbrev pub line_fault : List ℕ → ℕ → LineFault → Fault
 line_fault name n bad.Form = fault_at code.LineForm name n 1 None
 line_fault name n (bad.LeftOut column full) = fault_at code.CommandLeftOut name n column (Some (left_out.Command full))
 
--- the routine of lines whose labels differ, or the fault of the line behind them
+-- the routine of lines whose labels differ, or the fault of the line after them
 abbrev pub Finishes : List ℕ → List Line → Option LineFault → Result Routine RoutineError → Type 0
 Finishes n ls None (Ok r) = r ≡ record { name = n; lines = ls }
 Finishes n ls None (Err e) = ⊥

@@ -21,7 +21,7 @@ lock_name_at xs = root_at xs >>= λ r. with (lock_name r.0) (subs_at r.1)
 abbrev pub setting : ℕ → List ℕ → List (List ℕ) → List ℕ → Action
 setting column n s value = Set column (record { name = n; subs = s }) value
 
--- behind the space of SET
+-- after the space of SET
 unfoldable pub set_at : ℕ → List ℕ → Option (Action × List ℕ)
 set_at end xs =
     byte_at 94 xs >>= λ caret.
@@ -30,12 +30,12 @@ set_at end xs =
     byte_at 61 subs.1 >>= λ equals.
     with (setting (column_of end xs) name.0 subs.0) (literal_at equals.1)
 
--- behind the space of LOCK
+-- after the space of LOCK
 abbrev pub lock_by : ℕ → List ℕ → Option (ℕ × List ℕ) → Option (Action × List ℕ)
 lock_by end xs (Some plus) = with (Lock (column_of end plus.1)) (lock_name_at plus.1)
 lock_by end xs None = byte_at 45 xs >>= λ minus. with (Unlock (column_of end minus.1)) (lock_name_at minus.1)
 
--- the sign, and the lock name behind it
+-- the sign, and the lock name after it
 unfoldable pub lock_at : ℕ → List ℕ → Option (Action × List ℕ)
 lock_at end xs = lock_by end xs (byte_at 43 xs)
 
@@ -46,7 +46,7 @@ action_by end (Some word.Set) xs = byte_at 32 xs >>= λ space. set_at end space.
 action_by end (Some word.Lock) xs = byte_at 32 xs >>= λ space. lock_at end space.1
 action_by end (Some word.Quit) xs = Some (Quit, xs)
 
--- what a command does, behind its word
+-- what a command does, after its word
 unfoldable pub action_at : ℕ → List ℕ → List ℕ → Option (Action × List ℕ)
 action_at end w xs = action_by end (word_of w) xs
 
@@ -58,7 +58,7 @@ gap_at least xs = let n = spaces xs in if nat_le least n || at_end (drop n xs) t
 abbrev pub placed : ℕ → Action → ℕ → Command
 placed c a n = record { column = c; action = a }
 
--- a command behind its word
+-- a command after its word
 unfoldable pub command_at : ℕ → List ℕ × ℕ → List ℕ → Option (Command × List ℕ)
 command_at end w xs = action_at end w.0 xs >>= λ a. with (placed w.1 a.0) (gap_at (gap_of a.0) a.1)
 
@@ -74,7 +74,7 @@ label_at (b ∷ xs) =
     else if is_letter b || (b == 37) then with some_label (name_at (b ∷ xs))
     else Some (None, b ∷ xs)
 
--- commands, where nothing or a comment is behind them
+-- commands, where nothing or a comment is after them
 abbrev pub closed : List Command × List ℕ → Option (List Command)
 closed r = if closes r.1 then Some r.0 else None
 
@@ -82,12 +82,12 @@ closed r = if closes r.1 then Some r.0 else None
 abbrev pub commands_at : ℕ → List ℕ → Option (List Command × List ℕ)
 commands_at end xs = many (word_at end) (command_at end) (suc (length xs)) xs
 
--- no commands, or those behind the line start
+-- no commands, or those after the line start
 abbrev pub body_by : ℕ → List ℕ → Option (ℕ × List ℕ) → Option (List Command)
 body_by end xs None = closed ([], xs)
 body_by end xs (Some s) = commands_at end s.1 >>= closed
 
--- what is behind a label
+-- what is after a label
 unfoldable pub body_at : ℕ → List ℕ → Option (List Command)
 body_at end xs = body_by end xs (start_at xs)
 
@@ -105,6 +105,6 @@ abbrev pub kept : List ℕ → Option Line → Option (Line × List ℕ)
 kept xs None = None
 kept xs (Some line) = Some (line, xs)
 
--- the line of these bytes, before what is behind it
+-- the line of these bytes, before what is after it
 abbrev pub line_item : List ℕ → List ℕ → Option (Line × List ℕ)
 line_item text xs = kept xs (line_of text)

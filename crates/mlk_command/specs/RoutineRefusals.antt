@@ -27,14 +27,14 @@ AnyLine text line xs ys = (text ≡ line) × (xs ≡ ys)
 abbrev pub TooManyLines : List ℕ → Type 0
 TooManyLines text = (lines : List (List ℕ)) × Many line_at AnyLine lines text [] × (65535 < length lines)
 
--- Behind a line start and commands that are read, a word of M stands at this column whose command is not read.
+-- After a line start and commands that are read, a word of M stands at this column whose command is not read.
 abbrev pub BodyLeavesOut : ℕ → List ℕ → ℕ → List ℕ → Type 0
 BodyLeavesOut end xs column full = (commands : List Command) × (n : ℕ) × (m p rest w : List ℕ)
     × (start_at xs ≡ Some (n, m)) × Begins (word_at end) (IsCommand end) commands m p
     × (word_at end p ≡ Some ((w, column), rest)) × (full_word w rest ≡ Some full)
     × ((c : Command) (zs : List ℕ) → IsCommand end (w, column) c rest zs → ⊥)
 
--- In this line, behind a label, is such a word.
+-- In this line, after a label, is such a word.
 abbrev pub CommandIsLeftOut : List ℕ → ℕ → List ℕ → Type 0
 CommandIsLeftOut text column full = (label : Option (List ℕ)) × (m : List ℕ) × IsLabel label text m × BodyLeavesOut (suc (length text)) m column full
 

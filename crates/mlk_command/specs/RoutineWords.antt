@@ -112,6 +112,6 @@ full_z (b ∷ w) = if (b == 90) || (b == 122) then Some (upper (b ∷ w)) else N
 unfoldable pub full_listed : List ℕ → List ℕ → Option (List ℕ)
 full_listed w xs = or_else (full_h w xs) (or_else (full_do_to_hang w) (or_else (full_lock_to_write w) (or_else (full_break_to_xecute w) (full_long w))))
 
--- The full word in upper case of a command of M, from its word and what is behind that.
+-- The full word in upper case of a command of M, from its word and what is after that.
 unfoldable pub full_word : List ℕ → List ℕ → Option (List ℕ)
 full_word w xs = or_else (full_listed w xs) (full_z w)

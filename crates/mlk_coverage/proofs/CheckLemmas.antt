@@ -56,14 +56,14 @@ module _ (rules : RuleLists) (r : Reference) where
   keeps_readonly false w h = (λ e p is m. absurd (let e : false ≡ true = h.1 (p, is, m) in cc), λ k. refl)
 
 -- along the rules: a rule whose lock is lacking gives its cut template, and any other none
-pub lacking_more : (held : List LockTerm) (r : Reference) (all rest : List Cover) (c : Cover) (behind : List Cover) (found : List LockTerm) → rest ≡ c ∷ behind → Lacks held r c → ((ts : List LockTerm) → AreLacking held r rest ts → AreLacking held r all (found ++ ts)) → (ts : List LockTerm) → AreLacking held r behind ts → AreLacking held r all ((found ++ cut_template c.lock r ∷ []) ++ ts)
-lacking_more held r all rest c behind found e is f ts h =
+pub lacking_more : (held : List LockTerm) (r : Reference) (all rest : List Cover) (c : Cover) (after : List Cover) (found : List LockTerm) → rest ≡ c ∷ after → Lacks held r c → ((ts : List LockTerm) → AreLacking held r rest ts → AreLacking held r all (found ++ ts)) → (ts : List LockTerm) → AreLacking held r after ts → AreLacking held r all ((found ++ cut_template c.lock r ∷ []) ++ ts)
+lacking_more held r all rest c after found e is f ts h =
     let P : List Cover → Type 0 = λ cs. AreLacking held r cs (cut_template c.lock r ∷ ts) in
     let Q : List LockTerm → Type 0 = λ us. AreLacking held r all us in
     subst Q (sym (append_assoc found (cut_template c.lock r ∷ []) ts)) (f (cut_template c.lock r ∷ ts) (subst P (sym e) (inl (is, (ts, refl, h)))))
 
-pub lacking_less : (held : List LockTerm) (r : Reference) (all rest : List Cover) (c : Cover) (behind : List Cover) (found : List LockTerm) → rest ≡ c ∷ behind → (Lacks held r c → ⊥) → ((ts : List LockTerm) → AreLacking held r rest ts → AreLacking held r all (found ++ ts)) → (ts : List LockTerm) → AreLacking held r behind ts → AreLacking held r all (found ++ ts)
-lacking_less held r all rest c behind found e other f ts h =
+pub lacking_less : (held : List LockTerm) (r : Reference) (all rest : List Cover) (c : Cover) (after : List Cover) (found : List LockTerm) → rest ≡ c ∷ after → (Lacks held r c → ⊥) → ((ts : List LockTerm) → AreLacking held r rest ts → AreLacking held r all (found ++ ts)) → (ts : List LockTerm) → AreLacking held r after ts → AreLacking held r all (found ++ ts)
+lacking_less held r all rest c after found e other f ts h =
     let P : List Cover → Type 0 = λ cs. AreLacking held r cs ts in f ts (subst P (sym e) (inr (other, h)))
 
 pub lacking_all : (held : List LockTerm) (r : Reference) (all rest : List Cover) (found : List LockTerm) → rest ≡ [] → ((ts : List LockTerm) → AreLacking held r rest ts → AreLacking held r all (found ++ ts)) → AreLacking held r all found

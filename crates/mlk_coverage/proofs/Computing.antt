@@ -22,7 +22,7 @@ use Rattle.mlk_names.specs.Lists.{Begins}
 use Rattle.mlk_names.specs.Terms.{IsPrefix}
 use Rattle.mlk_names.specs.References.{SymsMayMeet, SubsMayMeet}
 use Rattle.mlk_names.proofs.ListLemmas.{begins_none, begins_past, begins_cons, begins_head, begins_tail}
-use Rattle.mlk_names.proofs.OverlapLemmas.{subs_meet_none, subs_meet_below, subs_meet_not_below, subs_meet_turned, subs_meet_cons, subs_meet_front, subs_meet_behind}
+use Rattle.mlk_names.proofs.OverlapLemmas.{subs_meet_none, subs_meet_below, subs_meet_not_below, subs_meet_turned, subs_meet_cons, subs_meet_front, subs_meet_after}
 use Rattle.mlk_coverage.specs.declared.pattern.Element.{Element}
 use Rattle.mlk_coverage.specs.declared.pattern.Element.TheVariants as element
 use Rattle.mlk_coverage.specs.declared.pattern.Pattern.{Pattern}
@@ -43,7 +43,7 @@ yes p = (λ e. p, λ h. refl)
 no : {P : Type 0} → (P → ⊥) → Decides false P
 no f = (λ e. absurd (cc), λ h. absurd (f h))
 
--- what is in a list behind its first is in the list, and what is in the list is the first or behind it
+-- what is in a list after its first is in the list, and what is in the list is the first or after it
 pub in_front : {X : Type 0} (x : X) (xs : List X) → Contains (x ∷ xs) x
 in_front x xs = (0, omega arith, refl)
 
@@ -102,7 +102,7 @@ subs_decide (e ∷ es) wide [] Node = no (λ m. subs_meet_not_below wide (symbol
 subs_decide (e ∷ es) wide (s ∷ ss) far =
     Decides-like (may_be_same e s && subs_may_meet es wide ss far)
     (λ h. subs_meet_cons wide far (symbol_of e) s (map symbol_of es) ss h.0 h.1)
-    (λ m. (subs_meet_front wide far (symbol_of e) s (map symbol_of es) ss m, subs_meet_behind wide far (symbol_of e) s (map symbol_of es) ss m))
+    (λ m. (subs_meet_front wide far (symbol_of e) s (map symbol_of es) ss m, subs_meet_after wide far (symbol_of e) s (map symbol_of es) ss m))
     (Decides-and (may_be_same e s) (subs_may_meet es wide ss far) (same_decides e s) (subs_decide es wide ss far))
 
 meet_decides : (r : Reference) (p : Pattern) → Decides (may_meet p r) (MayMeet p r)
@@ -220,25 +220,25 @@ first_at : (ss : List Sym) → slice_get ss 0 ≡ first_of ss
 first_at [] = refl
 first_at (s ∷ ss) = refl
 
-behind_at : (ss : List Sym) (k : ℕ) → slice_get ss (suc k) ≡ slice_get (after_first ss) k
-behind_at [] k = refl
-behind_at (s ∷ ss) k = refl
+after_at : (ss : List Sym) (k : ℕ) → slice_get ss (suc k) ≡ slice_get (after_first ss) k
+after_at [] k = refl
+after_at (s ∷ ss) k = refl
 
 own_cons : (e : Element) (es : List Element) (ss : List Sym) → (e ≡ element.Job → slice_get ss 0 ≡ Some Job) → OwnSubs es (after_first ss) → OwnSubs (e ∷ es) ss
 own_cons e es ss h f zero i = h (cc)
-own_cons e es ss h f (suc k) i = behind_at ss k ∙ f k i
+own_cons e es ss h f (suc k) i = after_at ss k ∙ f k i
 
-own_behind : (e : Element) (es : List Element) (ss : List Sym) → OwnSubs (e ∷ es) ss → OwnSubs es (after_first ss)
-own_behind e es ss f k i = sym (behind_at ss k) ∙ f (suc k) i
+own_after : (e : Element) (es : List Element) (ss : List Sym) → OwnSubs (e ∷ es) ss → OwnSubs es (after_first ss)
+own_after e es ss f k i = sym (after_at ss k) ∙ f (suc k) i
 
 own_decides : (es : List Element) (ss : List Sym) → Decides (own_subs es ss) (OwnSubs es ss)
 own_decides [] ss = yes (λ k i. cc)
-own_decides (element.Literal value ∷ es) ss = Decides-like (own_subs es (after_first ss)) (own_cons (element.Literal value) es ss (λ e. cc)) (own_behind (element.Literal value) es ss) (own_decides es (after_first ss))
-own_decides (element.Variable ∷ es) ss = Decides-like (own_subs es (after_first ss)) (own_cons element.Variable es ss (λ e. cc)) (own_behind element.Variable es ss) (own_decides es (after_first ss))
+own_decides (element.Literal value ∷ es) ss = Decides-like (own_subs es (after_first ss)) (own_cons (element.Literal value) es ss (λ e. cc)) (own_after (element.Literal value) es ss) (own_decides es (after_first ss))
+own_decides (element.Variable ∷ es) ss = Decides-like (own_subs es (after_first ss)) (own_cons element.Variable es ss (λ e. cc)) (own_after element.Variable es ss) (own_decides es (after_first ss))
 own_decides (element.Job ∷ es) ss =
     Decides-like (is_job (first_of ss) && own_subs es (after_first ss))
     (λ h. own_cons element.Job es ss (λ e. first_at ss ∙ h.0) h.1)
-    (λ f. (sym (first_at ss) ∙ f 0 refl, own_behind element.Job es ss f))
+    (λ f. (sym (first_at ss) ∙ f 0 refl, own_after element.Job es ss f))
     (Decides-and (is_job (first_of ss)) (own_subs es (after_first ss)) (job_decides (first_of ss)) (own_decides es (after_first ss)))
 
 private_decides : (rules : RuleLists) (r : Reference) → Decides (keeps_private rules r) (KeepsPrivate rules r)

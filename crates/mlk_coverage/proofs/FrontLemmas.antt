@@ -52,15 +52,15 @@ may_be_takes (element.Variable ∷ es) (v ∷ vs) h = (tt, may_be_takes es vs h.
 may_be_takes (element.Job ∷ es) (v ∷ vs) h = (tt, may_be_takes es vs h.1)
 
 -- a front that no element asks for is none
-stays_behind : (wide far : Extent) (subs front rest : List Sym) → AllZip Suits [] front → front ++ rest ≡ subs → StaysIn wide far rest → StaysIn wide far subs
-stays_behind wide far subs [] rest z e h =
+stays_after : (wide far : Extent) (subs front rest : List Sym) → AllZip Suits [] front → front ++ rest ≡ subs → StaysIn wide far rest → StaysIn wide far subs
+stays_after wide far subs [] rest z e h =
     let P : List Sym → Type 0 = λ xs. StaysIn wide far xs in subst P e h
-stays_behind wide far subs (s ∷ front) rest z e h = absurd z
+stays_after wide far subs (s ∷ front) rest z e h = absurd z
 
 pub lie_none : (es : List Element) (wide far : Extent) (subs : List Sym) → length es ≡ 0 → StaysIn wide far subs ↔ SubsLie es wide subs far
 lie_none [] wide far subs h = (
   λ k. record { front = []; rest = subs; is = refl; suits = tt; stays = k },
-  λ k. stays_behind wide far subs k.front k.rest k.suits k.is k.stays,
+  λ k. stays_after wide far subs k.front k.rest k.suits k.is k.stays,
 )
 lie_none (e ∷ es) wide far subs h = absurd (omega arith)
 

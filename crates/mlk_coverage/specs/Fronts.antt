@@ -1,4 +1,5 @@
--- Elements and subscripts from the front on, apart from the names of the globals. This project's own choice.
+-- Elements and subscripts from the front on, apart from the names of the globals. For private clauses alone: what public
+-- calls promise stands in `Patterns` and `Coverage`. This project's own choice.
 use Rattle.std.specs.Prelude.{◌≡◌, ℕ, List, ◌++◌, Some, map, slice_get}
 use Rattle.std.specs.List.{AllZip}
 use Rattle.mlk_names.specs.declared.symbol.Sym.{Sym}

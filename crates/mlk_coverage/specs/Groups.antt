@@ -1,5 +1,5 @@
--- Rules by the global that their patterns name, so that a reference asks those of its own global alone. This project's
--- own choice.
+-- Rules by the global that their patterns name, so that a reference asks those of its own global alone. For private
+-- clauses alone: no public call speaks of groups. This project's own choice.
 use Rattle.std.specs.Prelude.{◌≡◌, ◌≢◌, ℕ, true, if◌then◌else◌, List, [], ◌∷◌, Option, Some, None, Contains, bytes_eq, is_some}
 use Rattle.std.specs.List.{filter}
 use Rattle.mlk_coverage.specs.declared.pattern.Pattern.{Pattern}

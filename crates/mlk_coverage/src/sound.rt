@@ -13,6 +13,7 @@ use crate::family::Family;
 use crate::pattern::{Element, Pattern};
 use crate::rules::RuleLists;
 use mlk_names::{LockName, Root, conflict};
+use mlk_text::limit::GREATEST_RANK;
 use mlk_text::spelling::is_name;
 
 fn is_root(root: &Root) -> bool
@@ -27,7 +28,7 @@ fn is_root(root: &Root) -> bool
 fn is_family(family: &Family) -> bool
     ensures { result ≡ is_family family.now }
 {
-    is_root(&family.name.root) && family.rank <= 999_999
+    is_root(&family.name.root) && family.rank <= GREATEST_RANK
 }
 
 // How often `$J` stands among the elements.

@@ -4,8 +4,8 @@ use Rattle.std.specs.Prelude.{Option, ◌&&◌, nat_le, not}
 use Rattle.std.proofs.lemmas.Bool.{cases_Bool}
 use Rattle.mlk_text.specs.Reading.{many, Many}
 use Rattle.mlk_text.specs.Lexemes.{byte_at, name_at, label_at}
-use Rattle.mlk_text.proofs.Lexemes.{byte-is, byte-takes, name-behind}
-use Rattle.mlk_text.proofs.Readers.{then_some, pair_parts, with_some, Behind, behind-self, behind-one, behind_then, Exact, many_sound, many_behind, many_complete}
+use Rattle.mlk_text.proofs.Lexemes.{byte-is, byte-takes, name-after}
+use Rattle.mlk_text.proofs.Readers.{then_some, pair_parts, with_some, After, after-self, after-one, after_then, Exact, many_sound, many_after, many_complete}
 use Rattle.mlk_expr.specs.Trees.{Tree, ActualTree, Given, ByRef, Missing}
 use Rattle.mlk_expr.specs.declared.tree.Callee.{Callee}
 use Rattle.mlk_expr.specs.declared.tree.Function.{Function}
@@ -14,14 +14,14 @@ use Rattle.mlk_expr.specs.declared.scope.Passing.TheVariants.{ByReference}
 use Rattle.mlk_expr.specs.Touches.{may_stand}
 use Rattle.mlk_expr.specs.Lexemes.{column_of, lent_at, is_missing, starts_reference}
 use Rattle.mlk_expr.specs.Grammar.{has_subscript, asks_subscript}
-use Rattle.mlk_expr.proofs.Behind.{Quiet, Next, IsList, IsActual, IsActuals, IsArguments, IsChoice, IsCallee}
+use Rattle.mlk_expr.proofs.Followed.{Quiet, Next, IsList, IsActual, IsActuals, IsArguments, IsChoice, IsCallee}
 use Rattle.mlk_expr.specs.Reading.{quietly, next, list_with, actual_by, actual_with, actuals_by, actuals_with, label_alone, label_in, routine_alone, routine_by, callee_by, callee_at, choice_with, others_by, name_and, arguments_by}
-use Rattle.mlk_expr.proofs.LexemeLemmas.{label-behind, lent-behind, label-caret}
+use Rattle.mlk_expr.proofs.LexemeLemmas.{label-after, lent-after, label-caret}
 use Rattle.mlk_expr.proofs.Parts.{kept-exact, next-exact, list-exact}
 
 pub actual-exact : (end : ℕ) (read : List ℕ → Option (Tree × List ℕ)) (Is : Tree → List ℕ → List ℕ → Type 0) → Exact read Is → Exact (actual_with ByReference end read) (IsActual end Is)
 unfolding actual_with
-actual-exact end read Is e = record { sound = λ a xs ys h. go a xs ys (lent_at xs) refl h; complete = done; behind = back }
+actual-exact end read Is e = record { sound = λ a xs ys h. go a xs ys (lent_at xs) refl h; complete = done; after = back }
   where
     go : (a : ActualTree) (xs ys : List ℕ) (o : Option (List ℕ × List ℕ)) → lent_at xs ≡ o → actual_by ByReference end read xs o ≡ Some (a, ys) → IsActual end Is a xs ys
     go a xs ys (Some n) is h = let p = pair_parts (ByRef (column_of end xs) n.0) a n.1 ys h in subst (λ u. IsActual end Is u xs ys) p.0 (refl, is ∙ ap (λ l. Some (n.0, l)) p.1)
@@ -35,17 +35,17 @@ actual-exact end read Is e = record { sound = λ a xs ys h. go a xs ys (lent_at 
     done Missing xs ys (same, none, out) = rw none (rw out (ap (λ l. Some (Missing, l)) same))
     done (Given t) xs ys (is, none, out) = rw none (rw out (rw (e.complete t xs ys is) refl))
 
-    back : (a : ActualTree) (xs ys : List ℕ) → IsActual end Is a xs ys → Behind ys xs
-    back (ByRef column n) xs ys (at, h) = lent-behind n xs ys h
-    back Missing xs ys (same, none, out) = subst (λ l. Behind l xs) same (behind-self xs)
-    back (Given t) xs ys (is, none, out) = e.behind t xs ys is
+    back : (a : ActualTree) (xs ys : List ℕ) → IsActual end Is a xs ys → After ys xs
+    back (ByRef column n) xs ys (at, h) = lent-after n xs ys h
+    back Missing xs ys (same, none, out) = subst (λ l. After l xs) same (after-self xs)
+    back (Given t) xs ys (is, none, out) = e.after t xs ys is
 
 pub actuals-exact : (end : ℕ) (read : List ℕ → Option (Tree × List ℕ)) (Is : Tree → List ℕ → List ℕ → Type 0) → Exact read Is → Exact (actuals_with ByReference end read) (IsActuals end Is)
 unfolding actuals_with
 actuals-exact end read Is e = by-list (list-exact (actual_with ByReference end read) (IsActual end Is) (actual-exact end read Is e))
   where
     by-list : Exact (list_with (actual_with ByReference end read)) (IsList (IsActual end Is)) → Exact (actuals_with ByReference end read) (IsActuals end Is)
-    by-list l = record { sound = λ given xs ys h. go given xs ys (byte_at 41 xs) refl h; complete = done; behind = back }
+    by-list l = record { sound = λ given xs ys h. go given xs ys (byte_at 41 xs) refl h; complete = done; after = back }
       where
         filled : (given : List ActualTree) (xs ys : List ℕ) → IsList (IsActual end Is) given xs ys → byte_at 41 xs ≡ None → IsActuals end Is given xs ys
         filled [] xs ys (first, others, n, one, more, f) none = cc f
@@ -59,9 +59,9 @@ actuals-exact end read Is e = by-list (list-exact (actual_with ByReference end r
         done [] xs ys h = rw h refl
         done (a ∷ more) xs ys (is, none) = rw none (l.complete (a ∷ more) xs ys is)
 
-        back : (given : List ActualTree) (xs ys : List ℕ) → IsActuals end Is given xs ys → Behind ys xs
-        back [] xs ys h = subst (λ z. Behind ys z) (sym h) (behind-one 41 ys)
-        back (a ∷ more) xs ys (is, none) = l.behind (a ∷ more) xs ys is
+        back : (given : List ActualTree) (xs ys : List ℕ) → IsActuals end Is given xs ys → After ys xs
+        back [] xs ys h = subst (λ z. After ys z) (sym h) (after-one 41 ys)
+        back (a ∷ more) xs ys (is, none) = l.after (a ∷ more) xs ys is
 
 -- what a call names
 abbrev pub CalleeIs : Callee → List ℕ → List ℕ → Type 0
@@ -69,7 +69,7 @@ CalleeIs c xs ys = IsCallee c.label c.routine xs ys
 
 pub callee-exact : Exact callee_at CalleeIs
 unfolding callee_at
-callee-exact = record { sound = λ c xs ys h. go c xs ys (byte_at 94 xs) refl h; complete = λ c xs ys h. done c.label c.routine xs ys h; behind = λ c xs ys h. back c.label c.routine xs ys h }
+callee-exact = record { sound = λ c xs ys h. go c xs ys (byte_at 94 xs) refl h; complete = λ c xs ys h. done c.label c.routine xs ys h; after = λ c xs ys h. back c.label c.routine xs ys h }
   where
     labelled : (c : Callee) (label xs rest ys : List ℕ) (o : Option (ℕ × List ℕ)) → label_at xs ≡ Some (label, rest) → byte_at 94 rest ≡ o → routine_by label rest o ≡ Some (c, ys) → CalleeIs c xs ys
     labelled c label xs rest ys None l is h =
@@ -93,11 +93,11 @@ callee-exact = record { sound = λ c xs ys h. go c xs ys (byte_at 94 xs) refl h;
     done None (Some routine) xs ys (m, is, r) = rw is (rw r refl)
     done None None xs ys h = absurd h
 
-    back : (label routine : Option (List ℕ)) (xs ys : List ℕ) → IsCallee label routine xs ys → Behind ys xs
-    back (Some label) None xs ys (l, none) = label-behind label xs ys l
+    back : (label routine : Option (List ℕ)) (xs ys : List ℕ) → IsCallee label routine xs ys → After ys xs
+    back (Some label) None xs ys (l, none) = label-after label xs ys l
     back (Some label) (Some routine) xs ys (m, l, r) =
-        behind_then xs (94 ∷ m) ys (label-behind label xs (94 ∷ m) l) (behind_then (94 ∷ m) m ys (behind-one 94 m) (name-behind routine m ys r))
-    back None (Some routine) xs ys (m, is, r) = subst (λ z. Behind ys z) (sym is) (behind_then (94 ∷ m) m ys (behind-one 94 m) (name-behind routine m ys r))
+        after_then xs (94 ∷ m) ys (label-after label xs (94 ∷ m) l) (after_then (94 ∷ m) m ys (after-one 94 m) (name-after routine m ys r))
+    back None (Some routine) xs ys (m, is, r) = subst (λ z. After ys z) (sym is) (after_then (94 ∷ m) m ys (after-one 94 m) (name-after routine m ys r))
     back None None xs ys h = absurd h
 
 -- a condition and its value
@@ -113,8 +113,8 @@ choice-exact read Is e = record {
         subst (λ z. Is z.1 o.0.1 ys) (sym w.2) (e.sound w.0 o.0.1 ys w.1),
       );
   complete = λ c xs ys (m, one, other). rw (e.complete c.0 xs (58 ∷ m) one) (rw (e.complete c.1 m ys other) refl);
-  behind = λ c xs ys (m, one, other).
-      behind_then xs (58 ∷ m) ys (e.behind c.0 xs (58 ∷ m) one) (behind_then (58 ∷ m) m ys (behind-one 58 m) (e.behind c.1 m ys other));
+  after = λ c xs ys (m, one, other).
+      after_then xs (58 ∷ m) ys (e.after c.0 xs (58 ∷ m) one) (after_then (58 ∷ m) m ys (after-one 58 m) (e.after c.1 m ys other));
 }
 
 -- arguments
@@ -132,8 +132,8 @@ ask f t h = elim (cases_Bool (asks_subscript f)) [
 
 pub arguments-exact : (atom : List ℕ → Option (Tree × List ℕ)) (Atom : Tree → List ℕ → List ℕ → Type 0) (item : List ℕ → Option (Tree × List ℕ)) (Item : Tree → List ℕ → List ℕ → Type 0)
     → Exact atom Atom → Exact item Item → (f : Function) (most : Option ℕ) → Exact (arguments_by atom item (quietly item) f most) (IsArguments Atom Item f most)
-arguments-exact atom Atom item Item a e f None = let l = list-exact item Item e in record { sound = l.sound; complete = l.complete; behind = l.behind }
-arguments-exact atom Atom item Item a e f (Some most) = record { sound = go; complete = done; behind = back }
+arguments-exact atom Atom item Item a e f None = let l = list-exact item Item e in record { sound = l.sound; complete = l.complete; after = l.after }
+arguments-exact atom Atom item Item a e f (Some most) = record { sound = go; complete = done; after = back }
   where
     q : Exact (quietly item) (Quiet Item)
     q = kept-exact (may_stand NoTouches) item Item e
@@ -171,7 +171,7 @@ arguments-exact atom Atom item Item a e f (Some most) = record { sound = go; com
         rw starts (rw (a.complete first xs m one) (rw (ask f first asks)
         (rw (many_complete (byte_at 44) (next (quietly item)) (Next (Quiet Item)) (byte-takes 44) n (suc (length m)) others m (41 ∷ ys) (omega arith) more) (rw small (rw is refl)))))
 
-    back : (args : List Tree) (xs ys : List ℕ) → IsArguments Atom Item f (Some most) args xs ys → Behind ys xs
+    back : (args : List Tree) (xs ys : List ℕ) → IsArguments Atom Item f (Some most) args xs ys → After ys xs
     back args xs ys (first, others, m, one, starts, asks, more, few, is) =
-        let far = many_behind (byte_at 44) (next (quietly item)) (Next (Quiet Item)) (byte-takes 44) n others m (41 ∷ ys) more in
-        behind_then xs m ys (a.behind first xs m one) (behind_then m (41 ∷ ys) ys far (behind-one 41 ys))
+        let far = many_after (byte_at 44) (next (quietly item)) (Next (Quiet Item)) (byte-takes 44) n others m (41 ∷ ys) more in
+        after_then xs m ys (a.after first xs m one) (after_then m (41 ∷ ys) ys far (after-one 41 ys))

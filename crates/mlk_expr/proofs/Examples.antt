@@ -13,7 +13,7 @@ use Rattle.mlk_expr.specs.Trees.{Tree, Lit, Free, LocalName, GlobalName, Special
 use Rattle.mlk_expr.specs.Words.{special_of, special_to_principal, special_from_quit, function_of, function_to_fnumber, function_to_piece, function_from_qlength, is_select}
 use Rattle.mlk_expr.specs.Lexemes.{relation_of, relation_at, arithmetic_of, arithmetic_at, op_at, unary_of, kind_of, mantissa_len, numeral_at, count_at, pattern_codes_at, lent_at, ends}
 use Rattle.mlk_expr.specs.Grammar.{IsExpr, IsReference}
-use Rattle.mlk_expr.proofs.Behind as behind
+use Rattle.mlk_expr.proofs.Followed as followed
 use Rattle.mlk_expr.specs.Reading.{list_with, pattern_at, chain_with, subs_with, actual_with, actuals_with, callee_at, call_with, arguments_with, function_with, dollar_with, atom_at, reference_at}
 use Rattle.mlk_expr.proofs.Whole.{reference-exact}
 use Rattle.mlk_expr.proofs.Operands.{expr-exact}
@@ -21,17 +21,17 @@ use Rattle.mlk_expr.proofs.Joined.{same-expr, same-reference}
 
 -- what reading says of a whole text
 spelled : (t : Tree) (s : List ℕ) → chain_with (atom_at (suc (length s)) 64) (pattern_at 64) s ≡ Some (t, []) → IsExpr 1 t s
-unfolding behind.IsExpr ends
+unfolding followed.IsExpr ends
 spelled t s h =
     let r = same-expr.apart (suc (length s)) 1 t s [] (omega arith) ((expr-exact (suc (length s)) 64).sound t s [] h, refl) in
     subst (λ z. IsExpr 1 t z) (sym (append-nil r.0) ∙ sym (r.1)) r.2
 
 whole : (t : Tree) (s : List ℕ) → IsExpr 1 t s → chain_with (atom_at (suc (length s)) 64) (pattern_at 64) s ≡ Some (t, [])
-unfolding behind.IsExpr ends
+unfolding followed.IsExpr ends
 whole t s is =
     let same = append-nil s in
     let size = ap length same in
-    let g : behind.IsExpr (suc (length s)) t s [] = subst (λ z. behind.IsExpr (suc (length s)) t z []) same (same-expr.together (suc (length s)) 1 t s [] (omega arith) is refl) in
+    let g : followed.IsExpr (suc (length s)) t s [] = subst (λ z. followed.IsExpr (suc (length s)) t z []) same (same-expr.together (suc (length s)) 1 t s [] (omega arith) is refl) in
     (expr-exact (suc (length s)) 64).complete t s [] g.0
 
 -- no reading at all, or one that ends too early

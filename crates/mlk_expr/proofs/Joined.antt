@@ -13,7 +13,7 @@ use Rattle.mlk_expr.specs.Lexemes.{numeral_at, starts_reference, ends}
 use Rattle.mlk_expr.specs.Spellings.{IsNumber, unary_text}
 use Rattle.mlk_expr.specs.Grammar.{IsChain, IsPlain, IsOperand, IsPattern, IsAtom, IsExpr, IsReference, IsActualList}
 use Rattle.mlk_expr.specs.Theorem.{ExprEnds, goes_on, ReferenceEnds, ListEnds, One}
-use Rattle.mlk_expr.proofs.Behind as behind
+use Rattle.mlk_expr.proofs.Followed as followed
 use Rattle.mlk_expr.proofs.Runs.{after_name}
 use Rattle.mlk_expr.proofs.OperatorSpelling.{unary-spelled}
 use Rattle.mlk_text.proofs.Spelled.{name-spelled}
@@ -28,22 +28,22 @@ pub record Same {A : Type 0} (Is : ℕ → A → List ℕ → List ℕ → Type 
   pub apart : (end at : ℕ) (a : A) (xs ys : List ℕ) → end ≡ at + length xs → Is end a xs ys → (s : List ℕ) × (xs ≡ s ++ ys) × Text at a s × Ends a ys
   pub together : (end at : ℕ) (a : A) (s ys : List ℕ) → end ≡ at + length (s ++ ys) → Text at a s → Ends a ys → Is end a (s ++ ys) ys
 
-pub same-expr : Same behind.IsExpr IsExpr ExprEnds
-unfolding IsExpr behind.IsExpr
+pub same-expr : Same followed.IsExpr IsExpr ExprEnds
+unfolding IsExpr followed.IsExpr
 same-expr = record {
   apart = λ end at t xs ys h (one, ended). let f = (nested-joins end 64).apart at t xs ys h one in (f.0, f.1, f.2, ended);
   together = λ end at t s ys h one ended. ((nested-joins end 64).together at t s ys h one ended, ended);
 }
 
-pub same-list : Same behind.IsActualList IsActualList ListEnds
-unfolding IsActualList behind.IsActualList
+pub same-list : Same followed.IsActualList IsActualList ListEnds
+unfolding IsActualList followed.IsActualList
 same-list = record {
   apart = λ end at given xs ys h (m, is, list).
       let size = ap length is in
-      let f = actuals-apart end (behind.IsChain (behind.IsAtom end 63) (behind.IsPattern 63)) (IsChain (IsAtom 63) (IsPattern 63)) (nested-joins end 63) (nested-opens end 63) at given m ys (omega arith) list in
+      let f = actuals-apart end (followed.IsChain (followed.IsAtom end 63) (followed.IsPattern 63)) (IsChain (IsAtom 63) (IsPattern 63)) (nested-joins end 63) (nested-opens end 63) at given m ys (omega arith) list in
       (f.0, is ∙ f.1, f.2, tt);
   together = λ end at given s ys h one ended.
-      actuals-together end (behind.IsChain (behind.IsAtom end 63) (behind.IsPattern 63)) (IsChain (IsAtom 63) (IsPattern 63)) (nested-joins end 63) (nested-opens end 63) at given s ys h one;
+      actuals-together end (followed.IsChain (followed.IsAtom end 63) (followed.IsPattern 63)) (IsChain (IsAtom 63) (IsPattern 63)) (nested-joins end 63) (nested-opens end 63) at given s ys h one;
 }
 
 -- no number begins as a name does
@@ -73,7 +73,7 @@ quiet-from : (subs : List (ℕ × Tree)) (name ys : List ℕ) → ReferenceEnds 
 quiet-from [] name ys h same = elim (cases_Bool (goes_on ys)) [ inl e ↦ cc (rw e at h) | inr e ↦ e ]
 quiet-from (p ∷ subs) name ys h same = cc same
 
-ends-from : (end : ℕ) (Is : Tree → List ℕ → List ℕ → Type 0) (subs : List (ℕ × Tree)) (name m ys : List ℕ) → after_name m ≡ true → behind.IsSubs end Is subs m ys → ReferenceEnds (LocalName name (subs_from subs)) ys
+ends-from : (end : ℕ) (Is : Tree → List ℕ → List ℕ → Type 0) (subs : List (ℕ × Tree)) (name m ys : List ℕ) → after_name m ≡ true → followed.IsSubs end Is subs m ys → ReferenceEnds (LocalName name (subs_from subs)) ys
 ends-from end Is [] name m ys quiet (is, none) = go ys (subst (λ z. after_name z ≡ true) is quiet) (subst (λ z. byte_at 40 z ≡ None) is none)
   where
     go : (zs : List ℕ) → after_name zs ≡ true → byte_at 40 zs ≡ None → (not (goes_on zs)) ≡ true
@@ -96,24 +96,24 @@ local-global column name (p ∷ subs) ys h = refl
 
 -- a local or a global name: what may stand after it is what does not go on with it
 module _ (end k : ℕ) where
-  chains : Joins end (behind.IsChain (behind.IsAtom end k) (behind.IsPattern k)) (IsChain (IsAtom k) (IsPattern k)) ends
+  chains : Joins end (followed.IsChain (followed.IsAtom end k) (followed.IsPattern k)) (IsChain (IsAtom k) (IsPattern k)) ends
   chains = nested-joins end k
 
   plain-reference : (at : ℕ) (t : Tree) (s ys : List ℕ) → end ≡ at + length (s ++ ys) → IsPlain (IsAtom k) (IsPattern k) at t s → starts_reference s ≡ true → ReferenceEnds t ys
-      → behind.IsPlain end (behind.IsAtom end k) (behind.IsPattern k) t (s ++ ys) ys
+      → followed.IsPlain end (followed.IsAtom end k) (followed.IsPattern k) t (s ++ ys) ys
   plain-reference at (Lit value) s ys h (inl same) first ended = absurd (number-first s (canonical-number s value same) first)
   plain-reference at (Lit value) s ys h (inr (is, good)) first ended = cc (subst (λ z. starts_reference z ≡ true) is first)
   plain-reference at Free s ys h (number, none) first ended = absurd (number-first s number first)
   plain-reference at (LocalName name subs) s ys h (part, ss, is, good, list, same) first ended =
       let whole : s ++ ys ≡ name ++ (part ++ ys) = ap (λ l. l ++ ys) is ∙ append_assoc name part ys in
       let quiet = quiet-from ss name ys (subst (λ z. ReferenceEnds (LocalName name z) ys) same ended) in
-      let f = variable-together end (behind.IsAtom end k) (IsAtom k) (atom-joins end k) (atom-opens end k) (behind.IsPattern k) (IsPattern k) (pattern-joins k) at name part ys ss (h ∙ ap (λ z. at + length z) whole) good list quiet in
-      subst (λ z. behind.IsPlain end (behind.IsAtom end k) (behind.IsPattern k) (LocalName name subs) z ys) (sym whole) (part ++ ys, ss, f.0, f.1, same)
+      let f = variable-together end (followed.IsAtom end k) (IsAtom k) (atom-joins end k) (atom-opens end k) (followed.IsPattern k) (IsPattern k) (pattern-joins k) at name part ys ss (h ∙ ap (λ z. at + length z) whole) good list quiet in
+      subst (λ z. followed.IsPlain end (followed.IsAtom end k) (followed.IsPattern k) (LocalName name subs) z ys) (sym whole) (part ++ ys, ss, f.0, f.1, same)
   plain-reference at (GlobalName column name subs) s ys h (part, ss, is, col, good, list, same) first ended =
       let whole : s ++ ys ≡ 94 ∷ (name ++ (part ++ ys)) = ap (λ l. l ++ ys) is ∙ ap (λ l. 94 ∷ l) (append_assoc name part ys) in
       let size = ap length whole in
       let quiet = quiet-from ss name ys (global-local column name ss ys (subst (λ z. ReferenceEnds (GlobalName column name z) ys) same ended)) in
-      let f = variable-together end (behind.IsAtom end k) (IsAtom k) (atom-joins end k) (atom-opens end k) (behind.IsPattern k) (IsPattern k) (pattern-joins k) (suc at) name part ys ss (omega arith) good list quiet in
+      let f = variable-together end (followed.IsAtom end k) (IsAtom k) (atom-joins end k) (atom-opens end k) (followed.IsPattern k) (IsPattern k) (pattern-joins k) (suc at) name part ys ss (omega arith) good list quiet in
       (name ++ (part ++ ys), part ++ ys, ss, whole, col ∙ sym (at-column end at (s ++ ys) h), f.0, f.1, same)
   plain-reference at (SpecialName special) s ys h (w, is, word, found) first ended = cc (subst (λ z. starts_reference z ≡ true) is first)
   plain-reference at (Prefixed op t) s ys h (operand, is, deep) first ended = absurd (sign-first op operand (subst (λ z. starts_reference z ≡ true) is first))
@@ -125,15 +125,15 @@ module _ (end k : ℕ) where
   plain-reference at (CallOf column callee tail) s ys h (called, part, given, is, col, name, list, same) first ended = cc (subst (λ z. starts_reference z ≡ true) is first)
 
   -- and what stands after one does not
-  plain-ended : (t : Tree) (xs ys : List ℕ) → behind.IsPlain end (behind.IsAtom end k) (behind.IsPattern k) t xs ys → starts_reference xs ≡ true → ReferenceEnds t ys
+  plain-ended : (t : Tree) (xs ys : List ℕ) → followed.IsPlain end (followed.IsAtom end k) (followed.IsPattern k) t xs ys → starts_reference xs ≡ true → ReferenceEnds t ys
   plain-ended (Lit value) xs ys (inl (text, n, same)) first = absurd (numeral-reference text xs ys n first)
   plain-ended (Lit value) xs ys (inr (is, good, none)) first = cc (subst (λ z. starts_reference z ≡ true) is first)
   plain-ended Free xs ys (text, n, none) first = absurd (numeral-reference text xs ys n first)
   plain-ended (LocalName name subs) xs ys (m, ss, n, list, same) first =
-      subst (λ z. ReferenceEnds (LocalName name z) ys) (sym same) (ends-from end (behind.IsChain (behind.IsAtom end k) (behind.IsPattern k)) ss name m ys ((name-spelled name xs m n).2) list)
+      subst (λ z. ReferenceEnds (LocalName name z) ys) (sym same) (ends-from end (followed.IsChain (followed.IsAtom end k) (followed.IsPattern k)) ss name m ys ((name-spelled name xs m n).2) list)
   plain-ended (GlobalName column name subs) xs ys (m, n, ss, is, col, text, list, same) first =
       subst (λ z. ReferenceEnds (GlobalName column name z) ys) (sym same)
-      (local-global column name ss ys (ends-from end (behind.IsChain (behind.IsAtom end k) (behind.IsPattern k)) ss name n ys ((name-spelled name m n text).2) list))
+      (local-global column name ss ys (ends-from end (followed.IsChain (followed.IsAtom end k) (followed.IsPattern k)) ss name n ys ((name-spelled name m n text).2) list))
   plain-ended (SpecialName special) xs ys (m, w, is, word, found, none) first = cc (subst (λ z. starts_reference z ≡ true) is first)
   plain-ended (Prefixed op t) xs ys (b, m, is, o, deep) first = absurd (sign-first op m (subst (λ z. starts_reference z ≡ true) (is ∙ sym (ap (λ l. l ++ m) (unary-spelled op b o))) first))
   plain-ended (Chain t ls) xs ys none first = absurd none
@@ -144,24 +144,24 @@ module _ (end k : ℕ) where
   plain-ended (CallOf column callee tail) xs ys (m, n, given, is, col, called, list, same) first = cc (subst (λ z. starts_reference z ≡ true) is first)
 
   operand-reference : (at : ℕ) (t : Tree) (s ys : List ℕ) → end ≡ at + length (s ++ ys) → IsOperand (IsAtom k) (IsPattern k) at t s → starts_reference s ≡ true → ReferenceEnds t ys
-      → behind.IsOperand end (behind.IsAtom end k) (behind.IsPattern k) t (s ++ ys) ys
+      → followed.IsOperand end (followed.IsAtom end k) (followed.IsPattern k) t (s ++ ys) ys
   operand-reference at t s ys h (inl one) first ended = inl (plain-reference at t s ys h one first ended)
   operand-reference at t s ys h (inr (inner, is, one)) first ended = cc (subst (λ z. starts_reference z ≡ true) is first)
 
-  operand-ended : (t : Tree) (xs ys : List ℕ) → behind.IsOperand end (behind.IsAtom end k) (behind.IsPattern k) t xs ys → starts_reference xs ≡ true → ReferenceEnds t ys
+  operand-ended : (t : Tree) (xs ys : List ℕ) → followed.IsOperand end (followed.IsAtom end k) (followed.IsPattern k) t xs ys → starts_reference xs ≡ true → ReferenceEnds t ys
   operand-ended t xs ys (inl one) first = plain-ended t xs ys one first
   operand-ended t xs ys (inr (m, is, one)) first = cc (subst (λ z. starts_reference z ≡ true) is first)
 
-  atom-reference : (at : ℕ) (t : Tree) (s ys : List ℕ) → end ≡ at + length (s ++ ys) → IsAtom (suc k) at t s → starts_reference s ≡ true → ReferenceEnds t ys → behind.IsAtom end (suc k) t (s ++ ys) ys
-  unfolding IsAtom behind.IsAtom
+  atom-reference : (at : ℕ) (t : Tree) (s ys : List ℕ) → end ≡ at + length (s ++ ys) → IsAtom (suc k) at t s → starts_reference s ≡ true → ReferenceEnds t ys → followed.IsAtom end (suc k) t (s ++ ys) ys
+  unfolding IsAtom followed.IsAtom
   atom-reference = operand-reference
 
-  atom-ended : (t : Tree) (xs ys : List ℕ) → behind.IsAtom end (suc k) t xs ys → starts_reference xs ≡ true → ReferenceEnds t ys
-  unfolding behind.IsAtom
+  atom-ended : (t : Tree) (xs ys : List ℕ) → followed.IsAtom end (suc k) t xs ys → starts_reference xs ≡ true → ReferenceEnds t ys
+  unfolding followed.IsAtom
   atom-ended = operand-ended
 
-pub same-reference : Same behind.IsReference IsReference ReferenceEnds
-unfolding IsReference behind.IsReference
+pub same-reference : Same followed.IsReference IsReference ReferenceEnds
+unfolding IsReference followed.IsReference
 same-reference = record {
   apart = λ end at t xs ys h (one, first).
       let f = (atom-joins end 64).apart at t xs ys h one in

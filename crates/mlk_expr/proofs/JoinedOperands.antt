@@ -13,12 +13,12 @@ use Rattle.mlk_text.specs.Spellings.{IsName}
 use Rattle.mlk_expr.specs.Spellings.{IsNumber, unary_text}
 use Rattle.mlk_expr.specs.Grammar.{IsSubs, IsChoice, IsChain, IsPlain, IsOperand, IsPattern, IsAtom, named}
 use Rattle.mlk_expr.specs.Theorem.{goes_on}
-use Rattle.mlk_expr.proofs.Behind as behind
+use Rattle.mlk_expr.proofs.Followed as followed
 use Rattle.mlk_expr.proofs.Runs.{after_name, tame, tame-name, name-word}
 use Rattle.mlk_expr.proofs.OperatorSpelling.{unary-reads, unary-spelled}
 use Rattle.mlk_text.proofs.Spelled.{name-parts, name-reads, name-spelled, word-reads, word-spelled}
 use Rattle.mlk_expr.proofs.NumberSpelling.{number-reads, number-spelled}
-use Rattle.mlk_expr.proofs.JoinedParts.{opens, Joins, JoinsPattern, moved, list-apart, list-together, chain-joins, chain-opens, enclosed-behind, quoted-behind}
+use Rattle.mlk_expr.proofs.JoinedParts.{opens, Joins, JoinsPattern, moved, list-apart, list-together, chain-joins, chain-opens, enclosed-after, quoted-after}
 use Rattle.mlk_expr.proofs.JoinedPatterns.{pattern-joins}
 use Rattle.mlk_expr.proofs.JoinedArguments.{at-column, subs-apart, subs-together, choice-joins, actuals-apart, actuals-together, arguments-apart, arguments-together, callee-apart, callee-together, tame-caret}
 
@@ -86,7 +86,7 @@ closed ys = refl
 
 module _ (end : ℕ) (Atom : Tree → List ℕ → List ℕ → Type 0) (Text : ℕ → Tree → List ℕ → Type 0) (a : Joins end Atom Text tame) (first-byte : (at : ℕ) (t : Tree) (s : List ℕ) → Text at t s → opens s ≡ true)
     (Pattern : List ℕ → List ℕ → List ℕ → Type 0) (PatternOf : List ℕ → Type 0) (p : JoinsPattern Pattern PatternOf) where
-  chains : Joins end (behind.IsChain Atom Pattern) (IsChain Text PatternOf) ends
+  chains : Joins end (followed.IsChain Atom Pattern) (IsChain Text PatternOf) ends
   chains = chain-joins end Atom Text a first-byte Pattern PatternOf p
 
   chain-first : (at : ℕ) (t : Tree) (s : List ℕ) → IsChain Text PatternOf at t s → opens s ≡ true
@@ -101,25 +101,25 @@ module _ (end : ℕ) (Atom : Tree → List ℕ → List ℕ → Type 0) (Text : 
   quiet-open subs ys quiet none = goes-open ys (quiet none)
 
   pub variable-together : (at : ℕ) (name part ys : List ℕ) (subs : List (ℕ × Tree)) → end ≡ at + length (name ++ (part ++ ys)) → IsName name → IsSubs (IsChain Text PatternOf) (at + length name) subs part → (subs ≡ [] → goes_on ys ≡ false)
-      → (name_at (name ++ (part ++ ys)) ≡ Some (name, part ++ ys)) × behind.IsSubs end (behind.IsChain Atom Pattern) subs (part ++ ys) ys
+      → (name_at (name ++ (part ++ ys)) ≡ Some (name, part ++ ys)) × followed.IsSubs end (followed.IsChain Atom Pattern) subs (part ++ ys) ys
   variable-together at name part ys subs h good list quiet = (
     name-reads name (part ++ ys) good (subs-name (at + length name) subs part ys list quiet),
-    subs-together end (behind.IsChain Atom Pattern) (IsChain Text PatternOf) chains (at + length name) subs part ys (moved end at (name ++ (part ++ ys)) name (part ++ ys) h refl) list (quiet-open subs ys quiet),
+    subs-together end (followed.IsChain Atom Pattern) (IsChain Text PatternOf) chains (at + length name) subs part ys (moved end at (name ++ (part ++ ys)) name (part ++ ys) h refl) list (quiet-open subs ys quiet),
   )
 
-  plain-apart : (at : ℕ) (t : Tree) (xs ys : List ℕ) → end ≡ at + length xs → behind.IsPlain end Atom Pattern t xs ys → (s : List ℕ) × (xs ≡ s ++ ys) × IsPlain Text PatternOf at t s
+  plain-apart : (at : ℕ) (t : Tree) (xs ys : List ℕ) → end ≡ at + length xs → followed.IsPlain end Atom Pattern t xs ys → (s : List ℕ) × (xs ≡ s ++ ys) × IsPlain Text PatternOf at t s
   plain-apart at (Lit value) xs ys h (inl (text, n, same)) = let f = number-spelled text xs ys n in (text, f.1, inl same)
-  plain-apart at (Lit value) xs ys h (inr (is, good, none)) = (34 ∷ (doubled value ++ 34 ∷ []), is ∙ sym (quoted-behind value ys), inr (refl, good))
+  plain-apart at (Lit value) xs ys h (inr (is, good, none)) = (34 ∷ (doubled value ++ 34 ∷ []), is ∙ sym (quoted-after value ys), inr (refl, good))
   plain-apart at Free xs ys h (text, n, none) = let f = number-spelled text xs ys n in (text, f.1, (f.0, none))
   plain-apart at (LocalName name subs) xs ys h (m, ss, n, list, same) =
       let f = name-spelled name xs m n in
-      let g = subs-apart end (behind.IsChain Atom Pattern) (IsChain Text PatternOf) chains (at + length name) ss m ys (moved end at xs name m h (f.1)) list in
+      let g = subs-apart end (followed.IsChain Atom Pattern) (IsChain Text PatternOf) chains (at + length name) ss m ys (moved end at xs name m h (f.1)) list in
       (name ++ g.0, f.1 ∙ ap (λ l. name ++ l) g.1 ∙ sym (append_assoc name g.0 ys), (g.0, ss, refl, f.0, g.2, same))
   plain-apart at (GlobalName column name subs) xs ys h (m, n, ss, is, col, text, list, same) =
       let f = name-spelled name m n text in
       let size = ap length is in
       let near : end ≡ suc at + length m = omega arith in
-      let g = subs-apart end (behind.IsChain Atom Pattern) (IsChain Text PatternOf) chains (suc at + length name) ss n ys (moved end (suc at) m name n near (f.1)) list in
+      let g = subs-apart end (followed.IsChain Atom Pattern) (IsChain Text PatternOf) chains (suc at + length name) ss n ys (moved end (suc at) m name n near (f.1)) list in
       (94 ∷ (name ++ g.0), is ∙ ap (λ l. 94 ∷ l) (f.1 ∙ ap (λ l. name ++ l) g.1 ∙ sym (append_assoc name g.0 ys)), (g.0, ss, refl, col ∙ at-column end at xs h, f.0, g.2, same))
   plain-apart at (SpecialName special) xs ys h (m, w, is, word, found, none) = let f = word-spelled w m ys word in (36 ∷ w, is ∙ ap (λ l. 36 ∷ l) f.1, (w, refl, f.0, found))
   plain-apart at (Prefixed op t) xs ys h (b, m, is, o, deep) =
@@ -135,16 +135,16 @@ module _ (end : ℕ) (Atom : Tree → List ℕ → List ℕ → Type 0) (Text : 
       let whole : xs ≡ 36 ∷ (w ++ 40 ∷ n) = is ∙ ap (λ l. 36 ∷ l) r.1 in
       let size = ap length whole in
       let sum = length-append w (40 ∷ n) in
-      let g = arguments-apart end Atom Text a first-byte (behind.IsChain Atom Pattern) (IsChain Text PatternOf) chains f (named f) (2 + (at + length w)) ts n ys (omega arith) list in
-      let part : 40 ∷ n ≡ (40 ∷ (g.0 ++ 41 ∷ [])) ++ ys = ap (λ l. 40 ∷ l) g.1 ∙ sym (enclosed-behind g.0 ys) in
+      let g = arguments-apart end Atom Text a first-byte (followed.IsChain Atom Pattern) (IsChain Text PatternOf) chains f (named f) (2 + (at + length w)) ts n ys (omega arith) list in
+      let part : 40 ∷ n ≡ (40 ∷ (g.0 ++ 41 ∷ [])) ++ ys = ap (λ l. 40 ∷ l) g.1 ∙ sym (enclosed-after g.0 ys) in
       (36 ∷ (w ++ 40 ∷ (g.0 ++ 41 ∷ [])), whole ∙ ap (λ l. 36 ∷ (w ++ l)) part ∙ sym (ap (λ l. 36 ∷ l) (append_assoc w (40 ∷ (g.0 ++ 41 ∷ [])) ys)), (w, g.0, 40 ∷ (g.0 ++ 41 ∷ []), ts, refl, r.0, found, refl, g.2, same))
   plain-apart at (Selected pairs) xs ys h (m, n, w, cs, is, word, found, list, same) =
       let r = word-spelled w m (40 ∷ n) word in
       let whole : xs ≡ 36 ∷ (w ++ 40 ∷ n) = is ∙ ap (λ l. 36 ∷ l) r.1 in
       let size = ap length whole in
       let sum = length-append w (40 ∷ n) in
-      let g = list-apart end (behind.IsChoice (behind.IsChain Atom Pattern)) (IsChoice (IsChain Text PatternOf)) (choice-joins end (behind.IsChain Atom Pattern) (IsChain Text PatternOf) chains) (2 + (at + length w)) cs n ys (omega arith) list in
-      let part : 40 ∷ n ≡ (40 ∷ (g.0 ++ 41 ∷ [])) ++ ys = ap (λ l. 40 ∷ l) g.1 ∙ sym (enclosed-behind g.0 ys) in
+      let g = list-apart end (followed.IsChoice (followed.IsChain Atom Pattern)) (IsChoice (IsChain Text PatternOf)) (choice-joins end (followed.IsChain Atom Pattern) (IsChain Text PatternOf) chains) (2 + (at + length w)) cs n ys (omega arith) list in
+      let part : 40 ∷ n ≡ (40 ∷ (g.0 ++ 41 ∷ [])) ++ ys = ap (λ l. 40 ∷ l) g.1 ∙ sym (enclosed-after g.0 ys) in
       (36 ∷ (w ++ 40 ∷ (g.0 ++ 41 ∷ [])), whole ∙ ap (λ l. 36 ∷ (w ++ l)) part ∙ sym (ap (λ l. 36 ∷ l) (append_assoc w (40 ∷ (g.0 ++ 41 ∷ [])) ys)), (w, g.0, 40 ∷ (g.0 ++ 41 ∷ []), cs, refl, r.0, found, refl, g.2, same))
   plain-apart at (BareCall column callee) xs ys h (m, is, col, called, none) =
       let f = callee-apart callee.label callee.routine m ys called in
@@ -154,18 +154,18 @@ module _ (end : ℕ) (Atom : Tree → List ℕ → List ℕ → Type 0) (Text : 
       let whole : xs ≡ 36 ∷ 36 ∷ (f.0 ++ 40 ∷ n) = is ∙ ap (λ l. 36 ∷ 36 ∷ l) f.1 in
       let size = ap length whole in
       let sum = length-append f.0 (40 ∷ n) in
-      let g = actuals-apart end (behind.IsChain Atom Pattern) (IsChain Text PatternOf) chains chain-first (2 + (at + length f.0)) given n ys (omega arith) list in
+      let g = actuals-apart end (followed.IsChain Atom Pattern) (IsChain Text PatternOf) chains chain-first (2 + (at + length f.0)) given n ys (omega arith) list in
       (36 ∷ 36 ∷ (f.0 ++ g.0), whole ∙ ap (λ l. 36 ∷ 36 ∷ (f.0 ++ l)) g.1 ∙ sym (ap (λ l. 36 ∷ 36 ∷ l) (append_assoc f.0 g.0 ys)), (f.0, g.0, given, refl, col ∙ at-column end at xs h, f.2, g.2, same))
 
   -- what may stand after an operand: anything that does not go on with it
-  plain-together : (at : ℕ) (t : Tree) (s ys : List ℕ) → end ≡ at + length (s ++ ys) → IsPlain Text PatternOf at t s → tame ys ≡ true → behind.IsPlain end Atom Pattern t (s ++ ys) ys
+  plain-together : (at : ℕ) (t : Tree) (s ys : List ℕ) → end ≡ at + length (s ++ ys) → IsPlain Text PatternOf at t s → tame ys ≡ true → followed.IsPlain end Atom Pattern t (s ++ ys) ys
   plain-together at (Lit value) s ys h (inl same) may = inl (s, number-reads s ys (canonical-number s value same) may, same)
-  plain-together at (Lit value) s ys h (inr (is, good)) may = inr (ap (λ l. l ++ ys) is ∙ quoted-behind value ys, good, tame-quote ys may)
+  plain-together at (Lit value) s ys h (inr (is, good)) may = inr (ap (λ l. l ++ ys) is ∙ quoted-after value ys, good, tame-quote ys may)
   plain-together at Free s ys h (number, none) may = (s, number-reads s ys number may, none)
   plain-together at (LocalName name subs) s ys h (part, ss, is, good, list, same) may =
       let whole : s ++ ys ≡ name ++ (part ++ ys) = ap (λ l. l ++ ys) is ∙ append_assoc name part ys in
       let f = variable-together at name part ys ss (h ∙ ap (λ z. at + length z) whole) good list (λ e. tame-goes ys may) in
-      subst (λ z. behind.IsPlain end Atom Pattern (LocalName name subs) z ys) (sym whole) (part ++ ys, ss, f.0, f.1, same)
+      subst (λ z. followed.IsPlain end Atom Pattern (LocalName name subs) z ys) (sym whole) (part ++ ys, ss, f.0, f.1, same)
   plain-together at (GlobalName column name subs) s ys h (part, ss, is, col, good, list, same) may =
       let whole : s ++ ys ≡ 94 ∷ (name ++ (part ++ ys)) = ap (λ l. l ++ ys) is ∙ ap (λ l. 94 ∷ l) (append_assoc name part ys) in
       let size = ap length whole in
@@ -180,16 +180,16 @@ module _ (end : ℕ) (Atom : Tree → List ℕ → List ℕ → Type 0) (Text : 
   plain-together at (Chain t ls) s ys h none may = absurd none
   plain-together at (PatternText text) s ys h none may = absurd none
   plain-together at (Func f args) s ys h (w, inner, part, ts, is, word, found, held, list, same) may =
-      let whole : s ++ ys ≡ 36 ∷ (w ++ 40 ∷ (inner ++ 41 ∷ ys)) = ap (λ l. l ++ ys) is ∙ ap (λ l. 36 ∷ l) (append_assoc w part ys ∙ ap (λ l. w ++ (l ++ ys)) held ∙ ap (λ l. w ++ l) (enclosed-behind inner ys)) in
+      let whole : s ++ ys ≡ 36 ∷ (w ++ 40 ∷ (inner ++ 41 ∷ ys)) = ap (λ l. l ++ ys) is ∙ ap (λ l. 36 ∷ l) (append_assoc w part ys ∙ ap (λ l. w ++ (l ++ ys)) held ∙ ap (λ l. w ++ l) (enclosed-after inner ys)) in
       let size = ap length whole in
       let sum = length-append w (40 ∷ (inner ++ 41 ∷ ys)) in
-      let g = arguments-together end Atom Text a first-byte (behind.IsChain Atom Pattern) (IsChain Text PatternOf) chains f (named f) (2 + (at + length w)) ts inner ys (omega arith) list in
+      let g = arguments-together end Atom Text a first-byte (followed.IsChain Atom Pattern) (IsChain Text PatternOf) chains f (named f) (2 + (at + length w)) ts inner ys (omega arith) list in
       (w ++ 40 ∷ (inner ++ 41 ∷ ys), inner ++ 41 ∷ ys, w, ts, whole, word-reads w (40 ∷ (inner ++ 41 ∷ ys)) word refl, found, g, same)
   plain-together at (Selected pairs) s ys h (w, inner, part, cs, is, word, found, held, list, same) may =
-      let whole : s ++ ys ≡ 36 ∷ (w ++ 40 ∷ (inner ++ 41 ∷ ys)) = ap (λ l. l ++ ys) is ∙ ap (λ l. 36 ∷ l) (append_assoc w part ys ∙ ap (λ l. w ++ (l ++ ys)) held ∙ ap (λ l. w ++ l) (enclosed-behind inner ys)) in
+      let whole : s ++ ys ≡ 36 ∷ (w ++ 40 ∷ (inner ++ 41 ∷ ys)) = ap (λ l. l ++ ys) is ∙ ap (λ l. 36 ∷ l) (append_assoc w part ys ∙ ap (λ l. w ++ (l ++ ys)) held ∙ ap (λ l. w ++ l) (enclosed-after inner ys)) in
       let size = ap length whole in
       let sum = length-append w (40 ∷ (inner ++ 41 ∷ ys)) in
-      let g = list-together end (behind.IsChoice (behind.IsChain Atom Pattern)) (IsChoice (IsChain Text PatternOf)) (choice-joins end (behind.IsChain Atom Pattern) (IsChain Text PatternOf) chains) (2 + (at + length w)) cs inner ys (omega arith) list in
+      let g = list-together end (followed.IsChoice (followed.IsChain Atom Pattern)) (IsChoice (IsChain Text PatternOf)) (choice-joins end (followed.IsChain Atom Pattern) (IsChain Text PatternOf) chains) (2 + (at + length w)) cs inner ys (omega arith) list in
       (w ++ 40 ∷ (inner ++ 41 ∷ ys), inner ++ 41 ∷ ys, w, cs, whole, word-reads w (40 ∷ (inner ++ 41 ∷ ys)) word refl, found, g, same)
   plain-together at (BareCall column callee) s ys h (called, is, col, name) may =
       (called ++ ys, ap (λ l. l ++ ys) is, col ∙ sym (at-column end at (s ++ ys) h), callee-together callee.label callee.routine called ys name (tame-name ys may) (tame-caret ys may), tame-open ys may)
@@ -197,7 +197,7 @@ module _ (end : ℕ) (Atom : Tree → List ℕ → List ℕ → Type 0) (Text : 
       let front : s ++ ys ≡ 36 ∷ 36 ∷ (called ++ (part ++ ys)) = ap (λ l. l ++ ys) is ∙ ap (λ l. 36 ∷ 36 ∷ l) (append_assoc called part ys) in
       let size = ap length front in
       let sum = length-append called (part ++ ys) in
-      let g = actuals-together end (behind.IsChain Atom Pattern) (IsChain Text PatternOf) chains chain-first (2 + (at + length called)) given part ys (omega arith) list in
+      let g = actuals-together end (followed.IsChain Atom Pattern) (IsChain Text PatternOf) chains chain-first (2 + (at + length called)) given part ys (omega arith) list in
       let whole : s ++ ys ≡ 36 ∷ 36 ∷ (called ++ 40 ∷ g.0) = front ∙ ap (λ l. 36 ∷ 36 ∷ (called ++ l)) g.1 in
       (called ++ 40 ∷ g.0, g.0, given, whole, col ∙ sym (at-column end at (s ++ ys) h), callee-together callee.label callee.routine called (40 ∷ g.0) name refl refl, g.2, same)
 
@@ -216,21 +216,21 @@ module _ (end : ℕ) (Atom : Tree → List ℕ → List ℕ → Type 0) (Text : 
   plain-opens at (BareCall column callee) s (called, is, col, name) = rw is refl
   plain-opens at (CallOf column callee tail) s (called, part, given, is, col, name, list, same) = rw is refl
 
-  operand-apart : (at : ℕ) (t : Tree) (xs ys : List ℕ) → end ≡ at + length xs → behind.IsOperand end Atom Pattern t xs ys → (s : List ℕ) × (xs ≡ s ++ ys) × IsOperand Text PatternOf at t s
+  operand-apart : (at : ℕ) (t : Tree) (xs ys : List ℕ) → end ≡ at + length xs → followed.IsOperand end Atom Pattern t xs ys → (s : List ℕ) × (xs ≡ s ++ ys) × IsOperand Text PatternOf at t s
   operand-apart at t xs ys h (inl one) = let f = plain-apart at t xs ys h one in (f.0, f.1, inl f.2)
   operand-apart at t xs ys h (inr (m, is, one)) =
       let size = ap length is in
       let f = chains.apart (suc at) t m (41 ∷ ys) (omega arith) one in
-      (40 ∷ (f.0 ++ 41 ∷ []), is ∙ ap (λ l. 40 ∷ l) f.1 ∙ sym (enclosed-behind f.0 ys), inr (f.0, refl, f.2))
+      (40 ∷ (f.0 ++ 41 ∷ []), is ∙ ap (λ l. 40 ∷ l) f.1 ∙ sym (enclosed-after f.0 ys), inr (f.0, refl, f.2))
 
-  operand-together : (at : ℕ) (t : Tree) (s ys : List ℕ) → end ≡ at + length (s ++ ys) → IsOperand Text PatternOf at t s → tame ys ≡ true → behind.IsOperand end Atom Pattern t (s ++ ys) ys
+  operand-together : (at : ℕ) (t : Tree) (s ys : List ℕ) → end ≡ at + length (s ++ ys) → IsOperand Text PatternOf at t s → tame ys ≡ true → followed.IsOperand end Atom Pattern t (s ++ ys) ys
   operand-together at t s ys h (inl one) may = inl (plain-together at t s ys h one may)
   operand-together at t s ys h (inr (inner, is, one)) may =
-      let whole : s ++ ys ≡ 40 ∷ (inner ++ 41 ∷ ys) = ap (λ l. l ++ ys) is ∙ enclosed-behind inner ys in
+      let whole : s ++ ys ≡ 40 ∷ (inner ++ 41 ∷ ys) = ap (λ l. l ++ ys) is ∙ enclosed-after inner ys in
       let size = ap length whole in
       inr (inner ++ 41 ∷ ys, whole, chains.together (suc at) t inner (41 ∷ ys) (omega arith) one (closed ys))
 
-  pub operand-joins : Joins end (behind.IsOperand end Atom Pattern) (IsOperand Text PatternOf) tame
+  pub operand-joins : Joins end (followed.IsOperand end Atom Pattern) (IsOperand Text PatternOf) tame
   operand-joins = record { apart = operand-apart; together = operand-together }
 
   pub operand-opens : (at : ℕ) (t : Tree) (s : List ℕ) → IsOperand Text PatternOf at t s → opens s ≡ true
@@ -239,25 +239,25 @@ module _ (end : ℕ) (Atom : Tree → List ℕ → List ℕ → Type 0) (Text : 
 
 -- every depth
 abbrev Both : ℕ → ℕ → Type 0
-Both end k = Joins end (behind.IsAtom end k) (IsAtom k) tame × ((at : ℕ) (t : Tree) (s : List ℕ) → IsAtom k at t s → opens s ≡ true)
+Both end k = Joins end (followed.IsAtom end k) (IsAtom k) tame × ((at : ℕ) (t : Tree) (s : List ℕ) → IsAtom k at t s → opens s ≡ true)
 
 atom-both : (end k : ℕ) → Both end k
-unfolding IsAtom behind.IsAtom
+unfolding IsAtom followed.IsAtom
 atom-both end zero = (record { apart = λ at t xs ys h none. absurd none; together = λ at t s ys h none may. absurd none }, λ at t s none. absurd none)
 atom-both end (suc k) =
     let b = atom-both end k in
-    let o = operand-joins end (behind.IsAtom end k) (IsAtom k) b.0 b.1 (behind.IsPattern k) (IsPattern k) (pattern-joins k) in
-    (record { apart = o.apart; together = o.together }, operand-opens end (behind.IsAtom end k) (IsAtom k) b.0 b.1 (behind.IsPattern k) (IsPattern k) (pattern-joins k))
+    let o = operand-joins end (followed.IsAtom end k) (IsAtom k) b.0 b.1 (followed.IsPattern k) (IsPattern k) (pattern-joins k) in
+    (record { apart = o.apart; together = o.together }, operand-opens end (followed.IsAtom end k) (IsAtom k) b.0 b.1 (followed.IsPattern k) (IsPattern k) (pattern-joins k))
 
-pub atom-joins : (end k : ℕ) → Joins end (behind.IsAtom end k) (IsAtom k) tame
+pub atom-joins : (end k : ℕ) → Joins end (followed.IsAtom end k) (IsAtom k) tame
 atom-joins end k = (atom-both end k).0
 
 pub atom-opens : (end k at : ℕ) (t : Tree) (s : List ℕ) → IsAtom k at t s → opens s ≡ true
 atom-opens end k = (atom-both end k).1
 
 -- an expression that nests so deep
-pub nested-joins : (end k : ℕ) → Joins end (behind.IsChain (behind.IsAtom end k) (behind.IsPattern k)) (IsChain (IsAtom k) (IsPattern k)) ends
-nested-joins end k = chains end (behind.IsAtom end k) (IsAtom k) (atom-joins end k) (atom-opens end k) (behind.IsPattern k) (IsPattern k) (pattern-joins k)
+pub nested-joins : (end k : ℕ) → Joins end (followed.IsChain (followed.IsAtom end k) (followed.IsPattern k)) (IsChain (IsAtom k) (IsPattern k)) ends
+nested-joins end k = chains end (followed.IsAtom end k) (IsAtom k) (atom-joins end k) (atom-opens end k) (followed.IsPattern k) (IsPattern k) (pattern-joins k)
 
 pub nested-opens : (end k at : ℕ) (t : Tree) (s : List ℕ) → IsChain (IsAtom k) (IsPattern k) at t s → opens s ≡ true
-nested-opens end k = chain-first end (behind.IsAtom end k) (IsAtom k) (atom-joins end k) (atom-opens end k) (behind.IsPattern k) (IsPattern k) (pattern-joins k)
+nested-opens end k = chain-first end (followed.IsAtom end k) (IsAtom k) (atom-joins end k) (atom-opens end k) (followed.IsPattern k) (IsPattern k) (pattern-joins k)

@@ -11,7 +11,7 @@ use Rattle.mlk_expr.specs.Trees.{Tree}
 use Rattle.mlk_expr.specs.Lexemes.{relation_of, relation_at, arithmetic_of, arithmetic_at, op_at, is_match, is_missing, ends}
 use Rattle.mlk_expr.specs.Spellings.{op_text}
 use Rattle.mlk_expr.specs.Grammar.{AreNext, IsList, IsRight, AreLinks, IsChain}
-use Rattle.mlk_expr.proofs.Behind as behind
+use Rattle.mlk_expr.proofs.Followed as followed
 use Rattle.mlk_expr.proofs.Runs.{tame, starts}
 use Rattle.mlk_expr.proofs.OperatorSpelling.{op-tame, op-reads, op-spelled}
 
@@ -55,16 +55,16 @@ pub weaker : {A : Type 0} (end : ℕ) (Is : A → List ℕ → List ℕ → Type
 weaker end Is Text j = record { apart = j.apart; together = λ at a s ys h text may. j.together at a s ys h text (missing-ends ys may) }
 
 -- a text in parentheses with something after it
-pub enclosed-behind : (inner ys : List ℕ) → (40 ∷ (inner ++ 41 ∷ [])) ++ ys ≡ 40 ∷ (inner ++ 41 ∷ ys)
-enclosed-behind inner ys = ap (λ l. 40 ∷ l) (append_assoc inner (41 ∷ []) ys)
+pub enclosed-after : (inner ys : List ℕ) → (40 ∷ (inner ++ 41 ∷ [])) ++ ys ≡ 40 ∷ (inner ++ 41 ∷ ys)
+enclosed-after inner ys = ap (λ l. 40 ∷ l) (append_assoc inner (41 ∷ []) ys)
 
 -- a text in quotes with something after it
-pub quoted-behind : (value ys : List ℕ) → (34 ∷ (doubled value ++ 34 ∷ [])) ++ ys ≡ 34 ∷ (doubled value ++ 34 ∷ ys)
-quoted-behind value ys = ap (λ l. 34 ∷ l) (append_assoc (doubled value) (34 ∷ []) ys)
+pub quoted-after : (value ys : List ℕ) → (34 ∷ (doubled value ++ 34 ∷ [])) ++ ys ≡ 34 ∷ (doubled value ++ 34 ∷ ys)
+quoted-after value ys = ap (λ l. 34 ∷ l) (append_assoc (doubled value) (34 ∷ []) ys)
 
 -- lists
 module _ {A : Type 0} (end : ℕ) (Is : A → List ℕ → List ℕ → Type 0) (Text : ℕ → A → List ℕ → Type 0) (j : Joins end Is Text is_missing) where
-  pub next-apart : (at : ℕ) (items : List A) (xs ys : List ℕ) → end ≡ at + length xs → Many (byte_at 44) (behind.Next Is) items xs ys → (s : List ℕ) × (xs ≡ s ++ ys) × AreNext Text at items s
+  pub next-apart : (at : ℕ) (items : List A) (xs ys : List ℕ) → end ≡ at + length xs → Many (byte_at 44) (followed.Next Is) items xs ys → (s : List ℕ) × (xs ≡ s ++ ys) × AreNext Text at items s
   next-apart at [] xs ys h more = ([], more.0, refl)
   next-apart at (a ∷ items) xs ys h (b, m, n, is, one, more) =
       let comma = byte-is 44 b xs m is in
@@ -78,30 +78,30 @@ module _ {A : Type 0} (end : ℕ) (Is : A → List ℕ → List ℕ → Type 0) 
   next-missing at [] s ys h = rw h refl
   next-missing at (a ∷ items) s ys (front, rest, is, one, more) = rw is refl
 
-  pub next-together : (at : ℕ) (items : List A) (s ys : List ℕ) → end ≡ at + length (s ++ 41 ∷ ys) → AreNext Text at items s → Many (byte_at 44) (behind.Next Is) items (s ++ 41 ∷ ys) (41 ∷ ys)
-  next-together at [] s ys h is = subst (λ l. Many (byte_at 44) (behind.Next Is) [] (l ++ 41 ∷ ys) (41 ∷ ys)) (sym is) (refl, refl)
+  pub next-together : (at : ℕ) (items : List A) (s ys : List ℕ) → end ≡ at + length (s ++ 41 ∷ ys) → AreNext Text at items s → Many (byte_at 44) (followed.Next Is) items (s ++ 41 ∷ ys) (41 ∷ ys)
+  next-together at [] s ys h is = subst (λ l. Many (byte_at 44) (followed.Next Is) [] (l ++ 41 ∷ ys) (41 ∷ ys)) (sym is) (refl, refl)
   next-together at (a ∷ items) s ys h (front, rest, is, one, more) =
       let whole : s ++ 41 ∷ ys ≡ 44 ∷ (front ++ (rest ++ 41 ∷ ys)) = rw is (ap (λ l. 44 ∷ l) (append_assoc front rest (41 ∷ ys))) in
       let size = ap length whole in
       let sum = length-append front (rest ++ 41 ∷ ys) in
       let first = j.together (suc at) a front (rest ++ 41 ∷ ys) (omega arith) one (next-missing (suc (at + length front)) items rest ys more) in
       let others = next-together (suc (at + length front)) items rest ys (omega arith) more in
-      subst (λ l. Many (byte_at 44) (behind.Next Is) (a ∷ items) l (41 ∷ ys)) (sym whole) (44, front ++ (rest ++ 41 ∷ ys), rest ++ 41 ∷ ys, refl, first, others)
+      subst (λ l. Many (byte_at 44) (followed.Next Is) (a ∷ items) l (41 ∷ ys)) (sym whole) (44, front ++ (rest ++ 41 ∷ ys), rest ++ 41 ∷ ys, refl, first, others)
 
-  pub list-apart : (at : ℕ) (items : List A) (xs ys : List ℕ) → end ≡ at + length xs → behind.IsList Is items xs ys → (inner : List ℕ) × (xs ≡ inner ++ 41 ∷ ys) × IsList Text at items inner
+  pub list-apart : (at : ℕ) (items : List A) (xs ys : List ℕ) → end ≡ at + length xs → followed.IsList Is items xs ys → (inner : List ℕ) × (xs ≡ inner ++ 41 ∷ ys) × IsList Text at items inner
   list-apart at items xs ys h (first, others, m, one, more, same) =
       let f = j.apart at first xs m h one in
       let g = next-apart (at + length f.0) others m (41 ∷ ys) (moved end at xs f.0 m h f.1) more in
       (f.0 ++ g.0, f.1 ∙ ap (λ l. f.0 ++ l) g.1 ∙ sym (append_assoc f.0 g.0 (41 ∷ ys)), (first, others, f.0, g.0, same, refl, f.2, g.2))
 
-  pub list-together : (at : ℕ) (items : List A) (inner ys : List ℕ) → end ≡ at + length (inner ++ 41 ∷ ys) → IsList Text at items inner → behind.IsList Is items (inner ++ 41 ∷ ys) ys
+  pub list-together : (at : ℕ) (items : List A) (inner ys : List ℕ) → end ≡ at + length (inner ++ 41 ∷ ys) → IsList Text at items inner → followed.IsList Is items (inner ++ 41 ∷ ys) ys
   list-together at items inner ys h (first, others, front, rest, same, is, one, more) =
       let whole : inner ++ 41 ∷ ys ≡ front ++ (rest ++ 41 ∷ ys) = rw is (append_assoc front rest (41 ∷ ys)) in
       let size = ap length whole in
       let sum = length-append front (rest ++ 41 ∷ ys) in
       let f = j.together at first front (rest ++ 41 ∷ ys) (omega arith) one (next-missing (at + length front) others rest ys more) in
       let g = next-together (at + length front) others rest ys (omega arith) more in
-      subst (λ l. behind.IsList Is items l ys) (sym whole) (first, others, rest ++ 41 ∷ ys, f, g, same)
+      subst (λ l. followed.IsList Is items l ys) (sym whole) (first, others, rest ++ 41 ∷ ys, f, g, same)
 
 -- what an expression opens with makes no operator longer and is neither a comma nor a closing parenthesis
 pub opens-starts : (s zs : List ℕ) → opens s ≡ true → starts (s ++ zs) ≡ true
@@ -125,11 +125,11 @@ pub record JoinsPattern (Is : List ℕ → List ℕ → List ℕ → Type 0) (Te
 -- chains
 module _ (end : ℕ) (Is : Tree → List ℕ → List ℕ → Type 0) (Text : ℕ → Tree → List ℕ → Type 0) (j : Joins end Is Text tame) (first-byte : (at : ℕ) (t : Tree) (s : List ℕ) → Text at t s → opens s ≡ true)
     (PatternIs : List ℕ → List ℕ → List ℕ → Type 0) (PatternOf : List ℕ → Type 0) (p : JoinsPattern PatternIs PatternOf) where
-  right-apart : (m : Bool) (at : ℕ) (t : Tree) (xs ys : List ℕ) → end ≡ at + length xs → behind.IsRight Is PatternIs m t xs ys → (s : List ℕ) × (xs ≡ s ++ ys) × IsRight Text PatternOf m at t s
+  right-apart : (m : Bool) (at : ℕ) (t : Tree) (xs ys : List ℕ) → end ≡ at + length xs → followed.IsRight Is PatternIs m t xs ys → (s : List ℕ) × (xs ≡ s ++ ys) × IsRight Text PatternOf m at t s
   right-apart false at t xs ys h one = j.apart at t xs ys h one
   right-apart true at t xs ys h (text, one, is) = let f = p.apart text xs ys one in (text, f.1, (is, f.0))
 
-  right-together : (m : Bool) (at : ℕ) (t : Tree) (s ys : List ℕ) → end ≡ at + length (s ++ ys) → IsRight Text PatternOf m at t s → tame ys ≡ true → behind.IsRight Is PatternIs m t (s ++ ys) ys
+  right-together : (m : Bool) (at : ℕ) (t : Tree) (s ys : List ℕ) → end ≡ at + length (s ++ ys) → IsRight Text PatternOf m at t s → tame ys ≡ true → followed.IsRight Is PatternIs m t (s ++ ys) ys
   right-together false at t s ys h one may = j.together at t s ys h one may
   right-together true at t s ys h (is, one) may = (s, p.together s ys one may, is)
 
@@ -137,11 +137,11 @@ module _ (end : ℕ) (Is : Tree → List ℕ → List ℕ → Type 0) (Text : �
   right-starts false at t s zs one = opens-starts s zs (first-byte at t s one)
   right-starts true at t s zs (is, one) = p.begins s zs one
 
-  links-apart : (at : ℕ) (links : List (Op × Tree)) (xs ys : List ℕ) → end ≡ at + length xs → Many op_at (behind.IsLink Is PatternIs) links xs ys → (s : List ℕ) × (xs ≡ s ++ ys) × AreLinks Text PatternOf at links s
+  links-apart : (at : ℕ) (links : List (Op × Tree)) (xs ys : List ℕ) → end ≡ at + length xs → Many op_at (followed.IsLink Is PatternIs) links xs ys → (s : List ℕ) × (xs ≡ s ++ ys) × AreLinks Text PatternOf at links s
   links-apart at [] xs ys h more = ([], more.0, refl)
   links-apart at (l ∷ links) xs ys h (op, m, n, is, (same, right), more) =
       let text = op-spelled l.0 xs m (is ∙ ap (λ o. Some (o, m)) (sym same)) in
-      let one : behind.IsRight Is PatternIs (is_match l.0) l.1 m n = subst (λ o. behind.IsRight Is PatternIs (is_match o) l.1 m n) (sym same) right in
+      let one : followed.IsRight Is PatternIs (is_match l.0) l.1 m n = subst (λ o. followed.IsRight Is PatternIs (is_match o) l.1 m n) (sym same) right in
       let near = moved end at xs (op_text l.0) m h text in
       let f = right-apart (is_match l.0) (at + length (op_text l.0)) l.1 m n near one in
       let g = links-apart (at + length (op_text l.0) + length f.0) links n ys (moved end (at + length (op_text l.0)) m f.0 n near f.1) more in
@@ -154,8 +154,8 @@ module _ (end : ℕ) (Is : Tree → List ℕ → List ℕ → Type 0) (Text : �
       subst (λ z. tame z ≡ true) (sym (ap (λ z. z ++ ys) is ∙ append_assoc (op_text l.0) (right ++ rest) ys)) (op-tame l.0 ((right ++ rest) ++ ys))
 
   links-together : (at : ℕ) (links : List (Op × Tree)) (s ys : List ℕ) → end ≡ at + length (s ++ ys) → AreLinks Text PatternOf at links s → tame ys ≡ true → op_at ys ≡ None
-      → Many op_at (behind.IsLink Is PatternIs) links (s ++ ys) ys
-  links-together at [] s ys h is may none = subst (λ l. Many op_at (behind.IsLink Is PatternIs) [] (l ++ ys) ys) (sym is) (refl, none)
+      → Many op_at (followed.IsLink Is PatternIs) links (s ++ ys) ys
+  links-together at [] s ys h is may none = subst (λ l. Many op_at (followed.IsLink Is PatternIs) [] (l ++ ys) ys) (sym is) (refl, none)
   links-together at (l ∷ links) s ys h (right, rest, is, one, more) may none =
       let whole : s ++ ys ≡ op_text l.0 ++ (right ++ (rest ++ ys)) = ap (λ z. z ++ ys) is ∙ append_assoc (op_text l.0) (right ++ rest) ys ∙ ap (λ z. op_text l.0 ++ z) (append_assoc right rest ys) in
       let near = moved end at (s ++ ys) (op_text l.0) (right ++ (rest ++ ys)) h whole in
@@ -163,9 +163,9 @@ module _ (end : ℕ) (Is : Tree → List ℕ → List ℕ → Type 0) (Text : �
       let f = right-together (is_match l.0) (at + length (op_text l.0)) l.1 right (rest ++ ys) near one (links-tame (at + length (op_text l.0) + length right) links rest ys more may) in
       let g = links-together (at + length (op_text l.0) + length right) links rest ys far more may none in
       let reads = op-reads l.0 (right ++ (rest ++ ys)) (right-starts (is_match l.0) (at + length (op_text l.0)) l.1 right (rest ++ ys) one) in
-      subst (λ z. Many op_at (behind.IsLink Is PatternIs) (l ∷ links) z ys) (sym whole) (l.0, right ++ (rest ++ ys), rest ++ ys, reads, (refl, f), g)
+      subst (λ z. Many op_at (followed.IsLink Is PatternIs) (l ∷ links) z ys) (sym whole) (l.0, right ++ (rest ++ ys), rest ++ ys, reads, (refl, f), g)
 
-  pub chain-joins : Joins end (behind.IsChain Is PatternIs) (IsChain Text PatternOf) ends
+  pub chain-joins : Joins end (followed.IsChain Is PatternIs) (IsChain Text PatternOf) ends
   chain-joins = record {
     apart = λ at t xs ys h (first, links, m, one, more, same).
         let f = j.apart at first xs m h one in
@@ -176,7 +176,7 @@ module _ (end : ℕ) (Is : Tree → List ℕ → List ℕ → Type 0) (Text : �
         let far = moved end at (s ++ ys) front (rest ++ ys) h whole in
         let f = j.together at first front (rest ++ ys) (h ∙ ap (λ z. at + length z) whole) one (links-tame (at + length front) links rest ys more (ends-tame ys may)) in
         let g = links-together (at + length front) links rest ys far more (ends-tame ys may) (ends-op ys may) in
-        subst (λ z. behind.IsChain Is PatternIs t z ys) (sym whole) (first, links, rest ++ ys, f, g, same);
+        subst (λ z. followed.IsChain Is PatternIs t z ys) (sym whole) (first, links, rest ++ ys, f, g, same);
   }
 
   pub chain-opens : (at : ℕ) (t : Tree) (s : List ℕ) → IsChain Text PatternOf at t s → opens s ≡ true

@@ -12,11 +12,11 @@ use Rattle.mlk_text.specs.Numbers.{are_digits}
 use Rattle.mlk_expr.specs.Lexemes.{count_at, is_pattern_code, is_missing}
 use Rattle.mlk_expr.specs.Spellings.{IsCount}
 use Rattle.mlk_expr.specs.Grammar.{IsMatcher, AreAtoms, IsPattern}
-use Rattle.mlk_expr.proofs.Behind as behind
+use Rattle.mlk_expr.proofs.Followed as followed
 use Rattle.mlk_expr.proofs.Runs.{after_count, after_word, tame, starts}
 use Rattle.mlk_expr.proofs.CodeSpelling.{codes-reads, codes-spelled}
 use Rattle.mlk_expr.proofs.NumberSpelling.{count-reads, count-spelled}
-use Rattle.mlk_expr.proofs.JoinedParts.{Joins, JoinsPattern, missing-ends, ends-tame, enclosed-behind, quoted-behind, list-apart, list-together}
+use Rattle.mlk_expr.proofs.JoinedParts.{Joins, JoinsPattern, missing-ends, ends-tame, enclosed-after, quoted-after, list-apart, list-together}
 
 -- a digit or a point stands here
 abbrev counts_on : List ℕ → Bool
@@ -106,17 +106,17 @@ module _ (Near : List ℕ → List ℕ → List ℕ → Type 0) (Deep : List ℕ
 
   -- a matcher with something after it is a matcher
   matcher-apart : (count c xs ys : List ℕ)
-      → behind.IsMatcher Near count c xs ys → (s : List ℕ) × IsMatcher Deep s × (xs ≡ s ++ ys)
+      → followed.IsMatcher Near count c xs ys → (s : List ℕ) × IsMatcher Deep s × (xs ≡ s ++ ys)
   matcher-apart count c xs ys (same, inl (codes, is)) = let r = codes-spelled codes xs ys is in (codes, inl r.0, r.1)
   matcher-apart count c xs ys (same, inr (inl (value, (is, text, none)))) =
-      (34 ∷ (doubled value ++ 34 ∷ []), inr (inl (value, (refl, text))), is ∙ sym (quoted-behind value ys))
+      (34 ∷ (doubled value ++ 34 ∷ []), inr (inl (value, (refl, text))), is ∙ sym (quoted-after value ys))
   matcher-apart count c xs ys (same, inr (inr (m, choices, is, list))) =
       let f = list-apart (length m) Near (Choice Deep) (alternatives (length m)) 0 choices m ys (omega arith) list in
-      (40 ∷ (f.0 ++ 41 ∷ []), inr (inr (f.0, choices, refl, f.2)), is ∙ ap (λ l. 40 ∷ l) f.1 ∙ sym (enclosed-behind f.0 ys))
+      (40 ∷ (f.0 ++ 41 ∷ []), inr (inr (f.0, choices, refl, f.2)), is ∙ ap (λ l. 40 ∷ l) f.1 ∙ sym (enclosed-after f.0 ys))
 
   -- atoms with something after them are atoms
   atoms-apart : (counts : List (List ℕ)) (xs ys : List ℕ)
-      → Many count_at (behind.IsMatcher Near) counts xs ys → (s : List ℕ) × AreAtoms Deep counts s × (xs ≡ s ++ ys)
+      → Many count_at (followed.IsMatcher Near) counts xs ys → (s : List ℕ) × AreAtoms Deep counts s × (xs ≡ s ++ ys)
   atoms-apart [] xs ys h = ([], refl, h.0)
   atoms-apart (c ∷ counts) xs ys (count, m, n, here, atom, others) =
       let r = count-spelled count xs m here in
@@ -144,18 +144,18 @@ module _ (Near : List ℕ → List ℕ → List ℕ → Type 0) (Deep : List ℕ
 
   -- a matcher is read where it ends
   matcher-together : (count s zs : List ℕ)
-      → IsMatcher Deep s → ends_atom zs ≡ true → behind.IsMatcher Near count count (s ++ zs) zs
+      → IsMatcher Deep s → ends_atom zs ≡ true → followed.IsMatcher Near count count (s ++ zs) zs
   matcher-together count s zs (inl codes) end = (refl, inl (s, codes-reads s zs codes (ends-word zs end)))
   matcher-together count s zs (inr (inl (value, (is, text)))) end =
-      (refl, inr (inl (value, (ap (λ l. l ++ zs) is ∙ quoted-behind value zs, text, ends-quote zs end))))
+      (refl, inr (inl (value, (ap (λ l. l ++ zs) is ∙ quoted-after value zs, text, ends-quote zs end))))
   matcher-together count s zs (inr (inr (inner, choices, is, list))) end =
       let f = list-together (length (inner ++ 41 ∷ zs)) Near (Choice Deep) (alternatives (length (inner ++ 41 ∷ zs))) 0 choices inner zs (omega arith) list in
-      (refl, inr (inr (inner ++ 41 ∷ zs, choices, ap (λ l. l ++ zs) is ∙ enclosed-behind inner zs, f)))
+      (refl, inr (inr (inner ++ 41 ∷ zs, choices, ap (λ l. l ++ zs) is ∙ enclosed-after inner zs, f)))
 
   -- atoms are read as far as counts go
   atoms-together : (counts : List (List ℕ)) (s ys : List ℕ)
-      → AreAtoms Deep counts s → tame ys ≡ true → Many count_at (behind.IsMatcher Near) counts (s ++ ys) ys
-  atoms-together [] s ys is t = subst (λ l. Many count_at (behind.IsMatcher Near) [] (l ++ ys) ys) (sym is) (refl, count-none ys t)
+      → AreAtoms Deep counts s → tame ys ≡ true → Many count_at (followed.IsMatcher Near) counts (s ++ ys) ys
+  atoms-together [] s ys is t = subst (λ l. Many count_at (followed.IsMatcher Near) [] (l ++ ys) ys) (sym is) (refl, count-none ys t)
   atoms-together (count ∷ counts) s ys (matcher, rest, is, one, atom, atoms) t =
       let whole : s ++ ys ≡ count ++ (matcher ++ (rest ++ ys)) = ap (λ l. l ++ ys) is ∙ append_assoc count (matcher ++ rest) ys ∙ ap (λ l. count ++ l) (append_assoc matcher rest ys) in
       let reads = ap count_at whole ∙ count-reads count (matcher ++ (rest ++ ys)) one (matcher-count matcher (rest ++ ys) atom) in
@@ -163,27 +163,27 @@ module _ (Near : List ℕ → List ℕ → List ℕ → Type 0) (Deep : List ℕ
       (count, matcher ++ (rest ++ ys), rest ++ ys, reads, first, atoms-together counts rest ys atoms t)
 
 -- a pattern is spelled as it is read, with something tame after it
-level-joins : (k : ℕ) → JoinsPattern (behind.IsPattern k) (IsPattern k) → JoinsPattern (behind.IsPattern (suc k)) (IsPattern (suc k))
-unfolding IsPattern behind.IsPattern
+level-joins : (k : ℕ) → JoinsPattern (followed.IsPattern k) (IsPattern k) → JoinsPattern (followed.IsPattern (suc k)) (IsPattern (suc k))
+unfolding IsPattern followed.IsPattern
 level-joins k p = record { apart = apart; together = together; begins = begins }
   where
-    apart : (text xs ys : List ℕ) → (counts : List (List ℕ)) × Many count_at (behind.IsMatcher (behind.IsPattern k)) counts xs ys × (0 < length counts) × (xs ≡ text ++ ys)
+    apart : (text xs ys : List ℕ) → (counts : List (List ℕ)) × Many count_at (followed.IsMatcher (followed.IsPattern k)) counts xs ys × (0 < length counts) × (xs ≡ text ++ ys)
         → ((counts : List (List ℕ)) × (0 < length counts) × AreAtoms (IsPattern k) counts text) × (xs ≡ text ++ ys)
     apart text xs ys (counts, many, some, is) =
-        let r = atoms-apart (behind.IsPattern k) (IsPattern k) p counts xs ys many in
+        let r = atoms-apart (followed.IsPattern k) (IsPattern k) p counts xs ys many in
         let same : r.0 ≡ text = append-cancel r.0 text ys (sym r.2 ∙ is) in
         ((counts, some, subst (AreAtoms (IsPattern k) counts) same r.1), is)
 
     together : (text ys : List ℕ) → (counts : List (List ℕ)) × (0 < length counts) × AreAtoms (IsPattern k) counts text → tame ys ≡ true
-        → (counts : List (List ℕ)) × Many count_at (behind.IsMatcher (behind.IsPattern k)) counts (text ++ ys) ys × (0 < length counts) × (text ++ ys ≡ text ++ ys)
-    together text ys (counts, some, atoms) t = (counts, atoms-together (behind.IsPattern k) (IsPattern k) p counts text ys atoms t, some, refl)
+        → (counts : List (List ℕ)) × Many count_at (followed.IsMatcher (followed.IsPattern k)) counts (text ++ ys) ys × (0 < length counts) × (text ++ ys ≡ text ++ ys)
+    together text ys (counts, some, atoms) t = (counts, atoms-together (followed.IsPattern k) (IsPattern k) p counts text ys atoms t, some, refl)
 
     begins : (text zs : List ℕ) → (counts : List (List ℕ)) × (0 < length counts) × AreAtoms (IsPattern k) counts text → starts (text ++ zs) ≡ true
     begins text zs ([], some, atoms) = absurd (omega arith)
     begins text zs (count ∷ counts, some, (matcher, rest, is, one, atom, atoms)) =
         subst (λ l. starts l ≡ true) (sym (ap (λ l. l ++ zs) is ∙ append_assoc count (matcher ++ rest) zs)) (count-starts count ((matcher ++ rest) ++ zs) one)
 
-pub pattern-joins : (k : ℕ) → JoinsPattern (behind.IsPattern k) (IsPattern k)
-unfolding IsPattern behind.IsPattern
+pub pattern-joins : (k : ℕ) → JoinsPattern (followed.IsPattern k) (IsPattern k)
+unfolding IsPattern followed.IsPattern
 pattern-joins zero = record { apart = λ text xs ys h. absurd h; together = λ text ys h t. absurd h; begins = λ text zs h. absurd h }
 pattern-joins (suc k) = level-joins k (pattern-joins k)

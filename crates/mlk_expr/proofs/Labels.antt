@@ -5,16 +5,16 @@ use Rattle.std.proofs.lemmas.Bool.{cases_Bool, and_parts}
 use Rattle.std.proofs.lemmas.Bool.Decides.{nat_tests}
 use Rattle.mlk_text.specs.Lexemes.{is_digit, is_letter, digits, byte_at, name_at, digits_at, label_at, or_else}
 use Rattle.mlk_text.specs.Numbers.{are_digits}
-use Rattle.mlk_text.proofs.Lexemes.{name-behind}
+use Rattle.mlk_text.proofs.Lexemes.{name-after}
 use Rattle.mlk_text.proofs.Readers.{Exact}
 use Rattle.mlk_text.specs.Spellings.{IsName, IsLabel}
 use Rattle.mlk_expr.specs.Grammar.{IsCallee, IsNameText, IsLabelText, IsCalleeText}
 use Rattle.mlk_expr.specs.Theorem.{label_ends, LabelEnds, starts_caret, callee_ends, CalleeEnds}
-use Rattle.mlk_expr.proofs.Behind as behind
+use Rattle.mlk_expr.proofs.Followed as followed
 use Rattle.mlk_text.proofs.Runs.{stops, cut-reads, cut-spelled}
 use Rattle.mlk_expr.proofs.Runs.{after_name, digits-are, digits-length}
 use Rattle.mlk_text.proofs.Spelled.{name-parts, name-reads, name-spelled, label-spelled, digit-no-name}
-use Rattle.mlk_expr.proofs.LexemeLemmas.{label-behind}
+use Rattle.mlk_expr.proofs.LexemeLemmas.{label-after}
 use Rattle.mlk_expr.proofs.Arguments.{CalleeIs}
 use Rattle.mlk_expr.proofs.JoinedArguments.{callee-apart}
 use Rattle.mlk_expr.proofs.Joined.{Same}
@@ -71,13 +71,13 @@ caret-none : (ys : List ℕ) → not (starts_caret ys) ≡ true → byte_at 94 y
 caret-none [] h = refl
 caret-none (b ∷ ys) h = elim (cases_Bool (b == 94)) [ inl e ↦ cc (rw e at h) | inr e ↦ rw e refl ]
 
-callee-ended : (label routine : Option (List ℕ)) (xs ys : List ℕ) → behind.IsCallee label routine xs ys → callee_ends label routine ys ≡ true
+callee-ended : (label routine : Option (List ℕ)) (xs ys : List ℕ) → followed.IsCallee label routine xs ys → callee_ends label routine ys ≡ true
 callee-ended (Some label) None xs ys (l, none) = rw (label-ended label xs ys l, no-caret ys none) refl
 callee-ended (Some label) (Some routine) xs ys (m, l, r) = let f = name-spelled routine m ys r in ends-name routine ys f.0 f.2
 callee-ended None (Some routine) xs ys (m, is, r) = let f = name-spelled routine m ys r in ends-name routine ys f.0 f.2
 callee-ended None None xs ys h = absurd h
 
-callee-read : (label routine : Option (List ℕ)) (s ys : List ℕ) → IsCallee label routine s → callee_ends label routine ys ≡ true → behind.IsCallee label routine (s ++ ys) ys
+callee-read : (label routine : Option (List ℕ)) (s ys : List ℕ) → IsCallee label routine s → callee_ends label routine ys ≡ true → followed.IsCallee label routine (s ++ ys) ys
 callee-read (Some label) None s ys (is, good) ends =
     let p = and_parts (label_ends label ys) (not (starts_caret ys)) ends in
     (rw is (label-read label ys good p.0), caret-none ys p.1)
@@ -97,7 +97,7 @@ Names end name xs ys = name_at xs ≡ Some (name, ys)
 
 pub names-exact : (end : ℕ) → Exact name_at (Names end)
 unfolding Names
-names-exact end = record { sound = λ n xs ys h. h; complete = λ n xs ys h. h; behind = name-behind }
+names-exact end = record { sound = λ n xs ys h. h; complete = λ n xs ys h. h; after = name-after }
 
 pub same-name : Same Names IsNameText LabelEnds
 unfolding Names
@@ -111,7 +111,7 @@ Labels end label xs ys = label_at xs ≡ Some (label, ys)
 
 pub labels-exact : (end : ℕ) → Exact label_at (Labels end)
 unfolding Labels
-labels-exact end = record { sound = λ l xs ys h. h; complete = λ l xs ys h. h; behind = label-behind }
+labels-exact end = record { sound = λ l xs ys h. h; complete = λ l xs ys h. h; after = label-after }
 
 pub same-label : Same Labels IsLabelText LabelEnds
 unfolding Labels

@@ -11,8 +11,8 @@ use Rattle.mlk_text.specs.declared.operator.Relation.TheVariants as relation
 use Rattle.mlk_text.specs.declared.operator.UnaryOp.{UnaryOp}
 use Rattle.mlk_text.specs.Reading.{with}
 use Rattle.mlk_text.specs.Lexemes.{is_digit, is_letter, digits, byte_at, name_at, digits_at, label_at, letters, or_else, word_at}
-use Rattle.mlk_text.proofs.Lexemes.{byte-is, name-behind, digits-behind}
-use Rattle.mlk_text.proofs.Readers.{pair_parts, with_some, Behind, behind-one, behind_then, Takes}
+use Rattle.mlk_text.proofs.Lexemes.{byte-is, name-after, digits-after}
+use Rattle.mlk_text.proofs.Readers.{pair_parts, with_some, After, after-one, after_then, Takes}
 use Rattle.mlk_expr.specs.declared.tree.Function.{Function}
 use Rattle.mlk_expr.specs.declared.lexeme.Kind.{Kind}
 use Rattle.mlk_expr.specs.declared.lexeme.Kind.TheVariants as kind
@@ -21,14 +21,14 @@ use Rattle.mlk_expr.specs.Lexemes.{one_byte, twice_or, relation_of, relation_at,
 
 -- one byte and what is after it
 abbrev Shorter : List ℕ → List ℕ → Type 0
-Shorter ys xs = Behind ys xs × (length ys < length xs)
+Shorter ys xs = After ys xs × (length ys < length xs)
 
 one-shorter : {A : Type 0} (o : Option A) (a : A) (b : ℕ) (xs ys : List ℕ) → one_byte o xs ≡ Some (a, ys) → Shorter ys (b ∷ xs)
 one-shorter None a b xs ys h = cc h
-one-shorter (Some o) a b xs ys h = let p = pair_parts o a xs ys h in subst (λ l. Shorter l (b ∷ xs)) p.1 (behind-one b xs, omega arith)
+one-shorter (Some o) a b xs ys h = let p = pair_parts o a xs ys h in subst (λ l. Shorter l (b ∷ xs)) p.1 (after-one b xs, omega arith)
 
 twice-shorter : {A : Type 0} (two one a : A) (b c : ℕ) (xs ys : List ℕ) (o : Option (ℕ × List ℕ)) → byte_at c xs ≡ o → twice_or two o (Some (one, xs)) ≡ Some (a, ys) → Shorter ys (b ∷ xs)
-twice-shorter two one a b c xs ys None is h = let p = pair_parts one a xs ys h in subst (λ l. Shorter l (b ∷ xs)) p.1 (behind-one b xs, omega arith)
+twice-shorter two one a b c xs ys None is h = let p = pair_parts one a xs ys h in subst (λ l. Shorter l (b ∷ xs)) p.1 (after-one b xs, omega arith)
 twice-shorter two one a b c xs ys (Some second) is h =
     let p = pair_parts two a second.1 ys h in
     let text = byte-is c second.0 xs second.1 is in
@@ -66,7 +66,7 @@ op-takes o xs ys h = go (byte_at 39 xs) refl h
         let r = relation-takes w.0 quote.1 ys w.1 in
         let text = byte-is 39 quote.0 xs quote.1 is in
         let size = ap length text in
-        (subst (λ l. Behind ys l) (sym text) (behind_then (39 ∷ quote.1) quote.1 ys (behind-one 39 quote.1) r.0), let less = r.1 in omega arith)
+        (subst (λ l. After ys l) (sym text) (after_then (39 ∷ quote.1) quote.1 ys (after-one 39 quote.1) r.0), let less = r.1 in omega arith)
 
 -- so many bytes and what is after them
 unless : (b : Bool) (m : ℕ) (text xs ys : List ℕ) → if◌then◌else◌ {A = Option (List ℕ × List ℕ)} b None (Some (take m xs, drop m xs)) ≡ Some (text, ys)
@@ -81,18 +81,18 @@ cut n m text xs ys h = elim (cases_Bool (n == 0)) [
   | inr e ↦ let p = pair_parts (take m xs) text (drop m xs) ys (rw e at h) in (eqb-false n 0 e, sym p.0, sym p.1)
 ]
 
-taken-behind : (m : ℕ) (xs ys : List ℕ) → ys ≡ drop m xs → Behind ys xs
-taken-behind m xs ys h = (take m xs, ap (λ l. take m xs ++ l) h ∙ take-append-drop m xs)
+taken-after : (m : ℕ) (xs ys : List ℕ) → ys ≡ drop m xs → After ys xs
+taken-after m xs ys h = (take m xs, ap (λ l. take m xs ++ l) h ∙ take-append-drop m xs)
 
-pub numeral-behind : (text xs ys : List ℕ) → numeral_at xs ≡ Some (text, ys) → Behind ys xs
+pub numeral-after : (text xs ys : List ℕ) → numeral_at xs ≡ Some (text, ys) → After ys xs
 unfolding numeral_at
-numeral-behind text xs ys h =
+numeral-after text xs ys h =
     let m : ℕ = mantissa_len xs + exponent_len (drop (mantissa_len xs) xs) in
-    taken-behind m xs ys (unless ((mantissa_len xs == 0) || lacks_exponent (drop (mantissa_len xs) xs)) m text xs ys h).1
+    taken-after m xs ys (unless ((mantissa_len xs == 0) || lacks_exponent (drop (mantissa_len xs) xs)) m text xs ys h).1
 
-pub codes-behind : (text xs ys : List ℕ) → pattern_codes_at xs ≡ Some (text, ys) → Behind ys xs
+pub codes-after : (text xs ys : List ℕ) → pattern_codes_at xs ≡ Some (text, ys) → After ys xs
 unfolding pattern_codes_at
-codes-behind text xs ys h = taken-behind (pattern_codes xs) xs ys (cut (pattern_codes xs) (pattern_codes xs) text xs ys h).2
+codes-after text xs ys h = taken-after (pattern_codes xs) xs ys (cut (pattern_codes xs) (pattern_codes xs) text xs ys h).2
 
 pub count-takes : Takes count_at
 unfolding count_at
@@ -103,26 +103,26 @@ count-takes text (b ∷ xs) ys h =
     let size = length-drop n (b ∷ xs) in
     let same = ap length r.2 in
     let some = r.0 in
-    (taken-behind n (b ∷ xs) ys r.2, omega arith)
+    (taken-after n (b ∷ xs) ys r.2, omega arith)
 
-pub label-behind : (text xs ys : List ℕ) → label_at xs ≡ Some (text, ys) → Behind ys xs
+pub label-after : (text xs ys : List ℕ) → label_at xs ≡ Some (text, ys) → After ys xs
 unfolding label_at
-label-behind text xs ys h = go (name_at xs) refl h
+label-after text xs ys h = go (name_at xs) refl h
   where
-    go : (o : Option (List ℕ × List ℕ)) → name_at xs ≡ o → or_else o (digits_at xs) ≡ Some (text, ys) → Behind ys xs
-    go None is h = digits-behind text xs ys h
-    go (Some n) is h = name-behind text xs ys (is ∙ h)
+    go : (o : Option (List ℕ × List ℕ)) → name_at xs ≡ o → or_else o (digits_at xs) ≡ Some (text, ys) → After ys xs
+    go None is h = digits-after text xs ys h
+    go (Some n) is h = name-after text xs ys (is ∙ h)
 
-pub lent-behind : (name xs ys : List ℕ) → lent_at xs ≡ Some (name, ys) → Behind ys xs
+pub lent-after : (name xs ys : List ℕ) → lent_at xs ≡ Some (name, ys) → After ys xs
 unfolding lent_at
-lent-behind name xs ys h = go (byte_at 46 xs) refl h
+lent-after name xs ys h = go (byte_at 46 xs) refl h
   where
-    go : (o : Option (ℕ × List ℕ)) → byte_at 46 xs ≡ o → lent_by o ≡ Some (name, ys) → Behind ys xs
+    go : (o : Option (ℕ × List ℕ)) → byte_at 46 xs ≡ o → lent_by o ≡ Some (name, ys) → After ys xs
     go None is h = cc h
-    go (Some p) is h = subst (λ l. Behind ys l) (sym (byte-is 46 p.0 xs p.1 is)) (behind_then (46 ∷ p.1) p.1 ys (behind-one 46 p.1) (name-behind name p.1 ys h))
+    go (Some p) is h = subst (λ l. After ys l) (sym (byte-is 46 p.0 xs p.1 is)) (after_then (46 ∷ p.1) p.1 ys (after-one 46 p.1) (name-after name p.1 ys h))
 
-pub word-behind : (w xs ys : List ℕ) → word_at xs ≡ (w, ys) → Behind ys xs
-word-behind w xs ys h = taken-behind (letters xs) xs ys (sym (ap (λ p. p.1) h))
+pub word-after : (w xs ys : List ℕ) → word_at xs ≡ (w, ys) → After ys xs
+word-after w xs ys h = taken-after (letters xs) xs ys (sym (ap (λ p. p.1) h))
 
 -- the first byte of an operand
 pub kind-open : kind_of 40 ≡ kind.Open

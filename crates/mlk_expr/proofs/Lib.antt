@@ -1,4 +1,4 @@
-pub mod Behind
+pub mod Followed
 pub mod Runs
 pub mod OperatorSpelling
 pub mod CodeSpelling

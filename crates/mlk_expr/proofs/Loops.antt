@@ -5,14 +5,14 @@ use Rattle.std.proofs.lemmas.Bool.{cases_Bool, lt-leb}
 use Rattle.mlk_text.specs.Reading.{◌>>=◌, with, put, many}
 use Rattle.mlk_text.specs.Lexemes.{byte_at}
 use Rattle.mlk_text.proofs.Lexemes.{byte-takes}
-use Rattle.mlk_text.proofs.Readers.{Exact, Takes, pair_parts, behind_length, many_fails}
+use Rattle.mlk_text.proofs.Readers.{Exact, Takes, pair_parts, after_length, many_fails}
 use Rattle.mlk_text.specs.declared.failure.Failure.{Failure}
 use Rattle.mlk_expr.specs.declared.refusal.Offence.{Offence}
 use Rattle.mlk_text.specs.declared.failure.Failure.TheVariants.{OutOfMemory, Refused}
 use Rattle.mlk_expr.specs.Lexemes.{count_at}
 use Rattle.mlk_expr.specs.declared.scope.Allows.TheVariants.{Everything}
 use Rattle.mlk_expr.specs.Reading.{quietly, chain_with, at_most, matcher_by, some_atoms, pattern_at, operand_with, atom_at, rest_of}
-use Rattle.mlk_expr.proofs.Behind.{IsPattern, IsMatcher}
+use Rattle.mlk_expr.proofs.Followed.{IsPattern, IsMatcher}
 use Rattle.mlk_text.specs.Failures.{FailsOn, IsRefused, IsLike}
 use Rattle.mlk_expr.proofs.LexemeLemmas.{count-takes}
 use Rattle.mlk_expr.proofs.Parts.{matcher-exact, pattern-exact}
@@ -89,7 +89,7 @@ pub shorter : {A B : Type 0} (head : List ℕ → Option (B × List ℕ)) (read 
     → (b : B) (a : A) (xs m ys : List ℕ) → head xs ≡ Some (b, m) → read m ≡ Some (a, ys) → length ys < length xs
 shorter head read Is t e b a xs m ys is one =
     let far = (t b xs m is).1 in
-    let near = behind_length m ys (e.behind a m ys (e.sound a m ys one)) in
+    let near = after_length m ys (e.after a m ys (e.sound a m ys one)) in
     omega arith
 
 pub item-shorter : {A : Type 0} (read : List ℕ → Option (A × List ℕ)) (Is : A → List ℕ → List ℕ → Type 0) → Exact read Is

@@ -204,8 +204,8 @@ mantissa-is xs some = let (before, rest, is, all, stop) = digits-are xs in go be
       | inr e ↦ plain before (b ∷ rest) is all (size ∙ rw e refl)
       | inl e ↦
           let (after, zs, text, second, end) = digits-are rest in
-          let behind : b ∷ rest ≡ 46 ∷ (after ++ zs) = ap (λ c. c ∷ rest) (eqb-true b 46 e) ∙ ap (λ l. 46 ∷ l) text in
-          point before after zs (is ∙ ap (λ l. before ++ l) behind) all second end (size ∙ ap (point_len (length before)) behind) _ refl
+          let follows : b ∷ rest ≡ 46 ∷ (after ++ zs) = ap (λ c. c ∷ rest) (eqb-true b 46 e) ∙ ap (λ l. 46 ∷ l) text in
+          point before after zs (is ∙ ap (λ l. before ++ l) follows) all second end (size ∙ ap (point_len (length before)) follows) _ refl
     ]
 
 -- what stands after `E` where its sign and digits have a length
@@ -220,12 +220,12 @@ signed-is (b ∷ zs) some = elim (cases_Bool ((b == 43) || (b == 45))) [
       let (ds, ys, is, all, stop) = digits-are (b ∷ zs) in
       let size : signed_len (b ∷ zs) ≡ length ds = rw e (ap digits is ∙ digits-length ds ys all stop) in
       ([], ds, ys, is, inl refl, all, omega arith, size)
-  | inl e ↦ let (ds, ys, is, all, stop) = digits-are zs in behind e ds ys is all (ap digits is ∙ digits-length ds ys all stop)
+  | inl e ↦ let (ds, ys, is, all, stop) = digits-are zs in follows e ds ys is all (ap digits is ∙ digits-length ds ys all stop)
 ]
   where
-    behind : ((b == 43) || (b == 45)) ≡ true → (ds ys : List ℕ) → zs ≡ ds ++ ys → are_digits ds ≡ true → digits zs ≡ length ds → Signed (b ∷ zs)
-    behind e [] ys is all size = absurd (some (rw e (rw size refl)))
-    behind e (d ∷ ds) ys is all size = (
+    follows : ((b == 43) || (b == 45)) ≡ true → (ds ys : List ℕ) → zs ≡ ds ++ ys → are_digits ds ≡ true → digits zs ≡ length ds → Signed (b ∷ zs)
+    follows e [] ys is all size = absurd (some (rw e (rw size refl)))
+    follows e (d ∷ ds) ys is all size = (
       b ∷ [],
       d ∷ ds,
       ys,
@@ -260,10 +260,10 @@ number-spelled text xs ys h = elim (cases_Bool (mantissa_len xs == 0)) [
     | inl f ↦ cc (rw (e, f) at h)
     | inr f ↦
         let (before, after, mantissa, zs, numeral, is, size) = mantissa-is xs (eqb-false (mantissa_len xs) 0 e) in
-        let behind : drop (mantissa_len xs) xs ≡ zs = (parted (mantissa_len xs) mantissa zs xs is size).1 in
-        let (exponent, us, more, ending, len) = exponent-is zs (ap lacks_exponent (sym behind) ∙ f) in
+        let follows : drop (mantissa_len xs) xs ≡ zs = (parted (mantissa_len xs) mantissa zs xs is size).1 in
+        let (exponent, us, more, ending, len) = exponent-is zs (ap lacks_exponent (sym follows) ∙ f) in
         let whole : xs ≡ (mantissa ++ exponent) ++ us = is ∙ ap (λ l. mantissa ++ l) more ∙ sym (append_assoc mantissa exponent us) in
-        let length-is : exponent_len (drop (mantissa_len xs) xs) ≡ length exponent = ap exponent_len behind ∙ len in
+        let length-is : exponent_len (drop (mantissa_len xs) xs) ≡ length exponent = ap exponent_len follows ∙ len in
         let both = length-append mantissa exponent in
         let all : mantissa_len xs + exponent_len (drop (mantissa_len xs) xs) ≡ length (mantissa ++ exponent) = omega arith in
         let some = numeral-some before after mantissa numeral in

@@ -4,8 +4,8 @@ use Rattle.std.specs.Prelude.{Option}
 use Rattle.std.proofs.lemmas.Bool.{cases_Bool}
 use Rattle.mlk_text.specs.Lexemes.{byte_at, name_at, inside, IsQuoted, word_at}
 use Rattle.mlk_text.specs.Canonical.{canonical_text}
-use Rattle.mlk_text.proofs.Lexemes.{byte-is, name-behind, quoted-sound, quoted-complete, quoted-behind}
-use Rattle.mlk_text.proofs.Readers.{then_some, pair_parts, with_some, Behind, behind-one, behind_then, Exact}
+use Rattle.mlk_text.proofs.Lexemes.{byte-is, name-after, quoted-sound, quoted-complete, quoted-after}
+use Rattle.mlk_text.proofs.Readers.{then_some, pair_parts, with_some, After, after-one, after_then, Exact}
 use Rattle.mlk_expr.specs.declared.tree.Callee.{Callee}
 use Rattle.mlk_expr.specs.declared.tree.Special.{Special}
 use Rattle.mlk_expr.specs.declared.lexeme.Kind.{Kind}
@@ -16,10 +16,10 @@ use Rattle.mlk_expr.specs.declared.scope.Passing.TheVariants.{ByReference}
 use Rattle.mlk_expr.specs.Words.{special_of, function_of, is_select}
 use Rattle.mlk_expr.specs.Lexemes.{column_of, kind_of, numeral_at}
 use Rattle.mlk_expr.specs.Grammar.{named}
-use Rattle.mlk_expr.proofs.Behind.{IsPattern, IsChain, IsPlain, IsOperand, IsAtom, IsChoice}
+use Rattle.mlk_expr.proofs.Followed.{IsPattern, IsChain, IsPlain, IsOperand, IsAtom, IsChoice}
 use Rattle.mlk_expr.specs.Reading.{quietly, number_by, number_of, pattern_at, chain_with, subs_with, actuals_with, callee_at, call_by, call_with, arguments_by, arguments_with, choice_with, list_with, function_with, special_by, word_by, dollar_by, dollar_with, atom_by, operand_with, atom_at}
 use Rattle.mlk_text.proofs.CanonicalReading.{canonical-sound, canonical-complete, canonical-none}
-use Rattle.mlk_expr.proofs.LexemeLemmas.{numeral-behind, word-behind, kind-open, kind-quote, kind-caret, kind-dollar, prefix-is, prefix-from, is-open, is-quote, is-caret, is-dollar, name-first, numeral-first, word-none, no-special, no-function, no-select, function-no-select}
+use Rattle.mlk_expr.proofs.LexemeLemmas.{numeral-after, word-after, kind-open, kind-quote, kind-caret, kind-dollar, prefix-is, prefix-from, is-open, is-quote, is-caret, is-dollar, name-first, numeral-first, word-none, no-special, no-function, no-select, function-no-select}
 use Rattle.mlk_expr.proofs.Parts.{list-exact, chain-exact, subs-exact, pattern-exact}
 use Rattle.mlk_expr.proofs.Arguments.{CalleeIs, actuals-exact, callee-exact, choice-exact, arguments-exact}
 
@@ -203,42 +203,42 @@ module _ (end : ℕ) (read : List ℕ → Option (Tree × List ℕ)) (Is : Tree 
   operand-complete t xs ys (inl h) = plain-complete t xs ys h
   operand-complete t xs ys (inr (m, is, inner)) = rw is (rw kind-open (rw (chains.complete t m (41 ∷ ys) inner) refl))
 
-  plain-behind : (t : Tree) (xs ys : List ℕ) → IsPlain end Is Pattern t xs ys → Behind ys xs
-  plain-behind (Lit value) xs ys (inl (text, n, same)) = numeral-behind text xs ys n
-  plain-behind (Lit value) xs ys (inr q) = quoted-behind value xs ys q
-  plain-behind Free xs ys (text, n, none) = numeral-behind text xs ys n
-  plain-behind (LocalName name subs) xs ys (m, ss, n, list, same) =
-      behind_then xs m ys (name-behind name xs m n) ((subs-exact end (chain_with read pattern) (IsChain Is Pattern) chains).behind ss m ys list)
-  plain-behind (GlobalName column name subs) xs ys (m, n, ss, is, at, text, list, same) =
-      subst (λ z. Behind ys z) (sym is)
-      (behind_then (94 ∷ m) m ys (behind-one 94 m) (behind_then m n ys (name-behind name m n text) ((subs-exact end (chain_with read pattern) (IsChain Is Pattern) chains).behind ss n ys list)))
-  plain-behind (SpecialName special) xs ys (m, w, is, word, found, none) =
-      subst (λ z. Behind ys z) (sym is) (behind_then (36 ∷ m) m ys (behind-one 36 m) (word-behind w m ys word))
-  plain-behind (Prefixed op t) xs ys (b, m, is, o, deep) = subst (λ z. Behind ys z) (sym is) (behind_then (b ∷ m) m ys (behind-one b m) (l.atoms.behind t m ys deep))
-  plain-behind (Chain t ls) xs ys h = absurd h
-  plain-behind (PatternText text) xs ys h = absurd h
-  plain-behind (Func f args) xs ys (m, n, w, ts, is, word, found, list, same) =
-      let more = (arguments-exact read Is (chain_with read pattern) (IsChain Is Pattern) l.atoms chains f (named f)).behind ts n ys list in
-      subst (λ z. Behind ys z) (sym is)
-      (behind_then (36 ∷ m) m ys (behind-one 36 m) (behind_then m (40 ∷ n) ys (word-behind w m (40 ∷ n) word) (behind_then (40 ∷ n) n ys (behind-one 40 n) more)))
-  plain-behind (Selected cs') xs ys (m, n, w, cs, is, word, found, list, same) =
-      let more = (list-exact (choice_with (chain_with read pattern)) (IsChoice (IsChain Is Pattern)) (choice-exact (chain_with read pattern) (IsChain Is Pattern) chains)).behind cs n ys list in
-      subst (λ z. Behind ys z) (sym is)
-      (behind_then (36 ∷ m) m ys (behind-one 36 m) (behind_then m (40 ∷ n) ys (word-behind w m (40 ∷ n) word) (behind_then (40 ∷ n) n ys (behind-one 40 n) more)))
-  plain-behind (BareCall column callee) xs ys (m, is, at, named-is, none) =
-      subst (λ z. Behind ys z) (sym is) (behind_then (36 ∷ 36 ∷ m) m ys (36 ∷ 36 ∷ [], refl) (callee-exact.behind callee m ys named-is))
-  plain-behind (CallOf column callee as') xs ys (m, n, given, is, at, named-is, list, same) =
-      let more = (actuals-exact end (chain_with read pattern) (IsChain Is Pattern) chains).behind given n ys list in
-      subst (λ z. Behind ys z) (sym is)
-      (behind_then (36 ∷ 36 ∷ m) m ys (36 ∷ 36 ∷ [], refl) (behind_then m (40 ∷ n) ys (callee-exact.behind callee m (40 ∷ n) named-is) (behind_then (40 ∷ n) n ys (behind-one 40 n) more)))
+  plain-after : (t : Tree) (xs ys : List ℕ) → IsPlain end Is Pattern t xs ys → After ys xs
+  plain-after (Lit value) xs ys (inl (text, n, same)) = numeral-after text xs ys n
+  plain-after (Lit value) xs ys (inr q) = quoted-after value xs ys q
+  plain-after Free xs ys (text, n, none) = numeral-after text xs ys n
+  plain-after (LocalName name subs) xs ys (m, ss, n, list, same) =
+      after_then xs m ys (name-after name xs m n) ((subs-exact end (chain_with read pattern) (IsChain Is Pattern) chains).after ss m ys list)
+  plain-after (GlobalName column name subs) xs ys (m, n, ss, is, at, text, list, same) =
+      subst (λ z. After ys z) (sym is)
+      (after_then (94 ∷ m) m ys (after-one 94 m) (after_then m n ys (name-after name m n text) ((subs-exact end (chain_with read pattern) (IsChain Is Pattern) chains).after ss n ys list)))
+  plain-after (SpecialName special) xs ys (m, w, is, word, found, none) =
+      subst (λ z. After ys z) (sym is) (after_then (36 ∷ m) m ys (after-one 36 m) (word-after w m ys word))
+  plain-after (Prefixed op t) xs ys (b, m, is, o, deep) = subst (λ z. After ys z) (sym is) (after_then (b ∷ m) m ys (after-one b m) (l.atoms.after t m ys deep))
+  plain-after (Chain t ls) xs ys h = absurd h
+  plain-after (PatternText text) xs ys h = absurd h
+  plain-after (Func f args) xs ys (m, n, w, ts, is, word, found, list, same) =
+      let more = (arguments-exact read Is (chain_with read pattern) (IsChain Is Pattern) l.atoms chains f (named f)).after ts n ys list in
+      subst (λ z. After ys z) (sym is)
+      (after_then (36 ∷ m) m ys (after-one 36 m) (after_then m (40 ∷ n) ys (word-after w m (40 ∷ n) word) (after_then (40 ∷ n) n ys (after-one 40 n) more)))
+  plain-after (Selected cs') xs ys (m, n, w, cs, is, word, found, list, same) =
+      let more = (list-exact (choice_with (chain_with read pattern)) (IsChoice (IsChain Is Pattern)) (choice-exact (chain_with read pattern) (IsChain Is Pattern) chains)).after cs n ys list in
+      subst (λ z. After ys z) (sym is)
+      (after_then (36 ∷ m) m ys (after-one 36 m) (after_then m (40 ∷ n) ys (word-after w m (40 ∷ n) word) (after_then (40 ∷ n) n ys (after-one 40 n) more)))
+  plain-after (BareCall column callee) xs ys (m, is, at, named-is, none) =
+      subst (λ z. After ys z) (sym is) (after_then (36 ∷ 36 ∷ m) m ys (36 ∷ 36 ∷ [], refl) (callee-exact.after callee m ys named-is))
+  plain-after (CallOf column callee as') xs ys (m, n, given, is, at, named-is, list, same) =
+      let more = (actuals-exact end (chain_with read pattern) (IsChain Is Pattern) chains).after given n ys list in
+      subst (λ z. After ys z) (sym is)
+      (after_then (36 ∷ 36 ∷ m) m ys (36 ∷ 36 ∷ [], refl) (after_then m (40 ∷ n) ys (callee-exact.after callee m (40 ∷ n) named-is) (after_then (40 ∷ n) n ys (after-one 40 n) more)))
 
-  operand-behind : (t : Tree) (xs ys : List ℕ) → IsOperand end Is Pattern t xs ys → Behind ys xs
-  operand-behind t xs ys (inl h) = plain-behind t xs ys h
-  operand-behind t xs ys (inr (m, is, inner)) =
-      subst (λ z. Behind ys z) (sym is) (behind_then (40 ∷ m) m ys (behind-one 40 m) (behind_then m (41 ∷ ys) ys (chains.behind t m (41 ∷ ys) inner) (behind-one 41 ys)))
+  operand-after : (t : Tree) (xs ys : List ℕ) → IsOperand end Is Pattern t xs ys → After ys xs
+  operand-after t xs ys (inl h) = plain-after t xs ys h
+  operand-after t xs ys (inr (m, is, inner)) =
+      subst (λ z. After ys z) (sym is) (after_then (40 ∷ m) m ys (after-one 40 m) (after_then m (41 ∷ ys) ys (chains.after t m (41 ∷ ys) inner) (after-one 41 ys)))
 
   pub operand-exact : Exact (operand_with Everything end read (quietly (chain_with read pattern)) pattern) (IsOperand end Is Pattern)
-  operand-exact = record { sound = start; complete = operand-complete; behind = operand-behind }
+  operand-exact = record { sound = start; complete = operand-complete; after = operand-after }
     where
       start : (t : Tree) (xs ys : List ℕ) → operand_with Everything end read (quietly (chain_with read pattern)) pattern xs ≡ Some (t, ys) → IsOperand end Is Pattern t xs ys
       start t [] ys h = cc h
@@ -246,10 +246,10 @@ module _ (end : ℕ) (read : List ℕ → Option (Tree × List ℕ)) (Is : Tree 
 
 pub atom-exact : (end k : ℕ) → Exact (atom_at end k) (IsAtom end k)
 unfolding atom_at IsAtom
-atom-exact end zero = record { sound = λ t xs ys h. cc h; complete = λ t xs ys h. absurd h; behind = λ t xs ys h. absurd h }
+atom-exact end zero = record { sound = λ t xs ys h. cc h; complete = λ t xs ys h. absurd h; after = λ t xs ys h. absurd h }
 atom-exact end (suc k) =
     let o = operand-exact end (atom_at end k) (IsAtom end k) (pattern_at k) (IsPattern k) (record { atoms = atom-exact end k; patterns = pattern-exact k }) in
-    record { sound = o.sound; complete = o.complete; behind = o.behind }
+    record { sound = o.sound; complete = o.complete; after = o.after }
 
 pub expr-exact : (end k : ℕ) → Exact (chain_with (atom_at end k) (pattern_at k)) (IsChain (IsAtom end k) (IsPattern k))
 expr-exact end k = chain-exact (atom_at end k) (IsAtom end k) (pattern_at k) (IsPattern k) (atom-exact end k) (pattern-exact k)

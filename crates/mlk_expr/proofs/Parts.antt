@@ -6,14 +6,14 @@ use Rattle.std.proofs.lemmas.Bool.{cases_Bool, eqb-true}
 use Rattle.mlk_text.specs.declared.operator.Op.{Op}
 use Rattle.mlk_text.specs.Reading.{◌>>=◌, with, many, Many}
 use Rattle.mlk_text.specs.Lexemes.{byte_at, inside, IsQuoted}
-use Rattle.mlk_text.proofs.Lexemes.{byte-is, byte-takes, quoted-sound, quoted-complete, quoted-behind}
-use Rattle.mlk_text.proofs.Readers.{then_some, pair_parts, with_some, Behind, behind-self, behind-one, behind_then, Exact, many_sound, many_behind, many_complete}
+use Rattle.mlk_text.proofs.Lexemes.{byte-is, byte-takes, quoted-sound, quoted-complete, quoted-after}
+use Rattle.mlk_text.proofs.Readers.{then_some, pair_parts, with_some, After, after-self, after-one, after_then, Exact, many_sound, many_after, many_complete}
 use Rattle.mlk_expr.specs.Trees.{Tree, PatternText}
 use Rattle.mlk_expr.specs.Lexemes.{op_at, is_match, count_at, pattern_codes_at}
 use Rattle.mlk_expr.specs.Grammar.{chained}
-use Rattle.mlk_expr.proofs.Behind.{Next, IsList, IsMatcher, IsPattern, IsRight, IsLink, IsChain, IsPlaced, IsSubs}
+use Rattle.mlk_expr.proofs.Followed.{Next, IsList, IsMatcher, IsPattern, IsRight, IsLink, IsChain, IsPlaced, IsSubs}
 use Rattle.mlk_expr.specs.Reading.{kept, next, list_with, matcher_by, some_atoms, pattern_at, right_by, linked, chain_with, at_most, placed, subs_by, subs_with}
-use Rattle.mlk_expr.proofs.LexemeLemmas.{op-takes, count-takes, codes-behind}
+use Rattle.mlk_expr.proofs.LexemeLemmas.{op-takes, count-takes, codes-after}
 
 -- what may stand of what is read
 pub kept-exact : {A : Type 0} (may : A → Bool) (read : List ℕ → Option (A × List ℕ)) (Is : A → List ℕ → List ℕ → Type 0) → Exact read Is
@@ -21,7 +21,7 @@ pub kept-exact : {A : Type 0} (may : A → Bool) (read : List ℕ → Option (A 
 kept-exact may read Is e = record {
   sound = λ a xs ys h. let r = kept_some may (read xs) a ys h in (e.sound a xs ys r.0, r.1);
   complete = λ a xs ys h. rw (e.complete a xs ys h.0) (rw (h.1) refl);
-  behind = λ a xs ys h. e.behind a xs ys h.0;
+  after = λ a xs ys h. e.after a xs ys h.0;
 }
   where
     kept_some : {A : Type 0} (may : A → Bool) (o : Option (A × List ℕ)) (a : A) (ys : List ℕ) → kept may o ≡ Some (a, ys) → (o ≡ Some (a, ys)) × (may a ≡ true)
@@ -33,7 +33,7 @@ kept-exact may read Is e = record {
 
 -- items after commas
 pub next-exact : {A : Type 0} (read : List ℕ → Option (A × List ℕ)) (Is : A → List ℕ → List ℕ → Type 0) → Exact read Is → (comma : ℕ) → Exact (next read comma) (Next Is comma)
-next-exact read Is e comma = record { sound = e.sound; complete = e.complete; behind = e.behind }
+next-exact read Is e comma = record { sound = e.sound; complete = e.complete; after = e.after }
 
 pub list-exact : {A : Type 0} (read : List ℕ → Option (A × List ℕ)) (Is : A → List ℕ → List ℕ → Type 0) → Exact read Is → Exact (list_with read) (IsList Is)
 unfolding list_with
@@ -49,9 +49,9 @@ list-exact read Is e =
       complete = λ items xs ys (first, others, m, one, more, is).
           rw (e.complete first xs m one)
           (rw (many_complete (byte_at 44) (next read) (Next Is) (byte-takes 44) n (suc (length m)) others m (41 ∷ ys) (omega arith) more) (rw is refl));
-      behind = λ items xs ys (first, others, m, one, more, is).
-          let far = many_behind (byte_at 44) (next read) (Next Is) (byte-takes 44) n others m (41 ∷ ys) more in
-          behind_then xs m ys (e.behind first xs m one) (behind_then m (41 ∷ ys) ys far (behind-one 41 ys));
+      after = λ items xs ys (first, others, m, one, more, is).
+          let far = many_after (byte_at 44) (next read) (Next Is) (byte-takes 44) n others m (41 ∷ ys) more in
+          after_then xs m ys (e.after first xs m one) (after_then m (41 ∷ ys) ys far (after-one 41 ys));
     }
 
 -- pattern codes begin with no quote and no parenthesis
@@ -68,7 +68,7 @@ coded read count codes (b ∷ xs) ys h = elim (cases_Bool (b == 34)) [
 
 -- what a pattern atom has after its count
 pub matcher-exact : (read : List ℕ → Option (List ℕ × List ℕ)) (Is : List ℕ → List ℕ → List ℕ → Type 0) → Exact read Is → (count : List ℕ) → Exact (matcher_by read count) (IsMatcher Is count)
-matcher-exact read Is e count = record { sound = go; complete = done; behind = back }
+matcher-exact read Is e count = record { sound = go; complete = done; after = back }
   where
     go : (c xs ys : List ℕ) → matcher_by read count xs ≡ Some (c, ys) → IsMatcher Is count c xs ys
     go c [] ys h = cc h
@@ -93,11 +93,11 @@ matcher-exact read Is e count = record { sound = go; complete = done; behind = b
         rw (q.1, same) (ap (with (λ _. count)) q.2)
     done c xs ys (same, inr (inr f)) = rw (f.2, same) (ap (with (λ _. count)) ((list-exact read Is e).complete f.1 f.0 ys f.3))
 
-    back : (c xs ys : List ℕ) → IsMatcher Is count c xs ys → Behind ys xs
-    back c xs ys (same, inl f) = codes-behind f.0 xs ys f.1
-    back c xs ys (same, inr (inl f)) = quoted-behind f.0 xs ys f.1
+    back : (c xs ys : List ℕ) → IsMatcher Is count c xs ys → After ys xs
+    back c xs ys (same, inl f) = codes-after f.0 xs ys f.1
+    back c xs ys (same, inr (inl f)) = quoted-after f.0 xs ys f.1
     back c xs ys (same, inr (inr f)) =
-        subst (λ l. Behind ys l) (sym f.2) (behind_then (40 ∷ f.0) f.0 ys (behind-one 40 f.0) ((list-exact read Is e).behind f.1 f.0 ys f.3))
+        subst (λ l. After ys l) (sym f.2) (after_then (40 ∷ f.0) f.0 ys (after-one 40 f.0) ((list-exact read Is e).after f.1 f.0 ys f.3))
 
 -- what stands before the rest
 front-taken : (text xs ys : List ℕ) → xs ≡ text ++ ys → take (length xs - length ys) xs ≡ text
@@ -108,18 +108,18 @@ front-taken text xs ys h =
 
 pub pattern-exact : (k : ℕ) → Exact (pattern_at k) (IsPattern k)
 unfolding pattern_at IsPattern
-pattern-exact zero = record { sound = λ t xs ys h. cc h; complete = λ t xs ys h. absurd h; behind = λ t xs ys h. absurd h }
+pattern-exact zero = record { sound = λ t xs ys h. cc h; complete = λ t xs ys h. absurd h; after = λ t xs ys h. absurd h }
 pattern-exact (suc k) = level (matcher-exact (pattern_at k) (IsPattern k) (pattern-exact k))
   where
     level : ((count : List ℕ) → Exact (matcher_by (pattern_at k) count) (IsMatcher (IsPattern k) count)) → Exact (pattern_at (suc k)) (IsPattern (suc k))
-    level m = record { sound = go; complete = done; behind = λ text xs ys (counts, more, some, is). (text, sym is) }
+    level m = record { sound = go; complete = done; after = λ text xs ys (counts, more, some, is). (text, sym is) }
       where
         atoms : (text xs ys rest : List ℕ) (counts : List (List ℕ)) → some_atoms xs (counts, rest) ≡ Some (text, ys) → Many count_at (IsMatcher (IsPattern k)) counts xs rest
             → (counts : List (List ℕ)) × Many count_at (IsMatcher (IsPattern k)) counts xs ys × (0 < length counts) × (xs ≡ text ++ ys)
         atoms text xs ys rest [] h more = cc h
         atoms text xs ys rest (c ∷ cs) h more =
             let p = pair_parts (take (length xs - length rest) xs) text rest ys h in
-            let b = many_behind count_at (matcher_by (pattern_at k)) (IsMatcher (IsPattern k)) count-takes m (c ∷ cs) xs rest more in
+            let b = many_after count_at (matcher_by (pattern_at k)) (IsMatcher (IsPattern k)) count-takes m (c ∷ cs) xs rest more in
             let front = front-taken b.0 xs rest (sym b.1) in (
               c ∷ cs,
               subst (λ l. Many count_at (IsMatcher (IsPattern k)) (c ∷ cs) xs l) p.1 more,
@@ -145,11 +145,11 @@ pattern-exact (suc k) = level (matcher-exact (pattern_at k) (IsPattern k) (patte
 -- chains
 pub right-exact : (atom : List ℕ → Option (Tree × List ℕ)) (Atom : Tree → List ℕ → List ℕ → Type 0) (pattern : List ℕ → Option (List ℕ × List ℕ)) (Pattern : List ℕ → List ℕ → List ℕ → Type 0)
     → Exact atom Atom → Exact pattern Pattern → (m : Bool) → Exact (right_by atom pattern m) (IsRight Atom Pattern m)
-right-exact atom Atom pattern Pattern e p false = record { sound = e.sound; complete = e.complete; behind = e.behind }
+right-exact atom Atom pattern Pattern e p false = record { sound = e.sound; complete = e.complete; after = e.after }
 right-exact atom Atom pattern Pattern e p true = record {
   sound = λ t xs ys h. let w = with_some PatternText (pattern xs) t ys h in (w.0, p.sound w.0 xs ys w.1, w.2);
   complete = λ t xs ys (text, is, same). rw (p.complete text xs ys is) (rw same refl);
-  behind = λ t xs ys (text, is, same). p.behind text xs ys is;
+  after = λ t xs ys (text, is, same). p.after text xs ys is;
 }
 
 pub link-exact : (atom : List ℕ → Option (Tree × List ℕ)) (Atom : Tree → List ℕ → List ℕ → Type 0) (pattern : List ℕ → Option (List ℕ × List ℕ)) (Pattern : List ℕ → List ℕ → List ℕ → Type 0)
@@ -161,7 +161,7 @@ link-exact atom Atom pattern Pattern e p op =
           let t = with_some _ (right_by atom pattern (is_match op) xs) l ys h in
           (ap (λ z. z.0) t.2, subst (λ z. IsRight Atom Pattern (is_match op) z.1 xs ys) (sym t.2) (r.sound t.0 xs ys t.1));
       complete = λ l xs ys h. rw (r.complete l.1 xs ys h.1) (rw h.0 refl);
-      behind = λ l xs ys h. r.behind l.1 xs ys h.1;
+      after = λ l xs ys h. r.after l.1 xs ys h.1;
     }
 
 pub chain-exact : (atom : List ℕ → Option (Tree × List ℕ)) (Atom : Tree → List ℕ → List ℕ → Type 0) (pattern : List ℕ → Option (List ℕ × List ℕ)) (Pattern : List ℕ → List ℕ → List ℕ → Type 0)
@@ -178,8 +178,8 @@ chain-exact atom Atom pattern Pattern e p =
           (f.0.0, r.0.0, f.0.1, e.sound f.0.0 xs f.0.1 f.1, subst (λ z. Many op_at (IsLink Atom Pattern) r.0.0 f.0.1 z) q.1 more, sym q.0);
       complete = λ t xs ys (first, links, m, one, more, is).
           rw (e.complete first xs m one) (rw (many_complete op_at (linked atom pattern) (IsLink Atom Pattern) op-takes l (suc (length m)) links m ys (omega arith) more) (rw is refl));
-      behind = λ t xs ys (first, links, m, one, more, is).
-          behind_then xs m ys (e.behind first xs m one) (many_behind op_at (linked atom pattern) (IsLink Atom Pattern) op-takes l links m ys more);
+      after = λ t xs ys (first, links, m, one, more, is).
+          after_then xs m ys (e.after first xs m one) (many_after op_at (linked atom pattern) (IsLink Atom Pattern) op-takes l links m ys more);
     }
 
 -- subscripts
@@ -187,7 +187,7 @@ pub placed-exact : (end : ℕ) (read : List ℕ → Option (Tree × List ℕ)) (
 placed-exact end read Is e = record {
   sound = λ s xs ys h. let w = with_some _ (read xs) s ys h in (ap (λ z. z.0) w.2, subst (λ z. Is z.1 xs ys) (sym w.2) (e.sound w.0 xs ys w.1));
   complete = λ s xs ys h. rw (e.complete s.1 xs ys h.1) (rw h.0 refl);
-  behind = λ s xs ys h. e.behind s.1 xs ys h.1;
+  after = λ s xs ys h. e.after s.1 xs ys h.1;
 }
 
 pub subs-exact : (end : ℕ) (read : List ℕ → Option (Tree × List ℕ)) (Is : Tree → List ℕ → List ℕ → Type 0) → Exact read Is → Exact (subs_with end read) (IsSubs end Is)
@@ -195,7 +195,7 @@ unfolding subs_with
 subs-exact end read Is e = by-list (list-exact (placed end read) (IsPlaced end Is) (placed-exact end read Is e))
   where
     by-list : Exact (list_with (placed end read)) (IsList (IsPlaced end Is)) → Exact (subs_with end read) (IsSubs end Is)
-    by-list l = record { sound = λ ss xs ys h. go ss xs ys (byte_at 40 xs) refl h; complete = done; behind = back }
+    by-list l = record { sound = λ ss xs ys h. go ss xs ys (byte_at 40 xs) refl h; complete = done; after = back }
       where
         few-ok : (r : List (ℕ × Tree) × List ℕ) (ss : List (ℕ × Tree)) (ys : List ℕ) → at_most 32 r ≡ Some (ss, ys) → (r.0 ≡ ss) × (r.1 ≡ ys) × (length r.0 ≤ 32)
         few-ok r ss ys h = elim (cases_Bool (nat_le (length r.0) 32)) [
@@ -222,6 +222,6 @@ subs-exact end read Is e = by-list (list-exact (placed end read) (IsPlaced end I
             let small : nat_le (length (s ∷ ss)) 32 ≡ true = le-leb (length (s ∷ ss)) 32 less in
             rw is (rw (l.complete (s ∷ ss) m ys list) (rw small refl))
 
-        back : (ss : List (ℕ × Tree)) (xs ys : List ℕ) → IsSubs end Is ss xs ys → Behind ys xs
-        back [] xs ys h = subst (λ z. Behind z xs) h.0 (behind-self xs)
-        back (s ∷ ss) xs ys (m, is, list, less) = subst (λ z. Behind ys z) (sym is) (behind_then (40 ∷ m) m ys (behind-one 40 m) (l.behind (s ∷ ss) m ys list))
+        back : (ss : List (ℕ × Tree)) (xs ys : List ℕ) → IsSubs end Is ss xs ys → After ys xs
+        back [] xs ys h = subst (λ z. After z xs) h.0 (after-self xs)
+        back (s ∷ ss) xs ys (m, is, list, less) = subst (λ z. After ys z) (sym is) (after_then (40 ∷ m) m ys (after-one 40 m) (l.after (s ∷ ss) m ys list))

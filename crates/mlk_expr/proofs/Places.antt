@@ -3,13 +3,13 @@ use Rattle.std.proofs.Common.{◌≡◌, ◌≤◌, ◌+◌, ◌-◌, ℕ, suc, 
 use Rattle.std.specs.Prelude.{Option}
 use Rattle.std.proofs.Math.Seq.{drop-append_seam}
 use Rattle.std.proofs.lemmas.Bool.{cases_Bool}
-use Rattle.mlk_text.proofs.Readers.{then_some, pair_parts, Exact, one_reading, behind_length}
+use Rattle.mlk_text.proofs.Readers.{then_some, pair_parts, Exact, one_reading, after_length}
 use Rattle.mlk_text.specs.declared.failure.Failure.{Failure}
 use Rattle.mlk_expr.specs.declared.refusal.Offence.{Offence}
 use Rattle.mlk_text.specs.declared.failure.Failure.TheVariants.{OutOfMemory, Refused}
 use Rattle.mlk_text.specs.declared.fault.Fault.{Fault}
 use Rattle.mlk_expr.specs.Lexemes.{ends}
-use Rattle.mlk_expr.proofs.Behind.{IsExpr}
+use Rattle.mlk_expr.proofs.Followed.{IsExpr}
 use Rattle.mlk_expr.specs.Reading.{chain_with, atom_at, pattern_at, ended, expr_at}
 use Rattle.mlk_text.specs.Failures.{FailsOn, IsLike}
 use Rattle.mlk_expr.specs.Theorem.{Stands, Only, Refuses}
@@ -29,7 +29,7 @@ whole-exact end = record {
         | inr e ↦ cc (rw e at (r.2))
       ];
   complete = λ t xs ys h. rw ((expr-exact end 64).complete t xs ys h.0) (rw (h.1) refl);
-  behind = λ t xs ys h. (expr-exact end 64).behind t xs ys h.0;
+  after = λ t xs ys h. (expr-exact end 64).after t xs ys h.0;
 }
 
 -- what a reading that computes says of a line
@@ -40,13 +40,13 @@ module _ {A : Type 0} (read : ℕ → List ℕ → Option (A × List ℕ)) (Is :
 
   pub rest-within : (a : A) (ys : List ℕ) → read (suc (length line)) (drop at line) ≡ Some (a, ys) → length ys ≤ length line
   rest-within a ys h =
-      let f = behind_length (drop at line) ys (e.behind a (drop at line) ys (e.sound a (drop at line) ys h)) in
+      let f = after_length (drop at line) ys (e.after a (drop at line) ys (e.sound a (drop at line) ys h)) in
       let d = length-drop at line in
       omega arith
 
-  place-behind : (a : A) (ys : List ℕ) → read (suc (length line)) (drop at line) ≡ Some (a, ys) → drop (length line - length ys) line ≡ ys
-  place-behind a ys h =
-      let f = e.behind a (drop at line) ys (e.sound a (drop at line) ys h) in
+  place-after : (a : A) (ys : List ℕ) → read (suc (length line)) (drop at line) ≡ Some (a, ys) → drop (length line - length ys) line ≡ ys
+  place-after a ys h =
+      let f = e.after a (drop at line) ys (e.sound a (drop at line) ys h) in
       let whole : (take at line ++ f.0) ++ ys ≡ line = append_assoc (take at line) f.0 ys ∙ ap (λ l. take at line ++ l) f.1 ∙ take-append-drop at line in
       let size : length (take at line ++ f.0) + length ys ≡ length line = sym (length-append (take at line ++ f.0) ys) ∙ ap length whole in
       let n : length line - length ys ≡ length (take at line ++ f.0) = omega arith in
@@ -59,7 +59,7 @@ module _ {A : Type 0} (read : ℕ → List ℕ → Option (A × List ℕ)) (Is :
   pub stands : at ≤ length line → (a : A) (ys : List ℕ) → read (suc (length line)) (drop at line) ≡ Some (a, ys) → Stands Text Ends line at a (length line - length ys)
   stands less a ys h =
       let f = same.apart (suc (length line)) (suc at) a (drop at line) ys (placed less) (e.sound a (drop at line) ys h) in
-      let back = sym (place-behind a ys h) in
+      let back = sym (place-after a ys h) in
       record { text = f.0; within = omega arith; joined = f.1 ∙ ap (λ l. f.0 ++ l) back; spelled = f.2; ended = subst (λ l. Ends a l) back (f.3) }
 
   -- every text that is written there is read
@@ -70,7 +70,7 @@ module _ {A : Type 0} (read : ℕ → List ℕ → Option (A × List ℕ)) (Is :
   pub only : at ≤ length line → (a : A) (ys : List ℕ) → read (suc (length line)) (drop at line) ≡ Some (a, ys) → Only Text Ends line at a (length line - length ys)
   only less a ys h b text rest is one ended =
       let p = one_reading (read (suc (length line))) (Is (suc (length line))) e b a (drop at line) rest ys (written less b text rest is one ended) (e.sound a (drop at line) ys h) in
-      (p.0, p.1 ∙ sym (place-behind a ys h))
+      (p.0, p.1 ∙ sym (place-after a ys h))
 
   pub refuses : at ≤ length line → (r : Failure Offence) (t : Failure Fault) → FailsOn r (read (suc (length line)) (drop at line)) → IsLike r t → Refuses Text Ends line at t
   refuses less OutOfMemory OutOfMemory h g = tt

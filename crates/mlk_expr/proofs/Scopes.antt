@@ -8,7 +8,7 @@ use Rattle.mlk_text.specs.Reading.{◌>>=◌, with}
 use Rattle.mlk_text.specs.Lexemes.{is_digit, is_letter, byte_at, name_at}
 use Rattle.mlk_text.specs.declared.operator.Op.{Op}
 use Rattle.mlk_text.proofs.Lexemes.{byte-takes}
-use Rattle.mlk_text.proofs.Readers.{pair_parts, with_some, behind_length, Exact}
+use Rattle.mlk_text.proofs.Readers.{pair_parts, with_some, after_length, Exact}
 use Rattle.mlk_expr.specs.declared.lexeme.Kind.TheVariants as kind
 use Rattle.mlk_expr.specs.declared.scope.Allows.{Allows}
 use Rattle.mlk_expr.specs.declared.scope.Allows.TheVariants.{Everything, NoTouches}
@@ -23,9 +23,9 @@ use Rattle.mlk_text.specs.declared.failure.Failure.{Failure}
 use Rattle.mlk_text.specs.declared.fault.Fault.{Fault}
 use Rattle.mlk_text.specs.declared.failure.Failure.TheVariants.{OutOfMemory, Refused}
 use Rattle.mlk_expr.specs.Theorem.{Stands, Only, Refuses}
-use Rattle.mlk_expr.proofs.Behind as behind
-use Rattle.mlk_expr.proofs.Behind.{IsPattern, IsChain, IsAtom}
-use Rattle.mlk_expr.proofs.LexemeLemmas.{kind-caret, op-takes, lent-behind}
+use Rattle.mlk_expr.proofs.Followed as followed
+use Rattle.mlk_expr.proofs.Followed.{IsPattern, IsChain, IsAtom}
+use Rattle.mlk_expr.proofs.LexemeLemmas.{kind-caret, op-takes, lent-after}
 use Rattle.mlk_expr.proofs.Parts.{kept-exact, pattern-exact, right-exact, chain-exact}
 use Rattle.mlk_expr.proofs.Operands.{atom-exact}
 use Rattle.mlk_expr.proofs.Whole.{reference-exact, actual_list-exact}
@@ -174,13 +174,13 @@ actual-shorter p here a xs m ys is one =
     omega arith
   where
     go : (p : Passing) (o : Option (List ℕ × List ℕ)) → lent_at m ≡ o → actual_by p here.end (nested_in here) m o ≡ Some (a, ys) → length ys ≤ length m
-    go ByReference (Some n) l h = let q = pair_parts (ByRef (column_of here.end m) n.0) a n.1 ys h in subst (λ z. length z ≤ length m) q.1 (behind_length m n.1 (lent-behind n.0 m n.1 l))
+    go ByReference (Some n) l h = let q = pair_parts (ByRef (column_of here.end m) n.0) a n.1 ys h in subst (λ z. length z ≤ length m) q.1 (after_length m n.1 (lent-after n.0 m n.1 l))
     go ByValue (Some n) l h = cc h
     go p None l h = elim (cases_Bool (is_missing m)) [
       | inl e ↦ let q = pair_parts Missing a m ys (rw e at h) in subst (λ z. length z ≤ length m) q.1 (omega arith)
       | inr e ↦
           let w = with_some Given (nested_in here m) a ys (rw e at h) in
-          behind_length m ys ((nested_in-exact here).behind w.0 m ys ((nested_in-exact here).sound w.0 m ys w.1))
+          after_length m ys ((nested_in-exact here).after w.0 m ys ((nested_in-exact here).sound w.0 m ys w.1))
     ]
 
 -- what is read for callers, where it may stand
@@ -271,7 +271,7 @@ pub exact-as : {A : Type 0} (read other : List ℕ → Option (A × List ℕ)) (
 exact-as read other Is e h = record {
   sound = λ a xs ys is. e.sound a xs ys (h xs ∙ is);
   complete = λ a xs ys is. sym (h xs) ∙ e.complete a xs ys is;
-  behind = e.behind;
+  after = e.after;
 }
 
 -- the grammars say the same of what may stand
@@ -283,14 +283,14 @@ same-standing may Is Text Ends s = record {
 }
 
 -- what the readers for callers give, exactly
-pub expr_in-exact : (a : Allows) (end : ℕ) → Exact (expr_in (record { end = end; left = 64; allows = a })) (λ t xs ys. behind.IsExpr end t xs ys × (may_stand a t ≡ true))
-expr_in-exact a end = exact-as _ _ _ (kept-exact (may_stand a) (expr_at end) (behind.IsExpr end) (whole-exact end)) (expr_in-kept a end)
+pub expr_in-exact : (a : Allows) (end : ℕ) → Exact (expr_in (record { end = end; left = 64; allows = a })) (λ t xs ys. followed.IsExpr end t xs ys × (may_stand a t ≡ true))
+expr_in-exact a end = exact-as _ _ _ (kept-exact (may_stand a) (expr_at end) (followed.IsExpr end) (whole-exact end)) (expr_in-kept a end)
 
-pub reference_in-exact : (a : Allows) (end : ℕ) → Exact (reference_in (record { end = end; left = 63; allows = a })) (λ t xs ys. behind.IsReference end t xs ys × (subs_stand a t ≡ true))
-reference_in-exact a end = exact-as _ _ _ (kept-exact (subs_stand a) (reference_at end) (behind.IsReference end) (reference-exact end)) (reference_in-kept a end)
+pub reference_in-exact : (a : Allows) (end : ℕ) → Exact (reference_in (record { end = end; left = 63; allows = a })) (λ t xs ys. followed.IsReference end t xs ys × (subs_stand a t ≡ true))
+reference_in-exact a end = exact-as _ _ _ (kept-exact (subs_stand a) (reference_at end) (followed.IsReference end) (reference-exact end)) (reference_in-kept a end)
 
-pub actual_list_in-exact : (a : Allows) (p : Passing) (end : ℕ) → Exact (actual_list_in p (record { end = end; left = 63; allows = a })) (λ given xs ys. behind.IsActualList end given xs ys × (given_stand a p given ≡ true))
-actual_list_in-exact a p end = exact-as _ _ _ (kept-exact (given_stand a p) (actual_list_at end) (behind.IsActualList end) (actual_list-exact end)) (actual_list_in-kept a end p)
+pub actual_list_in-exact : (a : Allows) (p : Passing) (end : ℕ) → Exact (actual_list_in p (record { end = end; left = 63; allows = a })) (λ given xs ys. followed.IsActualList end given xs ys × (given_stand a p given ≡ true))
+actual_list_in-exact a p end = exact-as _ _ _ (kept-exact (given_stand a p) (actual_list_at end) (followed.IsActualList end) (actual_list-exact end)) (actual_list_in-kept a end p)
 
 -- anything may stand where everything may
 pub subs-anything : (t : Tree) → subs_stand Everything t ≡ true

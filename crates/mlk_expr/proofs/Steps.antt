@@ -4,7 +4,7 @@ use Rattle.std.specs.Prelude.{Option, nat_lt, nat_le, not, ◌==◌, ◌&&◌}
 use Rattle.std.proofs.lemmas.Bool.{cases_Bool, ne_eqb, ltb-false}
 use Rattle.mlk_text.specs.Reading.{◌>>=◌, with, put, many}
 use Rattle.mlk_text.specs.Lexemes.{byte_at, name_at}
-use Rattle.mlk_text.proofs.Readers.{pair_parts, with_some, behind_length}
+use Rattle.mlk_text.proofs.Readers.{pair_parts, with_some, after_length}
 use Rattle.mlk_expr.specs.declared.tree.Callee.{Callee}
 use Rattle.mlk_expr.specs.declared.tree.Function.{Function}
 use Rattle.mlk_expr.specs.declared.tree.Subscript.{Subscript}
@@ -67,7 +67,7 @@ pub pattern-found : (k : ℕ) (xs rest : List ℕ) → 0 < k → with any (many 
 pattern-found k xs rest some h = pattern-above k xs some ∙ all-atoms (many count_at (matcher_by (pattern_at (k - 1))) (suc (length xs)) xs) rest xs h
 
 pub pattern-shorter : (k : ℕ) (text xs rest : List ℕ) → pattern_at k xs ≡ Some (text, rest) → length rest ≤ length xs
-pattern-shorter k text xs rest h = behind_length xs rest ((pattern-exact k).behind text xs rest ((pattern-exact k).sound text xs rest h))
+pattern-shorter k text xs rest h = after_length xs rest ((pattern-exact k).after text xs rest ((pattern-exact k).sound text xs rest h))
 
 -- names with subscripts
 module _ (may : Bool) (end : ℕ) (item : List ℕ → Option (Tree × List ℕ)) (xs name m : List ℕ) where

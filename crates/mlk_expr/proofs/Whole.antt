@@ -4,11 +4,11 @@ use Rattle.std.specs.Prelude.{Option}
 use Rattle.std.proofs.lemmas.Bool.{cases_Bool}
 use Rattle.mlk_text.specs.Lexemes.{byte_at}
 use Rattle.mlk_text.proofs.Lexemes.{byte-is}
-use Rattle.mlk_text.proofs.Readers.{Behind, behind-one, behind_then, Exact}
+use Rattle.mlk_text.proofs.Readers.{After, after-one, after_then, Exact}
 use Rattle.mlk_expr.specs.declared.scope.Passing.TheVariants.{ByReference}
 use Rattle.mlk_expr.specs.Trees.{ActualTree}
 use Rattle.mlk_expr.specs.Lexemes.{starts_reference}
-use Rattle.mlk_expr.proofs.Behind.{IsPattern, IsChain, IsActuals, IsAtom, IsReference, IsActualList}
+use Rattle.mlk_expr.proofs.Followed.{IsPattern, IsChain, IsActuals, IsAtom, IsReference, IsActualList}
 use Rattle.mlk_expr.specs.Reading.{pattern_at, chain_with, actuals_with, atom_at, reference_at, after_open, actual_list_at}
 use Rattle.mlk_expr.proofs.Arguments.{actuals-exact}
 use Rattle.mlk_expr.proofs.Operands.{atom-exact, expr-exact}
@@ -21,7 +21,7 @@ reference-exact end = record {
     | inr s ↦ cc (rw s at h)
   ];
   complete = λ t xs ys h. rw (h.1) ((atom-exact end 64).complete t xs ys h.0);
-  behind = λ t xs ys h. (atom-exact end 64).behind t xs ys h.0;
+  after = λ t xs ys h. (atom-exact end 64).after t xs ys h.0;
 }
 
 pub actual_list-exact : (end : ℕ) → Exact (actual_list_at end) (IsActualList end)
@@ -32,7 +32,7 @@ actual_list-exact end = by-list (actuals-exact end (chain_with (atom_at end 63) 
     by-list l = record {
       sound = λ given xs ys h. go given xs ys (byte_at 40 xs) refl h;
       complete = λ given xs ys (m, is, list). rw is (l.complete given m ys list);
-      behind = λ given xs ys (m, is, list). subst (λ z. Behind ys z) (sym is) (behind_then (40 ∷ m) m ys (behind-one 40 m) (l.behind given m ys list));
+      after = λ given xs ys (m, is, list). subst (λ z. After ys z) (sym is) (after_then (40 ∷ m) m ys (after-one 40 m) (l.after given m ys list));
     }
       where
         go : (given : List ActualTree) (xs ys : List ℕ) (o : Option (ℕ × List ℕ)) → byte_at 40 xs ≡ o → after_open end o ≡ Some (given, ys)

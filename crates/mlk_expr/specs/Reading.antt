@@ -1,4 +1,5 @@
--- Reading expressions, as functions on lists: what the code's readers give.
+-- Reading expressions, as functions on lists: what the code's readers give. For private clauses alone: what public
+-- calls promise stands in `Grammar` and `Theorem`.
 use Rattle.std.specs.Prelude.{ℕ, zero, suc, ◌-◌, ◌==◌, ◌&&◌, nat_le, if◌then◌else◌, Bool, true, false, not, List, []}
 use Rattle.std.specs.Prelude.{◌∷◌, length, Option, Some, None, take}
 use Rattle.mlk_text.specs.Reading.{◌>>=◌, with, many}

@@ -12,7 +12,7 @@ use Rattle.mlk_machine.specs.Entries.{first_with, SameFirst, paired, texts_of, l
 abbrev pub Table : Type 0
 Table = List (List ℕ × EntryId)
 
--- a text that stands in a table keeps its entry behind which others are put
+-- a text that stands in a table keeps its entry after which others are put
 first_with-append : (t : List ℕ) (ps qs : Table) → is_some (first_with t ps) ≡ true → first_with t ps ≡ first_with t (ps ++ qs)
 first_with-append t [] qs h = cc
 first_with-append t (p ∷ ps) qs h =
@@ -70,15 +70,15 @@ first_with-both t (p ∷ ps) ys =
     (λ e. rw e (first_with-both t ps ys))
     (cases_Bool (bytes_eq t p.0))
 
-pub same-behind : (xs ys zs : Table) → SameFirst xs ys → SameFirst (xs ++ zs) (ys ++ zs)
-same-behind xs ys zs h t = first_with-both t xs zs ∙ ap (λ o. or_first o (first_with t zs)) (h t) ∙ sym (first_with-both t ys zs)
+pub same-after : (xs ys zs : Table) → SameFirst xs ys → SameFirst (xs ++ zs) (ys ++ zs)
+same-after xs ys zs h t = first_with-both t xs zs ∙ ap (λ o. or_first o (first_with t zs)) (h t) ∙ sym (first_with-both t ys zs)
 
 pub same_then : (xs ys zs : Table) → SameFirst xs ys → SameFirst ys zs → SameFirst xs zs
 same_then xs ys zs g h t = g t ∙ h t
 
--- more was put behind, and then the rest
+-- more was put after, and then the rest
 pub same-added : (old new more rest : Table) → SameFirst new (old ++ more) → SameFirst (new ++ rest) (old ++ (more ++ rest))
-same-added old new more rest h = rw (← append_assoc old more rest) (same-behind new (old ++ more) rest h)
+same-added old new more rest h = rw (← append_assoc old more rest) (same-after new (old ++ more) rest h)
 
 pub paired-append : (e : EntryId) (xs ys : List (List ℕ)) → paired e (xs ++ ys) ≡ paired e xs ++ paired e ys
 paired-append e [] ys = refl

@@ -38,9 +38,9 @@ reaches_front : (far : Extent) (v w : List ℕ) (vs ws : List (List ℕ)) → Re
 reaches_front Node v w vs ws h = cc
 reaches_front Tree v w vs ws h = begins_head v w vs ws h
 
-reaches_behind : (far : Extent) (v w : List ℕ) (vs ws : List (List ℕ)) → Reaches far (v ∷ vs) (w ∷ ws) → Reaches far vs ws
-reaches_behind Node v w vs ws h = cc
-reaches_behind Tree v w vs ws h = begins_tail v w vs ws h
+reaches_after : (far : Extent) (v w : List ℕ) (vs ws : List (List ℕ)) → Reaches far (v ∷ vs) (w ∷ ws) → Reaches far vs ws
+reaches_after Node v w vs ws h = cc
+reaches_after Tree v w vs ws h = begins_tail v w vs ws h
 
 reaches_cons : (far : Extent) (v : List ℕ) (vs ws : List (List ℕ)) → Reaches far vs ws → Reaches far (v ∷ vs) (v ∷ ws)
 reaches_cons Node v vs ws h = cc
@@ -77,7 +77,7 @@ subs_meet_not_below wide t ts ((v ∷ us), vs, ws, f, s, u, x) = absurd f
 pub subs_meet_turned : (far wide : Extent) (ss ts : List Sym) → SubsMayMeet ss far ts wide → SubsMayMeet ts wide ss far
 subs_meet_turned far wide ss ts (us, vs, ws, f, s, u, v) = (vs, us, ws, s, f, v, u)
 
--- from the front on: the first symbols meet, and what is behind them
+-- from the front on: the first symbols meet, and what is after them
 pub subs_meet_cons : (far wide : Extent) (s t : Sym) (ss ts : List Sym) → SymsMayMeet s t → SubsMayMeet ss far ts wide → SubsMayMeet (s ∷ ss) far (t ∷ ts) wide
 subs_meet_cons far wide s t ss ts (v, m, n) (us, vs, ws, f, g, u, w) =
     (v ∷ us, v ∷ vs, v ∷ ws, (m, f), (n, g), reaches_cons far v us ws u, reaches_cons wide v vs ws w)
@@ -90,17 +90,17 @@ subs_meet_front far wide s t ss ts ((x ∷ us), (y ∷ vs), (z ∷ ws), f, g, u,
     let e : y ≡ x = reaches_front wide y z vs ws w ∙ sym (reaches_front far x z us ws u) in
     let P : List ℕ → Type 0 = λ v. MayBe t v in (x, f.0, subst P e g.0)
 
-pub subs_meet_behind : (far wide : Extent) (s t : Sym) (ss ts : List Sym) → SubsMayMeet (s ∷ ss) far (t ∷ ts) wide → SubsMayMeet ss far ts wide
-subs_meet_behind far wide s t ss ts ([], vs, ws, f, g, u, w) = absurd f
-subs_meet_behind far wide s t ss ts ((x ∷ us), [], ws, f, g, u, w) = absurd g
-subs_meet_behind far wide s t ss ts ((x ∷ us), (y ∷ vs), [], f, g, u, w) = absurd (reaches_past far x us u)
-subs_meet_behind far wide s t ss ts ((x ∷ us), (y ∷ vs), (z ∷ ws), f, g, u, w) =
-    (us, vs, ws, f.1, g.1, reaches_behind far x z us ws u, reaches_behind wide y z vs ws w)
+pub subs_meet_after : (far wide : Extent) (s t : Sym) (ss ts : List Sym) → SubsMayMeet (s ∷ ss) far (t ∷ ts) wide → SubsMayMeet ss far ts wide
+subs_meet_after far wide s t ss ts ([], vs, ws, f, g, u, w) = absurd f
+subs_meet_after far wide s t ss ts ((x ∷ us), [], ws, f, g, u, w) = absurd g
+subs_meet_after far wide s t ss ts ((x ∷ us), (y ∷ vs), [], f, g, u, w) = absurd (reaches_past far x us u)
+subs_meet_after far wide s t ss ts ((x ∷ us), (y ∷ vs), (z ∷ ws), f, g, u, w) =
+    (us, vs, ws, f.1, g.1, reaches_after far x z us ws u, reaches_after wide y z vs ws w)
 
 -- the same of lists that are known by their fronts
 pub subs_meet_parts : (far wide : Extent) (s t : Sym) (xs ys ss ts : List Sym) → xs ≡ s ∷ ss → ys ≡ t ∷ ts → SymsMayMeet s t → SubsMayMeet ss far ts wide ↔ SubsMayMeet xs far ys wide
 subs_meet_parts far wide s t xs ys ss ts d e m =
-    rw (d, e) (subs_meet_cons far wide s t ss ts m, subs_meet_behind far wide s t ss ts)
+    rw (d, e) (subs_meet_cons far wide s t ss ts m, subs_meet_after far wide s t ss ts)
 
 pub overlap_from : (r s : Reference) → r.root ≡ s.root → SubsMayMeet r.subs r.extent s.subs s.extent → MayOverlap r s
 overlap_from r s e (us, vs, ws, f, g, u, w) =

@@ -13,7 +13,7 @@ pub record Names (a : Assignment) (t : LockTerm) (n : LockName) : Type 0 where
   pub root : n.root ≡ t.root
   pub subs : AllZip (λ s v. StandsFor a (sym_of s) v) t.subs n.subs
 
--- the second term is the first with some subscripts behind it
+-- the second term is the first with some subscripts after it
 pub record IsPrefix (s t : LockTerm) : Type 0 where
   pub root : s.root ≡ t.root
   pub subs : Begins s.subs t.subs

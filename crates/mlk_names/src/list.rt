@@ -4,7 +4,7 @@ ghost use Rattle.std.specs.Prelude.{◌≡◌, ◌↔◌, IsTrue};
 ghost use Rattle.std.specs.Bool.{Decides};
 ghost use Rattle.mlk_names.specs.Lists.{Begins};
 
-// Whether the second list is the first with any tail behind it.
+// Whether the second list is the first with any tail after it.
 pub(crate) fn begins<T: PartialEq>(first: &[T], second: &[T]) -> bool
     requires { (x y : T) → Decides (T.eq x y) (x ≡ y) }
     ensures { IsTrue result ↔ Begins first.now second.now }

@@ -15,7 +15,7 @@ pub struct LockTerm {
     pub subs: Subscripts<KnownSym>,
 }
 
-/// Whether the second term is the first with any subscripts behind it. It takes no memory.
+/// Whether the second term is the first with any subscripts after it. It takes no memory.
 ///
 /// Where it is, the first stands for a name at or above the second's, in each job at each moment.
 pub fn prefix(first: &LockTerm, second: &LockTerm) -> bool

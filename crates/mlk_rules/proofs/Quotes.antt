@@ -4,7 +4,7 @@ use Rattle.std.specs.Prelude.{◌==◌}
 use Rattle.std.proofs.lemmas.Bool.{cases_Bool, eqb-true}
 use Rattle.mlk_text.specs.Reading.{put}
 use Rattle.mlk_text.specs.Lexemes.{byte_at, doubled}
-use Rattle.mlk_text.proofs.Readers.{pair_parts, with_some, Behind}
+use Rattle.mlk_text.proofs.Readers.{pair_parts, with_some, After}
 use Rattle.mlk_text.proofs.Lexemes.{byte-is}
 use Rattle.mlk_rules.specs.RuleTexts.{quoted, closed}
 
@@ -59,8 +59,8 @@ quoted-complete (b ∷ v) ys h =
       | inr e ↦ rw e (rw e (rw (quoted-complete v ys h) refl))
     ]
 
-pub quoted-behind : (v xs ys : List ℕ) → quoted xs ≡ Some (v, ys) → Behind ys xs
-quoted-behind v xs ys h = let r = quoted-sound v xs ys h in (doubled v ++ 34 ∷ [], append_assoc (doubled v) (34 ∷ []) ys ∙ sym r.0)
+pub quoted-after : (v xs ys : List ℕ) → quoted xs ≡ Some (v, ys) → After ys xs
+quoted-after v xs ys h = let r = quoted-sound v xs ys h in (doubled v ++ 34 ∷ [], append_assoc (doubled v) (34 ∷ []) ys ∙ sym r.0)
 
 -- The code's loop over a text in quotes.
 pub quoted-other : (b : ℕ) (xs : List ℕ) → (b ≡ 34 → ⊥) → quoted (b ∷ xs) ≡ put (b ∷ []) (quoted xs)

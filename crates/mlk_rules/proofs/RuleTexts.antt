@@ -5,14 +5,14 @@ use Rattle.std.proofs.lemmas.Bool.{cases_Bool}
 use Rattle.std.proofs.lemmas.List.{length-drop}
 use Rattle.mlk_text.specs.Reading.{Leaves, Shortens}
 use Rattle.mlk_text.specs.Lexemes.{is_digit, byte_at, name_at}
-use Rattle.mlk_text.proofs.Lexemes.{byte-takes, name-behind}
-use Rattle.mlk_text.proofs.Readers.{pair_parts, with_some, behind_length}
+use Rattle.mlk_text.proofs.Lexemes.{byte-takes, name-after}
+use Rattle.mlk_text.proofs.Readers.{pair_parts, with_some, after_length}
 use Rattle.mlk_rules.specs.declared.read.kinds.Item.{Item}
 use Rattle.mlk_rules.specs.declared.read.kinds.Item.TheVariants.{Literal, Variable}
 use Rattle.mlk_text.specs.Canonical.{canonical_text}
 use Rattle.mlk_rules.specs.RuleNumbers.{numeral_len, valued, number_at, negative, negative_at}
 use Rattle.mlk_rules.specs.RuleTexts.{job, quoted, item_at, comma_at}
-use Rattle.mlk_rules.proofs.Quotes.{quoted-behind}
+use Rattle.mlk_rules.proofs.Quotes.{quoted-after}
 
 number-length : (v xs ys : List ℕ) → number_at xs ≡ Some (v, ys) → length ys ≤ length xs
 unfolding number_at
@@ -27,7 +27,7 @@ number-length v xs ys h = go (canonical_text (take (numeral_len xs) xs)) h
         omega arith
 
 quoted-length : (v xs ys : List ℕ) → quoted xs ≡ Some (v, ys) → length ys ≤ length xs
-quoted-length v xs ys h = behind_length xs ys (quoted-behind v xs ys h)
+quoted-length v xs ys h = after_length xs ys (quoted-after v xs ys h)
 
 item-length : (i : Item) (xs ys : List ℕ) → item_at xs ≡ Some (i, ys) → length ys ≤ length xs
 unfolding item_at
@@ -54,7 +54,7 @@ item-length i (b ∷ xs) ys h = elim (cases_Bool (b == 36)) [
             number-length w.0 (b ∷ xs) ys w.1
         | inr g ↦
             let w = with_some Variable (name_at (b ∷ xs)) i ys (rw (e, f, q, g) at h) in
-            behind_length (b ∷ xs) ys (name-behind w.0 (b ∷ xs) ys w.1)
+            after_length (b ∷ xs) ys (name-after w.0 (b ∷ xs) ys w.1)
       ]
     ]
   ]

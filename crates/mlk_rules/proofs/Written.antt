@@ -211,7 +211,7 @@ reads_exact : Exact item_at Reads
 reads_exact = record {
   sound = λ i xs ys h. h;
   complete = λ i xs ys h. h;
-  behind = λ i xs ys h. let r = item_sound i xs ys h in (r.0, sym r.2);
+  after = λ i xs ys h. let r = item_sound i xs ys h in (r.0, sym r.2);
 }
 
 comma-is : (c : ℕ) (xs ys : List ℕ) → comma_at xs ≡ Some (c, ys) → xs ≡ 44 ∷ ys

@@ -4,7 +4,7 @@ use Rattle.std.specs.Prelude.{Option, ◌&&◌, nat_le, nat_lt}
 use Rattle.std.proofs.lemmas.Option.{same_Some}
 use Rattle.std.proofs.lemmas.Bool.{cases_Bool, and_parts, and_from}
 use Rattle.mlk_text.specs.Lexemes.{digits, zeros, to_last}
-use Rattle.mlk_text.specs.Numbers.{are_digits, pointed, behind_point, IsExact, IsCanonical}
+use Rattle.mlk_text.specs.Numbers.{are_digits, pointed, after_point, IsExact, IsCanonical}
 use Rattle.mlk_text.proofs.Numerals.{numeral-to, numeral-from}
 use Rattle.mlk_text.proofs.Zeros.{significant-from, significant-to}
 use Rattle.mlk_text.proofs.CanonicalTexts.{canonical-made}
@@ -31,9 +31,9 @@ exact-to before after h =
 
 pub canonical-sound : (text value : List ℕ) → canonical_text text ≡ Some value → IsCanonical text value
 unfolding canonical_text
-canonical-sound text value h = go (behind_point (drop (digits text) text)) refl h
+canonical-sound text value h = go (after_point (drop (digits text) text)) refl h
   where
-    go : (o : Option (List ℕ)) → behind_point (drop (digits text) text) ≡ o → canonical_by (take (digits text) text) o ≡ Some value → IsCanonical text value
+    go : (o : Option (List ℕ)) → after_point (drop (digits text) text) ≡ o → canonical_by (take (digits text) text) o ≡ Some value → IsCanonical text value
     go None is h = cc h
     go (Some after) is h =
         let before : List ℕ = take (digits text) text in

@@ -17,7 +17,7 @@ number-stripped ds =
     let none = number-zeros (zeros ds) in
     sym (whole ∙ parts ∙ rw none (omega arith))
 
--- a fraction without the zeros behind it denotes the same number
+-- a fraction without the zeros after it denotes the same number
 fraction-stripped : (ds : List ℕ) → (n : ℕ) × (length ds ≡ length (take (to_last ds) ds) + n) × (number_of_digits ds ≡ number_of_digits (take (to_last ds) ds) * 10 ^ n)
 fraction-stripped ds =
     let s = last-split ds in

@@ -5,7 +5,7 @@ use Rattle.std.proofs.lemmas.Bool.{cases_Bool, eqb-true}
 use Rattle.std.proofs.lemmas.Bool.Decides.{nat_tests}
 use Rattle.mlk_text.specs.Reading.{put, separated, Separated, Leaves, Shortens}
 use Rattle.mlk_text.specs.Lexemes.{is_letter, is_text_byte, is_text, name_bytes, digits, byte_at, name_at, digits_at, is_exact, canonical, exactly, number_at, doubled, inside, closing, literal_at, IsNumber, IsQuoted, IsLiteral, IsList, IsSubs, list_at, few, subs_by, subs_at}
-use Rattle.mlk_text.proofs.Readers.{then_some, pair_parts, with_some, Behind, behind-self, behind-one, behind_then, behind_length, Exact, Takes, separated-exact}
+use Rattle.mlk_text.proofs.Readers.{then_some, pair_parts, with_some, After, after-self, after-one, after_then, after_length, Exact, Takes, separated-exact}
 
 pub byte-is : (b c : ℕ) (xs ys : List ℕ) → byte_at b xs ≡ Some (c, ys) → xs ≡ b ∷ ys
 byte-is b c [] ys h = cc h
@@ -16,9 +16,9 @@ byte-is b c (x ∷ xs) ys h = elim (cases_Bool (x == b)) [
 
 pub byte-takes : (b : ℕ) → Takes (byte_at b)
 byte-takes b c xs ys h = let e = byte-is b c xs ys h in
-    rw e (behind-one b ys, omega arith)
+    rw e (after-one b ys, omega arith)
 
--- a name stands before what is behind it, and has a byte
+-- a name stands before what is after it, and has a byte
 pub name-is : (text xs ys : List ℕ) → name_at xs ≡ Some (text, ys) → (text ++ ys ≡ xs) × (0 < length text)
 unfolding name_at
 name-is text [] ys h = cc h
@@ -29,8 +29,8 @@ name-is text (b ∷ xs) ys h = elim (cases_Bool ((is_letter b || (b == 37)) && n
       subst P p.0 (ap (λ l. b ∷ (take (name_bytes xs) xs ++ l)) (sym p.1) ∙ ap (λ l. b ∷ l) (take-append-drop (name_bytes xs) xs), omega arith)
 ]
 
-pub name-behind : (text xs ys : List ℕ) → name_at xs ≡ Some (text, ys) → Behind ys xs
-name-behind text xs ys h = (text, (name-is text xs ys h).0)
+pub name-after : (text xs ys : List ℕ) → name_at xs ≡ Some (text, ys) → After ys xs
+name-after text xs ys h = (text, (name-is text xs ys h).0)
 
 pub name-takes : Takes name_at
 name-takes text xs ys h =
@@ -38,9 +38,9 @@ name-takes text xs ys h =
     let size : length text + length ys ≡ length xs = sym (length-append text ys) ∙ ap length r.0 in
     ((text, r.0), let some = r.1 in omega arith)
 
-pub digits-behind : (text xs ys : List ℕ) → digits_at xs ≡ Some (text, ys) → Behind ys xs
+pub digits-after : (text xs ys : List ℕ) → digits_at xs ≡ Some (text, ys) → After ys xs
 unfolding digits_at
-digits-behind text xs ys h = elim (cases_Bool (digits xs == 0)) [
+digits-after text xs ys h = elim (cases_Bool (digits xs == 0)) [
   | inl e ↦ cc (rw e at h)
   | inr e ↦ let p = pair_parts (take (digits xs) xs) text (drop (digits xs) xs) ys (rw e at h) in
       (take (digits xs) xs, ap (λ l. take (digits xs) xs ++ l) (sym p.1) ∙ take-append-drop (digits xs) xs)
@@ -61,7 +61,7 @@ number-exact = record {
       let e = exactly-some d.0 value ys d.2 in
       (d.0.0, d.1 ∙ ap (λ l. Some (d.0.0, l)) e.2, e.0, e.1);
   complete = λ value xs ys (ds, is, exact, same). rw is (rw exact (rw same refl));
-  behind = λ value xs ys (ds, is, exact, same). digits-behind ds xs ys is;
+  after = λ value xs ys (ds, is, exact, same). digits-after ds xs ys is;
 }
 
 -- one more byte of a text
@@ -124,15 +124,15 @@ quote-complete (b ∷ v) ys good h =
           ]
     ]
 
--- the same behind the opening quote: its text, and what is behind it
+-- the same after the opening quote: its text, and what is after it
 pub quoted-sound : (value xs ys : List ℕ) → inside xs ≡ Some (value, ys) → IsQuoted value (34 ∷ xs) ys
 quoted-sound value xs ys h = let r = (quote-sound xs).0 value ys h in (ap (λ l. 34 ∷ l) r.0, r.1, r.2)
 
 pub quoted-complete : (value xs ys : List ℕ) → IsQuoted value xs ys → (m : List ℕ) × (xs ≡ 34 ∷ m) × (inside m ≡ Some (value, ys))
 quoted-complete value xs ys (is, good, none) = (doubled value ++ 34 ∷ ys, is, quote-complete value ys good none)
 
-pub quoted-behind : (value xs ys : List ℕ) → IsQuoted value xs ys → Behind ys xs
-quoted-behind value xs ys (is, good, none) = ((34 ∷ doubled value) ++ 34 ∷ [], append_assoc (34 ∷ doubled value) (34 ∷ []) ys ∙ sym is)
+pub quoted-after : (value xs ys : List ℕ) → IsQuoted value xs ys → After ys xs
+quoted-after value xs ys (is, good, none) = ((34 ∷ doubled value) ++ 34 ∷ [], append_assoc (34 ∷ doubled value) (34 ∷ []) ys ∙ sym is)
 
 -- no number begins with a quote
 number-first : (value xs ys : List ℕ) → IsNumber value (34 ∷ xs) ys → ⊥
@@ -145,7 +145,7 @@ number-empty value ys (ds, is, exact, same) = cc is
 
 pub literal-exact : Exact literal_at IsLiteral
 unfolding literal_at IsLiteral
-literal-exact = record { sound = go; complete = done; behind = back }
+literal-exact = record { sound = go; complete = done; after = back }
   where
     go : (value xs ys : List ℕ) → literal_at xs ≡ Some (value, ys) → IsNumber value xs ys ⊎ IsQuoted value xs ys
     go value [] ys h = cc h
@@ -168,8 +168,8 @@ literal-exact = record { sound = go; complete = done; behind = back }
     done value xs ys (inl h) = number value xs ys h
     done value xs ys (inr (is, good, none)) = rw is (quote-complete value ys good none)
 
-    back : (value xs ys : List ℕ) → IsNumber value xs ys ⊎ IsQuoted value xs ys → Behind ys xs
-    back value xs ys (inl h) = number-exact.behind value xs ys h
+    back : (value xs ys : List ℕ) → IsNumber value xs ys ⊎ IsQuoted value xs ys → After ys xs
+    back value xs ys (inl h) = number-exact.after value xs ys h
     back value xs ys (inr (is, good, none)) = (34 ∷ (doubled value ++ 34 ∷ []), ap (λ l. 34 ∷ l) (append_assoc (doubled value) (34 ∷ []) ys) ∙ sym is)
 
 pub list-exact : Exact list_at IsList
@@ -181,7 +181,7 @@ list-exact = record {
       let one = literals.sound r.0.0 xs r.0.1 r.1 in
       subst (λ l. IsList l xs ys) (sym c.2) (subst (λ l. Separated (byte_at 44) IsLiteral r.0.0 xs l) (byte-is 41 c.0 r.0.1 ys c.1) one);
   complete = λ values xs ys h. rw (literals.complete values xs (41 ∷ ys) h) refl;
-  behind = λ values xs ys h. behind_then xs (41 ∷ ys) ys (literals.behind values xs (41 ∷ ys) h) (behind-one 41 ys);
+  after = λ values xs ys h. after_then xs (41 ∷ ys) ys (literals.after values xs (41 ∷ ys) h) (after-one 41 ys);
 }
   where
     literals : Exact (separated (byte_at 44) literal_at) (Separated (byte_at 44) IsLiteral)
@@ -189,14 +189,14 @@ list-exact = record {
 
 -- what the code's loop rests on
 pub literal-leaves : Leaves literal_at
-literal-leaves value xs ys h = behind_length xs ys (literal-exact.behind value xs ys (literal-exact.sound value xs ys h))
+literal-leaves value xs ys h = after_length xs ys (literal-exact.after value xs ys (literal-exact.sound value xs ys h))
 
 pub comma-shortens : (b : ℕ) → Shortens (byte_at b)
 comma-shortens b c xs ys h = (byte-takes b c xs ys h).1
 
 pub subs-exact : Exact subs_at IsSubs
 unfolding subs_at
-subs-exact = record { sound = λ values xs ys h. go values xs ys (byte_at 40 xs) refl h; complete = done; behind = back }
+subs-exact = record { sound = λ values xs ys h. go values xs ys (byte_at 40 xs) refl h; complete = done; after = back }
   where
     few-ok : (r : List (List ℕ) × List ℕ) (values : List (List ℕ)) (ys : List ℕ) → few r ≡ Some (values, ys) → (r.0 ≡ values) × (r.1 ≡ ys) × (length r.0 ≤ 32)
     few-ok r values ys h = elim (cases_Bool (nat_le (length r.0) 32)) [
@@ -222,9 +222,9 @@ subs-exact = record { sound = λ values xs ys h. go values xs ys (byte_at 40 xs)
         let small : nat_le (length (v ∷ vs)) 32 ≡ true = grind (arith, nat_tests) in
         rw is (rw (list-exact.complete (v ∷ vs) m ys list) (rw small refl))
 
-    back : (values : List (List ℕ)) (xs ys : List ℕ) → IsSubs values xs ys → Behind ys xs
-    back [] xs ys h = subst (λ l. Behind l xs) h.0 (behind-self xs)
-    back (v ∷ vs) xs ys (m, is, list, less) = rw is (behind_then (40 ∷ m) m ys (behind-one 40 m) (list-exact.behind (v ∷ vs) m ys list))
+    back : (values : List (List ℕ)) (xs ys : List ℕ) → IsSubs values xs ys → After ys xs
+    back [] xs ys h = subst (λ l. After l xs) h.0 (after-self xs)
+    back (v ∷ vs) xs ys (m, is, list, less) = rw is (after_then (40 ∷ m) m ys (after-one 40 m) (list-exact.after (v ∷ vs) m ys list))
 
 -- The code's loop over a quoted text.
 pub inside-other : (b : ℕ) (xs : List ℕ) → (b ≡ 34 → ⊥) → is_text_byte b ≡ true → inside (b ∷ xs) ≡ put (b ∷ []) (inside xs)

@@ -9,7 +9,7 @@ use Rattle.mlk_text.specs.Lexemes.{zeros, to_last, is_exact, canonical, canonica
 use Rattle.mlk_text.specs.Numbers.{are_digits, number_of_digits, pointed, HasSignificant, IsNumeral, IsExact, IsEqual, IsLowest, IsTextOf, IsCanonical}
 use Rattle.mlk_text.specs.NumberLaws.{OneText, OneCanonical, OneWhole, OneReading, BothRead}
 use Rattle.mlk_text.proofs.Numerals.{digits-parts, digit-bounds, number-append, number-below, one_numeral}
-use Rattle.mlk_text.proofs.Zeros.{zeros-split, zeros-behind, zeros-some, last_append, last-behind, last-split, zeros-first, last_within, significant-from, significant-to, tens}
+use Rattle.mlk_text.proofs.Zeros.{zeros-split, zeros-after, zeros-some, last_append, last-after, last-split, zeros-first, last_within, significant-from, significant-to, tens}
 use Rattle.mlk_text.proofs.CanonicalTexts.{canonical-made, kept-whole, kept-fraction, kept-lowest}
 use Rattle.mlk_text.proofs.Folds as folds
 
@@ -130,8 +130,8 @@ significant-inner : (a n : ℕ) (ds : List ℕ) → HasSignificant 15 (replicate
 significant-inner a n ds h =
     let all : List ℕ = ds ++ replicate n 48 in
     let few = significant-to 15 (replicate a 48 ++ all) h in
-    let front = zeros-behind a all in
-    let back : to_last all ≡ to_last ds = last-behind ds n in
+    let front = zeros-after a all in
+    let back : to_last all ≡ to_last ds = last-after ds n in
     let size : length (replicate {A = ℕ} a 48) ≡ a = length-replicate a 48 in
     significant-from 15 ds (elim (cases_Bool (to_last all == 0)) [
       | inl e ↦ let none = eqb-true (to_last all) 0 e in omega arith

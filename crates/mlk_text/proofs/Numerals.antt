@@ -5,7 +5,7 @@ use Rattle.std.proofs.lemmas.Bool.{cases_Bool, eqb-true, and_parts, and_from, le
 use Rattle.std.proofs.lemmas.Option.{same_Some, none-some}
 use Rattle.std.proofs.lemmas.Str.Parse.{IsNumeralModel, IsDigitsTest, numerals_by_weight}
 use Rattle.mlk_text.specs.Lexemes.{is_digit, digits}
-use Rattle.mlk_text.specs.Numbers.{are_digits, number_of_digits, behind_point, IsNumeral}
+use Rattle.mlk_text.specs.Numbers.{are_digits, number_of_digits, after_point, IsNumeral}
 
 pub digit-bounds : (d : ℕ) → is_digit d ≡ true → (48 ≤ d) × (d ≤ 57)
 digit-bounds d h = let p = and_parts (nat_le 48 d) (nat_le d 57) h in (leb-true 48 d p.0, leb-true d 57 p.1)
@@ -74,18 +74,18 @@ digits-front (d ∷ ds) ys h none =
     rw (p.0, one-add) (ap (λ l. d ∷ l) r.0, r.1)
 
 -- the parts of a literal are found at its point
-pub numeral-to : (before after text : List ℕ) → IsNumeral before after text → (take (digits text) text ≡ before) × (behind_point (drop (digits text) text) ≡ Some after)
+pub numeral-to : (before after text : List ℕ) → IsNumeral before after text → (take (digits text) text ≡ before) × (after_point (drop (digits text) text) ≡ Some after)
 numeral-to before after text h = elim h.spelled [
   | inl e ↦
       let r = digits-front before [] h.whole_part refl in
       let is : before ++ [] ≡ text = append-nil before ∙ sym e.0 in
-      subst (λ l. (take (digits l) l ≡ before) × (behind_point (drop (digits l) l) ≡ Some after)) is (r.0, ap behind_point r.1 ∙ ap Some (sym e.1))
+      subst (λ l. (take (digits l) l ≡ before) × (after_point (drop (digits l) l) ≡ Some after)) is (r.0, ap after_point r.1 ∙ ap Some (sym e.1))
   | inr e ↦
       let r = digits-front before (46 ∷ after) h.whole_part refl in
-      subst (λ l. (take (digits l) l ≡ before) × (behind_point (drop (digits l) l) ≡ Some after)) (sym e) (r.0, ap behind_point r.1)
+      subst (λ l. (take (digits l) l ≡ before) × (after_point (drop (digits l) l) ≡ Some after)) (sym e) (r.0, ap after_point r.1)
 ]
 
-pub numeral-from : (after text : List ℕ) → behind_point (drop (digits text) text) ≡ Some after → are_digits after ≡ true → 0 < length (take (digits text) text) + length after
+pub numeral-from : (after text : List ℕ) → after_point (drop (digits text) text) ≡ Some after → are_digits after ≡ true → 0 < length (take (digits text) text) + length after
     → IsNumeral (take (digits text) text) after text
 numeral-from after text is digits-after some = record {
   whole_part = digits-take text;
@@ -94,7 +94,7 @@ numeral-from after text is digits-after some = record {
   spelled = go (drop (digits text) text) (take-append-drop (digits text) text) is;
 }
   where
-    go : (rest : List ℕ) → take (digits text) text ++ rest ≡ text → behind_point rest ≡ Some after
+    go : (rest : List ℕ) → take (digits text) text ++ rest ≡ text → after_point rest ≡ Some after
         → ((text ≡ take (digits text) text) × (after ≡ [])) ⊎ (text ≡ take (digits text) text ++ 46 ∷ after)
     go [] whole none = inl (sym whole ∙ append-nil (take (digits text) text), sym (same_Some [] after none))
     go (b ∷ rest) whole point = elim (cases_Bool (b == 46)) [
@@ -102,16 +102,16 @@ numeral-from after text is digits-after some = record {
       | inr e ↦ cc (rw e at point)
     ]
 
--- where no point stands behind the digits, no fraction behind the point, or no digit at all, there is no literal
-pub no_point : (before after text : List ℕ) → behind_point (drop (digits text) text) ≡ None → IsNumeral before after text → ⊥
+-- where no point stands after the digits, no fraction after the point, or no digit at all, there is no literal
+pub no_point : (before after text : List ℕ) → after_point (drop (digits text) text) ≡ None → IsNumeral before after text → ⊥
 no_point before after text none h = none-some after (sym none ∙ (numeral-to before after text h).1)
 
-pub no_fraction : (found before after text : List ℕ) → behind_point (drop (digits text) text) ≡ Some found → are_digits found ≡ false → IsNumeral before after text → ⊥
+pub no_fraction : (found before after text : List ℕ) → after_point (drop (digits text) text) ≡ Some found → are_digits found ≡ false → IsNumeral before after text → ⊥
 no_fraction found before after text is other h =
     let same = same_Some found after (sym is ∙ (numeral-to before after text h).1) in
     both_ways (are_digits found) other (ap are_digits same ∙ h.fraction)
 
-pub no_digit : (found before after text : List ℕ) → behind_point (drop (digits text) text) ≡ Some found
+pub no_digit : (found before after text : List ℕ) → after_point (drop (digits text) text) ≡ Some found
     → nat_lt 0 (length (take (digits text) text) + length found) ≡ false → IsNumeral before after text → ⊥
 no_digit found before after text is none h =
     let r = numeral-to before after text h in

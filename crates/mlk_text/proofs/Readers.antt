@@ -21,26 +21,26 @@ put_put front more None = refl
 put_put front more (Some r) = ap (λ l. Some (l, r.1)) (sym (append_assoc front more r.0))
 
 -- the first list stands at the end of the second
-abbrev pub Behind : List ℕ → List ℕ → Type 0
-Behind ys xs = (front : List ℕ) × (front ++ ys ≡ xs)
+abbrev pub After : List ℕ → List ℕ → Type 0
+After ys xs = (front : List ℕ) × (front ++ ys ≡ xs)
 
-pub behind-self : (xs : List ℕ) → Behind xs xs
-behind-self xs = ([], refl)
+pub after-self : (xs : List ℕ) → After xs xs
+after-self xs = ([], refl)
 
-pub behind-one : (b : ℕ) (xs : List ℕ) → Behind xs (b ∷ xs)
-behind-one b xs = (b ∷ [], refl)
+pub after-one : (b : ℕ) (xs : List ℕ) → After xs (b ∷ xs)
+after-one b xs = (b ∷ [], refl)
 
-pub behind_then : (xs ys zs : List ℕ) → Behind ys xs → Behind zs ys → Behind zs xs
-behind_then xs ys zs f g = (f.0 ++ g.0, append_assoc f.0 g.0 zs ∙ ap (λ l. f.0 ++ l) g.1 ∙ f.1)
+pub after_then : (xs ys zs : List ℕ) → After ys xs → After zs ys → After zs xs
+after_then xs ys zs f g = (f.0 ++ g.0, append_assoc f.0 g.0 zs ∙ ap (λ l. f.0 ++ l) g.1 ∙ f.1)
 
-pub behind_length : (xs ys : List ℕ) → Behind ys xs → length ys ≤ length xs
-behind_length xs ys f = let e : length f.0 + length ys ≡ length xs = sym (length-append f.0 ys) ∙ ap length f.1 in omega arith
+pub after_length : (xs ys : List ℕ) → After ys xs → length ys ≤ length xs
+after_length xs ys f = let e : length f.0 + length ys ≡ length xs = sym (length-append f.0 ys) ∙ ap length f.1 in omega arith
 
 -- A reader reads what is spelled, all of it, and no more than is there.
 pub record Exact {A : Type 0} (read : List ℕ → Option (A × List ℕ)) (Is : A → List ℕ → List ℕ → Type 0) : Type 0 where
   pub sound : (a : A) (xs ys : List ℕ) → read xs ≡ Some (a, ys) → Is a xs ys
   pub complete : (a : A) (xs ys : List ℕ) → Is a xs ys → read xs ≡ Some (a, ys)
-  pub behind : (a : A) (xs ys : List ℕ) → Is a xs ys → Behind ys xs
+  pub after : (a : A) (xs ys : List ℕ) → Is a xs ys → After ys xs
 
 -- at most one reading: a text at a place has at most one tree and end
 pub one_reading : {A : Type 0} (read : List ℕ → Option (A × List ℕ)) (Is : A → List ℕ → List ℕ → Type 0) → Exact read Is
@@ -49,7 +49,7 @@ one_reading read Is e a b xs ys zs f g = pair_parts a b ys zs (sym (e.complete a
 
 -- A head is never empty.
 abbrev pub Takes : {B : Type 0} → (List ℕ → Option (B × List ℕ)) → Type 0
-Takes {B = B} head = (b : B) (xs ys : List ℕ) → head xs ≡ Some (b, ys) → Behind ys xs × (length ys < length xs)
+Takes {B = B} head = (b : B) (xs ys : List ℕ) → head xs ≡ Some (b, ys) → After ys xs × (length ys < length xs)
 
 pub many_sound : {A B : Type 0} (head : List ℕ → Option (B × List ℕ)) (item : B → List ℕ → Option (A × List ℕ)) (Item : B → A → List ℕ → List ℕ → Type 0)
     → ((b : B) → Exact (item b) (Item b)) → (n : ℕ) (items : List A) (xs ys : List ℕ) → many head item n xs ≡ Some (items, ys) → Many head Item items xs ys
@@ -68,11 +68,11 @@ many_sound {A = A} {B = B} head item Item e (suc n) items xs ys h = go (many_sou
         let P : List A → Type 0 = λ l. Many head Item l xs ys in
         subst P (sym r.2) (b.0, b.1, a.0.1, is, (e b.0).sound a.0.0 b.1 a.0.1 a.1, more r.0 a.0.1 ys r.1)
 
-pub many_behind : {A B : Type 0} (head : List ℕ → Option (B × List ℕ)) (item : B → List ℕ → Option (A × List ℕ)) (Item : B → A → List ℕ → List ℕ → Type 0)
-    → Takes head → ((b : B) → Exact (item b) (Item b)) → (items : List A) (xs ys : List ℕ) → Many head Item items xs ys → Behind ys xs
-many_behind head item Item t e [] xs ys h = subst (λ l. Behind l xs) h.0 (behind-self xs)
-many_behind head item Item t e (a ∷ items) xs ys (b, m, n, is, one, rest) =
-    behind_then xs m ys (t b xs m is).0 (behind_then m n ys ((e b).behind a m n one) (many_behind head item Item t e items n ys rest))
+pub many_after : {A B : Type 0} (head : List ℕ → Option (B × List ℕ)) (item : B → List ℕ → Option (A × List ℕ)) (Item : B → A → List ℕ → List ℕ → Type 0)
+    → Takes head → ((b : B) → Exact (item b) (Item b)) → (items : List A) (xs ys : List ℕ) → Many head Item items xs ys → After ys xs
+many_after head item Item t e [] xs ys h = subst (λ l. After l xs) h.0 (after-self xs)
+many_after head item Item t e (a ∷ items) xs ys (b, m, n, is, one, rest) =
+    after_then xs m ys (t b xs m is).0 (after_then m n ys ((e b).after a m n one) (many_after head item Item t e items n ys rest))
 
 pub many_complete : {A B : Type 0} (head : List ℕ → Option (B × List ℕ)) (item : B → List ℕ → Option (A × List ℕ)) (Item : B → A → List ℕ → List ℕ → Type 0)
     → Takes head → ((b : B) → Exact (item b) (Item b)) → (n : ℕ) (items : List A) (xs ys : List ℕ) → length xs < n → Many head Item items xs ys → many head item n xs ≡ Some (items, ys)
@@ -81,7 +81,7 @@ many_complete head item Item t e zero items xs ys less h = absurd (omega arith)
 many_complete head item Item t e (suc n) [] xs ys less h = rw h.1 (ap (λ l. Some ([], l)) h.0)
 many_complete head item Item t e (suc n) (a ∷ items) xs ys less (b, m, p, is, one, rest) =
     let first = (e b).complete a m p one in
-    let near = behind_length m p ((e b).behind a m p one) in
+    let near = after_length m p ((e b).after a m p one) in
     let far = (t b xs m is).1 in
     let others = many_complete head item Item t e n items p ys (omega arith) rest in
     rw is (rw first (rw others refl))
@@ -96,8 +96,8 @@ separated-exact {A = A} next item Item t e = record {
       (f.0.0, r.0, f.0.1, e.sound f.0.0 xs f.0.1 f.1, many_sound next (λ _. item) (λ _. Item) (λ _. e) (suc (length f.0.1)) r.0 f.0.1 ys r.1, r.2);
   complete = λ items xs ys (first, others, m, one, more, is).
       rw (e.complete first xs m one) (rw (many_complete next (λ _. item) (λ _. Item) t (λ _. e) (suc (length m)) others m ys (omega arith) more) (rw is refl));
-  behind = λ items xs ys (first, others, m, one, more, is).
-      behind_then xs m ys (e.behind first xs m one) (many_behind next (λ _. item) (λ _. Item) t (λ _. e) others m ys more);
+  after = λ items xs ys (first, others, m, one, more, is).
+      after_then xs m ys (e.after first xs m one) (many_after next (λ _. item) (λ _. Item) t (λ _. e) others m ys more);
 }
 
 -- Steps of a loop that keeps `put` of its items before what is left: no head stands there,
@@ -117,14 +117,14 @@ many_goes head item front (suc n) xs whole b m a rest is one shorter less h =
     let step : many_by item (many head item n) xs (head xs) ≡ put (a ∷ []) (many head item n rest) = rw is (rw one refl) in
     (n, omega arith, sym (put_put front (a ∷ []) (many head item n rest)) ∙ ap (put front) (sym step) ∙ h)
 
--- or none stands behind the head
+-- or none stands after the head
 pub many_fails : {A B : Type 0} (head : List ℕ → Option (B × List ℕ)) (item : B → List ℕ → Option (A × List ℕ)) (front : List A) (n : ℕ) (xs : List ℕ) (whole : Option (List A × List ℕ))
     (b : B) (m : List ℕ) → head xs ≡ Some (b, m) → item b m ≡ None → length xs < n → put front (many head item n xs) ≡ whole → whole ≡ None
 unfolding many
 many_fails head item front zero xs whole b m is one less h = absurd (omega arith)
 many_fails head item front (suc n) xs whole b m is one less h = sym h ∙ rw is (rw one refl)
 
--- Items at the front, whatever stands behind them: one more,
+-- Items at the front, whatever stands after them: one more,
 pub begins_more : {A B : Type 0} (head : List ℕ → Option (B × List ℕ)) (Item : B → A → List ℕ → List ℕ → Type 0) (items : List A) (a : A) (b : B) (xs m n p : List ℕ)
     → Begins head Item items xs m → head m ≡ Some (b, n) → Item b a n p → Begins head Item (items ++ a ∷ []) xs p
 begins_more head Item [] a b xs m n p f is one = (b, n, p, ap head f ∙ is, one, refl)
@@ -160,7 +160,7 @@ begins_many head item Item e (a ∷ items) (c ∷ all) xs ys zs (b, m, n, is, on
     let r = begins_many head item Item e items all n ys zs rest (subst (λ l. Many head Item all l zs) (sym same.1) others) in
     (r.0, ap (λ z. z ∷ all) (sym same.0) ∙ ap (λ l. a ∷ l) r.1, r.2)
 
--- a place where a head stands and no item behind it
+-- a place where a head stands and no item after it
 abbrev pub Stuck : {A B : Type 0} → (List ℕ → Option (B × List ℕ)) → (B → List ℕ → Option (A × List ℕ)) → List ℕ → Type 0
 Stuck {B = B} head item xs = (b : B) × (m : List ℕ) × (head xs ≡ Some (b, m)) × (item b m ≡ None)
 

@@ -48,7 +48,7 @@ decimal-plain n h = record {
 pub digit_within : (ds : List ℕ) (i : ℕ) → are_digits ds ≡ true → i < length ds → (48 ≤ get_or ds i 0) × (get_or ds i 0 ≤ 57)
 digit_within ds i h l = digit_at ds i (own.to ds h) l
 
--- where no digits of a number stand behind a sign, but those of 0, there is no text of a whole number
+-- where no digits of a number stand after a sign, but those of 0, there is no text of a whole number
 pub not_negative : (text digits : List ℕ) → ((n : ℕ) → n < 10 ^ 15 → digits ≡ decimal n → 0 < n → ⊥) → (byte_at 45 text ≡ Some (45, digits)) → (z : ℤ) → IsWhole z text → ⊥
 not_negative text digits none signed (negsuc n) h =
     let same = same_Some (45, digits) (45, decimal (suc n)) (sym signed ∙ ap (byte_at 45) h.1) in

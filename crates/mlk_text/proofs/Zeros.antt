@@ -1,4 +1,4 @@
--- The zeros before and behind digits.
+-- The zeros before and after digits.
 use Rattle.std.proofs.Common.{◌≡◌, ◌≢◌, ◌<◌, ◌≤◌, ◌+◌, ◌-◌, ◌*◌, ◌%◌, ◌^◌, ℕ, zero, suc, ◌++◌, List, [], ◌∷◌, length, take, drop, get_or, replicate, true, refl, sym, ap, ◌∙◌, arith, subst, append_assoc, length-append, length-take-le, one-add, pow-suc, inl, inr}
 use Rattle.std.specs.Prelude.{◌==◌, ◌&&◌, if◌then◌else◌}
 use Rattle.std.proofs.lemmas.Bool.{cases_Bool, eqb-true, eqb-false, and_right, and_parts, ne_eqb}
@@ -7,7 +7,7 @@ use Rattle.mlk_text.specs.Lexemes.{zeros, to_last}
 use Rattle.mlk_text.specs.Numbers.{are_digits, number_of_digits, HasSignificant}
 use Rattle.mlk_text.proofs.Numerals.{digit-bounds, digits-parts}
 
--- digits are their leading zeros and what is behind these
+-- digits are their leading zeros and what is after these
 pub zeros-split : (ds : List ℕ) → ds ≡ replicate (zeros ds) 48 ++ drop (zeros ds) ds
 zeros-split [] = refl
 zeros-split (d ∷ ds) = elim (cases_Bool (d == 48)) [
@@ -29,9 +29,9 @@ zeros-first (d ∷ ds) = elim (cases_Bool (d == 48)) [
   | inr e ↦ rw e (eqb-false d 48 e)
 ]
 
-pub zeros-behind : (n : ℕ) (ds : List ℕ) → zeros (replicate n 48 ++ ds) ≡ n + zeros ds
-zeros-behind zero ds = omega arith
-zeros-behind (suc n) ds = rw (zeros-behind n ds) (omega arith)
+pub zeros-after : (n : ℕ) (ds : List ℕ) → zeros (replicate n 48 ++ ds) ≡ n + zeros ds
+zeros-after zero ds = omega arith
+zeros-after (suc n) ds = rw (zeros-after n ds) (omega arith)
 
 -- of two lists together: where the first are zeros alone, and where they are not
 pub zeros-all : (xs ys : List ℕ) → zeros xs ≡ length xs → zeros (xs ++ ys) ≡ zeros xs + zeros ys
@@ -93,8 +93,8 @@ pub last-zeros : (n : ℕ) → to_last (replicate n 48) ≡ 0
 last-zeros zero = refl
 last-zeros (suc n) = rw (last-zeros n) refl
 
-pub last-behind : (xs : List ℕ) (n : ℕ) → to_last (xs ++ replicate n 48) ≡ to_last xs
-last-behind xs n = last_append xs (replicate n 48) ∙ rw (last-zeros n) refl
+pub last-after : (xs : List ℕ) (n : ℕ) → to_last (xs ++ replicate n 48) ≡ to_last xs
+last-after xs n = last_append xs (replicate n 48) ∙ rw (last-zeros n) refl
 
 -- what stands before more digits is a multiple of ten
 pub tens : (a v k : ℕ) → 0 < k → (a * 10 ^ k + v) % 10 ≡ v % 10
@@ -139,9 +139,9 @@ significant-from most ds h =
 
 pub significant-to : (most : ℕ) (ds : List ℕ) → HasSignificant most ds → to_last ds ≤ zeros ds + most
 significant-to most ds (a, n, middle, is, few) =
-    let front : zeros ds ≡ a + zeros (middle ++ replicate n 48) = ap zeros is ∙ zeros-behind a (middle ++ replicate n 48) in
+    let front : zeros ds ≡ a + zeros (middle ++ replicate n 48) = ap zeros is ∙ zeros-after a (middle ++ replicate n 48) in
     let back : to_last ds ≡ to_last (replicate a 48 ++ middle) =
-    ap to_last (is ∙ sym (append_assoc (replicate a 48) middle (replicate n 48))) ∙ last-behind (replicate a 48 ++ middle) n in
+    ap to_last (is ∙ sym (append_assoc (replicate a 48) middle (replicate n 48))) ∙ last-after (replicate a 48 ++ middle) n in
     let size : length (replicate a 48 ++ middle) ≡ a + length middle = length-append (replicate a 48) middle ∙ ap (λ k. k + length middle) (length-replicate a 48) in
     let within = last_within (replicate a 48 ++ middle) in
     omega arith

@@ -2,7 +2,7 @@
 -- `IsCanonical` is a law (`GivesCanonical`).
 use Rattle.std.specs.Prelude.{ℕ, ◌+◌, ◌&&◌, nat_le, nat_lt, if◌then◌else◌, Bool, List, ◌++◌, length, Option, Some, None, take, drop}
 use Rattle.mlk_text.specs.Lexemes.{digits, zeros, to_last}
-use Rattle.mlk_text.specs.Numbers.{are_digits, pointed, behind_point}
+use Rattle.mlk_text.specs.Numbers.{are_digits, pointed, after_point}
 
 -- exact digits before and after a point, as a test
 abbrev pub are_exact : List ℕ → List ℕ → Bool
@@ -16,4 +16,4 @@ canonical_by before (Some after) =
 
 -- none where the text is no exact literal
 unfoldable pub canonical_text : List ℕ → Option (List ℕ)
-canonical_text literal = canonical_by (take (digits literal) literal) (behind_point (drop (digits literal) literal))
+canonical_text literal = canonical_by (take (digits literal) literal) (after_point (drop (digits literal) literal))

@@ -28,7 +28,7 @@ digits = prefix_len is_digit
 abbrev pub letters : List ℕ → ℕ
 letters = prefix_len is_letter
 
--- the list behind this byte
+-- the list after this byte
 abbrev pub byte_at : ℕ → List ℕ → Option (ℕ × List ℕ)
 byte_at b [] = None
 byte_at b (x ∷ xs) = if x == b then Some (x, xs) else None
@@ -114,14 +114,14 @@ abbrev pub doubled : List ℕ → List ℕ
 doubled [] = []
 doubled (b ∷ bs) = twice b ++ doubled bs
 
--- reading it: the value before the closing quote, and what is behind that
+-- reading it: the value before the closing quote, and what is after that
 unfoldable mutual
-  -- behind the opening quote
+  -- after the opening quote
   pub inside : List ℕ → Option (List ℕ × List ℕ)
   inside [] = None
   inside (b ∷ xs) = if b == 34 then closing xs else (if is_text_byte b then put (b ∷ []) (inside xs) else None)
 
-  -- behind a quote: it closes the text, or a second one follows
+  -- after a quote: it closes the text, or a second one follows
   pub closing : List ℕ → Option (List ℕ × List ℕ)
   closing [] = Some ([], [])
   closing (b ∷ xs) = if b == 34 then put (34 ∷ []) (inside xs) else Some ([], b ∷ xs)
@@ -160,7 +160,7 @@ list_at xs = separated (byte_at 44) literal_at xs >>= λ values. with (λ _. val
 abbrev pub few : List (List ℕ) × List ℕ → Option (List (List ℕ) × List ℕ)
 few r = if nat_le (length r.0) 32 then Some r else None
 
--- none, or a list behind the parenthesis
+-- none, or a list after the parenthesis
 abbrev pub subs_by : List ℕ → Option (ℕ × List ℕ) → Option (List (List ℕ) × List ℕ)
 subs_by xs None = Some ([], xs)
 subs_by xs (Some b) = list_at b.1 >>= few

@@ -70,7 +70,7 @@ pub record IsCanonical (literal text : List ℕ) : Type 0 where
   pub equal : IsEqual numerator places (number_of_digits (before ++ after)) (length after)
   pub spelled : IsTextOf numerator places text
 
--- what stands behind the digits at the front: nothing, or a point and the fraction
-abbrev pub behind_point : List ℕ → Option (List ℕ)
-behind_point [] = Some []
-behind_point (b ∷ bs) = if b == 46 then Some bs else None
+-- what stands after the digits at the front: nothing, or a point and the fraction
+abbrev pub after_point : List ℕ → Option (List ℕ)
+after_point [] = Some []
+after_point (b ∷ bs) = if b == 46 then Some bs else None

@@ -192,7 +192,7 @@ impl Code {
         }
     }
 
-    /// The name that is printed behind the number.
+    /// The name that is printed after the number.
     pub fn word(self) -> &'static [u8]
         ensures { result.now ≡ word_of self }
     {

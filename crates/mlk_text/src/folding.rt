@@ -7,6 +7,7 @@ ghost use Rattle.mlk_text.specs.Outcome.{Finds};
 ghost use Rattle.mlk_text.specs.Folding.{IsPlain, IsWhole, IsFold, IsUnaryFold, is_short, folded};
 
 use crate::lexeme::byte_of;
+use crate::limit::{LONGEST_JOIN, MOST_SIGNIFICANT};
 use crate::numeral::are_digits;
 use crate::operator::{Op, UnaryOp};
 use crate::value::Value;
@@ -31,7 +32,7 @@ fn number_of(digits: &[u8]) -> u64
 fn is_plain(digits: &[u8]) -> bool
     ensures { Decides result (IsPlain digits.now) }
 {
-    if !are_digits(digits) || digits.is_empty() || digits.len() > 15 {
+    if !are_digits(digits) || digits.is_empty() || digits.len() > MOST_SIGNIFICANT {
         return false;
     }
     digits[0] != b'0' || digits.len() == 1
@@ -97,7 +98,7 @@ fn joined(alloc: Global, a: &Value, b: &Value) -> Result<Option<Value>, AllocErr
     ensures { IfOk result (Finds (IsFold Op.Concatenate a.now b.now)) }
 {
     let (a, b) = (a.as_bytes(), b.as_bytes());
-    if a.len() > 255 || a.len() + b.len() > 255 {
+    if a.len() > LONGEST_JOIN || a.len() + b.len() > LONGEST_JOIN {
         return Ok(None);
     }
     let mut text = Vec::from_slice(alloc, a)?;

@@ -8,6 +8,7 @@ mod fault;
 mod folding;
 mod law;
 pub mod lexeme;
+pub mod limit;
 mod list;
 pub mod literal;
 mod meaning;

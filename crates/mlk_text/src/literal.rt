@@ -6,6 +6,7 @@ ghost use Rattle.mlk_text.specs.Failures.{Reads};
 
 use crate::failure::Failure;
 use crate::lexeme::{byte_of, digits, is_text_byte};
+use crate::limit::{MOST_DIGITS, MOST_SIGNIFICANT, MOST_SUBSCRIPTS};
 use crate::list::List;
 use crate::sequence::{Items, separated};
 use crate::spelling::NotThere;
@@ -36,10 +37,10 @@ pub(crate) fn to_last(bytes: &[u8]) -> usize
 fn is_exact(digits: &[u8], kept: &[u8]) -> bool
     ensures { result ≡ (nat_le (length digits.now) 25 && nat_le (to_last kept.now) 15) }
 {
-    digits.len() <= 25 && to_last(kept) <= 15
+    digits.len() <= MOST_DIGITS && to_last(kept) <= MOST_SIGNIFICANT
 }
 
-/// The value of the digits at the front, and what is behind them.
+/// The value of the digits at the front, and what is after them.
 #[tactic(auto, unfolding(crate::specs::Lexemes::number_at, crate::specs::Lexemes::digits_at, crate::specs::Lexemes::canonical, crate::specs::Lexemes::is_exact))]
 fn number(alloc: Global, bytes: &[u8]) -> Result<(Value, &[u8]), Failure<NotThere>>
     ensures { Reads (λ x. (x.0, x.1.now)) result (number_at bytes.now) }
@@ -59,23 +60,23 @@ fn number(alloc: Global, bytes: &[u8]) -> Result<(Value, &[u8]), Failure<NotTher
     Ok((Value::new(Vec::from_slice(alloc, kept)?), rest))
 }
 
-/// The value up to the closing quote, and what is behind it.
+/// The value up to the closing quote, and what is after it.
 pub fn quoted(alloc: Global, bytes: &[u8]) -> Result<(Value, &[u8]), Failure<NotThere>>
     ensures { Reads (λ x. (x.0, x.1.now)) result (inside bytes.now) }
 {
     let mut value = Vec::new(alloc);
     let mut rest = bytes;
-    while let Some((first, behind)) = rest.split_first() {
+    while let Some((first, after)) = rest.split_first() {
         if *first != b'"' {
             if !is_text_byte(*first) {
                 return Err(Failure::Refused(NotThere));
             }
             value.push(*first)?;
-            rest = behind;
+            rest = after;
             continue;
         }
-        let Some(after) = byte_of(b'"', behind) else {
-            return Ok((Value::new(value), behind));
+        let Some(after) = byte_of(b'"', after) else {
+            return Ok((Value::new(value), after));
         };
         value.push(b'"')?;
         rest = after;
@@ -83,16 +84,16 @@ pub fn quoted(alloc: Global, bytes: &[u8]) -> Result<(Value, &[u8]), Failure<Not
     Err(Failure::Refused(NotThere))
 }
 
-/// The value of the literal at the front, and what is behind it.
+/// The value of the literal at the front, and what is after it.
 #[tactic(auto, unfolding(crate::specs::Lexemes::literal_at))]
 pub fn literal(alloc: Global, bytes: &[u8]) -> Result<(Value, &[u8]), Failure<NotThere>>
     ensures { Reads (λ x. (x.0, x.1.now)) result (literal_at bytes.now) }
 {
-    let Some((first, behind)) = bytes.split_first() else {
+    let Some((first, after)) = bytes.split_first() else {
         return Err(Failure::Refused(NotThere));
     };
     if *first == b'"' {
-        return quoted(alloc, behind);
+        return quoted(alloc, after);
     }
     number(alloc, bytes)
 }
@@ -137,7 +138,7 @@ fn list(alloc: Global, bytes: &[u8]) -> Result<(Vec<Value>, &[u8]), Failure<NotT
     Ok((items, rest))
 }
 
-/// The subscripts at the front, which may be none, and what is behind them.
+/// The subscripts at the front, which may be none, and what is after them.
 #[tactic(auto, unfolding(crate::specs::Lexemes::subs_at))]
 pub fn subscripts(alloc: Global, bytes: &[u8]) -> Result<(List<Value>, &[u8]), Failure<NotThere>>
     ensures { Reads (λ x. (x.0, x.1.now)) result (subs_at bytes.now) }
@@ -146,7 +147,7 @@ pub fn subscripts(alloc: Global, bytes: &[u8]) -> Result<(List<Value>, &[u8]), F
         return Ok((List::new(alloc), bytes));
     };
     let (subs, rest) = list(alloc, rest)?;
-    if subs.len() > 32 {
+    if subs.len() > MOST_SUBSCRIPTS {
         return Err(Failure::Refused(NotThere));
     }
     Ok((List::of(subs), rest))

@@ -3,10 +3,11 @@
 ghost use Rattle.std.specs.Prelude.{◌≡◌, ◌==◌, ◌≤◌, ◌+◌, ◌++◌, ℕ, List, length, nat_lt, option_map, Decides, IfOk, MatchOption};
 ghost use Rattle.mlk_text.specs.Lexemes.{zeros, to_last};
 ghost use Rattle.mlk_text.specs.Outcome.{Finds};
-ghost use Rattle.mlk_text.specs.Numbers.{are_digits, pointed, behind_point, IsNumeral, IsExact, IsCanonical};
+ghost use Rattle.mlk_text.specs.Numbers.{are_digits, pointed, after_point, IsNumeral, IsExact, IsCanonical};
 ghost use Rattle.mlk_text.specs.Canonical.{canonical_text};
 
 use crate::lexeme::{byte_of, digits, is_digit};
+use crate::limit::{MOST_DIGITS, MOST_SIGNIFICANT};
 use crate::literal::{to_last, zeros};
 use crate::value::Value;
 use std::alloc::{AllocError, Global};
@@ -24,9 +25,9 @@ fn has_digit(before: &[u8], after: &[u8]) -> bool
     !before.is_empty() || !after.is_empty()
 }
 
-// The digits behind a point, or none where nothing stands there.
-fn behind_point(bytes: &[u8]) -> Option<&[u8]>
-    ensures { option_map (λ x. x.now) result ≡ behind_point bytes.now }
+// The digits after a point, or none where nothing stands there.
+fn after_point(bytes: &[u8]) -> Option<&[u8]>
+    ensures { option_map (λ x. x.now) result ≡ after_point bytes.now }
 {
     if bytes.is_empty() {
         return Some(bytes);
@@ -39,7 +40,7 @@ fn parts(literal: &[u8]) -> Option<(&[u8], &[u8])>
     ensures { MatchOption result ((before after : List ℕ) → IsNumeral before after literal.now → ⊥) (λ p. IsNumeral p.0.now p.1.now literal.now) }
 {
     let (before, rest) = literal.split_at(digits(literal));
-    let after = behind_point(rest)?;
+    let after = after_point(rest)?;
     if !are_digits(after) || !has_digit(before, after) {
         return None;
     }
@@ -76,10 +77,10 @@ fn up_to_last(before: &[u8], after: &[u8]) -> usize
 fn is_exact(before: &[u8], after: &[u8]) -> bool
     ensures { Decides result (IsExact before.now after.now) }
 {
-    if before.len() > 25 || after.len() > 25 {
+    if before.len() > MOST_DIGITS || after.len() > MOST_DIGITS {
         return false;
     }
-    up_to_last(before, after) <= leading_zeros(before, after) + 15
+    up_to_last(before, after) <= leading_zeros(before, after) + MOST_SIGNIFICANT
 }
 
 // The digits with a point between them, where there is a fraction.

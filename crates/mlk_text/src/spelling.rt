@@ -8,6 +8,7 @@ ghost use Rattle.mlk_text.specs.Failures.{Reads};
 
 use crate::failure::Failure;
 use crate::lexeme::{byte_of, digits, is_letter, is_name_byte, name_bytes};
+use crate::limit::LONGEST_NAME;
 use crate::name::Name;
 use crate::root::Root;
 use std::alloc::Global;
@@ -39,7 +40,7 @@ pub fn is_name(text: &[u8]) -> bool
     let Some((first, rest)) = text.split_first() else {
         return false;
     };
-    (is_letter(*first) || *first == b'%') && (rest.len() <= 30 && are_name_bytes(rest))
+    (is_letter(*first) || *first == b'%') && (rest.len() < LONGEST_NAME && are_name_bytes(rest))
 }
 
 /// The text of the name at the front, and what is after it. It takes no memory.
@@ -54,7 +55,7 @@ pub fn name_text(bytes: &[u8]) -> Option<(&[u8], &[u8])>
         return None;
     }
     let n = name_bytes(after);
-    if n > 30 {
+    if n >= LONGEST_NAME {
         return None;
     }
     Some(bytes.split_at(n + 1))

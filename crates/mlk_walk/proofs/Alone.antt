@@ -109,13 +109,13 @@ module _ (rules : RuleLists) (b : EntryCert) (n : ℕ) (whole : List Line) (fine
   pub record Inside (ks : List Command) (ts : List Task) (c : Held) : Type 0 where
     pub front : List Line
     pub line : Line
-    pub behind : List Line
+    pub after : List Line
     pub before : List Command
-    pub place : whole ≡ front ++ line ∷ behind
+    pub place : whole ≡ front ++ line ∷ after
     pub commands : line.commands ≡ before ++ ks
     pub among : Among c (walked rules true b.exits before (listed b (n + length front)))
-    pub well : walk_rest rules true b.exits (listed b (suc (n + length front))) (n + length front) line behind ks (walked rules true b.exits before (listed b (n + length front))) ≡ []
-    pub next : ts ≡ RunLines behind ∷ EndFrame first_cells ∷ []
+    pub well : walk_rest rules true b.exits (listed b (suc (n + length front))) (n + length front) line after ks (walked rules true b.exits before (listed b (n + length front))) ≡ []
+    pub next : ts ≡ RunLines after ∷ EndFrame first_cells ∷ []
 
   -- what is left to do, walked from a case, gives no fault
   abbrev pub Good : List Task → Held → Type 0
@@ -138,7 +138,7 @@ module _ (rules : RuleLists) (b : EntryCert) (n : ℕ) (whole : List Line) (fine
   came i j e r = let f : i ≡ j = cc in subst Runs f r
 
   inside_made : (ks : List Command) (ts : List Task) (c : Held) → Inside ks ts c → Made c
-  inside_made ks ts c i = record { front = i.front; line = i.line; behind = i.behind; before = i.before; rest = ks; place = i.place; commands = i.commands; among = i.among }
+  inside_made ks ts c i = record { front = i.front; line = i.line; after = i.after; before = i.before; rest = ks; place = i.place; commands = i.commands; among = i.among }
 
   -- the walk of a line, out of that of all lines
   line_fine : (k m : ℕ) (front : List Line) (l : Line) (ls : List Line) → m ≡ k + length front → walk_lines rules true b k (front ++ l ∷ ls) ≡ [] → walk_rest rules true b.exits (listed b (suc m)) m l ls l.commands (listed b m) ≡ []
@@ -153,7 +153,7 @@ module _ (rules : RuleLists) (b : EntryCert) (n : ℕ) (whole : List Line) (fine
   goes_in l ls c ts p e = record {
     front = p.front;
     line = l;
-    behind = ls;
+    after = ls;
     before = [];
     place = p.place;
     commands = refl;
@@ -185,11 +185,11 @@ module _ (rules : RuleLists) (b : EntryCert) (n : ℕ) (whole : List Line) (fine
       let more = walked-append rules true b.exits i.before (k ∷ []) (listed b m) in
       let w = parts_empty (faults_in m (map f cases)) _ i.well in
       let P : List Held → Type 0 = λ cs. Among d cs in
-      let Q : List Held → Type 0 = λ cs. walk_rest rules true b.exits (listed b (suc m)) m i.line i.behind ks cs ≡ [] in
+      let Q : List Held → Type 0 = λ cs. walk_rest rules true b.exits (listed b (suc m)) m i.line i.after ks cs ≡ [] in
       record {
         front = i.front;
         line = i.line;
-        behind = i.behind;
+        after = i.after;
         before = i.before ++ k ∷ [];
         place = i.place;
         commands = i.commands ∙ sym (append_assoc i.before (k ∷ []) ks);
@@ -231,7 +231,7 @@ module _ (rules : RuleLists) (b : EntryCert) (n : ℕ) (whole : List Line) (fine
   step free (RunCommands [] ∷ ts) j i c g d h =
       let m = n + length g.front in
       let cases = walked rules true b.exits g.before (listed b m) in
-      let e = line_end m g.line g.behind c (inside_made [] ts c g) g.front g.place refl (fine_at (at_line_end true b.exits (listed b (suc m)) g.line g.behind) (end_line m g.behind) cases c g.among g.well) in
+      let e = line_end m g.line g.after c (inside_made [] ts c g) g.front g.place refl (fine_at (at_line_end true b.exits (listed b (suc m)) g.line g.after) (end_line m g.after) cases c g.among g.well) in
       let P : List Task → Type 0 = λ t. Good t e.0 in
       came _ i h (record { held = e.0; good = subst P (sym g.next) (e.1, refl); describes = record { counts = λ k. d.counts k ∙ e.2 k } })
   step free (RunCommands (k ∷ ks) ∷ ts) j i c g d h =

@@ -71,7 +71,7 @@ earlier_line p line round h =
 below_line : (p q : Point) → IsBelow p q → p.line ≤ q.line
 below_line p q h = ⊎_elim (λ x. omega (arith, x)) (λ x. omega (arith, x.0)) h
 
--- those of the next line stand behind it
+-- those of the next line stand after it
 pub cases_at-next : (front : List Point) (p : Point) (ps : List Point) → PointsAscend (front ++ p ∷ ps) → cases_at (front ++ p ∷ ps) (suc p.line) 0 ≡ cases_at ps (suc p.line) 0
 cases_at-next [] p ps h = rw (earlier_line p (suc p.line) 0 (omega arith)) refl
 cases_at-next (q ∷ front) p ps h =
@@ -87,7 +87,7 @@ later_line p line round h =
     (λ e. e)
     (cases_Bool (is_at p line round))
 
--- where the first point stands behind a line there are no cases for it
+-- where the first point stands after a line there are no cases for it
 pub cases_at-past : (p : Point) (ps : List Point) (line : ℕ) → PointsAscend (p ∷ ps) → line < p.line → cases_at (p ∷ ps) line 0 ≡ []
 cases_at-past p [] line h k = rw (later_line p line 0 k) refl
 cases_at-past p (q ∷ ps) line h k =
@@ -98,8 +98,8 @@ cases_at-past p (q ∷ ps) line h k =
 pub record Found (ps : List Point) (line : ℕ) : Type 0 where
   pub front : List Point
   pub point : Point
-  pub behind : List Point
-  pub place : ps ≡ front ++ point ∷ behind
+  pub after : List Point
+  pub place : ps ≡ front ++ point ∷ after
   pub line_is : point.line ≡ line
   pub round_is : point.round ≡ 0
 
@@ -109,10 +109,10 @@ found (p ∷ ps) line =
     ⊎_elim
     (λ e.
     let a = and_parts (p.line == line) (p.round == 0) e in
-    inr (record { front = []; point = p; behind = ps; place = refl; line_is = eqb-true p.line line a.0; round_is = eqb-true p.round 0 a.1 }))
+    inr (record { front = []; point = p; after = ps; place = refl; line_is = eqb-true p.line line a.0; round_is = eqb-true p.round 0 a.1 }))
     (λ e. ⊎_elim
     (λ n. inl (rw e n))
-    (λ f. inr (record { front = p ∷ f.front; point = f.point; behind = f.behind; place = ap (λ l. p ∷ l) f.place; line_is = f.line_is; round_is = f.round_is }))
+    (λ f. inr (record { front = p ∷ f.front; point = f.point; after = f.after; place = ap (λ l. p ∷ l) f.place; line_is = f.line_is; round_is = f.round_is }))
     (found ps line))
     (cases_Bool (is_at p line 0))
 
@@ -126,7 +126,7 @@ walk_rest-none rules declared exits next n l ls [] = refl
 walk_rest-none rules declared exits next n l ls (k ∷ ks) = rw few_none (walk_rest-none rules declared exits next n l ls ks)
 
 module _ (rules : RuleLists) (declared : Bool) (b : EntryCert) (f : WalkFault) where
-  -- the fault stands in the walk of line m, which is l with ls behind it
+  -- the fault stands in the walk of line m, which is l with ls after it
   abbrev InLine : ℕ → Line → List Line → Type 0
   InLine m l ls = Among f (walk_rest rules declared b.exits (listed b (suc m)) m l ls l.commands (listed b m))
 
@@ -142,20 +142,20 @@ module _ (rules : RuleLists) (declared : Bool) (b : EntryCert) (f : WalkFault) w
   record At (n : ℕ) (lines : List Line) : Type 0 where
     number : ℕ
     line : Line
-    behind : List Line
-    place : drop number lines ≡ line ∷ behind
-    here : InLine (n + number) line behind
+    after : List Line
+    place : drop number lines ≡ line ∷ after
+    here : InLine (n + number) line after
 
   from_walk : (n : ℕ) (lines : List Line) → Among f (walk_lines rules declared b n lines) → At n lines
   from_walk n [] a = absurd a
   from_walk n (x ∷ xs) a =
       ⊎_elim
-      (λ h. let same : n + 0 ≡ n = omega arith in let Q : ℕ → Type 0 = λ m. InLine m x xs in record { number = 0; line = x; behind = xs; place = refl; here = subst Q (sym same) h })
+      (λ h. let same : n + 0 ≡ n = omega arith in let Q : ℕ → Type 0 = λ m. InLine m x xs in record { number = 0; line = x; after = xs; place = refl; here = subst Q (sym same) h })
       (λ h.
       let r = from_walk (suc n) xs h in
       let same : suc n + r.number ≡ n + suc r.number = omega arith in
-      let Q : ℕ → Type 0 = λ m. InLine m r.line r.behind in
-      record { number = suc r.number; line = r.line; behind = r.behind; place = r.place; here = subst Q same r.here })
+      let Q : ℕ → Type 0 = λ m. InLine m r.line r.after in
+      record { number = suc r.number; line = r.line; after = r.after; place = r.place; here = subst Q same r.here })
       (among-append f _ _ a)
 
   module _ (n : ℕ) (lines : List Line) (ascend : PointsAscend b.points) where
@@ -196,19 +196,19 @@ module _ (rules : RuleLists) (declared : Bool) (b : EntryCert) (f : WalkFault) w
         let m = n + r.number in
         let P : List Point → Type 0 = λ q. PointsAscend q in
         let up = subst P g.place ascend in
-        let here : listed b m ≡ p.cases = ap (λ q. cases_at q m 0) g.place ∙ ap (λ x. cases_at (g.front ++ p ∷ g.behind) x 0) (sym g.line_is) ∙ ap (λ x. cases_at (g.front ++ p ∷ g.behind) p.line x) (sym g.round_is) ∙ cases_at-here g.front p g.behind up in
-        let next : listed b (suc m) ≡ cases_at g.behind (suc p.line) 0 = ap (λ q. cases_at q (suc m) 0) g.place ∙ ap (λ x. cases_at (g.front ++ p ∷ g.behind) (suc x) 0) (sym g.line_is) ∙ cases_at-next g.front p g.behind up in
-        let Q : List Held → Type 0 = λ cs. Among f (walk_rest rules declared b.exits cs m r.line r.behind r.line.commands p.cases) in
-        let R : List Held → Type 0 = λ cs. Among f (walk_rest rules declared b.exits (listed b (suc m)) m r.line r.behind r.line.commands cs) in
-        let S : ℕ → Type 0 = λ x. Among f (walk_rest rules declared b.exits (cases_at g.behind (suc p.line) 0) x r.line r.behind r.line.commands p.cases) in
+        let here : listed b m ≡ p.cases = ap (λ q. cases_at q m 0) g.place ∙ ap (λ x. cases_at (g.front ++ p ∷ g.after) x 0) (sym g.line_is) ∙ ap (λ x. cases_at (g.front ++ p ∷ g.after) p.line x) (sym g.round_is) ∙ cases_at-here g.front p g.after up in
+        let next : listed b (suc m) ≡ cases_at g.after (suc p.line) 0 = ap (λ q. cases_at q (suc m) 0) g.place ∙ ap (λ x. cases_at (g.front ++ p ∷ g.after) (suc x) 0) (sym g.line_is) ∙ cases_at-next g.front p g.after up in
+        let Q : List Held → Type 0 = λ cs. Among f (walk_rest rules declared b.exits cs m r.line r.after r.line.commands p.cases) in
+        let R : List Held → Type 0 = λ cs. Among f (walk_rest rules declared b.exits (listed b (suc m)) m r.line r.after r.line.commands cs) in
+        let S : ℕ → Type 0 = λ x. Among f (walk_rest rules declared b.exits (cases_at g.after (suc p.line) 0) x r.line r.after r.line.commands p.cases) in
         let a = subst S (sym g.line_is) (subst Q next (subst R here r.here)) in
         let t : ((p.round == 0) && nat_le n p.line) ≡ true = and_from (p.round == 0) (nat_le n p.line) (eq-eqb p.round 0 g.round_is) (le-leb n p.line (omega (arith, g.line_is))) in
         let k : p.line - n ≡ r.number = omega (arith, g.line_is) in
-        let d : drop (p.line - n) lines ≡ r.line ∷ r.behind = ap (λ x. drop x lines) k ∙ r.place in
-        let T : List Line → Type 0 = λ tail. Among f (at_line rules declared b.exits p g.behind true tail) in
-        let U : Bool → Type 0 = λ x. Among f (at_line rules declared b.exits p g.behind x (drop (p.line - n) lines)) in
+        let d : drop (p.line - n) lines ≡ r.line ∷ r.after = ap (λ x. drop x lines) k ∙ r.place in
+        let T : List Line → Type 0 = λ tail. Among f (at_line rules declared b.exits p g.after true tail) in
+        let U : Bool → Type 0 = λ x. Among f (at_line rules declared b.exits p g.after x (drop (p.line - n) lines)) in
         let V : List Point → Type 0 = λ q. Among f (points_faults rules declared b.exits n lines q) in
-        subst V (sym g.place) (in_points g.front p g.behind (subst U (sym t) (subst T (sym d) a)))
+        subst V (sym g.place) (in_points g.front p g.after (subst U (sym t) (subst T (sym d) a)))
 
     by_lines : Among f (walk_lines rules declared b n lines) → Among f (points_faults rules declared b.exits n lines b.points)
     by_lines a =
@@ -216,25 +216,25 @@ module _ (rules : RuleLists) (declared : Bool) (b : EntryCert) (f : WalkFault) w
         let m = n + r.number in
         ⊎_elim
         (λ none.
-        let R : List Held → Type 0 = λ cs. Among f (walk_rest rules declared b.exits (listed b (suc m)) m r.line r.behind r.line.commands cs) in
+        let R : List Held → Type 0 = λ cs. Among f (walk_rest rules declared b.exits (listed b (suc m)) m r.line r.after r.line.commands cs) in
         let P : List WalkFault → Type 0 = λ fs. Among f fs in
-        absurd (subst P (walk_rest-none rules declared b.exits (listed b (suc m)) m r.line r.behind r.line.commands) (subst R none r.here)))
+        absurd (subst P (walk_rest-none rules declared b.exits (listed b (suc m)) m r.line r.after r.line.commands) (subst R none r.here)))
         (λ g. at_found r g)
         (found b.points m)
 
 pub same_by_points : (rules : RuleLists) (declared : Bool) (b : EntryCert) (n : ℕ) (lines : List Line) → PointsAscend b.points → SameSet (points_faults rules declared b.exits n lines b.points) (walk_lines rules declared b n lines)
 same_by_points rules declared b n lines h = record { by = λ f. (λ a. by_points rules declared b f n lines h [] b.points refl a, λ a. by_lines rules declared b f n lines h a) }
 
--- a walk over points stops at the first one behind the line
+-- a walk over points stops at the first one after the line
 pub past_at : (qs : List Point) (p : Point) (ps : List Point) (line : ℕ) → qs ≡ p ∷ ps → PointsAscend qs → line < p.line → ◌≡◌ {A = List Held} [] (cases_at qs line 0)
 past_at qs p ps line e h k =
     let P : List Point → Type 0 = λ q. PointsAscend q in
     sym (ap (λ q. cases_at q line 0) e ∙ cases_at-past p ps line (subst P e h) k)
 
 -- one more point was walked
-pub next_point : (rules : RuleLists) (declared : Bool) (exits : List Held) (n : ℕ) (lines : List Line) (p : Point) (qs ps behind : List Point) (old new all : List WalkFault) → qs ≡ p ∷ ps
-    → SameSet (old ++ points_faults rules declared exits n lines qs) all → behind ≡ ps → Adds old new (point_faults rules declared exits n lines p behind) → SameSet (new ++ points_faults rules declared exits n lines ps) all
-next_point rules declared exits n lines p qs ps behind old new all e h b a =
+pub next_point : (rules : RuleLists) (declared : Bool) (exits : List Held) (n : ℕ) (lines : List Line) (p : Point) (qs ps after : List Point) (old new all : List WalkFault) → qs ≡ p ∷ ps
+    → SameSet (old ++ points_faults rules declared exits n lines qs) all → after ≡ ps → Adds old new (point_faults rules declared exits n lines p after) → SameSet (new ++ points_faults rules declared exits n lines ps) all
+next_point rules declared exits n lines p qs ps after old new all e h b a =
     let P : List Point → Type 0 = λ q. SameSet (old ++ points_faults rules declared exits n lines q) all in
     let Q : List Point → Type 0 = λ q. Adds old new (point_faults rules declared exits n lines p q) in
     same_trans _ _ _ (added old new _ _ (subst Q b a)) (subst P e h)

@@ -128,7 +128,7 @@ put_ascends f (x ∷ y ∷ ys) h = more (fault_cmp f x) (fault_cmp f y) refl (pu
     more Greater Equal e k = (h.0, k)
     more Greater Greater e k = (h.0, k)
 
--- In a list that ascends each fault is below those behind it,
+-- In a list that ascends each fault is below those after it,
 below_later : (y x : WalkFault) (front back : List WalkFault) → IsAscending (y ∷ (front ++ x ∷ back)) → fault_cmp y x ≡ Less
 below_later y x [] back h = h.0
 below_later y x (z ∷ front) back h = fault_total.trans y z x h.0 (below_later z x front back h.1)
@@ -140,12 +140,12 @@ later_ascends y (x ∷ xs) h = h.1
 above : (f x y : WalkFault) → fault_cmp f x ≡ Greater → fault_cmp y x ≡ Less → fault_cmp f y ≡ Greater
 above f x y h k = fault_total.antisymm f y ∙ ap ordering_reverse (fault_total.trans y x f k (flipped f x h))
 
--- so a fault above one of them goes somewhere behind it,
-pub put_in-behind : (f x : WalkFault) (front back : List WalkFault) → IsAscending (front ++ x ∷ back) → fault_cmp f x ≡ Greater → put_in f (front ++ x ∷ back) ≡ front ++ x ∷ put_in f back
-put_in-behind f x [] back h k = rw k refl
-put_in-behind f x (y ∷ front) back h k =
+-- so a fault above one of them goes somewhere after it,
+pub put_in-after : (f x : WalkFault) (front back : List WalkFault) → IsAscending (front ++ x ∷ back) → fault_cmp f x ≡ Greater → put_in f (front ++ x ∷ back) ≡ front ++ x ∷ put_in f back
+put_in-after f x [] back h k = rw k refl
+put_in-after f x (y ∷ front) back h k =
     let g = above f x y k (below_later y x front back h) in
-    rw g (ap (λ l. y ∷ l) (put_in-behind f x front back (later_ascends y _ h) k))
+    rw g (ap (λ l. y ∷ l) (put_in-after f x front back (later_ascends y _ h) k))
 
 -- and one that is equal to one of them stands there.
 pub put_in-there : (f x : WalkFault) (front back : List WalkFault) → IsAscending (front ++ x ∷ back) → fault_cmp f x ≡ Equal → put_in f (front ++ x ∷ back) ≡ front ++ x ∷ back
@@ -169,7 +169,7 @@ module _ (f d : WalkFault) (xs : List WalkFault) (ascends : IsAscending xs) wher
       let cut = cut_at xs j d h in
       let P : List WalkFault → Type 0 = λ l. IsAscending l in
       let Q : List WalkFault → Type 0 = λ l. put_in f l ≡ take j xs ++ get_or xs j d ∷ put_in f (drop (suc j) xs) in
-      let placed = subst Q (sym cut) (put_in-behind f (get_or xs j d) (take j xs) (drop (suc j) xs) (subst P cut ascends) k) in
+      let placed = subst Q (sym cut) (put_in-after f (get_or xs j d) (take j xs) (drop (suc j) xs) (subst P cut ascends) k) in
       placed ∙ ap (λ l. take j xs ++ get_or xs j d ∷ l) e ∙ sym (append_assoc (take j xs) (get_or xs j d ∷ []) (f ∷ drop (suc j) xs)) ∙ ap (λ l. l ++ f ∷ drop (suc j) xs) (sym (take-suc xs j d h))
 
   pub place_above : (i : ℕ) → 0 < i → i ≤ length xs → fault_cmp f (get_or xs (i - 1) d) ≡ Greater → put_in f (drop i xs) ≡ f ∷ drop i xs → put_in f xs ≡ insert xs i f

@@ -52,7 +52,7 @@ module _ (rules : RuleLists) (declared : Bool) (exits next : List Held) (n : ℕ
         let few' : too_many (cases_in (rows k cases)) ≡ false = ap too_many (sym is) ∙ few in
         rw is (same_trans _ _ _ (added old mid _ _ a) (subst Q few' (subst P e h)))
 
-    -- or there are too many cases behind it
+    -- or there are too many cases after it
     pub last_command : (new : List WalkFault) → ks ≡ k ∷ rest → SameSet (old ++ walk ks cases) all → Adds old mid (faults_in n (rows k cases)) → after ≡ cases_in (rows k cases) → too_many after ≡ true → Adds mid new (fault_at n k.column TooManyCases ∷ []) → SameSet new all
     last_command new e h a is many b =
         let P : List Command → Type 0 = λ ks. SameSet (old ++ walk ks cases) all in

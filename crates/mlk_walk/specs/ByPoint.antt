@@ -1,5 +1,5 @@
--- The walk of an entry, point by point in their order, as the code goes. The definition is that by lines, in `Walk`:
--- a line without a listed case has no fault.
+-- The walk of an entry, point by point in their order, as the code goes. For private clauses alone: the definition is
+-- that by lines, in `Walk`; a line without a listed case has no fault.
 use Rattle.std.specs.Prelude.{ℕ, suc, ◌-◌, ◌==◌, nat_le, Bool, true, false, ◌&&◌, List, [], ◌∷◌, ◌++◌, drop}
 use Rattle.mlk_machine.specs.declared.plain.tree.Line.{Line}
 use Rattle.mlk_coverage.specs.declared.rules.RuleLists.{RuleLists}
@@ -7,7 +7,7 @@ use Rattle.mlk_walk.specs.declared.cert.Point.{Point}
 use Rattle.mlk_walk.specs.declared.verdict.WalkFault.{WalkFault}
 use Rattle.mlk_walk.specs.Walk.{Held, cases_at, walk_rest}
 
--- the faults of the line at a point, given the lines from there on and the points behind it
+-- the faults of the line at a point, given the lines from there on and the points after it
 abbrev pub at_line : RuleLists → Bool → List Held → Point → List Point → Bool → List Line → List WalkFault
 at_line rules declared exits p ps false lines = []
 at_line rules declared exits p ps true [] = []

@@ -27,10 +27,10 @@ pub record Describes (c : Held) (j : Job) : Type 0 where
 pub record IsMade (rules : RuleLists) (b : EntryCert) (n : ℕ) (lines : List Line) (c : Held) : Type 0 where
   pub front : List Line
   pub line : Line
-  pub behind : List Line
+  pub after : List Line
   pub before : List Command
   pub rest : List Command
-  pub place : lines ≡ front ++ line ∷ behind
+  pub place : lines ≡ front ++ line ∷ after
   pub commands : line.commands ≡ before ++ rest
   pub among : Among c (walked rules true b.exits before (listed b (n + length front)))
 

@@ -31,14 +31,14 @@ fn cases_for(points: &[Point], line: usize) -> &[Case]
     &[]
 }
 
-fn lines_behind(lines: &[Line], count: usize) -> &[Line]
+fn lines_after(lines: &[Line], count: usize) -> &[Line]
     ensures { result.now ≡ drop count lines.now }
 {
     if count >= lines.len() {
         return &[];
     }
-    let (_, behind) = lines.split_at(count);
-    behind
+    let (_, after) = lines.split_at(count);
+    after
 }
 
 // Walks the first of the lines, which is that of the point.
@@ -70,7 +70,7 @@ fn walk_first(
     Ok(())
 }
 
-// Walks the line of a point, where the entry has it; `rest` are the points behind it.
+// Walks the line of a point, where the entry has it; `rest` are the points after it.
 #[tactic(auto, unfolding(crate::specs::ByPoint::point_faults))]
 fn walk_point(
     alloc: Global,
@@ -90,7 +90,7 @@ fn walk_point(
             alloc,
             out,
             rows,
-            lines_behind(lines, line - first),
+            lines_after(lines, line - first),
             point,
             rest,
         )?;

@@ -59,7 +59,7 @@ impl Held {
         self.terms.as_slice()
     }
 
-    /// The same and one more name, behind the others.
+    /// The same and one more name, after the others.
     pub fn with(self, alloc: Global, name: &LockName) -> Result<Held, AllocError>
         ensures { IfOk result (λ h. h ≡ self ++ name.now ∷ []) }
     {

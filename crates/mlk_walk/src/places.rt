@@ -40,7 +40,7 @@ impl Places {
         self.places.get(&entry).copied()
     }
 
-    // Notes a text at a place, behind all others.
+    // Notes a text at a place, after all others.
     fn note(&mut self, plain: &Plain, text: &[u8], place: usize) -> Result<(), AllocError>
         ensures { OnOk result (Notes plain.now text.now place self.old self.new) }
     {

@@ -55,7 +55,7 @@ impl Report {
         self.rows.is_empty()
     }
 
-    /// Puts the faults of an entry behind the others.
+    /// Puts the faults of an entry after the others.
     pub(crate) fn add(&mut self, entry: EntryId, verdict: &Verdict) -> Result<(), AllocError>
         ensures { OnOk result (self.new ≡ self.old ++ map (row entry) verdict.now) }
     {

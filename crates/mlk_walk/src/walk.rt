@@ -161,8 +161,8 @@ fn walk_ends(
     Ok(())
 }
 
-/// Walks line number `line`, which is `l` with `ls` behind it, from the cases listed for it; `next` are those
-/// listed for the line behind it.
+/// Walks line number `line`, which is `l` with `ls` after it, from the cases listed for it; `next` are those
+/// listed for the line after it.
 pub(crate) fn walk_line(
     alloc: Global,
     out: &mut Verdict,

@@ -2,7 +2,7 @@
 
 ghost use Rattle.std.specs.Prelude.{◌≡◌, ◌∷◌, ◌++◌, [], suc, length, option_map, IfOk, map};
 ghost use Rattle.mlk_text.specs.Failures.{Reads};
-ghost use Rattle.mlk_command.specs.CertificateSpelling.{behind_label, entry_at};
+ghost use Rattle.mlk_command.specs.CertificateSpelling.{after_label, entry_at};
 ghost use Rattle.mlk_command.specs.CertificateBlocks.{low_at, drops_at, settings_at, entry_line, body_at, block_given, blocks_at};
 ghost use Rattle.mlk_command.specs.CertificateOutcome.{GivesAt};
 
@@ -18,9 +18,9 @@ use mlk_text::{Code, Failure, NotThere};
 use mlk_walk::{Cases, EntryCert, Points};
 use std::alloc::Global;
 
-#[tactic(auto, unfolding(crate::specs::CertificateSpelling::behind_label))]
-fn behind_label(alloc: Global, bytes: &[u8]) -> Result<&[u8], Failure<NotThere>>
-    ensures { Reads (λ x. x.now) result (behind_label bytes.now) }
+#[tactic(auto, unfolding(crate::specs::CertificateSpelling::after_label))]
+fn after_label(alloc: Global, bytes: &[u8]) -> Result<&[u8], Failure<NotThere>>
+    ensures { Reads (λ x. x.now) result (after_label bytes.now) }
 {
     let Some((first, _)) = bytes.split_first() else {
         return Err(Failure::Refused(NotThere));
@@ -40,7 +40,7 @@ fn behind_label(alloc: Global, bytes: &[u8]) -> Result<&[u8], Failure<NotThere>>
 fn entry(alloc: Global, bytes: &[u8]) -> Result<(&[u8], &[u8]), Failure<NotThere>>
     ensures { Reads (λ x. (x.0.now, x.1.now)) result (entry_at bytes.now) }
 {
-    let rest = behind_label(alloc, bytes)?;
+    let rest = after_label(alloc, bytes)?;
     let Some(rest) = byte_of(b'^', rest) else {
         return Err(Failure::Refused(NotThere));
     };
@@ -169,15 +169,15 @@ fn block<'a>(
     Ok((block, rest))
 }
 
-/// The blocks at the front, and what is behind them.
+/// The blocks at the front, and what is after them.
 pub fn blocks(alloc: Global, bytes: &[u8]) -> Result<(Vec<EntryCert>, &[u8]), TextError>
     ensures { GivesAt (λ x. (x.0.items, x.1.now)) result (blocks_at bytes.now) }
 {
     let mut seen: IndexSet<Vec<u8>> = IndexSet::new(alloc);
     let mut found: Vec<EntryCert> = Vec::new(alloc);
     let mut rest = bytes;
-    while let Some(behind) = word_of(b"entry ", rest) {
-        let (item, after) = block(alloc, &mut seen, behind)?;
+    while let Some(after) = word_of(b"entry ", rest) {
+        let (item, after) = block(alloc, &mut seen, after)?;
         found.push(item)?;
         rest = after;
     }

@@ -59,7 +59,7 @@ fn case_line<'a>(
     }
 }
 
-/// A case and the end of its line, behind so many cases of which the last has this text.
+/// A case and the end of its line, after so many cases of which the last has this text.
 #[tactic(auto, unfolding(crate::specs::CertificateBlocks::case_given, crate::specs::CertificateSpelling::case_fault))]
 pub fn case_given<'a>(
     alloc: Global,
@@ -83,7 +83,7 @@ pub fn case_given<'a>(
     Ok((Case::new(names), text, rest))
 }
 
-/// The number of a line and of a round, and what is behind them.
+/// The number of a line and of a round, and what is after them.
 #[tactic(auto, unfolding(crate::specs::CertificateBlocks::place_at))]
 pub fn place(bytes: &[u8]) -> Option<((u32, u32), &[u8])>
     ensures { option_map (λ x. (x.0, x.1.now)) result ≡ place_at bytes.now }
@@ -126,7 +126,7 @@ fn lead_of(lead: Option<(u32, u32)>, bytes: &[u8]) -> Option<&[u8]>
     }
 }
 
-/// Exits, or the further cases at a place, behind those that stand before them.
+/// Exits, or the further cases at a place, after those that stand before them.
 pub fn cases<'a>(
     alloc: Global,
     lead: Option<(u32, u32)>,
@@ -141,8 +141,8 @@ pub fn cases<'a>(
     let mut found = front;
     let mut last = text;
     let mut rest = bytes;
-    while let Some(behind) = lead_of(lead, rest) {
-        let (case, text, after) = case_given(alloc, end, found.len(), last, behind, behind)?;
+    while let Some(after) = lead_of(lead, rest) {
+        let (case, text, after) = case_given(alloc, end, found.len(), last, after, after)?;
         found.push(case)?;
         last = Some(text);
         rest = after;

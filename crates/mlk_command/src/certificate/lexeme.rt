@@ -10,7 +10,7 @@ use mlk_text::lexeme::{byte_of, digits};
 use mlk_text::{Failure, NotThere, Value};
 use std::alloc::Global;
 
-/// The rest behind this word, where it stands at the front.
+/// The rest after this word, where it stands at the front.
 pub fn word_of<'a>(word: &[u8], bytes: &'a [u8]) -> Option<&'a [u8]>
     ensures { option_map (λ x. (word.now, x.now)) result ≡ word_at word.now bytes.now }
 {
@@ -55,7 +55,7 @@ fn leads_zero(text: &[u8]) -> bool
     }
 }
 
-/// The number up to a limit at the front, and what is behind it.
+/// The number up to a limit at the front, and what is after it.
 #[tactic(auto, unfolding(crate::specs::CertificateLexing::number_at, mlk_text::specs::Lexemes::digits_at))]
 pub fn number(limit: u32, bytes: &[u8]) -> Option<(u32, &[u8])>
     requires { limit ≤ 999999 }
@@ -140,14 +140,14 @@ fn value_bytes(alloc: Global, bytes: &[u8]) -> Result<(Vec<u8>, &[u8]), Failure<
 {
     let mut value = Vec::new(alloc);
     let mut rest = bytes;
-    while let Some((b, behind)) = piece_of(rest) {
+    while let Some((b, after)) = piece_of(rest) {
         value.push(b)?;
-        rest = behind;
+        rest = after;
     }
     Ok((value, rest))
 }
 
-/// The constant at the front, and what is behind it.
+/// The constant at the front, and what is after it.
 #[tactic(auto, unfolding(crate::specs::CertificateLexing::constant_at))]
 pub fn constant(alloc: Global, bytes: &[u8]) -> Result<(Value, &[u8]), Failure<NotThere>>
     ensures { Reads (λ x. (x.0, x.1.now)) result (constant_at bytes.now) }

@@ -51,15 +51,15 @@ fn point(alloc: Global, last: Option<(u32, u32)>, bytes: &[u8]) -> Result<(Point
     Ok((Point { line, round, cases }, rest))
 }
 
-/// The points at the front, and what is behind them.
+/// The points at the front, and what is after them.
 pub fn points(alloc: Global, bytes: &[u8]) -> Result<(Vec<Point>, &[u8]), TextError>
     ensures { GivesAt (λ x. (x.0.items, x.1.now)) result (points_at bytes.now) }
 {
     let mut found: Vec<Point> = Vec::new(alloc);
     let mut last: Option<(u32, u32)> = None;
     let mut rest = bytes;
-    while let Some(behind) = word_of(b"at ", rest) {
-        let (item, after) = point(alloc, last, behind)?;
+    while let Some(after) = word_of(b"at ", rest) {
+        let (item, after) = point(alloc, last, after)?;
         last = Some((item.line, item.round));
         found.push(item)?;
         rest = after;

@@ -24,10 +24,10 @@ fn more_constants(
     let mut found = Vec::new(alloc);
     found.push(first)?;
     let mut rest = bytes;
-    while let Some(behind) = byte_of(b',', rest) {
-        let (item, behind) = constant(alloc, behind)?;
+    while let Some(after) = byte_of(b',', rest) {
+        let (item, after) = constant(alloc, after)?;
         found.push(item)?;
-        rest = behind;
+        rest = after;
     }
     Ok((found, rest))
 }
@@ -85,9 +85,9 @@ fn more_terms<'a>(
     let mut last = text;
     let mut sorted = true;
     let mut rest = bytes;
-    while let Some(behind) = byte_of(b';', rest) {
-        let (item, after) = term(alloc, behind)?;
-        let text = front_of(behind, after);
+    while let Some(after) = byte_of(b';', rest) {
+        let (item, after) = term(alloc, after)?;
+        let text = front_of(after, after);
         sorted = joined(sorted, last, text);
         found.push(item)?;
         last = text;
@@ -109,7 +109,7 @@ fn terms(alloc: Global, bytes: &[u8]) -> Result<(Vec<LockName>, bool, &[u8]), Fa
     Ok((found, sorted, rest))
 }
 
-/// The terms of the case at the front, whether they ascend, and what is behind the case.
+/// The terms of the case at the front, whether they ascend, and what is after the case.
 #[tactic(auto, unfolding(crate::specs::CertificateLexing::case_at))]
 pub fn case_of<'a>(
     alloc: Global,

@@ -29,15 +29,15 @@ fn lock_name(alloc: Global, bytes: &[u8]) -> Result<(LockName, &[u8]), Failure<N
 fn set(alloc: Global, end: u32, bytes: &[u8]) -> Result<(Action, &[u8]), Failure<NotThere>>
     ensures { Reads (λ x. (x.0, x.1.now)) result (set_at end bytes.now) }
 {
-    let Some(behind) = byte_of(b'^', bytes) else {
+    let Some(after) = byte_of(b'^', bytes) else {
         return Err(Failure::Refused(NotThere));
     };
-    let (name, rest) = name(alloc, behind)?;
+    let (name, rest) = name(alloc, after)?;
     let (subs, rest) = subscripts(alloc, rest)?;
-    let Some(behind) = byte_of(b'=', rest) else {
+    let Some(after) = byte_of(b'=', rest) else {
         return Err(Failure::Refused(NotThere));
     };
-    let (value, rest) = literal(alloc, behind)?;
+    let (value, rest) = literal(alloc, after)?;
     let column = column_of(end, bytes);
     let node = Node { name, subs };
     Ok((
@@ -54,16 +54,16 @@ fn set(alloc: Global, end: u32, bytes: &[u8]) -> Result<(Action, &[u8]), Failure
 fn lock(alloc: Global, end: u32, bytes: &[u8]) -> Result<(Action, &[u8]), Failure<NotThere>>
     ensures { Reads (λ x. (x.0, x.1.now)) result (lock_at end bytes.now) }
 {
-    if let Some(behind) = byte_of(b'+', bytes) {
-        let (name, rest) = lock_name(alloc, behind)?;
-        let column = column_of(end, behind);
+    if let Some(after) = byte_of(b'+', bytes) {
+        let (name, rest) = lock_name(alloc, after)?;
+        let column = column_of(end, after);
         return Ok((Action::Lock { column, name }, rest));
     }
-    let Some(behind) = byte_of(b'-', bytes) else {
+    let Some(after) = byte_of(b'-', bytes) else {
         return Err(Failure::Refused(NotThere));
     };
-    let (name, rest) = lock_name(alloc, behind)?;
-    let column = column_of(end, behind);
+    let (name, rest) = lock_name(alloc, after)?;
+    let column = column_of(end, after);
     Ok((Action::Unlock { column, name }, rest))
 }
 
@@ -82,13 +82,13 @@ fn action<'a>(
     if word == Word::Quit {
         return Ok((Action::Quit, bytes));
     }
-    let Some(behind) = byte_of(b' ', bytes) else {
+    let Some(after) = byte_of(b' ', bytes) else {
         return Err(Failure::Refused(NotThere));
     };
     if word == Word::Set {
-        return set(alloc, end, behind);
+        return set(alloc, end, after);
     }
-    lock(alloc, end, behind)
+    lock(alloc, end, after)
 }
 
 fn spaces(bytes: &[u8]) -> usize
@@ -150,19 +150,19 @@ fn command<'a>(
     Ok((Command { column, action }, rest))
 }
 
-/// The commands from here on, as far as words go, and what is behind them.
+/// The commands from here on, as far as words go, and what is after them.
 pub fn commands(alloc: Global, end: u32, bytes: &[u8]) -> Result<(Vec<Command>, &[u8]), LineError>
     ensures { Answers (λ x. (x.0.items, x.1.now)) (CommandsFail end bytes.now) result (commands_at end bytes.now) }
 {
     let mut found = Vec::new(alloc);
     let mut rest = bytes;
-    while let Some((word, column, behind)) = word_at(end, rest) {
-        match command(alloc, end, word, column, behind) {
+    while let Some((word, column, after)) = word_at(end, rest) {
+        match command(alloc, end, word, column, after) {
             Ok((command, next)) => {
                 found.push(command)?;
                 rest = next;
             }
-            Err(e) => return Err(blame(alloc, e, word, column, behind)),
+            Err(e) => return Err(blame(alloc, e, word, column, after)),
         }
     }
     Ok((found, rest))

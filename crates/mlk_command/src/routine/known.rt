@@ -113,10 +113,10 @@ fn full_long(word: &[u8]) -> Option<&'static [u8]>
 fn hangs(bytes: &[u8]) -> bool
     ensures { result ≡ hangs bytes.now }
 {
-    let Some((first, behind)) = bytes.split_first() else {
+    let Some((first, after)) = bytes.split_first() else {
         return false;
     };
-    let Some((second, _)) = behind.split_first() else {
+    let Some((second, _)) = after.split_first() else {
         return false;
     };
     *first == b' ' && *second != b' ' && *second != b';'
@@ -171,7 +171,7 @@ fn full_z(alloc: Global, word: &[u8]) -> Result<Option<Value>, AllocError>
     Ok(Some(Value::new(upper(alloc, word)?)))
 }
 
-/// The full word in upper case of a command of M, from its word and what is behind that.
+/// The full word in upper case of a command of M, from its word and what is after that.
 #[tactic(auto, unfolding(crate::specs::RoutineWords::full_word))]
 fn full_word(alloc: Global, word: &[u8], bytes: &[u8]) -> Result<Option<Value>, AllocError>
     ensures { IfOk result (λ o. o ≡ full_word word.now bytes.now) }

@@ -3,7 +3,7 @@
 ghost use Rattle.std.specs.Prelude.{◌≡◌, ◌≤◌, length, option_map};
 ghost use Rattle.mlk_text.specs.Failures.{Reads};
 ghost use Rattle.mlk_text.specs.Lexemes.{digits_at};
-ghost use Rattle.mlk_command.specs.RoutineGrammar.{blanks, closes, ends_here, line_len, behind_end, line_at, start_at};
+ghost use Rattle.mlk_command.specs.RoutineGrammar.{blanks, closes, ends_here, line_len, after_end, line_at, start_at};
 ghost use Rattle.mlk_command.specs.RoutineReading.{label_at, body_at, line_of};
 ghost use Rattle.mlk_command.specs.RoutineOutcomes.{Answers, BodyFails, LineFails};
 
@@ -61,10 +61,10 @@ fn blanks(bytes: &[u8]) -> usize
 fn closes(bytes: &[u8]) -> bool
     ensures { result ≡ closes bytes.now }
 {
-    let Some((first, behind)) = bytes.split_first() else {
+    let Some((first, after)) = bytes.split_first() else {
         return true;
     };
-    *first == b';' && is_text(behind)
+    *first == b';' && is_text(after)
 }
 
 #[tactic(auto, unfolding(crate::specs::RoutineGrammar::start_at))]
@@ -82,13 +82,13 @@ fn start_of(bytes: &[u8]) -> Option<(usize, &[u8])>
 fn body(alloc: Global, end: u32, bytes: &[u8]) -> Result<Vec<Command>, LineError>
     ensures { Answers (λ v. v.items) (BodyFails end bytes.now) result (body_at end bytes.now) }
 {
-    let Some((_, behind)) = start_of(bytes) else {
+    let Some((_, after)) = start_of(bytes) else {
         if closes(bytes) {
             return Ok(Vec::new(alloc));
         }
         return Err(LineError::Fault(LineFault::Form));
     };
-    let (found, rest) = commands(alloc, end, behind)?;
+    let (found, rest) = commands(alloc, end, after)?;
     if !closes(rest) {
         return Err(LineError::Fault(LineFault::Form));
     }
@@ -110,10 +110,10 @@ pub fn line(alloc: Global, bytes: &[u8]) -> Result<Line, LineError>
     })
 }
 
-fn ends_here(b: u8, behind: &[u8]) -> bool
-    ensures { result ≡ ends_here b behind.now }
+fn ends_here(b: u8, after: &[u8]) -> bool
+    ensures { result ≡ ends_here b after.now }
 {
-    let Some((next, _)) = behind.split_first() else {
+    let Some((next, _)) = after.split_first() else {
         return b == b'\n';
     };
     b == b'\n' || (b == b'\r' && *next == b'\n')
@@ -125,32 +125,32 @@ fn line_len(bytes: &[u8]) -> usize
 {
     let mut n = 0;
     let mut rest = bytes;
-    while let Some((first, behind)) = rest.split_first() {
-        if ends_here(*first, behind) {
+    while let Some((first, after)) = rest.split_first() {
+        if ends_here(*first, after) {
             return n;
         }
         n += 1;
-        rest = behind;
+        rest = after;
     }
     n
 }
 
-fn behind_end(bytes: &[u8]) -> &[u8]
-    ensures { result.now ≡ behind_end bytes.now }
+fn after_end(bytes: &[u8]) -> &[u8]
+    ensures { result.now ≡ after_end bytes.now }
 {
-    let Some((first, behind)) = bytes.split_first() else {
+    let Some((first, after)) = bytes.split_first() else {
         return bytes;
     };
     if *first == b'\n' {
-        return behind;
+        return after;
     }
-    let Some((_, behind)) = behind.split_first() else {
-        return behind;
+    let Some((_, after)) = after.split_first() else {
+        return after;
     };
-    behind
+    after
 }
 
-/// The first line of a text that is not empty, and what is behind its end.
+/// The first line of a text that is not empty, and what is after its end.
 #[tactic(auto, unfolding(crate::specs::RoutineGrammar::line_at))]
 pub fn first_line(bytes: &[u8]) -> Option<(&[u8], &[u8])>
     ensures { option_map (λ x. (x.0.now, x.1.now)) result ≡ line_at bytes.now }
@@ -159,5 +159,5 @@ pub fn first_line(bytes: &[u8]) -> Option<(&[u8], &[u8])>
         return None;
     }
     let (line, rest) = bytes.split_at(line_len(bytes));
-    Some((line, behind_end(rest)))
+    Some((line, after_end(rest)))
 }

@@ -29,11 +29,11 @@ fn lines(alloc: Global, text: &[u8]) -> Result<Found, AllocError>
 {
     let mut found = Vec::new(alloc);
     let mut rest = text;
-    while let Some((bytes, behind)) = first_line(rest) {
+    while let Some((bytes, after)) = first_line(rest) {
         match line(alloc, bytes) {
             Ok(line) => {
                 found.push(line)?;
-                rest = behind;
+                rest = after;
             }
             Err(LineError::OutOfMemory) => return Err(AllocError),
             Err(LineError::Fault(fault)) => {
@@ -55,9 +55,9 @@ fn line_count(text: &[u8]) -> usize
 {
     let mut n = 0;
     let mut rest = text;
-    while let Some((_, behind)) = first_line(rest) {
+    while let Some((_, after)) = first_line(rest) {
         n += 1;
-        rest = behind;
+        rest = after;
     }
     n
 }
@@ -116,7 +116,7 @@ pub fn read_text(alloc: Global, name: Name, text: &[u8]) -> Result<Routine, Rout
 fn percent(alloc: Global, stem: &[u8]) -> Result<Vec<u8>, AllocError>
     ensures { IfOk result (λ v. v.items ≡ percent stem.now) }
 {
-    let Some((first, behind)) = stem.split_first() else {
+    let Some((first, after)) = stem.split_first() else {
         return Ok(Vec::new(alloc));
     };
     if *first != b'_' {
@@ -124,7 +124,7 @@ fn percent(alloc: Global, stem: &[u8]) -> Result<Vec<u8>, AllocError>
     }
     let mut spelled = Vec::new(alloc);
     spelled.push(b'%')?;
-    spelled.extend_from_slice(behind)?;
+    spelled.extend_from_slice(after)?;
     Ok(spelled)
 }
 

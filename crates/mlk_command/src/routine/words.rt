@@ -81,7 +81,7 @@ pub fn column_of(end: u32, bytes: &[u8]) -> u32
     end - bytes.len() as u32
 }
 
-/// The letters at the front, their column, and what is behind them.
+/// The letters at the front, their column, and what is after them.
 #[tactic(auto, unfolding(crate::specs::RoutineWords::word_at))]
 pub fn word_at(end: u32, bytes: &[u8]) -> Option<(&[u8], u32, &[u8])>
     ensures { option_map (λ x. ((x.0.now, x.1), x.2.now)) result ≡ word_at end bytes.now }

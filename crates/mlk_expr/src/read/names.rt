@@ -17,9 +17,8 @@ use crate::scope::Scope;
 use crate::tree::{Expr, Subscript};
 use mlk_text::Failure;
 use mlk_text::lexeme::byte_of;
+use mlk_text::limit::MOST_SUBSCRIPTS;
 use std::alloc::Global;
-
-const MOST_SUBSCRIPTS: usize = 32;
 
 #[cycle(reading)]
 fn subscript(

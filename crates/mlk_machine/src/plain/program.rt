@@ -46,7 +46,7 @@ impl EntryTable {
         self.entries.get(text).copied()
     }
 
-    // Puts a text behind the others, where it does not stand among them.
+    // Puts a text after the others, where it does not stand among them.
     fn add(&mut self, text: Vec<u8>, entry: EntryId) -> Result<(), AllocError>
         ensures { OnOk result (SameFirst self.new (self.old ++ (text.items, entry) ∷ [])) }
     {
@@ -140,15 +140,15 @@ fn table_of(alloc: Global, routines: &[Routine]) -> Result<EntryTable, AllocErro
     Ok(table)
 }
 
-// The lines behind the first `count` of them.
-fn lines_behind(lines: &[Line], count: usize) -> &[Line]
+// The lines after the first `count` of them.
+fn lines_after(lines: &[Line], count: usize) -> &[Line]
     ensures { result.now ≡ drop count lines.now }
 {
     if count >= lines.len() {
         return &[];
     }
-    let (_, behind) = lines.split_at(count);
-    behind
+    let (_, after) = lines.split_at(count);
+    after
 }
 
 /// The routines of a program, in the order given, with their entries.
@@ -201,7 +201,7 @@ impl Plain {
     {
         match self.routines.get(entry.routine) {
             None => &[],
-            Some(routine) => lines_behind(routine.lines.as_slice(), entry.line.saturating_sub(1)),
+            Some(routine) => lines_after(routine.lines.as_slice(), entry.line.saturating_sub(1)),
         }
     }
 }

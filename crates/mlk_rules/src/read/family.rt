@@ -12,6 +12,7 @@ use crate::read::spelling::spelled_name;
 use crate::read::tables::family_keys;
 use mlk_coverage::Family;
 use mlk_names::LockName;
+use mlk_text::limit::GREATEST_RANK;
 use mlk_text::{Code, Failure, Subscripts, Value, copy_of};
 use std::alloc::{AllocError, Global};
 
@@ -42,7 +43,7 @@ fn family_name(alloc: Global, s: &Spelling) -> Result<LockName, AllocError>
 fn rank_of(rank: i64) -> Option<u32>
     ensures { result ≡ rank_of rank }
 {
-    if 0 <= rank && rank <= 999_999 {
+    if 0 <= rank && rank <= GREATEST_RANK as i64 {
         return Some(rank as u32);
     }
     None

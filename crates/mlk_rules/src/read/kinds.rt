@@ -7,6 +7,9 @@ use crate::read::fault::Section;
 use mlk_names::{Extent, Root};
 use mlk_text::{List, Name, Value};
 
+/// The most items of a name or a pattern.
+pub const MOST_ITEMS: usize = 8;
+
 /// What stands between the parentheses of a name or a pattern.
 #[derive(Drop, Debug)]
 pub enum Item {
@@ -29,7 +32,7 @@ pub fn is_long(spelling: &Option<Spelling>) -> bool
 {
     match spelling {
         None => false,
-        Some(s) => s.items.as_slice().len() > 8,
+        Some(s) => s.items.as_slice().len() > MOST_ITEMS,
     }
 }
 

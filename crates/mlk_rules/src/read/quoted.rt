@@ -13,14 +13,14 @@ pub fn quoted(alloc: Global, bytes: &[u8]) -> Result<(Value, &[u8]), Failure<Not
 {
     let mut value = Vec::new(alloc);
     let mut rest = bytes;
-    while let Some((first, behind)) = rest.split_first() {
+    while let Some((first, after)) = rest.split_first() {
         if *first != b'"' {
             value.push(*first)?;
-            rest = behind;
+            rest = after;
             continue;
         }
-        let Some(after) = byte_of(b'"', behind) else {
-            return Ok((Value::new(value), behind));
+        let Some(after) = byte_of(b'"', after) else {
+            return Ok((Value::new(value), after));
         };
         value.push(b'"')?;
         rest = after;

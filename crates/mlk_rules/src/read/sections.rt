@@ -16,6 +16,9 @@ use mlk_text::{Code, Failure, List, Value as Text};
 use std::alloc::Global;
 use toml::{Table, Value};
 
+/// The most elements of a section.
+const MOST_ELEMENTS: usize = 1024;
+
 fn is_tables(values: &[Value]) -> bool
     ensures { result ≡ is_tables (items_view values.now) }
 {
@@ -62,7 +65,7 @@ pub fn section_of(section: Section, table: &Table) -> Result<&[Value], Failure<R
     let Some(values) = elements_in(table, section.key()) else {
         return Err(refused(Code::Key, section, 0));
     };
-    if count(values) > 1024 {
+    if count(values) > MOST_ELEMENTS {
         return Err(refused(Code::RulesLimit, section, 0));
     }
     Ok(values)

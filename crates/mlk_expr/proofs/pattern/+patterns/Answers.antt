@@ -4,7 +4,7 @@ use Rattle.mlk_text.specs.Lexemes.{byte_at}
 use Rattle.mlk_text.specs.Reading.{many, with}
 use Rattle.mlk_text.proofs.Readers.{many_stops, many_goes}
 use Rattle.mlk_expr.specs.Lexemes.{count_at}
-use Rattle.mlk_expr.proofs.Behind.{IsPattern}
+use Rattle.mlk_expr.proofs.Followed.{IsPattern}
 use Rattle.mlk_expr.specs.Reading.{next, matcher_by, pattern_at, rest_of}
 use Rattle.mlk_expr.proofs.Parts.{pattern-exact}
 use Rattle.mlk_expr.proofs.Loops.{loop_fails, with_fails, rest_fails, refused_fails, same_fails, item-shorter, matcher-shorter, pattern-above, pattern-none}

@@ -3,7 +3,7 @@ use Rattle.mlk_expr.specs.Trees.{tree_of}
 use Rattle.mlk_expr.specs.Touches.{subs_stand, Standing}
 use Rattle.mlk_expr.specs.Grammar.{IsReference}
 use Rattle.mlk_expr.specs.Theorem.{ReferenceEnds}
-use Rattle.mlk_expr.proofs.Behind as behind
+use Rattle.mlk_expr.proofs.Followed as followed
 use Rattle.mlk_expr.specs.Reading.{reference_in}
 use Rattle.mlk_text.specs.Failures.{FailsOn}
 use Rattle.mlk_expr.proofs.Scopes.{reference_in-exact, same-standing}
@@ -15,22 +15,22 @@ pub overflow_sub-result : goal.overflow_sub-result
 overflow_sub-result c =
     let moved = subst (λ l. reference_in (record { end = length c.args.line.now + 1; left = 63; allows = c.args.allows }) l ≡ Some (tree_of c.in-Ok.tree, c.in-Ok.rest.now)) c.split_at.ensures.back c.in-Ok.ensures in
     let h = subst (λ n. reference_in (record { end = n; left = 63; allows = c.args.allows }) (drop c.args.at c.args.line.now) ≡ Some (tree_of c.in-Ok.tree, c.in-Ok.rest.now)) (add-one (length c.args.line.now)) moved in
-    rest-within (λ end. reference_in (record { end = end; left = 63; allows = c.args.allows })) (λ end a xs ys. behind.IsReference end a xs ys × (subs_stand c.args.allows a ≡ true)) (Standing (subs_stand c.args.allows) IsReference) ReferenceEnds (reference_in-exact c.args.allows) (same-standing (subs_stand c.args.allows) behind.IsReference IsReference ReferenceEnds same-reference) c.args.line.now c.args.at (tree_of c.in-Ok.tree) c.in-Ok.rest.now h
+    rest-within (λ end. reference_in (record { end = end; left = 63; allows = c.args.allows })) (λ end a xs ys. followed.IsReference end a xs ys × (subs_stand c.args.allows a ≡ true)) (Standing (subs_stand c.args.allows) IsReference) ReferenceEnds (reference_in-exact c.args.allows) (same-standing (subs_stand c.args.allows) followed.IsReference IsReference ReferenceEnds same-reference) c.args.line.now c.args.at (tree_of c.in-Ok.tree) c.in-Ok.rest.now h
 
 pub returns-in-Ok-clause-found : goal.returns-in-Ok-clause-found
 returns-in-Ok-clause-found c =
     let moved = subst (λ l. reference_in (record { end = length c.args.line.now + 1; left = 63; allows = c.args.allows }) l ≡ Some (tree_of c.in-Ok.tree, c.in-Ok.rest.now)) c.split_at.ensures.back c.in-Ok.ensures in
     let h = subst (λ n. reference_in (record { end = n; left = 63; allows = c.args.allows }) (drop c.args.at c.args.line.now) ≡ Some (tree_of c.in-Ok.tree, c.in-Ok.rest.now)) (add-one (length c.args.line.now)) moved in
-    stands (λ end. reference_in (record { end = end; left = 63; allows = c.args.allows })) (λ end a xs ys. behind.IsReference end a xs ys × (subs_stand c.args.allows a ≡ true)) (Standing (subs_stand c.args.allows) IsReference) ReferenceEnds (reference_in-exact c.args.allows) (same-standing (subs_stand c.args.allows) behind.IsReference IsReference ReferenceEnds same-reference) c.args.line.now c.args.at c.requires (tree_of c.in-Ok.tree) c.in-Ok.rest.now h
+    stands (λ end. reference_in (record { end = end; left = 63; allows = c.args.allows })) (λ end a xs ys. followed.IsReference end a xs ys × (subs_stand c.args.allows a ≡ true)) (Standing (subs_stand c.args.allows) IsReference) ReferenceEnds (reference_in-exact c.args.allows) (same-standing (subs_stand c.args.allows) followed.IsReference IsReference ReferenceEnds same-reference) c.args.line.now c.args.at c.requires (tree_of c.in-Ok.tree) c.in-Ok.rest.now h
 
 pub returns-in-Ok-clause-only : goal.returns-in-Ok-clause-only
 returns-in-Ok-clause-only c =
     let moved = subst (λ l. reference_in (record { end = length c.args.line.now + 1; left = 63; allows = c.args.allows }) l ≡ Some (tree_of c.in-Ok.tree, c.in-Ok.rest.now)) c.split_at.ensures.back c.in-Ok.ensures in
     let h = subst (λ n. reference_in (record { end = n; left = 63; allows = c.args.allows }) (drop c.args.at c.args.line.now) ≡ Some (tree_of c.in-Ok.tree, c.in-Ok.rest.now)) (add-one (length c.args.line.now)) moved in
-    only (λ end. reference_in (record { end = end; left = 63; allows = c.args.allows })) (λ end a xs ys. behind.IsReference end a xs ys × (subs_stand c.args.allows a ≡ true)) (Standing (subs_stand c.args.allows) IsReference) ReferenceEnds (reference_in-exact c.args.allows) (same-standing (subs_stand c.args.allows) behind.IsReference IsReference ReferenceEnds same-reference) c.args.line.now c.args.at c.requires (tree_of c.in-Ok.tree) c.in-Ok.rest.now h
+    only (λ end. reference_in (record { end = end; left = 63; allows = c.args.allows })) (λ end a xs ys. followed.IsReference end a xs ys × (subs_stand c.args.allows a ≡ true)) (Standing (subs_stand c.args.allows) IsReference) ReferenceEnds (reference_in-exact c.args.allows) (same-standing (subs_stand c.args.allows) followed.IsReference IsReference ReferenceEnds same-reference) c.args.line.now c.args.at c.requires (tree_of c.in-Ok.tree) c.in-Ok.rest.now h
 
 pub returns-in-Err-clause-refused : goal.returns-in-Err-clause-refused
 returns-in-Err-clause-refused c =
     let moved = subst (λ l. FailsOn c.in-Err.refusal (reference_in (record { end = length c.args.line.now + 1; left = 63; allows = c.args.allows }) l)) c.split_at.ensures.back c.in-Err.ensures in
     let h = subst (λ n. FailsOn c.in-Err.refusal (reference_in (record { end = n; left = 63; allows = c.args.allows }) (drop c.args.at c.args.line.now))) (add-one (length c.args.line.now)) moved in
-    refuses (λ end. reference_in (record { end = end; left = 63; allows = c.args.allows })) (λ end a xs ys. behind.IsReference end a xs ys × (subs_stand c.args.allows a ≡ true)) (Standing (subs_stand c.args.allows) IsReference) ReferenceEnds (reference_in-exact c.args.allows) (same-standing (subs_stand c.args.allows) behind.IsReference IsReference ReferenceEnds same-reference) c.args.line.now c.args.at c.requires c.in-Err.refusal c.located.result h c.located.ensures.tells
+    refuses (λ end. reference_in (record { end = end; left = 63; allows = c.args.allows })) (λ end a xs ys. followed.IsReference end a xs ys × (subs_stand c.args.allows a ≡ true)) (Standing (subs_stand c.args.allows) IsReference) ReferenceEnds (reference_in-exact c.args.allows) (same-standing (subs_stand c.args.allows) followed.IsReference IsReference ReferenceEnds same-reference) c.args.line.now c.args.at c.requires c.in-Err.refusal c.located.result h c.located.ensures.tells

@@ -7,22 +7,22 @@ use Rattle.mlk_text.proofs.literal.quoted.Goals as goal
 
 pub returns-then-not-is_text_byte : goal.returns-then-not-is_text_byte
 returns-then-not-is_text_byte c =
-    let step = ap inside c.in-Some.ensures.cases.0 ∙ inside-bad c.in-Some.first.now c.in-Some.behind.now c.if-first-ne34.true (sym c.is_text_byte.ensures ∙ c.if-not-is_text_byte.true) in
+    let step = ap inside c.in-Some.ensures.cases.0 ∙ inside-bad c.in-Some.first.now c.in-Some.after.now c.if-first-ne34.true (sym c.is_text_byte.ensures ∙ c.if-not-is_text_byte.true) in
     sym c.loop-first.invariant ∙ ap (put c.loop-first.value.items) step
 
 pub loop-first-preserved-then-first-ne34 : goal.loop-first-preserved-then-first-ne34
 loop-first-preserved-then-first-ne34 c =
-    let step = ap inside c.in-Some.ensures.cases.0 ∙ inside-other c.in-Some.first.now c.in-Some.behind.now c.if-first-ne34.true (sym c.is_text_byte.ensures ∙ c.if-not-is_text_byte.false) in
-    rw c.in_ok-push.ensures.items (sym (put_put c.loop-first.value.items (c.in-Some.first.now ∷ []) (inside c.in-Some.behind.now)) ∙ ap (put c.loop-first.value.items) (sym step) ∙ c.loop-first.invariant)
+    let step = ap inside c.in-Some.ensures.cases.0 ∙ inside-other c.in-Some.first.now c.in-Some.after.now c.if-first-ne34.true (sym c.is_text_byte.ensures ∙ c.if-not-is_text_byte.false) in
+    rw c.in_ok-push.ensures.items (sym (put_put c.loop-first.value.items (c.in-Some.first.now ∷ []) (inside c.in-Some.after.now)) ∙ ap (put c.loop-first.value.items) (sym step) ∙ c.loop-first.invariant)
 
 pub returns-in_default-byte_of : goal.returns-in_default-byte_of
 returns-in_default-byte_of c =
-    let step = ap inside c.in-Some.ensures.cases.0 ∙ ap (λ b. inside (b ∷ c.in-Some.behind.now)) c.if-first-ne34.false ∙ inside-closed c.in-Some.behind.now (sym c.in_default-byte_of.ensures) in
+    let step = ap inside c.in-Some.ensures.cases.0 ∙ ap (λ b. inside (b ∷ c.in-Some.after.now)) c.if-first-ne34.false ∙ inside-closed c.in-Some.after.now (sym c.in_default-byte_of.ensures) in
     rw c.new.ensures (sym c.loop-first.invariant ∙ rw step (rw (append-nil c.loop-first.value.items) refl))
 
 pub loop-first-preserved : goal.loop-first-preserved
 loop-first-preserved c =
-    let step = ap inside c.in-Some.ensures.cases.0 ∙ ap (λ b. inside (b ∷ c.in-Some.behind.now)) c.if-first-ne34.false ∙ inside-twice c.in-Some.behind.now c.in-Some-byte_of.after.now (sym c.in-Some-byte_of.ensures) in
+    let step = ap inside c.in-Some.ensures.cases.0 ∙ ap (λ b. inside (b ∷ c.in-Some.after.now)) c.if-first-ne34.false ∙ inside-twice c.in-Some.after.now c.in-Some-byte_of.after.now (sym c.in-Some-byte_of.ensures) in
     rw c.in_ok-push-2.ensures.items (sym (put_put c.loop-first.value.items (34 ∷ []) (inside c.in-Some-byte_of.after.now)) ∙ ap (put c.loop-first.value.items) (sym step) ∙ c.loop-first.invariant)
 
 pub returns : goal.returns

@@ -16,8 +16,8 @@ returns c =
       λ e.
           let few : c.up_to_last.result ≤ c.leading_zeros.result + 15 = leb-true c.up_to_last.result (c.leading_zeros.result + 15) e in
           record {
-            few_before = c.if-before-gt25.false;
-            few_after = c.if-after-gt25.false;
+            few_before = c.if-before-gt-MOST_DIGITS.false;
+            few_after = c.if-after-gt-MOST_DIGITS.false;
             significant = significant-from 15 digits (omega arith);
           },
       λ x.

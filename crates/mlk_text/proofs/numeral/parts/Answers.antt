@@ -1,6 +1,6 @@
 use Rattle.std.proofs.Common.{◌≡◌, ◌+◌, ℕ, List, length, take, drop, Some, false, sym, ap, ◌∙◌, subst, rules, arith, ltb-true}
 use Rattle.std.specs.Prelude.{nat_lt}
-use Rattle.mlk_text.specs.Numbers.{are_digits, behind_point, IsNumeral}
+use Rattle.mlk_text.specs.Numbers.{are_digits, after_point, IsNumeral}
 use Rattle.mlk_text.specs.Lexemes.{digits}
 use Rattle.mlk_text.proofs.Numerals.{no_point, no_fraction, no_digit, numeral-from}
 use Rattle.mlk_text.proofs.numeral.parts.Goals as goal
@@ -15,7 +15,7 @@ returns-then-not-are_digits c =
     let found : List ℕ = c.in_ok-after.after.now in
     let front : c.split_at.result.0.now ≡ take (digits text) text = c.split_at.ensures.front ∙ ap (λ n. take n text) c.digits.ensures.value in
     let back : c.split_at.result.1.now ≡ drop (digits text) text = c.split_at.ensures.back ∙ ap (λ n. drop n text) c.digits.ensures.value in
-    let point : behind_point (drop (digits text) text) ≡ Some found = sym (c.in_ok-after.ensures ∙ ap behind_point back) in
+    let point : after_point (drop (digits text) text) ≡ Some found = sym (c.in_ok-after.ensures ∙ ap after_point back) in
     elim c.then-not-are_digits.branch [
       | then-not-are_digits-via-then-not-are_digits w ↦ λ before after. no_fraction found before after text point (let e : are_digits found ≡ false = cc in e)
       | then-not-are_digits-via-else-not-are_digits+then-not-has_digit w ↦ λ before after.
@@ -29,7 +29,7 @@ returns c =
     let found : List ℕ = c.in_ok-after.after.now in
     let front : c.split_at.result.0.now ≡ take (digits text) text = c.split_at.ensures.front ∙ ap (λ n. take n text) c.digits.ensures.value in
     let back : c.split_at.result.1.now ≡ drop (digits text) text = c.split_at.ensures.back ∙ ap (λ n. drop n text) c.digits.ensures.value in
-    let point : behind_point (drop (digits text) text) ≡ Some found = sym (c.in_ok-after.ensures ∙ ap behind_point back) in
+    let point : after_point (drop (digits text) text) ≡ Some found = sym (c.in_ok-after.ensures ∙ ap after_point back) in
     let some = ltb-true 0 (length c.split_at.result.0.now + length found) (sym c.if-not-has_digit.ensures) in
     let size = ap length front in
     subst (λ l. IsNumeral l found text) (sym front) (numeral-from found text point (sym c.if-not-are_digits.ensures) (omega arith))

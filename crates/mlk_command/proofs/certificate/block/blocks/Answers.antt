@@ -10,20 +10,20 @@ use Rattle.mlk_command.proofs.certificate.block.blocks.Goals as goal
 pub returns-in_err-item : goal.returns-in_err-item
 returns-in_err-item c =
     let p = err_from_is_err_and c.from_residual.result c.from_residual.ensures.1 in
-    rw (p.1, p.2) (run_refused (word_at (codes "entry ")) block_item c.loop-behind.invariant.reading.0 c.loop-behind.found.items c.loop-behind.rest.now _ (codes "entry ") c.in-Some.behind.now c.in_err-item.field-0.0
-    (sym c.in-Some.ensures) (rw (sym c.loop-behind.invariant.keys) c.in_err-item.ensures.read) c.loop-behind.invariant.reading.1 c.loop-behind.invariant.reading.2)
+    rw (p.1, p.2) (run_refused (word_at (codes "entry ")) block_item c.loop-after.invariant.reading.0 c.loop-after.found.items c.loop-after.rest.now _ (codes "entry ") c.in-Some.after.now c.in_err-item.field-0.0
+    (sym c.in-Some.ensures) (rw (sym c.loop-after.invariant.keys) c.in_err-item.ensures.read) c.loop-after.invariant.reading.1 c.loop-after.invariant.reading.2)
 
-pub loop-behind-smaller : goal.loop-behind-smaller
-loop-behind-smaller c = block-shorter _ c.in_ok-item.item c.loop-behind.rest.now c.in-Some.behind.now c.in_ok-item.after.now (sym c.in-Some.ensures) c.in_ok-item.ensures.read
+pub loop-after-smaller : goal.loop-after-smaller
+loop-after-smaller c = block-shorter _ c.in_ok-item.item c.loop-after.rest.now c.in-Some.after.now c.in_ok-item.after.now (sym c.in-Some.ensures) c.in_ok-item.ensures.read
 
-pub loop-behind-preserved : goal.loop-behind-preserved
-loop-behind-preserved c =
-    let shorter = block-shorter _ c.in_ok-item.item c.loop-behind.rest.now c.in-Some.behind.now c.in_ok-item.after.now (sym c.in-Some.ensures) c.in_ok-item.ensures.read in
+pub loop-after-preserved : goal.loop-after-preserved
+loop-after-preserved c =
+    let shorter = block-shorter _ c.in_ok-item.item c.loop-after.rest.now c.in-Some.after.now c.in_ok-item.after.now (sym c.in-Some.ensures) c.in_ok-item.ensures.read in
     rw c.in_ok-push.ensures.items (record {
-      reading = run_goes (word_at (codes "entry ")) block_item c.loop-behind.invariant.reading.0 c.loop-behind.found.items c.loop-behind.rest.now _ (codes "entry ") c.in-Some.behind.now c.in_ok-item.item c.in_ok-item.after.now
-          (sym c.in-Some.ensures) (rw (sym c.loop-behind.invariant.keys) c.in_ok-item.ensures.read) shorter c.loop-behind.invariant.reading.1 c.loop-behind.invariant.reading.2;
-      keys = c.in_ok-item.ensures.keys ∙ ap (λ l. l ++ c.in_ok-item.item.entry ∷ []) c.loop-behind.invariant.keys ∙ sym (map-append (λ b. b.entry) c.loop-behind.found.items (c.in_ok-item.item ∷ []));
+      reading = run_goes (word_at (codes "entry ")) block_item c.loop-after.invariant.reading.0 c.loop-after.found.items c.loop-after.rest.now _ (codes "entry ") c.in-Some.after.now c.in_ok-item.item c.in_ok-item.after.now
+          (sym c.in-Some.ensures) (rw (sym c.loop-after.invariant.keys) c.in_ok-item.ensures.read) shorter c.loop-after.invariant.reading.1 c.loop-after.invariant.reading.2;
+      keys = c.in_ok-item.ensures.keys ∙ ap (λ l. l ++ c.in_ok-item.item.entry ∷ []) c.loop-after.invariant.keys ∙ sym (map-append (λ b. b.entry) c.loop-after.found.items (c.in_ok-item.item ∷ []));
     })
 
 pub returns : goal.returns
-returns c = run_stops (word_at (codes "entry ")) block_item c.loop-behind.invariant.reading.0 c.loop-behind.found.items c.loop-behind.rest.now _ (sym c.in_default.ensures) c.loop-behind.invariant.reading.1 c.loop-behind.invariant.reading.2
+returns c = run_stops (word_at (codes "entry ")) block_item c.loop-after.invariant.reading.0 c.loop-after.found.items c.loop-after.rest.now _ (sym c.in_default.ensures) c.loop-after.invariant.reading.1 c.loop-after.invariant.reading.2

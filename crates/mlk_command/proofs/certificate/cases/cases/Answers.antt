@@ -10,28 +10,28 @@ use Rattle.mlk_command.proofs.certificate.cases.cases.Goals as goal
 
 pub returns-in_err-case : goal.returns-in_err-case
 returns-in_err-case c =
-    let count : c.len.result ≡ length c.loop-behind.found.items = omega (arith, c.len.ensures, c.loop-behind.found.ok.0) in
+    let count : c.len.result ≡ length c.loop-after.found.items = omega (arith, c.len.ensures, c.loop-after.found.ok.0) in
     let p = err_from_is_err_and c.from_residual.result c.from_residual.ensures.1 in
-    rw (p.1, p.2) (run_refused (lead_at c.args.lead) (case_item c.args.end.now) c.loop-behind.invariant.reading.0 c.loop-behind.found.items c.loop-behind.rest.now _ [] c.in-Some.behind.now c.in_err-case.field-0.0
-    (sym c.in-Some.ensures) (rw (sym c.loop-behind.invariant.last, sym count) c.in_err-case.ensures.read) c.loop-behind.invariant.reading.1 c.loop-behind.invariant.reading.2)
+    rw (p.1, p.2) (run_refused (lead_at c.args.lead) (case_item c.args.end.now) c.loop-after.invariant.reading.0 c.loop-after.found.items c.loop-after.rest.now _ [] c.in-Some.after.now c.in_err-case.field-0.0
+    (sym c.in-Some.ensures) (rw (sym c.loop-after.invariant.last, sym count) c.in_err-case.ensures.read) c.loop-after.invariant.reading.1 c.loop-after.invariant.reading.2)
 
-pub loop-behind-smaller : goal.loop-behind-smaller
-loop-behind-smaller c =
-    let one = case-given-shorter c.args.end.now _ _ c.in_ok-case.case c.in-Some.behind.now c.in-Some.behind.now c.in_ok-case.after.now c.in_ok-case.ensures.read in
-    let two = lead-shorter c.args.lead [] c.loop-behind.rest.now c.in-Some.behind.now (sym c.in-Some.ensures) in
+pub loop-after-smaller : goal.loop-after-smaller
+loop-after-smaller c =
+    let one = case-given-shorter c.args.end.now _ _ c.in_ok-case.case c.in-Some.after.now c.in-Some.after.now c.in_ok-case.after.now c.in_ok-case.ensures.read in
+    let two = lead-shorter c.args.lead [] c.loop-after.rest.now c.in-Some.after.now (sym c.in-Some.ensures) in
     omega arith
 
-pub loop-behind-preserved : goal.loop-behind-preserved
-loop-behind-preserved c =
-    let one = case-given-shorter c.args.end.now _ _ c.in_ok-case.case c.in-Some.behind.now c.in-Some.behind.now c.in_ok-case.after.now c.in_ok-case.ensures.read in
-    let two = lead-shorter c.args.lead [] c.loop-behind.rest.now c.in-Some.behind.now (sym c.in-Some.ensures) in
-    let count : c.len.result ≡ length c.loop-behind.found.items = omega (arith, c.len.ensures, c.loop-behind.found.ok.0) in
-    let shorter : length c.in_ok-case.after.now < length c.loop-behind.rest.now = omega arith in
+pub loop-after-preserved : goal.loop-after-preserved
+loop-after-preserved c =
+    let one = case-given-shorter c.args.end.now _ _ c.in_ok-case.case c.in-Some.after.now c.in-Some.after.now c.in_ok-case.after.now c.in_ok-case.ensures.read in
+    let two = lead-shorter c.args.lead [] c.loop-after.rest.now c.in-Some.after.now (sym c.in-Some.ensures) in
+    let count : c.len.result ≡ length c.loop-after.found.items = omega (arith, c.len.ensures, c.loop-after.found.ok.0) in
+    let shorter : length c.in_ok-case.after.now < length c.loop-after.rest.now = omega arith in
     rw c.in_ok-push.ensures.items (record {
-      reading = run_goes (lead_at c.args.lead) (case_item c.args.end.now) c.loop-behind.invariant.reading.0 c.loop-behind.found.items c.loop-behind.rest.now _ [] c.in-Some.behind.now c.in_ok-case.case c.in_ok-case.after.now
-          (sym c.in-Some.ensures) (rw (sym c.loop-behind.invariant.last, sym count) c.in_ok-case.ensures.read) shorter c.loop-behind.invariant.reading.1 c.loop-behind.invariant.reading.2;
-      last = ap (λ t. Some t) c.in_ok-case.ensures.text ∙ sym (ap (option_map (λ d. spell_case c.args.end.now d [])) (last-push c.loop-behind.found.items c.in_ok-case.case));
+      reading = run_goes (lead_at c.args.lead) (case_item c.args.end.now) c.loop-after.invariant.reading.0 c.loop-after.found.items c.loop-after.rest.now _ [] c.in-Some.after.now c.in_ok-case.case c.in_ok-case.after.now
+          (sym c.in-Some.ensures) (rw (sym c.loop-after.invariant.last, sym count) c.in_ok-case.ensures.read) shorter c.loop-after.invariant.reading.1 c.loop-after.invariant.reading.2;
+      last = ap (λ t. Some t) c.in_ok-case.ensures.text ∙ sym (ap (option_map (λ d. spell_case c.args.end.now d [])) (last-push c.loop-after.found.items c.in_ok-case.case));
     })
 
 pub returns : goal.returns
-returns c = run_stops (lead_at c.args.lead) (case_item c.args.end.now) c.loop-behind.invariant.reading.0 c.loop-behind.found.items c.loop-behind.rest.now _ (sym c.in_default.ensures) c.loop-behind.invariant.reading.1 c.loop-behind.invariant.reading.2
+returns c = run_stops (lead_at c.args.lead) (case_item c.args.end.now) c.loop-after.invariant.reading.0 c.loop-after.found.items c.loop-after.rest.now _ (sym c.in_default.ensures) c.loop-after.invariant.reading.1 c.loop-after.invariant.reading.2

@@ -4,11 +4,11 @@ use Rattle.mlk_command.specs.CertificateLexing.{word_at}
 use Rattle.mlk_command.specs.CertificateBlocks.{point_item, run}
 use Rattle.mlk_command.proofs.certificate.point.points.Given as goal
 
-abbrev pub invariant-loop-behind : goal.invariant-loop-behind
-invariant-loop-behind l = record {
+abbrev pub invariant-loop-after : goal.invariant-loop-after
+invariant-loop-after l = record {
   reading : (n : ℕ) × (length l.rest < n) × (run (word_at (codes "at ")) point_item n l.found.items l.rest ≡ run (word_at (codes "at ")) point_item (suc (length l.bytes)) [] l.bytes);
   last : l.last ≡ last_place l.found.items;
 }
 
-abbrev pub decreases-loop-behind : goal.decreases-loop-behind
-decreases-loop-behind l = length l.rest
+abbrev pub decreases-loop-after : goal.decreases-loop-after
+decreases-loop-after l = length l.rest

@@ -12,10 +12,10 @@ returns-in_default c = body-open c.args.end c.args.bytes.now (sym c.in_default.e
 pub returns-in_err-found : goal.returns-in_err-found
 returns-in_err-found c =
     let p = err_from_is_err_and c.from_residual.result c.from_residual.ensures.1 in
-    rw (p.1, p.2) (commands-stop c.in_err-found.field-0.0 c.args.end _ c.args.bytes.now c.in-Some.behind.now (sym c.in-Some.ensures) c.in_err-found.ensures)
+    rw (p.1, p.2) (commands-stop c.in_err-found.field-0.0 c.args.end _ c.args.bytes.now c.in-Some.after.now (sym c.in-Some.ensures) c.in_err-found.ensures)
 
 pub returns-then-not-closes : goal.returns-then-not-closes
-returns-then-not-closes c = body-ends c.args.end _ c.args.bytes.now c.in-Some.behind.now c.in_ok-found.rest.now c.in_ok-found.found.items (sym c.in-Some.ensures) c.in_ok-found.ensures (sym c.closes-2.ensures ∙ c.if-not-closes.true)
+returns-then-not-closes c = body-ends c.args.end _ c.args.bytes.now c.in-Some.after.now c.in_ok-found.rest.now c.in_ok-found.found.items (sym c.in-Some.ensures) c.in_ok-found.ensures (sym c.closes-2.ensures ∙ c.if-not-closes.true)
 
 pub returns : goal.returns
-returns c = body-read c.args.end _ c.args.bytes.now c.in-Some.behind.now c.in_ok-found.rest.now c.in_ok-found.found.items (sym c.in-Some.ensures) c.in_ok-found.ensures (sym c.closes-2.ensures ∙ c.if-not-closes.false)
+returns c = body-read c.args.end _ c.args.bytes.now c.in-Some.after.now c.in_ok-found.rest.now c.in_ok-found.found.items (sym c.in-Some.ensures) c.in_ok-found.ensures (sym c.closes-2.ensures ∙ c.if-not-closes.false)
