@@ -85,9 +85,9 @@ fn more_terms<'a>(
     let mut last = text;
     let mut sorted = true;
     let mut rest = bytes;
-    while let Some(after) = byte_of(b';', rest) {
-        let (item, after) = term(alloc, after)?;
-        let text = front_of(after, after);
+    while let Some(next) = byte_of(b';', rest) {
+        let (item, after) = term(alloc, next)?;
+        let text = front_of(next, after);
         sorted = joined(sorted, last, text);
         found.push(item)?;
         last = text;

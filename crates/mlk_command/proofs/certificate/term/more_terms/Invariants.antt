@@ -6,12 +6,12 @@ use Rattle.mlk_command.specs.CertificateSpelling.{last_of, ascends, terms_upto, 
 use Rattle.mlk_command.specs.CertificateLexing.{next, term_at}
 use Rattle.mlk_command.proofs.certificate.term.more_terms.Given as goal
 
-abbrev pub invariant-loop-after : goal.invariant-loop-after
-invariant-loop-after l = record {
+abbrev pub invariant-loop-next : goal.invariant-loop-next
+invariant-loop-next l = record {
   reading : (n : ℕ) × (length l.rest < n) × (put l.found.items (many (byte_at 59) (next term_at) n l.rest) ≡ put (l.fn.first ∷ []) (many (byte_at 59) (next term_at) (suc (length l.bytes)) l.bytes));
   last : (t : LockName) × (last_of l.found.items ≡ Some t) × (l.last ≡ spell_term t []);
   order : l.sorted ≡ ascends terms_upto l.found.items;
 }
 
-abbrev pub decreases-loop-after : goal.decreases-loop-after
-decreases-loop-after l = length l.rest
+abbrev pub decreases-loop-next : goal.decreases-loop-next
+decreases-loop-next l = length l.rest
