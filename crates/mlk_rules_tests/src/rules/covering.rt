@@ -1,191 +1,141 @@
 // What rules that were read answer.
 
-use super::help::{BASE, constant, reference, term};
-use mlk_names::{Access, Extent, LockTerm, Reference, prefix};
+use super::help::{BASE, Spelled, reference, term, terms};
+use mlk_names::{Access, Extent, LockTerm, prefix};
 use mlk_rules::{
-    Pattern, Rules, covered, covered_apart, lock_of_node, marked_alike, may_meet, one_answer,
-    one_rank, rank_of, read_rules, share_pattern, surely_lies, templates,
+    Rules, covered, covered_apart, lock_of_node, marked_alike, may_meet, one_answer, one_rank,
+    rank_of, read_rules, share_pattern, surely_lies, templates,
 };
 use std::alloc::{AllocError, Global};
-use std::slice;
 use std::test::Fail;
 
-const NODE: Extent = Extent::Node;
+const READ_NODE: (Extent, Access) = (Extent::Node, Access::Reads);
 
-const TREE: Extent = Extent::Tree;
+const READ_TREE: (Extent, Access) = (Extent::Tree, Access::Reads);
 
-const READS: Access = Access::Reads;
+const WRITE_NODE: (Extent, Access) = (Extent::Node, Access::Writes);
 
-const WRITES: Access = Access::Writes;
+const WRITE_TREE: (Extent, Access) = (Extent::Tree, Access::Writes);
 
-// The number of the code that is answered, and 0 where the reference is covered.
-fn answer(
+// What is answered where a file is no rule file.
+const NO_RULES: u16 = 999;
+
+fn answer_by(
     alloc: Global,
     rules: &Rules,
     held: &[LockTerm],
-    global: &[u8],
-    sub: &[u8],
+    at: Spelled,
     how: (Extent, Access),
 ) -> Result<u16, AllocError> {
-    let reference = reference(alloc, global, sub, how.0, how.1)?;
+    let reference = reference(alloc, at, how)?;
     match covered(rules, &reference, held) {
         Ok(()) => Ok(0),
         Err(code) => Ok(code.number()),
     }
 }
 
-// The same of a write of an unknown account, where this term is held.
-fn answer_under(alloc: Global, rules: &Rules, held: &LockTerm) -> Result<u16, AllocError> {
-    answer(
-        alloc,
-        rules,
-        slice::from_ref(held),
-        b"ACCT",
-        b"?",
-        (NODE, WRITES),
-    )
+// The number of the code that is answered, and 0 where the reference is covered.
+fn answer(
+    alloc: Global,
+    file: &[u8],
+    held: &[Spelled],
+    at: Spelled,
+    how: (Extent, Access),
+) -> Result<u16, AllocError> {
+    let Ok(rules) = read_rules(alloc, file) else {
+        return Ok(NO_RULES);
+    };
+    let held = terms(alloc, held)?;
+    answer_by(alloc, &rules, held.as_slice(), at, how)
 }
 
 #[test]
 fn what_an_account_held_covers(rt: HostRuntime) -> Result<(), Fail> {
-    let rules = read_rules(rt.alloc(), BASE)?;
-    let whole = term(rt.alloc(), b"ACCT", b"")?;
-    assert_eq!(rt; answer_under(rt.alloc(), &rules, &whole)?, 0);
+    let rows: &[(Spelled, u16)] = &[((b"ACCT", b""), 0), ((b"ACCT", b"1"), 702)];
+    for row in rows {
+        let found = answer(rt.alloc(), BASE, &[row.0], (b"ACCT", b"?"), WRITE_NODE)?;
+        assert_eq!(rt; found, row.1);
+    }
     Ok(())
-}
-
-#[test]
-fn what_one_account_held_covers(rt: HostRuntime) -> Result<(), Fail> {
-    let rules = read_rules(rt.alloc(), BASE)?;
-    let one = constant(rt.alloc(), b"ACCT", b"1")?;
-    assert_eq!(rt; answer_under(rt.alloc(), &rules, &one)?, 702);
-    Ok(())
-}
-
-fn account_and_log(alloc: Global) -> Result<Vec<LockTerm>, AllocError> {
-    let mut held = Vec::new(alloc);
-    held.push(term(alloc, b"ACCT", b"ID")?)?;
-    held.push(term(alloc, b"LOG", b"")?)?;
-    Ok(held)
 }
 
 #[test]
 fn what_two_locks_held_cover(rt: HostRuntime) -> Result<(), Fail> {
-    let rules = read_rules(rt.alloc(), BASE)?;
-    let held = account_and_log(rt.alloc())?;
-    let held = held.as_slice();
-    let rows: &[(&[u8], &[u8], u16)] = &[
-        (b"ACCT", b"ID", 0),
-        (b"ACCT", b"1", 702),
-        (b"ACCT", b"?", 702),
-        (b"LOG", b"ID", 0),
-        (b"OTHER", b"", 701),
+    let held: &[Spelled] = &[(b"ACCT", b"ID"), (b"LOG", b"")];
+    let rows: &[(Spelled, u16)] = &[
+        ((b"ACCT", b"ID"), 0),
+        ((b"ACCT", b"1"), 702),
+        ((b"ACCT", b"?"), 702),
+        ((b"LOG", b"ID"), 0),
+        ((b"OTHER", b""), 701),
     ];
     for row in rows {
-        let found = answer(rt.alloc(), &rules, held, row.0, row.1, (NODE, WRITES))?;
-        assert_eq!(rt; found, row.2);
+        assert_eq!(rt; answer(rt.alloc(), BASE, held, row.0, WRITE_NODE)?, row.1);
     }
     Ok(())
 }
 
 #[test]
 fn what_nothing_held_covers(rt: HostRuntime) -> Result<(), Fail> {
-    let rules = read_rules(rt.alloc(), BASE)?;
-    let rows: &[(&[u8], &[u8], (Extent, Access), u16)] = &[
-        (b"ACCT", b"", (NODE, READS), 701),
-        (b"CONF", b"", (TREE, READS), 0),
-        (b"CONF", b"x", (NODE, WRITES), 703),
-        (b"TMP", b"", (TREE, WRITES), 704),
-        (b"TMP", b"?", (NODE, READS), 701),
-        (b"TMP", b"$J", (TREE, WRITES), 0),
-        (b"OTHER", b"", (NODE, READS), 701),
+    let rows: &[(Spelled, (Extent, Access), u16)] = &[
+        ((b"ACCT", b""), READ_NODE, 701),
+        ((b"CONF", b""), READ_TREE, 0),
+        ((b"CONF", b"x"), WRITE_NODE, 703),
+        ((b"TMP", b""), WRITE_TREE, 704),
+        ((b"TMP", b"?"), READ_NODE, 701),
+        ((b"TMP", b"$J"), WRITE_TREE, 0),
+        ((b"OTHER", b""), READ_NODE, 701),
     ];
     for row in rows {
-        let found = answer(rt.alloc(), &rules, &[], row.0, row.1, row.2)?;
-        assert_eq!(rt; found, row.3);
+        assert_eq!(rt; answer(rt.alloc(), BASE, &[], row.0, row.1)?, row.2);
     }
     Ok(())
 }
 
+const ONE_READONLY: &[u8] =
+    b"cover = [{global = \"^A(x,...)\", lock = \"^A(x)\"}]\nreadonly = [{global = \"^A(7,...)\"}]";
+
 #[test]
 fn a_write_of_what_may_be_readonly(rt: HostRuntime) -> Result<(), Fail> {
-    let rules = read_rules(
+    let found = answer(
         rt.alloc(),
-        b"cover = [{global = \"^A(x,...)\", lock = \"^A(x)\"}]\nreadonly = [{global = \"^A(7,...)\"}]",
+        ONE_READONLY,
+        &[(b"A", b"")],
+        (b"A", b"?"),
+        WRITE_NODE,
     )?;
-    let held = [term(rt.alloc(), b"A", b"")?];
-    let found = answer(rt.alloc(), &rules, &held, b"A", b"?", (NODE, WRITES))?;
     assert_eq!(rt; found, 703);
     Ok(())
-}
-
-// What a write of an unknown account lacks, where this term is held.
-fn lacking(alloc: Global, rules: &Rules, held: &LockTerm) -> Result<Vec<LockTerm>, AllocError> {
-    let unknown = reference(alloc, b"ACCT", b"?", NODE, WRITES)?;
-    templates(alloc, rules, &unknown, slice::from_ref(held))
 }
 
 const TWO_COVERS: &[u8] =
     b"cover = [{global = \"^A(x,...)\", lock = \"^A(x)\"}, {global = \"^A(1,...)\", lock = \"^L\"}]";
 
-fn pair(first: LockTerm, second: LockTerm, alloc: Global) -> Result<Vec<LockTerm>, AllocError> {
-    let mut held = Vec::new(alloc);
-    held.push(first)?;
-    held.push(second)?;
-    Ok(held)
-}
-
 #[test]
 fn both_rules_that_may_be_met_are_asked(rt: HostRuntime) -> Result<(), Fail> {
-    let alloc = rt.alloc();
-    let rules = read_rules(alloc, TWO_COVERS)?;
-    let one = constant(alloc, b"A", b"1")?;
-    let other = term(alloc, b"L", b"")?;
-    let write = (NODE, WRITES);
-    assert_eq!(rt; answer(alloc, &rules, &[], b"A", b"1", write)?, 702);
-    assert_eq!(rt;
-        answer(alloc, &rules, slice::from_ref(&one), b"A", b"1", write)?,
-        702
-    );
-    assert_eq!(rt;
-        answer(alloc, &rules, slice::from_ref(&other), b"A", b"1", write)?,
-        702
-    );
-    let both = pair(one, other, alloc)?;
-    assert_eq!(rt;
-        answer(alloc, &rules, both.as_slice(), b"A", b"1", write)?,
-        0
-    );
+    let rows: &[(&[Spelled], u16)] = &[
+        (&[], 702),
+        (&[(b"A", b"1")], 702),
+        (&[(b"L", b"")], 702),
+        (&[(b"A", b"1"), (b"L", b"")], 0),
+    ];
+    for row in rows {
+        let found = answer(rt.alloc(), TWO_COVERS, row.0, (b"A", b"1"), WRITE_NODE)?;
+        assert_eq!(rt; found, row.1);
+    }
     Ok(())
 }
 
 #[test]
 fn a_rule_that_is_not_met_is_not_asked(rt: HostRuntime) -> Result<(), Fail> {
-    let alloc = rt.alloc();
-    let rules = read_rules(alloc, TWO_COVERS)?;
-    let two = constant(alloc, b"A", b"2")?;
-    let write = (NODE, WRITES);
-    assert_eq!(rt;
-        answer(alloc, &rules, slice::from_ref(&two), b"A", b"2", write)?,
-        0
-    );
-    Ok(())
-}
-
-#[test]
-fn both_locks_are_lacking(rt: HostRuntime) -> Result<(), Fail> {
-    let alloc = rt.alloc();
-    let rules = read_rules(alloc, TWO_COVERS)?;
-    let unknown = reference(alloc, b"A", b"?", NODE, WRITES)?;
-    let found = templates(alloc, &rules, &unknown, &[])?;
-    assert_eq!(rt; found.len(), 2);
-    let whole = term(alloc, b"A", b"")?;
-    let other = term(alloc, b"L", b"")?;
-    assert!(rt; is_at(found.as_slice(), 0, &whole));
-    assert!(rt; is_at(found.as_slice(), 1, &other));
-    let held = pair(whole, other, alloc)?;
-    let left = templates(alloc, &rules, &unknown, held.as_slice())?;
-    assert!(rt; left.is_empty());
+    let found = answer(
+        rt.alloc(),
+        TWO_COVERS,
+        &[(b"A", b"2")],
+        (b"A", b"2"),
+        WRITE_NODE,
+    )?;
+    assert_eq!(rt; found, 0);
     Ok(())
 }
 
@@ -195,94 +145,122 @@ const THREE_KINDS: &[u8] =
 
 #[test]
 fn the_first_that_is_wrong_is_told(rt: HostRuntime) -> Result<(), Fail> {
-    let alloc = rt.alloc();
-    let rules = read_rules(alloc, THREE_KINDS)?;
     let rows: &[(&[u8], (Extent, Access), u16)] = &[
-        (b"", (NODE, WRITES), 701),
-        (b"?", (NODE, WRITES), 703),
-        (b"7", (NODE, WRITES), 703),
-        (b"8", (NODE, WRITES), 704),
-        (b"?", (NODE, READS), 704),
-        (b"$J", (NODE, READS), 702),
-        (b"$J", (NODE, WRITES), 703),
-        (b"", (TREE, WRITES), 703),
+        (b"", WRITE_NODE, 701),
+        (b"?", WRITE_NODE, 703),
+        (b"7", WRITE_NODE, 703),
+        (b"8", WRITE_NODE, 704),
+        (b"?", READ_NODE, 704),
+        (b"$J", READ_NODE, 702),
+        (b"$J", WRITE_NODE, 703),
+        (b"", WRITE_TREE, 703),
     ];
     for row in rows {
-        assert_eq!(rt; answer(alloc, &rules, &[], b"A", row.0, row.1)?, row.2);
+        let found = answer(rt.alloc(), THREE_KINDS, &[], (b"A", row.0), row.1)?;
+        assert_eq!(rt; found, row.2);
     }
     Ok(())
 }
 
-// Whether this term stands at the place.
-fn is_at(found: &[LockTerm], i: usize, whole: &LockTerm) -> bool {
-    match found.get(i) {
-        Some(term) => prefix(term, whole) && prefix(whole, term),
-        None => false,
-    }
+// Whether these are just the terms, in this order.
+fn are_same(found: &[LockTerm], wanted: &[LockTerm]) -> bool {
+    found.len() == wanted.len()
+        && found
+            .iter()
+            .zip(wanted)
+            .all(|(a, b)| prefix(a, b) && prefix(b, a))
 }
 
-fn is_alone(found: &[LockTerm], whole: &LockTerm) -> bool {
-    match found.split_first() {
-        Some((first, others)) => {
-            others.is_empty() && prefix(first, whole) && prefix(whole, first)
-        }
-        None => false,
-    }
+fn lacks_by(
+    alloc: Global,
+    rules: &Rules,
+    held: &[LockTerm],
+    at: Spelled,
+    wanted: &[LockTerm],
+) -> Result<bool, AllocError> {
+    let reference = reference(alloc, at, WRITE_NODE)?;
+    let found = templates(alloc, rules, &reference, held)?;
+    Ok(are_same(found.as_slice(), wanted))
+}
+
+// Whether a write lacks just these terms where others are held.
+fn lacks(
+    alloc: Global,
+    file: &[u8],
+    held: &[Spelled],
+    at: Spelled,
+    wanted: &[Spelled],
+) -> Result<bool, AllocError> {
+    let Ok(rules) = read_rules(alloc, file) else {
+        return Ok(false);
+    };
+    let held = terms(alloc, held)?;
+    let wanted = terms(alloc, wanted)?;
+    lacks_by(alloc, &rules, held.as_slice(), at, wanted.as_slice())
 }
 
 #[test]
 fn what_an_unknown_account_lacks(rt: HostRuntime) -> Result<(), Fail> {
-    let rules = read_rules(rt.alloc(), BASE)?;
-    let one = constant(rt.alloc(), b"ACCT", b"1")?;
-    let found = lacking(rt.alloc(), &rules, &one)?;
-    let whole = term(rt.alloc(), b"ACCT", b"")?;
-    assert!(rt; is_alone(found.as_slice(), &whole));
+    let held: &[Spelled] = &[(b"ACCT", b"1")];
+    assert!(rt; lacks(rt.alloc(), BASE, held, (b"ACCT", b"?"), &[(b"ACCT", b"")])?);
     Ok(())
 }
 
-fn rank(
-    alloc: Global,
-    rules: &Rules,
-    global: &[u8],
-    sub: &[u8],
-) -> Result<Option<u32>, AllocError> {
-    let term = term(alloc, global, sub)?;
-    Ok(rank_of(rules, &term))
+#[test]
+fn both_locks_are_lacking(rt: HostRuntime) -> Result<(), Fail> {
+    let both: &[Spelled] = &[(b"A", b""), (b"L", b"")];
+    assert!(rt; lacks(rt.alloc(), TWO_COVERS, &[], (b"A", b"?"), both)?);
+    assert!(rt; lacks(rt.alloc(), TWO_COVERS, both, (b"A", b"?"), &[])?);
+    Ok(())
+}
+
+// The rank of a term, and none where the file is no rule file.
+fn rank(alloc: Global, file: &[u8], spelled: Spelled) -> Result<Option<u32>, AllocError> {
+    let Ok(rules) = read_rules(alloc, file) else {
+        return Ok(None);
+    };
+    let term = term(alloc, spelled)?;
+    Ok(rank_of(&rules, &term))
 }
 
 #[test]
 fn ranks_of_terms(rt: HostRuntime) -> Result<(), Fail> {
-    let rules = read_rules(rt.alloc(), BASE)?;
-    assert_eq!(rt; rank(rt.alloc(), &rules, b"ACCT", b"ID")?, Some(10));
-    assert_eq!(rt; rank(rt.alloc(), &rules, b"B", b"")?, None);
+    assert_eq!(rt; rank(rt.alloc(), BASE, (b"ACCT", b"ID"))?, Some(10));
+    assert_eq!(rt; rank(rt.alloc(), BASE, (b"B", b""))?, None);
     Ok(())
 }
 
-fn is_met(patterns: &[Pattern], i: usize, reference: &Reference) -> bool {
-    match patterns.get(i) {
-        Some(pattern) => may_meet(pattern, reference),
-        None => false,
+// Whether the readonly pattern at this place may be met.
+fn is_met(
+    alloc: Global,
+    file: &[u8],
+    i: usize,
+    sub: &[u8],
+    extent: Extent,
+) -> Result<bool, AllocError> {
+    let Ok(rules) = read_rules(alloc, file) else {
+        return Ok(false);
+    };
+    let reference = reference(alloc, (b"A", sub), (extent, Access::Reads))?;
+    match rules.lists().readonly.as_slice().get(i) {
+        Some(pattern) => Ok(may_meet(pattern, &reference)),
+        None => Ok(false),
     }
 }
 
 #[test]
 fn patterns_that_may_be_met(rt: HostRuntime) -> Result<(), Fail> {
-    let rules = read_rules(
-        rt.alloc(),
-        b"readonly = [{global = \"^A(1)\"}, {global = \"^A(x)\"}]",
-    )?;
-    let patterns = rules.lists().readonly.as_slice();
+    let file = b"readonly = [{global = \"^A(1)\"}, {global = \"^A(x)\"}]";
     let rows: &[(&[u8], Extent, bool, bool)] = &[
-        (b"1", NODE, true, true),
-        (b"2", NODE, false, true),
-        (b"?", NODE, true, true),
-        (b"", NODE, false, false),
-        (b"", TREE, true, true),
+        (b"1", Extent::Node, true, true),
+        (b"2", Extent::Node, false, true),
+        (b"?", Extent::Node, true, true),
+        (b"", Extent::Node, false, false),
+        (b"", Extent::Tree, true, true),
     ];
     for row in rows {
-        let reference = reference(rt.alloc(), b"A", row.0, row.1, READS)?;
-        assert!(rt; is_met(patterns, 0, &reference) == row.2);
-        assert!(rt; is_met(patterns, 1, &reference) == row.3);
+        assert_eq!(rt; is_met(rt.alloc(), file, 0, row.0, row.1)?, row.2);
+        assert_eq!(rt; is_met(rt.alloc(), file, 1, row.0, row.1)?, row.3);
     }
     Ok(())
 }

@@ -5,6 +5,9 @@ use mlk_rules::{Section, read_rules};
 use mlk_text::{Failure, Name, Subscripts, Value};
 use std::alloc::{AllocError, Global};
 
+// A global and one subscript, or none where it is empty.
+pub(super) type Spelled<'a> = (&'a [u8], &'a [u8]);
+
 pub(super) const BASE: &[u8] =
     b"[[lock]]\nname = \"^ACCT\"\nrank = 10\n[[lock]]\nname = \"^LOG\"\nrank = 20\n[[cover]]\nglobal = \"^ACCT(id,...)\"\nlock = \"^ACCT(id)\"\n[[cover]]\nglobal = \"^LOG(...)\"\nlock = \"^LOG\"\n[[private]]\nglobal = \"^TMP($J,...)\"\n[[readonly]]\nglobal = \"^CONF(...)\"\n[[entry]]\nlabel = \"DEP^BANK\"\n";
 
@@ -56,36 +59,41 @@ fn symbols(alloc: Global, text: &[u8]) -> Result<Vec<Sym>, AllocError> {
 
 pub(super) fn reference(
     alloc: Global,
-    global: &[u8],
-    sub: &[u8],
-    extent: Extent,
-    access: Access,
+    spelled: Spelled,
+    how: (Extent, Access),
 ) -> Result<Reference, AllocError> {
+    let root = name(alloc, spelled.0)?;
+    let subs = Subscripts::of(symbols(alloc, spelled.1)?);
     Ok(Reference {
-        root: name(alloc, global)?,
-        subs: Subscripts::of(symbols(alloc, sub)?),
-        extent,
-        access,
+        root,
+        subs,
+        extent: how.0,
+        access: how.1,
     })
 }
 
-// A term on a global with no subscript, or with the local of this name as its one.
-pub(super) fn term(alloc: Global, global: &[u8], sub: &[u8]) -> Result<LockTerm, AllocError> {
+// The subscripts of a term: none of an empty text, the local `ID`, else this constant.
+fn known(alloc: Global, text: &[u8]) -> Result<Vec<KnownSym>, AllocError> {
     let mut items = Vec::new(alloc);
-    if !sub.is_empty() {
-        items.push(KnownSym::Local(name(alloc, sub)?))?;
+    if text == b"ID".as_slice() {
+        items.push(KnownSym::Local(name(alloc, text)?))?;
+    } else if !text.is_empty() {
+        items.push(KnownSym::Const(Value::new(Vec::from_slice(alloc, text)?)))?;
     }
-    Ok(LockTerm {
-        root: Root::Global(name(alloc, global)?),
-        subs: Subscripts::of(items),
-    })
+    Ok(items)
 }
 
-// A term on a global with this constant as its one subscript.
-pub(super) fn constant(alloc: Global, global: &[u8], sub: &[u8]) -> Result<LockTerm, AllocError> {
-    let value = Value::new(Vec::from_slice(alloc, sub)?);
-    Ok(LockTerm {
-        root: Root::Global(name(alloc, global)?),
-        subs: Subscripts::of(vec![in alloc; KnownSym::Const(value)]?),
-    })
+// A term on this global, with the subscripts of this text.
+pub(super) fn term(alloc: Global, spelled: Spelled) -> Result<LockTerm, AllocError> {
+    let root = Root::Global(name(alloc, spelled.0)?);
+    let subs = Subscripts::of(known(alloc, spelled.1)?);
+    Ok(LockTerm { root, subs })
+}
+
+pub(super) fn terms(alloc: Global, spelled: &[Spelled]) -> Result<Vec<LockTerm>, AllocError> {
+    let mut found = Vec::new(alloc);
+    for one in spelled {
+        found.push(term(alloc, *one)?)?;
+    }
+    Ok(found)
 }
