@@ -1,6 +1,7 @@
 // Reading a file whole.
 
 ghost use Rattle.std.specs.Prelude.{◌≡◌, ◌≤◌, IfOk, IfSome, length};
+ghost use Rattle.mlk_command.specs.declared.file.TheConstants.{LONGEST_FILE};
 
 use std::alloc::Global;
 use std::io::{self, ErrorKind, Read};
@@ -16,7 +17,7 @@ const TOO_LONG: u64 = (128 << 20) + 1;
 /// However few bytes a single read gives, nothing is left out.
 pub fn read_whole<R: Read + Drop>(alloc: Global, reader: R) -> io::Result<Vec<u8>>
     ensures whole { IfOk result (λ bytes. IfSome (R.remaining reader) (λ all. bytes.items ≡ all)) }
-    ensures bound { IfOk result (λ bytes. length bytes.items ≤ 134217728) }
+    ensures bound { IfOk result (λ bytes. length bytes.items ≤ LONGEST_FILE) }
 {
     let mut bytes = Vec::new(alloc);
     let mut limited = reader.take(TOO_LONG);

@@ -37,7 +37,8 @@ fn after_point(bytes: &[u8]) -> Option<&[u8]>
 
 // The digits before and after the point.
 fn parts(literal: &[u8]) -> Option<(&[u8], &[u8])>
-    ensures { MatchOption result ((before after : List ℕ) → IsNumeral before after literal.now → ⊥) (λ p. IsNumeral p.0.now p.1.now literal.now) }
+    ensures { MatchOption result ((before after : List ℕ) → IsNumeral before after literal.now → ⊥)
+        (λ p. IsNumeral p.0.now p.1.now literal.now) }
 {
     let (before, rest) = literal.split_at(digits(literal));
     let after = after_point(rest)?;

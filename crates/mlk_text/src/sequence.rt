@@ -40,7 +40,8 @@ pub fn separated<'a, R: Items>(
 ) -> Result<(Vec<R::Item>, &'a [u8]), Failure<R::Reason>>
     requires leaves { Leaves (R.item_at items.now) }
     requires shortens { Shortens (R.separator_at items.now) }
-    ensures { Reads (λ x. (x.0.items, x.1.now)) result (separated (R.separator_at items.now) (R.item_at items.now) bytes.now) }
+    ensures { Reads (λ x. (x.0.items, x.1.now)) result
+        (separated (R.separator_at items.now) (R.item_at items.now) bytes.now) }
 {
     let (first, mut rest) = items.item(alloc, bytes)?;
     let mut found = Vec::new(alloc);
