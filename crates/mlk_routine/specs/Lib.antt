@@ -1,0 +1,4 @@
+pub mod Trees
+pub mod CommandWords
+pub mod CommandGrammar
+pub mod RoutineGrammar

@@ -1,0 +1,12 @@
+//! The routines of M: their trees, and the reader that is exact for their grammar.
+#![tactic(auto)]
+
+mod routine;
+mod tree;
+
+pub use routine::{Line, Routine};
+pub use tree::{
+    Action, Call, Command, Commands, Control, DoArgument, For, KillArgument, LockArgument,
+    MergeArgument, NewArgument, Parameter, Part, ReadArgument, SetArgument, Sign, Target, Variable,
+    WriteArgument,
+};
