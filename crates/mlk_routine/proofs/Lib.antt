@@ -1,0 +1,4 @@
+pub mod Sequences
+pub mod Bytes
+pub mod Outcomes
+pub mod Lists

@@ -1,0 +1,28 @@
+-- What may stand after the parts of arguments. This project's own.
+use Rattle.std.specs.Prelude.{ℕ, ◌≢◌, List, [], ◌∷◌, Option, Some, None}
+use Rattle.mlk_expr.specs.Trees.{Tree}
+use Rattle.mlk_expr.specs.Theorem.{ExprEnds, ReferenceEnds}
+use Rattle.mlk_routine.specs.Told.{first_of}
+use Rattle.mlk_routine.specs.Trees.{VariableTree, Named}
+
+-- no such byte
+abbrev pub Lacks : ℕ → List ℕ → Type 0
+Lacks b rest = first_of rest ≢ Some b
+
+-- after an expression that may be missing: what ends one, or not the byte before it
+abbrev pub AfterEnds : ℕ → Option Tree → List ℕ → Type 0
+AfterEnds b None rest = Lacks b rest
+AfterEnds b (Some t) rest = ExprEnds t rest
+
+abbrev pub VariableEnds : VariableTree → List ℕ → Type 0
+VariableEnds (Named column name) rest = ReferenceEnds name rest
+
+-- after more items of a list: no comma, and what may stand after the last item
+abbrev pub MoreEnds : {A : Type 0} → (A → List ℕ → Type 0) → A → List A → List ℕ → Type 0
+MoreEnds Ends last [] rest = Lacks 44 rest × Ends last rest
+MoreEnds Ends last (a ∷ more) rest = MoreEnds Ends a more rest
+
+-- after a list
+abbrev pub AreEnded : {A : Type 0} → (A → List ℕ → Type 0) → List A → List ℕ → Type 0
+AreEnded Ends [] rest = ⊥
+AreEnded Ends (a ∷ items) rest = MoreEnds Ends a items rest

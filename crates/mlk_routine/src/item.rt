@@ -1,0 +1,73 @@
+// What stands between commas, and lists of it.
+
+ghost use Rattle.std.specs.Prelude.{◌≡◌, ◌≤◌, length, map};
+ghost use Rattle.mlk_routine.specs.Told.{Told};
+ghost use Rattle.mlk_routine.specs.Commas.{expr_comma};
+ghost use Rattle.mlk_routine.specs.Ends.{AreEnded};
+ghost use Rattle.mlk_expr.specs.Grammar.{IsList, IsExprWhere};
+ghost use Rattle.mlk_expr.specs.Trees.{Tree, tree_of};
+ghost use Rattle.mlk_expr.specs.Theorem.{ExprEnds};
+ghost use Rattle.mlk_expr.specs.declared.scope.Allows.TheVariants.{Everything};
+
+use crate::part::{expression, has};
+use mlk_expr::{Allows, Expr};
+use mlk_text::{Failure, Fault};
+use std::alloc::Global;
+
+/// What stands between the commas of a list.
+pub(crate) trait Item: Drop {
+    ghost use Rattle.std.specs.Prelude.{ℕ, List, ◌∷◌};
+    ghost use Rattle.mlk_expr.specs.Grammar.{Spelled};
+
+    /// What contracts see of it, how it is written, and what may stand after it.
+    ghost Seen: { Type 0 };
+
+    ghost seen: { Self → Seen };
+
+    ghost is: { ℕ → Seen → List ℕ → Type 0 };
+
+    ghost ends: { Seen → List ℕ → Type 0 };
+
+    /// A comma may.
+    ghost comma: { (a : Seen) (rest : List ℕ) → ends a (44 ∷ rest) };
+
+    fn read(alloc: Global, line: &[u8], at: usize) -> Result<(Self, usize), Failure<Fault>>
+        requires { at ≤ length line.now }
+        ensures { Told seen is ends line.now at result };
+}
+
+impl Item for Expr {
+    ghost Seen = { Tree };
+
+    ghost seen = { tree_of };
+
+    ghost is = { IsExprWhere Everything };
+
+    ghost ends = { ExprEnds };
+
+    ghost comma = { expr_comma };
+
+    fn read(alloc: Global, line: &[u8], at: usize) -> Result<(Expr, usize), Failure<Fault>> {
+        expression(alloc, Allows::Everything, line, at)
+    }
+}
+
+/// One or more items with commas between them, and the byte after them.
+pub(crate) fn listed<T: Item>(
+    alloc: Global,
+    line: &[u8],
+    at: usize,
+) -> Result<(Vec<T>, usize), Failure<Fault>>
+    requires { at ≤ length line.now }
+    ensures { Told (λ v. map T.seen v.items) (IsList T.is) (AreEnded T.ends) line.now at result }
+{
+    let mut items = Vec::new(alloc);
+    let (first, mut next) = T::read(alloc, line, at)?;
+    items.push(first)?;
+    while has(line, next, b',') {
+        let (item, end) = T::read(alloc, line, next + 1)?;
+        items.push(item)?;
+        next = end;
+    }
+    Ok((items, next))
+}
