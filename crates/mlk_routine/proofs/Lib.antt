@@ -2,3 +2,5 @@ pub mod Sequences
 pub mod Bytes
 pub mod Outcomes
 pub mod Lists
+pub mod Variables
+pub mod Calls

@@ -16,7 +16,7 @@ module _ {A : Type 0} (Is : Spelled A) (Ends : A → List ℕ → Type 0) (comma
   list_parts : (line : List ℕ) (at : ℕ) → Parts line at Is Ends (λ a k more t. AreNext Is k more t) (λ a more rest. MoreEnds Ends a more rest) (IsList Is) (AreEnded Ends) (λ a more. a ∷ more)
   list_parts line at = record {
     into = λ a more s t one next. (a, more, s, t, refl, refl, one, next);
-    ends = λ a more rest e. e;
+    ends = λ a more k t rest is before e. e;
     apart = λ c u rest h (first, others, front, back, same, is, one, next) e.
         let ended : MoreEnds Ends first others rest = subst (λ l. AreEnded Ends l rest) same e in
         (first, others, front, back, is, same, one, next, item_ends (suc at + length front) first others back rest next ended, ended);
@@ -28,7 +28,7 @@ module _ {A : Type 0} (Is : Spelled A) (Ends : A → List ℕ → Type 0) (comma
     into = λ a more s t (front, is, one) next.
         let size : length s ≡ suc (length front) = ap length is in
         (front, t, ap (λ l. l ++ t) is, one, subst (λ k. AreNext Is k more t) (omega (arith, size)) next);
-    ends = λ a more rest e. e;
+    ends = λ a more k t rest is before e. e;
     apart = λ c u rest h is e. go c u rest h is e;
   }
     where

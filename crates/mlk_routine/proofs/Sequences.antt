@@ -18,7 +18,7 @@ not_after Is Ends line at a next s h = let e = next_is line s.text at next h s.w
 -- A whole that is made of two parts, at a place.
 pub record Parts {A B C : Type 0} (line : List ℕ) (at : ℕ) (IsA : Spelled A) (EndsA : A → List ℕ → Type 0) (IsB : A → Spelled B) (EndsB : A → B → List ℕ → Type 0) (IsC : Spelled C) (EndsC : C → List ℕ → Type 0) (make : A → B → C) : Type 0 where
   pub into : (a : A) (b : B) (s t : List ℕ) → IsA (suc at) a s → IsB a (suc at + length s) b t → IsC (suc at) (make a b) (s ++ t)
-  pub ends : (a : A) (b : B) (rest : List ℕ) → EndsB a b rest → EndsC (make a b) rest
+  pub ends : (a : A) (b : B) (k : ℕ) (t rest : List ℕ) → IsB a k b t → EndsA a (t ++ rest) → EndsB a b rest → EndsC (make a b) rest
   pub apart : (c : C) (u rest : List ℕ) → drop at line ≡ u ++ rest → IsC (suc at) c u → EndsC c rest → (a : A) × (b : B) × (s t : List ℕ) × (u ≡ s ++ t) × (c ≡ make a b) × IsA (suc at) a s × IsB a (suc at + length s) b t × EndsA a (t ++ rest) × EndsB a b rest
 
 module _ {A B C : Type 0} (line : List ℕ) (at : ℕ) (IsA : Spelled A) (EndsA : A → List ℕ → Type 0) (IsB : A → Spelled B) (EndsB : A → B → List ℕ → Type 0) (IsC : Spelled C) (EndsC : C → List ℕ → Type 0) (make : A → B → C)
@@ -28,7 +28,7 @@ module _ {A B C : Type 0} (line : List ℕ) (at : ℕ) (IsA : Spelled A) (EndsA 
       let place = next_is line first.text at m within first.within first.joined in
       let moved : IsB a (suc at + length first.text) b second.text = subst (λ k. IsB a k b second.text) (omega arith) second.spelled in
       let whole = first.joined ∙ ap (λ l. first.text ++ l) second.joined ∙ sym (append_assoc first.text second.text (drop n line)) in
-      let stands : Stands IsC EndsC line at (make a b) n = record { text = first.text ++ second.text; within = second.within; joined = whole; spelled = p.into a b first.text second.text first.spelled moved; ended = p.ends a b (drop n line) second.ended } in (
+      let stands : Stands IsC EndsC line at (make a b) n = record { text = first.text ++ second.text; within = second.within; joined = whole; spelled = p.into a b first.text second.text first.spelled moved; ended = p.ends a b (suc m) second.text (drop n line) second.spelled (subst (EndsA a) second.joined first.ended) second.ended } in (
         stands,
         λ c u rest h is e.
             let r = p.apart c u rest h is e in

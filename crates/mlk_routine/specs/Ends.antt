@@ -1,9 +1,9 @@
 -- What may stand after the parts of arguments. This project's own.
-use Rattle.std.specs.Prelude.{ℕ, ◌≢◌, List, [], ◌∷◌, Option, Some, None}
-use Rattle.mlk_expr.specs.Trees.{Tree}
-use Rattle.mlk_expr.specs.Theorem.{ExprEnds, ReferenceEnds}
+use Rattle.std.specs.Prelude.{ℕ, ◌≡◌, ◌≢◌, List, [], ◌∷◌, Option, Some, None}
+use Rattle.mlk_expr.specs.Trees.{Tree, ActualTree}
+use Rattle.mlk_expr.specs.Theorem.{ExprEnds, ReferenceEnds, CalleeEnds}
 use Rattle.mlk_routine.specs.Told.{first_of}
-use Rattle.mlk_routine.specs.Trees.{VariableTree, Named}
+use Rattle.mlk_routine.specs.Trees.{VariableTree, Named, CallTree, Called}
 
 -- no such byte
 abbrev pub Lacks : ℕ → List ℕ → Type 0
@@ -26,3 +26,13 @@ MoreEnds Ends last (a ∷ more) rest = MoreEnds Ends a more rest
 abbrev pub AreEnded : {A : Type 0} → (A → List ℕ → Type 0) → List A → List ℕ → Type 0
 AreEnded Ends [] rest = ⊥
 AreEnded Ends (a ∷ items) rest = MoreEnds Ends a items rest
+
+-- after an actual list anything; where there is none, no parenthesis
+abbrev pub GivenEnds : Option (List ActualTree) → List ℕ → Type 0
+GivenEnds None rest = Lacks 40 rest
+GivenEnds (Some given) rest = Unit {0}
+
+-- after a call: anything after its actuals; without them what may stand after what is called, but no parenthesis
+abbrev pub CallEnds : CallTree → List ℕ → Type 0
+CallEnds (Called column callee None) rest = CalleeEnds callee rest × Lacks 40 rest
+CallEnds (Called column callee (Some given)) rest = Unit {0}

@@ -35,3 +35,8 @@ first_of (b ∷ xs) = Some b
 -- the byte that stands at a place
 abbrev pub byte_at : List ℕ → ℕ → Option ℕ
 byte_at line at = first_of (drop at line)
+
+-- a refusal, and no want of memory
+abbrev pub IsRefusal : Failure Fault → Type 0
+IsRefusal OutOfMemory = ⊥
+IsRefusal (Refused fault) = Unit {0}

@@ -1,6 +1,8 @@
 //! The routines of M: their trees, and the reader that is exact for their grammar.
 #![tactic(auto)]
 
+mod call;
+mod fault;
 mod item;
 mod part;
 mod routine;

@@ -9,8 +9,11 @@ ghost use Rattle.mlk_routine.specs.Ends.{AfterEnds, VariableEnds};
 ghost use Rattle.mlk_routine.specs.Views.{variable_of, call_of};
 ghost use Rattle.mlk_routine.specs.CommandGrammar.{IsAfter, IsVariable, IsCall};
 
-use mlk_expr::{Allows, Expr, ReadError, read_expr_where};
-use mlk_text::{Failure, Fault};
+use crate::fault::{other_form, refused};
+use crate::tree::Variable;
+use mlk_expr::lexeme::starts_reference;
+use mlk_expr::{Allows, Expr, ReadError, read_expr_where, read_name, read_ref_where};
+use mlk_text::{Code, Failure, Fault, Name};
 use std::alloc::Global;
 
 /// Whether this byte stands here.
@@ -59,4 +62,43 @@ pub(crate) fn after(
     }
     let (value, next) = expression(alloc, allows, line, at + 1)?;
     Ok((Some(value), next))
+}
+
+/// The local or global here, with its subscripts, and the byte after it.
+pub(crate) fn variable(
+    alloc: Global,
+    allows: Allows,
+    line: &[u8],
+    at: usize,
+) -> Result<(Variable, usize), Failure<Fault>>
+    requires { at ≤ length line.now }
+    ensures { Told variable_of (IsVariable allows) VariableEnds line.now at result }
+{
+    let (_, bytes) = line.split_at(at);
+    if !has(line, at, b'@') && !starts_reference(bytes) {
+        return Err(refused(alloc, Code::ArgumentForm, at));
+    }
+    match read_ref_where(alloc, allows, line, at) {
+        Ok((name, next)) => Ok((
+            Variable {
+                column: at + 1,
+                name,
+            },
+            next,
+        )),
+        Err(ReadError::OutOfMemory) => Err(Failure::OutOfMemory),
+        Err(ReadError::Refused(fault)) => Err(Failure::Refused(fault)),
+    }
+}
+
+/// The name here, and the byte after it.
+pub(crate) fn name(alloc: Global, line: &[u8], at: usize) -> Result<(Name, usize), Failure<Fault>>
+    requires { at ≤ length line.now }
+    ensures { Told (λ n. n) IsNameText LabelEnds line.now at result }
+{
+    match read_name(alloc, line, at) {
+        Ok(read) => Ok(read),
+        Err(ReadError::OutOfMemory) => Err(Failure::OutOfMemory),
+        Err(ReadError::Refused(fault)) => Err(other_form(Code::ArgumentForm, fault)),
+    }
 }
