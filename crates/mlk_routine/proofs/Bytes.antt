@@ -68,10 +68,10 @@ module _ (b : ℕ) (allows : Allows) (line : List ℕ) (at : ℕ) (here : byte_a
 
   pub optional_found : (t : Tree) (n : ℕ) → Found (IsExprWhere allows) ExprEnds line (at + 1) t n → Found (IsAfter b allows) (AfterEnds b) line at (Some t) n
   optional_found t n f =
-      turned_found line at (AfterByte b (IsExprWhere allows)) ExprEnds (IsAfter b allows) (AfterEnds b) Some optional t n
+      turned_found optional t n
       (after_found (IsExprWhere allows) ExprEnds line at b here t n f)
 
   pub optional_nowhere : Nowhere (IsExprWhere allows) ExprEnds line (at + 1) → Nowhere (IsAfter b allows) (AfterEnds b) line at
   optional_nowhere f =
-      turned_nowhere line at (AfterByte b (IsExprWhere allows)) ExprEnds (IsAfter b allows) (AfterEnds b) Some optional
+      turned_nowhere optional
       (after_nowhere (IsExprWhere allows) ExprEnds line at b f)

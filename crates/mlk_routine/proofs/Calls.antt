@@ -13,7 +13,7 @@ use Rattle.mlk_routine.specs.Trees.{CallTree, Called}
 use Rattle.mlk_routine.specs.Told.{Found, Nowhere, first_of, byte_at}
 use Rattle.mlk_routine.specs.Ends.{GivenEnds, CallEnds}
 use Rattle.mlk_routine.specs.CommandGrammar.{IsGiven, IsCall}
-use Rattle.mlk_routine.proofs.Sequences.{Parts, both_found, first_nowhere, second_nowhere}
+use Rattle.mlk_routine.proofs.Sequences.{Parts}
 
 -- an actual list begins with its parenthesis
 pub given_opens : (allows : Allows) (passing : Passing) (at : ℕ) (given : List ActualTree) (s : List ℕ) → IsActualListWhere allows passing at given s → (t : List ℕ) × (s ≡ 40 ∷ t)
@@ -48,7 +48,7 @@ callee_opens (Some label) None ys = rw (label_opens label ys) refl
 callee_opens (Some label) (Some routine) ys = label_opens routine ys
 
 module _ (allows : Allows) (passing : Passing) (line : List ℕ) (at : ℕ) where
-  call_parts : Parts line at IsCalleeText CalleeEnds (λ callee n given r. IsGiven allows passing n given r) (λ callee given rest. GivenEnds given rest) (IsCall allows passing) CallEnds (λ callee given. Called (at + 1) callee given)
+  pub call_parts : Parts line at IsCalleeText CalleeEnds (λ callee n given r. IsGiven allows passing n given r) (λ callee given rest. GivenEnds given rest) (IsCall allows passing) CallEnds (λ callee given. Called (at + 1) callee given)
   call_parts = record {
     into = λ callee given s t one two. (add-one at, (s, t, refl, one, two));
     ends = λ callee given k t rest is before after. closes callee given k t rest is before after;
@@ -70,12 +70,3 @@ module _ (allows : Allows) (passing : Passing) (line : List ℕ) (at : ℕ) wher
       opens (Called column callee given) u rest (place, (s, t, is, one, two)) e =
           let f = ended column callee given (suc at + length s) t rest two e in
           (callee, given, s, t, is, ap (λ k. Called k callee given) (place ∙ sym (add-one at)), one, two, f.0, f.1)
-
-  pub call_found : at ≤ length line → (callee : Callee) (given : Option (List ActualTree)) (m n : ℕ) → Found IsCalleeText CalleeEnds line at callee m → Found (IsGiven allows passing) GivenEnds line m given n → Found (IsCall allows passing) CallEnds line at (Called (at + 1) callee given) n
-  call_found = both_found line at IsCalleeText CalleeEnds (λ callee n given r. IsGiven allows passing n given r) (λ callee given rest. GivenEnds given rest) (IsCall allows passing) CallEnds (λ callee given. Called (at + 1) callee given) call_parts
-
-  pub no_callee : at ≤ length line → Nowhere IsCalleeText CalleeEnds line at → Nowhere (IsCall allows passing) CallEnds line at
-  no_callee = first_nowhere line at IsCalleeText CalleeEnds (λ callee n given r. IsGiven allows passing n given r) (λ callee given rest. GivenEnds given rest) (IsCall allows passing) CallEnds (λ callee given. Called (at + 1) callee given) call_parts
-
-  pub no_actuals : at ≤ length line → (callee : Callee) (m : ℕ) → Found IsCalleeText CalleeEnds line at callee m → Nowhere (IsGiven allows passing) GivenEnds line m → Nowhere (IsCall allows passing) CallEnds line at
-  no_actuals = second_nowhere line at IsCalleeText CalleeEnds (λ callee n given r. IsGiven allows passing n given r) (λ callee given rest. GivenEnds given rest) (IsCall allows passing) CallEnds (λ callee given. Called (at + 1) callee given) call_parts

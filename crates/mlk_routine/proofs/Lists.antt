@@ -51,8 +51,8 @@ module _ {A : Type 0} (Is : Spelled A) (Ends : A → List ℕ → Type 0) (comma
     last = a;
     within = f.0.within;
     ended = f.0.ended;
-    found = λ more n g. both_found line at Is Ends (λ a k more t. AreNext Is k more t) (λ a more rest. MoreEnds Ends a more rest) (IsList Is) (AreEnded Ends) (λ a more. a ∷ more) (list_parts line at) less a more next n f g;
-    none = λ g. second_nowhere line at Is Ends (λ a k more t. AreNext Is k more t) (λ a more rest. MoreEnds Ends a more rest) (IsList Is) (AreEnded Ends) (λ a more. a ∷ more) (list_parts line at) less a next f g;
+    found = λ more n g. both_found (list_parts line at) less a more next n f g;
+    none = λ g. second_nowhere (list_parts line at) less a next f g;
   }
 
   pub one_more : (line : List ℕ) (at : ℕ) (items : List A) (next : ℕ) → SoFar line at items next → byte_at line next ≡ Some 44 → (a : A) (end : ℕ) → Found Is Ends line (next + 1) a end → SoFar line at (items ++ a ∷ []) end
@@ -63,14 +63,14 @@ module _ {A : Type 0} (Is : Spelled A) (Ends : A → List ℕ → Type 0) (comma
         within = f.0.within;
         ended = f.0.ended;
         found = λ more n h.
-            let whole = l.found (a ∷ more) n (both_found line next (AfterByte 44 Is) Ends (λ a k more t. AreNext Is k more t) (λ a more rest. MoreEnds Ends a more rest) (λ k more t. AreNext Is k more t) (MoreEnds Ends l.last) (λ a more. a ∷ more) (next_parts line next l.last here) l.within a more end n g h) in
+            let whole = l.found (a ∷ more) n (both_found (next_parts line next l.last here) l.within a more end n g h) in
             subst (λ z. Found (IsList Is) (AreEnded Ends) line at z n) (sym (append_assoc items (a ∷ []) more)) whole;
-        none = λ h. l.none (second_nowhere line next (AfterByte 44 Is) Ends (λ a k more t. AreNext Is k more t) (λ a more rest. MoreEnds Ends a more rest) (λ k more t. AreNext Is k more t) (MoreEnds Ends l.last) (λ a more. a ∷ more) (next_parts line next l.last here) l.within a end g h);
+        none = λ h. l.none (second_nowhere (next_parts line next l.last here) l.within a end g h);
       }
 
   pub no_more : (line : List ℕ) (at : ℕ) (items : List A) (next : ℕ) → SoFar line at items next → byte_at line next ≡ Some 44 → Nowhere Is Ends line (next + 1) → Nowhere (IsList Is) (AreEnded Ends) line at
   no_more line at items next l here f =
-      l.none (first_nowhere line next (AfterByte 44 Is) Ends (λ a k more t. AreNext Is k more t) (λ a more rest. MoreEnds Ends a more rest) (λ k more t. AreNext Is k more t) (MoreEnds Ends l.last) (λ a more. a ∷ more) (next_parts line next l.last here) l.within
+      l.none (first_nowhere (next_parts line next l.last here) l.within
       (after_nowhere Is Ends line next 44 f))
 
   pub all_read : (line : List ℕ) (at : ℕ) (items : List A) (next : ℕ) → SoFar line at items next → (byte_at line next ≡ Some 44 → ⊥) → Found (IsList Is) (AreEnded Ends) line at items next
@@ -90,4 +90,4 @@ module _ {A : Type 0} (Is : Spelled A) (Ends : A → List ℕ → Type 0) (comma
       omega arith
 
   pub no_first : (line : List ℕ) (at : ℕ) → at ≤ length line → Nowhere Is Ends line at → Nowhere (IsList Is) (AreEnded Ends) line at
-  no_first line at less f = first_nowhere line at Is Ends (λ a k more t. AreNext Is k more t) (λ a more rest. MoreEnds Ends a more rest) (IsList Is) (AreEnded Ends) (λ a more. a ∷ more) (list_parts line at) less f
+  no_first line at less f = first_nowhere (list_parts line at) less f

@@ -2,7 +2,10 @@
 use Rattle.std.proofs.Common.{◌≡◌, ◌≤◌, ◌+◌, ℕ, suc, List, ◌++◌, length, drop, sym, ap, ◌∙◌, arith, subst, append_assoc, length-append, length-drop}
 use Rattle.mlk_expr.specs.Grammar.{Spelled}
 use Rattle.mlk_expr.specs.Theorem.{Stands}
-use Rattle.mlk_routine.specs.Told.{Found, Nowhere}
+use Rattle.mlk_text.specs.declared.failure.Failure.{Failure}
+use Rattle.mlk_text.specs.declared.failure.Failure.TheVariants.{OutOfMemory, Refused}
+use Rattle.mlk_text.specs.declared.fault.Fault.{Fault}
+use Rattle.mlk_routine.specs.Told.{Found, Nowhere, Denied}
 
 -- where a text ends
 pub next_is : (line text : List ℕ) (at m : ℕ) → at ≤ length line → m ≤ length line → drop at line ≡ text ++ drop m line → m ≡ at + length text
@@ -21,7 +24,7 @@ pub record Parts {A B C : Type 0} (line : List ℕ) (at : ℕ) (IsA : Spelled A)
   pub ends : (a : A) (b : B) (k : ℕ) (t rest : List ℕ) → IsB a k b t → EndsA a (t ++ rest) → EndsB a b rest → EndsC (make a b) rest
   pub apart : (c : C) (u rest : List ℕ) → drop at line ≡ u ++ rest → IsC (suc at) c u → EndsC c rest → (a : A) × (b : B) × (s t : List ℕ) × (u ≡ s ++ t) × (c ≡ make a b) × IsA (suc at) a s × IsB a (suc at + length s) b t × EndsA a (t ++ rest) × EndsB a b rest
 
-module _ {A B C : Type 0} (line : List ℕ) (at : ℕ) (IsA : Spelled A) (EndsA : A → List ℕ → Type 0) (IsB : A → Spelled B) (EndsB : A → B → List ℕ → Type 0) (IsC : Spelled C) (EndsC : C → List ℕ → Type 0) (make : A → B → C)
+module _ {A B C : Type 0} {line : List ℕ} {at : ℕ} {IsA : Spelled A} {EndsA : A → List ℕ → Type 0} {IsB : A → Spelled B} {EndsB : A → B → List ℕ → Type 0} {IsC : Spelled C} {EndsC : C → List ℕ → Type 0} {make : A → B → C}
     (p : Parts line at IsA EndsA IsB EndsB IsC EndsC make) (within : at ≤ length line) where
   pub both_found : (a : A) (b : B) (m n : ℕ) → Found IsA EndsA line at a m → Found (IsB a) (EndsB a) line m b n → Found IsC EndsC line at (make a b) n
   both_found a b m n (first, only_first) (second, only_second) =
@@ -54,13 +57,22 @@ module _ {A B C : Type 0} (line : List ℕ) (at : ℕ) (IsA : Spelled A) (EndsA 
       let here : IsB (r.0) (suc m) (r.1) (r.3) = subst (λ k. IsB (r.0) k (r.1) (r.3)) (omega arith) (r.7) in
       none (r.1) (r.3) rest (sym same.1) (subst (λ x. IsB x (suc m) (r.1) (r.3)) same.0 here) (subst (λ x. EndsB x (r.1) rest) same.0 (r.9))
 
+  -- what a failure of either part says of the whole
+  pub denied_first : (e : Failure Fault) → Denied IsA EndsA line at e → Denied IsC EndsC line at e
+  denied_first OutOfMemory h = tt
+  denied_first (Refused fault) h = first_nowhere h
+
+  pub denied_second : (a : A) (m : ℕ) → Found IsA EndsA line at a m → (e : Failure Fault) → Denied (IsB a) (EndsB a) line m e → Denied IsC EndsC line at e
+  denied_second a m f OutOfMemory h = tt
+  denied_second a m f (Refused fault) h = second_nowhere a m f h
+
 -- A whole that is one part in another form, at a place.
 pub record Turned {A C : Type 0} (line : List ℕ) (at : ℕ) (IsA : Spelled A) (EndsA : A → List ℕ → Type 0) (IsC : Spelled C) (EndsC : C → List ℕ → Type 0) (make : A → C) : Type 0 where
   pub into : (a : A) (s : List ℕ) → IsA (suc at) a s → IsC (suc at) (make a) s
   pub ends : (a : A) (rest : List ℕ) → EndsA a rest → EndsC (make a) rest
   pub apart : (c : C) (u rest : List ℕ) → drop at line ≡ u ++ rest → IsC (suc at) c u → EndsC c rest → (a : A) × (c ≡ make a) × IsA (suc at) a u × EndsA a rest
 
-module _ {A C : Type 0} (line : List ℕ) (at : ℕ) (IsA : Spelled A) (EndsA : A → List ℕ → Type 0) (IsC : Spelled C) (EndsC : C → List ℕ → Type 0) (make : A → C)
+module _ {A C : Type 0} {line : List ℕ} {at : ℕ} {IsA : Spelled A} {EndsA : A → List ℕ → Type 0} {IsC : Spelled C} {EndsC : C → List ℕ → Type 0} {make : A → C}
     (p : Turned line at IsA EndsA IsC EndsC make) where
   pub turned_found : (a : A) (n : ℕ) → Found IsA EndsA line at a n → Found IsC EndsC line at (make a) n
   turned_found a n (first, only_first) =
@@ -76,3 +88,7 @@ module _ {A C : Type 0} (line : List ℕ) (at : ℕ) (IsA : Spelled A) (EndsA : 
   turned_nowhere none c u rest h is e =
       let r = p.apart c u rest h is e in
       none (r.0) u rest h (r.2) (r.3)
+
+  pub turned_denied : (e : Failure Fault) → Denied IsA EndsA line at e → Denied IsC EndsC line at e
+  turned_denied OutOfMemory h = tt
+  turned_denied (Refused fault) h = turned_nowhere h
