@@ -5,7 +5,10 @@ use Rattle.mlk_expr.specs.declared.scope.Allows.{Allows}
 use Rattle.mlk_expr.specs.Trees.{Tree}
 use Rattle.mlk_expr.specs.Grammar.{Spelled, IsExprWhere}
 use Rattle.mlk_expr.specs.Theorem.{Stands, ExprEnds}
-use Rattle.mlk_routine.specs.Told.{Found, Nowhere, first_of, byte_at}
+use Rattle.mlk_text.specs.declared.failure.Failure.{Failure}
+use Rattle.mlk_text.specs.declared.failure.Failure.TheVariants.{OutOfMemory, Refused}
+use Rattle.mlk_text.specs.declared.fault.Fault.{Fault}
+use Rattle.mlk_routine.specs.Told.{Found, Nowhere, Denied, first_of, byte_at}
 use Rattle.mlk_routine.specs.Ends.{AfterEnds}
 use Rattle.mlk_routine.specs.CommandGrammar.{After, IsAfter}
 use Rattle.mlk_routine.proofs.Sequences.{Turned, turned_found, turned_nowhere}
@@ -48,6 +51,10 @@ module _ {A : Type 0} (Is : Spelled A) (Ends : A → List ℕ → Type 0) (line 
   after_nowhere none c u rest g (r, is, spelled) e =
       let moved : Nowhere Is Ends line (suc at) = subst (λ k. Nowhere Is Ends line k) (add-one at) none in
       moved c r rest (drop_next line at b (r ++ rest) (g ∙ ap (λ l. l ++ rest) is)) spelled e
+
+  pub after_denied : (e : Failure Fault) → Denied Is Ends line (at + 1) e → Denied (AfterByte b Is) Ends line at e
+  after_denied OutOfMemory h = tt
+  after_denied (Refused fault) h = after_nowhere h
 
   pub after_missing : (byte_at line at ≡ Some b → ⊥) → Nowhere (AfterByte b Is) Ends line at
   after_missing miss c u rest g (r, is, spelled) e = miss (ap first_of (g ∙ ap (λ l. l ++ rest) is))

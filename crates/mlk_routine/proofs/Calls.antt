@@ -1,16 +1,16 @@
 -- Calls: what is called, and its actuals.
-use Rattle.std.proofs.Common.{◌≡◌, ◌≤◌, ◌+◌, ℕ, suc, List, [], ◌∷◌, ◌++◌, length, drop, Some, None, true, false, inl, inr, refl, sym, ap, ◌∙◌, subst, add-one}
-use Rattle.std.specs.Prelude.{Option, ◌==◌, ◌||◌, not, if◌then◌else◌}
+use Rattle.std.proofs.Common.{◌≡◌, ◌≤◌, ◌+◌, ℕ, suc, List, [], ◌∷◌, ◌++◌, length, drop, Some, None, true, inl, inr, refl, sym, ap, ◌∙◌, subst, add-one}
+use Rattle.std.specs.Prelude.{Option}
 use Rattle.std.proofs.lemmas.Bool.{cases_Bool}
-use Rattle.mlk_text.specs.Lexemes.{is_digit, is_name_byte}
+use Rattle.mlk_text.specs.Lexemes.{is_digit}
 use Rattle.mlk_expr.specs.declared.scope.Allows.{Allows}
 use Rattle.mlk_expr.specs.declared.scope.Passing.{Passing}
 use Rattle.mlk_expr.specs.declared.tree.Callee.{Callee}
 use Rattle.mlk_expr.specs.Trees.{ActualTree}
 use Rattle.mlk_expr.specs.Grammar.{IsActualList, IsActualListWhere, IsCalleeText}
-use Rattle.mlk_expr.specs.Theorem.{Stands, Only, CalleeEnds, label_ends, callee_ends}
+use Rattle.mlk_expr.specs.Theorem.{Stands, CalleeEnds, label_ends, callee_ends}
 use Rattle.mlk_routine.specs.Trees.{CallTree, Called}
-use Rattle.mlk_routine.specs.Told.{Found, Nowhere, first_of, byte_at}
+use Rattle.mlk_routine.specs.Told.{Found, first_of, byte_at}
 use Rattle.mlk_routine.specs.Ends.{GivenEnds, CallEnds}
 use Rattle.mlk_routine.specs.CommandGrammar.{IsGiven, IsCall}
 use Rattle.mlk_routine.proofs.Sequences.{Parts}

@@ -4,3 +4,5 @@ pub mod Outcomes
 pub mod Lists
 pub mod Variables
 pub mod Calls
+pub mod Enclosed
+pub mod Names

@@ -46,10 +46,14 @@ IsCondition = IsAfter 58 Everything
 abbrev pub IsTimeout : Allows → ℕ → Option Tree → List ℕ → Type 0
 IsTimeout = IsAfter 58
 
--- one item, or several in parentheses with commas between them
+-- items in parentheses, with commas between them
+abbrev pub AreEnclosed : {A : Type 0} → Spelled A → ℕ → List A → List ℕ → Type 0
+AreEnclosed Item at items s = (inner : List ℕ) × IsEnclosed inner s × IsList Item (suc at) items inner
+
+-- one item, or several in parentheses
 abbrev pub IsOneOrEnclosed : {A : Type 0} → Spelled A → ℕ → List A → List ℕ → Type 0
 IsOneOrEnclosed {A = A} Item at items s = ((item : A) × (items ≡ item ∷ []) × Item at item s)
-    ⊎ ((inner : List ℕ) × IsEnclosed inner s × IsList Item (suc at) items inner)
+    ⊎ AreEnclosed Item at items s
 
 -- a local or a global with its subscripts; of them it is asked what may stand there
 abbrev pub IsVariable : Allows → ℕ → VariableTree → List ℕ → Type 0
@@ -90,7 +94,7 @@ IsJob = IsCall Everything ByValue
 
 -- names in parentheses: all locals but these. Standard: exclusive KILL and NEW.
 abbrev pub IsAllBut : ℕ → List (List ℕ) → List ℕ → Type 0
-IsAllBut at names s = (inner : List ℕ) × IsEnclosed inner s × IsList IsNameText (suc at) names inner
+IsAllBut = AreEnclosed IsNameText
 
 -- Standard: KILL
 abbrev pub IsKill : ℕ → KillTree → List ℕ → Type 0

@@ -1,9 +1,10 @@
 -- What may stand after the parts of arguments. This project's own.
-use Rattle.std.specs.Prelude.{ℕ, ◌≡◌, ◌≢◌, List, [], ◌∷◌, Option, Some, None}
+use Rattle.std.specs.Prelude.{ℕ, ◌≢◌, List, [], ◌∷◌, Option, Some, None}
 use Rattle.mlk_expr.specs.Trees.{Tree, ActualTree}
 use Rattle.mlk_expr.specs.Theorem.{ExprEnds, ReferenceEnds, CalleeEnds}
 use Rattle.mlk_routine.specs.Told.{first_of}
-use Rattle.mlk_routine.specs.Trees.{VariableTree, Named, CallTree, Called}
+use Rattle.mlk_routine.specs.Trees.{VariableTree, Named, CallTree, Called, KillTree, KillOne, KillAllBut, MergeTree}
+use Rattle.mlk_routine.specs.Trees.{MergeInto}
 
 -- no such byte
 abbrev pub Lacks : ℕ → List ℕ → Type 0
@@ -36,3 +37,14 @@ GivenEnds (Some given) rest = Unit {0}
 abbrev pub CallEnds : CallTree → List ℕ → Type 0
 CallEnds (Called column callee None) rest = CalleeEnds callee rest × Lacks 40 rest
 CallEnds (Called column callee (Some given)) rest = Unit {0}
+
+-- anything
+abbrev pub AnyEnds : {A : Type 0} → A → List ℕ → Type 0
+AnyEnds a rest = Unit {0}
+
+abbrev pub KillEnds : KillTree → List ℕ → Type 0
+KillEnds (KillOne v) rest = VariableEnds v rest
+KillEnds (KillAllBut names) rest = Unit {0}
+
+abbrev pub MergeEnds : MergeTree → List ℕ → Type 0
+MergeEnds (MergeInto target source) rest = VariableEnds source rest

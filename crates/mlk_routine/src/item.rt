@@ -1,17 +1,19 @@
 // What stands between commas, and lists of it.
 
-ghost use Rattle.std.specs.Prelude.{◌≡◌, ◌≤◌, length, map};
-ghost use Rattle.mlk_routine.specs.Told.{Told};
-ghost use Rattle.mlk_routine.specs.Commas.{expr_comma};
-ghost use Rattle.mlk_routine.specs.Ends.{AreEnded};
-ghost use Rattle.mlk_expr.specs.Grammar.{IsList, IsExprWhere};
+ghost use Rattle.std.specs.Prelude.{◌≡◌, ◌≤◌, length, map, Some};
+ghost use Rattle.mlk_routine.specs.Told.{Told, byte_at};
+ghost use Rattle.mlk_routine.specs.Commas.{expr_comma, expr_close, name_comma, name_close};
+ghost use Rattle.mlk_routine.specs.Ends.{AreEnded, AnyEnds};
+ghost use Rattle.mlk_routine.specs.CommandGrammar.{AreEnclosed};
+ghost use Rattle.mlk_expr.specs.Grammar.{IsList, IsExprWhere, IsNameText};
 ghost use Rattle.mlk_expr.specs.Trees.{Tree, tree_of};
-ghost use Rattle.mlk_expr.specs.Theorem.{ExprEnds};
+ghost use Rattle.mlk_expr.specs.Theorem.{ExprEnds, LabelEnds};
 ghost use Rattle.mlk_expr.specs.declared.scope.Allows.TheVariants.{Everything};
 
-use crate::part::{expression, has};
+use crate::fault::refused;
+use crate::part::{expression, has, name};
 use mlk_expr::{Allows, Expr};
-use mlk_text::{Failure, Fault};
+use mlk_text::{Code, Failure, Fault, Name};
 use std::alloc::Global;
 
 /// What stands between the commas of a list.
@@ -31,6 +33,9 @@ pub(crate) trait Item: Drop {
     /// A comma may.
     ghost comma: { (a : Seen) (rest : List ℕ) → ends a (44 ∷ rest) };
 
+    /// So may a closing parenthesis.
+    ghost close: { (a : Seen) (rest : List ℕ) → ends a (41 ∷ rest) };
+
     fn read(alloc: Global, line: &[u8], at: usize) -> Result<(Self, usize), Failure<Fault>>
         requires { at ≤ length line.now }
         ensures { Told seen is ends line.now at result };
@@ -46,6 +51,8 @@ impl Item for Expr {
     ghost ends = { ExprEnds };
 
     ghost comma = { expr_comma };
+
+    ghost close = { expr_close };
 
     fn read(alloc: Global, line: &[u8], at: usize) -> Result<(Expr, usize), Failure<Fault>> {
         expression(alloc, Allows::Everything, line, at)
@@ -70,4 +77,41 @@ pub(crate) fn listed<T: Item>(
         next = end;
     }
     Ok((items, next))
+}
+
+/// Items in parentheses, the first of which stands here, and the byte after the second.
+pub(crate) fn enclosed<T: Item>(
+    alloc: Global,
+    line: &[u8],
+    at: usize,
+) -> Result<(Vec<T>, usize), Failure<Fault>>
+    requires within { at ≤ length line.now }
+    requires open { byte_at line.now at ≡ Some 40 }
+    ensures { Told (λ v. map T.seen v.items) (AreEnclosed T.is) AnyEnds line.now at result }
+{
+    let (items, end) = listed(alloc, line, at + 1)?;
+    if !has(line, end, b')') {
+        return Err(refused(alloc, Code::ArgumentForm, end));
+    }
+    Ok((items, end + 1))
+}
+
+impl Item for Name {
+    ghost use Rattle.std.specs.Prelude.{ℕ, List};
+
+    ghost Seen = { List ℕ };
+
+    ghost seen = { λ n. n };
+
+    ghost is = { IsNameText };
+
+    ghost ends = { LabelEnds };
+
+    ghost comma = { name_comma };
+
+    ghost close = { name_close };
+
+    fn read(alloc: Global, line: &[u8], at: usize) -> Result<(Name, usize), Failure<Fault>> {
+        name(alloc, line, at)
+    }
 }

@@ -4,6 +4,7 @@
 mod call;
 mod fault;
 mod item;
+mod name;
 mod part;
 mod routine;
 mod tree;
