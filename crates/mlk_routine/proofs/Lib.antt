@@ -6,3 +6,4 @@ pub mod Variables
 pub mod Calls
 pub mod Enclosed
 pub mod Names
+pub mod Arguments

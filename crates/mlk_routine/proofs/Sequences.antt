@@ -109,7 +109,6 @@ stands_at Is Ends line at a s rest less h is e =
 
 module _ {A B C : Type 0} {line : List ℕ} {at : ℕ} {IsA : Spelled A} {EndsA : A → List ℕ → Type 0} {IsB : A → Spelled B} {EndsB : A → B → List ℕ → Type 0} {IsC : Spelled C} {EndsC : C → List ℕ → Type 0} {make : A → B → C}
     (p : Parts line at IsA EndsA IsB EndsB IsC EndsC make) (within : at ≤ length line) where
-
   pub sole_both : Sole IsA EndsA line at → ((a : A) (m : ℕ) → m ≤ length line → Sole (IsB a) (EndsB a) line m) → Sole IsC EndsC line at
   sole_both one two c n whole =
       let r = p.apart c whole.text (drop n line) whole.joined whole.spelled whole.ended in
@@ -120,12 +119,11 @@ module _ {A B C : Type 0} {line : List ℕ} {at : ℕ} {IsA : Spelled A} {EndsA 
       let found = both_found p within (r.0) (r.1) m (m + length (r.3)) (first.0, one (r.0) m first.0) (second.0, two (r.0) m first.0.within (r.1) (m + length (r.3)) second.0) in
       let same = found.1 c whole.text (drop n line) whole.joined whole.spelled whole.ended in
       λ d u rest h is e.
-        let other = found.1 d u rest h is e in
-        (other.0 ∙ sym same.0, other.1 ∙ sym same.1)
+      let other = found.1 d u rest h is e in
+      (other.0 ∙ sym same.0, other.1 ∙ sym same.1)
 
 module _ {A C : Type 0} {line : List ℕ} {at : ℕ} {IsA : Spelled A} {EndsA : A → List ℕ → Type 0} {IsC : Spelled C} {EndsC : C → List ℕ → Type 0} {make : A → C}
     (p : Turned line at IsA EndsA IsC EndsC make) (within : at ≤ length line) where
-
   pub sole_turned : Sole IsA EndsA line at → Sole IsC EndsC line at
   sole_turned one c n whole =
       let r = p.apart c whole.text (drop n line) whole.joined whole.spelled whole.ended in
@@ -133,5 +131,5 @@ module _ {A C : Type 0} {line : List ℕ} {at : ℕ} {IsA : Spelled A} {EndsA : 
       let found = turned_found p (r.0) (at + length whole.text) (part.0, one (r.0) (at + length whole.text) part.0) in
       let same = found.1 c whole.text (drop n line) whole.joined whole.spelled whole.ended in
       λ d u rest h is e.
-        let other = found.1 d u rest h is e in
-        (other.0 ∙ sym same.0, other.1 ∙ sym same.1)
+      let other = found.1 d u rest h is e in
+      (other.0 ∙ sym same.0, other.1 ∙ sym same.1)

@@ -3,8 +3,8 @@ use Rattle.std.specs.Prelude.{ℕ, ◌≢◌, List, [], ◌∷◌, Option, Some,
 use Rattle.mlk_expr.specs.Trees.{Tree, ActualTree}
 use Rattle.mlk_expr.specs.Theorem.{ExprEnds, ReferenceEnds, CalleeEnds}
 use Rattle.mlk_routine.specs.Told.{first_of}
-use Rattle.mlk_routine.specs.Trees.{VariableTree, Named, CallTree, Called, KillTree, KillOne, KillAllBut, MergeTree}
-use Rattle.mlk_routine.specs.Trees.{MergeInto}
+use Rattle.mlk_routine.specs.Trees.{VariableTree, Named, CallTree, Called, DoTree, DoCall, KillTree, KillOne}
+use Rattle.mlk_routine.specs.Trees.{KillAllBut, MergeTree, MergeInto}
 
 -- no such byte
 abbrev pub Lacks : ℕ → List ℕ → Type 0
@@ -48,3 +48,12 @@ KillEnds (KillAllBut names) rest = Unit {0}
 
 abbrev pub MergeEnds : MergeTree → List ℕ → Type 0
 MergeEnds (MergeInto target source) rest = VariableEnds source rest
+
+-- after a call with its postconditional
+abbrev pub DoEnds : DoTree → List ℕ → Type 0
+DoEnds (DoCall call None) rest = CallEnds call rest × Lacks 58 rest
+DoEnds (DoCall call (Some t)) rest = ExprEnds t rest
+
+-- after a call of JOB: no timeout either
+abbrev pub JobEnds : CallTree → List ℕ → Type 0
+JobEnds call rest = CallEnds call rest × Lacks 58 rest

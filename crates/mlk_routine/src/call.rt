@@ -5,13 +5,13 @@ ghost use Rattle.mlk_expr.specs.Trees.{actual_trees};
 ghost use Rattle.mlk_expr.specs.Grammar.{IsCalleeText};
 ghost use Rattle.mlk_expr.specs.Theorem.{CalleeEnds};
 ghost use Rattle.mlk_routine.specs.Told.{Told, byte_at};
-ghost use Rattle.mlk_routine.specs.Ends.{GivenEnds, CallEnds};
-ghost use Rattle.mlk_routine.specs.Views.{call_of};
-ghost use Rattle.mlk_routine.specs.CommandGrammar.{IsGiven, IsCall};
+ghost use Rattle.mlk_routine.specs.Ends.{GivenEnds, CallEnds, DoEnds, JobEnds};
+ghost use Rattle.mlk_routine.specs.Views.{call_of, do_of};
+ghost use Rattle.mlk_routine.specs.CommandGrammar.{IsGiven, IsCall, IsDo, IsJob};
 
 use crate::fault::{leaves_out, other_form};
-use crate::part::has;
-use crate::tree::Call;
+use crate::part::{expression, has};
+use crate::tree::{Call, DoArgument};
 use mlk_expr::{Actual, Allows, Callee, Passing, ReadError, read_actuals_where, read_callee};
 use mlk_text::{Code, Failure, Fault, LeftOut};
 use std::alloc::Global;
@@ -71,4 +71,50 @@ pub(crate) fn call(
         },
         next,
     ))
+}
+
+/// The argument of DO here, and the byte after it. Before a postconditional less may stand in the actuals.
+pub(crate) fn do_argument(
+    alloc: Global,
+    line: &[u8],
+    at: usize,
+) -> Result<(DoArgument, usize), Failure<Fault>>
+    requires { at ≤ length line.now }
+    ensures { Told do_of IsDo DoEnds line.now at result }
+{
+    let (any, next) = call(alloc, Allows::Everything, Passing::ByReference, line, at)?;
+    if !has(line, next, b':') {
+        return Ok((
+            DoArgument {
+                call: any,
+                condition: None,
+            },
+            next,
+        ));
+    }
+    let (less, next) = call(alloc, Allows::NoTouches, Passing::ByReference, line, at)?;
+    let (condition, next) = expression(alloc, Allows::Everything, line, next + 1)?;
+    Ok((
+        DoArgument {
+            call: less,
+            condition: Some(condition),
+        },
+        next,
+    ))
+}
+
+/// The argument of JOB here, and the byte after it.
+pub(crate) fn job_argument(
+    alloc: Global,
+    line: &[u8],
+    at: usize,
+) -> Result<(Call, usize), Failure<Fault>>
+    requires { at ≤ length line.now }
+    ensures { Told call_of IsJob JobEnds line.now at result }
+{
+    let (called, next) = call(alloc, Allows::Everything, Passing::ByValue, line, at)?;
+    if has(line, next, b':') {
+        return Err(leaves_out(alloc, LeftOut::Timeout, next));
+    }
+    Ok((called, next))
 }
