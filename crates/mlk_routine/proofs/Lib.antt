@@ -7,3 +7,4 @@ pub mod Calls
 pub mod Enclosed
 pub mod Names
 pub mod Arguments
+pub mod Cutting

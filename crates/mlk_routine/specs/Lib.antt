@@ -6,3 +6,4 @@ pub mod RoutineGrammar
 pub mod Told
 pub mod Ends
 pub mod Commas
+pub mod Theorem

@@ -4,11 +4,13 @@
 mod call;
 mod fault;
 mod item;
+mod law;
 mod name;
 mod part;
 mod routine;
 mod tree;
 
+pub use law::one_cut;
 pub use routine::{Line, Routine};
 pub use tree::{
     Action, Call, Command, Commands, Control, DoArgument, For, KillArgument, LockArgument,
