@@ -8,3 +8,4 @@ pub mod Enclosed
 pub mod Names
 pub mod Arguments
 pub mod Cutting
+pub mod Nesting

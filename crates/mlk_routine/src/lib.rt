@@ -10,7 +10,7 @@ mod part;
 mod routine;
 mod tree;
 
-pub use law::one_cut;
+pub use law::{one_cut, one_nesting};
 pub use routine::{Line, Routine};
 pub use tree::{
     Action, Call, Command, Commands, Control, DoArgument, For, KillArgument, LockArgument,
