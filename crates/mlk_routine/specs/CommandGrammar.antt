@@ -10,7 +10,7 @@ use Rattle.mlk_expr.specs.declared.scope.Passing.TheVariants.{ByReference, ByVal
 use Rattle.mlk_expr.specs.Trees.{Tree, LocalName, ActualTree}
 use Rattle.mlk_expr.specs.Words.{is_either}
 use Rattle.mlk_expr.specs.Spellings.{IsQuoted}
-use Rattle.mlk_expr.specs.Grammar.{Spelled, IsList, AreNext, IsEnclosed, IsExpr, IsExprWhere, IsReferenceWhere}
+use Rattle.mlk_expr.specs.Grammar.{Spelled, IsList, AreNext, IsEnclosed, IsExprWhere, IsReferenceWhere}
 use Rattle.mlk_expr.specs.Grammar.{IsActualListWhere, IsCalleeText, IsNameText}
 use Rattle.mlk_routine.specs.declared.tree.Sign.{Sign}
 use Rattle.mlk_routine.specs.declared.tree.Sign.TheVariants as sign
@@ -32,6 +32,10 @@ Both First Second at s = (front rest : List ℕ) × (s ≡ front ++ rest) × Fir
 -- the same with a byte between them, or before one
 abbrev pub After : ℕ → (ℕ → List ℕ → Type 0) → ℕ → List ℕ → Type 0
 After b Next at s = (rest : List ℕ) × (s ≡ b ∷ rest) × Next (suc at) rest
+
+-- an expression in which everything may stand
+abbrev pub IsValue : ℕ → Tree → List ℕ → Type 0
+IsValue = IsExprWhere Everything
 
 -- nothing, or an expression after this byte
 abbrev pub IsAfter : ℕ → Allows → ℕ → Option Tree → List ℕ → Type 0
@@ -138,7 +142,7 @@ is_mark b = (b == 33) || (b == 35)
 
 abbrev pub IsFormat : ℕ → Option Tree → List ℕ → Type 0
 IsFormat at None s = (list_all is_mark s ≡ true) × (0 < length s)
-IsFormat at (Some t) s = Both (λ n r. list_all is_mark r ≡ true) (After 63 (λ n r. IsExpr n t r)) at s
+IsFormat at (Some t) s = Both (λ n r. list_all is_mark r ≡ true) (After 63 (λ n r. IsValue n t r)) at s
 
 -- Standard: READ. Left out: READ into a global.
 abbrev pub IsRead : ℕ → ReadTree → List ℕ → Type 0
@@ -164,21 +168,21 @@ IsTarget at (SetPart part v arguments) s = (word inner part_text : List ℕ) × 
 
 abbrev pub IsSet : ℕ → SetTree → List ℕ → Type 0
 IsSet at (SetTo targets value) s =
-    Both (λ n r. IsOneOrEnclosed IsTarget n targets r) (After 61 (λ n r. IsExpr n value r)) at s
+    Both (λ n r. IsOneOrEnclosed IsTarget n targets r) (After 61 (λ n r. IsValue n value r)) at s
 
 -- Standard: WRITE
 abbrev pub IsWrite : ℕ → WriteTree → List ℕ → Type 0
-IsWrite at (WriteValue t) s = IsExpr at t s
-IsWrite at (WriteCharacter t) s = After 42 (λ n r. IsExpr n t r) at s
+IsWrite at (WriteValue t) s = IsValue at t s
+IsWrite at (WriteCharacter t) s = After 42 (λ n r. IsValue n t r) at s
 IsWrite at (WriteFormat tab) s = IsFormat at tab s
 
 -- FOR's parameters: a value; a start and a step; these and a limit. Standard: FOR, forparameter. Left out: a variable
 -- with subscripts.
 abbrev pub IsParameter : ℕ → ParameterTree → List ℕ → Type 0
-IsParameter at (Once value) s = IsExpr at value s
-IsParameter at (Endless start step) s = Both (λ n r. IsExpr n start r) (After 58 (λ n r. IsExpr n step r)) at s
-IsParameter at (Limited start step limit) s = Both (λ n r. IsExpr n start r)
-    (After 58 (Both (λ n r. IsExpr n step r) (After 58 (λ n r. IsExpr n limit r)))) at s
+IsParameter at (Once value) s = IsValue at value s
+IsParameter at (Endless start step) s = Both (λ n r. IsValue n start r) (After 58 (λ n r. IsValue n step r)) at s
+IsParameter at (Limited start step limit) s = Both (λ n r. IsValue n start r)
+    (After 58 (Both (λ n r. IsValue n step r) (After 58 (λ n r. IsValue n limit r)))) at s
 
 abbrev pub IsControl : ℕ → ControlTree → List ℕ → Type 0
 IsControl at (Runs column variable parameters) s = (column ≡ at)
@@ -196,14 +200,14 @@ ArePerhaps Item at (a ∷ items) s = AreSome Item at (a ∷ items) s
 -- out is this project's own choice.
 abbrev pub IsQuit : Bool → ℕ → Option Tree → List ℕ → Type 0
 IsQuit returns at None s = s ≡ []
-IsQuit returns at (Some t) s = (returns ≡ true) × After 32 (λ n r. IsExpr n t r) at s
+IsQuit returns at (Some t) s = (returns ≡ true) × After 32 (λ n r. IsValue n t r) at s
 
 abbrev pub AreArguments : Bool → ℕ → ActionTree → List ℕ → Type 0
 AreArguments returns at (Do calls) s = ArePerhaps IsDo at calls s
 AreArguments returns at Else s = s ≡ []
 AreArguments returns at Halt s = s ≡ []
-AreArguments returns at (Hang times) s = AreSome IsExpr at times s
-AreArguments returns at (If conditions) s = ArePerhaps IsExpr at conditions s
+AreArguments returns at (Hang times) s = AreSome IsValue at times s
+AreArguments returns at (If conditions) s = ArePerhaps IsValue at conditions s
 AreArguments returns at (Job calls) s = AreSome IsJob at calls s
 AreArguments returns at (Kill kills) s = ArePerhaps IsKill at kills s
 AreArguments returns at (Lock locks) s = ArePerhaps IsLock at locks s

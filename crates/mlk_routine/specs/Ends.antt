@@ -4,7 +4,8 @@ use Rattle.mlk_expr.specs.Trees.{Tree, ActualTree}
 use Rattle.mlk_expr.specs.Theorem.{ExprEnds, ReferenceEnds, CalleeEnds}
 use Rattle.mlk_routine.specs.Told.{first_of}
 use Rattle.mlk_routine.specs.Trees.{VariableTree, Named, CallTree, Called, DoTree, DoCall, KillTree, KillOne}
-use Rattle.mlk_routine.specs.Trees.{KillAllBut, MergeTree, MergeInto}
+use Rattle.mlk_routine.specs.Trees.{KillAllBut, MergeTree, MergeInto, ParameterTree, Once, Endless, Limited}
+use Rattle.mlk_routine.specs.Trees.{ControlTree, Runs}
 
 -- no such byte
 abbrev pub Lacks : ℕ → List ℕ → Type 0
@@ -57,3 +58,16 @@ DoEnds (DoCall call (Some t)) rest = ExprEnds t rest
 -- after a call of JOB: no timeout either
 abbrev pub JobEnds : CallTree → List ℕ → Type 0
 JobEnds call rest = CallEnds call rest × Lacks 58 rest
+
+-- after a step, and after a parameter of FOR: no further colon where one more part may stand
+abbrev pub StepEnds : Tree → Option Tree → List ℕ → Type 0
+StepEnds step None rest = ExprEnds step rest × Lacks 58 rest
+StepEnds step (Some limit) rest = ExprEnds limit rest
+
+abbrev pub ParameterEnds : ParameterTree → List ℕ → Type 0
+ParameterEnds (Once value) rest = ExprEnds value rest × Lacks 58 rest
+ParameterEnds (Endless start step) rest = ExprEnds step rest × Lacks 58 rest
+ParameterEnds (Limited start step limit) rest = ExprEnds limit rest
+
+abbrev pub ControlEnds : ControlTree → List ℕ → Type 0
+ControlEnds (Runs column variable parameters) rest = AreEnded ParameterEnds parameters rest
