@@ -1,18 +1,23 @@
 #!/usr/bin/env python3
 """A second reader of M routines, to compare `mlk_routine` with.
 
-    second_routine_reader.py CASES      the command lines of a file of JSON objects, one a line: which of them a refusal of
-                                        100 to 211 is expected for, and whether this reader gives it
+    second_routine_reader.py CASES              whether it gives each refusal of 101 to 211 that is expected of a command line
+                                                in a file of JSON objects, one a line
+    second_routine_reader.py --write DIR [ROUTINES [SEED]]
+                                                20,000 random routines and seed 1 where nothing is said: routines.txt has a line
+                                                for each, its stem and its text in hexadecimal digits, expected.txt the answers
 
 It follows docs/ROUTINES.md and nothing else, and takes expressions from second_reader.py. Each part of a line gives all
 places where it may end, from all places where it may begin; what stands at the furthest place that some way could take is
 the fault, unless something before it is refused by name.
 """
 import json
+import pathlib
 import re
 import sys
 
-from second_reader import DIGITS, EVERYTHING, LETTERS, NO_CALLS, NO_TOUCHES, SecondReader, actuals, expression, reference
+from second_reader import DIGITS, EVERYTHING, LETTERS, NO_CALLS, NO_TOUCHES
+from second_reader import SecondReader, Writer, actuals, expression, reference
 
 COMMANDS = "D=DO E=ELSE F=FOR HALT=HALT HANG=HANG I=IF J=JOB K=KILL L=LOCK M=MERGE N=NEW Q=QUIT R=READ S=SET W=WRITE"
 LEFT_OUT = """B=BREAK C=CLOSE G=GOTO O=OPEN U=USE V=VIEW X=XECUTE TS=TSTART TC=TCOMMIT TRO=TROLLBACK TRE=TRESTART
@@ -506,9 +511,93 @@ def told(stem, answer):
     return f"refused {name} {line}:{column} {code} {NAMES[code]}" + (f" {word}" if word != "-" else "")
 
 
-def main():
+class RoutineWriter(Writer):
+    """Random routines, and what is almost one."""
+
+    BYTES = Writer.BYTES + "  ..;;::((,,SKQFDL\t\r\x01\x7f\xe9"
+
+    def names(self):
+        return f"({self.listed(self.name, 0)})"
+
+    def call(self, depth):
+        return self.one("A", "F", "12", "A^R", "^R", "F+1") + self.one("", lambda: self.actuals(depth))
+
+    def format(self, depth):
+        marks = lambda: "".join(self.one("!", "#") for _ in range(self.one(0, 1, 2)))
+        return marks() + self.one("", "!", lambda: "?" + self.expr(depth))
+
+    def target(self, depth):
+        more = lambda: "".join("," + self.local(depth) for _ in range(self.one(0, 1, 2)))
+        part = lambda: f"${self.one('P', 'piece', 'E', 'EXTRACT', 'L', 'X')}({self.variable(depth)}{more()})"
+        return self.one(lambda: self.variable(depth), lambda: self.variable(depth), part)
+
+    def one_or_several(self, part):
+        return self.one(part, part, lambda: f"({self.listed(part, 0)})")
+
+    def argument(self, word, depth):
+        expr = lambda: self.expr(depth)
+        timed = lambda: self.one("", "", lambda: ":" + expr())
+        return {
+            "DO": lambda: self.call(depth) + timed(),
+            "FOR": lambda: self.name() + self.one("=", "=", "(") + self.listed(lambda: ":".join(expr() for _ in range(self.one(1, 2, 3, 3, 4))), 1),
+            "JOB": lambda: self.call(depth) + self.one("", "", "", ":5"),
+            "KILL": lambda: self.one(lambda: self.variable(depth), lambda: self.variable(depth), self.names),
+            "LOCK": lambda: self.one("", "+", "-") + self.one_or_several(lambda: self.variable(depth)) + timed(),
+            "MERGE": lambda: self.variable(depth) + "=" + self.variable(depth),
+            "NEW": lambda: self.one(self.name, self.name, self.names, "$T"),
+            "READ": lambda: self.one('"a"', lambda: self.format(depth), lambda: self.one("", "*") + self.variable(depth) + self.one("", "#5") + timed()),
+            "SET": lambda: self.one_or_several(lambda: self.target(depth)) + "=" + expr(),
+            "WRITE": lambda: self.one(expr, expr, lambda: "*" + expr(), lambda: self.format(depth)),
+        }.get(word, expr)()
+
+    def command(self, depth):
+        word = self.one(*COMMANDS.values(), "SET", "DO", "LOCK", "QUIT", "GOTO", "ZW")
+        short = next((short for short, whole in COMMANDS.items() if whole == word), word)
+        condition = self.one("", "", "", lambda: ":" + self.expr(depth)) if word not in UNCONDITIONAL else ""
+        head = self.one(word, word.lower(), short, short[:1]) + condition
+        if word in NEVER or word in PERHAPS and self.random.random() < 0.4:
+            return head + self.one("  ", "  ", "   ", " ")
+        several = 1 if word in ("QUIT", "FOR") else self.one(1, 1, 2)
+        return head + " " + ",".join(self.argument(word, depth) for _ in range(several)) + self.one(" ", " ", " ", "  ", "")
+
+    def body(self):
+        commands = "".join(self.command(self.one(0, 1, 1)) for _ in range(self.one(0, 1, 1, 2, 3)))
+        return commands + self.one("", "", ";c")
+
+    def text_line(self, level):
+        if level == 1 and self.random.random() < 0.4:
+            label = self.one("A", "B", "F", "12", "%Z", "007", lambda: self.name())
+            return label + self.one("", "", "()", lambda: self.names()) + self.one(" ", "\t", "") + self.body()
+        return self.one(" ", " ", "\t", "  ") + "".join("." + self.one("", " ") for _ in range(level - 1)) + self.body()
+
+    def routine(self):
+        lines, level = [], 1
+        for _ in range(self.one(1, 1, 2, 3, 5)):
+            lines.append(self.text_line(level) if self.random.random() < 0.95 else self.one("", ";c", " "))
+            level = max(1, level + self.one(-1, 0, 0, 0, 1))
+            if level > 1 and self.random.random() < 0.7:
+                lines[-1] += self.one(" D", " DO  ", " D:1")
+        text = self.one("\n", "\n", "\r\n").join(lines) + self.one("\n", "\n", "")
+        for _ in range(self.one(0, 0, 1, 1)):
+            at = self.random.randint(0, len(text))
+            text = text[:at] + self.one("", self.one(*self.BYTES)) + text[at + self.one(0, 1) :]
+        return text
+
+
+def write(folder, count, seed):
+    writer = RoutineWriter(seed)
+    texts = [writer.routine() for _ in range(count)]
+    folder.mkdir(parents=True, exist_ok=True)
+    lines = [f"{b'R'.hex()} {text.encode('latin-1').hex()}\n" for text in texts]
+    (folder / "routines.txt").write_text("".join(lines))
+    answers = [routine("R", text) for text in texts]
+    said = ["ok" if not a else f"{a[0]} {a[1]} {a[2]} {list(a[3].encode())}" for a in answers]
+    (folder / "expected.txt").write_text("\n".join(said) + "\n")
+
+
+def compare(path):
     agreed = differ = 0
-    for number, line in enumerate(open(sys.argv[1], encoding="ascii"), 1):
+    for number, line in enumerate(open(path, encoding="ascii"), 1):
         case = json.loads(line)
         expected = case["stderr"].rstrip("\n")
         code = re.search(r" \d+:\d+ (\d+) ", expected)
@@ -529,6 +618,14 @@ def main():
             for path in case["words"][3:]:
                 print("   ", repr(case["files"][path][:300]))
     print(f"{agreed} agree, {differ} differ")
+
+
+def main():
+    if sys.argv[1] == "--write":
+        count, seed = (list(map(int, sys.argv[3:])) + [20_000, 1][len(sys.argv) - 3 :])[:2]
+        write(pathlib.Path(sys.argv[2]), count, seed)
+    else:
+        compare(sys.argv[1])
 
 
 if __name__ == "__main__":
