@@ -9,3 +9,4 @@ pub mod Names
 pub mod Arguments
 pub mod Cutting
 pub mod Nesting
+pub mod Parameters

@@ -6,6 +6,7 @@ mod fault;
 mod item;
 mod law;
 mod name;
+mod parameter;
 mod part;
 mod routine;
 mod tree;
