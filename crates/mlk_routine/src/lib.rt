@@ -4,6 +4,7 @@
 mod call;
 mod fault;
 mod item;
+mod items;
 mod law;
 mod name;
 mod parameter;

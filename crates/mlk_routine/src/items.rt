@@ -1,0 +1,114 @@
+// The arguments that stand in lists.
+
+ghost use Rattle.mlk_routine.specs.Trees.{DoTree, CallTree, KillTree, MergeTree, ParameterTree};
+ghost use Rattle.mlk_routine.specs.Views.{do_of, call_of, kill_of, merge_of, parameter_of};
+ghost use Rattle.mlk_routine.specs.Ends.{DoEnds, JobEnds, KillEnds, MergeEnds, ParameterEnds};
+ghost use Rattle.mlk_routine.specs.CommandGrammar.{IsDo, IsJob, IsKill, IsMerge, IsParameter};
+ghost use Rattle.mlk_routine.specs.Commas.{do_comma, do_close, job_comma, job_close, kill_comma, kill_close};
+ghost use Rattle.mlk_routine.specs.Commas.{merge_comma, merge_close, parameter_comma, parameter_close};
+
+use crate::call::{do_argument, job_argument};
+use crate::item::Item;
+use crate::name::{kill, merge};
+use crate::parameter::parameter;
+use crate::tree::{Call, DoArgument, KillArgument, MergeArgument, Parameter};
+use mlk_text::{Failure, Fault};
+use std::alloc::Global;
+
+impl Item for DoArgument {
+    ghost Seen = { DoTree };
+
+    ghost seen = { do_of };
+
+    ghost is = { IsDo };
+
+    ghost ends = { DoEnds };
+
+    ghost comma = { do_comma };
+
+    ghost close = { do_close };
+
+    fn read(alloc: Global, line: &[u8], at: usize) -> Result<(DoArgument, usize), Failure<Fault>> {
+        do_argument(alloc, line, at)
+    }
+}
+
+impl Item for Call {
+    ghost Seen = { CallTree };
+
+    ghost seen = { call_of };
+
+    ghost is = { IsJob };
+
+    ghost ends = { JobEnds };
+
+    ghost comma = { job_comma };
+
+    ghost close = { job_close };
+
+    fn read(alloc: Global, line: &[u8], at: usize) -> Result<(Call, usize), Failure<Fault>> {
+        job_argument(alloc, line, at)
+    }
+}
+
+impl Item for KillArgument {
+    ghost Seen = { KillTree };
+
+    ghost seen = { kill_of };
+
+    ghost is = { IsKill };
+
+    ghost ends = { KillEnds };
+
+    ghost comma = { kill_comma };
+
+    ghost close = { kill_close };
+
+    fn read(
+        alloc: Global,
+        line: &[u8],
+        at: usize,
+    ) -> Result<(KillArgument, usize), Failure<Fault>> {
+        kill(alloc, line, at)
+    }
+}
+
+impl Item for MergeArgument {
+    ghost Seen = { MergeTree };
+
+    ghost seen = { merge_of };
+
+    ghost is = { IsMerge };
+
+    ghost ends = { MergeEnds };
+
+    ghost comma = { merge_comma };
+
+    ghost close = { merge_close };
+
+    fn read(
+        alloc: Global,
+        line: &[u8],
+        at: usize,
+    ) -> Result<(MergeArgument, usize), Failure<Fault>> {
+        merge(alloc, line, at)
+    }
+}
+
+impl Item for Parameter {
+    ghost Seen = { ParameterTree };
+
+    ghost seen = { parameter_of };
+
+    ghost is = { IsParameter };
+
+    ghost ends = { ParameterEnds };
+
+    ghost comma = { parameter_comma };
+
+    ghost close = { parameter_close };
+
+    fn read(alloc: Global, line: &[u8], at: usize) -> Result<(Parameter, usize), Failure<Fault>> {
+        parameter(alloc, line, at)
+    }
+}
