@@ -10,3 +10,4 @@ pub mod Arguments
 pub mod Cutting
 pub mod Nesting
 pub mod Parameters
+pub mod Controls

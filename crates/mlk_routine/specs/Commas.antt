@@ -111,3 +111,8 @@ pub parameter_close : (p : ParameterTree) (rest : List ℕ) → ParameterEnds p 
 parameter_close (Once t) rest = (expr_close t rest, no_colon_close rest)
 parameter_close (Endless t u) rest = (expr_close u rest, no_colon_close rest)
 parameter_close (Limited t u v) rest = expr_close v rest
+
+-- an equals sign may stand after a name
+pub name_equals : (name rest : List ℕ) → LabelEnds name (61 ∷ rest)
+name_equals [] rest = refl
+name_equals (d ∷ name) rest = same_either (is_digit d)
