@@ -11,3 +11,4 @@ pub mod Cutting
 pub mod Nesting
 pub mod Parameters
 pub mod Controls
+pub mod Singles

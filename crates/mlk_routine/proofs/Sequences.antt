@@ -1,12 +1,13 @@
 -- Two parts, one after the other: what their readers say of the whole.
 use Rattle.std.proofs.Common.{◌≡◌, ◌≤◌, ◌+◌, ℕ, suc, List, ◌++◌, length, drop, sym, ap, ◌∙◌, arith, subst, append_assoc, length-append, length-drop, drop-drop}
 use Rattle.std.proofs.Math.Seq.{drop-append_seam}
+use Rattle.std.specs.Prelude.{Result, Ok, Err}
 use Rattle.mlk_expr.specs.Grammar.{Spelled}
 use Rattle.mlk_expr.specs.Theorem.{Stands, Only}
 use Rattle.mlk_text.specs.declared.failure.Failure.{Failure}
 use Rattle.mlk_text.specs.declared.failure.Failure.TheVariants.{OutOfMemory, Refused}
 use Rattle.mlk_text.specs.declared.fault.Fault.{Fault}
-use Rattle.mlk_routine.specs.Told.{Found, Nowhere, Denied}
+use Rattle.mlk_routine.specs.Told.{Found, Nowhere, Denied, Told}
 
 -- where a text ends
 pub next_is : (line text : List ℕ) (at m : ℕ) → at ≤ length line → m ≤ length line → drop at line ≡ text ++ drop m line → m ≡ at + length text
@@ -93,6 +94,11 @@ module _ {A C : Type 0} {line : List ℕ} {at : ℕ} {IsA : Spelled A} {EndsA : 
   pub turned_denied : (e : Failure Fault) → Denied IsA EndsA line at e → Denied IsC EndsC line at e
   turned_denied OutOfMemory h = tt
   turned_denied (Refused fault) h = turned_nowhere h
+
+  -- what is answered of the part is answered of the whole
+  pub turned_told : {X : Type 0} (r : Result (X × ℕ) (Failure Fault)) (view : X → A) → Told view IsA EndsA line at r → Told (λ x. make (view x)) IsC EndsC line at r
+  turned_told (Ok r) view h = turned_found (view r.0) r.1 h
+  turned_told (Err e) view h = turned_denied e h
 
 -- The law that a text has one tree, for the whole from its parts: what stands at a place is the only thing of its kind there.
 abbrev pub Sole : {A : Type 0} → Spelled A → (A → List ℕ → Type 0) → List ℕ → ℕ → Type 0

@@ -8,8 +8,8 @@ use Rattle.mlk_expr.specs.Lexemes.{ends}
 use Rattle.mlk_expr.specs.Grammar.{has_subscript}
 use Rattle.mlk_expr.specs.Theorem.{ExprEnds, LabelEnds, callee_ends}
 use Rattle.mlk_routine.specs.Trees.{VariableTree, Named, CallTree, Called, DoTree, DoCall, KillTree, KillOne}
-use Rattle.mlk_routine.specs.Trees.{KillAllBut, MergeTree, MergeInto, ParameterTree, Once, Endless, Limited}
-use Rattle.mlk_routine.specs.Ends.{Lacks, VariableEnds, CallEnds, DoEnds, JobEnds, KillEnds, MergeEnds, ParameterEnds}
+use Rattle.mlk_routine.specs.Trees.{KillAllBut, NewTree, NewOne, NewAllBut, MergeTree, MergeInto, ParameterTree, Once, Endless, Limited}
+use Rattle.mlk_routine.specs.Ends.{Lacks, VariableEnds, CallEnds, DoEnds, JobEnds, KillEnds, MergeEnds, NewEnds, ParameterEnds}
 
 -- neither goes on with digits nor with a name
 same_either : (b : Bool) → not (if b then false else false) ≡ true
@@ -116,3 +116,11 @@ parameter_close (Limited t u v) rest = expr_close v rest
 pub name_equals : (name rest : List ℕ) → LabelEnds name (61 ∷ rest)
 name_equals [] rest = refl
 name_equals (d ∷ name) rest = same_either (is_digit d)
+
+pub new_comma : (x : NewTree) (rest : List ℕ) → NewEnds x (44 ∷ rest)
+new_comma (NewOne column name) rest = name_comma name rest
+new_comma (NewAllBut names) rest = tt
+
+pub new_close : (x : NewTree) (rest : List ℕ) → NewEnds x (41 ∷ rest)
+new_close (NewOne column name) rest = name_close name rest
+new_close (NewAllBut names) rest = tt

@@ -1,11 +1,11 @@
 -- What may stand after the parts of arguments. This project's own.
-use Rattle.std.specs.Prelude.{ℕ, ◌≢◌, List, [], ◌∷◌, Option, Some, None}
+use Rattle.std.specs.Prelude.{ℕ, ◌≡◌, ◌≢◌, ◌⊎◌, List, [], ◌∷◌, Option, Some, None}
 use Rattle.mlk_expr.specs.Trees.{Tree, ActualTree}
-use Rattle.mlk_expr.specs.Theorem.{ExprEnds, ReferenceEnds, CalleeEnds}
+use Rattle.mlk_expr.specs.Theorem.{ExprEnds, ReferenceEnds, CalleeEnds, LabelEnds}
 use Rattle.mlk_routine.specs.Told.{first_of}
 use Rattle.mlk_routine.specs.Trees.{VariableTree, Named, CallTree, Called, DoTree, DoCall, KillTree, KillOne}
 use Rattle.mlk_routine.specs.Trees.{KillAllBut, MergeTree, MergeInto, ParameterTree, Once, Endless, Limited}
-use Rattle.mlk_routine.specs.Trees.{ControlTree, Runs}
+use Rattle.mlk_routine.specs.Trees.{ControlTree, Runs, NewTree, NewOne, NewAllBut}
 
 -- no such byte
 abbrev pub Lacks : ℕ → List ℕ → Type 0
@@ -71,3 +71,20 @@ ParameterEnds (Limited start step limit) rest = ExprEnds limit rest
 
 abbrev pub ControlEnds : ControlTree → List ℕ → Type 0
 ControlEnds (Runs column variable parameters) rest = AreEnded ParameterEnds parameters rest
+
+abbrev pub NewEnds : NewTree → List ℕ → Type 0
+NewEnds (NewOne column name) rest = LabelEnds name rest
+NewEnds (NewAllBut names) rest = Unit {0}
+
+-- a text begins with some byte that is no parenthesis
+abbrev pub Begins : List ℕ → Type 0
+Begins s = (b : ℕ) × (t : List ℕ) × (s ≡ b ∷ t) × (b ≢ 40)
+
+-- after one item what may stand there; after several in parentheses, where one begins the text, anything
+abbrev pub SingleEnds : {A : Type 0} → (A → List ℕ → Type 0) → List A → List ℕ → Type 0
+SingleEnds Ends [] rest = ⊥
+SingleEnds Ends (a ∷ []) rest = Ends a rest
+SingleEnds Ends (a ∷ b ∷ more) rest = ⊥
+
+abbrev pub OneEnds : {A : Type 0} → (A → List ℕ → Type 0) → Option ℕ → List A → List ℕ → Type 0
+OneEnds Ends first items rest = (first ≡ Some 40) ⊎ SingleEnds Ends items rest

@@ -1,10 +1,10 @@
 // What stands between commas, and lists of it.
 
-ghost use Rattle.std.specs.Prelude.{◌≡◌, ◌≤◌, length, map, Some};
+ghost use Rattle.std.specs.Prelude.{◌≡◌, ◌≤◌, ℕ, List, length, map, Some, true, false};
 ghost use Rattle.mlk_routine.specs.Told.{Told, byte_at};
 ghost use Rattle.mlk_routine.specs.Commas.{expr_comma, expr_close, name_comma, name_close};
-ghost use Rattle.mlk_routine.specs.Ends.{AreEnded, AnyEnds};
-ghost use Rattle.mlk_routine.specs.CommandGrammar.{AreEnclosed};
+ghost use Rattle.mlk_routine.specs.Ends.{AreEnded, AnyEnds, Begins, OneEnds};
+ghost use Rattle.mlk_routine.specs.CommandGrammar.{AreEnclosed, IsOneOrEnclosed};
 ghost use Rattle.mlk_expr.specs.Grammar.{IsList, IsExprWhere, IsNameText};
 ghost use Rattle.mlk_expr.specs.Trees.{Tree, tree_of};
 ghost use Rattle.mlk_expr.specs.Theorem.{ExprEnds, LabelEnds};
@@ -114,4 +114,23 @@ impl Item for Name {
     fn read(alloc: Global, line: &[u8], at: usize) -> Result<(Name, usize), Failure<Fault>> {
         name(alloc, line, at)
     }
+}
+
+/// One item, or several in parentheses, and the byte after them. No item begins with a parenthesis.
+pub(crate) fn one_or_enclosed<T: Item>(
+    alloc: Global,
+    line: &[u8],
+    at: usize,
+) -> Result<(Vec<T>, usize), Failure<Fault>>
+    requires within { at ≤ length line.now }
+    requires shut { (k : ℕ) (a : T.Seen) (s : List ℕ) → T.is k a s → Begins s }
+    ensures { Told (λ v. map T.seen v.items) (IsOneOrEnclosed T.is) (OneEnds T.ends (byte_at line.now at)) line.now at result }
+{
+    if has(line, at, b'(') {
+        return enclosed(alloc, line, at);
+    }
+    let (item, next) = T::read(alloc, line, at)?;
+    let mut items = Vec::new(alloc);
+    items.push(item)?;
+    Ok((items, next))
 }

@@ -1,17 +1,17 @@
 // The arguments that stand in lists.
 
-ghost use Rattle.mlk_routine.specs.Trees.{DoTree, CallTree, KillTree, MergeTree, ParameterTree};
-ghost use Rattle.mlk_routine.specs.Views.{do_of, call_of, kill_of, merge_of, parameter_of};
-ghost use Rattle.mlk_routine.specs.Ends.{DoEnds, JobEnds, KillEnds, MergeEnds, ParameterEnds};
-ghost use Rattle.mlk_routine.specs.CommandGrammar.{IsDo, IsJob, IsKill, IsMerge, IsParameter};
+ghost use Rattle.mlk_routine.specs.Trees.{DoTree, CallTree, KillTree, NewTree, MergeTree, ParameterTree};
+ghost use Rattle.mlk_routine.specs.Views.{do_of, call_of, kill_of, new_of, merge_of, parameter_of};
+ghost use Rattle.mlk_routine.specs.Ends.{DoEnds, JobEnds, KillEnds, NewEnds, MergeEnds, ParameterEnds};
+ghost use Rattle.mlk_routine.specs.CommandGrammar.{IsDo, IsJob, IsKill, IsNew, IsMerge, IsParameter};
 ghost use Rattle.mlk_routine.specs.Commas.{do_comma, do_close, job_comma, job_close, kill_comma, kill_close};
-ghost use Rattle.mlk_routine.specs.Commas.{merge_comma, merge_close, parameter_comma, parameter_close};
+ghost use Rattle.mlk_routine.specs.Commas.{new_comma, new_close, merge_comma, merge_close, parameter_comma, parameter_close};
 
 use crate::call::{do_argument, job_argument};
 use crate::item::Item;
-use crate::name::{kill, merge};
+use crate::name::{kill, merge, new};
 use crate::parameter::parameter;
-use crate::tree::{Call, DoArgument, KillArgument, MergeArgument, Parameter};
+use crate::tree::{Call, DoArgument, KillArgument, MergeArgument, NewArgument, Parameter};
 use mlk_text::{Failure, Fault};
 use std::alloc::Global;
 
@@ -110,5 +110,23 @@ impl Item for Parameter {
 
     fn read(alloc: Global, line: &[u8], at: usize) -> Result<(Parameter, usize), Failure<Fault>> {
         parameter(alloc, line, at)
+    }
+}
+
+impl Item for NewArgument {
+    ghost Seen = { NewTree };
+
+    ghost seen = { new_of };
+
+    ghost is = { IsNew };
+
+    ghost ends = { NewEnds };
+
+    ghost comma = { new_comma };
+
+    ghost close = { new_close };
+
+    fn read(alloc: Global, line: &[u8], at: usize) -> Result<(NewArgument, usize), Failure<Fault>> {
+        new(alloc, line, at)
     }
 }
