@@ -12,3 +12,4 @@ pub mod Nesting
 pub mod Parameters
 pub mod Controls
 pub mod Singles
+pub mod Stretches

@@ -1,5 +1,6 @@
 -- What may stand after the parts of arguments. This project's own.
-use Rattle.std.specs.Prelude.{ℕ, ◌≡◌, ◌≢◌, ◌⊎◌, List, [], ◌∷◌, Option, Some, None}
+use Rattle.std.specs.Prelude.{ℕ, ◌≡◌, ◌≢◌, ◌⊎◌, Bool, true, false, List, [], ◌∷◌, Option, Some, None}
+use Rattle.std.specs.List.{list_all}
 use Rattle.mlk_expr.specs.Trees.{Tree, ActualTree}
 use Rattle.mlk_expr.specs.Theorem.{ExprEnds, ReferenceEnds, CalleeEnds, LabelEnds}
 use Rattle.mlk_routine.specs.Told.{first_of}
@@ -88,3 +89,14 @@ SingleEnds Ends (a ∷ b ∷ more) rest = ⊥
 
 abbrev pub OneEnds : {A : Type 0} → (A → List ℕ → Type 0) → Option ℕ → List A → List ℕ → Type 0
 OneEnds Ends first items rest = (first ≡ Some 40) ⊎ SingleEnds Ends items rest
+
+-- a run of bytes of one kind, and what may stand after it: none of them
+abbrev pub IsRun : (ℕ → Bool) → ℕ → Unit {0} → List ℕ → Type 0
+IsRun kind at u s = list_all kind s ≡ true
+
+abbrev pub starts : (ℕ → Bool) → List ℕ → Bool
+starts kind [] = false
+starts kind (b ∷ rest) = kind b
+
+abbrev pub RunEnds : (ℕ → Bool) → Unit {0} → List ℕ → Type 0
+RunEnds kind u rest = starts kind rest ≡ false

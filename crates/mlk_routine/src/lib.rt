@@ -10,6 +10,7 @@ mod name;
 mod parameter;
 mod part;
 mod routine;
+mod run;
 mod tree;
 
 pub use law::{one_cut, one_nesting};
