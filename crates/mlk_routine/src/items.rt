@@ -1,9 +1,11 @@
 // The arguments that stand in lists.
 
-ghost use Rattle.mlk_routine.specs.Trees.{DoTree, CallTree, KillTree, NewTree, MergeTree, ParameterTree};
-ghost use Rattle.mlk_routine.specs.Views.{do_of, call_of, kill_of, new_of, merge_of, parameter_of};
-ghost use Rattle.mlk_routine.specs.Ends.{DoEnds, JobEnds, KillEnds, NewEnds, MergeEnds, ParameterEnds};
-ghost use Rattle.mlk_routine.specs.CommandGrammar.{IsDo, IsJob, IsKill, IsNew, IsMerge, IsParameter};
+ghost use Rattle.mlk_routine.specs.Trees.{VariableTree, DoTree, CallTree, KillTree, NewTree, MergeTree, ParameterTree};
+ghost use Rattle.mlk_routine.specs.Views.{variable_of, do_of, call_of, kill_of, new_of, merge_of, parameter_of};
+ghost use Rattle.mlk_routine.specs.Ends.{VariableEnds, DoEnds, JobEnds, KillEnds, NewEnds, MergeEnds, ParameterEnds};
+ghost use Rattle.mlk_routine.specs.CommandGrammar.{IsVariable, IsDo, IsJob, IsKill, IsNew, IsMerge, IsParameter};
+ghost use Rattle.mlk_expr.specs.declared.scope.Allows.TheVariants.{Everything, NoTouches};
+ghost use Rattle.mlk_routine.specs.Commas.{variable_comma, variable_close};
 ghost use Rattle.mlk_routine.specs.Commas.{do_comma, do_close, job_comma, job_close, kill_comma, kill_close};
 ghost use Rattle.mlk_routine.specs.Commas.{new_comma, new_close, merge_comma, merge_close, parameter_comma, parameter_close};
 
@@ -11,7 +13,11 @@ use crate::call::{do_argument, job_argument};
 use crate::item::Item;
 use crate::name::{kill, merge, new};
 use crate::parameter::parameter;
-use crate::tree::{Call, DoArgument, KillArgument, MergeArgument, NewArgument, Parameter};
+use crate::part::variable;
+use crate::tree::{
+    Call, DoArgument, KillArgument, MergeArgument, NewArgument, Parameter, Variable,
+};
+use mlk_expr::Allows;
 use mlk_text::{Failure, Fault};
 use std::alloc::Global;
 
@@ -128,5 +134,48 @@ impl Item for NewArgument {
 
     fn read(alloc: Global, line: &[u8], at: usize) -> Result<(NewArgument, usize), Failure<Fault>> {
         new(alloc, line, at)
+    }
+}
+
+impl Item for Variable {
+    ghost Seen = { VariableTree };
+
+    ghost seen = { variable_of };
+
+    ghost is = { IsVariable Everything };
+
+    ghost ends = { VariableEnds };
+
+    ghost comma = { variable_comma };
+
+    ghost close = { variable_close };
+
+    fn read(alloc: Global, line: &[u8], at: usize) -> Result<(Variable, usize), Failure<Fault>> {
+        variable(alloc, Allows::Everything, line, at)
+    }
+}
+
+/// A name of LOCK without a sign, in which neither globals nor calls stand.
+#[derive(Drop)]
+pub(crate) struct Unsigned {
+    pub(crate) variable: Variable,
+}
+
+impl Item for Unsigned {
+    ghost Seen = { VariableTree };
+
+    ghost seen = { λ u. variable_of u.variable };
+
+    ghost is = { IsVariable NoTouches };
+
+    ghost ends = { VariableEnds };
+
+    ghost comma = { variable_comma };
+
+    ghost close = { variable_close };
+
+    fn read(alloc: Global, line: &[u8], at: usize) -> Result<(Unsigned, usize), Failure<Fault>> {
+        let (variable, next) = variable(alloc, Allows::NoTouches, line, at)?;
+        Ok((Unsigned { variable }, next))
     }
 }
