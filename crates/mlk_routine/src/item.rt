@@ -124,7 +124,8 @@ pub(crate) fn one_or_enclosed<T: Item>(
 ) -> Result<(Vec<T>, usize), Failure<Fault>>
     requires within { at ≤ length line.now }
     requires shut { (k : ℕ) (a : T.Seen) (s : List ℕ) → T.is k a s → Begins s }
-    ensures { Told (λ v. map T.seen v.items) (IsOneOrEnclosed T.is) (OneEnds T.ends (byte_at line.now at)) line.now at result }
+    ensures { Told (λ v. map T.seen v.items) (IsOneOrEnclosed T.is)
+        (OneEnds T.ends (byte_at line.now at)) line.now at result }
 {
     if has(line, at, b'(') {
         return enclosed(alloc, line, at);

@@ -7,7 +7,8 @@ ghost use Rattle.mlk_routine.specs.CommandGrammar.{IsVariable, IsDo, IsJob, IsKi
 ghost use Rattle.mlk_expr.specs.declared.scope.Allows.TheVariants.{Everything, NoTouches};
 ghost use Rattle.mlk_routine.specs.Commas.{variable_comma, variable_close};
 ghost use Rattle.mlk_routine.specs.Commas.{do_comma, do_close, job_comma, job_close, kill_comma, kill_close};
-ghost use Rattle.mlk_routine.specs.Commas.{new_comma, new_close, merge_comma, merge_close, parameter_comma, parameter_close};
+ghost use Rattle.mlk_routine.specs.Commas.{new_comma, new_close, merge_comma, merge_close};
+ghost use Rattle.mlk_routine.specs.Commas.{parameter_comma, parameter_close};
 
 use crate::call::{do_argument, job_argument};
 use crate::item::Item;
