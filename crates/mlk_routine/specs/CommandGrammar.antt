@@ -110,8 +110,8 @@ abbrev pub IsNew : ℕ → NewTree → List ℕ → Type 0
 IsNew at (NewOne column name) s = (column ≡ at) × IsNameText at name s
 IsNew at (NewAllBut names) s = IsAllBut at names s
 
--- Standard: LOCK. Without a sign what is held is released too, so neither globals nor calls stand there, since it is not
--- certain what is evaluated first; the timeout of `-` is left out.
+-- Standard: LOCK. Without a sign what is held is released too, so neither globals nor calls stand there, since it is
+-- not certain what is evaluated first; the timeout of `-` is left out.
 abbrev pub sign_text : Sign → List ℕ
 sign_text sign.None = []
 sign_text sign.Plus = codes "+"
@@ -245,7 +245,8 @@ IsGap least gap following = (list_all is_space gap ≡ true) × ((following ≡ 
 -- which is this project's own choice. Standard: line body, FOR.
 abbrev pub AreCommands : ℕ → ℕ → ℕ → CommandTrees → List ℕ → Type 0
 AreCommands level loops at finished s = s ≡ []
-AreCommands level loops at (then_command first rest) s = (text gap following : List ℕ) × (s ≡ text ++ (gap ++ following))
+AreCommands level loops at (then_command first rest) s = (text gap following : List ℕ)
+    × (s ≡ text ++ (gap ++ following))
     × IsCommand ((level == 1) && (loops == 0)) at first text × IsGap (least_of first) gap following
     × AreCommands level loops (at + length text + length gap) rest following
 AreCommands level loops at (then_for column index control rest) s = (text gap following : List ℕ)

@@ -1,5 +1,6 @@
 -- A comma and a closing parenthesis may stand after each item of a list. This project's own.
-use Rattle.std.specs.Prelude.{ℕ, ◌≡◌, refl, Bool, true, false, not, ◌||◌, if◌then◌else◌, Option, Some, None, List, [], ◌∷◌}
+use Rattle.std.specs.Prelude.{ℕ, ◌≡◌, refl, Bool, true, false, not, ◌||◌}
+use Rattle.std.specs.Prelude.{if◌then◌else◌, Option, Some, None, List, [], ◌∷◌}
 use Rattle.std.proofs.Common.{arith}
 use Rattle.std.proofs.lemmas.Option.{same_Some}
 use Rattle.mlk_text.specs.Lexemes.{is_digit}
@@ -8,8 +9,10 @@ use Rattle.mlk_expr.specs.Lexemes.{ends}
 use Rattle.mlk_expr.specs.Grammar.{has_subscript}
 use Rattle.mlk_expr.specs.Theorem.{ExprEnds, LabelEnds, callee_ends}
 use Rattle.mlk_routine.specs.Trees.{VariableTree, Named, CallTree, Called, DoTree, DoCall, KillTree, KillOne}
-use Rattle.mlk_routine.specs.Trees.{KillAllBut, NewTree, NewOne, NewAllBut, MergeTree, MergeInto, ParameterTree, Once, Endless, Limited}
-use Rattle.mlk_routine.specs.Ends.{Lacks, VariableEnds, CallEnds, DoEnds, JobEnds, KillEnds, MergeEnds, NewEnds, ParameterEnds}
+use Rattle.mlk_routine.specs.Trees.{KillAllBut, NewTree, NewOne, NewAllBut, MergeTree, MergeInto}
+use Rattle.mlk_routine.specs.Trees.{ParameterTree, Once, Endless, Limited}
+use Rattle.mlk_routine.specs.Ends.{Lacks, VariableEnds, CallEnds, DoEnds, JobEnds}
+use Rattle.mlk_routine.specs.Ends.{KillEnds, MergeEnds, NewEnds, ParameterEnds}
 
 -- neither goes on with digits nor with a name
 same_either : (b : Bool) → not (if b then false else false) ≡ true

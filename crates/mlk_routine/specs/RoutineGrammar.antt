@@ -27,7 +27,8 @@ abbrev pub IsLabelled : Option (List ℕ) → Option (List (List ℕ)) → List 
 IsLabelled None None s = s ≡ []
 IsLabelled None (Some formals) s = ⊥
 IsLabelled (Some label) None s = (s ≡ label) × IsLabel label
-IsLabelled (Some label) (Some formals) s = (list : List ℕ) × (s ≡ label ++ list) × IsLabel label × IsFormals formals list
+IsLabelled (Some label) (Some formals) s = (list : List ℕ) × (s ≡ label ++ list) × IsLabel label
+    × IsFormals formals list
 
 -- spaces and TABs; a TAB is this project's own choice
 abbrev pub is_blank : ℕ → Bool
@@ -50,8 +51,8 @@ IsStart periods s = (blanks rest : List ℕ) × (s ≡ blanks ++ rest) × (0 < l
 abbrev pub IsComment : List ℕ → Type 0
 IsComment s = (s ≡ []) ⊎ ((text : List ℕ) × (s ≡ 59 ∷ text) × (is_text text ≡ true))
 
--- What stands after the label: a comment or nothing; or a line's start, commands, and a comment or nothing. The level is
--- one more than the periods, at most 15, which is this project's own choice. Standard: line body.
+-- What stands after the label: a comment or nothing; or a line's start, commands, and a comment or nothing. The level
+-- is one more than the periods, at most 15, which is this project's own choice. Standard: line body.
 abbrev pub IsBody : ℕ → ℕ → CommandTrees → List ℕ → Type 0
 IsBody level at commands s = ((level ≡ 1) × (commands ≡ finished) × IsComment s)
     ⊎ ((periods : ℕ) × (start text comment : List ℕ) × (s ≡ start ++ (text ++ comment)) × (level ≡ suc periods)
@@ -100,8 +101,8 @@ labels_of [] = []
 labels_of (LineHead number level end None formals commands ∷ heads) = labels_of heads
 labels_of (LineHead number level end (Some label) formals commands ∷ heads) = label ∷ labels_of heads
 
--- Lines of one level, each with its block one level deeper, which a DO without arguments on the line runs. So no line is
--- more than one level deeper than the line before it. Standard: block; that each block is run is this project's own
+-- Lines of one level, each with its block one level deeper, which a DO without arguments on the line runs. So no line
+-- is more than one level deeper than the line before it. Standard: block; that each block is run is this project's own
 -- choice.
 abbrev pub AreNested : ℕ → LineTrees → Type 0
 AreNested level no_lines = Unit {0}
@@ -113,8 +114,8 @@ abbrev pub percent : List ℕ → List ℕ
 percent [] = []
 percent (b ∷ more) = (if b == 95 then 37 else b) ∷ more
 
--- A routine, by the stem of its file and its text: at most 1 MiB and 65,535 lines, which is this project's own choice. No
--- label stands twice. Standard: routine.
+-- A routine, by the stem of its file and its text: at most 1 MiB and 65,535 lines, which is this project's own choice.
+-- No label stands twice. Standard: routine.
 unfoldable pub IsRoutine : List ℕ → RoutineTree → List ℕ → Type 0
 IsRoutine stem (Named_routine name lines) text = (texts : List (List ℕ)) × (name ≡ percent stem) × IsName name
     × (length text ≤ 1048576) × AreCut texts text × (length texts ≤ 65535) × AreLines 1 (heads_of lines) texts
