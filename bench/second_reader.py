@@ -461,4 +461,5 @@ def main():
     (words.folder / "expected.txt").write_text("\n".join(expected) + "\n")
 
 
-main()
+if __name__ == "__main__":
+    main()

@@ -1,0 +1,15 @@
+pub mod Sequences
+pub mod Bytes
+pub mod Outcomes
+pub mod Lists
+pub mod Variables
+pub mod Calls
+pub mod Enclosed
+pub mod Names
+pub mod Arguments
+pub mod Cutting
+pub mod Nesting
+pub mod Parameters
+pub mod Controls
+pub mod Singles
+pub mod Stretches

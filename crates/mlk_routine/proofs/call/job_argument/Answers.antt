@@ -1,0 +1,12 @@
+use Rattle.std.proofs.Common.{refl}
+use Rattle.mlk_routine.specs.Ends.{CallEnds, JobEnds}
+use Rattle.mlk_routine.specs.Views.{call_of}
+use Rattle.mlk_routine.specs.CommandGrammar.{IsJob}
+use Rattle.mlk_routine.proofs.Outcomes.{denies}
+use Rattle.mlk_routine.proofs.Arguments.{lacking_nowhere}
+use Rattle.mlk_routine.proofs.call.job_argument.Goals as goal
+
+pub returns-then-has : goal.returns-then-has
+returns-then-has c =
+    denies IsJob JobEnds c.args.line.now c.args.at c.leaves_out.result
+    (lacking_nowhere IsJob CallEnds c.args.line.now c.args.at 58 (call_of c.in_ok-called.called) c.in_ok-called.next c.in_ok-called.ensures (c.if-has.ensures.yes refl))

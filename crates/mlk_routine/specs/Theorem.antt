@@ -1,0 +1,12 @@
+-- What the grammar of routines keeps to.
+use Rattle.std.specs.Prelude.{ℕ, ◌≡◌, List}
+use Rattle.mlk_routine.specs.Trees.{LineTrees}
+use Rattle.mlk_routine.specs.RoutineGrammar.{AreCut, heads_of, AreNested}
+
+-- A text has one list of lines.
+abbrev pub OneCut : Type 0
+OneCut = (lines others : List (List ℕ)) (text : List ℕ) → AreCut lines text → AreCut others text → lines ≡ others
+
+-- Lines that follow each other are nested in one way.
+abbrev pub OneNesting : Type 0
+OneNesting = (level : ℕ) (a b : LineTrees) → AreNested level a → AreNested level b → heads_of a ≡ heads_of b → a ≡ b

@@ -1,0 +1,95 @@
+-- Syntax trees of routines without where they lie in memory. This project's own.
+use Rattle.std.specs.Prelude.{ℕ, List, Option}
+use Rattle.mlk_expr.specs.declared.tree.Callee.{Callee}
+use Rattle.mlk_expr.specs.Trees.{Tree, ActualTree}
+use Rattle.mlk_routine.specs.declared.tree.Sign.{Sign}
+use Rattle.mlk_routine.specs.declared.tree.Part.{Part}
+
+-- a local or a global with its subscripts, and its column
+pub data VariableTree : Type 0 where
+  Named : (column : ℕ) → (name : Tree) → VariableTree
+
+-- what DO and JOB call
+pub data CallTree : Type 0 where
+  Called : (column : ℕ) → (callee : Callee) → (actuals : Option (List ActualTree)) → CallTree
+
+pub data DoTree : Type 0 where
+  DoCall : (call : CallTree) → (condition : Option Tree) → DoTree
+
+pub data KillTree : Type 0 where
+  KillOne : (variable : VariableTree) → KillTree
+  KillAllBut : (names : List (List ℕ)) → KillTree
+
+pub data NewTree : Type 0 where
+  NewOne : (column : ℕ) → (name : List ℕ) → NewTree
+  NewAllBut : (names : List (List ℕ)) → NewTree
+
+pub data LockTree : Type 0 where
+  LockNames : (sign : Sign) → (names : List VariableTree) → (timeout : Option Tree) → LockTree
+
+pub data MergeTree : Type 0 where
+  MergeInto : (target source : VariableTree) → MergeTree
+
+pub data ReadTree : Type 0 where
+  ReadText : (prompt : List ℕ) → ReadTree
+  ReadFormat : (tab : Option Tree) → ReadTree
+  ReadLine : (variable : VariableTree) → (most timeout : Option Tree) → ReadTree
+  ReadCharacter : (variable : VariableTree) → (timeout : Option Tree) → ReadTree
+
+pub data TargetTree : Type 0 where
+  SetWhole : (variable : VariableTree) → TargetTree
+  SetPart : (part : Part) → (variable : VariableTree) → (arguments : List Tree) → TargetTree
+
+pub data SetTree : Type 0 where
+  SetTo : (targets : List TargetTree) → (value : Tree) → SetTree
+
+pub data WriteTree : Type 0 where
+  WriteValue : (value : Tree) → WriteTree
+  WriteCharacter : (value : Tree) → WriteTree
+  WriteFormat : (tab : Option Tree) → WriteTree
+
+pub data ActionTree : Type 0 where
+  Do : (calls : List DoTree) → ActionTree
+  Else : ActionTree
+  Halt : ActionTree
+  Hang : (times : List Tree) → ActionTree
+  If : (conditions : List Tree) → ActionTree
+  Job : (calls : List CallTree) → ActionTree
+  Kill : (kills : List KillTree) → ActionTree
+  Lock : (locks : List LockTree) → ActionTree
+  Merge : (merges : List MergeTree) → ActionTree
+  New : (news : List NewTree) → ActionTree
+  Quit : (value : Option Tree) → ActionTree
+  Read : (reads : List ReadTree) → ActionTree
+  Set : (sets : List SetTree) → ActionTree
+  Write : (writes : List WriteTree) → ActionTree
+
+pub data CommandTree : Type 0 where
+  Does : (column : ℕ) → (condition : Option Tree) → (action : ActionTree) → CommandTree
+
+pub data ParameterTree : Type 0 where
+  Once : (value : Tree) → ParameterTree
+  Endless : (start step : Tree) → ParameterTree
+  Limited : (start step limit : Tree) → ParameterTree
+
+pub data ControlTree : Type 0 where
+  Runs : (column : ℕ) → (variable : List ℕ) → (parameters : List ParameterTree) → ControlTree
+
+-- commands; after a FOR stands what it holds: the rest of the line
+pub data CommandTrees : Type 0 where
+  finished : CommandTrees
+  then_command : (first : CommandTree) → (rest : CommandTrees) → CommandTrees
+  then_for : (column index : ℕ) → (control : Option ControlTree) → (rest : CommandTrees) → CommandTrees
+
+-- a line without its block
+pub data HeadTree : Type 0 where
+  LineHead : (number level end : ℕ) → (label : Option (List ℕ)) → (formals : Option (List (List ℕ)))
+      → (commands : CommandTrees) → HeadTree
+
+-- lines, each with its block
+pub data LineTrees : Type 0 where
+  no_lines : LineTrees
+  line : (head : HeadTree) → (block rest : LineTrees) → LineTrees
+
+pub data RoutineTree : Type 0 where
+  Named_routine : (name : List ℕ) → (lines : LineTrees) → RoutineTree

@@ -1,0 +1,120 @@
+// Calls, as DO and JOB have them.
+
+ghost use Rattle.std.specs.Prelude.{◌≡◌, ◌≤◌, length, option_map, Some, true, false};
+ghost use Rattle.mlk_expr.specs.Trees.{actual_trees};
+ghost use Rattle.mlk_expr.specs.Grammar.{IsCalleeText};
+ghost use Rattle.mlk_expr.specs.Theorem.{CalleeEnds};
+ghost use Rattle.mlk_routine.specs.Told.{Told, byte_at};
+ghost use Rattle.mlk_routine.specs.Ends.{GivenEnds, CallEnds, DoEnds, JobEnds};
+ghost use Rattle.mlk_routine.specs.Views.{call_of, do_of};
+ghost use Rattle.mlk_routine.specs.CommandGrammar.{IsGiven, IsCall, IsDo, IsJob};
+
+use crate::fault::{leaves_out, other_form};
+use crate::part::{expression, has};
+use crate::tree::{Call, DoArgument};
+use mlk_expr::{Actual, Allows, Callee, Passing, ReadError, read_actuals_where, read_callee};
+use mlk_text::{Code, Failure, Fault, LeftOut};
+use std::alloc::Global;
+
+/// What is called here, and the byte after it.
+fn callee(alloc: Global, line: &[u8], at: usize) -> Result<(Callee, usize), Failure<Fault>>
+    requires { at ≤ length line.now }
+    ensures { Told (λ c. c) IsCalleeText CalleeEnds line.now at result }
+{
+    match read_callee(alloc, line, at) {
+        Ok(read) => Ok(read),
+        Err(ReadError::OutOfMemory) => Err(Failure::OutOfMemory),
+        Err(ReadError::Refused(fault)) => Err(other_form(Code::ArgumentForm, fault)),
+    }
+}
+
+/// The actual list here, if one stands here, and the byte after it.
+fn actuals(
+    alloc: Global,
+    allows: Allows,
+    passing: Passing,
+    line: &[u8],
+    at: usize,
+) -> Result<(Option<Vec<Actual>>, usize), Failure<Fault>>
+    requires { at ≤ length line.now }
+    ensures { Told (option_map (λ v. actual_trees v.items)) (IsGiven allows passing) GivenEnds line.now at result }
+{
+    if !has(line, at, b'(') {
+        return Ok((None, at));
+    }
+    match read_actuals_where(alloc, allows, passing, line, at) {
+        Ok((given, next)) => Ok((Some(given), next)),
+        Err(ReadError::OutOfMemory) => Err(Failure::OutOfMemory),
+        Err(ReadError::Refused(fault)) => Err(Failure::Refused(fault)),
+    }
+}
+
+/// The call here, and the byte after it.
+pub(crate) fn call(
+    alloc: Global,
+    allows: Allows,
+    passing: Passing,
+    line: &[u8],
+    at: usize,
+) -> Result<(Call, usize), Failure<Fault>>
+    requires { at ≤ length line.now }
+    ensures { Told call_of (IsCall allows passing) CallEnds line.now at result }
+{
+    let (callee, next) = callee(alloc, line, at)?;
+    let (actuals, next) = actuals(alloc, allows, passing, line, next)?;
+    let column = at + 1;
+    Ok((
+        Call {
+            column,
+            callee,
+            actuals,
+        },
+        next,
+    ))
+}
+
+/// The argument of DO here, and the byte after it. Before a postconditional less may stand in the actuals.
+pub(crate) fn do_argument(
+    alloc: Global,
+    line: &[u8],
+    at: usize,
+) -> Result<(DoArgument, usize), Failure<Fault>>
+    requires { at ≤ length line.now }
+    ensures { Told do_of IsDo DoEnds line.now at result }
+{
+    let (any, next) = call(alloc, Allows::Everything, Passing::ByReference, line, at)?;
+    if !has(line, next, b':') {
+        return Ok((
+            DoArgument {
+                call: any,
+                condition: None,
+            },
+            next,
+        ));
+    }
+    let (less, next) = call(alloc, Allows::NoTouches, Passing::ByReference, line, at)?;
+    let (condition, next) = expression(alloc, Allows::Everything, line, next + 1)?;
+    Ok((
+        DoArgument {
+            call: less,
+            condition: Some(condition),
+        },
+        next,
+    ))
+}
+
+/// The argument of JOB here, and the byte after it.
+pub(crate) fn job_argument(
+    alloc: Global,
+    line: &[u8],
+    at: usize,
+) -> Result<(Call, usize), Failure<Fault>>
+    requires { at ≤ length line.now }
+    ensures { Told call_of IsJob JobEnds line.now at result }
+{
+    let (called, next) = call(alloc, Allows::Everything, Passing::ByValue, line, at)?;
+    if has(line, next, b':') {
+        return Err(leaves_out(alloc, LeftOut::Timeout, next));
+    }
+    Ok((called, next))
+}

@@ -1,0 +1,63 @@
+// Why a part of a line was not read.
+
+ghost use Rattle.mlk_routine.specs.Told.{IsRefusal};
+
+use mlk_text::{Code, Failure, Fault, LeftOut, Place, Value};
+use std::alloc::Global;
+
+// The column of the byte before which so many stand.
+fn column_after(before: usize) -> u32 {
+    if before >= u32::MAX as usize {
+        u32::MAX
+    } else {
+        before as u32 + 1
+    }
+}
+
+fn fault(alloc: Global, code: Code, left_out: Option<LeftOut>, at: usize) -> Failure<Fault>
+    ensures { IsRefusal result }
+{
+    Failure::Refused(Fault {
+        code,
+        place: Place {
+            routine: Value::new(Vec::new(alloc)),
+            line: 1,
+            column: column_after(at),
+        },
+        left_out,
+    })
+}
+
+/// The refusal of what stands at this byte of a line.
+pub(crate) fn refused(alloc: Global, code: Code, at: usize) -> Failure<Fault>
+    ensures { IsRefusal result }
+{
+    fault(alloc, code, None, at)
+}
+
+/// The refusal of what is left out.
+pub(crate) fn leaves_out(alloc: Global, what: LeftOut, at: usize) -> Failure<Fault>
+    ensures { IsRefusal result }
+{
+    fault(alloc, Code::ExprLeftOut, Some(what), at)
+}
+
+/// A refusal where no expression is expected: what can't begin here has another form.
+pub(crate) fn other_form(form: Code, fault: Fault) -> Failure<Fault>
+    ensures { IsRefusal result }
+{
+    let Fault {
+        code,
+        place,
+        left_out,
+    } = fault;
+    let code = match code {
+        Code::ExprForm => form,
+        known => known,
+    };
+    Failure::Refused(Fault {
+        code,
+        place,
+        left_out,
+    })
+}

@@ -1,0 +1,137 @@
+// What stands between commas, and lists of it.
+
+ghost use Rattle.std.specs.Prelude.{◌≡◌, ◌≤◌, ℕ, List, length, map, Some, true, false};
+ghost use Rattle.mlk_routine.specs.Told.{Told, byte_at};
+ghost use Rattle.mlk_routine.specs.Commas.{expr_comma, expr_close, name_comma, name_close};
+ghost use Rattle.mlk_routine.specs.Ends.{AreEnded, AnyEnds, Begins, OneEnds};
+ghost use Rattle.mlk_routine.specs.CommandGrammar.{AreEnclosed, IsOneOrEnclosed};
+ghost use Rattle.mlk_expr.specs.Grammar.{IsList, IsExprWhere, IsNameText};
+ghost use Rattle.mlk_expr.specs.Trees.{Tree, tree_of};
+ghost use Rattle.mlk_expr.specs.Theorem.{ExprEnds, LabelEnds};
+ghost use Rattle.mlk_expr.specs.declared.scope.Allows.TheVariants.{Everything};
+
+use crate::fault::refused;
+use crate::part::{expression, has, name};
+use mlk_expr::{Allows, Expr};
+use mlk_text::{Code, Failure, Fault, Name};
+use std::alloc::Global;
+
+/// What stands between the commas of a list.
+pub(crate) trait Item: Drop {
+    ghost use Rattle.std.specs.Prelude.{ℕ, List, ◌∷◌};
+    ghost use Rattle.mlk_expr.specs.Grammar.{Spelled};
+
+    /// What contracts see of it, how it is written, and what may stand after it.
+    ghost Seen: { Type 0 };
+
+    ghost seen: { Self → Seen };
+
+    ghost is: { ℕ → Seen → List ℕ → Type 0 };
+
+    ghost ends: { Seen → List ℕ → Type 0 };
+
+    /// A comma may.
+    ghost comma: { (a : Seen) (rest : List ℕ) → ends a (44 ∷ rest) };
+
+    /// So may a closing parenthesis.
+    ghost close: { (a : Seen) (rest : List ℕ) → ends a (41 ∷ rest) };
+
+    fn read(alloc: Global, line: &[u8], at: usize) -> Result<(Self, usize), Failure<Fault>>
+        requires { at ≤ length line.now }
+        ensures { Told seen is ends line.now at result };
+}
+
+impl Item for Expr {
+    ghost Seen = { Tree };
+
+    ghost seen = { tree_of };
+
+    ghost is = { IsExprWhere Everything };
+
+    ghost ends = { ExprEnds };
+
+    ghost comma = { expr_comma };
+
+    ghost close = { expr_close };
+
+    fn read(alloc: Global, line: &[u8], at: usize) -> Result<(Expr, usize), Failure<Fault>> {
+        expression(alloc, Allows::Everything, line, at)
+    }
+}
+
+/// One or more items with commas between them, and the byte after them.
+pub(crate) fn listed<T: Item>(
+    alloc: Global,
+    line: &[u8],
+    at: usize,
+) -> Result<(Vec<T>, usize), Failure<Fault>>
+    requires { at ≤ length line.now }
+    ensures { Told (λ v. map T.seen v.items) (IsList T.is) (AreEnded T.ends) line.now at result }
+{
+    let mut items = Vec::new(alloc);
+    let (first, mut next) = T::read(alloc, line, at)?;
+    items.push(first)?;
+    while has(line, next, b',') {
+        let (item, end) = T::read(alloc, line, next + 1)?;
+        items.push(item)?;
+        next = end;
+    }
+    Ok((items, next))
+}
+
+/// Items in parentheses, the first of which stands here, and the byte after the second.
+pub(crate) fn enclosed<T: Item>(
+    alloc: Global,
+    line: &[u8],
+    at: usize,
+) -> Result<(Vec<T>, usize), Failure<Fault>>
+    requires within { at ≤ length line.now }
+    requires open { byte_at line.now at ≡ Some 40 }
+    ensures { Told (λ v. map T.seen v.items) (AreEnclosed T.is) AnyEnds line.now at result }
+{
+    let (items, end) = listed(alloc, line, at + 1)?;
+    if !has(line, end, b')') {
+        return Err(refused(alloc, Code::ArgumentForm, end));
+    }
+    Ok((items, end + 1))
+}
+
+impl Item for Name {
+    ghost use Rattle.std.specs.Prelude.{ℕ, List};
+
+    ghost Seen = { List ℕ };
+
+    ghost seen = { λ n. n };
+
+    ghost is = { IsNameText };
+
+    ghost ends = { LabelEnds };
+
+    ghost comma = { name_comma };
+
+    ghost close = { name_close };
+
+    fn read(alloc: Global, line: &[u8], at: usize) -> Result<(Name, usize), Failure<Fault>> {
+        name(alloc, line, at)
+    }
+}
+
+/// One item, or several in parentheses, and the byte after them. No item begins with a parenthesis.
+pub(crate) fn one_or_enclosed<T: Item>(
+    alloc: Global,
+    line: &[u8],
+    at: usize,
+) -> Result<(Vec<T>, usize), Failure<Fault>>
+    requires within { at ≤ length line.now }
+    requires shut { (k : ℕ) (a : T.Seen) (s : List ℕ) → T.is k a s → Begins s }
+    ensures { Told (λ v. map T.seen v.items) (IsOneOrEnclosed T.is)
+        (OneEnds T.ends (byte_at line.now at)) line.now at result }
+{
+    if has(line, at, b'(') {
+        return enclosed(alloc, line, at);
+    }
+    let (item, next) = T::read(alloc, line, at)?;
+    let mut items = Vec::new(alloc);
+    items.push(item)?;
+    Ok((items, next))
+}

@@ -1,0 +1,182 @@
+// The arguments that stand in lists.
+
+ghost use Rattle.mlk_routine.specs.Trees.{VariableTree, DoTree, CallTree, KillTree, NewTree, MergeTree, ParameterTree};
+ghost use Rattle.mlk_routine.specs.Views.{variable_of, do_of, call_of, kill_of, new_of, merge_of, parameter_of};
+ghost use Rattle.mlk_routine.specs.Ends.{VariableEnds, DoEnds, JobEnds, KillEnds, NewEnds, MergeEnds, ParameterEnds};
+ghost use Rattle.mlk_routine.specs.CommandGrammar.{IsVariable, IsDo, IsJob, IsKill, IsNew, IsMerge, IsParameter};
+ghost use Rattle.mlk_expr.specs.declared.scope.Allows.TheVariants.{Everything, NoTouches};
+ghost use Rattle.mlk_routine.specs.Commas.{variable_comma, variable_close};
+ghost use Rattle.mlk_routine.specs.Commas.{do_comma, do_close, job_comma, job_close, kill_comma, kill_close};
+ghost use Rattle.mlk_routine.specs.Commas.{new_comma, new_close, merge_comma, merge_close};
+ghost use Rattle.mlk_routine.specs.Commas.{parameter_comma, parameter_close};
+
+use crate::call::{do_argument, job_argument};
+use crate::item::Item;
+use crate::name::{kill, merge, new};
+use crate::parameter::parameter;
+use crate::part::variable;
+use crate::tree::{
+    Call, DoArgument, KillArgument, MergeArgument, NewArgument, Parameter, Variable,
+};
+use mlk_expr::Allows;
+use mlk_text::{Failure, Fault};
+use std::alloc::Global;
+
+impl Item for DoArgument {
+    ghost Seen = { DoTree };
+
+    ghost seen = { do_of };
+
+    ghost is = { IsDo };
+
+    ghost ends = { DoEnds };
+
+    ghost comma = { do_comma };
+
+    ghost close = { do_close };
+
+    fn read(alloc: Global, line: &[u8], at: usize) -> Result<(DoArgument, usize), Failure<Fault>> {
+        do_argument(alloc, line, at)
+    }
+}
+
+impl Item for Call {
+    ghost Seen = { CallTree };
+
+    ghost seen = { call_of };
+
+    ghost is = { IsJob };
+
+    ghost ends = { JobEnds };
+
+    ghost comma = { job_comma };
+
+    ghost close = { job_close };
+
+    fn read(alloc: Global, line: &[u8], at: usize) -> Result<(Call, usize), Failure<Fault>> {
+        job_argument(alloc, line, at)
+    }
+}
+
+impl Item for KillArgument {
+    ghost Seen = { KillTree };
+
+    ghost seen = { kill_of };
+
+    ghost is = { IsKill };
+
+    ghost ends = { KillEnds };
+
+    ghost comma = { kill_comma };
+
+    ghost close = { kill_close };
+
+    fn read(
+        alloc: Global,
+        line: &[u8],
+        at: usize,
+    ) -> Result<(KillArgument, usize), Failure<Fault>> {
+        kill(alloc, line, at)
+    }
+}
+
+impl Item for MergeArgument {
+    ghost Seen = { MergeTree };
+
+    ghost seen = { merge_of };
+
+    ghost is = { IsMerge };
+
+    ghost ends = { MergeEnds };
+
+    ghost comma = { merge_comma };
+
+    ghost close = { merge_close };
+
+    fn read(
+        alloc: Global,
+        line: &[u8],
+        at: usize,
+    ) -> Result<(MergeArgument, usize), Failure<Fault>> {
+        merge(alloc, line, at)
+    }
+}
+
+impl Item for Parameter {
+    ghost Seen = { ParameterTree };
+
+    ghost seen = { parameter_of };
+
+    ghost is = { IsParameter };
+
+    ghost ends = { ParameterEnds };
+
+    ghost comma = { parameter_comma };
+
+    ghost close = { parameter_close };
+
+    fn read(alloc: Global, line: &[u8], at: usize) -> Result<(Parameter, usize), Failure<Fault>> {
+        parameter(alloc, line, at)
+    }
+}
+
+impl Item for NewArgument {
+    ghost Seen = { NewTree };
+
+    ghost seen = { new_of };
+
+    ghost is = { IsNew };
+
+    ghost ends = { NewEnds };
+
+    ghost comma = { new_comma };
+
+    ghost close = { new_close };
+
+    fn read(alloc: Global, line: &[u8], at: usize) -> Result<(NewArgument, usize), Failure<Fault>> {
+        new(alloc, line, at)
+    }
+}
+
+impl Item for Variable {
+    ghost Seen = { VariableTree };
+
+    ghost seen = { variable_of };
+
+    ghost is = { IsVariable Everything };
+
+    ghost ends = { VariableEnds };
+
+    ghost comma = { variable_comma };
+
+    ghost close = { variable_close };
+
+    fn read(alloc: Global, line: &[u8], at: usize) -> Result<(Variable, usize), Failure<Fault>> {
+        variable(alloc, Allows::Everything, line, at)
+    }
+}
+
+/// A name of LOCK without a sign, in which neither globals nor calls stand.
+#[derive(Drop)]
+pub(crate) struct Unsigned {
+    pub(crate) variable: Variable,
+}
+
+impl Item for Unsigned {
+    ghost Seen = { VariableTree };
+
+    ghost seen = { λ u. variable_of u.variable };
+
+    ghost is = { IsVariable NoTouches };
+
+    ghost ends = { VariableEnds };
+
+    ghost comma = { variable_comma };
+
+    ghost close = { variable_close };
+
+    fn read(alloc: Global, line: &[u8], at: usize) -> Result<(Unsigned, usize), Failure<Fault>> {
+        let (variable, next) = variable(alloc, Allows::NoTouches, line, at)?;
+        Ok((Unsigned { variable }, next))
+    }
+}

@@ -1,0 +1,13 @@
+// What the grammar of routines keeps to.
+
+ghost use Rattle.mlk_routine.specs.Theorem.{OneCut, OneNesting};
+
+/// A text is cut into lines in one way.
+pub fn one_cut()
+    ensures { OneCut }
+{}
+
+/// Lines that follow each other are blocks in one way.
+pub fn one_nesting()
+    ensures { OneNesting }
+{}

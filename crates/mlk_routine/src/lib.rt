@@ -1,0 +1,22 @@
+//! The routines of M: their trees, and the reader that is exact for their grammar.
+#![tactic(auto)]
+
+mod call;
+mod fault;
+mod item;
+mod items;
+mod law;
+mod name;
+mod parameter;
+mod part;
+mod routine;
+mod run;
+mod tree;
+
+pub use law::{one_cut, one_nesting};
+pub use routine::{Line, Routine};
+pub use tree::{
+    Action, Call, Command, Commands, Control, DoArgument, For, KillArgument, LockArgument,
+    MergeArgument, NewArgument, Parameter, Part, ReadArgument, SetArgument, Sign, Target, Variable,
+    WriteArgument,
+};
