@@ -1,4 +1,5 @@
 -- Calls: what is called, and its actuals.
+use Rattle.mlk_text.specs.Places.{column_at}
 use Rattle.std.proofs.Common.{◌≡◌, ◌≤◌, ◌+◌, ℕ, suc, List, [], ◌∷◌, ◌++◌, length, drop, Some, None, true, inl, inr, refl, sym, ap, ◌∙◌, subst, add-one}
 use Rattle.std.specs.Prelude.{Option}
 use Rattle.std.proofs.lemmas.Bool.{cases_Bool}
@@ -48,14 +49,14 @@ callee_opens (Some label) None ys = rw (label_opens label ys) refl
 callee_opens (Some label) (Some routine) ys = label_opens routine ys
 
 module _ (allows : Allows) (passing : Passing) (line : List ℕ) (at : ℕ) where
-  pub call_parts : Parts line at IsCalleeText CalleeEnds (λ callee n given r. IsGiven allows passing n given r) (λ callee given rest. GivenEnds given rest) (IsCall allows passing) CallEnds (λ callee given. Called (at + 1) callee given)
+  pub call_parts : Parts line at IsCalleeText CalleeEnds (λ callee n given r. IsGiven allows passing n given r) (λ callee given rest. GivenEnds given rest) (IsCall allows passing) CallEnds (λ callee given. Called (column_at (at + 1)) callee given)
   call_parts = record {
-    into = λ callee given s t one two. (add-one at, (s, t, refl, one, two));
+    into = λ callee given s t one two. (ap column_at (add-one at), (s, t, refl, one, two));
     ends = λ callee given k t rest is before after. closes callee given k t rest is before after;
     apart = λ c u rest h is e. opens c u rest is e;
   }
     where
-      closes : (callee : Callee) (given : Option (List ActualTree)) (k : ℕ) (t rest : List ℕ) → IsGiven allows passing k given t → CalleeEnds callee (t ++ rest) → GivenEnds given rest → CallEnds (Called (at + 1) callee given) rest
+      closes : (callee : Callee) (given : Option (List ActualTree)) (k : ℕ) (t rest : List ℕ) → IsGiven allows passing k given t → CalleeEnds callee (t ++ rest) → GivenEnds given rest → CallEnds (Called (column_at (at + 1)) callee given) rest
       closes callee None k t rest is before after = (subst (λ l. CalleeEnds callee (l ++ rest)) is before, after)
       closes callee (Some given) k t rest is before after = tt
 
@@ -66,7 +67,7 @@ module _ (allows : Allows) (passing : Passing) (line : List ℕ) (at : ℕ) wher
           (subst (λ l. CalleeEnds callee (l ++ rest)) (sym o.1) (callee_opens callee.label callee.routine (o.0 ++ rest)), tt)
 
       opens : (c : CallTree) (u rest : List ℕ) → IsCall allows passing (suc at) c u → CallEnds c rest
-          → (callee : Callee) × (given : Option (List ActualTree)) × (s t : List ℕ) × (u ≡ s ++ t) × (c ≡ Called (at + 1) callee given) × IsCalleeText (suc at) callee s × IsGiven allows passing (suc at + length s) given t × CalleeEnds callee (t ++ rest) × GivenEnds given rest
+          → (callee : Callee) × (given : Option (List ActualTree)) × (s t : List ℕ) × (u ≡ s ++ t) × (c ≡ Called (column_at (at + 1)) callee given) × IsCalleeText (suc at) callee s × IsGiven allows passing (suc at + length s) given t × CalleeEnds callee (t ++ rest) × GivenEnds given rest
       opens (Called column callee given) u rest (place, (s, t, is, one, two)) e =
           let f = ended column callee given (suc at + length s) t rest two e in
-          (callee, given, s, t, is, ap (λ k. Called k callee given) (place ∙ sym (add-one at)), one, two, f.0, f.1)
+          (callee, given, s, t, is, ap (λ k. Called k callee given) (place ∙ ap column_at (sym (add-one at))), one, two, f.0, f.1)

@@ -1,4 +1,5 @@
 -- The arguments of KILL, NEW and MERGE.
+use Rattle.mlk_text.proofs.Spelled.{name-parts}
 use Rattle.std.proofs.Common.{◌≡◌, ◌+◌, ℕ, suc, List, [], ◌∷◌, ◌++◌, length, drop, Some, Bool, true, false, inl, inr, refl, sym, ap, ◌∙◌, arith, subst}
 use Rattle.std.specs.Prelude.{◌||◌, ◌==◌}
 use Rattle.std.proofs.lemmas.Option.{same_Some}
@@ -12,7 +13,7 @@ use Rattle.mlk_routine.specs.Ends.{VariableEnds, KillEnds, MergeEnds, NewEnds, A
 use Rattle.mlk_routine.specs.CommandGrammar.{IsVariable, AreEnclosed, IsKill, IsMerge, IsNew}
 use Rattle.mlk_routine.proofs.Sequences.{Parts, Turned}
 use Rattle.mlk_routine.proofs.Bytes.{AfterByte, byte_there}
-use Rattle.mlk_expr.specs.Spellings.{IsName}
+use Rattle.mlk_text.specs.Spellings.{IsName}
 use Rattle.mlk_text.specs.Lexemes.{is_letter}
 use Rattle.mlk_routine.proofs.Variables.{variable_starts}
 
@@ -60,8 +61,8 @@ module _ (line : List ℕ) (at : ℕ) where
 
 -- a name begins with a letter or with `%`
 name_starts : (name s rest : List ℕ) → IsName name → s ≡ name → starts_reference (s ++ rest) ≡ true
-name_starts [] s rest is same = absurd is
-name_starts (b ∷ name) s rest is same = rw same (or_more (is_letter b) (b == 37) (b == 94) is.0)
+name_starts [] s rest is same = cc is
+name_starts (b ∷ name) s rest is same = rw same (or_more (is_letter b) (b == 37) (b == 94) (name-parts b name is).0)
   where
     or_more : (x y z : Bool) → (x || y) ≡ true → (x || y || z) ≡ true
     or_more true y z h = refl

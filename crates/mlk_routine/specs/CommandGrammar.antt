@@ -1,5 +1,6 @@
 -- Commands and their arguments, from trees to texts. `Is.. at t s` says that t is written as the text s, where s begins
 -- in the column `at`. What follows each other is joined by `++`; a list has commas between its items.
+use Rattle.mlk_text.specs.Places.{column_at}
 use Rattle.std.specs.Prelude.{ℕ, suc, ◌≡◌, ◌<◌, ◌≤◌, ◌+◌, ◌⊎◌, ◌==◌, ◌&&◌, ◌||◌, is_some, Bool, true, false, List, []}
 use Rattle.std.specs.Prelude.{◌∷◌, ◌++◌, length, Option, Some, None, codes}
 use Rattle.std.specs.List.{list_all}
@@ -61,7 +62,7 @@ IsOneOrEnclosed {A = A} Item at items s = ((item : A) × (items ≡ item ∷ [])
 
 -- a local or a global with its subscripts; of them it is asked what may stand there
 abbrev pub IsVariable : Allows → ℕ → VariableTree → List ℕ → Type 0
-IsVariable allows at (Named column name) s = (column ≡ at) × IsReferenceWhere allows at name s
+IsVariable allows at (Named column name) s = (column ≡ column_at at) × IsReferenceWhere allows at name s
 
 abbrev pub is_local_name : Tree → Bool
 is_local_name (LocalName name subs) = true
@@ -80,7 +81,7 @@ IsGiven allows passing at None s = s ≡ []
 IsGiven allows passing at (Some given) s = IsActualListWhere allows passing at given s
 
 abbrev pub IsCall : Allows → Passing → ℕ → CallTree → List ℕ → Type 0
-IsCall allows passing at (Called column callee actuals) s = (column ≡ at)
+IsCall allows passing at (Called column callee actuals) s = (column ≡ column_at at)
     × Both (λ n r. IsCalleeText n callee r) (λ n r. IsGiven allows passing n actuals r) at s
 
 -- Actuals before a postconditional hold no global and no call: it is not certain what is evaluated first.
@@ -107,7 +108,7 @@ IsKill at (KillAllBut names) s = IsAllBut at names s
 
 -- Standard: NEW. Left out: NEW of a special variable.
 abbrev pub IsNew : ℕ → NewTree → List ℕ → Type 0
-IsNew at (NewOne column name) s = (column ≡ at) × IsNameText at name s
+IsNew at (NewOne column name) s = (column ≡ column_at at) × IsNameText at name s
 IsNew at (NewAllBut names) s = IsAllBut at names s
 
 -- Standard: LOCK. Without a sign what is held is released too, so neither globals nor calls stand there, since it is
@@ -185,7 +186,7 @@ IsParameter at (Limited start step limit) s = Both (λ n r. IsValue n start r)
     (After 58 (Both (λ n r. IsValue n step r) (After 58 (λ n r. IsValue n limit r)))) at s
 
 abbrev pub IsControl : ℕ → ControlTree → List ℕ → Type 0
-IsControl at (Runs column variable parameters) s = (column ≡ at)
+IsControl at (Runs column variable parameters) s = (column ≡ column_at at)
     × Both (λ n r. IsNameText n variable r) (After 61 (λ n r. IsList IsParameter n parameters r)) at s
 
 -- Arguments: one space and a list; some words may stand without. Standard: commands, argument.
@@ -220,7 +221,7 @@ AreArguments returns at (Write writes) s = AreSome IsWrite at writes s
 
 -- A command but FOR: its word, perhaps a postconditional, its arguments. Standard: commands.
 abbrev pub IsCommand : Bool → ℕ → CommandTree → List ℕ → Type 0
-IsCommand returns at (Does column condition action) s = (column ≡ at)
+IsCommand returns at (Does column condition action) s = (column ≡ column_at at)
     × ((condition ≡ None) ⊎ (may_have_condition action ≡ true))
     × Both (λ n r. is_word_of action r ≡ true)
     (Both (λ n r. IsCondition n condition r) (λ n r. AreArguments returns n action r)) at s
@@ -230,8 +231,8 @@ least_of (Does column condition action) = least_after (has_arguments action)
 
 -- FOR before what it holds: its word, and perhaps its variable and parameters
 abbrev pub IsForHead : ℕ → ℕ → Option ControlTree → List ℕ → Type 0
-IsForHead column at None s = (column ≡ at) × (is_for s ≡ true)
-IsForHead column at (Some control) s = (column ≡ at)
+IsForHead column at None s = (column ≡ column_at at) × (is_for s ≡ true)
+IsForHead column at (Some control) s = (column ≡ column_at at)
     × Both (λ n r. is_for r ≡ true) (After 32 (λ n r. IsControl n control r)) at s
 
 abbrev pub is_space : ℕ → Bool

@@ -3,7 +3,7 @@ use Rattle.std.specs.Prelude.{ℕ, zero, suc, ◌≡◌, ◌≢◌, ◌<◌, ◌
 use Rattle.std.specs.Prelude.{◌∷◌, ◌++◌, length, if◌then◌else◌, Option, Some, None, Contains}
 use Rattle.std.specs.List.{list_all}
 use Rattle.mlk_text.specs.Lexemes.{is_text}
-use Rattle.mlk_expr.specs.Spellings.{IsName, IsLabel}
+use Rattle.mlk_text.specs.Spellings.{IsName, IsLabel}
 use Rattle.mlk_expr.specs.Grammar.{IsList, IsEnclosed, IsNameText}
 use Rattle.mlk_routine.specs.Trees.{CommandTrees, finished, HeadTree, LineHead, LineTrees, no_lines, line}
 use Rattle.mlk_routine.specs.Trees.{RoutineTree, Named_routine}

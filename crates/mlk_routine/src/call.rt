@@ -12,8 +12,8 @@ ghost use Rattle.mlk_routine.specs.CommandGrammar.{IsGiven, IsCall, IsDo, IsJob}
 use crate::fault::{leaves_out, other_form};
 use crate::part::{expression, has};
 use crate::tree::{Call, DoArgument};
-use mlk_expr::{Actual, Allows, Callee, Passing, ReadError, read_actuals_where, read_callee};
-use mlk_text::{Code, Failure, Fault, LeftOut};
+use mlk_expr::{Actual, Allows, Callee, Passing, read_actuals_where, read_callee};
+use mlk_text::{Code, Column, Failure, Fault, LeftOut};
 use std::alloc::Global;
 
 /// What is called here, and the byte after it.
@@ -23,8 +23,8 @@ fn callee(alloc: Global, line: &[u8], at: usize) -> Result<(Callee, usize), Fail
 {
     match read_callee(alloc, line, at) {
         Ok(read) => Ok(read),
-        Err(ReadError::OutOfMemory) => Err(Failure::OutOfMemory),
-        Err(ReadError::Refused(fault)) => Err(other_form(Code::ArgumentForm, fault)),
+        Err(Failure::OutOfMemory) => Err(Failure::OutOfMemory),
+        Err(Failure::Refused(fault)) => Err(other_form(Code::ArgumentForm, fault)),
     }
 }
 
@@ -44,8 +44,8 @@ fn actuals(
     }
     match read_actuals_where(alloc, allows, passing, line, at) {
         Ok((given, next)) => Ok((Some(given), next)),
-        Err(ReadError::OutOfMemory) => Err(Failure::OutOfMemory),
-        Err(ReadError::Refused(fault)) => Err(Failure::Refused(fault)),
+        Err(Failure::OutOfMemory) => Err(Failure::OutOfMemory),
+        Err(Failure::Refused(fault)) => Err(Failure::Refused(fault)),
     }
 }
 
@@ -62,7 +62,7 @@ pub(crate) fn call(
 {
     let (callee, next) = callee(alloc, line, at)?;
     let (actuals, next) = actuals(alloc, allows, passing, line, next)?;
-    let column = at + 1;
+    let column = Column::at(at + 1);
     Ok((
         Call {
             column,

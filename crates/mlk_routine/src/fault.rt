@@ -2,17 +2,8 @@
 
 ghost use Rattle.mlk_routine.specs.Told.{IsRefusal};
 
-use mlk_text::{Code, Failure, Fault, LeftOut, Place, Value};
+use mlk_text::{Code, Column, Failure, Fault, LeftOut, LineNumber, Place, Value};
 use std::alloc::Global;
-
-// The column of the byte before which so many stand.
-fn column_after(before: usize) -> u32 {
-    if before >= u32::MAX as usize {
-        u32::MAX
-    } else {
-        before as u32 + 1
-    }
-}
 
 fn fault(alloc: Global, code: Code, left_out: Option<LeftOut>, at: usize) -> Failure<Fault>
     ensures { IsRefusal result }
@@ -21,8 +12,8 @@ fn fault(alloc: Global, code: Code, left_out: Option<LeftOut>, at: usize) -> Fai
         code,
         place: Place {
             routine: Value::new(Vec::new(alloc)),
-            line: 1,
-            column: column_after(at),
+            line: LineNumber::new(1),
+            column: Column::at(at.saturating_add(1)),
         },
         left_out,
     })

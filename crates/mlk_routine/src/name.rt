@@ -11,8 +11,8 @@ use crate::item::enclosed;
 use crate::part::{has, name, variable};
 use crate::tree::{KillArgument, MergeArgument, NewArgument};
 use mlk_expr::Allows;
-use mlk_expr::words::word_at;
-use mlk_text::{Code, Failure, Fault, LeftOut, List};
+use mlk_text::lexeme::word_at;
+use mlk_text::{Code, Column, Failure, Fault, LeftOut, List};
 use std::alloc::Global;
 
 /// The argument of KILL here, and the byte after it.
@@ -79,5 +79,5 @@ pub(crate) fn new(
         return Err(leaves_out(alloc, LeftOut::Special, at));
     }
     let (one, next) = name(alloc, line, at)?;
-    Ok((NewArgument::One(at + 1, one), next))
+    Ok((NewArgument::One(Column::at(at + 1), one), next))
 }

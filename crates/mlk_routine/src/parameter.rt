@@ -12,7 +12,7 @@ use crate::item::listed;
 use crate::part::{after, expression, has, name};
 use crate::tree::{Control, Parameter};
 use mlk_expr::Allows;
-use mlk_text::{Code, Failure, Fault, LeftOut};
+use mlk_text::{Code, Column, Failure, Fault, LeftOut};
 use std::alloc::Global;
 
 /// A parameter of FOR here, and the byte after it.
@@ -53,7 +53,7 @@ pub(crate) fn control(
         return Err(refused(alloc, Code::ArgumentForm, next));
     }
     let (parameters, next) = listed(alloc, line, next + 1)?;
-    let column = at + 1;
+    let column = Column::at(at + 1);
     Ok((
         Control {
             column,

@@ -12,8 +12,8 @@ ghost use Rattle.mlk_routine.specs.CommandGrammar.{IsAfter, IsVariable, IsCall};
 use crate::fault::{other_form, refused};
 use crate::tree::Variable;
 use mlk_expr::lexeme::starts_reference;
-use mlk_expr::{Allows, Expr, ReadError, read_expr_where, read_name, read_ref_where};
-use mlk_text::{Code, Failure, Fault, Name};
+use mlk_expr::{Allows, Expr, read_expr_where, read_name, read_ref_where};
+use mlk_text::{Code, Column, Failure, Fault, Name};
 use std::alloc::Global;
 
 /// Whether this byte stands here.
@@ -41,8 +41,8 @@ pub(crate) fn expression(
 {
     match read_expr_where(alloc, allows, line, at) {
         Ok(read) => Ok(read),
-        Err(ReadError::OutOfMemory) => Err(Failure::OutOfMemory),
-        Err(ReadError::Refused(fault)) => Err(Failure::Refused(fault)),
+        Err(Failure::OutOfMemory) => Err(Failure::OutOfMemory),
+        Err(Failure::Refused(fault)) => Err(Failure::Refused(fault)),
     }
 }
 
@@ -81,13 +81,13 @@ pub(crate) fn variable(
     match read_ref_where(alloc, allows, line, at) {
         Ok((name, next)) => Ok((
             Variable {
-                column: at + 1,
+                column: Column::at(at + 1),
                 name,
             },
             next,
         )),
-        Err(ReadError::OutOfMemory) => Err(Failure::OutOfMemory),
-        Err(ReadError::Refused(fault)) => Err(Failure::Refused(fault)),
+        Err(Failure::OutOfMemory) => Err(Failure::OutOfMemory),
+        Err(Failure::Refused(fault)) => Err(Failure::Refused(fault)),
     }
 }
 
@@ -98,7 +98,7 @@ pub(crate) fn name(alloc: Global, line: &[u8], at: usize) -> Result<(Name, usize
 {
     match read_name(alloc, line, at) {
         Ok(read) => Ok(read),
-        Err(ReadError::OutOfMemory) => Err(Failure::OutOfMemory),
-        Err(ReadError::Refused(fault)) => Err(other_form(Code::ArgumentForm, fault)),
+        Err(Failure::OutOfMemory) => Err(Failure::OutOfMemory),
+        Err(Failure::Refused(fault)) => Err(other_form(Code::ArgumentForm, fault)),
     }
 }

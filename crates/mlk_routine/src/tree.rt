@@ -1,12 +1,12 @@
 // Syntax trees of commands.
 
 use mlk_expr::{Actual, Callee, Expr};
-use mlk_text::{List, Name, Value};
+use mlk_text::{Column, List, Name, Value};
 
 /// A local or a global with its subscripts, as a command names it, and the column where it begins.
 #[derive(Drop)]
 pub struct Variable {
-    pub column: usize,
+    pub column: Column,
     pub name: Expr,
 }
 
@@ -14,7 +14,7 @@ pub struct Variable {
 /// list of them.
 #[derive(Drop)]
 pub struct Call {
-    pub column: usize,
+    pub column: Column,
     pub callee: Callee,
     pub actuals: Option<Vec<Actual>>,
 }
@@ -38,7 +38,7 @@ pub enum KillArgument {
 #[derive(Drop)]
 pub enum NewArgument {
     /// with the column of the name
-    One(usize, Name),
+    One(Column, Name),
     /// all locals but these
     AllBut(List<Name>),
 }
@@ -138,7 +138,7 @@ pub enum Action {
 /// A command but FOR: the column of its word, its postconditional, what it does.
 #[derive(Drop)]
 pub struct Command {
-    pub column: usize,
+    pub column: Column,
     pub condition: Option<Expr>,
     pub action: Action,
 }
@@ -156,7 +156,7 @@ pub enum Parameter {
 /// FOR's variable, with the column of its name, and what it runs through.
 #[derive(Drop)]
 pub struct Control {
-    pub column: usize,
+    pub column: Column,
     pub variable: Name,
     pub parameters: Vec<Parameter>,
 }
@@ -174,7 +174,7 @@ pub struct Commands {
 #[cycle(commands)]
 pub struct For {
     /// the column of its word
-    pub column: usize,
+    pub column: Column,
     /// which FOR of its line it is, counted from 1
     pub index: usize,
     /// none where it has no argument

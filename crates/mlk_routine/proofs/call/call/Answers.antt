@@ -17,5 +17,6 @@ returns-in_err-actuals c =
 
 pub returns : goal.returns
 returns c =
-    both_found (call_parts c.args.allows c.args.passing c.args.line.now c.args.at) c.requires c.in_ok-callee.callee (option_map (λ v. actual_trees v.items) c.in_ok-actuals.actuals) c.in_ok-callee.next c.in_ok-actuals.next
-    c.in_ok-callee.ensures c.in_ok-actuals.ensures
+    rw c.at-column.ensures
+    (both_found (call_parts c.args.allows c.args.passing c.args.line.now c.args.at) c.requires c.in_ok-callee.callee (option_map (λ v. actual_trees v.items) c.in_ok-actuals.actuals) c.in_ok-callee.next c.in_ok-actuals.next
+    c.in_ok-callee.ensures c.in_ok-actuals.ensures)

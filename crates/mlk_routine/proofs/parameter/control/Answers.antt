@@ -35,5 +35,6 @@ returns-in_err-parameters c =
 
 pub returns : goal.returns
 returns c =
-    both_found (control_parts c.args.line.now c.args.at) c.requires c.in_ok-variable.variable (map parameter_of c.in_ok-parameters.parameters.items) c.in_ok-variable.next c.in_ok-parameters.next c.in_ok-variable.ensures
-    (after_found (IsList IsParameter) (AreEnded ParameterEnds) c.args.line.now c.in_ok-variable.next 61 (c.if-not-has.ensures.yes refl) (map parameter_of c.in_ok-parameters.parameters.items) c.in_ok-parameters.next c.in_ok-parameters.ensures)
+    rw c.at-column.ensures
+    (both_found (control_parts c.args.line.now c.args.at) c.requires c.in_ok-variable.variable (map parameter_of c.in_ok-parameters.parameters.items) c.in_ok-variable.next c.in_ok-parameters.next c.in_ok-variable.ensures
+    (after_found (IsList IsParameter) (AreEnded ParameterEnds) c.args.line.now c.in_ok-variable.next 61 (c.if-not-has.ensures.yes refl) (map parameter_of c.in_ok-parameters.parameters.items) c.in_ok-parameters.next c.in_ok-parameters.ensures))
