@@ -1,0 +1,4 @@
+pub mod Lists
+pub mod Inclusion
+pub mod Texts
+pub mod Limits

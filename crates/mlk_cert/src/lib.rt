@@ -1,0 +1,16 @@
+//! Certificates: what is said of jobs at each point of a routine, and the one text that says it.
+#![tactic(auto)]
+
+mod block;
+mod case;
+mod certificate;
+mod inclusion;
+mod names;
+mod shared;
+
+pub use block::{EntryCert, Point, Summary};
+pub use case::{Case, ExitCase, Test};
+pub use certificate::Certificate;
+pub use inclusion::included;
+pub use names::{NameSet, Own};
+pub use shared::Shared;
