@@ -1,1 +1,11 @@
 pub mod Examples
+pub mod Formats
+pub mod NumberFormats
+pub mod NameFormats
+pub mod TermFormats
+pub mod CaseFormats
+pub mod LineFormats
+pub mod Grouping
+pub mod Goods
+pub mod BlockFormats
+pub mod Whole

@@ -2,3 +2,7 @@ pub mod Lists
 pub mod Inclusion
 pub mod Texts
 pub mod Limits
+pub mod Reading
+pub mod Checks
+pub mod Blocks
+pub mod Theorem

@@ -96,17 +96,21 @@ case_text c =
 abbrev pub exit_text : ExitCase → List ℕ
 exit_text e = codes "T=" ++ (sign e.test ∷ (codes " H=" ++ (listed term_text e.held ++ (codes " K=" ++ listed name_text e.kept))))
 
+-- a line: a word, what it says, and the line's end
+abbrev pub line : List ℕ → List ℕ → List ℕ
+line word text = word ++ (text ++ 10 ∷ [])
+
 -- the line of an exit
 abbrev pub exit_line : ExitCase → List ℕ
-exit_line e = codes "exit " ++ (exit_text e ++ 10 ∷ [])
+exit_line e = line (codes "exit ") (exit_text e)
 
 -- a point: which line, and which round of it
 abbrev pub place_text : ℕ → ℕ → List ℕ
-place_text line round = decimal line ++ 46 ∷ decimal round
+place_text number round = decimal number ++ 46 ∷ decimal round
 
 -- the line of a case at a point
 abbrev pub case_line : ℕ → ℕ → Case → List ℕ
-case_line line round c = codes "at " ++ (place_text line round ++ 32 ∷ (case_text c ++ 10 ∷ []))
+case_line number round c = line (codes "at ") (place_text number round ++ 32 ∷ case_text c)
 
 -- a point: a line for each of its cases
 abbrev pub point_text : Point → List ℕ
@@ -122,22 +126,23 @@ abbrev pub drops_text : Bool → List ℕ
 drops_text false = codes "0"
 drops_text true = codes "1"
 
--- what is said of an entry as a whole, in four lines, and its exits
+-- what is said of an entry as a whole: four lines, and a line for each exit
 abbrev pub summary_text : Summary → List ℕ
 summary_text s =
-    codes "need " ++ (listed term_text s.need ++ 10 ∷ (codes "low " ++ (low_text s.low ++ 10 ∷ (codes "drops " ++ (drops_text s.drops ++ 10 ∷ (codes "mods " ++ (listed names_text s.mods ++ 10 ∷ flat exit_line s.exits)))))))
+    line (codes "need ") (listed term_text s.need)
+    ++ (line (codes "low ") (low_text s.low) ++ (line (codes "drops ") (drops_text s.drops) ++ (line (codes "mods ") (listed names_text s.mods) ++ flat exit_line s.exits)))
 
 -- the block of an entry
 abbrev pub block_text : EntryCert → List ℕ
-block_text b = codes "entry " ++ (b.entry ++ 10 ∷ (summary_text b.summary ++ flat point_text b.points))
+block_text b = line (codes "entry ") b.entry ++ (summary_text b.summary ++ flat point_text b.points)
 
 -- the first line
 abbrev pub head_line : List ℕ
-head_line = codes "mlock-cert 1" ++ 10 ∷ []
+head_line = line [] (codes "mlock-cert 1")
 
 -- the last line
 abbrev pub end_line : List ℕ
-end_line = codes "end" ++ 10 ∷ []
+end_line = line [] (codes "end")
 
 -- The text of a certificate.
 abbrev pub certificate_text : List EntryCert → List ℕ
