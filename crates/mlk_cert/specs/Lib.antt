@@ -6,3 +6,4 @@ pub mod Reading
 pub mod Checks
 pub mod Blocks
 pub mod Theorem
+pub mod Writing

@@ -5,12 +5,16 @@ mod block;
 mod case;
 mod certificate;
 mod inclusion;
+mod law;
 mod names;
 mod shared;
+mod write;
 
 pub use block::{EntryCert, Point, Summary};
 pub use case::{Case, ExitCase, Test};
 pub use certificate::Certificate;
 pub use inclusion::included;
+pub use law::one_certificate;
 pub use names::{NameSet, Own};
 pub use shared::Shared;
+pub use write::{WriteError, write_cert};
