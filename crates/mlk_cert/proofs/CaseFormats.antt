@@ -71,7 +71,7 @@ names-back (AllBut (n ∷ names)) ys (is, others) none =
     (rw (name-first 41 n (more 44 name_text names ++ 41 ∷ ys) refl is)
     (rw (list-back name_text IsName NoName name_at name-format 44 (λ m. refl) n names (41 ∷ ys) is others refl refl) refl))
 
-names-format : Format names_text HasNames NoName names_at
+pub names-format : Format names_text HasNames NoName names_at
 names-format = record { sound = names-is; complete = names-back }
 
 names-first : (n : NameSet) (ys : List ℕ) → HasNames n → byte_at 45 (names_text n ++ ys) ≡ None
@@ -124,7 +124,7 @@ own-back o ys (low, high, is) none =
     (rw ((number-format 15 (lit< tt)).complete o.level (58 ∷ (names_text o.names ++ ys)) high refl)
     (rw (not-zero o.level low) (rw (names-back o.names ys is none) refl)))
 
-own-format : Format own_text HasOwn NoName own_at
+pub own-format : Format own_text HasOwn NoName own_at
 own-format = record { sound = own-is; complete = own-back }
 
 own-first : (o : Own) (ys : List ℕ) → HasOwn o → byte_at 45 (own_text o ++ ys) ≡ None
@@ -183,12 +183,11 @@ saved-is tests xs ys h = (go (byte_at 45 xs) refl h, are-signs tests)
     some : (o : Option (Test × List ℕ)) → sign_at xs ≡ o → signs_by xs o ≡ Some (tests, ys) → xs ≡ saved_text tests ++ ys
     some None is h = cc h
     some (Some f) is h =
-        let r = then_some (many sign_at keep (suc (length f.1)) f.1) _ (tests, ys) h in
-        let p = pair_parts (f.0 ∷ r.0.0) tests r.0.1 ys r.2 in
+        let r = with_some _ (many sign_at keep (suc (length f.1)) f.1) tests ys h in
         let one = sign-is f.0 xs f.1 is in
-        let rest = flat-is sign_text IsSign Anything sign_at sign-format _ r.0.0 f.1 r.0.1 r.1 in
+        let rest = flat-is sign_text IsSign Anything sign_at sign-format _ r.0 f.1 ys r.1 in
         let P : List Test → Type 0 = λ l. xs ≡ saved_text l ++ ys in
-        subst P p.0 (one.0 ∙ ap (λ l. sign f.0 ∷ l) (rest.0 ∙ ap (λ l. flat sign_text r.0.0 ++ l) p.1))
+        subst P (sym r.2) (one.0 ∙ ap (λ l. sign f.0 ∷ l) rest.0)
 
     go : (o : Option (ℕ × List ℕ)) → byte_at 45 xs ≡ o → saved_by xs o ≡ Some (tests, ys) → xs ≡ saved_text tests ++ ys
     go (Some d) is h =

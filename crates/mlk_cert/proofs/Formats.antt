@@ -100,12 +100,11 @@ module _ {A : Type 0} (text : A → List ℕ) (Is : A → Type 0) (Stops : List 
   unfolding list_at
   list-is between items xs ys h =
       let a = then_some (read xs) _ (items, ys) h in
-      let r = then_some (many (byte_at between) (next read) (suc (length a.0.1)) a.0.1) _ (items, ys) a.2 in
-      let p = pair_parts (a.0.0 ∷ r.0.0) items r.0.1 ys r.2 in
+      let r = with_some _ (many (byte_at between) (next read) (suc (length a.0.1)) a.0.1) items ys a.2 in
       let one = f.sound a.0.0 xs a.0.1 a.1 in
-      let rest = more-is between _ r.0.0 a.0.1 r.0.1 r.1 in
+      let rest = more-is between _ r.0 a.0.1 ys r.1 in
       let P : List A → Type 0 = λ l. Each Is l in
-      (a.0.0, r.0.0, sym p.0, one.0 ∙ ap (λ l. text a.0.0 ++ l) (rest.0 ∙ ap (λ l. more between text r.0.0 ++ l) p.1), subst P p.0 (one.1, rest.1))
+      (a.0.0, r.0, r.2, one.0 ∙ ap (λ l. text a.0.0 ++ l) rest.0, subst P (sym r.2) (one.1, rest.1))
 
   pub list-back : (between : ℕ) → ((n : List ℕ) → Stops (between ∷ n)) → (a : A) (items : List A) (ys : List ℕ) → Is a → Each Is items → Stops ys → byte_at between ys ≡ None
       → list_at read between (text a ++ (more between text items ++ ys)) ≡ Some (a ∷ items, ys)

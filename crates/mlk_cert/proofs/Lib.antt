@@ -9,3 +9,4 @@ pub mod Grouping
 pub mod Goods
 pub mod BlockFormats
 pub mod Whole
+pub mod Room

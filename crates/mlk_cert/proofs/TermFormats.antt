@@ -122,10 +122,10 @@ piece-back b ys h any = elim (cases_Bool (is_plain b)) [
   ]
 ]
 
-piece-format : Format byte_text (λ b. b < 256) Anything piece_at
+pub piece-format : Format byte_text (λ b. b < 256) Anything piece_at
 piece-format = record { sound = piece-is; complete = piece-back }
 
-byte-room : (b : ℕ) → 0 < length (byte_text b)
+pub byte-room : (b : ℕ) → 0 < length (byte_text b)
 byte-room b = elim (cases_Bool (is_plain b)) [
   | inl e ↦ let h = ap length (plain-spelled b e).0 in omega arith
   | inr e ↦ elim (cases_Bool (b == 34)) [

@@ -1,5 +1,5 @@
 -- Reading lines, blocks and a whole certificate, as functions on lists.
-use Rattle.std.specs.Prelude.{ℕ, suc, ◌==◌, ◌&&◌, not, nat_lt, if◌then◌else◌, Bool, true, false, List, [], ◌∷◌, ◌++◌, length, Option, Some, None, codes}
+use Rattle.std.specs.Prelude.{ℕ, suc, ◌==◌, ◌&&◌, not, nat_lt, if◌then◌else◌, Bool, true, false, List, [], ◌∷◌, ◌++◌, length, Option, Some, None, codes, option_map, option_and_then}
 use Rattle.mlk_text.specs.Reading.{◌>>=◌, with, many}
 use Rattle.mlk_text.specs.Lexemes.{byte_at, name_at, digits, digits_at}
 use Rattle.mlk_names.specs.declared.term.LockTerm.{LockTerm}
@@ -9,17 +9,23 @@ use Rattle.mlk_cert.specs.declared.names.NameSet.{NameSet}
 use Rattle.mlk_cert.specs.declared.block.Point.{Point}
 use Rattle.mlk_cert.specs.declared.block.Summary.{Summary}
 use Rattle.mlk_cert.specs.declared.block.EntryCert.{EntryCert}
-use Rattle.mlk_cert.specs.Texts.{head_line, end_line}
+use Rattle.mlk_cert.specs.Lists.{last_of, below}
+use Rattle.mlk_cert.specs.Limits.{points_below}
+use Rattle.mlk_cert.specs.Texts.{head_line, end_line, exit_text, case_text}
 use Rattle.mlk_cert.specs.Checks.{fit_terms, fit_mods, fits_case, fits_exit, fit_exits, fit_points, fit_blocks, fits}
-use Rattle.mlk_cert.specs.Reading.{word_at, number_at, positive, listed_at, term_at, names_at, exit_at, case_at, part_at, next}
+use Rattle.mlk_cert.specs.Reading.{word_at, number_at, counted_at, listed_at, term_at, names_at, exit_at, case_at, part_at, next}
 
 -- what was read, where it passes a test
 abbrev pub fit : {A : Type 0} → (A → Bool) → A × List ℕ → Option (A × List ℕ)
 fit test r = if test r.0 then Some r else None
 
+-- the line's end, after what passes
+abbrev pub ended : {A : Type 0} → A → Bool → List ℕ → Option (A × List ℕ)
+ended a passes xs = byte_at 10 xs >>= λ end. if passes then Some (a, end.1) else None
+
 -- the rest of a line, which passes a test
 unfoldable pub rest_at : {A : Type 0} → (List ℕ → Option (A × List ℕ)) → (A → Bool) → List ℕ → Option (A × List ℕ)
-rest_at item test xs = item xs >>= λ r. byte_at 10 r.1 >>= λ end. fit test (r.0, end.1)
+rest_at item test xs = item xs >>= λ r. ended r.0 (test r.0) r.1
 
 -- as many items as words stand before them
 unfoldable pub worded_at : {A : Type 0} → List ℕ → (List ℕ → Option (A × List ℕ)) → List ℕ → Option (List A × List ℕ)
@@ -64,7 +70,7 @@ Listed = ℕ × ℕ × Case
 -- the number of a line, a point, and the number of a round
 unfoldable pub place_at : List ℕ → Option ((ℕ × ℕ) × List ℕ)
 place_at xs =
-    (number_at 65535 xs >>= positive) >>= λ line.
+    counted_at 65535 xs >>= λ line.
     byte_at 46 line.1 >>= λ dot.
     with (λ round. (line.0, round)) (number_at 255 dot.1)
 
@@ -133,3 +139,22 @@ unfoldable pub certificate_at : List ℕ → Option (List EntryCert)
 certificate_at text =
     if nat_lt 67108864 (length text) then None
     else (word_at head_line text >>= λ head. blocks_at head.1 >>= λ blocks. word_at end_line blocks.1 >>= λ end. finished blocks.0 end.1)
+
+-- the text stands above the last, where there is one
+abbrev pub above_last : Option (List ℕ) → List ℕ → Bool
+above_last None text = true
+above_last (Some last) text = below last text
+
+-- one more exit, after so many of which the last has this text
+abbrev pub next_exit_fits : ℕ → Option (List ℕ) → ExitCase → Bool
+next_exit_fits count last e = nat_lt count 16 && above_last last (exit_text e)
+
+-- one more case, after this point whose last case has this text
+abbrev pub next_case_fits : Option Point → Option (List ℕ) → Listed → Bool
+next_case_fits None last l = true
+next_case_fits (Some p) last l =
+    if (p.line == l.0) && (p.round == l.1) then nat_lt (length p.cases) 16 && above_last last (case_text l.2) else points_below p (point_of l)
+
+-- the text of the last case of the last point
+abbrev pub last_case_text : List Point → Option (List ℕ)
+last_case_text points = option_and_then (λ p. option_map case_text (last_of p.cases)) (last_of points)

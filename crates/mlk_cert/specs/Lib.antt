@@ -7,3 +7,4 @@ pub mod Checks
 pub mod Blocks
 pub mod Theorem
 pub mod Writing
+pub mod Fitting

@@ -1,7 +1,7 @@
 -- Reading the parts of a certificate, as functions on lists: what is read, and what is left after it. A certificate as a
 -- whole is read by `certificate_at`, at the end of this module. Laws tie them to the texts of certificates.
 use Rattle.std.specs.Prelude.{ℕ, suc, ◌+◌, ◌-◌, ◌*◌, ◌≡◌, ◌==◌, ◌&&◌, ◌||◌, not, nat_le, nat_lt, if◌then◌else◌, Bool, true, false, List, [], ◌∷◌, ◌++◌, length, Option, Some, None, codes, option_map, map, bytes_eq}
-use Rattle.mlk_text.specs.Reading.{◌>>=◌, with, many}
+use Rattle.mlk_text.specs.Reading.{◌>>=◌, with, put, many}
 use Rattle.mlk_text.specs.Lexemes.{digits_at, byte_at, name_at, is_digit, digits, name_bytes}
 use Rattle.mlk_names.specs.declared.lock_name.Root.{Root}
 use Rattle.mlk_names.specs.declared.lock_name.Root.TheVariants as root
@@ -49,6 +49,9 @@ number_at limit xs = digits_at xs >>= number_by limit
 abbrev pub positive : ℕ × List ℕ → Option (ℕ × List ℕ)
 positive r = if r.0 == 0 then None else Some r
 
+abbrev pub counted_at : ℕ → List ℕ → Option (ℕ × List ℕ)
+counted_at limit xs = number_at limit xs >>= positive
+
 -- a hexadecimal digit in lower case
 abbrev pub hex_value : ℕ → Option ℕ
 hex_value b = if nat_le 48 b && nat_le b 57 then Some (b - 48) else (if nat_le 97 b && nat_le b 102 then Some (b - 87) else None)
@@ -85,9 +88,7 @@ next item b xs = item xs
 -- one or more items with this byte between them
 unfoldable pub list_at : {A : Type 0} → (List ℕ → Option (A × List ℕ)) → ℕ → List ℕ → Option (List A × List ℕ)
 list_at item between xs =
-    item xs >>= λ first.
-    many (byte_at between) (next item) (suc (length first.1)) first.1 >>= λ others.
-    Some (first.0 ∷ others.0, others.1)
+    item xs >>= λ first. put (first.0 ∷ []) (many (byte_at between) (next item) (suc (length first.1)) first.1)
 
 -- none for a dash, else one or more with semicolons between them
 abbrev pub listed_by : {A : Type 0} → (List ℕ → Option (A × List ℕ)) → List ℕ → Option (ℕ × List ℕ) → Option (List A × List ℕ)
@@ -150,7 +151,7 @@ own_of level names = record { level = level; names = names }
 
 -- new names
 unfoldable pub own_at : List ℕ → Option (Own × List ℕ)
-own_at xs = (number_at 15 xs >>= positive) >>= λ level. byte_at 58 level.1 >>= λ colon. with (own_of level.0) (names_at colon.1)
+own_at xs = counted_at 15 xs >>= λ level. byte_at 58 level.1 >>= λ colon. with (own_of level.0) (names_at colon.1)
 
 -- what is said of `$TEST`
 abbrev pub sign_at : List ℕ → Option (Test × List ℕ)
@@ -160,7 +161,7 @@ sign_at (b ∷ xs) = if b == 42 then Some (Any, xs) else (if b == 48 then Some (
 -- one or more signs
 abbrev pub signs_by : List ℕ → Option (Test × List ℕ) → Option (List Test × List ℕ)
 signs_by xs None = None
-signs_by xs (Some first) = many sign_at keep (suc (length first.1)) first.1 >>= λ others. Some (first.0 ∷ others.0, others.1)
+signs_by xs (Some first) = put (first.0 ∷ []) (many sign_at keep (suc (length first.1)) first.1)
 
 -- the signs of open blocks: none for a dash, else one or more
 abbrev pub saved_by : List ℕ → Option (ℕ × List ℕ) → Option (List Test × List ℕ)

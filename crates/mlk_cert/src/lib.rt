@@ -7,6 +7,7 @@ mod certificate;
 mod inclusion;
 mod law;
 mod names;
+mod read;
 mod shared;
 mod write;
 

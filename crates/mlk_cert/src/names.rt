@@ -15,6 +15,6 @@ pub enum NameSet {
 #[derive(Clone, Drop, Debug, PartialEq, Eq)]
 pub struct Own {
     /// The level of the lines that made them new, from 1.
-    pub level: u8,
+    pub level: u32,
     pub names: NameSet,
 }

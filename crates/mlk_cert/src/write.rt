@@ -2,8 +2,8 @@
 
 mod entry;
 mod line;
-mod list;
-mod text;
+pub(crate) mod list;
+pub(crate) mod text;
 mod whole;
 
 pub use whole::{WriteError, write_cert};

@@ -130,7 +130,7 @@ impl Written for Own {
     ghost written = { own_text };
 
     fn push_to(&self, text: &mut Text) -> Result<(), AllocError> {
-        text.push_number(u32::from(self.level))?;
+        text.push_number(self.level)?;
         text.push_byte(b':')?;
         self.names.push_to(text)?;
         Ok(())

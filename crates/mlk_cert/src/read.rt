@@ -1,0 +1,13 @@
+//! The reader of certificates.
+
+mod block;
+mod case;
+mod fault;
+mod fit;
+mod lexeme;
+mod line;
+mod list;
+mod names;
+mod points;
+mod term;
+mod whole;

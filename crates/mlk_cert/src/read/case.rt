@@ -1,0 +1,196 @@
+// Cases, read.
+
+ghost use Rattle.std.specs.Prelude.{◌≡◌, ◌∷◌, [], suc, length, option_map, IfOk, codes};
+ghost use Rattle.mlk_text.specs.Reading.{many, put};
+ghost use Rattle.mlk_text.specs.Lexemes.{name_at};
+ghost use Rattle.mlk_text.specs.Outcome.{Gives};
+ghost use Rattle.mlk_cert.specs.Checks.{fit_terms, fit_own, fit_kept, fit_mods, fits_case, fits_exit};
+ghost use Rattle.mlk_cert.specs.Fitting.{passes};
+ghost use Rattle.mlk_cert.specs.Reading.{keep, sign_at, saved_at, part_at, listed_at, term_at, own_at, names_at, exit_at, case_at};
+
+use crate::case::{Case, ExitCase, Test};
+use crate::names::{NameSet, Own};
+use crate::read::fit::{Fit, fit_both, fit_of};
+use crate::read::lexeme::word_of;
+use crate::read::list::listed;
+use crate::read::names::{ascend_inside, ascend_inside_own};
+use crate::shared::Shared;
+use mlk_names::LockTerm;
+use mlk_text::lexeme::{ReadError, byte_of};
+use mlk_text::{List, Name};
+use std::alloc::Global;
+
+fn sign(bytes: &[u8]) -> Option<(Test, &[u8])>
+    ensures { option_map (λ x. (x.0, x.1.now)) result ≡ sign_at bytes.now }
+{
+    let Some((first, rest)) = bytes.split_first() else {
+        return None;
+    };
+    match *first {
+        b'*' => Some((Test::Any, rest)),
+        b'0' => Some((Test::Zero, rest)),
+        b'1' => Some((Test::One, rest)),
+        _ => None,
+    }
+}
+
+fn more_signs(alloc: Global, first: Test, bytes: &[u8]) -> Result<(Vec<Test>, &[u8]), ReadError>
+    ensures { Gives (λ x. (x.0.items, x.1.now)) result (put (first ∷ []) (many sign_at keep (suc (length bytes.now)) bytes.now)) }
+{
+    let mut found = Vec::new(alloc);
+    found.push(first)?;
+    let mut rest = bytes;
+    while let Some((test, behind)) = sign(rest) {
+        found.push(test)?;
+        rest = behind;
+    }
+    Ok((found, rest))
+}
+
+#[tactic(auto, unfolding(crate::specs::Reading::saved_at))]
+fn saved(alloc: Global, bytes: &[u8]) -> Result<(List<Test>, &[u8]), ReadError>
+    ensures { Gives (λ x. (x.0, x.1.now)) result (saved_at bytes.now) }
+{
+    if let Some(rest) = byte_of(b'-', bytes) {
+        return Ok((List::new(alloc), rest));
+    }
+    let Some((first, rest)) = sign(bytes) else {
+        return Err(ReadError::Refused);
+    };
+    let (found, rest) = more_signs(alloc, first, rest)?;
+    Ok((List::of(found), rest))
+}
+
+/// The terms of a list.
+pub(crate) fn terms(alloc: Global, bytes: &[u8]) -> Result<(Vec<LockTerm>, Fit, &[u8]), ReadError>
+    ensures read { Gives (λ x. (x.0.items, x.2.now)) result (listed_at term_at bytes.now) }
+    ensures fit { IfOk result (λ x. passes x.1 ≡ fit_terms x.0.items) }
+{
+    let (found, ordered, rest) = listed::<LockTerm>(alloc, bytes)?;
+    let fit = fit_of(found.len() <= 16, ordered);
+    Ok((found, fit, rest))
+}
+
+/// The names that may change.
+pub(crate) fn mods(alloc: Global, bytes: &[u8]) -> Result<(Vec<NameSet>, Fit, &[u8]), ReadError>
+    ensures read { Gives (λ x. (x.0.items, x.2.now)) result (listed_at names_at bytes.now) }
+    ensures fit { IfOk result (λ x. passes x.1 ≡ fit_mods x.0.items) }
+{
+    let (found, ordered, rest) = listed::<NameSet>(alloc, bytes)?;
+    let inside = ascend_inside(found.as_slice());
+    let fit = fit_of(found.len() <= 1024, inside && ordered);
+    Ok((found, fit, rest))
+}
+
+fn new_names(alloc: Global, bytes: &[u8]) -> Result<(Vec<Own>, Fit, &[u8]), ReadError>
+    ensures read { Gives (λ x. (x.0.items, x.2.now)) result (listed_at own_at bytes.now) }
+    ensures fit { IfOk result (λ x. passes x.1 ≡ fit_own x.0.items) }
+{
+    let (found, ordered, rest) = listed::<Own>(alloc, bytes)?;
+    let inside = ascend_inside_own(found.as_slice());
+    let fit = fit_of(found.len() <= 64, inside && ordered);
+    Ok((found, fit, rest))
+}
+
+fn kept_names(alloc: Global, bytes: &[u8]) -> Result<(Vec<Name>, Fit, &[u8]), ReadError>
+    ensures read { Gives (λ x. (x.0.items, x.2.now)) result (listed_at name_at bytes.now) }
+    ensures fit { IfOk result (λ x. passes x.1 ≡ fit_kept x.0.items) }
+{
+    let (found, ordered, rest) = listed::<Name>(alloc, bytes)?;
+    let fit = fit_of(found.len() <= 64, ordered);
+    Ok((found, fit, rest))
+}
+
+#[tactic(auto, unfolding(crate::specs::Reading::part_at))]
+fn test_part(bytes: &[u8]) -> Option<(Test, &[u8])>
+    ensures { option_map (λ x. (x.0, x.1.now)) result ≡ part_at (codes "T=") sign_at bytes.now }
+{
+    let Some(rest) = word_of(b"T=", bytes) else {
+        return None;
+    };
+    sign(rest)
+}
+
+#[tactic(auto, unfolding(crate::specs::Reading::part_at))]
+fn held_part(alloc: Global, bytes: &[u8]) -> Result<(Shared<LockTerm>, Fit, &[u8]), ReadError>
+    ensures read { Gives (λ x. (x.0, x.2.now)) result (part_at (codes " H=") (listed_at term_at) bytes.now) }
+    ensures fit { IfOk result (λ x. passes x.1 ≡ fit_terms x.0) }
+{
+    let Some(rest) = word_of(b" H=", bytes) else {
+        return Err(ReadError::Refused);
+    };
+    let (found, fit, rest) = terms(alloc, rest)?;
+    Ok((Shared::new(alloc, found)?, fit, rest))
+}
+
+#[tactic(auto, unfolding(crate::specs::Reading::part_at))]
+fn own_part(alloc: Global, bytes: &[u8]) -> Result<(Shared<Own>, Fit, &[u8]), ReadError>
+    ensures read { Gives (λ x. (x.0, x.2.now)) result (part_at (codes " O=") (listed_at own_at) bytes.now) }
+    ensures fit { IfOk result (λ x. passes x.1 ≡ fit_own x.0) }
+{
+    let Some(rest) = word_of(b" O=", bytes) else {
+        return Err(ReadError::Refused);
+    };
+    let (found, fit, rest) = new_names(alloc, rest)?;
+    Ok((Shared::new(alloc, found)?, fit, rest))
+}
+
+#[tactic(auto, unfolding(crate::specs::Reading::part_at))]
+fn kept_part(alloc: Global, bytes: &[u8]) -> Result<(Shared<Name>, Fit, &[u8]), ReadError>
+    ensures read { Gives (λ x. (x.0, x.2.now)) result (part_at (codes " K=") (listed_at name_at) bytes.now) }
+    ensures fit { IfOk result (λ x. passes x.1 ≡ fit_kept x.0) }
+{
+    let Some(rest) = word_of(b" K=", bytes) else {
+        return Err(ReadError::Refused);
+    };
+    let (found, fit, rest) = kept_names(alloc, rest)?;
+    Ok((Shared::new(alloc, found)?, fit, rest))
+}
+
+#[tactic(auto, unfolding(crate::specs::Reading::part_at))]
+fn saved_part(alloc: Global, bytes: &[u8]) -> Result<(List<Test>, &[u8]), ReadError>
+    ensures { Gives (λ x. (x.0, x.1.now)) result (part_at (codes " S=") saved_at bytes.now) }
+{
+    let Some(rest) = word_of(b" S=", bytes) else {
+        return Err(ReadError::Refused);
+    };
+    let (found, rest) = saved(alloc, rest)?;
+    Ok((found, rest))
+}
+
+/// The case of an exit, whether it keeps to its limits, and what is left after it.
+#[tactic(auto, unfolding(crate::specs::Reading::exit_at))]
+pub(crate) fn exit(alloc: Global, bytes: &[u8]) -> Result<(ExitCase, Fit, &[u8]), ReadError>
+    ensures read { Gives (λ x. (x.0, x.2.now)) result (exit_at bytes.now) }
+    ensures fit { IfOk result (λ x. passes x.1 ≡ fits_exit x.0) }
+{
+    let Some((test, rest)) = test_part(bytes) else {
+        return Err(ReadError::Refused);
+    };
+    let (held, first, rest) = held_part(alloc, rest)?;
+    let (kept, second, rest) = kept_part(alloc, rest)?;
+    Ok((ExitCase { test, held, kept }, fit_both(first, second), rest))
+}
+
+/// A case, whether it keeps to its limits, and what is left after it.
+#[tactic(auto, unfolding(crate::specs::Reading::case_at))]
+pub(crate) fn case(alloc: Global, bytes: &[u8]) -> Result<(Case, Fit, &[u8]), ReadError>
+    ensures read { Gives (λ x. (x.0, x.2.now)) result (case_at bytes.now) }
+    ensures fit { IfOk result (λ x. passes x.1 ≡ fits_case x.0) }
+{
+    let Some((test, rest)) = test_part(bytes) else {
+        return Err(ReadError::Refused);
+    };
+    let (held, first, rest) = held_part(alloc, rest)?;
+    let (own, second, rest) = own_part(alloc, rest)?;
+    let (kept, third, rest) = kept_part(alloc, rest)?;
+    let (saved, rest) = saved_part(alloc, rest)?;
+    let case = Case {
+        test,
+        held,
+        own,
+        kept,
+        saved,
+    };
+    Ok((case, fit_both(first, fit_both(second, third)), rest))
+}
