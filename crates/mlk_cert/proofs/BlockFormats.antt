@@ -117,7 +117,7 @@ pub entry-format : Format entry_text IsEntry NoName entry_at
 entry-format = record { sound = entry-is; complete = entry-back }
 
 -- exits
-exit-rest : Format (λ e. exit_text e ++ 10 ∷ []) GoodExit Anything (rest_at exit_at fits_exit)
+pub exit-rest : Format (λ e. exit_text e ++ 10 ∷ []) GoodExit Anything (rest_at exit_at fits_exit)
 exit-rest = rest-format exit_text HasExit EndsNames exit_at exit-format fits_exit (λ n. (refl, refl))
 
 abbrev AreExits : List ExitCase → Type 0
@@ -197,7 +197,7 @@ pub summary-format : Format summary_text IsSummary NoExit summary_at
 summary-format = record { sound = summary-is; complete = summary-back }
 
 -- places
-place-is : (p : ℕ × ℕ) (xs ys : List ℕ) → place_at xs ≡ Some (p, ys) → (xs ≡ place_text p.0 p.1 ++ ys) × (1 ≤ p.0) × (p.0 ≤ 65535) × (p.1 ≤ 255)
+pub place-is : (p : ℕ × ℕ) (xs ys : List ℕ) → place_at xs ≡ Some (p, ys) → (xs ≡ place_text p.0 p.1 ++ ys) × (1 ≤ p.0) × (p.0 ≤ 65535) × (p.1 ≤ 255)
 unfolding place_at
 place-is p xs ys h =
     let l = then_some (number_at 65535 xs >>= positive) _ (p, ys) h in
@@ -222,7 +222,7 @@ place-back p ys from to round none =
     (rw ((number-format 65535 (lit< tt)).complete p.0 (46 ∷ (decimal p.1 ++ ys)) to refl)
     (rw (not-zero p.0 from) (rw ((number-format 255 (lit< tt)).complete p.1 ys round none) refl)))
 
-abbrev HasListed : Listed → Type 0
+abbrev pub HasListed : Listed → Type 0
 HasListed l = (1 ≤ l.0) × (l.0 ≤ 65535) × (l.1 ≤ 255) × HasCase l.2
 
 listed-is : (l : Listed) (xs ys : List ℕ) → listed_case_at xs ≡ Some (l, ys) → (xs ≡ listed_text l ++ ys) × HasListed l
@@ -245,10 +245,10 @@ listed-back l ys (from, to, round, is) none =
     rw (append_assoc (place_text l.0 l.1) (32 ∷ case_text l.2) ys)
     (rw (place-back (l.0, l.1) (32 ∷ (case_text l.2 ++ ys)) from to round refl) (rw (case-format.complete l.2 ys is none) refl))
 
-listed-case-format : Format listed_text HasListed NoSign listed_case_at
+pub listed-case-format : Format listed_text HasListed NoSign listed_case_at
 listed-case-format = record { sound = listed-is; complete = listed-back }
 
-listed-rest : Format (λ l. listed_text l ++ 10 ∷ []) GoodListed Anything (rest_at listed_case_at fits_listed)
+pub listed-rest : Format (λ l. listed_text l ++ 10 ∷ []) GoodListed Anything (rest_at listed_case_at fits_listed)
 listed-rest = rest-format listed_text HasListed NoSign listed_case_at listed-case-format fits_listed (λ n. refl)
 
 pub record ArePoints (points : List Point) : Type 0 where

@@ -10,3 +10,4 @@ pub mod Goods
 pub mod BlockFormats
 pub mod Whole
 pub mod Room
+pub mod Loops

@@ -1,5 +1,5 @@
 -- Reading lines, blocks and a whole certificate, as functions on lists.
-use Rattle.std.specs.Prelude.{ℕ, suc, ◌==◌, ◌&&◌, not, nat_lt, if◌then◌else◌, Bool, true, false, List, [], ◌∷◌, ◌++◌, length, Option, Some, None, codes, option_map, option_and_then}
+use Rattle.std.specs.Prelude.{ℕ, suc, ◌==◌, ◌&&◌, ◌||◌, not, nat_lt, if◌then◌else◌, Bool, true, false, List, [], ◌∷◌, ◌++◌, length, Option, Some, None, codes, option_map, option_and_then}
 use Rattle.mlk_text.specs.Reading.{◌>>=◌, with, many}
 use Rattle.mlk_text.specs.Lexemes.{byte_at, name_at, digits, digits_at}
 use Rattle.mlk_names.specs.declared.term.LockTerm.{LockTerm}
@@ -10,9 +10,8 @@ use Rattle.mlk_cert.specs.declared.block.Point.{Point}
 use Rattle.mlk_cert.specs.declared.block.Summary.{Summary}
 use Rattle.mlk_cert.specs.declared.block.EntryCert.{EntryCert}
 use Rattle.mlk_cert.specs.Lists.{last_of, below}
-use Rattle.mlk_cert.specs.Limits.{points_below}
 use Rattle.mlk_cert.specs.Texts.{head_line, end_line, exit_text, case_text}
-use Rattle.mlk_cert.specs.Checks.{fit_terms, fit_mods, fits_case, fits_exit, fit_exits, fit_points, fit_blocks, fits}
+use Rattle.mlk_cert.specs.Checks.{fit_terms, fit_mods, fits_case, fits_exit, fit_exits, fit_points, fit_blocks, fits, has_text}
 use Rattle.mlk_cert.specs.Reading.{word_at, number_at, counted_at, listed_at, term_at, names_at, exit_at, case_at, part_at, next}
 
 -- what was read, where it passes a test
@@ -149,11 +148,22 @@ above_last (Some last) text = below last text
 abbrev pub next_exit_fits : ℕ → Option (List ℕ) → ExitCase → Bool
 next_exit_fits count last e = nat_lt count 16 && above_last last (exit_text e)
 
--- one more case, after this point whose last case has this text
-abbrev pub next_case_fits : Option Point → Option (List ℕ) → Listed → Bool
-next_case_fits None last l = true
-next_case_fits (Some p) last l =
-    if (p.line == l.0) && (p.round == l.1) then nat_lt (length p.cases) 16 && above_last last (case_text l.2) else points_below p (point_of l)
+-- one more case of this text at a place, after this point whose last case has that text
+abbrev pub next_case_fits : Option Point → Option (List ℕ) → ℕ → ℕ → List ℕ → Bool
+next_case_fits None last line round text = true
+next_case_fits (Some p) last line round text =
+    if (p.line == line) && (p.round == round) then nat_lt (length p.cases) 16 && above_last last text else (nat_lt p.line line || ((p.line == line) && nat_lt p.round round))
+
+abbrev pub next_listed_fits : List Point → Option (List ℕ) → Listed → Bool
+next_listed_fits points last l = next_case_fits (last_of points) last l.0 l.1 (case_text l.2)
+
+-- the rest of a line, which passes a test and may stand after what stands in front
+unfoldable pub after_at : {A : Type 0} → (List ℕ → Option (A × List ℕ)) → (A → Bool) → (A → Bool) → List ℕ → Option (A × List ℕ)
+after_at item test step xs = item xs >>= λ r. ended r.0 (test r.0 && step r.0) r.1
+
+-- a block whose entry is new
+unfoldable pub new_block_at : List (List ℕ) → List ℕ → Option (EntryCert × List ℕ)
+new_block_at texts xs = block_at xs >>= fit (λ b. not (has_text texts b.entry))
 
 -- the text of the last case of the last point
 abbrev pub last_case_text : List Point → Option (List ℕ)

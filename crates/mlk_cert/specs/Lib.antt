@@ -8,3 +8,4 @@ pub mod Blocks
 pub mod Theorem
 pub mod Writing
 pub mod Fitting
+pub mod Faults
