@@ -1,26 +1,25 @@
 -- Entries, summaries, points, blocks, and their readers.
-use Rattle.std.proofs.Common.{◌≡◌, ◌<◌, ◌≤◌, ℕ, suc, ◌++◌, List, [], ◌∷◌, length, Some, None, Bool, true, false, refl, sym, ap, ◌∙◌, arith, subst, inl, inr, append_assoc, lit<}
-use Rattle.std.specs.Prelude.{Option, ◌==◌, ◌&&◌, ◌||◌, ◌⊎◌, nat_lt, nat_le, if◌then◌else◌, codes}
+use Rattle.std.proofs.Common.{◌≡◌, ◌≤◌, ℕ, suc, ◌++◌, List, [], ◌∷◌, length, Some, None, true, false, refl, sym, ap, ◌∙◌, arith, subst, inl, inr, append_assoc, lit<}
+use Rattle.std.specs.Prelude.{Option, ◌==◌, ◌||◌, codes}
 use Rattle.std.specs.Fmt.{decimal}
-use Rattle.std.proofs.lemmas.Bool.{cases_Bool, eqb-true}
+use Rattle.std.proofs.lemmas.Bool.{cases_Bool}
 use Rattle.std.proofs.lemmas.Bool.Decides.{nat_tests}
 use Rattle.mlk_text.specs.Reading.{◌>>=◌, with}
-use Rattle.mlk_text.specs.Lexemes.{byte_at, name_at, is_digit, is_letter, digits, digits_at}
+use Rattle.mlk_text.specs.Lexemes.{byte_at, name_at, is_digit, is_letter, digits}
 use Rattle.mlk_text.specs.Numbers.{are_digits}
 use Rattle.mlk_text.proofs.Readers.{then_some, pair_parts, with_some}
-use Rattle.mlk_names.specs.declared.term.LockTerm.{LockTerm}
 use Rattle.mlk_cert.specs.declared.case.Case.{Case}
 use Rattle.mlk_cert.specs.declared.case.ExitCase.{ExitCase}
 use Rattle.mlk_cert.specs.declared.block.Point.{Point}
 use Rattle.mlk_cert.specs.declared.block.Summary.{Summary}
 use Rattle.mlk_cert.specs.declared.block.EntryCert.{EntryCert}
 use Rattle.mlk_cert.specs.Lists.{Each, flat, ascends}
-use Rattle.mlk_cert.specs.Texts.{listed, line, term_text, names_text, case_text, exit_text, exit_line, place_text, case_line, point_text, low_text, drops_text, summary_text, block_text}
+use Rattle.mlk_cert.specs.Texts.{listed, term_text, names_text, case_text, exit_text, exit_line, place_text, case_line, point_text, low_text, drops_text, summary_text}
 use Rattle.mlk_cert.specs.Limits.{IsName, IsTerm, IsLabel, IsEntry, IsLow, IsSummary, IsPoint, IsBlock, points_below}
-use Rattle.mlk_cert.specs.Checks.{fit_terms, fit_mods, fits_case, fits_exit, fit_exits, fit_points, fits}
+use Rattle.mlk_cert.specs.Checks.{fit_terms, fit_mods, fits_exit, fit_exits, fit_points, fits}
 use Rattle.mlk_cert.specs.Reading.{word_at, number_at, positive, listed_at, term_at, names_at, exit_at, case_at, part_at}
 use Rattle.mlk_cert.specs.Blocks.{fit, rest_at, worded_at, low_at, drops_at, exits_at, summary_of, summary_at, Listed, place_at, listed_of, listed_case_at, fits_listed, grouped, points_at, label_by, label_at, entry_at, block_of, block_at}
-use Rattle.mlk_cert.proofs.Formats.{Format, Anything, byte-is, word-back, part-is, part-back}
+use Rattle.mlk_cert.proofs.Formats.{Format, Anything, byte-is, part-is, part-back}
 use Rattle.mlk_cert.proofs.NumberFormats.{number-format, IsDigit, digits-is, digits-back, digits-count}
 use Rattle.mlk_cert.proofs.NameFormats.{NoName, name-format, name-first}
 use Rattle.mlk_cert.proofs.TermFormats.{EndsTerms, EndsNames, terms-format}

@@ -1,14 +1,13 @@
 -- Sets of names, signs, cases, and their readers.
-use Rattle.std.proofs.Common.{◌≡◌, ◌<◌, ◌≤◌, ℕ, suc, ◌++◌, List, [], ◌∷◌, length, Some, None, Bool, true, false, refl, sym, ap, ◌∙◌, arith, subst, inl, inr, append_assoc, lit<}
-use Rattle.std.specs.Prelude.{Option, ◌==◌, if◌then◌else◌, codes}
+use Rattle.std.proofs.Common.{◌≡◌, ◌<◌, ◌≤◌, ℕ, suc, ◌++◌, List, [], ◌∷◌, length, Some, None, false, refl, sym, ap, ◌∙◌, arith, subst, inl, inr, append_assoc, lit<}
+use Rattle.std.specs.Prelude.{Option, ◌==◌, codes}
 use Rattle.std.specs.Fmt.{decimal}
 use Rattle.std.proofs.lemmas.Bool.{cases_Bool, eqb-true}
 use Rattle.std.proofs.lemmas.Bool.Decides.{nat_tests}
 use Rattle.std.proofs.lemmas.Option.{same_Some}
-use Rattle.mlk_text.specs.Reading.{◌>>=◌, many, with}
-use Rattle.mlk_text.specs.Lexemes.{byte_at, name_at, digits, digits_at}
+use Rattle.mlk_text.specs.Reading.{◌>>=◌, many}
+use Rattle.mlk_text.specs.Lexemes.{byte_at, name_at}
 use Rattle.mlk_text.proofs.Readers.{then_some, pair_parts, with_some}
-use Rattle.mlk_names.specs.declared.term.LockTerm.{LockTerm}
 use Rattle.mlk_cert.specs.declared.case.Test.{Test}
 use Rattle.mlk_cert.specs.declared.case.Test.TheVariants.{Any, Zero, One}
 use Rattle.mlk_cert.specs.declared.case.Case.{Case}
@@ -16,11 +15,11 @@ use Rattle.mlk_cert.specs.declared.case.ExitCase.{ExitCase}
 use Rattle.mlk_cert.specs.declared.names.NameSet.{NameSet}
 use Rattle.mlk_cert.specs.declared.names.NameSet.TheVariants.{Only, AllBut}
 use Rattle.mlk_cert.specs.declared.names.Own.{Own}
-use Rattle.mlk_cert.specs.Lists.{Each, flat, more, joined}
+use Rattle.mlk_cert.specs.Lists.{Each, flat, more}
 use Rattle.mlk_cert.specs.Texts.{listed, term_text, name_text, names_text, own_text, sign, sign_text, saved_text, case_text, exit_text}
 use Rattle.mlk_cert.specs.Limits.{IsName, IsTerm}
 use Rattle.mlk_cert.specs.Reading.{keep, list_at, listed_at, term_at, inside_by, names_by, names_at, number_at, positive, own_of, own_at, sign_at, signs_by, saved_by, saved_at, part_at, exit_of, exit_at, case_of, case_at}
-use Rattle.mlk_cert.proofs.Formats.{Format, Anything, byte-is, byte-back, flat-is, flat-back, list-is, list-back, listed-format, part-is, part-back}
+use Rattle.mlk_cert.proofs.Formats.{Format, Anything, byte-is, flat-is, flat-back, list-is, list-back, listed-format, part-is, part-back}
 use Rattle.mlk_cert.proofs.NumberFormats.{number-format, decimal-no-dash}
 use Rattle.mlk_cert.proofs.NameFormats.{NoName, name-format, name-first}
 use Rattle.mlk_cert.proofs.TermFormats.{EndsTerms, EndsNames, terms-format, kept-format}

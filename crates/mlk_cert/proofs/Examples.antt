@@ -1,19 +1,16 @@
 -- Certificates and their texts, worked.
 use Rattle.std.proofs.Common.{◌≡◌, ℕ, List, [], ◌∷◌, ◌++◌, refl}
-use Rattle.std.specs.Prelude.{codes, Some, None, false, true}
-use Rattle.std.specs.Fmt.{decimal, digits}
+use Rattle.std.specs.Prelude.{codes, Some, false, true}
+use Rattle.std.specs.Fmt.{digits}
 use Rattle.mlk_names.specs.declared.lock_name.Root.TheVariants as root
 use Rattle.mlk_names.specs.declared.known_symbol.KnownSym.TheVariants as known
 use Rattle.mlk_names.specs.declared.term.LockTerm.{LockTerm}
 use Rattle.mlk_cert.specs.declared.case.Test.TheVariants.{Any, Zero, One}
 use Rattle.mlk_cert.specs.declared.case.Case.{Case}
-use Rattle.mlk_cert.specs.declared.case.ExitCase.{ExitCase}
 use Rattle.mlk_cert.specs.declared.names.NameSet.TheVariants.{Only, AllBut}
 use Rattle.mlk_cert.specs.declared.names.Own.{Own}
-use Rattle.mlk_cert.specs.declared.block.Point.{Point}
-use Rattle.mlk_cert.specs.declared.block.Summary.{Summary}
 use Rattle.mlk_cert.specs.declared.block.EntryCert.{EntryCert}
-use Rattle.mlk_cert.specs.Texts.{byte_text, term_text, names_text, case_text, exit_text, case_line, certificate_text, head_line}
+use Rattle.mlk_cert.specs.Texts.{byte_text, term_text, names_text, case_text, case_line, certificate_text}
 use Rattle.mlk_cert.specs.Limits.{terms_upto, names_below, own_below}
 
 line_end : List ℕ

@@ -1,11 +1,11 @@
 -- Texts and their readers: what is read is the text, and a text is read where what follows does not go on with it.
-use Rattle.std.proofs.Common.{◌≡◌, ◌<◌, ◌≤◌, ℕ, zero, suc, ◌++◌, List, [], ◌∷◌, length, Some, None, Bool, true, false, refl, sym, ap, ◌∙◌, arith, subst, inl, inr, append_assoc, length-append}
-use Rattle.std.specs.Prelude.{Option, ◌==◌, if◌then◌else◌, option_map}
+use Rattle.std.proofs.Common.{◌≡◌, ◌<◌, ℕ, zero, suc, ◌++◌, List, [], ◌∷◌, length, Some, None, true, refl, sym, ap, ◌∙◌, arith, subst, inl, inr, append_assoc, length-append}
+use Rattle.std.specs.Prelude.{Option, ◌==◌, option_map}
 use Rattle.std.proofs.lemmas.Bool.{cases_Bool, eqb-true, eq-eqb}
-use Rattle.mlk_text.specs.Reading.{◌>>=◌, with, many, many_by}
+use Rattle.mlk_text.specs.Reading.{many, many_by}
 use Rattle.mlk_text.specs.Lexemes.{byte_at}
 use Rattle.mlk_text.proofs.Readers.{then_some, pair_parts, with_some}
-use Rattle.mlk_cert.specs.Lists.{Each, flat, more, joined}
+use Rattle.mlk_cert.specs.Lists.{Each, flat, more}
 use Rattle.mlk_cert.specs.Texts.{listed}
 use Rattle.mlk_cert.specs.Reading.{strip, word_at, keep, next, list_at, listed_by, listed_at, part_at}
 

@@ -11,3 +11,5 @@ pub mod BlockFormats
 pub mod Whole
 pub mod Room
 pub mod Loops
+pub mod PointLoops
+pub mod BlockLoops

@@ -1,18 +1,17 @@
 -- Lines and their readers.
-use Rattle.std.proofs.Common.{◌≡◌, ◌<◌, ◌≤◌, ℕ, zero, suc, ◌++◌, List, [], ◌∷◌, length, Some, None, Bool, true, false, refl, sym, ap, ◌∙◌, arith, subst, inl, inr, append_assoc, length-append, lit<}
-use Rattle.std.specs.Prelude.{Option, ◌==◌, if◌then◌else◌, codes}
-use Rattle.std.specs.Fmt.{decimal}
+use Rattle.std.proofs.Common.{◌≡◌, ◌<◌, ℕ, zero, suc, ◌++◌, List, [], ◌∷◌, length, Some, None, Bool, true, false, refl, sym, ap, ◌∙◌, arith, subst, inl, inr, append_assoc, length-append, lit<}
+use Rattle.std.specs.Prelude.{Option}
 use Rattle.std.proofs.lemmas.Bool.{cases_Bool}
 use Rattle.std.proofs.lemmas.Option.{same_Some}
-use Rattle.mlk_text.specs.Reading.{◌>>=◌, with, many, many_by}
+use Rattle.mlk_text.specs.Reading.{many, many_by}
 use Rattle.mlk_text.specs.Lexemes.{byte_at, digits}
 use Rattle.mlk_text.proofs.Readers.{then_some, pair_parts, with_some}
 use Rattle.mlk_cert.specs.Lists.{Each, flat}
-use Rattle.mlk_cert.specs.Texts.{line, low_text, drops_text}
+use Rattle.mlk_cert.specs.Texts.{low_text, drops_text}
 use Rattle.mlk_cert.specs.Limits.{IsLow}
-use Rattle.mlk_cert.specs.Reading.{word_at, number_at, part_at}
+use Rattle.mlk_cert.specs.Reading.{word_at, number_at}
 use Rattle.mlk_cert.specs.Blocks.{fit, rest_at, worded_at, low_by, low_at, drops_by, drops_at}
-use Rattle.mlk_cert.proofs.Formats.{Format, Anything, byte-is, word-is, word-back, part-is, part-back}
+use Rattle.mlk_cert.proofs.Formats.{Format, Anything, byte-is, word-is, word-back}
 use Rattle.mlk_cert.proofs.NumberFormats.{number-format, decimal-no-dash}
 
 pub fit-is : {A : Type 0} (test : A → Bool) (r s : A × List ℕ) → fit test r ≡ Some s → (r ≡ s) × (test s.0 ≡ true)

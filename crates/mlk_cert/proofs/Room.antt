@@ -1,6 +1,6 @@
 -- What is read takes room, so what is left is shorter; what stands before the rest is the text.
 use Rattle.std.proofs.Common.{◌≡◌, ◌<◌, ◌≤◌, ◌-◌, ◌+◌, ℕ, ◌++◌, List, [], ◌∷◌, length, take, drop, Some, None, Bool, true, false, refl, sym, ap, ◌∙◌, arith, inl, inr, length-append, nat_eq, Bor}
-use Rattle.std.specs.Prelude.{Option, Result, Ok, Err, IfOk, MatchOption, option_map, ◌==◌, if◌then◌else◌, ◌&&◌, ◌||◌, not, nat_lt}
+use Rattle.std.specs.Prelude.{Option, Result, Ok, Err, IfOk, MatchOption, option_map, ◌==◌, ◌&&◌, ◌||◌, not, nat_lt}
 use Rattle.std.specs.Fmt.{decimal}
 use Rattle.std.proofs.lemmas.Bool.Decides.{nat_tests}
 use Rattle.std.specs.Cmp.Lexicographic.{pointwise}

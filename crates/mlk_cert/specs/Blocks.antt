@@ -12,7 +12,7 @@ use Rattle.mlk_cert.specs.declared.block.EntryCert.{EntryCert}
 use Rattle.mlk_cert.specs.Lists.{last_of, below}
 use Rattle.mlk_cert.specs.Texts.{head_line, end_line, exit_text, case_text}
 use Rattle.mlk_cert.specs.Checks.{fit_terms, fit_mods, fits_case, fits_exit, fit_exits, fit_points, fit_blocks, fits, has_text}
-use Rattle.mlk_cert.specs.Reading.{word_at, number_at, counted_at, listed_at, term_at, names_at, exit_at, case_at, part_at, next}
+use Rattle.mlk_cert.specs.Reading.{word_at, number_at, counted_at, listed_at, term_at, names_at, exit_at, case_at, part_at}
 
 -- what was read, where it passes a test
 abbrev pub fit : {A : Type 0} → (A → Bool) → A × List ℕ → Option (A × List ℕ)
@@ -133,11 +133,13 @@ abbrev pub finished : List EntryCert → List ℕ → Option (List EntryCert)
 finished blocks [] = Some blocks
 finished blocks (b ∷ xs) = None
 
+-- a whole text
+unfoldable pub whole_at : List ℕ → Option (List EntryCert)
+whole_at text = word_at head_line text >>= λ head. blocks_at head.1 >>= λ blocks. word_at end_line blocks.1 >>= λ end. finished blocks.0 end.1
+
 -- A whole text, of at most 64 MiB.
 unfoldable pub certificate_at : List ℕ → Option (List EntryCert)
-certificate_at text =
-    if nat_lt 67108864 (length text) then None
-    else (word_at head_line text >>= λ head. blocks_at head.1 >>= λ blocks. word_at end_line blocks.1 >>= λ end. finished blocks.0 end.1)
+certificate_at text = if nat_lt 67108864 (length text) then None else whole_at text
 
 -- the text stands above the last, where there is one
 abbrev pub above_last : Option (List ℕ) → List ℕ → Bool
@@ -161,9 +163,16 @@ next_listed_fits points last l = next_case_fits (last_of points) last l.0 l.1 (c
 unfoldable pub after_at : {A : Type 0} → (List ℕ → Option (A × List ℕ)) → (A → Bool) → (A → Bool) → List ℕ → Option (A × List ℕ)
 after_at item test step xs = item xs >>= λ r. ended r.0 (test r.0 && step r.0) r.1
 
+-- an entry's line, whose text is new
+unfoldable pub new_entry_at : List (List ℕ) → List ℕ → Option (List ℕ × List ℕ)
+new_entry_at texts xs = rest_at entry_at fits xs >>= fit (λ e. not (has_text texts e))
+
 -- a block whose entry is new
 unfoldable pub new_block_at : List (List ℕ) → List ℕ → Option (EntryCert × List ℕ)
-new_block_at texts xs = block_at xs >>= fit (λ b. not (has_text texts b.entry))
+new_block_at texts xs =
+    new_entry_at texts xs >>= λ entry.
+    summary_at entry.1 >>= λ summary.
+    with (block_of entry.0 summary.0) (points_at summary.1)
 
 -- the text of the last case of the last point
 abbrev pub last_case_text : List Point → Option (List ℕ)

@@ -9,3 +9,4 @@ pub mod Theorem
 pub mod Writing
 pub mod Fitting
 pub mod Faults
+pub mod Refusals

@@ -1,7 +1,7 @@
 -- What every certificate keeps to: names are names, numbers are in range, lists are in order and not too long. The
 -- limits are this project's own choice; names and labels are those of ISO/IEC 11756.
-use Rattle.std.specs.Prelude.{ℕ, ◌≡◌, ◌⊎◌, ◌<◌, ◌≤◌, ◌==◌, ◌&&◌, ◌||◌, nat_lt, nat_le, Bool, true, List, [], ◌∷◌, ◌++◌, length, map, Option, Some, None}
-use Rattle.mlk_text.specs.Lexemes.{name_at, is_digit}
+use Rattle.std.specs.Prelude.{ℕ, ◌≡◌, ◌⊎◌, ◌<◌, ◌≤◌, ◌==◌, ◌&&◌, ◌||◌, nat_lt, Bool, true, List, [], ◌∷◌, ◌++◌, length, map, Option, Some, None}
+use Rattle.mlk_text.specs.Lexemes.{name_at}
 use Rattle.mlk_text.specs.Numbers.{are_digits}
 use Rattle.mlk_names.specs.declared.lock_name.Root.{Root}
 use Rattle.mlk_names.specs.declared.lock_name.Root.TheVariants as root
@@ -17,7 +17,7 @@ use Rattle.mlk_cert.specs.declared.block.Point.{Point}
 use Rattle.mlk_cert.specs.declared.block.Summary.{Summary}
 use Rattle.mlk_cert.specs.declared.block.EntryCert.{EntryCert}
 use Rattle.mlk_cert.specs.Lists.{Each, ascends, upto, below}
-use Rattle.mlk_cert.specs.Texts.{term_text, names_text, own_text, case_text, exit_text}
+use Rattle.mlk_cert.specs.Texts.{term_text, names_text, case_text, exit_text}
 
 -- a name, and nothing after it
 abbrev pub IsName : List ℕ → Type 0

@@ -1,8 +1,8 @@
 -- Reading the parts of a certificate, as functions on lists: what is read, and what is left after it. A certificate as a
 -- whole is read by `certificate_at`, at the end of this module. Laws tie them to the texts of certificates.
-use Rattle.std.specs.Prelude.{ℕ, suc, ◌+◌, ◌-◌, ◌*◌, ◌≡◌, ◌==◌, ◌&&◌, ◌||◌, not, nat_le, nat_lt, if◌then◌else◌, Bool, true, false, List, [], ◌∷◌, ◌++◌, length, Option, Some, None, codes, option_map, map, bytes_eq}
+use Rattle.std.specs.Prelude.{ℕ, suc, ◌+◌, ◌-◌, ◌*◌, ◌==◌, ◌&&◌, ◌||◌, nat_le, if◌then◌else◌, Bool, false, List, [], ◌∷◌, length, Option, Some, None, codes, option_map}
 use Rattle.mlk_text.specs.Reading.{◌>>=◌, with, put, many}
-use Rattle.mlk_text.specs.Lexemes.{digits_at, byte_at, name_at, is_digit, digits, name_bytes}
+use Rattle.mlk_text.specs.Lexemes.{digits_at, byte_at, name_at}
 use Rattle.mlk_names.specs.declared.lock_name.Root.{Root}
 use Rattle.mlk_names.specs.declared.lock_name.Root.TheVariants as root
 use Rattle.mlk_names.specs.declared.known_symbol.KnownSym.{KnownSym}

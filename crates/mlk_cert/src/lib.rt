@@ -17,5 +17,6 @@ pub use certificate::Certificate;
 pub use inclusion::included;
 pub use law::one_certificate;
 pub use names::{NameSet, Own};
+pub use read::{CertFault, read_cert};
 pub use shared::Shared;
 pub use write::{WriteError, write_cert};

@@ -11,3 +11,6 @@ mod names;
 mod points;
 mod term;
 mod whole;
+
+pub use fault::CertFault;
+pub use whole::read_cert;

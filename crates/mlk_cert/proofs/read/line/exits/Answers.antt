@@ -1,15 +1,13 @@
-use Rattle.std.proofs.Common.{◌≡◌, ◌<◌, ◌++◌, ◌∷◌, [], ℕ, List, length, codes, Some, true, sym, ap, ◌∙◌, arith, subst, refl}
-use Rattle.std.specs.Prelude.{option_map, Option}
+use Rattle.std.proofs.Common.{◌≡◌, ◌++◌, ◌∷◌, [], length, codes, Some, true, sym, ap, ◌∙◌, arith}
+use Rattle.std.specs.Prelude.{option_map}
 use Rattle.std.proofs.lemmas.Result.{err_from_is_err_and}
 use Rattle.mlk_text.specs.Failures.{FailsOn}
-use Rattle.mlk_text.specs.Reading.{many, ◌>>=◌}
 use Rattle.mlk_text.proofs.Readers.{many_goes}
-use Rattle.mlk_cert.specs.declared.case.ExitCase.{ExitCase}
 use Rattle.mlk_cert.specs.Lists.{last_of}
 use Rattle.mlk_cert.specs.Texts.{exit_text}
 use Rattle.mlk_cert.specs.Checks.{fits_exit, fit_exits}
 use Rattle.mlk_cert.specs.Reading.{word_at, exit_at}
-use Rattle.mlk_cert.specs.Blocks.{fit, rest_at, worded_at, after_at, next_exit_fits, exits_at}
+use Rattle.mlk_cert.specs.Blocks.{rest_at, worded_at, after_at, next_exit_fits, exits_at}
 use Rattle.mlk_cert.proofs.Formats.{Anything}
 use Rattle.mlk_cert.proofs.BlockFormats.{exit-rest}
 use Rattle.mlk_cert.proofs.Goods.{GoodExit}
