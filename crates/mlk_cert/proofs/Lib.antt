@@ -13,3 +13,4 @@ pub mod Room
 pub mod Loops
 pub mod PointLoops
 pub mod BlockLoops
+pub mod MemoryLemmas

@@ -7,6 +7,7 @@ mod fit;
 mod lexeme;
 mod line;
 mod list;
+mod memory;
 mod names;
 mod points;
 mod term;

@@ -11,8 +11,9 @@ ghost use Rattle.mlk_cert.specs.Reading.{keep, sign_at, saved_at, part_at, liste
 use crate::case::{Case, ExitCase, Test};
 use crate::names::{NameSet, Own};
 use crate::read::fit::{Fit, fit_both, fit_of};
-use crate::read::lexeme::word_of;
+use crate::read::lexeme::{front_of, word_of};
 use crate::read::list::listed;
+use crate::read::memory::{Memories, Memory};
 use crate::read::names::{ascend_inside, ascend_inside_own};
 use crate::shared::Shared;
 use mlk_names::LockTerm;
@@ -112,39 +113,72 @@ fn test_part(bytes: &[u8]) -> Option<(Test, &[u8])>
 }
 
 #[tactic(auto, unfolding(crate::specs::Reading::part_at))]
-fn held_part(alloc: Global, bytes: &[u8]) -> Result<(Shared<LockTerm>, Fit, &[u8]), ReadError>
+fn held_part<'a>(
+    alloc: Global,
+    memory: &mut Memory<'a, LockTerm>,
+    bytes: &'a [u8],
+) -> Result<(Shared<LockTerm>, Fit, &'a [u8]), ReadError>
     ensures read { Gives (λ x. (x.0, x.2.now)) result (part_at (codes " H=") (listed_at term_at) bytes.now) }
     ensures fit { IfOk result (λ x. passes x.1 ≡ fit_terms x.0) }
 {
     let Some(rest) = word_of(b" H=", bytes) else {
         return Err(ReadError::Refused);
     };
-    let (found, fit, rest) = terms(alloc, rest)?;
-    Ok((Shared::new(alloc, found)?, fit, rest))
+    if let Some((list, rest)) = memory.recall(rest)? {
+        return Ok((list, Fit::Yes, rest));
+    }
+    let (found, fit, after) = terms(alloc, rest)?;
+    let list = Shared::new(alloc, found)?;
+    if fit.is_yes() {
+        memory.note(list.clone()?, front_of(rest, after));
+    }
+    Ok((list, fit, after))
 }
 
 #[tactic(auto, unfolding(crate::specs::Reading::part_at))]
-fn own_part(alloc: Global, bytes: &[u8]) -> Result<(Shared<Own>, Fit, &[u8]), ReadError>
+fn own_part<'a>(
+    alloc: Global,
+    memory: &mut Memory<'a, Own>,
+    bytes: &'a [u8],
+) -> Result<(Shared<Own>, Fit, &'a [u8]), ReadError>
     ensures read { Gives (λ x. (x.0, x.2.now)) result (part_at (codes " O=") (listed_at own_at) bytes.now) }
     ensures fit { IfOk result (λ x. passes x.1 ≡ fit_own x.0) }
 {
     let Some(rest) = word_of(b" O=", bytes) else {
         return Err(ReadError::Refused);
     };
-    let (found, fit, rest) = new_names(alloc, rest)?;
-    Ok((Shared::new(alloc, found)?, fit, rest))
+    if let Some((list, rest)) = memory.recall(rest)? {
+        return Ok((list, Fit::Yes, rest));
+    }
+    let (found, fit, after) = new_names(alloc, rest)?;
+    let list = Shared::new(alloc, found)?;
+    if fit.is_yes() {
+        memory.note(list.clone()?, front_of(rest, after));
+    }
+    Ok((list, fit, after))
 }
 
 #[tactic(auto, unfolding(crate::specs::Reading::part_at))]
-fn kept_part(alloc: Global, bytes: &[u8]) -> Result<(Shared<Name>, Fit, &[u8]), ReadError>
+fn kept_part<'a>(
+    alloc: Global,
+    memory: &mut Memory<'a, Name>,
+    bytes: &'a [u8],
+) -> Result<(Shared<Name>, Fit, &'a [u8]), ReadError>
     ensures read { Gives (λ x. (x.0, x.2.now)) result (part_at (codes " K=") (listed_at name_at) bytes.now) }
     ensures fit { IfOk result (λ x. passes x.1 ≡ fit_kept x.0) }
 {
     let Some(rest) = word_of(b" K=", bytes) else {
         return Err(ReadError::Refused);
     };
-    let (found, fit, rest) = kept_names(alloc, rest)?;
-    Ok((Shared::new(alloc, found)?, fit, rest))
+    if let Some((list, rest)) = memory.recall(rest)? {
+        return Ok((list, Fit::Yes, rest));
+    }
+    let (found, fit, after) = kept_names(alloc, rest)?;
+    let list = Shared::new(alloc, found)?;
+    if fit.is_yes() {
+        memory.note(list.clone()?, front_of(rest, after));
+    }
+    Ok((list, fit, after))
 }
 
 #[tactic(auto, unfolding(crate::specs::Reading::part_at))]
@@ -160,30 +194,38 @@ fn saved_part(alloc: Global, bytes: &[u8]) -> Result<(List<Test>, &[u8]), ReadEr
 
 /// The case of an exit, whether it keeps to its limits, and what is left after it.
 #[tactic(auto, unfolding(crate::specs::Reading::exit_at))]
-pub(crate) fn exit(alloc: Global, bytes: &[u8]) -> Result<(ExitCase, Fit, &[u8]), ReadError>
+pub(crate) fn exit<'a>(
+    alloc: Global,
+    memories: &mut Memories<'a>,
+    bytes: &'a [u8],
+) -> Result<(ExitCase, Fit, &'a [u8]), ReadError>
     ensures read { Gives (λ x. (x.0, x.2.now)) result (exit_at bytes.now) }
     ensures fit { IfOk result (λ x. passes x.1 ≡ fits_exit x.0) }
 {
     let Some((test, rest)) = test_part(bytes) else {
         return Err(ReadError::Refused);
     };
-    let (held, first, rest) = held_part(alloc, rest)?;
-    let (kept, second, rest) = kept_part(alloc, rest)?;
+    let (held, first, rest) = held_part(alloc, &mut memories.held, rest)?;
+    let (kept, second, rest) = kept_part(alloc, &mut memories.kept, rest)?;
     Ok((ExitCase { test, held, kept }, fit_both(first, second), rest))
 }
 
 /// A case, whether it keeps to its limits, and what is left after it.
 #[tactic(auto, unfolding(crate::specs::Reading::case_at))]
-pub(crate) fn case(alloc: Global, bytes: &[u8]) -> Result<(Case, Fit, &[u8]), ReadError>
+pub(crate) fn case<'a>(
+    alloc: Global,
+    memories: &mut Memories<'a>,
+    bytes: &'a [u8],
+) -> Result<(Case, Fit, &'a [u8]), ReadError>
     ensures read { Gives (λ x. (x.0, x.2.now)) result (case_at bytes.now) }
     ensures fit { IfOk result (λ x. passes x.1 ≡ fits_case x.0) }
 {
     let Some((test, rest)) = test_part(bytes) else {
         return Err(ReadError::Refused);
     };
-    let (held, first, rest) = held_part(alloc, rest)?;
-    let (own, second, rest) = own_part(alloc, rest)?;
-    let (kept, third, rest) = kept_part(alloc, rest)?;
+    let (held, first, rest) = held_part(alloc, &mut memories.held, rest)?;
+    let (own, second, rest) = own_part(alloc, &mut memories.own, rest)?;
+    let (kept, third, rest) = kept_part(alloc, &mut memories.kept, rest)?;
     let (saved, rest) = saved_part(alloc, rest)?;
     let case = Case {
         test,

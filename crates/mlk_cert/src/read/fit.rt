@@ -33,3 +33,15 @@ pub(crate) fn fit_both(first: Fit, second: Fit) -> Fit
         (Fit::Yes, Fit::Yes) => Fit::Yes,
     }
 }
+
+impl Fit {
+    /// Whether limits and orders are kept.
+    pub fn is_yes(self) -> bool
+        ensures { result ≡ passes self }
+    {
+        match self {
+            Fit::Yes => true,
+            _ => false,
+        }
+    }
+}

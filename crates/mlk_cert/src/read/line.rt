@@ -14,6 +14,7 @@ use crate::read::case::{exit, mods, terms};
 use crate::read::fault::{Refusal, other_form};
 use crate::read::fit::{Fit, fit_both, fit_of};
 use crate::read::lexeme::{front_of, is_below, number, word_of};
+use crate::read::memory::Memories;
 use mlk_names::LockTerm;
 use mlk_text::lexeme::{ReadError, byte_of};
 use mlk_text::{Code, Failure, List};
@@ -149,6 +150,7 @@ pub(crate) fn is_above(last: Option<&[u8]>, text: &[u8]) -> bool
 #[tactic(auto, unfolding(crate::specs::Blocks::after_at))]
 fn exit_line<'a>(
     alloc: Global,
+    memories: &mut Memories<'a>,
     count: usize,
     last: Option<&[u8]>,
     bytes: &'a [u8],
@@ -156,7 +158,7 @@ fn exit_line<'a>(
     ensures read { Reads (λ x. (x.0.0, x.1.now)) result (after_at exit_at fits_exit (next_exit_fits count (option_map (λ x. x.now) last.entry)) bytes.now) }
     ensures text { IfOk result (λ x. x.0.1.now ≡ exit_text x.0.0) }
 {
-    match exit(alloc, bytes) {
+    match exit(alloc, memories, bytes) {
         Ok((found, fit, rest)) => {
             let text = front_of(bytes, rest);
             let next = fit_of(count < 16, is_above(last, text));
@@ -176,10 +178,11 @@ pub(crate) fn exits(
     ensures { Reads (λ x. (x.0, x.1.now)) result (exits_at bytes.now) }
 {
     let mut found: Vec<ExitCase> = Vec::new(alloc);
+    let mut memories = Memories::new();
     let mut last: Option<&[u8]> = None;
     let mut rest = bytes;
     while let Some(behind) = word_of(b"exit ", rest) {
-        let ((item, text), after) = exit_line(alloc, found.len(), last, behind)?;
+        let ((item, text), after) = exit_line(alloc, &mut memories, found.len(), last, behind)?;
         found.push(item)?;
         last = Some(text);
         rest = after;

@@ -18,6 +18,8 @@ pub(crate) trait Item: Written + Drop + Sized {
 
     ghost before: { Self → Self → Bool };
 
+    ghost fits: { List Self → Bool };
+
     /// The item at the front, and what is left after it.
     fn read(alloc: Global, bytes: &[u8]) -> Result<(Self, &[u8]), ReadError>
         ensures read { Gives (λ x. (x.0, x.1.now)) result (reads bytes.now) }

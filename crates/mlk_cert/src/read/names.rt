@@ -51,6 +51,10 @@ impl Item for NameSet {
 
     ghost before = { names_below };
 
+    ghost use Rattle.mlk_cert.specs.Checks.{fit_mods};
+
+    ghost fits = { fit_mods };
+
     fn read(alloc: Global, bytes: &[u8]) -> Result<(NameSet, &[u8]), ReadError> {
         name_set(alloc, bytes)
     }
@@ -81,6 +85,10 @@ impl Item for Own {
     ghost reads = { own_at };
 
     ghost before = { own_below };
+
+    ghost use Rattle.mlk_cert.specs.Checks.{fit_own};
+
+    ghost fits = { fit_own };
 
     fn read(alloc: Global, bytes: &[u8]) -> Result<(Own, &[u8]), ReadError> {
         own(alloc, bytes)

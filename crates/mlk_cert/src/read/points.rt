@@ -15,6 +15,7 @@ use crate::read::fault::{Refusal, other_form};
 use crate::read::fit::{Fit, fit_both, fit_of};
 use crate::read::lexeme::{counted, front_of, number, word_of};
 use crate::read::line::{is_above, line_end};
+use crate::read::memory::Memories;
 use mlk_text::lexeme::{ReadError, byte_of};
 use mlk_text::{Failure, List};
 use std::alloc::{AllocError, Global};
@@ -55,6 +56,7 @@ fn next_fit(point: Option<&Point>, last: Option<&[u8]>, line: u32, round: u32, t
 #[tactic(auto, unfolding(crate::specs::Blocks::after_at, crate::specs::Blocks::listed_case_at))]
 fn at_line<'a>(
     alloc: Global,
+    memories: &mut Memories<'a>,
     point: Option<&Point>,
     last: Option<&[u8]>,
     bytes: &'a [u8],
@@ -68,7 +70,7 @@ fn at_line<'a>(
     let Some(start) = byte_of(b' ', rest) else {
         return Err(Failure::Refused(other_form(bytes)));
     };
-    match case(alloc, start) {
+    match case(alloc, memories, start) {
         Ok((found, fit, rest)) => {
             let text = front_of(start, rest);
             let next = next_fit(point, last, line, round, text);
@@ -129,10 +131,17 @@ pub(crate) fn points(alloc: Global, bytes: &[u8]) -> Result<(List<Point>, &[u8])
     ensures { Reads (λ x. (x.0, x.1.now)) result (points_at bytes.now) }
 {
     let mut found: Vec<Point> = Vec::new(alloc);
+    let mut memories = Memories::new();
     let mut last: Option<&[u8]> = None;
     let mut rest = bytes;
     while let Some(behind) = word_of(b"at ", rest) {
-        let (listed, text, after) = at_line(alloc, found.as_slice().last(), last, behind)?;
+        let (listed, text, after) = at_line(
+            alloc,
+            &mut memories,
+            found.as_slice().last(),
+            last,
+            behind,
+        )?;
         add(alloc, &mut found, listed)?;
         last = Some(text);
         rest = after;

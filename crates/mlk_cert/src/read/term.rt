@@ -38,6 +38,8 @@ impl Item for KnownSym {
 
     ghost before = { λ _ _. true };
 
+    ghost fits = { λ _. true };
+
     fn read(alloc: Global, bytes: &[u8]) -> Result<(KnownSym, &[u8]), ReadError> {
         symbol(alloc, bytes)
     }
@@ -90,6 +92,10 @@ impl Item for LockTerm {
 
     ghost before = { terms_upto };
 
+    ghost use Rattle.mlk_cert.specs.Checks.{fit_terms};
+
+    ghost fits = { fit_terms };
+
     fn read(alloc: Global, bytes: &[u8]) -> Result<(LockTerm, &[u8]), ReadError> {
         term(alloc, bytes)
     }
@@ -106,6 +112,10 @@ impl Item for Name {
     ghost reads = { name_at };
 
     ghost before = { below };
+
+    ghost use Rattle.mlk_cert.specs.Checks.{fit_kept};
+
+    ghost fits = { fit_kept };
 
     fn read(alloc: Global, bytes: &[u8]) -> Result<(Name, &[u8]), ReadError> {
         name(alloc, bytes)
