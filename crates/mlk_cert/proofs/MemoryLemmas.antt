@@ -1,5 +1,5 @@
 -- Lists that are found again.
-use Rattle.std.proofs.Common.{◌≡◌, ◌-◌, ℕ, ◌++◌, List, ◌∷◌, length, take, Some, Bool, true, refl, sym, ap, ◌∙◌, subst}
+use Rattle.std.proofs.Common.{◌≡◌, ◌-◌, ℕ, ◌++◌, List, ◌∷◌, length, take, Some, Bool, true, sym, ap, ◌∙◌}
 use Rattle.std.specs.Prelude.{Option}
 use Rattle.mlk_text.specs.Lexemes.{byte_at}
 use Rattle.mlk_cert.specs.Reading.{word_at, listed_at}

@@ -11,3 +11,4 @@ pub mod Fitting
 pub mod Memories
 pub mod Faults
 pub mod Refusals
+pub mod Making

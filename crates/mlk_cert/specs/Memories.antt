@@ -1,5 +1,5 @@
 -- Lists that were read, and are not read again where their texts stand again.
-use Rattle.std.specs.Prelude.{ℕ, ◌≡◌, Bool, true, List, ◌∷◌, ◌++◌, Option, Some, None}
+use Rattle.std.specs.Prelude.{ℕ, ◌≡◌, Bool, true, List, ◌∷◌, ◌++◌, Option, Some}
 use Rattle.mlk_cert.specs.Reading.{listed_at}
 
 -- before a space, the text is read as this list, which keeps to its limits

@@ -4,6 +4,7 @@
 mod block;
 mod case;
 mod certificate;
+mod checked;
 mod inclusion;
 mod law;
 mod names;
@@ -14,6 +15,7 @@ mod write;
 pub use block::{EntryCert, Point, Summary};
 pub use case::{Case, ExitCase, Test};
 pub use certificate::Certificate;
+pub use checked::certificate_of;
 pub use inclusion::included;
 pub use law::one_certificate;
 pub use names::{NameSet, Own};

@@ -4,6 +4,6 @@ mod entry;
 mod line;
 pub(crate) mod list;
 pub(crate) mod text;
-mod whole;
+pub(crate) mod whole;
 
 pub use whole::{WriteError, write_cert};

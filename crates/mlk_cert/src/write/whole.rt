@@ -5,6 +5,7 @@ ghost use Rattle.std.specs.Io.KnownBytes.{Appends};
 ghost use Rattle.mlk_cert.specs.Texts.{certificate_text};
 ghost use Rattle.mlk_cert.specs.Writing.{IsTooLong};
 
+use crate::block::EntryCert;
 use crate::certificate::Certificate;
 use crate::write::list::{Written, push_flat};
 use crate::write::text::Text;
@@ -25,12 +26,13 @@ pub enum WriteError {
     Io(io::Error),
 }
 
-fn certificate_text(alloc: Global, certificate: &Certificate) -> Result<Text, AllocError>
-    ensures { IfOk result (λ t. t ≡ certificate_text certificate.now) }
+/// The text of blocks.
+pub(crate) fn certificate_text(alloc: Global, blocks: &[EntryCert]) -> Result<Text, AllocError>
+    ensures { IfOk result (λ t. t ≡ certificate_text blocks.now) }
 {
     let mut text = Text::new(alloc);
     text.push(b"mlock-cert 1\n")?;
-    push_flat(&mut text, certificate.blocks())?;
+    push_flat(&mut text, blocks)?;
     text.push(b"end\n")?;
     Ok(text)
 }
@@ -44,10 +46,10 @@ pub fn write_cert<W: Write>(
     // What is written without a fault is the text.
     ensures written { OnOk result (Appends (W.contents writer.old) (W.contents writer.new) (certificate_text certificate.now)) }
     ensures short { OnOk result (length (certificate_text certificate.now) ≤ 67108864) }
-    // What is refused is too long.
-    ensures refused { IfErr result (IsTooLong certificate.now) }
+    // What is refused is too long, and nothing of it was written.
+    ensures refused { IfErr result (IsTooLong certificate.now writer.old writer.new) }
 {
-    let Ok(text) = certificate_text(alloc, certificate) else {
+    let Ok(text) = certificate_text(alloc, certificate.blocks()) else {
         return Err(WriteError::OutOfMemory);
     };
     if text.as_bytes().len() > LONGEST {

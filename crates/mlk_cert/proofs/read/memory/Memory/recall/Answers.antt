@@ -1,6 +1,6 @@
-use Rattle.std.proofs.Common.{◌≡◌, sym, subst, Some}
-use Rattle.std.specs.Prelude.{IfSome, Option, List}
-use Rattle.mlk_cert.specs.Memories.{Remembers, Recalls}
+use Rattle.std.proofs.Common.{sym, subst}
+use Rattle.std.specs.Prelude.{List}
+use Rattle.mlk_cert.specs.Memories.{Recalls}
 use Rattle.mlk_cert.proofs.MemoryLemmas.{recalled}
 use Rattle.mlk_cert.proofs.read.memory.Memory.recall.Goals as goal
 
