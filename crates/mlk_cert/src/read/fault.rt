@@ -1,7 +1,7 @@
 // Why a certificate text is refused.
 
-ghost use Rattle.std.specs.Prelude.{◌≡◌};
-ghost use Rattle.mlk_cert.specs.Faults.{has_line};
+ghost use Rattle.std.specs.Prelude.{◌≡◌, true};
+ghost use Rattle.mlk_cert.specs.Faults.{has_line, is_refusal};
 
 use mlk_text::Code;
 
@@ -17,6 +17,7 @@ pub struct CertFault {
 pub(crate) struct Refusal {
     pub code: Code,
     pub left: usize,
+    ghost known: { is_refusal code ≡ true },
 }
 
 fn has_line(bytes: &[u8]) -> bool
@@ -32,13 +33,15 @@ fn has_line(bytes: &[u8]) -> bool
 
 /// The fault of a line that has another form: that, or where the line does not end that the text ends too soon.
 pub(crate) fn other_form(bytes: &[u8]) -> Refusal {
-    let code = if has_line(bytes) {
-        Code::Form
-    } else {
-        Code::NoEnd
-    };
+    let left = bytes.len();
+    if has_line(bytes) {
+        return Refusal {
+            code: Code::Form,
+            left,
+        };
+    }
     Refusal {
-        code,
-        left: bytes.len(),
+        code: Code::NoEnd,
+        left,
     }
 }

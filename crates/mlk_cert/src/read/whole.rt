@@ -7,7 +7,7 @@ ghost use Rattle.mlk_cert.specs.Limits.{IsCertificate};
 ghost use Rattle.mlk_cert.specs.Faults.{lines_in};
 ghost use Rattle.mlk_cert.specs.Blocks.{blocks_at, finished, whole_at};
 ghost use Rattle.mlk_cert.specs.Theorem.{Spells};
-ghost use Rattle.mlk_cert.specs.Refusals.{NoCertificate, StandsInside};
+ghost use Rattle.mlk_cert.specs.Refusals.{NoCertificate, IsRefusal, StandsInside};
 
 use crate::block::EntryCert;
 use crate::certificate::Certificate;
@@ -37,13 +37,16 @@ fn lines_in(bytes: &[u8]) -> u32
 // The line of a place; where the text ends too soon, the number of whole lines.
 fn fault_at(bytes: &[u8], refusal: Refusal) -> CertFault
     requires { length bytes.now ≤ 67108864 }
-    ensures { result.line ≤ lines_in bytes.now + 1 }
+    ensures { IsRefusal bytes.now result }
 {
     let (front, _) = bytes.split_at(bytes.len().saturating_sub(refusal.left));
     let lines = lines_in(front);
     let code = refusal.code;
     match code {
-        Code::NoEnd => CertFault { code, line: lines },
+        Code::NoEnd => CertFault {
+            code,
+            line: lines.max(1),
+        },
         _ => CertFault {
             code,
             line: lines + 1,
@@ -89,8 +92,8 @@ pub fn read_cert(alloc: Global, bytes: &[u8]) -> Result<Certificate, Failure<Cer
     ensures only { IfOk result (λ c. (d : List EntryCert) → Spells d bytes.now → d ≡ c) }
     // What is refused, unless memory ran out, is the text of no certificate.
     ensures refused { IfErr result (λ e. NoCertificate bytes.now e) }
-    // A refusal stands on a line of the text, or after its last.
-    ensures line { IfErr result (λ e. StandsInside bytes.now e) }
+    // A refusal has a code of certificates, and stands on a line of the text, or after its last.
+    ensures place { IfErr result (λ e. StandsInside bytes.now e) }
 {
     if bytes.len() > LONGEST {
         return Err(Failure::Refused(CertFault {
