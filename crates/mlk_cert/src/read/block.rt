@@ -80,7 +80,8 @@ fn summary(alloc: Global, bytes: &[u8]) -> Result<(Summary, &[u8]), Failure<Refu
 // Notes a text, and says whether it is new.
 fn is_new(alloc: Global, seen: &mut IndexSet<Vec<u8>>, text: &Value) -> Result<bool, AllocError>
     ensures new { IfOk result (λ b. b ≡ not (has_text (map (λ k. k.items) seen.old.keys) text.now)) }
-    ensures keys { IfOk result (λ b. b ≡ true → map (λ k. k.items) seen.new.keys ≡ map (λ k. k.items) seen.old.keys ++ text.now ∷ []) }
+    ensures keys { IfOk result (λ b. b ≡ true → map (λ k. k.items) seen.new.keys ≡ map
+        (λ k. k.items) seen.old.keys ++ text.now ∷ []) }
 {
     let key = Vec::from_slice(alloc, text.as_bytes())?;
     let new = seen.insert(key)?;
@@ -116,7 +117,8 @@ fn block<'a>(
     bytes: &'a [u8],
 ) -> Result<(EntryCert, &'a [u8]), Failure<Refusal>>
     ensures read { Reads (λ x. (x.0, x.1.now)) result (new_block_at (map (λ k. k.items) seen.old.keys) bytes.now) }
-    ensures keys { IfOk result (λ x. map (λ k. k.items) seen.new.keys ≡ map (λ k. k.items) seen.old.keys ++ x.0.entry ∷ []) }
+    ensures keys { IfOk result (λ x. map (λ k. k.items) seen.new.keys ≡ map
+        (λ k. k.items) seen.old.keys ++ x.0.entry ∷ []) }
 {
     let (entry, rest) = new_entry(alloc, seen, bytes)?;
     let (summary, rest) = summary(alloc, rest)?;

@@ -36,7 +36,8 @@ fn sign(bytes: &[u8]) -> Option<(Test, &[u8])>
 }
 
 fn more_signs(alloc: Global, first: Test, bytes: &[u8]) -> Result<(Vec<Test>, &[u8]), ReadError>
-    ensures { Gives (λ x. (x.0.items, x.1.now)) result (put (first ∷ []) (many sign_at keep (suc (length bytes.now)) bytes.now)) }
+    ensures { Gives (λ x. (x.0.items, x.1.now)) result (put (first ∷ []) (many sign_at keep (suc
+        (length bytes.now)) bytes.now)) }
 {
     let mut found = Vec::new(alloc);
     found.push(first)?;

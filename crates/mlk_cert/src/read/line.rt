@@ -52,7 +52,8 @@ pub(crate) fn need_line(
     alloc: Global,
     bytes: &[u8],
 ) -> Result<(List<LockTerm>, &[u8]), Failure<Refusal>>
-    ensures { Reads (λ x. (x.0, x.1.now)) result (part_at (codes "need ") (rest_at (listed_at term_at) fit_terms) bytes.now) }
+    ensures { Reads (λ x. (x.0, x.1.now)) result (part_at (codes "need ") (rest_at
+        (listed_at term_at) fit_terms) bytes.now) }
 {
     let Some(rest) = word_of(b"need ", bytes) else {
         return Err(Failure::Refused(other_form(bytes)));
@@ -124,7 +125,8 @@ pub(crate) fn mods_line(
     alloc: Global,
     bytes: &[u8],
 ) -> Result<(List<NameSet>, &[u8]), Failure<Refusal>>
-    ensures { Reads (λ x. (x.0, x.1.now)) result (part_at (codes "mods ") (rest_at (listed_at names_at) fit_mods) bytes.now) }
+    ensures { Reads (λ x. (x.0, x.1.now)) result (part_at (codes "mods ") (rest_at
+        (listed_at names_at) fit_mods) bytes.now) }
 {
     let Some(rest) = word_of(b"mods ", bytes) else {
         return Err(Failure::Refused(other_form(bytes)));
@@ -155,7 +157,8 @@ fn exit_line<'a>(
     last: Option<&[u8]>,
     bytes: &'a [u8],
 ) -> Result<((ExitCase, &'a [u8]), &'a [u8]), Failure<Refusal>>
-    ensures read { Reads (λ x. (x.0.0, x.1.now)) result (after_at exit_at fits_exit (next_exit_fits count (option_map (λ x. x.now) last.entry)) bytes.now) }
+    ensures read { Reads (λ x. (x.0.0, x.1.now)) result (after_at exit_at fits_exit (next_exit_fits count
+        (option_map (λ x. x.now) last.entry)) bytes.now) }
     ensures text { IfOk result (λ x. x.0.1.now ≡ exit_text x.0.0) }
 {
     match exit(alloc, memories, bytes) {

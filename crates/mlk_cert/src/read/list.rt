@@ -47,7 +47,8 @@ fn more_items<'a, T: Item>(
     bytes: &'a [u8],
 ) -> Result<(Vec<T>, bool, &'a [u8]), ReadError>
     requires { first_text.now ≡ T.written first }
-    ensures read { Gives (λ x. (x.0.items, x.2.now)) result (put (first ∷ []) (many (byte_at between) (next T.reads) (suc (length bytes.now)) bytes.now)) }
+    ensures read { Gives (λ x. (x.0.items, x.2.now)) result (put (first ∷ []) (many (byte_at between)
+        (next T.reads) (suc (length bytes.now)) bytes.now)) }
     ensures order { IfOk result (λ x. x.1 ≡ ascends T.before x.0.items) }
 {
     let mut found = Vec::new(alloc);

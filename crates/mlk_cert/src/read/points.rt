@@ -38,7 +38,8 @@ fn place(bytes: &[u8]) -> Option<((u32, u32), &[u8])>
 
 // Whether a case of this text may stand next at a place.
 fn next_fit(point: Option<&Point>, last: Option<&[u8]>, line: u32, round: u32, text: &[u8]) -> Fit
-    ensures { passes result ≡ next_case_fits (option_copied point.entry) (option_map (λ x. x.now) last.entry) line round text.now }
+    ensures { passes result ≡ next_case_fits (option_copied point.entry) (option_map
+        (λ x. x.now) last.entry) line round text.now }
 {
     let Some(point) = point else {
         return Fit::Yes;
@@ -61,7 +62,9 @@ fn at_line<'a>(
     last: Option<&[u8]>,
     bytes: &'a [u8],
 ) -> Result<((u32, u32, Case), &'a [u8], &'a [u8]), Failure<Refusal>>
-    ensures read { Reads (λ x. (x.0, x.2.now)) result (after_at listed_case_at fits_listed (λ l. next_case_fits (option_copied point.entry) (option_map (λ x. x.now) last.entry) l.0 l.1 (case_text l.2)) bytes.now) }
+    ensures read { Reads (λ x. (x.0, x.2.now)) result (after_at listed_case_at fits_listed
+        (λ l. next_case_fits (option_copied point.entry) (option_map (λ x. x.now) last.entry) l.0 l.1
+        (case_text l.2)) bytes.now) }
     ensures text { IfOk result (λ x. x.1.now ≡ case_text x.0.2) }
 {
     let Some(((line, round), rest)) = place(bytes) else {

@@ -69,7 +69,8 @@ fn push_drops(text: &mut Text, drops: bool) -> Result<(), AllocError>
 
 // What a caller must hold, and the least rank.
 fn push_need(text: &mut Text, summary: &Summary) -> Result<(), AllocError>
-    ensures { OnOk result (text.new ≡ text.old ++ (line (codes "need ") (listed term_text summary.now.need) ++ line (codes "low ") (low_text summary.now.low))) }
+    ensures { OnOk result (text.new ≡ text.old ++ (line (codes "need ")
+        (listed term_text summary.now.need) ++ line (codes "low ") (low_text summary.now.low))) }
 {
     text.push(b"need ")?;
     push_listed(text, summary.need.as_slice())?;
@@ -81,7 +82,8 @@ fn push_need(text: &mut Text, summary: &Summary) -> Result<(), AllocError>
 
 // Whether all locks may be released, and the names that may change.
 fn push_changes(text: &mut Text, summary: &Summary) -> Result<(), AllocError>
-    ensures { OnOk result (text.new ≡ text.old ++ (line (codes "drops ") (drops_text summary.now.drops) ++ line (codes "mods ") (listed names_text summary.now.mods))) }
+    ensures { OnOk result (text.new ≡ text.old ++ (line (codes "drops ")
+        (drops_text summary.now.drops) ++ line (codes "mods ") (listed names_text summary.now.mods))) }
 {
     text.push(b"drops ")?;
     push_drops(text, summary.drops)?;

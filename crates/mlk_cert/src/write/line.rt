@@ -171,7 +171,8 @@ fn push_saved(text: &mut Text, tests: &[Test]) -> Result<(), AllocError>
 
 // What is said of `$TEST`, and the held locks.
 fn push_front(text: &mut Text, test: Test, held: &[LockTerm]) -> Result<(), AllocError>
-    ensures { OnOk result (text.new ≡ text.old ++ (codes "T=" ++ (sign test ∷ (codes " H=" ++ listed term_text held.now)))) }
+    ensures { OnOk result (text.new ≡ text.old ++ (codes "T=" ++ (sign test ∷
+        (codes " H=" ++ listed term_text held.now)))) }
 {
     text.push(b"T=")?;
     text.push_byte(sign(test))?;
@@ -192,7 +193,8 @@ pub(crate) fn push_exit(text: &mut Text, exit: &ExitCase) -> Result<(), AllocErr
 
 // New and kept names.
 fn push_names(text: &mut Text, own: &[Own], kept: &[Name]) -> Result<(), AllocError>
-    ensures { OnOk result (text.new ≡ text.old ++ (codes " O=" ++ (listed own_text own.now ++ (codes " K=" ++ listed name_text kept.now)))) }
+    ensures { OnOk result (text.new ≡ text.old ++ (codes " O=" ++ (listed own_text own.now ++
+        (codes " K=" ++ listed name_text kept.now)))) }
 {
     text.push(b" O=")?;
     push_listed(text, own)?;

@@ -44,7 +44,8 @@ pub fn write_cert<W: Write>(
     writer: &mut W,
 ) -> Result<(), WriteError>
     // What is written without a fault is the text.
-    ensures written { OnOk result (Appends (W.contents writer.old) (W.contents writer.new) (certificate_text certificate.now)) }
+    ensures written { OnOk result (Appends (W.contents writer.old) (W.contents writer.new)
+        (certificate_text certificate.now)) }
     ensures short { OnOk result (length (certificate_text certificate.now) ≤ 67108864) }
     // What is refused is too long, and nothing of it was written.
     ensures refused { IfErr result (IsTooLong certificate.now writer.old writer.new) }
