@@ -156,9 +156,6 @@ next_case_fits None last line round text = true
 next_case_fits (Some p) last line round text =
     if (p.line == line) && (p.round == round) then nat_lt (length p.cases) 16 && above_last last text else (nat_lt p.line line || ((p.line == line) && nat_lt p.round round))
 
-abbrev pub next_listed_fits : List Point → Option (List ℕ) → Listed → Bool
-next_listed_fits points last l = next_case_fits (last_of points) last l.0 l.1 (case_text l.2)
-
 -- the rest of a line, which passes a test and may stand after what stands in front
 unfoldable pub after_at : {A : Type 0} → (List ℕ → Option (A × List ℕ)) → (A → Bool) → (A → Bool) → List ℕ → Option (A × List ℕ)
 after_at item test step xs = item xs >>= λ r. ended r.0 (test r.0 && step r.0) r.1

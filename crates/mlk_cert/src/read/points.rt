@@ -6,7 +6,7 @@ ghost use Rattle.mlk_cert.specs.Checks.{fits_case};
 ghost use Rattle.mlk_cert.specs.Fitting.{passes};
 ghost use Rattle.mlk_cert.specs.Lists.{last_of};
 ghost use Rattle.mlk_cert.specs.Texts.{case_text};
-ghost use Rattle.mlk_cert.specs.Blocks.{place_at, listed_case_at, fits_listed, after_at, add_case, point_of, with_case, next_case_fits, next_listed_fits, points_at};
+ghost use Rattle.mlk_cert.specs.Blocks.{place_at, listed_case_at, fits_listed, after_at, add_case, point_of, with_case, next_case_fits, points_at};
 
 use crate::block::Point;
 use crate::case::Case;
