@@ -1,0 +1,16 @@
+pub mod Examples
+pub mod Formats
+pub mod NumberFormats
+pub mod NameFormats
+pub mod TermFormats
+pub mod CaseFormats
+pub mod LineFormats
+pub mod Grouping
+pub mod Goods
+pub mod BlockFormats
+pub mod Whole
+pub mod Room
+pub mod Loops
+pub mod PointLoops
+pub mod BlockLoops
+pub mod MemoryLemmas

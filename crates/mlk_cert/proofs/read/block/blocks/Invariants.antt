@@ -1,0 +1,16 @@
+use Rattle.std.proofs.Common.{◌≡◌, ◌<◌, ℕ, [], suc, length, codes, true, map}
+use Rattle.mlk_text.specs.Reading.{many, put}
+use Rattle.mlk_cert.specs.Checks.{fit_blocks, entries}
+use Rattle.mlk_cert.specs.Reading.{word_at}
+use Rattle.mlk_cert.specs.Blocks.{block_at}
+use Rattle.mlk_cert.proofs.read.block.blocks.Given as goal
+
+abbrev pub invariant-loop-after : goal.invariant-loop-after
+invariant-loop-after l = record {
+  reading : (n : ℕ) × (length l.rest < n) × (put l.found.items (many (word_at (codes "entry ")) (λ w. block_at) n l.rest) ≡ put [] (many (word_at (codes "entry ")) (λ w. block_at) (suc (length l.bytes)) l.bytes));
+  fits : fit_blocks l.found.items ≡ true;
+  keys : map (λ k. k.items) l.seen.keys ≡ entries l.found.items;
+}
+
+abbrev pub decreases-loop-after : goal.decreases-loop-after
+decreases-loop-after l = length l.rest

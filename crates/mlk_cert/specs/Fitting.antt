@@ -1,0 +1,9 @@
+-- Whether what was read keeps to limits and orders.
+use Rattle.std.specs.Prelude.{Bool, true, false}
+use Rattle.mlk_cert.specs.declared.read.fit.Fit.{Fit}
+use Rattle.mlk_cert.specs.declared.read.fit.Fit.TheVariants.{Yes, Limit, Order}
+
+abbrev pub passes : Fit → Bool
+passes Yes = true
+passes Limit = false
+passes Order = false

@@ -1,0 +1,14 @@
+pub mod Lists
+pub mod Inclusion
+pub mod Texts
+pub mod Limits
+pub mod Reading
+pub mod Checks
+pub mod Blocks
+pub mod Theorem
+pub mod Writing
+pub mod Fitting
+pub mod Memories
+pub mod Faults
+pub mod Refusals
+pub mod Making

@@ -1,0 +1,40 @@
+// What a certificate says of an entry.
+
+use crate::case::{Case, ExitCase};
+use crate::names::NameSet;
+use mlk_names::LockTerm;
+use mlk_text::{List, Value};
+
+/// What a caller may rely on, and what it must give.
+#[derive(Drop)]
+pub struct Summary {
+    /// The locks that a caller must hold, each as often as it stands here.
+    pub need: List<LockTerm>,
+    /// The cases in which the call may end.
+    pub exits: List<ExitCase>,
+    /// The names of the caller that the call may change.
+    pub mods: List<NameSet>,
+    /// The least rank that an untimed claim of the call may have; none where it makes no such claim.
+    pub low: Option<u32>,
+    /// Whether the call may release all locks at once.
+    pub drops: bool,
+}
+
+/// A point of a routine and the cases that are listed for it.
+#[derive(Drop)]
+pub struct Point {
+    /// The line, counted from 1.
+    pub line: u32,
+    /// 0 for the start of the line, else which FOR of the line.
+    pub round: u32,
+    pub cases: List<Case>,
+}
+
+/// What a certificate says of one entry.
+#[derive(Drop)]
+pub struct EntryCert {
+    /// The entry's text, `LABEL^ROUTINE` or `^ROUTINE`.
+    pub entry: Value,
+    pub summary: Summary,
+    pub points: List<Point>,
+}

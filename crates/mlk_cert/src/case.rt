@@ -1,0 +1,41 @@
+// Cases: what is said of a job.
+
+use crate::names::Own;
+use crate::shared::Shared;
+use mlk_names::LockTerm;
+use mlk_text::{List, Name};
+
+/// What is said of `$TEST`.
+#[derive(Clone, Copy, Debug, PartialEq, Eq)]
+pub enum Test {
+    /// `*`: either value
+    Any,
+    /// `0`
+    Zero,
+    /// `1`
+    One,
+}
+
+/// What is said of a job at the start of a line, or of a round of a FOR.
+#[derive(Drop)]
+pub struct Case {
+    pub test: Test,
+    /// The locks that this call holds, each as often as it holds them.
+    pub held: Shared<LockTerm>,
+    /// The names that were made new since the call began, and still are.
+    pub own: Shared<Own>,
+    /// The names that have the values of the call's begin.
+    pub kept: Shared<Name>,
+    /// What is said of the `$TEST` of each open block, the outermost first.
+    pub saved: List<Test>,
+}
+
+/// What is said of a job at the end of a call.
+#[derive(Drop)]
+pub struct ExitCase {
+    pub test: Test,
+    /// The locks that the call leaves held.
+    pub held: Shared<LockTerm>,
+    /// The names that have the values of the call's begin.
+    pub kept: Shared<Name>,
+}

@@ -1,0 +1,24 @@
+//! Certificates: what is said of jobs at each point of a routine, and the one text that says it.
+#![tactic(auto)]
+
+mod block;
+mod case;
+mod certificate;
+mod checked;
+mod inclusion;
+mod law;
+mod names;
+mod read;
+mod shared;
+mod write;
+
+pub use block::{EntryCert, Point, Summary};
+pub use case::{Case, ExitCase, Test};
+pub use certificate::Certificate;
+pub use checked::certificate_of;
+pub use inclusion::included;
+pub use law::one_certificate;
+pub use names::{NameSet, Own};
+pub use read::{CertFault, read_cert};
+pub use shared::Shared;
+pub use write::{WriteError, write_cert};

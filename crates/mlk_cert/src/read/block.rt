@@ -1,0 +1,151 @@
+// Blocks of entries, read.
+
+ghost use Rattle.std.specs.Prelude.{◌≡◌, ◌++◌, ◌∷◌, [], List, ℕ, IfOk, OnOk, map, codes, not, true};
+ghost use Rattle.mlk_text.specs.Failures.{Reads};
+ghost use Rattle.mlk_text.specs.Failures.{Reads};
+ghost use Rattle.mlk_cert.specs.Checks.{has_text, fits};
+ghost use Rattle.mlk_cert.specs.Blocks.{rest_at, label_at, entry_at, summary_at, points_at, block_at, new_entry_at, new_block_at, blocks_at};
+
+use crate::block::{EntryCert, Summary};
+use crate::read::fault::{Refusal, other_form};
+use crate::read::fit::Fit;
+use crate::read::lexeme::word_of;
+use crate::read::line::{drops_line, exits, line_end, low_line, mods_line, need_line};
+use crate::read::points::points;
+use indexmap::IndexSet;
+use mlk_text::lexeme::{byte_of, digits};
+use mlk_text::spelling::name;
+use mlk_text::{Code, Failure, NotThere, Value};
+use std::alloc::{AllocError, Global};
+
+#[tactic(auto, unfolding(crate::specs::Blocks::label_at, mlk_text::specs::Lexemes::digits_at))]
+fn label(alloc: Global, bytes: &[u8]) -> Result<(Vec<u8>, &[u8]), Failure<NotThere>>
+    ensures { Reads (λ x. (x.0.items, x.1.now)) result (label_at bytes.now) }
+{
+    if byte_of(b'^', bytes).is_some() {
+        return Ok((Vec::new(alloc), bytes));
+    }
+    let n = digits(bytes);
+    if n == 0 {
+        let (name, rest) = name(alloc, bytes)?;
+        return Ok((name.into_bytes(), rest));
+    }
+    let (text, rest) = bytes.split_at(n);
+    Ok((Vec::from_slice(alloc, text)?, rest))
+}
+
+#[tactic(auto, unfolding(crate::specs::Blocks::entry_at))]
+fn entry(alloc: Global, bytes: &[u8]) -> Result<(Value, &[u8]), Failure<NotThere>>
+    ensures { Reads (λ x. (x.0, x.1.now)) result (entry_at bytes.now) }
+{
+    let (mut text, rest) = label(alloc, bytes)?;
+    let Some(rest) = byte_of(b'^', rest) else {
+        return Err(Failure::Refused(NotThere));
+    };
+    let (routine, rest) = name(alloc, rest)?;
+    text.push(b'^')?;
+    text.extend_from_slice(routine.as_bytes())?;
+    Ok((Value::new(text), rest))
+}
+
+#[tactic(auto, unfolding(crate::specs::Blocks::rest_at))]
+fn entry_line(alloc: Global, bytes: &[u8]) -> Result<(Value, &[u8]), Failure<Refusal>>
+    ensures { Reads (λ x. (x.0, x.1.now)) result (rest_at entry_at fits bytes.now) }
+{
+    match entry(alloc, bytes) {
+        Ok((found, rest)) => line_end(found, Fit::Yes, rest, bytes),
+        Err(Failure::OutOfMemory) => Err(Failure::OutOfMemory),
+        Err(Failure::Refused(_)) => Err(Failure::Refused(other_form(bytes))),
+    }
+}
+
+#[tactic(auto, unfolding(crate::specs::Blocks::summary_at))]
+fn summary(alloc: Global, bytes: &[u8]) -> Result<(Summary, &[u8]), Failure<Refusal>>
+    ensures { Reads (λ x. (x.0, x.1.now)) result (summary_at bytes.now) }
+{
+    let (need, rest) = need_line(alloc, bytes)?;
+    let (low, rest) = low_line(rest)?;
+    let (drops, rest) = drops_line(rest)?;
+    let (mods, rest) = mods_line(alloc, rest)?;
+    let (exits, rest) = exits(alloc, rest)?;
+    let summary = Summary {
+        need,
+        exits,
+        mods,
+        low,
+        drops,
+    };
+    Ok((summary, rest))
+}
+
+// Notes a text, and says whether it is new.
+fn is_new(alloc: Global, seen: &mut IndexSet<Vec<u8>>, text: &Value) -> Result<bool, AllocError>
+    ensures new { IfOk result (λ b. b ≡ not (has_text (map (λ k. k.items) seen.old.keys) text.now)) }
+    ensures keys { IfOk result (λ b. b ≡ true → map (λ k. k.items) seen.new.keys ≡ map
+        (λ k. k.items) seen.old.keys ++ text.now ∷ []) }
+{
+    let key = Vec::from_slice(alloc, text.as_bytes())?;
+    let new = seen.insert(key)?;
+    Ok(new)
+}
+
+// The line of an entry, whose text must be new.
+#[tactic(auto, unfolding(crate::specs::Blocks::new_entry_at))]
+fn new_entry<'a>(
+    alloc: Global,
+    seen: &mut IndexSet<Vec<u8>>,
+    bytes: &'a [u8],
+) -> Result<(Value, &'a [u8]), Failure<Refusal>>
+    ensures read { Reads (λ x. (x.0, x.1.now)) result (new_entry_at (map (λ k. k.items) seen.old.keys) bytes.now) }
+    ensures keys { IfOk result (λ x. map (λ k. k.items) seen.new.keys ≡ map (λ k. k.items) seen.old.keys ++ x.0 ∷ []) }
+{
+    let (entry, rest) = entry_line(alloc, bytes)?;
+    let new = is_new(alloc, seen, &entry)?;
+    if new {
+        return Ok((entry, rest));
+    }
+    Err(Failure::Refused(Refusal {
+        code: Code::EntryTwice,
+        left: bytes.len(),
+    }))
+}
+
+// A block after its word, whose entry must be new.
+#[tactic(auto, unfolding(crate::specs::Blocks::new_block_at))]
+fn block<'a>(
+    alloc: Global,
+    seen: &mut IndexSet<Vec<u8>>,
+    bytes: &'a [u8],
+) -> Result<(EntryCert, &'a [u8]), Failure<Refusal>>
+    ensures read { Reads (λ x. (x.0, x.1.now)) result (new_block_at (map (λ k. k.items) seen.old.keys) bytes.now) }
+    ensures keys { IfOk result (λ x. map (λ k. k.items) seen.new.keys ≡ map
+        (λ k. k.items) seen.old.keys ++ x.0.entry ∷ []) }
+{
+    let (entry, rest) = new_entry(alloc, seen, bytes)?;
+    let (summary, rest) = summary(alloc, rest)?;
+    let (points, rest) = points(alloc, rest)?;
+    let block = EntryCert {
+        entry,
+        summary,
+        points,
+    };
+    Ok((block, rest))
+}
+
+/// The blocks at the front, and what is left after them.
+pub(crate) fn blocks(
+    alloc: Global,
+    bytes: &[u8],
+) -> Result<(Vec<EntryCert>, &[u8]), Failure<Refusal>>
+    ensures { Reads (λ x. (x.0.items, x.1.now)) result (blocks_at bytes.now) }
+{
+    let mut seen: IndexSet<Vec<u8>> = IndexSet::new(alloc);
+    let mut found: Vec<EntryCert> = Vec::new(alloc);
+    let mut rest = bytes;
+    while let Some(after) = word_of(b"entry ", rest) {
+        let (item, after) = block(alloc, &mut seen, after)?;
+        found.push(item)?;
+        rest = after;
+    }
+    Ok((found, rest))
+}

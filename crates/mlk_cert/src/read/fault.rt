@@ -1,0 +1,47 @@
+// Why a certificate text is refused.
+
+ghost use Rattle.std.specs.Prelude.{◌≡◌, true};
+ghost use Rattle.mlk_cert.specs.Faults.{has_line, is_refusal};
+
+use mlk_text::Code;
+
+/// A fault of a certificate's text, on a line that is counted from 1.
+#[derive(Drop, Debug)]
+pub struct CertFault {
+    pub code: Code,
+    pub line: u32,
+}
+
+/// A fault, and how many bytes are left at its place.
+#[derive(Drop, Debug)]
+pub(crate) struct Refusal {
+    pub code: Code,
+    pub left: usize,
+    ghost known: { is_refusal code ≡ true },
+}
+
+fn has_line(bytes: &[u8]) -> bool
+    ensures { result ≡ has_line bytes.now }
+{
+    for b in bytes {
+        if *b == b'\n' {
+            return true;
+        }
+    }
+    false
+}
+
+/// The fault of a line that has another form: that, or where the line does not end that the text ends too soon.
+pub(crate) fn other_form(bytes: &[u8]) -> Refusal {
+    let left = bytes.len();
+    if has_line(bytes) {
+        return Refusal {
+            code: Code::Form,
+            left,
+        };
+    }
+    Refusal {
+        code: Code::NoEnd,
+        left,
+    }
+}

@@ -1,0 +1,47 @@
+// Whether what was read keeps to limits and orders.
+
+ghost use Rattle.std.specs.Prelude.{◌≡◌, ◌&&◌};
+ghost use Rattle.mlk_cert.specs.Fitting.{passes};
+
+/// Whether limits and orders are kept; of both, a broken limit is told.
+#[derive(Clone, Copy)]
+pub(crate) enum Fit {
+    Yes,
+    Limit,
+    Order,
+}
+
+/// The answer for a list.
+pub(crate) fn fit_of(few: bool, ordered: bool) -> Fit
+    ensures { passes result ≡ (few && ordered) }
+{
+    if !few {
+        return Fit::Limit;
+    }
+    if ordered { Fit::Yes } else { Fit::Order }
+}
+
+/// The answer for two parts.
+pub(crate) fn fit_both(first: Fit, second: Fit) -> Fit
+    ensures { passes result ≡ (passes first && passes second) }
+{
+    match (first, second) {
+        (Fit::Limit, _) => Fit::Limit,
+        (_, Fit::Limit) => Fit::Limit,
+        (Fit::Order, _) => Fit::Order,
+        (_, Fit::Order) => Fit::Order,
+        (Fit::Yes, Fit::Yes) => Fit::Yes,
+    }
+}
+
+impl Fit {
+    /// Whether limits and orders are kept.
+    pub fn is_yes(self) -> bool
+        ensures { result ≡ passes self }
+    {
+        match self {
+            Fit::Yes => true,
+            _ => false,
+        }
+    }
+}

@@ -1,0 +1,85 @@
+// Lists that stand on many lines, and are kept once.
+
+ghost use Rattle.std.specs.Prelude.{◌≡◌, ◌++◌, ◌∷◌, IfOk, IfSome};
+ghost use Rattle.mlk_cert.specs.Memories.{Remembers, Recalls};
+
+use crate::names::Own;
+use crate::read::lexeme::word_of;
+use crate::read::list::Item;
+use crate::shared::Shared;
+use mlk_names::LockTerm;
+use mlk_text::Name;
+use mlk_text::lexeme::byte_of;
+use std::alloc::AllocError;
+use std::marker::Model;
+
+// A list, and its text.
+#[derive(Drop)]
+struct Known<'a, T> {
+    list: Shared<T>,
+    text: &'a [u8],
+}
+
+/// The last list that was read at one place of a line.
+#[derive(Drop)]
+pub(crate) struct Memory<'a, T: Item> {
+    last: Option<Known<'a, T>>,
+}
+
+impl<'a, T: Item> Model for Memory<'a, T> {
+    ghost use Rattle.std.specs.Prelude.{ℕ, IfSome};
+    ghost use Rattle.mlk_cert.specs.Memories.{Remembers};
+
+    ghost Value = { ℕ };
+
+    ghost view = { λ _. 0 };
+
+    ghost invariant = { λ m. IfSome m.last (λ k. Remembers T.reads T.fits k.list k.text.now) };
+}
+
+impl<'a, T: Item> Memory<'a, T> {
+    pub fn new() -> Memory<'a, T> {
+        Memory { last: None }
+    }
+
+    /// The list at the front, where its text is the one of the last, and what is left after it.
+    pub fn recall<'b>(&self, bytes: &'b [u8]) -> Result<Option<(Shared<T>, &'b [u8])>, AllocError>
+        ensures { IfOk result (λ o. IfSome o (λ x. Recalls T.reads T.fits bytes.now x.0 x.1.now)) }
+    {
+        let Some(known) = &self.last else {
+            return Ok(None);
+        };
+        let Some(rest) = word_of(known.text, bytes) else {
+            return Ok(None);
+        };
+        let Some(_) = byte_of(b' ', rest) else {
+            return Ok(None);
+        };
+        Ok(Some((known.list.clone()?, rest)))
+    }
+
+    /// Notes a list and its text.
+    pub fn note(&mut self, list: Shared<T>, text: &'a [u8])
+        requires { Remembers T.reads T.fits list text.now }
+    {
+        self.last = Some(Known { list, text });
+    }
+}
+
+/// The last lists of a case.
+#[derive(Drop)]
+pub(crate) struct Memories<'a> {
+    pub held: Memory<'a, LockTerm>,
+    pub own: Memory<'a, Own>,
+    pub kept: Memory<'a, Name>,
+}
+
+impl<'a> Memories<'a> {
+    pub fn new() -> Memories<'a> {
+        Memories {
+            held: Memory::new(),
+            own: Memory::new(),
+            kept: Memory::new(),
+        }
+    }
+}

@@ -1,0 +1,55 @@
+// Lists that stand at many places and are kept once.
+
+ghost use Rattle.std.specs.Prelude.{◌≡◌, IfOk};
+
+use mlk_text::List;
+use std::alloc::{AllocError, Global};
+use std::marker::Model;
+use std::sync::Arc;
+
+/// A list that several owners may share; it never changes. A contract sees the list of its elements.
+#[derive(Drop)]
+pub struct Shared<T> {
+    list: Arc<List<T>>,
+}
+
+impl<T> Model for Shared<T> {
+    ghost use Rattle.std.specs.Prelude.{List as Elements};
+    ghost use Rattle.std.specs.Coded.{coded_list};
+
+    ghost Value = { Elements T };
+
+    ghost coded = { coded_list T.code };
+
+    ghost view = { λ s. s.list.value };
+}
+
+impl<T: Drop> Shared<T> {
+    /// The elements of a vector, with one owner.
+    pub fn new(alloc: Global, items: Vec<T>) -> Result<Shared<T>, AllocError>
+        ensures { IfOk result (λ s. s ≡ items.items) }
+    {
+        let list = Arc::new(alloc, List::of(items))?;
+        Ok(Shared { list })
+    }
+}
+
+impl<T: Drop> Shared<T> {
+    /// The elements as a slice.
+    pub fn as_slice(&self) -> &[T]
+        ensures { result.now ≡ self.now }
+    {
+        let list: &List<T> = &self.list;
+        list.as_slice()
+    }
+}
+
+impl<T: Drop> Clone for Shared<T> {
+    ghost is_clone = { λ source clone. clone ≡ source };
+
+    fn clone(&self) -> Result<Shared<T>, AllocError> {
+        Ok(Shared {
+            list: self.list.clone()?,
+        })
+    }
+}

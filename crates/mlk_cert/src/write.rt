@@ -1,0 +1,9 @@
+//! The writer of certificates.
+
+mod entry;
+mod line;
+pub(crate) mod list;
+pub(crate) mod text;
+pub(crate) mod whole;
+
+pub use whole::{WriteError, write_cert};

@@ -1,0 +1,215 @@
+// Terms, names and cases, written.
+
+ghost use Rattle.std.specs.Prelude.{◌≡◌, ◌++◌, ◌∷◌, ◌<◌, OnOk, codes};
+ghost use Rattle.mlk_cert.specs.Texts.{listed, hex, byte_text, constant_text, symbol_text, subs_text, root_text, term_text, names_text, own_text, name_text, sign, sign_text, saved_text, case_text, exit_text};
+
+use crate::case::{Case, ExitCase, Test};
+use crate::names::{NameSet, Own};
+use crate::write::list::{Written, push_flat, push_joined, push_listed, push_more};
+use crate::write::text::Text;
+use mlk_names::{KnownSym, LockTerm, Root};
+use mlk_text::Name;
+use std::alloc::AllocError;
+
+fn hex(digit: u8) -> u8
+    requires { digit < 16 }
+    ensures { result ≡ hex digit }
+{
+    if digit < 10 { digit + b'0' } else { digit + 87 }
+}
+
+#[tactic(auto, unfolding(crate::specs::Texts::byte_text))]
+fn push_value_byte(text: &mut Text, byte: u8) -> Result<(), AllocError>
+    ensures { OnOk result (text.new ≡ text.old ++ byte_text byte) }
+{
+    if 32 <= byte && byte <= 126 && byte != b'"' && byte != b'\\' {
+        text.push_byte(byte)?;
+        return Ok(());
+    }
+    if byte == b'"' {
+        text.push(b"\"\"")?;
+        return Ok(());
+    }
+    let coded = [b'\\', hex(byte / 16), hex(byte % 16)];
+    text.push(&coded)?;
+    Ok(())
+}
+
+fn push_value(text: &mut Text, value: &[u8]) -> Result<(), AllocError>
+    ensures { OnOk result (text.new ≡ text.old ++ constant_text value.now) }
+{
+    text.push_byte(b'"')?;
+    for byte in value {
+        push_value_byte(text, *byte)?;
+    }
+    text.push_byte(b'"')?;
+    Ok(())
+}
+
+impl Written for Name {
+    ghost use Rattle.mlk_cert.specs.Texts.{name_text};
+
+    ghost written = { name_text };
+
+    fn push_to(&self, text: &mut Text) -> Result<(), AllocError> {
+        text.push(self.as_bytes())
+    }
+}
+
+impl Written for KnownSym {
+    ghost use Rattle.mlk_cert.specs.Texts.{symbol_text};
+
+    ghost written = { symbol_text };
+
+    fn push_to(&self, text: &mut Text) -> Result<(), AllocError> {
+        match self {
+            KnownSym::Const(value) => push_value(text, value.as_bytes()),
+            KnownSym::Local(name) => text.push(name.as_bytes()),
+            KnownSym::Job => text.push(b"$J"),
+        }
+    }
+}
+
+fn push_root(text: &mut Text, root: &Root) -> Result<(), AllocError>
+    ensures { OnOk result (text.new ≡ text.old ++ root_text root.now) }
+{
+    match root {
+        Root::Global(name) => {
+            text.push_byte(b'^')?;
+            text.push(name.as_bytes())
+        }
+        Root::Local(name) => text.push(name.as_bytes()),
+    }
+}
+
+fn push_subs(text: &mut Text, subs: &[KnownSym]) -> Result<(), AllocError>
+    ensures { OnOk result (text.new ≡ text.old ++ subs_text subs.now) }
+{
+    let Some((first, others)) = subs.split_first() else {
+        return Ok(());
+    };
+    text.push_byte(b'(')?;
+    first.push_to(text)?;
+    push_more(text, b',', others)?;
+    text.push_byte(b')')?;
+    Ok(())
+}
+
+impl Written for LockTerm {
+    ghost use Rattle.mlk_cert.specs.Texts.{term_text};
+
+    ghost written = { term_text };
+
+    fn push_to(&self, text: &mut Text) -> Result<(), AllocError> {
+        push_root(text, &self.root)?;
+        push_subs(text, self.subs.as_slice())?;
+        Ok(())
+    }
+}
+
+impl Written for NameSet {
+    ghost use Rattle.mlk_cert.specs.Texts.{names_text};
+
+    ghost written = { names_text };
+
+    fn push_to(&self, text: &mut Text) -> Result<(), AllocError> {
+        match self {
+            NameSet::Only(name) => text.push(name.as_bytes()),
+            NameSet::AllBut(names) => {
+                text.push(b"~(")?;
+                push_joined(text, b',', names.as_slice())?;
+                text.push(b")")
+            }
+        }
+    }
+}
+
+impl Written for Own {
+    ghost use Rattle.mlk_cert.specs.Texts.{own_text};
+
+    ghost written = { own_text };
+
+    fn push_to(&self, text: &mut Text) -> Result<(), AllocError> {
+        text.push_number(self.level)?;
+        text.push_byte(b':')?;
+        self.names.push_to(text)?;
+        Ok(())
+    }
+}
+
+fn sign(test: Test) -> u8
+    ensures { result ≡ sign test }
+{
+    match test {
+        Test::Any => b'*',
+        Test::Zero => b'0',
+        Test::One => b'1',
+    }
+}
+
+impl Written for Test {
+    ghost use Rattle.mlk_cert.specs.Texts.{sign_text};
+
+    ghost written = { sign_text };
+
+    fn push_to(&self, text: &mut Text) -> Result<(), AllocError> {
+        text.push_byte(sign(*self))
+    }
+}
+
+fn push_saved(text: &mut Text, tests: &[Test]) -> Result<(), AllocError>
+    ensures { OnOk result (text.new ≡ text.old ++ saved_text tests.now) }
+{
+    let Some((first, others)) = tests.split_first() else {
+        text.push(b"-")?;
+        return Ok(());
+    };
+    text.push_byte(sign(*first))?;
+    push_flat(text, others)?;
+    Ok(())
+}
+
+// What is said of `$TEST`, and the held locks.
+fn push_front(text: &mut Text, test: Test, held: &[LockTerm]) -> Result<(), AllocError>
+    ensures { OnOk result (text.new ≡ text.old ++ (codes "T=" ++ (sign test ∷
+        (codes " H=" ++ listed term_text held.now)))) }
+{
+    text.push(b"T=")?;
+    text.push_byte(sign(test))?;
+    text.push(b" H=")?;
+    push_listed(text, held)?;
+    Ok(())
+}
+
+/// The case of an exit.
+pub(crate) fn push_exit(text: &mut Text, exit: &ExitCase) -> Result<(), AllocError>
+    ensures { OnOk result (text.new ≡ text.old ++ exit_text exit.now) }
+{
+    push_front(text, exit.test, exit.held.as_slice())?;
+    text.push(b" K=")?;
+    push_listed(text, exit.kept.as_slice())?;
+    Ok(())
+}
+
+// New and kept names.
+fn push_names(text: &mut Text, own: &[Own], kept: &[Name]) -> Result<(), AllocError>
+    ensures { OnOk result (text.new ≡ text.old ++ (codes " O=" ++ (listed own_text own.now ++
+        (codes " K=" ++ listed name_text kept.now)))) }
+{
+    text.push(b" O=")?;
+    push_listed(text, own)?;
+    text.push(b" K=")?;
+    push_listed(text, kept)?;
+    Ok(())
+}
+
+/// A case.
+pub(crate) fn push_case(text: &mut Text, case: &Case) -> Result<(), AllocError>
+    ensures { OnOk result (text.new ≡ text.old ++ case_text case.now) }
+{
+    push_front(text, case.test, case.held.as_slice())?;
+    push_names(text, case.own.as_slice(), case.kept.as_slice())?;
+    text.push(b" S=")?;
+    push_saved(text, case.saved.as_slice())?;
+    Ok(())
+}

@@ -1,0 +1,11 @@
+//! Tests of certificates, by their public calls: worked examples, with answers from outside the program.
+#![tactic(auto)]
+
+#[cfg(test)]
+mod inclusion;
+#[cfg(test)]
+mod reading;
+#[cfg(test)]
+mod refusals;
+#[cfg(test)]
+mod writing;

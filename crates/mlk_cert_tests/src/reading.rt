@@ -1,0 +1,59 @@
+// Certificates that are read, and written again as they stood.
+
+use mlk_cert::{read_cert, write_cert};
+use std::alloc::Global;
+use std::test::Fail;
+
+// Whether the text is read, and written again byte for byte.
+fn comes_back(alloc: Global, text: &[u8]) -> bool {
+    let Ok(certificate) = read_cert(alloc, text) else {
+        return false;
+    };
+    let mut written: Vec<u8> = Vec::new(alloc);
+    let Ok(()) = write_cert(alloc, &certificate, &mut written) else {
+        return false;
+    };
+    written.as_slice() == text
+}
+
+#[test]
+fn deposit_comes_back(rt: HostRuntime) {
+    let text =
+        b"mlock-cert 1\nentry DEP^BANK\nneed -\nlow 10\ndrops 0\nmods -\nexit T=* H=- K=AMT;ID\nat 1.0 T=* H=- O=1:AMT;1:ID K=AMT;ID S=-\nend\n";
+    assert!(rt; comes_back(rt.alloc(), text));
+}
+
+#[test]
+fn no_entries_come_back(rt: HostRuntime) {
+    assert!(rt; comes_back(rt.alloc(), b"mlock-cert 1\nend\n"));
+}
+
+#[test]
+fn every_form_comes_back(rt: HostRuntime) {
+    let text =
+        b"mlock-cert 1\nentry ^R\nneed ^A(\"a\"\"\\5c\\c3;)\",$J,ID);^A(\"a\"\"\\5c\\c3;)\",$J,ID)\nlow 999999\ndrops 1\nmods %;Z9;~(%,A);~();~(A)\nexit T=* H=X(\"\") K=-\nexit T=0 H=- K=-\nat 1.255 T=1 H=^A(ID);^AB O=1:X;2:~();12:A K=- S=1*0\nat 65535.0 T=* H=- O=- K=- S=-\nentry 007^R\nneed -\nlow 0\ndrops 0\nmods -\nend\n";
+    assert!(rt; comes_back(rt.alloc(), text));
+}
+
+#[test]
+fn blocks_hold_what_the_text_says(rt: HostRuntime) -> Result<(), Fail> {
+    let text =
+        b"mlock-cert 1\nentry E^R\nneed -\nlow 7\ndrops 1\nmods A\nexit T=0 H=- K=-\nat 3.1 T=* H=- O=- K=B;C S=-\nat 3.1 T=1 H=- O=- K=- S=-\nend\n";
+    let Ok(certificate) = read_cert(rt.alloc(), text) else {
+        assert!(rt; false);
+        return Ok(());
+    };
+    for block in certificate.blocks() {
+        assert!(rt; block.entry.as_bytes() == b"E^R".as_slice());
+        assert!(rt; block.summary.low == Some(7) && block.summary.drops);
+        assert!(rt; block.summary.mods.as_slice().len() == 1);
+        assert!(rt; block.summary.exits.as_slice().len() == 1);
+        for point in block.points.as_slice() {
+            assert!(rt; point.line == 3 && point.round == 1);
+            assert!(rt; point.cases.as_slice().len() == 2);
+        }
+        assert!(rt; block.points.as_slice().len() == 1);
+    }
+    assert!(rt; certificate.blocks().len() == 1);
+    Ok(())
+}
