@@ -70,11 +70,13 @@ def main():
     parser.add_argument("size", metavar="MEGABYTES", type=int, nargs="?", default=20)
     words = parser.parse_args()
     folder, size = words.folder, words.size * 1_000_000
-    crates = pathlib.Path(__file__).resolve().parent.parent / "crates"
+    root = pathlib.Path(__file__).resolve().parent.parent
+    crates = root / "crates"
     source = folder / "crates" / "expr_speed" / "src"
     source.mkdir(parents=True, exist_ok=True)
     (source / "main.rt").write_text(PROGRAM)
-    (folder / "crates.txt").write_text("mlk_text:\nmlk_expr: mlk_text\nexpr_speed: mlk_expr\n")
+    kept = [line for line in (root / "crates.txt").read_text().splitlines() if line.split(":")[0] in ("mlk_text", "mlk_expr")]
+    (folder / "crates.txt").write_text("\n".join([*kept, "expr_speed: mlk_expr", ""]))
     for name in ("mlk_text", "mlk_expr"):
         shutil.rmtree(folder / "crates" / name, ignore_errors=True)
         shutil.copytree(crates / name, folder / "crates" / name, ignore=shutil.ignore_patterns("unproved"))
