@@ -19,16 +19,17 @@ import shutil
 PROGRAM = """//! Reads each line of standard input in seven ways, from the byte that its first three digits tell.
 #![tactic(auto)]
 
-use mlk_expr::{Allows, Passing, ReadError};
+use mlk_expr::{Allows, Passing};
 use mlk_expr::{read_actuals, read_actuals_where, read_expr, read_expr_where, read_ref, read_ref_where};
+use mlk_text::{Failure, Fault};
 use std::alloc::Global;
 use std::io::{self, Read};
 
-fn say(rt: &HostRuntime, answer: Result<usize, ReadError>) -> io::Result<()> {
+fn say(rt: &HostRuntime, answer: Result<usize, Failure<Fault>>) -> io::Result<()> {
     match answer {
         Ok(next) => println!(rt; "ok {next}"),
-        Err(ReadError::OutOfMemory) => println!(rt; "memory"),
-        Err(ReadError::Refused(fault)) => {
+        Err(Failure::OutOfMemory) => println!(rt; "memory"),
+        Err(Failure::Refused(fault)) => {
             let word = match &fault.left_out {
                 Some(what) => what.word(),
                 None => b"-".as_slice(),
@@ -445,11 +446,13 @@ def main():
     parser.add_argument("lines", metavar="LINES", type=int, nargs="?", default=20_000)
     parser.add_argument("seed", metavar="SEED", type=int, nargs="?", default=1)
     words = parser.parse_args()
-    crates = pathlib.Path(__file__).resolve().parent.parent / "crates"
+    root = pathlib.Path(__file__).resolve().parent.parent
+    crates = root / "crates"
     source = words.folder / "crates" / "expr_answers" / "src"
     source.mkdir(parents=True, exist_ok=True)
     (source / "main.rt").write_text(PROGRAM)
-    (words.folder / "crates.txt").write_text("mlk_text:\nmlk_expr: mlk_text\nexpr_answers: mlk_expr mlk_text\n")
+    kept = [line for line in (root / "crates.txt").read_text().splitlines() if line.split(":")[0] in ("mlk_text", "mlk_expr")]
+    (words.folder / "crates.txt").write_text("\n".join([*kept, "expr_answers: mlk_expr mlk_text", ""]))
     for name in ("mlk_text", "mlk_expr"):
         shutil.rmtree(words.folder / "crates" / name, ignore_errors=True)
         shutil.copytree(crates / name, words.folder / "crates" / name)
