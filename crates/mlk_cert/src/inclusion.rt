@@ -18,21 +18,32 @@ fn covers(first: Test, second: Test) -> bool
 fn cover_all(first: &[Test], second: &[Test]) -> bool
     ensures { IsTrue result ↔ EachPair Covers first.now second.now }
 {
-    match (first.split_first(), second.split_first()) {
-        (None, None) => true,
-        (Some((s, first)), Some((t, second))) => covers(*s, *t) && cover_all(first, second),
-        _ => false,
+    let (mut firsts, mut seconds) = (first, second);
+    while let (Some((s, after)), Some((t, others))) = (
+        firsts.split_first(),
+        seconds.split_first(),
+    ) {
+        if !covers(*s, *t) {
+            return false;
+        }
+        firsts = after;
+        seconds = others;
     }
+    firsts.is_empty() && seconds.is_empty()
 }
 
 // Whether each of these names is among those.
 fn are_among(names: &[Name], all: &[Name]) -> bool
     ensures { IsTrue result ↔ Each (Contains all.now) names.now }
 {
-    let Some((name, names)) = names.split_first() else {
-        return true;
-    };
-    all.contains(name) && are_among(names, all)
+    let mut left = names;
+    while let Some((name, others)) = left.split_first() {
+        if !all.contains(name) {
+            return false;
+        }
+        left = others;
+    }
+    true
 }
 
 // Whether the lists are equal.

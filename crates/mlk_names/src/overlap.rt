@@ -1,6 +1,6 @@
 // Which references may overlap.
 
-ghost use Rattle.std.specs.Prelude.{◌↔◌, IsTrue};
+ghost use Rattle.std.specs.Prelude.{◌≡◌, ◌↔◌, ◌⊎◌, length, IsTrue};
 ghost use Rattle.mlk_names.specs.References.{SymsMayMeet, SubsMayMeet, MayOverlap};
 
 use crate::reference::{Extent, Reference};
@@ -19,16 +19,31 @@ fn syms_may_meet(first: &Sym, second: &Sym) -> bool
     a == b
 }
 
-// Whether subscripts that may be the first's reach subscripts that the second's may reach too.
-fn subs_may_meet(first: &[Sym], far: Extent, second: &[Sym], wide: Extent) -> bool
+// Whether subscripts of which one list is empty may reach some that are the same: below a tree alone.
+fn ends_may_meet(first: &[Sym], far: Extent, second: &[Sym], wide: Extent) -> bool
+    requires { (length first.now ≡ 0) ⊎ (length second.now ≡ 0) }
     ensures { IsTrue result ↔ SubsMayMeet first.now far second.now wide }
 {
     match (first.split_first(), second.split_first()) {
         (None, None) => true,
         (None, Some(_)) => matches!(far, Extent::Tree),
-        (Some(_), None) => matches!(wide, Extent::Tree),
-        (Some((x, xs)), Some((y, ys))) => syms_may_meet(x, y) && subs_may_meet(xs, far, ys, wide),
+        _ => matches!(wide, Extent::Tree),
     }
+}
+
+// Whether subscripts that may be the first's reach subscripts that the second's may reach too.
+fn subs_may_meet(first: &[Sym], far: Extent, second: &[Sym], wide: Extent) -> bool
+    ensures { IsTrue result ↔ SubsMayMeet first.now far second.now wide }
+{
+    let (mut firsts, mut seconds) = (first, second);
+    while let (Some((x, xs)), Some((y, ys))) = (firsts.split_first(), seconds.split_first()) {
+        if !syms_may_meet(x, y) {
+            return false;
+        }
+        firsts = xs;
+        seconds = ys;
+    }
+    ends_may_meet(firsts, far, seconds, wide)
 }
 
 /// Whether the references may reach one node, each subscript that is no constant being any value. It takes no
