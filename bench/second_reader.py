@@ -19,6 +19,8 @@ import shutil
 PROGRAM = """//! Reads each line of standard input in seven ways, from the byte that its first three digits tell.
 #![tactic(auto)]
 
+ghost use Rattle.std.specs.Prelude.{◌≤◌, length};
+
 use mlk_expr::{Allows, Passing};
 use mlk_expr::{read_actuals, read_actuals_where, read_expr, read_expr_where, read_ref, read_ref_where};
 use mlk_text::{Failure, Fault};
@@ -39,11 +41,15 @@ fn say(rt: &HostRuntime, answer: Result<usize, Failure<Fault>>) -> io::Result<()
     }
 }
 
-fn digit(b: u8) -> usize {
+fn digit(b: u8) -> usize
+    ensures { result ≤ 9 }
+{
     if b >= 48 && b < 58 { b as usize - 48 } else { 0 }
 }
 
-fn answers(rt: &HostRuntime, alloc: Global, text: &[u8], at: usize) -> io::Result<()> {
+fn answers(rt: &HostRuntime, alloc: Global, text: &[u8], at: usize) -> io::Result<()>
+    requires { at ≤ length text.now }
+{
     say(rt, read_expr(alloc, text, at).map(|read| read.1))?;
     say(rt, read_ref(alloc, text, at).map(|read| read.1))?;
     say(rt, read_actuals(alloc, text, at).map(|read| read.1))?;
