@@ -1,4 +1,4 @@
--- Reading lines, blocks and a whole certificate, as functions on lists.
+-- Reading lines, blocks and a whole certificate, as functions on lists. For private clauses alone, as `Reading`.
 use Rattle.std.specs.Prelude.{ℕ, suc, ◌==◌, ◌&&◌, ◌||◌, not, nat_lt, if◌then◌else◌, Bool, true, false, List, [], ◌∷◌, ◌++◌, length, Option, Some, None, codes, option_map, option_and_then}
 use Rattle.mlk_text.specs.Reading.{◌>>=◌, with, many}
 use Rattle.mlk_text.specs.Lexemes.{byte_at, name_at, digits, digits_at}

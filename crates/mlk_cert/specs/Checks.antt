@@ -1,4 +1,5 @@
--- Tests on lists that are in order and not too long, as functions.
+-- Tests on lists that are in order and not too long, as functions. For private clauses alone: the limits that public
+-- calls promise stand in `Limits`.
 use Rattle.std.specs.Prelude.{ℕ, ◌&&◌, ◌||◌, not, nat_le, Bool, true, false, List, [], ◌∷◌, length, map, bytes_eq}
 use Rattle.mlk_names.specs.declared.term.LockTerm.{LockTerm}
 use Rattle.mlk_cert.specs.declared.case.Case.{Case}

@@ -1,4 +1,4 @@
--- A comma and a closing parenthesis may stand after each item of a list. This project's own.
+-- A comma and a closing parenthesis may stand after each item of a list. For private clauses alone. This project's own.
 use Rattle.std.specs.Prelude.{ℕ, ◌≡◌, refl, Bool, true, false, not, ◌||◌}
 use Rattle.std.specs.Prelude.{if◌then◌else◌, Option, Some, None, List, [], ◌∷◌}
 use Rattle.std.proofs.Common.{arith}

@@ -1,4 +1,4 @@
--- What may stand after the parts of arguments. This project's own.
+-- What may stand after the parts of arguments. For private clauses alone. This project's own.
 use Rattle.std.specs.Prelude.{ℕ, ◌≡◌, ◌≢◌, ◌⊎◌, Bool, true, false, List, [], ◌∷◌, Option, Some, None}
 use Rattle.std.specs.List.{list_all}
 use Rattle.mlk_expr.specs.Trees.{Tree, ActualTree}

@@ -1,4 +1,4 @@
--- What the readers of parts of a line answer. This project's own.
+-- What the readers of parts of a line answer. For private clauses alone. This project's own.
 use Rattle.std.specs.Prelude.{ℕ, suc, ◌≡◌, ◌++◌, List, drop, Result, Ok, Err, Option, Some, None}
 use Rattle.std.specs.Prelude.{[], ◌∷◌}
 use Rattle.mlk_text.specs.declared.failure.Failure.{Failure}
