@@ -1,5 +1,5 @@
--- Reading the parts of a certificate, as functions on lists: what is read, and what is left after it. For private clauses
--- alone: what public calls promise stands in `Texts`, `Limits` and `Theorem`, and proofs tie the two.
+-- Reading the parts of a certificate, as functions on lists: what is read, and what is left after it. For private
+-- clauses alone: what public calls promise stands in `Texts`, `Limits` and `Theorem`, and proofs tie the two.
 use Rattle.std.specs.Prelude.{ℕ, suc, ◌+◌, ◌-◌, ◌*◌, ◌==◌, ◌&&◌, ◌||◌, nat_le, if◌then◌else◌, Bool, false, List, [], ◌∷◌, length, Option, Some, None, codes, option_map}
 use Rattle.mlk_text.specs.Reading.{◌>>=◌, with, put, many}
 use Rattle.mlk_text.specs.Lexemes.{digits_at, byte_at, name_at}
