@@ -7,7 +7,7 @@ use Rattle.mlk_expr.specs.Theorem.{LabelEnds}
 use Rattle.mlk_routine.specs.Trees.{ParameterTree, ControlTree, Runs}
 use Rattle.mlk_routine.specs.Told.{byte_at}
 use Rattle.mlk_routine.specs.Ends.{AreEnded, ParameterEnds, ControlEnds}
-use Rattle.mlk_routine.specs.Commas.{name_equals}
+use Rattle.mlk_routine.specs.Stops.{name_equals}
 use Rattle.mlk_routine.specs.CommandGrammar.{IsParameter, IsControl}
 use Rattle.mlk_routine.proofs.Sequences.{Parts}
 use Rattle.mlk_routine.proofs.Bytes.{AfterByte}

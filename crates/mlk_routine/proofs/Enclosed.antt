@@ -1,10 +1,10 @@
 -- Lists in parentheses.
-use Rattle.std.proofs.Common.{◌≡◌, ◌+◌, ℕ, List, [], ◌∷◌, ◌++◌, drop, Some, refl, sym, ap, ◌∙◌, arith, subst, add-one}
+use Rattle.std.proofs.Common.{◌≡◌, ◌+◌, ℕ, List, [], ◌∷◌, ◌++◌, drop, Some, true, refl, sym, ap, ◌∙◌, arith, subst, add-one}
 use Rattle.std.proofs.lemmas.Option.{same_Some}
 use Rattle.mlk_expr.specs.Grammar.{Spelled, IsList}
 use Rattle.mlk_expr.specs.Theorem.{Stands}
 use Rattle.mlk_routine.specs.Told.{Found, Nowhere, Denied, first_of, byte_at}
-use Rattle.mlk_routine.specs.Ends.{MoreEnds, AreEnded, AnyEnds}
+use Rattle.mlk_routine.specs.Ends.{is_stop, MoreEnds, AreEnded, AnyEnds}
 use Rattle.mlk_routine.specs.CommandGrammar.{AreEnclosed}
 use Rattle.mlk_routine.proofs.Sequences.{Parts, Turned, both_found, second_nowhere, denied_first, turned_found, turned_nowhere}
 use Rattle.mlk_routine.proofs.Bytes.{AfterByte, after_found, after_nowhere, byte_there, byte_before, drop_next}
@@ -26,13 +26,13 @@ byte_found line at b h =
 no_byte : (line : List ℕ) (at b : ℕ) → (byte_at line at ≡ Some b → ⊥) → Nowhere (IsByte b) AnyEnds line at
 no_byte line at b h u s rest is one e = h (ap first_of (is ∙ ap (λ l. l ++ rest) one))
 
-module _ {A : Type 0} (Is : Spelled A) (Ends : A → List ℕ → Type 0) (close : (a : A) (rest : List ℕ) → Ends a (41 ∷ rest)) where
+module _ {A : Type 0} (Is : Spelled A) (Ends : A → List ℕ → Type 0) (stop : (a : A) (rest : List ℕ) → is_stop rest ≡ true → Ends a rest) where
   -- a list and the parenthesis after it
   abbrev IsClosed : ℕ → List A → List ℕ → Type 0
   IsClosed at items s = (inner : List ℕ) × (s ≡ inner ++ 41 ∷ []) × IsList Is at items inner
 
   closes : (a : A) (items : List A) (rest : List ℕ) → MoreEnds Ends a items (41 ∷ rest)
-  closes a [] rest = (λ bad. let e = same_Some 41 44 bad in omega (arith, e), close a rest)
+  closes a [] rest = (λ bad. let e = same_Some 41 44 bad in omega (arith, e), stop a (41 ∷ rest) refl)
   closes a (b ∷ items) rest = closes b items rest
 
   closed_parts : (line : List ℕ) (at : ℕ) → Parts line at (IsList Is) (AreEnded Ends) (λ items. IsByte 41) (λ items. AnyEnds) IsClosed AnyEnds (λ items u. items)

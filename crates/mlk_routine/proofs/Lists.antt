@@ -1,17 +1,17 @@
 -- Lists with commas between their items, read item by item.
-use Rattle.std.proofs.Common.{◌≡◌, ◌<◌, ◌≤◌, ◌+◌, ◌-◌, ℕ, suc, List, [], ◌∷◌, ◌++◌, length, drop, Some, refl, sym, ap, ◌∙◌, arith, subst, append_assoc, append-nil}
+use Rattle.std.proofs.Common.{◌≡◌, ◌<◌, ◌≤◌, ◌+◌, ◌-◌, ℕ, suc, List, [], ◌∷◌, ◌++◌, length, drop, Some, true, refl, sym, ap, ◌∙◌, arith, subst, append_assoc, append-nil}
 use Rattle.mlk_expr.specs.Grammar.{Spelled, AreNext, IsList}
 use Rattle.mlk_expr.specs.Theorem.{Stands, Only}
 use Rattle.mlk_routine.specs.Told.{Found, Nowhere, first_of, byte_at}
-use Rattle.mlk_routine.specs.Ends.{MoreEnds, AreEnded}
+use Rattle.mlk_routine.specs.Ends.{is_stop, MoreEnds, AreEnded}
 use Rattle.mlk_routine.proofs.Sequences.{Parts, both_found, first_nowhere, second_nowhere, not_after}
 use Rattle.mlk_routine.proofs.Bytes.{AfterByte, after_found, after_nowhere, byte_before}
 
-module _ {A : Type 0} (Is : Spelled A) (Ends : A → List ℕ → Type 0) (comma : (a : A) (rest : List ℕ) → Ends a (44 ∷ rest)) where
+module _ {A : Type 0} (Is : Spelled A) (Ends : A → List ℕ → Type 0) (stop : (a : A) (rest : List ℕ) → is_stop rest ≡ true → Ends a rest) where
   -- what stands after an item that more items follow
   item_ends : (at : ℕ) (a : A) (more : List A) (t rest : List ℕ) → AreNext Is at more t → MoreEnds Ends a more rest → Ends a (t ++ rest)
   item_ends at a [] t rest is e = subst (λ l. Ends a (l ++ rest)) (sym is) e.1
-  item_ends at a (b ∷ more) t rest (front, others, is, one, next) e = subst (λ l. Ends a (l ++ rest)) (sym is) (comma a ((front ++ others) ++ rest))
+  item_ends at a (b ∷ more) t rest (front, others, is, one, next) e = subst (λ l. Ends a (l ++ rest)) (sym is) (stop a (44 ∷ ((front ++ others) ++ rest)) refl)
 
   list_parts : (line : List ℕ) (at : ℕ) → Parts line at Is Ends (λ a k more t. AreNext Is k more t) (λ a more rest. MoreEnds Ends a more rest) (IsList Is) (AreEnded Ends) (λ a more. a ∷ more)
   list_parts line at = record {

@@ -1,5 +1,6 @@
 -- What may stand after the parts of arguments. For private clauses alone. This project's own.
-use Rattle.std.specs.Prelude.{ℕ, ◌≡◌, ◌≢◌, ◌⊎◌, Bool, true, false, List, [], ◌∷◌, Option, Some, None}
+use Rattle.std.specs.Prelude.{ℕ, ◌≡◌, ◌≢◌, ◌⊎◌, ◌==◌, ◌||◌, Bool, true, false, List, [], ◌∷◌, Option}
+use Rattle.std.specs.Prelude.{Some, None}
 use Rattle.std.specs.List.{list_all}
 use Rattle.mlk_expr.specs.Trees.{Tree, ActualTree}
 use Rattle.mlk_expr.specs.Theorem.{ExprEnds, ReferenceEnds, CalleeEnds, LabelEnds}
@@ -7,6 +8,11 @@ use Rattle.mlk_routine.specs.Told.{first_of}
 use Rattle.mlk_routine.specs.Trees.{VariableTree, Named, CallTree, Called, DoTree, DoCall, KillTree, KillOne}
 use Rattle.mlk_routine.specs.Trees.{KillAllBut, MergeTree, MergeInto, ParameterTree, Once, Endless, Limited}
 use Rattle.mlk_routine.specs.Trees.{ControlTree, Runs, NewTree, NewOne, NewAllBut}
+
+-- What an argument may stand before: the line's end, a space, a comma, a closing parenthesis, a comment's semicolon.
+abbrev pub is_stop : List ℕ → Bool
+is_stop [] = true
+is_stop (b ∷ rest) = (b == 32) || (b == 44) || (b == 41) || (b == 59)
 
 -- no such byte
 abbrev pub Lacks : ℕ → List ℕ → Type 0

@@ -5,5 +5,5 @@ pub mod CommandGrammar
 pub mod RoutineGrammar
 pub mod Told
 pub mod Ends
-pub mod Commas
+pub mod Stops
 pub mod Theorem

@@ -2,7 +2,7 @@
 
 ghost use Rattle.std.specs.Prelude.{◌≡◌, ◌≤◌, ℕ, List, length, map, Some, true, false};
 ghost use Rattle.mlk_routine.specs.Told.{Told, byte_at};
-ghost use Rattle.mlk_routine.specs.Commas.{expr_comma, expr_close, name_comma, name_close};
+ghost use Rattle.mlk_routine.specs.Stops.{expr_stop, name_stop};
 ghost use Rattle.mlk_routine.specs.Ends.{AreEnded, AnyEnds, Begins, OneEnds};
 ghost use Rattle.mlk_routine.specs.CommandGrammar.{AreEnclosed, IsOneOrEnclosed};
 ghost use Rattle.mlk_expr.specs.Grammar.{IsList, IsExprWhere, IsNameText};
@@ -18,8 +18,9 @@ use std::alloc::Global;
 
 /// What stands between the commas of a list.
 pub(crate) trait Item: Drop {
-    ghost use Rattle.std.specs.Prelude.{ℕ, List, ◌∷◌};
+    ghost use Rattle.std.specs.Prelude.{ℕ, List, ◌≡◌, true};
     ghost use Rattle.mlk_expr.specs.Grammar.{Spelled};
+    ghost use Rattle.mlk_routine.specs.Ends.{is_stop};
 
     /// What contracts see of it, how it is written, and what may stand after it.
     ghost Seen: { Type 0 };
@@ -30,11 +31,8 @@ pub(crate) trait Item: Drop {
 
     ghost ends: { Seen → List ℕ → Type 0 };
 
-    /// A comma may.
-    ghost comma: { (a : Seen) (rest : List ℕ) → ends a (44 ∷ rest) };
-
-    /// So may a closing parenthesis.
-    ghost close: { (a : Seen) (rest : List ℕ) → ends a (41 ∷ rest) };
+    /// The line's end may, a space, a comma, a closing parenthesis and a comment.
+    ghost stop: { (a : Seen) (rest : List ℕ) → is_stop rest ≡ true → ends a rest };
 
     fn read(alloc: Global, line: &[u8], at: usize) -> Result<(Self, usize), Failure<Fault>>
         requires { at ≤ length line.now }
@@ -50,9 +48,7 @@ impl Item for Expr {
 
     ghost ends = { ExprEnds };
 
-    ghost comma = { expr_comma };
-
-    ghost close = { expr_close };
+    ghost stop = { expr_stop };
 
     fn read(alloc: Global, line: &[u8], at: usize) -> Result<(Expr, usize), Failure<Fault>> {
         expression(alloc, Allows::Everything, line, at)
@@ -107,9 +103,7 @@ impl Item for Name {
 
     ghost ends = { LabelEnds };
 
-    ghost comma = { name_comma };
-
-    ghost close = { name_close };
+    ghost stop = { name_stop };
 
     fn read(alloc: Global, line: &[u8], at: usize) -> Result<(Name, usize), Failure<Fault>> {
         name(alloc, line, at)

@@ -4,11 +4,8 @@ ghost use Rattle.mlk_routine.specs.Trees.{VariableTree, DoTree, CallTree, KillTr
 ghost use Rattle.mlk_routine.specs.Views.{variable_of, do_of, call_of, kill_of, new_of, merge_of, parameter_of};
 ghost use Rattle.mlk_routine.specs.Ends.{VariableEnds, DoEnds, JobEnds, KillEnds, NewEnds, MergeEnds, ParameterEnds};
 ghost use Rattle.mlk_routine.specs.CommandGrammar.{IsVariable, IsDo, IsJob, IsKill, IsNew, IsMerge, IsParameter};
+ghost use Rattle.mlk_routine.specs.Stops.{do_stop, job_stop, kill_stop, merge_stop, new_stop, parameter_stop, variable_stop};
 ghost use Rattle.mlk_expr.specs.declared.scope.Allows.TheVariants.{Everything, NoTouches};
-ghost use Rattle.mlk_routine.specs.Commas.{variable_comma, variable_close};
-ghost use Rattle.mlk_routine.specs.Commas.{do_comma, do_close, job_comma, job_close, kill_comma, kill_close};
-ghost use Rattle.mlk_routine.specs.Commas.{new_comma, new_close, merge_comma, merge_close};
-ghost use Rattle.mlk_routine.specs.Commas.{parameter_comma, parameter_close};
 
 use crate::call::{do_argument, job_argument};
 use crate::item::Item;
@@ -31,9 +28,7 @@ impl Item for DoArgument {
 
     ghost ends = { DoEnds };
 
-    ghost comma = { do_comma };
-
-    ghost close = { do_close };
+    ghost stop = { do_stop };
 
     fn read(alloc: Global, line: &[u8], at: usize) -> Result<(DoArgument, usize), Failure<Fault>> {
         do_argument(alloc, line, at)
@@ -49,9 +44,7 @@ impl Item for Call {
 
     ghost ends = { JobEnds };
 
-    ghost comma = { job_comma };
-
-    ghost close = { job_close };
+    ghost stop = { job_stop };
 
     fn read(alloc: Global, line: &[u8], at: usize) -> Result<(Call, usize), Failure<Fault>> {
         job_argument(alloc, line, at)
@@ -67,9 +60,7 @@ impl Item for KillArgument {
 
     ghost ends = { KillEnds };
 
-    ghost comma = { kill_comma };
-
-    ghost close = { kill_close };
+    ghost stop = { kill_stop };
 
     fn read(
         alloc: Global,
@@ -89,9 +80,7 @@ impl Item for MergeArgument {
 
     ghost ends = { MergeEnds };
 
-    ghost comma = { merge_comma };
-
-    ghost close = { merge_close };
+    ghost stop = { merge_stop };
 
     fn read(
         alloc: Global,
@@ -111,9 +100,7 @@ impl Item for Parameter {
 
     ghost ends = { ParameterEnds };
 
-    ghost comma = { parameter_comma };
-
-    ghost close = { parameter_close };
+    ghost stop = { parameter_stop };
 
     fn read(alloc: Global, line: &[u8], at: usize) -> Result<(Parameter, usize), Failure<Fault>> {
         parameter(alloc, line, at)
@@ -129,9 +116,7 @@ impl Item for NewArgument {
 
     ghost ends = { NewEnds };
 
-    ghost comma = { new_comma };
-
-    ghost close = { new_close };
+    ghost stop = { new_stop };
 
     fn read(alloc: Global, line: &[u8], at: usize) -> Result<(NewArgument, usize), Failure<Fault>> {
         new(alloc, line, at)
@@ -147,9 +132,7 @@ impl Item for Variable {
 
     ghost ends = { VariableEnds };
 
-    ghost comma = { variable_comma };
-
-    ghost close = { variable_close };
+    ghost stop = { variable_stop };
 
     fn read(alloc: Global, line: &[u8], at: usize) -> Result<(Variable, usize), Failure<Fault>> {
         variable(alloc, Allows::Everything, line, at)
@@ -171,9 +154,7 @@ impl Item for Unsigned {
 
     ghost ends = { VariableEnds };
 
-    ghost comma = { variable_comma };
-
-    ghost close = { variable_close };
+    ghost stop = { variable_stop };
 
     fn read(alloc: Global, line: &[u8], at: usize) -> Result<(Unsigned, usize), Failure<Fault>> {
         let (variable, next) = variable(alloc, Allows::NoTouches, line, at)?;
