@@ -13,3 +13,7 @@ pub mod Parameters
 pub mod Controls
 pub mod Singles
 pub mod Stretches
+pub mod Stopping
+pub mod Words
+pub mod Doing
+pub mod Commanding

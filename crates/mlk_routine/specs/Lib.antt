@@ -6,4 +6,6 @@ pub mod RoutineGrammar
 pub mod Told
 pub mod Ends
 pub mod Stops
+pub mod Begins
+pub mod Kinds
 pub mod Theorem

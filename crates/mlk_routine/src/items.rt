@@ -5,6 +5,8 @@ ghost use Rattle.mlk_routine.specs.Views.{variable_of, do_of, call_of, kill_of, 
 ghost use Rattle.mlk_routine.specs.Ends.{VariableEnds, DoEnds, JobEnds, KillEnds, NewEnds, MergeEnds, ParameterEnds};
 ghost use Rattle.mlk_routine.specs.CommandGrammar.{IsVariable, IsDo, IsJob, IsKill, IsNew, IsMerge, IsParameter};
 ghost use Rattle.mlk_routine.specs.Stops.{do_stop, job_stop, kill_stop, merge_stop, new_stop, parameter_stop, variable_stop};
+ghost use Rattle.mlk_routine.specs.Begins.{do_begins, job_begins, kill_begins, merge_begins, new_begins};
+ghost use Rattle.mlk_routine.specs.Begins.{parameter_begins, variable_begins};
 ghost use Rattle.mlk_expr.specs.declared.scope.Allows.TheVariants.{Everything, NoTouches};
 
 use crate::call::{do_argument, job_argument};
@@ -30,6 +32,8 @@ impl Item for DoArgument {
 
     ghost stop = { do_stop };
 
+    ghost begin = { do_begins };
+
     fn read(alloc: Global, line: &[u8], at: usize) -> Result<(DoArgument, usize), Failure<Fault>> {
         do_argument(alloc, line, at)
     }
@@ -46,6 +50,8 @@ impl Item for Call {
 
     ghost stop = { job_stop };
 
+    ghost begin = { job_begins };
+
     fn read(alloc: Global, line: &[u8], at: usize) -> Result<(Call, usize), Failure<Fault>> {
         job_argument(alloc, line, at)
     }
@@ -61,6 +67,8 @@ impl Item for KillArgument {
     ghost ends = { KillEnds };
 
     ghost stop = { kill_stop };
+
+    ghost begin = { kill_begins };
 
     fn read(
         alloc: Global,
@@ -82,6 +90,8 @@ impl Item for MergeArgument {
 
     ghost stop = { merge_stop };
 
+    ghost begin = { merge_begins };
+
     fn read(
         alloc: Global,
         line: &[u8],
@@ -102,6 +112,8 @@ impl Item for Parameter {
 
     ghost stop = { parameter_stop };
 
+    ghost begin = { parameter_begins };
+
     fn read(alloc: Global, line: &[u8], at: usize) -> Result<(Parameter, usize), Failure<Fault>> {
         parameter(alloc, line, at)
     }
@@ -118,6 +130,8 @@ impl Item for NewArgument {
 
     ghost stop = { new_stop };
 
+    ghost begin = { new_begins };
+
     fn read(alloc: Global, line: &[u8], at: usize) -> Result<(NewArgument, usize), Failure<Fault>> {
         new(alloc, line, at)
     }
@@ -133,6 +147,8 @@ impl Item for Variable {
     ghost ends = { VariableEnds };
 
     ghost stop = { variable_stop };
+
+    ghost begin = { variable_begins Everything };
 
     fn read(alloc: Global, line: &[u8], at: usize) -> Result<(Variable, usize), Failure<Fault>> {
         variable(alloc, Allows::Everything, line, at)
@@ -155,6 +171,8 @@ impl Item for Unsigned {
     ghost ends = { VariableEnds };
 
     ghost stop = { variable_stop };
+
+    ghost begin = { variable_begins NoTouches };
 
     fn read(alloc: Global, line: &[u8], at: usize) -> Result<(Unsigned, usize), Failure<Fault>> {
         let (variable, next) = variable(alloc, Allows::NoTouches, line, at)?;

@@ -2,6 +2,7 @@
 #![tactic(auto)]
 
 mod call;
+mod command;
 mod fault;
 mod item;
 mod items;
@@ -11,7 +12,9 @@ mod parameter;
 mod part;
 mod routine;
 mod run;
+mod spacing;
 mod tree;
+mod word;
 
 pub use law::{one_cut, one_nesting};
 pub use routine::{Line, Routine};
