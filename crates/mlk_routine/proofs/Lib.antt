@@ -13,3 +13,4 @@ pub mod Parameters
 pub mod Controls
 pub mod Singles
 pub mod Stretches
+pub mod Locks

@@ -7,7 +7,10 @@ use Rattle.mlk_expr.specs.Theorem.{ExprEnds, ReferenceEnds, CalleeEnds, LabelEnd
 use Rattle.mlk_routine.specs.Told.{first_of}
 use Rattle.mlk_routine.specs.Trees.{VariableTree, Named, CallTree, Called, DoTree, DoCall, KillTree, KillOne}
 use Rattle.mlk_routine.specs.Trees.{KillAllBut, MergeTree, MergeInto, ParameterTree, Once, Endless, Limited}
-use Rattle.mlk_routine.specs.Trees.{ControlTree, Runs, NewTree, NewOne, NewAllBut}
+use Rattle.mlk_routine.specs.Trees.{ControlTree, Runs, NewTree, NewOne, NewAllBut, LockTree, LockNames}
+use Rattle.mlk_routine.specs.declared.tree.Sign.{Sign}
+use Rattle.mlk_routine.specs.declared.tree.Sign.TheVariants as sign
+use Rattle.mlk_routine.specs.CommandGrammar.{sign_text}
 
 -- What an argument may stand before: the line's end, a space, a comma, a closing parenthesis, a comment's semicolon.
 abbrev pub is_stop : List ℕ → Bool
@@ -95,6 +98,23 @@ SingleEnds Ends (a ∷ b ∷ more) rest = ⊥
 
 abbrev pub OneEnds : {A : Type 0} → (A → List ℕ → Type 0) → Option ℕ → List A → List ℕ → Type 0
 OneEnds Ends first items rest = (first ≡ Some 40) ⊎ SingleEnds Ends items rest
+
+-- a sign of LOCK, and what may stand after it: where there is none, none
+abbrev pub IsSign : ℕ → Sign → List ℕ → Type 0
+IsSign at sign s = s ≡ sign_text sign
+
+abbrev pub SignEnds : Sign → List ℕ → Type 0
+SignEnds sign.None rest = Lacks 43 rest × Lacks 45 rest
+SignEnds sign.Plus rest = Unit {0}
+SignEnds sign.Minus rest = Unit {0}
+
+-- After a timeout what ends it. Without one a stop alone: one name and one name in parentheses are the same tree.
+abbrev pub TimeoutEnds : Option Tree → List ℕ → Type 0
+TimeoutEnds None rest = is_stop rest ≡ true
+TimeoutEnds (Some t) rest = ExprEnds t rest
+
+abbrev pub LockEnds : LockTree → List ℕ → Type 0
+LockEnds (LockNames sign names timeout) rest = TimeoutEnds timeout rest
 
 -- a run of bytes of one kind, and what may stand after it: none of them
 abbrev pub IsRun : (ℕ → Bool) → ℕ → Unit {0} → List ℕ → Type 0

@@ -11,9 +11,9 @@ use Rattle.mlk_expr.specs.Grammar.{has_subscript}
 use Rattle.mlk_expr.specs.Theorem.{ExprEnds, LabelEnds, callee_ends}
 use Rattle.mlk_routine.specs.Trees.{VariableTree, Named, CallTree, Called, DoTree, DoCall, KillTree, KillOne}
 use Rattle.mlk_routine.specs.Trees.{KillAllBut, NewTree, NewOne, NewAllBut, MergeTree, MergeInto}
-use Rattle.mlk_routine.specs.Trees.{ParameterTree, Once, Endless, Limited}
+use Rattle.mlk_routine.specs.Trees.{ParameterTree, Once, Endless, Limited, LockTree, LockNames}
 use Rattle.mlk_routine.specs.Ends.{is_stop, Lacks, VariableEnds, CallEnds, DoEnds, JobEnds}
-use Rattle.mlk_routine.specs.Ends.{KillEnds, MergeEnds, NewEnds, ParameterEnds}
+use Rattle.mlk_routine.specs.Ends.{KillEnds, MergeEnds, NewEnds, ParameterEnds, LockEnds}
 
 -- what holds of each of them holds before a stop
 pub by_stop : (P : List ℕ → Type 0) → P [] → ((rest : List ℕ) → P (32 ∷ rest)) → ((rest : List ℕ) → P (44 ∷ rest))
@@ -104,6 +104,10 @@ pub parameter_stop : (p : ParameterTree) (rest : List ℕ) → is_stop rest ≡ 
 parameter_stop (Once t) rest h = (expr_stop t rest h, lacks_colon rest h)
 parameter_stop (Endless t u) rest h = (expr_stop u rest h, lacks_colon rest h)
 parameter_stop (Limited t u v) rest h = expr_stop v rest h
+
+pub lock_stop : (l : LockTree) (rest : List ℕ) → is_stop rest ≡ true → LockEnds l rest
+lock_stop (LockNames sign names None) rest h = h
+lock_stop (LockNames sign names (Some t)) rest h = expr_stop t rest h
 
 -- an equals sign may stand after a name
 pub name_equals : (name rest : List ℕ) → LabelEnds name (61 ∷ rest)

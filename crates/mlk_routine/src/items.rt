@@ -1,19 +1,24 @@
 // The arguments that stand in lists.
 
 ghost use Rattle.mlk_routine.specs.Trees.{VariableTree, DoTree, CallTree, KillTree, NewTree, MergeTree, ParameterTree};
-ghost use Rattle.mlk_routine.specs.Views.{variable_of, do_of, call_of, kill_of, new_of, merge_of, parameter_of};
+ghost use Rattle.mlk_routine.specs.Trees.{LockTree};
+ghost use Rattle.mlk_routine.specs.Views.{variable_of, do_of, call_of, kill_of, new_of, merge_of, parameter_of, lock_of};
 ghost use Rattle.mlk_routine.specs.Ends.{VariableEnds, DoEnds, JobEnds, KillEnds, NewEnds, MergeEnds, ParameterEnds};
+ghost use Rattle.mlk_routine.specs.Ends.{LockEnds};
 ghost use Rattle.mlk_routine.specs.CommandGrammar.{IsVariable, IsDo, IsJob, IsKill, IsNew, IsMerge, IsParameter};
+ghost use Rattle.mlk_routine.specs.CommandGrammar.{IsLock};
 ghost use Rattle.mlk_routine.specs.Stops.{do_stop, job_stop, kill_stop, merge_stop, new_stop, parameter_stop, variable_stop};
+ghost use Rattle.mlk_routine.specs.Stops.{lock_stop};
 ghost use Rattle.mlk_expr.specs.declared.scope.Allows.TheVariants.{Everything, NoTouches};
 
 use crate::call::{do_argument, job_argument};
 use crate::item::Item;
+use crate::lock::lock;
 use crate::name::{kill, merge, new};
 use crate::parameter::parameter;
 use crate::part::variable;
 use crate::tree::{
-    Call, DoArgument, KillArgument, MergeArgument, NewArgument, Parameter, Variable,
+    Call, DoArgument, KillArgument, LockArgument, MergeArgument, NewArgument, Parameter, Variable,
 };
 use mlk_expr::Allows;
 use mlk_text::{Failure, Fault};
@@ -159,5 +164,25 @@ impl Item for Unsigned {
     fn read(alloc: Global, line: &[u8], at: usize) -> Result<(Unsigned, usize), Failure<Fault>> {
         let (variable, next) = variable(alloc, Allows::NoTouches, line, at)?;
         Ok((Unsigned { variable }, next))
+    }
+}
+
+impl Item for LockArgument {
+    ghost Seen = { LockTree };
+
+    ghost seen = { lock_of };
+
+    ghost is = { IsLock };
+
+    ghost ends = { LockEnds };
+
+    ghost stop = { lock_stop };
+
+    fn read(
+        alloc: Global,
+        line: &[u8],
+        at: usize,
+    ) -> Result<(LockArgument, usize), Failure<Fault>> {
+        lock(alloc, line, at)
     }
 }

@@ -6,6 +6,7 @@ mod fault;
 mod item;
 mod items;
 mod law;
+mod lock;
 mod name;
 mod parameter;
 mod part;
