@@ -14,3 +14,7 @@ pub mod Controls
 pub mod Singles
 pub mod Stretches
 pub mod Locks
+pub mod Prompts
+pub mod Formats
+pub mod Locals
+pub mod ReadArguments

@@ -3,6 +3,7 @@
 
 mod call;
 mod fault;
+mod format;
 mod item;
 mod items;
 mod law;
