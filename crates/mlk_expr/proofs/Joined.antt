@@ -47,7 +47,7 @@ same-list = record {
 }
 
 -- no number begins as a name does
-number-first : (s : List ℕ) → IsNumber s → starts_reference s ≡ true → ⊥
+pub number-first : (s : List ℕ) → IsNumber s → starts_reference s ≡ true → ⊥
 number-first s (before, after, mantissa, exponent, n, e, is) h = go before after n.whole_part n.some_digit n.spelled
   where
     digit : (d : ℕ) (ds rest : List ℕ) → are_digits (d ∷ ds) ≡ true → starts_reference (d ∷ rest) ≡ true → ⊥
@@ -85,7 +85,7 @@ global-local : (column : ℕ) (name : List ℕ) (subs : List (ℕ × Tree)) (ys 
 global-local column name [] ys h = h
 global-local column name (p ∷ subs) ys h = refl
 
-sign-first : (o : UnaryOp) (s : List ℕ) → starts_reference (unary_text o ++ s) ≡ true → ⊥
+pub sign-first : (o : UnaryOp) (s : List ℕ) → starts_reference (unary_text o ++ s) ≡ true → ⊥
 sign-first unary.Plus s h = cc h
 sign-first unary.Minus s h = cc h
 sign-first unary.Not s h = cc h

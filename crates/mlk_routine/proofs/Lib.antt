@@ -17,3 +17,8 @@ pub mod Stopping
 pub mod Words
 pub mod Doing
 pub mod Commanding
+pub mod Locks
+pub mod Prompts
+pub mod Formats
+pub mod Locals
+pub mod ReadArguments

@@ -35,7 +35,7 @@ parameter_by start None limit = Once start
 parameter_by start (Some step) None = Endless start step
 parameter_by start (Some step) (Some limit) = Limited start step limit
 
-colon_ends : (t : Tree) (rest : List ℕ) → ExprEnds t (58 ∷ rest)
+pub colon_ends : (t : Tree) (rest : List ℕ) → ExprEnds t (58 ∷ rest)
 unfolding ends
 colon_ends t rest = refl
 

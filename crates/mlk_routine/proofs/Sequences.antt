@@ -68,6 +68,11 @@ module _ {A B C : Type 0} {line : List ℕ} {at : ℕ} {IsA : Spelled A} {EndsA 
   denied_second a m f OutOfMemory h = tt
   denied_second a m f (Refused fault) h = second_nowhere a m f h
 
+  -- what is answered of the second part is answered of the whole
+  pub both_told : {X : Type 0} (a : A) (m : ℕ) → Found IsA EndsA line at a m → (r : Result (X × ℕ) (Failure Fault)) (view : X → B) → Told view (IsB a) (EndsB a) line m r → Told (λ x. make a (view x)) IsC EndsC line at r
+  both_told a m f (Ok r) view h = both_found a (view r.0) m r.1 f h
+  both_told a m f (Err e) view h = denied_second a m f e h
+
 -- A whole that is one part in another form, at a place.
 pub record Turned {A C : Type 0} (line : List ℕ) (at : ℕ) (IsA : Spelled A) (EndsA : A → List ℕ → Type 0) (IsC : Spelled C) (EndsC : C → List ℕ → Type 0) (make : A → C) : Type 0 where
   pub into : (a : A) (s : List ℕ) → IsA (suc at) a s → IsC (suc at) (make a) s
@@ -99,6 +104,16 @@ module _ {A C : Type 0} {line : List ℕ} {at : ℕ} {IsA : Spelled A} {EndsA : 
   pub turned_told : {X : Type 0} (r : Result (X × ℕ) (Failure Fault)) (view : X → A) → Told view IsA EndsA line at r → Told (λ x. make (view x)) IsC EndsC line at r
   turned_told (Ok r) view h = turned_found (view r.0) r.1 h
   turned_told (Err e) view h = turned_denied e h
+
+-- Of what stands at a place, things of one kind are of another too.
+module _ {A : Type 0} (IsA IsC : Spelled A) (Ends : A → List ℕ → Type 0) (line : List ℕ) (at : ℕ) (wide : (a : A) (s : List ℕ) → IsC (suc at) a s → IsA (suc at) a s)
+    (narrow : (a : A) (s rest : List ℕ) → drop at line ≡ s ++ rest → IsA (suc at) a s → Ends a rest → IsC (suc at) a s) where
+  pub narrow_told : {X : Type 0} (r : Result (X × ℕ) (Failure Fault)) (view : X → A) → Told view IsA Ends line at r → Told view IsC Ends line at r
+  narrow_told (Ok r) view (one, only) =
+      let is = narrow (view r.0) one.text (drop r.1 line) one.joined one.spelled one.ended in
+      (record { text = one.text; within = one.within; joined = one.joined; spelled = is; ended = one.ended }, λ c u rest h is e. only c u rest h (wide c u is) e)
+  narrow_told (Err OutOfMemory) view h = tt
+  narrow_told (Err (Refused fault)) view h = λ c u rest g is e. h c u rest g (wide c u is) e
 
 -- The law that a text has one tree, for the whole from its parts: what stands at a place is the only thing of its kind there.
 abbrev pub Sole : {A : Type 0} → Spelled A → (A → List ℕ → Type 0) → List ℕ → ℕ → Type 0

@@ -48,14 +48,14 @@ named_found line at w ls ys less h of =
     go c u others g (good, is) e rest letters_all stop whole back =
         let a = word-reads u others good (ends_stop c others e) in
         let b = word-reads ls rest letters_all stop in
-        let r : (u, others) ≡ (ls, rest) = sym a ∙ ap word_at (sym g ∙ whole) ∙ b in
-        let same : Some c ≡ Some w = sym is ∙ ap (λ (p : List ℕ × List ℕ). word_of p.0) r ∙ of in
+        let r : ◌≡◌ {A = List ℕ × List ℕ} (u, others) (ls, rest) = sym a ∙ ap word_at (sym g ∙ whole) ∙ b in
+        let same : ◌≡◌ {A = Option Word} (Some c) (Some w) = sym is ∙ ap (λ (p : List ℕ × List ℕ). word_of p.0) r ∙ of in
         (cc same, ap (λ p. p.1) r ∙ back)
 
 pub none_named : (line : List ℕ) (at : ℕ) (ls ys : List ℕ) → (ls, ys) ≡ word_at (drop at line) → word_of ls ≡ None → Nowhere IsNamed WordEnds line at
 none_named line at ls ys h of c u others g (good, is) e =
     let a = word-reads u others good (ends_stop c others e) in
-    let r : (u, others) ≡ (ls, ys) = sym a ∙ ap word_at (sym g) ∙ sym h in
+    let r : ◌≡◌ {A = List ℕ × List ℕ} (u, others) (ls, ys) = sym a ∙ ap word_at (sym g) ∙ sym h in
     let bad : ◌≡◌ {A = Option Word} (Some c) None = sym is ∙ ap (λ (p : List ℕ × List ℕ). word_of p.0) r ∙ of in
     cc bad
 

@@ -3,12 +3,19 @@ use Rattle.std.specs.Prelude.{ℕ, ◌≡◌, ◌≢◌, ◌⊎◌, ◌==◌, �
 use Rattle.std.specs.Prelude.{Some, None, if◌then◌else◌}
 use Rattle.std.specs.List.{list_all}
 use Rattle.mlk_expr.specs.Trees.{Tree, ActualTree}
+use Rattle.mlk_expr.specs.Spellings.{IsQuoted}
 use Rattle.mlk_expr.specs.Theorem.{ExprEnds, ReferenceEnds, CalleeEnds, LabelEnds}
 use Rattle.mlk_routine.specs.Told.{first_of}
 use Rattle.mlk_routine.specs.Trees.{VariableTree, Named, CallTree, Called, DoTree, DoCall, KillTree, KillOne}
 use Rattle.mlk_routine.specs.Trees.{KillAllBut, MergeTree, MergeInto, ParameterTree, Once, Endless, Limited}
 use Rattle.mlk_routine.specs.Trees.{ControlTree, Runs, NewTree, NewOne, NewAllBut, CommandTree, Does, CommandTrees}
 use Rattle.mlk_routine.specs.CommandWords.{has_arguments}
+use Rattle.mlk_routine.specs.Trees.{LockTree, LockNames}
+use Rattle.mlk_routine.specs.Trees.{ReadTree, ReadText, ReadFormat, ReadLine, ReadCharacter, WriteTree, WriteValue}
+use Rattle.mlk_routine.specs.Trees.{WriteCharacter, WriteFormat}
+use Rattle.mlk_routine.specs.declared.tree.Sign.{Sign}
+use Rattle.mlk_routine.specs.declared.tree.Sign.TheVariants as sign
+use Rattle.mlk_routine.specs.CommandGrammar.{sign_text, is_mark}
 
 -- What an argument may stand before: the line's end, a space, a comma, a closing parenthesis, a comment's semicolon.
 abbrev pub is_stop : List ℕ → Bool
@@ -97,6 +104,23 @@ SingleEnds Ends (a ∷ b ∷ more) rest = ⊥
 abbrev pub OneEnds : {A : Type 0} → (A → List ℕ → Type 0) → Option ℕ → List A → List ℕ → Type 0
 OneEnds Ends first items rest = (first ≡ Some 40) ⊎ SingleEnds Ends items rest
 
+-- a sign of LOCK, and what may stand after it: where there is none, none
+abbrev pub IsSign : ℕ → Sign → List ℕ → Type 0
+IsSign at sign s = s ≡ sign_text sign
+
+abbrev pub SignEnds : Sign → List ℕ → Type 0
+SignEnds sign.None rest = Lacks 43 rest × Lacks 45 rest
+SignEnds sign.Plus rest = Unit {0}
+SignEnds sign.Minus rest = Unit {0}
+
+-- After a timeout what ends it. Without one a stop alone: one name and one name in parentheses are the same tree.
+abbrev pub TimeoutEnds : Option Tree → List ℕ → Type 0
+TimeoutEnds None rest = is_stop rest ≡ true
+TimeoutEnds (Some t) rest = ExprEnds t rest
+
+abbrev pub LockEnds : LockTree → List ℕ → Type 0
+LockEnds (LockNames sign names timeout) rest = TimeoutEnds timeout rest
+
 -- a run of bytes of one kind, and what may stand after it: none of them
 abbrev pub IsRun : (ℕ → Bool) → ℕ → Unit {0} → List ℕ → Type 0
 IsRun kind at u s = list_all kind s ≡ true
@@ -133,3 +157,39 @@ StopEnds false rest = is_bare_end rest ≡ true
 
 abbrev pub CommandEnd : CommandTree → List ℕ → Type 0
 CommandEnd (Does column condition action) rest = StopEnds (has_arguments action) rest
+
+-- a text in quotes, and what may stand after it: no quote
+abbrev pub IsPrompt : ℕ → List ℕ → List ℕ → Type 0
+IsPrompt at prompt s = IsQuoted prompt s
+
+abbrev pub PromptEnds : List ℕ → List ℕ → Type 0
+PromptEnds prompt rest = Lacks 34 rest
+
+-- what a format begins with, and what may stand after one: without a column neither
+abbrev pub starts_format : List ℕ → Bool
+starts_format [] = false
+starts_format (b ∷ rest) = is_mark b || (b == 63)
+
+abbrev pub FormatEnds : Option Tree → List ℕ → Type 0
+FormatEnds None rest = starts_format rest ≡ false
+FormatEnds (Some t) rest = ExprEnds t rest
+
+abbrev pub WriteEnds : WriteTree → List ℕ → Type 0
+WriteEnds (WriteValue t) rest = ExprEnds t rest
+WriteEnds (WriteCharacter t) rest = ExprEnds t rest
+WriteEnds (WriteFormat tab) rest = FormatEnds tab rest
+
+-- after a local with a timeout, and with a length too: without a part not the byte before it
+abbrev pub TimedEnds : (List ℕ → Type 0) → Option Tree → List ℕ → Type 0
+TimedEnds Before None rest = Before rest × Lacks 58 rest
+TimedEnds Before (Some t) rest = ExprEnds t rest
+
+abbrev pub MostEnds : VariableTree → Option Tree → List ℕ → Type 0
+MostEnds v None rest = VariableEnds v rest × Lacks 35 rest
+MostEnds v (Some t) rest = ExprEnds t rest
+
+abbrev pub ReadEnds : ReadTree → List ℕ → Type 0
+ReadEnds (ReadText prompt) rest = Lacks 34 rest
+ReadEnds (ReadFormat tab) rest = FormatEnds tab rest
+ReadEnds (ReadLine v most timeout) rest = TimedEnds (MostEnds v most) timeout rest
+ReadEnds (ReadCharacter v timeout) rest = TimedEnds (VariableEnds v) timeout rest

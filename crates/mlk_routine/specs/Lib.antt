@@ -8,4 +8,5 @@ pub mod Ends
 pub mod Stops
 pub mod Begins
 pub mod Kinds
+pub mod Leading
 pub mod Theorem

@@ -11,9 +11,12 @@ use Rattle.mlk_expr.specs.Grammar.{has_subscript}
 use Rattle.mlk_expr.specs.Theorem.{ExprEnds, LabelEnds, callee_ends}
 use Rattle.mlk_routine.specs.Trees.{VariableTree, Named, CallTree, Called, DoTree, DoCall, KillTree, KillOne}
 use Rattle.mlk_routine.specs.Trees.{KillAllBut, NewTree, NewOne, NewAllBut, MergeTree, MergeInto}
-use Rattle.mlk_routine.specs.Trees.{ParameterTree, Once, Endless, Limited}
+use Rattle.mlk_routine.specs.Trees.{ParameterTree, Once, Endless, Limited, LockTree, LockNames}
+use Rattle.mlk_routine.specs.Trees.{ReadTree, ReadText, ReadFormat, ReadLine, ReadCharacter, WriteTree, WriteValue}
+use Rattle.mlk_routine.specs.Trees.{WriteCharacter, WriteFormat}
 use Rattle.mlk_routine.specs.Ends.{is_stop, Lacks, VariableEnds, CallEnds, DoEnds, JobEnds}
-use Rattle.mlk_routine.specs.Ends.{KillEnds, MergeEnds, NewEnds, ParameterEnds}
+use Rattle.mlk_routine.specs.Ends.{KillEnds, MergeEnds, NewEnds, ParameterEnds, LockEnds}
+use Rattle.mlk_routine.specs.Ends.{FormatEnds, MostEnds, ReadEnds, WriteEnds}
 
 -- what holds of each of them holds before a stop
 pub by_stop : (P : List ℕ → Type 0) → P [] → ((rest : List ℕ) → P (32 ∷ rest)) → ((rest : List ℕ) → P (44 ∷ rest))
@@ -104,6 +107,41 @@ pub parameter_stop : (p : ParameterTree) (rest : List ℕ) → is_stop rest ≡ 
 parameter_stop (Once t) rest h = (expr_stop t rest h, lacks_colon rest h)
 parameter_stop (Endless t u) rest h = (expr_stop u rest h, lacks_colon rest h)
 parameter_stop (Limited t u v) rest h = expr_stop v rest h
+
+pub lock_stop : (l : LockTree) (rest : List ℕ) → is_stop rest ≡ true → LockEnds l rest
+lock_stop (LockNames sign names None) rest h = h
+lock_stop (LockNames sign names (Some t)) rest h = expr_stop t rest h
+
+lacks_quote : (rest : List ℕ) → is_stop rest ≡ true → Lacks 34 rest
+lacks_quote =
+    by_stop (Lacks 34) (λ bad. cc bad) (no_byte 34 32 (λ e. omega (arith, e))) (no_byte 34 44 (λ e. omega (arith, e)))
+    (no_byte 34 41 (λ e. omega (arith, e))) (no_byte 34 59 (λ e. omega (arith, e)))
+
+lacks_number : (rest : List ℕ) → is_stop rest ≡ true → Lacks 35 rest
+lacks_number =
+    by_stop (Lacks 35) (λ bad. cc bad) (no_byte 35 32 (λ e. omega (arith, e))) (no_byte 35 44 (λ e. omega (arith, e)))
+    (no_byte 35 41 (λ e. omega (arith, e))) (no_byte 35 59 (λ e. omega (arith, e)))
+
+format_stop : (tab : Option Tree) (rest : List ℕ) → is_stop rest ≡ true → FormatEnds tab rest
+format_stop None = by_stop (FormatEnds None) refl (λ rest. refl) (λ rest. refl) (λ rest. refl) (λ rest. refl)
+format_stop (Some t) = expr_stop t
+
+pub write_stop : (w : WriteTree) (rest : List ℕ) → is_stop rest ≡ true → WriteEnds w rest
+write_stop (WriteValue t) rest h = expr_stop t rest h
+write_stop (WriteCharacter t) rest h = expr_stop t rest h
+write_stop (WriteFormat tab) rest h = format_stop tab rest h
+
+most_stop : (v : VariableTree) (most : Option Tree) (rest : List ℕ) → is_stop rest ≡ true → MostEnds v most rest
+most_stop v None rest h = (variable_stop v rest h, lacks_number rest h)
+most_stop v (Some t) rest h = expr_stop t rest h
+
+pub read_stop : (r : ReadTree) (rest : List ℕ) → is_stop rest ≡ true → ReadEnds r rest
+read_stop (ReadText prompt) rest h = lacks_quote rest h
+read_stop (ReadFormat tab) rest h = format_stop tab rest h
+read_stop (ReadLine v most None) rest h = (most_stop v most rest h, lacks_colon rest h)
+read_stop (ReadLine v most (Some t)) rest h = expr_stop t rest h
+read_stop (ReadCharacter v None) rest h = (variable_stop v rest h, lacks_colon rest h)
+read_stop (ReadCharacter v (Some t)) rest h = expr_stop t rest h
 
 -- an equals sign may stand after a name
 pub name_equals : (name rest : List ℕ) → LabelEnds name (61 ∷ rest)

@@ -148,9 +148,12 @@ fn action(
         Word::If => turned!(perhaps(alloc, line, at), Action::If),
         Word::Job => turned!(some(alloc, line, at), Action::Job),
         Word::Kill => turned!(perhaps(alloc, line, at), Action::Kill),
+        Word::Lock => turned!(perhaps(alloc, line, at), Action::Lock),
         Word::Merge => turned!(some(alloc, line, at), Action::Merge),
         Word::New => turned!(perhaps(alloc, line, at), Action::New),
         Word::Quit => turned!(quit_value(alloc, returns, line, at), Action::Quit),
+        Word::Read => turned!(some(alloc, line, at), Action::Read),
+        Word::Write => turned!(some(alloc, line, at), Action::Write),
         _ => Err(Failure::OutOfMemory),
     }
 }

@@ -1,21 +1,29 @@
 // The arguments that stand in lists.
 
 ghost use Rattle.mlk_routine.specs.Trees.{VariableTree, DoTree, CallTree, KillTree, NewTree, MergeTree, ParameterTree};
-ghost use Rattle.mlk_routine.specs.Views.{variable_of, do_of, call_of, kill_of, new_of, merge_of, parameter_of};
+ghost use Rattle.mlk_routine.specs.Trees.{LockTree, ReadTree, WriteTree};
+ghost use Rattle.mlk_routine.specs.Views.{variable_of, do_of, call_of, kill_of, new_of, merge_of, parameter_of, lock_of};
+ghost use Rattle.mlk_routine.specs.Views.{read_of, write_of};
 ghost use Rattle.mlk_routine.specs.Ends.{VariableEnds, DoEnds, JobEnds, KillEnds, NewEnds, MergeEnds, ParameterEnds};
+ghost use Rattle.mlk_routine.specs.Ends.{LockEnds, ReadEnds, WriteEnds};
 ghost use Rattle.mlk_routine.specs.CommandGrammar.{IsVariable, IsDo, IsJob, IsKill, IsNew, IsMerge, IsParameter};
+ghost use Rattle.mlk_routine.specs.CommandGrammar.{IsLock, IsRead, IsWrite};
 ghost use Rattle.mlk_routine.specs.Stops.{do_stop, job_stop, kill_stop, merge_stop, new_stop, parameter_stop, variable_stop};
 ghost use Rattle.mlk_routine.specs.Begins.{do_begins, job_begins, kill_begins, merge_begins, new_begins};
-ghost use Rattle.mlk_routine.specs.Begins.{parameter_begins, variable_begins};
+ghost use Rattle.mlk_routine.specs.Begins.{parameter_begins, variable_begins, lock_begins, read_begins, write_begins};
+ghost use Rattle.mlk_routine.specs.Stops.{lock_stop, read_stop, write_stop};
 ghost use Rattle.mlk_expr.specs.declared.scope.Allows.TheVariants.{Everything, NoTouches};
 
 use crate::call::{do_argument, job_argument};
+use crate::format::{read_argument, write_argument};
 use crate::item::Item;
+use crate::lock::lock;
 use crate::name::{kill, merge, new};
 use crate::parameter::parameter;
 use crate::part::variable;
 use crate::tree::{
-    Call, DoArgument, KillArgument, MergeArgument, NewArgument, Parameter, Variable,
+    Call, DoArgument, KillArgument, LockArgument, MergeArgument, NewArgument, Parameter,
+    ReadArgument, Variable, WriteArgument,
 };
 use mlk_expr::Allows;
 use mlk_text::{Failure, Fault};
@@ -177,5 +185,71 @@ impl Item for Unsigned {
     fn read(alloc: Global, line: &[u8], at: usize) -> Result<(Unsigned, usize), Failure<Fault>> {
         let (variable, next) = variable(alloc, Allows::NoTouches, line, at)?;
         Ok((Unsigned { variable }, next))
+    }
+}
+
+impl Item for LockArgument {
+    ghost Seen = { LockTree };
+
+    ghost seen = { lock_of };
+
+    ghost is = { IsLock };
+
+    ghost ends = { LockEnds };
+
+    ghost stop = { lock_stop };
+
+    ghost begin = { lock_begins };
+
+    fn read(
+        alloc: Global,
+        line: &[u8],
+        at: usize,
+    ) -> Result<(LockArgument, usize), Failure<Fault>> {
+        lock(alloc, line, at)
+    }
+}
+
+impl Item for ReadArgument {
+    ghost Seen = { ReadTree };
+
+    ghost seen = { read_of };
+
+    ghost is = { IsRead };
+
+    ghost ends = { ReadEnds };
+
+    ghost stop = { read_stop };
+
+    ghost begin = { read_begins };
+
+    fn read(
+        alloc: Global,
+        line: &[u8],
+        at: usize,
+    ) -> Result<(ReadArgument, usize), Failure<Fault>> {
+        read_argument(alloc, line, at)
+    }
+}
+
+impl Item for WriteArgument {
+    ghost Seen = { WriteTree };
+
+    ghost seen = { write_of };
+
+    ghost is = { IsWrite };
+
+    ghost ends = { WriteEnds };
+
+    ghost stop = { write_stop };
+
+    ghost begin = { write_begins };
+
+    fn read(
+        alloc: Global,
+        line: &[u8],
+        at: usize,
+    ) -> Result<(WriteArgument, usize), Failure<Fault>> {
+        write_argument(alloc, line, at)
     }
 }

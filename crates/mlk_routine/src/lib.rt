@@ -3,10 +3,13 @@
 
 mod call;
 mod command;
+mod commands;
 mod fault;
+mod format;
 mod item;
 mod items;
 mod law;
+mod lock;
 mod name;
 mod parameter;
 mod part;

@@ -1,11 +1,11 @@
 // The parts of arguments that the readers of expressions know.
 
-ghost use Rattle.std.specs.Prelude.{◌≡◌, ◌≤◌, length, option_map, Some, true, false};
+ghost use Rattle.std.specs.Prelude.{◌≡◌, ◌≤◌, length, drop, option_map, Some, true, false};
 ghost use Rattle.mlk_expr.specs.Trees.{tree_of, actual_trees};
 ghost use Rattle.mlk_expr.specs.Grammar.{IsExprWhere, IsNameText};
 ghost use Rattle.mlk_expr.specs.Theorem.{ExprEnds, LabelEnds};
 ghost use Rattle.mlk_routine.specs.Told.{Told, byte_at};
-ghost use Rattle.mlk_routine.specs.Ends.{AfterEnds, VariableEnds};
+ghost use Rattle.mlk_routine.specs.Ends.{is_stop, AfterEnds, VariableEnds};
 ghost use Rattle.mlk_routine.specs.Views.{variable_of, call_of};
 ghost use Rattle.mlk_routine.specs.CommandGrammar.{IsAfter, IsVariable, IsCall};
 
@@ -26,6 +26,18 @@ pub(crate) fn has(line: &[u8], at: usize, wanted: u8) -> bool
     match bytes.split_first() {
         Some((first, _)) => *first == wanted,
         None => false,
+    }
+}
+
+/// Whether an argument may stop here: at the line's end, or before one of these bytes.
+pub(crate) fn stops(line: &[u8], at: usize) -> bool
+    requires { at ≤ length line.now }
+    ensures { result ≡ is_stop (drop at line.now) }
+{
+    let (_, bytes) = line.split_at(at);
+    match bytes.first().copied() {
+        Some(b) => matches!(b, b' ' | b',' | b')' | b';'),
+        None => true,
     }
 }
 

@@ -54,6 +54,15 @@ pub returns-in_ok-arguments-in-Kill : goal.returns-in_ok-arguments-in-Kill
 returns-in_ok-arguments-in-Kill c =
     rw (c.in-Kill.is) (turned_found (opened word.Kill (λ e. cc e) c.args.returns c.args.line.now c.args.at) (map kill_of c.in_ok-arguments-in-Kill.arguments.items) c.in_ok-arguments-in-Kill.next c.in_ok-arguments-in-Kill.ensures)
 
+pub returns-in_err-arguments-in-Lock : goal.returns-in_err-arguments-in-Lock
+returns-in_err-arguments-in-Lock c =
+    let p = err_from_is_err_and c.from_residual-in_err-arguments-in-Lock.result c.from_residual-in_err-arguments-in-Lock.ensures.1 in
+    rw (p.1, p.2, c.in-Lock.is) (turned_denied (opened word.Lock (λ e. cc e) c.args.returns c.args.line.now c.args.at) c.in_err-arguments-in-Lock.field-0.0 c.in_err-arguments-in-Lock.ensures)
+
+pub returns-in_ok-arguments-in-Lock : goal.returns-in_ok-arguments-in-Lock
+returns-in_ok-arguments-in-Lock c =
+    rw (c.in-Lock.is) (turned_found (opened word.Lock (λ e. cc e) c.args.returns c.args.line.now c.args.at) (map lock_of c.in_ok-arguments-in-Lock.arguments.items) c.in_ok-arguments-in-Lock.next c.in_ok-arguments-in-Lock.ensures)
+
 pub returns-in_err-arguments-in-Merge : goal.returns-in_err-arguments-in-Merge
 returns-in_err-arguments-in-Merge c =
     let p = err_from_is_err_and c.from_residual-in_err-arguments-in-Merge.result c.from_residual-in_err-arguments-in-Merge.ensures.1 in
@@ -80,6 +89,24 @@ returns-in_err-arguments-in-Quit c =
 pub returns-in_ok-arguments-in-Quit : goal.returns-in_ok-arguments-in-Quit
 returns-in_ok-arguments-in-Quit c =
     rw (c.in-Quit.is) (turned_found (opened word.Quit (λ e. cc e) c.args.returns c.args.line.now c.args.at) (option_map tree_of c.in_ok-arguments-in-Quit.arguments) c.in_ok-arguments-in-Quit.next c.in_ok-arguments-in-Quit.ensures)
+
+pub returns-in_err-arguments-in-Read : goal.returns-in_err-arguments-in-Read
+returns-in_err-arguments-in-Read c =
+    let p = err_from_is_err_and c.from_residual-in_err-arguments-in-Read.result c.from_residual-in_err-arguments-in-Read.ensures.1 in
+    rw (p.1, p.2, c.in-Read.is) (turned_denied (opened word.Read (λ e. cc e) c.args.returns c.args.line.now c.args.at) c.in_err-arguments-in-Read.field-0.0 c.in_err-arguments-in-Read.ensures)
+
+pub returns-in_ok-arguments-in-Read : goal.returns-in_ok-arguments-in-Read
+returns-in_ok-arguments-in-Read c =
+    rw (c.in-Read.is) (turned_found (opened word.Read (λ e. cc e) c.args.returns c.args.line.now c.args.at) (map read_of c.in_ok-arguments-in-Read.arguments.items) c.in_ok-arguments-in-Read.next c.in_ok-arguments-in-Read.ensures)
+
+pub returns-in_err-arguments-in-Write : goal.returns-in_err-arguments-in-Write
+returns-in_err-arguments-in-Write c =
+    let p = err_from_is_err_and c.from_residual-in_err-arguments-in-Write.result c.from_residual-in_err-arguments-in-Write.ensures.1 in
+    rw (p.1, p.2, c.in-Write.is) (turned_denied (opened word.Write (λ e. cc e) c.args.returns c.args.line.now c.args.at) c.in_err-arguments-in-Write.field-0.0 c.in_err-arguments-in-Write.ensures)
+
+pub returns-in_ok-arguments-in-Write : goal.returns-in_ok-arguments-in-Write
+returns-in_ok-arguments-in-Write c =
+    rw (c.in-Write.is) (turned_found (opened word.Write (λ e. cc e) c.args.returns c.args.line.now c.args.at) (map write_of c.in_ok-arguments-in-Write.arguments.items) c.in_ok-arguments-in-Write.next c.in_ok-arguments-in-Write.ensures)
 
 pub returns-in_err-arguments-in-HaltOrHang : goal.returns-in_err-arguments-in-HaltOrHang
 returns-in_err-arguments-in-HaltOrHang c =
