@@ -31,7 +31,7 @@ abbrev pub TailEnds : Option Tree × ActionTree → List ℕ → Type 0
 TailEnds t rest = ActionEnds t.1 rest
 
 -- what stands after a command ends an expression and is no colon and no letter
-stop_lacks : (b : Bool) (rest : List ℕ) → StopEnds b rest → is_command_end rest ≡ true
+pub stop_lacks : (b : Bool) (rest : List ℕ) → StopEnds b rest → is_command_end rest ≡ true
 stop_lacks true rest h = h
 stop_lacks false [] h = refl
 stop_lacks false (b ∷ rest) h = elim (cases_Bool (b == 32)) [
@@ -51,7 +51,7 @@ unfolding ends
 expr_command t [] h = refl
 expr_command t (b ∷ rest) h = grind (arith, nat_tests)
 
-no_letter : (rest : List ℕ) → is_command_end rest ≡ true → starts is_letter rest ≡ false
+pub no_letter : (rest : List ℕ) → is_command_end rest ≡ true → starts is_letter rest ≡ false
 no_letter [] h = refl
 no_letter (b ∷ rest) h = grind (arith, nat_tests)
 

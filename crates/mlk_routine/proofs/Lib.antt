@@ -17,6 +17,7 @@ pub mod Stopping
 pub mod Words
 pub mod Doing
 pub mod Commanding
+pub mod Looping
 pub mod Locks
 pub mod Prompts
 pub mod Formats

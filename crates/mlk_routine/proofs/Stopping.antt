@@ -107,8 +107,11 @@ module _ {A : Type 0} (Is : Spelled A) (begin : (k : ℕ) (a : A) (s : List ℕ)
     more_end a [] rest h = (lacks_comma rest h, stop a rest (command_stop rest h))
     more_end a (b ∷ items) rest h = more_end b items rest h
 
+    pub list_ended : (k : ℕ) (items : List A) (s rest : List ℕ) → IsList Is k items s → is_command_end rest ≡ true → AreEnded Ends items rest
+    list_ended k items s rest (first, others, front, r, same, is, one, next) h = subst (λ l. AreEnded Ends l rest) (sym same) (more_end first others rest h)
+
     pub list_end : (k : ℕ) (items : List A) (s rest : List ℕ) → AfterByte 32 (IsList Is) k items s → is_command_end rest ≡ true → AreEnded Ends items rest
-    list_end k items s rest (t, eq, (first, others, front, r, same, is, one, next)) h = subst (λ l. AreEnded Ends l rest) (sym same) (more_end first others rest h)
+    list_end k items s rest (t, eq, list) h = list_ended (suc k) items t rest list h
 
 -- where no one space stands before arguments, there are none
 pub unspaced : {A : Type 0} (Is : Spelled A) (begin : (k : ℕ) (a : A) (s : List ℕ) → Is k a s → is_stop s ≡ false) (E : A → List ℕ → Type 0) (line : List ℕ) (at : ℕ) (e : Failure Fault)

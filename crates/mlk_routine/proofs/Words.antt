@@ -18,19 +18,19 @@ use Rattle.mlk_routine.specs.declared.word.Word.TheVariants as word
 use Rattle.mlk_routine.specs.Trees.{ActionTree, Do, Else, Halt, Hang, If, Job, Kill, Lock, Merge, New, Quit, Read, Set, Write}
 use Rattle.mlk_routine.specs.Told.{Found, Nowhere}
 use Rattle.mlk_routine.specs.Ends.{starts}
-use Rattle.mlk_routine.specs.CommandWords.{is_word_of}
+use Rattle.mlk_routine.specs.CommandWords.{is_word_of, is_for}
 use Rattle.mlk_routine.specs.Kinds.{kind, halts_or_hangs, Means, is_written, first_word, all_words, word_of, IsNamed, WordEnds}
 use Rattle.mlk_routine.proofs.Sequences.{stands_at}
 
 -- what stands at the front of a text, as far as letters go
-stops_not : (rest : List ℕ) → stops is_letter rest ≡ true → WordEnds word.Do rest
+pub stops_not : (rest : List ℕ) → stops is_letter rest ≡ true → WordEnds word.Do rest
 stops_not [] h = refl
 stops_not (b ∷ rest) h = elim (cases_Bool (is_letter b)) [
   | inl e ↦ cc (rw e at h)
   | inr e ↦ e
 ]
 
-ends_stop : (w : Word) (rest : List ℕ) → WordEnds w rest → stops is_letter rest ≡ true
+pub ends_stop : (w : Word) (rest : List ℕ) → WordEnds w rest → stops is_letter rest ≡ true
 ends_stop w [] h = refl
 ends_stop w (b ∷ rest) h = not_from_false (is_letter b) h
 
@@ -167,3 +167,11 @@ written_means (Quit value) s h = let r = either_named (codes "Q") (codes "QUIT")
 written_means (Read reads) s h = let r = either_named (codes "R") (codes "READ") s word.Read h (refl, refl) (refl, refl) in (word.Read, r.0, r.1, inl refl)
 written_means (Set sets) s h = let r = either_named (codes "S") (codes "SET") s word.Set h (refl, refl) (refl, refl) in (word.Set, r.0, r.1, inl refl)
 written_means (Write writes) s h = let r = either_named (codes "W") (codes "WRITE") s word.Write h (refl, refl) (refl, refl) in (word.Write, r.0, r.1, inl refl)
+
+-- FOR's word is a word, and that of nothing else
+pub either_for : (s : List ℕ) → is_for s ≡ true → IsWord s × (word_of s ≡ None)
+unfolding is_for word_of is_written
+either_for s h = elim (or_cases (str_eq_ignore_ascii_case s (codes "F")) (str_eq_ignore_ascii_case s (codes "FOR")) h) [
+  | inl e ↦ let same = same_case s (codes "F") e in (sym (lower_word s) ∙ ap (list_all is_letter) same, case_named s (codes "F") same)
+  | inr e ↦ let same = same_case s (codes "FOR") e in (sym (lower_word s) ∙ ap (list_all is_letter) same, case_named s (codes "FOR") same)
+]

@@ -1,7 +1,8 @@
 -- What the readers of the commands of a line say of what is left to read. For private clauses alone. This project's own.
-use Rattle.std.specs.Prelude.{ℕ, suc, ◌≡◌, ◌≤◌, ◌⊎◌, ◌×◌, is_some, map, drop, length, List, true, Result, Ok, Err, Option, Some}
-use Rattle.std.specs.Prelude.{None}
-use Rattle.std.specs.declared.vec.Vec.{Vec}
+use Rattle.std.specs.Prelude.{ℕ, suc, ◌≡◌, ◌≤◌, ◌⊎◌, is_some, map, drop, length, List, [], true, Result, Ok, Err, Option}
+use Rattle.std.specs.Prelude.{Some, None}
+use Rattle.std.specs.Prelude.{Vec}
+use Rattle.std.proofs.Common.{Global}
 use Rattle.mlk_text.specs.Lexemes.{word_at}
 use Rattle.mlk_text.specs.Places.{column_at}
 use Rattle.mlk_text.specs.declared.failure.Failure.{Failure}

@@ -1,12 +1,13 @@
 // The commands of a line.
 
-ghost use Rattle.std.specs.Prelude.{◌≡◌, ◌≤◌, ◌==◌, ◌&&◌, length, drop, option_map, is_some, true};
+ghost use Rattle.std.specs.Prelude.{◌≡◌, ◌≤◌, ◌==◌, ◌&&◌, length, drop, option_map, map, is_some, IfOk, true};
 ghost use Rattle.mlk_text.specs.Lexemes.{word_at};
 ghost use Rattle.mlk_routine.specs.Told.{Told};
 ghost use Rattle.mlk_routine.specs.CommandWords.{is_for};
 ghost use Rattle.mlk_routine.specs.CommandGrammar.{AreCommands};
 ghost use Rattle.mlk_routine.specs.Ends.{StopEnds, CommandsEnd};
-ghost use Rattle.mlk_routine.specs.Views.{control_of, commands_of};
+ghost use Rattle.mlk_routine.specs.Views.{command_of, control_of, commands_of, commands_from};
+ghost use Rattle.mlk_routine.specs.Trees.{then_for};
 ghost use Rattle.mlk_routine.specs.Leading.{Leads, IsPerhapsControl, IsLoop, LoopEnds};
 
 use crate::command::command;
@@ -18,7 +19,7 @@ use crate::tree::{Command, Commands, Control, For};
 use crate::word::is_for;
 use mlk_text::lexeme::word_at;
 use mlk_text::{Code, Column, Failure, Fault};
-use std::alloc::Global;
+use std::alloc::{AllocError, Global};
 
 const MOST_LOOPS: usize = 255;
 
@@ -107,6 +108,28 @@ fn for_head(
     perhaps_control(alloc, line, at + letters.len())
 }
 
+// Commands before a FOR, that FOR, and what it holds.
+fn with_for(
+    alloc: Global,
+    before: Vec<Command>,
+    place: (Column, usize),
+    control: Option<Control>,
+    rest: Commands,
+) -> Result<Commands, AllocError>
+    ensures { IfOk result (λ c. commands_of c ≡ commands_from (map command_of before.items)
+        (then_for place.0 place.1 (option_map control_of control) (commands_of rest))) }
+{
+    let (column, index) = place;
+    let last = For {
+        column,
+        index,
+        control,
+        rest,
+    };
+    let last = Some(Box::new(alloc, last)?);
+    Ok(Commands { before, last })
+}
+
 /// All commands from here on, and the byte after them: the line's end, or a comment.
 pub(crate) fn commands(
     alloc: Global,
@@ -127,12 +150,6 @@ pub(crate) fn commands(
         ..inside
     };
     let (rest, end) = commands(alloc, inner, line, past_spaces(line, end))?;
-    let last = For {
-        column: Column::at(next + 1),
-        index: inner.loops,
-        control,
-        rest,
-    };
-    let last = Some(Box::new(alloc, last)?);
-    Ok((Commands { before, last }, end))
+    let place = (Column::at(next + 1), inner.loops);
+    Ok((with_for(alloc, before, place, control, rest)?, end))
 }
