@@ -18,3 +18,4 @@ pub mod Prompts
 pub mod Formats
 pub mod Locals
 pub mod ReadArguments
+pub mod Targets

@@ -13,6 +13,7 @@ mod parameter;
 mod part;
 mod routine;
 mod run;
+mod set;
 mod tree;
 
 pub use law::{one_cut, one_nesting};
