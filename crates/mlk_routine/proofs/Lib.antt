@@ -13,6 +13,10 @@ pub mod Parameters
 pub mod Controls
 pub mod Singles
 pub mod Stretches
+pub mod Stopping
+pub mod Words
+pub mod Doing
+pub mod Commanding
 pub mod Locks
 pub mod Prompts
 pub mod Formats

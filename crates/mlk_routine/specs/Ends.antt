@@ -8,7 +8,9 @@ use Rattle.mlk_expr.specs.Theorem.{ExprEnds, ReferenceEnds, CalleeEnds, LabelEnd
 use Rattle.mlk_routine.specs.Told.{first_of}
 use Rattle.mlk_routine.specs.Trees.{VariableTree, Named, CallTree, Called, DoTree, DoCall, KillTree, KillOne}
 use Rattle.mlk_routine.specs.Trees.{KillAllBut, MergeTree, MergeInto, ParameterTree, Once, Endless, Limited}
-use Rattle.mlk_routine.specs.Trees.{ControlTree, Runs, NewTree, NewOne, NewAllBut, LockTree, LockNames}
+use Rattle.mlk_routine.specs.Trees.{ControlTree, Runs, NewTree, NewOne, NewAllBut, CommandTree, Does, CommandTrees}
+use Rattle.mlk_routine.specs.CommandWords.{has_arguments}
+use Rattle.mlk_routine.specs.Trees.{LockTree, LockNames}
 use Rattle.mlk_routine.specs.Trees.{ReadTree, ReadText, ReadFormat, ReadLine, ReadCharacter, WriteTree, WriteValue}
 use Rattle.mlk_routine.specs.Trees.{WriteCharacter, WriteFormat, TargetTree, SetWhole, SetPart, SetTree, SetTo}
 use Rattle.mlk_routine.specs.declared.tree.Sign.{Sign}
@@ -131,6 +133,32 @@ starts kind (b ∷ rest) = kind b
 
 abbrev pub RunEnds : (ℕ → Bool) → Unit {0} → List ℕ → Type 0
 RunEnds kind u rest = starts kind rest ≡ false
+
+-- what may stand after the commands of a line: its end, or a comment
+abbrev pub is_commands_end : List ℕ → Bool
+is_commands_end [] = true
+is_commands_end (b ∷ rest) = b == 59
+
+abbrev pub CommandsEnd : CommandTrees → List ℕ → Type 0
+CommandsEnd commands rest = is_commands_end rest ≡ true
+
+-- after a command's last argument: these, or a space
+abbrev pub is_command_end : List ℕ → Bool
+is_command_end [] = true
+is_command_end (b ∷ rest) = (b == 32) || (b == 59)
+
+-- after a command without arguments: a single space stands only before the end of the commands
+abbrev pub is_bare_end : List ℕ → Bool
+is_bare_end [] = true
+is_bare_end (b ∷ rest) = if b == 32 then is_command_end rest else b == 59
+
+-- whether the command has arguments
+abbrev pub StopEnds : Bool → List ℕ → Type 0
+StopEnds true rest = is_command_end rest ≡ true
+StopEnds false rest = is_bare_end rest ≡ true
+
+abbrev pub CommandEnd : CommandTree → List ℕ → Type 0
+CommandEnd (Does column condition action) rest = StopEnds (has_arguments action) rest
 
 -- a text in quotes, and what may stand after it: no quote
 abbrev pub IsPrompt : ℕ → List ℕ → List ℕ → Type 0

@@ -6,4 +6,7 @@ pub mod RoutineGrammar
 pub mod Told
 pub mod Ends
 pub mod Stops
+pub mod Begins
+pub mod Kinds
+pub mod Leading
 pub mod Theorem

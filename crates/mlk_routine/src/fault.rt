@@ -52,3 +52,15 @@ pub(crate) fn other_form(form: Code, fault: Fault) -> Failure<Fault>
         left_out,
     })
 }
+
+/// The refusal of a command that is left out, by its full word.
+pub(crate) fn no_command(alloc: Global, word: Value, at: usize) -> Failure<Fault>
+    ensures { IsRefusal result }
+{
+    fault(
+        alloc,
+        Code::CommandLeftOut,
+        Some(LeftOut::Command(word)),
+        at,
+    )
+}

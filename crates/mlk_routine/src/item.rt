@@ -3,6 +3,7 @@
 ghost use Rattle.std.specs.Prelude.{◌≡◌, ◌≤◌, ℕ, List, length, map, Some, true, false};
 ghost use Rattle.mlk_routine.specs.Told.{Told, byte_at};
 ghost use Rattle.mlk_routine.specs.Stops.{expr_stop, name_stop};
+ghost use Rattle.mlk_routine.specs.Begins.{expr_begins, name_begins};
 ghost use Rattle.mlk_routine.specs.Ends.{AreEnded, AnyEnds, Begins, OneEnds};
 ghost use Rattle.mlk_routine.specs.CommandGrammar.{AreEnclosed, IsOneOrEnclosed};
 ghost use Rattle.mlk_expr.specs.Grammar.{IsList, IsExprWhere, IsNameText};
@@ -18,7 +19,7 @@ use std::alloc::Global;
 
 /// What stands between the commas of a list.
 pub(crate) trait Item: Drop {
-    ghost use Rattle.std.specs.Prelude.{ℕ, List, ◌≡◌, true};
+    ghost use Rattle.std.specs.Prelude.{ℕ, List, ◌≡◌, true, false};
     ghost use Rattle.mlk_expr.specs.Grammar.{Spelled};
     ghost use Rattle.mlk_routine.specs.Ends.{is_stop};
 
@@ -33,6 +34,9 @@ pub(crate) trait Item: Drop {
 
     /// The line's end may, a space, a comma, a closing parenthesis and a comment.
     ghost stop: { (a : Seen) (rest : List ℕ) → is_stop rest ≡ true → ends a rest };
+
+    /// None begins with one of these.
+    ghost begin: { (k : ℕ) (a : Seen) (s : List ℕ) → is k a s → is_stop s ≡ false };
 
     fn read(alloc: Global, line: &[u8], at: usize) -> Result<(Self, usize), Failure<Fault>>
         requires { at ≤ length line.now }
@@ -49,6 +53,8 @@ impl Item for Expr {
     ghost ends = { ExprEnds };
 
     ghost stop = { expr_stop };
+
+    ghost begin = { expr_begins Everything };
 
     fn read(alloc: Global, line: &[u8], at: usize) -> Result<(Expr, usize), Failure<Fault>> {
         expression(alloc, Allows::Everything, line, at)
@@ -104,6 +110,8 @@ impl Item for Name {
     ghost ends = { LabelEnds };
 
     ghost stop = { name_stop };
+
+    ghost begin = { name_begins };
 
     fn read(alloc: Global, line: &[u8], at: usize) -> Result<(Name, usize), Failure<Fault>> {
         name(alloc, line, at)

@@ -10,6 +10,9 @@ ghost use Rattle.mlk_routine.specs.CommandGrammar.{IsVariable, IsDo, IsJob, IsKi
 ghost use Rattle.mlk_routine.specs.CommandGrammar.{IsLock, IsRead, IsWrite, IsTarget, IsSet};
 ghost use Rattle.mlk_routine.specs.Stops.{do_stop, job_stop, kill_stop, merge_stop, new_stop, parameter_stop, variable_stop};
 ghost use Rattle.mlk_routine.specs.Stops.{lock_stop, read_stop, write_stop, target_stop, set_stop};
+ghost use Rattle.mlk_routine.specs.Begins.{do_begins, job_begins, kill_begins, merge_begins, new_begins};
+ghost use Rattle.mlk_routine.specs.Begins.{parameter_begins, variable_begins, lock_begins, read_begins, write_begins};
+ghost use Rattle.mlk_routine.specs.Begins.{target_begins, set_begins};
 ghost use Rattle.mlk_expr.specs.declared.scope.Allows.TheVariants.{Everything, NoTouches};
 
 use crate::call::{do_argument, job_argument};
@@ -39,6 +42,8 @@ impl Item for DoArgument {
 
     ghost stop = { do_stop };
 
+    ghost begin = { do_begins };
+
     fn read(alloc: Global, line: &[u8], at: usize) -> Result<(DoArgument, usize), Failure<Fault>> {
         do_argument(alloc, line, at)
     }
@@ -55,6 +60,8 @@ impl Item for Call {
 
     ghost stop = { job_stop };
 
+    ghost begin = { job_begins };
+
     fn read(alloc: Global, line: &[u8], at: usize) -> Result<(Call, usize), Failure<Fault>> {
         job_argument(alloc, line, at)
     }
@@ -70,6 +77,8 @@ impl Item for KillArgument {
     ghost ends = { KillEnds };
 
     ghost stop = { kill_stop };
+
+    ghost begin = { kill_begins };
 
     fn read(
         alloc: Global,
@@ -91,6 +100,8 @@ impl Item for MergeArgument {
 
     ghost stop = { merge_stop };
 
+    ghost begin = { merge_begins };
+
     fn read(
         alloc: Global,
         line: &[u8],
@@ -111,6 +122,8 @@ impl Item for Parameter {
 
     ghost stop = { parameter_stop };
 
+    ghost begin = { parameter_begins };
+
     fn read(alloc: Global, line: &[u8], at: usize) -> Result<(Parameter, usize), Failure<Fault>> {
         parameter(alloc, line, at)
     }
@@ -127,6 +140,8 @@ impl Item for NewArgument {
 
     ghost stop = { new_stop };
 
+    ghost begin = { new_begins };
+
     fn read(alloc: Global, line: &[u8], at: usize) -> Result<(NewArgument, usize), Failure<Fault>> {
         new(alloc, line, at)
     }
@@ -142,6 +157,8 @@ impl Item for Variable {
     ghost ends = { VariableEnds };
 
     ghost stop = { variable_stop };
+
+    ghost begin = { variable_begins Everything };
 
     fn read(alloc: Global, line: &[u8], at: usize) -> Result<(Variable, usize), Failure<Fault>> {
         variable(alloc, Allows::Everything, line, at)
@@ -165,6 +182,8 @@ impl Item for Unsigned {
 
     ghost stop = { variable_stop };
 
+    ghost begin = { variable_begins NoTouches };
+
     fn read(alloc: Global, line: &[u8], at: usize) -> Result<(Unsigned, usize), Failure<Fault>> {
         let (variable, next) = variable(alloc, Allows::NoTouches, line, at)?;
         Ok((Unsigned { variable }, next))
@@ -181,6 +200,8 @@ impl Item for LockArgument {
     ghost ends = { LockEnds };
 
     ghost stop = { lock_stop };
+
+    ghost begin = { lock_begins };
 
     fn read(
         alloc: Global,
@@ -202,6 +223,8 @@ impl Item for ReadArgument {
 
     ghost stop = { read_stop };
 
+    ghost begin = { read_begins };
+
     fn read(
         alloc: Global,
         line: &[u8],
@@ -221,6 +244,8 @@ impl Item for WriteArgument {
     ghost ends = { WriteEnds };
 
     ghost stop = { write_stop };
+
+    ghost begin = { write_begins };
 
     fn read(
         alloc: Global,
@@ -242,6 +267,8 @@ impl Item for Target {
 
     ghost stop = { target_stop };
 
+    ghost begin = { target_begins };
+
     fn read(alloc: Global, line: &[u8], at: usize) -> Result<(Target, usize), Failure<Fault>> {
         target(alloc, line, at)
     }
@@ -257,6 +284,8 @@ impl Item for SetArgument {
     ghost ends = { SetEnds };
 
     ghost stop = { set_stop };
+
+    ghost begin = { set_begins };
 
     fn read(alloc: Global, line: &[u8], at: usize) -> Result<(SetArgument, usize), Failure<Fault>> {
         set(alloc, line, at)

@@ -2,6 +2,8 @@
 #![tactic(auto)]
 
 mod call;
+mod command;
+mod commands;
 mod fault;
 mod format;
 mod item;
@@ -14,7 +16,9 @@ mod part;
 mod routine;
 mod run;
 mod set;
+mod spacing;
 mod tree;
+mod word;
 
 pub use law::{one_cut, one_nesting};
 pub use routine::{Line, Routine};

@@ -7,6 +7,7 @@ ghost use Rattle.mlk_expr.specs.Grammar.{AreNext, IsExprWhere};
 ghost use Rattle.mlk_expr.specs.Theorem.{ExprEnds};
 ghost use Rattle.mlk_routine.specs.Told.{Told, IsRefusal, byte_at};
 ghost use Rattle.mlk_routine.specs.Stops.{expr_stop};
+ghost use Rattle.mlk_routine.specs.Begins.{expr_begins};
 ghost use Rattle.mlk_routine.specs.Ends.{AnyEnds, NextEnds, part_of, IsOpening, TargetEnds, SetEnds};
 ghost use Rattle.mlk_routine.specs.Views.{target_of, set_of};
 ghost use Rattle.mlk_routine.specs.CommandGrammar.{is_part_word, IsTarget, IsSet};
@@ -85,6 +86,8 @@ impl Item for CallFree {
     ghost ends = { ExprEnds };
 
     ghost stop = { expr_stop };
+
+    ghost begin = { expr_begins NoCalls };
 
     fn read(alloc: Global, line: &[u8], at: usize) -> Result<(CallFree, usize), Failure<Fault>> {
         let (value, next) = expression(alloc, Allows::NoCalls, line, at)?;

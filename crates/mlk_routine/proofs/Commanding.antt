@@ -1,0 +1,180 @@
+-- A command from its word, its postconditional and its arguments.
+use Rattle.mlk_text.specs.Places.{column_at}
+use Rattle.std.proofs.Common.{◌≡◌, ◌<◌, ◌≤◌, ◌+◌, ℕ, suc, List, [], ◌∷◌, ◌++◌, length, drop, Some, None, Bool, true, false, inl, inr, refl, sym, ap, ◌∙◌, subst, add-one, arith, ◌==◌}
+use Rattle.std.specs.Prelude.{Option, ◌⊎◌}
+use Rattle.std.proofs.lemmas.Bool.{cases_Bool}
+use Rattle.std.proofs.lemmas.Bool.Decides.{nat_tests}
+use Rattle.std.proofs.lemmas.Option.{same_Some}
+use Rattle.mlk_text.specs.Lexemes.{is_letter}
+use Rattle.mlk_expr.specs.declared.scope.Allows.TheVariants.{Everything}
+use Rattle.mlk_expr.specs.Trees.{Tree}
+use Rattle.mlk_expr.specs.Grammar.{Spelled}
+use Rattle.mlk_expr.specs.Lexemes.{ends}
+use Rattle.mlk_expr.specs.Theorem.{ExprEnds}
+use Rattle.mlk_routine.specs.declared.word.Word.{Word}
+use Rattle.mlk_routine.specs.declared.word.Word.TheVariants as word
+use Rattle.mlk_routine.specs.Trees.{ActionTree, Do, Else, Halt, Hang, If, Job, Kill, Lock, Merge, New, Quit, Read, Set, Write, CommandTree, Does}
+use Rattle.mlk_routine.specs.Told.{first_of}
+use Rattle.mlk_routine.specs.Ends.{Lacks, AfterEnds, starts, is_command_end, is_bare_end, StopEnds, CommandEnd}
+use Rattle.mlk_routine.specs.CommandWords.{is_word_of, may_have_condition, has_arguments, is_list}
+use Rattle.mlk_routine.specs.CommandGrammar.{Both, IsValue, IsDo, IsJob, IsKill, IsLock, IsMerge, IsNew, IsRead, IsSet, IsWrite, IsCondition, AreSome, ArePerhaps, AreArguments, IsQuit, IsCommand}
+use Rattle.mlk_routine.specs.Kinds.{kind, halts_or_hangs, Means, IsNamed, WordEnds, word_of, has_condition, IsConditionOf, ConditionEnds, IsActionOf, ActionEnds}
+use Rattle.mlk_routine.proofs.Sequences.{Parts}
+use Rattle.mlk_routine.proofs.Stopping.{command_stop}
+use Rattle.mlk_routine.proofs.Words.{means_written, written_means}
+
+-- a postconditional and what the command does, after the word
+abbrev pub IsTail : Word → Bool → ℕ → Option Tree × ActionTree → List ℕ → Type 0
+IsTail w returns at t s = Both (λ n r. IsConditionOf w n t.0 r) (λ n r. IsActionOf w returns n t.1 r) at s
+
+abbrev pub TailEnds : Option Tree × ActionTree → List ℕ → Type 0
+TailEnds t rest = ActionEnds t.1 rest
+
+-- what stands after a command ends an expression and is no colon and no letter
+stop_lacks : (b : Bool) (rest : List ℕ) → StopEnds b rest → is_command_end rest ≡ true
+stop_lacks true rest h = h
+stop_lacks false [] h = refl
+stop_lacks false (b ∷ rest) h = elim (cases_Bool (b == 32)) [
+  | inl e ↦ rw e refl
+  | inr e ↦ let also = rw e at h in rw (e, also) refl
+]
+
+lacks_colon : (rest : List ℕ) → is_command_end rest ≡ true → Lacks 58 rest
+lacks_colon [] h bad = cc bad
+lacks_colon (b ∷ rest) h bad =
+    let same : b ≡ 58 = cc bad in
+    let no : is_command_end (58 ∷ rest) ≡ true = subst (λ c. is_command_end (c ∷ rest) ≡ true) same h in
+    cc no
+
+expr_command : (t : Tree) (rest : List ℕ) → is_command_end rest ≡ true → ExprEnds t rest
+unfolding ends
+expr_command t [] h = refl
+expr_command t (b ∷ rest) h = grind (arith, nat_tests)
+
+no_letter : (rest : List ℕ) → is_command_end rest ≡ true → starts is_letter rest ≡ false
+no_letter [] h = refl
+no_letter (b ∷ rest) h = grind (arith, nat_tests)
+
+-- arguments begin with a space, where there are any
+some_space : {A : Type 0} (Is : Spelled A) (k : ℕ) (items : List A) (s : List ℕ) → AreSome Is k items s → (r : List ℕ) × (s ≡ 32 ∷ r)
+some_space Is k items s (r, is, list) = (r, is)
+
+perhaps_space : {A : Type 0} (Is : Spelled A) (k : ℕ) (items : List A) (s : List ℕ) → ArePerhaps Is k items s → (s ≡ []) ⊎ ((r : List ℕ) × (s ≡ 32 ∷ r))
+perhaps_space Is k [] s is = inl is
+perhaps_space Is k (a ∷ items) s (r, is, list) = inr (r, is)
+
+quit_space : (returns : Bool) (k : ℕ) (value : Option Tree) (s : List ℕ) → IsQuit returns k value s → (s ≡ []) ⊎ ((r : List ℕ) × (s ≡ 32 ∷ r))
+quit_space returns k None s is = inl is
+quit_space returns k (Some t) s (may, (r, is, one)) = inr (r, is)
+
+arguments_space : (returns : Bool) (k : ℕ) (a : ActionTree) (s : List ℕ) → AreArguments returns k a s → (s ≡ []) ⊎ ((r : List ℕ) × (s ≡ 32 ∷ r))
+arguments_space returns k (Do calls) s is = perhaps_space IsDo k calls s is
+arguments_space returns k Else s is = inl is
+arguments_space returns k Halt s is = inl is
+arguments_space returns k (Hang times) s is = inr (some_space IsValue k times s is)
+arguments_space returns k (If conditions) s is = perhaps_space IsValue k conditions s is
+arguments_space returns k (Job calls) s is = inr (some_space IsJob k calls s is)
+arguments_space returns k (Kill kills) s is = perhaps_space IsKill k kills s is
+arguments_space returns k (Lock locks) s is = perhaps_space IsLock k locks s is
+arguments_space returns k (Merge merges) s is = inr (some_space IsMerge k merges s is)
+arguments_space returns k (New news) s is = perhaps_space IsNew k news s is
+arguments_space returns k (Quit value) s is = quit_space returns k value s is
+arguments_space returns k (Read reads) s is = inr (some_space IsRead k reads s is)
+arguments_space returns k (Set sets) s is = inr (some_space IsSet k sets s is)
+arguments_space returns k (Write writes) s is = inr (some_space IsWrite k writes s is)
+
+-- so what stands before them stands before a space, or before what may end the command
+before_arguments : (returns : Bool) (k : ℕ) (a : ActionTree) (s rest : List ℕ) → AreArguments returns k a s → ActionEnds a rest → is_command_end (s ++ rest) ≡ true
+before_arguments returns k a s rest is e = go (arguments_space returns k a s is)
+  where
+    go : (s ≡ []) ⊎ ((r : List ℕ) × (s ≡ 32 ∷ r)) → is_command_end (s ++ rest) ≡ true
+    go (inl h) = ap (λ l. is_command_end (l ++ rest)) h ∙ stop_lacks (has_arguments a) rest e
+    go (inr (r, h)) = ap (λ l. is_command_end (l ++ rest)) h
+
+condition_end : (w : Word) (condition : Option Tree) (rest : List ℕ) → is_command_end rest ≡ true → ConditionEnds w condition rest
+condition_end w None rest h may = lacks_colon rest h
+condition_end w (Some t) rest h may = expr_command t rest h
+
+-- whether a postconditional may stand is a matter of the word
+own_condition : (a : ActionTree) → has_condition (kind a) ≡ may_have_condition a
+own_condition (Do calls) = refl
+own_condition Else = refl
+own_condition Halt = refl
+own_condition (Hang times) = refl
+own_condition (If conditions) = refl
+own_condition (Job calls) = refl
+own_condition (Kill kills) = refl
+own_condition (Lock locks) = refl
+own_condition (Merge merges) = refl
+own_condition (New news) = refl
+own_condition (Quit value) = refl
+own_condition (Read reads) = refl
+own_condition (Set sets) = refl
+own_condition (Write writes) = refl
+
+halting_condition : (a : ActionTree) → halts_or_hangs a ≡ true → may_have_condition a ≡ true
+halting_condition Halt h = refl
+halting_condition (Hang times) h = refl
+halting_condition (Do calls) h = refl
+halting_condition Else h = cc h
+halting_condition (If conditions) h = cc h
+halting_condition (Job calls) h = refl
+halting_condition (Kill kills) h = refl
+halting_condition (Lock locks) h = refl
+halting_condition (Merge merges) h = refl
+halting_condition (New news) h = refl
+halting_condition (Quit value) h = refl
+halting_condition (Read reads) h = refl
+halting_condition (Set sets) h = refl
+halting_condition (Write writes) h = refl
+
+means_condition : (w : Word) (a : ActionTree) → Means w a → has_condition w ≡ may_have_condition a
+means_condition w a (inl same) = ap has_condition (sym same) ∙ own_condition a
+means_condition w a (inr (same, h)) = ap has_condition same ∙ sym (halting_condition a h)
+
+module _ (returns : Bool) (line : List ℕ) where
+  pub tail_parts : (w : Word) (at : ℕ) → Parts line at (IsConditionOf w) (ConditionEnds w) (λ condition. IsActionOf w returns) (λ condition. ActionEnds) (IsTail w returns) TailEnds (λ condition action. (condition, action))
+  tail_parts w at = record {
+    into = λ condition a s t one two. (s, t, refl, one, two);
+    ends = λ condition a k t rest is before e. e;
+    apart = λ c u rest h (s, t, is, one, two) e.
+        (c.0, c.1, s, t, is, refl, one, two, condition_end w (c.0) (t ++ rest) (before_arguments returns (suc at + length s) (c.1) t rest two.1 e), e);
+  }
+
+  -- nothing after the word goes on with it
+  after_word : (w : Word) (k : ℕ) (t : Option Tree × ActionTree) (s rest : List ℕ) → IsTail w returns k t s → TailEnds t rest → starts is_letter (s ++ rest) ≡ false
+  after_word w k t s rest (front, back, is, one, two) e =
+      ap (λ l. starts is_letter (l ++ rest)) is ∙ go (t.0) one.1
+    where
+      after : is_command_end (back ++ rest) ≡ true
+      after = before_arguments returns (k + length front) (t.1) back rest two.1 e
+
+      go : (condition : Option Tree) → IsCondition k condition front → starts is_letter ((front ++ back) ++ rest) ≡ false
+      go None none = ap (λ l. starts is_letter ((l ++ back) ++ rest)) none ∙ no_letter (back ++ rest) after
+      go (Some x) (r, colon, value) = ap (λ l. starts is_letter ((l ++ back) ++ rest)) colon
+
+  pub command_parts : (at : ℕ) → Parts line at IsNamed WordEnds (λ w. IsTail w returns) (λ w. TailEnds) (IsCommand returns) CommandEnd (λ w t. Does (column_at (at + 1)) (t.0) (t.1))
+  command_parts at = record {
+    into = λ w t s r one two. into w t s r one two;
+    ends = λ w t k r rest is before e. e;
+    apart = λ c u rest h is e. go c u rest is e;
+  }
+    where
+      into : (w : Word) (t : Option Tree × ActionTree) (s r : List ℕ) → IsNamed (suc at) w s → IsTail w returns (suc at + length s) t r → IsCommand returns (suc at) (Does (column_at (at + 1)) (t.0) (t.1)) (s ++ r)
+      into w t s r one (front, back, is, cond, (means, arguments)) =
+          (ap column_at (add-one at), either cond.0, (s, r, refl, means_written w (t.1) s means one.1, (front, back, is, cond.1, arguments)))
+        where
+          either : (t.0 ≡ None) ⊎ (has_condition w ≡ true) → (t.0 ≡ None) ⊎ (may_have_condition (t.1) ≡ true)
+          either (inl none) = inl none
+          either (inr may) = inr (sym (means_condition w (t.1) means) ∙ may)
+
+      go : (c : CommandTree) (u rest : List ℕ) → IsCommand returns (suc at) c u → CommandEnd c rest
+          → (w : Word) × (t : Option Tree × ActionTree) × (s r : List ℕ) × (u ≡ s ++ r) × (c ≡ Does (column_at (at + 1)) (t.0) (t.1)) × IsNamed (suc at) w s × IsTail w returns (suc at + length s) t r × WordEnds w (r ++ rest) × TailEnds t rest
+      go (Does column condition action) u rest (place, may, (s, r, is, word_is, (front, back, also, cond, arguments))) e =
+          let (w, letters, named, means) = written_means action s word_is in
+          let tail : IsTail w returns (suc at + length s) (condition, action) r = (front, back, also, (either w means may, cond), (means, arguments)) in
+          (w, (condition, action), s, r, is, ap (λ k. Does k condition action) (place ∙ ap column_at (sym (add-one at))), (letters, named), tail, after_word w (suc at + length s) (condition, action) r rest tail e, e)
+        where
+          either : (w : Word) → Means w action → (condition ≡ None) ⊎ (may_have_condition action ≡ true) → (condition ≡ None) ⊎ (has_condition w ≡ true)
+          either w means (inl none) = inl none
+          either w means (inr yes_may) = inr (means_condition w action means ∙ yes_may)

@@ -1,0 +1,40 @@
+-- What the readers of the commands of a line say of what is left to read. For private clauses alone. This project's own.
+use Rattle.std.specs.Prelude.{ℕ, suc, ◌≡◌, ◌≤◌, ◌⊎◌, ◌×◌, is_some, map, drop, length, List, true, Result, Ok, Err, Option, Some}
+use Rattle.std.specs.Prelude.{None}
+use Rattle.std.specs.declared.vec.Vec.{Vec}
+use Rattle.mlk_text.specs.Lexemes.{word_at}
+use Rattle.mlk_text.specs.Places.{column_at}
+use Rattle.mlk_text.specs.declared.failure.Failure.{Failure}
+use Rattle.mlk_text.specs.declared.fault.Fault.{Fault}
+use Rattle.mlk_routine.specs.declared.tree.Command.{Command}
+use Rattle.mlk_routine.specs.Trees.{CommandTree, CommandTrees, ControlTree}
+use Rattle.mlk_routine.specs.Told.{Found, Nowhere, Denied}
+use Rattle.mlk_routine.specs.CommandWords.{is_for}
+use Rattle.mlk_routine.specs.CommandGrammar.{After, IsControl, IsForHead, AreCommands}
+use Rattle.mlk_routine.specs.Ends.{is_commands_end, StopEnds, CommandsEnd}
+use Rattle.mlk_routine.specs.Views.{command_of, commands_from}
+
+-- whatever follows these commands from `next` on, the whole from `at` on is found or denied with it
+abbrev pub LeadsTo : ℕ → ℕ → List ℕ → ℕ → List CommandTree → ℕ → Type 0
+LeadsTo level loops line at done next = (next ≤ length line)
+    × ((rest : CommandTrees) (end : ℕ) → Found (AreCommands level loops) CommandsEnd line next rest end
+    → Found (AreCommands level loops) CommandsEnd line at (commands_from done rest) end)
+    × (Nowhere (AreCommands level loops) CommandsEnd line next → Nowhere (AreCommands level loops) CommandsEnd line at)
+
+-- up to the end of the commands, or to a FOR
+abbrev pub Leads : ℕ → ℕ → List ℕ → ℕ → Result (Vec Command Global × ℕ) (Failure Fault) → Type 0
+Leads level loops line at (Ok r) = LeadsTo level loops line at (map command_of r.0.items) r.1
+    × ((is_commands_end (drop r.1 line) ≡ true) ⊎ (is_for (word_at (drop r.1 line)).0 ≡ true))
+Leads level loops line at (Err e) = Denied (AreCommands level loops) CommandsEnd line at e
+
+-- FOR's variable and parameters, if it has any
+abbrev pub IsPerhapsControl : ℕ → Option ControlTree → List ℕ → Type 0
+IsPerhapsControl at None s = s ≡ []
+IsPerhapsControl at (Some control) s = After 32 (λ n r. IsControl n control r) at s
+
+-- a FOR inside so many others, before what it holds
+abbrev pub IsLoop : ℕ → ℕ → Option ControlTree → List ℕ → Type 0
+IsLoop loops at control s = IsForHead (column_at at) at control s × (suc loops ≤ 255)
+
+abbrev pub LoopEnds : Option ControlTree → List ℕ → Type 0
+LoopEnds control rest = StopEnds (is_some control) rest

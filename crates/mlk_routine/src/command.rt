@@ -1,0 +1,183 @@
+// Commands but FOR: postconditionals and arguments.
+
+ghost use Rattle.std.specs.Prelude.{◌≡◌, ◌≤◌, length, option_map, true};
+ghost use Rattle.mlk_expr.specs.Trees.{tree_of, trees};
+ghost use Rattle.mlk_routine.specs.Told.{Told};
+ghost use Rattle.mlk_routine.specs.Ends.{StopEnds, CommandEnd};
+ghost use Rattle.mlk_routine.specs.Views.{action_of, command_of};
+ghost use Rattle.mlk_routine.specs.CommandGrammar.{After, IsValue, IsQuit, IsCommand};
+ghost use Rattle.mlk_routine.specs.Kinds.{IsConditionOf, ConditionEnds, IsActionOf, ActionEnds, IsNothing, halting};
+ghost use Rattle.mlk_routine.specs.Trees.{Quit};
+
+use crate::fault::{leaves_out, refused};
+use crate::part::{after, expression, has};
+use crate::spacing::{first_argument, is_bare, is_command_end, perhaps, some};
+use crate::tree::{Action, Command};
+use crate::word::{Word, command_word};
+use mlk_expr::{Allows, Expr};
+use mlk_text::{Code, Column, Failure, Fault, LeftOut};
+use std::alloc::Global;
+
+/// The postconditional here, where the word may have one, and the byte after it.
+fn condition(
+    alloc: Global,
+    word: Word,
+    line: &[u8],
+    at: usize,
+) -> Result<(Option<Expr>, usize), Failure<Fault>>
+    requires { at ≤ length line.now }
+    ensures { Told (option_map tree_of) (IsConditionOf word) (ConditionEnds word) line.now at result }
+{
+    if !word.has_condition() {
+        return Ok((None, at));
+    }
+    after(alloc, b':', Allows::Everything, line, at)
+}
+
+/// A command that has no arguments ends here.
+fn no_arguments(alloc: Global, line: &[u8], at: usize) -> Result<usize, Failure<Fault>>
+    requires { at ≤ length line.now }
+    ensures { IsNothing line.now at result }
+{
+    if is_bare(line, at) {
+        return Ok(at);
+    }
+    let space = if has(line, at, b' ') { 1 } else { 0 };
+    Err(refused(alloc, Code::Spacing, at + space))
+}
+
+/// The value after one space, and the byte after it.
+fn returned(alloc: Global, line: &[u8], at: usize) -> Result<(Expr, usize), Failure<Fault>>
+    requires { at ≤ length line.now }
+    ensures { Told tree_of (λ n t. After 32 (λ k s. IsValue k t s) n) (λ t. StopEnds true) line.now at result }
+{
+    let first = first_argument(alloc, line, at)?;
+    let (value, next) = expression(alloc, Allows::Everything, line, first)?;
+    if !is_command_end(line, next) {
+        return Err(refused(alloc, Code::Spacing, next));
+    }
+    Ok((value, next))
+}
+
+// Whether no expression begins in this column.
+fn is_no_expression(fault: &Fault, column: Column) -> bool {
+    fault.code == Code::ExprForm && fault.place.column == column
+}
+
+// What is told of a value that can't be read, where QUIT may have none.
+fn no_expression(alloc: Global, failure: Failure<Fault>, at: usize) -> Failure<Fault> {
+    let fault = match failure {
+        Failure::OutOfMemory => return Failure::OutOfMemory,
+        Failure::Refused(fault) => fault,
+    };
+    if is_no_expression(&fault, Column::at(at.saturating_add(1))) {
+        return Failure::Refused(fault);
+    }
+    leaves_out(alloc, LeftOut::QuitValue, at)
+}
+
+// Why no value stands here, where QUIT may have none.
+fn no_value(alloc: Global, line: &[u8], at: usize) -> Failure<Fault>
+    requires { at ≤ length line.now }
+{
+    let first = match first_argument(alloc, line, at) {
+        Ok(first) => first,
+        Err(failure) => return failure,
+    };
+    match expression(alloc, Allows::Everything, line, first) {
+        Ok(_) => leaves_out(alloc, LeftOut::QuitValue, first),
+        Err(failure) => no_expression(alloc, failure, first),
+    }
+}
+
+/// QUIT's value, where it may have one, and the byte after it.
+fn quit_value(
+    alloc: Global,
+    returns: bool,
+    line: &[u8],
+    at: usize,
+) -> Result<(Option<Expr>, usize), Failure<Fault>>
+    requires { at ≤ length line.now }
+    ensures { Told (option_map tree_of) (IsQuit returns) (λ t. ActionEnds (Quit t)) line.now at result }
+{
+    if is_bare(line, at) {
+        return Ok((None, at));
+    }
+    if !returns {
+        return Err(no_value(alloc, line, at));
+    }
+    let (value, next) = returned(alloc, line, at)?;
+    Ok((Some(value), next))
+}
+
+/// What `H` does: HALT without arguments, HANG with them.
+fn halt_or_hang(times: Vec<Expr>) -> Action
+    ensures { action_of result ≡ halting (trees times.items) }
+{
+    if times.is_empty() {
+        Action::Halt
+    } else {
+        Action::Hang(times)
+    }
+}
+
+macro_rules! turned {
+    ($read:expr, $action:path) => {{
+        let (arguments, next) = $read?;
+        Ok(($action(arguments), next))
+    }};
+}
+
+/// What a command of this word does, from the byte after its postconditional, and the byte after it.
+fn action(
+    alloc: Global,
+    word: Word,
+    returns: bool,
+    line: &[u8],
+    at: usize,
+) -> Result<(Action, usize), Failure<Fault>>
+    requires { at ≤ length line.now }
+    ensures { Told action_of (IsActionOf word returns) ActionEnds line.now at result }
+{
+    match word {
+        Word::Do => turned!(perhaps(alloc, line, at), Action::Do),
+        Word::Else => Ok((Action::Else, no_arguments(alloc, line, at)?)),
+        Word::Halt => Ok((Action::Halt, no_arguments(alloc, line, at)?)),
+        Word::Hang => turned!(some(alloc, line, at), Action::Hang),
+        Word::HaltOrHang => turned!(perhaps(alloc, line, at), halt_or_hang),
+        Word::If => turned!(perhaps(alloc, line, at), Action::If),
+        Word::Job => turned!(some(alloc, line, at), Action::Job),
+        Word::Kill => turned!(perhaps(alloc, line, at), Action::Kill),
+        Word::Lock => turned!(perhaps(alloc, line, at), Action::Lock),
+        Word::Merge => turned!(some(alloc, line, at), Action::Merge),
+        Word::New => turned!(perhaps(alloc, line, at), Action::New),
+        Word::Quit => turned!(quit_value(alloc, returns, line, at), Action::Quit),
+        Word::Read => turned!(some(alloc, line, at), Action::Read),
+        Word::Write => turned!(some(alloc, line, at), Action::Write),
+        _ => Err(Failure::OutOfMemory),
+    }
+}
+
+/// The command whose word stands here, and the byte after it.
+pub(crate) fn command(
+    alloc: Global,
+    returns: bool,
+    line: &[u8],
+    at: usize,
+) -> Result<(Command, usize), Failure<Fault>>
+    requires { at ≤ length line.now }
+    ensures { Told command_of (IsCommand returns) CommandEnd line.now at result }
+{
+    let (word, next) = command_word(alloc, line, at)?;
+    let (condition, next) = condition(alloc, word, line, next)?;
+    let (action, next) = action(alloc, word, returns, line, next)?;
+    let column = Column::at(at + 1);
+    Ok((
+        Command {
+            column,
+            condition,
+            action,
+        },
+        next,
+    ))
+}

@@ -1,0 +1,138 @@
+// The commands of a line.
+
+ghost use Rattle.std.specs.Prelude.{◌≡◌, ◌≤◌, ◌==◌, ◌&&◌, length, drop, option_map, is_some, true};
+ghost use Rattle.mlk_text.specs.Lexemes.{word_at};
+ghost use Rattle.mlk_routine.specs.Told.{Told};
+ghost use Rattle.mlk_routine.specs.CommandWords.{is_for};
+ghost use Rattle.mlk_routine.specs.CommandGrammar.{AreCommands};
+ghost use Rattle.mlk_routine.specs.Ends.{StopEnds, CommandsEnd};
+ghost use Rattle.mlk_routine.specs.Views.{control_of, commands_of};
+ghost use Rattle.mlk_routine.specs.Leading.{Leads, IsPerhapsControl, IsLoop, LoopEnds};
+
+use crate::command::command;
+use crate::fault::refused;
+use crate::parameter::control;
+use crate::run::past_spaces;
+use crate::spacing::{first_argument, is_bare, is_command_end, is_commands_end};
+use crate::tree::{Command, Commands, Control, For};
+use crate::word::is_for;
+use mlk_text::lexeme::word_at;
+use mlk_text::{Code, Column, Failure, Fault};
+use std::alloc::Global;
+
+const MOST_LOOPS: usize = 255;
+
+/// Where commands stand: on a line of this level, inside so many FORs.
+#[derive(Clone, Copy, Drop)]
+pub(crate) struct Inside {
+    pub(crate) level: usize,
+    pub(crate) loops: usize,
+}
+
+impl Inside {
+    // Whether a QUIT here ends a call, and may have a value.
+    fn returns(self) -> bool
+        ensures { result ≡ (self.level == 1) && (self.loops == 0) }
+    {
+        self.level == 1 && self.loops == 0
+    }
+}
+
+// Whether the word of a FOR stands here.
+fn is_for_here(line: &[u8], at: usize) -> bool
+    requires { at ≤ length line.now }
+    ensures { result ≡ is_for (word_at (drop at line.now)).0 }
+{
+    let (_, bytes) = line.split_at(at);
+    let (letters, _) = word_at(bytes);
+    is_for(letters)
+}
+
+// The commands from here on before the next FOR, or all, and the byte after them and the spaces there.
+fn before_for(
+    alloc: Global,
+    inside: Inside,
+    line: &[u8],
+    at: usize,
+) -> Result<(Vec<Command>, usize), Failure<Fault>>
+    requires { at ≤ length line.now }
+    ensures { Leads inside.level inside.loops line.now at result }
+{
+    let mut before = Vec::new(alloc);
+    let mut next = at;
+    while !is_commands_end(line, next) && !is_for_here(line, next) {
+        let (read, end) = command(alloc, inside.returns(), line, next)?;
+        before.push(read)?;
+        next = past_spaces(line, end);
+    }
+    Ok((before, next))
+}
+
+// FOR's variable and parameters, if it has any, and the byte after them.
+fn perhaps_control(
+    alloc: Global,
+    line: &[u8],
+    at: usize,
+) -> Result<(Option<Control>, usize), Failure<Fault>>
+    requires { at ≤ length line.now }
+    ensures { Told (option_map control_of) IsPerhapsControl (λ c. StopEnds (is_some c)) line.now at result }
+{
+    if is_bare(line, at) {
+        return Ok((None, at));
+    }
+    let first = first_argument(alloc, line, at)?;
+    let (read, next) = control(alloc, line, first)?;
+    if !is_command_end(line, next) {
+        return Err(refused(alloc, Code::Spacing, next));
+    }
+    Ok((Some(read), next))
+}
+
+// A FOR inside so many others, before what it holds, and the byte after that.
+fn for_head(
+    alloc: Global,
+    loops: usize,
+    line: &[u8],
+    at: usize,
+) -> Result<(Option<Control>, usize), Failure<Fault>>
+    requires within { at ≤ length line.now }
+    requires here { is_for (word_at (drop at line.now)).0 ≡ true }
+    ensures { Told (option_map control_of) (IsLoop loops) LoopEnds line.now at result }
+{
+    if loops >= MOST_LOOPS {
+        return Err(refused(alloc, Code::TooLarge, at));
+    }
+    let (_, bytes) = line.split_at(at);
+    let (letters, _) = word_at(bytes);
+    perhaps_control(alloc, line, at + letters.len())
+}
+
+/// All commands from here on, and the byte after them: the line's end, or a comment.
+pub(crate) fn commands(
+    alloc: Global,
+    inside: Inside,
+    line: &[u8],
+    at: usize,
+) -> Result<(Commands, usize), Failure<Fault>>
+    requires { at ≤ length line.now }
+    ensures { Told commands_of (AreCommands inside.level inside.loops) CommandsEnd line.now at result }
+{
+    let (before, next) = before_for(alloc, inside, line, at)?;
+    if is_commands_end(line, next) {
+        return Ok((Commands { before, last: None }, next));
+    }
+    let (control, end) = for_head(alloc, inside.loops, line, next)?;
+    let inner = Inside {
+        loops: inside.loops + 1,
+        ..inside
+    };
+    let (rest, end) = commands(alloc, inner, line, past_spaces(line, end))?;
+    let last = For {
+        column: Column::at(next + 1),
+        index: inner.loops,
+        control,
+        rest,
+    };
+    let last = Some(Box::new(alloc, last)?);
+    Ok((Commands { before, last }, end))
+}

@@ -1,0 +1,158 @@
+// The words of commands.
+
+ghost use Rattle.std.specs.Prelude.{◌≡◌, ◌≤◌, length};
+ghost use Rattle.mlk_routine.specs.Told.{Told, IsRefusal};
+ghost use Rattle.mlk_routine.specs.CommandWords.{is_for};
+ghost use Rattle.mlk_routine.specs.Kinds.{word_of, has_condition, IsNamed, WordEnds};
+
+use crate::fault::{no_command, refused};
+use mlk_expr::words::is_either;
+use mlk_text::lexeme::word_at;
+use mlk_text::{Code, Failure, Fault, Value};
+use std::alloc::{AllocError, Global};
+
+/// A command but FOR, by its word.
+#[derive(Clone, Copy, Debug, Drop, PartialEq, Eq)]
+pub(crate) enum Word {
+    Do,
+    Else,
+    Halt,
+    Hang,
+    /// `H`, which is HALT without an argument, and HANG with one
+    HaltOrHang,
+    If,
+    Job,
+    Kill,
+    Lock,
+    Merge,
+    New,
+    Quit,
+    Read,
+    Set,
+    Write,
+}
+
+impl Word {
+    /// Whether a postconditional may stand after it.
+    pub(crate) fn has_condition(self) -> bool
+        ensures { result ≡ has_condition self }
+    {
+        !matches!(self, Word::If | Word::Else)
+    }
+}
+
+#[tactic(auto, unfolding(crate::specs::Kinds::word_of, crate::specs::Kinds::is_written))]
+fn word_of(word: &[u8]) -> Option<Word>
+    ensures { result ≡ word_of word.now }
+{
+    if is_either(b"D", b"DO", word) {
+        Some(Word::Do)
+    } else if is_either(b"E", b"ELSE", word) {
+        Some(Word::Else)
+    } else if is_either(b"H", b"H", word) {
+        Some(Word::HaltOrHang)
+    } else if is_either(b"HALT", b"HALT", word) {
+        Some(Word::Halt)
+    } else if is_either(b"HANG", b"HANG", word) {
+        Some(Word::Hang)
+    } else if is_either(b"I", b"IF", word) {
+        Some(Word::If)
+    } else if is_either(b"J", b"JOB", word) {
+        Some(Word::Job)
+    } else if is_either(b"K", b"KILL", word) {
+        Some(Word::Kill)
+    } else if is_either(b"L", b"LOCK", word) {
+        Some(Word::Lock)
+    } else if is_either(b"M", b"MERGE", word) {
+        Some(Word::Merge)
+    } else if is_either(b"N", b"NEW", word) {
+        Some(Word::New)
+    } else if is_either(b"Q", b"QUIT", word) {
+        Some(Word::Quit)
+    } else if is_either(b"R", b"READ", word) {
+        Some(Word::Read)
+    } else if is_either(b"S", b"SET", word) {
+        Some(Word::Set)
+    } else if is_either(b"W", b"WRITE", word) {
+        Some(Word::Write)
+    } else {
+        None
+    }
+}
+
+/// Whether a word is that of FOR.
+#[tactic(auto, unfolding(crate::specs::CommandWords::is_for))]
+pub(crate) fn is_for(word: &[u8]) -> bool
+    ensures { result ≡ is_for word.now }
+{
+    is_either(b"F", b"FOR", word)
+}
+
+// The commands that are left out, short and whole.
+const LEFT_OUT: [(&[u8], &[u8]); 18] = [
+    (b"B", b"BREAK"),
+    (b"C", b"CLOSE"),
+    (b"G", b"GOTO"),
+    (b"O", b"OPEN"),
+    (b"U", b"USE"),
+    (b"V", b"VIEW"),
+    (b"X", b"XECUTE"),
+    (b"TS", b"TSTART"),
+    (b"TC", b"TCOMMIT"),
+    (b"TRO", b"TROLLBACK"),
+    (b"TRE", b"TRESTART"),
+    (b"ABLOCK", b"ABLOCK"),
+    (b"ASTART", b"ASTART"),
+    (b"ASTOP", b"ASTOP"),
+    (b"AUNBLOCK", b"AUNBLOCK"),
+    (b"ESTART", b"ESTART"),
+    (b"ESTOP", b"ESTOP"),
+    (b"ETRIGGER", b"ETRIGGER"),
+];
+
+// The full word of a command that is left out; all words that begin with Z are.
+fn left_out(word: &[u8]) -> Option<&[u8]> {
+    for (short, whole) in LEFT_OUT.iter() {
+        if is_either(short, whole, word) {
+            return Some(*whole);
+        }
+    }
+    match word.first().copied() {
+        Some(b'Z' | b'z') => Some(word),
+        _ => None,
+    }
+}
+
+fn in_upper_case(alloc: Global, word: &[u8]) -> Result<Value, AllocError> {
+    let mut shown = Vec::from_slice(alloc, word)?;
+    shown.as_mut_slice().make_ascii_uppercase();
+    Ok(Value::new(shown))
+}
+
+// Why a word that begins here is no command that is read.
+fn no_word(alloc: Global, word: &[u8], at: usize) -> Failure<Fault> {
+    let Some(whole) = left_out(word) else {
+        return refused(alloc, Code::UnknownCommand, at);
+    };
+    match in_upper_case(alloc, whole) {
+        Ok(shown) => no_command(alloc, shown, at),
+        Err(_) => Failure::OutOfMemory,
+    }
+}
+
+/// The command whose word stands here, and the byte after the word.
+pub(crate) fn command_word(
+    alloc: Global,
+    line: &[u8],
+    at: usize,
+) -> Result<(Word, usize), Failure<Fault>>
+    requires { at ≤ length line.now }
+    ensures { Told (λ w. w) IsNamed WordEnds line.now at result }
+{
+    let (_, bytes) = line.split_at(at);
+    let (letters, _) = word_at(bytes);
+    match word_of(letters) {
+        Some(word) => Ok((word, at + letters.len())),
+        None => Err(no_word(alloc, letters, at)),
+    }
+}
