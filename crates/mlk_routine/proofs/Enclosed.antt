@@ -13,17 +13,17 @@ use Rattle.mlk_text.specs.declared.failure.Failure.TheVariants.{OutOfMemory, Ref
 use Rattle.mlk_text.specs.declared.fault.Fault.{Fault}
 
 -- a byte alone
-abbrev IsByte : ℕ → ℕ → Unit {0} → List ℕ → Type 0
+abbrev pub IsByte : ℕ → ℕ → Unit {0} → List ℕ → Type 0
 IsByte b at u s = s ≡ b ∷ []
 
-byte_found : (line : List ℕ) (at b : ℕ) → byte_at line at ≡ Some b → Found (IsByte b) AnyEnds line at tt (at + 1)
+pub byte_found : (line : List ℕ) (at b : ℕ) → byte_at line at ≡ Some b → Found (IsByte b) AnyEnds line at tt (at + 1)
 byte_found line at b h =
     let size = byte_before line at b h in
     let there = byte_there line at b h ∙ ap (λ k. b ∷ drop k line) (sym (add-one at)) in
     let stands : Stands (IsByte b) AnyEnds line at tt (at + 1) = record { text = b ∷ []; within = omega arith; joined = there; spelled = refl; ended = tt } in
     (stands, λ u s rest is one e. (refl, sym (drop_next line at b rest (is ∙ ap (λ l. l ++ rest) one)) ∙ ap (λ k. drop k line) (sym (add-one at))))
 
-no_byte : (line : List ℕ) (at b : ℕ) → (byte_at line at ≡ Some b → ⊥) → Nowhere (IsByte b) AnyEnds line at
+pub no_byte : (line : List ℕ) (at b : ℕ) → (byte_at line at ≡ Some b → ⊥) → Nowhere (IsByte b) AnyEnds line at
 no_byte line at b h u s rest is one e = h (ap first_of (is ∙ ap (λ l. l ++ rest) one))
 
 module _ {A : Type 0} (Is : Spelled A) (Ends : A → List ℕ → Type 0) (stop : (a : A) (rest : List ℕ) → is_stop rest ≡ true → Ends a rest) where

@@ -23,3 +23,4 @@ pub mod Prompts
 pub mod Formats
 pub mod Locals
 pub mod ReadArguments
+pub mod Targets

@@ -1,6 +1,6 @@
 -- What may stand after the parts of arguments. For private clauses alone. This project's own.
 use Rattle.std.specs.Prelude.{ℕ, ◌≡◌, ◌≢◌, ◌⊎◌, ◌==◌, ◌||◌, Bool, true, false, List, [], ◌∷◌, Option}
-use Rattle.std.specs.Prelude.{Some, None, if◌then◌else◌}
+use Rattle.std.specs.Prelude.{Some, None, if◌then◌else◌, ◌++◌}
 use Rattle.std.specs.List.{list_all}
 use Rattle.mlk_expr.specs.Trees.{Tree, ActualTree}
 use Rattle.mlk_expr.specs.Spellings.{IsQuoted}
@@ -12,10 +12,12 @@ use Rattle.mlk_routine.specs.Trees.{ControlTree, Runs, NewTree, NewOne, NewAllBu
 use Rattle.mlk_routine.specs.CommandWords.{has_arguments}
 use Rattle.mlk_routine.specs.Trees.{LockTree, LockNames}
 use Rattle.mlk_routine.specs.Trees.{ReadTree, ReadText, ReadFormat, ReadLine, ReadCharacter, WriteTree, WriteValue}
-use Rattle.mlk_routine.specs.Trees.{WriteCharacter, WriteFormat}
+use Rattle.mlk_routine.specs.Trees.{WriteCharacter, WriteFormat, TargetTree, SetWhole, SetPart, SetTree, SetTo}
 use Rattle.mlk_routine.specs.declared.tree.Sign.{Sign}
 use Rattle.mlk_routine.specs.declared.tree.Sign.TheVariants as sign
-use Rattle.mlk_routine.specs.CommandGrammar.{sign_text, is_mark}
+use Rattle.mlk_routine.specs.declared.tree.Part.{Part}
+use Rattle.mlk_routine.specs.declared.tree.Part.TheVariants as part
+use Rattle.mlk_routine.specs.CommandGrammar.{sign_text, is_mark, is_part_word}
 
 -- What an argument may stand before: the line's end, a space, a comma, a closing parenthesis, a comment's semicolon.
 abbrev pub is_stop : List ℕ → Bool
@@ -193,3 +195,25 @@ ReadEnds (ReadText prompt) rest = Lacks 34 rest
 ReadEnds (ReadFormat tab) rest = FormatEnds tab rest
 ReadEnds (ReadLine v most timeout) rest = TimedEnds (MostEnds v most) timeout rest
 ReadEnds (ReadCharacter v timeout) rest = TimedEnds (VariableEnds v) timeout rest
+
+-- after expressions of which each follows a comma: no further comma, and what ends the last
+abbrev pub NextEnds : List Tree → List ℕ → Type 0
+NextEnds [] rest = Lacks 44 rest
+NextEnds (t ∷ more) rest = MoreEnds ExprEnds t more rest
+
+-- the function of a target that is part of a value, by its word; with its `$` and its parenthesis
+unfoldable pub part_of : List ℕ → Option Part
+part_of word =
+    if is_part_word part.Piece word then Some part.Piece
+    else if is_part_word part.Extract word then Some part.Extract
+    else None
+
+abbrev pub IsOpening : ℕ → Part → List ℕ → Type 0
+IsOpening at part s = (word : List ℕ) × (s ≡ 36 ∷ (word ++ 40 ∷ [])) × (is_part_word part word ≡ true)
+
+abbrev pub TargetEnds : TargetTree → List ℕ → Type 0
+TargetEnds (SetWhole v) rest = VariableEnds v rest
+TargetEnds (SetPart part v arguments) rest = Unit {0}
+
+abbrev pub SetEnds : SetTree → List ℕ → Type 0
+SetEnds (SetTo targets value) rest = ExprEnds value rest

@@ -13,10 +13,10 @@ use Rattle.mlk_routine.specs.Trees.{VariableTree, Named, CallTree, Called, DoTre
 use Rattle.mlk_routine.specs.Trees.{KillAllBut, NewTree, NewOne, NewAllBut, MergeTree, MergeInto}
 use Rattle.mlk_routine.specs.Trees.{ParameterTree, Once, Endless, Limited, LockTree, LockNames}
 use Rattle.mlk_routine.specs.Trees.{ReadTree, ReadText, ReadFormat, ReadLine, ReadCharacter, WriteTree, WriteValue}
-use Rattle.mlk_routine.specs.Trees.{WriteCharacter, WriteFormat}
+use Rattle.mlk_routine.specs.Trees.{WriteCharacter, WriteFormat, TargetTree, SetWhole, SetPart, SetTree, SetTo}
 use Rattle.mlk_routine.specs.Ends.{is_stop, Lacks, VariableEnds, CallEnds, DoEnds, JobEnds}
 use Rattle.mlk_routine.specs.Ends.{KillEnds, MergeEnds, NewEnds, ParameterEnds, LockEnds}
-use Rattle.mlk_routine.specs.Ends.{FormatEnds, MostEnds, ReadEnds, WriteEnds}
+use Rattle.mlk_routine.specs.Ends.{FormatEnds, MostEnds, ReadEnds, WriteEnds, TargetEnds, SetEnds}
 
 -- what holds of each of them holds before a stop
 pub by_stop : (P : List ℕ → Type 0) → P [] → ((rest : List ℕ) → P (32 ∷ rest)) → ((rest : List ℕ) → P (44 ∷ rest))
@@ -142,6 +142,13 @@ read_stop (ReadLine v most None) rest h = (most_stop v most rest h, lacks_colon 
 read_stop (ReadLine v most (Some t)) rest h = expr_stop t rest h
 read_stop (ReadCharacter v None) rest h = (variable_stop v rest h, lacks_colon rest h)
 read_stop (ReadCharacter v (Some t)) rest h = expr_stop t rest h
+
+pub target_stop : (t : TargetTree) (rest : List ℕ) → is_stop rest ≡ true → TargetEnds t rest
+target_stop (SetWhole v) rest h = variable_stop v rest h
+target_stop (SetPart part v arguments) rest h = tt
+
+pub set_stop : (s : SetTree) (rest : List ℕ) → is_stop rest ≡ true → SetEnds s rest
+set_stop (SetTo targets value) rest h = expr_stop value rest h
 
 -- an equals sign may stand after a name
 pub name_equals : (name rest : List ℕ) → LabelEnds name (61 ∷ rest)

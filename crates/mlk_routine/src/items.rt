@@ -1,17 +1,18 @@
 // The arguments that stand in lists.
 
 ghost use Rattle.mlk_routine.specs.Trees.{VariableTree, DoTree, CallTree, KillTree, NewTree, MergeTree, ParameterTree};
-ghost use Rattle.mlk_routine.specs.Trees.{LockTree, ReadTree, WriteTree};
+ghost use Rattle.mlk_routine.specs.Trees.{LockTree, ReadTree, WriteTree, TargetTree, SetTree};
 ghost use Rattle.mlk_routine.specs.Views.{variable_of, do_of, call_of, kill_of, new_of, merge_of, parameter_of, lock_of};
-ghost use Rattle.mlk_routine.specs.Views.{read_of, write_of};
+ghost use Rattle.mlk_routine.specs.Views.{read_of, write_of, target_of, set_of};
 ghost use Rattle.mlk_routine.specs.Ends.{VariableEnds, DoEnds, JobEnds, KillEnds, NewEnds, MergeEnds, ParameterEnds};
-ghost use Rattle.mlk_routine.specs.Ends.{LockEnds, ReadEnds, WriteEnds};
+ghost use Rattle.mlk_routine.specs.Ends.{LockEnds, ReadEnds, WriteEnds, TargetEnds, SetEnds};
 ghost use Rattle.mlk_routine.specs.CommandGrammar.{IsVariable, IsDo, IsJob, IsKill, IsNew, IsMerge, IsParameter};
-ghost use Rattle.mlk_routine.specs.CommandGrammar.{IsLock, IsRead, IsWrite};
+ghost use Rattle.mlk_routine.specs.CommandGrammar.{IsLock, IsRead, IsWrite, IsTarget, IsSet};
 ghost use Rattle.mlk_routine.specs.Stops.{do_stop, job_stop, kill_stop, merge_stop, new_stop, parameter_stop, variable_stop};
+ghost use Rattle.mlk_routine.specs.Stops.{lock_stop, read_stop, write_stop, target_stop, set_stop};
 ghost use Rattle.mlk_routine.specs.Begins.{do_begins, job_begins, kill_begins, merge_begins, new_begins};
 ghost use Rattle.mlk_routine.specs.Begins.{parameter_begins, variable_begins, lock_begins, read_begins, write_begins};
-ghost use Rattle.mlk_routine.specs.Stops.{lock_stop, read_stop, write_stop};
+ghost use Rattle.mlk_routine.specs.Begins.{target_begins, set_begins};
 ghost use Rattle.mlk_expr.specs.declared.scope.Allows.TheVariants.{Everything, NoTouches};
 
 use crate::call::{do_argument, job_argument};
@@ -21,9 +22,10 @@ use crate::lock::lock;
 use crate::name::{kill, merge, new};
 use crate::parameter::parameter;
 use crate::part::variable;
+use crate::set::{set, target};
 use crate::tree::{
     Call, DoArgument, KillArgument, LockArgument, MergeArgument, NewArgument, Parameter,
-    ReadArgument, Variable, WriteArgument,
+    ReadArgument, SetArgument, Target, Variable, WriteArgument,
 };
 use mlk_expr::Allows;
 use mlk_text::{Failure, Fault};
@@ -251,5 +253,41 @@ impl Item for WriteArgument {
         at: usize,
     ) -> Result<(WriteArgument, usize), Failure<Fault>> {
         write_argument(alloc, line, at)
+    }
+}
+
+impl Item for Target {
+    ghost Seen = { TargetTree };
+
+    ghost seen = { target_of };
+
+    ghost is = { IsTarget };
+
+    ghost ends = { TargetEnds };
+
+    ghost stop = { target_stop };
+
+    ghost begin = { target_begins };
+
+    fn read(alloc: Global, line: &[u8], at: usize) -> Result<(Target, usize), Failure<Fault>> {
+        target(alloc, line, at)
+    }
+}
+
+impl Item for SetArgument {
+    ghost Seen = { SetTree };
+
+    ghost seen = { set_of };
+
+    ghost is = { IsSet };
+
+    ghost ends = { SetEnds };
+
+    ghost stop = { set_stop };
+
+    ghost begin = { set_begins };
+
+    fn read(alloc: Global, line: &[u8], at: usize) -> Result<(SetArgument, usize), Failure<Fault>> {
+        set(alloc, line, at)
     }
 }

@@ -15,6 +15,7 @@ mod parameter;
 mod part;
 mod routine;
 mod run;
+mod set;
 mod spacing;
 mod tree;
 mod word;
