@@ -1,6 +1,6 @@
 -- The words of commands, from texts and to them.
-use Rattle.std.proofs.Common.{◌≡◌, ◌≤◌, ◌+◌, ℕ, suc, List, [], ◌∷◌, ◌++◌, length, drop, map, Some, None, Bool, true, false, inl, inr, refl, sym, ap, ◌∙◌, arith, subst, codes}
-use Rattle.std.specs.Prelude.{Option, ◌⊎◌, ◌||◌, not}
+use Rattle.std.proofs.Common.{◌≡◌, ◌≤◌, ◌+◌, ℕ, suc, List, [], ◌∷◌, ◌++◌, length, drop, Some, None, true, inl, inr, refl, sym, ap, ◌∙◌, arith, subst, codes}
+use Rattle.std.specs.Prelude.{Option}
 use Rattle.std.specs.List.{list_all}
 use Rattle.std.specs.Str.{str_to_ascii_lowercase, str_eq_ignore_ascii_case}
 use Rattle.std.proofs.lemmas.Bool.{cases_Bool, or_cases, or_right, not_from_false}
@@ -12,12 +12,10 @@ use Rattle.mlk_text.specs.Spellings.{IsWord}
 use Rattle.mlk_text.proofs.Runs.{stops, run-is, parted}
 use Rattle.mlk_text.proofs.Spelled.{word-reads}
 use Rattle.mlk_expr.specs.Words.{is_either}
-use Rattle.mlk_expr.specs.Theorem.{Stands}
 use Rattle.mlk_routine.specs.declared.word.Word.{Word}
 use Rattle.mlk_routine.specs.declared.word.Word.TheVariants as word
 use Rattle.mlk_routine.specs.Trees.{ActionTree, Do, Else, Halt, Hang, If, Job, Kill, Lock, Merge, New, Quit, Read, Set, Write}
 use Rattle.mlk_routine.specs.Told.{Found, Nowhere}
-use Rattle.mlk_routine.specs.Ends.{starts}
 use Rattle.mlk_routine.specs.CommandWords.{is_word_of, is_for}
 use Rattle.mlk_routine.specs.Kinds.{kind, halts_or_hangs, Means, is_written, first_word, all_words, word_of, IsNamed, WordEnds}
 use Rattle.mlk_routine.proofs.Sequences.{stands_at}
