@@ -1,12 +1,12 @@
 -- What may stand after the parts of arguments. For private clauses alone. This project's own.
-use Rattle.std.specs.Prelude.{ℕ, ◌≡◌, ◌≢◌, ◌⊎◌, Bool, true, false, List, [], ◌∷◌, Option, Some, None}
+use Rattle.std.specs.Prelude.{ℕ, ◌≡◌, ◌≢◌, ◌⊎◌, ◌==◌, Bool, true, false, List, [], ◌∷◌, Option, Some, None}
 use Rattle.std.specs.List.{list_all}
 use Rattle.mlk_expr.specs.Trees.{Tree, ActualTree}
 use Rattle.mlk_expr.specs.Theorem.{ExprEnds, ReferenceEnds, CalleeEnds, LabelEnds}
 use Rattle.mlk_routine.specs.Told.{first_of}
 use Rattle.mlk_routine.specs.Trees.{VariableTree, Named, CallTree, Called, DoTree, DoCall, KillTree, KillOne}
 use Rattle.mlk_routine.specs.Trees.{KillAllBut, MergeTree, MergeInto, ParameterTree, Once, Endless, Limited}
-use Rattle.mlk_routine.specs.Trees.{ControlTree, Runs, NewTree, NewOne, NewAllBut}
+use Rattle.mlk_routine.specs.Trees.{ControlTree, Runs, NewTree, NewOne, NewAllBut, CommandTrees}
 
 -- no such byte
 abbrev pub Lacks : ℕ → List ℕ → Type 0
@@ -100,3 +100,11 @@ starts kind (b ∷ rest) = kind b
 
 abbrev pub RunEnds : (ℕ → Bool) → Unit {0} → List ℕ → Type 0
 RunEnds kind u rest = starts kind rest ≡ false
+
+-- after commands: the line's end, or a comment
+abbrev pub is_commands_end : List ℕ → Bool
+is_commands_end [] = true
+is_commands_end (b ∷ rest) = b == 59
+
+abbrev pub CommandsEnd : CommandTrees → List ℕ → Type 0
+CommandsEnd commands rest = is_commands_end rest ≡ true

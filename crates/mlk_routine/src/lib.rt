@@ -2,6 +2,7 @@
 #![tactic(auto)]
 
 mod call;
+mod commands;
 mod fault;
 mod item;
 mod items;
