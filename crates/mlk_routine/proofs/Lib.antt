@@ -13,3 +13,9 @@ pub mod Parameters
 pub mod Controls
 pub mod Singles
 pub mod Stretches
+pub mod SeenNames
+pub mod Labels
+pub mod FormalLists
+pub mod Starts
+pub mod Fronts
+pub mod Tails

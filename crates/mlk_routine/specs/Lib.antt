@@ -6,4 +6,5 @@ pub mod RoutineGrammar
 pub mod Told
 pub mod Ends
 pub mod Commas
+pub mod Lines
 pub mod Theorem

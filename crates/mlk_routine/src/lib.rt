@@ -4,14 +4,20 @@
 mod call;
 mod commands;
 mod fault;
+mod formals;
+mod front;
 mod item;
 mod items;
+mod label;
 mod law;
 mod name;
 mod parameter;
 mod part;
 mod routine;
 mod run;
+mod seen;
+mod start;
+mod tail;
 mod tree;
 
 pub use law::{one_cut, one_nesting};

@@ -1,0 +1,95 @@
+-- The parts of a line, in the order in which they are read, and what may stand after each. For private clauses alone.
+-- This project's own.
+use Rattle.std.specs.Prelude.{ℕ, suc, ◌≡◌, ◌==◌, ◌||◌, Bool, true, false, List, [], ◌∷◌, Option, Some, None, is_some}
+use Rattle.std.specs.Prelude.{bytes_eq, length, Result, Ok, Err}
+use Rattle.std.specs.List.{list_any}
+use Rattle.std.specs.Borrow.{Bor}
+use Rattle.mlk_text.specs.Lexemes.{is_letter, is_digit}
+use Rattle.mlk_expr.specs.Grammar.{IsNameText, IsLabelText}
+use Rattle.mlk_expr.specs.Theorem.{LabelEnds}
+use Rattle.mlk_routine.specs.Ends.{Lacks, starts, is_commands_end}
+use Rattle.mlk_routine.specs.RoutineGrammar.{IsFormals, is_blank, ArePeriods, IsStart, IsComment}
+use Rattle.mlk_routine.specs.CommandGrammar.{Both, AreCommands}
+use Rattle.mlk_routine.specs.Trees.{CommandTrees, finished}
+use Rattle.mlk_routine.specs.declared.front.Front.{Front}
+use Rattle.mlk_routine.specs.Told.{Found, Denied}
+use Rattle.mlk_text.specs.declared.failure.Failure.{Failure}
+use Rattle.mlk_text.specs.declared.fault.Fault.{Fault}
+use Rattle.mlk_expr.specs.Grammar.{Spelled}
+
+-- whether this name is among those seen
+abbrev pub has_name : List ℕ → List (Bor (List ℕ)) → Bool
+has_name q keys = list_any (λ k. bytes_eq q k.now) keys
+
+-- a label, or nothing
+abbrev pub is_label_byte : ℕ → Bool
+is_label_byte b = is_letter b || is_digit b || (b == 37)
+
+abbrev pub IsLabelPart : ℕ → Option (List ℕ) → List ℕ → Type 0
+IsLabelPart at None s = s ≡ []
+IsLabelPart at (Some label) s = IsLabelText at label s
+
+abbrev pub LabelPartEnds : Option (List ℕ) → List ℕ → Type 0
+LabelPartEnds None rest = starts is_label_byte rest ≡ false
+LabelPartEnds (Some label) rest = LabelEnds label rest
+
+-- a formal that is none of those seen
+abbrev pub IsUnseen : List (Bor (List ℕ)) → ℕ → List ℕ → List ℕ → Type 0
+IsUnseen keys at name s = IsNameText at name s × (has_name name keys ≡ false)
+
+-- a formal list, at any column
+abbrev pub IsFormalList : ℕ → List (List ℕ) → List ℕ → Type 0
+IsFormalList at formals s = IsFormals formals s
+
+-- the formals that may stand after a label, or nothing
+abbrev pub IsFormalsPart : Bool → ℕ → Option (List (List ℕ)) → List ℕ → Type 0
+IsFormalsPart labelled at None s = s ≡ []
+IsFormalsPart labelled at (Some formals) s = (labelled ≡ true) × IsFormals formals s
+
+abbrev pub FormalsPartEnds : Bool → Option (List (List ℕ)) → List ℕ → Type 0
+FormalsPartEnds labelled None rest = labelled ≡ true → Lacks 40 rest
+FormalsPartEnds labelled (Some formals) rest = Unit {0}
+
+-- periods, each with blanks after it, and what may stand after them: neither of both
+abbrev pub is_lead : ℕ → Bool
+is_lead b = is_blank b || (b == 46)
+
+abbrev pub ArePeriodsHere : ℕ → ℕ → List ℕ → Type 0
+ArePeriodsHere at periods s = ArePeriods periods s
+
+abbrev pub PeriodsEnd : ℕ → List ℕ → Type 0
+PeriodsEnd periods rest = starts is_lead rest ≡ false
+
+-- a line's start with the level that it gives, or nothing before the line's end or a comment
+abbrev pub IsOpening : ℕ → Option ℕ → List ℕ → Type 0
+IsOpening at None s = s ≡ []
+IsOpening at (Some level) s = (periods : ℕ) × (level ≡ suc periods) × IsStart periods s
+
+abbrev pub OpeningEnds : Option ℕ → List ℕ → Type 0
+OpeningEnds None rest = is_commands_end rest ≡ true
+OpeningEnds (Some level) rest = starts is_lead rest ≡ false
+
+-- what stands before a line's commands
+abbrev pub IsFront : ℕ → Front → List ℕ → Type 0
+IsFront at f s = Both (λ n r. IsLabelPart n f.label r)
+    (Both (λ n r. IsFormalsPart (is_some f.label) n f.formals r) (λ n r. IsOpening n f.level r)) at s
+
+abbrev pub FrontEnds : Front → List ℕ → Type 0
+FrontEnds f rest = OpeningEnds f.level rest
+
+-- nothing
+abbrev pub AtEnd : {A : Type 0} → A → List ℕ → Type 0
+AtEnd a rest = rest ≡ []
+
+-- the commands and the comment of a line of this level; where it has no start, a comment alone
+abbrev pub IsTail : ℕ → ℕ → CommandTrees → List ℕ → Type 0
+IsTail level at commands s = Both (λ n r. AreCommands level 0 n commands r) (λ n r. IsComment r) at s
+
+abbrev pub IsTailOf : Option ℕ → ℕ → CommandTrees → List ℕ → Type 0
+IsTailOf None at commands s = (commands ≡ finished) × IsComment s
+IsTailOf (Some level) at commands s = IsTail level at commands s
+
+-- what is told of all that is left of a line
+abbrev pub ToldToEnd : {X A : Type 0} → (X → A) → Spelled A → List ℕ → ℕ → Result X (Failure Fault) → Type 0
+ToldToEnd view Is line at (Ok x) = Found Is AtEnd line at (view x) (length line)
+ToldToEnd view Is line at (Err e) = Denied Is AtEnd line at e
