@@ -19,3 +19,4 @@ pub mod FormalLists
 pub mod Starts
 pub mod Fronts
 pub mod Tails
+pub mod Reaching

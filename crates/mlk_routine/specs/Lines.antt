@@ -10,7 +10,7 @@ use Rattle.mlk_expr.specs.Theorem.{LabelEnds}
 use Rattle.mlk_routine.specs.Ends.{Lacks, starts, is_commands_end}
 use Rattle.mlk_routine.specs.RoutineGrammar.{IsFormals, is_blank, ArePeriods, IsStart, IsComment}
 use Rattle.mlk_routine.specs.CommandGrammar.{Both, AreCommands}
-use Rattle.mlk_routine.specs.Trees.{CommandTrees, finished}
+use Rattle.mlk_routine.specs.Trees.{CommandTree, Does, Do, CommandTrees, finished}
 use Rattle.mlk_routine.specs.declared.front.Front.{Front}
 use Rattle.mlk_routine.specs.Told.{Found, Denied}
 use Rattle.mlk_text.specs.declared.failure.Failure.{Failure}
@@ -93,3 +93,8 @@ IsTailOf (Some level) at commands s = IsTail level at commands s
 abbrev pub ToldToEnd : {X A : Type 0} → (X → A) → Spelled A → List ℕ → ℕ → Result X (Failure Fault) → Type 0
 ToldToEnd view Is line at (Ok x) = Found Is AtEnd line at (view x) (length line)
 ToldToEnd view Is line at (Err e) = Denied Is AtEnd line at e
+
+-- a DO without arguments
+abbrev pub is_block : CommandTree → Bool
+is_block (Does column condition (Do [])) = true
+is_block command = false

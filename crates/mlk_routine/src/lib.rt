@@ -13,6 +13,7 @@ mod law;
 mod name;
 mod parameter;
 mod part;
+mod reach;
 mod routine;
 mod run;
 mod seen;
