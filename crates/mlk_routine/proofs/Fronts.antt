@@ -154,6 +154,9 @@ module _ (line : List ℕ) where
     apart = λ c u rest h (s, t, is, one, two) e. (c.label, (c.formals, c.level), s, t, is, refl, one, two, then_ends c.label (suc 0 + length s) (c.formals, c.level) t rest two e, e);
   }
 
+  pub no_label_front : Nowhere IsLabelPart LabelPartEnds line 0 → Nowhere IsFront FrontEnds line 0
+  no_label_front f = first_nowhere front_parts (omega arith) f
+
   module _ (label : Option (List ℕ)) (at : ℕ) (less : at ≤ length line) (found : Found IsLabelPart LabelPartEnds line 0 label at) where
     pub no_formals_front : Nowhere (IsFormalsPart (is_some label)) (FormalsPartEnds (is_some label)) line at → Nowhere IsFront FrontEnds line 0
     no_formals_front f = second_nowhere front_parts (omega arith) label at found (first_nowhere (then_parts (is_some label) at) less f)

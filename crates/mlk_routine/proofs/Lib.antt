@@ -20,3 +20,4 @@ pub mod Starts
 pub mod Fronts
 pub mod Tails
 pub mod Reaching
+pub mod Heads

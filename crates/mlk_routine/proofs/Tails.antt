@@ -17,7 +17,7 @@ use Rattle.mlk_routine.specs.Ends.{is_commands_end, CommandsEnd, starts}
 use Rattle.mlk_routine.specs.CommandWords.{is_word_of, is_for}
 use Rattle.mlk_routine.specs.CommandGrammar.{IsCommand, IsForHead, AreCommands}
 use Rattle.mlk_routine.specs.RoutineGrammar.{IsComment}
-use Rattle.mlk_routine.specs.Lines.{OpeningEnds, AtEnd, IsTail, IsTailOf, is_lead}
+use Rattle.mlk_routine.specs.Lines.{OpeningEnds, AtEnd, IsTail, IsTailOf, is_lead, level_in}
 use Rattle.mlk_routine.proofs.Sequences.{Parts, both_found, first_nowhere, second_nowhere}
 
 -- a text that begins with a letter, or with what is above all that may stand before commands or after them
@@ -81,7 +81,7 @@ commands_lettered level loops k (then_command first rest) s (text, gap, followin
 commands_lettered level loops k (then_for column index control rest) s (text, gap, following, is, head, same, few, spaces, more) = inr (longer s text (gap ++ following) is (head_lettered column k control text head))
 
 -- comments
-comment_ends : (s : List ℕ) → IsComment s → is_commands_end s ≡ true
+pub comment_ends : (s : List ℕ) → IsComment s → is_commands_end s ≡ true
 comment_ends s (inl none) = ap is_commands_end none
 comment_ends s (inr (text, is, good)) = ap is_commands_end is
 
@@ -95,22 +95,23 @@ text_comment (b ∷ s) end good =
     let e : b ≡ 59 = grind (arith, nat_tests, end) in
     inr (s, ap (λ c. c ∷ s) e, (and_parts (is_text_byte b) (is_text s) good).1)
 
--- the bytes of a comment, counted
-pub all_good : (s : List ℕ) → length s ≤ prefix_len is_text_byte s → is_text s ≡ true
-all_good [] less = refl
-all_good (b ∷ s) less = go (cases_Bool (is_text_byte b)) (all_good s)
-  where
-    go : (is_text_byte b ≡ true) ⊎ (is_text_byte b ≡ false) → (length s ≤ prefix_len is_text_byte s → is_text s ≡ true) → is_text (b ∷ s) ≡ true
-    go (inl e) ih = rw e (ih (let h = rw e at less in omega (arith, h)))
-    go (inr e) ih = let h = rw e at less in absurd (omega (arith, h))
+-- bytes of a kind, counted
+module _ (kind : ℕ → Bool) where
+  pub all_good : (s : List ℕ) → length s ≤ prefix_len kind s → list_all kind s ≡ true
+  all_good [] less = refl
+  all_good (b ∷ s) less = go (cases_Bool (kind b)) (all_good s)
+    where
+      go : (kind b ≡ true) ⊎ (kind b ≡ false) → (length s ≤ prefix_len kind s → list_all kind s ≡ true) → list_all kind (b ∷ s) ≡ true
+      go (inl e) ih = rw e (ih (let h = rw e at less in omega (arith, h)))
+      go (inr e) ih = let h = rw e at less in absurd (omega (arith, h))
 
-pub one_bad : (s : List ℕ) → prefix_len is_text_byte s < length s → is_text s ≡ false
-one_bad [] less = absurd (omega (arith, less))
-one_bad (b ∷ s) less = go (cases_Bool (is_text_byte b)) (one_bad s)
-  where
-    go : (is_text_byte b ≡ true) ⊎ (is_text_byte b ≡ false) → (prefix_len is_text_byte s < length s → is_text s ≡ false) → is_text (b ∷ s) ≡ false
-    go (inl e) ih = rw e (ih (let h = rw e at less in omega (arith, h)))
-    go (inr e) ih = rw e refl
+  pub one_bad : (s : List ℕ) → prefix_len kind s < length s → list_all kind s ≡ false
+  one_bad [] less = absurd (omega (arith, less))
+  one_bad (b ∷ s) less = go (cases_Bool (kind b)) (one_bad s)
+    where
+      go : (kind b ≡ true) ⊎ (kind b ≡ false) → (prefix_len kind s < length s → list_all kind s ≡ false) → list_all kind (b ∷ s) ≡ false
+      go (inl e) ih = rw e (ih (let h = rw e at less in omega (arith, h)))
+      go (inr e) ih = rw e refl
 
 -- a comment, or nothing, up to the line's end
 abbrev IsNote : ℕ → Unit {0} → List ℕ → Type 0
@@ -162,10 +163,6 @@ module _ (line : List ℕ) (at : ℕ) (end : is_commands_end (drop at line) ≡ 
 
   alone_nowhere : Nowhere (IsTail 1) AtEnd line at → Nowhere (IsTailOf None) AtEnd line at
   alone_nowhere f d u rest h is e = f d u rest h (alone_tail d (suc at) u is) e
-
--- the level of a line
-abbrev pub level_in : Option ℕ → ℕ
-level_in level = unwrap_or level 1
 
 module _ (line : List ℕ) (at : ℕ) (less : at ≤ length line) where
   pub tail_found : (level : Option ℕ) → OpeningEnds level (drop at line) → (c : CommandTrees) (m : ℕ) → Found (AreCommands (level_in level) 0) CommandsEnd line at c m → IsComment (drop m line) → Found (IsTailOf level) AtEnd line at c (length line)

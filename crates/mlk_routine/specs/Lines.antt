@@ -1,19 +1,23 @@
 -- The parts of a line, in the order in which they are read, and what may stand after each. For private clauses alone.
 -- This project's own.
 use Rattle.std.specs.Prelude.{ℕ, suc, ◌≡◌, ◌==◌, ◌||◌, Bool, true, false, List, [], ◌∷◌, Option, Some, None, is_some}
-use Rattle.std.specs.Prelude.{bytes_eq, length, Result, Ok, Err}
-use Rattle.std.specs.List.{list_any}
+use Rattle.std.specs.Prelude.{bytes_eq, length, Result, Ok, Err, unwrap_or, ◌⊎◌, ◌≤◌}
+use Rattle.std.specs.List.{list_any, list_all}
 use Rattle.std.specs.Borrow.{Bor}
 use Rattle.mlk_text.specs.Lexemes.{is_letter, is_digit}
 use Rattle.mlk_expr.specs.Grammar.{IsNameText, IsLabelText}
 use Rattle.mlk_expr.specs.Theorem.{LabelEnds}
 use Rattle.mlk_routine.specs.Ends.{Lacks, starts, is_commands_end}
-use Rattle.mlk_routine.specs.RoutineGrammar.{IsFormals, is_blank, ArePeriods, IsStart, IsComment}
+use Rattle.mlk_routine.specs.RoutineGrammar.{IsFormals, is_blank, ArePeriods, IsStart, IsComment, IsLine, level_of, reaches, is_line_byte}
 use Rattle.mlk_routine.specs.CommandGrammar.{Both, AreCommands}
-use Rattle.mlk_routine.specs.Trees.{CommandTree, Does, Do, CommandTrees, finished}
+use Rattle.mlk_routine.specs.Trees.{CommandTree, Does, Do, CommandTrees, finished, HeadTree, LineHead}
+use Rattle.mlk_routine.specs.declared.line.Before.{Before}
+use Rattle.mlk_routine.specs.declared.routine.Line.{Line}
+use Rattle.mlk_routine.specs.Views.{line_of}
 use Rattle.mlk_routine.specs.declared.front.Front.{Front}
 use Rattle.mlk_routine.specs.Told.{Found, Denied}
 use Rattle.mlk_text.specs.declared.failure.Failure.{Failure}
+use Rattle.mlk_text.specs.declared.failure.Failure.TheVariants.{OutOfMemory, Refused}
 use Rattle.mlk_text.specs.declared.fault.Fault.{Fault}
 use Rattle.mlk_expr.specs.Grammar.{Spelled}
 
@@ -98,3 +102,51 @@ ToldToEnd view Is line at (Err e) = Denied Is AtEnd line at e
 abbrev pub is_block : CommandTree → Bool
 is_block (Does column condition (Do [])) = true
 is_block command = false
+
+-- the level of a line
+abbrev pub level_in : Option ℕ → ℕ
+level_in level = unwrap_or level 1
+
+abbrev pub label_of : HeadTree → Option (List ℕ)
+label_of (LineHead number level end label formals commands) = label
+
+abbrev pub is_in : Option (List ℕ) → List (Bor (List ℕ)) → Bool
+is_in None keys = false
+is_in (Some label) keys = has_name label keys
+
+abbrev pub is_labelled : List ℕ → Option (List ℕ) → Bool
+is_labelled q None = false
+is_labelled q (Some label) = bytes_eq q label
+
+-- a line of this level may follow one of that level: it is no deeper, or the first of that one's block
+abbrev pub Steps : ℕ → Bool → ℕ → Type 0
+Steps last reaches level = (level ≤ last) ⊎ ((level ≡ suc last) × (reaches ≡ true))
+
+-- what a line's front keeps to by itself, and after the lines before it
+abbrev pub IsKept : Option (List ℕ) → ℕ → Type 0
+IsKept label level = ((label ≡ None) ⊎ (level ≤ 1)) × (level ≤ 15)
+
+abbrev pub Fits : Before → Option (List ℕ) → ℕ → Type 0
+Fits before label level = (is_in label before.labels.texts.keys ≡ false) × Steps before.level before.reaches level
+
+abbrev pub FitsAfter : Before → HeadTree → Type 0
+FitsAfter before head = Fits before (label_of head) (level_of head)
+
+-- the head of a line of the code
+abbrev pub head_of : Line → HeadTree
+head_of l = (line_of l).0
+
+-- a line, and no other
+abbrev pub IsLineOnly : ℕ → List ℕ → HeadTree → Type 0
+IsLineOnly n s head = IsLine n head s × ((other : HeadTree) → IsLine n other s → other ≡ head)
+
+-- what is known after one more line
+pub record IsAfter (old new : Before) (head : HeadTree) : Type 0 where
+  pub labels : (q : List ℕ) → has_name q new.labels.texts.keys ≡ (is_labelled q (label_of head) || has_name q old.labels.texts.keys)
+  pub level : new.level ≡ level_of head
+  pub reaches : new.reaches ≡ reaches head
+
+-- no line of this text fits here
+abbrev pub NoLine : Before → ℕ → List ℕ → Failure Fault → Type 0
+NoLine before n s OutOfMemory = Unit {0}
+NoLine before n s (Refused fault) = (head : HeadTree) → IsLine n head s → list_all is_line_byte s ≡ true → FitsAfter before head → ⊥

@@ -10,6 +10,7 @@ mod item;
 mod items;
 mod label;
 mod law;
+mod line;
 mod name;
 mod parameter;
 mod part;

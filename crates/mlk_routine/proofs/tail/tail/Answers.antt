@@ -4,9 +4,9 @@ use Rattle.mlk_routine.specs.Told.{Found, Denied}
 use Rattle.mlk_routine.specs.Ends.{CommandsEnd}
 use Rattle.mlk_routine.specs.CommandGrammar.{AreCommands}
 use Rattle.mlk_routine.specs.Views.{commands_of}
-use Rattle.mlk_routine.specs.Lines.{AtEnd, IsTailOf}
+use Rattle.mlk_routine.specs.Lines.{AtEnd, IsTailOf, level_in}
 use Rattle.mlk_routine.proofs.Outcomes.{hands_on, denies}
-use Rattle.mlk_routine.proofs.Tails.{tail_found, no_comment_tail, no_commands_tail, level_in}
+use Rattle.mlk_routine.proofs.Tails.{tail_found, no_comment_tail, no_commands_tail}
 use Rattle.mlk_routine.proofs.tail.tail.Goals as goal
 
 pub returns-in_err-commands : goal.returns-in_err-commands
