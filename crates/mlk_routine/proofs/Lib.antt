@@ -21,3 +21,4 @@ pub mod Fronts
 pub mod Tails
 pub mod Reaching
 pub mod Heads
+pub mod FlatLines

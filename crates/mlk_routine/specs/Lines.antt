@@ -1,7 +1,7 @@
 -- The parts of a line, in the order in which they are read, and what may stand after each. For private clauses alone.
 -- This project's own.
 use Rattle.std.specs.Prelude.{ℕ, suc, ◌≡◌, ◌==◌, ◌||◌, Bool, true, false, List, [], ◌∷◌, Option, Some, None, is_some}
-use Rattle.std.specs.Prelude.{bytes_eq, length, Result, Ok, Err, unwrap_or, ◌⊎◌, ◌≤◌}
+use Rattle.std.specs.Prelude.{bytes_eq, length, Result, Ok, Err, unwrap_or, ◌⊎◌, ◌≤◌, map}
 use Rattle.std.specs.List.{list_any, list_all}
 use Rattle.std.specs.Borrow.{Bor}
 use Rattle.mlk_text.specs.Lexemes.{is_letter, is_digit}
@@ -9,6 +9,7 @@ use Rattle.mlk_expr.specs.Grammar.{IsNameText, IsLabelText}
 use Rattle.mlk_expr.specs.Theorem.{LabelEnds}
 use Rattle.mlk_routine.specs.Ends.{Lacks, starts, is_commands_end}
 use Rattle.mlk_routine.specs.RoutineGrammar.{IsFormals, is_blank, ArePeriods, IsStart, IsComment, IsLine, level_of, reaches, is_line_byte}
+use Rattle.mlk_routine.specs.RoutineGrammar.{AreLines, AreDistinct, labels_of}
 use Rattle.mlk_routine.specs.CommandGrammar.{Both, AreCommands}
 use Rattle.mlk_routine.specs.Trees.{CommandTree, Does, Do, CommandTrees, finished, HeadTree, LineHead}
 use Rattle.mlk_routine.specs.declared.line.Before.{Before}
@@ -150,3 +151,27 @@ pub record IsAfter (old new : Before) (head : HeadTree) : Type 0 where
 abbrev pub NoLine : Before → ℕ → List ℕ → Failure Fault → Type 0
 NoLine before n s OutOfMemory = Unit {0}
 NoLine before n s (Refused fault) = (head : HeadTree) → IsLine n head s → list_all is_line_byte s ≡ true → FitsAfter before head → ⊥
+
+-- lines that follow each other, after a line of this level
+abbrev pub Follow : ℕ → Bool → List HeadTree → Type 0
+Follow last reached [] = Unit {0}
+Follow last reached (head ∷ heads) = Steps last reached (level_of head) × Follow (level_of head) (reaches head) heads
+
+abbrev pub AllPlain : List (List ℕ) → Type 0
+AllPlain [] = Unit {0}
+AllPlain (s ∷ texts) = (list_all is_line_byte s ≡ true) × AllPlain texts
+
+-- the lines of these texts, before they are blocks
+abbrev pub AreHeads : List (List ℕ) → List HeadTree → Type 0
+AreHeads texts heads = AreLines 1 heads texts × AllPlain texts × Follow 0 true heads × AreDistinct (labels_of heads)
+
+abbrev pub AreHeadsOnly : List (List ℕ) → List HeadTree → Type 0
+AreHeadsOnly texts heads = AreHeads texts heads × ((others : List HeadTree) → AreLines 1 others texts → others ≡ heads)
+
+abbrev pub NoHeads : List (List ℕ) → Failure Fault → Type 0
+NoHeads texts OutOfMemory = Unit {0}
+NoHeads texts (Refused fault) = (heads : List HeadTree) → AreHeads texts heads → ⊥
+
+-- the texts of a slice
+abbrev pub texts_of : List (Bor (List ℕ)) → List (List ℕ)
+texts_of texts = map (λ t. t.now) texts

@@ -11,6 +11,7 @@ mod items;
 mod label;
 mod law;
 mod line;
+mod lines;
 mod name;
 mod parameter;
 mod part;
