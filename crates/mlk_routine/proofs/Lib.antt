@@ -22,3 +22,4 @@ pub mod Tails
 pub mod Reaching
 pub mod Heads
 pub mod FlatLines
+pub mod UnderHeads

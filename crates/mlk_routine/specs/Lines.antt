@@ -1,7 +1,7 @@
 -- The parts of a line, in the order in which they are read, and what may stand after each. For private clauses alone.
 -- This project's own.
 use Rattle.std.specs.Prelude.{ℕ, suc, ◌≡◌, ◌==◌, ◌||◌, Bool, true, false, List, [], ◌∷◌, Option, Some, None, is_some}
-use Rattle.std.specs.Prelude.{bytes_eq, length, Result, Ok, Err, unwrap_or, ◌⊎◌, ◌≤◌, map}
+use Rattle.std.specs.Prelude.{bytes_eq, length, Result, Ok, Err, unwrap_or, ◌⊎◌, ◌≤◌, map, ◌++◌}
 use Rattle.std.specs.List.{list_any, list_all}
 use Rattle.std.specs.Borrow.{Bor}
 use Rattle.mlk_text.specs.Lexemes.{is_letter, is_digit}
@@ -9,9 +9,9 @@ use Rattle.mlk_expr.specs.Grammar.{IsNameText, IsLabelText}
 use Rattle.mlk_expr.specs.Theorem.{LabelEnds}
 use Rattle.mlk_routine.specs.Ends.{Lacks, starts, is_commands_end}
 use Rattle.mlk_routine.specs.RoutineGrammar.{IsFormals, is_blank, ArePeriods, IsStart, IsComment, IsLine, level_of, reaches, is_line_byte}
-use Rattle.mlk_routine.specs.RoutineGrammar.{AreLines, AreDistinct, labels_of}
+use Rattle.mlk_routine.specs.RoutineGrammar.{AreLines, AreDistinct, labels_of, AreNested, heads_of}
 use Rattle.mlk_routine.specs.CommandGrammar.{Both, AreCommands}
-use Rattle.mlk_routine.specs.Trees.{CommandTree, Does, Do, CommandTrees, finished, HeadTree, LineHead}
+use Rattle.mlk_routine.specs.Trees.{CommandTree, Does, Do, CommandTrees, finished, HeadTree, LineHead, LineTrees}
 use Rattle.mlk_routine.specs.declared.line.Before.{Before}
 use Rattle.mlk_routine.specs.declared.routine.Line.{Line}
 use Rattle.mlk_routine.specs.Views.{line_of}
@@ -175,3 +175,17 @@ NoHeads texts (Refused fault) = (heads : List HeadTree) → AreHeads texts heads
 -- the texts of a slice
 abbrev pub texts_of : List (Bor (List ℕ)) → List (List ℕ)
 texts_of texts = map (λ t. t.now) texts
+
+-- lines that go on at this level or above it, after lines that they may follow
+abbrev pub Upto : ℕ → List HeadTree → Type 0
+Upto level [] = Unit {0}
+Upto level (head ∷ heads) = (level_of head ≤ level) × Follow (level_of head) (reaches head) heads
+
+-- the lines deeper than a level at the front of others, as blocks, and what is left
+abbrev pub IsBlock : ℕ → LineTrees → List HeadTree → List HeadTree → Type 0
+IsBlock level lines heads rest = AreNested (suc level) lines × (heads ≡ heads_of lines ++ rest) × Upto level rest
+
+-- what may be left where no line is deeper
+abbrev pub IsNotDeeper : ℕ → List Line → Type 0
+IsNotDeeper level [] = Unit {0}
+IsNotDeeper level (l ∷ lines) = level_of (head_of l) ≤ level

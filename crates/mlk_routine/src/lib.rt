@@ -1,6 +1,7 @@
 //! The routines of M: their trees, and the reader that is exact for their grammar.
 #![tactic(auto)]
 
+mod blocks;
 mod call;
 mod commands;
 mod fault;
