@@ -23,3 +23,4 @@ pub mod Reaching
 pub mod Heads
 pub mod FlatLines
 pub mod UnderHeads
+pub mod WholeRoutines

@@ -12,7 +12,7 @@ use Rattle.mlk_routine.specs.Views.{line_of, lines_from, line_step, commands_of}
 use Rattle.mlk_routine.specs.RoutineGrammar.{heads_of, level_of, reaches, AreNested, IsLine, AreLines}
 use Rattle.mlk_routine.specs.Lines.{head_of, Steps, Follow, Upto, IsBlock, IsNotDeeper}
 
-follow_upto : (last : ℕ) (reached : Bool) (heads : List HeadTree) → Follow last reached heads → Upto (suc last) heads
+pub follow_upto : (last : ℕ) (reached : Bool) (heads : List HeadTree) → Follow last reached heads → Upto (suc last) heads
 follow_upto last reached [] h = tt
 follow_upto last reached (head ∷ heads) (inl low, more) = (omega (arith, low), more)
 follow_upto last reached (head ∷ heads) (inr deep, more) = let same = deep.0 in (omega (arith, same), more)

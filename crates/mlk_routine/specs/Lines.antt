@@ -9,9 +9,10 @@ use Rattle.mlk_expr.specs.Grammar.{IsNameText, IsLabelText}
 use Rattle.mlk_expr.specs.Theorem.{LabelEnds}
 use Rattle.mlk_routine.specs.Ends.{Lacks, starts, is_commands_end}
 use Rattle.mlk_routine.specs.RoutineGrammar.{IsFormals, is_blank, ArePeriods, IsStart, IsComment, IsLine, level_of, reaches, is_line_byte}
-use Rattle.mlk_routine.specs.RoutineGrammar.{AreLines, AreDistinct, labels_of, AreNested, heads_of}
+use Rattle.mlk_routine.specs.RoutineGrammar.{AreLines, AreDistinct, labels_of, AreNested, heads_of, percent, IsRoutine}
+use Rattle.mlk_text.specs.Spellings.{IsName}
 use Rattle.mlk_routine.specs.CommandGrammar.{Both, AreCommands}
-use Rattle.mlk_routine.specs.Trees.{CommandTree, Does, Do, CommandTrees, finished, HeadTree, LineHead, LineTrees}
+use Rattle.mlk_routine.specs.Trees.{CommandTree, Does, Do, CommandTrees, finished, HeadTree, LineHead, LineTrees, RoutineTree}
 use Rattle.mlk_routine.specs.declared.line.Before.{Before}
 use Rattle.mlk_routine.specs.declared.routine.Line.{Line}
 use Rattle.mlk_routine.specs.Views.{line_of}
@@ -189,3 +190,13 @@ IsBlock level lines heads rest = AreNested (suc level) lines × (heads ≡ heads
 abbrev pub IsNotDeeper : ℕ → List Line → Type 0
 IsNotDeeper level [] = Unit {0}
 IsNotDeeper level (l ∷ lines) = level_of (head_of l) ≤ level
+
+-- the name that a stem spells, if it spells one
+abbrev pub IsStemName : List ℕ → Option (List ℕ) → Type 0
+IsStemName stem None = IsName (percent stem) → ⊥
+IsStemName stem (Some name) = (name ≡ percent stem) × IsName name
+
+-- what is refused, unless memory ran out, is no routine
+abbrev pub NoRoutine : List ℕ → List ℕ → Failure Fault → Type 0
+NoRoutine stem text OutOfMemory = Unit {0}
+NoRoutine stem text (Refused fault) = (tree : RoutineTree) → IsRoutine stem tree text → ⊥

@@ -122,3 +122,8 @@ pub(crate) fn in_line(
     }
     located(alloc, routine, number, column, code, left_out)
 }
+
+/// The refusal of a whole routine.
+pub(crate) fn whole(alloc: Global, code: Code, routine: &[u8]) -> Failure<Fault> {
+    located(alloc, routine, 1, Column::new(1), code, None)
+}

@@ -17,14 +17,17 @@ mod name;
 mod parameter;
 mod part;
 mod reach;
+mod read;
 mod routine;
 mod run;
 mod seen;
 mod start;
+mod stem;
 mod tail;
 mod tree;
 
 pub use law::{one_cut, one_nesting};
+pub use read::read_routine;
 pub use routine::{Line, Routine};
 pub use tree::{
     Action, Call, Command, Commands, Control, DoArgument, For, KillArgument, LockArgument,
