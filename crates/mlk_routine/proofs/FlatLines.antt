@@ -1,10 +1,8 @@
 -- The lines of a text, one after the other.
-use Rattle.std.proofs.Common.{◌≡◌, ◌<◌, ◌≤◌, ◌+◌, ℕ, zero, suc, List, [], ◌∷◌, ◌++◌, length, drop, map, Some, None, Bool, true, false, inl, inr, refl, sym, ap, ◌∙◌, arith, subst, append_assoc, append-nil, add-one, bytes_eq}
-use Rattle.std.specs.Prelude.{Option, ◌⊎◌, ◌||◌, slice_index_or, Contains}
-use Rattle.std.specs.List.{list_all, list_any}
+use Rattle.std.proofs.Common.{◌≡◌, ◌<◌, ◌≤◌, ◌+◌, ℕ, zero, suc, List, [], ◌∷◌, ◌++◌, length, drop, Some, None, true, false, refl, sym, ap, ◌∙◌, arith, subst, append_assoc, append-nil, add-one}
+use Rattle.std.specs.Prelude.{◌||◌, slice_index_or}
+use Rattle.std.specs.List.{list_all}
 use Rattle.std.specs.Borrow.{Bor}
-use Rattle.std.proofs.lemmas.Bool.{cases_Bool}
-use Rattle.std.proofs.lemmas.List.Elements.{Contains-append_left, Contains-append_right}
 use Rattle.mlk_text.specs.declared.failure.Failure.{Failure}
 use Rattle.mlk_text.specs.declared.failure.Failure.TheVariants.{OutOfMemory, Refused}
 use Rattle.mlk_text.specs.declared.fault.Fault.{Fault}
@@ -12,7 +10,7 @@ use Rattle.mlk_routine.specs.declared.line.Before.{Before}
 use Rattle.mlk_routine.specs.Trees.{HeadTree, LineHead}
 use Rattle.mlk_routine.specs.Told.{IsRefusal}
 use Rattle.mlk_routine.specs.RoutineGrammar.{AreLines, IsLine, AreDistinct, labels_of, level_of, reaches, is_line_byte}
-use Rattle.mlk_routine.specs.Lines.{has_name, label_of, is_in, is_labelled, Steps, Fits, FitsAfter, IsLineOnly, IsAfter, NoLine, Follow, AllPlain, AreHeads, AreHeadsOnly, NoHeads, texts_of}
+use Rattle.mlk_routine.specs.Lines.{has_name, label_of, is_in, is_labelled, FitsAfter, IsLineOnly, IsAfter, NoLine, Follow, AllPlain, AreHeads, AreHeadsOnly, NoHeads, texts_of}
 use Rattle.mlk_routine.proofs.FormalLists.{among, AreSeen, AllFresh, fresh_distinct, distinct_fresh, more_seen}
 
 -- names, of which the last is new

@@ -1,5 +1,5 @@
 -- Formal lists, read name by name.
-use Rattle.std.proofs.Common.{◌≡◌, ◌<◌, ◌≤◌, ◌+◌, ◌-◌, ℕ, zero, suc, List, [], ◌∷◌, ◌++◌, length, take, drop, Some, Bool, true, false, not, inl, inr, refl, sym, ap, ◌∙◌, arith, subst, append_assoc, append-nil, bytes_eq, add-one}
+use Rattle.std.proofs.Common.{◌≡◌, ◌<◌, ◌≤◌, ◌+◌, ◌-◌, ℕ, zero, suc, List, [], ◌∷◌, ◌++◌, length, take, drop, Some, Bool, true, false, not, inl, inr, refl, sym, ap, ◌∙◌, arith, subst, append_assoc, bytes_eq, add-one}
 use Rattle.std.specs.Prelude.{◌⊎◌, Contains, ◌||◌}
 use Rattle.std.specs.List.{list_any}
 use Rattle.std.specs.Borrow.{Bor}
@@ -9,7 +9,7 @@ use Rattle.std.proofs.lemmas.Option.{same_Some}
 use Rattle.std.proofs.lemmas.Slice.Eq.{bytes_eq-Decides}
 use Rattle.std.proofs.lemmas.List.Elements.{Contains-append_left, Contains-append_right, Contains-append_cases}
 use Rattle.std.proofs.lemmas.Map.Views.{Contains-from_any}
-use Rattle.mlk_expr.specs.Grammar.{Spelled, AreNext, IsList, IsNameText}
+use Rattle.mlk_expr.specs.Grammar.{AreNext, IsNameText}
 use Rattle.mlk_expr.specs.Theorem.{Stands, LabelEnds}
 use Rattle.mlk_routine.specs.Told.{Found, Nowhere, first_of, byte_at}
 use Rattle.mlk_routine.specs.Ends.{AnyEnds}

@@ -1,16 +1,16 @@
 -- What stands before a line's commands.
-use Rattle.std.proofs.Common.{◌≡◌, ◌<◌, ◌≤◌, ◌+◌, ℕ, zero, suc, List, [], ◌∷◌, ◌++◌, length, drop, Some, None, Bool, true, false, inl, inr, refl, sym, ap, ◌∙◌, arith, subst, append_assoc, append-nil}
-use Rattle.std.specs.Prelude.{Option, ◌||◌, ◌==◌, ◌⊎◌, is_some, not, if◌then◌else◌}
+use Rattle.std.proofs.Common.{◌≡◌, ◌<◌, ◌≤◌, ◌+◌, ℕ, suc, List, [], ◌∷◌, ◌++◌, length, drop, Some, None, Bool, true, false, inl, inr, refl, sym, ap, ◌∙◌, arith, subst, append_assoc}
+use Rattle.std.specs.Prelude.{Option, ◌==◌, ◌⊎◌, is_some, not, if◌then◌else◌}
 use Rattle.std.proofs.lemmas.Bool.{cases_Bool, and_parts}
 use Rattle.std.proofs.lemmas.Bool.Decides.{nat_tests}
 use Rattle.std.proofs.lemmas.Option.{same_Some}
 use Rattle.std.specs.List.{list_all}
-use Rattle.mlk_text.specs.Lexemes.{is_digit, is_name_byte}
+use Rattle.mlk_text.specs.Lexemes.{is_digit}
 use Rattle.mlk_expr.specs.Theorem.{Stands, LabelEnds}
 use Rattle.mlk_routine.specs.declared.front.Front.{Front}
 use Rattle.mlk_routine.specs.Told.{Found, Nowhere, first_of, byte_at}
 use Rattle.mlk_routine.specs.Ends.{AnyEnds, Lacks, starts, is_commands_end}
-use Rattle.mlk_routine.specs.RoutineGrammar.{is_blank, AreBlanks, IsStart, IsFormals}
+use Rattle.mlk_routine.specs.RoutineGrammar.{is_blank, AreBlanks, IsFormals}
 use Rattle.mlk_routine.specs.Lines.{is_label_byte, IsLabelPart, LabelPartEnds, IsFormalList, IsFormalsPart, FormalsPartEnds, IsOpening, OpeningEnds, IsFront, FrontEnds}
 use Rattle.mlk_routine.specs.CommandGrammar.{Both}
 use Rattle.mlk_routine.proofs.Sequences.{Parts, Turned, both_found, first_nowhere, second_nowhere}

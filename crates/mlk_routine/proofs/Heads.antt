@@ -1,26 +1,22 @@
 -- Lines, by their parts.
-use Rattle.std.proofs.Common.{◌≡◌, ◌<◌, ◌≤◌, ◌+◌, ℕ, zero, suc, List, [], ◌∷◌, ◌++◌, length, drop, take, Some, None, Bool, true, false, inl, inr, refl, sym, ap, ◌∙◌, arith, subst, append_assoc, append-nil, length-append}
+use Rattle.std.proofs.Common.{◌≡◌, ◌<◌, ◌≤◌, ◌+◌, ℕ, suc, List, [], ◌++◌, length, drop, take, Some, None, false, inl, inr, refl, sym, ap, ◌∙◌, arith, subst, append_assoc, append-nil, length-append}
 use Rattle.std.specs.Prelude.{Option, ◌⊎◌, is_some}
 use Rattle.std.specs.List.{list_all}
 use Rattle.std.proofs.Math.Seq.{take-append_seam}
-use Rattle.mlk_text.specs.Spellings.{IsLabel}
 use Rattle.mlk_text.specs.declared.failure.Failure.{Failure}
 use Rattle.mlk_text.specs.declared.failure.Failure.TheVariants.{OutOfMemory, Refused}
 use Rattle.mlk_text.specs.declared.fault.Fault.{Fault}
-use Rattle.mlk_expr.specs.Theorem.{Stands}
 use Rattle.mlk_routine.specs.declared.front.Front.{Front}
 use Rattle.mlk_routine.specs.declared.line.Before.{Before}
-use Rattle.mlk_routine.specs.Trees.{CommandTrees, finished, HeadTree, LineHead, LineTrees}
+use Rattle.mlk_routine.specs.Trees.{CommandTrees, HeadTree, LineHead, LineTrees}
 use Rattle.mlk_routine.specs.Views.{commands_of, line_step}
 use Rattle.mlk_routine.specs.declared.routine.Line.{Line}
 use Rattle.mlk_routine.specs.declared.routine.Line.TheOpen.{Line-F}
 use Rattle.mlk_routine.specs.declared.routine.Line.TheViews.{roll-Line}
 use Rattle.mlk_routine.specs.declared.routine.Line.TheFolds.{fold-roll-Line}
 use Rattle.mlk_routine.specs.Told.{Found, Nowhere, Denied}
-use Rattle.mlk_routine.specs.Ends.{is_commands_end, starts}
-use Rattle.mlk_routine.specs.RoutineGrammar.{IsFormals, IsLabelled, IsStart, IsComment, IsBody, IsLine, level_of, is_line_byte}
-use Rattle.mlk_routine.specs.CommandGrammar.{Both, AreCommands}
-use Rattle.mlk_routine.specs.Lines.{IsLabelPart, IsFormalsPart, IsOpening, OpeningEnds, is_lead, IsFront, FrontEnds, AtEnd, IsTail, IsTailOf, level_in, IsKept, Fits, FitsAfter, label_of, IsLineOnly, NoLine, head_of}
+use Rattle.mlk_routine.specs.RoutineGrammar.{IsLabelled, IsComment, IsBody, IsLine, is_line_byte}
+use Rattle.mlk_routine.specs.Lines.{IsLabelPart, IsFormalsPart, IsOpening, OpeningEnds, IsFront, FrontEnds, AtEnd, IsTailOf, level_in, IsKept, Fits, FitsAfter, IsLineOnly, NoLine, head_of}
 use Rattle.mlk_routine.proofs.Sequences.{next_is}
 use Rattle.mlk_routine.proofs.Tails.{comment_ends, tail_no_lead}
 

@@ -1,10 +1,10 @@
 -- The label at the front of a line.
-use Rattle.std.proofs.Common.{◌≡◌, ◌≤◌, ℕ, List, [], ◌∷◌, ◌++◌, length, drop, Some, None, Bool, true, false, inl, inr, refl, sym, ap, ◌∙◌, arith, subst}
-use Rattle.std.specs.Prelude.{Option, ◌||◌, ◌==◌, ◌⊎◌, ◌<◌}
+use Rattle.std.proofs.Common.{◌≡◌, ℕ, List, [], ◌∷◌, ◌++◌, Some, None, Bool, true, false, inl, inr, refl, sym, ap, ◌∙◌, arith}
+use Rattle.std.specs.Prelude.{Option, ◌||◌, ◌==◌}
 use Rattle.std.specs.List.{list_all}
-use Rattle.std.proofs.lemmas.Bool.{cases_Bool, and_parts}
+use Rattle.std.proofs.lemmas.Bool.{and_parts}
 use Rattle.mlk_text.specs.Lexemes.{is_letter, is_digit}
-use Rattle.mlk_text.specs.Spellings.{IsName, IsLabel}
+use Rattle.mlk_text.specs.Spellings.{IsLabel}
 use Rattle.mlk_text.proofs.Spelled.{name-parts}
 use Rattle.mlk_expr.specs.Grammar.{IsLabelText}
 use Rattle.mlk_expr.specs.Theorem.{Stands, LabelEnds}

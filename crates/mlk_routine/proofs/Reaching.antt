@@ -1,15 +1,15 @@
 -- Whether a line runs the block under it.
-use Rattle.std.proofs.Common.{◌≡◌, ℕ, List, [], ◌∷◌, map, Bool, true, false, refl, sym, ap, ◌∙◌, Box, Global}
-use Rattle.std.specs.Prelude.{◌||◌, Option, Some, None, option_map}
+use Rattle.std.proofs.Common.{◌≡◌, List, [], ◌∷◌, map, Bool, true, false, refl, ap, ◌∙◌, Box, Global}
+use Rattle.std.specs.Prelude.{◌||◌, Option, Some, None}
 use Rattle.std.specs.List.{list_any}
 use Rattle.mlk_routine.specs.declared.tree.Command.{Command}
 use Rattle.mlk_routine.specs.declared.tree.Commands.{Commands}
 use Rattle.mlk_routine.specs.declared.tree.For.{For}
 use Rattle.mlk_routine.specs.declared.tree.Commands.TheViews.{out-Commands, out-For}
 use Rattle.mlk_routine.specs.declared.tree.Commands.TheFolds.{fold-For, fold_out-Commands, fold_out-For}
-use Rattle.mlk_routine.specs.Trees.{ActionTree, Do, Else, Halt, Hang, If, Job, Kill, Lock, Merge, New, Quit, Read, Set, Write, CommandTree, Does, CommandTrees, finished, then_command, then_for}
+use Rattle.mlk_routine.specs.Trees.{Do, Else, Halt, Hang, If, Job, Kill, Lock, Merge, New, Quit, Read, Set, Write, CommandTree, Does, CommandTrees, finished, then_command}
 use Rattle.mlk_routine.specs.CommandWords.{reaches_block}
-use Rattle.mlk_routine.specs.Views.{commands_of, command_of, commands_from, commands_step, for_step, last_or_none}
+use Rattle.mlk_routine.specs.Views.{commands_of, command_of, commands_from, commands_step, for_step}
 use Rattle.mlk_routine.specs.Lines.{is_block}
 
 pub reaches_from : (cs : List Command) (last : CommandTrees) → reaches_block (commands_from (map command_of cs) last) ≡ (list_any (λ c. is_block (command_of c)) cs || reaches_block last)

@@ -1,6 +1,6 @@
 -- The commands and the comment of a line.
-use Rattle.std.proofs.Common.{◌≡◌, ◌<◌, ◌≤◌, ◌+◌, ℕ, zero, suc, List, [], ◌∷◌, ◌++◌, length, drop, Some, None, Bool, true, false, inl, inr, refl, sym, ap, ◌∙◌, arith, subst, append_assoc, append-nil, bytes_eq, leb-true, length-drop}
-use Rattle.std.specs.Prelude.{Option, ◌||◌, ◌&&◌, ◌==◌, ◌⊎◌, nat_le, codes, unwrap_or}
+use Rattle.std.proofs.Common.{◌≡◌, ◌<◌, ◌≤◌, ℕ, suc, List, [], ◌∷◌, ◌++◌, length, drop, Some, None, Bool, true, false, inl, inr, refl, sym, ap, ◌∙◌, arith, subst, append-nil, bytes_eq, leb-true}
+use Rattle.std.specs.Prelude.{Option, ◌&&◌, ◌==◌, ◌⊎◌, nat_le, codes}
 use Rattle.std.specs.List.{list_all, prefix_len}
 use Rattle.std.specs.Str.{str_to_ascii_lowercase}
 use Rattle.std.specs.Char.{to_ascii_lowercase}

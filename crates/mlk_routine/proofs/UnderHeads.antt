@@ -1,16 +1,15 @@
 -- Lines that follow each other, as blocks under their heads.
-use Rattle.std.proofs.Common.{◌≡◌, ◌<◌, ◌≤◌, ◌+◌, ℕ, zero, suc, List, [], ◌∷◌, ◌++◌, length, map, Bool, true, false, inl, inr, refl, sym, ap, ◌∙◌, arith, subst, append_assoc, append-nil, length-append}
+use Rattle.std.proofs.Common.{◌≡◌, ◌<◌, ◌≤◌, ℕ, suc, List, [], ◌∷◌, ◌++◌, length, map, Bool, true, false, inl, inr, refl, sym, ap, ◌∙◌, arith, subst, append_assoc, append-nil, length-append}
 use Rattle.std.specs.Prelude.{◌⊎◌}
 use Rattle.std.proofs.lemmas.Bool.{cases_Bool}
-use Rattle.std.proofs.lemmas.List.{map-append}
 use Rattle.mlk_routine.specs.declared.routine.Line.{Line}
 use Rattle.mlk_routine.specs.declared.routine.Line.TheOpen.{Line-F}
 use Rattle.mlk_routine.specs.declared.routine.Line.TheViews.{out-Line, roll-Line}
 use Rattle.mlk_routine.specs.declared.routine.Line.TheFolds.{fold_out-Line, fold-roll-Line}
 use Rattle.mlk_routine.specs.Trees.{HeadTree, LineHead, LineTrees, no_lines, line}
 use Rattle.mlk_routine.specs.Views.{line_of, lines_from, line_step, commands_of}
-use Rattle.mlk_routine.specs.RoutineGrammar.{heads_of, level_of, reaches, AreNested, IsLine, AreLines}
-use Rattle.mlk_routine.specs.Lines.{head_of, Steps, Follow, Upto, IsBlock, IsNotDeeper}
+use Rattle.mlk_routine.specs.RoutineGrammar.{heads_of, level_of, reaches, AreNested}
+use Rattle.mlk_routine.specs.Lines.{head_of, Follow, Upto, IsBlock, IsNotDeeper}
 
 pub follow_upto : (last : ℕ) (reached : Bool) (heads : List HeadTree) → Follow last reached heads → Upto (suc last) heads
 follow_upto last reached [] h = tt

@@ -1,6 +1,6 @@
 -- Routines, from their lines and blocks.
-use Rattle.std.proofs.Common.{◌≡◌, ◌<◌, ◌≤◌, ◌+◌, ℕ, zero, suc, List, [], ◌∷◌, ◌++◌, length, map, Some, None, Bool, true, false, inl, inr, refl, sym, ap, ◌∙◌, arith, subst, append_assoc, append-nil}
-use Rattle.std.specs.Prelude.{Option, ◌⊎◌, nat_le}
+use Rattle.std.proofs.Common.{◌≡◌, ◌<◌, ◌≤◌, ℕ, suc, List, [], ◌∷◌, ◌++◌, length, map, Bool, true, false, inl, inr, refl, sym, ap, ◌∙◌, arith, subst, append_assoc, append-nil}
+use Rattle.std.specs.Prelude.{◌⊎◌, nat_le}
 use Rattle.std.proofs.lemmas.Bool.{cases_Bool}
 use Rattle.std.proofs.lemmas.Bool.Decides.{nat_tests}
 use Rattle.std.specs.Borrow.{Bor}
@@ -10,7 +10,7 @@ use Rattle.mlk_text.specs.declared.failure.Failure.{Failure}
 use Rattle.mlk_text.specs.declared.failure.Failure.TheVariants.{OutOfMemory, Refused}
 use Rattle.mlk_text.specs.declared.fault.Fault.{Fault}
 use Rattle.mlk_routine.specs.Trees.{HeadTree, LineHead, LineTrees, no_lines, line, RoutineTree, Named_routine, CommandTrees}
-use Rattle.mlk_routine.specs.RoutineGrammar.{IsRoutine, AreCut, AreLines, IsLine, IsBody, heads_of, labels_of, level_of, reaches, AreNested, AreDistinct, percent}
+use Rattle.mlk_routine.specs.RoutineGrammar.{IsRoutine, AreLines, IsLine, IsBody, heads_of, level_of, reaches, AreNested, percent}
 use Rattle.mlk_routine.specs.Lines.{Follow, Upto, AllPlain, AreHeads, AreHeadsOnly, NoHeads, IsBlock, NoRoutine, texts_of}
 use Rattle.mlk_routine.proofs.Cutting.{cut_only, cut_found, cut_plain}
 use Rattle.mlk_routine.proofs.Nesting.{nested_once}

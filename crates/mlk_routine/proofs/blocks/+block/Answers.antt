@@ -1,9 +1,8 @@
-use Rattle.std.proofs.Common.{◌≡◌, List, ◌++◌, ◌∷◌, [], map, sym, ap, ◌∙◌, subst}
+use Rattle.std.proofs.Common.{◌++◌, ◌∷◌, [], map, sym, ap, ◌∙◌, subst}
 use Rattle.std.proofs.lemmas.List.{map-append}
 use Rattle.mlk_routine.specs.declared.routine.Line.{Line}
 use Rattle.mlk_routine.specs.declared.routine.Line.TheOpen.{Line-F}
 use Rattle.mlk_routine.specs.declared.routine.Line.TheViews.{out-Line}
-use Rattle.mlk_routine.specs.Trees.{HeadTree, LineTrees}
 use Rattle.mlk_routine.specs.Views.{line_of, lines_from}
 use Rattle.mlk_routine.specs.RoutineGrammar.{level_of}
 use Rattle.mlk_routine.specs.Lines.{head_of, IsBlock}

@@ -1,4 +1,4 @@
-use Rattle.std.proofs.Common.{◌≡◌, ◌||◌, bytes_eq, ◌-◌, ◌∙◌, sym, ap, subst, take}
+use Rattle.std.proofs.Common.{◌||◌, bytes_eq, ◌-◌, ◌∙◌, sym, ap, take}
 use Rattle.mlk_expr.specs.Theorem.{LabelEnds}
 use Rattle.mlk_routine.specs.Lines.{has_name, IsUnseen}
 use Rattle.mlk_routine.proofs.Outcomes.{denies}

@@ -1,4 +1,4 @@
-use Rattle.std.proofs.Common.{◌≡◌, subst, sym}
+use Rattle.std.proofs.Common.{subst}
 use Rattle.std.proofs.lemmas.Result.{err_from_is_err_and}
 use Rattle.mlk_routine.specs.Told.{Found, Nowhere}
 use Rattle.mlk_routine.specs.Lines.{IsFormalsPart, FormalsPartEnds, IsOpening, OpeningEnds, IsFront, FrontEnds}

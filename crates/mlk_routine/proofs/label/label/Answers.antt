@@ -1,10 +1,10 @@
-use Rattle.std.proofs.Common.{◌≡◌, sym, ◌∙◌, subst}
+use Rattle.std.proofs.Common.{sym, ◌∙◌, subst}
 use Rattle.mlk_expr.specs.Grammar.{IsLabelText}
 use Rattle.mlk_expr.specs.Theorem.{LabelEnds, Refuses}
 use Rattle.mlk_routine.specs.Lines.{IsLabelPart, LabelPartEnds}
 use Rattle.mlk_routine.proofs.Sequences.{turned_found, turned_nowhere}
 use Rattle.mlk_routine.proofs.Outcomes.{denies}
-use Rattle.mlk_routine.proofs.Labels.{a_label, no_label}
+use Rattle.mlk_routine.proofs.Labels.{a_label}
 use Rattle.mlk_routine.proofs.label.label.Goals as goal
 
 pub returns-in-Ok : goal.returns-in-Ok

@@ -1,4 +1,4 @@
-use Rattle.std.proofs.Common.{◌≡◌, ◌+◌, ◌++◌, ◌∷◌, [], map, sym, ap, ◌∙◌, subst}
+use Rattle.std.proofs.Common.{◌+◌, ◌∷◌, [], map, sym, ap, ◌∙◌, subst}
 use Rattle.std.proofs.lemmas.List.{map-append}
 use Rattle.mlk_routine.specs.Lines.{head_of, texts_of}
 use Rattle.mlk_routine.proofs.FlatLines.{FlatSoFar, flat_refused, flat_more, flat_end, text_here, texts_end}

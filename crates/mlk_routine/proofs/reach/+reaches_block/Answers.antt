@@ -1,4 +1,4 @@
-use Rattle.std.proofs.Common.{◌≡◌, ◌||◌, true, false, sym, ap, ◌∙◌, refl}
+use Rattle.std.proofs.Common.{◌≡◌, true, false, sym, ap, ◌∙◌, refl}
 use Rattle.std.specs.List.{list_any}
 use Rattle.mlk_routine.specs.declared.tree.Commands.TheViews.{out-For}
 use Rattle.mlk_routine.specs.CommandWords.{reaches_block}

@@ -1,4 +1,4 @@
-use Rattle.std.proofs.Common.{◌≡◌, sym, ◌∙◌}
+use Rattle.std.proofs.Common.{sym, ◌∙◌}
 use Rattle.mlk_routine.specs.Lines.{IsOpening, OpeningEnds}
 use Rattle.mlk_routine.proofs.Outcomes.{denies}
 use Rattle.mlk_routine.proofs.Starts.{start_found, no_opening, opening_nowhere}

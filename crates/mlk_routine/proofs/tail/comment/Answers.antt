@@ -1,7 +1,6 @@
-use Rattle.std.proofs.Common.{◌≡◌, ◌<◌, ◌≤◌, length, drop, sym, ◌∙◌, subst, true, false}
+use Rattle.std.proofs.Common.{◌≡◌, ◌<◌, ◌≤◌, length, drop, sym, ◌∙◌, subst, true}
 use Rattle.std.specs.List.{prefix_len}
 use Rattle.mlk_text.specs.Lexemes.{is_text_byte, is_text}
-use Rattle.mlk_routine.specs.RoutineGrammar.{IsComment}
 use Rattle.mlk_routine.proofs.Tails.{comment_text, text_comment, all_good, one_bad}
 use Rattle.mlk_routine.proofs.tail.comment.Goals as goal
 
