@@ -7,6 +7,9 @@
                                                 20,000 random routines and seed 1 where nothing is said: routines.txt has a line
                                                 for each, its stem and its text in hexadecimal digits, expected.txt the answers
 
+    cd DIR/crates/routine_answers && rt run < ../../routines.txt > ../../answers.txt; cmp ../../expected.txt ../../answers.txt
+
+The crates that it stands on are copied to DIR with what was proved of them; `rt run` proves what is left, `rt try` nothing.
 It follows docs/ROUTINES.md and nothing else, and takes expressions from second_reader.py. Each part of a line gives all
 places where it may end, from all places where it may begin; what stands at the furthest place that some way could take is
 the fault, unless something before it is refused by name.
@@ -14,6 +17,7 @@ the fault, unless something before it is refused by name.
 import json
 import pathlib
 import re
+import shutil
 import sys
 
 from second_reader import DIGITS, EVERYTHING, LETTERS, NO_CALLS, NO_TOUCHES
@@ -35,6 +39,63 @@ NAMES |= {203: "LabelTwice", 204: "LevelJump", 205: "UnknownCommand", 206: "Comm
 NAMES |= {208: "Spacing", 209: "BlockUnreached", 210: "TooLarge", 211: "RoutineName"}
 ABOVE_LINES = {203, 204, 209, 210}
 MOST_BYTES, MOST_LINES, MOST_LEVELS, MOST_LOOPS = 1 << 20, 65535, 15, 255
+
+
+CRATES = ("mlk_text", "mlk_expr", "mlk_routine")
+PROGRAM = """//! Reads routines from standard input: a line each, the stem and the text in hexadecimal digits with a space between.
+#![tactic(auto)]
+
+use mlk_routine::read_routine;
+use mlk_text::Failure;
+use std::alloc::Global;
+use std::io::{self, Read};
+
+fn digit(b: u8) -> u8 {
+    if b >= 48 && b < 58 { b - 48 } else if b >= 97 && b < 103 { b - 87 } else { 0 }
+}
+
+fn bytes(alloc: Global, hex: &[u8]) -> io::Result<Vec<u8>> {
+    let mut found = Vec::new(alloc);
+    let mut high = 0;
+    for (i, b) in hex.iter().enumerate() {
+        if i % 2 == 0 {
+            high = digit(*b);
+        } else {
+            found.push(high * 16 + digit(*b))?;
+        }
+    }
+    Ok(found)
+}
+
+fn answer(rt: &HostRuntime, alloc: Global, line: &[u8]) -> io::Result<()> {
+    let Some(space) = line.iter().position(|b| *b == b' ') else {
+        return Ok(());
+    };
+    let (stem, text) = line.split_at(space);
+    let stem = bytes(alloc, stem)?;
+    let text = bytes(alloc, &text[1..])?;
+    match read_routine(alloc, stem.as_slice(), text.as_slice()) {
+        Ok(_) => println!(rt; "ok"),
+        Err(Failure::OutOfMemory) => println!(rt; "memory"),
+        Err(Failure::Refused(fault)) => {
+            let word = match &fault.left_out {
+                Some(what) => what.word(),
+                None => b"-".as_slice(),
+            };
+            println!(rt; "{} {} {} {word:?}", fault.place.line, fault.place.column, fault.code.number())
+        }
+    }
+}
+
+fn main(rt: HostRuntime) -> io::Result<()> {
+    let mut text = Vec::new(rt.alloc());
+    rt.stdin().read_to_end(&mut text)?;
+    for line in text.as_slice().split(|b| *b == b'\\n') {
+        answer(&rt, rt.alloc(), line)?;
+    }
+    Ok(())
+}
+"""
 
 
 class Line:
@@ -587,7 +648,15 @@ class RoutineWriter(Writer):
 def write(folder, count, seed):
     writer = RoutineWriter(seed)
     texts = [writer.routine() for _ in range(count)]
-    folder.mkdir(parents=True, exist_ok=True)
+    root = pathlib.Path(__file__).resolve().parent.parent
+    source = folder / "crates" / "routine_answers" / "src"
+    source.mkdir(parents=True, exist_ok=True)
+    (source / "main.rt").write_text(PROGRAM)
+    kept = [line for line in (root / "crates.txt").read_text().splitlines() if line.split(":")[0] in CRATES]
+    (folder / "crates.txt").write_text("\n".join([*kept, "routine_answers: mlk_routine mlk_text", ""]))
+    for name in CRATES:
+        shutil.rmtree(folder / "crates" / name, ignore_errors=True)
+        shutil.copytree(root / "crates" / name, folder / "crates" / name)
     lines = [f"{b'R'.hex()} {text.encode('latin-1').hex()}\n" for text in texts]
     (folder / "routines.txt").write_text("".join(lines))
     answers = [routine("R", text) for text in texts]

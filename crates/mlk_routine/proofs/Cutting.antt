@@ -8,6 +8,7 @@ use Rattle.std.proofs.lemmas.Bool.Decides.{nat_tests}
 use Rattle.bstr.specs.Text.{line_len, lines_of, no_cr, without_terminator}
 use Rattle.bstr.proofs.lemmas.LineLemmas.{lines-nil, lines-step}
 use Rattle.mlk_routine.specs.RoutineGrammar.{is_line_byte, IsEnd, AreCut}
+use Rattle.mlk_routine.specs.Lines.{AllPlain}
 
 -- the last byte
 last_is : (s : List ℕ) (b : ℕ) → slice_index (s ++ b ∷ []) (length (s ++ b ∷ []) - 1) ≡ b
@@ -143,10 +144,6 @@ find_lf (b ∷ text) = go (cases_Bool (b == 10)) (find_lf text)
     go (inr other) (inl (s, rest, is, no_lf)) = inl (b ∷ s, rest, ap (λ l. b ∷ l) is, rw other no_lf)
     go (inr other) (inr no_lf) = inr (rw other no_lf)
 
-abbrev pub AllPlain : List (List ℕ) → Type 0
-AllPlain [] = Unit {0}
-AllPlain (s ∷ lines) = (list_all is_line_byte s ≡ true) × AllPlain lines
-
 -- what a line feed ends: a line, perhaps with a carriage return
 no_lf_last : (t : List ℕ) (c : ℕ) → list_all is_no_lf (t ++ c ∷ []) ≡ true → (c == 10) ≡ false
 no_lf_last [] c h = not_false (c == 10) (and_parts (is_no_lf c) true h).0
@@ -195,3 +192,8 @@ cut_found (suc f) (b ∷ text) less plain = go (find_lf (b ∷ text)) (cut_found
         let lines : map without_terminator (lines_of (b ∷ text)) ≡ (b ∷ text) ∷ [] = ap (map without_terminator) cut ∙ ap (λ l. l ∷ []) kept in
         let each = subst AllPlain lines plain in
         subst (λ l. AreCut l (b ∷ text)) (sym lines) ([], [], joined, each.0, inr (inr (refl, refl, λ bad. cc bad)), refl)
+
+-- the lines of a text are plain
+pub cut_plain : (lines : List (List ℕ)) (text : List ℕ) → AreCut lines text → AllPlain lines
+cut_plain [] text h = tt
+cut_plain (s ∷ lines) text (end, rest, is, plain, ending, more) = (plain, cut_plain lines rest more)

@@ -24,3 +24,14 @@ pub mod Formats
 pub mod Locals
 pub mod ReadArguments
 pub mod Targets
+pub mod SeenNames
+pub mod Labels
+pub mod FormalLists
+pub mod Starts
+pub mod Fronts
+pub mod Tails
+pub mod Reaching
+pub mod Heads
+pub mod FlatLines
+pub mod UnderHeads
+pub mod WholeRoutines

@@ -9,4 +9,5 @@ pub mod Stops
 pub mod Begins
 pub mod Kinds
 pub mod Leading
+pub mod Lines
 pub mod Theorem

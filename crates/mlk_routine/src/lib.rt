@@ -1,26 +1,39 @@
 //! The routines of M: their trees, and the reader that is exact for their grammar.
 #![tactic(auto)]
 
+mod blocks;
 mod call;
 mod command;
 mod commands;
 mod fault;
+mod formals;
 mod format;
+mod front;
 mod item;
 mod items;
+mod label;
 mod law;
+mod line;
+mod lines;
 mod lock;
 mod name;
 mod parameter;
 mod part;
+mod reach;
+mod read;
 mod routine;
 mod run;
+mod seen;
 mod set;
 mod spacing;
+mod start;
+mod stem;
+mod tail;
 mod tree;
 mod word;
 
 pub use law::{one_cut, one_nesting};
+pub use read::read_routine;
 pub use routine::{Line, Routine};
 pub use tree::{
     Action, Call, Command, Commands, Control, DoArgument, For, KillArgument, LockArgument,

@@ -1,0 +1,16 @@
+use Rattle.std.proofs.Common.{sym, ◌∙◌, subst}
+use Rattle.mlk_expr.specs.Grammar.{IsLabelText}
+use Rattle.mlk_expr.specs.Theorem.{LabelEnds, Refuses}
+use Rattle.mlk_routine.specs.Lines.{IsLabelPart, LabelPartEnds}
+use Rattle.mlk_routine.proofs.Sequences.{turned_found, turned_nowhere}
+use Rattle.mlk_routine.proofs.Outcomes.{denies}
+use Rattle.mlk_routine.proofs.Labels.{a_label}
+use Rattle.mlk_routine.proofs.label.label.Goals as goal
+
+pub returns-in-Ok : goal.returns-in-Ok
+returns-in-Ok c = turned_found (a_label c.args.line.now (sym c.starts_label.ensures ∙ c.if-not-starts_label.false)) c.in-Ok.label c.in-Ok.next (c.in-Ok.ensures.found, c.in-Ok.ensures.only)
+
+pub returns-in-Err-Refused : goal.returns-in-Err-Refused
+returns-in-Err-Refused c =
+    denies IsLabelPart LabelPartEnds c.args.line.now 0 c.other_form.result
+    (turned_nowhere (a_label c.args.line.now (sym c.starts_label.ensures ∙ c.if-not-starts_label.false)) (subst (λ e. Refuses IsLabelText LabelEnds c.args.line.now 0 e) c.in-Err-Refused.field-0-is c.in-Err-Refused.ensures.refused))

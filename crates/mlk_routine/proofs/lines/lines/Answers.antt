@@ -1,0 +1,22 @@
+use Rattle.std.proofs.Common.{◌+◌, ◌∷◌, [], map, sym, ap, ◌∙◌, subst}
+use Rattle.std.proofs.lemmas.List.{map-append}
+use Rattle.mlk_routine.specs.Lines.{head_of, texts_of}
+use Rattle.mlk_routine.proofs.FlatLines.{FlatSoFar, flat_refused, flat_more, flat_end, text_here, texts_end}
+use Rattle.mlk_routine.proofs.lines.lines.Goals as goal
+
+pub returns-in-Err-clause-refused : goal.returns-in-Err-clause-refused
+returns-in-Err-clause-refused c =
+    let texts = c.args.texts.now in
+    flat_refused (texts_of texts) c.loop-i.i (map head_of c.loop-i.lines.items) c.loop-i.before c.loop-i.invariant _ (text_here texts c.loop-i.i _ c.loop-i-test.true) c.in-Err.failure c.in-Err.ensures.refused c.in_line.result c.in_line.ensures
+
+pub loop-i-preserved : goal.loop-i-preserved
+loop-i-preserved c =
+    let texts = c.args.texts.now in
+    let items = ap (map head_of) c.in_ok-push_back-in-Ok.ensures.items ∙ map-append head_of c.loop-i.lines.items (c.in-Ok.read ∷ []) in
+    subst (λ l. FlatSoFar (texts_of texts) (c.loop-i.i + 1) l c.line.new.before) (sym items)
+    (flat_more (texts_of texts) c.loop-i.i (map head_of c.loop-i.lines.items) c.loop-i.before c.loop-i.invariant _ (text_here texts c.loop-i.i _ c.loop-i-test.true) (head_of c.in-Ok.read) c.line.new.before c.in-Ok.ensures.line c.in-Ok.ensures.plain c.in-Ok.ensures.fits c.in-Ok.ensures.after)
+
+pub returns-clause-found : goal.returns-clause-found
+returns-clause-found c =
+    let texts = c.args.texts.now in
+    flat_end (texts_of texts) c.loop-i.i (map head_of c.loop-i.lines.items) c.loop-i.before c.loop-i.invariant (texts_end texts c.loop-i.i c.loop-i-test.false)

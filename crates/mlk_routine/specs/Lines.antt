@@ -1,0 +1,202 @@
+-- The parts of a line, in the order in which they are read, and what may stand after each. For private clauses alone.
+-- This project's own.
+use Rattle.std.specs.Prelude.{ℕ, suc, ◌≡◌, ◌==◌, ◌||◌, Bool, true, false, List, [], ◌∷◌, Option, Some, None, is_some}
+use Rattle.std.specs.Prelude.{bytes_eq, length, Result, Ok, Err, unwrap_or, ◌⊎◌, ◌≤◌, map, ◌++◌}
+use Rattle.std.specs.List.{list_any, list_all}
+use Rattle.std.specs.Borrow.{Bor}
+use Rattle.mlk_text.specs.Lexemes.{is_letter, is_digit}
+use Rattle.mlk_expr.specs.Grammar.{IsNameText, IsLabelText}
+use Rattle.mlk_expr.specs.Theorem.{LabelEnds}
+use Rattle.mlk_routine.specs.Ends.{Lacks, starts, is_commands_end}
+use Rattle.mlk_routine.specs.RoutineGrammar.{IsFormals, is_blank, ArePeriods, IsStart, IsComment, IsLine, level_of, reaches, is_line_byte}
+use Rattle.mlk_routine.specs.RoutineGrammar.{AreLines, AreDistinct, labels_of, AreNested, heads_of, percent, IsRoutine}
+use Rattle.mlk_text.specs.Spellings.{IsName}
+use Rattle.mlk_routine.specs.CommandGrammar.{Both, AreCommands}
+use Rattle.mlk_routine.specs.Trees.{CommandTree, Does, Do, CommandTrees, finished, HeadTree, LineHead, LineTrees, RoutineTree}
+use Rattle.mlk_routine.specs.declared.line.Before.{Before}
+use Rattle.mlk_routine.specs.declared.routine.Line.{Line}
+use Rattle.mlk_routine.specs.Views.{line_of}
+use Rattle.mlk_routine.specs.declared.front.Front.{Front}
+use Rattle.mlk_routine.specs.Told.{Found, Denied}
+use Rattle.mlk_text.specs.declared.failure.Failure.{Failure}
+use Rattle.mlk_text.specs.declared.failure.Failure.TheVariants.{OutOfMemory, Refused}
+use Rattle.mlk_text.specs.declared.fault.Fault.{Fault}
+use Rattle.mlk_expr.specs.Grammar.{Spelled}
+
+-- whether this name is among those seen
+abbrev pub has_name : List ℕ → List (Bor (List ℕ)) → Bool
+has_name q keys = list_any (λ k. bytes_eq q k.now) keys
+
+-- a label, or nothing
+abbrev pub is_label_byte : ℕ → Bool
+is_label_byte b = is_letter b || is_digit b || (b == 37)
+
+abbrev pub IsLabelPart : ℕ → Option (List ℕ) → List ℕ → Type 0
+IsLabelPart at None s = s ≡ []
+IsLabelPart at (Some label) s = IsLabelText at label s
+
+abbrev pub LabelPartEnds : Option (List ℕ) → List ℕ → Type 0
+LabelPartEnds None rest = starts is_label_byte rest ≡ false
+LabelPartEnds (Some label) rest = LabelEnds label rest
+
+-- a formal that is none of those seen
+abbrev pub IsUnseen : List (Bor (List ℕ)) → ℕ → List ℕ → List ℕ → Type 0
+IsUnseen keys at name s = IsNameText at name s × (has_name name keys ≡ false)
+
+-- a formal list, at any column
+abbrev pub IsFormalList : ℕ → List (List ℕ) → List ℕ → Type 0
+IsFormalList at formals s = IsFormals formals s
+
+-- the formals that may stand after a label, or nothing
+abbrev pub IsFormalsPart : Bool → ℕ → Option (List (List ℕ)) → List ℕ → Type 0
+IsFormalsPart labelled at None s = s ≡ []
+IsFormalsPart labelled at (Some formals) s = (labelled ≡ true) × IsFormals formals s
+
+abbrev pub FormalsPartEnds : Bool → Option (List (List ℕ)) → List ℕ → Type 0
+FormalsPartEnds labelled None rest = labelled ≡ true → Lacks 40 rest
+FormalsPartEnds labelled (Some formals) rest = Unit {0}
+
+-- periods, each with blanks after it, and what may stand after them: neither of both
+abbrev pub is_lead : ℕ → Bool
+is_lead b = is_blank b || (b == 46)
+
+abbrev pub ArePeriodsHere : ℕ → ℕ → List ℕ → Type 0
+ArePeriodsHere at periods s = ArePeriods periods s
+
+abbrev pub PeriodsEnd : ℕ → List ℕ → Type 0
+PeriodsEnd periods rest = starts is_lead rest ≡ false
+
+-- a line's start with the level that it gives, or nothing before the line's end or a comment
+abbrev pub IsOpening : ℕ → Option ℕ → List ℕ → Type 0
+IsOpening at None s = s ≡ []
+IsOpening at (Some level) s = (periods : ℕ) × (level ≡ suc periods) × IsStart periods s
+
+abbrev pub OpeningEnds : Option ℕ → List ℕ → Type 0
+OpeningEnds None rest = is_commands_end rest ≡ true
+OpeningEnds (Some level) rest = starts is_lead rest ≡ false
+
+-- what stands before a line's commands
+abbrev pub IsFront : ℕ → Front → List ℕ → Type 0
+IsFront at f s = Both (λ n r. IsLabelPart n f.label r)
+    (Both (λ n r. IsFormalsPart (is_some f.label) n f.formals r) (λ n r. IsOpening n f.level r)) at s
+
+abbrev pub FrontEnds : Front → List ℕ → Type 0
+FrontEnds f rest = OpeningEnds f.level rest
+
+-- nothing
+abbrev pub AtEnd : {A : Type 0} → A → List ℕ → Type 0
+AtEnd a rest = rest ≡ []
+
+-- the commands and the comment of a line of this level; where it has no start, a comment alone
+abbrev pub IsTail : ℕ → ℕ → CommandTrees → List ℕ → Type 0
+IsTail level at commands s = Both (λ n r. AreCommands level 0 n commands r) (λ n r. IsComment r) at s
+
+abbrev pub IsTailOf : Option ℕ → ℕ → CommandTrees → List ℕ → Type 0
+IsTailOf None at commands s = (commands ≡ finished) × IsComment s
+IsTailOf (Some level) at commands s = IsTail level at commands s
+
+-- what is told of all that is left of a line
+abbrev pub ToldToEnd : {X A : Type 0} → (X → A) → Spelled A → List ℕ → ℕ → Result X (Failure Fault) → Type 0
+ToldToEnd view Is line at (Ok x) = Found Is AtEnd line at (view x) (length line)
+ToldToEnd view Is line at (Err e) = Denied Is AtEnd line at e
+
+-- a DO without arguments
+abbrev pub is_block : CommandTree → Bool
+is_block (Does column condition (Do [])) = true
+is_block command = false
+
+-- the level of a line
+abbrev pub level_in : Option ℕ → ℕ
+level_in level = unwrap_or level 1
+
+abbrev pub label_of : HeadTree → Option (List ℕ)
+label_of (LineHead number level end label formals commands) = label
+
+abbrev pub is_in : Option (List ℕ) → List (Bor (List ℕ)) → Bool
+is_in None keys = false
+is_in (Some label) keys = has_name label keys
+
+abbrev pub is_labelled : List ℕ → Option (List ℕ) → Bool
+is_labelled q None = false
+is_labelled q (Some label) = bytes_eq q label
+
+-- a line of this level may follow one of that level: it is no deeper, or the first of that one's block
+abbrev pub Steps : ℕ → Bool → ℕ → Type 0
+Steps last reaches level = (level ≤ last) ⊎ ((level ≡ suc last) × (reaches ≡ true))
+
+-- what a line's front keeps to by itself, and after the lines before it
+abbrev pub IsKept : Option (List ℕ) → ℕ → Type 0
+IsKept label level = ((label ≡ None) ⊎ (level ≤ 1)) × (level ≤ 15)
+
+abbrev pub Fits : Before → Option (List ℕ) → ℕ → Type 0
+Fits before label level = (is_in label before.labels.texts.keys ≡ false) × Steps before.level before.reaches level
+
+abbrev pub FitsAfter : Before → HeadTree → Type 0
+FitsAfter before head = Fits before (label_of head) (level_of head)
+
+-- the head of a line of the code
+abbrev pub head_of : Line → HeadTree
+head_of l = (line_of l).0
+
+-- a line, and no other
+abbrev pub IsLineOnly : ℕ → List ℕ → HeadTree → Type 0
+IsLineOnly n s head = IsLine n head s × ((other : HeadTree) → IsLine n other s → other ≡ head)
+
+-- what is known after one more line
+pub record IsAfter (old new : Before) (head : HeadTree) : Type 0 where
+  pub labels : (q : List ℕ) → has_name q new.labels.texts.keys ≡ (is_labelled q (label_of head) || has_name q old.labels.texts.keys)
+  pub level : new.level ≡ level_of head
+  pub reaches : new.reaches ≡ reaches head
+
+-- no line of this text fits here
+abbrev pub NoLine : Before → ℕ → List ℕ → Failure Fault → Type 0
+NoLine before n s OutOfMemory = Unit {0}
+NoLine before n s (Refused fault) = (head : HeadTree) → IsLine n head s → list_all is_line_byte s ≡ true → FitsAfter before head → ⊥
+
+-- lines that follow each other, after a line of this level
+abbrev pub Follow : ℕ → Bool → List HeadTree → Type 0
+Follow last reached [] = Unit {0}
+Follow last reached (head ∷ heads) = Steps last reached (level_of head) × Follow (level_of head) (reaches head) heads
+
+abbrev pub AllPlain : List (List ℕ) → Type 0
+AllPlain [] = Unit {0}
+AllPlain (s ∷ texts) = (list_all is_line_byte s ≡ true) × AllPlain texts
+
+-- the lines of these texts, before they are blocks
+abbrev pub AreHeads : List (List ℕ) → List HeadTree → Type 0
+AreHeads texts heads = AreLines 1 heads texts × AllPlain texts × Follow 0 true heads × AreDistinct (labels_of heads)
+
+abbrev pub AreHeadsOnly : List (List ℕ) → List HeadTree → Type 0
+AreHeadsOnly texts heads = AreHeads texts heads × ((others : List HeadTree) → AreLines 1 others texts → others ≡ heads)
+
+abbrev pub NoHeads : List (List ℕ) → Failure Fault → Type 0
+NoHeads texts OutOfMemory = Unit {0}
+NoHeads texts (Refused fault) = (heads : List HeadTree) → AreHeads texts heads → ⊥
+
+-- the texts of a slice
+abbrev pub texts_of : List (Bor (List ℕ)) → List (List ℕ)
+texts_of texts = map (λ t. t.now) texts
+
+-- lines that go on at this level or above it, after lines that they may follow
+abbrev pub Upto : ℕ → List HeadTree → Type 0
+Upto level [] = Unit {0}
+Upto level (head ∷ heads) = (level_of head ≤ level) × Follow (level_of head) (reaches head) heads
+
+-- the lines deeper than a level at the front of others, as blocks, and what is left
+abbrev pub IsBlock : ℕ → LineTrees → List HeadTree → List HeadTree → Type 0
+IsBlock level lines heads rest = AreNested (suc level) lines × (heads ≡ heads_of lines ++ rest) × Upto level rest
+
+-- what may be left where no line is deeper
+abbrev pub IsNotDeeper : ℕ → List Line → Type 0
+IsNotDeeper level [] = Unit {0}
+IsNotDeeper level (l ∷ lines) = level_of (head_of l) ≤ level
+
+-- the name that a stem spells, if it spells one
+abbrev pub IsStemName : List ℕ → Option (List ℕ) → Type 0
+IsStemName stem None = IsName (percent stem) → ⊥
+IsStemName stem (Some name) = (name ≡ percent stem) × IsName name
+
+-- what is refused, unless memory ran out, is no routine
+abbrev pub NoRoutine : List ℕ → List ℕ → Failure Fault → Type 0
+NoRoutine stem text OutOfMemory = Unit {0}
+NoRoutine stem text (Refused fault) = (tree : RoutineTree) → IsRoutine stem tree text → ⊥

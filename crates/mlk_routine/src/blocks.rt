@@ -1,0 +1,40 @@
+// Blocks under the lines that head them.
+
+ghost use Rattle.std.specs.Prelude.{◌≡◌, ◌<◌, ◌∷◌, suc, map, IfOk, MatchOption};
+ghost use Rattle.mlk_routine.specs.RoutineGrammar.{level_of};
+ghost use Rattle.mlk_routine.specs.Views.{line_of, lines_from};
+ghost use Rattle.mlk_routine.specs.Lines.{head_of, Upto, IsBlock, IsNotDeeper};
+
+use crate::routine::Line;
+use std::alloc::{AllocError, Global};
+use std::collections::VecDeque;
+
+// The next line, if it is deeper than this level. It is taken away.
+fn deeper(level: usize, lines: &mut VecDeque<Line>) -> Option<Line>
+    ensures { MatchOption result
+        ((lines.new.items ≡ lines.old.items) × IsNotDeeper level lines.old.items)
+        (λ l. (lines.old.items ≡ l ∷ lines.new.items) × (level < level_of (head_of l))) }
+{
+    match lines.front() {
+        Some(next) if next.level > level => lines.pop_front(),
+        _ => None,
+    }
+}
+
+/// The lines at the front that are deeper than this level, each with its block. They are taken away.
+pub(crate) fn block(
+    alloc: Global,
+    level: usize,
+    lines: &mut VecDeque<Line>,
+) -> Result<Vec<Line>, AllocError>
+    requires { Upto (suc level) (map head_of lines.old.items) }
+    ensures { IfOk result (λ v. IsBlock level (lines_from (map line_of v.items))
+        (map head_of lines.old.items) (map head_of lines.new.items)) }
+{
+    let mut found = Vec::new(alloc);
+    while let Some(mut line) = deeper(level, lines) {
+        line.block = block(alloc, line.level, lines)?;
+        found.push(line)?;
+    }
+    Ok(found)
+}

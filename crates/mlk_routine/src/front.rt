@@ -1,0 +1,59 @@
+// What stands before a line's commands.
+
+ghost use Rattle.std.specs.Prelude.{◌≡◌, ◌≤◌, length};
+ghost use Rattle.mlk_routine.specs.Told.{Told, Found};
+ghost use Rattle.mlk_routine.specs.Lines.{IsLabelPart, LabelPartEnds, IsFormalsPart, FormalsPartEnds, IsFront, FrontEnds};
+
+use crate::formals::formals;
+use crate::part::has;
+use crate::start::opening;
+use mlk_text::{Failure, Fault, List, Name};
+use std::alloc::Global;
+
+/// What stands before a line's commands.
+#[derive(Drop)]
+pub(crate) struct Front {
+    pub(crate) label: Option<Name>,
+    pub(crate) formals: Option<List<Name>>,
+    /// the level of the line's start, if it has one
+    pub(crate) level: Option<usize>,
+}
+
+// The formal list here, if one stands here, and the byte after it.
+fn perhaps_formals(
+    alloc: Global,
+    is_labelled: bool,
+    line: &[u8],
+    at: usize,
+) -> Result<(Option<List<Name>>, usize), Failure<Fault>>
+    requires { at ≤ length line.now }
+    ensures { Told (λ f. f) (IsFormalsPart is_labelled) (FormalsPartEnds is_labelled) line.now at result }
+{
+    if !is_labelled || !has(line, at, b'(') {
+        return Ok((None, at));
+    }
+    let (names, next) = formals(alloc, line, at)?;
+    Ok((Some(names), next))
+}
+
+/// What stands before a line's commands, after the label that was read.
+pub(crate) fn before_commands(
+    alloc: Global,
+    label: Option<Name>,
+    line: &[u8],
+    at: usize,
+) -> Result<(Front, usize), Failure<Fault>>
+    requires { Found IsLabelPart LabelPartEnds line.now 0 label at }
+    ensures { Told (λ f. f) IsFront FrontEnds line.now 0 result }
+{
+    let (formals, next) = perhaps_formals(alloc, label.is_some(), line, at)?;
+    let (level, next) = opening(alloc, line, next)?;
+    Ok((
+        Front {
+            label,
+            formals,
+            level,
+        },
+        next,
+    ))
+}

@@ -1,0 +1,164 @@
+// Lines, one after the other.
+
+ghost use Rattle.std.specs.Prelude.{◌≡◌, ◌≤◌, ◌||◌, ℕ, List, length, take, true, false, Some, None, IfOk, IfErr, OnOk, MatchOption, is_some};
+ghost use Rattle.std.specs.List.{prefix_len, list_all};
+ghost use Rattle.mlk_routine.specs.Told.{Told};
+ghost use Rattle.mlk_routine.specs.RoutineGrammar.{is_line_byte};
+ghost use Rattle.mlk_routine.specs.Lines.{has_name, is_in, is_labelled, level_in, IsFront, FrontEnds, IsKept, Fits, FitsAfter};
+ghost use Rattle.mlk_routine.specs.Lines.{head_of, IsLineOnly, IsAfter, NoLine};
+
+use crate::fault::refused;
+use crate::front::{Front, before_commands};
+use crate::label::label;
+use crate::reach::reaches_block;
+use crate::routine::Line;
+use crate::seen::Seen;
+use crate::tail::tail;
+use mlk_text::{Code, Failure, Fault};
+use std::alloc::{AllocError, Global};
+
+const MOST_LEVELS: usize = 15;
+
+/// What is known of the lines before a line.
+#[derive(Drop)]
+pub(crate) struct Before<'a> {
+    labels: Seen<'a>,
+    /// the level of the last one, 0 where there is none
+    level: usize,
+    /// whether a DO without arguments stands on the last one
+    reaches: bool,
+}
+
+impl<'a> Before<'a> {
+    /// Before the first line, which has the first level.
+    pub(crate) fn new(alloc: Global) -> Before<'a>
+        ensures labels { (q : List ℕ) → has_name q result.labels.texts.keys ≡ false }
+        ensures level { result.level ≡ 0 }
+        ensures reaches { result.reaches ≡ true }
+    {
+        Before {
+            labels: Seen::new(alloc),
+            level: 0,
+            reaches: true,
+        }
+    }
+
+    // Whether a line before has the label.
+    fn has_label(&self, front: &Front) -> bool
+        ensures { result ≡ is_in front.now.label self.now.labels.texts.keys }
+    {
+        match &front.label {
+            Some(label) => self.labels.has(label.as_bytes()),
+            None => false,
+        }
+    }
+
+    // Why a line with this front may not stand here, if it may not.
+    fn misplaced(&self, front: &Front) -> Option<Code>
+        ensures none { result ≡ None → IsKept front.now.label (level_in front.now.level) }
+        ensures fits { result ≡ None → Fits self.now front.now.label (level_in front.now.level) }
+        ensures some { is_some result ≡ true → IsKept front.now.label (level_in front.now.level)
+            → Fits self.now front.now.label (level_in front.now.level) → ⊥ }
+    {
+        let level = front.level.unwrap_or(1);
+        if level > 1 && front.label.is_some() {
+            return Some(Code::LineForm);
+        }
+        if self.has_label(front) {
+            return Some(Code::LabelTwice);
+        }
+        if level > self.level && level - 1 > self.level {
+            return Some(Code::LevelJump);
+        }
+        if level > self.level && !self.reaches {
+            return Some(Code::BlockUnreached);
+        }
+        if level > MOST_LEVELS {
+            return Some(Code::TooLarge);
+        }
+        None
+    }
+
+    // Adds the label of a line.
+    fn add(&mut self, front: &Front, text: &'a [u8]) -> Result<(), AllocError>
+        requires { (label : List ℕ) → front.now.label ≡ Some label → take (length label) text.now ≡ label }
+        ensures labels { OnOk result ((q : List ℕ) → has_name q self.new.labels.texts.keys
+            ≡ (is_labelled q front.now.label || has_name q self.old.labels.texts.keys)) }
+        ensures level { self.new.level ≡ self.old.level }
+    {
+        if let Some(label) = &front.label {
+            let size = label.as_bytes().len().min(text.len());
+            let (written, _) = text.split_at(size);
+            let _is_new = self.labels.add(written)?;
+        }
+        Ok(())
+    }
+}
+
+// What stands before the commands of a line, and the byte after it. A label that stood before is told first.
+fn front(alloc: Global, before: &Before, text: &[u8]) -> Result<(Front, usize), Failure<Fault>>
+    ensures { Told (λ f. f) IsFront FrontEnds text.now 0 result }
+{
+    let (label, next) = label(alloc, text)?;
+    let is_twice = match &label {
+        Some(label) => before.labels.has(label.as_bytes()),
+        None => false,
+    };
+    match before_commands(alloc, label, text, next) {
+        Err(Failure::Refused(_)) if is_twice => Err(refused(alloc, Code::LabelTwice, 0)),
+        Err(failure) => Err(failure),
+        Ok(read) => Ok(read),
+    }
+}
+
+// How many bytes stand before one that ends a line.
+fn line_bytes(text: &[u8]) -> usize
+    ensures value { result ≡ prefix_len is_line_byte text.now }
+    ensures within { result ≤ length text.now }
+{
+    text.iter()
+        .take_while(|b| !(**b == b'\n' || **b == b'\r'))
+        .count()
+}
+
+/// A line, without its block.
+pub(crate) fn line<'a>(
+    alloc: Global,
+    before: &mut Before<'a>,
+    number: usize,
+    text: &'a [u8],
+) -> Result<Line, Failure<Fault>>
+    ensures line { IfOk result (λ l. IsLineOnly number text.now (head_of l)) }
+    ensures plain { OnOk result (list_all is_line_byte text.now ≡ true) }
+    ensures fits { IfOk result (λ l. FitsAfter before.old (head_of l)) }
+    ensures after { IfOk result (λ l. IsAfter before.old before.new (head_of l)) }
+    ensures refused { IfErr result (NoLine before.old number text.now) }
+{
+    let (front, start) = front(alloc, before, text)?;
+    if let Some(code) = before.misplaced(&front) {
+        return Err(refused(alloc, code, 0));
+    }
+    let commands = tail(alloc, front.level, text, start)?;
+    let plain = line_bytes(text);
+    if plain < text.len() {
+        return Err(refused(alloc, Code::Byte, plain));
+    }
+    before.add(&front, text)?;
+    let Front {
+        label,
+        formals,
+        level,
+    } = front;
+    let level = level.unwrap_or(1);
+    before.level = level;
+    before.reaches = reaches_block(&commands);
+    Ok(Line {
+        number,
+        level,
+        end: text.len() + 1,
+        label,
+        formals,
+        commands,
+        block: Vec::new(alloc),
+    })
+}

@@ -1,0 +1,32 @@
+// The lines of a text, as they follow each other.
+
+ghost use Rattle.std.specs.Prelude.{map, IfOk, IfErr};
+ghost use Rattle.mlk_routine.specs.Told.{IsRefusal};
+ghost use Rattle.mlk_routine.specs.Lines.{head_of, AreHeadsOnly, NoHeads, texts_of};
+
+use crate::fault::in_line;
+use crate::line::{Before, line};
+use crate::routine::Line;
+use mlk_text::{Failure, Fault};
+use std::alloc::Global;
+use std::collections::VecDeque;
+
+/// The lines of a routine's texts, each without its block.
+pub(crate) fn lines(
+    alloc: Global,
+    routine: &[u8],
+    texts: &[&[u8]],
+) -> Result<VecDeque<Line>, Failure<Fault>>
+    ensures found { IfOk result (λ v. AreHeadsOnly (texts_of texts.now) (map head_of v.items)) }
+    ensures refused { IfErr result (NoHeads (texts_of texts.now)) }
+{
+    let mut before = Before::new(alloc);
+    let mut lines = VecDeque::new(alloc);
+    for (i, text) in texts.iter().enumerate() {
+        match line(alloc, &mut before, i + 1, text) {
+            Ok(read) => lines.push_back(read)?,
+            Err(failure) => return Err(in_line(alloc, routine, i + 1, text, failure)),
+        }
+    }
+    Ok(lines)
+}

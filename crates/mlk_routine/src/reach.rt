@@ -1,0 +1,39 @@
+// Whether a line runs the block under it.
+
+ghost use Rattle.std.specs.Prelude.{◌≡◌, ◌||◌};
+ghost use Rattle.std.specs.List.{list_any};
+ghost use Rattle.mlk_routine.specs.CommandWords.{reaches_block};
+ghost use Rattle.mlk_routine.specs.Views.{commands_of, command_of};
+ghost use Rattle.mlk_routine.specs.Lines.{is_block};
+
+use crate::tree::{Action, Command, Commands};
+
+// Whether this is a DO without arguments.
+fn is_block(command: &Command) -> bool
+    ensures { result ≡ is_block (command_of command.now) }
+{
+    match &command.action {
+        Action::Do(calls) => calls.is_empty(),
+        _ => false,
+    }
+}
+
+// Whether one stands among these.
+fn has_block(commands: &[Command]) -> bool
+    ensures { result ≡ list_any (λ c. is_block (command_of c)) commands.now }
+{
+    commands.iter().any(|c| is_block(c))
+}
+
+/// Whether a DO without arguments stands among these, in their FORs too.
+pub(crate) fn reaches_block(commands: &Commands) -> bool
+    ensures { result ≡ reaches_block (commands_of commands.now) }
+{
+    if has_block(&commands.before) {
+        return true;
+    }
+    match &commands.last {
+        Some(last) => reaches_block(&last.rest),
+        None => false,
+    }
+}

@@ -1,0 +1,52 @@
+// The reader of routines.
+
+ghost use Rattle.std.specs.Prelude.{◌≡◌, IfOk, IfErr, map};
+ghost use Rattle.bstr.specs.Text.{lines_of, without_terminator};
+ghost use Rattle.mlk_routine.specs.Trees.{RoutineTree};
+ghost use Rattle.mlk_routine.specs.Views.{routine_of};
+ghost use Rattle.mlk_routine.specs.RoutineGrammar.{IsRoutine};
+ghost use Rattle.mlk_routine.specs.Lines.{texts_of, NoRoutine};
+
+use crate::blocks::block;
+use crate::fault::whole;
+use crate::lines::lines;
+use crate::routine::Routine;
+use crate::stem::stem_name;
+use bstr::ByteSlice;
+use mlk_text::{Code, Failure, Fault};
+use std::alloc::{AllocError, Global};
+
+const MOST_BYTES: usize = 1048576;
+
+const MOST_LINES: usize = 65535;
+
+// The lines of a text, without their ends.
+fn cut(alloc: Global, text: &[u8]) -> Result<Vec<&[u8]>, AllocError>
+    ensures { IfOk result (λ v. texts_of v.items ≡ map without_terminator (lines_of text.now)) }
+{
+    text.lines().collect(alloc)
+}
+
+/// Reads the routine of a text, by the stem of its file.
+pub fn read_routine(alloc: Global, stem: &[u8], text: &[u8]) -> Result<Routine, Failure<Fault>>
+    // What is read is written by the stem and the text.
+    ensures found { IfOk result (λ r. IsRoutine stem.now (routine_of r) text.now) }
+    // Nothing else is.
+    ensures only { IfOk result (λ r. (tree : RoutineTree) → IsRoutine stem.now tree text.now → tree ≡ routine_of r) }
+    // What is refused, unless memory ran out, is no routine.
+    ensures refused { IfErr result (NoRoutine stem.now text.now) }
+{
+    let Some(name) = stem_name(alloc, stem)? else {
+        return Err(whole(alloc, Code::RoutineName, stem));
+    };
+    if text.len() > MOST_BYTES {
+        return Err(whole(alloc, Code::TooLarge, name.as_bytes()));
+    }
+    let texts = cut(alloc, text)?;
+    if texts.len() > MOST_LINES {
+        return Err(whole(alloc, Code::TooLarge, name.as_bytes()));
+    }
+    let mut left = lines(alloc, name.as_bytes(), &texts)?;
+    let lines = block(alloc, 0, &mut left)?;
+    Ok(Routine { name, lines })
+}

@@ -1,0 +1,62 @@
+// The start of a line: blanks, and periods with blanks after each.
+
+ghost use Rattle.std.specs.Prelude.{◌≡◌, ◌≤◌, length, drop, false};
+ghost use Rattle.mlk_routine.specs.Told.{Told, Found};
+ghost use Rattle.mlk_routine.specs.Ends.{starts, is_commands_end};
+ghost use Rattle.mlk_routine.specs.RoutineGrammar.{is_blank};
+ghost use Rattle.mlk_routine.specs.Lines.{ArePeriodsHere, PeriodsEnd, IsOpening, OpeningEnds};
+
+use crate::fault::refused;
+use crate::part::has;
+use crate::run::past_blanks;
+use mlk_text::{Code, Failure, Fault};
+use std::alloc::Global;
+
+// How many periods stand here, where no blank does, and the byte after them and the blanks after each.
+fn periods(line: &[u8], at: usize) -> (usize, usize)
+    requires within { at ≤ length line.now }
+    requires none { starts is_blank (drop at line.now) ≡ false }
+    ensures found { Found ArePeriodsHere PeriodsEnd line.now at result.0 result.1 }
+    ensures few { result.0 ≤ result.1 }
+{
+    let mut count = 0;
+    let mut next = at;
+    while has(line, next, b'.') {
+        count += 1;
+        next = past_blanks(line, next + 1);
+    }
+    (count, next)
+}
+
+// Whether the line ends here, but for a comment.
+fn ends_here(line: &[u8], at: usize) -> bool
+    requires { at ≤ length line.now }
+    ensures { result ≡ is_commands_end (drop at line.now) }
+{
+    let (_, bytes) = line.split_at(at);
+    match bytes.split_first() {
+        Some((first, _)) => *first == b';',
+        None => true,
+    }
+}
+
+/// The level that the line's start here gives, and the byte after it. Only before the line's end or a comment may a start be
+/// missing.
+pub(crate) fn opening(
+    alloc: Global,
+    line: &[u8],
+    at: usize,
+) -> Result<(Option<usize>, usize), Failure<Fault>>
+    requires { at ≤ length line.now }
+    ensures { Told (λ o. o) IsOpening OpeningEnds line.now at result }
+{
+    let next = past_blanks(line, at);
+    if next > at {
+        let (count, next) = periods(line, next);
+        return Ok((Some(count + 1), next));
+    }
+    if !ends_here(line, at) {
+        return Err(refused(alloc, Code::LineForm, at));
+    }
+    Ok((None, at))
+}

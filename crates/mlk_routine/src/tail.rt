@@ -1,0 +1,59 @@
+// What stands after a line's start.
+
+ghost use Rattle.std.specs.Prelude.{◌≡◌, ◌≤◌, length, drop, true, OnOk, OnErr};
+ghost use Rattle.std.specs.List.{prefix_len};
+ghost use Rattle.mlk_text.specs.Lexemes.{is_text_byte};
+ghost use Rattle.mlk_routine.specs.Ends.{is_commands_end};
+ghost use Rattle.mlk_routine.specs.RoutineGrammar.{IsComment};
+ghost use Rattle.mlk_routine.specs.Views.{commands_of};
+ghost use Rattle.mlk_routine.specs.Lines.{OpeningEnds, IsTailOf, ToldToEnd};
+
+use crate::commands::{Inside, commands};
+use crate::fault::refused;
+use crate::tree::Commands;
+use mlk_text::lexeme::is_text_byte;
+use mlk_text::{Code, Failure, Fault};
+use std::alloc::Global;
+
+// How many bytes of a comment stand at the front.
+fn text_bytes(bytes: &[u8]) -> usize
+    ensures value { result ≡ prefix_len is_text_byte bytes.now }
+    ensures within { result ≤ length bytes.now }
+{
+    bytes.iter().take_while(|b| is_text_byte(**b)).count()
+}
+
+// Tells where a comment that begins here, if one does, has a byte that may not stand in it.
+fn comment(alloc: Global, line: &[u8], at: usize) -> Result<(), Failure<Fault>>
+    requires within { at ≤ length line.now }
+    requires end { is_commands_end (drop at line.now) ≡ true }
+    ensures ok { OnOk result (IsComment (drop at line.now)) }
+    ensures refused { OnErr result (IsComment (drop at line.now) → ⊥) }
+{
+    let (_, bytes) = line.split_at(at);
+    let good = text_bytes(bytes);
+    if good < bytes.len() {
+        return Err(refused(alloc, Code::Byte, at + good));
+    }
+    Ok(())
+}
+
+/// The commands of a line of this level from here on, with its comment.
+pub(crate) fn tail(
+    alloc: Global,
+    level: Option<usize>,
+    line: &[u8],
+    at: usize,
+) -> Result<Commands, Failure<Fault>>
+    requires within { at ≤ length line.now }
+    requires begun { OpeningEnds level (drop at line.now) }
+    ensures { ToldToEnd commands_of (IsTailOf level) line.now at result }
+{
+    let inside = Inside {
+        level: level.unwrap_or(1),
+        loops: 0,
+    };
+    let (commands, next) = commands(alloc, inside, line, at)?;
+    comment(alloc, line, next)?;
+    Ok(commands)
+}
