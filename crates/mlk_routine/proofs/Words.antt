@@ -1,6 +1,6 @@
 -- The words of commands, from texts and to them.
-use Rattle.std.proofs.Common.{◌≡◌, ◌≤◌, ◌+◌, ℕ, suc, List, [], ◌∷◌, ◌++◌, length, drop, map, Some, None, Bool, true, false, inl, inr, refl, sym, ap, ◌∙◌, arith, subst, codes}
-use Rattle.std.specs.Prelude.{Option, ◌⊎◌, ◌||◌, not}
+use Rattle.std.proofs.Common.{◌≡◌, ◌≤◌, ◌+◌, ℕ, suc, List, [], ◌∷◌, ◌++◌, length, drop, Some, None, true, inl, inr, refl, sym, ap, ◌∙◌, arith, subst, codes}
+use Rattle.std.specs.Prelude.{Option}
 use Rattle.std.specs.List.{list_all}
 use Rattle.std.specs.Str.{str_to_ascii_lowercase, str_eq_ignore_ascii_case}
 use Rattle.std.proofs.lemmas.Bool.{cases_Bool, or_cases, or_right, not_from_false}
@@ -12,12 +12,10 @@ use Rattle.mlk_text.specs.Spellings.{IsWord}
 use Rattle.mlk_text.proofs.Runs.{stops, run-is, parted}
 use Rattle.mlk_text.proofs.Spelled.{word-reads}
 use Rattle.mlk_expr.specs.Words.{is_either}
-use Rattle.mlk_expr.specs.Theorem.{Stands}
 use Rattle.mlk_routine.specs.declared.word.Word.{Word}
 use Rattle.mlk_routine.specs.declared.word.Word.TheVariants as word
 use Rattle.mlk_routine.specs.Trees.{ActionTree, Do, Else, Halt, Hang, If, Job, Kill, Lock, Merge, New, Quit, Read, Set, Write}
 use Rattle.mlk_routine.specs.Told.{Found, Nowhere}
-use Rattle.mlk_routine.specs.Ends.{starts}
 use Rattle.mlk_routine.specs.CommandWords.{is_word_of, is_for}
 use Rattle.mlk_routine.specs.Kinds.{kind, halts_or_hangs, Means, is_written, first_word, all_words, word_of, IsNamed, WordEnds}
 use Rattle.mlk_routine.proofs.Sequences.{stands_at}
@@ -121,7 +119,7 @@ means_written w a s (inl same) h = kind_written a s (subst (λ x. is_written x s
 means_written w a s (inr (same, m)) h = h_written a s m (short_h s (subst (λ x. is_written x s ≡ true) same (named_written s w h)))
 
 -- The other way. A text is one of two texts but for the case of its letters.
-same_case : (s t : List ℕ) → str_eq_ignore_ascii_case s t ≡ true → str_to_ascii_lowercase s ≡ str_to_ascii_lowercase t
+pub same_case : (s t : List ℕ) → str_eq_ignore_ascii_case s t ≡ true → str_to_ascii_lowercase s ≡ str_to_ascii_lowercase t
 same_case s t e = (bytes_eq-Decides (str_to_ascii_lowercase s) (str_to_ascii_lowercase t)).0 e
 
 case_named : (s t : List ℕ) → str_to_ascii_lowercase s ≡ str_to_ascii_lowercase t → word_of s ≡ word_of t
@@ -131,7 +129,7 @@ case_named s t same = rw same refl
 lower_letter : (b : ℕ) → is_letter (to_ascii_lowercase b) ≡ is_letter b
 lower_letter b = grind (arith, nat_tests)
 
-lower_word : (s : List ℕ) → list_all is_letter (str_to_ascii_lowercase s) ≡ list_all is_letter s
+pub lower_word : (s : List ℕ) → list_all is_letter (str_to_ascii_lowercase s) ≡ list_all is_letter s
 lower_word [] = refl
 lower_word (b ∷ s) = rw (lower_letter b, lower_word s) refl
 
