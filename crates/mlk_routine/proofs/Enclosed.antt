@@ -31,7 +31,7 @@ module _ {A : Type 0} (Is : Spelled A) (Ends : A → List ℕ → Type 0) (stop 
   abbrev IsClosed : ℕ → List A → List ℕ → Type 0
   IsClosed at items s = (inner : List ℕ) × (s ≡ inner ++ 41 ∷ []) × IsList Is at items inner
 
-  closes : (a : A) (items : List A) (rest : List ℕ) → MoreEnds Ends a items (41 ∷ rest)
+  pub closes : (a : A) (items : List A) (rest : List ℕ) → MoreEnds Ends a items (41 ∷ rest)
   closes a [] rest = (λ bad. let e = same_Some 41 44 bad in omega (arith, e), stop a (41 ∷ rest) refl)
   closes a (b ∷ items) rest = closes b items rest
 

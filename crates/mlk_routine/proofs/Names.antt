@@ -1,13 +1,12 @@
 -- The arguments of KILL, NEW and MERGE.
 use Rattle.mlk_text.proofs.Spelled.{name-parts}
-use Rattle.std.proofs.Common.{◌≡◌, ◌+◌, ℕ, suc, List, [], ◌∷◌, ◌++◌, length, drop, Some, Bool, true, false, inl, inr, refl, sym, ap, ◌∙◌, arith, subst}
+use Rattle.std.proofs.Common.{◌≡◌, ◌+◌, ℕ, suc, List, [], ◌∷◌, ◌++◌, length, drop, Some, Bool, true, false, refl, sym, ap, ◌∙◌, arith, subst}
 use Rattle.std.specs.Prelude.{◌||◌, ◌==◌}
 use Rattle.std.proofs.lemmas.Option.{same_Some}
-use Rattle.std.proofs.lemmas.Bool.{cases_Bool}
 use Rattle.mlk_expr.specs.declared.scope.Allows.TheVariants.{Everything, NoCalls}
 use Rattle.mlk_expr.specs.Lexemes.{starts_reference}
-use Rattle.mlk_expr.specs.Grammar.{IsNameText, has_subscript}
-use Rattle.mlk_routine.specs.Trees.{VariableTree, Named, KillTree, KillOne, KillAllBut, MergeTree, MergeInto, NewTree, NewOne, NewAllBut}
+use Rattle.mlk_expr.specs.Grammar.{IsNameText}
+use Rattle.mlk_routine.specs.Trees.{VariableTree, KillTree, KillOne, KillAllBut, MergeTree, MergeInto, NewTree, NewOne, NewAllBut}
 use Rattle.mlk_routine.specs.Told.{Nowhere, first_of, byte_at}
 use Rattle.mlk_routine.specs.Ends.{VariableEnds, KillEnds, MergeEnds, NewEnds, AnyEnds}
 use Rattle.mlk_routine.specs.CommandGrammar.{IsVariable, AreEnclosed, IsKill, IsMerge, IsNew}
@@ -15,7 +14,7 @@ use Rattle.mlk_routine.proofs.Sequences.{Parts, Turned}
 use Rattle.mlk_routine.proofs.Bytes.{AfterByte, byte_there}
 use Rattle.mlk_text.specs.Spellings.{IsName}
 use Rattle.mlk_text.specs.Lexemes.{is_letter}
-use Rattle.mlk_routine.proofs.Variables.{variable_starts}
+use Rattle.mlk_routine.proofs.Variables.{variable_starts, variable_before}
 
 -- no local and no global begins with a parenthesis
 not_open : (s : List ℕ) → starts_reference s ≡ true → first_of s ≡ Some 40 → ⊥
@@ -40,13 +39,6 @@ module _ (line : List ℕ) (at : ℕ) where
           absurd (not_open u start (sym (first_whole u rest start) ∙ sym (ap first_of h) ∙ here))
       go (KillAllBut names) u rest h is e = (names, refl, is, tt)
 
-  -- an equals sign ends a name
-  equals_end : (v : VariableTree) (rest : List ℕ) → VariableEnds v (61 ∷ rest)
-  equals_end (Named column name) rest = elim (cases_Bool (has_subscript name)) [
-    | inl has ↦ rw has refl
-    | inr none ↦ rw none refl
-  ]
-
   pub merge_parts : Parts line at (IsVariable NoCalls) VariableEnds (λ target. AfterByte 61 (IsVariable NoCalls)) (λ target. VariableEnds) IsMerge MergeEnds MergeInto
   merge_parts = record {
     into = λ target source s t one two. (s, t, refl, one, two);
@@ -57,7 +49,7 @@ module _ (line : List ℕ) (at : ℕ) where
       go : (c : MergeTree) (u rest : List ℕ) → IsMerge (suc at) c u → MergeEnds c rest
           → (target : VariableTree) × (source : VariableTree) × (s t : List ℕ) × (u ≡ s ++ t) × (c ≡ MergeInto target source) × IsVariable NoCalls (suc at) target s × AfterByte 61 (IsVariable NoCalls) (suc at + length s) source t × VariableEnds target (t ++ rest) × VariableEnds source rest
       go (MergeInto target source) u rest (s, t, is, one, two) e =
-          (target, source, s, t, is, refl, one, two, subst (λ l. VariableEnds target (l ++ rest)) (sym (two.1)) (equals_end target (two.0 ++ rest)), e)
+          (target, source, s, t, is, refl, one, two, subst (λ l. VariableEnds target (l ++ rest)) (sym (two.1)) (variable_before target (61 ∷ (two.0 ++ rest)) refl), e)
 
 -- a name begins with a letter or with `%`
 name_starts : (name s rest : List ℕ) → IsName name → s ≡ name → starts_reference (s ++ rest) ≡ true

@@ -3,11 +3,8 @@ use Rattle.std.proofs.Common.{◌≡◌, ◌+◌, ◌-◌, ℕ, suc, List, [], �
 use Rattle.std.specs.Prelude.{◌⊎◌}
 use Rattle.std.specs.List.{list_all}
 use Rattle.std.specs.Str.{str_to_ascii_lowercase, str_eq_ignore_ascii_case}
-use Rattle.std.specs.Char.{to_ascii_lowercase}
 use Rattle.std.proofs.lemmas.Bool.{cases_Bool, or_cases}
-use Rattle.std.proofs.lemmas.Bool.Decides.{nat_tests}
 use Rattle.std.proofs.lemmas.Option.{same_Some}
-use Rattle.std.proofs.lemmas.Slice.Eq.{bytes_eq-Decides}
 use Rattle.mlk_text.specs.Lexemes.{is_letter, word_at}
 use Rattle.mlk_text.specs.Spellings.{IsWord}
 use Rattle.mlk_text.proofs.Spelled.{word-reads, word-spelled}
@@ -24,24 +21,18 @@ use Rattle.mlk_routine.specs.Stops.{expr_stop}
 use Rattle.mlk_routine.specs.CommandGrammar.{Both, IsVariable, IsValue, IsOneOrEnclosed, is_part_word, IsTarget, IsSet}
 use Rattle.mlk_routine.proofs.Sequences.{Parts, Turned, stands_at}
 use Rattle.mlk_routine.proofs.Bytes.{AfterByte, byte_there, byte_before}
-use Rattle.mlk_routine.proofs.Enclosed.{IsByte}
+use Rattle.mlk_routine.proofs.Enclosed.{IsByte, closes}
+use Rattle.mlk_routine.proofs.Words.{same_case, lower_word}
 use Rattle.mlk_routine.proofs.Variables.{variable_starts, starts_lacking, variable_shut, variable_before}
 
--- a word but for the case of its letters
-lower_letter : (b : ℕ) → is_letter (to_ascii_lowercase b) ≡ is_letter b
-lower_letter b = grind (arith, nat_tests)
-
-lower_word : (s : List ℕ) → list_all is_letter (str_to_ascii_lowercase s) ≡ list_all is_letter s
-lower_word [] = refl
-lower_word (b ∷ s) = rw (lower_letter b, lower_word s) refl
-
+-- the function of a word, but for the case of its letters
 case_part : (s t : List ℕ) → str_to_ascii_lowercase s ≡ str_to_ascii_lowercase t → part_of s ≡ part_of t
 unfolding part_of
 case_part s t same = rw same refl
 
 same_part : (p : Part) (s t : List ℕ) → str_eq_ignore_ascii_case s t ≡ true → IsWord t → part_of t ≡ Some p → IsWord s × (part_of s ≡ Some p)
 same_part p s t e word is =
-    let same = (bytes_eq-Decides (str_to_ascii_lowercase s) (str_to_ascii_lowercase t)).0 e in
+    let same = same_case s t e in
     (sym (lower_word s) ∙ ap (list_all is_letter) same ∙ lower_word t ∙ word, case_part s t same ∙ is)
 
 part_reads : (p : Part) (s : List ℕ) → is_part_word p s ≡ true → IsWord s × (part_of s ≡ Some p)
@@ -163,16 +154,9 @@ inner_parts line at = record {
 abbrev pub IsClosing : ℕ → VariableTree × List Tree → List ℕ → Type 0
 IsClosing at p s = (inner : List ℕ) × (s ≡ inner ++ 41 ∷ []) × IsInner at p inner
 
-lacks_comma : (rest : List ℕ) → Lacks 44 (41 ∷ rest)
-lacks_comma rest bad = let e = same_Some 41 44 bad in omega (arith, e)
-
-more_close : (t : Tree) (more : List Tree) (rest : List ℕ) → MoreEnds ExprEnds t more (41 ∷ rest)
-more_close t [] rest = (lacks_comma rest, expr_stop t (41 ∷ rest) refl)
-more_close t (x ∷ more) rest = more_close x more rest
-
 inner_close : (v : VariableTree) (arguments : List Tree) (rest : List ℕ) → InnerEnd v arguments (41 ∷ rest)
-inner_close v [] rest = (variable_before v (41 ∷ rest) refl, lacks_comma rest)
-inner_close v (t ∷ more) rest = more_close t more rest
+inner_close v [] rest = (variable_before v (41 ∷ rest) refl, λ bad. let e = same_Some 41 44 bad in omega (arith, e))
+inner_close v (t ∷ more) rest = closes (IsExprWhere NoCalls) ExprEnds expr_stop t more rest
 
 pub closing_parts : (line : List ℕ) (at : ℕ) → Parts line at IsInner InnerEnds (λ p. IsByte 41) (λ p. AnyEnds) IsClosing AnyEnds (λ p u. p)
 closing_parts line at = record {

@@ -119,7 +119,7 @@ means_written w a s (inl same) h = kind_written a s (subst (λ x. is_written x s
 means_written w a s (inr (same, m)) h = h_written a s m (short_h s (subst (λ x. is_written x s ≡ true) same (named_written s w h)))
 
 -- The other way. A text is one of two texts but for the case of its letters.
-same_case : (s t : List ℕ) → str_eq_ignore_ascii_case s t ≡ true → str_to_ascii_lowercase s ≡ str_to_ascii_lowercase t
+pub same_case : (s t : List ℕ) → str_eq_ignore_ascii_case s t ≡ true → str_to_ascii_lowercase s ≡ str_to_ascii_lowercase t
 same_case s t e = (bytes_eq-Decides (str_to_ascii_lowercase s) (str_to_ascii_lowercase t)).0 e
 
 case_named : (s t : List ℕ) → str_to_ascii_lowercase s ≡ str_to_ascii_lowercase t → word_of s ≡ word_of t
@@ -129,7 +129,7 @@ case_named s t same = rw same refl
 lower_letter : (b : ℕ) → is_letter (to_ascii_lowercase b) ≡ is_letter b
 lower_letter b = grind (arith, nat_tests)
 
-lower_word : (s : List ℕ) → list_all is_letter (str_to_ascii_lowercase s) ≡ list_all is_letter s
+pub lower_word : (s : List ℕ) → list_all is_letter (str_to_ascii_lowercase s) ≡ list_all is_letter s
 lower_word [] = refl
 lower_word (b ∷ s) = rw (lower_letter b, lower_word s) refl
 

@@ -4,6 +4,7 @@ pub mod CommandWords
 pub mod CommandGrammar
 pub mod RoutineGrammar
 pub mod Told
+pub mod Faults
 pub mod Ends
 pub mod Stops
 pub mod Begins
