@@ -1,6 +1,8 @@
 // Why a part of a line was not read.
 
+ghost use Rattle.std.specs.Prelude.{◌≡◌, ◌≤◌};
 ghost use Rattle.mlk_routine.specs.Told.{IsRefusal};
+ghost use Rattle.mlk_routine.specs.Lines.{IsInRoutine, IfRefused, IsOfWhole};
 
 use mlk_text::{Code, Column, Failure, Fault, LeftOut, LineNumber, Place, Value};
 use std::alloc::Global;
@@ -83,7 +85,11 @@ fn located(
     column: Column,
     code: Code,
     left_out: Option<LeftOut>,
-) -> Failure<Fault> {
+) -> Failure<Fault>
+    requires { 1 ≤ number }
+    ensures line { IsInRoutine routine.now number result }
+    ensures column { IfRefused result (λ f. f.place.column ≡ column) }
+{
     let Ok(bytes) = Vec::from_slice(alloc, routine) else {
         return Failure::OutOfMemory;
     };
@@ -106,7 +112,9 @@ pub(crate) fn in_line(
     text: &[u8],
     failure: Failure<Fault>,
 ) -> Failure<Fault>
-    ensures { IsRefusal result → IsRefusal failure }
+    requires { 1 ≤ number }
+    ensures same { IsRefusal result → IsRefusal failure }
+    ensures place { IsInRoutine routine.now number result }
 {
     let Failure::Refused(fault) = failure else {
         return Failure::OutOfMemory;
@@ -124,6 +132,8 @@ pub(crate) fn in_line(
 }
 
 /// The refusal of a whole routine.
-pub(crate) fn whole(alloc: Global, code: Code, routine: &[u8]) -> Failure<Fault> {
+pub(crate) fn whole(alloc: Global, code: Code, routine: &[u8]) -> Failure<Fault>
+    ensures { IsOfWhole routine.now result }
+{
     located(alloc, routine, 1, Column::new(1), code, None)
 }
