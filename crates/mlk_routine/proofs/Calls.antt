@@ -1,18 +1,19 @@
 -- Calls: what is called, and its actuals.
 use Rattle.mlk_text.specs.Places.{column_at}
-use Rattle.std.proofs.Common.{◌≡◌, ◌≤◌, ◌+◌, ℕ, suc, List, [], ◌∷◌, ◌++◌, length, drop, Some, None, true, inl, inr, refl, sym, ap, ◌∙◌, subst, add-one}
+use Rattle.std.proofs.Common.{◌≡◌, ◌≤◌, ◌+◌, ℕ, suc, List, [], ◌∷◌, ◌++◌, length, drop, Some, None, true, inl, inr, refl, sym, ap, ◌∙◌, arith, subst, add-one}
 use Rattle.std.specs.Prelude.{Option}
 use Rattle.std.proofs.lemmas.Bool.{cases_Bool}
+use Rattle.std.proofs.lemmas.Option.{same_Some}
 use Rattle.mlk_text.specs.Lexemes.{is_digit}
 use Rattle.mlk_expr.specs.declared.scope.Allows.{Allows}
 use Rattle.mlk_expr.specs.declared.scope.Passing.{Passing}
 use Rattle.mlk_expr.specs.declared.tree.Callee.{Callee}
 use Rattle.mlk_expr.specs.Trees.{ActualTree}
 use Rattle.mlk_expr.specs.Grammar.{IsActualList, IsActualListWhere, IsCalleeText}
-use Rattle.mlk_expr.specs.Theorem.{Stands, CalleeEnds, label_ends, callee_ends}
+use Rattle.mlk_expr.specs.Theorem.{Stands, label_ends, callee_ends}
 use Rattle.mlk_routine.specs.Trees.{CallTree, Called}
 use Rattle.mlk_routine.specs.Told.{Found, first_of, byte_at}
-use Rattle.mlk_routine.specs.Ends.{GivenEnds, CallEnds}
+use Rattle.mlk_routine.specs.Ends.{GivenEnds, CalledEnds, CallEnds}
 use Rattle.mlk_routine.specs.CommandGrammar.{IsGiven, IsCall}
 use Rattle.mlk_routine.proofs.Sequences.{Parts}
 
@@ -49,25 +50,26 @@ callee_opens (Some label) None ys = rw (label_opens label ys) refl
 callee_opens (Some label) (Some routine) ys = label_opens routine ys
 
 module _ (allows : Allows) (passing : Passing) (line : List ℕ) (at : ℕ) where
-  pub call_parts : Parts line at IsCalleeText CalleeEnds (λ callee n given r. IsGiven allows passing n given r) (λ callee given rest. GivenEnds given rest) (IsCall allows passing) CallEnds (λ callee given. Called (column_at (at + 1)) callee given)
+  pub call_parts : Parts line at IsCalleeText CalledEnds (λ callee n given r. IsGiven allows passing n given r) (λ callee given rest. GivenEnds given rest) (IsCall allows passing) CallEnds (λ callee given. Called (column_at (at + 1)) callee given)
   call_parts = record {
     into = λ callee given s t one two. (ap column_at (add-one at), (s, t, refl, one, two));
     ends = λ callee given k t rest is before after. closes callee given k t rest is before after;
     apart = λ c u rest h is e. opens c u rest is e;
   }
     where
-      closes : (callee : Callee) (given : Option (List ActualTree)) (k : ℕ) (t rest : List ℕ) → IsGiven allows passing k given t → CalleeEnds callee (t ++ rest) → GivenEnds given rest → CallEnds (Called (column_at (at + 1)) callee given) rest
-      closes callee None k t rest is before after = (subst (λ l. CalleeEnds callee (l ++ rest)) is before, after)
+      closes : (callee : Callee) (given : Option (List ActualTree)) (k : ℕ) (t rest : List ℕ) → IsGiven allows passing k given t → CalledEnds callee (t ++ rest) → GivenEnds given rest → CallEnds (Called (column_at (at + 1)) callee given) rest
+      closes callee None k t rest is before after = (subst (λ l. CalledEnds callee (l ++ rest)) is before, after)
       closes callee (Some given) k t rest is before after = tt
 
-      ended : (column : ℕ) (callee : Callee) (given : Option (List ActualTree)) (k : ℕ) (t rest : List ℕ) → IsGiven allows passing k given t → CallEnds (Called column callee given) rest → CalleeEnds callee (t ++ rest) × GivenEnds given rest
-      ended column callee None k t rest is e = (subst (λ l. CalleeEnds callee (l ++ rest)) (sym is) e.0, e.1)
+      ended : (column : ℕ) (callee : Callee) (given : Option (List ActualTree)) (k : ℕ) (t rest : List ℕ) → IsGiven allows passing k given t → CallEnds (Called column callee given) rest → CalledEnds callee (t ++ rest) × GivenEnds given rest
+      ended column callee None k t rest is e = (subst (λ l. CalledEnds callee (l ++ rest)) (sym is) e.0, e.1)
       ended column callee (Some given) k t rest is e =
           let o = given_opens allows passing k given t is in
-          (subst (λ l. CalleeEnds callee (l ++ rest)) (sym o.1) (callee_opens callee.label callee.routine (o.0 ++ rest)), tt)
+          let open' : CalledEnds callee (40 ∷ (o.0 ++ rest)) = (callee_opens callee.label callee.routine (o.0 ++ rest), λ bad. let e = same_Some 40 43 bad in omega (arith, e)) in
+          (subst (λ l. CalledEnds callee (l ++ rest)) (sym o.1) open', tt)
 
       opens : (c : CallTree) (u rest : List ℕ) → IsCall allows passing (suc at) c u → CallEnds c rest
-          → (callee : Callee) × (given : Option (List ActualTree)) × (s t : List ℕ) × (u ≡ s ++ t) × (c ≡ Called (column_at (at + 1)) callee given) × IsCalleeText (suc at) callee s × IsGiven allows passing (suc at + length s) given t × CalleeEnds callee (t ++ rest) × GivenEnds given rest
+          → (callee : Callee) × (given : Option (List ActualTree)) × (s t : List ℕ) × (u ≡ s ++ t) × (c ≡ Called (column_at (at + 1)) callee given) × IsCalleeText (suc at) callee s × IsGiven allows passing (suc at + length s) given t × CalledEnds callee (t ++ rest) × GivenEnds given rest
       opens (Called column callee given) u rest (place, (s, t, is, one, two)) e =
           let f = ended column callee given (suc at + length s) t rest two e in
           (callee, given, s, t, is, ap (λ k. Called k callee given) (place ∙ ap column_at (sym (add-one at))), one, two, f.0, f.1)

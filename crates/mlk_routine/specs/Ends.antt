@@ -4,6 +4,7 @@ use Rattle.std.specs.Prelude.{Some, None, if◌then◌else◌, ◌++◌}
 use Rattle.std.specs.List.{list_all}
 use Rattle.mlk_expr.specs.Trees.{Tree, ActualTree}
 use Rattle.mlk_expr.specs.Spellings.{IsQuoted}
+use Rattle.mlk_expr.specs.declared.tree.Callee.{Callee}
 use Rattle.mlk_expr.specs.Theorem.{ExprEnds, ReferenceEnds, CalleeEnds, LabelEnds}
 use Rattle.mlk_routine.specs.Told.{first_of}
 use Rattle.mlk_routine.specs.Trees.{VariableTree, Named, CallTree, Called, DoTree, DoCall, KillTree, KillOne}
@@ -51,9 +52,13 @@ abbrev pub GivenEnds : Option (List ActualTree) → List ℕ → Type 0
 GivenEnds None rest = Lacks 40 rest
 GivenEnds (Some given) rest = Unit {0}
 
+-- after what is called: no plus either, since offsets are left out
+abbrev pub CalledEnds : Callee → List ℕ → Type 0
+CalledEnds callee rest = CalleeEnds callee rest × Lacks 43 rest
+
 -- after a call: anything after its actuals; without them what may stand after what is called, but no parenthesis
 abbrev pub CallEnds : CallTree → List ℕ → Type 0
-CallEnds (Called column callee None) rest = CalleeEnds callee rest × Lacks 40 rest
+CallEnds (Called column callee None) rest = CalledEnds callee rest × Lacks 40 rest
 CallEnds (Called column callee (Some given)) rest = Unit {0}
 
 -- anything

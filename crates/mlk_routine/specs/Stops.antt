@@ -67,6 +67,11 @@ lacks_open =
     by_stop (Lacks 40) (λ bad. cc bad) (no_byte 40 32 (λ e. omega (arith, e))) (no_byte 40 44 (λ e. omega (arith, e)))
     (no_byte 40 41 (λ e. omega (arith, e))) (no_byte 40 59 (λ e. omega (arith, e)))
 
+pub lacks_plus : (rest : List ℕ) → is_stop rest ≡ true → Lacks 43 rest
+lacks_plus =
+    by_stop (Lacks 43) (λ bad. cc bad) (no_byte 43 32 (λ e. omega (arith, e))) (no_byte 43 44 (λ e. omega (arith, e)))
+    (no_byte 43 41 (λ e. omega (arith, e))) (no_byte 43 59 (λ e. omega (arith, e)))
+
 pub variable_stop : (v : VariableTree) (rest : List ℕ) → is_stop rest ≡ true → VariableEnds v rest
 variable_stop (Named column name) =
     let either = λ (rest : List ℕ). or_true (has_subscript name) in
@@ -82,7 +87,8 @@ callee_stop (Some label) None rest h =
 callee_stop (Some label) (Some routine) rest h = name_stop routine rest h
 
 call_stop : (c : CallTree) (rest : List ℕ) → is_stop rest ≡ true → CallEnds c rest
-call_stop (Called column callee None) rest h = (callee_stop callee.label callee.routine rest h, lacks_open rest h)
+call_stop (Called column callee None) rest h =
+    ((callee_stop callee.label callee.routine rest h, lacks_plus rest h), lacks_open rest h)
 call_stop (Called column callee (Some given)) rest h = tt
 
 pub job_stop : (c : CallTree) (rest : List ℕ) → is_stop rest ≡ true → JobEnds c rest

@@ -5,19 +5,19 @@ ghost use Rattle.mlk_expr.specs.Trees.{actual_trees};
 ghost use Rattle.mlk_expr.specs.Grammar.{IsCalleeText};
 ghost use Rattle.mlk_expr.specs.Theorem.{CalleeEnds};
 ghost use Rattle.mlk_routine.specs.Told.{Told, byte_at};
-ghost use Rattle.mlk_routine.specs.Ends.{GivenEnds, CallEnds, DoEnds, JobEnds};
+ghost use Rattle.mlk_routine.specs.Ends.{GivenEnds, CalledEnds, CallEnds, DoEnds, JobEnds};
 ghost use Rattle.mlk_routine.specs.Views.{call_of, do_of};
 ghost use Rattle.mlk_routine.specs.CommandGrammar.{IsGiven, IsCall, IsDo, IsJob};
 
-use crate::fault::{leaves_out, other_form};
+use crate::fault::{leaves_out, other_form, refused};
 use crate::part::{expression, has};
 use crate::tree::{Call, DoArgument};
 use mlk_expr::{Actual, Allows, Callee, Passing, read_actuals_where, read_callee};
 use mlk_text::{Code, Column, Failure, Fault, LeftOut};
 use std::alloc::Global;
 
-/// What is called here, and the byte after it.
-fn callee(alloc: Global, line: &[u8], at: usize) -> Result<(Callee, usize), Failure<Fault>>
+// The label and the routine here, and the byte after them.
+fn called(alloc: Global, line: &[u8], at: usize) -> Result<(Callee, usize), Failure<Fault>>
     requires { at ≤ length line.now }
     ensures { Told (λ c. c) IsCalleeText CalleeEnds line.now at result }
 {
@@ -25,6 +25,22 @@ fn callee(alloc: Global, line: &[u8], at: usize) -> Result<(Callee, usize), Fail
         Ok(read) => Ok(read),
         Err(Failure::OutOfMemory) => Err(Failure::OutOfMemory),
         Err(Failure::Refused(fault)) => Err(other_form(Code::ArgumentForm, fault)),
+    }
+}
+
+/// What is called here, and the byte after it. An offset after a label is left out.
+fn callee(alloc: Global, line: &[u8], at: usize) -> Result<(Callee, usize), Failure<Fault>>
+    requires { at ≤ length line.now }
+    ensures { Told (λ c. c) IsCalleeText CalledEnds line.now at result }
+{
+    let (called, next) = called(alloc, line, at)?;
+    if !has(line, next, b'+') {
+        return Ok((called, next));
+    }
+    if called.routine.is_none() {
+        Err(leaves_out(alloc, LeftOut::Offset, next))
+    } else {
+        Err(refused(alloc, Code::Spacing, next))
     }
 }
 

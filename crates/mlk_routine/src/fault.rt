@@ -1,10 +1,11 @@
 // Why a part of a line was not read.
 
-ghost use Rattle.std.specs.Prelude.{Some, None};
+ghost use Rattle.std.specs.Prelude.{◌≡◌, ◌≤◌, Some, None};
 ghost use Rattle.mlk_text.specs.declared.code.Code.TheVariants.{ExprLeftOut, CommandLeftOut};
 ghost use Rattle.mlk_text.specs.declared.fault.LeftOut.TheVariants.{Command};
 ghost use Rattle.mlk_routine.specs.Told.{IsRefusal};
 ghost use Rattle.mlk_routine.specs.Faults.{Tells};
+ghost use Rattle.mlk_routine.specs.Lines.{IsInRoutine, IfRefused, IsOfWhole};
 
 use mlk_text::{Code, Column, Failure, Fault, LeftOut, LineNumber, Place, Value};
 use std::alloc::Global;
@@ -99,7 +100,11 @@ fn located(
     column: Column,
     code: Code,
     left_out: Option<LeftOut>,
-) -> Failure<Fault> {
+) -> Failure<Fault>
+    requires { 1 ≤ number }
+    ensures line { IsInRoutine routine.now number result }
+    ensures column { IfRefused result (λ f. f.place.column ≡ column) }
+{
     let Ok(bytes) = Vec::from_slice(alloc, routine) else {
         return Failure::OutOfMemory;
     };
@@ -122,7 +127,9 @@ pub(crate) fn in_line(
     text: &[u8],
     failure: Failure<Fault>,
 ) -> Failure<Fault>
-    ensures { IsRefusal result → IsRefusal failure }
+    requires { 1 ≤ number }
+    ensures same { IsRefusal result → IsRefusal failure }
+    ensures place { IsInRoutine routine.now number result }
 {
     let Failure::Refused(fault) = failure else {
         return Failure::OutOfMemory;
@@ -140,6 +147,8 @@ pub(crate) fn in_line(
 }
 
 /// The refusal of a whole routine.
-pub(crate) fn whole(alloc: Global, code: Code, routine: &[u8]) -> Failure<Fault> {
+pub(crate) fn whole(alloc: Global, code: Code, routine: &[u8]) -> Failure<Fault>
+    ensures { IsOfWhole routine.now result }
+{
     located(alloc, routine, 1, Column::new(1), code, None)
 }

@@ -1,8 +1,8 @@
 // The lines of a text, as they follow each other.
 
-ghost use Rattle.std.specs.Prelude.{map, IfOk, IfErr};
+ghost use Rattle.std.specs.Prelude.{map, length, IfOk, IfErr};
 ghost use Rattle.mlk_routine.specs.Told.{IsRefusal};
-ghost use Rattle.mlk_routine.specs.Lines.{head_of, AreHeadsOnly, NoHeads, texts_of};
+ghost use Rattle.mlk_routine.specs.Lines.{head_of, AreHeadsOnly, NoHeads, texts_of, IsInRoutine};
 
 use crate::fault::in_line;
 use crate::line::{Before, line};
@@ -19,6 +19,7 @@ pub(crate) fn lines(
 ) -> Result<VecDeque<Line>, Failure<Fault>>
     ensures found { IfOk result (λ v. AreHeadsOnly (texts_of texts.now) (map head_of v.items)) }
     ensures refused { IfErr result (NoHeads (texts_of texts.now)) }
+    ensures place { IfErr result (IsInRoutine routine.now (length texts.now)) }
 {
     let mut before = Before::new(alloc);
     let mut lines = VecDeque::new(alloc);

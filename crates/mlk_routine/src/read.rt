@@ -5,7 +5,7 @@ ghost use Rattle.bstr.specs.Text.{lines_of, without_terminator};
 ghost use Rattle.mlk_routine.specs.Trees.{RoutineTree};
 ghost use Rattle.mlk_routine.specs.Views.{routine_of};
 ghost use Rattle.mlk_routine.specs.RoutineGrammar.{IsRoutine};
-ghost use Rattle.mlk_routine.specs.Lines.{texts_of, NoRoutine};
+ghost use Rattle.mlk_routine.specs.Lines.{texts_of, NoRoutine, Places};
 
 use crate::blocks::block;
 use crate::fault::whole;
@@ -35,6 +35,8 @@ pub fn read_routine(alloc: Global, stem: &[u8], text: &[u8]) -> Result<Routine, 
     ensures only { IfOk result (λ r. (tree : RoutineTree) → IsRoutine stem.now tree text.now → tree ≡ routine_of r) }
     // What is refused, unless memory ran out, is no routine.
     ensures refused { IfErr result (NoRoutine stem.now text.now) }
+    // It names the stem or the routine, and the first byte or a line.
+    ensures place { IfErr result (Places stem.now text.now) }
 {
     let Some(name) = stem_name(alloc, stem)? else {
         return Err(whole(alloc, Code::RoutineName, stem));

@@ -7,7 +7,7 @@ use Rattle.mlk_routine.proofs.lines.lines.Goals as goal
 pub returns-in-Err-clause-refused : goal.returns-in-Err-clause-refused
 returns-in-Err-clause-refused c =
     let texts = c.args.texts.now in
-    flat_refused (texts_of texts) c.loop-i.i (map head_of c.loop-i.lines.items) c.loop-i.before c.loop-i.invariant _ (text_here texts c.loop-i.i _ c.loop-i-test.true) c.in-Err.failure c.in-Err.ensures.refused c.in_line.result c.in_line.ensures
+    flat_refused (texts_of texts) c.loop-i.i (map head_of c.loop-i.lines.items) c.loop-i.before c.loop-i.invariant _ (text_here texts c.loop-i.i _ c.loop-i-test.true) c.in-Err.failure c.in-Err.ensures.refused c.in_line.result c.in_line.ensures.same
 
 pub loop-i-preserved : goal.loop-i-preserved
 loop-i-preserved c =
