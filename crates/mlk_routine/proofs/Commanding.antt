@@ -1,26 +1,21 @@
 -- A command from its word, its postconditional and its arguments.
 use Rattle.mlk_text.specs.Places.{column_at}
-use Rattle.std.proofs.Common.{◌≡◌, ◌<◌, ◌≤◌, ◌+◌, ℕ, suc, List, [], ◌∷◌, ◌++◌, length, drop, Some, None, Bool, true, false, inl, inr, refl, sym, ap, ◌∙◌, subst, add-one, arith, ◌==◌}
+use Rattle.std.proofs.Common.{◌≡◌, ◌+◌, ℕ, suc, List, [], ◌∷◌, ◌++◌, length, Some, None, Bool, true, false, inl, inr, refl, sym, ap, ◌∙◌, subst, add-one, arith, ◌==◌}
 use Rattle.std.specs.Prelude.{Option, ◌⊎◌}
 use Rattle.std.proofs.lemmas.Bool.{cases_Bool}
 use Rattle.std.proofs.lemmas.Bool.Decides.{nat_tests}
-use Rattle.std.proofs.lemmas.Option.{same_Some}
 use Rattle.mlk_text.specs.Lexemes.{is_letter}
-use Rattle.mlk_expr.specs.declared.scope.Allows.TheVariants.{Everything}
 use Rattle.mlk_expr.specs.Trees.{Tree}
 use Rattle.mlk_expr.specs.Grammar.{Spelled}
 use Rattle.mlk_expr.specs.Lexemes.{ends}
 use Rattle.mlk_expr.specs.Theorem.{ExprEnds}
 use Rattle.mlk_routine.specs.declared.word.Word.{Word}
-use Rattle.mlk_routine.specs.declared.word.Word.TheVariants as word
 use Rattle.mlk_routine.specs.Trees.{ActionTree, Do, Else, Halt, Hang, If, Job, Kill, Lock, Merge, New, Quit, Read, Set, Write, CommandTree, Does}
-use Rattle.mlk_routine.specs.Told.{first_of}
-use Rattle.mlk_routine.specs.Ends.{Lacks, AfterEnds, starts, is_command_end, is_bare_end, StopEnds, CommandEnd}
-use Rattle.mlk_routine.specs.CommandWords.{is_word_of, may_have_condition, has_arguments, is_list}
+use Rattle.mlk_routine.specs.Ends.{Lacks, starts, is_command_end, StopEnds, CommandEnd}
+use Rattle.mlk_routine.specs.CommandWords.{may_have_condition, has_arguments}
 use Rattle.mlk_routine.specs.CommandGrammar.{Both, IsValue, IsDo, IsJob, IsKill, IsLock, IsMerge, IsNew, IsRead, IsSet, IsWrite, IsCondition, AreSome, ArePerhaps, AreArguments, IsQuit, IsCommand}
-use Rattle.mlk_routine.specs.Kinds.{kind, halts_or_hangs, Means, IsNamed, WordEnds, word_of, has_condition, IsConditionOf, ConditionEnds, IsActionOf, ActionEnds}
+use Rattle.mlk_routine.specs.Kinds.{kind, halts_or_hangs, Means, IsNamed, WordEnds, has_condition, IsConditionOf, ConditionEnds, IsActionOf, ActionEnds}
 use Rattle.mlk_routine.proofs.Sequences.{Parts}
-use Rattle.mlk_routine.proofs.Stopping.{command_stop}
 use Rattle.mlk_routine.proofs.Words.{means_written, written_means}
 
 -- a postconditional and what the command does, after the word

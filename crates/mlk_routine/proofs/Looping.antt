@@ -3,7 +3,7 @@ use Rattle.mlk_text.specs.Places.{column_at}
 use Rattle.std.proofs.Common.{◌≡◌, ◌<◌, ◌≤◌, ◌+◌, ◌-◌, ℕ, suc, List, [], ◌∷◌, ◌++◌, length, drop, Some, None, Bool, true, false, inl, inr, refl, sym, ap, ◌∙◌, subst, add-one, arith, ◌==◌, append_assoc, append-nil}
 use Rattle.std.specs.Prelude.{Option, Result, Ok, Err, ◌⊎◌, ◌&&◌, is_some}
 use Rattle.std.specs.List.{list_all}
-use Rattle.std.proofs.lemmas.Bool.{cases_Bool, and_parts, eqb-true}
+use Rattle.std.proofs.lemmas.Bool.{and_parts, eqb-true}
 use Rattle.std.proofs.lemmas.Bool.Decides.{nat_tests}
 use Rattle.mlk_text.specs.Lexemes.{is_letter, word_at, letters}
 use Rattle.mlk_text.specs.Spellings.{IsWord}
@@ -15,14 +15,14 @@ use Rattle.mlk_text.proofs.Spelled.{word-reads}
 use Rattle.mlk_expr.specs.Theorem.{Stands}
 use Rattle.mlk_routine.specs.declared.word.Word.{Word}
 use Rattle.mlk_routine.specs.declared.word.Word.TheVariants as word
-use Rattle.mlk_routine.specs.Trees.{ActionTree, CommandTree, Does, ControlTree, Runs, CommandTrees, finished, then_command, then_for}
+use Rattle.mlk_routine.specs.Trees.{CommandTree, Does, ControlTree, Runs, CommandTrees, finished, then_command, then_for}
 use Rattle.mlk_routine.specs.Told.{Found, Nowhere, Denied, Told}
 use Rattle.mlk_routine.specs.Ends.{is_stop, starts, ControlEnds, ParameterEnds, IsRun, RunEnds, is_command_end, is_commands_end, is_bare_end, StopEnds, CommandEnd, CommandsEnd}
-use Rattle.mlk_routine.specs.CommandWords.{is_word_of, is_for, has_arguments, least_after}
-use Rattle.mlk_routine.specs.CommandGrammar.{Both, is_space, IsGap, IsCommand, least_of, IsParameter, IsControl, IsForHead, AreCommands}
+use Rattle.mlk_routine.specs.CommandWords.{is_for, has_arguments, least_after}
+use Rattle.mlk_routine.specs.CommandGrammar.{is_space, IsGap, IsCommand, least_of, IsParameter, IsControl, IsForHead, AreCommands}
 use Rattle.mlk_routine.specs.Stops.{parameter_stop}
 use Rattle.mlk_routine.specs.Begins.{front_begins, parameter_begins, control_begins}
-use Rattle.mlk_routine.specs.Kinds.{word_of, is_written, IsNamed, WordEnds}
+use Rattle.mlk_routine.specs.Kinds.{word_of, is_written, WordEnds}
 use Rattle.mlk_routine.specs.Views.{commands_from}
 use Rattle.mlk_routine.specs.Leading.{LeadsTo, IsPerhapsControl, IsLoop, LoopEnds}
 use Rattle.mlk_routine.proofs.Sequences.{Parts, Turned, stands_at, both_found, first_nowhere, second_nowhere, denied_second, not_after, next_is}

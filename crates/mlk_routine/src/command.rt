@@ -153,8 +153,8 @@ fn action(
         Word::New => turned!(perhaps(alloc, line, at), Action::New),
         Word::Quit => turned!(quit_value(alloc, returns, line, at), Action::Quit),
         Word::Read => turned!(some(alloc, line, at), Action::Read),
+        Word::Set => turned!(some(alloc, line, at), Action::Set),
         Word::Write => turned!(some(alloc, line, at), Action::Write),
-        _ => Err(Failure::OutOfMemory),
     }
 }
 

@@ -1,12 +1,10 @@
-use Rattle.std.proofs.Common.{map, option_map, refl, sym, ap, subst}
+use Rattle.std.proofs.Common.{map, option_map}
 use Rattle.std.proofs.lemmas.Result.{err_from_is_err_and}
 use Rattle.mlk_expr.specs.Trees.{tree_of, trees}
 use Rattle.mlk_routine.specs.declared.word.Word.TheVariants as word
-use Rattle.mlk_routine.specs.Told.{Found}
 use Rattle.mlk_routine.specs.Views.{do_of, call_of, kill_of, lock_of, merge_of, new_of, read_of, set_of, write_of}
-use Rattle.mlk_routine.specs.Kinds.{IsActionOf, ActionEnds}
 use Rattle.mlk_routine.proofs.Sequences.{turned_found, turned_denied}
-use Rattle.mlk_routine.proofs.Doing.{opened, halting_turned, nothing_found, nothing_denied}
+use Rattle.mlk_routine.proofs.Doing.{opened, halting_turned}
 use Rattle.mlk_routine.proofs.command.action.Goals as goal
 
 pub returns-in_err-arguments-in-Do : goal.returns-in_err-arguments-in-Do
@@ -98,6 +96,15 @@ returns-in_err-arguments-in-Read c =
 pub returns-in_ok-arguments-in-Read : goal.returns-in_ok-arguments-in-Read
 returns-in_ok-arguments-in-Read c =
     rw (c.in-Read.is) (turned_found (opened word.Read (λ e. cc e) c.args.returns c.args.line.now c.args.at) (map read_of c.in_ok-arguments-in-Read.arguments.items) c.in_ok-arguments-in-Read.next c.in_ok-arguments-in-Read.ensures)
+
+pub returns-in_err-arguments-in-Set : goal.returns-in_err-arguments-in-Set
+returns-in_err-arguments-in-Set c =
+    let p = err_from_is_err_and c.from_residual-in_err-arguments-in-Set.result c.from_residual-in_err-arguments-in-Set.ensures.1 in
+    rw (p.1, p.2, c.in-Set.is) (turned_denied (opened word.Set (λ e. cc e) c.args.returns c.args.line.now c.args.at) c.in_err-arguments-in-Set.field-0.0 c.in_err-arguments-in-Set.ensures)
+
+pub returns-in_ok-arguments-in-Set : goal.returns-in_ok-arguments-in-Set
+returns-in_ok-arguments-in-Set c =
+    rw (c.in-Set.is) (turned_found (opened word.Set (λ e. cc e) c.args.returns c.args.line.now c.args.at) (map set_of c.in_ok-arguments-in-Set.arguments.items) c.in_ok-arguments-in-Set.next c.in_ok-arguments-in-Set.ensures)
 
 pub returns-in_err-arguments-in-Write : goal.returns-in_err-arguments-in-Write
 returns-in_err-arguments-in-Write c =

@@ -1,4 +1,4 @@
-use Rattle.std.proofs.Common.{Some, refl, sym, ◌∙◌, true, false}
+use Rattle.std.proofs.Common.{sym, ◌∙◌}
 use Rattle.std.proofs.lemmas.Result.{err_from_is_err_and}
 use Rattle.mlk_expr.specs.Trees.{tree_of}
 use Rattle.mlk_routine.specs.Trees.{Quit}

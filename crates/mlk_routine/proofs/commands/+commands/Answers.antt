@@ -1,4 +1,4 @@
-use Rattle.std.proofs.Common.{None, map, option_map, sym, ◌∙◌, ◌+◌, drop, suc, ap, subst, add-one}
+use Rattle.std.proofs.Common.{None, map, option_map, sym, ◌∙◌, ◌+◌, drop, ap, subst, add-one}
 use Rattle.mlk_text.specs.Places.{column_at}
 use Rattle.std.proofs.lemmas.Result.{err_from_is_err_and}
 use Rattle.mlk_routine.specs.Trees.{CommandTrees, finished, then_for}

@@ -1,4 +1,4 @@
-use Rattle.std.proofs.Common.{Some, refl, sym, ◌∙◌, true}
+use Rattle.std.proofs.Common.{sym, ◌∙◌, true}
 use Rattle.std.specs.Prelude.{is_some}
 use Rattle.std.proofs.lemmas.Result.{err_from_is_err_and}
 use Rattle.mlk_routine.specs.Ends.{ControlEnds, StopEnds}

@@ -1,4 +1,4 @@
-use Rattle.std.proofs.Common.{map, refl, sym, ◌∙◌}
+use Rattle.std.proofs.Common.{map, sym, ◌∙◌}
 use Rattle.mlk_routine.proofs.Stopping.{bare_found, some_told}
 use Rattle.mlk_routine.proofs.spacing.perhaps.Goals as goal
 

@@ -1,4 +1,4 @@
-use Rattle.std.proofs.Common.{map, refl, sym, ◌∙◌, ◌+◌, true}
+use Rattle.std.proofs.Common.{map, sym, ◌∙◌, true}
 use Rattle.std.proofs.lemmas.Result.{err_from_is_err_and}
 use Rattle.mlk_expr.specs.Grammar.{IsList}
 use Rattle.mlk_routine.specs.Ends.{AreEnded, StopEnds}

@@ -1,4 +1,4 @@
-use Rattle.std.proofs.Common.{refl, sym, ap, ◌∙◌}
+use Rattle.std.proofs.Common.{sym, ap, ◌∙◌}
 use Rattle.mlk_text.specs.Lexemes.{word_at}
 use Rattle.mlk_routine.specs.Kinds.{IsNamed, WordEnds}
 use Rattle.mlk_routine.proofs.Outcomes.{denies}
