@@ -3,7 +3,8 @@
 ghost use Rattle.std.specs.Prelude.{◌≡◌, ◌≤◌, length, drop, option_map, Some, true};
 ghost use Rattle.mlk_expr.specs.Trees.{tree_of};
 ghost use Rattle.mlk_routine.specs.Told.{Told, byte_at};
-ghost use Rattle.mlk_routine.specs.Ends.{starts_format, IsPrompt, PromptEnds, FormatEnds, VariableEnds, ReadEnds, WriteEnds};
+ghost use Rattle.mlk_routine.specs.Ends.{starts_format, IsPrompt, PromptEnds, FormatEnds, VariableEnds};
+ghost use Rattle.mlk_routine.specs.Ends.{ReadEnds, WriteEnds};
 ghost use Rattle.mlk_routine.specs.Views.{variable_of, read_of, write_of};
 ghost use Rattle.mlk_routine.specs.CommandGrammar.{IsFormat, IsLocal, IsRead, IsWrite};
 

@@ -2,14 +2,14 @@
 
 ghost use Rattle.mlk_routine.specs.Trees.{VariableTree, DoTree, CallTree, KillTree, NewTree, MergeTree, ParameterTree};
 ghost use Rattle.mlk_routine.specs.Trees.{LockTree, ReadTree, WriteTree, TargetTree, SetTree};
-ghost use Rattle.mlk_routine.specs.Views.{variable_of, do_of, call_of, kill_of, new_of, merge_of, parameter_of, lock_of};
-ghost use Rattle.mlk_routine.specs.Views.{read_of, write_of, target_of, set_of};
+ghost use Rattle.mlk_routine.specs.Views.{variable_of, do_of, call_of, kill_of, new_of, merge_of, parameter_of};
+ghost use Rattle.mlk_routine.specs.Views.{lock_of, read_of, write_of, target_of, set_of};
 ghost use Rattle.mlk_routine.specs.Ends.{VariableEnds, DoEnds, JobEnds, KillEnds, NewEnds, MergeEnds, ParameterEnds};
 ghost use Rattle.mlk_routine.specs.Ends.{LockEnds, ReadEnds, WriteEnds, TargetEnds, SetEnds};
 ghost use Rattle.mlk_routine.specs.CommandGrammar.{IsVariable, IsDo, IsJob, IsKill, IsNew, IsMerge, IsParameter};
 ghost use Rattle.mlk_routine.specs.CommandGrammar.{IsLock, IsRead, IsWrite, IsTarget, IsSet};
-ghost use Rattle.mlk_routine.specs.Stops.{do_stop, job_stop, kill_stop, merge_stop, new_stop, parameter_stop, variable_stop};
-ghost use Rattle.mlk_routine.specs.Stops.{lock_stop, read_stop, write_stop, target_stop, set_stop};
+ghost use Rattle.mlk_routine.specs.Stops.{do_stop, job_stop, kill_stop, merge_stop, new_stop, parameter_stop};
+ghost use Rattle.mlk_routine.specs.Stops.{variable_stop, lock_stop, read_stop, write_stop, target_stop, set_stop};
 ghost use Rattle.mlk_routine.specs.Begins.{do_begins, job_begins, kill_begins, merge_begins, new_begins};
 ghost use Rattle.mlk_routine.specs.Begins.{parameter_begins, variable_begins, lock_begins, read_begins, write_begins};
 ghost use Rattle.mlk_routine.specs.Begins.{target_begins, set_begins};

@@ -95,7 +95,7 @@ impl Item for CallFree {
     }
 }
 
-// The expressions that they are.
+// The expressions as they stand in the tree.
 fn expressions(alloc: Global, items: Vec<CallFree>) -> Result<Vec<Expr>, AllocError>
     ensures { IfOk result (λ v. v.items ≡ map (λ item. item.value) items.items) }
 {
