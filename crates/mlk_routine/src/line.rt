@@ -1,6 +1,6 @@
 // Lines, one after the other.
 
-ghost use Rattle.std.specs.Prelude.{◌≡◌, ◌≤◌, ◌||◌, ℕ, List, length, take, true, false, Some, None, is_some};
+ghost use Rattle.std.specs.Prelude.{◌≡◌, ◌<◌, ◌≤◌, ◌+◌, ◌||◌, ◌⊎◌, ℕ, List, length, take, true, false, Some, None, is_some};
 ghost use Rattle.std.specs.Prelude.{IfOk, IfErr, OnOk};
 ghost use Rattle.std.specs.List.{prefix_len, list_all};
 ghost use Rattle.mlk_routine.specs.Told.{Told};
@@ -54,6 +54,22 @@ impl<'a> Before<'a> {
         }
     }
 
+    // Whether a line of this level is more than one deeper than the last.
+    fn is_jump(&self, level: usize) -> bool
+        ensures yes { result ≡ true → self.now.level + 1 < level }
+        ensures no { result ≡ false → level ≤ self.now.level + 1 }
+    {
+        level > self.level && level - 1 > self.level
+    }
+
+    // Whether a line of this level begins a block that the last line does not run.
+    fn is_unreached(&self, level: usize) -> bool
+        ensures yes { result ≡ true → (self.now.level < level) × (self.now.reaches ≡ false) }
+        ensures no { result ≡ false → (level ≤ self.now.level) ⊎ (self.now.reaches ≡ true) }
+    {
+        level > self.level && !self.reaches
+    }
+
     // Why a line with this front may not stand here, if it may not.
     fn misplaced(&self, front: &Front) -> Option<Code>
         ensures none { result ≡ None → IsKept front.now.label (level_in front.now.level) }
@@ -68,10 +84,10 @@ impl<'a> Before<'a> {
         if self.has_label(&front.label) {
             return Some(Code::LabelTwice);
         }
-        if level > self.level && level - 1 > self.level {
+        if self.is_jump(level) {
             return Some(Code::LevelJump);
         }
-        if level > self.level && !self.reaches {
+        if self.is_unreached(level) {
             return Some(Code::BlockUnreached);
         }
         if level > MOST_LEVELS {
