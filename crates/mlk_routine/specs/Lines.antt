@@ -8,11 +8,13 @@ use Rattle.mlk_text.specs.Lexemes.{is_letter, is_digit}
 use Rattle.mlk_expr.specs.Grammar.{IsNameText, IsLabelText}
 use Rattle.mlk_expr.specs.Theorem.{LabelEnds}
 use Rattle.mlk_routine.specs.Ends.{Lacks, starts, is_commands_end}
-use Rattle.mlk_routine.specs.RoutineGrammar.{IsFormals, is_blank, ArePeriods, IsStart, IsComment, IsLine, level_of, reaches, is_line_byte}
+use Rattle.mlk_routine.specs.RoutineGrammar.{IsFormals, is_blank, ArePeriods, IsStart}
+use Rattle.mlk_routine.specs.RoutineGrammar.{IsComment, IsLine, level_of, reaches, is_line_byte}
 use Rattle.mlk_routine.specs.RoutineGrammar.{AreLines, AreDistinct, labels_of, AreNested, heads_of, percent, IsRoutine}
 use Rattle.mlk_text.specs.Spellings.{IsName}
 use Rattle.mlk_routine.specs.CommandGrammar.{Both, AreCommands}
-use Rattle.mlk_routine.specs.Trees.{CommandTree, Does, Do, CommandTrees, finished, HeadTree, LineHead, LineTrees, RoutineTree}
+use Rattle.mlk_routine.specs.Trees.{CommandTree, Does, Do, CommandTrees}
+use Rattle.mlk_routine.specs.Trees.{finished, HeadTree, LineHead, LineTrees, RoutineTree}
 use Rattle.mlk_routine.specs.declared.line.Before.{Before}
 use Rattle.mlk_routine.specs.declared.routine.Line.{Line}
 use Rattle.mlk_routine.specs.Views.{line_of}
@@ -145,14 +147,16 @@ IsLineOnly n s head = IsLine n head s × ((other : HeadTree) → IsLine n other 
 
 -- what is known after one more line
 pub record IsAfter (old new : Before) (head : HeadTree) : Type 0 where
-  pub labels : (q : List ℕ) → has_name q new.labels.texts.keys ≡ (is_labelled q (label_of head) || has_name q old.labels.texts.keys)
+  pub labels : (q : List ℕ)
+      → has_name q new.labels.texts.keys ≡ (is_labelled q (label_of head) || has_name q old.labels.texts.keys)
   pub level : new.level ≡ level_of head
   pub reaches : new.reaches ≡ reaches head
 
 -- no line of this text fits here
 abbrev pub NoLine : Before → ℕ → List ℕ → Failure Fault → Type 0
 NoLine before n s OutOfMemory = Unit {0}
-NoLine before n s (Refused fault) = (head : HeadTree) → IsLine n head s → list_all is_line_byte s ≡ true → FitsAfter before head → ⊥
+NoLine before n s (Refused fault) = (head : HeadTree) → IsLine n head s → list_all is_line_byte s ≡ true
+    → FitsAfter before head → ⊥
 
 -- lines that follow each other, after a line of this level
 abbrev pub Follow : ℕ → Bool → List HeadTree → Type 0
@@ -205,7 +209,8 @@ NoRoutine stem text (Refused fault) = (tree : RoutineTree) → IsRoutine stem tr
 -- a refusal names this routine, and a line up to this one
 abbrev pub IsInRoutine : List ℕ → ℕ → Failure Fault → Type 0
 IsInRoutine routine last OutOfMemory = Unit {0}
-IsInRoutine routine last (Refused fault) = (fault.place.routine ≡ routine) × (1 ≤ fault.place.line) × (fault.place.line ≤ last)
+IsInRoutine routine last (Refused fault) = (fault.place.routine ≡ routine)
+    × (1 ≤ fault.place.line) × (fault.place.line ≤ last)
 
 -- what holds of a refusal, unless memory ran out
 abbrev pub IfRefused : Failure Fault → (Fault → Type 0) → Type 0

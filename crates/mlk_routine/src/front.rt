@@ -2,7 +2,8 @@
 
 ghost use Rattle.std.specs.Prelude.{◌≡◌, ◌≤◌, length};
 ghost use Rattle.mlk_routine.specs.Told.{Told, Found};
-ghost use Rattle.mlk_routine.specs.Lines.{IsLabelPart, LabelPartEnds, IsFormalsPart, FormalsPartEnds, IsFront, FrontEnds};
+ghost use Rattle.mlk_routine.specs.Lines.{IsLabelPart, LabelPartEnds, IsFormalsPart, FormalsPartEnds};
+ghost use Rattle.mlk_routine.specs.Lines.{IsFront, FrontEnds};
 
 use crate::formals::formals;
 use crate::part::has;

@@ -1,11 +1,12 @@
 // Lines, one after the other.
 
-ghost use Rattle.std.specs.Prelude.{◌≡◌, ◌≤◌, ◌||◌, ℕ, List, length, take, true, false, Some, None, IfOk, IfErr, OnOk, MatchOption, is_some};
+ghost use Rattle.std.specs.Prelude.{◌≡◌, ◌<◌, ◌≤◌, ◌+◌, ◌||◌, ◌⊎◌, ℕ, List, length, take, true, false, Some, None, is_some};
+ghost use Rattle.std.specs.Prelude.{IfOk, IfErr, OnOk};
 ghost use Rattle.std.specs.List.{prefix_len, list_all};
 ghost use Rattle.mlk_routine.specs.Told.{Told};
 ghost use Rattle.mlk_routine.specs.RoutineGrammar.{is_line_byte};
-ghost use Rattle.mlk_routine.specs.Lines.{has_name, is_in, is_labelled, level_in, IsFront, FrontEnds, IsKept, Fits, FitsAfter};
-ghost use Rattle.mlk_routine.specs.Lines.{head_of, IsLineOnly, IsAfter, NoLine};
+ghost use Rattle.mlk_routine.specs.Lines.{has_name, is_in, is_labelled, level_in, IsFront, FrontEnds, IsKept, Fits};
+ghost use Rattle.mlk_routine.specs.Lines.{FitsAfter, head_of, IsLineOnly, IsAfter, NoLine};
 
 use crate::fault::refused;
 use crate::front::{Front, before_commands};
@@ -14,7 +15,7 @@ use crate::reach::reaches_block;
 use crate::routine::Line;
 use crate::seen::Seen;
 use crate::tail::tail;
-use mlk_text::{Code, Failure, Fault};
+use mlk_text::{Code, Failure, Fault, Name};
 use std::alloc::{AllocError, Global};
 
 const MOST_LEVELS: usize = 15;
@@ -44,13 +45,29 @@ impl<'a> Before<'a> {
     }
 
     // Whether a line before has the label.
-    fn has_label(&self, front: &Front) -> bool
-        ensures { result ≡ is_in front.now.label self.now.labels.texts.keys }
+    fn has_label(&self, label: &Option<Name>) -> bool
+        ensures { result ≡ is_in label.now self.now.labels.texts.keys }
     {
-        match &front.label {
+        match label {
             Some(label) => self.labels.has(label.as_bytes()),
             None => false,
         }
+    }
+
+    // Whether a line of this level is more than one deeper than the last.
+    fn is_jump(&self, level: usize) -> bool
+        ensures yes { result ≡ true → self.now.level + 1 < level }
+        ensures no { result ≡ false → level ≤ self.now.level + 1 }
+    {
+        level > self.level && level - 1 > self.level
+    }
+
+    // Whether a line of this level begins a block that the last line does not run.
+    fn is_unreached(&self, level: usize) -> bool
+        ensures yes { result ≡ true → (self.now.level < level) × (self.now.reaches ≡ false) }
+        ensures no { result ≡ false → (level ≤ self.now.level) ⊎ (self.now.reaches ≡ true) }
+    {
+        level > self.level && !self.reaches
     }
 
     // Why a line with this front may not stand here, if it may not.
@@ -64,13 +81,13 @@ impl<'a> Before<'a> {
         if level > 1 && front.label.is_some() {
             return Some(Code::LineForm);
         }
-        if self.has_label(front) {
+        if self.has_label(&front.label) {
             return Some(Code::LabelTwice);
         }
-        if level > self.level && level - 1 > self.level {
+        if self.is_jump(level) {
             return Some(Code::LevelJump);
         }
-        if level > self.level && !self.reaches {
+        if self.is_unreached(level) {
             return Some(Code::BlockUnreached);
         }
         if level > MOST_LEVELS {
@@ -100,10 +117,7 @@ fn front(alloc: Global, before: &Before, text: &[u8]) -> Result<(Front, usize), 
     ensures { Told (λ f. f) IsFront FrontEnds text.now 0 result }
 {
     let (label, next) = label(alloc, text)?;
-    let is_twice = match &label {
-        Some(label) => before.labels.has(label.as_bytes()),
-        None => false,
-    };
+    let is_twice = before.has_label(&label);
     match before_commands(alloc, label, text, next) {
         Err(Failure::Refused(_)) if is_twice => Err(refused(alloc, Code::LabelTwice, 0)),
         Err(failure) => Err(failure),

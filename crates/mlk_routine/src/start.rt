@@ -40,8 +40,8 @@ fn ends_here(line: &[u8], at: usize) -> bool
     }
 }
 
-/// The level that the line's start here gives, and the byte after it. Only before the line's end or a comment may a start be
-/// missing.
+/// The level that the line's start here gives, and the byte after it. Only before the line's end or a comment may a
+/// start be missing.
 pub(crate) fn opening(
     alloc: Global,
     line: &[u8],
