@@ -11,7 +11,8 @@ use Rattle.mlk_text.specs.declared.failure.Failure.TheVariants.{OutOfMemory, Ref
 use Rattle.mlk_text.specs.declared.fault.Fault.{Fault}
 use Rattle.mlk_routine.specs.Trees.{HeadTree, LineHead, LineTrees, no_lines, line, RoutineTree, Named_routine, CommandTrees}
 use Rattle.mlk_routine.specs.RoutineGrammar.{IsRoutine, AreLines, IsLine, IsBody, heads_of, level_of, reaches, AreNested, percent}
-use Rattle.mlk_routine.specs.Lines.{Follow, Upto, AllPlain, AreHeads, AreHeadsOnly, NoHeads, IsBlock, NoRoutine, texts_of}
+use Rattle.mlk_routine.specs.Lines.{Follow, Upto, AllPlain, AreHeads, AreHeadsOnly, NoHeads, IsBlock, texts_of}
+use Rattle.mlk_routine.specs.Refusals.{NoRoutine}
 use Rattle.mlk_routine.proofs.Cutting.{cut_only, cut_found, cut_plain}
 use Rattle.mlk_routine.proofs.Nesting.{nested_once}
 use Rattle.mlk_routine.proofs.UnderHeads.{follow_upto}

@@ -1,6 +1,6 @@
--- What the readers of the commands of a line say of what is left to read. For private clauses alone. This project's own.
-use Rattle.std.specs.Prelude.{ℕ, suc, ◌≡◌, ◌≤◌, ◌⊎◌, is_some, map, drop, length, List, [], true, Result, Ok, Err, Option}
-use Rattle.std.specs.Prelude.{Some, None}
+-- What the readers of a line's commands say of what is left to read. For private clauses alone. This project's own.
+use Rattle.std.specs.Prelude.{ℕ, suc, ◌≡◌, ◌≤◌, ◌⊎◌, is_some, map, drop, length, List, [], true, Result, Ok, Err}
+use Rattle.std.specs.Prelude.{Option, Some, None}
 use Rattle.std.specs.Prelude.{Vec}
 use Rattle.std.proofs.Common.{Global}
 use Rattle.mlk_text.specs.Lexemes.{word_at}

@@ -11,4 +11,5 @@ pub mod Begins
 pub mod Kinds
 pub mod Leading
 pub mod Lines
+pub mod Refusals
 pub mod Theorem

@@ -10,11 +10,11 @@ use Rattle.mlk_expr.specs.Theorem.{LabelEnds}
 use Rattle.mlk_routine.specs.Ends.{Lacks, starts, is_commands_end}
 use Rattle.mlk_routine.specs.RoutineGrammar.{IsFormals, is_blank, ArePeriods, IsStart}
 use Rattle.mlk_routine.specs.RoutineGrammar.{IsComment, IsLine, level_of, reaches, is_line_byte}
-use Rattle.mlk_routine.specs.RoutineGrammar.{AreLines, AreDistinct, labels_of, AreNested, heads_of, percent, IsRoutine}
+use Rattle.mlk_routine.specs.RoutineGrammar.{AreLines, AreDistinct, labels_of, AreNested, heads_of, percent}
 use Rattle.mlk_text.specs.Spellings.{IsName}
 use Rattle.mlk_routine.specs.CommandGrammar.{Both, AreCommands}
 use Rattle.mlk_routine.specs.Trees.{CommandTree, Does, Do, CommandTrees}
-use Rattle.mlk_routine.specs.Trees.{finished, HeadTree, LineHead, LineTrees, RoutineTree}
+use Rattle.mlk_routine.specs.Trees.{finished, HeadTree, LineHead, LineTrees}
 use Rattle.mlk_routine.specs.declared.line.Before.{Before}
 use Rattle.mlk_routine.specs.declared.routine.Line.{Line}
 use Rattle.mlk_routine.specs.Views.{line_of}
@@ -23,7 +23,6 @@ use Rattle.mlk_routine.specs.Told.{Found, Denied}
 use Rattle.mlk_text.specs.declared.failure.Failure.{Failure}
 use Rattle.mlk_text.specs.declared.failure.Failure.TheVariants.{OutOfMemory, Refused}
 use Rattle.mlk_text.specs.declared.fault.Fault.{Fault}
-use Rattle.bstr.specs.Text.{lines_of, without_terminator}
 use Rattle.mlk_expr.specs.Grammar.{Spelled}
 
 -- whether this name is among those seen
@@ -200,30 +199,3 @@ IsNotDeeper level (l ∷ lines) = level_of (head_of l) ≤ level
 abbrev pub IsStemName : List ℕ → Option (List ℕ) → Type 0
 IsStemName stem None = IsName (percent stem) → ⊥
 IsStemName stem (Some name) = (name ≡ percent stem) × IsName name
-
--- what is refused, unless memory ran out, is no routine
-abbrev pub NoRoutine : List ℕ → List ℕ → Failure Fault → Type 0
-NoRoutine stem text OutOfMemory = Unit {0}
-NoRoutine stem text (Refused fault) = (tree : RoutineTree) → IsRoutine stem tree text → ⊥
-
--- a refusal names this routine, and a line up to this one
-abbrev pub IsInRoutine : List ℕ → ℕ → Failure Fault → Type 0
-IsInRoutine routine last OutOfMemory = Unit {0}
-IsInRoutine routine last (Refused fault) = (fault.place.routine ≡ routine)
-    × (1 ≤ fault.place.line) × (fault.place.line ≤ last)
-
--- what holds of a refusal, unless memory ran out
-abbrev pub IfRefused : Failure Fault → (Fault → Type 0) → Type 0
-IfRefused OutOfMemory P = Unit {0}
-IfRefused (Refused fault) P = P fault
-
--- a refusal names this text in place of a routine's name, and its first byte
-abbrev pub IsOfWhole : List ℕ → Failure Fault → Type 0
-IsOfWhole routine failure = IfRefused failure
-    (λ f. (f.place.routine ≡ routine) × (f.place.line ≡ 1) × (f.place.column ≡ 1))
-
--- A refusal of a routine names the stem that is no name and the first byte; or the routine, and its first byte or one
--- of its lines.
-abbrev pub Places : List ℕ → List ℕ → Failure Fault → Type 0
-Places stem text failure = IsOfWhole stem failure ⊎ (IsOfWhole (percent stem) failure
-    ⊎ IsInRoutine (percent stem) (length (map without_terminator (lines_of text))) failure)

@@ -5,7 +5,7 @@ ghost use Rattle.mlk_text.specs.declared.code.Code.TheVariants.{ExprLeftOut, Com
 ghost use Rattle.mlk_text.specs.declared.fault.LeftOut.TheVariants.{Command};
 ghost use Rattle.mlk_routine.specs.Told.{IsRefusal};
 ghost use Rattle.mlk_routine.specs.Faults.{Tells};
-ghost use Rattle.mlk_routine.specs.Lines.{IsInRoutine, IfRefused, IsOfWhole};
+ghost use Rattle.mlk_routine.specs.Refusals.{IsInRoutine, IfRefused, IsOfWhole};
 
 use mlk_text::{Code, Column, Failure, Fault, LeftOut, LineNumber, Place, Value};
 use std::alloc::Global;

@@ -2,7 +2,8 @@
 
 ghost use Rattle.std.specs.Prelude.{map, length, IfOk, IfErr};
 ghost use Rattle.mlk_routine.specs.Told.{IsRefusal};
-ghost use Rattle.mlk_routine.specs.Lines.{head_of, AreHeadsOnly, NoHeads, texts_of, IsInRoutine};
+ghost use Rattle.mlk_routine.specs.Lines.{head_of, AreHeadsOnly, NoHeads, texts_of};
+ghost use Rattle.mlk_routine.specs.Refusals.{IsInRoutine};
 
 use crate::fault::in_line;
 use crate::line::{Before, line};

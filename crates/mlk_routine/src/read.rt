@@ -5,7 +5,8 @@ ghost use Rattle.bstr.specs.Text.{lines_of, without_terminator};
 ghost use Rattle.mlk_routine.specs.Trees.{RoutineTree};
 ghost use Rattle.mlk_routine.specs.Views.{routine_of};
 ghost use Rattle.mlk_routine.specs.RoutineGrammar.{IsRoutine};
-ghost use Rattle.mlk_routine.specs.Lines.{texts_of, NoRoutine, Places};
+ghost use Rattle.mlk_routine.specs.Lines.{texts_of};
+ghost use Rattle.mlk_routine.specs.Refusals.{NoRoutine, Places};
 
 use crate::blocks::block;
 use crate::fault::whole;
