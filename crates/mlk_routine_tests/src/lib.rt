@@ -17,6 +17,7 @@ use std::alloc::Global;
 
 /// Where a routine R is refused, by which code, and the word for what is left out, or the empty one.
 #[cfg(test)]
+#[derive(Drop)]
 pub(crate) struct Refusal<'a> {
     pub(crate) line: u32,
     pub(crate) column: u32,
@@ -32,7 +33,10 @@ fn is_wanted(fault: &Fault, wanted: Refusal) -> bool {
     };
     let place = &fault.place;
     let placed = place.line.number() == wanted.line && place.column.number() == wanted.column;
-    place.routine.as_bytes() == b"R" && placed && fault.code.number() == wanted.code && same_word
+    place.routine.as_bytes() == b"R".as_slice()
+        && placed
+        && fault.code.number() == wanted.code
+        && same_word
 }
 
 /// Whether the text is refused so.

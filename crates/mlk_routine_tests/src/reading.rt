@@ -2,7 +2,7 @@
 
 use crate::{Refusal, is_read, is_refused};
 use mlk_routine::read_routine;
-use mlk_text::Failure;
+use mlk_text::{Failure, Fault};
 use std::alloc::Global;
 
 // Each command, with each form of its arguments.
@@ -43,7 +43,7 @@ fn counts(alloc: Global, text: &[u8]) -> (usize, usize) {
     let Ok(routine) = read_routine(alloc, b"_R", text) else {
         return (0, 0);
     };
-    if routine.name.as_bytes() != b"%R" {
+    if routine.name.as_bytes() != b"%R".as_slice() {
         return (0, 0);
     }
     match routine.lines.first() {
@@ -60,6 +60,17 @@ fn blocks(rt: HostRuntime) {
     assert!(rt; counts(alloc, b" QUIT\n DO\n . QUIT\n") == (2, 0));
 }
 
+fn has_code(fault: &Fault, code: u16) -> bool {
+    fault.code.number() == code
+}
+
+fn is_no_stem(alloc: Global, stem: &[u8]) -> bool {
+    match read_routine(alloc, stem, b"") {
+        Err(Failure::Refused(fault)) => has_code(&fault, 211),
+        _ => false,
+    }
+}
+
 // A file's stem is a name, with `_` for `%`.
 #[test]
 fn stems(rt: HostRuntime) {
@@ -67,11 +78,7 @@ fn stems(rt: HostRuntime) {
     assert!(rt; read_routine(alloc, b"_1", b"").is_ok());
     let rows: [&[u8]; 4] = [b"", b"9", b"A-B", b"A_"];
     for stem in rows.iter() {
-        let told = match read_routine(alloc, stem, b"") {
-            Err(Failure::Refused(fault)) => fault.code.number() == 211,
-            _ => false,
-        };
-        assert!(rt; told, "{stem:?}");
+        assert!(rt; is_no_stem(alloc, stem), "{stem:?}");
     }
 }
 

@@ -36,7 +36,12 @@ fn left_out(rt: HostRuntime) {
         (b"12 JOB F,F:X\n", 1, 11, b"TIMEOUT"),
     ];
     for (text, line, column, word) in rows.iter() {
-        let wanted = Refusal { line: *line, column: *column, code: 102, word };
+        let wanted = Refusal {
+            line: *line,
+            column: *column,
+            code: 102,
+            word,
+        };
         assert!(rt; is_refused(alloc, text, wanted), "{text:?}");
     }
 }
@@ -69,7 +74,12 @@ fn commands_left_out(rt: HostRuntime) {
         (b" ZWRITE _@X WRITE X", 1, 2, b"ZWRITE"),
     ];
     for (text, line, column, word) in rows.iter() {
-        let wanted = Refusal { line: *line, column: *column, code: 206, word };
+        let wanted = Refusal {
+            line: *line,
+            column: *column,
+            code: 206,
+            word,
+        };
         assert!(rt; is_refused(alloc, text, wanted), "{text:?}");
     }
 }
@@ -83,7 +93,12 @@ fn other_forms(rt: HostRuntime) {
         (b"M() WRITE *\n", 1, 12, 101),
         (b"C()\n  READ X#\n", 2, 10, 101),
         (b"%A if $$^AAAAAAAAAAAAAAAAAAAAAAAAAAAAAAAA\n", 1, 10, 104),
-        (b" DO\n .S:X1111111111111111111111111111111 X=1\n", 2, 5, 104),
+        (
+            b" DO\n .S:X1111111111111111111111111111111 X=1\n",
+            2,
+            5,
+            104,
+        ),
         (b" ;c\r\r\n", 1, 4, 201),
         (b"\r .< X\n", 1, 1, 201),
         (b"=1\n", 1, 1, 202),
@@ -115,7 +130,12 @@ fn other_forms(rt: HostRuntime) {
         (b" KILL\n . W 1\n", 2, 1, 209),
     ];
     for (text, line, column, code) in rows.iter() {
-        let wanted = Refusal { line: *line, column: *column, code: *code, word: b"" };
+        let wanted = Refusal {
+            line: *line,
+            column: *column,
+            code: *code,
+            word: b"",
+        };
         assert!(rt; is_refused(alloc, text, wanted), "{text:?}");
     }
 }
