@@ -77,7 +77,7 @@ def main():
     (folder / "edges" / "WIDE.m").write_text(" SET X=" + "1+" * (((1 << 20) - 8) // 2) + "1")
     (folder / "edges" / "TALL.m").write_text(" QUIT\n" * 65535)
     deep = "".join(" " + "." * n + " DO\n" for n in range(15))
-    (folder / "edges" / "DEEP.m").write_text(deep * ((1 << 20) // len(deep)))
+    (folder / "edges" / "DEEP.m").write_text(deep * (65535 // 15))
 
 
 if __name__ == "__main__":
