@@ -2,13 +2,14 @@
 
 ghost use Rattle.std.specs.Prelude.{◌≡◌, ◌≤◌, length, drop, false};
 ghost use Rattle.mlk_routine.specs.Told.{Told, Found};
-ghost use Rattle.mlk_routine.specs.Ends.{starts, is_commands_end};
+ghost use Rattle.mlk_routine.specs.Ends.{starts};
 ghost use Rattle.mlk_routine.specs.RoutineGrammar.{is_blank};
 ghost use Rattle.mlk_routine.specs.Lines.{ArePeriodsHere, PeriodsEnd, IsOpening, OpeningEnds};
 
 use crate::fault::refused;
 use crate::part::has;
 use crate::run::past_blanks;
+use crate::spacing::is_commands_end;
 use mlk_text::{Code, Failure, Fault};
 use std::alloc::Global;
 
@@ -28,18 +29,6 @@ fn periods(line: &[u8], at: usize) -> (usize, usize)
     (count, next)
 }
 
-// Whether the line ends here, but for a comment.
-fn ends_here(line: &[u8], at: usize) -> bool
-    requires { at ≤ length line.now }
-    ensures { result ≡ is_commands_end (drop at line.now) }
-{
-    let (_, bytes) = line.split_at(at);
-    match bytes.split_first() {
-        Some((first, _)) => *first == b';',
-        None => true,
-    }
-}
-
 /// The level that the line's start here gives, and the byte after it. Only before the line's end or a comment may a
 /// start be missing.
 pub(crate) fn opening(
@@ -55,7 +44,7 @@ pub(crate) fn opening(
         let (count, next) = periods(line, next);
         return Ok((Some(count + 1), next));
     }
-    if !ends_here(line, at) {
+    if !is_commands_end(line, at) {
         return Err(refused(alloc, Code::LineForm, at));
     }
     Ok((None, at))
