@@ -1,0 +1,11 @@
+pub mod FoundCalls
+pub mod FoundCommands
+pub mod NameTables
+pub mod Directories
+pub mod SharedNames
+pub mod DistinctNames
+pub mod Limits
+pub mod LinkedCalls
+pub mod LinkedLines
+pub mod LinkedRoutines
+pub mod EntryLines

@@ -1,0 +1,6 @@
+pub mod Calls
+pub mod Found
+pub mod Entries
+pub mod Tables
+pub mod Program
+pub mod Linking

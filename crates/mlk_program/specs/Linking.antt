@@ -1,0 +1,34 @@
+-- What linking keeps on its way through the routines. For private clauses alone. This project's own.
+use Rattle.std.specs.Prelude.{ℕ, ◌≡◌, ◌||◌, List, [], ◌∷◌, ◌++◌, flat_map, bytes_eq}
+use Rattle.std.specs.List.{list_any}
+use Rattle.mlk_text.specs.declared.failure.Failure.{Failure}
+use Rattle.mlk_text.specs.declared.failure.Failure.TheVariants.{OutOfMemory, Refused}
+use Rattle.mlk_text.specs.declared.fault.Fault.{Fault}
+use Rattle.mlk_routine.specs.declared.routine.Line.{Line}
+use Rattle.mlk_routine.specs.Views.{line_of}
+use Rattle.mlk_routine.specs.Trees.{RoutineTree}
+use Rattle.mlk_program.specs.declared.call.CallSite.{CallSite}
+use Rattle.mlk_program.specs.Found.{site_of}
+use Rattle.mlk_program.specs.Program.{PlacedCall, AreResolved, shared_by, placed, calls_in}
+
+-- what holds of a refusal, unless memory ran out
+abbrev pub IfRefused : Failure Fault → (Fault → Type 0) → Type 0
+IfRefused OutOfMemory P = Unit {0}
+IfRefused (Refused fault) P = P fault
+
+-- these names are added
+abbrev pub Gains : List (List ℕ) → List (List ℕ) → List (List ℕ) → Type 0
+Gains added old new = (name : List ℕ)
+    → list_any (bytes_eq name) new ≡ (list_any (bytes_eq name) old || list_any (bytes_eq name) added)
+
+-- All of these calls can be made, and what they share is added.
+abbrev pub Links : List RoutineTree → List PlacedCall → List (List ℕ) → List (List ℕ) → Type 0
+Links routines calls old new = AreResolved routines calls × Gains (flat_map (shared_by routines) calls) old new
+
+-- a call of the code on this line
+abbrev pub placed_at : ℕ → ℕ → CallSite → List PlacedCall
+placed_at r n site = record { routine = r; line = n; call = site_of site } ∷ []
+
+-- the calls of a line of the code, and of its block
+abbrev pub placed_in : ℕ → Line → List PlacedCall
+placed_in r l = placed r (line_of l).0 ++ calls_in r (line_of l).1

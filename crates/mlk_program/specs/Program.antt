@@ -1,0 +1,175 @@
+-- Routines that are linked to a program: every call has a line that takes its actuals. Standard: routine, actuallist,
+-- formallist; that all routines are known, the limits and the order of refusals are this project's own choice.
+use Rattle.std.specs.Prelude.{ℕ, zero, suc, ◌≡◌, ◌<◌, ◌⊎◌, List, [], ◌∷◌, ◌++◌, length, map, flat_map, min}
+use Rattle.std.specs.Prelude.{Contains, Bool, true, false, not, nat_lt, zip, bytes_eq, Option, Some, None, option_and_then, option_map}
+use Rattle.std.specs.List.{list_any}
+use Rattle.mlk_text.specs.declared.code.Code.{Code}
+use Rattle.mlk_text.specs.declared.code.Code.TheVariants.{RoutineTwice, TooMany, UnknownLabel, Arity}
+use Rattle.mlk_text.specs.declared.fault.Fault.{Fault}
+use Rattle.mlk_expr.specs.declared.tree.Callee.{Callee}
+use Rattle.mlk_expr.specs.Trees.{ActualTree, Given, ByRef, Missing}
+use Rattle.mlk_routine.specs.Trees.{RoutineTree, Named_routine, LineTrees, no_lines, line, HeadTree, LineHead}
+use Rattle.mlk_routine.specs.Trees.{CallTree, Called, NewTree, NewAllBut, CommandTrees, finished, then_command, then_for}
+use Rattle.mlk_routine.specs.Trees.{ActionTree, New, Does}
+use Rattle.mlk_routine.specs.RoutineGrammar.{AreDistinct}
+use Rattle.mlk_program.specs.Calls.{in_commands}
+use Rattle.mlk_program.specs.Entries.{name_of, formals_of, target_of, line_of_entry, entry_count}
+
+-- a call, with the routine in which it stands, counted from 0, and its line
+pub record PlacedCall : Type 0 where
+  pub routine : ℕ
+  pub line : ℕ
+  pub call : CallTree
+
+abbrev pub placed : ℕ → HeadTree → List PlacedCall
+placed r (LineHead number level end label formals commands) =
+    map (λ c. record { routine = r; line = number; call = c }) (in_commands commands)
+
+-- the calls of lines and of their blocks
+abbrev pub calls_in : ℕ → LineTrees → List PlacedCall
+calls_in r no_lines = []
+calls_in r (line head block rest) = placed r head ++ (calls_in r block ++ calls_in r rest)
+
+abbrev pub calls_from : ℕ → List RoutineTree → List PlacedCall
+calls_from r [] = []
+calls_from r (Named_routine name lines ∷ routines) = calls_in r lines ++ calls_from (suc r) routines
+
+-- all calls, in the order of the routines, lines and columns
+abbrev pub calls_of : List RoutineTree → List PlacedCall
+calls_of = calls_from 0
+
+-- Whether a line takes an actual list: both lists are there or neither, and there are no more actuals than formals.
+abbrev pub takes : Option (List (List ℕ)) → Option (List ActualTree) → Bool
+takes None None = true
+takes None (Some given) = false
+takes (Some formals) None = false
+takes (Some formals) (Some given) = not (nat_lt (length formals) (length given))
+
+-- the formals of the line that a call names; nothing where it names none
+abbrev pub called_formals : List RoutineTree → ℕ → Callee → Option (Option (List (List ℕ)))
+called_formals routines own callee =
+    option_map (λ l. formals_of l.0) (option_and_then (line_of_entry routines) (target_of routines own callee))
+
+-- why a call can't be made
+abbrev pub arity_fault : Bool → Option Code
+arity_fault true = None
+arity_fault false = Some Arity
+
+abbrev pub fault_with : Option (List ActualTree) → Option (Option (List (List ℕ))) → Option Code
+fault_with given None = Some UnknownLabel
+fault_with given (Some formals) = arity_fault (takes formals given)
+
+abbrev pub call_fault : List RoutineTree → PlacedCall → Option Code
+call_fault routines p = go p.call
+  where
+    go : CallTree → Option Code
+    go (Called column callee given) = fault_with given (called_formals routines p.routine callee)
+
+abbrev pub AreResolved : List RoutineTree → List PlacedCall → Type 0
+AreResolved routines calls = (p : PlacedCall) → Contains calls p → call_fault routines p ≡ None
+
+-- too many routines or entries; the limits are this project's own choice
+abbrev pub AreTooMany : List RoutineTree → Type 0
+AreTooMany routines = (65535 < length routines) ⊎ (1048575 < entry_count routines)
+
+-- Routines that make a program: no two of one name, not too many, and every call can be made.
+unfoldable pub IsProgram : List RoutineTree → Type 0
+IsProgram routines = AreDistinct (map name_of routines) × (AreTooMany routines → ⊥)
+    × AreResolved routines (calls_of routines)
+
+-- a fault of this code at a place; lines and columns are counted up to the greatest one
+pub record IsFaultAt (code : Code) (routine : List ℕ) (line column : ℕ) (fault : Fault) : Type 0 where
+  pub coded : fault.code ≡ code
+  pub worded : fault.left_out ≡ None
+  pub named : fault.place.routine ≡ routine
+  pub on_line : fault.place.line ≡ min line 4294967295
+  pub placed : fault.place.column ≡ column
+
+-- a routine is the first whose name stood before
+abbrev pub IsTwice : List RoutineTree → Fault → Type 0
+IsTwice routines fault = (before after : List RoutineTree) × (tree : RoutineTree)
+    × (routines ≡ before ++ tree ∷ after) × AreDistinct (map name_of before)
+    × Contains (map name_of before) (name_of tree) × IsFaultAt RoutineTwice (name_of tree) 1 1 fault
+
+-- a routine is the first with which there are too many
+abbrev pub IsPastLimit : List RoutineTree → Fault → Type 0
+IsPastLimit routines fault = (before after : List RoutineTree) × (tree : RoutineTree)
+    × (routines ≡ before ++ tree ∷ after) × (AreTooMany before → ⊥) × AreTooMany (before ++ tree ∷ [])
+    × IsFaultAt TooMany (name_of tree) 1 1 fault
+
+-- the fault of a call, where it stands
+abbrev pub name_at : List RoutineTree → ℕ → List ℕ
+name_at [] r = []
+name_at (tree ∷ routines) zero = name_of tree
+name_at (tree ∷ routines) (suc r) = name_at routines r
+
+abbrev pub column_of : CallTree → ℕ
+column_of (Called column callee given) = column
+
+abbrev pub IsCallFault : List RoutineTree → PlacedCall → Fault → Type 0
+IsCallFault routines p fault = (code : Code) × (call_fault routines p ≡ Some code)
+    × IsFaultAt code (name_at routines p.routine) p.line (column_of p.call) fault
+
+-- a call is the first of these that can't be made
+abbrev pub IsFirstFault : List RoutineTree → List PlacedCall → Fault → Type 0
+IsFirstFault routines calls fault = (before after : List PlacedCall) × (p : PlacedCall)
+    × (calls ≡ before ++ p ∷ after) × AreResolved routines before × IsCallFault routines p fault
+
+-- Why routines make no program: first a name that stands twice, then a limit, then the first call that can't be made.
+abbrev pub IsLinkFault : List RoutineTree → Fault → Type 0
+IsLinkFault routines fault = IsTwice routines fault
+    ⊎ (AreDistinct (map name_of routines) × IsPastLimit routines fault)
+    ⊎ (AreDistinct (map name_of routines) × (AreTooMany routines → ⊥)
+    × IsFirstFault routines (calls_of routines) fault)
+
+-- the name that an actual lends
+abbrev pub lent_by : ActualTree → List (List ℕ)
+lent_by (ByRef column name) = name ∷ []
+lent_by (Given t) = []
+lent_by Missing = []
+
+-- a formal that receives a name
+abbrev pub received_by : List ℕ × ActualTree → List (List ℕ)
+received_by (formal, ByRef column name) = formal ∷ []
+received_by (formal, Given t) = []
+received_by (formal, Missing) = []
+
+abbrev pub received_at : Option (List ℕ) → ActualTree → List (List ℕ)
+received_at None a = []
+received_at (Some formal) a = received_by (formal, a)
+
+abbrev pub shared_with : Option (List ActualTree) → Option (Option (List (List ℕ))) → List (List ℕ)
+shared_with None called = []
+shared_with (Some given) None = flat_map lent_by given
+shared_with (Some given) (Some None) = flat_map lent_by given
+shared_with (Some given) (Some (Some formals)) =
+    flat_map lent_by given ++ flat_map received_by (zip formals given)
+
+-- the names that a call shares: each that it lends, and each formal that receives one
+abbrev pub shared_by : List RoutineTree → PlacedCall → List (List ℕ)
+shared_by routines p = go p.call
+  where
+    go : CallTree → List (List ℕ)
+    go (Called column callee given) = shared_with given (called_formals routines p.routine callee)
+
+-- Whether some call shares a name. This project's own.
+abbrev pub is_shared : List RoutineTree → List ℕ → Bool
+is_shared routines name = list_any (bytes_eq name) (flat_map (shared_by routines) (calls_of routines))
+
+-- What NEW makes new: a name, or all names but those of a list; without arguments all names. Standard: NEW.
+abbrev pub news_of : ActionTree → List NewTree
+news_of (New []) = NewAllBut [] ∷ []
+news_of (New (n ∷ news)) = n ∷ news
+news_of action = []
+
+abbrev pub news_in : CommandTrees → List NewTree
+news_in finished = []
+news_in (then_command (Does column condition action) rest) = news_of action ++ news_in rest
+news_in (then_for column index control rest) = news_in rest
+
+-- what the NEW commands of lines make new, in order, those after FOR too; not those of the lines' blocks
+abbrev pub news_of_lines : List (HeadTree × LineTrees) → List NewTree
+news_of_lines lines = flat_map (λ l. news_in_head l.0) lines
+  where
+    news_in_head : HeadTree → List NewTree
+    news_in_head (LineHead number level end label formals commands) = news_in commands

@@ -1,0 +1,46 @@
+-- Tables of names: each stands for the place of the first item that has it. For private clauses alone. This project's
+-- own.
+use Rattle.std.specs.Prelude.{ℕ, ◌≡◌, List, [], ◌∷◌, Option, Some, None, bytes_eq, if◌then◌else◌, map, position}
+use Rattle.mlk_routine.specs.declared.routine.Line.{Line}
+use Rattle.mlk_routine.specs.declared.routine.Routine.{Routine}
+use Rattle.mlk_routine.specs.Trees.{RoutineTree}
+use Rattle.mlk_routine.specs.Views.{line_of, routine_of}
+use Rattle.mlk_program.specs.Entries.{is_label, label_of}
+
+-- the place that a name stands for
+abbrev pub first_with : List ℕ → List (List ℕ × ℕ) → Option ℕ
+first_with name [] = None
+first_with name (p ∷ pairs) = if bytes_eq name p.0 then Some p.1 else first_with name pairs
+
+-- two tables give each name the same place
+abbrev pub SameFirst : List (List ℕ × ℕ) → List (List ℕ × ℕ) → Type 0
+SameFirst xs ys = (name : List ℕ) → first_with name xs ≡ first_with name ys
+
+-- names with their places, from this one on
+abbrev pub one_at : ℕ → Option (List ℕ) → List (List ℕ × ℕ)
+one_at i None = []
+one_at i (Some name) = (name, i) ∷ []
+
+-- Each name stands for the first of the items that has it.
+abbrev pub IsTableOf : {A : Type 0} → (A → Option (List ℕ)) → List A → List (List ℕ × ℕ) → Type 0
+IsTableOf label items table = (name : List ℕ)
+    → first_with name table ≡ position (λ a. is_label name (label a)) items
+
+-- the label of a line of the code
+abbrev pub line_label : Line → Option (List ℕ)
+line_label l = label_of (line_of l).0
+
+-- a table for the labels of each routine
+abbrev pub AreTables : List Routine → List (List (List ℕ × ℕ)) → Type 0
+AreTables [] [] = Unit {0}
+AreTables [] (t ∷ tables) = ⊥
+AreTables (r ∷ routines) [] = ⊥
+AreTables (r ∷ routines) (t ∷ tables) = IsTableOf line_label r.lines.items t × AreTables routines tables
+
+abbrev pub trees : List Routine → List RoutineTree
+trees routines = map routine_of routines
+
+-- the first line, from 0, where there is one
+abbrev pub first_of : List Line → Option ℕ
+first_of [] = None
+first_of (l ∷ lines) = Some 0

@@ -1,0 +1,216 @@
+// Routines with tables of their names and labels.
+
+ghost use Rattle.std.specs.Prelude.{◌≡◌, IfOk, Some, None, option_map, option_and_then, slice_get, map, drop, length, ◌≤◌};
+ghost use Rattle.std.specs.List.{prefix_len};
+ghost use Rattle.mlk_routine.specs.Views.{line_of};
+ghost use Rattle.mlk_program.specs.Entries.{entry_in, routine_named, target_of, entry_by, line_of_entry, lines_of, line_named, lines_in, lacks_formals, up_to_formals};
+ghost use Rattle.mlk_program.specs.Tables.{trees, AreTables, first_of};
+
+use crate::entry::EntryId;
+use crate::slice::item;
+use crate::table::Table;
+use mlk_expr::Callee;
+use mlk_routine::{Line, Routine};
+use mlk_text::spelling;
+use std::alloc::{AllocError, Global};
+use std::marker::Model;
+
+/// Routines, whose lines are found by name.
+#[derive(Drop)]
+pub(crate) struct Directory<'a> {
+    routines: &'a [Routine],
+    names: Table<'a>,
+    labels: Vec<Table<'a>>,
+}
+
+impl<'a> Model for Directory<'a> {
+    ghost use Rattle.std.specs.Prelude.{List, Some};
+    ghost use Rattle.mlk_routine.specs.declared.routine.Routine.{Routine};
+    ghost use Rattle.mlk_program.specs.Tables.{IsTableOf, AreTables};
+    ghost use Rattle.mlk_routine.specs.contracts.routine.Line as line;
+    ghost use Rattle.std.specs.Coded.{codes};
+
+    ghost Value = { List Routine };
+
+    ghost coded = { Prim.hlevel (codes, line.the_row.coded) };
+
+    ghost view = { λ d. d.routines.now };
+
+    ghost invariant = { λ d. IsTableOf (λ r. Some r.name) d.routines.now d.names
+        × AreTables d.routines.now d.labels.items };
+}
+
+// The tables of the routines' labels.
+fn label_tables<'a>(alloc: Global, routines: &'a [Routine]) -> Result<Vec<Table<'a>>, AllocError>
+    ensures { IfOk result (λ v. AreTables routines.now v.items) }
+{
+    let mut tables = Vec::new(alloc);
+    for routine in routines {
+        let Ok(()) = tables.push(Table::of(alloc, routine.lines.as_slice())?) else {
+            return Err(AllocError);
+        };
+    }
+    Ok(tables)
+}
+
+// The first line, where there is one.
+fn first_of(lines: &[Line]) -> Option<usize>
+    ensures { result ≡ first_of lines.now }
+{
+    if lines.is_empty() { None } else { Some(0) }
+}
+
+// The lines after the first `count` of them.
+fn lines_after(lines: &[Line], count: usize) -> &[Line]
+    ensures { result.now ≡ drop count lines.now }
+{
+    if count >= lines.len() {
+        return &[];
+    }
+    let (_, after) = lines.split_at(count);
+    after
+}
+
+// Whether a line is without a formal list.
+fn lacks_formals(line: &Line) -> bool
+    ensures { result ≡ lacks_formals (line_of line.now) }
+{
+    line.formals.is_none()
+}
+
+// How many lines there are before the first with a formal list.
+fn before_formals(lines: &[Line]) -> usize
+    ensures counted { result ≡ prefix_len (λ l. lacks_formals (line_of l)) lines.now }
+    ensures bounded { result ≤ length lines.now }
+{
+    for (i, line) in lines.iter().enumerate() {
+        if !lacks_formals(line) {
+            return i;
+        }
+    }
+    lines.len()
+}
+
+// The first line, and those before the next with a formal list.
+#[tactic(auto, using(crate::proofs::EntryLines::lines_taken))]
+fn up_to_formals(lines: &[Line]) -> &[Line]
+    ensures { map line_of result.now ≡ up_to_formals (map line_of lines.now) }
+{
+    let Some((_, later)) = lines.split_first() else {
+        return &[];
+    };
+    let (own, _) = lines.split_at(1 + before_formals(later));
+    own
+}
+
+impl<'a> Directory<'a> {
+    /// The directory of these routines.
+    pub(crate) fn of(alloc: Global, routines: &'a [Routine]) -> Result<Directory<'a>, AllocError>
+        ensures { IfOk result (λ d. d ≡ routines.now) }
+    {
+        Ok(Directory {
+            routines,
+            names: Table::of(alloc, routines)?,
+            labels: label_tables(alloc, routines)?,
+        })
+    }
+
+    /// The routines, in the order given.
+    pub(crate) fn routines(&self) -> &'a [Routine]
+        ensures { result.now ≡ self.now }
+    {
+        self.routines
+    }
+
+    /// Which of the routines has this name.
+    #[tactic(auto, using(crate::proofs::Directories::routine_found))]
+    pub(crate) fn routine(&self, name: &[u8]) -> Option<usize>
+        ensures { result ≡ routine_named (trees self.now) name.now }
+    {
+        self.names.place(name)
+    }
+
+    // The line of a routine that has this label.
+    #[tactic(auto, using(crate::proofs::Directories::label_some, crate::proofs::Directories::label_none))]
+    fn labelled_line(&self, routine: usize, label: &[u8]) -> Option<usize>
+        ensures { result ≡ option_and_then (λ tree. line_named (Some label.now) (lines_in tree))
+            (slice_get (trees self.now) routine) }
+    {
+        let Some(table) = item(self.labels.as_slice(), routine) else {
+            return None;
+        };
+        table.place(label)
+    }
+
+    // The first line of a routine.
+    #[tactic(auto, using(crate::proofs::Directories::first_some, crate::proofs::Directories::first_none))]
+    fn first_line(&self, routine: usize) -> Option<usize>
+        ensures { result ≡ option_and_then (λ tree. line_named None (lines_in tree))
+            (slice_get (trees self.now) routine) }
+    {
+        let Some(routine) = item(self.routines, routine) else {
+            return None;
+        };
+        first_of(routine.lines.as_slice())
+    }
+
+    // The entry that a label names in this one of the routines.
+    fn entry_in(&self, routine: usize, label: Option<&[u8]>) -> Option<EntryId>
+        ensures { result ≡ entry_in (trees self.now) routine (option_map (λ b. b.now) label.entry) }
+    {
+        let line = match label {
+            None => self.first_line(routine)?,
+            Some(label) => self.labelled_line(routine, label)?,
+        };
+        Some(EntryId { routine, line })
+    }
+
+    /// What a callee names in this one of the routines.
+    pub(crate) fn target(&self, own: usize, callee: &Callee) -> Option<EntryId>
+        ensures { result ≡ target_of (trees self.now) own callee.now }
+    {
+        let routine = match &callee.routine {
+            None => own,
+            Some(name) => self.routine(name.as_bytes())?,
+        };
+        match &callee.label {
+            None => self.entry_in(routine, None),
+            Some(label) => self.entry_in(routine, Some(label.as_bytes())),
+        }
+    }
+
+    /// The entry that a text names.
+    pub(crate) fn entry(&self, text: &[u8]) -> Option<EntryId>
+        ensures { result ≡ entry_by (trees self.now) text.now }
+    {
+        let parts = spelling::entry(text)?;
+        let routine = self.routine(parts.routine)?;
+        if parts.label.is_empty() {
+            self.entry_in(routine, None)
+        } else {
+            self.entry_in(routine, Some(parts.label))
+        }
+    }
+
+    /// The line of an entry.
+    #[tactic(auto, using(crate::proofs::Directories::line_some, crate::proofs::Directories::line_none))]
+    pub(crate) fn line(&self, entry: EntryId) -> Option<&'a Line>
+        ensures { option_map (λ l. line_of l.now) result ≡ line_of_entry (trees self.now) entry }
+    {
+        let Some(routine) = item(self.routines, entry.routine) else {
+            return None;
+        };
+        item(routine.lines.as_slice(), entry.line)
+    }
+
+    /// The lines of an entry.
+    #[tactic(auto, using(crate::proofs::EntryLines::lines_some, crate::proofs::EntryLines::lines_none))]
+    pub(crate) fn lines_of(&self, entry: EntryId) -> &'a [Line]
+        ensures { map line_of result.now ≡ lines_of (trees self.now) entry }
+    {
+        let Some(routine) = item(self.routines, entry.routine) else {
+            return &[];
+        };
+        up_to_formals(lines_after(routine.lines.as_slice(), entry.line))
+    }
+}

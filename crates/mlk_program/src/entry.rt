@@ -1,0 +1,11 @@
+// Entries of a program.
+
+/// An entry of a program: a line of a routine at which a job or a call may begin. Entries are ordered by their routines,
+/// then by their lines.
+#[derive(Clone, Copy, Debug, Drop, PartialEq, Eq, PartialOrd, Ord, Hash)]
+pub struct EntryId {
+    /// which of the routines it is, counted from 0
+    pub(crate) routine: usize,
+    /// which of the routine's lines of the first level it is, counted from 0
+    pub(crate) line: usize,
+}

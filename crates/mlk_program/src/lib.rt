@@ -1,0 +1,18 @@
+//! Programs: routines whose calls all have a line.
+#![tactic(auto)]
+
+mod call;
+mod directory;
+mod entry;
+mod expr;
+mod fault;
+mod found;
+mod linking;
+mod program;
+mod shared;
+mod slice;
+mod table;
+
+pub use entry::EntryId;
+pub use linking::link;
+pub use program::Program;

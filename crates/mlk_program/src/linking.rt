@@ -1,0 +1,271 @@
+// Linking.
+
+ghost use Rattle.std.specs.Prelude.{◌≡◌, flat_map, IfOk, OnOk, IfErr, Some, None, true, map, not, option_map};
+ghost use Rattle.mlk_expr.specs.Trees.{actual_trees};
+ghost use Rattle.mlk_routine.specs.Views.{line_of, routine_of};
+ghost use Rattle.mlk_routine.specs.RoutineGrammar.{AreDistinct};
+ghost use Rattle.mlk_program.specs.Entries.{name_of, entries_among, formals_of};
+ghost use Rattle.mlk_program.specs.Program.{takes, called_formals, call_fault, shared_by, AreTooMany, IsTwice, IsPastLimit, IsCallFault, IsFirstFault, calls_of, shared_with, name_at, IsProgram, IsLinkFault};
+ghost use Rattle.mlk_program.specs.Found.{site_of, given_of};
+ghost use Rattle.mlk_program.specs.Tables.{trees};
+ghost use Rattle.mlk_program.specs.Linking.{IfRefused, Gains, Links, placed_at, placed_in};
+
+use crate::call::CallSite;
+use crate::directory::Directory;
+use crate::fault::fault;
+use crate::found::in_commands;
+use crate::program::Program;
+use crate::shared::Shared;
+use mlk_expr::{Actual, Callee};
+use mlk_routine::{Line, Routine};
+use mlk_text::{Code, Column, Failure, Fault, List, Name};
+use std::alloc::{AllocError, Global};
+
+const MOST_ROUTINES: usize = 65535;
+
+const MOST_ENTRIES: usize = 1048575;
+
+// Each routine is the first of its name.
+fn are_distinct(alloc: Global, directory: &Directory<'_>) -> Result<(), Failure<Fault>>
+    ensures ok { OnOk result (AreDistinct (map name_of (trees directory.now))) }
+    ensures refused { IfErr result (λ e. IfRefused e (IsTwice (trees directory.now))) }
+{
+    for (i, routine) in directory.routines().iter().enumerate() {
+        if directory.routine(routine.name.as_bytes()) != Some(i) {
+            return Err(fault(alloc, Code::RoutineTwice, &routine.name, 1, Column::new(1)));
+        }
+    }
+    Ok(())
+}
+
+// How many entries the lines of a routine have.
+fn entry_count(lines: &[Line]) -> usize
+    ensures { result ≡ entries_among (map line_of lines.now) }
+{
+    let Some((_, later)) = lines.split_first() else {
+        return 0;
+    };
+    1 + later.iter().filter(|line| line.label.is_some()).count()
+}
+
+// There are not too many routines, nor entries.
+fn are_within_limits(alloc: Global, routines: &[Routine]) -> Result<(), Failure<Fault>>
+    ensures ok { OnOk result (AreTooMany (trees routines.now) → ⊥) }
+    ensures refused { IfErr result (λ e. IfRefused e (IsPastLimit (trees routines.now))) }
+{
+    let mut entries: usize = 0;
+    for (i, routine) in routines.iter().enumerate() {
+        entries = entries.saturating_add(entry_count(routine.lines.as_slice()));
+        if i >= MOST_ROUTINES || entries > MOST_ENTRIES {
+            return Err(fault(alloc, Code::TooMany, &routine.name, 1, Column::new(1)));
+        }
+    }
+    Ok(())
+}
+
+// Whether a line with these formals takes an actual list.
+fn takes(formals: &Option<List<Name>>, actuals: &Option<Vec<Actual>>) -> bool
+    ensures { result ≡ takes formals.now (given_of actuals.now) }
+{
+    match (formals, actuals) {
+        (None, None) => true,
+        (Some(formals), Some(given)) => given.len() <= formals.as_slice().len(),
+        _ => false,
+    }
+}
+
+/// Where calls stand: their routine, from 0, with its name, and their line.
+#[derive(Drop)]
+pub(crate) struct At<'a> {
+    pub routine: usize,
+    pub name: &'a Name,
+    pub line: usize,
+}
+
+// The line that a callee names.
+fn called<'a>(directory: &Directory<'a>, own: usize, callee: &Callee) -> Option<&'a Line>
+    ensures { option_map (λ l. formals_of (line_of l.now).0) result
+        ≡ called_formals (trees directory.now) own callee.now }
+{
+    let Some(entry) = directory.target(own, callee) else {
+        return None;
+    };
+    directory.line(entry)
+}
+
+// The formals of the line that a call names, if it takes the call's actuals.
+fn formals<'a>(
+    alloc: Global,
+    directory: &Directory<'a>,
+    at: &At<'a>,
+    site: &CallSite<'a>,
+) -> Result<&'a Option<List<Name>>, Failure<Fault>>
+    requires { name_at (trees directory.now) at.now.routine ≡ at.now.name.now }
+    ensures ok { IfOk result (λ f. (called_formals (trees directory.now) at.now.routine site.now.callee.now ≡ Some f.now)
+        × (takes f.now (given_of site.now.actuals.now) ≡ true)) }
+    ensures refused { IfErr result (λ e. IfRefused e (IsCallFault (trees directory.now)
+        (record { routine = at.now.routine; line = at.now.line; call = site_of site.now }))) }
+{
+    let Some(line) = called(directory, at.routine, site.callee) else {
+        return Err(fault(alloc, Code::UnknownLabel, at.name, at.line, site.column));
+    };
+    if !takes(&line.formals, site.actuals) {
+        return Err(fault(alloc, Code::Arity, at.name, at.line, site.column));
+    }
+    Ok(&line.formals)
+}
+
+// Adds the names that an actual list shares with these formals.
+fn share<'a>(
+    shared: &mut Shared<'a>,
+    formals: &'a Option<List<Name>>,
+    actuals: &'a Option<Vec<Actual>>,
+) -> Result<(), AllocError>
+    ensures { OnOk result (Gains (shared_with (given_of actuals.now) (Some formals.now)) shared.old shared.new) }
+{
+    let Some(given) = actuals else {
+        return Ok(());
+    };
+    shared.add_lent(given.as_slice())?;
+    if let Some(formals) = formals {
+        shared.add_received(formals.as_slice(), given.as_slice())?;
+    }
+    Ok(())
+}
+
+// Links one call.
+#[tactic(auto, using(crate::proofs::LinkedCalls::call_linked))]
+fn link_call<'a>(
+    alloc: Global,
+    directory: &Directory<'a>,
+    at: &At<'a>,
+    site: &CallSite<'a>,
+    shared: &mut Shared<'a>,
+) -> Result<(), Failure<Fault>>
+    requires { name_at (trees directory.now) at.now.routine ≡ at.now.name.now }
+    ensures ok { OnOk result (Links (trees directory.now) (placed_at at.now.routine at.now.line site.now)
+        shared.old shared.new) }
+    ensures refused { IfErr result (λ e. IfRefused e (IsCallFault (trees directory.now)
+        (record { routine = at.now.routine; line = at.now.line; call = site_of site.now }))) }
+{
+    let formals = formals(alloc, directory, at, site)?;
+    share(shared, formals, site.actuals)?;
+    Ok(())
+}
+
+// Links the calls of a line, up to the first that can't be made.
+fn link_calls<'a>(
+    alloc: Global,
+    directory: &Directory<'a>,
+    at: &At<'a>,
+    found: &[CallSite<'a>],
+    shared: &mut Shared<'a>,
+) -> Result<(), Failure<Fault>>
+    requires { name_at (trees directory.now) at.now.routine ≡ at.now.name.now }
+    ensures ok { OnOk result (Links (trees directory.now) (flat_map (placed_at at.now.routine at.now.line) found.now)
+        shared.old shared.new) }
+    ensures refused { IfErr result (λ e. IfRefused e (IsFirstFault (trees directory.now)
+        (flat_map (placed_at at.now.routine at.now.line) found.now))) }
+{
+    for site in found {
+        link_call(alloc, directory, at, site, shared)?;
+    }
+    Ok(())
+}
+
+// Links the calls of a line and of its block.
+#[cycle(lines)]
+#[tactic(auto, using(crate::proofs::LinkedLines::line_parts))]
+fn link_line<'a>(
+    alloc: Global,
+    directory: &Directory<'a>,
+    routine: usize,
+    name: &'a Name,
+    line: &'a Line,
+    shared: &mut Shared<'a>,
+) -> Result<(), Failure<Fault>>
+    requires { name_at (trees directory.now) routine ≡ name.now }
+    ensures ok { OnOk result (Links (trees directory.now) (placed_in routine line.now) shared.old shared.new) }
+    ensures refused { IfErr result (λ e. IfRefused e (IsFirstFault (trees directory.now)
+        (placed_in routine line.now))) }
+{
+    let mut found = Vec::new(alloc);
+    in_commands(&mut found, &line.commands)?;
+    let at = At {
+        routine,
+        name,
+        line: line.number,
+    };
+    link_calls(alloc, directory, &at, found.as_slice(), shared)?;
+    link_lines(
+        alloc,
+        directory,
+        routine,
+        name,
+        line.block.as_slice(),
+        shared,
+    )?;
+    Ok(())
+}
+
+// Links the calls of lines and of their blocks.
+#[cycle(lines)]
+fn link_lines<'a>(
+    alloc: Global,
+    directory: &Directory<'a>,
+    routine: usize,
+    name: &'a Name,
+    lines: &'a [Line],
+    shared: &mut Shared<'a>,
+) -> Result<(), Failure<Fault>>
+    requires { name_at (trees directory.now) routine ≡ name.now }
+    ensures ok { OnOk result (Links (trees directory.now) (flat_map (placed_in routine) lines.now)
+        shared.old shared.new) }
+    ensures refused { IfErr result (λ e. IfRefused e (IsFirstFault (trees directory.now)
+        (flat_map (placed_in routine) lines.now))) }
+{
+    for line in lines {
+        link_line(alloc, directory, routine, name, line, shared)?;
+    }
+    Ok(())
+}
+
+// Links all calls.
+fn link_routines<'a>(
+    alloc: Global,
+    directory: &Directory<'a>,
+    shared: &mut Shared<'a>,
+) -> Result<(), Failure<Fault>>
+    ensures ok { OnOk result (Links (trees directory.now) (calls_of (trees directory.now)) shared.old shared.new) }
+    ensures refused { IfErr result (λ e. IfRefused e (IsFirstFault (trees directory.now)
+        (calls_of (trees directory.now)))) }
+{
+    for (i, routine) in directory.routines().iter().enumerate() {
+        link_lines(
+            alloc,
+            directory,
+            i,
+            &routine.name,
+            routine.lines.as_slice(),
+            shared,
+        )?;
+    }
+    Ok(())
+}
+
+/// Links routines, in the order given: finds a line for each call, or tells the first reason why they make no program.
+pub fn link<'a>(alloc: Global, routines: &'a [Routine]) -> Result<Program<'a>, Failure<Fault>>
+    // The program is of these routines.
+    ensures same { IfOk result (λ p. p ≡ routines.now) }
+    // They make one,
+    ensures linked { IfOk result (λ p. IsProgram (map routine_of routines.now)) }
+    // or there is this fault.
+    ensures refused { IfErr result (λ e. IfRefused e (IsLinkFault (map routine_of routines.now))) }
+{
+    let directory = Directory::of(alloc, routines)?;
+    are_distinct(alloc, &directory)?;
+    are_within_limits(alloc, routines)?;
+    let mut shared = Shared::new(alloc);
+    link_routines(alloc, &directory, &mut shared)?;
+    Ok(Program { directory, shared })
+}

@@ -1,0 +1,85 @@
+// Programs.
+
+ghost use Rattle.std.specs.Prelude.{◌≡◌, map, option_map};
+ghost use Rattle.mlk_routine.specs.Views.{line_of, routine_of};
+ghost use Rattle.mlk_program.specs.Entries.{target_of, entry_by, line_of_entry, lines_of};
+ghost use Rattle.mlk_program.specs.Program.{is_shared};
+
+use crate::directory::Directory;
+use crate::entry::EntryId;
+use crate::shared::Shared;
+use mlk_expr::Callee;
+use mlk_routine::{Line, Routine};
+use mlk_text::Name;
+use std::marker::Model;
+
+/// Routines, each of whose calls has a line that takes its actuals. They are borrowed.
+#[derive(Drop)]
+pub struct Program<'a> {
+    pub(crate) directory: Directory<'a>,
+    pub(crate) shared: Shared<'a>,
+}
+
+impl<'a> Model for Program<'a> {
+    ghost use Rattle.std.specs.Prelude.{List, ℕ, ◌≡◌, map, bytes_eq};
+    ghost use Rattle.std.specs.List.{list_any};
+    ghost use Rattle.std.specs.Coded.{codes};
+    ghost use Rattle.mlk_routine.specs.contracts.routine.Line as line;
+    ghost use Rattle.mlk_routine.specs.declared.routine.Routine.{Routine};
+    ghost use Rattle.mlk_routine.specs.Views.{routine_of};
+    ghost use Rattle.mlk_program.specs.Program.{IsProgram, is_shared};
+
+    ghost Value = { List Routine };
+
+    ghost coded = { Prim.hlevel (codes, line.the_row.coded) };
+
+    ghost view = { λ p. p.directory };
+
+    ghost invariant = { λ p. IsProgram (map routine_of p.directory)
+        × ((name : List ℕ) → list_any (bytes_eq name) p.shared ≡ is_shared (map routine_of p.directory) name) };
+}
+
+impl<'a> Program<'a> {
+    /// The routines, in the order given.
+    pub fn routines(&self) -> &'a [Routine]
+        ensures { result.now ≡ self.now }
+    {
+        self.directory.routines()
+    }
+
+    /// The entry that a text names: `LABEL^ROUTINE`, or `^ROUTINE` for the routine's first line. It takes no memory.
+    pub fn entry(&self, text: &[u8]) -> Option<EntryId>
+        ensures { result ≡ entry_by (map routine_of self.now) text.now }
+    {
+        self.directory.entry(text)
+    }
+
+    /// The entry that a callee names, in this one of the routines, counted from 0. It takes no memory.
+    pub fn target(&self, routine: usize, callee: &Callee) -> Option<EntryId>
+        ensures { result ≡ target_of (map routine_of self.now) routine callee.now }
+    {
+        self.directory.target(routine, callee)
+    }
+
+    /// The line of an entry; none where the program lacks it. It takes no memory.
+    pub fn line(&self, entry: EntryId) -> Option<&'a Line>
+        ensures { option_map (λ l. line_of l.now) result ≡ line_of_entry (map routine_of self.now) entry }
+    {
+        self.directory.line(entry)
+    }
+
+    /// The lines of an entry, from its own to the routine's end, or to before the first later line that has a formal
+    /// list; none where the program lacks it. It takes no memory.
+    pub fn lines_of(&self, entry: EntryId) -> &'a [Line]
+        ensures { map line_of result.now ≡ lines_of (map routine_of self.now) entry }
+    {
+        self.directory.lines_of(entry)
+    }
+
+    /// Whether some call lends the name, or a formal of this name receives one. It takes no memory.
+    pub fn is_shared(&self, name: &Name) -> bool
+        ensures { result ≡ is_shared (map routine_of self.now) name.now }
+    {
+        self.shared.has(name.as_bytes())
+    }
+}

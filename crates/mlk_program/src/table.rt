@@ -1,0 +1,108 @@
+// Tables of names.
+
+ghost use Rattle.std.specs.Prelude.{◌≡◌, ◌∷◌, ◌++◌, [], OnOk, IfOk, option_map};
+ghost use Rattle.mlk_program.specs.Tables.{first_with, SameFirst, one_at, IsTableOf};
+
+use indexmap::IndexMap;
+use mlk_routine::{Line, Routine};
+use std::alloc::{AllocError, Global};
+use std::marker::Model;
+
+/// What may have a name.
+pub(crate) trait Labelled {
+    ghost use Rattle.std.specs.Prelude.{◌≡◌, List, ℕ, Option, option_map};
+
+    ghost label: { Self → Option (List ℕ) };
+
+    fn label(&self) -> Option<&[u8]>
+        ensures { option_map (λ b. b.now) result ≡ label self.now };
+}
+
+impl Labelled for Routine {
+    ghost use Rattle.std.specs.Prelude.{Some};
+
+    ghost label = { λ r. Some r.name };
+
+    fn label(&self) -> Option<&[u8]> {
+        Some(self.name.as_bytes())
+    }
+}
+
+impl Labelled for Line {
+    ghost use Rattle.mlk_routine.specs.Views.{line_of};
+    ghost use Rattle.mlk_program.specs.Entries.{label_of};
+
+    ghost label = { λ l. label_of (line_of l).0 };
+
+    fn label(&self) -> Option<&[u8]> {
+        match &self.label {
+            None => None,
+            Some(label) => Some(label.as_bytes()),
+        }
+    }
+}
+
+/// Names, each with the place of the first item that has it, counted from 0.
+#[derive(Drop)]
+pub(crate) struct Table<'a> {
+    places: IndexMap<&'a [u8], usize>,
+}
+
+impl<'a> Model for Table<'a> {
+    ghost use Rattle.std.specs.Prelude.{List, ℕ, map};
+
+    ghost Value = { List (List ℕ × ℕ) };
+
+    ghost view = { λ t. map (λ p. (p.0.now, p.1)) t.places.entries };
+}
+
+impl<'a> Table<'a> {
+    fn new(alloc: Global) -> Table<'a>
+        ensures { result ≡ [] }
+    {
+        Table {
+            places: IndexMap::new(alloc),
+        }
+    }
+
+    /// The place that a name stands for. It takes no memory.
+    pub(crate) fn place(&self, name: &[u8]) -> Option<usize>
+        ensures { result ≡ first_with name.now self.now }
+    {
+        self.places.get(name).copied()
+    }
+
+    // Puts a name after the others, where it does not stand among them.
+    fn add(&mut self, name: &'a [u8], place: usize) -> Result<(), AllocError>
+        ensures { OnOk result (SameFirst self.new (self.old ++ (name.now, place) ∷ [])) }
+    {
+        if self.places.contains_key(name) {
+            return Ok(());
+        }
+        let Ok(_) = self.places.insert(name, place) else {
+            return Err(AllocError);
+        };
+        Ok(())
+    }
+
+    // Puts the name of an item after the others.
+    fn add_label<T: Labelled>(&mut self, item: &'a T, place: usize) -> Result<(), AllocError>
+        ensures { OnOk result (SameFirst self.new (self.old ++ one_at place (T.label item.now))) }
+    {
+        match item.label() {
+            None => Ok(()),
+            Some(name) => self.add(name, place),
+        }
+    }
+
+    /// The table of these items.
+    pub(crate) fn of<T: Labelled>(alloc: Global, items: &'a [T]) -> Result<Table<'a>, AllocError>
+        ensures { IfOk result (IsTableOf T.label items.now) }
+    {
+        let mut table = Table::new(alloc);
+        for (i, item) in items.iter().enumerate() {
+            table.add_label(item, i)?;
+        }
+        Ok(table)
+    }
+}

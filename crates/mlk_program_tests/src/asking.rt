@@ -1,0 +1,69 @@
+// What is asked of a program.
+
+use crate::routines;
+use mlk_program::{EntryId, Program, link};
+use mlk_text::Name;
+use std::alloc::Global;
+
+fn numbers(program: &Program<'_>, entry: EntryId, wanted: &[usize]) -> bool {
+    let lines = program.lines_of(entry);
+    lines.len() == wanted.len()
+        && lines
+            .iter()
+            .zip(wanted)
+            .all(|(line, number)| line.number == *number)
+}
+
+// Entries by their texts, and their lines.
+#[test]
+fn entries(rt: HostRuntime) {
+    let alloc = rt.alloc();
+    let texts: [(&[u8], &[u8]); 2] = [
+        (
+            b"A",
+            b" DO B(1) DO C\nB(X) QUIT\nC QUIT\n DO\n . QUIT\nD() QUIT 1\n",
+        ),
+        (b"_Z", b"T QUIT\n"),
+    ];
+    let routines = routines(alloc, &texts).ok().expect(&rt, "routines");
+    let program = link(alloc, routines.as_slice())
+        .ok()
+        .expect(&rt, "a program");
+    let rows: [(&[u8], &[usize]); 5] = [
+        (b"^A", &[1]),
+        (b"B^A", &[2, 3, 4]),
+        (b"C^A", &[3, 4]),
+        (b"D^A", &[6]),
+        (b"^%Z", &[1]),
+    ];
+    for (text, lines) in rows.iter() {
+        let entry = program.entry(text).expect(&rt, "an entry");
+        assert!(rt; numbers(&program, entry, lines), "{text:?}");
+    }
+    assert!(rt; program.entry(b"T^%Z") == program.entry(b"^%Z"));
+    for text in [b"B".as_slice(), b"E^A", b"^C", b"B^A ", b"", b"^"].iter() {
+        assert!(rt; program.entry(text).is_none(), "{text:?}");
+    }
+}
+
+// Names that are lent by a call, and formals that receive one.
+#[test]
+fn shared(rt: HostRuntime) {
+    let alloc = rt.alloc();
+    let texts: [(&[u8], &[u8]); 1] = [(
+        b"A",
+        b" DO B(.X,1,.Y) SET Z=$$F(.Q,Z)\nB(K,L,M,N) QUIT\nF(V,W) QUIT 1\n",
+    )];
+    let routines = routines(alloc, &texts).ok().expect(&rt, "routines");
+    let program = link(alloc, routines.as_slice())
+        .ok()
+        .expect(&rt, "a program");
+    for text in [b"X".as_slice(), b"Y", b"Q", b"K", b"M", b"V"].iter() {
+        let name = Name::new(Vec::from_slice(alloc, text).ok().expect(&rt, "memory"));
+        assert!(rt; program.is_shared(&name), "{text:?}");
+    }
+    for text in [b"Z".as_slice(), b"L", b"N", b"W", b"A", b""].iter() {
+        let name = Name::new(Vec::from_slice(alloc, text).ok().expect(&rt, "memory"));
+        assert!(rt; !program.is_shared(&name), "{text:?}");
+    }
+}

@@ -1,0 +1,89 @@
+// Routines that make no program.
+
+use crate::routines;
+use mlk_program::link;
+use mlk_text::{Failure, Fault};
+use std::alloc::Global;
+
+// The code of a refusal, with its routine, line and column.
+#[derive(Drop)]
+struct Refusal<'a> {
+    code: u16,
+    routine: &'a [u8],
+    line: u32,
+    column: u32,
+}
+
+fn is_wanted(fault: &Fault, wanted: &Refusal) -> bool {
+    let place = &fault.place;
+    fault.code.number() == wanted.code
+        && place.routine.as_bytes() == wanted.routine
+        && place.line.number() == wanted.line
+        && place.column.number() == wanted.column
+        && fault.left_out.is_none()
+}
+
+fn is_refused(alloc: Global, texts: &[(&[u8], &[u8])], wanted: &Refusal) -> bool {
+    let Ok(routines) = routines(alloc, texts) else {
+        return false;
+    };
+    match link(alloc, routines.as_slice()) {
+        Err(Failure::Refused(fault)) => is_wanted(&fault, wanted),
+        _ => false,
+    }
+}
+
+// A call without a line, one that a line does not take, and that neither.
+#[test]
+fn calls(rt: HostRuntime) {
+    let alloc = rt.alloc();
+    let rows: [(&[u8], u16, u32, u32); 12] = [
+        (b" DO X\n", 302, 1, 5),
+        (b" DO ^B\n", 302, 1, 5),
+        (b" DO X^B\n", 302, 1, 5),
+        (b" JOB X\n", 302, 1, 6),
+        (b" SET A=1+$$X\n", 302, 1, 10),
+        (b" DO B(1)\nB QUIT\n", 303, 1, 5),
+        (b" DO B(1,2)\nB(X) QUIT\n", 303, 1, 5),
+        (b" DO B\nB(X) QUIT\n", 303, 1, 5),
+        (b" DO B(,,)\nB(X,Y) QUIT\n", 303, 1, 5),
+        (b" DO B($$C(1))\nB(X) QUIT 1\n", 302, 1, 7),
+        (b" WRITE $$B,$$C\nB() QUIT 1\n", 303, 1, 8),
+        (b" IF 1 DO\n . FOR I=1:1:$$C DO B\nB QUIT\n", 302, 2, 14),
+    ];
+    for (text, code, line, column) in rows.iter() {
+        let wanted = Refusal {
+            code: *code,
+            routine: b"A",
+            line: *line,
+            column: *column,
+        };
+        assert!(rt; is_refused(alloc, &[(b"A", text)], &wanted), "{text:?}");
+    }
+}
+
+// A name that stands twice comes before calls, and calls in the order of the routines.
+#[test]
+fn order(rt: HostRuntime) {
+    let alloc = rt.alloc();
+    let twice = Refusal {
+        code: 301,
+        routine: b"A",
+        line: 1,
+        column: 1,
+    };
+    let texts: [(&[u8], &[u8]); 2] = [(b"A", b" DO X\n"), (b"A", b" QUIT\n")];
+    assert!(rt; is_refused(alloc, &texts, &twice));
+    let second = Refusal {
+        code: 302,
+        routine: b"B",
+        line: 2,
+        column: 5,
+    };
+    let texts: [(&[u8], &[u8]); 3] = [
+        (b"A", b" DO L^B\n"),
+        (b"B", b"L QUIT\n DO X^A\n"),
+        (b"C", b" DO Y\n"),
+    ];
+    assert!(rt; is_refused(alloc, &texts, &second));
+}
