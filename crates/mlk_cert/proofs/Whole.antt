@@ -61,9 +61,9 @@ finished-is : (bs cs : List EntryCert) (xs : List ℕ) → finished bs xs ≡ So
 finished-is bs cs [] h = (same_Some bs cs h, refl)
 finished-is bs cs (b ∷ xs) h = cc h
 
-pub whole-is : (bs : List EntryCert) (text : List ℕ) → whole_at text ≡ Some bs → length text ≤ 67108864 → Spells bs text
+pub whole-certified : (bs : List EntryCert) (text : List ℕ) → whole_at text ≡ Some bs → IsCertificate bs × (text ≡ certificate_text bs)
 unfolding whole_at
-whole-is bs text k short =
+whole-certified bs text k =
     let w = then_some (word_at head_line text) _ bs k in
     let b = then_some (blocks_at w.0.1) _ bs w.2 in
     let e = then_some (word_at end_line b.0.1) _ bs b.2 in
@@ -71,8 +71,15 @@ whole-is bs text k short =
     let s = blocks-is b.0.0 w.0.1 b.0.1 b.1 in
     let last : b.0.1 ≡ end_line = (word-is end_line e.0.0 b.0.1 e.0.1 e.1).0 ∙ ap (λ z. end_line ++ z) f.1 in
     let P : List EntryCert → Type 0 = λ z. IsCertificate z × (text ≡ certificate_text z) in
-    let p = subst P f.0 (s.1, (word-is head_line w.0.0 text w.0.1 w.1).0 ∙ ap (λ z. head_line ++ z) (s.0 ∙ ap (λ z. flat block_text b.0.0 ++ z) last)) in
-    record { is = p.0; text = p.1; short = short }
+    subst P f.0 (s.1, (word-is head_line w.0.0 text w.0.1 w.1).0 ∙ ap (λ z. head_line ++ z) (s.0 ∙ ap (λ z. flat block_text b.0.0 ++ z) last))
+
+pub whole-is : (bs : List EntryCert) (text : List ℕ) → whole_at text ≡ Some bs → length text ≤ 67108864 → Spells bs text
+whole-is bs text k short = let p = whole-certified bs text k in record { is = p.0; text = p.1; short = short }
+
+pub whole-again : (bs : List EntryCert) → IsCertificate bs → whole_at (certificate_text bs) ≡ Some bs
+unfolding whole_at
+whole-again bs is =
+    rw (word-back head_line (flat block_text bs ++ end_line)) (rw (blocks-back bs is) (rw (word-back end_line []) refl))
 
 pub certificate-is : (bs : List EntryCert) (text : List ℕ) → certificate_at text ≡ Some bs → Spells bs text
 unfolding certificate_at
@@ -85,11 +92,10 @@ certificate-is bs text h = elim (cases_Bool (nat_lt 67108864 (length text))) [
     within n e = grind (arith, nat_tests)
 
 pub certificate-back : (bs : List EntryCert) (text : List ℕ) → Spells bs text → certificate_at text ≡ Some bs
-unfolding certificate_at whole_at
+unfolding certificate_at
 certificate-back bs text s =
     let short : nat_lt 67108864 (length text) ≡ false = enough (length text) s.short in
-    let head : word_at head_line text ≡ Some (head_line, flat block_text bs ++ end_line) = ap (word_at head_line) s.text ∙ word-back head_line (flat block_text bs ++ end_line) in
-    rw short (rw head (rw (blocks-back bs s.is) (rw (word-back end_line []) refl)))
+    rw short (ap whole_at s.text ∙ whole-again bs s.is)
   where
     enough : (n : ℕ) → n ≤ 67108864 → nat_lt 67108864 n ≡ false
     enough n h = grind (arith, nat_tests)

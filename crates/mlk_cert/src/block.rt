@@ -6,7 +6,7 @@ use mlk_names::LockTerm;
 use mlk_text::{List, Value};
 
 /// What a caller may rely on, and what it must give.
-#[derive(Drop)]
+#[derive(Drop, PartialEq, Eq)]
 pub struct Summary {
     /// The locks that a caller must hold, each as often as it stands here.
     pub need: List<LockTerm>,
@@ -21,7 +21,7 @@ pub struct Summary {
 }
 
 /// A point of a routine and the cases that are listed for it.
-#[derive(Drop)]
+#[derive(Drop, PartialEq, Eq)]
 pub struct Point {
     /// The line, counted from 1.
     pub line: u32,
@@ -31,7 +31,7 @@ pub struct Point {
 }
 
 /// What a certificate says of one entry.
-#[derive(Drop)]
+#[derive(Drop, PartialEq, Eq)]
 pub struct EntryCert {
     /// The entry's text, `LABEL^ROUTINE` or `^ROUTINE`.
     pub entry: Value,

@@ -15,7 +15,7 @@ mod write;
 pub use block::{EntryCert, Point, Summary};
 pub use case::{Case, ExitCase, Test};
 pub use certificate::Certificate;
-pub use checked::certificate_of;
+pub use checked::{block_of, case_of, certificate_of, point_of, with_case};
 pub use inclusion::included;
 pub use law::one_certificate;
 pub use names::{NameSet, Own};

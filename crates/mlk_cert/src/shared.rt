@@ -44,6 +44,24 @@ impl<T: Drop> Shared<T> {
     }
 }
 
+impl<T: PartialEq + Drop> PartialEq for Shared<T> {
+    ghost use Rattle.std.specs.Cmp.Lexicographic.{pointwise, lists_per};
+
+    ghost eq = { pointwise T.eq };
+
+    ghost laws = { lists_per T.laws };
+
+    fn eq(&self, other: &Shared<T>) -> bool {
+        self.as_slice() == other.as_slice()
+    }
+}
+
+impl<T: Eq + Drop> Eq for Shared<T> {
+    ghost use Rattle.std.specs.Cmp.Lexicographic.{lists_equiv};
+
+    ghost laws = { lists_equiv T.Eq.laws };
+}
+
 impl<T: Drop> Clone for Shared<T> {
     ghost is_clone = { λ source clone. clone ≡ source };
 

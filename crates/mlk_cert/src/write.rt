@@ -1,7 +1,7 @@
 //! The writer of certificates.
 
 mod entry;
-mod line;
+pub(crate) mod line;
 pub(crate) mod list;
 pub(crate) mod text;
 pub(crate) mod whole;

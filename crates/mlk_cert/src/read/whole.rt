@@ -67,8 +67,9 @@ fn finished(found: Vec<EntryCert>, after: &[u8]) -> Result<Vec<EntryCert>, Failu
     Ok(found)
 }
 
+/// The blocks of a text, where it is that of a certificate.
 #[tactic(auto, unfolding(crate::specs::Blocks::whole_at))]
-fn certificate(alloc: Global, bytes: &[u8]) -> Result<Vec<EntryCert>, Failure<Refusal>>
+pub(crate) fn certificate(alloc: Global, bytes: &[u8]) -> Result<Vec<EntryCert>, Failure<Refusal>>
     ensures { Reads (λ x. x.items) result (whole_at bytes.now) }
 {
     let Some(rest) = word_of(b"mlock-cert 1\n", bytes) else {
