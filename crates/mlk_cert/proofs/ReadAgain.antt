@@ -6,16 +6,16 @@ use Rattle.mlk_cert.specs.declared.case.Case.{Case}
 use Rattle.mlk_cert.specs.declared.block.Point.{Point}
 use Rattle.mlk_cert.specs.declared.block.EntryCert.{EntryCert}
 use Rattle.mlk_cert.specs.Lists.{flat}
-use Rattle.mlk_cert.specs.Texts.{case_text, point_text, certificate_text}
+use Rattle.mlk_cert.specs.Texts.{case_text, point_text, block_text, end_line}
 use Rattle.mlk_cert.specs.Limits.{IsCase, IsPoint, IsBlock, IsCertificate}
 use Rattle.mlk_cert.specs.Checks.{fits_case}
 use Rattle.mlk_cert.specs.Reading.{word_at, case_at}
-use Rattle.mlk_cert.specs.Blocks.{points_at, whole_at}
+use Rattle.mlk_cert.specs.Blocks.{points_at, body_at}
 use Rattle.mlk_cert.proofs.CaseFormats.{case-format}
 use Rattle.mlk_cert.proofs.Grouping.{both_true, both_back}
 use Rattle.mlk_cert.proofs.Goods.{case-good, case-has}
 use Rattle.mlk_cert.proofs.BlockFormats.{ArePoints, points-format}
-use Rattle.mlk_cert.proofs.Whole.{whole-certified, whole-again}
+use Rattle.mlk_cert.proofs.Whole.{body-is, body-back}
 
 first-same : {A : Type 0} (a b : A) → a ∷ [] ≡ b ∷ [] → a ≡ b
 first-same a b h = cc h
@@ -55,14 +55,14 @@ point-kept p found text rest b is read same = (
 pub point-refused : (p : Point) (text : List ℕ) → text ≡ flat point_text (p ∷ []) → points_at text ≡ None → IsTrue false ↔ IsPoint p
 point-refused p text is none = (λ t. cc t, λ good. let k : ◌≡◌ {A = Option (List Point × List ℕ)} None (Some (p ∷ [], [])) = sym none ∙ point-again p text is good in cc k)
 
-pub blocks-kept : (bs found : List EntryCert) (text : List ℕ) (b : Bool) → text ≡ certificate_text bs → whole_at text ≡ Some found → (IsTrue b ↔ (found ≡ bs)) → IsTrue b ↔ IsCertificate bs
-blocks-kept bs found text b is read same = (
-  λ t. subst (λ z. IsCertificate z) (same.0 t) (whole-certified found text read).0,
-  λ good. same.1 (same_Some found bs (sym read ∙ ap whole_at is ∙ whole-again bs good)),
+pub blocks-kept : (bs found : List EntryCert) (xs : List ℕ) (b : Bool) → xs ≡ flat block_text bs ++ end_line → body_at xs ≡ Some found → (IsTrue b ↔ (found ≡ bs)) → IsTrue b ↔ IsCertificate bs
+blocks-kept bs found xs b is read same = (
+  λ t. subst (λ z. IsCertificate z) (same.0 t) (body-is found xs read).0,
+  λ good. same.1 (same_Some found bs (sym read ∙ body-back bs xs is good)),
 )
 
-pub blocks-refused : (bs : List EntryCert) (text : List ℕ) → text ≡ certificate_text bs → whole_at text ≡ None → IsTrue false ↔ IsCertificate bs
-blocks-refused bs text is none = (λ t. cc t, λ good. let k : ◌≡◌ {A = Option (List EntryCert)} None (Some bs) = sym none ∙ ap whole_at is ∙ whole-again bs good in cc k)
+pub blocks-refused : (bs : List EntryCert) (xs : List ℕ) → xs ≡ flat block_text bs ++ end_line → body_at xs ≡ None → IsTrue false ↔ IsCertificate bs
+blocks-refused bs xs is none = (λ t. cc t, λ good. let k : ◌≡◌ {A = Option (List EntryCert)} None (Some bs) = sym none ∙ body-back bs xs is good in cc k)
 
 pub one-block : (b : EntryCert) → IsCertificate (b ∷ []) → IsBlock b
 one-block b is = is.each.0

@@ -10,7 +10,7 @@ use Rattle.mlk_cert.specs.declared.block.Point.{Point}
 use Rattle.mlk_cert.specs.declared.block.Summary.{Summary}
 use Rattle.mlk_cert.specs.declared.block.EntryCert.{EntryCert}
 use Rattle.mlk_cert.specs.Lists.{last_of, below}
-use Rattle.mlk_cert.specs.Texts.{head_line, end_line, exit_text, case_text}
+use Rattle.mlk_cert.specs.Texts.{end_line, exit_text, case_text}
 use Rattle.mlk_cert.specs.Checks.{fit_terms, fit_mods, fits_case, fits_exit, fit_exits, fit_points, fit_blocks, fits, has_text}
 use Rattle.mlk_cert.specs.Reading.{word_at, number_at, counted_at, listed_at, term_at, names_at, exit_at, case_at, part_at}
 
@@ -133,13 +133,9 @@ abbrev pub finished : List EntryCert → List ℕ → Option (List EntryCert)
 finished blocks [] = Some blocks
 finished blocks (b ∷ xs) = None
 
--- a whole text
-unfoldable pub whole_at : List ℕ → Option (List EntryCert)
-whole_at text = word_at head_line text >>= λ head. blocks_at head.1 >>= λ blocks. word_at end_line blocks.1 >>= λ end. finished blocks.0 end.1
-
--- A whole text, of at most 64 MiB.
-unfoldable pub certificate_at : List ℕ → Option (List EntryCert)
-certificate_at text = if nat_lt 67108864 (length text) then None else whole_at text
+-- what stands behind the head line
+unfoldable pub body_at : List ℕ → Option (List EntryCert)
+body_at xs = blocks_at xs >>= λ blocks. word_at end_line blocks.1 >>= λ end. finished blocks.0 end.1
 
 -- the text stands above the last, where there is one
 abbrev pub above_last : Option (List ℕ) → List ℕ → Bool

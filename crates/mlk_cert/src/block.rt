@@ -3,7 +3,7 @@
 use crate::case::{Case, ExitCase};
 use crate::names::NameSet;
 use mlk_names::LockTerm;
-use mlk_text::{List, Value};
+use mlk_text::{LineNumber, List, Value};
 
 /// What a caller may rely on, and what it must give.
 #[derive(Drop, PartialEq, Eq)]
@@ -24,7 +24,7 @@ pub struct Summary {
 #[derive(Drop, PartialEq, Eq)]
 pub struct Point {
     /// The line, counted from 1.
-    pub line: u32,
+    pub line: LineNumber,
     /// 0 for the start of the line, else which FOR of the line.
     pub round: u32,
     pub cases: List<Case>,

@@ -15,11 +15,10 @@ use crate::read::lexeme::is_below;
 use crate::read::list::both;
 use crate::read::memory::Memories;
 use crate::read::points::points;
-use crate::read::whole::certificate;
+use crate::read::whole::body;
 use crate::write::line::push_case;
 use crate::write::list::push_flat;
 use crate::write::text::Text;
-use crate::write::whole::certificate_text;
 use mlk_text::{Failure, List};
 use std::alloc::{AllocError, Global};
 use std::slice;
@@ -62,8 +61,10 @@ fn is_point(alloc: Global, made: &Point) -> Result<bool, AllocError>
 fn are_certificate(alloc: Global, made: &[EntryCert]) -> Result<bool, AllocError>
     ensures { IfOk result (λ b. IsTrue b ↔ IsCertificate made.now) }
 {
-    let text = certificate_text(alloc, made)?;
-    match certificate(alloc, text.as_bytes()) {
+    let mut text = Text::new(alloc);
+    push_flat(&mut text, made)?;
+    text.push(b"end\n")?;
+    match body(alloc, text.as_bytes()) {
         Ok(found) => Ok(same(made, found.as_slice())),
         Err(Failure::OutOfMemory) => Err(AllocError),
         Err(Failure::Refused(_)) => Ok(false),

@@ -6,4 +6,4 @@ pub(crate) mod list;
 pub(crate) mod text;
 pub(crate) mod whole;
 
-pub use whole::{WriteError, write_cert};
+pub use whole::{WriteFault, write_cert};
