@@ -1,6 +1,6 @@
 -- Parts of certificates are equal where each of their parts is.
 use Rattle.std.proofs.Common.{◌≡◌, List, Bool, refl, ap, ◌∙◌, rules}
-use Rattle.std.specs.Prelude.{ℕ, ◌&&◌, Decides, Option, Some, None, nat_eq}
+use Rattle.std.specs.Prelude.{ℕ, Decides, Option, Some, None, nat_eq}
 use Rattle.std.specs.Cmp.{booleans_Decides}
 use Rattle.std.specs.Cmp.Lexicographic.{pointwise}
 use Rattle.std.specs.Option.{option_eq}

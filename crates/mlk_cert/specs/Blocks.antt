@@ -1,7 +1,7 @@
 -- Reading lines, blocks and a whole certificate, as functions on lists. For private clauses alone, as `Reading`.
 use Rattle.std.specs.Prelude.{ℕ, suc, ◌==◌, ◌&&◌, ◌||◌, not, nat_lt, if◌then◌else◌, Bool, true, false, List, [], ◌∷◌, ◌++◌, length, Option, Some, None, codes, option_map, option_and_then}
 use Rattle.mlk_text.specs.Reading.{◌>>=◌, with, many}
-use Rattle.mlk_text.specs.Lexemes.{byte_at, name_at, digits, digits_at}
+use Rattle.mlk_text.specs.Lexemes.{byte_at, name_at, label_at, or_else}
 use Rattle.mlk_names.specs.declared.term.LockTerm.{LockTerm}
 use Rattle.mlk_cert.specs.declared.case.Case.{Case}
 use Rattle.mlk_cert.specs.declared.case.ExitCase.{ExitCase}
@@ -103,17 +103,13 @@ grouped points (l ∷ ls) = grouped (add_case points l) ls
 unfoldable pub points_at : List ℕ → Option (List Point × List ℕ)
 points_at xs = with (grouped []) (worded_at (codes "at ") (rest_at listed_case_at fits_listed) xs) >>= fit fit_points
 
--- a label, before `^`: nothing, digits or a name
-abbrev pub label_by : List ℕ → Option (ℕ × List ℕ) → Option (List ℕ × List ℕ)
-label_by xs (Some caret) = Some ([], xs)
-label_by xs None = if digits xs == 0 then name_at xs else digits_at xs
-
-unfoldable pub label_at : List ℕ → Option (List ℕ × List ℕ)
-label_at xs = label_by xs (byte_at 94 xs)
+-- a label at the front, or nothing
+abbrev pub label_before : List ℕ → Option (List ℕ × List ℕ)
+label_before xs = or_else (label_at xs) (Some ([], xs))
 
 -- an entry's text
 unfoldable pub entry_at : List ℕ → Option (List ℕ × List ℕ)
-entry_at xs = label_at xs >>= λ label. byte_at 94 label.1 >>= λ caret. with (λ routine. label.0 ++ 94 ∷ routine) (name_at caret.1)
+entry_at xs = label_before xs >>= λ label. byte_at 94 label.1 >>= λ caret. with (λ routine. label.0 ++ 94 ∷ routine) (name_at caret.1)
 
 abbrev pub block_of : List ℕ → Summary → List Point → EntryCert
 block_of entry summary points = record { entry = entry; summary = summary; points = points }

@@ -25,10 +25,11 @@ impl<T> Model for Shared<T> {
 }
 
 impl<T: Drop> Shared<T> {
-    /// The elements of a vector, with one owner.
-    pub fn new(alloc: Global, items: Vec<T>) -> Result<Shared<T>, AllocError>
+    /// The elements of a vector, with one owner, in as much memory as they need.
+    pub fn new(alloc: Global, mut items: Vec<T>) -> Result<Shared<T>, AllocError>
         ensures { IfOk result (λ s. s ≡ items.items) }
     {
+        items.shrink_to_fit();
         let list = Arc::new(alloc, List::of(items))?;
         Ok(Shared { list })
     }

@@ -186,7 +186,10 @@ fn listed(alloc: Global, piece: &[u8], count: u8) -> Result<Vec<u8>, AllocError>
     let mut between = Vec::from_slice(alloc, b";")?;
     between.extend_from_slice(piece)?;
     let all = numbered(alloc, between.as_slice(), count)?;
-    Vec::from_slice(alloc, all.as_slice().split_at(1).1)
+    let Some((_, list)) = all.as_slice().split_first() else {
+        return Ok(Vec::new(alloc));
+    };
+    Vec::from_slice(alloc, list)
 }
 
 // A line with a list in it.

@@ -98,7 +98,8 @@ fn written(alloc: Global, signs: usize) -> (usize, u16, u32) {
 #[test]
 fn a_text_that_is_too_long_is_not_begun(rt: HostRuntime) {
     let alloc = rt.alloc();
-    let front = written(alloc, 1).0 - 1;
-    assert!(rt; written(alloc, 67_108_864 - front) == (67_108_864, 0, 0));
-    assert!(rt; written(alloc, 67_108_865 - front) == (0, 605, 1));
+    let front = written(alloc, 1).0.saturating_sub(1);
+    let signs = 67_108_864usize.saturating_sub(front);
+    assert!(rt; written(alloc, signs) == (67_108_864, 0, 0));
+    assert!(rt; written(alloc, signs.saturating_add(1)) == (0, 605, 1));
 }

@@ -7,7 +7,7 @@ use mlk_text::{Code, LineNumber};
 use thiserror::Error;
 
 /// Why a certificate's text is refused, and on which line.
-#[derive(Clone, Copy, Debug, Drop, PartialEq, Eq, Error)]
+#[derive(Debug, Drop, PartialEq, Eq, Error)]
 #[error("{code}, at line {line}")]
 pub struct CertFault {
     pub code: Code,

@@ -98,10 +98,13 @@ fn at_line<'a>(
 fn new_point(alloc: Global, line: u32, round: u32, case: Case) -> Result<Point, AllocError>
     ensures { IfOk result (λ p. p ≡ point_of (line, round, case)) }
 {
-    let mut cases = List::new(alloc);
+    let mut cases = Vec::with_capacity(alloc, 1)?;
     cases.push(case)?;
-    let line = LineNumber::new(line);
-    Ok(Point { line, round, cases })
+    Ok(Point {
+        line: LineNumber::new(line),
+        round,
+        cases: List::of(cases),
+    })
 }
 
 fn one_more(point: Point, case: Case) -> Result<Point, AllocError>

@@ -1,4 +1,4 @@
-use Rattle.std.proofs.Common.{◌≡◌, ◌≤◌, ℕ, length, List, sym, ◌∙◌, arith, subst}
+use Rattle.std.proofs.Common.{◌≤◌, length, List, sym, ◌∙◌, arith, subst}
 use Rattle.mlk_cert.specs.declared.block.EntryCert.{EntryCert}
 use Rattle.mlk_cert.specs.Limits.{longest}
 use Rattle.mlk_cert.specs.Refusals.{IsRefusal}
