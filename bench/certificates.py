@@ -4,6 +4,7 @@
     certificates.py DIR [ENTRIES [LINES]]      2,000 entries of 100 lines where nothing is said
 
     cd DIR/crates/cert_speed && rt run -- ../../plain.cert ../../varied.cert
+    /usr/bin/time -v out/cert_speed ../../varied.cert       the memory that it took
 
 plain.cert says the same of all lines of an entry, as a program does that holds one lock over them; varied.cert says
 something else at each line. The crates mlk_text, mlk_names and mlk_cert are copied with what was proved of them; `rt run`

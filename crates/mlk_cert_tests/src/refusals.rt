@@ -1,6 +1,6 @@
 // Texts that are refused, with the line and the number that is told.
 
-use mlk_cert::read_cert;
+use mlk_cert::{CertFault, read_cert};
 use mlk_text::Failure;
 use std::alloc::{AllocError, Global};
 use std::process::Abort;
@@ -10,13 +10,20 @@ const HEAD: &[u8] = b"mlock-cert 1\nentry E^R\n";
 
 const REST: &[u8] = b"low -\ndrops 0\nmods -\n";
 
+// The line and the number of a refusal.
+fn numbers(failure: Failure<CertFault>) -> (u32, u16) {
+    match failure {
+        Failure::OutOfMemory => (0, 1),
+        Failure::Refused(fault) => (fault.line.number(), fault.code.number()),
+    }
+}
+
 // The line and the number of a refusal; 0 and 0 where the text is read.
 fn told(alloc: Global, text: &[u8]) -> (u32, u16) {
-    match read_cert(alloc, text) {
-        Ok(_) => (0, 0),
-        Err(Failure::OutOfMemory) => (0, 1),
-        Err(Failure::Refused(fault)) => (fault.line.number(), fault.code.number()),
-    }
+    let Err(failure) = read_cert(alloc, text) else {
+        return (0, 0);
+    };
+    numbers(failure)
 }
 
 fn expect(rt: &impl Abort, alloc: Global, text: &[u8], line: u32, number: u16) {
