@@ -35,7 +35,7 @@ fn bytes(alloc: Global, hex: &[u8]) -> io::Result<Vec<u8>> {
         if i % 2 == 0 {
             high = digit(*b);
         } else {
-            found.push(high * 16 + digit(*b))?;
+            found.push(high.wrapping_mul(16).wrapping_add(digit(*b)))?;
         }
     }
     Ok(found)
@@ -43,10 +43,12 @@ fn bytes(alloc: Global, hex: &[u8]) -> io::Result<Vec<u8>> {
 
 fn answer(rt: &HostRuntime, alloc: Global, line: &[u8]) -> io::Result<()> {
     let text = bytes(alloc, line)?;
-    match read_cert(alloc, text.as_slice()) {
-        Ok(_) => println!(rt; "read"),
-        Err(Failure::OutOfMemory) => println!(rt; "memory"),
-        Err(Failure::Refused(fault)) => println!(rt; "{} {}", fault.line, fault.code.number()),
+    let Err(failure) = read_cert(alloc, text.as_slice()) else {
+        return println!(rt; "read");
+    };
+    match failure {
+        Failure::OutOfMemory => println!(rt; "memory"),
+        Failure::Refused(fault) => println!(rt; "{} {}", fault.line, fault.code.number()),
     }
 }
 
@@ -54,11 +56,8 @@ fn main(rt: HostRuntime) -> io::Result<()> {
     let alloc = rt.alloc();
     let mut input: Vec<u8> = Vec::new(alloc);
     rt.stdin().read_to_end(&mut input)?;
-    let mut rest = input.as_slice();
-    while let Some(end) = rest.iter().position(|b| *b == b'\\n') {
-        let (line, after) = rest.split_at(end);
+    for line in input.as_slice().split(|b| *b == b'\\n') {
         answer(&rt, alloc, line)?;
-        rest = &after[1..];
     }
     Ok(())
 }
@@ -84,7 +83,7 @@ def main():
     words = parser.parse_args()
     lay(words.folder, "certificate_answers", "mlk_cert mlk_text", PROGRAM)
     pairs = list(answers(words.cases))
-    (words.folder / "certificates.txt").write_text("".join(f"{text}\n" for text, _ in pairs))
+    (words.folder / "certificates.txt").write_text("\n".join(text for text, _ in pairs))
     (words.folder / "expected.txt").write_text("".join(f"{said}\n" for _, said in pairs))
     print(len(pairs), "certificates,", sum(said != "read" for _, said in pairs), "refused")
 
