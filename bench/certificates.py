@@ -4,6 +4,7 @@
     certificates.py DIR [ENTRIES [LINES]]      2,000 entries of 100 lines where nothing is said
 
     cd DIR/crates/cert_speed && rt run -- ../../plain.cert ../../varied.cert
+    /usr/bin/time -v out/cert_speed ../../varied.cert       the memory that it took
 
 plain.cert says the same of all lines of an entry, as a program does that holds one lock over them; varied.cert says
 something else at each line. The crates mlk_text, mlk_names and mlk_cert are copied with what was proved of them; `rt run`
@@ -50,6 +51,19 @@ def certificate(entries, lines, held):
     return f"mlock-cert 1\n{body}end\n"
 
 
+def lay(folder, name, crates, program):
+    """A repository with a program that stands on these crates, and with copies of all crates that it needs."""
+    root = pathlib.Path(__file__).resolve().parent.parent
+    source = folder / "crates" / name / "src"
+    source.mkdir(parents=True, exist_ok=True)
+    (source / "main.rt").write_text(program)
+    kept = [line for line in (root / "crates.txt").read_text().splitlines() if line.split(":")[0] in CRATES]
+    (folder / "crates.txt").write_text("\n".join([*kept, f"{name}: {crates}", ""]))
+    for crate in CRATES:
+        shutil.rmtree(folder / "crates" / crate, ignore_errors=True)
+        shutil.copytree(root / "crates" / crate, folder / "crates" / crate)
+
+
 def main():
     parser = argparse.ArgumentParser(description=__doc__, formatter_class=argparse.RawDescriptionHelpFormatter)
     parser.add_argument("folder", metavar="DIR", type=pathlib.Path)
@@ -57,15 +71,7 @@ def main():
     parser.add_argument("lines", metavar="LINES", type=int, nargs="?", default=100)
     words = parser.parse_args()
     folder = words.folder
-    root = pathlib.Path(__file__).resolve().parent.parent
-    source = folder / "crates" / "cert_speed" / "src"
-    source.mkdir(parents=True, exist_ok=True)
-    (source / "main.rt").write_text(PROGRAM)
-    kept = [line for line in (root / "crates.txt").read_text().splitlines() if line.split(":")[0] in CRATES]
-    (folder / "crates.txt").write_text("\n".join([*kept, "cert_speed: mlk_cert", ""]))
-    for name in CRATES:
-        shutil.rmtree(folder / "crates" / name, ignore_errors=True)
-        shutil.copytree(root / "crates" / name, folder / "crates" / name)
+    lay(folder, "cert_speed", "mlk_cert", PROGRAM)
     (folder / "plain.cert").write_text(certificate(words.entries, words.lines, lambda line: "^ACCT(ID);^LOG"))
     (folder / "varied.cert").write_text(
         certificate(words.entries, words.lines, lambda line: f'^ACCT("{line:05}",ID);^LOG("{line:05}")'))

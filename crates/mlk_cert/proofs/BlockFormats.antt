@@ -1,11 +1,10 @@
 -- Entries, summaries, points, blocks, and their readers.
-use Rattle.std.proofs.Common.{◌≡◌, ◌≤◌, ℕ, suc, ◌++◌, List, [], ◌∷◌, length, Some, None, true, false, refl, sym, ap, ◌∙◌, arith, subst, inl, inr, append_assoc, lit<}
+use Rattle.std.proofs.Common.{◌≡◌, ◌≤◌, ℕ, ◌++◌, List, [], ◌∷◌, length, Some, None, true, false, refl, sym, ap, ◌∙◌, arith, subst, inl, inr, append_assoc, lit<}
 use Rattle.std.specs.Prelude.{Option, ◌==◌, ◌||◌, codes}
 use Rattle.std.specs.Fmt.{decimal}
-use Rattle.std.proofs.lemmas.Bool.{cases_Bool}
 use Rattle.std.proofs.lemmas.Bool.Decides.{nat_tests}
 use Rattle.mlk_text.specs.Reading.{◌>>=◌, with}
-use Rattle.mlk_text.specs.Lexemes.{byte_at, name_at, is_digit, is_letter, digits}
+use Rattle.mlk_text.specs.Lexemes.{byte_at, digits, digits_at, is_digit, is_letter, label_at, name_at, or_else}
 use Rattle.mlk_text.specs.Numbers.{are_digits}
 use Rattle.mlk_text.proofs.Readers.{then_some, pair_parts, with_some}
 use Rattle.mlk_cert.specs.declared.case.Case.{Case}
@@ -15,13 +14,13 @@ use Rattle.mlk_cert.specs.declared.block.Summary.{Summary}
 use Rattle.mlk_cert.specs.declared.block.EntryCert.{EntryCert}
 use Rattle.mlk_cert.specs.Lists.{Each, flat, ascends}
 use Rattle.mlk_cert.specs.Texts.{listed, term_text, names_text, case_text, exit_text, exit_line, place_text, case_line, point_text, low_text, drops_text, summary_text}
-use Rattle.mlk_cert.specs.Limits.{IsName, IsTerm, IsLabel, IsEntry, IsLow, IsSummary, IsPoint, IsBlock, points_below}
+use Rattle.mlk_cert.specs.Limits.{IsTerm, IsLabel, IsEntry, IsLow, IsSummary, IsPoint, IsBlock, points_below}
 use Rattle.mlk_cert.specs.Checks.{fit_terms, fit_mods, fits_exit, fit_exits, fit_points, fits}
 use Rattle.mlk_cert.specs.Reading.{word_at, number_at, positive, listed_at, term_at, names_at, exit_at, case_at, part_at}
-use Rattle.mlk_cert.specs.Blocks.{fit, rest_at, worded_at, low_at, drops_at, exits_at, summary_of, summary_at, Listed, place_at, listed_of, listed_case_at, fits_listed, grouped, points_at, label_by, label_at, entry_at, block_of, block_at}
+use Rattle.mlk_cert.specs.Blocks.{fit, rest_at, worded_at, low_at, drops_at, exits_at, summary_of, summary_at, Listed, place_at, listed_of, listed_case_at, fits_listed, grouped, points_at, label_before, entry_at, block_of, block_at}
 use Rattle.mlk_cert.proofs.Formats.{Format, Anything, byte-is, part-is, part-back}
-use Rattle.mlk_cert.proofs.NumberFormats.{number-format, IsDigit, digits-is, digits-back, digits-count}
-use Rattle.mlk_cert.proofs.NameFormats.{NoName, name-format, name-first}
+use Rattle.mlk_cert.proofs.NumberFormats.{number-format, IsDigit, digits-is, digits-back}
+use Rattle.mlk_cert.proofs.NameFormats.{NoName, name-format}
 use Rattle.mlk_cert.proofs.TermFormats.{EndsTerms, EndsNames, terms-format}
 use Rattle.mlk_cert.proofs.CaseFormats.{HasNames, HasCase, HasExit, NoSign, mods-format, exit-format, case-format, positive-is, not-zero}
 use Rattle.mlk_cert.proofs.LineFormats.{fit-is, rest-format, worded-is, worded-back, low-format, drops-format, IsDrops, EndsLow}
@@ -40,54 +39,32 @@ each-digit : (ds : List ℕ) → are_digits ds ≡ true → Each IsDigit ds
 each-digit [] h = tt
 each-digit (d ∷ ds) h = let t = both_true (is_digit d) (are_digits ds) h in (t.0, each-digit ds t.1)
 
-label-is : (l xs ys : List ℕ) → label_at xs ≡ Some (l, ys) → (xs ≡ l ++ ys) × IsLabel l
+label-is : (l xs ys : List ℕ) → label_before xs ≡ Some (l, ys) → (xs ≡ l ++ ys) × IsLabel l
 unfolding label_at
-label-is l xs ys h = go (byte_at 94 xs) refl h
+label-is l xs ys h = go (name_at xs) refl (digits_at xs) refl h
   where
-    go : (o : Option (ℕ × List ℕ)) → byte_at 94 xs ≡ o → label_by xs o ≡ Some (l, ys) → (xs ≡ l ++ ys) × IsLabel l
-    go (Some c) is k =
+    go : (n : Option (List ℕ × List ℕ)) → name_at xs ≡ n → (d : Option (List ℕ × List ℕ)) → digits_at xs ≡ d → or_else (or_else n d) (Some ([], xs)) ≡ Some (l, ys) → (xs ≡ l ++ ys) × IsLabel l
+    go (Some n) is d js k = let a = name-format.sound l xs ys (is ∙ k) in (a.0, inr a.1)
+    go None is (Some d) js k = let a = digits-is l xs ys (js ∙ k) in (a.0, inl (all-digits l a.1))
+    go None is None js k =
         let p = pair_parts [] l xs ys k in
         let P : List ℕ → Type 0 = λ z. (xs ≡ z ++ ys) × IsLabel z in
         subst P p.0 (p.1, inl refl)
-    go None is k = elim (cases_Bool (digits xs == 0)) [
-      | inl e ↦ let n = name-format.sound l xs ys (rw e at k) in (n.0, inr n.1)
-      | inr e ↦ let d = digits-is l xs ys (rw e at k) in (d.0, inl (all-digits l d.1))
-    ]
 
-digit-no-caret : (d : ℕ) → is_digit d ≡ true → (d == 94) ≡ false
-digit-no-caret d h = grind (arith, nat_tests)
+digit-no-letter : (d : ℕ) → is_digit d ≡ true → (is_letter d || (d == 37)) ≡ false
+digit-no-letter d h = grind (arith, nat_tests)
 
-no-digits : (b : ℕ) → is_digit b ≡ false → (xs : List ℕ) → (digits (b ∷ xs) == 0) ≡ true
-no-digits b h xs = rw h refl
-
-name-no-digit : (b : ℕ) → (is_letter b || (b == 37)) ≡ true → is_digit b ≡ false
-name-no-digit b h = grind (arith, nat_tests)
-
-name-start : (b : ℕ) (n : List ℕ) → IsName (b ∷ n) → (is_letter b || (b == 37)) ≡ true
+digits-no-name : (d : ℕ) (xs : List ℕ) → is_digit d ≡ true → name_at (d ∷ xs) ≡ None
 unfolding name_at
-name-start b n is = elim (cases_Bool (is_letter b || (b == 37))) [
-  | inl e ↦ e
-  | inr e ↦ cc (rw e at is)
-]
+digits-no-name d xs h = rw (digit-no-letter d h) refl
 
-name-some : IsName [] → ⊥
-unfolding name_at
-name-some is = cc is
-
-label-back : (l ys : List ℕ) → IsLabel l → label_at (l ++ 94 ∷ ys) ≡ Some (l, 94 ∷ ys)
-unfolding label_at
+label-back : (l ys : List ℕ) → IsLabel l → label_before (l ++ 94 ∷ ys) ≡ Some (l, 94 ∷ ys)
+unfolding label_at name_at digits_at
 label-back [] ys is = refl
 label-back (d ∷ l) ys (inl ds) =
     let e = each-digit (d ∷ l) ds in
-    let count = digits-count (d ∷ l) (94 ∷ ys) e refl in
-    let more : (digits (d ∷ (l ++ 94 ∷ ys)) == 0) ≡ false = ap (λ n. n == 0) count ∙ above (length l) in
-    rw (digit-no-caret d e.0) (rw more (digits-back (d ∷ l) (94 ∷ ys) e (omega arith) refl))
-  where
-    above : (n : ℕ) → (suc n == 0) ≡ false
-    above n = grind (arith, nat_tests)
-label-back (b ∷ l) ys (inr is) =
-    rw (name-first 94 (b ∷ l) (94 ∷ ys) refl is)
-    (rw (no-digits b (name-no-digit b (name-start b l is)) (l ++ 94 ∷ ys)) (name-format.complete (b ∷ l) (94 ∷ ys) is refl))
+    rw (digits-no-name d (l ++ 94 ∷ ys) e.0) (rw (digits-back (d ∷ l) (94 ∷ ys) e (omega arith) refl) refl)
+label-back (b ∷ l) ys (inr is) = rw (name-format.complete (b ∷ l) (94 ∷ ys) is refl) refl
 
 abbrev pub entry_text : List ℕ → List ℕ
 entry_text entry = entry
@@ -95,7 +72,7 @@ entry_text entry = entry
 entry-is : (e xs ys : List ℕ) → entry_at xs ≡ Some (e, ys) → (xs ≡ entry_text e ++ ys) × IsEntry e
 unfolding entry_at
 entry-is e xs ys h =
-    let l = then_some (label_at xs) _ (e, ys) h in
+    let l = then_some (label_before xs) _ (e, ys) h in
     let c = then_some (byte_at 94 l.0.1) _ (e, ys) l.2 in
     let n = with_some _ (name_at c.0.1) e ys c.2 in
     let one = label-is l.0.0 xs l.0.1 l.1 in

@@ -14,3 +14,5 @@ pub mod Loops
 pub mod PointLoops
 pub mod BlockLoops
 pub mod MemoryLemmas
+pub mod ReadAgain
+pub mod Equal

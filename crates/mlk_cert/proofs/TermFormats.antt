@@ -4,7 +4,7 @@ use Rattle.std.specs.Prelude.{Option, ◌==◌, ◌||◌, nat_lt, if◌then◌el
 use Rattle.std.proofs.lemmas.Bool.{cases_Bool, eqb-true}
 use Rattle.std.proofs.lemmas.Bool.Decides.{nat_tests}
 use Rattle.mlk_text.specs.Reading.{many}
-use Rattle.mlk_text.specs.Lexemes.{byte_at, name_at}
+use Rattle.mlk_text.specs.Lexemes.{byte_at, name_at, root_by, root_at}
 use Rattle.mlk_text.proofs.Readers.{then_some, pair_parts, with_some}
 use Rattle.mlk_text.specs.declared.root.Root.{Root}
 use Rattle.mlk_text.specs.declared.root.Root.TheVariants as root
@@ -14,7 +14,7 @@ use Rattle.mlk_names.specs.declared.term.LockTerm.{LockTerm}
 use Rattle.mlk_cert.specs.Lists.{Each, flat, more}
 use Rattle.mlk_cert.specs.Texts.{listed, hex, is_plain, byte_text, constant_text, symbol_text, subs_text, root_text, term_text, name_text}
 use Rattle.mlk_cert.specs.Limits.{IsName, IsValue, IsSymbol, IsRoot, IsTerm}
-use Rattle.mlk_cert.specs.Reading.{hex_value, escaped_at, piece_at, keep, constant_at, list_at, listed_at, job_by, symbol_by, symbol_at, subs_by, subs_at, root_by, root_at, term_of, term_at}
+use Rattle.mlk_cert.specs.Reading.{hex_value, escaped_at, piece_at, keep, constant_at, list_at, listed_at, job_by, symbol_by, symbol_at, subs_by, subs_at, term_of, term_at}
 use Rattle.mlk_cert.proofs.Formats.{Format, Anything, byte-is, flat-is, flat-back, list-is, list-back, listed-format}
 use Rattle.mlk_cert.proofs.NameFormats.{NoName, name-format, name-first}
 

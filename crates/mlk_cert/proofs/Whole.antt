@@ -1,19 +1,23 @@
 -- Whole certificates and their reader.
-use Rattle.std.proofs.Common.{◌≡◌, ◌<◌, ◌≤◌, ℕ, zero, suc, ◌++◌, List, [], ◌∷◌, length, Some, None, Bool, true, false, refl, sym, ap, ◌∙◌, arith, subst, inl, inr, append_assoc}
-use Rattle.std.specs.Prelude.{Option, ◌==◌, nat_lt, if◌then◌else◌, codes, take, drop}
-use Rattle.std.proofs.lemmas.Bool.{cases_Bool}
+use Rattle.std.proofs.Common.{◌≡◌, ◌<◌, ◌≤◌, ℕ, zero, suc, ◌++◌, List, [], ◌∷◌, length, Some, None, Bool, true, false, refl, sym, ap, ◌∙◌, arith, subst, append_assoc}
+use Rattle.std.specs.Prelude.{Option, ◌==◌, if◌then◌else◌, codes, nat_le, ◌&&◌, take, drop}
 use Rattle.std.proofs.lemmas.Bool.Decides.{nat_tests}
 use Rattle.std.proofs.lemmas.Option.{same_Some}
-use Rattle.mlk_text.proofs.Readers.{then_some}
+use Rattle.mlk_text.proofs.Readers.{then_some, pair_parts}
 use Rattle.mlk_cert.specs.declared.block.EntryCert.{EntryCert}
 use Rattle.mlk_cert.specs.Lists.{flat}
 use Rattle.mlk_cert.specs.Texts.{head_line, end_line, summary_text, point_text, block_text, certificate_text}
-use Rattle.mlk_cert.specs.Limits.{IsBlock, IsCertificate}
+use Rattle.mlk_cert.specs.Limits.{IsBlock, IsCertificate, longest}
 use Rattle.mlk_cert.specs.Checks.{fit_blocks, entries}
 use Rattle.mlk_cert.specs.Reading.{word_at}
-use Rattle.mlk_cert.specs.Blocks.{fit, worded_at, block_at, blocks_at, finished, whole_at, certificate_at}
-use Rattle.mlk_cert.specs.Faults.{lines_in}
-use Rattle.mlk_cert.specs.Theorem.{Spells, OneCertificate}
+use Rattle.mlk_cert.specs.Blocks.{fit, worded_at, block_at, blocks_at, finished, body_at}
+use Rattle.mlk_text.specs.Codes.{number_of}
+use Rattle.mlk_text.specs.declared.code.Code.{Code}
+use Rattle.mlk_text.specs.declared.code.Code.TheVariants.{Head, CertLimit, NoEnd}
+use Rattle.mlk_cert.specs.declared.read.fault.CertFault.{CertFault}
+use Rattle.mlk_cert.specs.Refusals.{lines_in, is_refusal, HasHead, IsRefusal}
+use Rattle.mlk_cert.specs.Faults.{is_later, at_first, IsLater}
+use Rattle.mlk_cert.specs.Theorem.{Spells, OneCertificate, ReadBack}
 use Rattle.mlk_cert.proofs.Formats.{word-is, word-back}
 use Rattle.mlk_cert.proofs.LineFormats.{fit-is, worded-is, worded-back}
 use Rattle.mlk_cert.proofs.Goods.{distinct-good, distinct-back}
@@ -61,38 +65,44 @@ finished-is : (bs cs : List EntryCert) (xs : List ℕ) → finished bs xs ≡ So
 finished-is bs cs [] h = (same_Some bs cs h, refl)
 finished-is bs cs (b ∷ xs) h = cc h
 
-pub whole-is : (bs : List EntryCert) (text : List ℕ) → whole_at text ≡ Some bs → length text ≤ 67108864 → Spells bs text
-unfolding whole_at
-whole-is bs text k short =
-    let w = then_some (word_at head_line text) _ bs k in
-    let b = then_some (blocks_at w.0.1) _ bs w.2 in
+pub body-is : (bs : List EntryCert) (xs : List ℕ) → body_at xs ≡ Some bs → IsCertificate bs × (xs ≡ flat block_text bs ++ end_line)
+unfolding body_at
+body-is bs xs k =
+    let b = then_some (blocks_at xs) _ bs k in
     let e = then_some (word_at end_line b.0.1) _ bs b.2 in
     let f = finished-is b.0.0 bs e.0.1 e.2 in
-    let s = blocks-is b.0.0 w.0.1 b.0.1 b.1 in
+    let s = blocks-is b.0.0 xs b.0.1 b.1 in
     let last : b.0.1 ≡ end_line = (word-is end_line e.0.0 b.0.1 e.0.1 e.1).0 ∙ ap (λ z. end_line ++ z) f.1 in
-    let P : List EntryCert → Type 0 = λ z. IsCertificate z × (text ≡ certificate_text z) in
-    let p = subst P f.0 (s.1, (word-is head_line w.0.0 text w.0.1 w.1).0 ∙ ap (λ z. head_line ++ z) (s.0 ∙ ap (λ z. flat block_text b.0.0 ++ z) last)) in
-    record { is = p.0; text = p.1; short = short }
+    let P : List EntryCert → Type 0 = λ z. IsCertificate z × (xs ≡ flat block_text z ++ end_line) in
+    subst P f.0 (s.1, s.0 ∙ ap (λ z. flat block_text b.0.0 ++ z) last)
 
-pub certificate-is : (bs : List EntryCert) (text : List ℕ) → certificate_at text ≡ Some bs → Spells bs text
-unfolding certificate_at
-certificate-is bs text h = elim (cases_Bool (nat_lt 67108864 (length text))) [
-  | inl e ↦ cc (rw e at h)
-  | inr e ↦ whole-is bs text (rw e at h) (within (length text) e)
-]
-  where
-    within : (n : ℕ) → nat_lt 67108864 n ≡ false → n ≤ 67108864
-    within n e = grind (arith, nat_tests)
+pub body-back : (bs : List EntryCert) (xs : List ℕ) → xs ≡ flat block_text bs ++ end_line → IsCertificate bs → body_at xs ≡ Some bs
+unfolding body_at
+body-back bs xs text is = ap body_at text ∙ (rw (blocks-back bs is) (rw (word-back end_line []) refl))
 
-pub certificate-back : (bs : List EntryCert) (text : List ℕ) → Spells bs text → certificate_at text ≡ Some bs
-unfolding certificate_at whole_at
-certificate-back bs text s =
-    let short : nat_lt 67108864 (length text) ≡ false = enough (length text) s.short in
-    let head : word_at head_line text ≡ Some (head_line, flat block_text bs ++ end_line) = ap (word_at head_line) s.text ∙ word-back head_line (flat block_text bs ++ end_line) in
-    rw short (rw head (rw (blocks-back bs s.is) (rw (word-back end_line []) refl)))
-  where
-    enough : (n : ℕ) → n ≤ 67108864 → nat_lt 67108864 n ≡ false
-    enough n h = grind (arith, nat_tests)
+pub whole-is : (bs : List EntryCert) (text rest : List ℕ) → word_at head_line text ≡ Some (head_line, rest) → body_at rest ≡ Some bs → length text ≤ longest → Spells bs text
+whole-is bs text rest head read short =
+    let s = body-is bs rest read in
+    record { is = s.0; text = (word-is head_line head_line text rest head).0 ∙ ap (λ z. head_line ++ z) s.1; short = short }
+
+-- what stands behind the head line of a certificate's text
+head-back : (bs : List EntryCert) (text : List ℕ) → text ≡ certificate_text bs → word_at head_line text ≡ Some (head_line, flat block_text bs ++ end_line)
+head-back bs text is = ap (word_at head_line) is ∙ word-back head_line (flat block_text bs ++ end_line)
+
+rest-is : (bs : List EntryCert) (text rest : List ℕ) → word_at head_line text ≡ Some (head_line, rest) → text ≡ certificate_text bs → rest ≡ flat block_text bs ++ end_line
+rest-is bs text rest head is = (pair_parts head_line head_line rest (flat block_text bs ++ end_line) (sym head ∙ head-back bs text is)).1
+
+pub text-read : (bs found : List EntryCert) (text rest : List ℕ) → word_at head_line text ≡ Some (head_line, rest) → body_at rest ≡ Some found → Spells bs text → found ≡ bs
+text-read bs found text rest head read s = same_Some found bs (sym read ∙ body-back bs rest (rest-is bs text rest head s.text) s.is)
+
+pub body-refused : (bs : List EntryCert) (text rest : List ℕ) → word_at head_line text ≡ Some (head_line, rest) → body_at rest ≡ None → Spells bs text → ⊥
+body-refused bs text rest head read s = let k : ◌≡◌ {A = Option (List EntryCert)} None (Some bs) = sym read ∙ body-back bs rest (rest-is bs text rest head s.text) s.is in cc k
+
+pub head-refused : (bs : List EntryCert) (text : List ℕ) → word_at head_line text ≡ None → Spells bs text → ⊥
+head-refused bs text none s = let k : ◌≡◌ {A = Option (List ℕ × List ℕ)} None (Some (head_line, flat block_text bs ++ end_line)) = sym none ∙ head-back bs text s.text in cc k
+
+pub too-long : (bs : List EntryCert) (text : List ℕ) → longest < length text → Spells bs text → ⊥
+too-long bs text h s = let short = s.short in absurd (omega arith)
 
 -- blocks that are read from one text are one
 pub one-certificate : OneCertificate
@@ -103,18 +113,8 @@ one-certificate bs cs is js same =
     let both = sym (blocks-back bs is) ∙ ap blocks_at texts ∙ blocks-back cs js in
     ap (λ (r : List EntryCert × List ℕ). r.0) (same_Some (bs, end_line) (cs, end_line) both)
 
-pub none-refused : (text : List ℕ) → certificate_at text ≡ None → (bs : List EntryCert) → Spells bs text → ⊥
-none-refused text h bs s = let k : ◌≡◌ {A = Option (List EntryCert)} None (Some bs) = sym h ∙ certificate-back bs text s in cc k
-
-pub whole-certificate : (text : List ℕ) → length text ≤ 67108864 → certificate_at text ≡ whole_at text
-unfolding certificate_at
-whole-certificate text short = rw (enough (length text) short) refl
-  where
-    enough : (n : ℕ) → n ≤ 67108864 → nat_lt 67108864 n ≡ false
-    enough n h = grind (arith, nat_tests)
-
-pub too-long : (text : List ℕ) → 67108864 < length text → (bs : List EntryCert) → Spells bs text → ⊥
-too-long text h bs s = let short = s.short in absurd (omega arith)
+pub read-back : ReadBack
+read-back bs answer is short reading = reading bs (record { is = is; text = refl; short = short })
 
 lines-take : (n : ℕ) (xs : List ℕ) → lines_in (take n xs) ≤ lines_in xs
 lines-take zero xs = omega arith
@@ -127,3 +127,62 @@ lines-take (suc n) (b ∷ xs) = let h = lines-take n xs in go (b == 10) h
 
 pub lines-within : (n lines : ℕ) (front xs : List ℕ) → front ≡ take n xs → lines ≡ lines_in front → lines ≤ lines_in xs
 lines-within n lines front xs is count = let h = lines-take n xs in let e : lines ≡ lines_in (take n xs) = count ∙ ap lines_in is in omega arith
+
+-- the head line is one more
+lines-head : (rest : List ℕ) → lines_in (head_line ++ rest) ≡ suc (lines_in rest)
+lines-head rest = refl
+
+later-code : (code : Code) → is_later code ≡ true → is_refusal code ≡ true
+later-code code h = go (number_of code) h
+  where
+    go : (n : ℕ) → (nat_le 602 n && nat_le n 606) ≡ true → (nat_le 601 n && nat_le n 606) ≡ true
+    go n h = grind (arith, nat_tests)
+
+pub long-placed : (text : List ℕ) → longest < length text → IsRefusal text (at_first CertLimit)
+long-placed text h = record {
+  code = refl;
+  from_one = omega arith;
+  inside = omega arith;
+  long = (λ _. (refl, refl), λ _. h);
+  head = (λ short. let k = short.0 in absurd (omega arith), λ e. cc e);
+  at_head = λ e. cc e;
+  ends = λ e. cc e;
+}
+
+pub head-placed : (text : List ℕ) → length text ≤ longest → word_at head_line text ≡ None → IsRefusal text (at_first Head)
+head-placed text short none = record {
+  code = refl;
+  from_one = omega arith;
+  inside = omega arith;
+  long = (λ h. absurd (omega arith), λ e. let k = e.0 in cc k);
+  head = (λ _. refl, λ _. (short, headless));
+  at_head = λ _. refl;
+  ends = λ e. cc e;
+}
+  where
+    headless : HasHead text → ⊥
+    headless (rest, is) = let k : ◌≡◌ {A = Option (List ℕ × List ℕ)} None (Some (head_line, rest)) = sym none ∙ ap (word_at head_line) is ∙ word-back head_line rest in cc k
+
+pub later-placed : (text rest : List ℕ) (fault : CertFault) → length text ≤ longest → word_at head_line text ≡ Some (head_line, rest) → IsLater rest fault → IsRefusal text fault
+later-placed text rest fault short head later =
+    let is = (word-is head_line head_line text rest head).0 in
+    let lines : lines_in text ≡ suc (lines_in rest) = ap lines_in is ∙ lines-head rest in
+    let inside = later.inside in
+    record {
+      code = later-code fault.code later.code;
+      from_one = later.from_one;
+      inside = omega arith;
+      long = (λ h. absurd (omega arith), λ e. absurd (not-first e.0 e.1));
+      head = (λ none. absurd (none.1 (rest, is)), λ e. absurd (not-head e));
+      at_head = λ e. absurd (not-head e);
+      ends = λ e. let k = later.ends e in omega arith;
+    }
+  where
+    not-head : fault.code ≡ Head → ⊥
+    not-head e = let k = subst (λ z. is_later z ≡ true) e later.code in cc k
+
+    not-first : fault.code ≡ CertLimit → fault.line ≡ 1 → ⊥
+    not-first e one = let k = later.behind_head (λ f. let g : CertLimit ≡ NoEnd = sym e ∙ f in cc g) in absurd (omega arith)
+
+pub rest-short : (text rest : List ℕ) → length text ≤ longest → word_at head_line text ≡ Some (head_line, rest) → length rest ≤ longest
+rest-short text rest short head = let k : length text ≡ length (head_line ++ rest) = ap length (word-is head_line head_line text rest head).0 in omega arith

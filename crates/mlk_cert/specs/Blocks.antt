@@ -1,7 +1,7 @@
 -- Reading lines, blocks and a whole certificate, as functions on lists. For private clauses alone, as `Reading`.
 use Rattle.std.specs.Prelude.{ℕ, suc, ◌==◌, ◌&&◌, ◌||◌, not, nat_lt, if◌then◌else◌, Bool, true, false, List, [], ◌∷◌, ◌++◌, length, Option, Some, None, codes, option_map, option_and_then}
 use Rattle.mlk_text.specs.Reading.{◌>>=◌, with, many}
-use Rattle.mlk_text.specs.Lexemes.{byte_at, name_at, digits, digits_at}
+use Rattle.mlk_text.specs.Lexemes.{byte_at, name_at, label_at, or_else}
 use Rattle.mlk_names.specs.declared.term.LockTerm.{LockTerm}
 use Rattle.mlk_cert.specs.declared.case.Case.{Case}
 use Rattle.mlk_cert.specs.declared.case.ExitCase.{ExitCase}
@@ -10,7 +10,7 @@ use Rattle.mlk_cert.specs.declared.block.Point.{Point}
 use Rattle.mlk_cert.specs.declared.block.Summary.{Summary}
 use Rattle.mlk_cert.specs.declared.block.EntryCert.{EntryCert}
 use Rattle.mlk_cert.specs.Lists.{last_of, below}
-use Rattle.mlk_cert.specs.Texts.{head_line, end_line, exit_text, case_text}
+use Rattle.mlk_cert.specs.Texts.{end_line, exit_text, case_text}
 use Rattle.mlk_cert.specs.Checks.{fit_terms, fit_mods, fits_case, fits_exit, fit_exits, fit_points, fit_blocks, fits, has_text}
 use Rattle.mlk_cert.specs.Reading.{word_at, number_at, counted_at, listed_at, term_at, names_at, exit_at, case_at, part_at}
 
@@ -103,17 +103,13 @@ grouped points (l ∷ ls) = grouped (add_case points l) ls
 unfoldable pub points_at : List ℕ → Option (List Point × List ℕ)
 points_at xs = with (grouped []) (worded_at (codes "at ") (rest_at listed_case_at fits_listed) xs) >>= fit fit_points
 
--- a label, before `^`: nothing, digits or a name
-abbrev pub label_by : List ℕ → Option (ℕ × List ℕ) → Option (List ℕ × List ℕ)
-label_by xs (Some caret) = Some ([], xs)
-label_by xs None = if digits xs == 0 then name_at xs else digits_at xs
-
-unfoldable pub label_at : List ℕ → Option (List ℕ × List ℕ)
-label_at xs = label_by xs (byte_at 94 xs)
+-- a label at the front, or nothing
+abbrev pub label_before : List ℕ → Option (List ℕ × List ℕ)
+label_before xs = or_else (label_at xs) (Some ([], xs))
 
 -- an entry's text
 unfoldable pub entry_at : List ℕ → Option (List ℕ × List ℕ)
-entry_at xs = label_at xs >>= λ label. byte_at 94 label.1 >>= λ caret. with (λ routine. label.0 ++ 94 ∷ routine) (name_at caret.1)
+entry_at xs = label_before xs >>= λ label. byte_at 94 label.1 >>= λ caret. with (λ routine. label.0 ++ 94 ∷ routine) (name_at caret.1)
 
 abbrev pub block_of : List ℕ → Summary → List Point → EntryCert
 block_of entry summary points = record { entry = entry; summary = summary; points = points }
@@ -133,13 +129,9 @@ abbrev pub finished : List EntryCert → List ℕ → Option (List EntryCert)
 finished blocks [] = Some blocks
 finished blocks (b ∷ xs) = None
 
--- a whole text
-unfoldable pub whole_at : List ℕ → Option (List EntryCert)
-whole_at text = word_at head_line text >>= λ head. blocks_at head.1 >>= λ blocks. word_at end_line blocks.1 >>= λ end. finished blocks.0 end.1
-
--- A whole text, of at most 64 MiB.
-unfoldable pub certificate_at : List ℕ → Option (List EntryCert)
-certificate_at text = if nat_lt 67108864 (length text) then None else whole_at text
+-- what stands behind the head line
+unfoldable pub body_at : List ℕ → Option (List EntryCert)
+body_at xs = blocks_at xs >>= λ blocks. word_at end_line blocks.1 >>= λ end. finished blocks.0 end.1
 
 -- the text stands above the last, where there is one
 abbrev pub above_last : Option (List ℕ) → List ℕ → Bool

@@ -1,18 +1,29 @@
--- Where a certificate text is refused.
-use Rattle.std.specs.Prelude.{ℕ, suc, ◌==◌, ◌||◌, ◌&&◌, nat_le, if◌then◌else◌, Bool, false, List, [], ◌∷◌}
+-- Where a text is refused behind its head line. For private clauses alone: what public calls promise stands in
+-- `Refusals`.
+use Rattle.std.specs.Prelude.{ℕ, ◌≡◌, ◌≤◌, ◌+◌, ◌==◌, ◌||◌, ◌&&◌, nat_le, Bool, true, false, List, [], ◌∷◌}
 use Rattle.mlk_text.specs.Codes.{number_of}
 use Rattle.mlk_text.specs.declared.code.Code.{Code}
+use Rattle.mlk_text.specs.declared.code.Code.TheVariants.{NoEnd}
+use Rattle.mlk_cert.specs.declared.read.fault.CertFault.{CertFault}
+use Rattle.mlk_cert.specs.Refusals.{lines_in}
 
--- the codes of certificates
-abbrev pub is_refusal : Code → Bool
-is_refusal code = nat_le 601 (number_of code) && nat_le (number_of code) 606
+-- the codes of certificates without that of the head line
+abbrev pub is_later : Code → Bool
+is_later code = nat_le 602 (number_of code) && nat_le (number_of code) 606
 
 -- whether a line ends here or later
 abbrev pub has_line : List ℕ → Bool
 has_line [] = false
 has_line (b ∷ xs) = (b == 10) || has_line xs
 
--- how many lines end in a text
-abbrev pub lines_in : List ℕ → ℕ
-lines_in [] = 0
-lines_in (b ∷ xs) = if b == 10 then suc (lines_in xs) else lines_in xs
+-- a fault at the first line
+abbrev pub at_first : Code → CertFault
+at_first code = record { code = code; line = 1 }
+
+-- a fault behind the head line, on its line of the whole text
+pub record IsLater (rest : List ℕ) (fault : CertFault) : Type 0 where
+  pub code : is_later fault.code ≡ true
+  pub from_one : 1 ≤ fault.line
+  pub inside : fault.line ≤ lines_in rest + 2
+  pub ends : fault.code ≡ NoEnd → fault.line ≡ lines_in rest + 1
+  pub behind_head : (fault.code ≡ NoEnd → ⊥) → 2 ≤ fault.line

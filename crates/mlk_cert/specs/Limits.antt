@@ -19,6 +19,10 @@ use Rattle.mlk_cert.specs.declared.block.EntryCert.{EntryCert}
 use Rattle.mlk_cert.specs.Lists.{Each, ascends, upto, below}
 use Rattle.mlk_cert.specs.Texts.{term_text, names_text, case_text, exit_text}
 
+-- a text has at most 64 MiB
+abbrev pub longest : ℕ
+longest = 67108864
+
 -- a name, and nothing after it
 abbrev pub IsName : List ℕ → Type 0
 IsName name = name_at name ≡ Some (name, [])

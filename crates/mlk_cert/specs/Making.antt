@@ -1,18 +1,26 @@
--- Which blocks make no certificate.
-use Rattle.std.specs.Prelude.{◌≡◌, List, Vec}
-use Rattle.std.proofs.Common.{Global}
+-- What is made of parts that someone gives.
+use Rattle.std.specs.Prelude.{ℕ, ◌≡◌, List, insert}
+use Rattle.std.specs.List.{prefix_len}
 use Rattle.mlk_text.specs.declared.failure.Failure.{Failure}
 use Rattle.mlk_text.specs.declared.failure.Failure.TheVariants.{OutOfMemory, Refused}
-use Rattle.mlk_cert.specs.declared.block.EntryCert.{EntryCert}
-use Rattle.mlk_cert.specs.Texts.{certificate_text}
-use Rattle.mlk_cert.specs.Limits.{IsCertificate}
-use Rattle.mlk_cert.specs.Theorem.{Spells}
+use Rattle.mlk_cert.specs.declared.case.Case.{Case}
+use Rattle.mlk_cert.specs.declared.block.Point.{Point}
+use Rattle.mlk_cert.specs.Lists.{below}
+use Rattle.mlk_cert.specs.Texts.{case_text}
 
--- the certificate has the text of the blocks, and is the blocks where they keep to all limits
-abbrev pub HasText : List EntryCert → List EntryCert → Type 0
-HasText made blocks = Spells made (certificate_text blocks) × (IsCertificate blocks → made ≡ blocks)
+-- it is what was given, which is such
+abbrev pub Made : {A : Type 0} → (A → Type 0) → A → A → Type 0
+Made Is given made = (made ≡ given) × Is given
 
--- the blocks are given back; they break a limit or an order, or their text is too long
-abbrev pub Refuses : List EntryCert → Failure (Vec EntryCert Global) → Type 0
-Refuses blocks OutOfMemory = Unit {0}
-Refuses blocks (Refused back) = (back.items ≡ blocks) × (Spells blocks (certificate_text blocks) → ⊥)
+-- what was given comes back, since it is not such; want of memory says nothing
+abbrev pub GivesBack : {A : Type 0} → (A → Type 0) → A → Failure A → Type 0
+GivesBack Is given OutOfMemory = Unit {0}
+GivesBack Is given (Refused back) = (back ≡ given) × (Is given → ⊥)
+
+-- how many cases stand before the first whose text is not below this text
+abbrev pub before : List Case → List ℕ → ℕ
+before cases text = prefix_len (λ c. below (case_text c) text) cases
+
+-- the point with one more case, before the first whose text is not below its own
+abbrev pub with_more : Point → Case → Point
+with_more p c = record { line = p.line; round = p.round; cases = insert p.cases (before p.cases (case_text c)) c }

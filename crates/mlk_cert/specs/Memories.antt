@@ -1,4 +1,4 @@
--- Lists that were read, and are not read again where their texts stand again.
+-- Lists that were read, and are not read again where their texts stand again. For private clauses alone.
 use Rattle.std.specs.Prelude.{ℕ, ◌≡◌, Bool, true, List, ◌∷◌, ◌++◌, Option, Some}
 use Rattle.mlk_cert.specs.Reading.{listed_at}
 

@@ -2,9 +2,8 @@
 -- clauses alone: what public calls promise stands in `Texts`, `Limits` and `Theorem`, and proofs tie the two.
 use Rattle.std.specs.Prelude.{ℕ, suc, ◌+◌, ◌-◌, ◌*◌, ◌==◌, ◌&&◌, ◌||◌, nat_le, if◌then◌else◌, Bool, false, List, [], ◌∷◌, length, Option, Some, None, codes, option_map}
 use Rattle.mlk_text.specs.Reading.{◌>>=◌, with, put, many}
-use Rattle.mlk_text.specs.Lexemes.{digits_at, byte_at, name_at}
+use Rattle.mlk_text.specs.Lexemes.{digits_at, byte_at, name_at, root_at}
 use Rattle.mlk_text.specs.declared.root.Root.{Root}
-use Rattle.mlk_text.specs.declared.root.Root.TheVariants as root
 use Rattle.mlk_names.specs.declared.known_symbol.KnownSym.{KnownSym}
 use Rattle.mlk_names.specs.declared.known_symbol.KnownSym.TheVariants as known
 use Rattle.mlk_names.specs.declared.term.LockTerm.{LockTerm}
@@ -117,14 +116,6 @@ subs_by xs (Some paren) = list_at symbol_at 44 paren.1 >>= λ subs. with (λ _. 
 
 unfoldable pub subs_at : List ℕ → Option (List KnownSym × List ℕ)
 subs_at xs = subs_by xs (byte_at 40 xs)
-
--- a global's name after a caret, else a local's
-abbrev pub root_by : List ℕ → Option (ℕ × List ℕ) → Option (Root × List ℕ)
-root_by xs None = with root.Local (name_at xs)
-root_by xs (Some caret) = with root.Global (name_at caret.1)
-
-unfoldable pub root_at : List ℕ → Option (Root × List ℕ)
-root_at xs = root_by xs (byte_at 94 xs)
 
 abbrev pub term_of : Root → List KnownSym → LockTerm
 term_of r subs = record { root = r; subs = subs }

@@ -1,23 +1,40 @@
 -- What a refusal of a certificate's text says.
-use Rattle.std.specs.Prelude.{ℕ, ◌≡◌, ◌≤◌, ◌+◌, true, List}
+use Rattle.std.specs.Prelude.{ℕ, suc, ◌≡◌, ◌<◌, ◌≤◌, ◌+◌, ◌==◌, ◌&&◌, ◌↔◌, ◌++◌, nat_le, if◌then◌else◌, Bool, true, List, [], ◌∷◌, length}
+use Rattle.mlk_text.specs.Codes.{number_of}
+use Rattle.mlk_text.specs.declared.code.Code.{Code}
+use Rattle.mlk_text.specs.declared.code.Code.TheVariants.{Head, CertLimit, NoEnd}
 use Rattle.mlk_text.specs.declared.failure.Failure.{Failure}
 use Rattle.mlk_text.specs.declared.failure.Failure.TheVariants.{OutOfMemory, Refused}
-use Rattle.mlk_cert.specs.declared.block.EntryCert.{EntryCert}
 use Rattle.mlk_cert.specs.declared.read.fault.CertFault.{CertFault}
-use Rattle.mlk_cert.specs.Theorem.{Spells}
-use Rattle.mlk_cert.specs.Faults.{lines_in, is_refusal}
+use Rattle.mlk_cert.specs.Texts.{head_line}
+use Rattle.mlk_cert.specs.Limits.{longest}
 
--- a refused text is that of no certificate; want of memory says nothing
-abbrev pub NoCertificate : List ℕ → Failure CertFault → Type 0
-NoCertificate bytes OutOfMemory = Unit {0}
-NoCertificate bytes (Refused fault) = (blocks : List EntryCert) → Spells blocks bytes → ⊥
+-- the codes of certificates
+abbrev pub is_refusal : Code → Bool
+is_refusal code = nat_le 601 (number_of code) && nat_le (number_of code) 606
 
--- a refusal has one of the six codes, and stands on a line of the text, or the one after its last
-pub record IsRefusal (bytes : List ℕ) (fault : CertFault) : Type 0 where
+-- how many lines end in a text
+abbrev pub lines_in : List ℕ → ℕ
+lines_in [] = 0
+lines_in (b ∷ xs) = if b == 10 then suc (lines_in xs) else lines_in xs
+
+-- the text begins with the head line
+abbrev pub HasHead : List ℕ → Type 0
+HasHead text = (rest : List ℕ) × (text ≡ head_line ++ rest)
+
+-- A refusal has one of the six codes, and stands on a line of the text or the one after its last. A limit at line 1 is
+-- told exactly where the text is too long, and else a missing head line exactly where there is none, at line 1. Where
+-- the text ends too soon, the line is the number of whole lines.
+pub record IsRefusal (text : List ℕ) (fault : CertFault) : Type 0 where
   pub code : is_refusal fault.code ≡ true
   pub from_one : 1 ≤ fault.line
-  pub inside : fault.line ≤ lines_in bytes + 1
+  pub inside : fault.line ≤ lines_in text + 1
+  pub long : (longest < length text) ↔ ((fault.code ≡ CertLimit) × (fault.line ≡ 1))
+  pub head : ((length text ≤ longest) × (HasHead text → ⊥)) ↔ (fault.code ≡ Head)
+  pub at_head : fault.code ≡ Head → fault.line ≡ 1
+  pub ends : fault.code ≡ NoEnd → fault.line ≡ lines_in text
 
-abbrev pub StandsInside : List ℕ → Failure CertFault → Type 0
-StandsInside bytes OutOfMemory = Unit {0}
-StandsInside bytes (Refused fault) = IsRefusal bytes fault
+-- want of memory says nothing
+abbrev pub IsPlaced : List ℕ → Failure CertFault → Type 0
+IsPlaced text OutOfMemory = Unit {0}
+IsPlaced text (Refused fault) = IsRefusal text fault

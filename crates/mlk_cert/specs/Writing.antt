@@ -1,12 +1,17 @@
 -- Why a certificate is not written.
-use Rattle.std.specs.Prelude.{◌<◌, ◌≡◌, List, length}
+use Rattle.std.specs.Prelude.{◌<◌, ◌≤◌, ◌≡◌, List, length}
+use Rattle.mlk_text.specs.declared.code.Code.TheVariants.{CertLimit}
+use Rattle.mlk_text.specs.declared.failure.Failure.{Failure}
+use Rattle.mlk_text.specs.declared.failure.Failure.TheVariants.{OutOfMemory, Refused}
 use Rattle.mlk_cert.specs.declared.block.EntryCert.{EntryCert}
-use Rattle.mlk_cert.specs.declared.write.whole.WriteError.{WriteError}
-use Rattle.mlk_cert.specs.declared.write.whole.WriteError.TheVariants.{OutOfMemory, TooLong, Io}
+use Rattle.mlk_cert.specs.declared.write.whole.WriteFault.{WriteFault}
+use Rattle.mlk_cert.specs.declared.write.whole.WriteFault.TheVariants.{TooLong, Io}
+use Rattle.mlk_cert.specs.Limits.{longest}
 use Rattle.mlk_cert.specs.Texts.{certificate_text}
 
--- its text has more than 64 MiB, and the writer is as it was; of its own fault the writer alone can say more
-abbrev pub IsTooLong : {W : Type 0} → List EntryCert → W → W → WriteError → Type 0
-IsTooLong blocks old new TooLong = (67108864 < length (certificate_text blocks)) × (new ≡ old)
-IsTooLong blocks old new OutOfMemory = new ≡ old
-IsTooLong blocks old new (Io e) = Unit {0}
+-- Its text is too long, which is a limit at line 1, and the writer is as it was; or the writer has a fault, of which it
+-- alone can say more.
+abbrev pub IsUnwritten : {W : Type 0} → List EntryCert → W → W → Failure WriteFault → Type 0
+IsUnwritten blocks old new OutOfMemory = new ≡ old
+IsUnwritten blocks old new (Refused (TooLong fault)) = (longest < length (certificate_text blocks)) × ((fault.code ≡ CertLimit) × ((fault.line ≡ 1) × (new ≡ old)))
+IsUnwritten blocks old new (Refused (Io e)) = length (certificate_text blocks) ≤ longest

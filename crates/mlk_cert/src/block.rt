@@ -3,10 +3,10 @@
 use crate::case::{Case, ExitCase};
 use crate::names::NameSet;
 use mlk_names::LockTerm;
-use mlk_text::{List, Value};
+use mlk_text::{LineNumber, List, Value};
 
 /// What a caller may rely on, and what it must give.
-#[derive(Drop)]
+#[derive(Drop, PartialEq, Eq)]
 pub struct Summary {
     /// The locks that a caller must hold, each as often as it stands here.
     pub need: List<LockTerm>,
@@ -21,17 +21,17 @@ pub struct Summary {
 }
 
 /// A point of a routine and the cases that are listed for it.
-#[derive(Drop)]
+#[derive(Drop, PartialEq, Eq)]
 pub struct Point {
     /// The line, counted from 1.
-    pub line: u32,
+    pub line: LineNumber,
     /// 0 for the start of the line, else which FOR of the line.
     pub round: u32,
     pub cases: List<Case>,
 }
 
 /// What a certificate says of one entry.
-#[derive(Drop)]
+#[derive(Drop, PartialEq, Eq)]
 pub struct EntryCert {
     /// The entry's text, `LABEL^ROUTINE` or `^ROUTINE`.
     pub entry: Value,

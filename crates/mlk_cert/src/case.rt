@@ -17,7 +17,7 @@ pub enum Test {
 }
 
 /// What is said of a job at the start of a line, or of a round of a FOR.
-#[derive(Drop)]
+#[derive(Drop, PartialEq, Eq)]
 pub struct Case {
     pub test: Test,
     /// The locks that this call holds, each as often as it holds them.
@@ -31,7 +31,7 @@ pub struct Case {
 }
 
 /// What is said of a job at the end of a call.
-#[derive(Drop)]
+#[derive(Drop, PartialEq, Eq)]
 pub struct ExitCase {
     pub test: Test,
     /// The locks that the call leaves held.

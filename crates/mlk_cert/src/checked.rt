@@ -1,28 +1,156 @@
-// Certificates of blocks that someone made.
+// Certificates and their parts, made of what someone gives: they keep to all limits and orders where they are read back
+// from their texts.
 
-ghost use Rattle.std.specs.Prelude.{IfOk, IfErr};
-ghost use Rattle.mlk_cert.specs.Making.{HasText, Refuses};
+ghost use Rattle.std.specs.Prelude.{◌≡◌, ◌↔◌, ◌≤◌, IsTrue, IfOk, IfErr, length};
+ghost use Rattle.mlk_cert.specs.Limits.{IsCase, IsPoint, IsBlock, IsCertificate};
+ghost use Rattle.mlk_cert.specs.Texts.{case_text};
+ghost use Rattle.mlk_cert.specs.Making.{Made, GivesBack, before, with_more};
 
-use crate::block::EntryCert;
+use crate::block::{EntryCert, Point};
+use crate::case::Case;
 use crate::certificate::Certificate;
-use crate::read::read_cert;
-use crate::write::whole::certificate_text;
-use mlk_text::Failure;
-use std::alloc::Global;
+use crate::inclusion::same;
+use crate::read::case::case;
+use crate::read::lexeme::is_below;
+use crate::read::list::both;
+use crate::read::memory::Memories;
+use crate::read::points::points;
+use crate::read::whole::body;
+use crate::write::line::push_case;
+use crate::write::list::push_flat;
+use crate::write::text::Text;
+use mlk_text::{Failure, List};
+use std::alloc::{AllocError, Global};
+use std::slice;
 
-/// The certificate that has the text of these blocks: the blocks themselves where they keep to all limits. Where no
-/// certificate has it, the blocks are given back.
+fn text_of(alloc: Global, case: &Case) -> Result<Text, AllocError>
+    ensures { IfOk result (λ t. t ≡ case_text case.now) }
+{
+    let mut text = Text::new(alloc);
+    push_case(&mut text, case)?;
+    Ok(text)
+}
+
+fn is_case(alloc: Global, made: &Case) -> Result<bool, AllocError>
+    ensures { IfOk result (λ b. IsTrue b ↔ IsCase made.now) }
+{
+    let text = text_of(alloc, made)?;
+    let mut memories = Memories::new();
+    match case(alloc, &mut memories, text.as_bytes()) {
+        Ok((found, fit, _)) => {
+            let equal = same(slice::from_ref(made), slice::from_ref(&found));
+            Ok(both(fit.is_yes(), equal))
+        }
+        Err(Failure::OutOfMemory) => Err(AllocError),
+        Err(Failure::Refused(_)) => Ok(false),
+    }
+}
+
+fn is_point(alloc: Global, made: &Point) -> Result<bool, AllocError>
+    ensures { IfOk result (λ b. IsTrue b ↔ IsPoint made.now) }
+{
+    let mut text = Text::new(alloc);
+    push_flat(&mut text, slice::from_ref(made))?;
+    match points(alloc, text.as_bytes()) {
+        Ok((found, _)) => Ok(same(slice::from_ref(made), found.as_slice())),
+        Err(Failure::OutOfMemory) => Err(AllocError),
+        Err(Failure::Refused(_)) => Ok(false),
+    }
+}
+
+fn are_certificate(alloc: Global, made: &[EntryCert]) -> Result<bool, AllocError>
+    ensures { IfOk result (λ b. IsTrue b ↔ IsCertificate made.now) }
+{
+    let mut text = Text::new(alloc);
+    push_flat(&mut text, made)?;
+    text.push(b"end\n")?;
+    match body(alloc, text.as_bytes()) {
+        Ok(found) => Ok(same(made, found.as_slice())),
+        Err(Failure::OutOfMemory) => Err(AllocError),
+        Err(Failure::Refused(_)) => Ok(false),
+    }
+}
+
+/// The case that someone made, where it keeps to all limits and orders. Else it is given back.
+pub fn case_of(alloc: Global, made: Case) -> Result<Case, Failure<Case>>
+    ensures made { IfOk result (Made IsCase made) }
+    ensures refused { IfErr result (GivesBack IsCase made) }
+{
+    if is_case(alloc, &made)? {
+        Ok(made)
+    } else {
+        Err(Failure::Refused(made))
+    }
+}
+
+/// The point that someone made, where it keeps to all limits and orders, with its cases. Else it is given back.
+pub fn point_of(alloc: Global, made: Point) -> Result<Point, Failure<Point>>
+    ensures made { IfOk result (Made IsPoint made) }
+    ensures refused { IfErr result (GivesBack IsPoint made) }
+{
+    if is_point(alloc, &made)? {
+        Ok(made)
+    } else {
+        Err(Failure::Refused(made))
+    }
+}
+
+/// The block that someone made, where it keeps to all limits and orders, with all that it says. Else it is given back.
+pub fn block_of(alloc: Global, made: EntryCert) -> Result<EntryCert, Failure<EntryCert>>
+    ensures made { IfOk result (Made IsBlock made) }
+    ensures refused { IfErr result (GivesBack IsBlock made) }
+{
+    if are_certificate(alloc, slice::from_ref(&made))? {
+        Ok(made)
+    } else {
+        Err(Failure::Refused(made))
+    }
+}
+
+/// The certificate of blocks that someone made, where they keep to all limits and orders. Else they are given back.
 pub fn certificate_of(
     alloc: Global,
-    blocks: Vec<EntryCert>,
+    made: Vec<EntryCert>,
 ) -> Result<Certificate, Failure<Vec<EntryCert>>>
-    ensures made { IfOk result (λ c. HasText c blocks.items) }
-    ensures refused { IfErr result (Refuses blocks.items) }
+    ensures made { IfOk result (Made IsCertificate made.items) }
+    ensures refused { IfErr result (GivesBack (λ v. IsCertificate v.items) made) }
 {
-    let text = certificate_text(alloc, blocks.as_slice())?;
-    match read_cert(alloc, text.as_bytes()) {
-        Ok(found) => Ok(found),
-        Err(Failure::OutOfMemory) => Err(Failure::OutOfMemory),
-        Err(Failure::Refused(_)) => Err(Failure::Refused(blocks)),
+    if are_certificate(alloc, made.as_slice())? {
+        Ok(Certificate::of(made))
+    } else {
+        Err(Failure::Refused(made))
     }
+}
+
+// How many cases stand before the first whose text is not below this text.
+fn place_of(alloc: Global, cases: &[Case], text: &[u8]) -> Result<usize, AllocError>
+    ensures place { IfOk result (λ n. n ≡ before cases.now text.now) }
+    ensures within { IfOk result (λ n. n ≤ length cases.now) }
+{
+    let mut place = 0;
+    let mut left = cases;
+    while let Some((first, others)) = left.split_first() {
+        let other = text_of(alloc, first)?;
+        if !is_below(other.as_bytes(), text) {
+            return Ok(place);
+        }
+        place += 1;
+        left = others;
+    }
+    Ok(place)
+}
+
+/// The point with one more case, which stands among the others by its text. Where it then breaks a limit, or has a case
+/// twice, it is given back with all of them.
+pub fn with_case(alloc: Global, point: Point, more: Case) -> Result<Point, Failure<Point>>
+    ensures made { IfOk result (Made IsPoint (with_more point more)) }
+    ensures refused { IfErr result (GivesBack IsPoint (with_more point more)) }
+{
+    let text = text_of(alloc, &more)?;
+    let place = place_of(alloc, point.cases.as_slice(), text.as_bytes())?;
+    let Point { line, round, cases } = point;
+    let mut cases = cases.into_vec();
+    cases.insert(place, more)?;
+    let cases = List::of(cases);
+    point_of(alloc, Point { line, round, cases })
 }

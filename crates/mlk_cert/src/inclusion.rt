@@ -46,8 +46,8 @@ fn are_among(names: &[Name], all: &[Name]) -> bool
     true
 }
 
-// Whether the lists are equal.
-fn same<T: PartialEq>(first: &[T], second: &[T]) -> bool
+/// Whether the lists are equal.
+pub(crate) fn same<T: PartialEq>(first: &[T], second: &[T]) -> bool
     requires { (x y : T) → Decides (T.eq x y) (x ≡ y) }
     ensures { IsTrue result ↔ (second.now ≡ first.now) }
 {

@@ -1,17 +1,17 @@
 //! The reader of certificates.
 
 mod block;
-mod case;
+pub(crate) mod case;
 mod fault;
 mod fit;
-mod lexeme;
+pub(crate) mod lexeme;
 mod line;
-mod list;
-mod memory;
+pub(crate) mod list;
+pub(crate) mod memory;
 mod names;
-mod points;
+pub(crate) mod points;
 mod term;
-mod whole;
+pub(crate) mod whole;
 
 pub use fault::CertFault;
 pub use whole::read_cert;

@@ -25,10 +25,11 @@ impl<T> Model for Shared<T> {
 }
 
 impl<T: Drop> Shared<T> {
-    /// The elements of a vector, with one owner.
-    pub fn new(alloc: Global, items: Vec<T>) -> Result<Shared<T>, AllocError>
+    /// The elements of a vector, with one owner, in as much memory as they need.
+    pub fn new(alloc: Global, mut items: Vec<T>) -> Result<Shared<T>, AllocError>
         ensures { IfOk result (λ s. s ≡ items.items) }
     {
+        items.shrink_to_fit();
         let list = Arc::new(alloc, List::of(items))?;
         Ok(Shared { list })
     }
@@ -42,6 +43,24 @@ impl<T: Drop> Shared<T> {
         let list: &List<T> = &self.list;
         list.as_slice()
     }
+}
+
+impl<T: PartialEq + Drop> PartialEq for Shared<T> {
+    ghost use Rattle.std.specs.Cmp.Lexicographic.{pointwise, lists_per};
+
+    ghost eq = { pointwise T.eq };
+
+    ghost laws = { lists_per T.laws };
+
+    fn eq(&self, other: &Shared<T>) -> bool {
+        self.as_slice() == other.as_slice()
+    }
+}
+
+impl<T: Eq + Drop> Eq for Shared<T> {
+    ghost use Rattle.std.specs.Cmp.Lexicographic.{lists_equiv};
+
+    ghost laws = { lists_equiv T.Eq.laws };
 }
 
 impl<T: Drop> Clone for Shared<T> {

@@ -1,9 +1,9 @@
 //! The writer of certificates.
 
 mod entry;
-mod line;
+pub(crate) mod line;
 pub(crate) mod list;
 pub(crate) mod text;
 pub(crate) mod whole;
 
-pub use whole::{WriteError, write_cert};
+pub use whole::{WriteFault, write_cert};

@@ -4,6 +4,8 @@
 #[cfg(test)]
 mod inclusion;
 #[cfg(test)]
+mod making;
+#[cfg(test)]
 mod reading;
 #[cfg(test)]
 mod refusals;

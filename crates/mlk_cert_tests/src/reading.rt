@@ -49,7 +49,7 @@ fn blocks_hold_what_the_text_says(rt: HostRuntime) -> Result<(), Fail> {
         assert!(rt; block.summary.mods.as_slice().len() == 1);
         assert!(rt; block.summary.exits.as_slice().len() == 1);
         for point in block.points.as_slice() {
-            assert!(rt; point.line == 3 && point.round == 1);
+            assert!(rt; point.line.number() == 3 && point.round == 1);
             assert!(rt; point.cases.as_slice().len() == 2);
         }
         assert!(rt; block.points.as_slice().len() == 1);

@@ -1,9 +1,14 @@
-// A writer that fails, and a certificate of blocks.
+// Certificates that are not written.
 
-use mlk_cert::{WriteError, certificate_of, read_cert, write_cert};
-use std::alloc::Global;
+use mlk_cert::{
+    Case, Certificate, EntryCert, Point, Shared, Summary, Test, WriteFault, certificate_of,
+    read_cert, write_cert,
+};
+use mlk_text::{Failure, LineNumber, List, Value};
+use std::alloc::{AllocError, Global};
 use std::io;
 use std::io::Write;
+use std::test::Fail;
 
 // A writer that always fails.
 #[derive(Drop)]
@@ -25,7 +30,7 @@ fn fails(alloc: Global) -> bool {
     };
     matches!(
         write_cert(alloc, &certificate, &mut Broken),
-        Err(WriteError::Io(_))
+        Err(Failure::Refused(WriteFault::Io(_)))
     )
 }
 
@@ -34,8 +39,67 @@ fn a_writers_fault_is_told(rt: HostRuntime) {
     assert!(rt; fails(rt.alloc()));
 }
 
+// A case with so many signs of open blocks.
+fn long_case(alloc: Global, signs: usize) -> Result<Case, AllocError> {
+    let mut saved = Vec::new(alloc);
+    saved.resize(signs, Test::Any)?;
+    Ok(Case {
+        test: Test::Any,
+        held: Shared::new(alloc, Vec::new(alloc))?,
+        own: Shared::new(alloc, Vec::new(alloc))?,
+        kept: Shared::new(alloc, Vec::new(alloc))?,
+        saved: List::of(saved),
+    })
+}
+
+fn long_block(alloc: Global, signs: usize) -> Result<EntryCert, AllocError> {
+    let mut cases = List::new(alloc);
+    cases.push(long_case(alloc, signs)?)?;
+    let mut points = List::new(alloc);
+    points.push(Point {
+        line: LineNumber::new(1),
+        round: 0,
+        cases,
+    })?;
+    Ok(EntryCert {
+        entry: Value::new(Vec::from_slice(alloc, b"E^R")?),
+        summary: Summary {
+            need: List::new(alloc),
+            exits: List::new(alloc),
+            mods: List::new(alloc),
+            low: None,
+            drops: false,
+        },
+        points,
+    })
+}
+
+// A certificate with so many signs.
+fn long_certificate(alloc: Global, signs: usize) -> Result<Certificate, Failure<Vec<EntryCert>>> {
+    let mut blocks = Vec::new(alloc);
+    blocks.push(long_block(alloc, signs)?)?;
+    certificate_of(alloc, blocks)
+}
+
+// How many bytes are written, and the number and the line that are told.
+fn written(alloc: Global, signs: usize) -> (usize, u16, u32) {
+    let Ok(certificate) = long_certificate(alloc, signs) else {
+        return (0, 0, 0);
+    };
+    let mut text: Vec<u8> = Vec::new(alloc);
+    match write_cert(alloc, &certificate, &mut text) {
+        Err(Failure::Refused(WriteFault::TooLong(fault))) => {
+            (text.len(), fault.code.number(), fault.line.number())
+        }
+        _ => (text.len(), 0, 0),
+    }
+}
+
 #[test]
-fn no_blocks_make_a_certificate(rt: HostRuntime) {
-    let made = certificate_of(rt.alloc(), Vec::new(rt.alloc()));
-    assert!(rt; made.is_ok());
+fn a_text_that_is_too_long_is_not_begun(rt: HostRuntime) {
+    let alloc = rt.alloc();
+    let front = written(alloc, 1).0.saturating_sub(1);
+    let signs = 67_108_864usize.saturating_sub(front);
+    assert!(rt; written(alloc, signs) == (67_108_864, 0, 0));
+    assert!(rt; written(alloc, signs.saturating_add(1)) == (0, 605, 1));
 }

@@ -9,6 +9,7 @@ ghost use Rattle.mlk_cert.specs.Fitting.{passes};
 ghost use Rattle.mlk_cert.specs.Reading.{keep, sign_at, saved_at, part_at, listed_at, term_at, own_at, names_at, exit_at, case_at};
 
 use crate::case::{Case, ExitCase, Test};
+use crate::limit::{MOST_KEPT, MOST_MODS, MOST_OWN, MOST_TERMS};
 use crate::names::{NameSet, Own};
 use crate::read::fit::{Fit, fit_both, fit_of};
 use crate::read::lexeme::{front_of, word_of};
@@ -76,7 +77,7 @@ pub(crate) fn terms(
     ensures fit { IfOk result (λ x. passes x.1 ≡ fit_terms x.0.items) }
 {
     let (found, ordered, rest) = listed::<LockTerm>(alloc, bytes)?;
-    let fit = fit_of(found.len() <= 16, ordered);
+    let fit = fit_of(found.len() <= MOST_TERMS, ordered);
     Ok((found, fit, rest))
 }
 
@@ -90,7 +91,7 @@ pub(crate) fn mods(
 {
     let (found, ordered, rest) = listed::<NameSet>(alloc, bytes)?;
     let inside = ascend_inside(found.as_slice());
-    let fit = fit_of(found.len() <= 1024, inside && ordered);
+    let fit = fit_of(found.len() <= MOST_MODS, inside && ordered);
     Ok((found, fit, rest))
 }
 
@@ -100,7 +101,7 @@ fn new_names(alloc: Global, bytes: &[u8]) -> Result<(Vec<Own>, Fit, &[u8]), Fail
 {
     let (found, ordered, rest) = listed::<Own>(alloc, bytes)?;
     let inside = ascend_inside_own(found.as_slice());
-    let fit = fit_of(found.len() <= 64, inside && ordered);
+    let fit = fit_of(found.len() <= MOST_OWN, inside && ordered);
     Ok((found, fit, rest))
 }
 
@@ -109,7 +110,7 @@ fn kept_names(alloc: Global, bytes: &[u8]) -> Result<(Vec<Name>, Fit, &[u8]), Fa
     ensures fit { IfOk result (λ x. passes x.1 ≡ fit_kept x.0.items) }
 {
     let (found, ordered, rest) = listed::<Name>(alloc, bytes)?;
-    let fit = fit_of(found.len() <= 64, ordered);
+    let fit = fit_of(found.len() <= MOST_KEPT, ordered);
     Ok((found, fit, rest))
 }
 

@@ -1,23 +1,25 @@
 // Why a certificate text is refused.
 
 ghost use Rattle.std.specs.Prelude.{◌≡◌, true};
-ghost use Rattle.mlk_cert.specs.Faults.{has_line, is_refusal};
+ghost use Rattle.mlk_cert.specs.Faults.{has_line, is_later};
 
-use mlk_text::Code;
+use mlk_text::{Code, LineNumber};
+use thiserror::Error;
 
-/// A fault of a certificate's text, on a line that is counted from 1.
-#[derive(Drop, Debug)]
+/// Why a certificate's text is refused, and on which line.
+#[derive(Debug, Drop, PartialEq, Eq, Error)]
+#[error("{code}, at line {line}")]
 pub struct CertFault {
     pub code: Code,
-    pub line: u32,
+    pub line: LineNumber,
 }
 
-/// A fault, and how many bytes are left at its place.
+/// A fault behind the head line, and how many bytes are left at its place.
 #[derive(Drop, Debug)]
 pub(crate) struct Refusal {
     pub code: Code,
     pub left: usize,
-    ghost known: { is_refusal code ≡ true },
+    ghost known: { is_later code ≡ true },
 }
 
 fn has_line(bytes: &[u8]) -> bool

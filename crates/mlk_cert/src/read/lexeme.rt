@@ -97,7 +97,8 @@ pub(crate) fn counted(limit: u32, bytes: &[u8]) -> Option<(u32, &[u8])>
     Some((value, rest))
 }
 
-fn is_plain(b: u8) -> bool
+/// Whether a byte of a constant stands for itself.
+pub(crate) fn is_plain(b: u8) -> bool
     ensures { result ≡ is_plain b }
 {
     32 <= b && b <= 126 && b != b'"' && b != b'\\'
@@ -108,7 +109,7 @@ fn hex_value(b: u8) -> Option<u8>
 {
     match b {
         b'0'..=b'9' => Some(b - b'0'),
-        b'a'..=b'f' => Some(b - 87),
+        b'a'..=b'f' => Some(b - b'a' + 10),
         _ => None,
     }
 }

@@ -9,6 +9,7 @@ ghost use Rattle.mlk_cert.specs.Reading.{part_at, listed_at, term_at, names_at, 
 ghost use Rattle.mlk_cert.specs.Blocks.{ended, rest_at, low_at, drops_at, after_at, above_last, next_exit_fits, exits_at};
 
 use crate::case::ExitCase;
+use crate::limit::MOST_EXITS;
 use crate::names::NameSet;
 use crate::read::case::{exit, mods, terms};
 use crate::read::fault::{Refusal, other_form};
@@ -17,6 +18,7 @@ use crate::read::lexeme::{front_of, is_below, number, word_of};
 use crate::read::memory::Memories;
 use mlk_names::LockTerm;
 use mlk_text::lexeme::byte_of;
+use mlk_text::limit::GREATEST_RANK;
 use mlk_text::{Code, Failure, List};
 use std::alloc::Global;
 
@@ -72,7 +74,7 @@ fn low(bytes: &[u8]) -> Option<(Option<u32>, &[u8])>
     if let Some(rest) = byte_of(b'-', bytes) {
         return Some((None, rest));
     }
-    let Some((rank, rest)) = number(999_999, bytes) else {
+    let Some((rank, rest)) = number(GREATEST_RANK, bytes) else {
         return None;
     };
     Some((Some(rank), rest))
@@ -164,7 +166,7 @@ fn exit_line<'a>(
     match exit(alloc, memories, bytes) {
         Ok((found, fit, rest)) => {
             let text = front_of(bytes, rest);
-            let next = fit_of(count < 16, is_above(last, text));
+            let next = fit_of(count < MOST_EXITS, is_above(last, text));
             let (found, rest) = line_end(found, fit_both(fit, next), rest, bytes)?;
             Ok(((found, text), rest))
         }

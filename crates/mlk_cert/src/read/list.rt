@@ -33,7 +33,8 @@ pub(crate) trait Item: Written + Drop + Sized {
         ensures { result ≡ before self.now next.now };
 }
 
-fn both(first: bool, second: bool) -> bool
+/// Whether both are true.
+pub(crate) fn both(first: bool, second: bool) -> bool
     ensures { result ≡ (first && second) }
 {
     first && second

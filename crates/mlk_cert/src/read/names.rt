@@ -7,6 +7,7 @@ ghost use Rattle.mlk_cert.specs.Checks.{ascends_inside, ascend_inside, ascend_in
 ghost use Rattle.mlk_text.specs.Lexemes.{byte_at};
 ghost use Rattle.mlk_cert.specs.Reading.{inside_by, names_at, own_at};
 
+use crate::limit::DEEPEST_LEVEL;
 use crate::names::{NameSet, Own};
 use crate::read::lexeme::{counted, is_below};
 use crate::read::list::{Item, items};
@@ -69,7 +70,7 @@ impl Item for NameSet {
 fn own(alloc: Global, bytes: &[u8]) -> Result<(Own, &[u8]), Failure<NotThere>>
     ensures { Reads (λ x. (x.0, x.1.now)) result (own_at bytes.now) }
 {
-    let Some((level, rest)) = counted(15, bytes) else {
+    let Some((level, rest)) = counted(DEEPEST_LEVEL, bytes) else {
         return Err(Failure::Refused(NotThere));
     };
     let Some(rest) = byte_of(b':', rest) else {

@@ -10,6 +10,7 @@ ghost use Rattle.mlk_cert.specs.Blocks.{place_at, listed_case_at, fits_listed, a
 
 use crate::block::Point;
 use crate::case::Case;
+use crate::limit::{GREATEST_LINE, GREATEST_ROUND, MOST_CASES};
 use crate::read::case::case;
 use crate::read::fault::{Refusal, other_form};
 use crate::read::fit::{Fit, fit_both, fit_of};
@@ -17,23 +18,29 @@ use crate::read::lexeme::{counted, front_of, number, word_of};
 use crate::read::line::{is_above, line_end};
 use crate::read::memory::Memories;
 use mlk_text::lexeme::byte_of;
-use mlk_text::{Failure, List};
+use mlk_text::{Failure, LineNumber, List};
 use std::alloc::{AllocError, Global};
 
 #[tactic(auto, unfolding(crate::specs::Blocks::place_at))]
 fn place(bytes: &[u8]) -> Option<((u32, u32), &[u8])>
     ensures { option_map (λ x. (x.0, x.1.now)) result ≡ place_at bytes.now }
 {
-    let Some((line, rest)) = counted(65_535, bytes) else {
+    let Some((line, rest)) = counted(GREATEST_LINE, bytes) else {
         return None;
     };
     let Some(rest) = byte_of(b'.', rest) else {
         return None;
     };
-    let Some((round, rest)) = number(255, rest) else {
+    let Some((round, rest)) = number(GREATEST_ROUND, rest) else {
         return None;
     };
     Some(((line, round), rest))
+}
+
+fn is_at(point: &Point, line: u32, round: u32) -> bool
+    ensures { result ≡ ((point.now.line == line) && (point.now.round == round)) }
+{
+    point.line.number() == line && point.round == round
 }
 
 // Whether a case of this text may stand next at a place.
@@ -44,12 +51,15 @@ fn next_fit(point: Option<&Point>, last: Option<&[u8]>, line: u32, round: u32, t
     let Some(point) = point else {
         return Fit::Yes;
     };
-    if point.line == line && point.round == round {
-        return fit_of(point.cases.as_slice().len() < 16, is_above(last, text));
+    if is_at(point, line, round) {
+        return fit_of(
+            point.cases.as_slice().len() < MOST_CASES,
+            is_above(last, text),
+        );
     }
     fit_of(
         true,
-        point.line < line || (point.line == line && point.round < round),
+        point.line.number() < line || (point.line.number() == line && point.round < round),
     )
 }
 
@@ -88,9 +98,13 @@ fn at_line<'a>(
 fn new_point(alloc: Global, line: u32, round: u32, case: Case) -> Result<Point, AllocError>
     ensures { IfOk result (λ p. p ≡ point_of (line, round, case)) }
 {
-    let mut cases = List::new(alloc);
+    let mut cases = Vec::with_capacity(alloc, 1)?;
     cases.push(case)?;
-    Ok(Point { line, round, cases })
+    Ok(Point {
+        line: LineNumber::new(line),
+        round,
+        cases: List::of(cases),
+    })
 }
 
 fn one_more(point: Point, case: Case) -> Result<Point, AllocError>
@@ -103,12 +117,6 @@ fn one_more(point: Point, case: Case) -> Result<Point, AllocError>
     } = point;
     cases.push(case)?;
     Ok(Point { line, round, cases })
-}
-
-fn is_at(point: &Point, line: u32, round: u32) -> bool
-    ensures { result ≡ ((point.now.line == line) && (point.now.round == round)) }
-{
-    point.line == line && point.round == round
 }
 
 // One more case: at the last point, where it is at its place, else at a new one.

@@ -2,14 +2,14 @@
 
 ghost use Rattle.std.specs.Prelude.{◌≡◌, IfOk, true};
 ghost use Rattle.mlk_text.specs.Failures.{Reads};
-ghost use Rattle.mlk_cert.specs.Texts.{subs_text, root_text};
-ghost use Rattle.mlk_cert.specs.Reading.{symbol_at, subs_at, root_at, term_at};
+ghost use Rattle.mlk_cert.specs.Texts.{subs_text};
+ghost use Rattle.mlk_cert.specs.Reading.{symbol_at, subs_at, term_at};
 
 use crate::read::lexeme::{constant, is_below, is_upto};
 use crate::read::list::{Item, items};
-use mlk_names::{KnownSym, LockTerm, Root};
+use mlk_names::{KnownSym, LockTerm};
 use mlk_text::lexeme::byte_of;
-use mlk_text::spelling::name;
+use mlk_text::spelling::{name, root};
 use mlk_text::{Failure, Name, NotThere, Subscripts};
 use std::alloc::Global;
 
@@ -62,18 +62,6 @@ fn subs(alloc: Global, bytes: &[u8]) -> Result<(Subscripts<KnownSym>, &[u8]), Fa
         return Err(Failure::Refused(NotThere));
     };
     Ok((Subscripts::of(found), rest))
-}
-
-#[tactic(auto, unfolding(crate::specs::Reading::root_at))]
-fn root(alloc: Global, bytes: &[u8]) -> Result<(Root, &[u8]), Failure<NotThere>>
-    ensures { Reads (λ x. (x.0, x.1.now)) result (root_at bytes.now) }
-{
-    let Some(rest) = byte_of(b'^', bytes) else {
-        let (local, rest) = name(alloc, bytes)?;
-        return Ok((Root::Local(local), rest));
-    };
-    let (global, rest) = name(alloc, rest)?;
-    Ok((Root::Global(global), rest))
 }
 
 #[tactic(auto, unfolding(crate::specs::Reading::term_at))]

@@ -42,7 +42,7 @@ impl Written for Point {
 
     fn push_to(&self, text: &mut Text) -> Result<(), AllocError> {
         for case in self.cases.as_slice() {
-            push_case_line(text, self.line, self.round, case)?;
+            push_case_line(text, self.line.number(), self.round, case)?;
         }
         Ok(())
     }

@@ -5,6 +5,7 @@ ghost use Rattle.mlk_cert.specs.Texts.{listed, hex, byte_text, constant_text, sy
 
 use crate::case::{Case, ExitCase, Test};
 use crate::names::{NameSet, Own};
+use crate::read::lexeme::is_plain;
 use crate::write::list::{Written, push_flat, push_joined, push_listed, push_more};
 use crate::write::text::Text;
 use mlk_names::{KnownSym, LockTerm, Root};
@@ -15,14 +16,18 @@ fn hex(digit: u8) -> u8
     requires { digit < 16 }
     ensures { result ≡ hex digit }
 {
-    if digit < 10 { digit + b'0' } else { digit + 87 }
+    if digit < 10 {
+        digit + b'0'
+    } else {
+        digit - 10 + b'a'
+    }
 }
 
 #[tactic(auto, unfolding(crate::specs::Texts::byte_text))]
 fn push_value_byte(text: &mut Text, byte: u8) -> Result<(), AllocError>
     ensures { OnOk result (text.new ≡ text.old ++ byte_text byte) }
 {
-    if 32 <= byte && byte <= 126 && byte != b'"' && byte != b'\\' {
+    if is_plain(byte) {
         text.push_byte(byte)?;
         return Ok(());
     }

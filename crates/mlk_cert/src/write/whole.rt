@@ -1,28 +1,32 @@
 // A whole certificate, written.
 
-ghost use Rattle.std.specs.Prelude.{◌≡◌, ◌++◌, ◌<◌, ◌≤◌, OnOk, OnErr, IfOk, IfErr, length, Option, List, ℕ};
+ghost use Rattle.std.specs.Prelude.{◌≡◌, ◌++◌, ◌≤◌, OnOk, IfOk, IfErr, length};
 ghost use Rattle.std.specs.Io.KnownBytes.{Appends};
+ghost use Rattle.mlk_cert.specs.Limits.{longest};
 ghost use Rattle.mlk_cert.specs.Texts.{certificate_text};
-ghost use Rattle.mlk_cert.specs.Writing.{IsTooLong};
+ghost use Rattle.mlk_cert.specs.Writing.{IsUnwritten};
 
 use crate::block::EntryCert;
 use crate::certificate::Certificate;
-use crate::write::list::{Written, push_flat};
+use crate::limit::LONGEST_TEXT;
+use crate::read::CertFault;
+use crate::read::whole::at_first;
+use crate::write::list::push_flat;
 use crate::write::text::Text;
+use mlk_text::{Code, Failure};
 use std::alloc::{AllocError, Global};
 use std::io;
 use std::io::Write;
-
-/// How long a certificate's text is at most: 64 MiB.
-const LONGEST: usize = 67_108_864;
+use thiserror::Error;
 
 /// Why a certificate was not written.
-#[derive(Drop)]
-pub enum WriteError {
-    OutOfMemory,
-    /// The text would have more than 64 MiB; nothing was written.
-    TooLong,
+#[derive(Debug, Drop, Error)]
+pub enum WriteFault {
+    /// The text would have more than 64 MiB; nothing of it was written.
+    #[error("{0}")]
+    TooLong(CertFault),
     /// The writer's fault.
+    #[error("{0}")]
     Io(io::Error),
 }
 
@@ -42,22 +46,20 @@ pub fn write_cert<W: Write>(
     alloc: Global,
     certificate: &Certificate,
     writer: &mut W,
-) -> Result<(), WriteError>
+) -> Result<(), Failure<WriteFault>>
     // What is written without a fault is the text.
     ensures written { OnOk result (Appends (W.contents writer.old) (W.contents writer.new)
         (certificate_text certificate.now)) }
-    ensures short { OnOk result (length (certificate_text certificate.now) ≤ 67108864) }
-    // What is refused is too long, and nothing of it was written.
-    ensures refused { IfErr result (IsTooLong certificate.now writer.old writer.new) }
+    ensures short { OnOk result (length (certificate_text certificate.now) ≤ longest) }
+    // A text that is too long is a fault at its first line, and nothing of it was written.
+    ensures refused { IfErr result (IsUnwritten certificate.now writer.old writer.new) }
 {
-    let Ok(text) = certificate_text(alloc, certificate.blocks()) else {
-        return Err(WriteError::OutOfMemory);
-    };
-    if text.as_bytes().len() > LONGEST {
-        return Err(WriteError::TooLong);
+    let text = certificate_text(alloc, certificate.blocks())?;
+    if text.as_bytes().len() > LONGEST_TEXT {
+        return Err(Failure::Refused(WriteFault::TooLong(at_first(Code::CertLimit))));
     }
     match writer.write_all(text.as_bytes()) {
         Ok(()) => Ok(()),
-        Err(error) => Err(WriteError::Io(error)),
+        Err(error) => Err(Failure::Refused(WriteFault::Io(error))),
     }
 }

@@ -1,5 +1,5 @@
 use Rattle.std.proofs.Common.{◌≡◌, ◌≤◌, ◌+◌, drop}
-use Rattle.mlk_cert.specs.Faults.{lines_in}
+use Rattle.mlk_cert.specs.Refusals.{lines_in}
 use Rattle.mlk_cert.proofs.read.whole.lines_in.Given as goal
 
 abbrev pub invariant-loop-b : goal.invariant-loop-b
