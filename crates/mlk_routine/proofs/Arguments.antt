@@ -49,7 +49,7 @@ callee_colon None (Some routine) ys = label_colon routine ys
 callee_colon (Some label) None ys = rw (label_colon label ys) refl
 callee_colon (Some label) (Some routine) ys = label_colon routine ys
 
-call_colon : (c : CallTree) (ys : List ℕ) → CallEnds c (58 ∷ ys)
+pub call_colon : (c : CallTree) (ys : List ℕ) → CallEnds c (58 ∷ ys)
 call_colon (Called column callee None) ys = ((callee_colon callee.label callee.routine ys, λ bad. let e = same_Some 58 43 bad in omega (arith, e)), λ bad. let e = same_Some 58 40 bad in omega (arith, e))
 call_colon (Called column callee (Some given)) ys = tt
 

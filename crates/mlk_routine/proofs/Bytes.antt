@@ -61,7 +61,7 @@ module _ {A : Type 0} (Is : Spelled A) (Ends : A → List ℕ → Type 0) (line 
 
 -- an expression that may be missing
 module _ (b : ℕ) (allows : Allows) (line : List ℕ) (at : ℕ) (here : byte_at line at ≡ Some b) where
-  optional : Turned line at (AfterByte b (IsExprWhere allows)) ExprEnds (IsAfter b allows) (AfterEnds b) Some
+  pub optional : Turned line at (AfterByte b (IsExprWhere allows)) ExprEnds (IsAfter b allows) (AfterEnds b) Some
   optional = record {
     into = λ a s is. is;
     ends = λ a rest e. e;

@@ -142,18 +142,23 @@ module _ (line : List ℕ) (f : Front) (next : ℕ) (found : Found IsFront Front
           let joined : line ≡ label ++ (more ++ drop next line) = found.0.joined ∙ ap (λ x. x ++ drop next line) is ∙ append_assoc l more (drop next line) ∙ ap (λ x. x ++ (more ++ drop next line)) (there l one) in
           ap (take (length label)) joined ∙ take-append_seam label (more ++ drop next line)
 
-pub no_front_line : (line : List ℕ) → Nowhere IsFront FrontEnds line 0 → (n : ℕ) (h : HeadTree) → IsLine n h line → ⊥
-no_front_line line none n (LineHead number level end label formals commands) (front, body, is, count, last, labelled, only, inside) = go (labelled_parts label formals front labelled) (body_parts level (suc (length front)) commands body inside)
+-- what stands before the commands of a line
+pub line_front : (line : List ℕ) (n : ℕ) (h : HeadTree) → IsLine n h line → (g : Front) × (u tail : List ℕ) × (line ≡ u ++ tail) × IsFront 1 g u × FrontEnds g tail
+line_front line n (LineHead number level end label formals commands) (front, body, is, count, last, labelled, only, inside) = go (labelled_parts label formals front labelled) (body_parts level (suc (length front)) commands body inside)
   where
     go : (l r : List ℕ) × (front ≡ l ++ r) × IsLabelPart 1 label l × IsFormalsPart (is_some label) (1 + length l) formals r
-        → (o : Option ℕ) × (start tail : List ℕ) × (body ≡ start ++ tail) × IsOpening (suc (length front)) o start × IsTailOf o (suc (length front) + length start) commands tail × (level ≡ level_in o) × (level ≤ 15) × OpeningEnds o tail → ⊥
+        → (o : Option ℕ) × (start tail : List ℕ) × (body ≡ start ++ tail) × IsOpening (suc (length front)) o start × IsTailOf o (suc (length front) + length start) commands tail × (level ≡ level_in o) × (level ≤ 15) × OpeningEnds o tail
+        → (g : Front) × (u tail : List ℕ) × (line ≡ u ++ tail) × IsFront 1 g u × FrontEnds g tail
     go (l, r, front_is, one, two) (o, start, tail, body_is, opening, rest, same, few, ends) =
         let g : Front = record { label = label; formals = formals; level = o } in
         let size : length front ≡ length l + length r = ap length front_is ∙ length-append l r in
         let place : suc (length front) ≡ 1 + length l + length r = omega (arith, size) in
         let opening_there : IsOpening (1 + length l + length r) o start = subst (λ k. IsOpening k o start) place opening in
         let joined : line ≡ (l ++ (r ++ start)) ++ tail = is ∙ ap (λ x. x ++ body) front_is ∙ ap (λ x. (l ++ r) ++ x) body_is ∙ sym (append_assoc (l ++ r) start tail) ∙ ap (λ x. x ++ tail) (append_assoc l r start) in
-        none g (l ++ (r ++ start)) tail joined (l, r ++ start, refl, one, (r, start, refl, two, opening_there)) ends
+        (g, l ++ (r ++ start), tail, joined, (l, r ++ start, refl, one, (r, start, refl, two, opening_there)), ends)
+
+pub no_front_line : (line : List ℕ) → Nowhere IsFront FrontEnds line 0 → (n : ℕ) (h : HeadTree) → IsLine n h line → ⊥
+no_front_line line none n h is = let (g, u, tail, joined, whole, ends) = line_front line n h is in none g u tail joined whole ends
 
 -- what a refusal of a part says of the line
 pub refused_front : (before : Before) (n : ℕ) (line : List ℕ) (e : Failure Fault) → Denied IsFront FrontEnds line 0 e → NoLine before n line e

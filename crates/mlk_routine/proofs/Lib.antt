@@ -35,3 +35,8 @@ pub mod Heads
 pub mod FlatLines
 pub mod UnderHeads
 pub mod WholeRoutines
+pub mod Sole
+pub mod SoleArguments
+pub mod SoleFormats
+pub mod SoleCommands
+pub mod SoleLines

@@ -66,7 +66,7 @@ for_letter s h = go s (either_for s h).0 h
     go [] h also = cc also
     go (b ∷ s) h also = (and_parts (is_letter b) (list_all is_letter s) h).0
 
-head_letter : (column at : ℕ) (control : Option ControlTree) (s : List ℕ) → IsForHead column at control s → starts is_letter s ≡ true
+pub head_letter : (column at : ℕ) (control : Option ControlTree) (s : List ℕ) → IsForHead column at control s → starts is_letter s ≡ true
 head_letter column at None s is = for_letter s is.1
 head_letter column at (Some control) s (place, (front, rest, is, for_is, more)) = ap (starts is_letter) is ∙ front_letter front rest (for_letter front for_is)
 
@@ -123,10 +123,10 @@ stop_gap false (g ∷ k ∷ gap) following rest all (inr one) e = inr (omega ari
 
 module _ (level loops : ℕ) (line : List ℕ) where
   -- spaces, and commands after them
-  abbrev SpacedCommands : ℕ → CommandTrees → List ℕ → Type 0
+  abbrev pub SpacedCommands : ℕ → CommandTrees → List ℕ → Type 0
   SpacedCommands n rest r = (gap following : List ℕ) × (r ≡ gap ++ following) × (list_all is_space gap ≡ true) × AreCommands level loops (n + length gap) rest following
 
-  spaced_parts : (at : ℕ) → Parts line at (IsRun is_space) (RunEnds is_space) (λ u. AreCommands level loops) (λ u. CommandsEnd) SpacedCommands CommandsEnd (λ u rest. rest)
+  pub spaced_parts : (at : ℕ) → Parts line at (IsRun is_space) (RunEnds is_space) (λ u. AreCommands level loops) (λ u. CommandsEnd) SpacedCommands CommandsEnd (λ u rest. rest)
   spaced_parts at = record {
     into = λ u rest s t one two. (s, t, refl, one, two);
     ends = λ u rest k t after is before e. e;
@@ -138,7 +138,7 @@ module _ (level loops : ℕ) (line : List ℕ) where
   abbrev pub GapThen : Bool → ℕ → CommandTrees → List ℕ → Type 0
   GapThen b n rest r = (gap following : List ℕ) × (r ≡ gap ++ following) × IsGap (least_after b) gap following × AreCommands level loops (n + length gap) rest following
 
-  forget : (b : Bool) (n : ℕ) (c : CommandTrees) (r : List ℕ) → GapThen b n c r → SpacedCommands n c r
+  pub forget : (b : Bool) (n : ℕ) (c : CommandTrees) (r : List ℕ) → GapThen b n c r → SpacedCommands n c r
   forget b n c r (gap, following, is, g, more) = (gap, following, is, g.0, more)
 
   -- where a command ends and these many spaces stand, what is read after them is read after the command

@@ -35,7 +35,7 @@ same_part p s t e word is =
     let same = same_case s t e in
     (sym (lower_word s) ∙ ap (list_all is_letter) same ∙ lower_word t ∙ word, case_part s t same ∙ is)
 
-part_reads : (p : Part) (s : List ℕ) → is_part_word p s ≡ true → IsWord s × (part_of s ≡ Some p)
+pub part_reads : (p : Part) (s : List ℕ) → is_part_word p s ≡ true → IsWord s × (part_of s ≡ Some p)
 unfolding part_of
 part_reads part.Piece s h = elim (or_cases (str_eq_ignore_ascii_case s (codes "P")) (str_eq_ignore_ascii_case s (codes "PIECE")) h) [
   | inl e ↦ same_part part.Piece s (codes "P") e refl refl
@@ -61,8 +61,8 @@ module _ (line : List ℕ) (at : ℕ) (here : byte_at line at ≡ Some 36) (word
   there : drop at line ≡ 36 ∷ drop (at + 1) line
   there = byte_there line at 36 here ∙ ap (λ k. 36 ∷ drop k line) (sym (add-one at))
 
-  reads : (w u rest : List ℕ) → drop at line ≡ u ++ rest → u ≡ 36 ∷ (w ++ 40 ∷ []) → IsWord w → (w ≡ word) × (40 ∷ rest ≡ after)
-  reads w u rest h is good =
+  pub target_reads : (w u rest : List ℕ) → drop at line ≡ u ++ rest → u ≡ 36 ∷ (w ++ 40 ∷ []) → IsWord w → (w ≡ word) × (40 ∷ rest ≡ after)
+  target_reads w u rest h is good =
       let whole : 36 ∷ drop (at + 1) line ≡ 36 ∷ (w ++ 40 ∷ rest) = sym there ∙ h ∙ ap (λ l. l ++ rest) is ∙ ap (λ l. 36 ∷ l) (append_assoc w (40 ∷ []) rest) in
       let a : drop (at + 1) line ≡ w ++ 40 ∷ rest = cc whole in
       let b = word-reads w (40 ∷ rest) good refl in
@@ -72,9 +72,9 @@ module _ (line : List ℕ) (at : ℕ) (here : byte_at line at ≡ Some 36) (word
   pub no_opening : (part_of word ≡ None) ⊎ (byte_at after 0 ≡ Some 40 → ⊥) → Nowhere IsOpening AnyEnds line at
   no_opening (inl none) p u rest h (w, is, good) e =
       let f = part_reads p w good in
-      let r = reads w u rest h is f.0 in
+      let r = target_reads w u rest h is f.0 in
       cc (sym f.1 ∙ ap part_of r.0 ∙ none)
-  no_opening (inr missing) p u rest h (w, is, good) e = missing (ap first_of (sym (reads w u rest h is (part_reads p w good).0).1))
+  no_opening (inr missing) p u rest h (w, is, good) e = missing (ap first_of (sym (target_reads w u rest h is (part_reads p w good).0).1))
 
   pub opening_found : (p : Part) → part_of word ≡ Some p → byte_at after 0 ≡ Some 40 → Found IsOpening AnyEnds line at p (length line - length after + 1)
   opening_found p of parenthesis =
@@ -93,7 +93,7 @@ module _ (line : List ℕ) (at : ℕ) (here : byte_at line at ≡ Some 36) (word
       only : (c : Part) (u rest : List ℕ) → drop at line ≡ u ++ rest → IsOpening (suc at) c u → drop 1 after ≡ drop (length line - length after + 1) line → after ≡ 40 ∷ drop 1 after → (c ≡ p) × (rest ≡ drop (length line - length after + 1) line)
       only c u rest h (w, is, good) back opens =
           let f = part_reads c w good in
-          let r = reads w u rest h is f.0 in
+          let r = target_reads w u rest h is f.0 in
           let same : rest ≡ drop 1 after = let k : 40 ∷ rest ≡ 40 ∷ drop 1 after = r.1 ∙ opens in cc k in
           (same_Some c p (sym f.1 ∙ ap part_of r.0 ∙ of), same ∙ back)
 

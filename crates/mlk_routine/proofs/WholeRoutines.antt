@@ -74,7 +74,7 @@ lines_in text = map without_terminator (lines_of text)
 
 module _ (stem text : List ℕ) where
   -- what is known of any tree of the text
-  routine_parts : (name : List ℕ) (lines : LineTrees) → IsRoutine stem (Named_routine name lines) text
+  pub routine_parts : (name : List ℕ) (lines : LineTrees) → IsRoutine stem (Named_routine name lines) text
       → (name ≡ percent stem) × IsName name × (length text ≤ 1048576) × (length (lines_in text) ≤ 65535) × AreHeads (lines_in text) (heads_of lines) × AreNested 1 lines
   unfolding IsRoutine
   routine_parts name lines (texts, spelled, is_name, short, cut, few, are_lines, nested, distinct) =
