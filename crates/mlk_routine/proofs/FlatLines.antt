@@ -10,7 +10,7 @@ use Rattle.mlk_routine.specs.declared.line.Before.{Before}
 use Rattle.mlk_routine.specs.Trees.{HeadTree, LineHead}
 use Rattle.mlk_routine.specs.Told.{IsRefusal}
 use Rattle.mlk_routine.specs.RoutineGrammar.{AreLines, IsLine, AreDistinct, labels_of, level_of, reaches, is_line_byte}
-use Rattle.mlk_routine.specs.Lines.{has_name, label_of, is_in, is_labelled, FitsAfter, IsLineOnly, IsAfter, NoLine, Follow, AllPlain, AreHeads, AreHeadsOnly, NoHeads, texts_of}
+use Rattle.mlk_routine.specs.Lines.{has_name, label_of, is_in, is_labelled, FitsAfter, IsLineOnly, IsWithLine, NoLine, Follow, AllPlain, AreHeads, AreHeadsOnly, NoHeads, texts_of}
 use Rattle.mlk_routine.proofs.FormalLists.{among, AreSeen, AllFresh, fresh_distinct, distinct_fresh, more_seen}
 
 -- names, of which the last is new
@@ -108,7 +108,7 @@ module _ (ts : List (List ℕ)) (i : ℕ) (heads : List HeadTree) (before : Befo
                 let new = label_new before.labels.texts.keys heads h rest l.seen (subst (λ k. AreDistinct (labels_of k)) all is.3) in
                 none h line plain.0 (new, steps.0)
 
-    pub flat_more : (h : HeadTree) (next : Before) → IsLineOnly (i + 1) t h → list_all is_line_byte t ≡ true → FitsAfter before h → IsAfter before next h → FlatSoFar ts (i + 1) (heads ++ h ∷ []) next
+    pub flat_more : (h : HeadTree) (next : Before) → IsLineOnly (i + 1) t h → list_all is_line_byte t ≡ true → FitsAfter before h → IsWithLine before next h → FlatSoFar ts (i + 1) (heads ++ h ∷ []) next
     flat_more h next line plain_line fits after = record {
       whole = λ more is.
           let lines : AreLines (i + 1) (h ∷ more) (drop i ts) = (t, drop (i + 1) ts, here, line.0, subst (λ k. AreLines k more (drop (i + 1) ts)) (add-one (i + 1)) is) in

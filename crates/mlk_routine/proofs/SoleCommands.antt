@@ -17,7 +17,7 @@ use Rattle.mlk_routine.specs.Stops.{expr_stop, do_stop, job_stop, kill_stop, mer
 use Rattle.mlk_routine.specs.Begins.{expr_begins, do_begins, job_begins, kill_begins, merge_begins, new_begins, lock_begins, read_begins, write_begins, set_begins}
 use Rattle.mlk_routine.specs.Kinds.{IsNamed, WordEnds, has_condition, IsConditionOf, ConditionEnds, IsActionOf, ActionEnds, word_of}
 use Rattle.mlk_routine.specs.Leading.{IsPerhapsControl, IsLoop, LoopEnds}
-use Rattle.mlk_routine.specs.CommandWords.{is_list, is_for}
+use Rattle.mlk_routine.specs.CommandWords.{has_any, is_for}
 use Rattle.mlk_routine.specs.CommandGrammar.{IsValue, IsDo, IsJob, IsKill, IsNew, IsLock, IsMerge, IsRead, IsWrite, IsSet, AreSome, ArePerhaps, IsQuit, is_space, IsCommand, AreCommands}
 use Rattle.mlk_routine.proofs.Sequences.{next_is}
 use Rattle.mlk_routine.proofs.Bytes.{AfterByte}
@@ -38,13 +38,13 @@ module _ {A : Type 0} (Is : Spelled A) (Ends : A → List ℕ → Type 0) (stop 
       sole_within {Wide = AfterByte 32 (IsList Is)} {Also = AreEnded Ends} (λ items s rest is e. (is, list_end Is begin Ends stop (suc at) items s rest is e))
       (alone_after 32 (list_alone Is Ends stop alone) line at less)
 
-  perhaps_alone : Alone (ArePerhaps Is) (λ items. StopEnds (is_list items))
+  perhaps_alone : Alone (ArePerhaps Is) (λ items. StopEnds (has_any items))
   perhaps_alone line at less = elim (cases_Bool (is_bare_end (drop at line))) [
     | inl bare ↦ sole_found [] at (bare_found Is begin line at less bare)
     | inr more ↦ sole_as (λ items. items) (λ c u rest h is e. go more c u rest h is e) (some_alone line at less)
   ]
     where
-      go : is_bare_end (drop at line) ≡ false → (c : List A) (u rest : List ℕ) → drop at line ≡ u ++ rest → ArePerhaps Is (suc at) c u → StopEnds (is_list c) rest → (items : List A) × (c ≡ items) × AreSome Is (suc at) items u × StopEnds true rest
+      go : is_bare_end (drop at line) ≡ false → (c : List A) (u rest : List ℕ) → drop at line ≡ u ++ rest → ArePerhaps Is (suc at) c u → StopEnds (has_any c) rest → (items : List A) × (c ≡ items) × AreSome Is (suc at) items u × StopEnds true rest
       go more [] u rest h is e = cc (sym more ∙ ap is_bare_end (h ∙ ap (λ l. l ++ rest) is) ∙ e)
       go more (a ∷ items) u rest h is e = (a ∷ items, refl, is, e)
 
@@ -54,7 +54,7 @@ value_alone line at less = sole_within {Wide = AfterByte 32 IsValue} {Also = Exp
 values_alone : Alone (AreSome IsValue) (λ items. StopEnds true)
 values_alone = some_alone IsValue ExprEnds expr_stop (expr_begins Everything) (expr_alone Everything)
 
-perhaps_values : Alone (ArePerhaps IsValue) (λ items. StopEnds (is_list items))
+perhaps_values : Alone (ArePerhaps IsValue) (λ items. StopEnds (has_any items))
 perhaps_values = perhaps_alone IsValue ExprEnds expr_stop (expr_begins Everything) (expr_alone Everything)
 
 -- QUIT

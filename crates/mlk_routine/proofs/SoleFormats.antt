@@ -11,7 +11,7 @@ use Rattle.mlk_expr.specs.Grammar.{IsExprWhere, AreNext}
 use Rattle.mlk_expr.specs.Theorem.{ExprEnds}
 use Rattle.mlk_routine.specs.Trees.{VariableTree, TargetTree, SetWhole, SetPart}
 use Rattle.mlk_routine.specs.Told.{first_of, byte_at}
-use Rattle.mlk_routine.specs.Ends.{VariableEnds, AfterEnds, AnyEnds, IsPrompt, PromptEnds, starts_format, FormatEnds, WriteEnds, ReadEnds, NextEnds, part_of, IsOpening, TargetEnds, SetEnds, ParameterEnds, ControlEnds}
+use Rattle.mlk_routine.specs.Ends.{VariableEnds, AfterEnds, AnyEnds, IsPrompt, PromptEnds, starts_format, FormatEnds, WriteEnds, ReadEnds, NextEnds, part_of, IsPartOpening, TargetEnds, SetEnds, ParameterEnds, ControlEnds}
 use Rattle.mlk_routine.specs.Stops.{expr_stop, target_stop, parameter_stop}
 use Rattle.mlk_routine.specs.CommandGrammar.{IsAfter, IsVariable, IsLocal, is_mark, IsFormat, IsRead, IsTarget, IsSet, IsWrite, IsParameter, IsControl}
 use Rattle.mlk_routine.proofs.Sole.{Alone, byte_or_not, sole_only, sole_within, alone_after, sole_both, sole_as, sole_turned}
@@ -73,10 +73,10 @@ read_alone line at less = elim (byte_or_not line at 34) [
 ]
 
 -- SET
-opening_alone : Alone IsOpening AnyEnds
+opening_alone : Alone IsPartOpening AnyEnds
 opening_alone line at less a n s b u rest h is e = go s.spelled is
   where
-    go : IsOpening (suc at) a s.text → IsOpening (suc at) b u → (b ≡ a) × (rest ≡ drop n line)
+    go : IsPartOpening (suc at) a s.text → IsPartOpening (suc at) b u → (b ≡ a) × (rest ≡ drop n line)
     go (v, one, good) (w, two, also) =
         let here : byte_at line at ≡ Some 36 = ap first_of (s.joined ∙ ap (λ l. l ++ drop n line) one) in
         let word = (word_at (drop (at + 1) line)).0 in

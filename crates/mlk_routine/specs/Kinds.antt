@@ -12,7 +12,7 @@ use Rattle.mlk_routine.specs.declared.word.Word.TheVariants as word
 use Rattle.mlk_routine.specs.Trees.{ActionTree, Do, Else, Halt, Hang, If, Job, Kill, Lock, Merge, New, Quit, Read, Set}
 use Rattle.mlk_routine.specs.Trees.{Write}
 use Rattle.mlk_routine.specs.CommandWords.{has_arguments}
-use Rattle.mlk_routine.specs.CommandGrammar.{IsCondition, AreArguments}
+use Rattle.mlk_routine.specs.CommandGrammar.{IsCondition, AreArgumentsOf}
 use Rattle.mlk_routine.specs.Told.{byte_at}
 use Rattle.mlk_routine.specs.Ends.{starts, is_stop, is_bare_end, AfterEnds, StopEnds}
 
@@ -94,7 +94,7 @@ ConditionEnds w condition rest = has_condition w ≡ true → AfterEnds 58 condi
 
 -- the arguments of one of the word's commands
 abbrev pub IsActionOf : Word → Bool → ℕ → ActionTree → List ℕ → Type 0
-IsActionOf w returns at action s = Means w action × AreArguments returns at action s
+IsActionOf w returns at action s = Means w action × AreArgumentsOf returns at action s
 
 abbrev pub ActionEnds : ActionTree → List ℕ → Type 0
 ActionEnds action rest = StopEnds (has_arguments action) rest

@@ -144,8 +144,8 @@ head_of l = (line_of l).0
 abbrev pub IsLineOnly : ℕ → List ℕ → HeadTree → Type 0
 IsLineOnly n s head = IsLine n head s × ((other : HeadTree) → IsLine n other s → other ≡ head)
 
--- what is known after one more line
-pub record IsAfter (old new : Before) (head : HeadTree) : Type 0 where
+-- what is known with one more line
+pub record IsWithLine (old new : Before) (head : HeadTree) : Type 0 where
   pub labels : (q : List ℕ)
       → has_name q new.labels.texts.keys ≡ (is_labelled q (label_of head) || has_name q old.labels.texts.keys)
   pub level : new.level ≡ level_of head

@@ -1,6 +1,6 @@
--- What a refusal of a routine says. This project's own.
-use Rattle.std.specs.Prelude.{ℕ, ◌≡◌, ◌≤◌, ◌⊎◌, List, length, map}
-use Rattle.bstr.specs.Text.{lines_of, without_terminator}
+-- What a refused text is not, and where a refusal of it stands. This project's own.
+use Rattle.std.specs.Prelude.{ℕ, ◌≡◌, ◌≤◌, ◌⊎◌, List, length}
+use Rattle.bstr.specs.Text.{lines_of}
 use Rattle.mlk_text.specs.declared.failure.Failure.{Failure}
 use Rattle.mlk_text.specs.declared.failure.Failure.TheVariants.{OutOfMemory, Refused}
 use Rattle.mlk_text.specs.declared.fault.Fault.{Fault}
@@ -23,7 +23,7 @@ abbrev pub IfRefused : Failure Fault → (Fault → Type 0) → Type 0
 IfRefused OutOfMemory P = Unit {0}
 IfRefused (Refused fault) P = P fault
 
--- a refusal names this text in place of a routine's name, and its first byte
+-- a refusal names this text as the routine, and its first byte
 abbrev pub IsOfWhole : List ℕ → Failure Fault → Type 0
 IsOfWhole routine failure = IfRefused failure
     (λ f. (f.place.routine ≡ routine) × (f.place.line ≡ 1) × (f.place.column ≡ 1))
@@ -32,4 +32,4 @@ IsOfWhole routine failure = IfRefused failure
 -- of its lines.
 abbrev pub Places : List ℕ → List ℕ → Failure Fault → Type 0
 Places stem text failure = IsOfWhole stem failure ⊎ (IsOfWhole (percent stem) failure
-    ⊎ IsInRoutine (percent stem) (length (map without_terminator (lines_of text))) failure)
+    ⊎ IsInRoutine (percent stem) (length (lines_of text)) failure)

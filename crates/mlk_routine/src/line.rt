@@ -7,7 +7,7 @@ ghost use Rattle.std.specs.List.{prefix_len, list_all};
 ghost use Rattle.mlk_routine.specs.Told.{Told};
 ghost use Rattle.mlk_routine.specs.RoutineGrammar.{is_line_byte};
 ghost use Rattle.mlk_routine.specs.Lines.{has_name, is_in, is_labelled, level_in, IsFront, FrontEnds, IsKept, Fits};
-ghost use Rattle.mlk_routine.specs.Lines.{FitsAfter, head_of, IsLineOnly, IsAfter, NoLine};
+ghost use Rattle.mlk_routine.specs.Lines.{FitsAfter, head_of, IsLineOnly, IsWithLine, NoLine};
 
 use crate::fault::refused;
 use crate::front::{Front, before_commands};
@@ -146,7 +146,7 @@ pub(crate) fn line<'a>(
     ensures line { IfOk result (λ l. IsLineOnly number text.now (head_of l)) }
     ensures plain { OnOk result (list_all is_line_byte text.now ≡ true) }
     ensures fits { IfOk result (λ l. FitsAfter before.old (head_of l)) }
-    ensures after { IfOk result (λ l. IsAfter before.old before.new (head_of l)) }
+    ensures after { IfOk result (λ l. IsWithLine before.old before.new (head_of l)) }
     ensures refused { IfErr result (NoLine before.old number text.now) }
 {
     let (front, start) = front(alloc, before, text)?;

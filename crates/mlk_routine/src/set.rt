@@ -8,7 +8,7 @@ ghost use Rattle.mlk_expr.specs.Theorem.{ExprEnds};
 ghost use Rattle.mlk_routine.specs.Told.{Told, IsRefusal, byte_at};
 ghost use Rattle.mlk_routine.specs.Stops.{expr_stop};
 ghost use Rattle.mlk_routine.specs.Begins.{expr_begins};
-ghost use Rattle.mlk_routine.specs.Ends.{AnyEnds, NextEnds, part_of, IsOpening, TargetEnds, SetEnds};
+ghost use Rattle.mlk_routine.specs.Ends.{AnyEnds, NextEnds, part_of, IsPartOpening, TargetEnds, SetEnds};
 ghost use Rattle.mlk_routine.specs.Views.{target_of, set_of};
 ghost use Rattle.mlk_routine.specs.CommandGrammar.{is_part_word, IsTarget, IsSet};
 
@@ -60,7 +60,7 @@ fn no_part(alloc: Global, word: &[u8], after: &[u8], at: usize) -> Failure<Fault
 /// The function of the target here, at its `$`, and the byte after its parenthesis.
 fn opening(alloc: Global, line: &[u8], at: usize) -> Result<(Part, usize), Failure<Fault>>
     requires { byte_at line.now at ≡ Some 36 }
-    ensures { Told (λ part. part) IsOpening AnyEnds line.now at result }
+    ensures { Told (λ part. part) IsPartOpening AnyEnds line.now at result }
 {
     let (_, bytes) = line.split_at(at + 1);
     let (word, after) = word_at(bytes);
