@@ -62,12 +62,12 @@ do_call at call (Some x) u rest (s, t, is, one, two) e = (s, t, is, call_anywher
 module _ (line : List ℕ) (at : ℕ) where
   pub no_call : (e : Failure Fault) → Denied (IsCall Everything ByReference) CallEnds line at e → Denied IsDo DoEnds line at e
   no_call OutOfMemory h = tt
-  no_call (Refused fault) h = λ c u rest is one e. go c u rest is one e
+  no_call (Refused fault) h = (λ c u rest is one e. go c u rest is one e, h.1)
     where
       go : (c : DoTree) (u rest : List ℕ) → drop at line ≡ u ++ rest → IsDo (suc at) c u → DoEnds c rest → ⊥
       go (DoCall call condition) u rest is one e =
           let f = do_call (suc at) call condition u rest one e in
-          h call (f.0) (f.1 ++ rest) (is ∙ ap (λ l. l ++ rest) (f.2) ∙ append_assoc (f.0) (f.1) rest) (f.3) (f.4)
+          h.0 call (f.0) (f.1 ++ rest) (is ∙ ap (λ l. l ++ rest) (f.2) ∙ append_assoc (f.0) (f.1) rest) (f.3) (f.4)
 
   module _ (call : CallTree) (m : ℕ) (found : Found (IsCall Everything ByReference) CallEnds line at call m) where
     pub do_found : (byte_at line m ≡ Some 58 → ⊥) → Found IsDo DoEnds line at (DoCall call None) m

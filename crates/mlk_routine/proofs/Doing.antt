@@ -11,6 +11,7 @@ use Rattle.mlk_routine.specs.declared.word.Word.TheVariants as word
 use Rattle.mlk_routine.specs.Trees.{DoTree, CallTree, KillTree, LockTree, MergeTree, NewTree, ReadTree, SetTree, WriteTree}
 use Rattle.mlk_routine.specs.Trees.{ActionTree, Do, Else, Halt, Hang, If, Job, Kill, Lock, Merge, New, Quit, Read, Set, Write}
 use Rattle.mlk_routine.specs.Told.{Found, Nowhere, Denied}
+use Rattle.mlk_routine.specs.Faults.{IsFaulty}
 use Rattle.mlk_routine.specs.Ends.{is_stop, is_bare_end, StopEnds}
 use Rattle.mlk_routine.specs.CommandWords.{has_any}
 use Rattle.mlk_routine.specs.CommandGrammar.{IsValue, ArePerhaps, IsQuit, AreArgumentsOf}
@@ -164,9 +165,9 @@ nothing_found line at less h =
     let stands : Stands {A = Unit {0}} (λ k c s. s ≡ []) (λ c. StopEnds false) line at tt at = record { text = []; within = less; joined = refl; spelled = refl; ended = h } in
     (stands, λ c u rest g is e. (refl, sym (g ∙ ap (λ l. l ++ rest) is)))
 
-pub nothing_denied : (line : List ℕ) (at : ℕ) → is_bare_end (drop at line) ≡ false → (e : Failure Fault) → Denied {A = Unit {0}} (λ k c s. s ≡ []) (λ c. StopEnds false) line at e
-nothing_denied line at h OutOfMemory = tt
-nothing_denied line at h (Refused fault) = λ c u rest g is e. cc (sym h ∙ ap is_bare_end (g ∙ ap (λ l. l ++ rest) is) ∙ e)
+pub nothing_denied : (line : List ℕ) (at : ℕ) → is_bare_end (drop at line) ≡ false → (e : Failure Fault) → IsFaulty line e → Denied {A = Unit {0}} (λ k c s. s ≡ []) (λ c. StopEnds false) line at e
+nothing_denied line at h OutOfMemory fault = tt
+nothing_denied line at h (Refused fault) is_fault = (λ c u rest g is e. cc (sym h ∙ ap is_bare_end (g ∙ ap (λ l. l ++ rest) is) ∙ e), is_fault)
 
 -- the value of a QUIT
 module _ (returns : Bool) (line : List ℕ) (at : ℕ) where

@@ -65,4 +65,5 @@ module _ {A : Type 0} (Is : Spelled A) (Ends : A → List ℕ → Type 0) (stop 
   none_enclosed line at open' OutOfMemory h = tt
   none_enclosed line at open' (Refused fault) h =
       let size = byte_before line at 40 open' in
-      turned_nowhere (enclosed_turned line at) (after_nowhere IsClosed AnyEnds line at 40 (denied_first (closed_parts line (at + 1)) (omega arith) (Refused fault) h))
+      let inner = denied_first (closed_parts line (at + 1)) (omega arith) (Refused fault) h in
+      (turned_nowhere (enclosed_turned line at) (after_nowhere IsClosed AnyEnds line at 40 inner.0), h.1)

@@ -106,7 +106,7 @@ module _ (ts : List (List ℕ)) (i : ℕ) (heads : List HeadTree) (before : Befo
                 let plain = subst AllPlain here (l.plain_rest is.1) in
                 let steps = l.follow_rest (h ∷ rest) (subst (Follow 0 true) all is.2) in
                 let new = label_new before.labels.texts.keys heads h rest l.seen (subst (λ k. AreDistinct (labels_of k)) all is.3) in
-                none h line plain.0 (new, steps.0)
+                none.0 h line plain.0 (new, steps.0)
 
     pub flat_more : (h : HeadTree) (next : Before) → IsLineOnly (i + 1) t h → list_all is_line_byte t ≡ true → FitsAfter before h → IsWithLine before next h → FlatSoFar ts (i + 1) (heads ++ h ∷ []) next
     flat_more h next line plain_line fits after = record {

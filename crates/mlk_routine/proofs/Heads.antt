@@ -15,6 +15,7 @@ use Rattle.mlk_routine.specs.declared.routine.Line.TheOpen.{Line-F}
 use Rattle.mlk_routine.specs.declared.routine.Line.TheViews.{roll-Line}
 use Rattle.mlk_routine.specs.declared.routine.Line.TheFolds.{fold-roll-Line}
 use Rattle.mlk_routine.specs.Told.{Found, Nowhere, Denied}
+use Rattle.mlk_routine.specs.Faults.{IsFaulty}
 use Rattle.mlk_routine.specs.RoutineGrammar.{IsLabelled, IsComment, IsBody, IsLine, is_line_byte}
 use Rattle.mlk_routine.specs.Lines.{IsLabelPart, IsFormalsPart, IsOpening, OpeningEnds, IsFront, FrontEnds, AtEnd, IsTailOf, level_in, IsKept, Fits, FitsAfter, IsLineOnly, NoLine, head_of}
 use Rattle.mlk_routine.proofs.Sequences.{next_is}
@@ -163,19 +164,19 @@ no_front_line line none n h is = let (g, u, tail, joined, whole, ends) = line_fr
 -- what a refusal of a part says of the line
 pub refused_front : (before : Before) (n : ℕ) (line : List ℕ) (e : Failure Fault) → Denied IsFront FrontEnds line 0 e → NoLine before n line e
 refused_front before n line OutOfMemory h = tt
-refused_front before n line (Refused fault) h = λ head is plain fits. no_front_line line h n head is
+refused_front before n line (Refused fault) h = (λ head is plain fits. no_front_line line h.0 n head is, h.1)
 
 pub refused_tail : (before : Before) (n : ℕ) (line : List ℕ) (f : Front) (next : ℕ) → Found IsFront FrontEnds line 0 f next → (e : Failure Fault) → Denied (IsTailOf f.level) AtEnd line next e → NoLine before n line e
 refused_tail before n line f next found OutOfMemory h = tt
-refused_tail before n line f next found (Refused fault) h = λ head is plain fits. no_tail_line line f next found h n head is
+refused_tail before n line f next found (Refused fault) h = (λ head is plain fits. no_tail_line line f next found h.0 n head is, h.1)
 
-pub refused_place : (before : Before) (n : ℕ) (line : List ℕ) (f : Front) (next : ℕ) → Found IsFront FrontEnds line 0 f next → (e : Failure Fault) → (IsKept f.label (level_in f.level) → Fits before f.label (level_in f.level) → ⊥) → NoLine before n line e
-refused_place before n line f next found OutOfMemory bad = tt
-refused_place before n line f next found (Refused fault) bad = λ head is plain fits. misplaced_line line f next found before bad n head is fits
+pub refused_place : (before : Before) (n : ℕ) (line : List ℕ) (f : Front) (next : ℕ) → Found IsFront FrontEnds line 0 f next → (e : Failure Fault) → IsFaulty line e → (IsKept f.label (level_in f.level) → Fits before f.label (level_in f.level) → ⊥) → NoLine before n line e
+refused_place before n line f next found OutOfMemory fault bad = tt
+refused_place before n line f next found (Refused fault) is_fault bad = (λ head is plain fits. misplaced_line line f next found before bad n head is fits, is_fault)
 
-pub refused_byte : (before : Before) (n : ℕ) (line : List ℕ) (e : Failure Fault) → list_all is_line_byte line ≡ false → NoLine before n line e
-refused_byte before n line OutOfMemory bad = tt
-refused_byte before n line (Refused fault) bad = λ head is plain fits. cc (sym bad ∙ plain)
+pub refused_byte : (before : Before) (n : ℕ) (line : List ℕ) (e : Failure Fault) → IsFaulty line e → list_all is_line_byte line ≡ false → NoLine before n line e
+refused_byte before n line OutOfMemory fault bad = tt
+refused_byte before n line (Refused fault) is_fault bad = (λ head is plain fits. cc (sym bad ∙ plain), is_fault)
 
 -- the head of a line that was made
 pub head_roll : (x : Line-F Line) → head_of (roll-Line x) ≡ LineHead x.number x.level x.end x.label x.formals (commands_of x.commands)

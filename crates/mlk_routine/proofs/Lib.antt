@@ -1,6 +1,7 @@
 pub mod Sequences
 pub mod Bytes
 pub mod Outcomes
+pub mod LineFaults
 pub mod Lists
 pub mod Variables
 pub mod Calls

@@ -17,6 +17,7 @@ use Rattle.mlk_routine.specs.declared.word.Word.{Word}
 use Rattle.mlk_routine.specs.declared.word.Word.TheVariants as word
 use Rattle.mlk_routine.specs.Trees.{CommandTree, Does, ControlTree, Runs, CommandTrees, finished, then_command, then_for}
 use Rattle.mlk_routine.specs.Told.{Found, Nowhere, Denied, Told}
+use Rattle.mlk_routine.specs.Faults.{IsFaulty}
 use Rattle.mlk_routine.specs.Ends.{is_stop, starts, ControlEnds, ParameterEnds, IsRun, RunEnds, is_command_end, is_commands_end, is_bare_end, StopEnds, CommandEnd, CommandsEnd}
 use Rattle.mlk_routine.specs.CommandWords.{is_for, has_arguments, least_after}
 use Rattle.mlk_routine.specs.CommandGrammar.{is_space, IsGap, IsCommand, least_of, IsParameter, IsControl, IsForHead, AreCommands}
@@ -243,7 +244,7 @@ module _ (level loops : ℕ) (line : List ℕ) where
 
     pub leads_denied : (e : Failure Fault) → Denied (IsCommand Returns) CommandEnd line next e → Denied (AreCommands level loops) CommandsEnd line at e
     leads_denied OutOfMemory h = tt
-    leads_denied (Refused fault) h = l.2 (first_nowhere (then_parts next more_here no_for) (l.0) h)
+    leads_denied (Refused fault) h = (l.2 (first_nowhere (then_parts next more_here no_for) (l.0) h.0), h.1)
 
     pub leads_on : (a : CommandTree) (end m : ℕ) → Found (IsCommand Returns) CommandEnd line next a end → Found (IsRun is_space) (RunEnds is_space) line end tt m → length line - m < length line - next
     leads_on a end m f run =
@@ -342,9 +343,9 @@ module _ (loops : ℕ) (line : List ℕ) (at : ℕ) where
       go None u rest is e = (tt, None, u, [], sym (append-nil u), refl, is.1, refl, no_letter rest (stop_lacks false rest e), e)
       go (Some c) u rest (place, (front, back, is, one, (r, space, two))) e = (tt, Some c, front, back, is, refl, one, (r, space, two), ap (λ l. starts is_letter (l ++ rest)) space, e)
 
-  pub too_many : (suc loops ≤ 255 → ⊥) → (e : Failure Fault) → Denied (IsLoop loops) LoopEnds line at e
-  too_many h OutOfMemory = tt
-  too_many h (Refused fault) = λ c u rest g is e. h is.1
+  pub too_many : (suc loops ≤ 255 → ⊥) → (e : Failure Fault) → IsFaulty line e → Denied (IsLoop loops) LoopEnds line at e
+  too_many h OutOfMemory fault = tt
+  too_many h (Refused fault) is_fault = (λ c u rest g is e. h is.1, is_fault)
 
   pub head_told : suc loops ≤ 255 → at ≤ length line → (m : ℕ) → Found IsForWord ForWordEnds line at tt m → {X : Type 0} (view : X → Option ControlTree) (r : Result (X × ℕ) (Failure Fault))
       → Told view IsPerhapsControl (λ c. StopEnds (is_some c)) line m r → Told view (IsLoop loops) LoopEnds line at r
@@ -393,12 +394,12 @@ for_stands rest (inr here) h = here
 module _ (level loops : ℕ) (line : List ℕ) (at next : ℕ) (done : List CommandTree) (l : LeadsTo level loops line at done next) (here : is_for (word_at (drop next line)).0 ≡ true) where
   pub loop_denied : (e : Failure Fault) → Denied (IsLoop loops) LoopEnds line next e → Denied (AreCommands level loops) CommandsEnd line at e
   loop_denied OutOfMemory h = tt
-  loop_denied (Refused fault) h = l.2 (first_nowhere (loop_parts level loops line next here) (l.0) h)
+  loop_denied (Refused fault) h = (l.2 (first_nowhere (loop_parts level loops line next here) (l.0) h.0), h.1)
 
   module _ (control : Option ControlTree) (end m : ℕ) (head : Found (IsLoop loops) LoopEnds line next control end) (run : Found (IsRun is_space) (RunEnds is_space) line end tt m) where
     pub rest_denied : (e : Failure Fault) → Denied (AreCommands level (suc loops)) CommandsEnd line m e → Denied (AreCommands level loops) CommandsEnd line at e
     rest_denied OutOfMemory h = tt
-    rest_denied (Refused fault) h = l.2 (second_nowhere (loop_parts level loops line next here) (l.0) control end head (gap_nowhere level (suc loops) line (is_some control) end m head.0.within run h))
+    rest_denied (Refused fault) h = (l.2 (second_nowhere (loop_parts level loops line next here) (l.0) control end head (gap_nowhere level (suc loops) line (is_some control) end m head.0.within run h.0)), h.1)
 
     pub loop_found : (rest : CommandTrees) (n : ℕ) → Found (AreCommands level (suc loops)) CommandsEnd line m rest n
         → Found (AreCommands level loops) CommandsEnd line at (commands_from done (then_for (column_at (next + 1)) (suc loops) control rest)) n

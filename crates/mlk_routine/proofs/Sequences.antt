@@ -62,11 +62,11 @@ module _ {A B C : Type 0} {line : List ℕ} {at : ℕ} {IsA : Spelled A} {EndsA 
   -- what a failure of either part says of the whole
   pub denied_first : (e : Failure Fault) → Denied IsA EndsA line at e → Denied IsC EndsC line at e
   denied_first OutOfMemory h = tt
-  denied_first (Refused fault) h = first_nowhere h
+  denied_first (Refused fault) h = (first_nowhere h.0, h.1)
 
   pub denied_second : (a : A) (m : ℕ) → Found IsA EndsA line at a m → (e : Failure Fault) → Denied (IsB a) (EndsB a) line m e → Denied IsC EndsC line at e
   denied_second a m f OutOfMemory h = tt
-  denied_second a m f (Refused fault) h = second_nowhere a m f h
+  denied_second a m f (Refused fault) h = (second_nowhere a m f h.0, h.1)
 
   -- what is answered of the second part is answered of the whole
   pub both_told : {X : Type 0} (a : A) (m : ℕ) → Found IsA EndsA line at a m → (r : Result (X × ℕ) (Failure Fault)) (view : X → B) → Told view (IsB a) (EndsB a) line m r → Told (λ x. make a (view x)) IsC EndsC line at r
@@ -98,7 +98,7 @@ module _ {A C : Type 0} {line : List ℕ} {at : ℕ} {IsA : Spelled A} {EndsA : 
 
   pub turned_denied : (e : Failure Fault) → Denied IsA EndsA line at e → Denied IsC EndsC line at e
   turned_denied OutOfMemory h = tt
-  turned_denied (Refused fault) h = turned_nowhere h
+  turned_denied (Refused fault) h = (turned_nowhere h.0, h.1)
 
   -- what is answered of the part is answered of the whole
   pub turned_told : {X : Type 0} (r : Result (X × ℕ) (Failure Fault)) (view : X → A) → Told view IsA EndsA line at r → Told (λ x. make (view x)) IsC EndsC line at r
@@ -113,7 +113,7 @@ module _ {A : Type 0} (IsA IsC : Spelled A) (Ends : A → List ℕ → Type 0) (
       let is = narrow (view r.0) one.text (drop r.1 line) one.joined one.spelled one.ended in
       (record { text = one.text; within = one.within; joined = one.joined; spelled = is; ended = one.ended }, λ c u rest h is e. only c u rest h (wide c u is) e)
   narrow_told (Err OutOfMemory) view h = tt
-  narrow_told (Err (Refused fault)) view h = λ c u rest g is e. h c u rest g (wide c u is) e
+  narrow_told (Err (Refused fault)) view h = (λ c u rest g is e. h.0 c u rest g (wide c u is) e, h.1)
 
 -- a text at the front of what begins at a place
 pub stands_at : {A : Type 0} (Is : Spelled A) (Ends : A → List ℕ → Type 0) (line : List ℕ) (at : ℕ) (a : A) (s rest : List ℕ) → at ≤ length line → drop at line ≡ s ++ rest → Is (suc at) a s → Ends a rest

@@ -14,6 +14,7 @@ use Rattle.mlk_routine.specs.Trees.{Write}
 use Rattle.mlk_routine.specs.CommandWords.{has_arguments}
 use Rattle.mlk_routine.specs.CommandGrammar.{IsCondition, AreArgumentsOf}
 use Rattle.mlk_routine.specs.Told.{byte_at}
+use Rattle.mlk_routine.specs.Faults.{IsFaulty}
 use Rattle.mlk_routine.specs.Ends.{starts, is_stop, is_bare_end, AfterEnds, StopEnds}
 
 -- the word of what a command does
@@ -102,12 +103,12 @@ ActionEnds action rest = StopEnds (has_arguments action) rest
 -- no arguments, where a command may end without
 abbrev pub IsNothing : List ℕ → ℕ → Result ℕ (Failure Fault) → Type 0
 IsNothing line at (Ok next) = (next ≡ at) × (is_bare_end (drop at line) ≡ true)
-IsNothing line at (Err e) = is_bare_end (drop at line) ≡ false
+IsNothing line at (Err e) = (is_bare_end (drop at line) ≡ false) × IsFaulty line e
 
 -- the one space before arguments
 abbrev pub IsSpaced : List ℕ → ℕ → Result ℕ (Failure Fault) → Type 0
 IsSpaced line at (Ok next) = (next ≡ at + 1) × (byte_at line at ≡ Some 32)
-IsSpaced line at (Err e) = byte_at line at ≡ Some 32 → is_stop (drop (at + 1) line) ≡ true
+IsSpaced line at (Err e) = (byte_at line at ≡ Some 32 → is_stop (drop (at + 1) line) ≡ true) × IsFaulty line e
 
 -- what `H` does, by what stands after it
 abbrev pub halting : List Tree → ActionTree

@@ -7,7 +7,7 @@ ghost use Rattle.std.specs.List.{prefix_len, list_all};
 ghost use Rattle.mlk_routine.specs.Told.{Told};
 ghost use Rattle.mlk_routine.specs.RoutineGrammar.{is_line_byte};
 ghost use Rattle.mlk_routine.specs.Lines.{has_name, is_in, is_labelled, level_in, IsFront, FrontEnds, IsKept, Fits};
-ghost use Rattle.mlk_routine.specs.Lines.{FitsAfter, head_of, IsLineOnly, IsWithLine, NoLine};
+ghost use Rattle.mlk_routine.specs.Lines.{FitsAfter, head_of, IsLineOnly, IsWithLine, NoLine, IsMisplaced};
 
 use crate::fault::refused;
 use crate::front::{Front, before_commands};
@@ -73,6 +73,7 @@ impl<'a> Before<'a> {
 
     // Why a line with this front may not stand here, if it may not.
     fn misplaced(&self, front: &Front) -> Option<Code>
+        ensures code { IsMisplaced result }
         ensures none { result ≡ None → IsKept front.now.label (level_in front.now.level) }
         ensures fits { result ≡ None → Fits self.now front.now.label (level_in front.now.level) }
         ensures some { is_some result ≡ true → IsKept front.now.label (level_in front.now.level)

@@ -1,11 +1,12 @@
 // The arguments of SET.
 
-ghost use Rattle.std.specs.Prelude.{◌≡◌, ◌≤◌, length, map, Some, IfOk};
+ghost use Rattle.std.specs.Prelude.{◌≡◌, ◌<◌, ◌≤◌, ℕ, List, length, map, Some, IfOk};
 ghost use Rattle.mlk_expr.specs.declared.scope.Allows.TheVariants.{NoCalls};
 ghost use Rattle.mlk_expr.specs.Trees.{Tree, tree_of, trees};
 ghost use Rattle.mlk_expr.specs.Grammar.{AreNext, IsExprWhere};
 ghost use Rattle.mlk_expr.specs.Theorem.{ExprEnds};
 ghost use Rattle.mlk_routine.specs.Told.{Told, IsRefusal, byte_at};
+ghost use Rattle.mlk_routine.specs.Faults.{IsFaulty};
 ghost use Rattle.mlk_routine.specs.Stops.{expr_stop};
 ghost use Rattle.mlk_routine.specs.Begins.{expr_begins};
 ghost use Rattle.mlk_routine.specs.Ends.{AnyEnds, NextEnds, part_of, IsPartOpening, TargetEnds, SetEnds};
@@ -38,7 +39,8 @@ fn part_of(word: &[u8]) -> Option<Part>
 
 // Why no target stands here, at a `$`, with the word after it and what is after that.
 fn no_part(alloc: Global, word: &[u8], after: &[u8], at: usize) -> Failure<Fault>
-    ensures { IsRefusal result }
+    ensures refusal { IsRefusal result }
+    ensures fault { (line : List ℕ) → at < length line → IsFaulty line result }
 {
     let first = after.first().copied();
     if word.is_empty() {
