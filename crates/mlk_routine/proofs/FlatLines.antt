@@ -9,6 +9,8 @@ use Rattle.mlk_text.specs.declared.fault.Fault.{Fault}
 use Rattle.mlk_routine.specs.declared.line.Before.{Before}
 use Rattle.mlk_routine.specs.Trees.{HeadTree, LineHead}
 use Rattle.mlk_routine.specs.Told.{IsRefusal}
+use Rattle.mlk_routine.specs.Faults.{IsLineFault}
+use Rattle.mlk_routine.specs.Refusals.{IfRefused, IsOfLine}
 use Rattle.mlk_routine.specs.RoutineGrammar.{AreLines, IsLine, AreDistinct, labels_of, level_of, reaches, is_line_byte}
 use Rattle.mlk_routine.specs.Lines.{has_name, label_of, is_in, is_labelled, FitsAfter, IsLineOnly, IsWithLine, NoLine, Follow, AllPlain, AreHeads, AreHeadsOnly, NoHeads, texts_of}
 use Rattle.mlk_routine.proofs.FormalLists.{among, AreSeen, AllFresh, fresh_distinct, distinct_fresh, more_seen}
@@ -144,3 +146,9 @@ texts_end [] zero h = refl
 texts_end [] (suc i) h = refl
 texts_end (x ∷ texts) zero h = absurd (omega (arith, h))
 texts_end (x ∷ texts) (suc i) h = texts_end texts i (omega (arith, h))
+
+-- a fault of a line is one of the lines of its text
+pub line_told : (routine : List ℕ) (lines : List (List ℕ)) (i : ℕ) (s : List ℕ) → drop i lines ≡ s ∷ drop (i + 1) lines → (e : Failure Fault) → IfRefused e (λ f. (f.place.routine ≡ routine) × (f.place.line ≡ i + 1) × IsLineFault s f)
+    → IfRefused e (IsOfLine routine lines)
+line_told routine lines i s here OutOfMemory h = tt
+line_told routine lines i s here (Refused fault) h = record { before = i; line = s; after = drop (i + 1) lines; there = here; on_line = h.1 ∙ add-one i; named = h.0; told = h.2 }

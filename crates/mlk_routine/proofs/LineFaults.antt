@@ -1,8 +1,7 @@
 -- Faults of a line: those that are made, and those that are handed on.
-use Rattle.std.proofs.Common.{◌≡◌, ◌≤◌, ℕ, suc, Bool, true, false, length, List, Some, None, refl, sym, ap, ◌∙◌, arith, subst, ◌==◌}
+use Rattle.std.proofs.Common.{◌≡◌, ◌≤◌, ℕ, suc, Bool, true, false, length, List, sym, ap, ◌∙◌, arith, ◌==◌}
 use Rattle.std.specs.Prelude.{Option, ◌||◌, ◌&&◌, nat_le, not, is_some}
 use Rattle.std.proofs.Math.Nat.{min-le_left, le-min}
-use Rattle.std.proofs.lemmas.Bool.{cases_Bool}
 use Rattle.std.proofs.lemmas.Bool.Decides.{nat_tests}
 use Rattle.mlk_text.specs.Codes.{number_of}
 use Rattle.mlk_text.specs.Places.{column_at, greatest_column}

@@ -21,8 +21,9 @@ use Rattle.mlk_routine.proofs.Fronts.{formals_turned, no_formals, FormalsThen, T
 use Rattle.mlk_routine.proofs.Starts.{period_parts, SomeBlanks, start_parts, opening_turned, no_opening, opening_nowhere}
 use Rattle.mlk_routine.proofs.Tails.{IsNote, tail_parts}
 use Rattle.mlk_routine.proofs.Heads.{head_tree, line_apart, line_front}
+use Rattle.mlk_routine.specs.Refusals.{lines_in}
 use Rattle.mlk_routine.proofs.Nesting.{nested_once}
-use Rattle.mlk_routine.proofs.WholeRoutines.{lines_in, routine_parts}
+use Rattle.mlk_routine.proofs.WholeRoutines.{routine_parts}
 use Rattle.mlk_routine.proofs.Sole.{Sole, Alone, byte_or_not, sole_only, sole_found, sole_none, sole_within, alone_after, sole_both, sole_as, sole_turned}
 use Rattle.mlk_routine.proofs.SoleArguments.{label_alone, names_alone, run_alone}
 use Rattle.mlk_routine.proofs.SoleCommands.{commands_alone}

@@ -1,12 +1,12 @@
 // Why a part of a line was not read.
 
-ghost use Rattle.std.specs.Prelude.{◌≡◌, ◌≤◌, ℕ, List, length, Some, None, true, false};
+ghost use Rattle.std.specs.Prelude.{◌≡◌, ◌<◌, ◌≤◌, ◌^◌, ℕ, List, length, Some, None, true, false};
 ghost use Rattle.mlk_text.specs.declared.code.Code.TheVariants.{ExprLeftOut, CommandLeftOut};
 ghost use Rattle.mlk_text.specs.declared.fault.LeftOut.TheVariants.{Command};
 ghost use Rattle.mlk_routine.specs.Told.{IsRefusal};
 ghost use Rattle.mlk_text.specs.Codes.{number_of};
 ghost use Rattle.mlk_routine.specs.Faults.{Tells, may_tell, has_word, IsLineFault, IsFaulty};
-ghost use Rattle.mlk_routine.specs.Refusals.{IsInRoutine, IfRefused, IsOfWhole};
+ghost use Rattle.mlk_routine.specs.Refusals.{IfRefused, IsOfWhole};
 
 use mlk_text::{Code, Column, Failure, Fault, LeftOut, LineNumber, Place, Value};
 use std::alloc::Global;
@@ -111,9 +111,9 @@ fn located(
     code: Code,
     left_out: Option<LeftOut>,
 ) -> Failure<Fault>
-    requires { 1 ≤ number }
-    ensures line { IsInRoutine routine.now number result }
-    ensures column { IfRefused result (λ f. f.place.column ≡ column) }
+    requires { number < 2 ^ 32 }
+    ensures { IfRefused result (λ f. (f.code ≡ code) × (f.left_out ≡ left_out) × (f.place.routine ≡ routine.now)
+        × (f.place.line ≡ number) × (f.place.column ≡ column)) }
 {
     let Ok(bytes) = Vec::from_slice(alloc, routine) else {
         return Failure::OutOfMemory;
@@ -137,9 +137,11 @@ pub(crate) fn in_line(
     text: &[u8],
     failure: Failure<Fault>,
 ) -> Failure<Fault>
-    requires { 1 ≤ number }
+    requires few { number < 2 ^ 32 }
+    requires told { IsFaulty text.now failure }
     ensures same { IsRefusal result → IsRefusal failure }
-    ensures place { IsInRoutine routine.now number result }
+    ensures place { IfRefused result (λ f. (f.place.routine ≡ routine.now) × (f.place.line ≡ number)
+        × IsLineFault text.now f) }
 {
     let Failure::Refused(fault) = failure else {
         return Failure::OutOfMemory;
@@ -158,7 +160,7 @@ pub(crate) fn in_line(
 
 /// The refusal of a whole routine.
 pub(crate) fn whole(alloc: Global, code: Code, routine: &[u8]) -> Failure<Fault>
-    ensures { IsOfWhole routine.now result }
+    ensures { IfRefused result (IsOfWhole code routine.now) }
 {
     located(alloc, routine, 1, Column::new(1), code, None)
 }
