@@ -104,6 +104,7 @@ impl<'a> Before<'a> {
         ensures labels { OnOk result ((q : List ℕ) → has_name q self.new.labels.texts.keys
             ≡ (is_labelled q front.now.label || has_name q self.old.labels.texts.keys)) }
         ensures level { self.new.level ≡ self.old.level }
+        ensures reaches { self.new.reaches ≡ self.old.reaches }
     {
         if let Some(label) = &front.label {
             let size = label.as_bytes().len().min(text.len());
