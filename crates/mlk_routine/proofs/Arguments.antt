@@ -1,6 +1,6 @@
 -- The arguments of DO and JOB.
-use Rattle.std.proofs.Common.{◌≡◌, ◌+◌, ℕ, suc, List, [], ◌∷◌, ◌++◌, length, drop, Some, None, true, inl, inr, refl, sym, ap, ◌∙◌, arith, subst, append_assoc, append-nil}
-use Rattle.std.specs.Prelude.{Option}
+use Rattle.std.proofs.Common.{◌≡◌, ◌+◌, ℕ, suc, List, [], ◌∷◌, ◌++◌, length, drop, Some, None, true, false, inl, inr, refl, sym, ap, ◌∙◌, arith, subst, append_assoc, append-nil}
+use Rattle.std.specs.Prelude.{Option, option_map, is_some}
 use Rattle.std.proofs.lemmas.Bool.{cases_Bool}
 use Rattle.std.proofs.lemmas.Option.{same_Some}
 use Rattle.mlk_text.specs.declared.failure.Failure.{Failure}
@@ -9,7 +9,8 @@ use Rattle.mlk_text.specs.declared.fault.Fault.{Fault}
 use Rattle.mlk_text.specs.Lexemes.{is_digit}
 use Rattle.mlk_expr.specs.declared.scope.Allows.TheVariants.{Everything, NoTouches}
 use Rattle.mlk_expr.specs.declared.scope.Passing.TheVariants.{ByReference}
-use Rattle.mlk_expr.specs.Trees.{Tree}
+use Rattle.mlk_expr.specs.declared.tree.Callee.{Callee}
+use Rattle.mlk_expr.specs.Trees.{Tree, Free, ActualTree}
 use Rattle.mlk_expr.specs.Grammar.{Spelled, IsExprWhere}
 use Rattle.mlk_expr.specs.Theorem.{Stands, ExprEnds, label_ends, callee_ends}
 use Rattle.mlk_expr.proofs.Scopes.{given-anything}
@@ -34,6 +35,21 @@ module _ {A : Type 0} (Is : Spelled A) (Ends : A → List ℕ → Type 0) (line 
 pub call_anywhere : (at : ℕ) (c : CallTree) (s : List ℕ) (condition : Option Tree) → IsCall (before_condition condition) ByReference at c s → IsCall Everything ByReference at c s
 call_anywhere at (Called column callee None) s condition (place, (front, back, is, one, two)) = (place, (front, back, is, one, two))
 call_anywhere at (Called column callee (Some given)) s condition (place, (front, back, is, one, two)) = (place, (front, back, is, one, (two.0, given-anything given)))
+
+pub none_mapped : {A B : Type 0} (f : A → B) (o : Option A) → is_some o ≡ false → option_map f o ≡ None
+none_mapped f None h = refl
+none_mapped f (Some a) h = cc h
+
+-- a call without actuals is written wherever it is
+pub bare_call : (line : List ℕ) (at : ℕ) (column : ℕ) (callee : Callee) (given : Option (List ActualTree)) (n : ℕ) → given ≡ None → Found (IsCall Everything ByReference) CallEnds line at (Called column callee given) n
+    → Found (IsCall NoTouches ByReference) CallEnds line at (Called column callee given) n
+bare_call line at column callee given n none f = go given none f
+  where
+    go : (given : Option (List ActualTree)) → given ≡ None → Found (IsCall Everything ByReference) CallEnds line at (Called column callee given) n → Found (IsCall NoTouches ByReference) CallEnds line at (Called column callee given) n
+    go None none (one, only) =
+        let stands : Stands (IsCall NoTouches ByReference) CallEnds line at (Called column callee None) n = record { text = one.text; within = one.within; joined = one.joined; spelled = one.spelled; ended = one.ended } in
+        (stands, λ c u rest h is e. only c u rest h (call_anywhere (suc at) c u (Some Free) is) e)
+    go (Some actuals) none f = cc none
 
 -- a colon may stand after a call
 label_colon : (label ys : List ℕ) → label_ends label (58 ∷ ys) ≡ true
