@@ -1,6 +1,6 @@
 -- The arguments of DO and JOB.
-use Rattle.std.proofs.Common.{◌≡◌, ◌+◌, ℕ, suc, List, [], ◌∷◌, ◌++◌, length, drop, Some, None, true, inl, inr, refl, sym, ap, ◌∙◌, arith, subst, append_assoc, append-nil}
-use Rattle.std.specs.Prelude.{Option}
+use Rattle.std.proofs.Common.{◌≡◌, ◌+◌, ℕ, suc, List, [], ◌∷◌, ◌++◌, length, drop, Some, None, true, false, inl, inr, refl, sym, ap, ◌∙◌, arith, subst, append_assoc, append-nil}
+use Rattle.std.specs.Prelude.{Option, option_map, is_some}
 use Rattle.std.proofs.lemmas.Bool.{cases_Bool}
 use Rattle.std.proofs.lemmas.Option.{same_Some}
 use Rattle.mlk_text.specs.declared.failure.Failure.{Failure}
@@ -9,7 +9,8 @@ use Rattle.mlk_text.specs.declared.fault.Fault.{Fault}
 use Rattle.mlk_text.specs.Lexemes.{is_digit}
 use Rattle.mlk_expr.specs.declared.scope.Allows.TheVariants.{Everything, NoTouches}
 use Rattle.mlk_expr.specs.declared.scope.Passing.TheVariants.{ByReference}
-use Rattle.mlk_expr.specs.Trees.{Tree}
+use Rattle.mlk_expr.specs.declared.tree.Callee.{Callee}
+use Rattle.mlk_expr.specs.Trees.{Tree, Free, ActualTree}
 use Rattle.mlk_expr.specs.Grammar.{Spelled, IsExprWhere}
 use Rattle.mlk_expr.specs.Theorem.{Stands, ExprEnds, label_ends, callee_ends}
 use Rattle.mlk_expr.proofs.Scopes.{given-anything}
@@ -35,6 +36,21 @@ pub call_anywhere : (at : ℕ) (c : CallTree) (s : List ℕ) (condition : Option
 call_anywhere at (Called column callee None) s condition (place, (front, back, is, one, two)) = (place, (front, back, is, one, two))
 call_anywhere at (Called column callee (Some given)) s condition (place, (front, back, is, one, two)) = (place, (front, back, is, one, (two.0, given-anything given)))
 
+pub none_mapped : {A B : Type 0} (f : A → B) (o : Option A) → is_some o ≡ false → option_map f o ≡ None
+none_mapped f None h = refl
+none_mapped f (Some a) h = cc h
+
+-- a call without actuals is written wherever it is
+pub bare_call : (line : List ℕ) (at : ℕ) (column : ℕ) (callee : Callee) (given : Option (List ActualTree)) (n : ℕ) → given ≡ None → Found (IsCall Everything ByReference) CallEnds line at (Called column callee given) n
+    → Found (IsCall NoTouches ByReference) CallEnds line at (Called column callee given) n
+bare_call line at column callee given n none f = go given none f
+  where
+    go : (given : Option (List ActualTree)) → given ≡ None → Found (IsCall Everything ByReference) CallEnds line at (Called column callee given) n → Found (IsCall NoTouches ByReference) CallEnds line at (Called column callee given) n
+    go None none (one, only) =
+        let stands : Stands (IsCall NoTouches ByReference) CallEnds line at (Called column callee None) n = record { text = one.text; within = one.within; joined = one.joined; spelled = one.spelled; ended = one.ended } in
+        (stands, λ c u rest h is e. only c u rest h (call_anywhere (suc at) c u (Some Free) is) e)
+    go (Some actuals) none f = cc none
+
 -- a colon may stand after a call
 label_colon : (label ys : List ℕ) → label_ends label (58 ∷ ys) ≡ true
 label_colon [] ys = refl
@@ -49,7 +65,7 @@ callee_colon None (Some routine) ys = label_colon routine ys
 callee_colon (Some label) None ys = rw (label_colon label ys) refl
 callee_colon (Some label) (Some routine) ys = label_colon routine ys
 
-call_colon : (c : CallTree) (ys : List ℕ) → CallEnds c (58 ∷ ys)
+pub call_colon : (c : CallTree) (ys : List ℕ) → CallEnds c (58 ∷ ys)
 call_colon (Called column callee None) ys = ((callee_colon callee.label callee.routine ys, λ bad. let e = same_Some 58 43 bad in omega (arith, e)), λ bad. let e = same_Some 58 40 bad in omega (arith, e))
 call_colon (Called column callee (Some given)) ys = tt
 
@@ -62,12 +78,12 @@ do_call at call (Some x) u rest (s, t, is, one, two) e = (s, t, is, call_anywher
 module _ (line : List ℕ) (at : ℕ) where
   pub no_call : (e : Failure Fault) → Denied (IsCall Everything ByReference) CallEnds line at e → Denied IsDo DoEnds line at e
   no_call OutOfMemory h = tt
-  no_call (Refused fault) h = λ c u rest is one e. go c u rest is one e
+  no_call (Refused fault) h = (λ c u rest is one e. go c u rest is one e, h.1)
     where
       go : (c : DoTree) (u rest : List ℕ) → drop at line ≡ u ++ rest → IsDo (suc at) c u → DoEnds c rest → ⊥
       go (DoCall call condition) u rest is one e =
           let f = do_call (suc at) call condition u rest one e in
-          h call (f.0) (f.1 ++ rest) (is ∙ ap (λ l. l ++ rest) (f.2) ∙ append_assoc (f.0) (f.1) rest) (f.3) (f.4)
+          h.0 call (f.0) (f.1 ++ rest) (is ∙ ap (λ l. l ++ rest) (f.2) ∙ append_assoc (f.0) (f.1) rest) (f.3) (f.4)
 
   module _ (call : CallTree) (m : ℕ) (found : Found (IsCall Everything ByReference) CallEnds line at call m) where
     pub do_found : (byte_at line m ≡ Some 58 → ⊥) → Found IsDo DoEnds line at (DoCall call None) m

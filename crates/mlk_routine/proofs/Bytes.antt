@@ -54,14 +54,14 @@ module _ {A : Type 0} (Is : Spelled A) (Ends : A → List ℕ → Type 0) (line 
 
   pub after_denied : (e : Failure Fault) → Denied Is Ends line (at + 1) e → Denied (AfterByte b Is) Ends line at e
   after_denied OutOfMemory h = tt
-  after_denied (Refused fault) h = after_nowhere h
+  after_denied (Refused fault) h = (after_nowhere h.0, h.1)
 
   pub after_missing : (byte_at line at ≡ Some b → ⊥) → Nowhere (AfterByte b Is) Ends line at
   after_missing miss c u rest g (r, is, spelled) e = miss (ap first_of (g ∙ ap (λ l. l ++ rest) is))
 
 -- an expression that may be missing
 module _ (b : ℕ) (allows : Allows) (line : List ℕ) (at : ℕ) (here : byte_at line at ≡ Some b) where
-  optional : Turned line at (AfterByte b (IsExprWhere allows)) ExprEnds (IsAfter b allows) (AfterEnds b) Some
+  pub optional : Turned line at (AfterByte b (IsExprWhere allows)) ExprEnds (IsAfter b allows) (AfterEnds b) Some
   optional = record {
     into = λ a s is. is;
     ends = λ a rest e. e;

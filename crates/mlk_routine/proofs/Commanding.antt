@@ -13,7 +13,7 @@ use Rattle.mlk_routine.specs.declared.word.Word.{Word}
 use Rattle.mlk_routine.specs.Trees.{ActionTree, Do, Else, Halt, Hang, If, Job, Kill, Lock, Merge, New, Quit, Read, Set, Write, CommandTree, Does}
 use Rattle.mlk_routine.specs.Ends.{Lacks, starts, is_command_end, StopEnds, CommandEnd}
 use Rattle.mlk_routine.specs.CommandWords.{may_have_condition, has_arguments}
-use Rattle.mlk_routine.specs.CommandGrammar.{Both, IsValue, IsDo, IsJob, IsKill, IsLock, IsMerge, IsNew, IsRead, IsSet, IsWrite, IsCondition, AreSome, ArePerhaps, AreArguments, IsQuit, IsCommand}
+use Rattle.mlk_routine.specs.CommandGrammar.{Both, IsValue, IsDo, IsJob, IsKill, IsLock, IsMerge, IsNew, IsRead, IsSet, IsWrite, IsCondition, AreSome, ArePerhaps, AreArgumentsOf, IsQuit, IsCommand}
 use Rattle.mlk_routine.specs.Kinds.{kind, halts_or_hangs, Means, IsNamed, WordEnds, has_condition, IsConditionOf, ConditionEnds, IsActionOf, ActionEnds}
 use Rattle.mlk_routine.proofs.Sequences.{Parts}
 use Rattle.mlk_routine.proofs.Words.{means_written, written_means}
@@ -62,7 +62,7 @@ quit_space : (returns : Bool) (k : ℕ) (value : Option Tree) (s : List ℕ) →
 quit_space returns k None s is = inl is
 quit_space returns k (Some t) s (may, (r, is, one)) = inr (r, is)
 
-arguments_space : (returns : Bool) (k : ℕ) (a : ActionTree) (s : List ℕ) → AreArguments returns k a s → (s ≡ []) ⊎ ((r : List ℕ) × (s ≡ 32 ∷ r))
+arguments_space : (returns : Bool) (k : ℕ) (a : ActionTree) (s : List ℕ) → AreArgumentsOf returns k a s → (s ≡ []) ⊎ ((r : List ℕ) × (s ≡ 32 ∷ r))
 arguments_space returns k (Do calls) s is = perhaps_space IsDo k calls s is
 arguments_space returns k Else s is = inl is
 arguments_space returns k Halt s is = inl is
@@ -79,7 +79,7 @@ arguments_space returns k (Set sets) s is = inr (some_space IsSet k sets s is)
 arguments_space returns k (Write writes) s is = inr (some_space IsWrite k writes s is)
 
 -- so what stands before them stands before a space, or before what may end the command
-before_arguments : (returns : Bool) (k : ℕ) (a : ActionTree) (s rest : List ℕ) → AreArguments returns k a s → ActionEnds a rest → is_command_end (s ++ rest) ≡ true
+before_arguments : (returns : Bool) (k : ℕ) (a : ActionTree) (s rest : List ℕ) → AreArgumentsOf returns k a s → ActionEnds a rest → is_command_end (s ++ rest) ≡ true
 before_arguments returns k a s rest is e = go (arguments_space returns k a s is)
   where
     go : (s ≡ []) ⊎ ((r : List ℕ) × (s ≡ 32 ∷ r)) → is_command_end (s ++ rest) ≡ true

@@ -11,9 +11,10 @@ use Rattle.mlk_routine.specs.declared.word.Word.TheVariants as word
 use Rattle.mlk_routine.specs.Trees.{DoTree, CallTree, KillTree, LockTree, MergeTree, NewTree, ReadTree, SetTree, WriteTree}
 use Rattle.mlk_routine.specs.Trees.{ActionTree, Do, Else, Halt, Hang, If, Job, Kill, Lock, Merge, New, Quit, Read, Set, Write}
 use Rattle.mlk_routine.specs.Told.{Found, Nowhere, Denied}
+use Rattle.mlk_routine.specs.Faults.{IsFaulty}
 use Rattle.mlk_routine.specs.Ends.{is_stop, is_bare_end, StopEnds}
-use Rattle.mlk_routine.specs.CommandWords.{is_list}
-use Rattle.mlk_routine.specs.CommandGrammar.{IsValue, ArePerhaps, IsQuit, AreArguments}
+use Rattle.mlk_routine.specs.CommandWords.{has_any}
+use Rattle.mlk_routine.specs.CommandGrammar.{IsValue, ArePerhaps, IsQuit, AreArgumentsOf}
 use Rattle.mlk_routine.specs.Begins.{front_begins, expr_begins}
 use Rattle.mlk_expr.specs.declared.scope.Allows.TheVariants.{Everything}
 use Rattle.mlk_routine.specs.Kinds.{kind, halts_or_hangs, Means, IsActionOf, ActionEnds, halting}
@@ -95,18 +96,18 @@ content_of a w same = subst (λ v. (c : Content v) × (a ≡ with v c)) same (ow
 
 -- one word's commands, which are one form
 pub opened : (w : Word) → (w ≡ word.HaltOrHang → ⊥) → (returns : Bool) (line : List ℕ) (at : ℕ)
-    → Turned line at (λ k c s. AreArguments returns k (with w c) s) (λ c. ActionEnds (with w c)) (IsActionOf w returns) ActionEnds (with w)
+    → Turned line at (λ k c s. AreArgumentsOf returns k (with w c) s) (λ c. ActionEnds (with w c)) (IsActionOf w returns) ActionEnds (with w)
 opened w other returns line at = record {
   into = λ c s is. (inl (kind_with w c), is);
   ends = λ c rest e. e;
   apart = λ a u rest h is e. go a u rest is.0 is.1 e;
 }
   where
-    go : (a : ActionTree) (u rest : List ℕ) → Means w a → AreArguments returns (suc at) a u → ActionEnds a rest
-        → (c : Content w) × (a ≡ with w c) × AreArguments returns (suc at) (with w c) u × ActionEnds (with w c) rest
+    go : (a : ActionTree) (u rest : List ℕ) → Means w a → AreArgumentsOf returns (suc at) a u → ActionEnds a rest
+        → (c : Content w) × (a ≡ with w c) × AreArgumentsOf returns (suc at) (with w c) u × ActionEnds (with w c) rest
     go a u rest (inl same) is e =
         let r = content_of a w same in
-        (r.0, r.1, subst (λ x. AreArguments returns (suc at) x u) r.1 is, subst (λ x. ActionEnds x rest) r.1 e)
+        (r.0, r.1, subst (λ x. AreArgumentsOf returns (suc at) x u) r.1 is, subst (λ x. ActionEnds x rest) r.1 e)
     go a u rest (inr (same, halts)) is e = absurd (other same)
 
 -- the commands of `H`
@@ -126,7 +127,7 @@ halting_only (Read reads) h = cc h
 halting_only (Set sets) h = cc h
 halting_only (Write writes) h = cc h
 
-pub halting_turned : (returns : Bool) (line : List ℕ) (at : ℕ) → Turned line at (ArePerhaps IsValue) (λ items. StopEnds (is_list items)) (IsActionOf word.HaltOrHang returns) ActionEnds halting
+pub halting_turned : (returns : Bool) (line : List ℕ) (at : ℕ) → Turned line at (ArePerhaps IsValue) (λ items. StopEnds (has_any items)) (IsActionOf word.HaltOrHang returns) ActionEnds halting
 halting_turned returns line at = record {
   into = λ times s is. into times s is;
   ends = λ times rest e. ends times rest e;
@@ -137,25 +138,25 @@ halting_turned returns line at = record {
     into [] s is = (inr (refl, refl), is)
     into (t ∷ times) s is = (inr (refl, refl), is)
 
-    ends : (times : List Tree) (rest : List ℕ) → StopEnds (is_list times) rest → ActionEnds (halting times) rest
+    ends : (times : List Tree) (rest : List ℕ) → StopEnds (has_any times) rest → ActionEnds (halting times) rest
     ends [] rest e = e
     ends (t ∷ times) rest e = e
 
-    hang : (times : List Tree) (u rest : List ℕ) → AreArguments returns (suc at) (Hang times) u → ActionEnds (Hang times) rest
-        → (c : List Tree) × (Hang times ≡ halting c) × ArePerhaps IsValue (suc at) c u × StopEnds (is_list c) rest
+    hang : (times : List Tree) (u rest : List ℕ) → AreArgumentsOf returns (suc at) (Hang times) u → ActionEnds (Hang times) rest
+        → (c : List Tree) × (Hang times ≡ halting c) × ArePerhaps IsValue (suc at) c u × StopEnds (has_any c) rest
     hang [] u rest (r, is, (first, others, front, back, same, also, one, next)) e = cc same
     hang (t ∷ times) u rest is e = (t ∷ times, refl, is, e)
 
-    go : (a : ActionTree) (u rest : List ℕ) → Means word.HaltOrHang a → AreArguments returns (suc at) a u → ActionEnds a rest
-        → (c : List Tree) × (a ≡ halting c) × ArePerhaps IsValue (suc at) c u × StopEnds (is_list c) rest
+    go : (a : ActionTree) (u rest : List ℕ) → Means word.HaltOrHang a → AreArgumentsOf returns (suc at) a u → ActionEnds a rest
+        → (c : List Tree) × (a ≡ halting c) × ArePerhaps IsValue (suc at) c u × StopEnds (has_any c) rest
     go a u rest (inl same) is e = absurd (content_of a word.HaltOrHang same).0
     go a u rest (inr (same, halts)) is e = by (halting_only a halts) is e
       where
-        by : (a ≡ Halt) ⊎ ((times : List Tree) × (a ≡ Hang times)) → AreArguments returns (suc at) a u → ActionEnds a rest
-            → (c : List Tree) × (a ≡ halting c) × ArePerhaps IsValue (suc at) c u × StopEnds (is_list c) rest
-        by (inl h) is e = ([], h, subst (λ x. AreArguments returns (suc at) x u) h is, subst (λ x. ActionEnds x rest) h e)
+        by : (a ≡ Halt) ⊎ ((times : List Tree) × (a ≡ Hang times)) → AreArgumentsOf returns (suc at) a u → ActionEnds a rest
+            → (c : List Tree) × (a ≡ halting c) × ArePerhaps IsValue (suc at) c u × StopEnds (has_any c) rest
+        by (inl h) is e = ([], h, subst (λ x. AreArgumentsOf returns (suc at) x u) h is, subst (λ x. ActionEnds x rest) h e)
         by (inr (times, h)) is e =
-            let r = hang times u rest (subst (λ x. AreArguments returns (suc at) x u) h is) (subst (λ x. ActionEnds x rest) h e) in
+            let r = hang times u rest (subst (λ x. AreArgumentsOf returns (suc at) x u) h is) (subst (λ x. ActionEnds x rest) h e) in
             (r.0, h ∙ r.1, r.2, r.3)
 
 -- a command that is its word alone
@@ -164,9 +165,9 @@ nothing_found line at less h =
     let stands : Stands {A = Unit {0}} (λ k c s. s ≡ []) (λ c. StopEnds false) line at tt at = record { text = []; within = less; joined = refl; spelled = refl; ended = h } in
     (stands, λ c u rest g is e. (refl, sym (g ∙ ap (λ l. l ++ rest) is)))
 
-pub nothing_denied : (line : List ℕ) (at : ℕ) → is_bare_end (drop at line) ≡ false → (e : Failure Fault) → Denied {A = Unit {0}} (λ k c s. s ≡ []) (λ c. StopEnds false) line at e
-nothing_denied line at h OutOfMemory = tt
-nothing_denied line at h (Refused fault) = λ c u rest g is e. cc (sym h ∙ ap is_bare_end (g ∙ ap (λ l. l ++ rest) is) ∙ e)
+pub nothing_denied : (line : List ℕ) (at : ℕ) → is_bare_end (drop at line) ≡ false → (e : Failure Fault) → IsFaulty line e → Denied {A = Unit {0}} (λ k c s. s ≡ []) (λ c. StopEnds false) line at e
+nothing_denied line at h OutOfMemory fault = tt
+nothing_denied line at h (Refused fault) is_fault = (λ c u rest g is e. cc (sym h ∙ ap is_bare_end (g ∙ ap (λ l. l ++ rest) is) ∙ e), is_fault)
 
 -- the value of a QUIT
 module _ (returns : Bool) (line : List ℕ) (at : ℕ) where

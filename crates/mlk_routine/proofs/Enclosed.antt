@@ -35,7 +35,7 @@ module _ {A : Type 0} (Is : Spelled A) (Ends : A → List ℕ → Type 0) (stop 
   closes a [] rest = (λ bad. let e = same_Some 41 44 bad in omega (arith, e), stop a (41 ∷ rest) refl)
   closes a (b ∷ items) rest = closes b items rest
 
-  closed_parts : (line : List ℕ) (at : ℕ) → Parts line at (IsList Is) (AreEnded Ends) (λ items. IsByte 41) (λ items. AnyEnds) IsClosed AnyEnds (λ items u. items)
+  pub closed_parts : (line : List ℕ) (at : ℕ) → Parts line at (IsList Is) (AreEnded Ends) (λ items. IsByte 41) (λ items. AnyEnds) IsClosed AnyEnds (λ items u. items)
   closed_parts line at = record {
     into = λ items u s t one two. (s, ap (λ l. s ++ l) two, one);
     ends = λ items u k t rest is before after. tt;
@@ -44,7 +44,7 @@ module _ {A : Type 0} (Is : Spelled A) (Ends : A → List ℕ → Type 0) (stop 
         (c, tt, inner, 41 ∷ [], is, refl, list, refl, ended, tt);
   }
 
-  enclosed_turned : (line : List ℕ) (at : ℕ) → Turned line at (AfterByte 40 IsClosed) AnyEnds (AreEnclosed Is) AnyEnds (λ items. items)
+  pub enclosed_turned : (line : List ℕ) (at : ℕ) → Turned line at (AfterByte 40 IsClosed) AnyEnds (AreEnclosed Is) AnyEnds (λ items. items)
   enclosed_turned line at = record {
     into = λ items s (rest, is, (inner, more, list)). (inner, is ∙ ap (λ l. 40 ∷ l) more, list);
     ends = λ items rest e. tt;
@@ -65,4 +65,5 @@ module _ {A : Type 0} (Is : Spelled A) (Ends : A → List ℕ → Type 0) (stop 
   none_enclosed line at open' OutOfMemory h = tt
   none_enclosed line at open' (Refused fault) h =
       let size = byte_before line at 40 open' in
-      turned_nowhere (enclosed_turned line at) (after_nowhere IsClosed AnyEnds line at 40 (denied_first (closed_parts line (at + 1)) (omega arith) (Refused fault) h))
+      let inner = denied_first (closed_parts line (at + 1)) (omega arith) (Refused fault) h in
+      (turned_nowhere (enclosed_turned line at) (after_nowhere IsClosed AnyEnds line at 40 inner.0), h.1)

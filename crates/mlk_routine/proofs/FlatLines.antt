@@ -9,8 +9,10 @@ use Rattle.mlk_text.specs.declared.fault.Fault.{Fault}
 use Rattle.mlk_routine.specs.declared.line.Before.{Before}
 use Rattle.mlk_routine.specs.Trees.{HeadTree, LineHead}
 use Rattle.mlk_routine.specs.Told.{IsRefusal}
+use Rattle.mlk_routine.specs.Faults.{IsLineFault}
+use Rattle.mlk_routine.specs.Refusals.{IfRefused, IsOfLine}
 use Rattle.mlk_routine.specs.RoutineGrammar.{AreLines, IsLine, AreDistinct, labels_of, level_of, reaches, is_line_byte}
-use Rattle.mlk_routine.specs.Lines.{has_name, label_of, is_in, is_labelled, FitsAfter, IsLineOnly, IsAfter, NoLine, Follow, AllPlain, AreHeads, AreHeadsOnly, NoHeads, texts_of}
+use Rattle.mlk_routine.specs.Lines.{has_name, label_of, is_in, is_labelled, FitsAfter, IsLineOnly, IsWithLine, NoLine, Follow, AllPlain, AreHeads, AreHeadsOnly, NoHeads, texts_of}
 use Rattle.mlk_routine.proofs.FormalLists.{among, AreSeen, AllFresh, fresh_distinct, distinct_fresh, more_seen}
 
 -- names, of which the last is new
@@ -106,9 +108,9 @@ module _ (ts : List (List ℕ)) (i : ℕ) (heads : List HeadTree) (before : Befo
                 let plain = subst AllPlain here (l.plain_rest is.1) in
                 let steps = l.follow_rest (h ∷ rest) (subst (Follow 0 true) all is.2) in
                 let new = label_new before.labels.texts.keys heads h rest l.seen (subst (λ k. AreDistinct (labels_of k)) all is.3) in
-                none h line plain.0 (new, steps.0)
+                none.0 h line plain.0 (new, steps.0)
 
-    pub flat_more : (h : HeadTree) (next : Before) → IsLineOnly (i + 1) t h → list_all is_line_byte t ≡ true → FitsAfter before h → IsAfter before next h → FlatSoFar ts (i + 1) (heads ++ h ∷ []) next
+    pub flat_more : (h : HeadTree) (next : Before) → IsLineOnly (i + 1) t h → list_all is_line_byte t ≡ true → FitsAfter before h → IsWithLine before next h → FlatSoFar ts (i + 1) (heads ++ h ∷ []) next
     flat_more h next line plain_line fits after = record {
       whole = λ more is.
           let lines : AreLines (i + 1) (h ∷ more) (drop i ts) = (t, drop (i + 1) ts, here, line.0, subst (λ k. AreLines k more (drop (i + 1) ts)) (add-one (i + 1)) is) in
@@ -144,3 +146,9 @@ texts_end [] zero h = refl
 texts_end [] (suc i) h = refl
 texts_end (x ∷ texts) zero h = absurd (omega (arith, h))
 texts_end (x ∷ texts) (suc i) h = texts_end texts i (omega (arith, h))
+
+-- a fault of a line is one of the lines of its text
+pub line_told : (routine : List ℕ) (lines : List (List ℕ)) (i : ℕ) (s : List ℕ) → drop i lines ≡ s ∷ drop (i + 1) lines → (e : Failure Fault) → IfRefused e (λ f. (f.place.routine ≡ routine) × (f.place.line ≡ i + 1) × IsLineFault s f)
+    → IfRefused e (IsOfLine routine lines)
+line_told routine lines i s here OutOfMemory h = tt
+line_told routine lines i s here (Refused fault) h = record { before = i; line = s; after = drop (i + 1) lines; there = here; on_line = h.1 ∙ add-one i; named = h.0; told = h.2 }

@@ -115,10 +115,10 @@ open_first label [] h = cc h
 open_first label (b ∷ l) h = let e = same_Some b 40 h in subst (λ c. LabelEnds label (c ∷ l)) (sym e) (label_open label l)
 
 -- formals, and the line's start after them
-abbrev FormalsThen : Bool → ℕ → Option (List (List ℕ)) × Option ℕ → List ℕ → Type 0
+abbrev pub FormalsThen : Bool → ℕ → Option (List (List ℕ)) × Option ℕ → List ℕ → Type 0
 FormalsThen labelled at x s = Both (λ n r. IsFormalsPart labelled n x.0 r) (λ n r. IsOpening n x.1 r) at s
 
-abbrev ThenEnds : Option (List (List ℕ)) × Option ℕ → List ℕ → Type 0
+abbrev pub ThenEnds : Option (List (List ℕ)) × Option ℕ → List ℕ → Type 0
 ThenEnds x rest = OpeningEnds x.1 rest
 
 then_ends : (label : Option (List ℕ)) (k : ℕ) (x : Option (List (List ℕ)) × Option ℕ) (t rest : List ℕ) → FormalsThen (is_some label) k x t → ThenEnds x rest → LabelPartEnds label (t ++ rest)
@@ -132,11 +132,11 @@ then_ends (Some label) k (None, o) t rest (s, r, is, one, two) e =
 then_ends (Some label) k (Some formals, o) t rest (s, r, is, one, two) e =
     subst (λ l. LabelEnds label (l ++ rest)) (sym is) (open_first label ((s ++ r) ++ rest) (ap first_of (append_assoc s r rest) ∙ formals_open formals s (r ++ rest) one.1))
 
-abbrev make_front : Option (List ℕ) → Option (List (List ℕ)) × Option ℕ → Front
+abbrev pub make_front : Option (List ℕ) → Option (List (List ℕ)) × Option ℕ → Front
 make_front label x = record { label = label; formals = x.0; level = x.1 }
 
 module _ (line : List ℕ) where
-  then_parts : (labelled : Bool) (at : ℕ) → Parts line at (IsFormalsPart labelled) (FormalsPartEnds labelled) (λ f. IsOpening) (λ f. OpeningEnds) (FormalsThen labelled) ThenEnds (λ f o. (f, o))
+  pub then_parts : (labelled : Bool) (at : ℕ) → Parts line at (IsFormalsPart labelled) (FormalsPartEnds labelled) (λ f. IsOpening) (λ f. OpeningEnds) (FormalsThen labelled) ThenEnds (λ f o. (f, o))
   then_parts labelled at = record {
     into = λ f o s t one two. (s, t, refl, one, two);
     ends = λ f o k t rest is before after. after;
@@ -147,7 +147,7 @@ module _ (line : List ℕ) where
       ended None t rest opens = λ is_labelled. opens_lack (t ++ rest) opens
       ended (Some formals) t rest opens = tt
 
-  front_parts : Parts line 0 IsLabelPart LabelPartEnds (λ label. FormalsThen (is_some label)) (λ label. ThenEnds) IsFront FrontEnds make_front
+  pub front_parts : Parts line 0 IsLabelPart LabelPartEnds (λ label. FormalsThen (is_some label)) (λ label. ThenEnds) IsFront FrontEnds make_front
   front_parts = record {
     into = λ label x s t one two. (s, t, refl, one, two);
     ends = λ label x k t rest is before after. after;

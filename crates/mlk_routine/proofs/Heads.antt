@@ -15,6 +15,7 @@ use Rattle.mlk_routine.specs.declared.routine.Line.TheOpen.{Line-F}
 use Rattle.mlk_routine.specs.declared.routine.Line.TheViews.{roll-Line}
 use Rattle.mlk_routine.specs.declared.routine.Line.TheFolds.{fold-roll-Line}
 use Rattle.mlk_routine.specs.Told.{Found, Nowhere, Denied}
+use Rattle.mlk_routine.specs.Faults.{IsFaulty}
 use Rattle.mlk_routine.specs.RoutineGrammar.{IsLabelled, IsComment, IsBody, IsLine, is_line_byte}
 use Rattle.mlk_routine.specs.Lines.{IsLabelPart, IsFormalsPart, IsOpening, OpeningEnds, IsFront, FrontEnds, AtEnd, IsTailOf, level_in, IsKept, Fits, FitsAfter, IsLineOnly, NoLine, head_of}
 use Rattle.mlk_routine.proofs.Sequences.{next_is}
@@ -142,35 +143,40 @@ module _ (line : List ℕ) (f : Front) (next : ℕ) (found : Found IsFront Front
           let joined : line ≡ label ++ (more ++ drop next line) = found.0.joined ∙ ap (λ x. x ++ drop next line) is ∙ append_assoc l more (drop next line) ∙ ap (λ x. x ++ (more ++ drop next line)) (there l one) in
           ap (take (length label)) joined ∙ take-append_seam label (more ++ drop next line)
 
-pub no_front_line : (line : List ℕ) → Nowhere IsFront FrontEnds line 0 → (n : ℕ) (h : HeadTree) → IsLine n h line → ⊥
-no_front_line line none n (LineHead number level end label formals commands) (front, body, is, count, last, labelled, only, inside) = go (labelled_parts label formals front labelled) (body_parts level (suc (length front)) commands body inside)
+-- what stands before the commands of a line
+pub line_front : (line : List ℕ) (n : ℕ) (h : HeadTree) → IsLine n h line → (g : Front) × (u tail : List ℕ) × (line ≡ u ++ tail) × IsFront 1 g u × FrontEnds g tail
+line_front line n (LineHead number level end label formals commands) (front, body, is, count, last, labelled, only, inside) = go (labelled_parts label formals front labelled) (body_parts level (suc (length front)) commands body inside)
   where
     go : (l r : List ℕ) × (front ≡ l ++ r) × IsLabelPart 1 label l × IsFormalsPart (is_some label) (1 + length l) formals r
-        → (o : Option ℕ) × (start tail : List ℕ) × (body ≡ start ++ tail) × IsOpening (suc (length front)) o start × IsTailOf o (suc (length front) + length start) commands tail × (level ≡ level_in o) × (level ≤ 15) × OpeningEnds o tail → ⊥
+        → (o : Option ℕ) × (start tail : List ℕ) × (body ≡ start ++ tail) × IsOpening (suc (length front)) o start × IsTailOf o (suc (length front) + length start) commands tail × (level ≡ level_in o) × (level ≤ 15) × OpeningEnds o tail
+        → (g : Front) × (u tail : List ℕ) × (line ≡ u ++ tail) × IsFront 1 g u × FrontEnds g tail
     go (l, r, front_is, one, two) (o, start, tail, body_is, opening, rest, same, few, ends) =
         let g : Front = record { label = label; formals = formals; level = o } in
         let size : length front ≡ length l + length r = ap length front_is ∙ length-append l r in
         let place : suc (length front) ≡ 1 + length l + length r = omega (arith, size) in
         let opening_there : IsOpening (1 + length l + length r) o start = subst (λ k. IsOpening k o start) place opening in
         let joined : line ≡ (l ++ (r ++ start)) ++ tail = is ∙ ap (λ x. x ++ body) front_is ∙ ap (λ x. (l ++ r) ++ x) body_is ∙ sym (append_assoc (l ++ r) start tail) ∙ ap (λ x. x ++ tail) (append_assoc l r start) in
-        none g (l ++ (r ++ start)) tail joined (l, r ++ start, refl, one, (r, start, refl, two, opening_there)) ends
+        (g, l ++ (r ++ start), tail, joined, (l, r ++ start, refl, one, (r, start, refl, two, opening_there)), ends)
+
+pub no_front_line : (line : List ℕ) → Nowhere IsFront FrontEnds line 0 → (n : ℕ) (h : HeadTree) → IsLine n h line → ⊥
+no_front_line line none n h is = let (g, u, tail, joined, whole, ends) = line_front line n h is in none g u tail joined whole ends
 
 -- what a refusal of a part says of the line
 pub refused_front : (before : Before) (n : ℕ) (line : List ℕ) (e : Failure Fault) → Denied IsFront FrontEnds line 0 e → NoLine before n line e
 refused_front before n line OutOfMemory h = tt
-refused_front before n line (Refused fault) h = λ head is plain fits. no_front_line line h n head is
+refused_front before n line (Refused fault) h = (λ head is plain fits. no_front_line line h.0 n head is, h.1)
 
 pub refused_tail : (before : Before) (n : ℕ) (line : List ℕ) (f : Front) (next : ℕ) → Found IsFront FrontEnds line 0 f next → (e : Failure Fault) → Denied (IsTailOf f.level) AtEnd line next e → NoLine before n line e
 refused_tail before n line f next found OutOfMemory h = tt
-refused_tail before n line f next found (Refused fault) h = λ head is plain fits. no_tail_line line f next found h n head is
+refused_tail before n line f next found (Refused fault) h = (λ head is plain fits. no_tail_line line f next found h.0 n head is, h.1)
 
-pub refused_place : (before : Before) (n : ℕ) (line : List ℕ) (f : Front) (next : ℕ) → Found IsFront FrontEnds line 0 f next → (e : Failure Fault) → (IsKept f.label (level_in f.level) → Fits before f.label (level_in f.level) → ⊥) → NoLine before n line e
-refused_place before n line f next found OutOfMemory bad = tt
-refused_place before n line f next found (Refused fault) bad = λ head is plain fits. misplaced_line line f next found before bad n head is fits
+pub refused_place : (before : Before) (n : ℕ) (line : List ℕ) (f : Front) (next : ℕ) → Found IsFront FrontEnds line 0 f next → (e : Failure Fault) → IsFaulty line e → (IsKept f.label (level_in f.level) → Fits before f.label (level_in f.level) → ⊥) → NoLine before n line e
+refused_place before n line f next found OutOfMemory fault bad = tt
+refused_place before n line f next found (Refused fault) is_fault bad = (λ head is plain fits. misplaced_line line f next found before bad n head is fits, is_fault)
 
-pub refused_byte : (before : Before) (n : ℕ) (line : List ℕ) (e : Failure Fault) → list_all is_line_byte line ≡ false → NoLine before n line e
-refused_byte before n line OutOfMemory bad = tt
-refused_byte before n line (Refused fault) bad = λ head is plain fits. cc (sym bad ∙ plain)
+pub refused_byte : (before : Before) (n : ℕ) (line : List ℕ) (e : Failure Fault) → IsFaulty line e → list_all is_line_byte line ≡ false → NoLine before n line e
+refused_byte before n line OutOfMemory fault bad = tt
+refused_byte before n line (Refused fault) is_fault bad = (λ head is plain fits. cc (sym bad ∙ plain), is_fault)
 
 -- the head of a line that was made
 pub head_roll : (x : Line-F Line) → head_of (roll-Line x) ≡ LineHead x.number x.level x.end x.label x.formals (commands_of x.commands)

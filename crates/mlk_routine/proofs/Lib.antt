@@ -1,6 +1,7 @@
 pub mod Sequences
 pub mod Bytes
 pub mod Outcomes
+pub mod LineFaults
 pub mod Lists
 pub mod Variables
 pub mod Calls
@@ -35,3 +36,8 @@ pub mod Heads
 pub mod FlatLines
 pub mod UnderHeads
 pub mod WholeRoutines
+pub mod Sole
+pub mod SoleArguments
+pub mod SoleFormats
+pub mod SoleCommands
+pub mod SoleLines

@@ -13,7 +13,7 @@ module _ {A : Type 0} (Is : Spelled A) (Ends : A → List ℕ → Type 0) (stop 
   item_ends at a [] t rest is e = subst (λ l. Ends a (l ++ rest)) (sym is) e.1
   item_ends at a (b ∷ more) t rest (front, others, is, one, next) e = subst (λ l. Ends a (l ++ rest)) (sym is) (stop a (44 ∷ ((front ++ others) ++ rest)) refl)
 
-  list_parts : (line : List ℕ) (at : ℕ) → Parts line at Is Ends (λ a k more t. AreNext Is k more t) (λ a more rest. MoreEnds Ends a more rest) (IsList Is) (AreEnded Ends) (λ a more. a ∷ more)
+  pub list_parts : (line : List ℕ) (at : ℕ) → Parts line at Is Ends (λ a k more t. AreNext Is k more t) (λ a more rest. MoreEnds Ends a more rest) (IsList Is) (AreEnded Ends) (λ a more. a ∷ more)
   list_parts line at = record {
     into = λ a more s t one next. (a, more, s, t, refl, refl, one, next);
     ends = λ a more k t rest is before e. e;
@@ -23,7 +23,7 @@ module _ {A : Type 0} (Is : Spelled A) (Ends : A → List ℕ → Type 0) (stop 
   }
 
   -- after a comma
-  next_parts : (line : List ℕ) (at : ℕ) (last : A) → byte_at line at ≡ Some 44 → Parts line at (AfterByte 44 Is) Ends (λ a k more t. AreNext Is k more t) (λ a more rest. MoreEnds Ends a more rest) (λ k more t. AreNext Is k more t) (MoreEnds Ends last) (λ a more. a ∷ more)
+  pub next_parts : (line : List ℕ) (at : ℕ) (last : A) → byte_at line at ≡ Some 44 → Parts line at (AfterByte 44 Is) Ends (λ a k more t. AreNext Is k more t) (λ a more rest. MoreEnds Ends a more rest) (λ k more t. AreNext Is k more t) (MoreEnds Ends last) (λ a more. a ∷ more)
   next_parts line at last here = record {
     into = λ a more s t (front, is, one) next.
         let size : length s ≡ suc (length front) = ap length is in

@@ -101,14 +101,14 @@ module _ (line : List ℕ) (at : ℕ) (here : byte_at line at ≡ Some 58) where
   pub left_out : Nowhere (IsLockTimeout sign.Minus) TimeoutEnds line at
   left_out c u rest h is e = no_stop rest (h ∙ ap (λ l. l ++ rest) is.1) (subst (λ o. TimeoutEnds o rest) is.0 e)
 
-  for_none : Turned line at (AfterByte 58 (IsExprWhere NoTouches)) ExprEnds (IsLockTimeout sign.None) TimeoutEnds Some
+  pub for_none : Turned line at (AfterByte 58 (IsExprWhere NoTouches)) ExprEnds (IsLockTimeout sign.None) TimeoutEnds Some
   for_none = record { into = λ t s is. is; ends = λ t rest e. e; apart = λ c u rest h is e. go c u rest h is e }
     where
       go : (c : Option Tree) (u rest : List ℕ) → drop at line ≡ u ++ rest → IsLockTimeout sign.None (suc at) c u → TimeoutEnds c rest → (t : Tree) × (c ≡ Some t) × AfterByte 58 (IsExprWhere NoTouches) (suc at) t u × ExprEnds t rest
       go None u rest h is e = absurd (no_stop rest (h ∙ ap (λ l. l ++ rest) is) e)
       go (Some t) u rest h is e = (t, refl, is, e)
 
-  for_plus : Turned line at (AfterByte 58 (IsExprWhere NoCalls)) ExprEnds (IsLockTimeout sign.Plus) TimeoutEnds Some
+  pub for_plus : Turned line at (AfterByte 58 (IsExprWhere NoCalls)) ExprEnds (IsLockTimeout sign.Plus) TimeoutEnds Some
   for_plus = record { into = λ t s is. is; ends = λ t rest e. e; apart = λ c u rest h is e. go c u rest h is e }
     where
       go : (c : Option Tree) (u rest : List ℕ) → drop at line ≡ u ++ rest → IsLockTimeout sign.Plus (suc at) c u → TimeoutEnds c rest → (t : Tree) × (c ≡ Some t) × AfterByte 58 (IsExprWhere NoCalls) (suc at) t u × ExprEnds t rest

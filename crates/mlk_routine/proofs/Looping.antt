@@ -17,6 +17,7 @@ use Rattle.mlk_routine.specs.declared.word.Word.{Word}
 use Rattle.mlk_routine.specs.declared.word.Word.TheVariants as word
 use Rattle.mlk_routine.specs.Trees.{CommandTree, Does, ControlTree, Runs, CommandTrees, finished, then_command, then_for}
 use Rattle.mlk_routine.specs.Told.{Found, Nowhere, Denied, Told}
+use Rattle.mlk_routine.specs.Faults.{IsFaulty}
 use Rattle.mlk_routine.specs.Ends.{is_stop, starts, ControlEnds, ParameterEnds, IsRun, RunEnds, is_command_end, is_commands_end, is_bare_end, StopEnds, CommandEnd, CommandsEnd}
 use Rattle.mlk_routine.specs.CommandWords.{is_for, has_arguments, least_after}
 use Rattle.mlk_routine.specs.CommandGrammar.{is_space, IsGap, IsCommand, least_of, IsParameter, IsControl, IsForHead, AreCommands}
@@ -66,7 +67,7 @@ for_letter s h = go s (either_for s h).0 h
     go [] h also = cc also
     go (b ∷ s) h also = (and_parts (is_letter b) (list_all is_letter s) h).0
 
-head_letter : (column at : ℕ) (control : Option ControlTree) (s : List ℕ) → IsForHead column at control s → starts is_letter s ≡ true
+pub head_letter : (column at : ℕ) (control : Option ControlTree) (s : List ℕ) → IsForHead column at control s → starts is_letter s ≡ true
 head_letter column at None s is = for_letter s is.1
 head_letter column at (Some control) s (place, (front, rest, is, for_is, more)) = ap (starts is_letter) is ∙ front_letter front rest (for_letter front for_is)
 
@@ -123,10 +124,10 @@ stop_gap false (g ∷ k ∷ gap) following rest all (inr one) e = inr (omega ari
 
 module _ (level loops : ℕ) (line : List ℕ) where
   -- spaces, and commands after them
-  abbrev SpacedCommands : ℕ → CommandTrees → List ℕ → Type 0
+  abbrev pub SpacedCommands : ℕ → CommandTrees → List ℕ → Type 0
   SpacedCommands n rest r = (gap following : List ℕ) × (r ≡ gap ++ following) × (list_all is_space gap ≡ true) × AreCommands level loops (n + length gap) rest following
 
-  spaced_parts : (at : ℕ) → Parts line at (IsRun is_space) (RunEnds is_space) (λ u. AreCommands level loops) (λ u. CommandsEnd) SpacedCommands CommandsEnd (λ u rest. rest)
+  pub spaced_parts : (at : ℕ) → Parts line at (IsRun is_space) (RunEnds is_space) (λ u. AreCommands level loops) (λ u. CommandsEnd) SpacedCommands CommandsEnd (λ u rest. rest)
   spaced_parts at = record {
     into = λ u rest s t one two. (s, t, refl, one, two);
     ends = λ u rest k t after is before e. e;
@@ -138,7 +139,7 @@ module _ (level loops : ℕ) (line : List ℕ) where
   abbrev pub GapThen : Bool → ℕ → CommandTrees → List ℕ → Type 0
   GapThen b n rest r = (gap following : List ℕ) × (r ≡ gap ++ following) × IsGap (least_after b) gap following × AreCommands level loops (n + length gap) rest following
 
-  forget : (b : Bool) (n : ℕ) (c : CommandTrees) (r : List ℕ) → GapThen b n c r → SpacedCommands n c r
+  pub forget : (b : Bool) (n : ℕ) (c : CommandTrees) (r : List ℕ) → GapThen b n c r → SpacedCommands n c r
   forget b n c r (gap, following, is, g, more) = (gap, following, is, g.0, more)
 
   -- where a command ends and these many spaces stand, what is read after them is read after the command
@@ -243,7 +244,7 @@ module _ (level loops : ℕ) (line : List ℕ) where
 
     pub leads_denied : (e : Failure Fault) → Denied (IsCommand Returns) CommandEnd line next e → Denied (AreCommands level loops) CommandsEnd line at e
     leads_denied OutOfMemory h = tt
-    leads_denied (Refused fault) h = l.2 (first_nowhere (then_parts next more_here no_for) (l.0) h)
+    leads_denied (Refused fault) h = (l.2 (first_nowhere (then_parts next more_here no_for) (l.0) h.0), h.1)
 
     pub leads_on : (a : CommandTree) (end m : ℕ) → Found (IsCommand Returns) CommandEnd line next a end → Found (IsRun is_space) (RunEnds is_space) line end tt m → length line - m < length line - next
     leads_on a end m f run =
@@ -342,9 +343,9 @@ module _ (loops : ℕ) (line : List ℕ) (at : ℕ) where
       go None u rest is e = (tt, None, u, [], sym (append-nil u), refl, is.1, refl, no_letter rest (stop_lacks false rest e), e)
       go (Some c) u rest (place, (front, back, is, one, (r, space, two))) e = (tt, Some c, front, back, is, refl, one, (r, space, two), ap (λ l. starts is_letter (l ++ rest)) space, e)
 
-  pub too_many : (suc loops ≤ 255 → ⊥) → (e : Failure Fault) → Denied (IsLoop loops) LoopEnds line at e
-  too_many h OutOfMemory = tt
-  too_many h (Refused fault) = λ c u rest g is e. h is.1
+  pub too_many : (suc loops ≤ 255 → ⊥) → (e : Failure Fault) → IsFaulty line e → Denied (IsLoop loops) LoopEnds line at e
+  too_many h OutOfMemory fault = tt
+  too_many h (Refused fault) is_fault = (λ c u rest g is e. h is.1, is_fault)
 
   pub head_told : suc loops ≤ 255 → at ≤ length line → (m : ℕ) → Found IsForWord ForWordEnds line at tt m → {X : Type 0} (view : X → Option ControlTree) (r : Result (X × ℕ) (Failure Fault))
       → Told view IsPerhapsControl (λ c. StopEnds (is_some c)) line m r → Told view (IsLoop loops) LoopEnds line at r
@@ -393,12 +394,12 @@ for_stands rest (inr here) h = here
 module _ (level loops : ℕ) (line : List ℕ) (at next : ℕ) (done : List CommandTree) (l : LeadsTo level loops line at done next) (here : is_for (word_at (drop next line)).0 ≡ true) where
   pub loop_denied : (e : Failure Fault) → Denied (IsLoop loops) LoopEnds line next e → Denied (AreCommands level loops) CommandsEnd line at e
   loop_denied OutOfMemory h = tt
-  loop_denied (Refused fault) h = l.2 (first_nowhere (loop_parts level loops line next here) (l.0) h)
+  loop_denied (Refused fault) h = (l.2 (first_nowhere (loop_parts level loops line next here) (l.0) h.0), h.1)
 
   module _ (control : Option ControlTree) (end m : ℕ) (head : Found (IsLoop loops) LoopEnds line next control end) (run : Found (IsRun is_space) (RunEnds is_space) line end tt m) where
     pub rest_denied : (e : Failure Fault) → Denied (AreCommands level (suc loops)) CommandsEnd line m e → Denied (AreCommands level loops) CommandsEnd line at e
     rest_denied OutOfMemory h = tt
-    rest_denied (Refused fault) h = l.2 (second_nowhere (loop_parts level loops line next here) (l.0) control end head (gap_nowhere level (suc loops) line (is_some control) end m head.0.within run h))
+    rest_denied (Refused fault) h = (l.2 (second_nowhere (loop_parts level loops line next here) (l.0) control end head (gap_nowhere level (suc loops) line (is_some control) end m head.0.within run h.0)), h.1)
 
     pub loop_found : (rest : CommandTrees) (n : ℕ) → Found (AreCommands level (suc loops)) CommandsEnd line m rest n
         → Found (AreCommands level loops) CommandsEnd line at (commands_from done (then_for (column_at (next + 1)) (suc loops) control rest)) n

@@ -29,7 +29,7 @@ module _ (line : List ℕ) (at : ℕ) (here : told.byte_at line at ≡ Some 34) 
   there : drop at line ≡ 34 ∷ drop (at + 1) line
   there = byte_there line at 34 here ∙ ap (λ k. 34 ∷ drop k line) (sym (add-one at))
 
-  read_inside : (prompt u rest : List ℕ) → drop at line ≡ u ++ rest → IsPrompt (suc at) prompt u → PromptEnds prompt rest → inside (drop (at + 1) line) ≡ Some (prompt, rest)
+  pub read_inside : (prompt u rest : List ℕ) → drop at line ≡ u ++ rest → IsPrompt (suc at) prompt u → PromptEnds prompt rest → inside (drop (at + 1) line) ≡ Some (prompt, rest)
   read_inside prompt u rest h is e =
       let whole = sym there ∙ h ∙ ap (λ l. l ++ rest) is.0 ∙ quoted-after prompt rest in
       let r = quoted-complete prompt (34 ∷ drop (at + 1) line) rest (whole, is.1, no_quote rest e) in

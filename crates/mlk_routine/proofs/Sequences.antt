@@ -3,7 +3,7 @@ use Rattle.std.proofs.Common.{◌≡◌, ◌≤◌, ◌+◌, ℕ, suc, List, ◌
 use Rattle.std.proofs.Math.Seq.{drop-append_seam}
 use Rattle.std.specs.Prelude.{Result, Ok, Err}
 use Rattle.mlk_expr.specs.Grammar.{Spelled}
-use Rattle.mlk_expr.specs.Theorem.{Stands, Only}
+use Rattle.mlk_expr.specs.Theorem.{Stands}
 use Rattle.mlk_text.specs.declared.failure.Failure.{Failure}
 use Rattle.mlk_text.specs.declared.failure.Failure.TheVariants.{OutOfMemory, Refused}
 use Rattle.mlk_text.specs.declared.fault.Fault.{Fault}
@@ -62,11 +62,11 @@ module _ {A B C : Type 0} {line : List ℕ} {at : ℕ} {IsA : Spelled A} {EndsA 
   -- what a failure of either part says of the whole
   pub denied_first : (e : Failure Fault) → Denied IsA EndsA line at e → Denied IsC EndsC line at e
   denied_first OutOfMemory h = tt
-  denied_first (Refused fault) h = first_nowhere h
+  denied_first (Refused fault) h = (first_nowhere h.0, h.1)
 
   pub denied_second : (a : A) (m : ℕ) → Found IsA EndsA line at a m → (e : Failure Fault) → Denied (IsB a) (EndsB a) line m e → Denied IsC EndsC line at e
   denied_second a m f OutOfMemory h = tt
-  denied_second a m f (Refused fault) h = second_nowhere a m f h
+  denied_second a m f (Refused fault) h = (second_nowhere a m f h.0, h.1)
 
   -- what is answered of the second part is answered of the whole
   pub both_told : {X : Type 0} (a : A) (m : ℕ) → Found IsA EndsA line at a m → (r : Result (X × ℕ) (Failure Fault)) (view : X → B) → Told view (IsB a) (EndsB a) line m r → Told (λ x. make a (view x)) IsC EndsC line at r
@@ -98,7 +98,7 @@ module _ {A C : Type 0} {line : List ℕ} {at : ℕ} {IsA : Spelled A} {EndsA : 
 
   pub turned_denied : (e : Failure Fault) → Denied IsA EndsA line at e → Denied IsC EndsC line at e
   turned_denied OutOfMemory h = tt
-  turned_denied (Refused fault) h = turned_nowhere h
+  turned_denied (Refused fault) h = (turned_nowhere h.0, h.1)
 
   -- what is answered of the part is answered of the whole
   pub turned_told : {X : Type 0} (r : Result (X × ℕ) (Failure Fault)) (view : X → A) → Told view IsA EndsA line at r → Told (λ x. make (view x)) IsC EndsC line at r
@@ -113,11 +113,7 @@ module _ {A : Type 0} (IsA IsC : Spelled A) (Ends : A → List ℕ → Type 0) (
       let is = narrow (view r.0) one.text (drop r.1 line) one.joined one.spelled one.ended in
       (record { text = one.text; within = one.within; joined = one.joined; spelled = is; ended = one.ended }, λ c u rest h is e. only c u rest h (wide c u is) e)
   narrow_told (Err OutOfMemory) view h = tt
-  narrow_told (Err (Refused fault)) view h = λ c u rest g is e. h c u rest g (wide c u is) e
-
--- The law that a text has one tree, for the whole from its parts: what stands at a place is the only thing of its kind there.
-abbrev pub Sole : {A : Type 0} → Spelled A → (A → List ℕ → Type 0) → List ℕ → ℕ → Type 0
-Sole {A = A} Is Ends line at = (a : A) (next : ℕ) → Stands Is Ends line at a next → Only Is Ends line at a next
+  narrow_told (Err (Refused fault)) view h = (λ c u rest g is e. h.0 c u rest g (wide c u is) e, h.1)
 
 -- a text at the front of what begins at a place
 pub stands_at : {A : Type 0} (Is : Spelled A) (Ends : A → List ℕ → Type 0) (line : List ℕ) (at : ℕ) (a : A) (s rest : List ℕ) → at ≤ length line → drop at line ≡ s ++ rest → Is (suc at) a s → Ends a rest
@@ -127,30 +123,3 @@ stands_at Is Ends line at a s rest less h is e =
     let size : length (drop at line) ≡ length s + length rest = ap length h ∙ length-append s rest in
     let all = length-drop at line in
     (record { text = s; within = omega arith; joined = h ∙ ap (λ l. s ++ l) back; spelled = is; ended = subst (Ends a) back e }, back)
-
-module _ {A B C : Type 0} {line : List ℕ} {at : ℕ} {IsA : Spelled A} {EndsA : A → List ℕ → Type 0} {IsB : A → Spelled B} {EndsB : A → B → List ℕ → Type 0} {IsC : Spelled C} {EndsC : C → List ℕ → Type 0} {make : A → B → C}
-    (p : Parts line at IsA EndsA IsB EndsB IsC EndsC make) (within : at ≤ length line) where
-  pub sole_both : Sole IsA EndsA line at → ((a : A) (m : ℕ) → m ≤ length line → Sole (IsB a) (EndsB a) line m) → Sole IsC EndsC line at
-  sole_both one two c n whole =
-      let r = p.apart c whole.text (drop n line) whole.joined whole.spelled whole.ended in
-      let far : drop at line ≡ r.2 ++ (r.3 ++ drop n line) = whole.joined ∙ ap (λ l. l ++ drop n line) (r.4) ∙ append_assoc (r.2) (r.3) (drop n line) in
-      let first = stands_at IsA EndsA line at (r.0) (r.2) (r.3 ++ drop n line) within far (r.6) (r.8) in
-      let m = at + length (r.2) in
-      let second = stands_at (IsB (r.0)) (EndsB (r.0)) line m (r.1) (r.3) (drop n line) first.0.within (sym (first.1)) (subst (λ k. IsB (r.0) k (r.1) (r.3)) (omega arith) (r.7)) (r.9) in
-      let found = both_found p within (r.0) (r.1) m (m + length (r.3)) (first.0, one (r.0) m first.0) (second.0, two (r.0) m first.0.within (r.1) (m + length (r.3)) second.0) in
-      let same = found.1 c whole.text (drop n line) whole.joined whole.spelled whole.ended in
-      λ d u rest h is e.
-      let other = found.1 d u rest h is e in
-      (other.0 ∙ sym same.0, other.1 ∙ sym same.1)
-
-module _ {A C : Type 0} {line : List ℕ} {at : ℕ} {IsA : Spelled A} {EndsA : A → List ℕ → Type 0} {IsC : Spelled C} {EndsC : C → List ℕ → Type 0} {make : A → C}
-    (p : Turned line at IsA EndsA IsC EndsC make) (within : at ≤ length line) where
-  pub sole_turned : Sole IsA EndsA line at → Sole IsC EndsC line at
-  sole_turned one c n whole =
-      let r = p.apart c whole.text (drop n line) whole.joined whole.spelled whole.ended in
-      let part = stands_at IsA EndsA line at (r.0) whole.text (drop n line) within whole.joined (r.2) (r.3) in
-      let found = turned_found p (r.0) (at + length whole.text) (part.0, one (r.0) (at + length whole.text) part.0) in
-      let same = found.1 c whole.text (drop n line) whole.joined whole.spelled whole.ended in
-      λ d u rest h is e.
-      let other = found.1 d u rest h is e in
-      (other.0 ∙ sym same.0, other.1 ∙ sym same.1)

@@ -39,7 +39,7 @@ after_blanks (suc n) t rest (blanks, more, is, all, next) e = subst (λ l. start
 
 module _ (line : List ℕ) (at : ℕ) where
   -- a period and its blanks, before more periods
-  period_parts : byte_at line at ≡ Some 46 → Parts line at (AfterByte 46 (IsRun is_blank)) (RunEnds is_blank) (λ u. ArePeriodsHere) (λ u. PeriodsEnd) ArePeriodsHere PeriodsEnd (λ u n. suc n)
+  pub period_parts : byte_at line at ≡ Some 46 → Parts line at (AfterByte 46 (IsRun is_blank)) (RunEnds is_blank) (λ u. ArePeriodsHere) (λ u. PeriodsEnd) ArePeriodsHere PeriodsEnd (λ u n. suc n)
   period_parts here = record {
     into = λ u n s t (blanks, is, all) more. (blanks, t, ap (λ l. l ++ t) is, all, more);
     ends = λ u n k t rest is before after. after;
@@ -112,7 +112,7 @@ module _ (line : List ℕ) (at count next : ℕ) (l : PeriodsSoFar line at count
       subst (λ k. Found ArePeriodsHere PeriodsEnd line at k next) e (l.found 0 next (none_more line next l.within l.blank missing))
 
 -- blanks, one at least
-abbrev SomeBlanks : ℕ → Unit {0} → List ℕ → Type 0
+abbrev pub SomeBlanks : ℕ → Unit {0} → List ℕ → Type 0
 SomeBlanks at u s = AreBlanks s × (0 < length s)
 
 blank_first : (s rest : List ℕ) → AreBlanks s → 0 < length s → starts is_blank (s ++ rest) ≡ true
@@ -134,14 +134,14 @@ module _ (line : List ℕ) (at : ℕ) (less : at ≤ length line) (blank : ℕ) 
       let stands : Stands SomeBlanks (RunEnds is_blank) line at tt blank = record { text = run.0.text; within = run.0.within; joined = run.0.joined; spelled = (run.0.spelled, omega (arith, place, some)); ended = run.0.ended } in
       (stands, λ c u rest h is e. run.1 c u rest h is.0 e)
 
-  start_parts : Parts line at SomeBlanks (RunEnds is_blank) (λ u. ArePeriodsHere) (λ u. PeriodsEnd) (λ k n s. IsStart n s) PeriodsEnd (λ u n. n)
+  pub start_parts : Parts line at SomeBlanks (RunEnds is_blank) (λ u. ArePeriodsHere) (λ u. PeriodsEnd) (λ k n s. IsStart n s) PeriodsEnd (λ u n. n)
   start_parts = record {
     into = λ u n s t is more. (s, t, refl, is.1, is.0, more);
     ends = λ u n k t rest is before after. after;
     apart = λ c u rest h (blanks, more, is, some, all, next) e. (tt, c, blanks, more, is, refl, (all, some), next, after_blanks c more rest next e, e);
   }
 
-  opening_turned : at < blank → Turned line at (λ k n s. IsStart n s) PeriodsEnd IsOpening OpeningEnds (λ n. Some (suc n))
+  pub opening_turned : at < blank → Turned line at (λ k n s. IsStart n s) PeriodsEnd IsOpening OpeningEnds (λ n. Some (suc n))
   opening_turned some = record {
     into = λ n s is. (n, refl, is);
     ends = λ n rest e. e;

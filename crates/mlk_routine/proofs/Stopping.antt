@@ -9,9 +9,10 @@ use Rattle.mlk_text.specs.declared.fault.Fault.{Fault}
 use Rattle.mlk_expr.specs.Grammar.{Spelled, IsList}
 use Rattle.mlk_expr.specs.Theorem.{Stands, ExprEnds}
 use Rattle.mlk_routine.specs.Told.{Told, Found, Nowhere, Denied, first_of, byte_at}
+use Rattle.mlk_routine.specs.Faults.{IsFaulty}
 use Rattle.mlk_routine.specs.Ends.{is_stop, Lacks, MoreEnds, AreEnded, is_commands_end, is_command_end, is_bare_end, StopEnds}
 use Rattle.mlk_routine.specs.Begins.{front_begins, joined_begins}
-use Rattle.mlk_routine.specs.CommandWords.{is_list}
+use Rattle.mlk_routine.specs.CommandWords.{has_any}
 use Rattle.mlk_routine.specs.CommandGrammar.{IsValue, AreSome, ArePerhaps}
 use Rattle.mlk_routine.specs.Stops.{expr_stop}
 use Rattle.mlk_expr.specs.Trees.{Tree}
@@ -31,7 +32,7 @@ module _ {A : Type 0} (Is : Spelled A) (Ends Less : A → List ℕ → Type 0) (
 
   pub narrowed_denied : (e : Failure Fault) → Denied Is Ends line at e → Denied Is Less line at e
   narrowed_denied OutOfMemory h = tt
-  narrowed_denied (Refused fault) h = λ c u rest g is e. h c u rest g is (less (suc at) c u rest is e)
+  narrowed_denied (Refused fault) h = (λ c u rest g is e. h.0 c u rest g is (less (suc at) c u rest is e), h.1)
 
 pub command_stop : (rest : List ℕ) → is_command_end rest ≡ true → is_stop rest ≡ true
 command_stop [] h = refl
@@ -63,12 +64,12 @@ module _ {A : Type 0} (Is : Spelled A) (begin : (k : ℕ) (a : A) (s : List ℕ)
   no_list E line at h c u rest g is e = cc (sym h ∙ ap is_stop g ∙ front_begins u rest (list_begins (suc at) c u is))
 
   -- no arguments
-  pub bare_found : (line : List ℕ) (at : ℕ) → at ≤ length line → is_bare_end (drop at line) ≡ true → Found (ArePerhaps Is) (λ items. StopEnds (is_list items)) line at [] at
+  pub bare_found : (line : List ℕ) (at : ℕ) → at ≤ length line → is_bare_end (drop at line) ≡ true → Found (ArePerhaps Is) (λ items. StopEnds (has_any items)) line at [] at
   bare_found line at less h =
-      let stands : Stands (ArePerhaps Is) (λ items. StopEnds (is_list items)) line at [] at = record { text = []; within = less; joined = refl; spelled = refl; ended = h } in
+      let stands : Stands (ArePerhaps Is) (λ items. StopEnds (has_any items)) line at [] at = record { text = []; within = less; joined = refl; spelled = refl; ended = h } in
       (stands, λ c u rest g is e. only c u rest g is e)
     where
-      only : (c : List A) (u rest : List ℕ) → drop at line ≡ u ++ rest → ArePerhaps Is (suc at) c u → StopEnds (is_list c) rest → (c ≡ []) × (rest ≡ drop at line)
+      only : (c : List A) (u rest : List ℕ) → drop at line ≡ u ++ rest → ArePerhaps Is (suc at) c u → StopEnds (has_any c) rest → (c ≡ []) × (rest ≡ drop at line)
       only [] u rest g is e = (refl, sym (g ∙ ap (λ l. l ++ rest) is))
       only (a ∷ more) u rest g (r, is, list) e =
           let far : drop at line ≡ 32 ∷ (r ++ rest) = g ∙ ap (λ l. l ++ rest) is in
@@ -76,28 +77,28 @@ module _ {A : Type 0} (Is : Spelled A) (begin : (k : ℕ) (a : A) (s : List ℕ)
           cc (sym stops ∙ front_begins r rest (list_begins (suc (suc at)) (a ∷ more) r list))
 
   -- arguments
-  pub some_found : (line : List ℕ) (at : ℕ) → is_bare_end (drop at line) ≡ false → (items : List A) (n : ℕ) → Found (AreSome Is) (λ items. StopEnds true) line at items n → Found (ArePerhaps Is) (λ items. StopEnds (is_list items)) line at items n
+  pub some_found : (line : List ℕ) (at : ℕ) → is_bare_end (drop at line) ≡ false → (items : List A) (n : ℕ) → Found (AreSome Is) (λ items. StopEnds true) line at items n → Found (ArePerhaps Is) (λ items. StopEnds (has_any items)) line at items n
   some_found line at h [] n (one, only) = no one.spelled
     where
-      no : AreSome Is (suc at) [] one.text → Found (ArePerhaps Is) (λ items. StopEnds (is_list items)) line at [] n
+      no : AreSome Is (suc at) [] one.text → Found (ArePerhaps Is) (λ items. StopEnds (has_any items)) line at [] n
       no (r, is, (first, others, front, rest, same, also, thing, next)) = cc same
   some_found line at h (a ∷ items) n (one, only) =
-      let stands : Stands (ArePerhaps Is) (λ items. StopEnds (is_list items)) line at (a ∷ items) n = record { text = one.text; within = one.within; joined = one.joined; spelled = one.spelled; ended = one.ended } in
+      let stands : Stands (ArePerhaps Is) (λ items. StopEnds (has_any items)) line at (a ∷ items) n = record { text = one.text; within = one.within; joined = one.joined; spelled = one.spelled; ended = one.ended } in
       (stands, λ c u rest g is e. go c u rest g is e)
     where
-      go : (c : List A) (u rest : List ℕ) → drop at line ≡ u ++ rest → ArePerhaps Is (suc at) c u → StopEnds (is_list c) rest → (c ≡ a ∷ items) × (rest ≡ drop n line)
+      go : (c : List A) (u rest : List ℕ) → drop at line ≡ u ++ rest → ArePerhaps Is (suc at) c u → StopEnds (has_any c) rest → (c ≡ a ∷ items) × (rest ≡ drop n line)
       go [] u rest g is e = cc (sym h ∙ ap is_bare_end (g ∙ ap (λ l. l ++ rest) is) ∙ e)
       go (b ∷ more) u rest g is e = only (b ∷ more) u rest g is e
 
-  some_denied : (line : List ℕ) (at : ℕ) → is_bare_end (drop at line) ≡ false → (e : Failure Fault) → Denied (AreSome Is) (λ items. StopEnds true) line at e → Denied (ArePerhaps Is) (λ items. StopEnds (is_list items)) line at e
+  some_denied : (line : List ℕ) (at : ℕ) → is_bare_end (drop at line) ≡ false → (e : Failure Fault) → Denied (AreSome Is) (λ items. StopEnds true) line at e → Denied (ArePerhaps Is) (λ items. StopEnds (has_any items)) line at e
   some_denied line at h OutOfMemory d = tt
-  some_denied line at h (Refused fault) d = λ c u rest g is e. go c u rest g is e
+  some_denied line at h (Refused fault) d = (λ c u rest g is e. go c u rest g is e, d.1)
     where
-      go : (c : List A) (u rest : List ℕ) → drop at line ≡ u ++ rest → ArePerhaps Is (suc at) c u → StopEnds (is_list c) rest → ⊥
+      go : (c : List A) (u rest : List ℕ) → drop at line ≡ u ++ rest → ArePerhaps Is (suc at) c u → StopEnds (has_any c) rest → ⊥
       go [] u rest g is e = cc (sym h ∙ ap is_bare_end (g ∙ ap (λ l. l ++ rest) is) ∙ e)
-      go (b ∷ more) u rest g is e = d (b ∷ more) u rest g is e
+      go (b ∷ more) u rest g is e = d.0 (b ∷ more) u rest g is e
 
-  pub some_told : {X : Type 0} (line : List ℕ) (at : ℕ) → is_bare_end (drop at line) ≡ false → (view : X → List A) (r : Result (X × ℕ) (Failure Fault)) → Told view (AreSome Is) (λ items. StopEnds true) line at r → Told view (ArePerhaps Is) (λ items. StopEnds (is_list items)) line at r
+  pub some_told : {X : Type 0} (line : List ℕ) (at : ℕ) → is_bare_end (drop at line) ≡ false → (view : X → List A) (r : Result (X × ℕ) (Failure Fault)) → Told view (AreSome Is) (λ items. StopEnds true) line at r → Told view (ArePerhaps Is) (λ items. StopEnds (has_any items)) line at r
   some_told line at h view (Ok r) t = some_found line at h (view r.0) r.1 t
   some_told line at h view (Err e) t = some_denied line at h e t
 
@@ -115,13 +116,16 @@ module _ {A : Type 0} (Is : Spelled A) (begin : (k : ℕ) (a : A) (s : List ℕ)
 
 -- where no one space stands before arguments, there are none
 pub unspaced : {A : Type 0} (Is : Spelled A) (begin : (k : ℕ) (a : A) (s : List ℕ) → Is k a s → is_stop s ≡ false) (E : A → List ℕ → Type 0) (line : List ℕ) (at : ℕ) (e : Failure Fault)
-    → (byte_at line at ≡ Some 32 → is_stop (drop (at + 1) line) ≡ true) → Denied (AfterByte 32 Is) E line at e
+    → (byte_at line at ≡ Some 32 → is_stop (drop (at + 1) line) ≡ true) × IsFaulty line e → Denied (AfterByte 32 Is) E line at e
 unspaced Is begin E line at OutOfMemory h = tt
-unspaced Is begin E line at (Refused fault) h = λ c u rest g (r, is, thing) e.
-    let far : drop at line ≡ 32 ∷ (r ++ rest) = g ∙ ap (λ l. l ++ rest) is in
-    let next : drop (at + 1) line ≡ r ++ rest = ap (λ n. drop n line) (add-one at) ∙ drop_next line at 32 (r ++ rest) far in
-    let stops = h (ap first_of far) in
-    cc (sym stops ∙ ap is_stop next ∙ front_begins r rest (begin (suc (suc at)) c r thing))
+unspaced Is begin E line at (Refused fault) h = (none, h.1)
+  where
+    none : Nowhere (AfterByte 32 Is) E line at
+    none c u rest g (r, is, thing) e =
+        let far : drop at line ≡ 32 ∷ (r ++ rest) = g ∙ ap (λ l. l ++ rest) is in
+        let next : drop (at + 1) line ≡ r ++ rest = ap (λ n. drop n line) (add-one at) ∙ drop_next line at 32 (r ++ rest) far in
+        let stops = h.0 (ap first_of far) in
+        cc (sym stops ∙ ap is_stop next ∙ front_begins r rest (begin (suc (suc at)) c r thing))
 
 -- an expression that ends where a command may
 pub value_end : (k : ℕ) (t : Tree) (s rest : List ℕ) → AfterByte 32 IsValue k t s → is_command_end rest ≡ true → ExprEnds t rest

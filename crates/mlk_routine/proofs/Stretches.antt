@@ -20,7 +20,7 @@ module _ (kind : ℕ → Bool) where
       go (inr other) r = ([], b ∷ xs, refl, refl, other, rw other refl)
 
   -- there is one such run
-  one_run : (s t ys zs : List ℕ) → s ++ ys ≡ t ++ zs → list_all kind s ≡ true → list_all kind t ≡ true → starts kind ys ≡ false → starts kind zs ≡ false → ys ≡ zs
+  pub one_run : (s t ys zs : List ℕ) → s ++ ys ≡ t ++ zs → list_all kind s ≡ true → list_all kind t ≡ true → starts kind ys ≡ false → starts kind zs ≡ false → ys ≡ zs
   one_run [] [] ys zs h all also stop end = h
   one_run [] (c ∷ t) ys zs h all also stop end = let p = and_parts (kind c) (list_all kind t) also in cc (sym stop ∙ ap (starts kind) h ∙ p.0)
   one_run (b ∷ s) [] ys zs h all also stop end = let p = and_parts (kind b) (list_all kind s) all in cc (sym end ∙ ap (starts kind) (sym h) ∙ p.0)

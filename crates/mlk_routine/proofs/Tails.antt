@@ -114,7 +114,7 @@ module _ (kind : ℕ → Bool) where
       go (inr e) ih = rw e refl
 
 -- a comment, or nothing, up to the line's end
-abbrev IsNote : ℕ → Unit {0} → List ℕ → Type 0
+abbrev pub IsNote : ℕ → Unit {0} → List ℕ → Type 0
 IsNote at u s = IsComment s
 
 drop_all : (line : List ℕ) → drop (length line) line ≡ []
@@ -131,7 +131,7 @@ note_nowhere : (line : List ℕ) (at : ℕ) → (IsComment (drop at line) → �
 note_nowhere line at none c u rest h is e = none (subst IsComment (sym (h ∙ ap (λ l. u ++ l) e ∙ append-nil u)) is)
 
 module _ (level : ℕ) (line : List ℕ) (at : ℕ) where
-  tail_parts : Parts line at (AreCommands level 0) CommandsEnd (λ c. IsNote) (λ c. AtEnd) (IsTail level) AtEnd (λ c u. c)
+  pub tail_parts : Parts line at (AreCommands level 0) CommandsEnd (λ c. IsNote) (λ c. AtEnd) (IsTail level) AtEnd (λ c u. c)
   tail_parts = record {
     into = λ c u s t one two. (s, t, refl, one, two);
     ends = λ c u k t rest is before after. after;

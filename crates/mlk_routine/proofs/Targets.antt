@@ -16,7 +16,7 @@ use Rattle.mlk_routine.specs.declared.tree.Part.{Part}
 use Rattle.mlk_routine.specs.declared.tree.Part.TheVariants as part
 use Rattle.mlk_routine.specs.Trees.{VariableTree, TargetTree, SetWhole, SetPart, SetTree, SetTo}
 use Rattle.mlk_routine.specs.Told.{Found, Nowhere, first_of, byte_at}
-use Rattle.mlk_routine.specs.Ends.{Lacks, MoreEnds, AreEnded, AnyEnds, VariableEnds, Begins, SingleEnds, OneEnds, NextEnds, part_of, IsOpening, TargetEnds, SetEnds}
+use Rattle.mlk_routine.specs.Ends.{Lacks, MoreEnds, AreEnded, AnyEnds, VariableEnds, Begins, SingleEnds, OneEnds, NextEnds, part_of, IsPartOpening, TargetEnds, SetEnds}
 use Rattle.mlk_routine.specs.Stops.{expr_stop}
 use Rattle.mlk_routine.specs.CommandGrammar.{Both, IsVariable, IsValue, IsOneOrEnclosed, is_part_word, IsTarget, IsSet}
 use Rattle.mlk_routine.proofs.Sequences.{Parts, Turned, stands_at}
@@ -35,7 +35,7 @@ same_part p s t e word is =
     let same = same_case s t e in
     (sym (lower_word s) ∙ ap (list_all is_letter) same ∙ lower_word t ∙ word, case_part s t same ∙ is)
 
-part_reads : (p : Part) (s : List ℕ) → is_part_word p s ≡ true → IsWord s × (part_of s ≡ Some p)
+pub part_reads : (p : Part) (s : List ℕ) → is_part_word p s ≡ true → IsWord s × (part_of s ≡ Some p)
 unfolding part_of
 part_reads part.Piece s h = elim (or_cases (str_eq_ignore_ascii_case s (codes "P")) (str_eq_ignore_ascii_case s (codes "PIECE")) h) [
   | inl e ↦ same_part part.Piece s (codes "P") e refl refl
@@ -61,39 +61,39 @@ module _ (line : List ℕ) (at : ℕ) (here : byte_at line at ≡ Some 36) (word
   there : drop at line ≡ 36 ∷ drop (at + 1) line
   there = byte_there line at 36 here ∙ ap (λ k. 36 ∷ drop k line) (sym (add-one at))
 
-  reads : (w u rest : List ℕ) → drop at line ≡ u ++ rest → u ≡ 36 ∷ (w ++ 40 ∷ []) → IsWord w → (w ≡ word) × (40 ∷ rest ≡ after)
-  reads w u rest h is good =
+  pub target_reads : (w u rest : List ℕ) → drop at line ≡ u ++ rest → u ≡ 36 ∷ (w ++ 40 ∷ []) → IsWord w → (w ≡ word) × (40 ∷ rest ≡ after)
+  target_reads w u rest h is good =
       let whole : 36 ∷ drop (at + 1) line ≡ 36 ∷ (w ++ 40 ∷ rest) = sym there ∙ h ∙ ap (λ l. l ++ rest) is ∙ ap (λ l. 36 ∷ l) (append_assoc w (40 ∷ []) rest) in
       let a : drop (at + 1) line ≡ w ++ 40 ∷ rest = cc whole in
       let b = word-reads w (40 ∷ rest) good refl in
       let r : (word, after) ≡ (w, 40 ∷ rest) = read ∙ ap word_at a ∙ b in
       (sym (ap (λ (p : List ℕ × List ℕ). p.0) r), sym (ap (λ (p : List ℕ × List ℕ). p.1) r))
 
-  pub no_opening : (part_of word ≡ None) ⊎ (byte_at after 0 ≡ Some 40 → ⊥) → Nowhere IsOpening AnyEnds line at
+  pub no_opening : (part_of word ≡ None) ⊎ (byte_at after 0 ≡ Some 40 → ⊥) → Nowhere IsPartOpening AnyEnds line at
   no_opening (inl none) p u rest h (w, is, good) e =
       let f = part_reads p w good in
-      let r = reads w u rest h is f.0 in
+      let r = target_reads w u rest h is f.0 in
       cc (sym f.1 ∙ ap part_of r.0 ∙ none)
-  no_opening (inr missing) p u rest h (w, is, good) e = missing (ap first_of (sym (reads w u rest h is (part_reads p w good).0).1))
+  no_opening (inr missing) p u rest h (w, is, good) e = missing (ap first_of (sym (target_reads w u rest h is (part_reads p w good).0).1))
 
-  pub opening_found : (p : Part) → part_of word ≡ Some p → byte_at after 0 ≡ Some 40 → Found IsOpening AnyEnds line at p (length line - length after + 1)
+  pub opening_found : (p : Part) → part_of word ≡ Some p → byte_at after 0 ≡ Some 40 → Found IsPartOpening AnyEnds line at p (length line - length after + 1)
   opening_found p of parenthesis =
       let s = word-spelled word (drop (at + 1) line) after (sym read) in
       let opens : after ≡ 40 ∷ drop 1 after = byte_there after 0 40 parenthesis in
       let text = 36 ∷ (word ++ 40 ∷ []) in
       let joined : drop at line ≡ text ++ drop 1 after = there ∙ ap (λ l. 36 ∷ l) (s.1 ∙ ap (λ l. word ++ l) opens ∙ sym (append_assoc word (40 ∷ []) (drop 1 after))) in
       let less = byte_before line at 36 here in
-      let stands = stands_at IsOpening AnyEnds line at p text (drop 1 after) (omega arith) joined (word, refl, part_written p word of) tt in
+      let stands = stands_at IsPartOpening AnyEnds line at p text (drop 1 after) (omega arith) joined (word, refl, part_written p word of) tt in
       let all = length-drop (at + 1) line in
       let sum : length (drop (at + 1) line) ≡ length word + length after = ap length s.1 ∙ length-append word after in
       let size : length text ≡ suc (length word + 1) = ap suc (length-append word (40 ∷ [])) in
       let end : at + length text ≡ length line - length after + 1 = omega arith in
-      (subst (λ n. Stands IsOpening AnyEnds line at p n) end stands.0, λ c u rest h is e. only c u rest h is (stands.1 ∙ ap (λ n. drop n line) end) opens)
+      (subst (λ n. Stands IsPartOpening AnyEnds line at p n) end stands.0, λ c u rest h is e. only c u rest h is (stands.1 ∙ ap (λ n. drop n line) end) opens)
     where
-      only : (c : Part) (u rest : List ℕ) → drop at line ≡ u ++ rest → IsOpening (suc at) c u → drop 1 after ≡ drop (length line - length after + 1) line → after ≡ 40 ∷ drop 1 after → (c ≡ p) × (rest ≡ drop (length line - length after + 1) line)
+      only : (c : Part) (u rest : List ℕ) → drop at line ≡ u ++ rest → IsPartOpening (suc at) c u → drop 1 after ≡ drop (length line - length after + 1) line → after ≡ 40 ∷ drop 1 after → (c ≡ p) × (rest ≡ drop (length line - length after + 1) line)
       only c u rest h (w, is, good) back opens =
           let f = part_reads c w good in
-          let r = reads w u rest h is f.0 in
+          let r = target_reads w u rest h is f.0 in
           let same : rest ≡ drop 1 after = let k : 40 ∷ rest ≡ 40 ∷ drop 1 after = r.1 ∙ opens in cc k in
           (same_Some c p (sym f.1 ∙ ap part_of r.0 ∙ of), same ∙ back)
 
@@ -165,21 +165,21 @@ closing_parts line at = record {
   apart = λ c u rest h (inner, is, one) e. (c, tt, inner, 41 ∷ [], is, refl, one, refl, inner_close (c.0) (c.1) rest, tt);
 }
 
-pub target_parts : (line : List ℕ) (at : ℕ) → byte_at line at ≡ Some 36 → Parts line at IsOpening AnyEnds (λ p. IsClosing) (λ p. AnyEnds) IsTarget TargetEnds (λ p q. SetPart p (q.0) (q.1))
+pub target_parts : (line : List ℕ) (at : ℕ) → byte_at line at ≡ Some 36 → Parts line at IsPartOpening AnyEnds (λ p. IsClosing) (λ p. AnyEnds) IsTarget TargetEnds (λ p q. SetPart p (q.0) (q.1))
 target_parts line at here = record {
   into = λ p q s t one two. into p q s t one two;
   ends = λ p q k t rest is before after. tt;
   apart = λ c u rest h is e. apart c u rest h is;
 }
   where
-    into : (p : Part) (q : VariableTree × List Tree) (s t : List ℕ) → IsOpening (suc at) p s → IsClosing (suc at + length s) q t → IsTarget (suc at) (SetPart p (q.0) (q.1)) (s ++ t)
+    into : (p : Part) (q : VariableTree × List Tree) (s t : List ℕ) → IsPartOpening (suc at) p s → IsClosing (suc at + length s) q t → IsTarget (suc at) (SetPart p (q.0) (q.1)) (s ++ t)
     into p q s t (word, is, good) (inner, closes, one) =
         let whole = ap (λ l. l ++ t) is ∙ ap (λ l. 36 ∷ l) (append_assoc word (40 ∷ []) t) ∙ ap (λ l. 36 ∷ (word ++ 40 ∷ l)) closes in
         let size : length s ≡ suc (length word + 1) = ap length is ∙ ap suc (length-append word (40 ∷ [])) in
         (word, inner, 40 ∷ (inner ++ 41 ∷ []), whole, good, refl, subst (λ k. IsInner k q inner) (omega (arith, size)) one)
 
     apart : (c : TargetTree) (u rest : List ℕ) → drop at line ≡ u ++ rest → IsTarget (suc at) c u
-        → (p : Part) × (q : VariableTree × List Tree) × (s t : List ℕ) × (u ≡ s ++ t) × (c ≡ SetPart p (q.0) (q.1)) × IsOpening (suc at) p s × IsClosing (suc at + length s) q t × Unit {0} × Unit {0}
+        → (p : Part) × (q : VariableTree × List Tree) × (s t : List ℕ) × (u ≡ s ++ t) × (c ≡ SetPart p (q.0) (q.1)) × IsPartOpening (suc at) p s × IsClosing (suc at + length s) q t × Unit {0} × Unit {0}
     apart (SetWhole v) u rest h is = absurd (starts_lacking 36 refl u rest (variable_starts Everything (suc at) v u is) (sym (ap first_of h) ∙ here))
     apart (SetPart p v arguments) u rest h (word, inner, enclosed, is, good, held, one) =
         let s = 36 ∷ (word ++ 40 ∷ []) in

@@ -1,10 +1,9 @@
 -- Routines, from their lines and blocks.
-use Rattle.std.proofs.Common.{◌≡◌, ◌<◌, ◌≤◌, ℕ, suc, List, [], ◌∷◌, ◌++◌, length, map, Bool, true, false, inl, inr, refl, sym, ap, ◌∙◌, arith, subst, append_assoc, append-nil}
+use Rattle.std.proofs.Common.{◌≡◌, ◌<◌, ◌≤◌, ℕ, suc, List, [], ◌∷◌, ◌++◌, length, Bool, true, false, inl, inr, refl, sym, ap, ◌∙◌, arith, subst, append_assoc, append-nil}
 use Rattle.std.specs.Prelude.{◌⊎◌, nat_le}
 use Rattle.std.proofs.lemmas.Bool.{cases_Bool}
 use Rattle.std.proofs.lemmas.Bool.Decides.{nat_tests}
 use Rattle.std.specs.Borrow.{Bor}
-use Rattle.bstr.specs.Text.{lines_of, without_terminator}
 use Rattle.mlk_text.specs.Spellings.{IsName}
 use Rattle.mlk_text.specs.declared.failure.Failure.{Failure}
 use Rattle.mlk_text.specs.declared.failure.Failure.TheVariants.{OutOfMemory, Refused}
@@ -12,7 +11,7 @@ use Rattle.mlk_text.specs.declared.fault.Fault.{Fault}
 use Rattle.mlk_routine.specs.Trees.{HeadTree, LineHead, LineTrees, no_lines, line, RoutineTree, Named_routine, CommandTrees}
 use Rattle.mlk_routine.specs.RoutineGrammar.{IsRoutine, AreLines, IsLine, IsBody, heads_of, level_of, reaches, AreNested, percent}
 use Rattle.mlk_routine.specs.Lines.{Follow, Upto, AllPlain, AreHeads, AreHeadsOnly, NoHeads, IsBlock, texts_of}
-use Rattle.mlk_routine.specs.Refusals.{NoRoutine}
+use Rattle.mlk_routine.specs.Refusals.{NoRoutine, lines_in}
 use Rattle.mlk_routine.proofs.Cutting.{cut_only, cut_found, cut_plain}
 use Rattle.mlk_routine.proofs.Nesting.{nested_once}
 use Rattle.mlk_routine.proofs.UnderHeads.{follow_upto}
@@ -68,13 +67,9 @@ nothing_left n front (h ∷ rest) texts lines upto =
     let low = upto.0 in
     absurd (omega (arith, high, low))
 
--- the lines of a text
-abbrev pub lines_in : List ℕ → List (List ℕ)
-lines_in text = map without_terminator (lines_of text)
-
 module _ (stem text : List ℕ) where
   -- what is known of any tree of the text
-  routine_parts : (name : List ℕ) (lines : LineTrees) → IsRoutine stem (Named_routine name lines) text
+  pub routine_parts : (name : List ℕ) (lines : LineTrees) → IsRoutine stem (Named_routine name lines) text
       → (name ≡ percent stem) × IsName name × (length text ≤ 1048576) × (length (lines_in text) ≤ 65535) × AreHeads (lines_in text) (heads_of lines) × AreNested 1 lines
   unfolding IsRoutine
   routine_parts name lines (texts, spelled, is_name, short, cut, few, are_lines, nested, distinct) =

@@ -30,7 +30,7 @@ use Rattle.mlk_routine.specs.CommandWords.{is_word_of, is_for, may_have_conditio
 abbrev pub Both : (ℕ → List ℕ → Type 0) → (ℕ → List ℕ → Type 0) → ℕ → List ℕ → Type 0
 Both First Second at s = (front rest : List ℕ) × (s ≡ front ++ rest) × First at front × Second (at + length front) rest
 
--- the same with a byte between them, or before one
+-- a thing after this byte
 abbrev pub After : ℕ → (ℕ → List ℕ → Type 0) → ℕ → List ℕ → Type 0
 After b Next at s = (rest : List ℕ) × (s ≡ b ∷ rest) × Next (suc at) rest
 
@@ -47,7 +47,8 @@ IsAfter b allows at (Some t) s = After b (λ n r. IsExprWhere allows n t r) at s
 abbrev pub IsCondition : ℕ → Option Tree → List ℕ → Type 0
 IsCondition = IsAfter 58 Everything
 
--- A timeout. Standard: timeout. That no call stands in it is this project's own choice: the order is not certain.
+-- A timeout, or none. Standard: timeout. No call stands in any, since it is not certain what is evaluated first; LOCK
+-- without a sign asks more.
 abbrev pub IsTimeout : Allows → ℕ → Option Tree → List ℕ → Type 0
 IsTimeout = IsAfter 58
 
@@ -60,7 +61,7 @@ abbrev pub IsOneOrEnclosed : {A : Type 0} → Spelled A → ℕ → List A → L
 IsOneOrEnclosed {A = A} Item at items s = ((item : A) × (items ≡ item ∷ []) × Item at item s)
     ⊎ AreEnclosed Item at items s
 
--- a local or a global with its subscripts; of them it is asked what may stand there
+-- a local or a global; what may stand there is asked of its subscripts alone
 abbrev pub IsVariable : Allows → ℕ → VariableTree → List ℕ → Type 0
 IsVariable allows at (Named column name) s = (column ≡ column_at at) × IsReferenceWhere allows at name s
 
@@ -84,7 +85,7 @@ abbrev pub IsCall : Allows → Passing → ℕ → CallTree → List ℕ → Typ
 IsCall allows passing at (Called column callee actuals) s = (column ≡ column_at at)
     × Both (λ n r. IsCalleeText n callee r) (λ n r. IsGiven allows passing n actuals r) at s
 
--- Actuals before a postconditional hold no global and no call: it is not certain what is evaluated first.
+-- In actuals before a postconditional stand no globals and no calls: it is not certain what is evaluated first.
 abbrev pub before_condition : Option Tree → Allows
 before_condition None = Everything
 before_condition (Some t) = NoTouches
@@ -111,8 +112,8 @@ abbrev pub IsNew : ℕ → NewTree → List ℕ → Type 0
 IsNew at (NewOne column name) s = (column ≡ column_at at) × IsNameText at name s
 IsNew at (NewAllBut names) s = IsAllBut at names s
 
--- Standard: LOCK. Without a sign what is held is released too, so neither globals nor calls stand there, since it is
--- not certain what is evaluated first; the timeout of `-` is left out.
+-- Standard: LOCK. Without a sign what is held is released too, so neither globals nor calls stand in the subscripts of
+-- its names or in its timeout, since it is not certain what is evaluated first. The timeout of `-` is left out.
 abbrev pub sign_text : Sign → List ℕ
 sign_text sign.None = []
 sign_text sign.Plus = codes "+"
@@ -132,7 +133,7 @@ abbrev pub IsLock : ℕ → LockTree → List ℕ → Type 0
 IsLock at (LockNames sign names timeout) s = Both (λ n r. r ≡ sign_text sign)
     (Both (λ n r. IsOneOrEnclosed (IsVariable (in_names sign)) n names r) (λ n r. IsLockTimeout sign n timeout r)) at s
 
--- Standard: MERGE. Calls are left out, since it is not certain what is evaluated first.
+-- Standard: MERGE. No calls stand in the subscripts of its variables, since it is not certain what is evaluated first.
 abbrev pub IsMerge : ℕ → MergeTree → List ℕ → Type 0
 IsMerge at (MergeInto target source) s =
     Both (λ n r. IsVariable NoCalls n target r) (After 61 (λ n r. IsVariable NoCalls n source r)) at s
@@ -154,8 +155,8 @@ IsRead at (ReadLine v most timeout) s = Both (λ n r. IsLocal n v r)
 IsRead at (ReadCharacter v timeout) s =
     After 42 (Both (λ n r. IsLocal n v r) (λ n r. IsTimeout NoCalls n timeout r)) at s
 
--- Standard: SET, setleft. In a target that is part of a value calls are left out, since it is not certain what is
--- evaluated first; so is SET of a special variable.
+-- Standard: SET, setleft. In a target that is part of a value no calls stand in the subscripts of its variable or in its
+-- arguments, since it is not certain what is evaluated first. Left out: SET of a special variable.
 abbrev pub is_part_word : Part → List ℕ → Bool
 is_part_word part.Piece = is_either (codes "P") (codes "PIECE")
 is_part_word part.Extract = is_either (codes "E") (codes "EXTRACT")
@@ -203,28 +204,28 @@ abbrev pub IsQuit : Bool → ℕ → Option Tree → List ℕ → Type 0
 IsQuit returns at None s = s ≡ []
 IsQuit returns at (Some t) s = (returns ≡ true) × After 32 (λ n r. IsValue n t r) at s
 
-abbrev pub AreArguments : Bool → ℕ → ActionTree → List ℕ → Type 0
-AreArguments returns at (Do calls) s = ArePerhaps IsDo at calls s
-AreArguments returns at Else s = s ≡ []
-AreArguments returns at Halt s = s ≡ []
-AreArguments returns at (Hang times) s = AreSome IsValue at times s
-AreArguments returns at (If conditions) s = ArePerhaps IsValue at conditions s
-AreArguments returns at (Job calls) s = AreSome IsJob at calls s
-AreArguments returns at (Kill kills) s = ArePerhaps IsKill at kills s
-AreArguments returns at (Lock locks) s = ArePerhaps IsLock at locks s
-AreArguments returns at (Merge merges) s = AreSome IsMerge at merges s
-AreArguments returns at (New news) s = ArePerhaps IsNew at news s
-AreArguments returns at (Quit value) s = IsQuit returns at value s
-AreArguments returns at (Read reads) s = AreSome IsRead at reads s
-AreArguments returns at (Set sets) s = AreSome IsSet at sets s
-AreArguments returns at (Write writes) s = AreSome IsWrite at writes s
+abbrev pub AreArgumentsOf : Bool → ℕ → ActionTree → List ℕ → Type 0
+AreArgumentsOf returns at (Do calls) s = ArePerhaps IsDo at calls s
+AreArgumentsOf returns at Else s = s ≡ []
+AreArgumentsOf returns at Halt s = s ≡ []
+AreArgumentsOf returns at (Hang times) s = AreSome IsValue at times s
+AreArgumentsOf returns at (If conditions) s = ArePerhaps IsValue at conditions s
+AreArgumentsOf returns at (Job calls) s = AreSome IsJob at calls s
+AreArgumentsOf returns at (Kill kills) s = ArePerhaps IsKill at kills s
+AreArgumentsOf returns at (Lock locks) s = ArePerhaps IsLock at locks s
+AreArgumentsOf returns at (Merge merges) s = AreSome IsMerge at merges s
+AreArgumentsOf returns at (New news) s = ArePerhaps IsNew at news s
+AreArgumentsOf returns at (Quit value) s = IsQuit returns at value s
+AreArgumentsOf returns at (Read reads) s = AreSome IsRead at reads s
+AreArgumentsOf returns at (Set sets) s = AreSome IsSet at sets s
+AreArgumentsOf returns at (Write writes) s = AreSome IsWrite at writes s
 
 -- A command but FOR: its word, perhaps a postconditional, its arguments. Standard: commands.
 abbrev pub IsCommand : Bool → ℕ → CommandTree → List ℕ → Type 0
 IsCommand returns at (Does column condition action) s = (column ≡ column_at at)
     × ((condition ≡ None) ⊎ (may_have_condition action ≡ true))
     × Both (λ n r. is_word_of action r ≡ true)
-    (Both (λ n r. IsCondition n condition r) (λ n r. AreArguments returns n action r)) at s
+    (Both (λ n r. IsCondition n condition r) (λ n r. AreArgumentsOf returns n action r)) at s
 
 abbrev pub least_of : CommandTree → ℕ
 least_of (Does column condition action) = least_after (has_arguments action)
@@ -242,8 +243,9 @@ is_space b = b == 32
 abbrev pub IsGap : ℕ → List ℕ → List ℕ → Type 0
 IsGap least gap following = (list_all is_space gap ≡ true) × ((following ≡ []) ⊎ (least ≤ length gap))
 
--- Commands with the spaces after each. Inside so many FORs a FOR is the next one of its line; a line has 255 at most,
--- which is this project's own choice. Standard: line body, FOR.
+-- Commands with the spaces after each. The index of a FOR counts those of its line from 1: it is one more than the number
+-- of FORs that it stands in, which hold all that follows them. It is 255 at most, which is this project's own choice.
+-- Standard: line body, FOR.
 abbrev pub AreCommands : ℕ → ℕ → ℕ → CommandTrees → List ℕ → Type 0
 AreCommands level loops at finished s = s ≡ []
 AreCommands level loops at (then_command first rest) s = (text gap following : List ℕ)

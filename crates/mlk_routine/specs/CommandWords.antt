@@ -32,19 +32,20 @@ may_have_condition (If conditions) = false
 may_have_condition Else = false
 may_have_condition action = true
 
--- whether arguments stand after the word
-abbrev pub is_list : {A : Type 0} → List A → Bool
-is_list [] = false
-is_list (a ∷ more) = true
+-- whether there are any items
+abbrev pub has_any : {A : Type 0} → List A → Bool
+has_any [] = false
+has_any (a ∷ more) = true
 
+-- whether arguments stand after the word
 abbrev pub has_arguments : ActionTree → Bool
-has_arguments (Do calls) = is_list calls
+has_arguments (Do calls) = has_any calls
 has_arguments Else = false
 has_arguments Halt = false
-has_arguments (If conditions) = is_list conditions
-has_arguments (Kill kills) = is_list kills
-has_arguments (Lock locks) = is_list locks
-has_arguments (New news) = is_list news
+has_arguments (If conditions) = has_any conditions
+has_arguments (Kill kills) = has_any kills
+has_arguments (Lock locks) = has_any locks
+has_arguments (New news) = has_any news
 has_arguments (Quit None) = false
 has_arguments action = true
 

@@ -213,8 +213,8 @@ part_of word =
     else if is_part_word part.Extract word then Some part.Extract
     else None
 
-abbrev pub IsOpening : ℕ → Part → List ℕ → Type 0
-IsOpening at part s = (word : List ℕ) × (s ≡ 36 ∷ (word ++ 40 ∷ [])) × (is_part_word part word ≡ true)
+abbrev pub IsPartOpening : ℕ → Part → List ℕ → Type 0
+IsPartOpening at part s = (word : List ℕ) × (s ≡ 36 ∷ (word ++ 40 ∷ [])) × (is_part_word part word ≡ true)
 
 abbrev pub TargetEnds : TargetTree → List ℕ → Type 0
 TargetEnds (SetWhole v) rest = VariableEnds v rest

@@ -1,5 +1,6 @@
--- What is told of a fault in a line. For private clauses alone. This project's own.
-use Rattle.std.specs.Prelude.{ℕ, suc, ◌≡◌, Option, []}
+-- What is told of a fault in a line. This project's own.
+use Rattle.std.specs.Prelude.{ℕ, suc, ◌≡◌, ◌≤◌, ◌==◌, ◌&&◌, ◌||◌, nat_le, is_some, Bool, true, Option, List, [], length}
+use Rattle.mlk_text.specs.Codes.{number_of}
 use Rattle.mlk_text.specs.Places.{column_at}
 use Rattle.mlk_text.specs.declared.code.Code.{Code}
 use Rattle.mlk_text.specs.declared.failure.Failure.{Failure}
@@ -19,3 +20,23 @@ pub record IsTold (code : Code) (left_out : Option LeftOut) (at : ℕ) (fault : 
 abbrev pub Tells : Code → Option LeftOut → ℕ → Failure Fault → Type 0
 Tells code left_out at OutOfMemory = ⊥
 Tells code left_out at (Refused fault) = IsTold code left_out at fault
+
+-- The numbers of what may be told of a line: those of expressions, and those of lines and commands.
+abbrev pub may_tell : ℕ → Bool
+may_tell n = (nat_le 101 n && nat_le n 104) || (nat_le 201 n && nat_le n 210)
+
+-- The numbers that a word goes with: it says what is left out.
+abbrev pub has_word : ℕ → Bool
+has_word n = (n == 102) || (n == 206)
+
+-- A fault of this line: one of these codes, with a word just where one goes with it, in a column up to the one after the
+-- line's end.
+pub record IsLineFault (line : List ℕ) (fault : Fault) : Type 0 where
+  pub coded : may_tell (number_of fault.code) ≡ true
+  pub worded : is_some fault.left_out ≡ has_word (number_of fault.code)
+  pub first : 1 ≤ fault.place.column
+  pub last : fault.place.column ≤ suc (length line)
+
+abbrev pub IsFaulty : List ℕ → Failure Fault → Type 0
+IsFaulty line OutOfMemory = Unit {0}
+IsFaulty line (Refused fault) = IsLineFault line fault

@@ -12,8 +12,9 @@ use Rattle.mlk_routine.specs.declared.word.Word.TheVariants as word
 use Rattle.mlk_routine.specs.Trees.{ActionTree, Do, Else, Halt, Hang, If, Job, Kill, Lock, Merge, New, Quit, Read, Set}
 use Rattle.mlk_routine.specs.Trees.{Write}
 use Rattle.mlk_routine.specs.CommandWords.{has_arguments}
-use Rattle.mlk_routine.specs.CommandGrammar.{IsCondition, AreArguments}
+use Rattle.mlk_routine.specs.CommandGrammar.{IsCondition, AreArgumentsOf}
 use Rattle.mlk_routine.specs.Told.{byte_at}
+use Rattle.mlk_routine.specs.Faults.{IsFaulty}
 use Rattle.mlk_routine.specs.Ends.{starts, is_stop, is_bare_end, AfterEnds, StopEnds}
 
 -- the word of what a command does
@@ -94,7 +95,7 @@ ConditionEnds w condition rest = has_condition w ≡ true → AfterEnds 58 condi
 
 -- the arguments of one of the word's commands
 abbrev pub IsActionOf : Word → Bool → ℕ → ActionTree → List ℕ → Type 0
-IsActionOf w returns at action s = Means w action × AreArguments returns at action s
+IsActionOf w returns at action s = Means w action × AreArgumentsOf returns at action s
 
 abbrev pub ActionEnds : ActionTree → List ℕ → Type 0
 ActionEnds action rest = StopEnds (has_arguments action) rest
@@ -102,12 +103,12 @@ ActionEnds action rest = StopEnds (has_arguments action) rest
 -- no arguments, where a command may end without
 abbrev pub IsNothing : List ℕ → ℕ → Result ℕ (Failure Fault) → Type 0
 IsNothing line at (Ok next) = (next ≡ at) × (is_bare_end (drop at line) ≡ true)
-IsNothing line at (Err e) = is_bare_end (drop at line) ≡ false
+IsNothing line at (Err e) = (is_bare_end (drop at line) ≡ false) × IsFaulty line e
 
 -- the one space before arguments
 abbrev pub IsSpaced : List ℕ → ℕ → Result ℕ (Failure Fault) → Type 0
 IsSpaced line at (Ok next) = (next ≡ at + 1) × (byte_at line at ≡ Some 32)
-IsSpaced line at (Err e) = byte_at line at ≡ Some 32 → is_stop (drop (at + 1) line) ≡ true
+IsSpaced line at (Err e) = (byte_at line at ≡ Some 32 → is_stop (drop (at + 1) line) ≡ true) × IsFaulty line e
 
 -- what `H` does, by what stands after it
 abbrev pub halting : List Tree → ActionTree

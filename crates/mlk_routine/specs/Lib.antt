@@ -3,8 +3,8 @@ pub mod Views
 pub mod CommandWords
 pub mod CommandGrammar
 pub mod RoutineGrammar
-pub mod Told
 pub mod Faults
+pub mod Told
 pub mod Ends
 pub mod Stops
 pub mod Begins

@@ -20,6 +20,9 @@ use Rattle.mlk_routine.specs.declared.routine.Line.{Line}
 use Rattle.mlk_routine.specs.Views.{line_of}
 use Rattle.mlk_routine.specs.declared.front.Front.{Front}
 use Rattle.mlk_routine.specs.Told.{Found, Denied}
+use Rattle.mlk_text.specs.Codes.{number_of}
+use Rattle.mlk_text.specs.declared.code.Code.{Code}
+use Rattle.mlk_routine.specs.Faults.{may_tell, has_word, IsLineFault}
 use Rattle.mlk_text.specs.declared.failure.Failure.{Failure}
 use Rattle.mlk_text.specs.declared.failure.Failure.TheVariants.{OutOfMemory, Refused}
 use Rattle.mlk_text.specs.declared.fault.Fault.{Fault}
@@ -136,6 +139,11 @@ Fits before label level = (is_in label before.labels.texts.keys ≡ false) × St
 abbrev pub FitsAfter : Before → HeadTree → Type 0
 FitsAfter before head = Fits before (label_of head) (level_of head)
 
+-- why a line may not stand there: a code that may be told of it, without a word
+abbrev pub IsMisplaced : Option Code → Type 0
+IsMisplaced None = Unit {0}
+IsMisplaced (Some code) = (may_tell (number_of code) ≡ true) × (has_word (number_of code) ≡ false)
+
 -- the head of a line of the code
 abbrev pub head_of : Line → HeadTree
 head_of l = (line_of l).0
@@ -144,18 +152,18 @@ head_of l = (line_of l).0
 abbrev pub IsLineOnly : ℕ → List ℕ → HeadTree → Type 0
 IsLineOnly n s head = IsLine n head s × ((other : HeadTree) → IsLine n other s → other ≡ head)
 
--- what is known after one more line
-pub record IsAfter (old new : Before) (head : HeadTree) : Type 0 where
+-- what is known with one more line
+pub record IsWithLine (old new : Before) (head : HeadTree) : Type 0 where
   pub labels : (q : List ℕ)
       → has_name q new.labels.texts.keys ≡ (is_labelled q (label_of head) || has_name q old.labels.texts.keys)
   pub level : new.level ≡ level_of head
   pub reaches : new.reaches ≡ reaches head
 
--- no line of this text fits here
+-- no line of this text fits here, and the fault is one of this text
 abbrev pub NoLine : Before → ℕ → List ℕ → Failure Fault → Type 0
 NoLine before n s OutOfMemory = Unit {0}
-NoLine before n s (Refused fault) = (head : HeadTree) → IsLine n head s → list_all is_line_byte s ≡ true
-    → FitsAfter before head → ⊥
+NoLine before n s (Refused fault) = ((head : HeadTree) → IsLine n head s → list_all is_line_byte s ≡ true
+    → FitsAfter before head → ⊥) × IsLineFault s fault
 
 -- lines that follow each other, after a line of this level
 abbrev pub Follow : ℕ → Bool → List HeadTree → Type 0

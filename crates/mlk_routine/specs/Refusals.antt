@@ -1,9 +1,13 @@
--- What a refusal of a routine says. This project's own.
-use Rattle.std.specs.Prelude.{ℕ, ◌≡◌, ◌≤◌, ◌⊎◌, List, length, map}
+-- What a refused text is not, by which code it is refused, and where. This project's own.
+use Rattle.std.specs.Prelude.{ℕ, suc, ◌≡◌, ◌<◌, ◌⊎◌, List, ◌∷◌, length, map, drop, None}
 use Rattle.bstr.specs.Text.{lines_of, without_terminator}
+use Rattle.mlk_text.specs.Spellings.{IsName}
+use Rattle.mlk_text.specs.declared.code.Code.{Code}
+use Rattle.mlk_text.specs.declared.code.Code.TheVariants.{RoutineName, TooLarge}
 use Rattle.mlk_text.specs.declared.failure.Failure.{Failure}
 use Rattle.mlk_text.specs.declared.failure.Failure.TheVariants.{OutOfMemory, Refused}
 use Rattle.mlk_text.specs.declared.fault.Fault.{Fault}
+use Rattle.mlk_routine.specs.Faults.{IsLineFault}
 use Rattle.mlk_routine.specs.Trees.{RoutineTree}
 use Rattle.mlk_routine.specs.RoutineGrammar.{percent, IsRoutine}
 
@@ -12,24 +16,42 @@ abbrev pub NoRoutine : List ℕ → List ℕ → Failure Fault → Type 0
 NoRoutine stem text OutOfMemory = Unit {0}
 NoRoutine stem text (Refused fault) = (tree : RoutineTree) → IsRoutine stem tree text → ⊥
 
--- a refusal names this routine, and a line up to this one
-abbrev pub IsInRoutine : List ℕ → ℕ → Failure Fault → Type 0
-IsInRoutine routine last OutOfMemory = Unit {0}
-IsInRoutine routine last (Refused fault) = (fault.place.routine ≡ routine)
-    × (1 ≤ fault.place.line) × (fault.place.line ≤ last)
-
 -- what holds of a refusal, unless memory ran out
 abbrev pub IfRefused : Failure Fault → (Fault → Type 0) → Type 0
 IfRefused OutOfMemory P = Unit {0}
 IfRefused (Refused fault) P = P fault
 
--- a refusal names this text in place of a routine's name, and its first byte
-abbrev pub IsOfWhole : List ℕ → Failure Fault → Type 0
-IsOfWhole routine failure = IfRefused failure
-    (λ f. (f.place.routine ≡ routine) × (f.place.line ≡ 1) × (f.place.column ≡ 1))
+-- A fault of this code, at the first byte of the routine of this name.
+pub record IsOfWhole (code : Code) (routine : List ℕ) (fault : Fault) : Type 0 where
+  pub coded : fault.code ≡ code
+  pub bare : fault.left_out ≡ None
+  pub named : fault.place.routine ≡ routine
+  pub on_line : fault.place.line ≡ 1
+  pub first : fault.place.column ≡ 1
 
--- A refusal of a routine names the stem that is no name and the first byte; or the routine, and its first byte or one
--- of its lines.
+-- A fault of one of these lines, which are those of the routine of this name.
+pub record IsOfLine (routine : List ℕ) (lines : List (List ℕ)) (fault : Fault) : Type 0 where
+  pub before : ℕ
+  pub line : List ℕ
+  pub after : List (List ℕ)
+  pub there : drop before lines ≡ line ∷ after
+  pub on_line : fault.place.line ≡ suc before
+  pub named : fault.place.routine ≡ routine
+  pub told : IsLineFault line fault
+
+-- the lines of a text without their ends, of any text
+abbrev pub lines_in : List ℕ → List (List ℕ)
+lines_in text = map without_terminator (lines_of text)
+
+-- whether a text is past a limit of routines: the bytes and the lines of one
+abbrev pub IsPastLimit : List ℕ → Type 0
+IsPastLimit text = (1048576 < length text) ⊎ (65535 < length (lines_in text))
+
+-- A refusal is of the stem, which is no name; of a text past a limit; or of a line.
+abbrev pub IsRefusedBy : List ℕ → List ℕ → Fault → Type 0
+IsRefusedBy stem text fault = ((IsName (percent stem) → ⊥) × IsOfWhole RoutineName stem fault)
+    ⊎ (IsPastLimit text × IsOfWhole TooLarge (percent stem) fault)
+    ⊎ IsOfLine (percent stem) (lines_in text) fault
+
 abbrev pub Places : List ℕ → List ℕ → Failure Fault → Type 0
-Places stem text failure = IsOfWhole stem failure ⊎ (IsOfWhole (percent stem) failure
-    ⊎ IsInRoutine (percent stem) (length (map without_terminator (lines_of text))) failure)
+Places stem text failure = IfRefused failure (IsRefusedBy stem text)

@@ -1,7 +1,7 @@
 -- What the grammar of routines keeps to.
 use Rattle.std.specs.Prelude.{ℕ, ◌≡◌, List}
-use Rattle.mlk_routine.specs.Trees.{LineTrees}
-use Rattle.mlk_routine.specs.RoutineGrammar.{AreCut, heads_of, AreNested}
+use Rattle.mlk_routine.specs.Trees.{LineTrees, RoutineTree}
+use Rattle.mlk_routine.specs.RoutineGrammar.{AreCut, heads_of, AreNested, IsRoutine}
 
 -- A text has one list of lines.
 abbrev pub OneCut : Type 0
@@ -10,3 +10,7 @@ OneCut = (lines others : List (List ℕ)) (text : List ℕ) → AreCut lines tex
 -- Lines that follow each other are nested in one way.
 abbrev pub OneNesting : Type 0
 OneNesting = (level : ℕ) (a b : LineTrees) → AreNested level a → AreNested level b → heads_of a ≡ heads_of b → a ≡ b
+
+-- A text, with the stem of its file, has at most one tree.
+abbrev pub OneTree : Type 0
+OneTree = (stem text : List ℕ) (a b : RoutineTree) → IsRoutine stem a text → IsRoutine stem b text → a ≡ b

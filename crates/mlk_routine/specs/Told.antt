@@ -6,6 +6,7 @@ use Rattle.mlk_text.specs.declared.failure.Failure.TheVariants.{OutOfMemory, Ref
 use Rattle.mlk_text.specs.declared.fault.Fault.{Fault}
 use Rattle.mlk_expr.specs.Grammar.{Spelled}
 use Rattle.mlk_expr.specs.Theorem.{Stands, Only}
+use Rattle.mlk_routine.specs.Faults.{IsLineFault}
 
 -- a thing stands at a place and ends before `next`, and nothing else of its kind does
 abbrev pub Found : {A : Type 0} → Spelled A → (A → List ℕ → Type 0) → List ℕ → ℕ → A → ℕ → Type 0
@@ -16,10 +17,10 @@ abbrev pub Nowhere : {A : Type 0} → Spelled A → (A → List ℕ → Type 0) 
 Nowhere {A = A} Is Ends line at = (a : A) (text rest : List ℕ) → drop at line ≡ text ++ rest → Is (suc at) a text
     → Ends a rest → ⊥
 
--- where something is refused, and memory did not run out, there is nothing
+-- where something is refused, and memory did not run out, there is nothing, and the fault is one of this line
 abbrev pub Denied : {A : Type 0} → Spelled A → (A → List ℕ → Type 0) → List ℕ → ℕ → Failure Fault → Type 0
 Denied Is Ends line at OutOfMemory = Unit {0}
-Denied Is Ends line at (Refused fault) = Nowhere Is Ends line at
+Denied Is Ends line at (Refused fault) = Nowhere Is Ends line at × IsLineFault line fault
 
 -- What is read is found, and what is refused is not there.
 abbrev pub Told : {X A : Type 0} → (X → A) → Spelled A → (A → List ℕ → Type 0) → List ℕ → ℕ

@@ -4,7 +4,9 @@ ghost use Rattle.std.specs.Prelude.{◌≡◌, ◌≤◌, length, option_map, So
 ghost use Rattle.mlk_expr.specs.Trees.{actual_trees};
 ghost use Rattle.mlk_expr.specs.Grammar.{IsCalleeText};
 ghost use Rattle.mlk_expr.specs.Theorem.{CalleeEnds};
-ghost use Rattle.mlk_routine.specs.Told.{Told, byte_at};
+ghost use Rattle.mlk_expr.specs.declared.scope.Allows.TheVariants.{Everything, NoTouches};
+ghost use Rattle.mlk_expr.specs.declared.scope.Passing.TheVariants.{ByReference};
+ghost use Rattle.mlk_routine.specs.Told.{Found, Told, byte_at};
 ghost use Rattle.mlk_routine.specs.Ends.{GivenEnds, CalledEnds, CallEnds, DoEnds, JobEnds};
 ghost use Rattle.mlk_routine.specs.Views.{call_of, do_of};
 ghost use Rattle.mlk_routine.specs.CommandGrammar.{IsGiven, IsCall, IsDo, IsJob};
@@ -89,7 +91,25 @@ pub(crate) fn call(
     ))
 }
 
-/// The argument of DO here, and the byte after it. Before a postconditional less may stand in the actuals.
+/// The call here before a postconditional, where less may stand in the actuals: if it has any, it is read again.
+fn quiet_call(
+    alloc: Global,
+    any: Call,
+    line: &[u8],
+    at: usize,
+    next: usize,
+) -> Result<(Call, usize), Failure<Fault>>
+    requires within { at ≤ length line.now }
+    requires read { Found (IsCall Everything ByReference) CallEnds line.now at (call_of any) next }
+    ensures { Told call_of (IsCall NoTouches ByReference) CallEnds line.now at result }
+{
+    if any.actuals.is_none() {
+        return Ok((any, next));
+    }
+    call(alloc, Allows::NoTouches, Passing::ByReference, line, at)
+}
+
+/// The argument of DO here, and the byte after it.
 pub(crate) fn do_argument(
     alloc: Global,
     line: &[u8],
@@ -108,7 +128,7 @@ pub(crate) fn do_argument(
             next,
         ));
     }
-    let (less, next) = call(alloc, Allows::NoTouches, Passing::ByReference, line, at)?;
+    let (less, next) = quiet_call(alloc, any, line, at, next)?;
     let (condition, next) = expression(alloc, Allows::Everything, line, next + 1)?;
     Ok((
         DoArgument {

@@ -1,8 +1,9 @@
 // Commands but FOR: postconditionals and arguments.
 
-ghost use Rattle.std.specs.Prelude.{◌≡◌, ◌≤◌, length, option_map, true};
+ghost use Rattle.std.specs.Prelude.{◌≡◌, ◌≤◌, ℕ, List, length, option_map, true};
 ghost use Rattle.mlk_expr.specs.Trees.{tree_of, trees};
 ghost use Rattle.mlk_routine.specs.Told.{Told};
+ghost use Rattle.mlk_routine.specs.Faults.{IsFaulty};
 ghost use Rattle.mlk_routine.specs.Ends.{StopEnds, CommandEnd};
 ghost use Rattle.mlk_routine.specs.Views.{action_of, command_of};
 ghost use Rattle.mlk_routine.specs.CommandGrammar.{After, IsValue, IsQuit, IsCommand};
@@ -65,7 +66,9 @@ fn is_no_expression(fault: &Fault, column: Column) -> bool {
 }
 
 // What is told of a value that can't be read, where QUIT may have none.
-fn no_expression(alloc: Global, failure: Failure<Fault>, at: usize) -> Failure<Fault> {
+fn no_expression(alloc: Global, failure: Failure<Fault>, at: usize) -> Failure<Fault>
+    ensures { (line : List ℕ) → at ≤ length line → IsFaulty line failure → IsFaulty line result }
+{
     let fault = match failure {
         Failure::OutOfMemory => return Failure::OutOfMemory,
         Failure::Refused(fault) => fault,
@@ -79,6 +82,7 @@ fn no_expression(alloc: Global, failure: Failure<Fault>, at: usize) -> Failure<F
 // Why no value stands here, where QUIT may have none.
 fn no_value(alloc: Global, line: &[u8], at: usize) -> Failure<Fault>
     requires { at ≤ length line.now }
+    ensures { IsFaulty line.now result }
 {
     let first = match first_argument(alloc, line, at) {
         Ok(first) => first,

@@ -1,11 +1,12 @@
 // Why a part of a line was not read.
 
-ghost use Rattle.std.specs.Prelude.{◌≡◌, ◌≤◌, Some, None};
+ghost use Rattle.std.specs.Prelude.{◌≡◌, ◌<◌, ◌≤◌, ◌^◌, ℕ, List, length, Some, None, true, false};
 ghost use Rattle.mlk_text.specs.declared.code.Code.TheVariants.{ExprLeftOut, CommandLeftOut};
 ghost use Rattle.mlk_text.specs.declared.fault.LeftOut.TheVariants.{Command};
 ghost use Rattle.mlk_routine.specs.Told.{IsRefusal};
-ghost use Rattle.mlk_routine.specs.Faults.{Tells};
-ghost use Rattle.mlk_routine.specs.Refusals.{IsInRoutine, IfRefused, IsOfWhole};
+ghost use Rattle.mlk_text.specs.Codes.{number_of};
+ghost use Rattle.mlk_routine.specs.Faults.{Tells, may_tell, has_word, IsLineFault, IsFaulty};
+ghost use Rattle.mlk_routine.specs.Refusals.{IfRefused, IsOfWhole};
 
 use mlk_text::{Code, Column, Failure, Fault, LeftOut, LineNumber, Place, Value};
 use std::alloc::Global;
@@ -25,22 +26,29 @@ fn fault(alloc: Global, code: Code, left_out: Option<LeftOut>, at: usize) -> Fai
 }
 
 /// The refusal of what stands at this byte of a line.
+#[tactic(auto, using(crate::proofs::LineFaults::made_fault))]
 pub(crate) fn refused(alloc: Global, code: Code, at: usize) -> Failure<Fault>
-    ensures { Tells code None at result }
+    ensures tells { Tells code None at result }
+    ensures fault { (line : List ℕ) → at ≤ length line → may_tell (number_of code) ≡ true
+        → has_word (number_of code) ≡ false → IsFaulty line result }
 {
     fault(alloc, code, None, at)
 }
 
 /// The refusal of what is left out.
+#[tactic(auto, using(crate::proofs::LineFaults::made_fault))]
 pub(crate) fn leaves_out(alloc: Global, what: LeftOut, at: usize) -> Failure<Fault>
-    ensures { Tells ExprLeftOut (Some what) at result }
+    ensures tells { Tells ExprLeftOut (Some what) at result }
+    ensures fault { (line : List ℕ) → at ≤ length line → IsFaulty line result }
 {
     fault(alloc, Code::ExprLeftOut, Some(what), at)
 }
 
 /// A refusal where no expression is expected: what can't begin here has another form.
 pub(crate) fn other_form(form: Code, fault: Fault) -> Failure<Fault>
-    ensures { IsRefusal result }
+    ensures refusal { IsRefusal result }
+    ensures fault { (line : List ℕ) → may_tell (number_of form) ≡ true → has_word (number_of form) ≡ false
+        → IsLineFault line fault → IsFaulty line result }
 {
     let Fault {
         code,
@@ -59,8 +67,10 @@ pub(crate) fn other_form(form: Code, fault: Fault) -> Failure<Fault>
 }
 
 /// The refusal of a command that is left out, by its full word.
+#[tactic(auto, using(crate::proofs::LineFaults::made_fault))]
 pub(crate) fn no_command(alloc: Global, word: Value, at: usize) -> Failure<Fault>
-    ensures { Tells CommandLeftOut (Some (Command word)) at result }
+    ensures tells { Tells CommandLeftOut (Some (Command word)) at result }
+    ensures fault { (line : List ℕ) → at ≤ length line → IsFaulty line result }
 {
     fault(
         alloc,
@@ -101,9 +111,9 @@ fn located(
     code: Code,
     left_out: Option<LeftOut>,
 ) -> Failure<Fault>
-    requires { 1 ≤ number }
-    ensures line { IsInRoutine routine.now number result }
-    ensures column { IfRefused result (λ f. f.place.column ≡ column) }
+    requires { number < 2 ^ 32 }
+    ensures { IfRefused result (λ f. (f.code ≡ code) × (f.left_out ≡ left_out) × (f.place.routine ≡ routine.now)
+        × (f.place.line ≡ number) × (f.place.column ≡ column)) }
 {
     let Ok(bytes) = Vec::from_slice(alloc, routine) else {
         return Failure::OutOfMemory;
@@ -127,9 +137,11 @@ pub(crate) fn in_line(
     text: &[u8],
     failure: Failure<Fault>,
 ) -> Failure<Fault>
-    requires { 1 ≤ number }
+    requires few { number < 2 ^ 32 }
+    requires told { IsFaulty text.now failure }
     ensures same { IsRefusal result → IsRefusal failure }
-    ensures place { IsInRoutine routine.now number result }
+    ensures place { IfRefused result (λ f. (f.place.routine ≡ routine.now) × (f.place.line ≡ number)
+        × IsLineFault text.now f) }
 {
     let Failure::Refused(fault) = failure else {
         return Failure::OutOfMemory;
@@ -148,7 +160,7 @@ pub(crate) fn in_line(
 
 /// The refusal of a whole routine.
 pub(crate) fn whole(alloc: Global, code: Code, routine: &[u8]) -> Failure<Fault>
-    ensures { IsOfWhole routine.now result }
+    ensures { IfRefused result (IsOfWhole code routine.now) }
 {
     located(alloc, routine, 1, Column::new(1), code, None)
 }

@@ -4,6 +4,7 @@ ghost use Rattle.std.specs.Prelude.{◌≡◌, ◌≤◌, ◌||◌, length, ℕ,
 ghost use Rattle.mlk_expr.specs.Grammar.{IsNameText};
 ghost use Rattle.mlk_expr.specs.Theorem.{LabelEnds};
 ghost use Rattle.mlk_routine.specs.Told.{Told, byte_at};
+ghost use Rattle.mlk_routine.specs.Faults.{IsLineFault, IsFaulty};
 ghost use Rattle.mlk_routine.specs.Ends.{AnyEnds};
 ghost use Rattle.mlk_routine.specs.Lines.{has_name, IsUnseen, IsFormalList};
 
@@ -17,6 +18,7 @@ use std::alloc::Global;
 // Why no formal is read here. What is left out elsewhere has another form here.
 fn no_formal(alloc: Global, line: &[u8], at: usize, fault: Fault) -> Failure<Fault>
     requires { at ≤ length line.now }
+    ensures { IsLineFault line.now fault → IsFaulty line.now result }
 {
     if has(line, at, b'@') {
         refused(alloc, Code::LineForm, at)

@@ -10,10 +10,9 @@ ghost use Rattle.mlk_routine.specs.CommandGrammar.{IsFormat, IsLocal, IsRead, Is
 
 use crate::fault::{leaves_out, refused};
 use crate::part::{after, expression, has, variable};
-use crate::run::past_marks;
+use crate::run::{past_marks, text_bytes};
 use crate::tree::{ReadArgument, Variable, WriteArgument};
 use mlk_expr::{Allows, Expr};
-use mlk_text::lexeme::is_text_byte;
 use mlk_text::literal::quoted;
 use mlk_text::{Code, Failure, Fault, LeftOut, Value};
 use std::alloc::Global;
@@ -28,7 +27,7 @@ fn prompt(alloc: Global, line: &[u8], at: usize) -> Result<(Value, usize), Failu
         Ok((value, rest)) => Ok((value, line.len() - rest.len())),
         Err(Failure::OutOfMemory) => Err(Failure::OutOfMemory),
         Err(Failure::Refused(_)) => {
-            let plain = inside.iter().take_while(|b| is_text_byte(**b)).count();
+            let plain = text_bytes(inside);
             Err(refused(alloc, Code::ExprForm, at + 1 + plain))
         }
     }

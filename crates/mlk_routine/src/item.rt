@@ -70,8 +70,8 @@ pub(crate) fn listed<T: Item>(
     requires { at ≤ length line.now }
     ensures { Told (λ v. map T.seen v.items) (IsList T.is) (AreEnded T.ends) line.now at result }
 {
-    let mut items = Vec::new(alloc);
     let (first, mut next) = T::read(alloc, line, at)?;
+    let mut items = Vec::with_capacity(alloc, 1)?;
     items.push(first)?;
     while has(line, next, b',') {
         let (item, end) = T::read(alloc, line, next + 1)?;
@@ -133,7 +133,7 @@ pub(crate) fn one_or_enclosed<T: Item>(
         return enclosed(alloc, line, at);
     }
     let (item, next) = T::read(alloc, line, at)?;
-    let mut items = Vec::new(alloc);
+    let mut items = Vec::with_capacity(alloc, 1)?;
     items.push(item)?;
     Ok((items, next))
 }

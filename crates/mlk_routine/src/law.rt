@@ -1,6 +1,6 @@
 // What the grammar of routines keeps to.
 
-ghost use Rattle.mlk_routine.specs.Theorem.{OneCut, OneNesting};
+ghost use Rattle.mlk_routine.specs.Theorem.{OneCut, OneNesting, OneTree};
 
 /// A text is cut into lines in one way.
 pub fn one_cut()
@@ -10,4 +10,9 @@ pub fn one_cut()
 /// Lines that follow each other are blocks in one way.
 pub fn one_nesting()
     ensures { OneNesting }
+{}
+
+/// A text has at most one tree.
+pub fn one_tree()
+    ensures { OneTree }
 {}

@@ -32,7 +32,7 @@ mod tail;
 mod tree;
 mod word;
 
-pub use law::{one_cut, one_nesting};
+pub use law::{one_cut, one_nesting, one_tree};
 pub use read::read_routine;
 pub use routine::{Line, Routine};
 pub use tree::{

@@ -7,7 +7,7 @@ ghost use Rattle.std.specs.List.{prefix_len, list_all};
 ghost use Rattle.mlk_routine.specs.Told.{Told};
 ghost use Rattle.mlk_routine.specs.RoutineGrammar.{is_line_byte};
 ghost use Rattle.mlk_routine.specs.Lines.{has_name, is_in, is_labelled, level_in, IsFront, FrontEnds, IsKept, Fits};
-ghost use Rattle.mlk_routine.specs.Lines.{FitsAfter, head_of, IsLineOnly, IsAfter, NoLine};
+ghost use Rattle.mlk_routine.specs.Lines.{FitsAfter, head_of, IsLineOnly, IsWithLine, NoLine, IsMisplaced};
 
 use crate::fault::refused;
 use crate::front::{Front, before_commands};
@@ -73,6 +73,7 @@ impl<'a> Before<'a> {
 
     // Why a line with this front may not stand here, if it may not.
     fn misplaced(&self, front: &Front) -> Option<Code>
+        ensures code { IsMisplaced result }
         ensures none { result ≡ None → IsKept front.now.label (level_in front.now.level) }
         ensures fits { result ≡ None → Fits self.now front.now.label (level_in front.now.level) }
         ensures some { is_some result ≡ true → IsKept front.now.label (level_in front.now.level)
@@ -103,6 +104,7 @@ impl<'a> Before<'a> {
         ensures labels { OnOk result ((q : List ℕ) → has_name q self.new.labels.texts.keys
             ≡ (is_labelled q front.now.label || has_name q self.old.labels.texts.keys)) }
         ensures level { self.new.level ≡ self.old.level }
+        ensures reaches { self.new.reaches ≡ self.old.reaches }
     {
         if let Some(label) = &front.label {
             let size = label.as_bytes().len().min(text.len());
@@ -146,7 +148,7 @@ pub(crate) fn line<'a>(
     ensures line { IfOk result (λ l. IsLineOnly number text.now (head_of l)) }
     ensures plain { OnOk result (list_all is_line_byte text.now ≡ true) }
     ensures fits { IfOk result (λ l. FitsAfter before.old (head_of l)) }
-    ensures after { IfOk result (λ l. IsAfter before.old before.new (head_of l)) }
+    ensures after { IfOk result (λ l. IsWithLine before.old before.new (head_of l)) }
     ensures refused { IfErr result (NoLine before.old number text.now) }
 {
     let (front, start) = front(alloc, before, text)?;

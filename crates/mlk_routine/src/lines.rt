@@ -1,9 +1,9 @@
 // The lines of a text, as they follow each other.
 
-ghost use Rattle.std.specs.Prelude.{map, length, IfOk, IfErr};
+ghost use Rattle.std.specs.Prelude.{◌≤◌, map, length, IfOk, IfErr};
 ghost use Rattle.mlk_routine.specs.Told.{IsRefusal};
 ghost use Rattle.mlk_routine.specs.Lines.{head_of, AreHeadsOnly, NoHeads, texts_of};
-ghost use Rattle.mlk_routine.specs.Refusals.{IsInRoutine};
+ghost use Rattle.mlk_routine.specs.Refusals.{IfRefused, IsOfLine};
 
 use crate::fault::in_line;
 use crate::line::{Before, line};
@@ -18,9 +18,10 @@ pub(crate) fn lines(
     routine: &[u8],
     texts: &[&[u8]],
 ) -> Result<VecDeque<Line>, Failure<Fault>>
+    requires { length texts.now ≤ 65535 }
     ensures found { IfOk result (λ v. AreHeadsOnly (texts_of texts.now) (map head_of v.items)) }
     ensures refused { IfErr result (NoHeads (texts_of texts.now)) }
-    ensures place { IfErr result (IsInRoutine routine.now (length texts.now)) }
+    ensures place { IfErr result (λ e. IfRefused e (IsOfLine routine.now (texts_of texts.now))) }
 {
     let mut before = Before::new(alloc);
     let mut lines = VecDeque::new(alloc);

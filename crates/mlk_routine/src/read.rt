@@ -36,7 +36,7 @@ pub fn read_routine(alloc: Global, stem: &[u8], text: &[u8]) -> Result<Routine, 
     ensures only { IfOk result (λ r. (tree : RoutineTree) → IsRoutine stem.now tree text.now → tree ≡ routine_of r) }
     // What is refused, unless memory ran out, is no routine.
     ensures refused { IfErr result (NoRoutine stem.now text.now) }
-    // It names the stem or the routine, and the first byte or a line.
+    // It is of the stem, of a limit of the text, or of a line, with a code and a place that go with it.
     ensures place { IfErr result (Places stem.now text.now) }
 {
     let Some(name) = stem_name(alloc, stem)? else {

@@ -1,14 +1,15 @@
 // The arguments of SET.
 
-ghost use Rattle.std.specs.Prelude.{◌≡◌, ◌≤◌, length, map, Some, IfOk};
+ghost use Rattle.std.specs.Prelude.{◌≡◌, ◌<◌, ◌≤◌, ℕ, List, length, map, Some, IfOk};
 ghost use Rattle.mlk_expr.specs.declared.scope.Allows.TheVariants.{NoCalls};
 ghost use Rattle.mlk_expr.specs.Trees.{Tree, tree_of, trees};
 ghost use Rattle.mlk_expr.specs.Grammar.{AreNext, IsExprWhere};
 ghost use Rattle.mlk_expr.specs.Theorem.{ExprEnds};
 ghost use Rattle.mlk_routine.specs.Told.{Told, IsRefusal, byte_at};
+ghost use Rattle.mlk_routine.specs.Faults.{IsFaulty};
 ghost use Rattle.mlk_routine.specs.Stops.{expr_stop};
 ghost use Rattle.mlk_routine.specs.Begins.{expr_begins};
-ghost use Rattle.mlk_routine.specs.Ends.{AnyEnds, NextEnds, part_of, IsOpening, TargetEnds, SetEnds};
+ghost use Rattle.mlk_routine.specs.Ends.{AnyEnds, NextEnds, part_of, IsPartOpening, TargetEnds, SetEnds};
 ghost use Rattle.mlk_routine.specs.Views.{target_of, set_of};
 ghost use Rattle.mlk_routine.specs.CommandGrammar.{is_part_word, IsTarget, IsSet};
 
@@ -38,7 +39,8 @@ fn part_of(word: &[u8]) -> Option<Part>
 
 // Why no target stands here, at a `$`, with the word after it and what is after that.
 fn no_part(alloc: Global, word: &[u8], after: &[u8], at: usize) -> Failure<Fault>
-    ensures { IsRefusal result }
+    ensures refusal { IsRefusal result }
+    ensures fault { (line : List ℕ) → at < length line → IsFaulty line result }
 {
     let first = after.first().copied();
     if word.is_empty() {
@@ -60,7 +62,7 @@ fn no_part(alloc: Global, word: &[u8], after: &[u8], at: usize) -> Failure<Fault
 /// The function of the target here, at its `$`, and the byte after its parenthesis.
 fn opening(alloc: Global, line: &[u8], at: usize) -> Result<(Part, usize), Failure<Fault>>
     requires { byte_at line.now at ≡ Some 36 }
-    ensures { Told (λ part. part) IsOpening AnyEnds line.now at result }
+    ensures { Told (λ part. part) IsPartOpening AnyEnds line.now at result }
 {
     let (_, bytes) = line.split_at(at + 1);
     let (word, after) = word_at(bytes);

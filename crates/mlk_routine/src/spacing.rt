@@ -3,7 +3,7 @@
 ghost use Rattle.std.specs.Prelude.{◌≡◌, ◌≤◌, length, map, drop, true};
 ghost use Rattle.mlk_routine.specs.Told.{Told};
 ghost use Rattle.mlk_routine.specs.Ends.{is_commands_end, is_command_end, is_bare_end, StopEnds};
-ghost use Rattle.mlk_routine.specs.CommandWords.{is_list};
+ghost use Rattle.mlk_routine.specs.CommandWords.{has_any};
 ghost use Rattle.mlk_routine.specs.Kinds.{IsSpaced};
 ghost use Rattle.mlk_routine.specs.CommandGrammar.{AreSome, ArePerhaps};
 
@@ -87,7 +87,7 @@ pub(crate) fn perhaps<T: Item>(
     at: usize,
 ) -> Result<(Vec<T>, usize), Failure<Fault>>
     requires { at ≤ length line.now }
-    ensures { Told (λ v. map T.seen v.items) (ArePerhaps T.is) (λ items. StopEnds (is_list items)) line.now at result }
+    ensures { Told (λ v. map T.seen v.items) (ArePerhaps T.is) (λ items. StopEnds (has_any items)) line.now at result }
 {
     if is_bare(line, at) {
         return Ok((Vec::new(alloc), at));

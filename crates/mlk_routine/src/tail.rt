@@ -1,8 +1,7 @@
 // What stands after a line's start.
 
-ghost use Rattle.std.specs.Prelude.{◌≡◌, ◌≤◌, length, drop, true, OnOk, OnErr};
-ghost use Rattle.std.specs.List.{prefix_len};
-ghost use Rattle.mlk_text.specs.Lexemes.{is_text_byte};
+ghost use Rattle.std.specs.Prelude.{◌≡◌, ◌≤◌, length, drop, true, OnOk, OnErr, IfErr};
+ghost use Rattle.mlk_routine.specs.Faults.{IsFaulty};
 ghost use Rattle.mlk_routine.specs.Ends.{is_commands_end};
 ghost use Rattle.mlk_routine.specs.RoutineGrammar.{IsComment};
 ghost use Rattle.mlk_routine.specs.Views.{commands_of};
@@ -10,18 +9,10 @@ ghost use Rattle.mlk_routine.specs.Lines.{OpeningEnds, IsTailOf, ToldToEnd};
 
 use crate::commands::{Inside, commands};
 use crate::fault::refused;
+use crate::run::text_bytes;
 use crate::tree::Commands;
-use mlk_text::lexeme::is_text_byte;
 use mlk_text::{Code, Failure, Fault};
 use std::alloc::Global;
-
-// How many bytes of a comment stand at the front.
-fn text_bytes(bytes: &[u8]) -> usize
-    ensures value { result ≡ prefix_len is_text_byte bytes.now }
-    ensures within { result ≤ length bytes.now }
-{
-    bytes.iter().take_while(|b| is_text_byte(**b)).count()
-}
 
 // Tells where a comment that begins here, if one does, has a byte that may not stand in it.
 fn comment(alloc: Global, line: &[u8], at: usize) -> Result<(), Failure<Fault>>
@@ -29,6 +20,7 @@ fn comment(alloc: Global, line: &[u8], at: usize) -> Result<(), Failure<Fault>>
     requires end { is_commands_end (drop at line.now) ≡ true }
     ensures ok { OnOk result (IsComment (drop at line.now)) }
     ensures refused { OnErr result (IsComment (drop at line.now) → ⊥) }
+    ensures fault { IfErr result (IsFaulty line.now) }
 {
     let (_, bytes) = line.split_at(at);
     let good = text_bytes(bytes);

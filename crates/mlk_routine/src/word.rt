@@ -1,7 +1,8 @@
 // The words of commands.
 
-ghost use Rattle.std.specs.Prelude.{◌≡◌, ◌≤◌, length};
+ghost use Rattle.std.specs.Prelude.{◌≡◌, ◌≤◌, ℕ, List, length};
 ghost use Rattle.mlk_routine.specs.Told.{Told, IsRefusal};
+ghost use Rattle.mlk_routine.specs.Faults.{IsFaulty};
 ghost use Rattle.mlk_routine.specs.CommandWords.{is_for};
 ghost use Rattle.mlk_routine.specs.Kinds.{word_of, has_condition, IsNamed, WordEnds};
 
@@ -130,7 +131,9 @@ fn in_upper_case(alloc: Global, word: &[u8]) -> Result<Value, AllocError> {
 }
 
 // Why a word that begins here is no command that is read.
-fn no_word(alloc: Global, word: &[u8], at: usize) -> Failure<Fault> {
+fn no_word(alloc: Global, word: &[u8], at: usize) -> Failure<Fault>
+    ensures { (line : List ℕ) → at ≤ length line → IsFaulty line result }
+{
     let Some(whole) = left_out(word) else {
         return refused(alloc, Code::UnknownCommand, at);
     };

@@ -14,7 +14,7 @@ returns-then-is_bare c = no_value_found c.args.returns c.args.line.now c.args.at
 
 pub returns-then-not-returns : goal.returns-then-not-returns
 returns-then-not-returns c =
-    denies (IsQuit c.args.returns) (λ t. ActionEnds (Quit t)) c.args.line.now c.args.at c.no_value.result
+    denies (IsQuit c.args.returns) (λ t. ActionEnds (Quit t)) c.args.line.now c.args.at c.no_value.result c.no_value.ensures
     (no_quit c.args.returns c.args.line.now c.args.at c.if-not-returns.true (sym c.is_bare.ensures ∙ c.if-is_bare.false))
 
 pub returns-in_err-value : goal.returns-in_err-value

@@ -1,4 +1,4 @@
-use Rattle.std.proofs.Common.{sym, ◌∙◌, true}
+use Rattle.std.proofs.Common.{sym, ◌∙◌, true, refl}
 use Rattle.std.proofs.lemmas.Result.{err_from_is_err_and}
 use Rattle.mlk_expr.specs.declared.scope.Allows.TheVariants.{Everything}
 use Rattle.mlk_expr.specs.Trees.{tree_of}
@@ -25,7 +25,7 @@ returns-in_err-value c =
 
 pub returns-then-not-is_command_end : goal.returns-then-not-is_command_end
 returns-then-not-is_command_end c =
-    denies (AfterByte 32 IsValue) (λ t. StopEnds true) c.args.line.now c.args.at c.refused.result
+    denies (AfterByte 32 IsValue) (λ t. StopEnds true) c.args.line.now c.args.at c.refused.result (c.refused.ensures.fault c.args.line.now c.in_ok-value.ensures.0.within refl refl)
     (narrowed_nowhere (AfterByte 32 IsValue) ExprEnds (λ t. StopEnds true) c.args.line.now c.args.at value_end (tree_of c.in_ok-value.value) c.in_ok-value.next
     (after_found IsValue ExprEnds c.args.line.now c.args.at 32 c.in_ok-first.ensures.1 (tree_of c.in_ok-value.value) c.in_ok-value.next (rw (sym c.in_ok-first.ensures.0) c.in_ok-value.ensures))
     (λ bad. cc (sym c.if-not-is_command_end.true ∙ c.is_command_end.ensures ∙ bad)))

@@ -1,4 +1,4 @@
-use Rattle.std.proofs.Common.{sym, ◌∙◌, true}
+use Rattle.std.proofs.Common.{sym, ◌∙◌, true, refl}
 use Rattle.std.specs.Prelude.{is_some}
 use Rattle.std.proofs.lemmas.Result.{err_from_is_err_and}
 use Rattle.mlk_routine.specs.Ends.{ControlEnds, StopEnds}
@@ -33,7 +33,7 @@ returns-in_err-read c =
 
 pub returns-then-not-is_command_end : goal.returns-then-not-is_command_end
 returns-then-not-is_command_end c =
-    denies IsPerhapsControl (λ t. StopEnds (is_some t)) c.args.line.now c.args.at c.refused.result
+    denies IsPerhapsControl (λ t. StopEnds (is_some t)) c.args.line.now c.args.at c.refused.result (c.refused.ensures.fault c.args.line.now c.in_ok-read.ensures.0.within refl refl)
     (turned_nowhere (control_turned c.args.line.now c.args.at (sym c.is_bare.ensures ∙ c.if-is_bare.false))
     (narrowed_nowhere (AfterByte 32 IsControl) ControlEnds (λ t. StopEnds true) c.args.line.now c.args.at control_end (control_of c.in_ok-read.read) c.in_ok-read.next
     (after_found IsControl ControlEnds c.args.line.now c.args.at 32 c.in_ok-first.ensures.1 (control_of c.in_ok-read.read) c.in_ok-read.next (rw (sym c.in_ok-first.ensures.0) c.in_ok-read.ensures))

@@ -40,7 +40,7 @@ returns-then-not-has c =
     let line = c.args.line.now in
     let keys = c.loop-seen.seen.texts.keys in
     let found = fresh_found keys c.loop-seen.names c.loop-seen.invariant.seen line c.loop-seen.next c.in_ok-name.name c.in_ok-name.end c.in_ok-name.ensures.read in
-    denies IsFormalList AnyEnds line c.args.at c.refused.result
+    denies IsFormalList AnyEnds line c.args.at c.refused.result (c.refused.ensures.fault line found.0.within refl refl)
     (names_break line c.args.at c.loop-seen.names c.loop-seen.next c.loop-seen.invariant.read c.in_ok-name.name c.in_ok-name.end found (c.if-has-2.ensures.no refl) (c.if-not-has.ensures.no refl))
 
 pub loop-seen-smaller : goal.loop-seen-smaller

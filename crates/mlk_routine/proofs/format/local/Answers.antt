@@ -7,7 +7,7 @@ use Rattle.mlk_routine.proofs.Locals.{no_local, local_told}
 use Rattle.mlk_routine.proofs.format.local.Goals as goal
 
 pub returns-then-has : goal.returns-then-has
-returns-then-has c = denies IsLocal VariableEnds c.args.line.now c.args.at c.leaves_out.result (no_local c.args.line.now c.args.at (c.if-has.ensures.yes refl))
+returns-then-has c = denies IsLocal VariableEnds c.args.line.now c.args.at c.leaves_out.result (c.leaves_out.ensures.fault c.args.line.now c.requires) (no_local c.args.line.now c.args.at (c.if-has.ensures.yes refl))
 
 pub returns : goal.returns
 returns c = local_told c.args.line.now c.args.at (c.if-has.ensures.no refl) c.variable.result variable_of c.variable.ensures

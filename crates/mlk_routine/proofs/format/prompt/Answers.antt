@@ -1,4 +1,5 @@
-use Rattle.std.proofs.Common.{◌≡◌, Some, None, subst}
+use Rattle.std.proofs.Common.{◌≡◌, Some, None, subst, refl, arith}
+use Rattle.mlk_routine.proofs.Bytes.{byte_before}
 use Rattle.mlk_text.specs.Failures.{FailsOn}
 use Rattle.mlk_text.specs.Lexemes.{inside}
 use Rattle.mlk_routine.specs.Ends.{IsPrompt, PromptEnds}
@@ -19,5 +20,8 @@ returns-in-Ok c =
 pub returns-in-Err-Refused : goal.returns-in-Err-Refused
 returns-in-Err-Refused c =
     let none : inside c.split_at.result.1.now ≡ None = subst (λ e. FailsOn e (inside c.split_at.result.1.now)) c.in-Err-Refused.field-0-is c.in-Err-Refused.ensures in
-    denies IsPrompt PromptEnds c.args.line.now c.args.at c.refused.result
+    let size = byte_before c.args.line.now c.args.at 34 c.requires in
+    let plain = c.text_bytes-plain.ensures.within in
+    let back = c.split_at.ensures.back_len in
+    denies IsPrompt PromptEnds c.args.line.now c.args.at c.refused.result (c.refused.ensures.fault c.args.line.now (omega (arith, size, plain, back)) refl refl)
     (prompt_nowhere c.args.line.now c.args.at c.requires (subst (λ l. inside l ≡ None) c.split_at.ensures.back none))

@@ -13,7 +13,7 @@ returns-in_err-items g c =
 
 pub returns-then-not-has : goal.returns-then-not-has
 returns-then-not-has g c =
-    denies (AreEnclosed g.T.Item.is) AnyEnds c.args.line.now c.args.at c.refused.result
+    denies (AreEnclosed g.T.Item.is) AnyEnds c.args.line.now c.args.at c.refused.result (c.refused.ensures.fault c.args.line.now c.in_ok-items.ensures.0.within refl refl)
     (unclosed g.T.Item.is g.T.Item.ends g.T.Item.stop c.args.line.now c.args.at c.requires.open (map g.T.Item.seen c.in_ok-items.items.items) c.in_ok-items.end c.in_ok-items.ensures (c.if-not-has.ensures.no refl))
 
 pub returns : goal.returns

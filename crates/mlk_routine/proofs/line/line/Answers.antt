@@ -1,11 +1,11 @@
-use Rattle.std.proofs.Common.{◌<◌, ◌≤◌, ◌+◌, length, sym, ap, subst, refl, add-one}
+use Rattle.std.proofs.Common.{◌<◌, ◌≤◌, ◌+◌, length, sym, ap, subst, refl, add-one, arith}
 use Rattle.std.specs.Prelude.{is_some}
 use Rattle.mlk_routine.specs.declared.routine.Line.{Line}
 use Rattle.mlk_routine.specs.declared.routine.Line.TheOpen.{Line-F}
 use Rattle.std.proofs.lemmas.Result.{err_from_is_err_and}
 use Rattle.mlk_routine.specs.RoutineGrammar.{is_line_byte}
 use Rattle.mlk_routine.specs.Views.{commands_of}
-use Rattle.mlk_routine.specs.Lines.{IsLineOnly}
+use Rattle.mlk_routine.specs.Lines.{IsLineOnly, IsMisplaced}
 use Rattle.mlk_routine.proofs.Tails.{all_good, one_bad}
 use Rattle.mlk_routine.proofs.Heads.{head_made, line_only, refused_front, refused_tail, refused_place, refused_byte}
 use Rattle.mlk_routine.proofs.line.line.Goals as goal
@@ -17,7 +17,8 @@ returns-in_err-front-clause-refused c =
 
 pub returns-in-Some-clause-refused : goal.returns-in-Some-clause-refused
 returns-in-Some-clause-refused c =
-    refused_place c.args.before.now c.args.number c.args.text.now c.in_ok-front.front c.in_ok-front.start c.in_ok-front.ensures c.refused.result (c.misplaced.ensures.some (ap is_some c.in-Some.is))
+    let known = subst IsMisplaced c.in-Some.is c.misplaced.ensures.code in
+    refused_place c.args.before.now c.args.number c.args.text.now c.in_ok-front.front c.in_ok-front.start c.in_ok-front.ensures c.refused.result (c.refused.ensures.fault c.args.text.now (omega arith) known.0 known.1) (c.misplaced.ensures.some (ap is_some c.in-Some.is))
 
 pub returns-in_err-commands-clause-refused : goal.returns-in_err-commands-clause-refused
 returns-in_err-commands-clause-refused c =
@@ -27,7 +28,7 @@ returns-in_err-commands-clause-refused c =
 pub returns-then-plain-text-clause-refused : goal.returns-then-plain-text-clause-refused
 returns-then-plain-text-clause-refused c =
     let bytes = c.args.text.now in
-    refused_byte c.args.before.now c.args.number bytes c.refused-then-plain-text.result
+    refused_byte c.args.before.now c.args.number bytes c.refused-then-plain-text.result (c.refused-then-plain-text.ensures.fault bytes c.line_bytes-plain.ensures.within refl refl)
     (one_bad is_line_byte bytes (subst (λ n. n < length bytes) c.line_bytes-plain.ensures.value c.if-plain-text.true))
 
 pub returns-clause-line : goal.returns-clause-line

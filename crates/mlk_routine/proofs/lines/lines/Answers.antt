@@ -1,7 +1,7 @@
 use Rattle.std.proofs.Common.{◌+◌, ◌∷◌, [], map, sym, ap, ◌∙◌, subst}
 use Rattle.std.proofs.lemmas.List.{map-append}
 use Rattle.mlk_routine.specs.Lines.{head_of, texts_of}
-use Rattle.mlk_routine.proofs.FlatLines.{FlatSoFar, flat_refused, flat_more, flat_end, text_here, texts_end}
+use Rattle.mlk_routine.proofs.FlatLines.{FlatSoFar, flat_refused, flat_more, flat_end, text_here, texts_end, line_told}
 use Rattle.mlk_routine.proofs.lines.lines.Goals as goal
 
 pub returns-in-Err-clause-refused : goal.returns-in-Err-clause-refused
@@ -20,3 +20,8 @@ pub returns-clause-found : goal.returns-clause-found
 returns-clause-found c =
     let texts = c.args.texts.now in
     flat_end (texts_of texts) c.loop-i.i (map head_of c.loop-i.lines.items) c.loop-i.before c.loop-i.invariant (texts_end texts c.loop-i.i c.loop-i-test.false)
+
+pub returns-in-Err-clause-place : goal.returns-in-Err-clause-place
+returns-in-Err-clause-place c =
+    let texts = c.args.texts.now in
+    line_told c.args.routine.now (texts_of texts) c.loop-i.i _ (text_here texts c.loop-i.i _ c.loop-i-test.true) c.in_line.result c.in_line.ensures.place

@@ -22,4 +22,4 @@ returns-then-has c =
     (turned_found (new_names c.args.line.now c.args.at (c.if-has.ensures.yes refl)) (map (λ n. n) c.in_ok-names.names.items) c.in_ok-names.next c.in_ok-names.ensures)
 
 pub returns-then-is_special : goal.returns-then-is_special
-returns-then-is_special c = denies IsNew NewEnds c.args.line.now c.args.at c.leaves_out.result (no_new c.args.line.now c.args.at (c.if-is_special.ensures refl))
+returns-then-is_special c = denies IsNew NewEnds c.args.line.now c.args.at c.leaves_out.result (c.leaves_out.ensures.fault c.args.line.now c.requires) (no_new c.args.line.now c.args.at (c.if-is_special.ensures refl))

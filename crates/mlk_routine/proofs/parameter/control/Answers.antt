@@ -17,13 +17,13 @@ returns-in_err-variable c =
 
 pub returns-then-has : goal.returns-then-has
 returns-then-has c =
-    denies IsControl ControlEnds c.args.line.now c.args.at c.leaves_out.result
+    denies IsControl ControlEnds c.args.line.now c.args.at c.leaves_out.result (c.leaves_out.ensures.fault c.args.line.now c.requires)
     (second_nowhere (control_parts c.args.line.now c.args.at) c.requires c.in_ok-variable.variable c.in_ok-variable.next c.in_ok-variable.ensures
     (after_missing (IsList IsParameter) (AreEnded ParameterEnds) c.args.line.now c.in_ok-variable.next 61 (other_byte c.args.line.now c.in_ok-variable.next (c.if-has.ensures.yes refl))))
 
 pub returns-then-not-has : goal.returns-then-not-has
 returns-then-not-has c =
-    denies IsControl ControlEnds c.args.line.now c.args.at c.refused.result
+    denies IsControl ControlEnds c.args.line.now c.args.at c.refused.result (c.refused.ensures.fault c.args.line.now c.in_ok-variable.ensures.0.within refl refl)
     (second_nowhere (control_parts c.args.line.now c.args.at) c.requires c.in_ok-variable.variable c.in_ok-variable.next c.in_ok-variable.ensures
     (after_missing (IsList IsParameter) (AreEnded ParameterEnds) c.args.line.now c.in_ok-variable.next 61 (c.if-not-has.ensures.no refl)))
 

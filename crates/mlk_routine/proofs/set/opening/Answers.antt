@@ -1,8 +1,9 @@
+use Rattle.mlk_routine.proofs.Bytes.{byte_before}
 use Rattle.std.proofs.Common.{◌≡◌, ◌+◌, drop, Some, None, inl, inr, refl, sym, subst, ◌∙◌}
 use Rattle.std.specs.Prelude.{◌⊎◌}
 use Rattle.mlk_text.specs.Lexemes.{word_at}
 use Rattle.mlk_routine.specs.Told.{byte_at}
-use Rattle.mlk_routine.specs.Ends.{IsOpening, AnyEnds, part_of}
+use Rattle.mlk_routine.specs.Ends.{IsPartOpening, AnyEnds, part_of}
 use Rattle.mlk_routine.proofs.Outcomes.{denies}
 use Rattle.mlk_routine.proofs.Targets.{no_opening, opening_found}
 use Rattle.mlk_routine.proofs.set.opening.Goals as goal
@@ -24,4 +25,4 @@ returns-in_default c =
       | in_default-via-in-Some+else-has w ↦ inr (w.if-has.ensures.no refl)
       | in_default-via-in_default w ↦ inl (sym c.part_of.ensures ∙ w.in_default.is)
     ] in
-    denies IsOpening AnyEnds c.args.line.now c.args.at c.no_part.result (no_opening c.args.line.now c.args.at c.requires word after read why)
+    denies IsPartOpening AnyEnds c.args.line.now c.args.at c.no_part.result (c.no_part.ensures.fault c.args.line.now (byte_before c.args.line.now c.args.at 36 c.requires)) (no_opening c.args.line.now c.args.at c.requires word after read why)

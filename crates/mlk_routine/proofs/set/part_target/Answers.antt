@@ -48,7 +48,7 @@ returns-then-not-has c =
     let v = c.in_ok-variable in
     let a = c.in_ok-arguments in
     let inner = both_found (inner_parts c.args.line.now open'.next) open'.ensures.0.within (variable_of v.variable) (trees a.arguments.items) v.next a.next v.ensures a.ensures in
-    denies IsTarget TargetEnds c.args.line.now c.args.at c.refused.result
+    denies IsTarget TargetEnds c.args.line.now c.args.at c.refused.result (c.refused.ensures.fault c.args.line.now c.in_ok-arguments.ensures.0.within refl refl)
     (second_nowhere (target_parts c.args.line.now c.args.at c.requires) within open'.part open'.next open'.ensures
     (second_nowhere (closing_parts c.args.line.now open'.next) open'.ensures.0.within (variable_of v.variable, trees a.arguments.items) a.next inner
     (no_byte c.args.line.now a.next 41 (c.if-not-has.ensures.no refl))))

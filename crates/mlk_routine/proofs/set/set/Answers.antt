@@ -22,7 +22,7 @@ returns-in_err-targets c =
 pub returns-then-not-has : goal.returns-then-not-has
 returns-then-not-has c =
     let t = c.in_ok-targets in
-    denies IsSet SetEnds c.args.line.now c.args.at c.refused.result
+    denies IsSet SetEnds c.args.line.now c.args.at c.refused.result (c.refused.ensures.fault c.args.line.now c.in_ok-targets.ensures.0.within refl refl)
     (second_nowhere (set_parts c.args.line.now c.args.at) c.requires (map target_of t.targets.items) t.next t.ensures
     (after_missing IsValue ExprEnds c.args.line.now t.next 61 (c.if-not-has.ensures.no refl)))
 

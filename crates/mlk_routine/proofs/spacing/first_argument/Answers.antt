@@ -1,6 +1,10 @@
-use Rattle.std.proofs.Common.{refl, ◌+◌}
+use Rattle.std.proofs.Common.{refl, ◌+◌, arith}
+use Rattle.mlk_routine.proofs.Bytes.{byte_before}
 use Rattle.mlk_routine.proofs.Stopping.{space_stops}
 use Rattle.mlk_routine.proofs.spacing.first_argument.Goals as goal
 
 pub returns-then-has : goal.returns-then-has
-returns-then-has c h = space_stops c.args.line.now (c.args.at + 1) (c.if-has.ensures.yes refl)
+returns-then-has c =
+    let here = c.if-has.ensures.yes refl in
+    let size = byte_before c.args.line.now (c.args.at + 1) 32 here in
+    (λ h. space_stops c.args.line.now (c.args.at + 1) here, c.refused-then-has.ensures.fault c.args.line.now (omega (arith, size)) refl refl)

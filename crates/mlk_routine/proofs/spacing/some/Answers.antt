@@ -1,4 +1,4 @@
-use Rattle.std.proofs.Common.{map, sym, ◌∙◌, true}
+use Rattle.std.proofs.Common.{map, sym, ◌∙◌, true, refl}
 use Rattle.std.proofs.lemmas.Result.{err_from_is_err_and}
 use Rattle.mlk_expr.specs.Grammar.{IsList}
 use Rattle.mlk_routine.specs.Ends.{AreEnded, StopEnds}
@@ -23,7 +23,7 @@ returns-in_err-items g c =
 
 pub returns-then-not-is_command_end : goal.returns-then-not-is_command_end
 returns-then-not-is_command_end g c =
-    denies (AreSome g.T.Item.is) (λ items. StopEnds true) c.args.line.now c.args.at c.refused.result
+    denies (AreSome g.T.Item.is) (λ items. StopEnds true) c.args.line.now c.args.at c.refused.result (c.refused.ensures.fault c.args.line.now c.in_ok-items.ensures.0.within refl refl)
     (narrowed_nowhere (AreSome g.T.Item.is) (AreEnded g.T.Item.ends) (λ items. StopEnds true) c.args.line.now c.args.at (list_end g.T.Item.is g.T.Item.begin g.T.Item.ends g.T.Item.stop) (map g.T.Item.seen c.in_ok-items.items.items) c.in_ok-items.next
     (after_found (IsList g.T.Item.is) (AreEnded g.T.Item.ends) c.args.line.now c.args.at 32 c.in_ok-first.ensures.1 (map g.T.Item.seen c.in_ok-items.items.items) c.in_ok-items.next (rw (sym c.in_ok-first.ensures.0) c.in_ok-items.ensures))
     (λ bad. cc (sym c.if-not-is_command_end.true ∙ c.is_command_end.ensures ∙ bad)))

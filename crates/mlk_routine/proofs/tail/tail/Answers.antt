@@ -22,7 +22,7 @@ returns-in_err-comment c =
     let p = err_from_is_err_and c.from_residual-in_err-comment.result c.from_residual-in_err-comment.ensures.1 in
     let line = c.args.line.now in
     let found = subst (λ n. Found (AreCommands n 0) CommandsEnd line c.args.at (commands_of c.in_ok-commands.commands) c.in_ok-commands.next) c.unwrap_or.ensures c.in_ok-commands.ensures in
-    rw (p.1, p.2) (denies (IsTailOf c.args.level) AtEnd line c.args.at c.in_err-comment.field-0.0
+    rw (p.1, p.2) (denies (IsTailOf c.args.level) AtEnd line c.args.at c.in_err-comment.field-0.0 c.in_err-comment.ensures.fault
     (no_comment_tail line c.args.at c.requires.within c.args.level c.requires.begun (commands_of c.in_ok-commands.commands) c.in_ok-commands.next found c.in_err-comment.ensures.refused))
 
 pub returns : goal.returns

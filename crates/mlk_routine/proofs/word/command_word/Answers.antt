@@ -11,5 +11,5 @@ returns-in-Some c =
 
 pub returns-in-None : goal.returns-in-None
 returns-in-None c =
-    denies IsNamed WordEnds c.args.line.now c.args.at c.no_word.result
+    denies IsNamed WordEnds c.args.line.now c.args.at c.no_word.result (c.no_word.ensures c.args.line.now c.requires)
     (none_named c.args.line.now c.args.at c.word_at.result.0.now c.word_at.result.1.now (c.word_at.ensures ∙ ap word_at c.split_at.ensures.back) (sym c.word_of.ensures ∙ c.in-None.is))

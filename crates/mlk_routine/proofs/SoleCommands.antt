@@ -1,0 +1,176 @@
+-- Of what stands at a place there is one of its kind: commands, and the commands of a line.
+use Rattle.std.proofs.Common.{◌≡◌, ◌<◌, ◌≤◌, ◌-◌, ◌⊎◌, ℕ, zero, suc, Bool, true, false, List, [], ◌∷◌, ◌++◌, length, drop, Some, None, refl, sym, ap, ◌∙◌, arith, inl, inr}
+use Rattle.std.specs.Prelude.{Option, is_some}
+use Rattle.std.proofs.lemmas.Bool.{cases_Bool}
+use Rattle.std.proofs.lemmas.List.{append_cancel_right}
+use Rattle.std.proofs.lemmas.Option.{same_Some}
+use Rattle.mlk_text.specs.Lexemes.{is_letter, word_at}
+use Rattle.mlk_expr.specs.declared.scope.Allows.TheVariants.{Everything}
+use Rattle.mlk_expr.specs.Trees.{Tree}
+use Rattle.mlk_expr.specs.Grammar.{Spelled, IsList}
+use Rattle.mlk_expr.specs.Theorem.{ExprEnds}
+use Rattle.mlk_routine.specs.declared.word.Word.{Word}
+use Rattle.mlk_routine.specs.declared.word.Word.TheVariants as word
+use Rattle.mlk_routine.specs.Trees.{Quit, finished}
+use Rattle.mlk_routine.specs.Ends.{is_stop, AreEnded, DoEnds, JobEnds, KillEnds, NewEnds, MergeEnds, LockEnds, ReadEnds, WriteEnds, SetEnds, starts, is_bare_end, is_commands_end, StopEnds, CommandEnd, CommandsEnd}
+use Rattle.mlk_routine.specs.Stops.{expr_stop, do_stop, job_stop, kill_stop, merge_stop, new_stop, lock_stop, read_stop, write_stop, set_stop}
+use Rattle.mlk_routine.specs.Begins.{expr_begins, do_begins, job_begins, kill_begins, merge_begins, new_begins, lock_begins, read_begins, write_begins, set_begins}
+use Rattle.mlk_routine.specs.Kinds.{IsNamed, WordEnds, has_condition, IsConditionOf, ConditionEnds, IsActionOf, ActionEnds, word_of}
+use Rattle.mlk_routine.specs.Leading.{IsPerhapsControl, IsLoop, LoopEnds}
+use Rattle.mlk_routine.specs.CommandWords.{has_any, is_for}
+use Rattle.mlk_routine.specs.CommandGrammar.{IsValue, IsDo, IsJob, IsKill, IsNew, IsLock, IsMerge, IsRead, IsWrite, IsSet, AreSome, ArePerhaps, IsQuit, is_space, IsCommand, AreCommands}
+use Rattle.mlk_routine.proofs.Sequences.{next_is}
+use Rattle.mlk_routine.proofs.Bytes.{AfterByte}
+use Rattle.mlk_routine.proofs.Stretches.{one_run}
+use Rattle.mlk_routine.proofs.Stopping.{bare_found, list_end, value_end}
+use Rattle.mlk_routine.proofs.Words.{either_for}
+use Rattle.mlk_routine.proofs.Doing.{opened, halting_turned, no_value_found}
+use Rattle.mlk_routine.proofs.Commanding.{IsTail, TailEnds, tail_parts, command_parts}
+use Rattle.mlk_routine.proofs.Looping.{command_letter, head_letter, spaced_parts, GapThen, forget, has_own, Returns, then_parts, ended_found, no_control_found, control_turned, control_end, IsForWord, ForWordEnds, head_parts, loop_parts}
+use Rattle.mlk_routine.proofs.Sole.{Sole, Alone, sole_only, sole_found, sole_within, alone_after, sole_both, sole_as, sole_turned}
+use Rattle.mlk_routine.proofs.SoleArguments.{expr_alone, optional_alone, run_alone, list_alone, do_alone, job_alone, kill_alone, new_alone, merge_alone, lock_alone}
+use Rattle.mlk_routine.proofs.SoleFormats.{write_alone, read_alone, set_alone, control_alone}
+
+-- arguments after one space, or none
+module _ {A : Type 0} (Is : Spelled A) (Ends : A → List ℕ → Type 0) (stop : (a : A) (rest : List ℕ) → is_stop rest ≡ true → Ends a rest) (begin : (k : ℕ) (a : A) (s : List ℕ) → Is k a s → is_stop s ≡ false) (alone : Alone Is Ends) where
+  some_alone : Alone (AreSome Is) (λ items. StopEnds true)
+  some_alone line at less =
+      sole_within {Wide = AfterByte 32 (IsList Is)} {Also = AreEnded Ends} (λ items s rest is e. (is, list_end Is begin Ends stop (suc at) items s rest is e))
+      (alone_after 32 (list_alone Is Ends stop alone) line at less)
+
+  perhaps_alone : Alone (ArePerhaps Is) (λ items. StopEnds (has_any items))
+  perhaps_alone line at less = elim (cases_Bool (is_bare_end (drop at line))) [
+    | inl bare ↦ sole_found [] at (bare_found Is begin line at less bare)
+    | inr more ↦ sole_as (λ items. items) (λ c u rest h is e. go more c u rest h is e) (some_alone line at less)
+  ]
+    where
+      go : is_bare_end (drop at line) ≡ false → (c : List A) (u rest : List ℕ) → drop at line ≡ u ++ rest → ArePerhaps Is (suc at) c u → StopEnds (has_any c) rest → (items : List A) × (c ≡ items) × AreSome Is (suc at) items u × StopEnds true rest
+      go more [] u rest h is e = cc (sym more ∙ ap is_bare_end (h ∙ ap (λ l. l ++ rest) is) ∙ e)
+      go more (a ∷ items) u rest h is e = (a ∷ items, refl, is, e)
+
+value_alone : Alone (AfterByte 32 IsValue) (λ t. StopEnds true)
+value_alone line at less = sole_within {Wide = AfterByte 32 IsValue} {Also = ExprEnds} (λ t s rest is e. (is, value_end (suc at) t s rest is e)) (alone_after 32 (expr_alone Everything) line at less)
+
+values_alone : Alone (AreSome IsValue) (λ items. StopEnds true)
+values_alone = some_alone IsValue ExprEnds expr_stop (expr_begins Everything) (expr_alone Everything)
+
+perhaps_values : Alone (ArePerhaps IsValue) (λ items. StopEnds (has_any items))
+perhaps_values = perhaps_alone IsValue ExprEnds expr_stop (expr_begins Everything) (expr_alone Everything)
+
+-- QUIT
+quit_alone : (returns : Bool) → Alone (IsQuit returns) (λ t. ActionEnds (Quit t))
+quit_alone returns line at less = elim (cases_Bool (is_bare_end (drop at line))) [
+  | inl bare ↦ sole_found None at (no_value_found returns line at less bare)
+  | inr more ↦ sole_as Some (λ c u rest h is e. go more c u rest h is e) (value_alone line at less)
+]
+  where
+    go : is_bare_end (drop at line) ≡ false → (c : Option Tree) (u rest : List ℕ) → drop at line ≡ u ++ rest → IsQuit returns (suc at) c u → ActionEnds (Quit c) rest → (t : Tree) × (c ≡ Some t) × AfterByte 32 IsValue (suc at) t u × StopEnds true rest
+    go more None u rest h is e = cc (sym more ∙ ap is_bare_end (h ∙ ap (λ l. l ++ rest) is) ∙ e)
+    go more (Some t) u rest h is e = (t, refl, is.1, e)
+
+nothing_alone : Alone {A = Unit {0}} (λ k c s. s ≡ []) (λ c. StopEnds false)
+nothing_alone line at less = sole_only tt at (λ c u rest h is e. (refl, sym (h ∙ ap (λ l. l ++ rest) is)))
+
+-- what a command does, by its word
+action_alone : (w : Word) (returns : Bool) → Alone (IsActionOf w returns) ActionEnds
+action_alone word.Do r line at less = sole_turned (opened word.Do (λ e. cc e) r line at) (perhaps_alone IsDo DoEnds do_stop do_begins do_alone line at less)
+action_alone word.Else r line at less = sole_turned (opened word.Else (λ e. cc e) r line at) (nothing_alone line at less)
+action_alone word.Halt r line at less = sole_turned (opened word.Halt (λ e. cc e) r line at) (nothing_alone line at less)
+action_alone word.Hang r line at less = sole_turned (opened word.Hang (λ e. cc e) r line at) (values_alone line at less)
+action_alone word.HaltOrHang r line at less = sole_turned (halting_turned r line at) (perhaps_values line at less)
+action_alone word.If r line at less = sole_turned (opened word.If (λ e. cc e) r line at) (perhaps_values line at less)
+action_alone word.Job r line at less = sole_turned (opened word.Job (λ e. cc e) r line at) (some_alone IsJob JobEnds job_stop job_begins job_alone line at less)
+action_alone word.Kill r line at less = sole_turned (opened word.Kill (λ e. cc e) r line at) (perhaps_alone IsKill KillEnds kill_stop kill_begins kill_alone line at less)
+action_alone word.Lock r line at less = sole_turned (opened word.Lock (λ e. cc e) r line at) (perhaps_alone IsLock LockEnds lock_stop lock_begins lock_alone line at less)
+action_alone word.Merge r line at less = sole_turned (opened word.Merge (λ e. cc e) r line at) (some_alone IsMerge MergeEnds merge_stop merge_begins merge_alone line at less)
+action_alone word.New r line at less = sole_turned (opened word.New (λ e. cc e) r line at) (perhaps_alone IsNew NewEnds new_stop new_begins new_alone line at less)
+action_alone word.Quit r line at less = sole_turned (opened word.Quit (λ e. cc e) r line at) (quit_alone r line at less)
+action_alone word.Read r line at less = sole_turned (opened word.Read (λ e. cc e) r line at) (some_alone IsRead ReadEnds read_stop read_begins read_alone line at less)
+action_alone word.Set r line at less = sole_turned (opened word.Set (λ e. cc e) r line at) (some_alone IsSet SetEnds set_stop set_begins set_alone line at less)
+action_alone word.Write r line at less = sole_turned (opened word.Write (λ e. cc e) r line at) (some_alone IsWrite WriteEnds write_stop write_begins write_alone line at less)
+
+-- words
+same_text : (s t ys zs : List ℕ) → s ++ ys ≡ t ++ zs → ys ≡ zs → s ≡ t
+same_text s t ys zs h same = append_cancel_right s t zs (ap (λ l. s ++ l) (sym same) ∙ h)
+
+word_alone : Alone IsNamed WordEnds
+word_alone line at less a n s b u rest h is e =
+    let joined : u ++ rest ≡ s.text ++ drop n line = sym h ∙ s.joined in
+    let end = one_run is_letter u s.text rest (drop n line) joined is.0 s.spelled.0 e s.ended in
+    let text = same_text u s.text rest (drop n line) joined end in
+    (same_Some b a (sym is.1 ∙ ap word_of text ∙ s.spelled.1), end)
+
+for_word_alone : Alone IsForWord ForWordEnds
+for_word_alone line at less a n s b u rest h is e =
+    (refl, one_run is_letter u s.text rest (drop n line) (sym h ∙ s.joined) (either_for u is).0 (either_for s.text s.spelled).0 e s.ended)
+
+-- postconditionals
+condition_alone : (w : Word) → Alone (IsConditionOf w) (ConditionEnds w)
+condition_alone w line at less = elim (cases_Bool (has_condition w)) [
+  | inl may ↦ sole_within (λ t s rest is e. (is.1, e may)) (optional_alone 58 Everything line at less)
+  | inr bars ↦ sole_only None at (λ c u rest h is e. none bars c u rest h is)
+]
+  where
+    bare : (c : Option Tree) (u rest : List ℕ) → drop at line ≡ u ++ rest → c ≡ None → IsConditionOf w (suc at) c u → (c ≡ None) × (rest ≡ drop at line)
+    bare None u rest h same is = (refl, sym (h ∙ ap (λ l. l ++ rest) is.1))
+    bare (Some t) u rest h same is = cc same
+
+    none : has_condition w ≡ false → (c : Option Tree) (u rest : List ℕ) → drop at line ≡ u ++ rest → IsConditionOf w (suc at) c u → (c ≡ None) × (rest ≡ drop at line)
+    none bars c u rest h (inl same, is) = bare c u rest h same (inl same, is)
+    none bars c u rest h (inr may, is) = cc (sym bars ∙ may)
+
+-- a command
+tail_alone : (w : Word) (returns : Bool) → Alone (IsTail w returns) TailEnds
+tail_alone w returns line at less = sole_both (tail_parts returns line w at) less (condition_alone w line at less) (λ c m s. action_alone w returns line m s.within)
+
+command_alone : (returns : Bool) → Alone (IsCommand returns) CommandEnd
+command_alone returns line at less = sole_both (command_parts returns line at) less (word_alone line at less) (λ w m s. tail_alone w returns line m s.within)
+
+-- FOR before what it holds
+perhaps_control_alone : Alone IsPerhapsControl (λ c. StopEnds (is_some c))
+perhaps_control_alone line at less = elim (cases_Bool (is_bare_end (drop at line))) [
+  | inl bare ↦ sole_found None at (no_control_found line at less bare)
+  | inr more ↦ sole_turned (control_turned line at more) (sole_within (λ c s rest is e. (is, control_end (suc at) c s rest is e)) (alone_after 32 control_alone line at less))
+]
+
+loop_alone : (loops : ℕ) → Alone (IsLoop loops) LoopEnds
+loop_alone loops line at less a n s =
+    sole_both (head_parts loops line at s.spelled.1) less (for_word_alone line at less) (λ u m f. perhaps_control_alone line m f.within) a n s
+
+-- the commands of a line
+some_text : (s : List ℕ) → starts is_letter s ≡ true → 0 < length s
+some_text [] h = cc h
+some_text (b ∷ s) h = omega arith
+
+module _ (level : ℕ) (line : List ℕ) where
+  -- spaces and the commands after them, where these stand alone
+  gap_sole : (loops : ℕ) (b : Bool) (at : ℕ) → at ≤ length line → ((m : ℕ) → at ≤ m → m ≤ length line → Sole (AreCommands level loops) CommandsEnd line m) → Sole (GapThen level loops line b) CommandsEnd line at
+  gap_sole loops b at less ih =
+      sole_within (λ c s rest is e. (forget level loops line b (suc at) c s is, e))
+      (sole_both (spaced_parts level loops line at) less (run_alone is_space line at less) (λ u m s. ih m (next_far at m less s.text s.within s.joined) s.within))
+    where
+      next_far : (at m : ℕ) → at ≤ length line → (s : List ℕ) → m ≤ length line → drop at line ≡ s ++ drop m line → at ≤ m
+      next_far at m less s within joined = let place = next_is line s at m less within joined in omega (arith, place)
+
+  commands_sole : (f loops at : ℕ) → at ≤ length line → length line - at < f → Sole (AreCommands level loops) CommandsEnd line at
+  commands_sole zero loops at less few = absurd (omega (arith, few))
+  commands_sole (suc f) loops at less few = go (commands_sole f) (cases_Bool (is_commands_end (drop at line))) (cases_Bool (is_for (word_at (drop at line)).0))
+    where
+      next_far : (m : ℕ) (s : List ℕ) → m ≤ length line → drop at line ≡ s ++ drop m line → starts is_letter s ≡ true → at < m
+      next_far m s within joined letter =
+          let place = next_is line s at m less within joined in
+          let some = some_text s letter in
+          omega (arith, place, some)
+
+      go : ((loops m : ℕ) → m ≤ length line → length line - m < f → Sole (AreCommands level loops) CommandsEnd line m)
+          → (is_commands_end (drop at line) ≡ true) ⊎ (is_commands_end (drop at line) ≡ false) → (is_for (word_at (drop at line)).0 ≡ true) ⊎ (is_for (word_at (drop at line)).0 ≡ false) → Sole (AreCommands level loops) CommandsEnd line at
+      go ih (inl end) which = sole_found finished at (ended_found level loops line at less end)
+      go ih (inr more) (inl here) =
+          sole_both (loop_parts level loops line at here) less (loop_alone loops line at less)
+          (λ control m s. let far = next_far m s.text s.within s.joined (head_letter _ (suc at) control s.text s.spelled.0) in gap_sole (suc loops) (is_some control) m s.within (λ k high within. ih (suc loops) k within (omega (arith, far, high, few))))
+      go ih (inr more) (inr no_for) =
+          sole_both (then_parts level loops line at more no_for) less (command_alone (Returns level loops line) line at less)
+          (λ first m s. let far = next_far m s.text s.within s.joined (command_letter (Returns level loops line) (suc at) first s.text s.spelled) in gap_sole loops (has_own first) m s.within (λ k high within. ih loops k within (omega (arith, far, high, few))))
+
+pub commands_alone : (level loops : ℕ) → Alone (AreCommands level loops) CommandsEnd
+commands_alone level loops line at less = commands_sole level line (suc (length line - at)) loops at less (omega arith)
