@@ -40,11 +40,11 @@ calls_from (c ∷ cs) last = ap (λ more. in_command (command_of c) ++ more) (ca
 abbrev before : Commands → List CallTree
 before c = flat_map (λ d. in_command (command_of d)) (out-Commands c).before.items
 
-none_last : (c : Commands) → (out-Commands c).last ≡ None
+pub none_last : (c : Commands) → (out-Commands c).last ≡ None
     → commands_of c ≡ commands_from (map command_of (out-Commands c).before.items) finished
 none_last c is = fold_out-Commands CommandTrees CommandTrees commands_step for_step c ∙ rw is refl
 
-some_last : (c : Commands) (b : Box For Global) → (out-Commands c).last ≡ Some b
+pub some_last : (c : Commands) (b : Box For Global) → (out-Commands c).last ≡ Some b
     → commands_of c ≡ commands_from (map command_of (out-Commands c).before.items)
     (fold-For CommandTrees CommandTrees commands_step for_step b.value)
 some_last c b is = fold_out-Commands CommandTrees CommandTrees commands_step for_step c ∙ rw is refl

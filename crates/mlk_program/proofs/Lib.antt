@@ -9,3 +9,4 @@ pub mod LinkedCalls
 pub mod LinkedLines
 pub mod LinkedRoutines
 pub mod EntryLines
+pub mod NewLists

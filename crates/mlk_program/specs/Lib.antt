@@ -4,3 +4,4 @@ pub mod Entries
 pub mod Tables
 pub mod Program
 pub mod Linking
+pub mod News

@@ -9,8 +9,7 @@ use Rattle.mlk_text.specs.declared.fault.Fault.{Fault}
 use Rattle.mlk_expr.specs.declared.tree.Callee.{Callee}
 use Rattle.mlk_expr.specs.Trees.{ActualTree, Given, ByRef, Missing}
 use Rattle.mlk_routine.specs.Trees.{RoutineTree, Named_routine, LineTrees, no_lines, line, HeadTree, LineHead}
-use Rattle.mlk_routine.specs.Trees.{CallTree, Called, NewTree, NewAllBut, CommandTrees, finished, then_command, then_for}
-use Rattle.mlk_routine.specs.Trees.{ActionTree, New, Does}
+use Rattle.mlk_routine.specs.Trees.{CallTree, Called}
 use Rattle.mlk_routine.specs.RoutineGrammar.{AreDistinct}
 use Rattle.mlk_program.specs.Calls.{in_commands}
 use Rattle.mlk_program.specs.Entries.{name_of, formals_of, target_of, line_of_entry, entry_count}
@@ -38,11 +37,13 @@ calls_from r (Named_routine name lines ∷ routines) = calls_in r lines ++ calls
 abbrev pub calls_of : List RoutineTree → List PlacedCall
 calls_of = calls_from 0
 
--- Whether a line takes an actual list: both lists are there or neither, and there are no more actuals than formals.
+-- Whether a line takes an actual list: there are no more actuals than formals. A line without a formal list takes none,
+-- and a call without an actual list fits the empty formal list too.
 abbrev pub takes : Option (List (List ℕ)) → Option (List ActualTree) → Bool
 takes None None = true
 takes None (Some given) = false
-takes (Some formals) None = false
+takes (Some []) None = true
+takes (Some (f ∷ formals)) None = false
 takes (Some formals) (Some given) = not (nat_lt (length formals) (length given))
 
 -- the formals of the line that a call names; nothing where it names none
@@ -155,21 +156,3 @@ shared_by routines p = go p.call
 -- Whether some call shares a name. This project's own.
 abbrev pub is_shared : List RoutineTree → List ℕ → Bool
 is_shared routines name = list_any (bytes_eq name) (flat_map (shared_by routines) (calls_of routines))
-
--- What NEW makes new: a name, or all names but those of a list; without arguments all names. Standard: NEW.
-abbrev pub news_of : ActionTree → List NewTree
-news_of (New []) = NewAllBut [] ∷ []
-news_of (New (n ∷ news)) = n ∷ news
-news_of action = []
-
-abbrev pub news_in : CommandTrees → List NewTree
-news_in finished = []
-news_in (then_command (Does column condition action) rest) = news_of action ++ news_in rest
-news_in (then_for column index control rest) = news_in rest
-
--- what the NEW commands of lines make new, in order, those after FOR too; not those of the lines' blocks
-abbrev pub news_of_lines : List (HeadTree × LineTrees) → List NewTree
-news_of_lines lines = flat_map (λ l. news_in_head l.0) lines
-  where
-    news_in_head : HeadTree → List NewTree
-    news_in_head (LineHead number level end label formals commands) = news_in commands

@@ -8,6 +8,7 @@ mod expr;
 mod fault;
 mod found;
 mod linking;
+mod news;
 mod program;
 mod shared;
 mod slice;
@@ -15,4 +16,5 @@ mod table;
 
 pub use entry::EntryId;
 pub use linking::link;
+pub use news::{NewNames, new_names};
 pub use program::Program;

@@ -69,8 +69,9 @@ fn takes(formals: &Option<List<Name>>, actuals: &Option<Vec<Actual>>) -> bool
 {
     match (formals, actuals) {
         (None, None) => true,
+        (Some(formals), None) => formals.as_slice().is_empty(),
         (Some(formals), Some(given)) => given.len() <= formals.as_slice().len(),
-        _ => false,
+        (None, Some(_)) => false,
     }
 }
 

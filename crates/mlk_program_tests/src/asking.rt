@@ -1,7 +1,7 @@
 // What is asked of a program.
 
 use crate::routines;
-use mlk_program::{EntryId, Program, link};
+use mlk_program::{EntryId, NewNames, Program, link, new_names};
 use mlk_text::Name;
 use std::alloc::Global;
 
@@ -12,6 +12,20 @@ fn numbers(program: &Program<'_>, entry: EntryId, wanted: &[usize]) -> bool {
             .iter()
             .zip(wanted)
             .all(|(line, number)| line.number == *number)
+}
+
+fn is_one(new: &NewNames<'_>, column: u32, wanted: &[u8]) -> bool {
+    match new {
+        NewNames::One(at, name) => at.number() == column && name.as_bytes() == wanted,
+        NewNames::AllBut(_) => false,
+    }
+}
+
+fn is_all_but(new: &NewNames<'_>, wanted: usize) -> bool {
+    match new {
+        NewNames::One(_, _) => false,
+        NewNames::AllBut(names) => names.len() == wanted,
+    }
 }
 
 // Entries by their texts, and their lines.
@@ -66,4 +80,24 @@ fn shared(rt: HostRuntime) {
         let name = Name::new(Vec::from_slice(alloc, text).ok().expect(&rt, "memory"));
         assert!(rt; !program.is_shared(&name), "{text:?}");
     }
+}
+
+// Names that NEW makes new, in order: those after FOR too, not those of the block; without arguments all of them.
+#[test]
+fn new(rt: HostRuntime) {
+    let alloc = rt.alloc();
+    let texts: [(&[u8], &[u8]); 1] = [(
+        b"A",
+        b" NEW A NEW (B,C) DO  NEW\n . NEW D\n FOR I=1 NEW E,F QUIT\n",
+    )];
+    let routines = routines(alloc, &texts).ok().expect(&rt, "routines");
+    let routine = routines.first().expect(&rt, "a routine");
+    let lines = routine.lines.as_slice();
+    let names = new_names(alloc, lines).ok().expect(&rt, "names");
+    assert!(rt; names.len() == 5);
+    assert!(rt; is_one(&names[0], 6, b"A"));
+    assert!(rt; is_all_but(&names[1], 2));
+    assert!(rt; is_all_but(&names[2], 0));
+    assert!(rt; is_one(&names[3], 14, b"E"));
+    assert!(rt; is_one(&names[4], 16, b"F"));
 }

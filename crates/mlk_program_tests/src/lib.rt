@@ -1,5 +1,5 @@
 //! Tests of programs, by the public calls: routines that are linked or refused, and what is asked of a program. The
-//! answers come from outside the program: two other implementations agree on them.
+//! answers are worked out by hand; `bench/link_answers.py` compares with answers that come from elsewhere.
 #![tactic(auto)]
 
 #[cfg(test)]

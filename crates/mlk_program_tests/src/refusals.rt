@@ -48,7 +48,7 @@ fn calls(rt: HostRuntime) {
         (b" DO B\nB(X) QUIT\n", 303, 1, 5),
         (b" DO B(,,)\nB(X,Y) QUIT\n", 303, 1, 5),
         (b" DO B($$C(1))\nB(X) QUIT 1\n", 302, 1, 7),
-        (b" WRITE $$B,$$C\nB() QUIT 1\n", 303, 1, 8),
+        (b" WRITE $$B,$$C\nB() QUIT 1\n", 302, 1, 12),
         (b" IF 1 DO\n . FOR I=1:1:$$C DO B\nB QUIT\n", 302, 2, 14),
     ];
     for (text, code, line, column) in rows.iter() {
