@@ -1,5 +1,6 @@
 -- The calls of a line, in the order in which they are written: `$$` in expressions, the arguments of DO and of JOB. A
--- call stands before those of its actuals. Standard: extrinsic function, DO, JOB.
+-- call stands before those of its actuals. Standard: extrinsic function,
+-- extrinsic special variable (`$$` without a list), DO, JOB.
 use Rattle.std.specs.Prelude.{List, [], ◌∷◌, ◌++◌, flat_map, Option, Some, None}
 use Rattle.mlk_expr.specs.Trees.{Tree, Lit, Free, LocalName, GlobalName, SpecialName, Prefixed, Chain, PatternText}
 use Rattle.mlk_expr.specs.Trees.{Func, Selected, BareCall, CallOf, Trees, no_trees, tree, Subs, no_subs, sub, Links}

@@ -123,7 +123,7 @@ IsLinkFault routines fault = IsTwice routines fault
     ⊎ (AreDistinct (map name_of routines) × (AreTooMany routines → ⊥)
     × IsFirstFault routines (calls_of routines) fault)
 
--- the name that an actual lends
+-- the name that an actual passes by reference
 abbrev pub lent_by : ActualTree → List (List ℕ)
 lent_by (ByRef column name) = name ∷ []
 lent_by (Given t) = []
@@ -146,7 +146,7 @@ shared_with (Some given) (Some None) = flat_map lent_by given
 shared_with (Some given) (Some (Some formals)) =
     flat_map lent_by given ++ flat_map received_by (zip formals given)
 
--- the names that a call shares: each that it lends, and each formal that receives one
+-- the names that a call shares: each that it passes by reference, and each formal that receives one
 abbrev pub shared_by : List RoutineTree → PlacedCall → List (List ℕ)
 shared_by routines p = go p.call
   where

@@ -1,4 +1,4 @@
-//! Programs: routines whose calls all have a line.
+//! Programs: routines, each of whose calls has a line that takes its actuals.
 #![tactic(auto)]
 
 mod call;

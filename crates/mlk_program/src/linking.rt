@@ -21,8 +21,10 @@ use mlk_routine::{Line, Routine};
 use mlk_text::{Code, Column, Failure, Fault, List, Name};
 use std::alloc::{AllocError, Global};
 
+// How many routines a program may have.
 const MOST_ROUTINES: usize = 65535;
 
+// How many entries a program may have: first lines, and further lines with a label.
 const MOST_ENTRIES: usize = 1048575;
 
 // Each routine is the first of its name.
@@ -75,12 +77,12 @@ fn takes(formals: &Option<List<Name>>, actuals: &Option<Vec<Actual>>) -> bool
     }
 }
 
-/// Where calls stand: their routine, from 0, with its name, and their line.
+// Where calls stand: their routine, from 0, with its name, and their line.
 #[derive(Drop)]
-pub(crate) struct At<'a> {
-    pub routine: usize,
-    pub name: &'a Name,
-    pub line: usize,
+struct At<'a> {
+    routine: usize,
+    name: &'a Name,
+    line: usize,
 }
 
 // The line that a callee names.

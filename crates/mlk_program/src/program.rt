@@ -54,7 +54,8 @@ impl<'a> Program<'a> {
         self.directory.entry(text)
     }
 
-    /// The entry that a callee names, in this one of the routines, counted from 0. It takes no memory.
+    /// The entry that a callee names where the call stands in this one of the routines, counted from 0: a label alone is
+    /// one of that routine. It takes no memory.
     pub fn target(&self, routine: usize, callee: &Callee) -> Option<EntryId>
         ensures { result ≡ target_of (map routine_of self.now) routine callee.now }
     {
@@ -76,7 +77,8 @@ impl<'a> Program<'a> {
         self.directory.lines_of(entry)
     }
 
-    /// Whether some call lends the name, or a formal of this name receives one. It takes no memory.
+    /// Whether the name is shared: some call of the program passes it by reference (`.X`), or a formal of this name
+    /// receives a name that is passed so, in whatever routine. It takes no memory.
     pub fn is_shared(&self, name: &Name) -> bool
         ensures { result ≡ is_shared (map routine_of self.now) name.now }
     {

@@ -13,7 +13,7 @@ use mlk_text::Name;
 use std::alloc::{AllocError, Global};
 use std::marker::Model;
 
-/// Names that some call lends, or that receive one.
+/// Names that some call passes by reference, and formals that receive one.
 #[derive(Drop)]
 pub(crate) struct Shared<'a> {
     names: IndexSet<&'a [u8]>,
@@ -75,7 +75,7 @@ impl<'a> Shared<'a> {
         }
     }
 
-    /// Adds the names that an actual list lends.
+    /// Adds the names that an actual list passes by reference.
     pub(crate) fn add_lent(&mut self, given: &'a [Actual]) -> Result<(), AllocError>
         ensures { OnOk result (Gains (flat_map lent_by (actual_trees given.now)) self.old self.new) }
     {
