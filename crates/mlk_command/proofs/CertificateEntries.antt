@@ -1,5 +1,5 @@
 -- Names, labels and entry texts are read alike whatever follows, as long as it does not go on with them.
-use Rattle.std.proofs.Common.{one-add, ◌≡◌, ◌≤◌, ◌-◌, ℕ, suc, ◌++◌, List, [], ◌∷◌, length, take, drop, map, Some, None, true, false, refl, sym, ap, ◌∙◌, arith, subst, inl, inr, append_assoc, take-append-drop, length-take, nat_eq}
+use Rattle.std.proofs.Common.{one-add, ◌≡◌, ◌≤◌, ◌-◌, ℕ, ◌++◌, List, [], ◌∷◌, length, take, drop, map, Some, None, true, false, refl, sym, ap, ◌∙◌, arith, subst, inl, inr, append_assoc, take-append-drop, length-take, nat_eq}
 use Rattle.std.specs.Prelude.{Option, ◌==◌, ◌&&◌, ◌||◌, nat_le, option_map, Vec}
 use Rattle.std.proofs.Common.{Global}
 use Rattle.std.specs.Cmp.Lexicographic.{pointwise}

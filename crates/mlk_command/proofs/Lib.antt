@@ -1,13 +1,8 @@
-pub mod RoutineCommands
-pub mod RoutineLines
-pub mod SeenNames
 pub mod Paths
 pub mod Sources
 pub mod Checks
 pub mod Saying
 pub mod CommandLine
-pub mod RoutineTexts
-pub mod RoutineRefusals
 pub mod CertificateEach
 pub mod CertificateParts
 pub mod CertificateRoom

@@ -1,11 +1,5 @@
 pub mod Printed
 pub mod LockRoots
-pub mod RoutineWords
-pub mod RoutineGrammar
-pub mod Twice
-pub mod RoutineReading
-pub mod RoutineRefusals
-pub mod RoutineOutcomes
 pub mod CertificateSpelling
 pub mod CertificateLexing
 pub mod CertificateBlocks

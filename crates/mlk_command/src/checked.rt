@@ -1,17 +1,18 @@
 // From the texts of files to a report.
 
-ghost use Rattle.std.specs.Prelude.{◌≡◌, IfOk, IfErr};
-ghost use Rattle.mlk_command.specs.Checked.{refusal_of_routine, refusal_of_rules, refusal_of_certificate, AreRead, LinksTo, RefusesFirst, RefusesTwice, IsChecked, IsRefusedBy};
+ghost use Rattle.std.specs.Prelude.{◌≡◌, map, IfOk, IfErr};
+ghost use Rattle.mlk_routine.specs.Views.{routine_of};
+ghost use Rattle.mlk_command.specs.Checked.{refusal_of_routine, refusal_of_rules, refusal_of_certificate, AreRead, MakesLines, RefusesFirst, RefusesTrees, IsChecked, IsRefusedBy};
 ghost use Rattle.mlk_command.specs.declared.checked.Refusal.TheVariants as refusal;
 
 use crate::certificate::{CertificateError, CertificateFault, read_certificate};
-use crate::routine::{RoutineError, read_routine, refused};
 use crate::source::{Source, Sources};
-use crate::twice::first_twice;
-use mlk_machine::plain::{EntryText, Plain, Routine};
+use mlk_machine::plain::{EntryText, Plain};
+use mlk_program::link;
+use mlk_routine::{Routine, read_routine};
 use mlk_rules::{RulesFault, read_rules};
-use mlk_text::{Code, Failure, Fault};
-use mlk_walk::{Report, check_all, missing_entry};
+use mlk_text::{Failure, Fault};
+use mlk_walk::{Report, check_all, missing_entry, plain_of};
 use std::alloc::{AllocError, Global};
 
 /// Why there is no report.
@@ -33,13 +34,13 @@ impl From<AllocError> for Refusal {
     }
 }
 
-impl From<RoutineError> for Refusal {
+impl From<Failure<Fault>> for Refusal {
     ghost from_gives = { λ e r. r ≡ refusal_of_routine e };
 
-    fn from(error: RoutineError) -> Refusal {
+    fn from(error: Failure<Fault>) -> Refusal {
         match error {
-            RoutineError::OutOfMemory => Refusal::OutOfMemory,
-            RoutineError::Refused(fault) => Refusal::Routine(fault),
+            Failure::OutOfMemory => Refusal::OutOfMemory,
+            Failure::Refused(fault) => Refusal::Routine(fault),
         }
     }
 }
@@ -73,40 +74,34 @@ pub(crate) struct Checked {
     pub report: Report,
 }
 
-fn routines_of(alloc: Global, sources: &[Source<'_>]) -> Result<Vec<Routine>, RoutineError>
-    ensures ok { IfOk result (λ r. AreRead sources.now r.items) }
+fn routines_of(alloc: Global, sources: &[Source<'_>]) -> Result<Vec<Routine>, Failure<Fault>>
+    ensures ok { IfOk result (λ r. AreRead sources.now (map routine_of r.items)) }
     ensures refused { IfErr result (RefusesFirst sources.now) }
 {
     let mut routines = Vec::new(alloc);
     for source in sources {
-        let routine = read_routine(alloc, source.stem, source.text.as_slice())?;
-        if routines.push(routine).is_err() {
-            return Err(RoutineError::OutOfMemory);
-        }
+        routines.push(read_routine(alloc, source.stem, source.text.as_slice())?)?;
     }
     Ok(routines)
 }
 
-// The program of routines, unless two have one name.
-fn link(alloc: Global, routines: Vec<Routine>) -> Result<Plain, RoutineError>
-    ensures ok { IfOk result (LinksTo routines.items) }
-    ensures refused { IfErr result (RefusesTwice routines.items) }
+// The straight lines of the program of these routines.
+fn lines_of(alloc: Global, routines: &[Routine]) -> Result<Plain, Failure<Fault>>
+    ensures ok { IfOk result (MakesLines (map routine_of routines.now)) }
+    ensures refused { IfErr result (RefusesTrees (map routine_of routines.now)) }
 {
-    if let Some(k) = first_twice(alloc, routines.as_slice())? {
-        let name = routines[k].name.as_bytes();
-        return Err(refused(alloc, Code::RoutineTwice, name, 1, 1, None));
-    }
-    Ok(Plain::new(alloc, routines)?)
+    let program = link(alloc, routines)?;
+    plain_of(alloc, &program)
 }
 
-/// The report of texts, or the first refusal: of the routines in order, of their linking, of the rules, of the
-/// certificate, of an entry that the routines lack.
+/// The report of texts, or the first refusal: of the routines in order, of their linking, of what no straight line has,
+/// of the rules, of the certificate, of an entry that the routines lack.
 pub(crate) fn check_texts(alloc: Global, sources: &Sources<'_>) -> Result<Checked, Refusal>
     ensures ok { IfOk result (IsChecked sources.now) }
     ensures refused { IfErr result (IsRefusedBy sources.now) }
 {
     let routines = routines_of(alloc, sources.routines.as_slice())?;
-    let plain = link(alloc, routines)?;
+    let plain = lines_of(alloc, routines.as_slice())?;
     let rules = read_rules(alloc, sources.rules.as_slice())?;
     let certificate = read_certificate(alloc, sources.certificate.as_slice())?;
     if let Some(entry) = missing_entry(&plain, &rules, &certificate) {

@@ -7,14 +7,11 @@ mod file;
 mod lock_root;
 mod printed;
 mod program;
-mod routine;
 mod source;
 mod text;
-mod twice;
 mod words;
 
 pub use certificate::{CertificateError, CertificateFault, read_certificate};
 pub use file::{LONGEST_FILE, read_whole};
 pub use program::{run, wrong_words};
-pub use routine::{RoutineError, one_refusal, one_tree, read_routine};
 pub use source::Files;

@@ -1,6 +1,7 @@
 pub mod SetLemmas
 pub mod CaseLemmas
 pub mod PointLemmas
+pub mod StraightLemmas
 pub mod Steps
 pub mod Covering
 pub mod Alone

@@ -7,3 +7,5 @@ pub mod Places
 pub mod Rows
 pub mod Report
 pub mod Theorem
+pub mod Straight
+pub mod StraightAnswers
