@@ -4,6 +4,7 @@ mod faults;
 mod limits;
 mod reading;
 mod refusals;
+mod routines;
 
 use mlk_command::{Files, run};
 use std::alloc::{AllocError, Global};
