@@ -181,7 +181,8 @@ fn told(alloc: Global, first: &[u8], second: &[u8]) -> Result<u32, Failure<Fault
     let mut routines = Vec::new(alloc);
     routines.push(read_routine(alloc, b"A", first)?)?;
     routines.push(read_routine(alloc, b"BANK", second)?)?;
-    match lines_of(alloc, routines.as_slice()) {
+    let lines = lines_of(alloc, routines.as_slice());
+    match &lines {
         Err(Failure::Refused(fault)) => Ok(fault.place.line.number()),
         _ => Ok(0),
     }
