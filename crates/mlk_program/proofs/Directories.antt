@@ -6,7 +6,7 @@ use Rattle.mlk_routine.specs.declared.routine.Line.{Line}
 use Rattle.mlk_routine.specs.declared.routine.Routine.{Routine}
 use Rattle.mlk_routine.specs.Trees.{HeadTree, LineTrees}
 use Rattle.mlk_routine.specs.Views.{line_of, routine_of, lines_from}
-use Rattle.mlk_program.specs.Entries.{as_lines, lines_in, line_named, routine_named, is_label, label_of, line_of_entry}
+use Rattle.mlk_program.specs.Entries.{as_lines, lines_in, line_named, routine_named, is_label, label_of, line_of_entry, text_with, text_in, text_of_entry}
 use Rattle.mlk_program.specs.Tables.{first_with, IsTableOf, AreTables, line_label, trees, first_of}
 use Rattle.mlk_program.specs.declared.entry.EntryId.{EntryId}
 use Rattle.mlk_program.proofs.NameTables.{position-cons, Pairs}
@@ -116,3 +116,54 @@ pub line_none : (routines : List Routine) (e : EntryId) → slice_get routines e
     → None ≡ line_of_entry (trees routines) e
 line_none routines e is =
     sym (ap (option_and_then (λ q. option_map line_of (slice_get q.lines.items e.line))) is) ∙ line_found routines e
+
+-- the text of an entry
+text_at : (routines : List Routine) (e : EntryId) (r : Routine) → slice_get routines e.routine ≡ Some r
+    → option_map (λ x. text_with (label_of (line_of x).0) r.name) (slice_get r.lines.items e.line)
+    ≡ text_of_entry (trees routines) e
+text_at routines e r is = go routines e.routine is
+  where
+    lined : (lines : List Line) (n : ℕ) → option_map (λ x. text_with (label_of (line_of x).0) r.name) (slice_get lines n)
+        ≡ option_map (λ x. text_with (label_of x.0) r.name) (slice_get (map line_of lines) n)
+    lined [] n = refl
+    lined (l ∷ lines) zero = refl
+    lined (l ∷ lines) (suc n) = lined lines n
+
+    go : (rs : List Routine) (i : ℕ) → slice_get rs i ≡ Some r
+        → option_map (λ x. text_with (label_of (line_of x).0) r.name) (slice_get r.lines.items e.line)
+        ≡ option_and_then (text_in e.line) (slice_get (trees rs) i)
+    go [] i h = cc h
+    go (q ∷ rs) zero h = lined r.lines.items e.line
+        ∙ ap (λ ls. option_map (λ x. text_with (label_of x.0) r.name) (slice_get ls e.line)) (sym (lines_same (map line_of r.lines.items)))
+        ∙ ap (λ o. option_and_then (text_in e.line) (Some (routine_of o))) (came h)
+      where
+        came : Some q ≡ Some r → r ≡ q
+        came k = cc k
+    go (q ∷ rs) (suc i) h = go rs i h
+
+pub text_some : (routines : List Routine) (e : EntryId) (r : Routine) (o : Option (Bor Line)) (l : Bor Line)
+    → slice_get routines e.routine ≡ Some r → option_copied o ≡ slice_get r.lines.items e.line → o ≡ Some l
+    → Some (text_with (label_of (line_of l.now).0) r.name) ≡ text_of_entry (trees routines) e
+text_some routines e r o l is here found =
+    ap (option_map (λ x. text_with (label_of (line_of x.now).0) r.name)) (sym found)
+    ∙ copied (λ x. text_with (label_of (line_of x).0) r.name) o
+    ∙ ap (option_map (λ x. text_with (label_of (line_of x).0) r.name)) here
+    ∙ text_at routines e r is
+
+pub text_none : (routines : List Routine) (e : EntryId) → slice_get routines e.routine ≡ None
+    → None ≡ text_of_entry (trees routines) e
+text_none routines e is = go routines e.routine is
+  where
+    go : (rs : List Routine) (i : ℕ) → slice_get rs i ≡ None → None ≡ option_and_then (text_in e.line) (slice_get (trees rs) i)
+    go [] i h = refl
+    go (q ∷ rs) zero h = cc h
+    go (q ∷ rs) (suc i) h = go rs i h
+
+pub text_no_line : (routines : List Routine) (e : EntryId) (r : Routine) (o : Option (Bor Line))
+    → slice_get routines e.routine ≡ Some r → option_copied o ≡ slice_get r.lines.items e.line → o ≡ None
+    → None ≡ text_of_entry (trees routines) e
+text_no_line routines e r o is here none =
+    ap (option_map (λ x. text_with (label_of (line_of x.now).0) r.name)) (sym none)
+    ∙ copied (λ x. text_with (label_of (line_of x).0) r.name) o
+    ∙ ap (option_map (λ x. text_with (label_of (line_of x).0) r.name)) here
+    ∙ text_at routines e r is

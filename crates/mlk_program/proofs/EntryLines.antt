@@ -1,18 +1,17 @@
 -- The lines of an entry.
-use Rattle.std.proofs.Common.{◌≡◌, ◌<◌, ◌≤◌, ◌+◌, length, get_or, Bool, true, false, drop_of_length-le, refl, sym, ap, ◌∙◌, arith, ℕ, zero, suc, List, [], ◌∷◌, map, take, drop, Some, None}
-use Rattle.std.specs.Prelude.{slice_get, cond}
+use Rattle.std.proofs.Common.{min, Vec, Global, ◌≡◌, ◌+◌, length, refl, sym, ap, ◌∙◌, arith, ℕ, zero, suc, List, [], ◌∷◌, map, take, drop, Some, None}
+use Rattle.std.specs.Prelude.{slice_get, cond, option_and_then}
 use Rattle.std.specs.List.{prefix_len}
 use Rattle.std.proofs.lemmas.List.{take-map}
 use Rattle.mlk_routine.specs.declared.routine.Line.{Line}
 use Rattle.mlk_routine.specs.declared.routine.Routine.{Routine}
 use Rattle.mlk_routine.specs.Views.{line_of, routine_of}
 use Rattle.mlk_program.specs.Entries.{lines_from, lines_of, up_to_formals, lacks_formals}
-use Rattle.mlk_program.specs.Tables.{trees}
+use Rattle.mlk_program.specs.Tables.{trees, line_lacks, later_lines, later_of, AreLater}
 use Rattle.mlk_program.specs.declared.entry.EntryId.{EntryId}
 use Rattle.mlk_program.proofs.Directories.{lines_same}
-use Rattle.mlk_program.proofs.NameTables.{drop_at}
 
-prefix-map : (lines : List Line) → prefix_len (λ l. lacks_formals (line_of l)) lines ≡ prefix_len lacks_formals (map line_of lines)
+prefix-map : (lines : List Line) → prefix_len line_lacks lines ≡ prefix_len lacks_formals (map line_of lines)
 prefix-map [] = refl
 prefix-map (l ∷ lines) = ap (λ n. cond (lacks_formals (line_of l)) (1 + n) 0) (prefix-map lines)
 
@@ -22,17 +21,85 @@ one_more l later n = ap (λ m. take m (l ∷ later)) (more n)
     more : (m : ℕ) → 1 + m ≡ suc m
     more m = omega (arith)
 
-pub lines_taken : (l : Line) (later : List Line) (n : ℕ) → n ≡ prefix_len (λ m. lacks_formals (line_of m)) later
-    → map line_of (take (1 + n) (l ∷ later)) ≡ up_to_formals (map line_of (l ∷ later))
-lines_taken l later n is = ap (map line_of) (one_more l later n)
-    ∙ ap (λ more. line_of l ∷ more) (sym (take-map line_of n later)
-    ∙ ap (λ k. take k (map line_of later)) (is ∙ prefix-map later))
-
 drop-map : (n : ℕ) (lines : List Line) → drop n (map line_of lines) ≡ map line_of (drop n lines)
 drop-map zero lines = refl
 drop-map (suc n) [] = refl
 drop-map (suc n) (l ∷ lines) = drop-map n lines
 
+-- so many lines after the first
+pub take_within : (l : Line) (later lines : List Line) (n : ℕ) → lines ≡ l ∷ later
+    → take (1 + min n (length later)) lines ≡ take (suc n) lines
+take_within l later lines n is = rw is (one_more l later (min n (length later)) ∙ ap (λ m. l ∷ m) (least later n))
+  where
+    none : (m : ℕ) → take {A = Line} m [] ≡ []
+    none zero = refl
+    none (suc m) = refl
+
+    least : (xs : List Line) (m : ℕ) → take (min m (length xs)) xs ≡ take m xs
+    least [] m = none (min m 0) ∙ sym (none m)
+    least (x ∷ xs) zero = ap (λ k. take k (x ∷ xs)) (no_less (length (x ∷ xs)))
+      where
+        no_less : (k : ℕ) → min 0 k ≡ 0
+        no_less k = omega (arith)
+    least (x ∷ xs) (suc m) = ap (λ k. take k (x ∷ xs)) (both m (length xs)) ∙ ap (λ more. x ∷ more) (least xs m)
+      where
+        both : (a b : ℕ) → min (suc a) (suc b) ≡ suc (min a b)
+        both a b = omega (arith)
+
+-- the counts of an entry's routine
+pub later_some : (routines : List Routine) (counts : List (Vec ℕ Global)) (e : EntryId) (v : Vec ℕ Global)
+    → AreLater routines counts → slice_get counts e.routine ≡ Some v → slice_get v.items e.line ≡ later_of routines e
+later_some routines counts e v h is = go routines counts e.routine h is
+  where
+    one : (a b : Vec ℕ Global) → Some a ≡ Some b → b ≡ a
+    one a b q = cc q
+
+    go : (rs : List Routine) (cs : List (Vec ℕ Global)) (i : ℕ) → AreLater rs cs → slice_get cs i ≡ Some v
+        → slice_get v.items e.line ≡ option_and_then (λ r. slice_get (later_lines r.lines.items) e.line) (slice_get rs i)
+    go rs [] i k at = cc at
+    go [] (c ∷ cs) i k at = cc k
+    go (r ∷ rs) (c ∷ cs) zero k at = ap (λ w. slice_get w.items e.line) (one c v at)
+        ∙ ap (λ l. slice_get l e.line) (first_same c.items (later_lines r.lines.items) _ _ k)
+      where
+        first_same : (a b : List ℕ) (cs ds : List (List ℕ)) → a ∷ cs ≡ b ∷ ds → a ≡ b
+        first_same a b cs ds q = cc q
+    go (r ∷ rs) (c ∷ cs) (suc i) k at = go rs cs i (more_same c.items (later_lines r.lines.items) _ _ k) at
+      where
+        more_same : (a b : List ℕ) (cs ds : List (List ℕ)) → a ∷ cs ≡ b ∷ ds → cs ≡ ds
+        more_same a b cs ds q = cc q
+
+pub later_none : (routines : List Routine) (counts : List (Vec ℕ Global)) (e : EntryId)
+    → AreLater routines counts → slice_get counts e.routine ≡ None → None ≡ later_of routines e
+later_none routines counts e h is = go routines counts e.routine h is
+  where
+    go : (rs : List Routine) (cs : List (Vec ℕ Global)) (i : ℕ) → AreLater rs cs → slice_get cs i ≡ None
+        → None ≡ option_and_then (λ r. slice_get (later_lines r.lines.items) e.line) (slice_get rs i)
+    go [] cs i k at = refl
+    go (r ∷ rs) [] i k at = cc k
+    go (r ∷ rs) (c ∷ cs) zero k at = cc at
+    go (r ∷ rs) (c ∷ cs) (suc i) k at = go rs cs i (more_same c.items (later_lines r.lines.items) _ _ k) at
+      where
+        more_same : (a b : List ℕ) (cs ds : List (List ℕ)) → a ∷ cs ≡ b ∷ ds → cs ≡ ds
+        more_same a b cs ds q = cc q
+
+-- an entry's lines are its own and as many as were counted
+taken : (lines : List Line) (n later : ℕ) → slice_get (later_lines lines) n ≡ Some later
+    → map line_of (take (suc later) (drop n lines)) ≡ up_to_formals (map line_of (drop n lines))
+taken [] n later h = cc h
+taken (l ∷ lines) zero later h = ap (λ more. line_of l ∷ more) (sym (take-map line_of later lines)
+    ∙ ap (λ k. take k (map line_of lines)) (sym (one h) ∙ prefix-map lines))
+  where
+    one : Some (prefix_len line_lacks lines) ≡ Some later → prefix_len line_lacks lines ≡ later
+    one q = cc q
+taken (l ∷ lines) (suc n) later h = taken lines n later h
+
+none_left : (lines : List Line) (n : ℕ) → slice_get (later_lines lines) n ≡ None → [] ≡ up_to_formals (map line_of (drop n lines))
+none_left [] zero h = refl
+none_left [] (suc n) h = refl
+none_left (l ∷ lines) zero h = cc h
+none_left (l ∷ lines) (suc n) h = none_left lines n h
+
+-- the lines of an entry's routine from the entry on
 pub lines_some : (routines : List Routine) (e : EntryId) (r : Routine) → slice_get routines e.routine ≡ Some r
     → up_to_formals (map line_of (drop e.line r.lines.items)) ≡ lines_of (trees routines) e
 lines_some routines e r is = go routines e.routine is
@@ -48,6 +115,20 @@ lines_some routines e r is = go routines e.routine is
         came k = cc k
     go (q ∷ rs) (suc i) h = go rs i h
 
+pub lines_taken : (routines : List Routine) (e : EntryId) (r : Routine) (later : ℕ) → slice_get routines e.routine ≡ Some r
+    → Some later ≡ later_of routines e → map line_of (take (suc later) (drop e.line r.lines.items)) ≡ lines_of (trees routines) e
+lines_taken routines e r later is h =
+    let here : slice_get (later_lines r.lines.items) e.line ≡ Some later =
+    sym (h ∙ ap (option_and_then (λ q. slice_get (later_lines q.lines.items) e.line)) is) in
+    taken r.lines.items e.line later here ∙ lines_some routines e r is
+
+pub no_lines_left : (routines : List Routine) (e : EntryId) (r : Routine) → slice_get routines e.routine ≡ Some r
+    → None ≡ later_of routines e → [] ≡ lines_of (trees routines) e
+no_lines_left routines e r is h =
+    let here : slice_get (later_lines r.lines.items) e.line ≡ None =
+    sym (h ∙ ap (option_and_then (λ q. slice_get (later_lines q.lines.items) e.line)) is) in
+    none_left r.lines.items e.line here ∙ lines_some routines e r is
+
 pub lines_none : (routines : List Routine) (e : EntryId) → slice_get routines e.routine ≡ None
     → [] ≡ lines_of (trees routines) e
 lines_none routines e is = go routines e.routine is
@@ -56,26 +137,3 @@ lines_none routines e is = go routines e.routine is
     go [] i h = refl
     go (q ∷ rs) zero h = cc h
     go (q ∷ rs) (suc i) h = go rs i h
-
--- how many items pass a test at the front, counted from the front on
-module _ {A : Type 0} (p : A → Bool) (xs : List A) (i : ℕ) where
-  module _ (x : A) (low : i < length xs) (is : x ≡ get_or xs i x) (sofar : prefix_len p xs ≡ i + prefix_len p (drop i xs)) where
-    here : prefix_len p xs ≡ i + cond (p x) (1 + prefix_len p (drop (i + 1) xs)) 0
-    here = sofar ∙ ap (λ ys. i + prefix_len p ys) (drop_at xs i x low is)
-
-    pub prefix_step : p x ≡ true → prefix_len p xs ≡ (i + 1) + prefix_len p (drop (i + 1) xs)
-    prefix_step e = rw e at here ∙ next (prefix_len p (drop (i + 1) xs))
-      where
-        next : (n : ℕ) → i + (1 + n) ≡ (i + 1) + n
-        next n = omega (arith)
-
-    pub prefix_stop : p x ≡ false → prefix_len p xs ≡ i
-    prefix_stop e = rw e at here ∙ none
-      where
-        none : i + 0 ≡ i
-        none = omega (arith)
-
-  pub prefix_end : length xs ≤ i → i ≤ length xs → prefix_len p xs ≡ i + prefix_len p (drop i xs) → length xs ≡ prefix_len p xs
-  prefix_end past low sofar =
-      let all : prefix_len p xs ≡ i + 0 = sofar ∙ ap (λ ys. i + prefix_len p ys) (drop_of_length-le xs past) in
-      omega (arith, past, low, all)

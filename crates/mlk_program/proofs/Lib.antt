@@ -10,3 +10,6 @@ pub mod LinkedLines
 pub mod LinkedRoutines
 pub mod EntryLines
 pub mod NewLists
+pub mod EntryTexts
+pub mod FittingCalls
+pub mod ReadSpelling

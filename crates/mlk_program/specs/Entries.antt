@@ -1,5 +1,5 @@
 -- The entries of routines, and what a call names. Standard: routine, label, entryref, labelref.
-use Rattle.std.specs.Prelude.{ℕ, suc, List, [], ◌∷◌, Bool, true, false, Option, Some, None, option_map}
+use Rattle.std.specs.Prelude.{ℕ, suc, List, [], ◌∷◌, ◌++◌, Bool, true, false, Option, Some, None, option_map}
 use Rattle.std.specs.Prelude.{option_and_then, position, slice_get, bytes_eq, is_some, is_none, take_while, count_by, ◌+◌, drop}
 use Rattle.mlk_text.specs.Lexemes.{entry_of}
 use Rattle.mlk_expr.specs.declared.tree.Callee.{Callee}
@@ -60,6 +60,17 @@ asked (b ∷ label) = Some (b ∷ label)
 abbrev pub entry_by : List RoutineTree → List ℕ → Option EntryId
 entry_by routines text = option_and_then (λ parts. option_and_then (λ r. entry_in routines r (asked parts.0))
     (routine_named routines parts.1)) (entry_of text)
+
+-- The text of an entry: `LABEL^ROUTINE`, and `^ROUTINE` where its line has no label; nothing where the routines lack it.
+abbrev pub text_with : Option (List ℕ) → List ℕ → List ℕ
+text_with None routine = 94 ∷ routine
+text_with (Some label) routine = label ++ 94 ∷ routine
+
+abbrev pub text_in : ℕ → RoutineTree → Option (List ℕ)
+text_in n tree = option_map (λ l. text_with (label_of l.0) (name_of tree)) (slice_get (lines_in tree) n)
+
+abbrev pub text_of_entry : List RoutineTree → EntryId → Option (List ℕ)
+text_of_entry routines e = option_and_then (text_in e.line) (slice_get routines e.routine)
 
 -- an entry's own line; nothing where the routines lack it
 abbrev pub line_of_entry : List RoutineTree → EntryId → Option (HeadTree × LineTrees)

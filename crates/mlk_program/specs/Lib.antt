@@ -5,3 +5,4 @@ pub mod Tables
 pub mod Program
 pub mod Linking
 pub mod News
+pub mod Laws

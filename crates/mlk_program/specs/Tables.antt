@@ -1,11 +1,15 @@
 -- Tables of names: each stands for the place of the first item that has it. For private clauses alone. This project's
 -- own.
-use Rattle.std.specs.Prelude.{ℕ, ◌≡◌, List, [], ◌∷◌, Option, Some, None, bytes_eq, if◌then◌else◌, map, position}
+use Rattle.std.specs.Prelude.{ℕ, ◌≡◌, List, [], ◌∷◌, Option, Some, None, bytes_eq, if◌then◌else◌, map, position, Vec}
+use Rattle.std.specs.Prelude.{Bool, option_and_then, slice_get}
+use Rattle.std.specs.List.{prefix_len}
+use Rattle.std.specs.declared.alloc.Global.{Global}
 use Rattle.mlk_routine.specs.declared.routine.Line.{Line}
 use Rattle.mlk_routine.specs.declared.routine.Routine.{Routine}
 use Rattle.mlk_routine.specs.Trees.{RoutineTree}
 use Rattle.mlk_routine.specs.Views.{line_of, routine_of}
-use Rattle.mlk_program.specs.Entries.{is_label, label_of}
+use Rattle.mlk_program.specs.Entries.{is_label, label_of, lacks_formals}
+use Rattle.mlk_program.specs.declared.entry.EntryId.{EntryId}
 
 -- the place that a name stands for
 abbrev pub first_with : List ℕ → List (List ℕ × ℕ) → Option ℕ
@@ -44,3 +48,19 @@ trees routines = map routine_of routines
 abbrev pub first_of : List Line → Option ℕ
 first_of [] = None
 first_of (l ∷ lines) = Some 0
+
+-- Of each line of the code, how many there are after it before the next with a formal list.
+abbrev pub line_lacks : Line → Bool
+line_lacks l = lacks_formals (line_of l)
+
+abbrev pub later_lines : List Line → List ℕ
+later_lines [] = []
+later_lines (l ∷ later) = prefix_len line_lacks later ∷ later_lines later
+
+-- the same for each routine
+abbrev pub AreLater : List Routine → List (Vec ℕ Global) → Type 0
+AreLater routines counts = map (λ v. v.items) counts ≡ map (λ r. later_lines r.lines.items) routines
+
+-- and for an entry, where the routines have it
+abbrev pub later_of : List Routine → EntryId → Option ℕ
+later_of routines e = option_and_then (λ r. slice_get (later_lines r.lines.items) e.line) (slice_get routines e.routine)

@@ -1,17 +1,16 @@
 // Routines with tables of their names and labels.
 
-ghost use Rattle.std.specs.Prelude.{◌≡◌, IfOk, Some, None, option_map, option_and_then, slice_get, map, drop, length, ◌≤◌};
-ghost use Rattle.std.specs.List.{prefix_len};
+ghost use Rattle.std.specs.Prelude.{◌≡◌, IfOk, Some, None, option_map, option_and_then, option_copied, slice_get, map, take, drop, suc};
 ghost use Rattle.mlk_routine.specs.Views.{line_of};
-ghost use Rattle.mlk_program.specs.Entries.{entry_in, routine_named, target_of, entry_by, line_of_entry, lines_of, line_named, lines_in, lacks_formals, up_to_formals};
-ghost use Rattle.mlk_program.specs.Tables.{trees, AreTables, first_of};
+ghost use Rattle.mlk_program.specs.Entries.{entry_in, routine_named, target_of, entry_by, line_of_entry, lines_of, line_named, lines_in, lacks_formals, label_of, text_with, text_of_entry};
+ghost use Rattle.mlk_program.specs.Tables.{trees, AreTables, AreLater, first_of, later_lines, later_of};
 
 use crate::entry::EntryId;
 use crate::slice::item;
 use crate::table::Table;
 use mlk_expr::Callee;
 use mlk_routine::{Line, Routine};
-use mlk_text::spelling;
+use mlk_text::{Name, spelling};
 use std::alloc::{AllocError, Global};
 use std::marker::Model;
 
@@ -21,12 +20,14 @@ pub(crate) struct Directory<'a> {
     routines: &'a [Routine],
     names: Table<'a>,
     labels: Vec<Table<'a>>,
+    /// of each line of each routine, how many of its entry come after it
+    later: Vec<Vec<usize>>,
 }
 
 impl<'a> Model for Directory<'a> {
     ghost use Rattle.std.specs.Prelude.{List, Some};
     ghost use Rattle.mlk_routine.specs.declared.routine.Routine.{Routine};
-    ghost use Rattle.mlk_program.specs.Tables.{IsTableOf, AreTables};
+    ghost use Rattle.mlk_program.specs.Tables.{IsTableOf, AreTables, AreLater};
     ghost use Rattle.mlk_routine.specs.contracts.routine.Line as line;
     ghost use Rattle.std.specs.Coded.{codes};
 
@@ -37,7 +38,8 @@ impl<'a> Model for Directory<'a> {
     ghost view = { λ d. d.routines.now };
 
     ghost invariant = { λ d. IsTableOf (λ r. Some r.name) d.routines.now d.names
-        × AreTables d.routines.now d.labels.items };
+        × AreTables d.routines.now d.labels.items
+        × AreLater d.routines.now d.later.items };
 }
 
 // The tables of the routines' labels.
@@ -78,29 +80,58 @@ fn lacks_formals(line: &Line) -> bool
     line.formals.is_none()
 }
 
-// How many lines there are before the first with a formal list.
-fn before_formals(lines: &[Line]) -> usize
-    ensures counted { result ≡ prefix_len (λ l. lacks_formals (line_of l)) lines.now }
-    ensures bounded { result ≤ length lines.now }
+// Of each line, how many there are after it before the next with a formal list.
+fn later_lines(alloc: Global, lines: &[Line]) -> Result<Vec<usize>, AllocError>
+    ensures { IfOk result (λ v. v.items ≡ later_lines lines.now) }
 {
-    for (i, line) in lines.iter().enumerate() {
+    let mut counts = Vec::with_capacity(alloc, lines.len())?;
+    let mut left = lines;
+    let mut end = lines.len();
+    while let Some((line, before)) = left.split_last() {
+        counts.push(end - left.len())?;
         if !lacks_formals(line) {
-            return i;
+            end = before.len();
         }
+        left = before;
     }
-    lines.len()
+    counts.reverse();
+    Ok(counts)
 }
 
-// The first line, and those before the next with a formal list.
-#[tactic(auto, using(crate::proofs::EntryLines::lines_taken))]
-fn up_to_formals(lines: &[Line]) -> &[Line]
-    ensures { map line_of result.now ≡ up_to_formals (map line_of lines.now) }
+// The same for the lines of each routine.
+fn later_in_routines(alloc: Global, routines: &[Routine]) -> Result<Vec<Vec<usize>>, AllocError>
+    ensures { IfOk result (λ v. AreLater routines.now v.items) }
 {
-    let Some((_, later)) = lines.split_first() else {
+    let mut counts = Vec::new(alloc);
+    for routine in routines {
+        counts.push(later_lines(alloc, routine.lines.as_slice())?)?;
+    }
+    Ok(counts)
+}
+
+// The first line, and so many after it.
+#[tactic(auto, using(crate::proofs::EntryLines::take_within))]
+fn first_lines(lines: &[Line], later: usize) -> &[Line]
+    ensures { result.now ≡ take (suc later) lines.now }
+{
+    let Some((_, others)) = lines.split_first() else {
         return &[];
     };
-    let (own, _) = lines.split_at(1 + before_formals(later));
-    own
+    let (first, _) = lines.split_at(1 + later.min(others.len()));
+    first
+}
+
+// The text of the entry of a line.
+fn entry_text(alloc: Global, line: &Line, routine: &Name) -> Result<Vec<u8>, AllocError>
+    ensures { IfOk result (λ v. v.items ≡ text_with (label_of (line_of line.now).0) routine.now) }
+{
+    let mut text = Vec::new(alloc);
+    if let Some(label) = &line.label {
+        text.extend_from_slice(label.as_bytes())?;
+    }
+    text.push(b'^')?;
+    text.extend_from_slice(routine.as_bytes())?;
+    Ok(text)
 }
 
 impl<'a> Directory<'a> {
@@ -112,6 +143,7 @@ impl<'a> Directory<'a> {
             routines,
             names: Table::of(alloc, routines)?,
             labels: label_tables(alloc, routines)?,
+            later: later_in_routines(alloc, routines)?,
         })
     }
 
@@ -203,14 +235,53 @@ impl<'a> Directory<'a> {
         item(routine.lines.as_slice(), entry.line)
     }
 
+    // How many lines of an entry come after its own.
+    #[tactic(auto, using(crate::proofs::EntryLines::later_some, crate::proofs::EntryLines::later_none))]
+    fn later(&self, entry: EntryId) -> Option<usize>
+        ensures { result ≡ later_of self.now entry }
+    {
+        let Some(counts) = item(self.later.as_slice(), entry.routine) else {
+            return None;
+        };
+        item(counts.as_slice(), entry.line).copied()
+    }
+
+    /// The routine of an entry.
+    pub(crate) fn routine_of(&self, entry: EntryId) -> Option<&'a Routine>
+        ensures { option_copied result ≡ slice_get self.now entry.routine }
+    {
+        item(self.routines, entry.routine)
+    }
+
     /// The lines of an entry.
-    #[tactic(auto, using(crate::proofs::EntryLines::lines_some, crate::proofs::EntryLines::lines_none))]
+    #[tactic(auto, using(crate::proofs::EntryLines::lines_taken, crate::proofs::EntryLines::lines_none, crate::proofs::EntryLines::no_lines_left))]
     pub(crate) fn lines_of(&self, entry: EntryId) -> &'a [Line]
         ensures { map line_of result.now ≡ lines_of (trees self.now) entry }
     {
         let Some(routine) = item(self.routines, entry.routine) else {
             return &[];
         };
-        up_to_formals(lines_after(routine.lines.as_slice(), entry.line))
+        match self.later(entry) {
+            Some(later) => first_lines(lines_after(routine.lines.as_slice(), entry.line), later),
+            None => &[],
+        }
+    }
+
+    /// The text of an entry.
+    #[tactic(auto, using(crate::proofs::Directories::text_some, crate::proofs::Directories::text_none, crate::proofs::Directories::text_no_line))]
+    pub(crate) fn text_of(
+        &self,
+        alloc: Global,
+        entry: EntryId,
+    ) -> Result<Option<Vec<u8>>, AllocError>
+        ensures { IfOk result (λ o. option_map (λ v. v.items) o ≡ text_of_entry (trees self.now) entry) }
+    {
+        let Some(routine) = item(self.routines, entry.routine) else {
+            return Ok(None);
+        };
+        let Some(line) = item(routine.lines.as_slice(), entry.line) else {
+            return Ok(None);
+        };
+        Ok(Some(entry_text(alloc, line, &routine.name)?))
     }
 }

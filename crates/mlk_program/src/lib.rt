@@ -7,6 +7,7 @@ mod entry;
 mod expr;
 mod fault;
 mod found;
+mod law;
 mod linking;
 mod news;
 mod program;
@@ -15,6 +16,7 @@ mod slice;
 mod table;
 
 pub use entry::EntryId;
+pub use law::{calls_fit, entries_have_lines, entries_named, routines_spelled, texts_name};
 pub use linking::link;
 pub use news::{NewNames, new_names};
 pub use program::Program;

@@ -1,8 +1,8 @@
 // Programs.
 
-ghost use Rattle.std.specs.Prelude.{◌≡◌, map, option_map};
+ghost use Rattle.std.specs.Prelude.{◌≡◌, IfOk, map, option_map, option_copied, slice_get};
 ghost use Rattle.mlk_routine.specs.Views.{line_of, routine_of};
-ghost use Rattle.mlk_program.specs.Entries.{target_of, entry_by, line_of_entry, lines_of};
+ghost use Rattle.mlk_program.specs.Entries.{target_of, entry_by, line_of_entry, lines_of, text_of_entry};
 ghost use Rattle.mlk_program.specs.Program.{is_shared};
 
 use crate::directory::Directory;
@@ -11,6 +11,7 @@ use crate::shared::Shared;
 use mlk_expr::Callee;
 use mlk_routine::{Line, Routine};
 use mlk_text::Name;
+use std::alloc::{AllocError, Global};
 use std::marker::Model;
 
 /// Routines, each of whose calls has a line that takes its actuals. They are borrowed.
@@ -60,6 +61,23 @@ impl<'a> Program<'a> {
         ensures { result ≡ target_of (map routine_of self.now) routine callee.now }
     {
         self.directory.target(routine, callee)
+    }
+
+    /// The routine of an entry; none where the program lacks it. It takes no memory.
+    pub fn routine_of(&self, entry: EntryId) -> Option<&'a Routine>
+        ensures { option_copied result ≡ slice_get self.now entry.routine }
+    {
+        self.directory.routine_of(entry)
+    }
+
+    /// The text of an entry: `LABEL^ROUTINE`, or `^ROUTINE` for a first line without label; none where the program
+    /// lacks it. Where a label stands on the first line, both `^ROUTINE` and the text with that label name its entry,
+    /// whose own text has the label.
+    pub fn text_of(&self, alloc: Global, entry: EntryId) -> Result<Option<Vec<u8>>, AllocError>
+        ensures { IfOk result
+            (λ o. option_map (λ v. v.items) o ≡ text_of_entry (map routine_of self.now) entry) }
+    {
+        self.directory.text_of(alloc, entry)
     }
 
     /// The line of an entry; none where the program lacks it. It takes no memory.

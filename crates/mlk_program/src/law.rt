@@ -1,0 +1,28 @@
+// What programs keep to.
+
+ghost use Rattle.mlk_program.specs.Laws.{EntriesNamed, EntriesHaveLines, RoutinesSpelled, TextsName, CallsFit};
+
+/// What `entry` and `target` answer are entries of the program.
+pub fn entries_named()
+    ensures { EntriesNamed }
+{}
+
+/// An entry of a program has a line there.
+pub fn entries_have_lines()
+    ensures { EntriesHaveLines }
+{}
+
+/// A routine that was read has a name, and labels, that are written as such.
+pub fn routines_spelled()
+    ensures { RoutinesSpelled }
+{}
+
+/// `entry` of the text of an entry is that entry.
+pub fn texts_name()
+    ensures { TextsName }
+{}
+
+/// Each call of a program has a target, whose line takes its actuals.
+pub fn calls_fit()
+    ensures { CallsFit }
+{}
