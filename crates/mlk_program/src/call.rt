@@ -18,7 +18,7 @@ pub(crate) struct CallSite<'a> {
 }
 
 /// Adds a call.
-pub(crate) fn add<'a>(
+pub(crate) fn add_call<'a>(
     found: &mut Vec<CallSite<'a>>,
     column: Column,
     callee: &'a Callee,

@@ -6,7 +6,6 @@ ghost use Rattle.mlk_program.specs.Entries.{entry_in, routine_named, target_of, 
 ghost use Rattle.mlk_program.specs.Tables.{trees, AreTables, AreLater, first_of, later_lines, later_of};
 
 use crate::entry::EntryId;
-use crate::slice::item;
 use crate::table::Table;
 use mlk_expr::Callee;
 use mlk_routine::{Line, Routine};
@@ -53,6 +52,13 @@ fn label_tables<'a>(alloc: Global, routines: &'a [Routine]) -> Result<Vec<Table<
         };
     }
     Ok(tables)
+}
+
+/// The item at a place, where there is one.
+pub(crate) fn item<T>(items: &[T], place: usize) -> Option<&T>
+    ensures { option_copied result ≡ slice_get items.now place }
+{
+    items.get(place)
 }
 
 // The first line, where there is one.

@@ -3,7 +3,7 @@
 ghost use Rattle.std.specs.Prelude.{OnOk, flat_map};
 ghost use Rattle.mlk_program.specs.Found.{Finds, of_expr, of_subscript, of_link, of_choice, of_actual};
 
-use crate::call::{CallSite, add};
+use crate::call::{CallSite, add_call};
 use mlk_expr::{Actual, Expr, Op, Subscript};
 use std::alloc::AllocError;
 
@@ -27,9 +27,9 @@ pub(crate) fn in_expr<'a>(found: &mut Vec<CallSite<'a>>, e: &'a Expr) -> Result<
         Expr::Func(_, arguments) => in_exprs(found, arguments),
         Expr::Select(choices) => in_select(found, choices),
         Expr::Call(column, callee, actuals) => {
-            add(found, *column, callee, actuals)?;
+            add_call(found, *column, callee, actuals)?;
             if let Some(given) = actuals {
-                in_given(found, given)?;
+                in_actuals(found, given)?;
             }
             Ok(())
         }
@@ -84,7 +84,10 @@ fn in_select<'a>(
 }
 
 #[cycle(finding)]
-pub(crate) fn in_one<'a>(found: &mut Vec<CallSite<'a>>, given: &'a Actual) -> Result<(), AllocError>
+pub(crate) fn in_actual<'a>(
+    found: &mut Vec<CallSite<'a>>,
+    given: &'a Actual,
+) -> Result<(), AllocError>
     ensures { OnOk result (Finds (of_actual given.now) found.old.items found.new.items) }
 {
     match given {
@@ -94,11 +97,11 @@ pub(crate) fn in_one<'a>(found: &mut Vec<CallSite<'a>>, given: &'a Actual) -> Re
 }
 
 #[cycle(finding)]
-fn in_given<'a>(found: &mut Vec<CallSite<'a>>, given: &'a [Actual]) -> Result<(), AllocError>
+fn in_actuals<'a>(found: &mut Vec<CallSite<'a>>, given: &'a [Actual]) -> Result<(), AllocError>
     ensures { OnOk result (Finds (flat_map of_actual given.now) found.old.items found.new.items) }
 {
     for actual in given {
-        in_one(found, actual)?;
+        in_actual(found, actual)?;
     }
     Ok(())
 }

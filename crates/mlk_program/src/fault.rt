@@ -19,7 +19,7 @@ fn line_number(number: usize) -> LineNumber
 }
 
 /// The refusal of this line of a routine.
-pub(crate) fn fault(
+pub(crate) fn refusal(
     alloc: Global,
     code: Code,
     routine: &Name,

@@ -5,7 +5,7 @@ ghost use Rattle.mlk_routine.specs.Views.{variable_of, do_of, kill_of, lock_of, 
 ghost use Rattle.mlk_program.specs.Calls.{in_variable, in_call, in_do, in_kill, in_lock, in_merge, in_read, in_target, in_set, in_write, in_action, in_command, in_parameter, in_control, in_commands};
 ghost use Rattle.mlk_program.specs.Found.{Finds, of_expr, of_actual};
 
-use crate::call::{CallSite, add};
+use crate::call::{CallSite, add_call};
 use crate::expr;
 use mlk_expr::{Actual, Expr};
 use mlk_routine::{
@@ -84,7 +84,7 @@ impl HasCalls for Actual {
     ghost calls = { of_actual };
 
     fn find<'a>(&'a self, found: &mut Vec<CallSite<'a>>) -> Result<(), AllocError> {
-        expr::in_one(found, self)
+        expr::in_actual(found, self)
     }
 }
 
@@ -93,7 +93,7 @@ impl HasCalls for Call {
 
     #[tactic(auto, using(crate::proofs::FoundCommands::finds_call_with))]
     fn find<'a>(&'a self, found: &mut Vec<CallSite<'a>>) -> Result<(), AllocError> {
-        add(found, self.column, &self.callee, &self.actuals)?;
+        add_call(found, self.column, &self.callee, &self.actuals)?;
         self.actuals.find(found)?;
         Ok(())
     }

@@ -12,7 +12,6 @@ mod linking;
 mod news;
 mod program;
 mod shared;
-mod slice;
 mod table;
 
 pub use entry::EntryId;

@@ -12,7 +12,7 @@ ghost use Rattle.mlk_program.specs.Linking.{IfRefused, Gains, Links, placed_at, 
 
 use crate::call::CallSite;
 use crate::directory::Directory;
-use crate::fault::fault;
+use crate::fault::refusal;
 use crate::found::in_commands;
 use crate::program::Program;
 use crate::shared::Shared;
@@ -28,13 +28,13 @@ const MOST_ROUTINES: usize = 65535;
 const MOST_ENTRIES: usize = 1048575;
 
 // Each routine is the first of its name.
-fn are_distinct(alloc: Global, directory: &Directory<'_>) -> Result<(), Failure<Fault>>
+fn check_distinct(alloc: Global, directory: &Directory<'_>) -> Result<(), Failure<Fault>>
     ensures ok { OnOk result (AreDistinct (map name_of (trees directory.now))) }
     ensures refused { IfErr result (λ e. IfRefused e (IsTwice (trees directory.now))) }
 {
     for (i, routine) in directory.routines().iter().enumerate() {
         if directory.routine(routine.name.as_bytes()) != Some(i) {
-            return Err(fault(alloc, Code::RoutineTwice, &routine.name, 1, Column::new(1)));
+            return Err(refusal(alloc, Code::RoutineTwice, &routine.name, 1, Column::new(1)));
         }
     }
     Ok(())
@@ -51,7 +51,7 @@ fn entry_count(lines: &[Line]) -> usize
 }
 
 // There are not too many routines, nor entries.
-fn are_within_limits(alloc: Global, routines: &[Routine]) -> Result<(), Failure<Fault>>
+fn check_limits(alloc: Global, routines: &[Routine]) -> Result<(), Failure<Fault>>
     ensures ok { OnOk result (AreTooMany (trees routines.now) → ⊥) }
     ensures refused { IfErr result (λ e. IfRefused e (IsPastLimit (trees routines.now))) }
 {
@@ -59,7 +59,7 @@ fn are_within_limits(alloc: Global, routines: &[Routine]) -> Result<(), Failure<
     for (i, routine) in routines.iter().enumerate() {
         entries = entries.saturating_add(entry_count(routine.lines.as_slice()));
         if i >= MOST_ROUTINES || entries > MOST_ENTRIES {
-            return Err(fault(alloc, Code::TooMany, &routine.name, 1, Column::new(1)));
+            return Err(refusal(alloc, Code::TooMany, &routine.name, 1, Column::new(1)));
         }
     }
     Ok(())
@@ -97,7 +97,7 @@ fn called<'a>(directory: &Directory<'a>, own: usize, callee: &Callee) -> Option<
 }
 
 // The formals of the line that a call names, if it takes the call's actuals.
-fn formals<'a>(
+fn fitting_formals<'a>(
     alloc: Global,
     directory: &Directory<'a>,
     at: &At<'a>,
@@ -110,10 +110,10 @@ fn formals<'a>(
         (record { routine = at.now.routine; line = at.now.line; call = site_of site.now }))) }
 {
     let Some(line) = called(directory, at.routine, site.callee) else {
-        return Err(fault(alloc, Code::UnknownLabel, at.name, at.line, site.column));
+        return Err(refusal(alloc, Code::UnknownLabel, at.name, at.line, site.column));
     };
     if !takes(&line.formals, site.actuals) {
-        return Err(fault(alloc, Code::Arity, at.name, at.line, site.column));
+        return Err(refusal(alloc, Code::Arity, at.name, at.line, site.column));
     }
     Ok(&line.formals)
 }
@@ -151,7 +151,7 @@ fn link_call<'a>(
     ensures refused { IfErr result (λ e. IfRefused e (IsCallFault (trees directory.now)
         (record { routine = at.now.routine; line = at.now.line; call = site_of site.now }))) }
 {
-    let formals = formals(alloc, directory, at, site)?;
+    let formals = fitting_formals(alloc, directory, at, site)?;
     share(shared, formals, site.actuals)?;
     Ok(())
 }
@@ -266,8 +266,8 @@ pub fn link<'a>(alloc: Global, routines: &'a [Routine]) -> Result<Program<'a>, F
     ensures refused { IfErr result (λ e. IfRefused e (IsLinkFault (map routine_of routines.now))) }
 {
     let directory = Directory::of(alloc, routines)?;
-    are_distinct(alloc, &directory)?;
-    are_within_limits(alloc, routines)?;
+    check_distinct(alloc, &directory)?;
+    check_limits(alloc, routines)?;
     let mut shared = Shared::new(alloc);
     link_routines(alloc, &directory, &mut shared)?;
     Ok(Program { directory, shared })

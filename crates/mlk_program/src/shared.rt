@@ -6,7 +6,7 @@ ghost use Rattle.mlk_expr.specs.Trees.{actual_of, actual_trees};
 ghost use Rattle.mlk_program.specs.Program.{lent_by, received_by, received_at};
 ghost use Rattle.mlk_program.specs.Linking.{Gains};
 
-use crate::slice::item;
+use crate::directory::item;
 use indexmap::IndexSet;
 use mlk_expr::Actual;
 use mlk_text::Name;

@@ -9,8 +9,8 @@ invariant-in_chain-loop-operand l = Finds (flat_map of_link (take l.operand-inde
 abbrev pub invariant-in_exprs-loop-e : goal.invariant-in_exprs-loop-e
 invariant-in_exprs-loop-e l = Finds (flat_map of_expr (take l.e-index l.es)) l.fn.found.items l.found.items
 
-abbrev pub invariant-in_given-loop-actual : goal.invariant-in_given-loop-actual
-invariant-in_given-loop-actual l = Finds (flat_map of_actual (take l.actual-index l.given)) l.fn.found.items l.found.items
+abbrev pub invariant-in_actuals-loop-actual : goal.invariant-in_actuals-loop-actual
+invariant-in_actuals-loop-actual l = Finds (flat_map of_actual (take l.actual-index l.given)) l.fn.found.items l.found.items
 
 abbrev pub invariant-in_select-loop-condition : goal.invariant-in_select-loop-condition
 invariant-in_select-loop-condition l =

@@ -1,7 +1,7 @@
 use Rattle.std.proofs.Common.{take}
 use Rattle.mlk_routine.specs.RoutineGrammar.{AreDistinct}
 use Rattle.mlk_program.proofs.DistinctNames.{names}
-use Rattle.mlk_program.proofs.linking.are_distinct.Given as goal
+use Rattle.mlk_program.proofs.linking.check_distinct.Given as goal
 
 abbrev pub invariant-loop-i : goal.invariant-loop-i
 invariant-loop-i l = AreDistinct (names (take l.i l.directory))
