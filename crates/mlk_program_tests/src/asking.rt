@@ -60,6 +60,34 @@ fn entries(rt: HostRuntime) {
     }
 }
 
+// The texts of entries, and their routines: that of a first line with a label has the label.
+#[test]
+fn texts(rt: HostRuntime) {
+    let alloc = rt.alloc();
+    let texts: [(&[u8], &[u8]); 2] = [(b"A", b" QUIT\n12 QUIT\n"), (b"_Z", b"T QUIT\n")];
+    let routines = routines(alloc, &texts).ok().expect(&rt, "routines");
+    let program = link(alloc, routines.as_slice())
+        .ok()
+        .expect(&rt, "a program");
+    let rows: [(&[u8], &[u8], &[u8], usize); 4] = [
+        (b"^A", b"^A", b"A", 0),
+        (b"12^A", b"12^A", b"A", 0),
+        (b"^%Z", b"T^%Z", b"%Z", 1),
+        (b"T^%Z", b"T^%Z", b"%Z", 1),
+    ];
+    for (asked, text, name, number) in rows.iter() {
+        let entry = program.entry(asked).expect(&rt, "an entry");
+        let shown = program.text_of(alloc, entry).ok().expect(&rt, "memory");
+        assert!(rt;
+            shown.expect(&rt, "a text").as_slice() == *text,
+            "{asked:?}"
+        );
+        let routine = program.routine_of(entry).expect(&rt, "a routine");
+        assert!(rt; routine.name.as_bytes() == *name, "{asked:?}");
+        assert!(rt; entry.routine() == *number, "{asked:?}");
+    }
+}
+
 // Names that are lent by a call, and formals that receive one.
 #[test]
 fn shared(rt: HostRuntime) {

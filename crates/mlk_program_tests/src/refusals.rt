@@ -2,6 +2,7 @@
 
 use crate::routines;
 use mlk_program::link;
+use mlk_routine::{Routine, read_routine};
 use mlk_text::{Failure, Fault};
 use std::alloc::Global;
 
@@ -86,4 +87,69 @@ fn order(rt: HostRuntime) {
         (b"C", b" DO Y\n"),
     ];
     assert!(rt; is_refused(alloc, &texts, &second));
+}
+
+// Two stems that spell one name, and a call of a routine without a line.
+#[test]
+fn names(rt: HostRuntime) {
+    let alloc = rt.alloc();
+    let twice = Refusal {
+        code: 301,
+        routine: b"%A",
+        line: 1,
+        column: 1,
+    };
+    let texts: [(&[u8], &[u8]); 2] = [(b"_A", b" QUIT\n"), (b"%A", b" QUIT\n")];
+    assert!(rt; is_refused(alloc, &texts, &twice));
+    let empty = Refusal {
+        code: 302,
+        routine: b"A",
+        line: 1,
+        column: 5,
+    };
+    let texts: [(&[u8], &[u8]); 2] = [(b"A", b" DO ^B\n"), (b"B", b"")];
+    assert!(rt; is_refused(alloc, &texts, &empty));
+}
+
+// The letter of this place, counted from 0 and again from the first after the last.
+fn letter(place: usize) -> u8 {
+    b"ABCDEFGHIJKLMNOPQRSTUVWXYZ"[place % 26]
+}
+
+// A name of its own for each number below 26 to the fourth power.
+fn nth(number: usize) -> [u8; 4] {
+    [
+        letter(number / 17576),
+        letter(number / 676),
+        letter(number / 26),
+        letter(number),
+    ]
+}
+
+// So many routines without a line.
+fn empty_routines(alloc: Global, count: usize) -> Result<Vec<Routine>, Failure<Fault>> {
+    let mut routines = Vec::new(alloc);
+    for number in 0..count {
+        routines.push(read_routine(alloc, &nth(number), b"")?)?;
+    }
+    Ok(routines)
+}
+
+// 65,535 routines are a program, and one more is too many.
+#[test]
+fn limit(rt: HostRuntime) {
+    let alloc = rt.alloc();
+    let many = empty_routines(alloc, 65536).ok().expect(&rt, "routines");
+    let (fewer, _) = many.as_slice().split_at(many.len().min(65535));
+    assert!(rt; link(alloc, fewer).is_ok());
+    let wanted = Refusal {
+        code: 304,
+        routine: &nth(65535),
+        line: 1,
+        column: 1,
+    };
+    match link(alloc, &many) {
+        Err(Failure::Refused(fault)) => assert!(rt; is_wanted(&fault, &wanted)),
+        _ => panic!(rt; "no refusal"),
+    }
 }
