@@ -28,7 +28,7 @@ pub(crate) fn name(alloc: Global, bytes: &[u8]) -> Result<(Name, &[u8]), Failure
     let Some((text, rest)) = name_text(bytes) else {
         return Err(no_name(bytes));
     };
-    Ok((Name::new(Vec::from_slice(alloc, text)?), rest))
+    Ok((Name::of(alloc, text)?, rest))
 }
 
 // Why no text in quotes stands here, after the opening one: at a byte that can't stand in it, or at the line's end.
@@ -101,7 +101,7 @@ pub(crate) fn label(alloc: Global, bytes: &[u8]) -> Result<(Name, &[u8]), Failur
     let Some((text, rest)) = label_text(bytes) else {
         return Err(no_label(bytes));
     };
-    Ok((Name::new(Vec::from_slice(alloc, text)?), rest))
+    Ok((Name::of(alloc, text)?, rest))
 }
 
 // The name of a routine after its caret, at which the whole begins, and what is after it.

@@ -11,3 +11,5 @@ pub mod NumberLaws
 pub mod SpellingLaws
 pub mod Outcome
 pub mod Failures
+pub mod Texts
+pub mod Plain

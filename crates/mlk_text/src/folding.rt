@@ -147,7 +147,7 @@ fn opposite(alloc: Global, a: &Value) -> Result<Option<Value>, AllocError>
         b"1" => b"0",
         _ => return Ok(None),
     };
-    Ok(Some(Value::new(Vec::from_slice(alloc, opposite)?)))
+    Ok(Some(Value::of(alloc, opposite)?))
 }
 
 /// What an operator gives of one value, where that is exact: `+` and `-` of a whole number of at most 15 digits, `'` of
@@ -157,7 +157,7 @@ pub fn fold_unary(alloc: Global, op: UnaryOp, a: &Value) -> Result<Option<Value>
 {
     match op {
         UnaryOp::Plus => match whole(a.as_bytes()) {
-            Some(_) => Ok(Some(Value::new(Vec::from_slice(alloc, a.as_bytes())?))),
+            Some(_) => Ok(Some(Value::of(alloc, a.as_bytes())?)),
             None => Ok(None),
         },
         UnaryOp::Minus => negated(alloc, a),

@@ -68,6 +68,17 @@ impl<T> List<T> {
     }
 }
 
+/// Adds an item at the end. The first takes room for itself alone, since most lists of a routine have one item.
+pub fn push_sparing<T: Drop>(items: &mut Vec<T>, item: T) -> Result<(), AllocError>
+    ensures { OnOk result (items.new.items ≡ items.old.items ++ item ∷ []) }
+{
+    if items.is_empty() {
+        items.reserve_exact(1)?;
+    }
+    items.push(item)?;
+    Ok(())
+}
+
 impl<T> From<Vec<T>> for List<T> {
     ghost from_gives = { λ v l. l ≡ v.items };
 

@@ -1,6 +1,8 @@
 // Literals and subscripts of M.
 
 ghost use Rattle.std.specs.Prelude.{◌≡◌, ◌≤◌, ◌∷◌, [], suc, length, nat_le, ◌&&◌};
+ghost use Rattle.mlk_text.specs.Reading.{put};
+ghost use Rattle.mlk_text.specs.Plain.{plain_bytes};
 ghost use Rattle.mlk_text.specs.Lexemes.{zeros, to_last, digits_at, number_at, inside, literal_at, list_at, subs_at, canonical, canonical_of, is_exact};
 ghost use Rattle.mlk_text.specs.Failures.{Reads};
 
@@ -55,16 +57,31 @@ fn number(alloc: Global, bytes: &[u8]) -> Result<(Value, &[u8]), Failure<NotTher
         return Err(Failure::Refused(NotThere));
     }
     if kept.is_empty() {
-        return Ok((Value::new(Vec::from_slice(alloc, b"0")?), rest));
+        return Ok((Value::of(alloc, b"0")?, rest));
     }
-    Ok((Value::new(Vec::from_slice(alloc, kept)?), rest))
+    Ok((Value::of(alloc, kept)?, rest))
 }
 
-/// The value up to the closing quote, and what is after it.
-pub fn quoted(alloc: Global, bytes: &[u8]) -> Result<(Value, &[u8]), Failure<NotThere>>
-    ensures { Reads (λ x. (x.0, x.1.now)) result (inside bytes.now) }
+// How many bytes stand before the next quote, or before a byte that may not stand in a text.
+fn plain_bytes(bytes: &[u8]) -> usize
+    ensures value { result ≡ plain_bytes bytes.now }
+    ensures within { result ≤ length bytes.now }
 {
-    let mut value = Vec::new(alloc);
+    bytes
+        .iter()
+        .take_while(|b| **b != b'"' && is_text_byte(**b))
+        .count()
+}
+
+// The value up to the closing quote, where these bytes of it were read, and what is after it.
+fn quoted_after<'a>(
+    alloc: Global,
+    before: &[u8],
+    bytes: &'a [u8],
+) -> Result<(Value, &'a [u8]), Failure<NotThere>>
+    ensures { Reads (λ x. (x.0, x.1.now)) result (put before.now (inside bytes.now)) }
+{
+    let mut value = Vec::from_slice(alloc, before)?;
     let mut rest = bytes;
     while let Some((first, after)) = rest.split_first() {
         if *first != b'"' {
@@ -82,6 +99,20 @@ pub fn quoted(alloc: Global, bytes: &[u8]) -> Result<(Value, &[u8]), Failure<Not
         rest = after;
     }
     Err(Failure::Refused(NotThere))
+}
+
+/// The value up to the closing quote, and what is after it.
+#[tactic(auto, using(crate::proofs::Quoted::inside_once, crate::proofs::Quoted::inside_plain))]
+pub fn quoted(alloc: Global, bytes: &[u8]) -> Result<(Value, &[u8]), Failure<NotThere>>
+    ensures { Reads (λ x. (x.0, x.1.now)) result (inside bytes.now) }
+{
+    let (plain, rest) = bytes.split_at(plain_bytes(bytes));
+    if let Some(after) = byte_of(b'"', rest) {
+        if byte_of(b'"', after).is_none() {
+            return Ok((Value::of(alloc, plain)?, after));
+        }
+    }
+    quoted_after(alloc, plain, rest)
 }
 
 /// The value of the literal at the front, and what is after it.

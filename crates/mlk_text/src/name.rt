@@ -2,7 +2,8 @@
 
 ghost use Rattle.std.specs.Prelude.{◌≡◌, IfOk};
 
-use std::alloc::AllocError;
+use crate::text::Text;
+use std::alloc::{AllocError, Global};
 use std::marker::Model;
 
 /// A name of M, without the `^` of a global: `%` or a letter, then letters and digits; case matters.
@@ -10,15 +11,16 @@ use std::marker::Model;
 /// A label may be digits instead. Readers make names; the type itself takes any bytes.
 #[derive(Drop, Debug)]
 pub struct Name {
-    bytes: Vec<u8>,
+    text: Text,
 }
 
 impl Model for Name {
     ghost use Rattle.std.specs.Prelude.{List, ℕ};
+    ghost use Rattle.mlk_text.specs.Texts.{bytes_of};
 
     ghost Value = { List ℕ };
 
-    ghost view = { λ n. n.bytes.items };
+    ghost view = { λ n. bytes_of n.text };
 }
 
 impl Name {
@@ -26,22 +28,25 @@ impl Name {
     pub fn new(bytes: Vec<u8>) -> Name
         ensures { result ≡ bytes.items }
     {
-        Self { bytes }
+        Name {
+            text: Text::Long(bytes),
+        }
     }
 
-    /// The bytes of a name that is no longer needed.
-    pub fn into_bytes(self) -> Vec<u8>
-        ensures { result.items ≡ self }
+    /// The name with these bytes. Up to 23 of them take no memory beside the name itself.
+    pub fn of(alloc: Global, bytes: &[u8]) -> Result<Name, AllocError>
+        ensures { IfOk result (λ name. name ≡ bytes.now) }
     {
-        let Name { bytes } = self;
-        bytes
+        Ok(Name {
+            text: Text::new(alloc, bytes)?,
+        })
     }
 
     /// The name's bytes.
     pub fn as_bytes(&self) -> &[u8]
         ensures { result.now ≡ self.now }
     {
-        self.bytes.as_slice()
+        self.text.as_bytes()
     }
 
     /// An equal name, on the same allocator.
@@ -57,7 +62,7 @@ impl Clone for Name {
 
     fn clone(&self) -> Result<Name, AllocError> {
         Ok(Name {
-            bytes: self.bytes.clone()?,
+            text: self.text.copy()?,
         })
     }
 }

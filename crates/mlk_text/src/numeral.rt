@@ -88,14 +88,16 @@ fn is_exact(before: &[u8], after: &[u8]) -> bool
 fn pointed(alloc: Global, before: &[u8], after: &[u8]) -> Result<Value, AllocError>
     ensures { IfOk result (λ v. v ≡ pointed before.now after.now) }
 {
-    let mut text = Vec::from_slice(alloc, before)?;
     if !after.is_empty() {
+        let mut text = Vec::from_slice(alloc, before)?;
         text.push(b'.')?;
         text.extend_from_slice(after)?;
-    } else if before.is_empty() {
-        text.push(b'0')?;
+        return Ok(Value::new(text));
     }
-    Ok(Value::new(text))
+    if before.is_empty() {
+        return Value::of(alloc, b"0");
+    }
+    Value::of(alloc, before)
 }
 
 /// The canonical text of a numeric literal.

@@ -68,7 +68,7 @@ pub fn name(alloc: Global, bytes: &[u8]) -> Result<(Name, &[u8]), Failure<NotThe
     let Some((text, rest)) = name_text(bytes) else {
         return Err(Failure::Refused(NotThere));
     };
-    Ok((Name::new(Vec::from_slice(alloc, text)?), rest))
+    Ok((Name::of(alloc, text)?, rest))
 }
 
 /// The text of the label at the front, a name or digits, and what is after it. It takes no memory.

@@ -2,7 +2,7 @@
 
 ghost use Rattle.std.specs.Prelude.{◌≡◌, IfOk};
 
-use crate::name::Name;
+use crate::text::Text;
 use std::alloc::{AllocError, Global};
 use std::default::MadeWith;
 use std::marker::Model;
@@ -10,15 +10,16 @@ use std::marker::Model;
 /// A value of M: a text of any bytes. A number is its canonical text.
 #[derive(Drop, Debug)]
 pub struct Value {
-    bytes: Vec<u8>,
+    text: Text,
 }
 
 impl Model for Value {
     ghost use Rattle.std.specs.Prelude.{List, ℕ};
+    ghost use Rattle.mlk_text.specs.Texts.{bytes_of};
 
     ghost Value = { List ℕ };
 
-    ghost view = { λ v. v.bytes.items };
+    ghost view = { λ v. bytes_of v.text };
 }
 
 impl Value {
@@ -26,23 +27,25 @@ impl Value {
     pub fn new(bytes: Vec<u8>) -> Value
         ensures { result ≡ bytes.items }
     {
-        Value { bytes }
+        Value {
+            text: Text::Long(bytes),
+        }
     }
 
-    /// The value with the bytes of a name.
-    pub fn from_name(name: Name) -> Value
-        ensures { result ≡ name }
+    /// The value with these bytes. Up to 23 of them take no memory beside the value itself.
+    pub fn of(alloc: Global, bytes: &[u8]) -> Result<Value, AllocError>
+        ensures { IfOk result (λ value. value ≡ bytes.now) }
     {
-        Value {
-            bytes: name.into_bytes(),
-        }
+        Ok(Value {
+            text: Text::new(alloc, bytes)?,
+        })
     }
 
     /// The value's bytes.
     pub fn as_bytes(&self) -> &[u8]
         ensures { result.now ≡ self.now }
     {
-        self.bytes.as_slice()
+        self.text.as_bytes()
     }
 
     /// An equal value, on the same allocator.
@@ -65,7 +68,7 @@ impl Clone for Value {
 
     fn clone(&self) -> Result<Value, AllocError> {
         Ok(Value {
-            bytes: self.bytes.clone()?,
+            text: self.text.copy()?,
         })
     }
 }

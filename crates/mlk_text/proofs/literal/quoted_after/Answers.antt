@@ -3,7 +3,7 @@ use Rattle.mlk_text.specs.Lexemes.{inside}
 use Rattle.mlk_text.specs.Reading.{put}
 use Rattle.mlk_text.proofs.Lexemes.{inside-other, inside-bad, inside-twice, inside-closed, inside-empty}
 use Rattle.mlk_text.proofs.Readers.{put_put}
-use Rattle.mlk_text.proofs.literal.quoted.Goals as goal
+use Rattle.mlk_text.proofs.literal.quoted_after.Goals as goal
 
 pub returns-then-not-is_text_byte : goal.returns-then-not-is_text_byte
 returns-then-not-is_text_byte c =

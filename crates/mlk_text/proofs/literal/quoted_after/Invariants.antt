@@ -1,10 +1,10 @@
 use Rattle.std.proofs.Common.{◌≡◌, length}
 use Rattle.mlk_text.specs.Lexemes.{inside}
 use Rattle.mlk_text.specs.Reading.{put}
-use Rattle.mlk_text.proofs.literal.quoted.Given as goal
+use Rattle.mlk_text.proofs.literal.quoted_after.Given as goal
 
 abbrev pub invariant-loop-first : goal.invariant-loop-first
-invariant-loop-first l = put l.value.items (inside l.rest) ≡ inside l.bytes
+invariant-loop-first l = put l.value.items (inside l.rest) ≡ put l.before (inside l.bytes)
 
 abbrev pub decreases-loop-first : goal.decreases-loop-first
 decreases-loop-first l = length l.rest

@@ -1,0 +1,97 @@
+// The bytes of names and values. Most are short, and then stand in the struct itself.
+
+ghost use Rattle.std.specs.Prelude.{◌≡◌, ◌≤◌, IfOk, length};
+ghost use Rattle.mlk_text.specs.Texts.{bytes_of};
+
+use std::alloc::{AllocError, Global};
+use std::marker::Model;
+
+// How many bytes stand in the struct itself.
+const MOST_SHORT: usize = 23;
+
+/// Up to 23 bytes.
+#[derive(Debug, Drop)]
+pub(crate) struct Short {
+    bytes: [u8; MOST_SHORT],
+    length: u8,
+}
+
+impl Model for Short {
+    ghost use Rattle.std.specs.Prelude.{List, ℕ, take, ◌≤◌};
+
+    ghost Value = { List ℕ };
+
+    ghost view = { λ s. take s.length s.bytes };
+
+    ghost invariant = { λ s. s.length ≤ 23 };
+}
+
+impl Short {
+    fn new(bytes: &[u8]) -> Short
+        requires { length bytes.now ≤ 23 }
+        ensures { result ≡ bytes.now }
+    {
+        let mut kept = [0; MOST_SHORT];
+        let (front, _) = kept.split_at_mut(bytes.len());
+        front.copy_from_slice(bytes);
+        Short {
+            bytes: kept,
+            length: bytes.len() as u8,
+        }
+    }
+
+    fn as_bytes(&self) -> &[u8]
+        ensures { result.now ≡ self.now }
+    {
+        let (front, _) = self.bytes.split_at(self.length as usize);
+        front
+    }
+
+    fn copy(&self) -> Short
+        ensures { result ≡ self.now }
+    {
+        Short {
+            bytes: self.bytes,
+            length: self.length,
+        }
+    }
+}
+
+/// Any bytes.
+#[derive(Debug, Drop)]
+pub(crate) enum Text {
+    Short(Short),
+    Long(Vec<u8>),
+}
+
+impl Text {
+    /// The text with these bytes.
+    pub(crate) fn new(alloc: Global, bytes: &[u8]) -> Result<Text, AllocError>
+        ensures { IfOk result (λ t. bytes_of t ≡ bytes.now) }
+    {
+        if bytes.len() <= MOST_SHORT {
+            Ok(Text::Short(Short::new(bytes)))
+        } else {
+            Ok(Text::Long(Vec::from_slice(alloc, bytes)?))
+        }
+    }
+
+    pub(crate) fn as_bytes(&self) -> &[u8]
+        ensures { result.now ≡ bytes_of self.now }
+    {
+        match self {
+            Text::Short(short) => short.as_bytes(),
+            Text::Long(bytes) => bytes.as_slice(),
+        }
+    }
+
+    /// An equal text, on the same allocator.
+    pub(crate) fn copy(&self) -> Result<Text, AllocError>
+        ensures { IfOk result (λ t. bytes_of t ≡ bytes_of self.now) }
+    {
+        match self {
+            Text::Short(short) => Ok(Text::Short(short.copy())),
+            Text::Long(bytes) => Ok(Text::Long(bytes.clone()?)),
+        }
+    }
+}
