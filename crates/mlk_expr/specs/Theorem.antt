@@ -1,5 +1,5 @@
 -- What the grammar keeps to, and what its readers answer.
-use Rattle.std.specs.Prelude.{ℕ, suc, ◌≡◌, ◌≤◌, min, nat_le, ◌&&◌, ◌||◌, not, is_some, if◌then◌else◌, Option, Some}
+use Rattle.std.specs.Prelude.{ℕ, suc, ◌≡◌, ◌≤◌, nat_le, ◌&&◌, ◌||◌, not, is_some, if◌then◌else◌, Option, Some}
 use Rattle.std.specs.Prelude.{None, Bool, true, false, List, [], ◌∷◌, ◌++◌, length, drop, ◌==◌}
 use Rattle.mlk_text.specs.Lexemes.{is_digit, is_name_byte}
 use Rattle.mlk_text.specs.Places.{column_at}

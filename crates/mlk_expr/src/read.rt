@@ -20,7 +20,7 @@ use crate::refusal::{Offence, Wrong, no_end, no_operand, refused, too_deep};
 use crate::scope::Scope;
 use crate::tree::Expr;
 use mlk_text::lexeme::byte_of;
-use mlk_text::{Failure, Op, UnaryOp, Value};
+use mlk_text::{Failure, Op, UnaryOp, Value, push_sparing};
 use std::alloc::Global;
 
 /// The expression at the front that nests so deep at most, and what is after it.
@@ -54,7 +54,7 @@ fn chain_rest(
     let mut rest = bytes;
     while let Some((op, after)) = op_at(rest) {
         let (item, after) = right(alloc, scope, op, after)?;
-        found.push((op, item))?;
+        push_sparing(&mut found, (op, item))?;
         rest = after;
     }
     Ok((found, rest))
@@ -73,10 +73,7 @@ fn right(
 {
     if is_match(op) {
         let (text, rest) = pattern(alloc, scope.left, after)?;
-        return Ok((
-            Expr::Pattern(Value::new(Vec::from_slice(alloc, text)?)),
-            rest,
-        ));
+        return Ok((Expr::Pattern(Value::of(alloc, text)?), rest));
     }
     atom(alloc, scope, after)
 }

@@ -18,7 +18,7 @@ use crate::spacing::{first_argument, is_bare, is_command_end, is_commands_end};
 use crate::tree::{Command, Commands, Control, For};
 use crate::word::is_for;
 use mlk_text::lexeme::word_at;
-use mlk_text::{Code, Column, Failure, Fault};
+use mlk_text::{Code, Column, Failure, Fault, push_sparing};
 use std::alloc::{AllocError, Global};
 
 const MOST_LOOPS: usize = 255;
@@ -63,7 +63,7 @@ fn before_for(
     let mut next = at;
     while !is_commands_end(line, next) && !is_for_here(line, next) {
         let (read, end) = command(alloc, inside.returns(), line, next)?;
-        before.push(read)?;
+        push_sparing(&mut before, read)?;
         next = past_spaces(line, end);
     }
     Ok((before, next))

@@ -24,7 +24,7 @@ pub(crate) fn lines(
     ensures place { IfErr result (λ e. IfRefused e (IsOfLine routine.now (texts_of texts.now))) }
 {
     let mut before = Before::new(alloc);
-    let mut lines = VecDeque::new(alloc);
+    let mut lines = VecDeque::with_capacity(alloc, texts.len())?;
     for (i, text) in texts.iter().enumerate() {
         match line(alloc, &mut before, i + 1, text) {
             Ok(read) => lines.push_back(read)?,

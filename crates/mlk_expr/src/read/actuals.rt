@@ -100,7 +100,7 @@ fn actuals_rest(
         (many (byte_at 44) (next (actual_with passing scope.end (nested_in scope)))
         (suc (length bytes.now)) bytes.now)) }
 {
-    let mut found = Vec::new(alloc);
+    let mut found = Vec::with_capacity(alloc, 1)?;
     found.push(first)?;
     let mut rest = bytes;
     while let Some(after) = byte_of(b',', rest) {

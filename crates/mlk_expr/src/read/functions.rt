@@ -48,7 +48,7 @@ fn exprs_rest(
     ensures { Reads (λ x. (trees x.0.items, x.1.now)) result
         (put (tree_of first ∷ []) (many (byte_at 44) (next (nested_in scope)) (suc (length bytes.now)) bytes.now)) }
 {
-    let mut found = Vec::new(alloc);
+    let mut found = Vec::with_capacity(alloc, 1)?;
     found.push(first)?;
     let mut rest = bytes;
     while let Some(after) = byte_of(b',', rest) {
@@ -72,7 +72,7 @@ fn others(
         (few (suc most) (put (tree_of first ∷ [])
         (many (byte_at 44) (next (nested_in scope)) (suc (length bytes.now)) bytes.now))) }
 {
-    let mut found = Vec::new(alloc);
+    let mut found = Vec::with_capacity(alloc, 1)?;
     found.push(first)?;
     let mut rest = bytes;
     while let Some(after) = byte_of(b',', rest) {
@@ -165,7 +165,7 @@ fn choices_rest(
         (put (choice_of first ∷ [])
         (many (byte_at 44) (next (choice_with (nested_in scope))) (suc (length bytes.now)) bytes.now)) }
 {
-    let mut found = Vec::new(alloc);
+    let mut found = Vec::with_capacity(alloc, 1)?;
     found.push(first)?;
     let mut rest = bytes;
     while let Some(after) = byte_of(b',', rest) {

@@ -63,7 +63,7 @@ fn subs_rest(
         (few 32 (put (sub_of first ∷ [])
         (many (byte_at 44) (next (placed scope.end (nested_in scope))) (suc (length bytes.now)) bytes.now))) }
 {
-    let mut found = Vec::new(alloc);
+    let mut found = Vec::with_capacity(alloc, 1)?;
     found.push(first)?;
     let mut rest = bytes;
     while let Some(after) = byte_of(b',', rest) {

@@ -41,7 +41,7 @@ chain_rest-loop-op-preserved t c =
     let less = link-shorter c.args.scope c.in-Some.op (tree_of c.in_ok-item.item) c.loop-op.rest.now c.in-Some.after.now c.in_ok-item.after.now (sym c.in-Some.ensures) c.in_ok-item.ensures in
     let more = many_goes op_at (linked (atom_in c.args.scope) (pattern_at c.args.scope.left)) (links c.loop-op.found.items) c.loop-op.invariant.0 c.loop-op.rest.now _ c.in-Some.op c.in-Some.after.now
     (c.in-Some.op, tree_of c.in_ok-item.item) c.in_ok-item.after.now (sym c.in-Some.ensures) (ap (with (λ u. (c.in-Some.op, u))) c.in_ok-item.ensures) less c.loop-op.invariant.1 c.loop-op.invariant.2 in
-    rw (c.in_ok-push.ensures.items, map-append) more
+    rw (c.in_ok-push_sparing.ensures, map-append) more
 
 pub chain_rest-returns : goal.chain_rest-returns
 chain_rest-returns t c = many_stops op_at (linked (atom_in c.args.scope) (pattern_at c.args.scope.left)) (links c.loop-op.found.items) c.loop-op.invariant.0 c.loop-op.rest.now _ (sym c.in_default.ensures) c.loop-op.invariant.1 c.loop-op.invariant.2
