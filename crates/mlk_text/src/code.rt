@@ -39,7 +39,7 @@ pub enum Code {
     RoutineName,
     /// 301: two routines of one name
     RoutineTwice,
-    /// 302: a call of a label that no routine has
+    /// 302: a call of a label or a routine that is not there
     UnknownLabel,
     /// 303: a call whose actual list does not fit the formal list
     Arity,

@@ -25,7 +25,7 @@ impl Code {
                 "a routine past one of its limits: bytes, lines, levels, FORs on a line",
             Code::RoutineName => "a file whose stem is no name",
             Code::RoutineTwice => "two routines of one name",
-            Code::UnknownLabel => "a call of a label that no routine has",
+            Code::UnknownLabel => "a call of a label or a routine that is not there",
             Code::Arity => "a call whose actual list does not fit the formal list",
             Code::TooMany => "more than 65,535 routines or 1,048,575 entries",
             Code::Toml => "a rule file that is no TOML",
