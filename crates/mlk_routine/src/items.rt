@@ -16,10 +16,10 @@ ghost use Rattle.mlk_routine.specs.Begins.{target_begins, set_begins};
 ghost use Rattle.mlk_expr.specs.declared.scope.Allows.TheVariants.{Everything, NoTouches};
 
 use crate::call::{do_argument, job_argument};
-use crate::format::{read_argument, write_argument};
+use crate::changes::{kill, merge, new};
+use crate::devices::{read_argument, write_argument};
 use crate::item::Item;
 use crate::lock::lock;
-use crate::name::{kill, merge, new};
 use crate::parameter::parameter;
 use crate::part::variable;
 use crate::set::{set, target};

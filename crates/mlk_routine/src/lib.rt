@@ -3,11 +3,12 @@
 
 mod blocks;
 mod call;
+mod changes;
 mod command;
 mod commands;
+mod devices;
 mod fault;
 mod formals;
-mod format;
 mod front;
 mod item;
 mod items;
@@ -16,7 +17,6 @@ mod law;
 mod line;
 mod lines;
 mod lock;
-mod name;
 mod parameter;
 mod part;
 mod reach;

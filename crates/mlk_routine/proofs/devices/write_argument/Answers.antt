@@ -6,7 +6,7 @@ use Rattle.mlk_routine.specs.CommandGrammar.{IsValue}
 use Rattle.mlk_routine.proofs.Sequences.{turned_found, turned_denied}
 use Rattle.mlk_routine.proofs.Bytes.{after_found, after_denied}
 use Rattle.mlk_routine.proofs.Formats.{write_format, write_character, write_value}
-use Rattle.mlk_routine.proofs.format.write_argument.Goals as goal
+use Rattle.mlk_routine.proofs.devices.write_argument.Goals as goal
 
 pub returns-in_err-tab : goal.returns-in_err-tab
 returns-in_err-tab c =

@@ -5,7 +5,7 @@ use Rattle.mlk_text.specs.Lexemes.{inside}
 use Rattle.mlk_routine.specs.Ends.{IsPrompt, PromptEnds}
 use Rattle.mlk_routine.proofs.Outcomes.{denies}
 use Rattle.mlk_routine.proofs.Prompts.{no_longer, prompt_found, prompt_nowhere}
-use Rattle.mlk_routine.proofs.format.prompt.Goals as goal
+use Rattle.mlk_routine.proofs.devices.prompt.Goals as goal
 
 pub overflow_sub-result : goal.overflow_sub-result
 overflow_sub-result c =

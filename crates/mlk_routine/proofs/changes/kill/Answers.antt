@@ -7,7 +7,7 @@ use Rattle.mlk_routine.specs.Ends.{KillEnds}
 use Rattle.mlk_routine.specs.CommandGrammar.{IsKill}
 use Rattle.mlk_routine.proofs.Sequences.{turned_found, turned_denied}
 use Rattle.mlk_routine.proofs.Names.{kill_names}
-use Rattle.mlk_routine.proofs.name.kill.Goals as goal
+use Rattle.mlk_routine.proofs.changes.kill.Goals as goal
 
 pub returns-in_err-names : goal.returns-in_err-names
 returns-in_err-names c =

@@ -7,7 +7,7 @@ use Rattle.mlk_routine.specs.CommandGrammar.{IsVariable}
 use Rattle.mlk_routine.proofs.Sequences.{both_found, denied_second}
 use Rattle.mlk_routine.proofs.Bytes.{after_found, after_denied}
 use Rattle.mlk_routine.proofs.Names.{merge_parts}
-use Rattle.mlk_routine.proofs.name.merge.Goals as goal
+use Rattle.mlk_routine.proofs.changes.merge.Goals as goal
 
 pub returns-in_err-source : goal.returns-in_err-source
 returns-in_err-source c =

@@ -2,7 +2,7 @@ use Rattle.std.proofs.Common.{option_map}
 use Rattle.mlk_expr.specs.Trees.{tree_of}
 use Rattle.mlk_routine.proofs.Sequences.{both_told}
 use Rattle.mlk_routine.proofs.Formats.{marked_parts, format_told}
-use Rattle.mlk_routine.proofs.format.format.Goals as goal
+use Rattle.mlk_routine.proofs.devices.format.Goals as goal
 
 pub returns : goal.returns
 returns c =

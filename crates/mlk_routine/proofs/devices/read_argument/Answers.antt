@@ -8,7 +8,7 @@ use Rattle.mlk_routine.specs.CommandGrammar.{IsAfter, IsLocal}
 use Rattle.mlk_routine.proofs.Sequences.{both_found, denied_first, denied_second, turned_found, turned_denied}
 use Rattle.mlk_routine.proofs.Bytes.{byte_before, after_found, after_denied}
 use Rattle.mlk_routine.proofs.ReadArguments.{timed_parts, local_colon, most_colon, IsTimedLocal, TimedLocalEnds, read_prompt, read_format, read_character, line_parts}
-use Rattle.mlk_routine.proofs.format.read_argument.Goals as goal
+use Rattle.mlk_routine.proofs.devices.read_argument.Goals as goal
 
 pub returns-in_err-prompt : goal.returns-in_err-prompt
 returns-in_err-prompt c =

@@ -8,7 +8,7 @@ use Rattle.mlk_routine.specs.CommandGrammar.{IsNew}
 use Rattle.mlk_routine.proofs.Outcomes.{denies}
 use Rattle.mlk_routine.proofs.Sequences.{turned_found, turned_denied}
 use Rattle.mlk_routine.proofs.Names.{new_names, no_new}
-use Rattle.mlk_routine.proofs.name.new.Goals as goal
+use Rattle.mlk_routine.proofs.changes.new.Goals as goal
 
 pub returns-in_err-names : goal.returns-in_err-names
 returns-in_err-names c =

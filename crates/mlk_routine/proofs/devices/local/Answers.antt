@@ -4,7 +4,7 @@ use Rattle.mlk_routine.specs.Views.{variable_of}
 use Rattle.mlk_routine.specs.CommandGrammar.{IsLocal}
 use Rattle.mlk_routine.proofs.Outcomes.{denies}
 use Rattle.mlk_routine.proofs.Locals.{no_local, local_told}
-use Rattle.mlk_routine.proofs.format.local.Goals as goal
+use Rattle.mlk_routine.proofs.devices.local.Goals as goal
 
 pub returns-then-has : goal.returns-then-has
 returns-then-has c = denies IsLocal VariableEnds c.args.line.now c.args.at c.leaves_out.result (c.leaves_out.ensures.fault c.args.line.now c.requires) (no_local c.args.line.now c.args.at (c.if-has.ensures.yes refl))
