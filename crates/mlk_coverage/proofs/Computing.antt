@@ -247,13 +247,13 @@ private_decides rules r =
     (λ p. if_decides (may_meet p r) (own_subs p.elements r.subs) (meet_decides r p) (own_decides p.elements r.subs)) rules.private
 
 -- whether a rule's lock is held
-root_decides : (a b : Root) → Decides (same_root a b) (a ≡ b)
+pub root_decides : (a b : Root) → Decides (same_root a b) (a ≡ b)
 root_decides (root.Global a) (root.Global b) = Decides-like (bytes_eq a b) (λ e. ap root.Global e) (λ e. cc) (bytes_eq-Decides a b)
 root_decides (root.Local a) (root.Local b) = Decides-like (bytes_eq a b) (λ e. ap root.Local e) (λ e. cc) (bytes_eq-Decides a b)
 root_decides (root.Global a) (root.Local b) = no (λ e. cc)
 root_decides (root.Local a) (root.Global b) = no (λ e. cc)
 
-symbol_decides : (a b : KnownSym) → Decides (same_symbol a b) (a ≡ b)
+pub symbol_decides : (a b : KnownSym) → Decides (same_symbol a b) (a ≡ b)
 symbol_decides (known.Const a) (known.Const b) = Decides-like (bytes_eq a b) (λ e. ap known.Const e) (λ e. cc) (bytes_eq-Decides a b)
 symbol_decides (known.Const a) (known.Local b) = no (λ e. cc)
 symbol_decides (known.Const a) known.Job = no (λ e. cc)
@@ -271,7 +271,7 @@ begins_decides (x ∷ xs) (y ∷ ys) =
     Decides-like (same_symbol x y && begins xs ys) (λ h. begins_cons x y xs ys h.0 h.1) (λ b. (begins_head x y xs ys b, begins_tail x y xs ys b))
     (Decides-and (same_symbol x y) (begins xs ys) (symbol_decides x y) (begins_decides xs ys))
 
-prefix_decides : (t u : LockTerm) → Decides (is_prefix t u) (IsPrefix t u)
+pub prefix_decides : (t u : LockTerm) → Decides (is_prefix t u) (IsPrefix t u)
 prefix_decides t u =
     Decides-like (is_prefix t u)
     (λ (h : (t.root ≡ u.root) × Begins t.subs u.subs). record { root = h.0; subs = h.1 })
