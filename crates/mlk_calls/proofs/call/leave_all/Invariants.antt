@@ -1,0 +1,13 @@
+use Rattle.std.proofs.Common.{◌≡◌, ◌++◌, length}
+use Rattle.std.specs.Prelude.{option_map}
+use Rattle.mlk_calls.specs.Lists.{all_some}
+use Rattle.mlk_calls.specs.Calls.{leave}
+use Rattle.mlk_calls.proofs.call.leave_all.Given as goal
+
+abbrev pub invariant-loop-exit : goal.invariant-loop-exit
+invariant-loop-exit l =
+    option_map (λ ts. l.found.items ++ ts) (all_some (leave l.how l.formals l.given l.aside l.state) l.left)
+    ≡ all_some (leave l.how l.formals l.given l.aside l.state) l.fn.exits
+
+abbrev pub decreases-loop-exit : goal.decreases-loop-exit
+decreases-loop-exit l = length l.left

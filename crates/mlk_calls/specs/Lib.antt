@@ -1,0 +1,11 @@
+pub mod Values
+pub mod Names
+pub mod Lists
+pub mod Terms
+pub mod Cases
+pub mod States
+pub mod Scope
+pub mod Symbols
+pub mod Changes
+pub mod Claims
+pub mod Calls

@@ -1,0 +1,69 @@
+-- What the walk of an entry's lines is given. This project's own choice.
+use Rattle.std.specs.Prelude.{ℕ, ◌≡◌, Bool, ◌&&◌, ◌==◌, false, if◌then◌else◌, List, [], ◌∷◌, map, find, Option, Some, None, option_map}
+use Rattle.std.specs.List.{list_any}
+use Rattle.mlk_routine.specs.Trees.{RoutineTree}
+use Rattle.mlk_program.specs.declared.entry.EntryId.{EntryId}
+use Rattle.mlk_routine.specs.Views.{routine_of}
+use Rattle.mlk_program.specs.Entries.{entry_by}
+use Rattle.mlk_program.specs.Program.{is_shared}
+use Rattle.mlk_calls.specs.declared.scope.Scope.{Scope as GivenScope}
+use Rattle.mlk_coverage.specs.declared.rules.RuleLists.{RuleLists}
+use Rattle.mlk_cert.specs.declared.names.Own.{Own}
+use Rattle.mlk_cert.specs.declared.block.Summary.{Summary}
+use Rattle.mlk_cert.specs.declared.block.EntryCert.{EntryCert}
+
+-- Entries are compared as entries, never by their texts.
+abbrev pub same_entry : EntryId → EntryId → Bool
+same_entry e f = (e.routine == f.routine) && (e.line == f.line)
+
+abbrev pub is_entry : EntryId → Option EntryId → Bool
+is_entry e None = false
+is_entry e (Some f) = same_entry e f
+
+abbrev pub names_entry : List RoutineTree → EntryId → List ℕ → Bool
+names_entry routines e text = is_entry e (entry_by routines text)
+
+abbrev pub is_declared : List RoutineTree → List (List ℕ) → EntryId → Bool
+is_declared routines texts e = list_any (names_entry routines e) texts
+
+-- the first block that names the entry; a further one is never used
+abbrev pub block_of : List RoutineTree → List EntryCert → EntryId → Option EntryCert
+block_of routines blocks e = find (λ (b : EntryCert). names_entry routines e b.entry) blocks
+
+abbrev pub summary_of : List RoutineTree → List EntryCert → EntryId → Option Summary
+summary_of routines blocks e = option_map (λ (b : EntryCert). b.summary) (block_of routines blocks e)
+
+-- the program's routines and which of them, from 0, is walked; the rules; the summary of each certified entry, and which
+-- entries are declared; the walked entry's own summary; and which names are shared in a frame with these names of its own
+pub record Scope : Type 0 where
+  pub routines : List RoutineTree
+  pub own : ℕ
+  pub rules : RuleLists
+  pub summary_of : EntryId → Option Summary
+  pub is_declared : EntryId → Bool
+  pub summary : Summary
+  pub is_shared : List Own → List ℕ → Bool
+
+-- what is known of entries: the summaries of those that are certified, and those that are declared
+abbrev pub summary_at : List (EntryId × Summary) → EntryId → Option Summary
+summary_at [] e = None
+summary_at (s ∷ summaries) e = if same_entry e s.0 then Some s.1 else summary_at summaries e
+
+abbrev pub is_listed : List EntryId → EntryId → Bool
+is_listed entries e = list_any (same_entry e) entries
+
+pub record AreEntries (routines : List RoutineTree) (blocks : List EntryCert) (texts : List (List ℕ)) (found : List (EntryId × Summary) × List EntryId) : Type 0 where
+  pub certified : (e : EntryId) → summary_at found.0 e ≡ summary_of routines blocks e
+  pub declared : (e : EntryId) → is_listed found.1 e ≡ is_declared routines texts e
+
+-- the scope of the code's value; which names are shared is one of the program's facts, whatever names are own
+abbrev pub scope_of : GivenScope → Scope
+scope_of g = record {
+  routines = map routine_of g.program.now;
+  own = g.routine;
+  rules = g.rules.now;
+  summary_of = summary_at g.entries.now.0;
+  is_declared = is_listed g.entries.now.1;
+  summary = g.summary.now;
+  is_shared = λ own name. is_shared (map routine_of g.program.now) name;
+}

@@ -1,0 +1,410 @@
+// Calls: the callee's summary, with the actuals put in, stands for all that it does.
+
+ghost use Rattle.std.specs.Prelude.{◌≡◌, ◌++◌, ◌-◌, IfOk, OnOk, Some, map, flat_map, length, take, option_map, option_copied};
+ghost use Rattle.mlk_text.specs.Failures.{Answers};
+ghost use Rattle.mlk_expr.specs.Trees.{actual_of, actual_trees};
+ghost use Rattle.mlk_routine.specs.Views.{line_of};
+ghost use Rattle.mlk_calls.specs.Lists.{all_some};
+ghost use Rattle.mlk_calls.specs.Terms.{put_term, put_terms, put_all};
+ghost use Rattle.mlk_calls.specs.Changes.{marked};
+ghost use Rattle.mlk_calls.specs.Scope.{scope_of};
+ghost use Rattle.mlk_calls.specs.States.{last_captured, without_last};
+ghost use Rattle.mlk_calls.specs.Changes.{changed_state};
+ghost use Rattle.mlk_calls.specs.Calls.{Called, formals_in, called, lent_set, changes, ranks_below, all_below, leave, after_call, ranks_fault, call_fault, set_aside, call_changing, at_call, at_job, test_after, called_of};
+
+use crate::changing::{change_fault, changed_case, mark_all};
+use crate::claim::is_low_enough;
+use crate::scope::Scope;
+use crate::state::{State, before_last, copy_case, last_of};
+use crate::term::{copies, put_all, rank, take_all};
+use mlk_cert::{Case, ExitCase, NameSet, Shared, Summary, Test};
+use mlk_coverage::Rules;
+use mlk_expr::{Actual, Callee};
+use mlk_names::{LockTerm, Sym, substitute};
+use mlk_routine::Line;
+use mlk_text::{Code, Failure, List, Name, copy_of};
+use std::alloc::{AllocError, Global};
+
+/// How a callee is called.
+#[derive(Clone, Copy, Debug, Drop, PartialEq, Eq)]
+pub enum Calling {
+    /// by DO, which leaves `$TEST` as the callee does
+    ByDo,
+    /// as a function, which keeps `$TEST`
+    Extrinsic,
+}
+
+// What is known of a callee.
+#[derive(Clone, Copy, Drop)]
+struct Target<'a> {
+    formals: &'a [Name],
+    summary: &'a Summary,
+}
+
+fn formals_of<'a>(line: Option<&'a Line>) -> &'a [Name]
+    ensures { result.now ≡ formals_in (option_map line_of (option_copied line.entry)) }
+{
+    match line {
+        None => &[],
+        Some(line) => match &line.formals {
+            None => &[],
+            Some(formals) => formals.as_slice(),
+        },
+    }
+}
+
+// What is known of a callee that has a certificate.
+fn called<'a>(scope: &Scope<'a>, callee: &Callee) -> Option<Target<'a>>
+    ensures { option_map called_of result ≡ called (scope_of scope.now) callee.now }
+{
+    let entry = scope.program.target(scope.routine, callee)?;
+    let summary = scope.entries.summary(entry)?;
+    let formals = formals_of(scope.program.line(entry));
+    Some(Target { formals, summary })
+}
+
+// The name that an actual passes by reference.
+fn add_lent(names: &mut Vec<NameSet>, actual: &Actual) -> Result<(), AllocError>
+    ensures { OnOk result (names.new.items ≡ names.old.items ++ lent_set (actual_of actual.now)) }
+{
+    match actual {
+        Actual::ByRef(_, name) => {
+            names.push(NameSet::Only(name.copy()?))?;
+            Ok(())
+        }
+        Actual::Value(_) | Actual::Missing => Ok(()),
+    }
+}
+
+// The names that actuals pass by reference.
+fn lent(alloc: Global, given: &[Actual]) -> Result<Vec<NameSet>, AllocError>
+    ensures { IfOk result (λ v. v.items ≡ flat_map lent_set (actual_trees given.now)) }
+{
+    let mut names = Vec::new(alloc);
+    for actual in given {
+        add_lent(&mut names, actual)?;
+    }
+    Ok(names)
+}
+
+fn changes(alloc: Global, mods: &[NameSet], lent: Vec<NameSet>) -> Result<Vec<NameSet>, AllocError>
+    ensures { IfOk result (λ v. v.items ≡ mods.now ++ lent.items) }
+{
+    let mut names = Vec::from_clones(alloc, mods)?;
+    let mut lent = lent;
+    names.append(&mut lent)?;
+    Ok(names)
+}
+
+fn passed(alloc: Global, actuals: &[Sym]) -> Result<Vec<Option<Sym>>, AllocError>
+    ensures { IfOk result (λ v. v.items ≡ map Some actuals.now) }
+{
+    let mut given = Vec::new(alloc);
+    for actual in actuals {
+        given.push(Some(copy_of(actual)?))?;
+    }
+    Ok(given)
+}
+
+fn put_term(
+    alloc: Global,
+    formals: &[Name],
+    given: &[Option<Sym>],
+    term: &LockTerm,
+) -> Result<Option<LockTerm>, AllocError>
+    ensures { IfOk result (λ t. t ≡ put_term formals.now given.now term.now) }
+{
+    let found = substitute(alloc, term, formals, given)?;
+    Ok(found)
+}
+
+// The callee's terms as its caller has them.
+fn put_terms(
+    alloc: Global,
+    formals: &[Name],
+    given: &[Option<Sym>],
+    terms: &[LockTerm],
+) -> Result<Option<Vec<LockTerm>>, AllocError>
+    ensures { IfOk result (λ o. option_map (λ v. v.items) o ≡ put_terms formals.now given.now terms.now) }
+{
+    let mut found = Vec::new(alloc);
+    let mut left = terms;
+    while let Some((term, others)) = left.split_first() {
+        let Some(own) = put_term(alloc, formals, given, term)? else {
+            return Ok(None);
+        };
+        found.push(own)?;
+        left = others;
+    }
+    Ok(Some(found))
+}
+
+fn ranks_below(low: Option<u32>, rank: Option<u32>) -> bool
+    ensures { result ≡ ranks_below low rank }
+{
+    match (low, rank) {
+        (None, _) => true,
+        (Some(_), None) => false,
+        (Some(low), Some(rank)) => rank < low,
+    }
+}
+
+// Whether each term has a rank below this one.
+fn all_below(rules: &Rules, low: Option<u32>, terms: &[LockTerm]) -> bool
+    ensures { result ≡ all_below rules.now.families low terms.now }
+{
+    terms.iter().all(|term| ranks_below(low, rank(rules, term)))
+}
+
+// What is wrong with the callee's claims and its release of all locks.
+fn ranks_fault(scope: &Scope, summary: &Summary, aside: &[LockTerm]) -> Option<Code>
+    ensures { result ≡ ranks_fault (scope_of scope.now) summary.now aside.now }
+{
+    if !all_below(scope.rules, summary.low, aside) {
+        return Some(Code::RankOrder);
+    }
+    if !is_low_enough(scope.summary.low, summary.low) {
+        return Some(Code::SummaryShort);
+    }
+    if summary.drops && !aside.is_empty() {
+        return Some(Code::DropsFrame);
+    }
+    if summary.drops && !scope.summary.drops {
+        return Some(Code::SummaryShort);
+    }
+    None
+}
+
+fn call_fault(
+    scope: &Scope,
+    summary: &Summary,
+    names: &[NameSet],
+    aside: &[LockTerm],
+    state: &State,
+) -> Option<Code>
+    ensures { result ≡ call_fault (scope_of scope.now) summary.now names.now aside.now state.now }
+{
+    match change_fault(scope, names, state) {
+        Some(code) => Some(code),
+        None => ranks_fault(scope, summary, aside),
+    }
+}
+
+// What is held but for the callee's needs.
+fn set_aside(
+    alloc: Global,
+    target: &Target,
+    actuals: &[Sym],
+    held: &Shared<LockTerm>,
+) -> Result<Shared<LockTerm>, Failure<Code>>
+    ensures { Answers (λ h. h) result (set_aside (called_of target.now) actuals.now held.now) }
+{
+    let need = target.summary.need.as_slice();
+    if need.is_empty() {
+        return Ok(held.clone()?);
+    }
+    let given = passed(alloc, actuals)?;
+    let Some(needs) = put_terms(alloc, target.formals, given.as_slice(), need)? else {
+        return Err(Failure::Refused(Code::UnknownSubscript));
+    };
+    let Some(aside) = take_all(copies(alloc, held.as_slice())?, needs.as_slice()) else {
+        return Err(Failure::Refused(Code::NeedMissing));
+    };
+    Ok(Shared::new(alloc, aside)?)
+}
+
+fn test_after(how: Calling, before: Test, after: Test) -> Test
+    ensures { result ≡ test_after how before after }
+{
+    match how {
+        Calling::ByDo => after,
+        Calling::Extrinsic => before,
+    }
+}
+
+// The terms set aside and these.
+fn held_after(
+    alloc: Global,
+    aside: &Shared<LockTerm>,
+    terms: &[LockTerm],
+) -> Result<Shared<LockTerm>, AllocError>
+    ensures { IfOk result (λ h. h ≡ put_all terms.now aside.now) }
+{
+    if terms.is_empty() {
+        return aside.clone();
+    }
+    Shared::new(alloc, put_all(alloc, aside.as_slice(), terms)?)
+}
+
+// The state after an exit.
+fn leave(
+    alloc: Global,
+    how: Calling,
+    formals: &[Name],
+    given: &[Option<Sym>],
+    aside: &Shared<LockTerm>,
+    state: &State,
+    exit: &ExitCase,
+) -> Result<Option<State>, AllocError>
+    ensures { IfOk result (λ s. s ≡ leave how formals.now given.now aside.now state.now exit.now) }
+{
+    let Some(terms) = put_terms(alloc, formals, given, exit.held.as_slice())? else {
+        return Ok(None);
+    };
+    let case = Case {
+        test: test_after(how, state.case.test, exit.test),
+        held: held_after(alloc, aside, terms.as_slice())?,
+        own: state.case.own.clone()?,
+        kept: state.case.kept.clone()?,
+        saved: copy_of(&state.case.saved)?,
+    };
+    let captured = copy_of(&state.captured)?;
+    Ok(Some(State { case, captured }))
+}
+
+fn leave_all(
+    alloc: Global,
+    how: Calling,
+    formals: &[Name],
+    given: &[Option<Sym>],
+    aside: &Shared<LockTerm>,
+    state: &State,
+    exits: &[ExitCase],
+) -> Result<Option<Vec<State>>, AllocError>
+    ensures { IfOk result (λ o. option_map (λ v. v.items) o
+        ≡ all_some (leave how formals.now given.now aside.now state.now) exits.now) }
+{
+    let mut found = Vec::new(alloc);
+    let mut left = exits;
+    while let Some((exit, others)) = left.split_first() {
+        let Some(after) = leave(alloc, how, formals, given, aside, state, exit)? else {
+            return Ok(None);
+        };
+        found.push(after)?;
+        left = others;
+    }
+    Ok(Some(found))
+}
+
+// The state after a change, without the last so many captured symbols.
+fn changed_before(
+    alloc: Global,
+    names: &[NameSet],
+    count: usize,
+    state: &State,
+) -> Result<State, AllocError>
+    ensures { IfOk result (λ s. s ≡ changed_state names.now (without_last count state.now)) }
+{
+    let case = changed_case(alloc, names, copy_case(&state.case)?)?;
+    let captured = mark_all(alloc, names, before_last(state.captured.as_slice(), count))?;
+    Ok(State {
+        case,
+        captured: List::of(captured),
+    })
+}
+
+fn after_call(
+    alloc: Global,
+    how: Calling,
+    target: &Target,
+    names: &[NameSet],
+    aside: &Shared<LockTerm>,
+    count: usize,
+    state: &State,
+) -> Result<Vec<State>, Failure<Code>>
+    ensures { Answers (λ v. v.items) result (after_call how (called_of target.now)
+        (last_captured count state.now) names.now aside.now (without_last count state.now)) }
+{
+    let actuals = mark_all(alloc, names, last_of(state.captured.as_slice(), count))?;
+    let given = passed(alloc, actuals.as_slice())?;
+    let after = changed_before(alloc, names, count, state)?;
+    let exits = target.summary.exits.as_slice();
+    let Some(states) = leave_all(
+        alloc,
+        how,
+        target.formals,
+        given.as_slice(),
+        aside,
+        &after,
+        exits,
+    )?
+    else {
+        return Err(Failure::Refused(Code::UnknownSubscript));
+    };
+    Ok(states)
+}
+
+// The call of a certified entry that may change these names.
+fn call_changing(
+    alloc: Global,
+    scope: &Scope,
+    how: Calling,
+    target: &Target,
+    names: &[NameSet],
+    count: usize,
+    state: &State,
+) -> Result<Vec<State>, Failure<Code>>
+    ensures { Answers (λ v. v.items) result (call_changing (scope_of scope.now) how (called_of target.now)
+        names.now (last_captured count state.now) (without_last count state.now)) }
+{
+    let actuals = last_of(state.captured.as_slice(), count);
+    let aside = set_aside(alloc, target, actuals, &state.case.held)?;
+    if let Some(code) = call_fault(scope, target.summary, names, aside.as_slice(), state) {
+        return Err(Failure::Refused(code));
+    }
+    let states = after_call(alloc, how, target, names, &aside, count, state)?;
+    Ok(states)
+}
+
+/// What a call with this list of actuals, whose symbols were captured last, makes of a state: one state for each exit of
+/// the callee.
+///
+/// The callee's needs are taken from what is held, and the rest is set aside. What it may change, by its summary or by
+/// reference, is asked of all that is held, and of the walked entry's summary; its claims rank above what is set aside.
+/// Captured symbols that mention what it may change are unknown then, the actuals too.
+pub fn at_call(
+    alloc: Global,
+    scope: &Scope,
+    how: Calling,
+    callee: &Callee,
+    given: &[Actual],
+    state: &State,
+) -> Result<Vec<State>, Failure<Code>>
+    ensures { Answers (λ v. v.items) result
+        (at_call (scope_of scope.now) how callee.now (actual_trees given.now) state.now) }
+{
+    let Some(target) = called(scope, callee) else {
+        return Err(Failure::Refused(Code::NoCertificate));
+    };
+    let count = given.len();
+    let mods = target.summary.mods.as_slice();
+    let lent = lent(alloc, given)?;
+    if lent.is_empty() {
+        let states = call_changing(alloc, scope, how, &target, mods, count, state)?;
+        return Ok(states);
+    }
+    let names = changes(alloc, mods, lent)?;
+    let states = call_changing(alloc, scope, how, &target, names.as_slice(), count, state)?;
+    Ok(states)
+}
+
+/// What JOB with this list of actuals, whose symbols were captured last, makes of a state: its entry has to be declared.
+pub fn at_job(
+    alloc: Global,
+    scope: &Scope,
+    callee: &Callee,
+    given: &[Actual],
+    state: State,
+) -> Result<State, Failure<Code>>
+    ensures { Answers (λ s. s) result
+        (at_job (scope_of scope.now) callee.now (actual_trees given.now) state) }
+{
+    let begun = match scope.program.target(scope.routine, callee) {
+        Some(entry) => scope.entries.is_declared(entry),
+        None => false,
+    };
+    if !begun {
+        return Err(Failure::Refused(Code::NoCertificate));
+    }
+    Ok(state.without_last(given.len()))
+}

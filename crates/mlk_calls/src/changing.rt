@@ -1,0 +1,113 @@
+// Changes of names.
+
+ghost use Rattle.std.specs.Prelude.{◌≡◌, IfOk, map};
+ghost use Rattle.std.specs.List.{list_all};
+ghost use Rattle.mlk_text.specs.Failures.{Answers};
+ghost use Rattle.mlk_calls.specs.Names.{may_change};
+ghost use Rattle.mlk_calls.specs.Scope.{scope_of};
+ghost use Rattle.mlk_calls.specs.Changes.{marked, without_kept, changed_state, change_fault, change};
+
+use crate::names::{have, may_change, without};
+use crate::scope::Scope;
+use crate::state::State;
+use crate::term::mention;
+use mlk_cert::{Case, NameSet};
+use mlk_names::Sym;
+use mlk_text::{Code, Failure, List, copy_of};
+use std::alloc::{AllocError, Global};
+
+fn mark(changed: &[NameSet], symbol: &Sym) -> Result<Sym, AllocError>
+    ensures { IfOk result (λ s. s ≡ marked changed.now symbol.now) }
+{
+    if let Sym::Local(name) = symbol {
+        if have(changed, name) {
+            return Ok(Sym::Unknown);
+        }
+    }
+    copy_of(symbol)
+}
+
+/// The symbols, of which those that mention a changed name are unknown.
+pub(crate) fn mark_all(
+    alloc: Global,
+    changed: &[NameSet],
+    symbols: &[Sym],
+) -> Result<Vec<Sym>, AllocError>
+    ensures { IfOk result (λ v. v.items ≡ map (marked changed.now) symbols.now) }
+{
+    let mut found = Vec::new(alloc);
+    for symbol in symbols {
+        found.push(mark(changed, symbol)?)?;
+    }
+    Ok(found)
+}
+
+/// The case after a change of names: they lose the values of the call's begin.
+pub(crate) fn changed_case(alloc: Global, names: &[NameSet], case: Case) -> Result<Case, AllocError>
+    ensures { IfOk result (λ c. c ≡ without_kept names.now case) }
+{
+    let Case {
+        test,
+        held,
+        own,
+        kept,
+        saved,
+    } = case;
+    let kept = without(alloc, names, kept)?;
+    Ok(Case {
+        test,
+        held,
+        own,
+        kept,
+        saved,
+    })
+}
+
+/// The state after a change of names: they lose the values of the call's begin, and captured symbols that mention them
+/// are unknown.
+pub fn changed(alloc: Global, names: &[NameSet], state: State) -> Result<State, AllocError>
+    ensures { IfOk result (λ s. s ≡ changed_state names.now state) }
+{
+    let State { case, captured } = state;
+    Ok(State {
+        case: changed_case(alloc, names, case)?,
+        captured: List::of(mark_all(alloc, names, captured.as_slice())?),
+    })
+}
+
+fn all_may_change(scope: &Scope, state: &State, names: &[NameSet]) -> bool
+    ensures { result ≡ list_all (may_change state.now.case.own (scope_of scope.now).summary.mods) names.now }
+{
+    let own = state.case.own.as_slice();
+    let mods = scope.summary.mods.as_slice();
+    names.iter().all(|set| may_change(own, mods, set))
+}
+
+/// What is wrong with a change of names. It takes no memory.
+pub(crate) fn change_fault(scope: &Scope, names: &[NameSet], state: &State) -> Option<Code>
+    ensures { result ≡ change_fault (scope_of scope.now) names.now state.now }
+{
+    if mention(names, state.case.held.as_slice()) {
+        return Some(Code::Pinned);
+    }
+    if !all_may_change(scope, state, names) {
+        return Some(Code::SummaryShort);
+    }
+    None
+}
+
+/// What a change of names makes of a state. It is refused where a held term mentions one of them, and where one is neither
+/// new since the call began nor in the walked entry's summary.
+pub fn change(
+    alloc: Global,
+    scope: &Scope,
+    names: &[NameSet],
+    state: State,
+) -> Result<State, Failure<Code>>
+    ensures { Answers (λ s. s) result (change (scope_of scope.now) names.now state) }
+{
+    if let Some(code) = change_fault(scope, names, &state) {
+        return Err(Failure::Refused(code));
+    }
+    Ok(changed(alloc, names, state)?)
+}

@@ -1,0 +1,124 @@
+// Claims and releases of terms.
+
+ghost use Rattle.std.specs.Prelude.{◌≡◌, IfOk, IfErr, OnOk, Some, None};
+ghost use Rattle.mlk_text.specs.Failures.{Answers};
+ghost use Rattle.mlk_calls.specs.Scope.{scope_of};
+ghost use Rattle.mlk_calls.specs.Claims.{is_low_enough, all_ranked_below, is_below, order_fault, claim_fault, claim_refused, held_too, release_all, release_one};
+
+use crate::scope::Scope;
+use crate::state::State;
+use crate::term::{copies, is_within, put_all, rank, take_one};
+use mlk_cert::Shared;
+use mlk_coverage::Rules;
+use mlk_names::LockTerm;
+use mlk_text::{Code, Failure};
+use std::alloc::{AllocError, Global};
+
+/// Whether the second of two least ranks is not below the first; none is above every rank.
+pub(crate) fn is_low_enough(low: Option<u32>, other: Option<u32>) -> bool
+    ensures { result ≡ is_low_enough low other }
+{
+    match (low, other) {
+        (_, None) => true,
+        (None, Some(_)) => false,
+        (Some(low), Some(rank)) => low <= rank,
+    }
+}
+
+fn is_below(rank: Option<u32>, other: u32) -> bool
+    ensures { result ≡ is_below rank other }
+{
+    match rank {
+        Some(rank) => rank < other,
+        None => false,
+    }
+}
+
+// Whether each held term has a rank, below this one.
+fn all_ranked_below(rules: &Rules, held: &[LockTerm], other: u32) -> bool
+    ensures { result ≡ all_ranked_below rules.now.families held.now other }
+{
+    held.iter().all(|term| is_below(rank(rules, term), other))
+}
+
+fn order_fault(scope: &Scope, held: &[LockTerm], term: &LockTerm, rank: u32) -> Option<Code>
+    ensures { result ≡ order_fault (scope_of scope.now) held.now term.now rank }
+{
+    if is_within(held, term) {
+        return None;
+    }
+    if !all_ranked_below(scope.rules, held, rank) {
+        return Some(Code::RankOrder);
+    }
+    if !is_low_enough(scope.summary.low, Some(rank)) {
+        return Some(Code::SummaryShort);
+    }
+    None
+}
+
+fn claim_fault(scope: &Scope, held: &[LockTerm], term: &LockTerm, timed: bool) -> Option<Code>
+    ensures { result ≡ claim_fault (scope_of scope.now) timed held.now term.now }
+{
+    match rank(scope.rules, term) {
+        None => Some(Code::Unranked),
+        Some(rank) => {
+            if timed {
+                None
+            } else {
+                order_fault(scope, held, term, rank)
+            }
+        }
+    }
+}
+
+/// Whether a state may claim these terms at once, for so long at most or until they are granted; else which of them,
+/// counted from 0, is the first that is refused, and why. It takes no memory.
+pub fn may_take(
+    scope: &Scope,
+    state: &State,
+    terms: &[LockTerm],
+    timed: bool,
+) -> Result<(), (usize, Code)>
+    ensures ok { OnOk result (claim_refused (scope_of scope.now) timed state.now.case.held terms.now ≡ None) }
+    ensures err { IfErr result (λ e. claim_refused (scope_of scope.now) timed state.now.case.held terms.now ≡ Some e) }
+{
+    let held = state.case.held.as_slice();
+    let mut left = terms;
+    let mut index = 0;
+    while let Some((term, others)) = left.split_first() {
+        if let Some(code) = claim_fault(scope, held, term, timed) {
+            return Err((index, code));
+        }
+        index += 1;
+        left = others;
+    }
+    Ok(())
+}
+
+/// The state once these terms are granted: they are held too.
+pub fn claimed(alloc: Global, terms: &[LockTerm], state: State) -> Result<State, AllocError>
+    ensures { IfOk result (λ s. s ≡ held_too terms.now state) }
+{
+    let held = put_all(alloc, state.case.held.as_slice(), terms)?;
+    Ok(state.holding(Shared::new(alloc, held)?))
+}
+
+/// The release of all locks, which the walked entry's summary has to speak of.
+pub fn release_all(alloc: Global, scope: &Scope, state: State) -> Result<State, Failure<Code>>
+    ensures { Answers (λ s. s) result (release_all (scope_of scope.now) state) }
+{
+    if !scope.summary.drops {
+        return Err(Failure::Refused(Code::SummaryShort));
+    }
+    Ok(state.holding(Shared::new(alloc, Vec::new(alloc))?))
+}
+
+/// The release of a term: it is held once less.
+pub fn release_one(alloc: Global, term: &LockTerm, state: State) -> Result<State, Failure<Code>>
+    ensures { Answers (λ s. s) result (release_one term.now state) }
+{
+    let Some(held) = take_one(copies(alloc, state.case.held.as_slice())?, term) else {
+        return Err(Failure::Refused(Code::NotHeld));
+    };
+    Ok(state.holding(Shared::new(alloc, held)?))
+}

@@ -1,0 +1,18 @@
+//! What is asked of one state of a walk: symbols of expressions, changes of names, claims, releases and calls.
+#![tactic(auto)]
+
+mod call;
+mod changing;
+mod claim;
+mod names;
+mod scope;
+mod state;
+mod symbol;
+mod term;
+
+pub use call::{Calling, at_call, at_job};
+pub use changing::{change, changed};
+pub use claim::{claimed, may_take, release_all, release_one};
+pub use scope::{Entries, Scope};
+pub use state::State;
+pub use symbol::{symbol_of, truth_of};
