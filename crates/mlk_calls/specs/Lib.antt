@@ -5,6 +5,7 @@ pub mod Terms
 pub mod Cases
 pub mod States
 pub mod Scope
+pub mod Entries
 pub mod Symbols
 pub mod Changes
 pub mod Claims

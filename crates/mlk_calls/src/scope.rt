@@ -2,6 +2,7 @@
 
 ghost use Rattle.std.specs.Prelude.{◌≡◌, [], IfOk, OnOk, map, option_copied};
 ghost use Rattle.mlk_routine.specs.Views.{routine_of};
+ghost use Rattle.mlk_calls.specs.Entries.{GainsSummary, GainsEntry, GainsBlock, GainsText, GainsBlocks, GainsTexts};
 ghost use Rattle.mlk_calls.specs.Scope.{AreEntries, summary_at, is_listed, scope_of};
 
 use indexmap::{IndexMap, IndexSet};
@@ -31,6 +32,99 @@ impl<'a> Model for Entries<'a> {
 }
 
 impl<'a> Entries<'a> {
+    fn new(alloc: Global) -> Entries<'a>
+        ensures { result ≡ ([], []) }
+    {
+        Entries {
+            certified: IndexMap::new(alloc),
+            declared: IndexSet::new(alloc),
+        }
+    }
+
+    // Adds the summary of an entry, where it has none yet.
+    fn certify(&mut self, entry: EntryId, summary: &'a Summary) -> Result<(), AllocError>
+        ensures { OnOk result (GainsSummary entry summary.now self.old self.new) }
+    {
+        if self.certified.contains_key(&entry) {
+            return Ok(());
+        }
+        let Ok(_) = self.certified.insert(entry, summary) else {
+            return Err(AllocError);
+        };
+        Ok(())
+    }
+
+    fn declare(&mut self, entry: EntryId) -> Result<(), AllocError>
+        ensures { OnOk result (GainsEntry entry self.old self.new) }
+    {
+        self.declared.insert(entry)?;
+        Ok(())
+    }
+
+    fn certify_block(
+        &mut self,
+        program: &Program,
+        block: &'a EntryCert,
+    ) -> Result<(), AllocError>
+        ensures { OnOk result (GainsBlock (map routine_of program.now) block.now self.old self.new) }
+    {
+        match program.entry(block.entry.as_bytes()) {
+            None => Ok(()),
+            Some(entry) => self.certify(entry, &block.summary),
+        }
+    }
+
+    fn declare_text(&mut self, program: &Program, text: &Value) -> Result<(), AllocError>
+        ensures { OnOk result (GainsText (map routine_of program.now) text.now self.old self.new) }
+    {
+        match program.entry(text.as_bytes()) {
+            None => Ok(()),
+            Some(entry) => self.declare(entry),
+        }
+    }
+
+    fn certify_all(
+        &mut self,
+        program: &Program,
+        blocks: &'a [EntryCert],
+    ) -> Result<(), AllocError>
+        ensures { OnOk result (GainsBlocks (map routine_of program.now) blocks.now self.old self.new) }
+    {
+        let mut left = blocks;
+        while let Some((block, others)) = left.split_first() {
+            self.certify_block(program, block)?;
+            left = others;
+        }
+        Ok(())
+    }
+
+    fn declare_all(&mut self, program: &Program, texts: &[Value]) -> Result<(), AllocError>
+        ensures { OnOk result (GainsTexts (map routine_of program.now) texts.now self.old self.new) }
+    {
+        let mut left = texts;
+        while let Some((text, others)) = left.split_first() {
+            self.declare_text(program, text)?;
+            left = others;
+        }
+        Ok(())
+    }
+
+    /// What is known of a program's entries: the first block that names an entry has its summary, and the rules declare
+    /// entries. What names no entry of the program is left out.
+    pub fn of(
+        alloc: Global,
+        program: &Program,
+        rules: &Rules,
+        blocks: &'a [EntryCert],
+    ) -> Result<Entries<'a>, AllocError>
+        ensures { IfOk result (AreEntries (map routine_of program.now) blocks.now rules.now.entries) }
+    {
+        let mut found = Entries::new(alloc);
+        found.certify_all(program, blocks)?;
+        found.declare_all(program, entries(rules))?;
+        Ok(found)
+    }
+
     /// The summary of a certified entry. It takes no memory.
     pub fn summary(&self, entry: EntryId) -> Option<&'a Summary>
         ensures { option_copied result ≡ summary_at self.now.0 entry }
