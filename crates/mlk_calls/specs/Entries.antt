@@ -25,7 +25,7 @@ GainsSummary entry s old new =
 abbrev pub GainsBlock : List RoutineTree → EntryCert → Tables → Tables → Type 0
 GainsBlock routines b old new =
     ((e : EntryId) → summary_at new.0 e
-        ≡ or_first (summary_at old.0 e) (summary_if (names_entry routines e b.entry) b.summary)) × (new.1 ≡ old.1)
+    ≡ or_first (summary_at old.0 e) (summary_if (names_entry routines e b.entry) b.summary)) × (new.1 ≡ old.1)
 
 abbrev pub GainsBlocks : List RoutineTree → List EntryCert → Tables → Tables → Type 0
 GainsBlocks routines blocks old new =

@@ -9,6 +9,8 @@ use Rattle.mlk_program.specs.Program.{is_shared}
 use Rattle.mlk_calls.specs.declared.scope.Scope.{Scope as GivenScope}
 use Rattle.mlk_coverage.specs.declared.rules.RuleLists.{RuleLists}
 use Rattle.mlk_cert.specs.declared.names.Own.{Own}
+use Rattle.mlk_cert.specs.declared.case.Case.{Case}
+use Rattle.mlk_cert.specs.declared.block.Point.{Point}
 use Rattle.mlk_cert.specs.declared.block.Summary.{Summary}
 use Rattle.mlk_cert.specs.declared.block.EntryCert.{EntryCert}
 
@@ -33,8 +35,20 @@ block_of routines blocks e = find (λ (b : EntryCert). names_entry routines e b.
 abbrev pub summary_of : List RoutineTree → List EntryCert → EntryId → Option Summary
 summary_of routines blocks e = option_map (λ (b : EntryCert). b.summary) (block_of routines blocks e)
 
+-- the cases of a point; a point that the lines don't have is never asked for
+abbrev pub is_at : ℕ → ℕ → Point → Bool
+is_at number round p = (p.line == number) && (p.round == round)
+
+abbrev pub cases_of : Option Point → List Case
+cases_of None = []
+cases_of (Some p) = p.cases
+
+abbrev pub listed_at : List Point → ℕ → ℕ → List Case
+listed_at points number round = cases_of (find (is_at number round) points)
+
 -- the program's routines and which of them, from 0, is walked; the rules; the summary of each certified entry, and which
--- entries are declared; the walked entry's own summary; and which names are shared in a frame with these names of its own
+-- entries are declared; the walked entry's own summary, and whether it is declared; the cases that its certificate lists
+-- at a line and round; and which names are shared in a frame with these names of its own
 pub record Scope : Type 0 where
   pub routines : List RoutineTree
   pub own : ℕ
@@ -42,6 +56,8 @@ pub record Scope : Type 0 where
   pub summary_of : EntryId → Option Summary
   pub is_declared : EntryId → Bool
   pub summary : Summary
+  pub declared : Bool
+  pub listed : ℕ → ℕ → List Case
   pub is_shared : List Own → List ℕ → Bool
 
 -- what is known of entries: the summaries of those that are certified, and those that are declared
@@ -64,6 +80,8 @@ scope_of g = record {
   rules = g.rules.now;
   summary_of = summary_at g.entries.now.0;
   is_declared = is_listed g.entries.now.1;
-  summary = g.summary.now;
+  summary = g.block.now.summary;
+  declared = g.declared;
+  listed = listed_at g.block.now.points;
   is_shared = λ own name. is_shared (map routine_of g.program.now) name;
 }

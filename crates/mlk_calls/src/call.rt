@@ -163,13 +163,13 @@ fn ranks_fault(scope: &Scope, summary: &Summary, aside: &[LockTerm]) -> Option<C
     if !all_below(scope.rules, summary.low, aside) {
         return Some(Code::RankOrder);
     }
-    if !is_low_enough(scope.summary.low, summary.low) {
+    if !is_low_enough(scope.block.summary.low, summary.low) {
         return Some(Code::SummaryShort);
     }
     if summary.drops && !aside.is_empty() {
         return Some(Code::DropsFrame);
     }
-    if summary.drops && !scope.summary.drops {
+    if summary.drops && !scope.block.summary.drops {
         return Some(Code::SummaryShort);
     }
     None

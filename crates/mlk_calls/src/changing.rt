@@ -79,7 +79,7 @@ fn all_may_change(scope: &Scope, state: &State, names: &[NameSet]) -> bool
     ensures { result ≡ list_all (may_change state.now.case.own (scope_of scope.now).summary.mods) names.now }
 {
     let own = state.case.own.as_slice();
-    let mods = scope.summary.mods.as_slice();
+    let mods = scope.block.summary.mods.as_slice();
     names.iter().all(|set| may_change(own, mods, set))
 }
 

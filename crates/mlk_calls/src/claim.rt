@@ -50,7 +50,7 @@ fn order_fault(scope: &Scope, held: &[LockTerm], term: &LockTerm, rank: u32) -> 
     if !all_ranked_below(scope.rules, held, rank) {
         return Some(Code::RankOrder);
     }
-    if !is_low_enough(scope.summary.low, Some(rank)) {
+    if !is_low_enough(scope.block.summary.low, Some(rank)) {
         return Some(Code::SummaryShort);
     }
     None
@@ -107,7 +107,7 @@ pub fn claimed(alloc: Global, terms: &[LockTerm], state: State) -> Result<State,
 pub fn release_all(alloc: Global, scope: &Scope, state: State) -> Result<State, Failure<Code>>
     ensures { Answers (λ s. s) result (release_all (scope_of scope.now) state) }
 {
-    if !scope.summary.drops {
+    if !scope.block.summary.drops {
         return Err(Failure::Refused(Code::SummaryShort));
     }
     Ok(state.holding(Shared::new(alloc, Vec::new(alloc))?))

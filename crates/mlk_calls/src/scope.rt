@@ -61,11 +61,7 @@ impl<'a> Entries<'a> {
         Ok(())
     }
 
-    fn certify_block(
-        &mut self,
-        program: &Program,
-        block: &'a EntryCert,
-    ) -> Result<(), AllocError>
+    fn certify_block(&mut self, program: &Program, block: &'a EntryCert) -> Result<(), AllocError>
         ensures { OnOk result (GainsBlock (map routine_of program.now) block.now self.old self.new) }
     {
         match program.entry(block.entry.as_bytes()) {
@@ -83,11 +79,7 @@ impl<'a> Entries<'a> {
         }
     }
 
-    fn certify_all(
-        &mut self,
-        program: &Program,
-        blocks: &'a [EntryCert],
-    ) -> Result<(), AllocError>
+    fn certify_all(&mut self, program: &Program, blocks: &'a [EntryCert]) -> Result<(), AllocError>
         ensures { OnOk result (GainsBlocks (map routine_of program.now) blocks.now self.old self.new) }
     {
         let mut left = blocks;
@@ -140,15 +132,18 @@ impl<'a> Entries<'a> {
     }
 }
 
-/// What the walk of an entry's lines is given: the program, the rules, what is known of entries, which of the routines is
-/// walked, counted from 0, and the walked entry's own summary.
+/// What the walk of an entry's lines is given.
 #[derive(Clone, Copy, Drop)]
 pub struct Scope<'a> {
     pub program: &'a Program<'a>,
     pub rules: &'a Rules,
     pub entries: &'a Entries<'a>,
+    /// Which of the routines is walked, counted from 0.
     pub routine: usize,
-    pub summary: &'a Summary,
+    /// The first block of the walked entry.
+    pub block: &'a EntryCert,
+    /// Whether the walked entry is declared.
+    pub declared: bool,
 }
 
 impl<'a> Scope<'a> {

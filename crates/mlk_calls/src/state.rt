@@ -46,14 +46,14 @@ pub(crate) fn before_last(captured: &[Sym], count: usize) -> &[Sym]
 }
 
 impl State {
-    /// The state at the begin of a command, with nothing captured yet.
-    pub fn at_rest(alloc: Global, case: Case) -> State
-        ensures { result ≡ at_rest case }
+    /// The state of a case at the begin of a command, with nothing captured yet. It shares the case's lists.
+    pub fn at_rest(alloc: Global, case: &Case) -> Result<State, AllocError>
+        ensures { IfOk result (λ s. s ≡ at_rest case.now) }
     {
-        State {
-            case,
+        Ok(State {
+            case: copy_case(case)?,
             captured: List::new(alloc),
-        }
+        })
     }
 
     /// The state with one more captured symbol.

@@ -8,8 +8,11 @@ use Rattle.mlk_calls.proofs.scope.Entries.certify.Goals as goal
 pub returns-then-contains_key : goal.returns-then-contains_key
 returns-then-contains_key c =
     let found = there c.args.entry _ (λ k. refl) c.self.inside.certified.entries in
-    rw (← c.self.view_is) (kept_first (shown c.self.inside.certified.entries) c.args.entry c.args.summary.now
-        (sym found ∙ sym c.contains_key.ensures ∙ c.if-contains_key.true), refl)
+    rw (← c.self.view_is) (
+      kept_first (shown c.self.inside.certified.entries) c.args.entry c.args.summary.now
+          (sym found ∙ sym c.contains_key.ensures ∙ c.if-contains_key.true),
+      refl,
+    )
 
 pub returns : goal.returns
 returns c =

@@ -8,7 +8,7 @@ use Rattle.mlk_calls.proofs.scope.Entries.declare_all.Given as goal
 abbrev pub invariant-loop-text : goal.invariant-loop-text
 invariant-loop-text l =
     ((e : EntryId) → (is_listed l.self.1 e || is_declared (map routine_of l.program) l.left e)
-        ≡ (is_listed l.fn.self.1 e || is_declared (map routine_of l.program) l.fn.texts e))
+    ≡ (is_listed l.fn.self.1 e || is_declared (map routine_of l.program) l.fn.texts e))
     × (l.self.0 ≡ l.fn.self.0)
 
 abbrev pub decreases-loop-text : goal.decreases-loop-text
