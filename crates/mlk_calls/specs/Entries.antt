@@ -4,7 +4,7 @@ use Rattle.mlk_routine.specs.Trees.{RoutineTree}
 use Rattle.mlk_program.specs.declared.entry.EntryId.{EntryId}
 use Rattle.mlk_cert.specs.declared.block.Summary.{Summary}
 use Rattle.mlk_cert.specs.declared.block.EntryCert.{EntryCert}
-use Rattle.mlk_calls.specs.Scope.{same_entry, names_entry, is_declared, summary_of, summary_at, is_listed}
+use Rattle.mlk_calls.specs.Scope.{same_entry, names_entry, is_declared, summary_of, summary_at, has_entry}
 
 -- two tables: the summaries of certified entries, and the declared ones
 abbrev pub Tables : Type 0
@@ -33,12 +33,12 @@ GainsBlocks routines blocks old new =
 
 -- an entry is declared then
 abbrev pub GainsEntry : EntryId → Tables → Tables → Type 0
-GainsEntry entry old new = ((e : EntryId) → is_listed new.1 e ≡ (is_listed old.1 e || same_entry e entry)) × (new.0 ≡ old.0)
+GainsEntry entry old new = ((e : EntryId) → has_entry new.1 e ≡ (has_entry old.1 e || same_entry e entry)) × (new.0 ≡ old.0)
 
 abbrev pub GainsText : List RoutineTree → List ℕ → Tables → Tables → Type 0
 GainsText routines text old new =
-    ((e : EntryId) → is_listed new.1 e ≡ (is_listed old.1 e || names_entry routines e text)) × (new.0 ≡ old.0)
+    ((e : EntryId) → has_entry new.1 e ≡ (has_entry old.1 e || names_entry routines e text)) × (new.0 ≡ old.0)
 
 abbrev pub GainsTexts : List RoutineTree → List (List ℕ) → Tables → Tables → Type 0
 GainsTexts routines texts old new =
-    ((e : EntryId) → is_listed new.1 e ≡ (is_listed old.1 e || is_declared routines texts e)) × (new.0 ≡ old.0)
+    ((e : EntryId) → has_entry new.1 e ≡ (has_entry old.1 e || is_declared routines texts e)) × (new.0 ≡ old.0)

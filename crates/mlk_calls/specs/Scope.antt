@@ -65,12 +65,12 @@ abbrev pub summary_at : List (EntryId × Summary) → EntryId → Option Summary
 summary_at [] e = None
 summary_at (s ∷ summaries) e = if same_entry e s.0 then Some s.1 else summary_at summaries e
 
-abbrev pub is_listed : List EntryId → EntryId → Bool
-is_listed entries e = list_any (same_entry e) entries
+abbrev pub has_entry : List EntryId → EntryId → Bool
+has_entry entries e = list_any (same_entry e) entries
 
 pub record AreEntries (routines : List RoutineTree) (blocks : List EntryCert) (texts : List (List ℕ)) (found : List (EntryId × Summary) × List EntryId) : Type 0 where
   pub certified : (e : EntryId) → summary_at found.0 e ≡ summary_of routines blocks e
-  pub declared : (e : EntryId) → is_listed found.1 e ≡ is_declared routines texts e
+  pub declared : (e : EntryId) → has_entry found.1 e ≡ is_declared routines texts e
 
 -- the scope of the code's value; which names are shared is one of the program's facts, whatever names are own
 abbrev pub scope_of : GivenScope → Scope
@@ -79,7 +79,7 @@ scope_of g = record {
   own = g.routine;
   rules = g.rules.now;
   summary_of = summary_at g.entries.now.0;
-  is_declared = is_listed g.entries.now.1;
+  is_declared = has_entry g.entries.now.1;
   summary = g.block.now.summary;
   declared = g.declared;
   listed = listed_at g.block.now.points;

@@ -47,9 +47,12 @@ is_such test (known.Const value) = false
 is_such test (known.Local name) = test name
 is_such test known.Job = false
 
--- Whether some term mentions one of these names in a subscript; its root is no mention.
+-- Whether some term mentions such a name in a subscript; its root is no mention.
+abbrev pub mention_such : (List ℕ → Bool) → List LockTerm → Bool
+mention_such test terms = list_any (λ (t : LockTerm). list_any (is_such test) t.subs) terms
+
 abbrev pub mention : List NameSet → List LockTerm → Bool
-mention names terms = list_any (λ (t : LockTerm). list_any (is_such (have names)) t.subs) terms
+mention names terms = mention_such (have names) terms
 
 -- at or below a held one
 abbrev pub is_within : List LockTerm → LockTerm → Bool

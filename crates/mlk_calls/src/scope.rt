@@ -3,7 +3,7 @@
 ghost use Rattle.std.specs.Prelude.{◌≡◌, [], IfOk, OnOk, map, option_copied};
 ghost use Rattle.mlk_routine.specs.Views.{routine_of};
 ghost use Rattle.mlk_calls.specs.Entries.{GainsSummary, GainsEntry, GainsBlock, GainsText, GainsBlocks, GainsTexts};
-ghost use Rattle.mlk_calls.specs.Scope.{AreEntries, summary_at, is_listed, scope_of};
+ghost use Rattle.mlk_calls.specs.Scope.{AreEntries, summary_at, has_entry, scope_of};
 
 use indexmap::{IndexMap, IndexSet};
 use mlk_cert::{EntryCert, Summary};
@@ -126,7 +126,7 @@ impl<'a> Entries<'a> {
 
     /// Whether the entry is declared. It takes no memory.
     pub fn is_declared(&self, entry: EntryId) -> bool
-        ensures { result ≡ is_listed self.now.1 entry }
+        ensures { result ≡ has_entry self.now.1 entry }
     {
         self.declared.contains(&entry)
     }
