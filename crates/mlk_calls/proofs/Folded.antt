@@ -15,6 +15,7 @@ use Rattle.mlk_text.specs.declared.operator.UnaryOp.TheVariants.{Plus, Minus, No
 use Rattle.mlk_text.specs.Folding.{is_short, if_short, folded, IsWhole, IsFold, IsUnaryFold}
 use Rattle.mlk_text.proofs.WholeTexts.{plain-number, decimal-plain}
 use Rattle.mlk_text.proofs.Folds.{folded-short, no_number}
+use Rattle.mlk_calls.specs.Laws.{FoldsAre}
 use Rattle.mlk_calls.specs.Values.{number_in, if_text_of, whole, if_joined, of_numbers, fold_between, opposite, fold_before}
 
 short_is : (n m : ℕ) → n < m → nat_lt n m ≡ true
@@ -150,3 +151,82 @@ unfolding fold_before
 before_is Plus a found h = plus_is a found h
 before_is Minus a found h = minus_is a found h
 before_is Not a found h = not_is a found h
+
+-- what is computed is an exact result
+module _ (op : Op) (a b text : List ℕ) where
+  numbers_give : (o p : Option ℤ) → whole a ≡ o → whole b ≡ p → of_numbers op o p ≡ Some text → IsFold op a b text
+  numbers_give None p e f h = absurd (cc h)
+  numbers_give (Some x) None e f h = absurd (cc h)
+  numbers_give (Some x) (Some y) e f h = go (folded op x y) refl h
+    where
+      go : (r : Option ℤ) → folded op x y ≡ r → option_map signed_decimal r ≡ Some text → IsFold op a b text
+      go None k i = absurd (cc i)
+      go (Some z) k i =
+          let is : signed_decimal z ≡ text = cc i in
+          inr (x, y, z, whole_means x a e, whole_means y b f, k, (folded-short op x y z k, sym is))
+
+joins : (a b text : List ℕ) → if_joined (a ++ b) ≡ Some text → IsFold Concatenate a b text
+joins a b text h =
+    ⊎_elim
+    (λ (e : nat_le (length (a ++ b)) 255 ≡ true).
+    let s : Some (a ++ b) ≡ Some text = rw e at h in
+    let is : a ++ b ≡ text = cc in
+    inl (refl, sym is, few_means (length text) 255 (ap (λ l. nat_le (length l) 255) (sym is) ∙ e)))
+    (λ (e : nat_le (length (a ++ b)) 255 ≡ false). let s : None ≡ Some text = rw e at h in absurd (cc))
+    (cases_Bool (nat_le (length (a ++ b)) 255))
+
+between_gives : (op : Op) (a b text : List ℕ) → fold_between op a b ≡ Some text → IsFold op a b text
+unfolding fold_between
+between_gives Concatenate a b text h = joins a b text h
+between_gives Add a b text h = numbers_give Add a b text (whole a) (whole b) refl refl h
+between_gives Subtract a b text h = numbers_give Subtract a b text (whole a) (whole b) refl refl h
+between_gives Multiply a b text h = numbers_give Multiply a b text (whole a) (whole b) refl refl h
+between_gives Divide a b text h = numbers_give Divide a b text (whole a) (whole b) refl refl h
+between_gives DivideWhole a b text h = numbers_give DivideWhole a b text (whole a) (whole b) refl refl h
+between_gives Modulo a b text h = numbers_give Modulo a b text (whole a) (whole b) refl refl h
+between_gives Power a b text h = numbers_give Power a b text (whole a) (whole b) refl refl h
+between_gives (Is relation) a b text h = numbers_give (Is relation) a b text (whole a) (whole b) refl refl h
+between_gives (IsNot relation) a b text h = numbers_give (IsNot relation) a b text (whole a) (whole b) refl refl h
+
+plus_gives : (a text : List ℕ) (o : Option ℤ) → whole a ≡ o → option_map signed_decimal o ≡ Some text → IsUnaryFold Plus a text
+plus_gives a text None e h = absurd (cc h)
+plus_gives a text (Some x) e h =
+    let is : signed_decimal x ≡ text = cc h in
+    (x, whole_means x a e, sym is ∙ sym (whole_means x a e).1)
+
+minus_gives : (a text : List ℕ) (o : Option ℤ) → whole a ≡ o → option_map signed_decimal (option_and_then (λ z. if_short (neg_ℤ z)) o) ≡ Some text
+    → IsUnaryFold Minus a text
+minus_gives a text None e h = absurd (cc h)
+minus_gives a text (Some x) e h =
+    let few = negated_short x (whole_means x a e).0 in
+    let s : Some (signed_decimal (neg_ℤ x)) ≡ Some text = rw (short_is (unsigned_abs (neg_ℤ x)) (10 ^ 15) few) at h in
+    let is : signed_decimal (neg_ℤ x) ≡ text = cc in
+    (x, whole_means x a e, (few, sym is))
+
+not_gives : (a text : List ℕ) → opposite a ≡ Some text → IsUnaryFold Not a text
+not_gives a text h =
+    ⊎_elim
+    (λ (e : bytes_eq a (codes "0") ≡ true).
+    let s : Some (codes "1") ≡ Some text = rw e at h in
+    let is : codes "1" ≡ text = cc s in
+    inl ((bytes_eq-Decides a (codes "0")).0 e, sym is))
+    (λ (e : bytes_eq a (codes "0") ≡ false). ⊎_elim
+    (λ (f : bytes_eq a (codes "1") ≡ true).
+    let s : Some (codes "0") ≡ Some text = rw (e, f) at h in
+    let is : codes "0" ≡ text = cc s in
+    inr ((bytes_eq-Decides a (codes "1")).0 f, sym is))
+    (λ (f : bytes_eq a (codes "1") ≡ false). let s : None ≡ Some text = rw (e, f) at h in absurd (cc))
+    (cases_Bool (bytes_eq a (codes "1"))))
+    (cases_Bool (bytes_eq a (codes "0")))
+
+before_gives : (op : UnaryOp) (a text : List ℕ) → fold_before op a ≡ Some text → IsUnaryFold op a text
+unfolding fold_before
+before_gives Plus a text h = plus_gives a text (whole a) refl h
+before_gives Minus a text h = minus_gives a text (whole a) refl h
+before_gives Not a text h = not_gives a text h
+
+pub folds_are : FoldsAre
+folds_are = record {
+  between = λ op a b text. (between_gives op a b text, λ h. sym (between_is op a b (Some text) h));
+  before = λ op a text. (before_gives op a text, λ h. sym (before_is op a (Some text) h));
+}

@@ -4,3 +4,5 @@ pub mod Passing
 pub mod Folded
 pub mod ExprTrees
 pub mod EntryTables
+pub mod CaseTests
+pub mod Examples

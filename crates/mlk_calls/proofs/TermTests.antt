@@ -7,7 +7,8 @@ use Rattle.mlk_names.specs.declared.known_symbol.KnownSym.{KnownSym}
 use Rattle.mlk_names.specs.declared.term.LockTerm.{LockTerm}
 use Rattle.mlk_coverage.specs.declared.family.Family.{Family}
 use Rattle.mlk_coverage.specs.Computed.{same_root, same_symbol, is_prefix}
-use Rattle.mlk_coverage.specs.Ranks.{constant_term, HasRank}
+use Rattle.mlk_coverage.specs.Ranks.{constant_term, HasRank, FamiliesApart}
+use Rattle.mlk_coverage.proofs.RankLemmas.{one_rank}
 use Rattle.mlk_coverage.proofs.Computing.{root_decides, symbol_decides, prefix_decides, in_front, in_rest, in_list}
 use Rattle.mlk_calls.specs.Terms.{same_known, same_term, rank_of}
 
@@ -66,3 +67,11 @@ rank_is families t found h = by_rank (rank_of families t) refl
     by_rank : (o : Option ℕ) → rank_of families t ≡ o → found ≡ o
     by_rank None e = by_found found refl e
     by_rank (Some k) e = (h k).1 (ranked families t k e)
+
+-- where no two families meet, each rank of the relation is the one that is computed
+pub rank_decides : (families : List Family) (t : LockTerm) (k : ℕ) → FamiliesApart families → (rank_of families t ≡ Some k) ↔ HasRank families t k
+rank_decides families t k apart = (λ e. ranked families t k e, λ h. by_rank (rank_of families t) refl h)
+  where
+    by_rank : (o : Option ℕ) → rank_of families t ≡ o → HasRank families t k → o ≡ Some k
+    by_rank None e h = absurd (some_rank families t k h e)
+    by_rank (Some j) e h = ap Some ((one_rank families apart).once t j k (ranked families t j e) h)

@@ -1,5 +1,5 @@
 -- What is put into a table of entries. For private clauses alone. This project's own.
-use Rattle.std.specs.Prelude.{◌≡◌, ℕ, Bool, ◌||◌, if◌then◌else◌, List, [], ◌∷◌, Option, Some, None}
+use Rattle.std.specs.Prelude.{◌≡◌, ℕ, Bool, ◌||◌, if◌then◌else◌, List, Option, Some, None}
 use Rattle.mlk_routine.specs.Trees.{RoutineTree}
 use Rattle.mlk_program.specs.declared.entry.EntryId.{EntryId}
 use Rattle.mlk_cert.specs.declared.block.Summary.{Summary}

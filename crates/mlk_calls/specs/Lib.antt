@@ -10,3 +10,4 @@ pub mod Symbols
 pub mod Changes
 pub mod Claims
 pub mod Calls
+pub mod Laws

@@ -4,6 +4,7 @@
 mod call;
 mod changing;
 mod claim;
+mod law;
 mod names;
 mod scope;
 mod state;
@@ -13,6 +14,7 @@ mod term;
 pub use call::{Calling, at_call, at_job};
 pub use changing::{change, changed};
 pub use claim::{claimed, may_take, release_all, release_one};
+pub use law::{folds_are, includes_decides, rank_is, same_decides};
 pub use scope::{Entries, Scope};
 pub use state::State;
 pub use symbol::{symbol_of, truth_of};

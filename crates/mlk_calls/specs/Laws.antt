@@ -1,0 +1,34 @@
+-- That the tests of this crate are the relations of the crates below.
+use Rattle.std.specs.Prelude.{◌≡◌, ◌↔◌, ℕ, List, Some, Decides}
+use Rattle.mlk_text.specs.declared.operator.Op.{Op}
+use Rattle.mlk_text.specs.declared.operator.UnaryOp.{UnaryOp}
+use Rattle.mlk_text.specs.Folding.{IsFold, IsUnaryFold}
+use Rattle.mlk_names.specs.declared.term.LockTerm.{LockTerm}
+use Rattle.mlk_coverage.specs.declared.family.Family.{Family}
+use Rattle.mlk_coverage.specs.Ranks.{HasRank, FamiliesApart}
+use Rattle.mlk_cert.specs.declared.case.Case.{Case}
+use Rattle.mlk_cert.specs.Inclusion.{Included}
+use Rattle.mlk_calls.specs.declared.state.State.{State}
+use Rattle.mlk_calls.specs.Values.{fold_between, fold_before}
+use Rattle.mlk_calls.specs.Terms.{same_term, rank_of}
+use Rattle.mlk_calls.specs.Cases.{same_case, includes}
+use Rattle.mlk_calls.specs.States.{same_state}
+
+-- A case includes another where the relation says so.
+abbrev pub IncludesDecides : Type 0
+IncludesDecides = (c d : Case) → Decides (includes c d) (Included c d)
+
+-- Terms, cases and states are the same where they are equal.
+pub record SameDecides : Type 0 where
+  pub terms : (t u : LockTerm) → Decides (same_term t u) (t ≡ u)
+  pub cases : (c d : Case) → Decides (same_case c d) (c ≡ d)
+  pub states : (s t : State) → Decides (same_state s t) (s ≡ t)
+
+-- Where no two families meet, a term's rank is that of the relation.
+abbrev pub RankIs : Type 0
+RankIs = (families : List Family) (t : LockTerm) (k : ℕ) → FamiliesApart families → (rank_of families t ≡ Some k) ↔ HasRank families t k
+
+-- What operators make of texts is the one exact result of the relations.
+pub record FoldsAre : Type 0 where
+  pub between : (op : Op) (a b text : List ℕ) → (fold_between op a b ≡ Some text) ↔ IsFold op a b text
+  pub before : (op : UnaryOp) (a text : List ℕ) → (fold_before op a ≡ Some text) ↔ IsUnaryFold op a text

@@ -1,0 +1,23 @@
+// That the tests that definitions make are the relations of the crates below.
+
+ghost use Rattle.mlk_calls.specs.Laws.{IncludesDecides, SameDecides, RankIs, FoldsAre};
+
+/// The test of inclusion is the relation of cases.
+pub fn includes_decides()
+    ensures { IncludesDecides }
+{}
+
+/// The tests of sameness of terms, cases and states are equality.
+pub fn same_decides()
+    ensures { SameDecides }
+{}
+
+/// A term's rank is that of the relation.
+pub fn rank_is()
+    ensures { RankIs }
+{}
+
+/// What operators make of known texts is the one exact result.
+pub fn folds_are()
+    ensures { FoldsAre }
+{}
