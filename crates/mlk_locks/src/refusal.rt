@@ -1,0 +1,12 @@
+// Why an event can't happen.
+
+/// Why an event of a job can't happen.
+#[derive(Clone, Copy, Debug, Drop, PartialEq, Eq)]
+pub enum Refusal {
+    /// no job has begun with this number
+    UnknownJob,
+    /// not as things stand: the job can't do this now, or the number is used
+    NotEnabled,
+    /// another kind of choice is asked, or more values are given than there are formals
+    BadChoice,
+}
