@@ -1,0 +1,14 @@
+pub mod Values
+pub mod Bindings
+pub mod Tasks
+pub mod Expressions
+pub mod Commands
+pub mod Choices
+pub mod Assigning
+pub mod Locking
+pub mod Lines
+pub mod Calling
+pub mod Advance
+pub mod Runs
+pub mod Seen
+pub mod Laws

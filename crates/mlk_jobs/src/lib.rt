@@ -1,0 +1,8 @@
+//! Jobs that run routines of M: what each step makes of a job, and what every run of many jobs keeps to.
+#![tactic(auto)]
+
+mod choice;
+mod law;
+
+pub use choice::Choice;
+pub use law::{ended_stays, held_apart, leaving_out, one_run_of_many, rings_are_found};
