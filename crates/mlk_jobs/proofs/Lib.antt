@@ -1,2 +1,5 @@
 pub mod StepLemmas
 pub mod MachineLemmas
+pub mod Trees
+pub mod Examples
+pub mod LockExamples
