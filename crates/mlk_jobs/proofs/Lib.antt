@@ -3,3 +3,4 @@ pub mod MachineLemmas
 pub mod Trees
 pub mod Examples
 pub mod LockExamples
+pub mod FoldLemmas

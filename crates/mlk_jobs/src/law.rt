@@ -1,6 +1,6 @@
 // What every run keeps to.
 
-ghost use Rattle.mlk_jobs.specs.Laws.{HeldApart, OneRunOfMany, LeavingOut, RingsAreFound, EndedStays};
+ghost use Rattle.mlk_jobs.specs.Laws.{HeldApart, OneRunOfMany, LeavingOut, RingsAreFound, EndedStays, FoldsAgree};
 
 /// In every run, no job holds a lock that conflicts with one that another job holds.
 pub fn held_apart()
@@ -25,4 +25,9 @@ pub fn rings_are_found()
 /// A job that has ended or was stopped takes no event.
 pub fn ended_stays()
     ensures { EndedStays }
+{}
+
+/// What operators give of known values is the exact result, wherever there is one.
+pub fn folds_agree()
+    ensures { FoldsAgree }
 {}
