@@ -4,3 +4,4 @@ pub mod Trees
 pub mod Examples
 pub mod LockExamples
 pub mod FoldLemmas
+pub mod SettleLemmas

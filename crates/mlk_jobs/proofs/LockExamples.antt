@@ -13,10 +13,10 @@ use Rattle.mlk_locks.specs.Counts.{Counts}
 use Rattle.mlk_locks.specs.Systems.{Act, Begin, Go, Abort, Event, after}
 use Rattle.mlk_locks.specs.Laws.{has_ring_of}
 use Rattle.mlk_expr.specs.declared.tree.Function.TheVariants as function
-use Rattle.mlk_expr.specs.Trees.{Tree, Lit, LocalName, GlobalName, Func, tree, no_trees, no_subs, sub}
+use Rattle.mlk_expr.specs.Trees.{Tree, Lit, GlobalName, Func, tree, no_trees, no_subs, sub}
 use Rattle.mlk_routine.specs.declared.tree.Sign.TheVariants as sign
 use Rattle.mlk_routine.specs.declared.tree.Part.TheVariants as part
-use Rattle.mlk_routine.specs.Trees.{VariableTree, ActionTree, Lock, LockTree, LockNames, Set, SetTo, SetPart, Quit, Write, WriteValue, Merge, MergeInto, no_lines, RoutineTree}
+use Rattle.mlk_routine.specs.Trees.{VariableTree, ActionTree, Lock, LockNames, Set, SetTo, SetPart, Quit, Write, WriteValue, Merge, MergeInto, no_lines, RoutineTree}
 use Rattle.mlk_program.specs.declared.entry.EntryId.{EntryId}
 use Rattle.mlk_jobs.specs.declared.choice.Choice.{Choice}
 use Rattle.mlk_jobs.specs.declared.choice.Choice.TheVariants as choice
@@ -24,8 +24,8 @@ use Rattle.mlk_jobs.specs.Tasks.{Job}
 use Rattle.mlk_jobs.specs.Choices.{Stepped}
 use Rattle.mlk_jobs.specs.Locking.{granted}
 use Rattle.mlk_jobs.specs.Runs.{blank, machine, seen, go, begun}
-use Rattle.mlk_jobs.specs.Seen.{State, Ready, Claims, Releases, AsksChoice, Stuck, Ended, settled, ready}
-use Rattle.mlk_jobs.proofs.Trees.{value_of, local, global, global_at, set, commands, at_label, routine, first_entry, played, writes_at}
+use Rattle.mlk_jobs.specs.Seen.{Ready, Claims, Releases, Stuck, settled, ready}
+use Rattle.mlk_jobs.proofs.Trees.{value_of, global, global_at, set, commands, at_label, routine, first_entry, played, writes_at}
 
 abbrev a : LockName
 a = record { root = root.Global (codes "A"); subs = [] }
@@ -148,9 +148,9 @@ unread = refl
 -- Two jobs: A LOCK +^A LOCK +^B QUIT / B LOCK +^B LOCK +^A QUIT
 abbrev crossed : List RoutineTree
 crossed = routine (
-  (at_label (codes "A") None (commands (claim (global (codes "A") ∷ []) ∷ claim (global (codes "B") ∷ []) ∷ Quit None ∷ [])), no_lines)
-  ∷ (at_label (codes "B") None (commands (claim (global (codes "B") ∷ []) ∷ claim (global (codes "A") ∷ []) ∷ Quit None ∷ [])), no_lines)
-  ∷ [])
+    (at_label (codes "A") None (commands (claim (global (codes "A") ∷ []) ∷ claim (global (codes "B") ∷ []) ∷ Quit None ∷ [])), no_lines)
+    ∷ (at_label (codes "B") None (commands (claim (global (codes "B") ∷ []) ∷ claim (global (codes "A") ∷ []) ∷ Quit None ∷ [])), no_lines)
+    ∷ [])
 
 abbrev second_entry : EntryId
 second_entry = record { routine = 0; line = 1 }

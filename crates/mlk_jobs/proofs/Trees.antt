@@ -1,10 +1,9 @@
 -- Short ways to write the trees of the worked examples; columns and numbers of lines are left at 0.
-use Rattle.std.specs.Prelude.{ℕ, Bool, true, false, List, [], ◌∷◌, map, Option, Some, None, Result, Ok, Err}
-use Rattle.mlk_names.specs.References.{Touch}
+use Rattle.std.specs.Prelude.{ℕ, true, false, List, [], ◌∷◌, Option, Some, None, Ok, Err}
 use Rattle.mlk_names.specs.declared.reference.Extent.TheVariants as extent
 use Rattle.mlk_names.specs.declared.reference.Access.TheVariants.{Writes}
 use Rattle.mlk_expr.specs.declared.tree.Callee.{Callee}
-use Rattle.mlk_expr.specs.Trees.{Tree, Lit, LocalName, GlobalName, Subs, no_subs, sub, ActualTree, ByRef}
+use Rattle.mlk_expr.specs.Trees.{Tree, LocalName, GlobalName, no_subs, sub, ActualTree, ByRef}
 use Rattle.mlk_routine.specs.Trees.{VariableTree, Named, Called, DoCall, SetTo, SetWhole, ActionTree, Do, Set, CommandTrees}
 use Rattle.mlk_routine.specs.Trees.{Does, finished, then_command, then_for, ControlTree, HeadTree, LineHead, LineTrees, no_lines, line}
 use Rattle.mlk_routine.specs.Trees.{RoutineTree, Named_routine}

@@ -1,6 +1,6 @@
 // What every run keeps to.
 
-ghost use Rattle.mlk_jobs.specs.Laws.{HeldApart, OneRunOfMany, LeavingOut, RingsAreFound, EndedStays, FoldsAgree};
+ghost use Rattle.mlk_jobs.specs.Laws.{HeldApart, OneRunOfMany, LeavingOut, RingsAreFound, EndedStays, FoldsAgree, SettlesBySteps};
 
 /// In every run, no job holds a lock that conflicts with one that another job holds.
 pub fn held_apart()
@@ -30,4 +30,9 @@ pub fn ended_stays()
 /// What operators give of known values is the exact result, wherever there is one.
 pub fn folds_agree()
     ensures { FoldsAgree }
+{}
+
+/// A job that goes on by itself makes steps without choice, up to a task that is not silent or the greatest number.
+pub fn settles_by_steps()
+    ensures { SettlesBySteps }
 {}
