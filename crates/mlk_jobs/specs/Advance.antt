@@ -1,5 +1,5 @@
--- One step of a job: what its first task makes of it, each kind of task by a clause. Restates ISO/IEC 11756, commands and
--- expressions.
+-- One step of a job: what its first task makes of it, each kind of task by a clause. Restates ISO/IEC 11756, commands
+-- and expressions.
 use Rattle.std.specs.Prelude.{suc, ◌+◌, Bool, if◌then◌else◌, List, [], ◌∷◌, ◌++◌, take, drop, Ok, Err}
 use Rattle.std.specs.Fmt.{decimal}
 use Rattle.mlk_names.specs.declared.lock_name.LockName.{LockName}
@@ -66,7 +66,8 @@ advance routines free c j (task.SkipIf test ∷ ts) =
 advance routines free c j (task.Conditionally action block ∷ ts) =
     by_truth c j (λ t i. Ok (doing (tasks_if t (action_parts block action) ++ ts) i))
 advance routines free c j (task.LockNamed sign names timed ∷ ts) = without_choice c
-    (Ok (doing (by_sign sign (names_of (last_values (count_all names) j) names) timed ++ ts) (dropped (count_all names) j)))
+    (Ok (doing (by_sign sign (names_of (last_values (count_all names) j) names) timed ++ ts)
+    (dropped (count_all names) j)))
 advance routines free c j (task.Claim names timed ∷ ts) = claimed free c names timed (doing ts j)
 advance routines free c j (task.Release names ∷ ts) =
     without_choice c (Ok (doing ts (record j { held = all_lowered names j.held })))
@@ -78,7 +79,8 @@ advance routines free c j (task.CallIf callee given ∷ ts) =
 advance routines free c j (task.Block lines ∷ ts) =
     without_choice c (Ok (doing (RunLines (as_lines lines) ∷ EndBlock j.bindings j.next j.test ∷ ts) j))
 advance routines free c j (RunLines lines ∷ ts) = without_choice c (next_line lines ts j)
-advance routines free c j (RunCommands commands block ∷ ts) = without_choice c (Ok (doing (next_command commands block ts) j))
+advance routines free c j (RunCommands commands block ∷ ts) =
+    without_choice c (Ok (doing (next_command commands block ts) j))
 advance routines free c j (Parameters v ps rest block ∷ ts) =
     without_choice c (Ok (doing (parameter_parts v ps rest block ++ ts) j))
 advance routines free c j (Forever rest block ∷ ts) =

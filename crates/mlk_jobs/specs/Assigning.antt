@@ -10,15 +10,16 @@ use Rattle.mlk_jobs.specs.Commands.{count_in}
 use Rattle.mlk_jobs.specs.Choices.{touch_of}
 
 -- The assignments of SET, from left to right, of a value and the values that the targets need: a target that is part of
--- a global is read, and then written; a local that is assigned a part may have any value then. Nothing is kept of what a
--- local with subscripts has.
+-- a global is read, and then written; a local that is assigned a part may have any value then. Nothing is kept of what
+-- a local with subscripts has.
 abbrev pub assigned : List ℕ → List (List ℕ) → TargetTree → List Task
 assigned value subs (SetWhole (Named column (LocalName name no_subs))) = task.Store name value ∷ []
 assigned value subs (SetWhole (Named column (GlobalName caret name ss))) =
     task.DoTouch (touch_of name subs extent.Node Writes) ∷ []
 assigned value subs (SetPart part (Named column (LocalName name no_subs)) arguments) = task.StoreAny name ∷ []
 assigned value subs (SetPart part (Named column (GlobalName caret name ss)) arguments) =
-    task.DoTouch (touch_of name subs extent.Node Reads) ∷ task.Drop 1 ∷ task.DoTouch (touch_of name subs extent.Node Writes) ∷ []
+    task.DoTouch (touch_of name subs extent.Node Reads) ∷ task.Drop 1
+    ∷ task.DoTouch (touch_of name subs extent.Node Writes) ∷ []
 assigned value subs v = []
 
 abbrev pub subs_of_target : TargetTree → ℕ
@@ -45,10 +46,12 @@ merge_source subs (Named column (GlobalName caret name ss)) = task.DoTouch (touc
 merge_source subs v = []
 
 abbrev pub merge_target : List (List ℕ) → VariableTree → VariableTree → List Task
-merge_target subs (Named column (LocalName name no_subs)) (Named c (GlobalName caret other ss)) = task.StoreLast name ∷ []
+merge_target subs (Named column (LocalName name no_subs)) (Named c (GlobalName caret other ss)) =
+    task.StoreLast name ∷ []
 merge_target subs (Named column (LocalName name no_subs)) v = task.StoreAny name ∷ []
 merge_target subs (Named column (GlobalName caret name ss)) (Named c (GlobalName d other ts)) =
     task.Drop 1 ∷ task.DoTouch (touch_of name subs extent.Tree Writes) ∷ []
-merge_target subs (Named column (GlobalName caret name ss)) v = task.DoTouch (touch_of name subs extent.Tree Writes) ∷ []
+merge_target subs (Named column (GlobalName caret name ss)) v =
+    task.DoTouch (touch_of name subs extent.Tree Writes) ∷ []
 merge_target subs v (Named c (GlobalName caret other ss)) = task.Drop 1 ∷ []
 merge_target subs v w = []

@@ -1,5 +1,5 @@
--- Calls: what formals are bound to, and what the end of a block or of a frame puts back. Restates ISO/IEC 11756, parameter
--- passing, DO, extrinsic functions, QUIT.
+-- Calls: what formals are bound to, and what the end of a block or of a frame puts back. Restates ISO/IEC 11756,
+-- parameter passing, DO, extrinsic functions, QUIT.
 use Rattle.std.specs.Prelude.{ℕ, suc, Bool, true, false, List, [], ◌∷◌, ◌++◌, drop, Option, Some, None, Ok, Err, slice_get}
 use Rattle.mlk_locks.specs.declared.refusal.Refusal.TheVariants.{NotEnabled}
 use Rattle.mlk_expr.specs.Trees.{ActualTree, Given, ByRef, Missing}

@@ -1,5 +1,5 @@
--- What a step makes of a job, and which choice it asks. Which values and truths are known is this project's own choice: any
--- other is asked for.
+-- What a step makes of a job, and which choice it asks. Which values and truths are known is this project's own choice:
+-- any other is asked for.
 use Rattle.std.specs.Prelude.{ℕ, Bool, true, false, if◌then◌else◌, List, [], ◌∷◌, take, drop, reverse, bytes_eq, codes}
 use Rattle.std.specs.Prelude.{Option, Some, None, Result, Ok, Err}
 use Rattle.mlk_locks.specs.declared.refusal.Refusal.{Refusal}
@@ -61,7 +61,10 @@ abbrev pub is_one : List ℕ → Bool
 is_one v = bytes_eq v (codes "1")
 
 abbrev pub truth_of : Choice → List ℕ → (Bool → Stepped) → Stepped
-truth_of c v f = if is_one v then without_choice c (f true) else if is_zero v then without_choice c (f false) else with_truth c f
+truth_of c v f =
+    if is_one v then without_choice c (f true)
+    else if is_zero v then without_choice c (f false)
+    else with_truth c f
 
 -- the truth of the last value, which is used up
 abbrev pub by_truth : Choice → Job → (Bool → Job → Stepped) → Stepped
@@ -90,7 +93,8 @@ stored name value j = record j { cells = put (look j.bindings name) value j.cell
 
 -- A concrete reference, of subscripts that were computed.
 abbrev pub touch_of : List ℕ → List (List ℕ) → Extent → Access → Touch
-touch_of name subs e a = record { region = record { node = record { root = name; subs = subs }; extent = e }; access = a }
+touch_of name subs e a =
+    record { region = record { node = record { root = name; subs = subs }; extent = e }; access = a }
 
 -- a touch that reads gives any value
 abbrev pub touched : Choice → Access → Job → List Task → Stepped

@@ -49,7 +49,8 @@ block_parts (line head block rest) = task.Block (line head block rest) ∷ []
 
 -- JOB evaluates its actuals: the job that it starts is another one
 abbrev pub job_parts : CallTree → List Task
-job_parts (Called column callee given) = each_actual (given_in given) ++ Drop (length (each_actual (given_in given))) ∷ []
+job_parts (Called column callee given) =
+    each_actual (given_in given) ++ Drop (length (each_actual (given_in given))) ∷ []
 
 abbrev pub if_parts : Tree → List Task
 if_parts t = Evaluate t ∷ task.SetTest ∷ task.SkipIf false ∷ []
@@ -86,7 +87,8 @@ in_time None = []
 in_time (Some timeout) = task.AskTest ∷ []
 
 abbrev pub read_into : VariableTree → Option Tree → Option Tree → List Task
-read_into v most timeout = in_variable v ++ evaluated_if most ++ evaluated_if timeout ++ AskValue (count_in v) ∷ store_last v
+read_into v most timeout =
+    in_variable v ++ evaluated_if most ++ evaluated_if timeout ++ AskValue (count_in v) ∷ store_last v
     ++ in_time timeout
 
 abbrev pub read_parts : ReadTree → List Task

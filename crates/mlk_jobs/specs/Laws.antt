@@ -51,10 +51,11 @@ abbrev pub goes : List RoutineTree → (LockName → Bool) → ℕ → Job → S
 goes routines free zero j = Ok j
 goes routines free (suc n) j = and_then (goes routines free n) (go routines free choice.None j)
 
--- A job that goes on by itself makes so many steps, whatever names are free; it stops where its next task is not silent,
--- or all steps that it may make were made.
+-- A job that goes on by itself makes so many steps, whatever names are free; it stops where its next task is not
+-- silent, or all steps that it may make were made.
 pub record Settles (routines : List RoutineTree) (most : ℕ) (j : Job) : Type 0 where
-  pub by_steps : (free : LockName → Bool) → goes routines free (settled routines most j).1 j ≡ Ok (settled routines most j).0
+  pub by_steps : (free : LockName → Bool)
+      → goes routines free (settled routines most j).1 j ≡ Ok (settled routines most j).0
   pub stops : (state routines (settled routines most j).0 ≡ Silent → ⊥) ⊎ ((settled routines most j).1 ≡ most)
 
 abbrev pub SettlesBySteps : Type 0

@@ -1,5 +1,5 @@
--- Lines, their commands, FOR, and what is skipped or quit. Restates ISO/IEC 11756, line structure, FOR, IF, ELSE, QUIT; that
--- a job does not go on to a line with a formal list is this project's own choice.
+-- Lines, their commands, FOR, and what is skipped or quit. Restates ISO/IEC 11756, line structure, FOR, IF, ELSE, QUIT;
+-- that a job does not go on to a line with a formal list is this project's own choice.
 use Rattle.std.specs.Prelude.{ℕ, Bool, true, false, ◌||◌, if◌then◌else◌, List, [], ◌∷◌, ◌++◌, Option, Some, None, Ok, Err}
 use Rattle.mlk_locks.specs.declared.refusal.Refusal.TheVariants.{NotEnabled}
 use Rattle.mlk_expr.specs.Trees.{Tree, Choices, no_choices, choice}
@@ -78,7 +78,8 @@ next_line ((LineHead n level end label (Some formals) commands, block) ∷ lines
 -- The commands of a line: a command, after its postconditional if it has one; a FOR with all that is left of the line.
 abbrev pub command_parts : LineTrees → CommandTree → List Task
 command_parts block (Does column None action) = action_parts block action
-command_parts block (Does column (Some condition) action) = task.Evaluate condition ∷ task.Conditionally action block ∷ []
+command_parts block (Does column (Some condition) action) =
+    task.Evaluate condition ∷ task.Conditionally action block ∷ []
 
 abbrev pub for_parts : Option ControlTree → CommandTrees → LineTrees → Task
 for_parts None rest block = Forever rest block

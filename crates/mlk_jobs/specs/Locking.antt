@@ -1,5 +1,5 @@
--- What LOCK does once its subscripts were computed. Restates ISO/IEC 11756, LOCK; that a name which stands in one argument
--- several times counts so often, and the greatest count, are this project's own choice.
+-- What LOCK does once its subscripts were computed. Restates ISO/IEC 11756, LOCK; that a name which stands in one
+-- argument several times counts so often, and the greatest count, are this project's own choice.
 use Rattle.std.specs.Prelude.{ℕ, ◌+◌, Bool, true, false, ◌&&◌, List, [], ◌∷◌, take, drop, Ok, Err}
 use Rattle.std.specs.List.{list_all}
 use Rattle.mlk_text.specs.declared.root.Root.{Root}

@@ -14,8 +14,8 @@ use Rattle.mlk_routine.specs.Trees.{VariableTree, TargetTree, ActionTree, Comman
 use Rattle.mlk_jobs.specs.Bindings.{Names, Bindings, Cells}
 use Rattle.mlk_locks.specs.Counts.{Counts}
 
--- What a frame owes: one that a job or DO begins gives no value; one of `$$` gives a value and puts `$TEST` back, and has
--- its value already where QUIT had an argument.
+-- What a frame owes: one that a job or DO begins gives no value; one of `$$` gives a value and puts `$TEST` back, and
+-- has its value already where QUIT had an argument.
 pub data Frame : Type 0 where
   NoValue : Frame
   AwaitsValue : (test : Bool) → Frame
@@ -38,7 +38,8 @@ pub data Task : Type 0 where
   AskValue : (count : ℕ) → Task
   -- so many values are not used
   Drop : (count : ℕ) → Task
-  -- `$SELECT`: its conditions from here on; the value beside a condition that was evaluated, and the conditions after it
+  -- `$SELECT`: its conditions from here on; the value beside a condition that was evaluated, and the conditions after
+  -- it
   Select : (choices : Choices) → Task
   Selected : (value : Tree) → (others : Choices) → Task
   -- a global whose subscripts, so many, were evaluated; and the reference itself, which is touched in one step
@@ -53,7 +54,8 @@ pub data Task : Type 0 where
   -- SET: the targets, whose subscripts and arguments were evaluated before the value; MERGE: both sides
   Assign : (targets : List TargetTree) → Task
   Merge : (target source : VariableTree) → Task
-  -- Conditions. `$TEST` is set by the last value, or by a choice; the rest of the line is skipped where `$TEST` is this.
+  -- Conditions. `$TEST` is set by the last value, or by a choice; the rest of the line is skipped where `$TEST` is
+  -- this.
   SetTest : Task
   AskTest : Task
   SkipIf : (test : Bool) → Task
@@ -73,17 +75,20 @@ pub data Task : Type 0 where
   RunCommands : (commands : CommandTrees) → (block : LineTrees) → Task
   -- FOR: the parameters that are left; each round of one without an argument; the next value of one without a limit;
   -- whether a first round, or a later one, is run where there is a limit
-  Parameters : (variable : List ℕ) → (parameters : List ParameterTree) → (rest : CommandTrees) → (block : LineTrees) → Task
+  Parameters : (variable : List ℕ) → (parameters : List ParameterTree) → (rest : CommandTrees) → (block : LineTrees)
+      → Task
   Forever : (rest : CommandTrees) → (block : LineTrees) → Task
   NextValue : (variable : List ℕ) → (rest : CommandTrees) → (block : LineTrees) → Task
-  FirstRound : (variable : List ℕ) → (parameters : List ParameterTree) → (rest : CommandTrees) → (block : LineTrees) → Task
-  LaterRound : (variable : List ℕ) → (parameters : List ParameterTree) → (rest : CommandTrees) → (block : LineTrees) → Task
+  FirstRound : (variable : List ℕ) → (parameters : List ParameterTree) → (rest : CommandTrees) → (block : LineTrees)
+      → Task
+  LaterRound : (variable : List ℕ) → (parameters : List ParameterTree) → (rest : CommandTrees) → (block : LineTrees)
+      → Task
   -- The ends of what a job is in. QUIT and HALT cut the tasks.
   QuitHere : Task
   QuitWithValue : Task
   HaltJob : Task
-  -- The end of a block, and of a frame: the bindings, the first unused generation, `$TEST` and the routine, counted from
-  -- 0, as they were at its begin.
+  -- The end of a block, and of a frame: the bindings, the first unused generation, `$TEST` and the routine, counted
+  -- from 0, as they were at its begin.
   EndBlock : (back : Bindings) → (next : ℕ) → (test : Bool) → Task
   EndFrame : (frame : Frame) → (back : Bindings) → (next routine : ℕ) → Task
 

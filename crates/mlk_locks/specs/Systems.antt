@@ -103,7 +103,8 @@ acts_of k [] = []
 acts_of k (e ∷ es) = if e.job == k then e.act ∷ acts_of k es else acts_of k es
 
 -- A lone run from its begin, of a job with this number.
-pub record IsLone {J C E : Type 0} (m : Machine J C E) (k : ℕ) (begins : Act C E) (acts : List (Act C E)) (j : J) : Type 0 where
+pub record IsLone {J C E : Type 0} (m : Machine J C E) (k : ℕ) (begins : Act C E) (acts : List (Act C E)) (j : J)
+    : Type 0 where
   pub entry : E
   pub test : Bool
   pub values : List (List ℕ)
