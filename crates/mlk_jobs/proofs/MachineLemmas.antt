@@ -26,7 +26,7 @@ use Rattle.mlk_jobs.specs.Lines.{to_end, chosen, tasks_if}
 use Rattle.mlk_jobs.specs.Calling.{frame_of, called_if, lines_after}
 use Rattle.mlk_jobs.specs.Advance.{advance}
 use Rattle.mlk_jobs.specs.Runs.{blank, by_value, formals_at, begun, aborted, seen, machine}
-use Rattle.mlk_jobs.specs.Laws.{HeldApart, OneRunOfMany, LeavingOut, RingsAreFound, EndedStays}
+use Rattle.mlk_jobs.specs.Laws.{HeldApart, OneRunOfMany, LeavingOut, ChangesOne, RingsAreFound, EndedStays}
 use Rattle.mlk_jobs.proofs.StepLemmas.{Keeps, when_done, same, refused, unasked, of_value, of_truth, of_last, of_condition, of_result}
 use Rattle.mlk_jobs.proofs.StepLemmas.{of_fetch, of_touch, of_select, of_choice, of_line, of_entered, of_call, of_call_if, of_answer, of_answer_held, of_end, of_claim, of_release, of_release_all}
 
@@ -202,6 +202,9 @@ one_run_of_many routines declared = systems.one_run_of_many (machine routines de
 
 pub leaving_out : LeavingOut
 leaving_out routines declared = leaving.leaving_out (machine routines declared) (is_machine routines declared)
+
+pub changes_one : ChangesOne
+changes_one routines declared = leaving.changes_one (machine routines declared) (is_machine routines declared)
 
 pub rings_found : RingsAreFound
 rings_found = waiting.rings_are_found seen

@@ -77,6 +77,7 @@ takes_name function.Query = true
 takes_name function.Name = true
 takes_name _ = false
 
+-- A local is not touched, so a function of one asks for one value, after all its arguments; a function of values too.
 abbrev pub function_parts : Function → Bool → Trees → List Task
 function_parts f true (tree (GlobalName column name subs) more) = of_global f name subs more
 function_parts f true (tree (LocalName name subs) more) =

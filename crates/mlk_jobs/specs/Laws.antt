@@ -29,6 +29,10 @@ OneRunOfMany = (routines : List RoutineTree) (declared : EntryId → Bool) → a
 abbrev pub LeavingOut : Type 0
 LeavingOut = (routines : List RoutineTree) (declared : EntryId → Bool) → any.LeavingOut (machine routines declared)
 
+-- An event of one job leaves all others as they were.
+abbrev pub ChangesOne : Type 0
+ChangesOne = (routines : List RoutineTree) (declared : EntryId → Bool) → any.ChangesOne (machine routines declared)
+
 -- The test for rings finds one exactly where there is one.
 abbrev pub RingsAreFound : Type 0
 RingsAreFound = any.RingsAreFound seen

@@ -1,6 +1,6 @@
 // What every run keeps to.
 
-ghost use Rattle.mlk_jobs.specs.Laws.{HeldApart, OneRunOfMany, LeavingOut, RingsAreFound, EndedStays, FoldsAgree, SettlesBySteps};
+ghost use Rattle.mlk_jobs.specs.Laws.{HeldApart, OneRunOfMany, LeavingOut, ChangesOne, RingsAreFound, EndedStays, FoldsAgree, SettlesBySteps};
 
 /// In every run, no job holds a lock that conflicts with one that another job holds.
 pub fn held_apart()
@@ -15,6 +15,11 @@ pub fn one_run_of_many()
 /// A run without the events of one job is a run of the others.
 pub fn leaving_out()
     ensures { LeavingOut }
+{}
+
+/// An event of one job leaves all others as they were.
+pub fn changes_one()
+    ensures { ChangesOne }
 {}
 
 /// The test for rings finds one exactly where there is one.

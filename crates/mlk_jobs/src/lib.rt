@@ -6,6 +6,6 @@ mod law;
 
 pub use choice::Choice;
 pub use law::{
-    ended_stays, folds_agree, held_apart, leaving_out, one_run_of_many, rings_are_found,
-    settles_by_steps,
+    changes_one, ended_stays, folds_agree, held_apart, leaving_out, one_run_of_many,
+    rings_are_found, settles_by_steps,
 };

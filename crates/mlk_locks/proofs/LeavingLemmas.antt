@@ -8,7 +8,7 @@ use Rattle.mlk_locks.specs.declared.refusal.Refusal.{Refusal}
 use Rattle.mlk_locks.specs.declared.refusal.Refusal.TheVariants.{NotEnabled}
 use Rattle.mlk_locks.specs.Counts.{excludes}
 use Rattle.mlk_locks.specs.Systems.{Machine, IsMachine, Act, Begin, Go, Abort, Event, and_then, number, is_free, is_used, changed, joined, happens, after}
-use Rattle.mlk_locks.specs.Laws.{others, without, LeavingOut}
+use Rattle.mlk_locks.specs.Laws.{others, without, LeavingOut, ChangesOne}
 use Rattle.mlk_locks.proofs.Answered.{done_then}
 
 any_filter : {X : Type 0} (p q : X → Bool) (xs : List X) → list_any p xs ≡ false → list_any p (filter q xs) ≡ false
@@ -145,3 +145,6 @@ module _ {J C E : Type 0} (m : Machine J C E) (is : IsMachine m) (k : ℕ) where
 
 pub leaving_out : {J C E : Type 0} (m : Machine J C E) → IsMachine m → LeavingOut m
 leaving_out m is events jobs h k = left_out m is k events [] jobs h
+
+pub changes_one : {J C E : Type 0} (m : Machine J C E) → IsMachine m → ChangesOne m
+changes_one m is k act jobs later h = own_event m is k act jobs later h

@@ -7,7 +7,7 @@ use Rattle.mlk_locks.specs.NameTests.{is_above, in_conflict, same_name}
 use Rattle.mlk_locks.specs.Counts.{Counts, count_of, raised, lowered, excludes}
 use Rattle.mlk_locks.specs.Rings.{HasRing, has_ring}
 use Rattle.mlk_locks.specs.Waiting.{View, Holds, WaitsFor, waits}
-use Rattle.mlk_locks.specs.Systems.{Machine, Event, number, after, IsAlone}
+use Rattle.mlk_locks.specs.Systems.{Machine, Act, Event, number, happens, after, IsAlone}
 
 -- The tests of names say what the relations say.
 pub record NamesTested : Type 0 where
@@ -77,3 +77,9 @@ abbrev pub LeavingOut : {J C E : Type 0} → Machine J C E → Type 0
 LeavingOut {J} {C} {E} m =
     (events : List (Event C E)) (jobs : List J) → after m events [] ≡ Ok jobs
     → (k : ℕ) → after m (without k events) [] ≡ Ok (others m k jobs)
+
+-- An event of one job leaves all others, in their order, as they were.
+abbrev pub ChangesOne : {J C E : Type 0} → Machine J C E → Type 0
+ChangesOne {J} {C} {E} m =
+    (k : ℕ) (act : Act C E) (jobs later : List J) → happens m jobs k act ≡ Ok later
+    → others m k later ≡ others m k jobs
