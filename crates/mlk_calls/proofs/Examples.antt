@@ -55,11 +55,11 @@ scope mods low drops = record {
   routines = [];
   own = 0;
   rules = record { families = family x 10 ∷ family (codes "LOG") 20 ∷ []; covers = []; private = []; readonly = []; entries = [] };
-  summary_of = λ e. None;
-  is_declared = λ e. false;
+  summaries = [];
+  declared_entries = [];
   summary = summary [] [] mods low drops;
   declared = false;
-  listed = λ line round. [];
+  points = [];
   is_shared = λ own name. false;
 }
 

@@ -4,5 +4,6 @@ pub mod Passing
 pub mod Folded
 pub mod ExprTrees
 pub mod EntryTables
+pub mod CallSteps
 pub mod CaseTests
 pub mod Examples

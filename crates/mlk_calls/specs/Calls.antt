@@ -19,7 +19,7 @@ use Rattle.mlk_cert.specs.declared.names.NameSet.{NameSet}
 use Rattle.mlk_cert.specs.declared.names.NameSet.TheVariants.{Only}
 use Rattle.mlk_cert.specs.declared.block.Summary.{Summary}
 use Rattle.mlk_calls.specs.Lists.{all_some}
-use Rattle.mlk_calls.specs.Terms.{put_all, all_taken, rank_of, put_terms}
+use Rattle.mlk_calls.specs.Terms.{put_all, all_taken, first_missing, rank_of, put_terms}
 use Rattle.mlk_calls.specs.Cases.{holds_some}
 use Rattle.mlk_calls.specs.declared.state.State.{State}
 use Rattle.mlk_calls.specs.declared.call.Target.{Target}
@@ -27,7 +27,7 @@ use Rattle.mlk_calls.specs.declared.call.Calling.{Calling}
 use Rattle.mlk_calls.specs.declared.call.Calling.TheVariants.{ByDo, Extrinsic}
 use Rattle.mlk_calls.specs.States.{last_captured, without_last}
 use Rattle.mlk_calls.specs.Claims.{is_low_enough}
-use Rattle.mlk_calls.specs.Scope.{Scope}
+use Rattle.mlk_calls.specs.Scope.{Scope, summary_for, begins_jobs}
 use Rattle.mlk_calls.specs.Changes.{marked, changed_state, change_fault, unless}
 
 -- DO of a label leaves `$TEST` as the callee does, an extrinsic function keeps it
@@ -53,7 +53,7 @@ formals_in (Some l) = given (formals_of l.0)
 
 abbrev pub called_entry : Scope → EntryId → Option Called
 called_entry sc e = option_map
-    (λ summary. record { formals = formals_in (line_of_entry sc.routines e); summary = summary }) (sc.summary_of e)
+    (λ summary. record { formals = formals_in (line_of_entry sc.routines e); summary = summary }) (summary_for sc e)
 
 -- none where the entry has no certificate
 abbrev pub called : Scope → Callee → Option Called
@@ -146,10 +146,27 @@ abbrev pub at_call : Scope → Calling → Callee → List ActualTree → State 
 at_call sc how callee given s =
     call_known sc how (called sc callee) given (last_captured (length given) s) (without_last (length given) s)
 
+-- What would mend a refused call: the callee's summary, none without a certificate; the names that it may change; and
+-- the first of its needs, as the caller has it, that is not held.
+abbrev pub callee_summary : Scope → Callee → Option Summary
+callee_summary sc callee = option_map (λ (c : Called). c.summary) (called sc callee)
+
+abbrev pub changes_by : Option Summary → List ActualTree → List NameSet
+changes_by None given = []
+changes_by (Some summary) given = changes summary given
+
+abbrev pub missing_by : Option Called → List Sym → List LockTerm → Option LockTerm
+missing_by None actuals held = None
+missing_by (Some callee) actuals held = option_and_then (λ needs. first_missing needs held)
+    (put_terms callee.formals (map Some actuals) callee.summary.need)
+
+abbrev pub missing_need : Scope → Callee → List ActualTree → State → Option LockTerm
+missing_need sc callee given s = missing_by (called sc callee) (last_captured (length given) s) s.case.held
+
 -- JOB with this list of actuals, whose symbols were captured last: 713 unless the entry is declared.
 abbrev pub is_begun : Scope → Option EntryId → Bool
 is_begun sc None = false
-is_begun sc (Some e) = sc.is_declared e
+is_begun sc (Some e) = begins_jobs sc e
 
 abbrev pub at_job : Scope → Callee → List ActualTree → State → Result State Code
 at_job sc callee given s =

@@ -1,6 +1,6 @@
 -- What a change of locals makes of a state. Standard: SET, KILL, READ, FOR, MERGE; that no held lock's name may change,
 -- and which names a summary lists, are this project's own choice.
-use Rattle.std.specs.Prelude.{not, if◌then◌else◌, List, map, Option, Some, None, Result, Ok, Err}
+use Rattle.std.specs.Prelude.{not, if◌then◌else◌, List, map, filter, Option, Some, None, Result, Ok, Err}
 use Rattle.std.specs.List.{list_all}
 use Rattle.mlk_text.specs.declared.code.Code.{Code}
 use Rattle.mlk_text.specs.declared.code.Code.TheVariants.{Pinned, SummaryShort}
@@ -43,3 +43,7 @@ unless (Some code) after = Err code
 
 abbrev pub change : Scope → List NameSet → State → Result State Code
 change sc changed s = unless (change_fault sc changed s) (Ok (changed_state changed s))
+
+-- the names that the walked entry's summary lacks for a change: those that are neither own nor listed
+abbrev pub short_names : Scope → List NameSet → State → List NameSet
+short_names sc changed s = filter (λ n. not (may_change s.case.own sc.summary.mods n)) changed

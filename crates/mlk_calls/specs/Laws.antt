@@ -4,6 +4,8 @@ use Rattle.mlk_text.specs.declared.operator.Op.{Op}
 use Rattle.mlk_text.specs.declared.operator.UnaryOp.{UnaryOp}
 use Rattle.mlk_text.specs.Folding.{IsFold, IsUnaryFold}
 use Rattle.mlk_names.specs.declared.term.LockTerm.{LockTerm}
+use Rattle.mlk_routine.specs.Trees.{RoutineTree}
+use Rattle.mlk_cert.specs.declared.block.EntryCert.{EntryCert}
 use Rattle.mlk_coverage.specs.declared.family.Family.{Family}
 use Rattle.mlk_coverage.specs.Ranks.{HasRank, FamiliesApart}
 use Rattle.mlk_cert.specs.declared.case.Case.{Case}
@@ -13,6 +15,7 @@ use Rattle.mlk_calls.specs.Values.{fold_between, fold_before}
 use Rattle.mlk_calls.specs.Terms.{same_term, rank_of}
 use Rattle.mlk_calls.specs.Cases.{same_case, includes}
 use Rattle.mlk_calls.specs.States.{same_state}
+use Rattle.mlk_calls.specs.Scope.{AreEntries, certified, declared}
 
 -- A case includes another where the relation says so.
 abbrev pub IncludesDecides : Type 0
@@ -32,3 +35,8 @@ RankIs = (families : List Family) (t : LockTerm) (k : ℕ) → FamiliesApart fam
 pub record FoldsAre : Type 0 where
   pub between : (op : Op) (a b text : List ℕ) → (fold_between op a b ≡ Some text) ↔ IsFold op a b text
   pub before : (op : UnaryOp) (a text : List ℕ) → (fold_before op a ≡ Some text) ↔ IsUnaryFold op a text
+
+-- The tables of entries say of each entry what its first block and the rules say.
+abbrev pub TablesAre : Type 0
+TablesAre = (routines : List RoutineTree) (blocks : List EntryCert) (texts : List (List ℕ))
+    → AreEntries routines blocks texts (certified routines blocks, declared routines texts)

@@ -4,6 +4,7 @@ pub mod Lists
 pub mod Terms
 pub mod Cases
 pub mod States
+pub mod Refusals
 pub mod Scope
 pub mod Entries
 pub mod Symbols

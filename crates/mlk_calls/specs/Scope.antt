@@ -1,5 +1,6 @@
 -- What the walk of an entry's lines is given. This project's own choice.
-use Rattle.std.specs.Prelude.{ℕ, ◌≡◌, Bool, ◌&&◌, ◌==◌, false, if◌then◌else◌, List, [], ◌∷◌, map, find, Option, Some, None, option_map}
+use Rattle.std.specs.Prelude.{ℕ, ◌≡◌, Bool, ◌&&◌, ◌==◌, not, false, if◌then◌else◌, List, [], ◌∷◌, map, find, filter, filter_map}
+use Rattle.std.specs.Prelude.{Option, Some, None, option_map}
 use Rattle.std.specs.List.{list_any}
 use Rattle.mlk_routine.specs.Trees.{RoutineTree}
 use Rattle.mlk_program.specs.declared.entry.EntryId.{EntryId}
@@ -46,21 +47,7 @@ cases_of (Some p) = p.cases
 abbrev pub listed_at : List Point → ℕ → ℕ → List Case
 listed_at points number round = cases_of (find (is_at number round) points)
 
--- the program's routines and which of them, from 0, is walked; the rules; the summary of each certified entry, and which
--- entries are declared; the walked entry's own summary, and whether it is declared; the cases that its certificate lists
--- at a line and round; and which names are shared in a frame with these names of its own
-pub record Scope : Type 0 where
-  pub routines : List RoutineTree
-  pub own : ℕ
-  pub rules : RuleLists
-  pub summary_of : EntryId → Option Summary
-  pub is_declared : EntryId → Bool
-  pub summary : Summary
-  pub declared : Bool
-  pub listed : ℕ → ℕ → List Case
-  pub is_shared : List Own → List ℕ → Bool
-
--- what is known of entries: the summaries of those that are certified, and those that are declared
+-- what is known of entries, in two tables: the summaries of those that are certified, and those that are declared
 abbrev pub summary_at : List (EntryId × Summary) → EntryId → Option Summary
 summary_at [] e = None
 summary_at (s ∷ summaries) e = if same_entry e s.0 then Some s.1 else summary_at summaries e
@@ -68,20 +55,73 @@ summary_at (s ∷ summaries) e = if same_entry e s.0 then Some s.1 else summary_
 abbrev pub has_entry : List EntryId → EntryId → Bool
 has_entry entries e = list_any (same_entry e) entries
 
+-- the first item of each entry, in their order
+abbrev pub firsts : {A : Type 0} → (A → EntryId) → List A → List A
+firsts entry [] = []
+firsts entry (a ∷ items) = a ∷ filter (λ b. not (same_entry (entry a) (entry b))) (firsts entry items)
+
+-- The certified entries in the order of their blocks, each with the summary of its first block; a block that names no
+-- entry is left out.
+abbrev pub summary_in : List RoutineTree → EntryCert → Option (EntryId × Summary)
+summary_in routines b = option_map (λ e. (e, b.summary)) (entry_by routines b.entry)
+
+unfoldable pub certified : List RoutineTree → List EntryCert → List (EntryId × Summary)
+certified routines blocks = firsts (λ p. p.0) (filter_map (summary_in routines) blocks)
+
+-- the declared entries in the order of the rules, each once; a text that names no entry is left out
+unfoldable pub declared : List RoutineTree → List (List ℕ) → List EntryId
+declared routines texts = firsts (λ e. e) (filter_map (entry_by routines) texts)
+
+-- that the tables say of each entry what its block and the rules say
 pub record AreEntries (routines : List RoutineTree) (blocks : List EntryCert) (texts : List (List ℕ)) (found : List (EntryId × Summary) × List EntryId) : Type 0 where
   pub certified : (e : EntryId) → summary_at found.0 e ≡ summary_of routines blocks e
   pub declared : (e : EntryId) → has_entry found.1 e ≡ is_declared routines texts e
 
--- the scope of the code's value; which names are shared is one of the program's facts, whatever names are own
-abbrev pub scope_of : GivenScope → Scope
-scope_of g = record {
-  routines = map routine_of g.program.now;
-  own = g.routine;
-  rules = g.rules.now;
-  summary_of = summary_at g.entries.now.0;
-  is_declared = has_entry g.entries.now.1;
-  summary = g.block.now.summary;
-  declared = g.declared;
-  listed = listed_at g.block.now.points;
-  is_shared = λ own name. is_shared (map routine_of g.program.now) name;
+-- the program's routines and which of them, from 0, is walked; the rules; the certified entries with their summaries, and
+-- the declared ones; the walked entry's own summary, whether it is declared, and its points; and which names are shared
+-- in a frame with these names of its own
+pub record Scope : Type 0 where
+  pub routines : List RoutineTree
+  pub own : ℕ
+  pub rules : RuleLists
+  pub summaries : List (EntryId × Summary)
+  pub declared_entries : List EntryId
+  pub summary : Summary
+  pub declared : Bool
+  pub points : List Point
+  pub is_shared : List Own → List ℕ → Bool
+
+-- the summary of a certified entry; whether a job may begin at an entry; the cases listed at a line and round
+abbrev pub summary_for : Scope → EntryId → Option Summary
+summary_for sc e = summary_at sc.summaries e
+
+abbrev pub begins_jobs : Scope → EntryId → Bool
+begins_jobs sc e = has_entry sc.declared_entries e
+
+abbrev pub listed : Scope → ℕ → ℕ → List Case
+listed sc number round = listed_at sc.points number round
+
+-- The scope of an entry and of the block that is believed of it. Which names are shared is one of the program's facts,
+-- whatever names are own.
+abbrev pub scope_with :
+    List RoutineTree → RuleLists → List (EntryId × Summary) × List EntryId → EntryId → EntryCert → Scope
+scope_with routines rules entries e b = record {
+  routines = routines;
+  own = e.routine;
+  rules = rules;
+  summaries = entries.0;
+  declared_entries = entries.1;
+  summary = b.summary;
+  declared = has_entry entries.1 e;
+  points = b.points;
+  is_shared = λ own name. is_shared routines name;
 }
+
+-- by what a program, its rules and its certificate say
+abbrev pub entry_scope : List RoutineTree → RuleLists → List EntryCert → EntryId → EntryCert → Scope
+entry_scope routines rules blocks e b =
+    scope_with routines rules (certified routines blocks, declared routines rules.entries) e b
+
+-- the scope of the code's value
+abbrev pub scope_of : GivenScope → Scope
+scope_of g = scope_with (map routine_of g.program.now) g.rules.now g.entries.now g.entry g.block.now

@@ -1,6 +1,6 @@
 -- Lists of held lock terms, as often as each is held. Standard: LOCK (a name that is claimed again counts once more);
 -- their order in the list, and ranks, are this project's own choice.
-use Rattle.std.specs.Prelude.{ℕ, Bool, true, false, ◌&&◌, List, [], ◌∷◌, map, insert, remove, position, Option, Some, option_map, option_and_then, find}
+use Rattle.std.specs.Prelude.{ℕ, Bool, true, false, ◌&&◌, List, [], ◌∷◌, map, insert, remove, position, Option, Some, None, option_map, option_and_then, find}
 use Rattle.std.specs.List.{list_any}
 use Rattle.mlk_names.specs.declared.symbol.Sym.{Sym}
 use Rattle.mlk_names.specs.declared.known_symbol.KnownSym.{KnownSym}
@@ -40,6 +40,15 @@ taken t held = option_map (remove held) (position (same_term t) held)
 abbrev pub all_taken : List LockTerm → List LockTerm → Option (List LockTerm)
 all_taken [] held = Some held
 all_taken (t ∷ ts) held = option_and_then (all_taken ts) (taken t held)
+
+-- the first of these that is not held besides those before it
+abbrev pub missing_at : LockTerm → Option (Option LockTerm) → Option LockTerm
+missing_at t None = Some t
+missing_at t (Some later) = later
+
+abbrev pub first_missing : List LockTerm → List LockTerm → Option LockTerm
+first_missing [] held = None
+first_missing (t ∷ ts) held = missing_at t (option_map (first_missing ts) (taken t held))
 
 -- whether a subscript is a local whose name is such
 abbrev pub is_such : (List ℕ → Bool) → KnownSym → Bool

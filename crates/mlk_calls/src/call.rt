@@ -5,17 +5,18 @@ ghost use Rattle.mlk_text.specs.Failures.{Answers};
 ghost use Rattle.mlk_expr.specs.Trees.{actual_of, actual_trees};
 ghost use Rattle.mlk_routine.specs.Views.{line_of};
 ghost use Rattle.mlk_calls.specs.Lists.{all_some};
+ghost use Rattle.mlk_calls.specs.Refusals.{AnswersOf};
 ghost use Rattle.mlk_calls.specs.Terms.{put_term, put_terms, put_all};
 ghost use Rattle.mlk_calls.specs.Changes.{marked};
 ghost use Rattle.mlk_calls.specs.Scope.{scope_of};
 ghost use Rattle.mlk_calls.specs.States.{last_captured, without_last};
 ghost use Rattle.mlk_calls.specs.Changes.{changed_state};
-ghost use Rattle.mlk_calls.specs.Calls.{Called, formals_in, called, lent_set, changes, ranks_below, all_below, leave, after_call, ranks_fault, call_fault, set_aside, call_changing, at_call, at_job, test_after, called_of};
+ghost use Rattle.mlk_calls.specs.Calls.{Called, formals_in, called, lent_set, changes, callee_summary, changes_by, missing_need, ranks_below, all_below, leave, after_call, ranks_fault, call_fault, set_aside, call_changing, at_call, at_job, test_after, called_of};
 
 use crate::changing::{change_fault, changed_case, mark_all};
 use crate::claim::is_low_enough;
 use crate::scope::Scope;
-use crate::state::{State, before_last, copy_case, last_of};
+use crate::state::{Refusal, State, before_last, copy_case, last_of};
 use crate::term::{copies, put_all, rank, take_all};
 use mlk_cert::{Case, ExitCase, NameSet, Shared, Summary, Test};
 use mlk_coverage::Rules;
@@ -36,9 +37,9 @@ pub enum Calling {
 
 // What is known of a callee.
 #[derive(Clone, Copy, Drop)]
-struct Target<'a> {
-    formals: &'a [Name],
-    summary: &'a Summary,
+pub(crate) struct Target<'a> {
+    pub(crate) formals: &'a [Name],
+    pub(crate) summary: &'a Summary,
 }
 
 fn formals_of<'a>(line: Option<&'a Line>) -> &'a [Name]
@@ -54,10 +55,10 @@ fn formals_of<'a>(line: Option<&'a Line>) -> &'a [Name]
 }
 
 // What is known of a callee that has a certificate.
-fn called<'a>(scope: &Scope<'a>, callee: &Callee) -> Option<Target<'a>>
+pub(crate) fn called<'a>(scope: &Scope<'a>, callee: &Callee) -> Option<Target<'a>>
     ensures { option_map called_of result ≡ called (scope_of scope.now) callee.now }
 {
-    let entry = scope.program.target(scope.routine, callee)?;
+    let entry = scope.program.target(scope.entry.routine(), callee)?;
     let summary = scope.entries.summary(entry)?;
     let formals = formals_of(scope.program.line(entry));
     Some(Target { formals, summary })
@@ -77,7 +78,7 @@ fn add_lent(names: &mut Vec<NameSet>, actual: &Actual) -> Result<(), AllocError>
 }
 
 // The names that actuals pass by reference.
-fn lent(alloc: Global, given: &[Actual]) -> Result<Vec<NameSet>, AllocError>
+pub(crate) fn lent(alloc: Global, given: &[Actual]) -> Result<Vec<NameSet>, AllocError>
     ensures { IfOk result (λ v. v.items ≡ flat_map lent_set (actual_trees given.now)) }
 {
     let mut names = Vec::new(alloc);
@@ -87,7 +88,11 @@ fn lent(alloc: Global, given: &[Actual]) -> Result<Vec<NameSet>, AllocError>
     Ok(names)
 }
 
-fn changes(alloc: Global, mods: &[NameSet], lent: Vec<NameSet>) -> Result<Vec<NameSet>, AllocError>
+pub(crate) fn changes(
+    alloc: Global,
+    mods: &[NameSet],
+    lent: Vec<NameSet>,
+) -> Result<Vec<NameSet>, AllocError>
     ensures { IfOk result (λ v. v.items ≡ mods.now ++ lent.items) }
 {
     let mut names = Vec::from_clones(alloc, mods)?;
@@ -96,7 +101,7 @@ fn changes(alloc: Global, mods: &[NameSet], lent: Vec<NameSet>) -> Result<Vec<Na
     Ok(names)
 }
 
-fn passed(alloc: Global, actuals: &[Sym]) -> Result<Vec<Option<Sym>>, AllocError>
+pub(crate) fn passed(alloc: Global, actuals: &[Sym]) -> Result<Vec<Option<Sym>>, AllocError>
     ensures { IfOk result (λ v. v.items ≡ map Some actuals.now) }
 {
     let mut given = Vec::new(alloc);
@@ -119,7 +124,7 @@ fn put_term(
 }
 
 // The callee's terms as its caller has them.
-fn put_terms(
+pub(crate) fn put_terms(
     alloc: Global,
     formals: &[Name],
     given: &[Option<Sym>],
@@ -356,55 +361,88 @@ fn call_changing(
     Ok(states)
 }
 
+// The call of a certified entry with this list of actuals.
+fn call_target(
+    alloc: Global,
+    scope: &Scope,
+    how: Calling,
+    target: &Target,
+    given: &[Actual],
+    state: &State,
+) -> Result<Vec<State>, Failure<Code>>
+    ensures { Answers (λ v. v.items) result (call_changing (scope_of scope.now) how (called_of target.now)
+        (changes target.now.summary.now (actual_trees given.now))
+        (last_captured (length (actual_trees given.now)) state.now)
+        (without_last (length (actual_trees given.now)) state.now)) }
+{
+    let count = given.len();
+    let mods = target.summary.mods.as_slice();
+    let lent = lent(alloc, given)?;
+    if lent.is_empty() {
+        let states = call_changing(alloc, scope, how, target, mods, count, state)?;
+        return Ok(states);
+    }
+    let names = changes(alloc, mods, lent)?;
+    let states = call_changing(alloc, scope, how, target, names.as_slice(), count, state)?;
+    Ok(states)
+}
+
 /// What a call with this list of actuals, whose symbols were captured last, makes of a state: one state for each exit of
-/// the callee.
+/// the callee. An actual whose symbol was not captured is unknown. A DO takes the exit's `$TEST`, a function keeps it;
+/// new names and saved tests stay.
 ///
 /// The callee's needs are taken from what is held, and the rest is set aside. What it may change, by its summary or by
 /// reference, is asked of all that is held, and of the walked entry's summary; its claims rank above what is set aside.
 /// Captured symbols that mention what it may change are unknown then, the actuals too.
+///
+/// Refused by the first of: no certificate (713); a need that would have an unknown subscript (715) or is not held (711);
+/// a change of what a held name mentions (705) or that is not listed (712); the order of ranks (708) or a least rank that
+/// is not listed (712); a release of all locks where some are set aside (719) or that is not listed (712); an exit that
+/// would have an unknown subscript (715). One refused exit refuses all.
 pub fn at_call(
     alloc: Global,
     scope: &Scope,
     how: Calling,
     callee: &Callee,
     given: &[Actual],
-    state: &State,
-) -> Result<Vec<State>, Failure<Code>>
-    ensures { Answers (λ v. v.items) result
-        (at_call (scope_of scope.now) how callee.now (actual_trees given.now) state.now) }
+    state: State,
+) -> Result<Vec<State>, Failure<Refusal>>
+    ensures { AnswersOf state (λ v. v.items) result
+        (at_call (scope_of scope.now) how callee.now (actual_trees given.now) state) }
 {
     let Some(target) = called(scope, callee) else {
-        return Err(Failure::Refused(Code::NoCertificate));
+        return Err(Failure::Refused(Refusal {
+            code: Code::NoCertificate,
+            state,
+        }));
     };
-    let count = given.len();
-    let mods = target.summary.mods.as_slice();
-    let lent = lent(alloc, given)?;
-    if lent.is_empty() {
-        let states = call_changing(alloc, scope, how, &target, mods, count, state)?;
-        return Ok(states);
+    match call_target(alloc, scope, how, &target, given, &state) {
+        Ok(states) => Ok(states),
+        Err(Failure::OutOfMemory) => Err(Failure::OutOfMemory),
+        Err(Failure::Refused(code)) => Err(Failure::Refused(Refusal { code, state })),
     }
-    let names = changes(alloc, mods, lent)?;
-    let states = call_changing(alloc, scope, how, &target, names.as_slice(), count, state)?;
-    Ok(states)
 }
 
-/// What JOB with this list of actuals, whose symbols were captured last, makes of a state: its entry has to be declared.
+/// What JOB with this list of actuals, whose symbols were captured last, makes of a state. It is refused where the entry
+/// is not declared (713).
 pub fn at_job(
-    alloc: Global,
     scope: &Scope,
     callee: &Callee,
     given: &[Actual],
     state: State,
-) -> Result<State, Failure<Code>>
-    ensures { Answers (λ s. s) result
+) -> Result<State, Failure<Refusal>>
+    ensures { AnswersOf state (λ s. s) result
         (at_job (scope_of scope.now) callee.now (actual_trees given.now) state) }
 {
-    let begun = match scope.program.target(scope.routine, callee) {
+    let begun = match scope.program.target(scope.entry.routine(), callee) {
         Some(entry) => scope.entries.is_declared(entry),
         None => false,
     };
     if !begun {
-        return Err(Failure::Refused(Code::NoCertificate));
+        return Err(Failure::Refused(Refusal {
+            code: Code::NoCertificate,
+            state,
+        }));
     }
     Ok(state.without_last(given.len()))
 }

@@ -2,14 +2,14 @@
 
 ghost use Rattle.std.specs.Prelude.{◌≡◌, IfOk, map};
 ghost use Rattle.std.specs.List.{list_all};
-ghost use Rattle.mlk_text.specs.Failures.{Answers};
 ghost use Rattle.mlk_calls.specs.Names.{may_change};
 ghost use Rattle.mlk_calls.specs.Scope.{scope_of};
-ghost use Rattle.mlk_calls.specs.Changes.{marked, without_kept, changed_state, change_fault, change};
+ghost use Rattle.mlk_calls.specs.Changes.{marked, without_kept, changed_state, change_fault, change, short_names};
+ghost use Rattle.mlk_calls.specs.Refusals.{AnswersOf};
 
 use crate::names::{have, may_change, without};
 use crate::scope::Scope;
-use crate::state::State;
+use crate::state::{Refusal, State};
 use crate::term::mention;
 use mlk_cert::{Case, NameSet};
 use mlk_names::Sym;
@@ -64,7 +64,7 @@ pub(crate) fn changed_case(alloc: Global, names: &[NameSet], case: Case) -> Resu
 }
 
 /// The state after a change of names: they lose the values of the call's begin, and captured symbols that mention them
-/// are unknown.
+/// are unknown. It asks nothing: [`change`] does.
 pub fn changed(alloc: Global, names: &[NameSet], state: State) -> Result<State, AllocError>
     ensures { IfOk result (λ s. s ≡ changed_state names.now state) }
 {
@@ -96,18 +96,39 @@ pub(crate) fn change_fault(scope: &Scope, names: &[NameSet], state: &State) -> O
     None
 }
 
-/// What a change of names makes of a state. It is refused where a held term mentions one of them, and where one is neither
-/// new since the call began nor in the walked entry's summary.
+/// What a change of names makes of a state. It is refused by the first of: a held term mentions one of them (705); one is
+/// neither new since the call began nor in the walked entry's summary (712).
 pub fn change(
     alloc: Global,
     scope: &Scope,
     names: &[NameSet],
     state: State,
-) -> Result<State, Failure<Code>>
-    ensures { Answers (λ s. s) result (change (scope_of scope.now) names.now state) }
+) -> Result<State, Failure<Refusal>>
+    ensures { AnswersOf state (λ s. s) result (change (scope_of scope.now) names.now state) }
 {
     if let Some(code) = change_fault(scope, names, &state) {
-        return Err(Failure::Refused(code));
+        return Err(Failure::Refused(Refusal { code, state }));
     }
     Ok(changed(alloc, names, state)?)
+}
+
+/// Those of the names whose change the walked entry's summary would have to list, since they are neither listed there nor
+/// new since the call began: what a 712 of a change wants.
+pub fn short_names(
+    alloc: Global,
+    scope: &Scope,
+    names: &[NameSet],
+    state: &State,
+) -> Result<Vec<NameSet>, AllocError>
+    ensures { IfOk result (λ v. v.items ≡ short_names (scope_of scope.now) names.now state.now) }
+{
+    let own = state.case.own.as_slice();
+    let mods = scope.block.summary.mods.as_slice();
+    let mut short = Vec::new(alloc);
+    for set in names {
+        if !may_change(own, mods, set) {
+            short.push(copy_of(set)?)?;
+        }
+    }
+    Ok(short)
 }

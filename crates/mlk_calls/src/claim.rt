@@ -1,12 +1,12 @@
 // Claims and releases of terms.
 
 ghost use Rattle.std.specs.Prelude.{◌≡◌, IfOk, IfErr, OnOk, Some, None};
-ghost use Rattle.mlk_text.specs.Failures.{Answers};
+ghost use Rattle.mlk_calls.specs.Refusals.{AnswersOf};
 ghost use Rattle.mlk_calls.specs.Scope.{scope_of};
 ghost use Rattle.mlk_calls.specs.Claims.{is_low_enough, all_ranked_below, is_below, order_fault, claim_fault, claim_refused, held_too, release_all, release_one};
 
 use crate::scope::Scope;
-use crate::state::State;
+use crate::state::{Refusal, State};
 use crate::term::{copies, is_within, put_all, rank, take_one};
 use mlk_cert::Shared;
 use mlk_coverage::Rules;
@@ -73,6 +73,9 @@ fn claim_fault(scope: &Scope, held: &[LockTerm], term: &LockTerm, timed: bool) -
 
 /// Whether a state may claim these terms at once, for so long at most or until they are granted; else which of them,
 /// counted from 0, is the first that is refused, and why. It takes no memory.
+///
+/// Each is refused by the first of: no family has it, timed or not (707); and where it is not timed and not at or below a
+/// held one: a held term has no rank or none below its own (708), the walked entry's least rank is above its own (712).
 pub fn may_take(
     scope: &Scope,
     state: &State,
@@ -95,7 +98,8 @@ pub fn may_take(
     Ok(())
 }
 
-/// The state once these terms are granted: they are held too.
+/// The state once these terms are granted: they are held too. It asks nothing: [`may_take`] does. It takes time for each
+/// pair of terms, so a caller that wants no state with more than so many held terms compares the lengths first.
 pub fn claimed(alloc: Global, terms: &[LockTerm], state: State) -> Result<State, AllocError>
     ensures { IfOk result (λ s. s ≡ held_too terms.now state) }
 {
@@ -103,22 +107,28 @@ pub fn claimed(alloc: Global, terms: &[LockTerm], state: State) -> Result<State,
     Ok(state.holding(Shared::new(alloc, held)?))
 }
 
-/// The release of all locks, which the walked entry's summary has to speak of.
-pub fn release_all(alloc: Global, scope: &Scope, state: State) -> Result<State, Failure<Code>>
-    ensures { Answers (λ s. s) result (release_all (scope_of scope.now) state) }
+/// The release of all locks. It is refused where the walked entry's summary does not say that it may drop them (712).
+pub fn release_all(alloc: Global, scope: &Scope, state: State) -> Result<State, Failure<Refusal>>
+    ensures { AnswersOf state (λ s. s) result (release_all (scope_of scope.now) state) }
 {
     if !scope.block.summary.drops {
-        return Err(Failure::Refused(Code::SummaryShort));
+        return Err(Failure::Refused(Refusal {
+            code: Code::SummaryShort,
+            state,
+        }));
     }
     Ok(state.holding(Shared::new(alloc, Vec::new(alloc))?))
 }
 
-/// The release of a term: it is held once less.
-pub fn release_one(alloc: Global, term: &LockTerm, state: State) -> Result<State, Failure<Code>>
-    ensures { Answers (λ s. s) result (release_one term.now state) }
+/// The release of a term: it is held once less. It is refused where it is not held (706).
+pub fn release_one(alloc: Global, term: &LockTerm, state: State) -> Result<State, Failure<Refusal>>
+    ensures { AnswersOf state (λ s. s) result (release_one term.now state) }
 {
     let Some(held) = take_one(copies(alloc, state.case.held.as_slice())?, term) else {
-        return Err(Failure::Refused(Code::NotHeld));
+        return Err(Failure::Refused(Refusal {
+            code: Code::NotHeld,
+            state,
+        }));
     };
     Ok(state.holding(Shared::new(alloc, held)?))
 }

@@ -1,6 +1,6 @@
 // That the tests that definitions make are the relations of the crates below.
 
-ghost use Rattle.mlk_calls.specs.Laws.{IncludesDecides, SameDecides, RankIs, FoldsAre};
+ghost use Rattle.mlk_calls.specs.Laws.{IncludesDecides, SameDecides, RankIs, FoldsAre, TablesAre};
 
 /// The test of inclusion is the relation of cases.
 pub fn includes_decides()
@@ -20,4 +20,9 @@ pub fn rank_is()
 /// What operators make of known texts is the one exact result.
 pub fn folds_are()
     ensures { FoldsAre }
+{}
+
+/// The tables of entries say of each entry what its first block and the rules say.
+pub fn tables_are()
+    ensures { TablesAre }
 {}

@@ -1,15 +1,16 @@
 // What the walk of an entry's lines is given.
 
-ghost use Rattle.std.specs.Prelude.{◌≡◌, [], IfOk, OnOk, map, option_copied};
+ghost use Rattle.std.specs.Prelude.{◌≡◌, ◌++◌, [], IfOk, OnOk, map, filter_map, option_copied};
 ghost use Rattle.mlk_routine.specs.Views.{routine_of};
-ghost use Rattle.mlk_calls.specs.Entries.{GainsSummary, GainsEntry, GainsBlock, GainsText, GainsBlocks, GainsTexts};
-ghost use Rattle.mlk_calls.specs.Scope.{AreEntries, summary_at, has_entry, scope_of};
+ghost use Rattle.mlk_program.specs.Entries.{entry_by};
+ghost use Rattle.mlk_calls.specs.Entries.{further, gained, gained_if};
+ghost use Rattle.mlk_calls.specs.Scope.{certified, declared, firsts, summary_in, summary_at, has_entry, scope_with, scope_of, listed, listed_at};
 
 use indexmap::{IndexMap, IndexSet};
-use mlk_cert::{EntryCert, Summary};
+use mlk_cert::{Case, EntryCert, Own, Point, Summary};
 use mlk_coverage::{Rules, entries};
 use mlk_program::{EntryId, Program};
-use mlk_text::{Name, Value};
+use mlk_text::{LineNumber, Name, Value};
 use std::alloc::{AllocError, Global};
 use std::marker::Model;
 
@@ -43,7 +44,8 @@ impl<'a> Entries<'a> {
 
     // Adds the summary of an entry, where it has none yet.
     fn certify(&mut self, entry: EntryId, summary: &'a Summary) -> Result<(), AllocError>
-        ensures { OnOk result (GainsSummary entry summary.now self.old self.new) }
+        ensures summaries { OnOk result (self.new.0 ≡ gained (λ p. p.0) self.old.0 (entry, summary.now)) }
+        ensures declared { OnOk result (self.new.1 ≡ self.old.1) }
     {
         if self.certified.contains_key(&entry) {
             return Ok(());
@@ -55,14 +57,17 @@ impl<'a> Entries<'a> {
     }
 
     fn declare(&mut self, entry: EntryId) -> Result<(), AllocError>
-        ensures { OnOk result (GainsEntry entry self.old self.new) }
+        ensures declared { OnOk result (self.new.1 ≡ gained (λ e. e) self.old.1 entry) }
+        ensures summaries { OnOk result (self.new.0 ≡ self.old.0) }
     {
         self.declared.insert(entry)?;
         Ok(())
     }
 
     fn certify_block(&mut self, program: &Program, block: &'a EntryCert) -> Result<(), AllocError>
-        ensures { OnOk result (GainsBlock (map routine_of program.now) block.now self.old self.new) }
+        ensures summaries { OnOk result
+            (self.new.0 ≡ gained_if (λ p. p.0) self.old.0 (summary_in (map routine_of program.now) block.now)) }
+        ensures declared { OnOk result (self.new.1 ≡ self.old.1) }
     {
         match program.entry(block.entry.as_bytes()) {
             None => Ok(()),
@@ -71,7 +76,9 @@ impl<'a> Entries<'a> {
     }
 
     fn declare_text(&mut self, program: &Program, text: &Value) -> Result<(), AllocError>
-        ensures { OnOk result (GainsText (map routine_of program.now) text.now self.old self.new) }
+        ensures declared { OnOk result
+            (self.new.1 ≡ gained_if (λ e. e) self.old.1 (entry_by (map routine_of program.now) text.now)) }
+        ensures summaries { OnOk result (self.new.0 ≡ self.old.0) }
     {
         match program.entry(text.as_bytes()) {
             None => Ok(()),
@@ -80,7 +87,9 @@ impl<'a> Entries<'a> {
     }
 
     fn certify_all(&mut self, program: &Program, blocks: &'a [EntryCert]) -> Result<(), AllocError>
-        ensures { OnOk result (GainsBlocks (map routine_of program.now) blocks.now self.old self.new) }
+        ensures summaries { OnOk result (self.new.0 ≡ self.old.0 ++ further (λ p. p.0) self.old.0
+            (firsts (λ p. p.0) (filter_map (summary_in (map routine_of program.now)) blocks.now))) }
+        ensures declared { OnOk result (self.new.1 ≡ self.old.1) }
     {
         let mut left = blocks;
         while let Some((block, others)) = left.split_first() {
@@ -91,7 +100,9 @@ impl<'a> Entries<'a> {
     }
 
     fn declare_all(&mut self, program: &Program, texts: &[Value]) -> Result<(), AllocError>
-        ensures { OnOk result (GainsTexts (map routine_of program.now) texts.now self.old self.new) }
+        ensures declared { OnOk result (self.new.1 ≡ self.old.1 ++ further (λ e. e) self.old.1
+            (firsts (λ e. e) (filter_map (entry_by (map routine_of program.now)) texts.now))) }
+        ensures summaries { OnOk result (self.new.0 ≡ self.old.0) }
     {
         let mut left = texts;
         while let Some((text, others)) = left.split_first() {
@@ -109,7 +120,8 @@ impl<'a> Entries<'a> {
         rules: &Rules,
         blocks: &'a [EntryCert],
     ) -> Result<Entries<'a>, AllocError>
-        ensures { IfOk result (AreEntries (map routine_of program.now) blocks.now rules.now.entries) }
+        ensures certified { IfOk result (λ e. e.0 ≡ certified (map routine_of program.now) blocks.now) }
+        ensures declared { IfOk result (λ e. e.1 ≡ declared (map routine_of program.now) rules.now.entries) }
     {
         let mut found = Entries::new(alloc);
         found.certify_all(program, blocks)?;
@@ -135,21 +147,83 @@ impl<'a> Entries<'a> {
 /// What the walk of an entry's lines is given.
 #[derive(Clone, Copy, Drop)]
 pub struct Scope<'a> {
-    pub program: &'a Program<'a>,
-    pub rules: &'a Rules,
-    pub entries: &'a Entries<'a>,
-    /// Which of the routines is walked, counted from 0.
-    pub routine: usize,
-    /// The first block of the walked entry.
-    pub block: &'a EntryCert,
-    /// Whether the walked entry is declared.
-    pub declared: bool,
+    pub(crate) program: &'a Program<'a>,
+    pub(crate) rules: &'a Rules,
+    pub(crate) entries: &'a Entries<'a>,
+    // the walked entry, and the block that is believed of it
+    pub(crate) entry: EntryId,
+    pub(crate) block: &'a EntryCert,
+}
+
+// The cases of the first point at a line and round.
+fn cases_at(points: &[Point], line: LineNumber, round: u32) -> &[Case]
+    ensures { result.now ≡ listed_at points.now line round }
+{
+    let mut left = points;
+    while let Some((point, others)) = left.split_first() {
+        if point.line == line && point.round == round {
+            return point.cases.as_slice();
+        }
+        left = others;
+    }
+    &[]
 }
 
 impl<'a> Scope<'a> {
-    /// Whether the name is shared. It takes no memory.
-    pub fn is_shared(&self, name: &Name) -> bool
-        ensures { result ≡ (scope_of self.now).is_shared [] name.now }
+    /// What the walk of an entry's lines is given, where this block is believed of it. The entries are those of the same
+    /// program and rules, and of the block's certificate.
+    pub fn of(
+        program: &'a Program<'a>,
+        rules: &'a Rules,
+        entries: &'a Entries<'a>,
+        entry: EntryId,
+        block: &'a EntryCert,
+    ) -> Scope<'a>
+        ensures { scope_of result
+            ≡ scope_with (map routine_of program.now) rules.now entries.now entry block.now }
+    {
+        Scope {
+            program,
+            rules,
+            entries,
+            entry,
+            block,
+        }
+    }
+
+    /// The rules.
+    pub fn rules(&self) -> &'a Rules
+        ensures { result.now ≡ (scope_of self.now).rules }
+    {
+        self.rules
+    }
+
+    /// The walked entry's own summary.
+    pub fn summary(&self) -> &'a Summary
+        ensures { result.now ≡ (scope_of self.now).summary }
+    {
+        &self.block.summary
+    }
+
+    /// Whether the walked entry is declared. It takes no memory.
+    pub fn declared(&self) -> bool
+        ensures { result ≡ (scope_of self.now).declared }
+    {
+        self.entries.is_declared(self.entry)
+    }
+
+    /// The cases that are listed at a line, or at one of its rounds. It takes no memory. It goes through the block's
+    /// points: who asks line by line had better go through them too.
+    pub fn listed(&self, line: LineNumber, round: u32) -> &'a [Case]
+        ensures { result.now ≡ listed (scope_of self.now) line round }
+    {
+        cases_at(self.block.points.as_slice(), line, round)
+    }
+
+    /// Whether the name is shared in a frame with these names of its own: some call of the program passes it by
+    /// reference, or a formal of this name receives one that is passed so, whatever names are own. It takes no memory.
+    pub fn is_shared_in(&self, _own: &[Own], name: &Name) -> bool
+        ensures { result ≡ (scope_of self.now).is_shared _own.now name.now }
     {
         self.program.is_shared(name)
     }

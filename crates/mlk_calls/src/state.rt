@@ -5,7 +5,7 @@ ghost use Rattle.mlk_calls.specs.States.{at_rest, with_symbol, without_last, hol
 
 use mlk_cert::{Case, Shared, Test};
 use mlk_names::{LockTerm, Sym};
-use mlk_text::{List, copy_of};
+use mlk_text::{Code, List, copy_of};
 use std::alloc::{AllocError, Global};
 
 /// A case, and the symbols that the running command has captured so far: those of subscripts, actuals and lock names that
@@ -14,6 +14,13 @@ use std::alloc::{AllocError, Global};
 pub struct State {
     pub case: Case,
     pub captured: List<Sym>,
+}
+
+/// Why a state is refused, and the state as it was.
+#[derive(Drop)]
+pub struct Refusal {
+    pub code: Code,
+    pub state: State,
 }
 
 /// A case that is equal to this one, and shares its lists.

@@ -108,7 +108,8 @@ pub fn symbol_of(
     match expression {
         Expr::Lit(value) => Ok(Sym::Const(value.copy()?)),
         Expr::Local(name, subscripts) => {
-            let symbol = local_symbol(scope.is_shared(name), name, subscripts)?;
+            let shared = scope.is_shared_in(state.case.own.as_slice(), name);
+            let symbol = local_symbol(shared, name, subscripts)?;
             Ok(symbol)
         }
         Expr::Special(Special::Job) => Ok(Sym::Job),

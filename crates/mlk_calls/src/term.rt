@@ -4,7 +4,7 @@ ghost use Rattle.std.specs.Prelude.{◌≡◌, ◌↔◌, ◌<◌, IsTrue, OnOk,
 ghost use Rattle.std.specs.List.{list_any};
 ghost use Rattle.mlk_coverage.specs.Computed.{is_prefix};
 ghost use Rattle.mlk_calls.specs.Names.{have};
-ghost use Rattle.mlk_calls.specs.Terms.{same_term, put, put_all, taken, all_taken, is_such, mention, is_within, rank_of};
+ghost use Rattle.mlk_calls.specs.Terms.{same_term, put, put_all, taken, all_taken, first_missing, is_such, mention, is_within, rank_of};
 
 use crate::names::have;
 use mlk_cert::{NameSet, place_of_term};
@@ -98,6 +98,25 @@ pub(crate) fn take_all(held: Vec<LockTerm>, terms: &[LockTerm]) -> Option<Vec<Lo
         left = others;
     }
     Some(held)
+}
+
+/// The first of these terms that is not held besides those before it.
+pub(crate) fn first_missing(
+    held: Vec<LockTerm>,
+    terms: &[LockTerm],
+) -> Result<Option<LockTerm>, AllocError>
+    ensures { IfOk result (λ t. t ≡ first_missing terms.now held.items) }
+{
+    let mut held = held;
+    let mut left = terms;
+    while let Some((term, others)) = left.split_first() {
+        let Some(rest) = take_one(held, term) else {
+            return Ok(Some(copy_of(term)?));
+        };
+        held = rest;
+        left = others;
+    }
+    Ok(None)
 }
 
 fn put(alloc: Global, held: &mut Vec<LockTerm>, term: LockTerm) -> Result<(), AllocError>

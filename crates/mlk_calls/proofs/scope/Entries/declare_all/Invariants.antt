@@ -1,14 +1,15 @@
-use Rattle.std.proofs.Common.{◌≡◌, ◌||◌, length}
-use Rattle.std.specs.Prelude.{map}
+use Rattle.std.proofs.Common.{◌≡◌, ◌++◌, length}
+use Rattle.std.specs.Prelude.{map, filter_map}
 use Rattle.mlk_routine.specs.Views.{routine_of}
-use Rattle.mlk_program.specs.declared.entry.EntryId.{EntryId}
-use Rattle.mlk_calls.specs.Scope.{has_entry, is_declared}
+use Rattle.mlk_program.specs.Entries.{entry_by}
+use Rattle.mlk_calls.specs.Entries.{further}
+use Rattle.mlk_calls.specs.Scope.{firsts}
 use Rattle.mlk_calls.proofs.scope.Entries.declare_all.Given as goal
 
 abbrev pub invariant-loop-text : goal.invariant-loop-text
 invariant-loop-text l =
-    ((e : EntryId) → (has_entry l.self.1 e || is_declared (map routine_of l.program) l.left e)
-    ≡ (has_entry l.fn.self.1 e || is_declared (map routine_of l.program) l.fn.texts e))
+    (l.self.1 ++ further (λ e. e) l.self.1 (firsts (λ e. e) (filter_map (entry_by (map routine_of l.program)) l.left))
+    ≡ l.fn.self.1 ++ further (λ e. e) l.fn.self.1 (firsts (λ e. e) (filter_map (entry_by (map routine_of l.program)) l.fn.texts)))
     × (l.self.0 ≡ l.fn.self.0)
 
 abbrev pub decreases-loop-text : goal.decreases-loop-text

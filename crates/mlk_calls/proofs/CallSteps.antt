@@ -1,0 +1,24 @@
+-- The call of what has a certificate.
+use Rattle.std.proofs.Common.{◌≡◌, List, length, Some, ap, subst, ◌∙◌}
+use Rattle.std.specs.Prelude.{Err}
+use Rattle.mlk_text.specs.declared.failure.Failure.{Failure}
+use Rattle.mlk_text.specs.declared.failure.Failure.TheVariants.{Refused}
+use Rattle.mlk_text.specs.Failures.{FailsAs}
+use Rattle.mlk_text.specs.declared.code.Code.{Code}
+use Rattle.mlk_expr.specs.declared.tree.Callee.{Callee}
+use Rattle.mlk_expr.specs.Trees.{ActualTree}
+use Rattle.mlk_calls.specs.declared.state.State.{State}
+use Rattle.mlk_calls.specs.declared.call.Calling.{Calling}
+use Rattle.mlk_calls.specs.States.{last_captured, without_last}
+use Rattle.mlk_calls.specs.Scope.{Scope}
+use Rattle.mlk_calls.specs.Calls.{Called, called, changes, call_changing, call_known, at_call}
+
+-- what is wrong with it
+pub at_refused : (sc : Scope) (how : Calling) (callee : Callee) (given : List ActualTree) (s : State) (target : Called) (failure : Failure Code) (code : Code)
+    → called sc callee ≡ Some target
+    → FailsAs failure (call_changing sc how target (changes target.summary given) (last_captured (length given) s) (without_last (length given) s))
+    → failure ≡ Refused code → at_call sc how callee given s ≡ Err code
+at_refused sc how callee given s target failure code e h f =
+    let answer = call_changing sc how target (changes target.summary given) (last_captured (length given) s) (without_last (length given) s) in
+    let P : Failure Code → Type 0 = λ z. FailsAs z answer in
+    ap (λ o. call_known sc how o given (last_captured (length given) s) (without_last (length given) s)) e ∙ subst P f h

@@ -1,0 +1,76 @@
+// What would mend a refused call.
+
+ghost use Rattle.std.specs.Prelude.{◌≡◌, IfOk, Some, option_copied};
+ghost use Rattle.mlk_expr.specs.Trees.{actual_trees};
+ghost use Rattle.mlk_calls.specs.Scope.{scope_of};
+ghost use Rattle.mlk_calls.specs.Calls.{called_of, callee_summary, changes_by, missing_by, missing_need};
+
+use crate::call::{Target, called, changes, lent, passed, put_terms};
+use crate::scope::Scope;
+use crate::state::{State, last_of};
+use crate::term::{copies, first_missing};
+use mlk_cert::{NameSet, Summary};
+use mlk_expr::{Actual, Callee};
+use mlk_names::{LockTerm, Sym};
+use std::alloc::{AllocError, Global};
+
+/// The summary of what is called, where it has a certificate: its least rank, and whether it may release all locks, are
+/// what a 712 of a call wants. It takes no memory.
+pub fn callee_summary<'a>(scope: &Scope<'a>, callee: &Callee) -> Option<&'a Summary>
+    ensures { option_copied result ≡ callee_summary (scope_of scope.now) callee.now }
+{
+    let target = called(scope, callee)?;
+    Some(target.summary)
+}
+
+/// The names that a call with this list of actuals may change, by the callee's summary or by reference; none without a
+/// certificate.
+pub fn call_changes(
+    alloc: Global,
+    scope: &Scope,
+    callee: &Callee,
+    given: &[Actual],
+) -> Result<Vec<NameSet>, AllocError>
+    ensures { IfOk result (λ v. v.items
+        ≡ changes_by (callee_summary (scope_of scope.now) callee.now) (actual_trees given.now)) }
+{
+    match callee_summary(scope, callee) {
+        None => Ok(Vec::new(alloc)),
+        Some(summary) => changes(alloc, summary.mods.as_slice(), lent(alloc, given)?),
+    }
+}
+
+fn missing_of(
+    alloc: Global,
+    target: &Target,
+    actuals: &[Sym],
+    held: &[LockTerm],
+) -> Result<Option<LockTerm>, AllocError>
+    ensures { IfOk result (λ t. t ≡ missing_by (Some (called_of target.now)) actuals.now held.now) }
+{
+    let given = passed(alloc, actuals)?;
+    let need = target.summary.need.as_slice();
+    match put_terms(alloc, target.formals, given.as_slice(), need)? {
+        None => Ok(None),
+        Some(needs) => first_missing(copies(alloc, held)?, needs.as_slice()),
+    }
+}
+
+/// The first of a callee's needs, with these actuals, that a state does not hold: what a 711 wants. None where a need
+/// would have an unknown subscript.
+pub fn missing_need(
+    alloc: Global,
+    scope: &Scope,
+    callee: &Callee,
+    given: &[Actual],
+    state: &State,
+) -> Result<Option<LockTerm>, AllocError>
+    ensures { IfOk result
+        (λ t. t ≡ missing_need (scope_of scope.now) callee.now (actual_trees given.now) state.now) }
+{
+    let actuals = last_of(state.captured.as_slice(), given.len());
+    match called(scope, callee) {
+        None => Ok(None),
+        Some(target) => missing_of(alloc, &target, actuals, state.case.held.as_slice()),
+    }
+}
