@@ -1,7 +1,6 @@
 -- Tables of entries.
 use Rattle.std.proofs.Common.{◌≡◌, Bool, true, false, not, List, [], ◌∷◌, ◌++◌, Option, Some, None, is_some, refl, ap, sym, ◌∙◌, ⊎_elim, Bor, eqb-true, append_assoc, arith}
-use Rattle.std.specs.Prelude.{map, filter, filter_map, option_copied, option_map, ◌==◌, ◌||◌, ℕ, if◌then◌else◌}
-use Rattle.std.specs.List.{list_any}
+use Rattle.std.specs.Prelude.{map, filter, filter_map, option_copied, ◌==◌, ◌||◌, ℕ}
 use Rattle.std.specs.Map.{lookup}
 use Rattle.std.proofs.lemmas.Bool.{cases_Bool, and_parts}
 use Rattle.std.proofs.lemmas.Bool.Decides.{nat_tests}

@@ -7,3 +7,5 @@ pub mod EntryTables
 pub mod CallSteps
 pub mod CaseTests
 pub mod Examples
+pub mod HeldTerms
+pub mod NameLaws

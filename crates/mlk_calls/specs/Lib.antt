@@ -10,5 +10,6 @@ pub mod Entries
 pub mod Symbols
 pub mod Changes
 pub mod Claims
+pub mod Ranks
 pub mod Calls
 pub mod Laws

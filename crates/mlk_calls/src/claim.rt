@@ -1,9 +1,10 @@
 // Claims and releases of terms.
 
-ghost use Rattle.std.specs.Prelude.{◌≡◌, IfOk, IfErr, OnOk, Some, None};
+ghost use Rattle.std.specs.Prelude.{◌≡◌, ◌&&◌, ℕ, IfOk, IfErr, OnOk, Some, None};
+ghost use Rattle.mlk_calls.specs.Ranks.{is_above, IsHighest};
 ghost use Rattle.mlk_calls.specs.Refusals.{AnswersOf};
 ghost use Rattle.mlk_calls.specs.Scope.{scope_of};
-ghost use Rattle.mlk_calls.specs.Claims.{is_low_enough, all_ranked_below, is_below, order_fault, claim_fault, claim_refused, held_too, release_all, release_one};
+ghost use Rattle.mlk_calls.specs.Claims.{is_low_enough, is_below, order_fault, claim_fault, claim_refused, held_too, release_all, release_one};
 
 use crate::scope::Scope;
 use crate::state::{Refusal, State};
@@ -25,29 +26,67 @@ pub(crate) fn is_low_enough(low: Option<u32>, other: Option<u32>) -> bool
     }
 }
 
-fn is_below(rank: Option<u32>, other: u32) -> bool
-    ensures { result ≡ is_below rank other }
+// What the ranks of terms come to.
+#[derive(Clone, Copy, Drop)]
+enum Highest {
+    // there is no term
+    Nothing,
+    // each has a rank, and this is the greatest
+    Ranked(u32),
+    // one has none
+    Unranked,
+}
+
+fn with_rank(highest: Highest, rank: Option<u32>) -> Highest
+    ensures { (k : ℕ) → is_above result k ≡ is_below rank k && is_above highest k }
 {
     match rank {
-        Some(rank) => rank < other,
-        None => false,
+        None => Highest::Unranked,
+        Some(rank) => match highest {
+            Highest::Nothing => Highest::Ranked(rank),
+            Highest::Ranked(other) => Highest::Ranked(if other < rank { rank } else { other }),
+            Highest::Unranked => Highest::Unranked,
+        },
     }
 }
 
-// Whether each held term has a rank, below this one.
-fn all_ranked_below(rules: &Rules, held: &[LockTerm], other: u32) -> bool
-    ensures { result ≡ all_ranked_below rules.now.families held.now other }
+fn highest_of(rules: &Rules, held: &[LockTerm]) -> Highest
+    ensures { IsHighest result rules.now.families held.now }
 {
-    held.iter().all(|term| is_below(rank(rules, term), other))
+    let mut highest = Highest::Nothing;
+    let mut left = held;
+    while let Some((term, others)) = left.split_first() {
+        highest = with_rank(highest, rank(rules, term));
+        left = others;
+    }
+    highest
 }
 
-fn order_fault(scope: &Scope, held: &[LockTerm], term: &LockTerm, rank: u32) -> Option<Code>
+// Whether a rank is above all.
+fn is_above(highest: Highest, rank: u32) -> bool
+    ensures { result ≡ is_above highest rank }
+{
+    match highest {
+        Highest::Nothing => true,
+        Highest::Ranked(other) => other < rank,
+        Highest::Unranked => false,
+    }
+}
+
+fn order_fault(
+    scope: &Scope,
+    highest: Highest,
+    held: &[LockTerm],
+    term: &LockTerm,
+    rank: u32,
+) -> Option<Code>
+    requires { IsHighest highest (scope_of scope.now).rules.families held.now }
     ensures { result ≡ order_fault (scope_of scope.now) held.now term.now rank }
 {
     if is_within(held, term) {
         return None;
     }
-    if !all_ranked_below(scope.rules, held, rank) {
+    if !is_above(highest, rank) {
         return Some(Code::RankOrder);
     }
     if !is_low_enough(scope.block.summary.low, Some(rank)) {
@@ -56,7 +95,14 @@ fn order_fault(scope: &Scope, held: &[LockTerm], term: &LockTerm, rank: u32) -> 
     None
 }
 
-fn claim_fault(scope: &Scope, held: &[LockTerm], term: &LockTerm, timed: bool) -> Option<Code>
+fn claim_fault(
+    scope: &Scope,
+    highest: Highest,
+    held: &[LockTerm],
+    term: &LockTerm,
+    timed: bool,
+) -> Option<Code>
+    requires { IsHighest highest (scope_of scope.now).rules.families held.now }
     ensures { result ≡ claim_fault (scope_of scope.now) timed held.now term.now }
 {
     match rank(scope.rules, term) {
@@ -65,7 +111,7 @@ fn claim_fault(scope: &Scope, held: &[LockTerm], term: &LockTerm, timed: bool) -
             if timed {
                 None
             } else {
-                order_fault(scope, held, term, rank)
+                order_fault(scope, highest, held, term, rank)
             }
         }
     }
@@ -86,10 +132,11 @@ pub fn may_take(
     ensures err { IfErr result (λ e. claim_refused (scope_of scope.now) timed state.now.case.held terms.now ≡ Some e) }
 {
     let held = state.case.held.as_slice();
+    let highest = highest_of(scope.rules, held);
     let mut left = terms;
     let mut index = 0;
     while let Some((term, others)) = left.split_first() {
-        if let Some(code) = claim_fault(scope, held, term, timed) {
+        if let Some(code) = claim_fault(scope, highest, held, term, timed) {
             return Err((index, code));
         }
         index += 1;

@@ -1,6 +1,7 @@
-// That the tests that definitions make are the relations of the crates below.
+// Laws of the definitions: their tests are the relations of the crates below, among others. Each function is a law, and
+// does nothing.
 
-ghost use Rattle.mlk_calls.specs.Laws.{IncludesDecides, SameDecides, RankIs, FoldsAre, TablesAre};
+ghost use Rattle.mlk_calls.specs.Laws.{IncludesDecides, SameDecides, RankIs, FoldsAre, TablesAre, HeldAre, AllButAllows};
 
 /// The test of inclusion is the relation of cases.
 pub fn includes_decides()
@@ -25,4 +26,14 @@ pub fn folds_are()
 /// The tables of entries say of each entry what its first block and the rules say.
 pub fn tables_are()
     ensures { TablesAre }
+{}
+
+/// A term that is put is held once more, in order, and one that is taken is held once less.
+pub fn held_are()
+    ensures { HeldAre }
+{}
+
+/// Where all names but some may change, each of them may.
+pub fn all_but_allows()
+    ensures { AllButAllows }
 {}

@@ -15,7 +15,9 @@ mod term;
 pub use call::{Calling, at_call, at_job};
 pub use changing::{change, changed, short_names};
 pub use claim::{claimed, may_take, release_all, release_one};
-pub use law::{folds_are, includes_decides, rank_is, same_decides, tables_are};
+pub use law::{
+    all_but_allows, folds_are, held_are, includes_decides, rank_is, same_decides, tables_are,
+};
 pub use mend::{call_changes, callee_summary, missing_need};
 pub use scope::{Entries, Scope};
 pub use state::{Refusal, State};

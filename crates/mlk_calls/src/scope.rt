@@ -10,7 +10,7 @@ use indexmap::{IndexMap, IndexSet};
 use mlk_cert::{Case, EntryCert, Own, Point, Summary};
 use mlk_coverage::{Rules, entries};
 use mlk_program::{EntryId, Program};
-use mlk_text::{LineNumber, Name, Value};
+use mlk_text::{Name, Value};
 use std::alloc::{AllocError, Global};
 use std::marker::Model;
 
@@ -156,12 +156,12 @@ pub struct Scope<'a> {
 }
 
 // The cases of the first point at a line and round.
-fn cases_at(points: &[Point], line: LineNumber, round: u32) -> &[Case]
+fn cases_at(points: &[Point], line: usize, round: usize) -> &[Case]
     ensures { result.now ≡ listed_at points.now line round }
 {
     let mut left = points;
     while let Some((point, others)) = left.split_first() {
-        if point.line == line && point.round == round {
+        if point.line.number() as usize == line && point.round as usize == round {
             return point.cases.as_slice();
         }
         left = others;
@@ -214,7 +214,7 @@ impl<'a> Scope<'a> {
 
     /// The cases that are listed at a line, or at one of its rounds. It takes no memory. It goes through the block's
     /// points: who asks line by line had better go through them too.
-    pub fn listed(&self, line: LineNumber, round: u32) -> &'a [Case]
+    pub fn listed(&self, line: usize, round: usize) -> &'a [Case]
         ensures { result.now ≡ listed (scope_of self.now) line round }
     {
         cases_at(self.block.points.as_slice(), line, round)
