@@ -6,3 +6,5 @@ pub mod Counting
 pub mod WaitLemmas
 pub mod SystemLemmas
 pub mod LeavingLemmas
+pub mod EntryLemmas
+pub mod HeldLemmas

@@ -1,6 +1,7 @@
 -- How often a job holds each lock name. Restates ISO/IEC 11756, LOCK: a name that is claimed again is held once more,
 -- and has to be released as often. The greatest count is this project's own choice.
 use Rattle.std.specs.Prelude.{ℕ, zero, suc, ◌+◌, nat_le, nat_lt, Bool, false, ◌&&◌, ◌||◌, if◌then◌else◌, List, [], ◌∷◌}
+use Rattle.std.specs.Prelude.{Option, Some, None}
 use Rattle.std.specs.List.{list_all}
 use Rattle.mlk_names.specs.declared.lock_name.LockName.{LockName}
 use Rattle.mlk_locks.specs.NameTests.{same_name, in_conflict}
@@ -48,3 +49,7 @@ greatest_count = 4294967295
 
 abbrev pub has_room : List LockName → Counts → Bool
 has_room names held = list_all (λ n. nat_le (count_of (all_raised names held) n) greatest_count) names
+
+-- what is held once all of these are claimed, where there is room for them
+abbrev pub claimed : List LockName → Counts → Option Counts
+claimed names held = if has_room names held then Some (all_raised names held) else None

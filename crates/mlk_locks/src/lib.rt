@@ -1,9 +1,11 @@
 //! Locks that jobs share: what each holds, who waits for whom, and what every run keeps to.
 #![tactic(auto)]
 
+mod held;
 mod law;
 mod refusal;
 
+pub use held::Held;
 pub use law::{
     claim_adds_one, excludes_held, names_tested, release_takes_one, rings_are_found,
     waiting_is_tested,
