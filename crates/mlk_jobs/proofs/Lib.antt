@@ -5,3 +5,5 @@ pub mod Examples
 pub mod LockExamples
 pub mod FoldLemmas
 pub mod SettleLemmas
+pub mod BinderLemmas
+pub mod CellLemmas

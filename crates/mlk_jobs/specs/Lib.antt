@@ -11,4 +11,5 @@ pub mod Calling
 pub mod Advance
 pub mod Runs
 pub mod Seen
+pub mod Views
 pub mod Laws

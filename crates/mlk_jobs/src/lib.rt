@@ -1,6 +1,8 @@
 //! Jobs that run routines of M: what each step makes of a job, and what every run of many jobs keeps to.
 #![tactic(auto)]
 
+mod binding;
+mod cell;
 mod choice;
 mod law;
 

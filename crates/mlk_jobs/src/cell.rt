@@ -1,0 +1,96 @@
+// What cells hold.
+
+ghost use Rattle.std.specs.Prelude.{◌≡◌, ◌<◌, ℕ, suc, List, length, None, option_copied, slice_get, OnOk, OnErr, min};
+ghost use Rattle.mlk_jobs.specs.Bindings.{put, forgotten};
+ghost use Rattle.mlk_jobs.specs.Views.{cell_of, in_table, value_at, Puts};
+
+use crate::binding::Cell;
+use indexmap::IndexMap;
+use mlk_text::Value;
+use std::alloc::{AllocError, Global};
+
+/// The values of the cells of one generation, each by its name.
+#[derive(Drop)]
+pub(crate) struct Table<'a> {
+    values: IndexMap<&'a [u8], Value>,
+}
+
+impl<'a> Table<'a> {
+    fn new(alloc: Global) -> Table<'a>
+        ensures { (n : List ℕ) → in_table result n ≡ None }
+    {
+        Table {
+            values: IndexMap::new(alloc),
+        }
+    }
+
+    // The value of a name. It takes no memory.
+    fn value(&self, name: &[u8]) -> Option<&Value>
+        ensures { option_copied result ≡ in_table self.now name.now }
+    {
+        self.values.get(name)
+    }
+
+    // Gives a name a value.
+    fn put(&mut self, name: &'a [u8], value: Value) -> Result<(), AllocError>
+        ensures { OnOk result (Puts name.now value self.old self.new) }
+    {
+        let Ok(_) = self.values.insert(name, value) else {
+            return Err(AllocError);
+        };
+        Ok(())
+    }
+}
+
+fn table_at<'t, 'a>(tables: &'t [Table<'a>], generation: usize) -> Option<&'t Table<'a>>
+    ensures { option_copied result ≡ slice_get tables.now generation }
+{
+    tables.get(generation)
+}
+
+/// What a cell holds, if it has a value: the tables are of one generation each, from 0. It takes no memory.
+pub(crate) fn value_of<'t>(tables: &'t [Table], cell: Cell) -> Option<&'t Value>
+    ensures { option_copied result ≡ value_at tables.now (cell_of cell.entry) }
+{
+    let Some(table) = table_at(tables, cell.generation) else {
+        return None;
+    };
+    table.value(cell.name)
+}
+
+/// Gives a cell a value.
+#[tactic(auto, using(crate::proofs::CellLemmas::values_put))]
+pub(crate) fn store<'a>(
+    tables: &mut Vec<Table<'a>>,
+    cell: Cell<'a>,
+    value: Value,
+) -> Result<(), AllocError>
+    requires { cell.generation < length tables.old.items }
+    ensures values { OnOk result (value_at tables.new.items
+        ≡ put (cell_of cell.entry) value (value_at tables.old.items)) }
+    ensures len { length tables.new.items ≡ length tables.old.items }
+{
+    tables[cell.generation].put(cell.name, value)
+}
+
+/// Forgets the cells of this generation and of later ones.
+#[tactic(auto, using(crate::proofs::CellLemmas::values_forgotten))]
+pub(crate) fn forget(tables: &mut Vec<Table>, next: usize)
+    ensures values { value_at tables.new.items ≡ forgotten next (value_at tables.old.items) }
+    ensures len { length tables.new.items ≡ min next (length tables.old.items) }
+{
+    tables.truncate(next);
+}
+
+/// One more generation, whose cells have no values.
+#[tactic(auto, using(crate::proofs::CellLemmas::values_added))]
+pub(crate) fn add_generation(alloc: Global, tables: &mut Vec<Table>) -> Result<(), AllocError>
+    ensures values { value_at tables.new.items ≡ value_at tables.old.items }
+    ensures len { OnOk result (length tables.new.items ≡ suc (length tables.old.items)) }
+    ensures err { OnErr result (length tables.new.items ≡ length tables.old.items) }
+{
+    let Ok(()) = tables.push(Table::new(alloc)) else {
+        return Err(AllocError);
+    };
+    Ok(())
+}
