@@ -6,7 +6,7 @@ use Rattle.mlk_locks.specs.Lists.{Among}
 use Rattle.mlk_locks.specs.NameTests.{is_above, in_conflict, same_name}
 use Rattle.mlk_locks.specs.Counts.{Counts, count_of, raised, lowered, excludes}
 use Rattle.mlk_locks.specs.Rings.{HasRing, has_ring}
-use Rattle.mlk_locks.specs.Waiting.{View, Holds, WaitsFor, waits}
+use Rattle.mlk_locks.specs.Waiting.{View, Holds, WaitsFor, waits, waits_as}
 use Rattle.mlk_locks.specs.Systems.{Machine, Act, Event, number, happens, after, IsAlone}
 
 -- The tests of names say what the relations say.
@@ -42,7 +42,7 @@ abbrev pub Waits : {X : Type 0} → (X → View) → X → X → Type 0
 Waits view x y = WaitsFor (view x) (view y)
 
 abbrev pub has_ring_of : {X : Type 0} → (X → View) → List X → Bool
-has_ring_of view xs = has_ring (λ x y. waits (view x) (view y)) xs
+has_ring_of view xs = has_ring (waits_as view) xs
 
 -- The test finds a ring exactly where there is one.
 abbrev pub RingsAreFound : {X : Type 0} → (X → View) → Type 0

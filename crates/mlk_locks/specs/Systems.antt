@@ -1,13 +1,11 @@
 -- Systems of jobs, whatever the language: jobs share the locks alone. What a job reads of the globals and of the world
 -- is a choice, which the event brings; so a step rests on the job, the choice, and on which names are free. This
 -- project's own: M's standard says what one process does, and what LOCK asks of the others.
-use Rattle.std.specs.Prelude.{◌≡◌, ◌⊎◌, ℕ, suc, ◌==◌, Bool, true, ◌&&◌, not, if◌then◌else◌, List, [], ◌∷◌, ◌++◌, Result, Ok, Err}
-use Rattle.std.specs.List.{list_any}
+use Rattle.std.specs.Prelude.{◌≡◌, ◌⊎◌, ℕ, suc, ◌==◌, Bool, true, if◌then◌else◌, List, [], ◌∷◌, ◌++◌, Result, Ok, Err}
 use Rattle.mlk_names.specs.declared.lock_name.LockName.{LockName}
 use Rattle.mlk_locks.specs.declared.refusal.Refusal.{Refusal}
 use Rattle.mlk_locks.specs.declared.refusal.Refusal.TheVariants.{UnknownJob, NotEnabled}
-use Rattle.mlk_locks.specs.Counts.{excludes}
-use Rattle.mlk_locks.specs.Waiting.{View, Holds}
+use Rattle.mlk_locks.specs.Waiting.{View, Holds, is_free_among, is_numbered}
 
 -- The parts of a machine, of jobs J, choices C and entries E. What can't happen is answered by the reason.
 pub record Machine (J C E : Type 0) : Type 0 where
@@ -37,10 +35,10 @@ number m j = (m.view j).number
 
 -- no other job holds a name that conflicts
 abbrev pub is_free : {J C E : Type 0} → Machine J C E → List J → ℕ → LockName → Bool
-is_free m jobs k n = not (list_any (λ j. not (number m j == k) && excludes (m.view j).held n) jobs)
+is_free m = is_free_among m.view
 
 abbrev pub is_used : {J C E : Type 0} → Machine J C E → List J → ℕ → Bool
-is_used m jobs k = list_any (λ j. number m j == k) jobs
+is_used m = is_numbered m.view
 
 -- the jobs, with the one of this number changed
 abbrev pub changed : {J C E : Type 0} → Machine J C E → (J → Result J Refusal) → ℕ → List J → Result (List J) Refusal

@@ -38,3 +38,15 @@ pub record WaitsFor (a b : View) : Type 0 where
 -- the same as a test
 abbrev pub waits : View → View → Bool
 waits a b = not (a.number == b.number) && list_any (excludes b.held) (awaited a.next)
+
+-- The same of jobs of any kind, each seen as its view.
+abbrev pub waits_as : {X : Type 0} → (X → View) → X → X → Bool
+waits_as seen x y = waits (seen x) (seen y)
+
+-- no other job than the one of this number holds a name that conflicts
+abbrev pub is_free_among : {X : Type 0} → (X → View) → List X → ℕ → LockName → Bool
+is_free_among seen jobs k n = not (list_any (λ j. not ((seen j).number == k) && excludes (seen j).held n) jobs)
+
+-- some job has this number
+abbrev pub is_numbered : {X : Type 0} → (X → View) → List X → ℕ → Bool
+is_numbered seen jobs k = list_any (λ j. (seen j).number == k) jobs

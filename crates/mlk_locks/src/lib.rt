@@ -4,6 +4,7 @@
 mod held;
 mod law;
 mod refusal;
+mod sharing;
 
 pub use held::Held;
 pub use law::{
@@ -11,3 +12,4 @@ pub use law::{
     waiting_is_tested,
 };
 pub use refusal::Refusal;
+pub use sharing::{Seen, are_free, has_ring, is_free, is_numbered, place_of, waits_for};
