@@ -10,6 +10,8 @@ use Rattle.mlk_text.specs.declared.operator.Op.TheVariants.{Add, Subtract, Multi
 use Rattle.mlk_text.specs.declared.operator.UnaryOp.{UnaryOp}
 use Rattle.mlk_text.specs.declared.operator.UnaryOp.TheVariants.{Plus, Minus, Not}
 use Rattle.mlk_text.specs.Numbers.{are_digits, number_of_digits}
+use Rattle.mlk_text.specs.Outcome.{Finds}
+use Rattle.std.specs.Prelude.{◌↔◌}
 use Rattle.mlk_text.specs.Folding.{is_short, if_short, folded, IsWhole, IsFold, IsUnaryFold}
 use Rattle.mlk_text.proofs.Numerals.{own, digits-parts, digit-bounds}
 use Rattle.mlk_text.proofs.Folds.{folded-short, no_number}
@@ -189,3 +191,15 @@ folds_agree = record {
   between = λ op a b text. (between_is op a b text, between_if op a b text);
   before = λ op a text. (before_is op a text, before_if op a text);
 }
+
+-- What is found, where a test finds all that there is, is what the test gives.
+found_is : {A : Type 0} (P : A → Type 0) (o r : Option A) → ((a : A) → (r ≡ Some a) ↔ P a) → Finds P o → o ≡ r
+found_is P (Some a) r same h = sym ((same a).1 h)
+found_is P None None same h = refl
+found_is P None (Some a) same h = absurd (h a ((same a).0 refl))
+
+pub between_given : (op : Op) (a b : List ℕ) (o : Option (List ℕ)) → Finds (IsFold op a b) o → o ≡ fold_between op a b
+between_given op a b o h = found_is (IsFold op a b) o (fold_between op a b) (folds_agree.between op a b) h
+
+pub before_given : (op : UnaryOp) (a : List ℕ) (o : Option (List ℕ)) → Finds (IsUnaryFold op a) o → o ≡ fold_before op a
+before_given op a o h = found_is (IsUnaryFold op a) o (fold_before op a) (folds_agree.before op a) h

@@ -4,6 +4,8 @@ pub mod Trees
 pub mod Examples
 pub mod LockExamples
 pub mod FoldLemmas
+pub mod StackLemmas
+pub mod LockNameLemmas
 pub mod SettleLemmas
 pub mod BinderLemmas
 pub mod CellLemmas

@@ -27,10 +27,12 @@ abbrev pub count_all : List VariableTree → ℕ
 count_all [] = 0
 count_all (v ∷ names) = count_in v + count_all names
 
+abbrev pub lock_name_of : VariableTree → List (List ℕ) → LockName
+lock_name_of v subs = record { root = root_in v; subs = subs }
+
 abbrev pub names_of : List (List ℕ) → List VariableTree → List LockName
 names_of subs [] = []
-names_of subs (v ∷ names) =
-    record { root = root_in v; subs = take (count_in v) subs } ∷ names_of (drop (count_in v) subs) names
+names_of subs (v ∷ names) = lock_name_of v (take (count_in v) subs) ∷ names_of (drop (count_in v) subs) names
 
 -- Without a sign all is released before the claim, in a step of its own.
 abbrev pub by_sign : Sign → List LockName → Bool → List Task

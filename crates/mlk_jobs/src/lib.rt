@@ -1,10 +1,14 @@
 //! Jobs that run routines of M: what each step makes of a job, and what every run of many jobs keeps to.
 #![tactic(auto)]
 
+mod asking;
 mod binding;
 mod cell;
 mod choice;
 mod law;
+mod locking;
+mod operator;
+mod stack;
 
 pub use choice::Choice;
 pub use law::{

@@ -1,0 +1,27 @@
+-- How many subscripts a name has.
+use Rattle.std.proofs.Common.{◌≡◌, ℕ, List, [], ◌∷◌, Vec, Global, length, refl, ap, ◌∙◌, arith}
+use Rattle.mlk_expr.specs.declared.tree.Subscript.{Subscript}
+use Rattle.mlk_expr.specs.declared.tree.Expr.TheVariants as rust
+use Rattle.mlk_expr.specs.Trees.{tree_of, subs_from, sub_trees, LocalName, GlobalName}
+use Rattle.mlk_expr.proofs.Variants.{tree_local, tree_global}
+use Rattle.mlk_routine.specs.declared.tree.Variable.{Variable}
+use Rattle.mlk_routine.specs.Views.{variable_of}
+use Rattle.mlk_jobs.specs.Expressions.{count_subs}
+use Rattle.mlk_jobs.specs.Commands.{count_in}
+
+count_is : (ss : List Subscript) → length ss ≡ count_subs (subs_from (sub_trees ss))
+count_is [] = refl
+count_is (s ∷ ss) = let e = count_is ss in omega (arith, e)
+
+pub local_count : (v : Variable) (name : List ℕ) (subs : Vec Subscript Global) (slice : List Subscript)
+    → v.name ≡ rust.Local name subs → slice ≡ subs.items → length slice ≡ count_in (variable_of v)
+local_count v name subs slice is same =
+    let e : tree_of v.name ≡ LocalName name (subs_from (sub_trees subs.items)) = ap tree_of is ∙ tree_local name subs in
+    rw (e, same) (count_is subs.items)
+
+pub global_count : (v : Variable) (column : ℕ) (name : List ℕ) (subs : Vec Subscript Global) (slice : List Subscript)
+    → v.name ≡ rust.Global column name subs → slice ≡ subs.items → length slice ≡ count_in (variable_of v)
+global_count v column name subs slice is same =
+    let e : tree_of v.name ≡ GlobalName column name (subs_from (sub_trees subs.items)) =
+    ap tree_of is ∙ tree_global column name subs in
+    rw (e, same) (count_is subs.items)

@@ -1,0 +1,75 @@
+// What a step asks for, and what it is given.
+
+ghost use Rattle.std.specs.Prelude.{◌≡◌, List, ℕ, Bool, true, false, Some, None, Ok, if◌then◌else◌};
+ghost use Rattle.mlk_locks.specs.Systems.{and_then};
+ghost use Rattle.mlk_jobs.specs.Tasks.{Job};
+ghost use Rattle.mlk_jobs.specs.Choices.{Stepped, without_choice, with_value, with_truth, truth_of, given_or_asked, is_one, is_zero};
+
+use crate::choice::Choice;
+use mlk_locks::Refusal;
+use mlk_text::Value;
+
+/// Nothing may be chosen at a step that asks nothing.
+pub(crate) fn not_asked(choice: &Choice) -> Result<(), Refusal>
+    ensures { (j : Job) → without_choice choice.now (Ok j) ≡ and_then (λ _. Ok j) result }
+{
+    match choice {
+        Choice::None => Ok(()),
+        Choice::Value(_) | Choice::Truth(_) => Err(Refusal::BadChoice),
+    }
+}
+
+/// The value that is chosen.
+pub(crate) fn asked_value(choice: Choice) -> Result<Value, Refusal>
+    ensures { (f : List ℕ → Stepped) → with_value choice f ≡ and_then f result }
+{
+    match choice {
+        Choice::Value(value) => Ok(value),
+        Choice::None | Choice::Truth(_) => Err(Refusal::BadChoice),
+    }
+}
+
+/// The truth that is chosen.
+pub(crate) fn asked_truth(choice: &Choice) -> Result<bool, Refusal>
+    ensures { (f : Bool → Stepped) → with_truth choice.now f ≡ and_then f result }
+{
+    match choice {
+        Choice::Truth(truth) => Ok(*truth),
+        Choice::None | Choice::Value(_) => Err(Refusal::BadChoice),
+    }
+}
+
+/// The truth of a value, where that is known.
+pub(crate) fn known_truth(value: &Value) -> Option<bool>
+    ensures { result ≡ (if is_one value.now then Some true else if is_zero value.now then Some false else None) }
+{
+    match value.as_bytes() {
+        b"1" => Some(true),
+        b"0" => Some(false),
+        _ => None,
+    }
+}
+
+/// The truth of a value: known, or else chosen.
+
+pub(crate) fn truth_given(choice: &Choice, value: &Value) -> Result<bool, Refusal>
+    ensures { (f : Bool → Job) → truth_of choice.now value.now (λ t. Ok (f t)) ≡ and_then (λ t. Ok (f t)) result }
+{
+    let Some(truth) = known_truth(value) else {
+        return asked_truth(choice);
+    };
+    not_asked(choice)?;
+    Ok(truth)
+}
+
+/// A value: a known one, or else what is chosen.
+pub(crate) fn value_given(choice: Choice, known: Option<Value>) -> Result<Value, Refusal>
+    ensures { (f : List ℕ → Job)
+        → given_or_asked choice known (λ value. Ok (f value)) ≡ and_then (λ value. Ok (f value)) result }
+{
+    let Some(value) = known else {
+        return asked_value(choice);
+    };
+    not_asked(&choice)?;
+    Ok(value)
+}
