@@ -9,3 +9,5 @@ pub mod LockNameLemmas
 pub mod SettleLemmas
 pub mod BinderLemmas
 pub mod CellLemmas
+pub mod PartLemmas
+pub mod ExprParts

@@ -12,4 +12,6 @@ pub mod Advance
 pub mod Runs
 pub mod Seen
 pub mod Views
+pub mod TaskViews
+pub mod PartViews
 pub mod Laws

@@ -8,7 +8,9 @@ mod choice;
 mod law;
 mod locking;
 mod operator;
+mod parts;
 mod stack;
+mod task;
 
 pub use choice::Choice;
 pub use law::{
