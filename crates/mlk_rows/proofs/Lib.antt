@@ -1,0 +1,4 @@
+pub mod Opened
+pub mod Waiting
+pub mod StateTests
+pub mod Examples

@@ -1,0 +1,92 @@
+-- How the walk of each kind of expression opens.
+use Rattle.std.specs.Prelude.{IfOk}
+use Rattle.std.specs.declared.alloc.AllocError.{AllocError}
+use Rattle.std.proofs.Common.{◌≡◌, ◌∙◌, ap, sym, subst, false, nat_eq, Result, refl, suc, length, ℕ, List, [], ◌∷◌, None, Some, Vec, Box, Global}
+use Rattle.mlk_text.specs.declared.operator.Op.{Op}
+use Rattle.mlk_text.specs.declared.operator.UnaryOp.{UnaryOp}
+use Rattle.mlk_expr.specs.declared.tree.Callee.{Callee}
+use Rattle.mlk_expr.specs.declared.tree.Function.{Function}
+use Rattle.mlk_expr.specs.declared.tree.Special.{Special}
+use Rattle.mlk_expr.specs.declared.tree.Expr.{Expr, fold-roll-Expr}
+use Rattle.mlk_expr.specs.declared.tree.Actual.{Actual}
+use Rattle.mlk_expr.specs.declared.tree.Subscript.{Subscript}
+use Rattle.mlk_expr.specs.declared.tree.Actual.TheOpen as open'
+use Rattle.mlk_expr.specs.declared.tree.Expr.TheVariants as rust
+use Rattle.mlk_expr.specs.declared.tree.Expr.TheVariants.{rolls-Unary, rolls-Binary, rolls-Select, rolls-Call}
+use Rattle.mlk_expr.specs.Trees.{Tree, ActualTree, Prefixed, Chain, Selected, BareCall, tree_of, sub_trees, subs_from, trees, trees_from, links, links_from, choices, choices_from, actual_trees, actuals_from, actual_step, expr_step, subscript_step}
+use Rattle.mlk_expr.proofs.Variants.{tree_local, tree_global, tree_func, tree_call}
+use Rattle.mlk_program.proofs.FoundCalls.{as_list_same}
+use Rattle.mlk_rows.specs.declared.walk.Walk.{Walk}
+use Rattle.mlk_rows.specs.declared.reference.Use.{Use}
+use Rattle.mlk_rows.specs.declared.reference.Use.TheVariants.{ItsValue}
+use Rattle.mlk_calls.specs.States.{without_last}
+use Rattle.mlk_rows.specs.Walks.{each, each_changed}
+use Rattle.mlk_rows.specs.Spots.{Spot}
+use Rattle.mlk_rows.specs.References.{use_of, read_last}
+use Rattle.mlk_rows.specs.Expressions.{count_subs, forget_subs, extrinsic, evaluate, evaluate_all, capture_subs, evaluate_links, evaluate_choices, capture_actuals}
+
+tree_unary : (op : UnaryOp) (b : Box Expr Global) → tree_of (rust.Unary op b) ≡ Prefixed op (tree_of b.value)
+tree_unary op b = ap tree_of (sym (rolls-Unary op b))
+    ∙ fold-roll-Expr ActualTree Tree (ℕ × Tree) actual_step expr_step subscript_step (open'.Unary op b)
+
+tree_binary : (b : Box Expr Global) (v : Vec (Op × Expr) Global)
+    → tree_of (rust.Binary b v) ≡ Chain (tree_of b.value) (links_from (links v.items))
+tree_binary b v = ap tree_of (sym (rolls-Binary b v))
+    ∙ fold-roll-Expr ActualTree Tree (ℕ × Tree) actual_step expr_step subscript_step (open'.Binary b v)
+
+tree_select : (v : Vec (Expr × Expr) Global) → tree_of (rust.Select v) ≡ Selected (choices_from (choices v.items))
+tree_select v = ap tree_of (sym (rolls-Select v))
+    ∙ fold-roll-Expr ActualTree Tree (ℕ × Tree) actual_step expr_step subscript_step (open'.Select v)
+
+tree_bare : (column : ℕ) (callee : Callee) → tree_of (rust.Call column callee None) ≡ BareCall column callee
+tree_bare column callee = ap tree_of (sym (rolls-Call column callee None))
+    ∙ fold-roll-Expr ActualTree Tree (ℕ × Tree) actual_step expr_step subscript_step (open'.Call column callee None)
+
+-- as many subscripts as the list has
+counted : (ss : List Subscript) → count_subs (subs_from (sub_trees ss)) ≡ length ss
+counted [] = refl
+counted (s ∷ ss) = ap suc (counted ss)
+
+pub forgets : (ss : List Subscript) (w : Walk) → nat_eq (length ss) 0 ≡ false
+    → forget_subs (subs_from (sub_trees ss)) w ≡ each_changed (without_last (length ss)) w
+forgets [] w h = absurd (cc)
+forgets (s ∷ ss) w h = ap (λ n. each_changed (without_last n) w) (counted (s ∷ ss))
+
+module _ (p : Spot) (how : Use) (w : Walk) where
+  pub local_opens : (name : List ℕ) (v : Vec Subscript Global) → evaluate p how (tree_of (rust.Local name v)) w
+      ≡ forget_subs (subs_from (sub_trees v.items)) (capture_subs p (subs_from (sub_trees v.items)) w)
+  local_opens name v = ap (λ t. evaluate p how t w) (tree_local name v)
+
+  pub global_opens : (column : ℕ) (name : List ℕ) (v : Vec Subscript Global) → evaluate p how (tree_of (rust.Global column name v)) w
+      ≡ each (read_last p how column name (length v.items)) (capture_subs p (subs_from (sub_trees v.items)) w)
+  global_opens column name v = ap (λ t. evaluate p how t w) (tree_global column name v)
+      ∙ ap (λ n. each (read_last p how column name n) (capture_subs p (subs_from (sub_trees v.items)) w)) (counted v.items)
+
+  pub unary_opens : (op : UnaryOp) (b : Box Expr Global) → evaluate p how (tree_of (rust.Unary op b)) w
+      ≡ evaluate p ItsValue (tree_of b.value) w
+  unary_opens op b = ap (λ t. evaluate p how t w) (tree_unary op b)
+
+  pub binary_opens : (b : Box Expr Global) (v : Vec (Op × Expr) Global) → evaluate p how (tree_of (rust.Binary b v)) w
+      ≡ evaluate_links p (links_from (links v.items)) (evaluate p ItsValue (tree_of b.value) w)
+  binary_opens b v = ap (λ t. evaluate p how t w) (tree_binary b v)
+
+  pub function_opens : (f : Function) (v : Vec Expr Global) → evaluate p how (tree_of (rust.Func f v)) w
+      ≡ evaluate_all p (use_of f) (trees_from (trees v.items)) w
+  function_opens f v = ap (λ t. evaluate p how t w) (tree_func f v)
+
+  pub select_opens : (v : Vec (Expr × Expr) Global) → evaluate p how (tree_of (rust.Select v)) w
+      ≡ evaluate_choices p (choices_from (choices v.items)) w
+  select_opens v = ap (λ t. evaluate p how t w) (tree_select v)
+
+  pub bare_opens : (column : ℕ) (callee : Callee) → evaluate p how (tree_of (rust.Call column callee None)) w
+      ≡ extrinsic p column callee [] w
+  bare_opens column callee = ap (λ t. evaluate p how t w) (tree_bare column callee)
+
+  pub call_opens : (column : ℕ) (callee : Callee) (given : Vec Actual Global)
+      → evaluate p how (tree_of (rust.Call column callee (Some given))) w
+      ≡ extrinsic p column callee (actual_trees given.items) (capture_actuals p (actuals_from (actual_trees given.items)) w)
+  call_opens column callee given = ap (λ t. evaluate p how t w) (tree_call column callee given)
+      ∙ ap (λ g. extrinsic p column callee g (capture_actuals p (actuals_from (actual_trees given.items)) w)) (as_list_same (actual_trees given.items))
+
+pub carried : (r : Result Walk AllocError) (a b : Walk) → IfOk r (λ w. w ≡ a) → b ≡ a → IfOk r (λ w. w ≡ b)
+carried r a b h e = subst (λ z. IfOk r (λ w. w ≡ z)) (sym e) h

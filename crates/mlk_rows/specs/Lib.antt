@@ -1,0 +1,4 @@
+pub mod Walks
+pub mod Spots
+pub mod References
+pub mod Expressions

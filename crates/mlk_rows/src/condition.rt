@@ -1,0 +1,88 @@
+// Conditions: the states in which they may be true, and those in which they may be false.
+
+ghost use Rattle.std.specs.Prelude.{◌≡◌, ◌++◌, [], IfOk, OnOk, true, false};
+ghost use Rattle.mlk_expr.specs.Trees.{tree_of};
+ghost use Rattle.mlk_calls.specs.Scope.{scope_of};
+ghost use Rattle.mlk_rows.specs.Walks.{with_states, joins};
+ghost use Rattle.mlk_rows.specs.Expressions.{where_it_may_be, if_agrees};
+
+use crate::spot::Spot;
+use crate::walk::Walk;
+use mlk_calls::{State, truth_of};
+use mlk_expr::Expr;
+use mlk_text::List;
+use std::alloc::{AllocError, Global};
+
+/// The states in which a condition may be true, and those in which it may be false.
+#[derive(Drop)]
+pub struct Sides {
+    pub holds: List<State>,
+    pub fails: List<State>,
+}
+
+impl Sides {
+    fn new(alloc: Global) -> Sides
+        ensures holds { result.holds ≡ [] }
+        ensures fails { result.fails ≡ [] }
+    {
+        Sides {
+            holds: List::new(alloc),
+            fails: List::new(alloc),
+        }
+    }
+
+    // One more state, where this is known of the condition.
+    fn add(&mut self, truth: Option<bool>, state: State) -> Result<(), AllocError>
+        ensures holds { OnOk result (self.new.holds ≡ self.old.holds ++ if_agrees true truth state) }
+        ensures fails { OnOk result (self.new.fails ≡ self.old.fails ++ if_agrees false truth state) }
+    {
+        match truth {
+            Some(true) => self.holds.push(state),
+            Some(false) => self.fails.push(state),
+            None => {
+                self.holds.push(state.copy()?)?;
+                self.fails.push(state)
+            }
+        }
+    }
+}
+
+/// The states, split by a condition that was evaluated; those in which it is unknown stand on both sides.
+pub fn split_by(spot: &Spot, condition: &Expr, states: List<State>) -> Result<Sides, AllocError>
+    ensures { IfOk result (λ s. (s.holds ≡ where_it_may_be true (scope_of spot.now.scope.now) (tree_of condition.now) states)
+        × (s.fails ≡ where_it_may_be false (scope_of spot.now.scope.now) (tree_of condition.now) states)) }
+{
+    let mut sides = Sides::new(spot.alloc);
+    for state in states.into_vec() {
+        let truth = truth_of(spot.alloc, spot.scope, &state, condition)?;
+        sides.add(truth, state)?;
+    }
+    Ok(sides)
+}
+
+/// The walk in the states in which a condition that was evaluated may be true, and the states in which it may be false.
+pub fn where_it_holds(
+    spot: &Spot,
+    condition: &Expr,
+    walk: Walk,
+) -> Result<(Walk, List<State>), AllocError>
+    ensures { IfOk result (λ r. (r.0 ≡ with_states (where_it_may_be true (scope_of spot.now.scope.now) (tree_of condition.now) walk.going) walk)
+        × (r.1 ≡ where_it_may_be false (scope_of spot.now.scope.now) (tree_of condition.now) walk.going)) }
+{
+    let (rest, going) = walk.take_states(spot.alloc);
+    let sides = split_by(spot, condition, going)?;
+    Ok((rest.with_states(sides.holds), sides.fails))
+}
+
+/// The states that wait, beside those that go on: those that waited longest stand first.
+#[tactic(auto, using(crate::proofs::Waiting::joins_last))]
+pub fn join_all(alloc: Global, waiting: Vec<List<State>>, walk: Walk) -> Result<Walk, AllocError>
+    ensures { IfOk result (λ w. w ≡ joins waiting.items walk) }
+{
+    let mut left = waiting;
+    let mut walk = walk;
+    while let Some(states) = left.pop() {
+        walk = walk.join(alloc, states)?;
+    }
+    Ok(walk)
+}

@@ -1,0 +1,241 @@
+// What touches of globals ask of the rules.
+
+ghost use Rattle.std.specs.Prelude.{◌≡◌, ◌-◌, ℕ, IfOk, OnOk, Option, length, take, option_map};
+ghost use Rattle.mlk_coverage.specs.Computed.{answer};
+ghost use Rattle.mlk_calls.specs.declared.state.State.{State};
+ghost use Rattle.mlk_calls.specs.States.{last_captured, without_last};
+ghost use Rattle.mlk_rows.specs.Walks.{Outcome, add_all};
+ghost use Rattle.mlk_rows.specs.References.{use_of, reference, checked, covered_or, touch_last, read_fault, read_last, all_but_last};
+ghost use Rattle.mlk_rows.specs.Spots.{spot_of};
+
+use crate::row::Row;
+use crate::spot::Spot;
+use crate::walk::{Mend, Walk};
+use mlk_calls::State;
+use mlk_coverage::{Rules, covered, templates};
+use mlk_expr::Function;
+use mlk_names::{Access, Extent, LockTerm, Reference, Sym};
+use mlk_text::{Code, Column, Name, Subscripts, copy_of};
+use std::alloc::{AllocError, Global};
+
+/// How an expression or a function uses a name.
+#[derive(Clone, Copy, Debug, Drop, PartialEq, Eq)]
+pub enum Use {
+    ItsValue,
+    /// its value, and what is below it
+    Below,
+    /// what is beside it
+    Beside,
+    /// all of its global
+    AllOfIt,
+    /// nothing but how it is spelled
+    Spelled,
+}
+
+/// The use that a function makes of the name that is its first argument.
+pub fn use_of(function: Function) -> Use
+    ensures { result ≡ use_of function }
+{
+    match function {
+        Function::Data => Use::Below,
+        Function::Order => Use::Beside,
+        Function::Query => Use::AllOfIt,
+        Function::Name => Use::Spelled,
+        _ => Use::ItsValue,
+    }
+}
+
+/// The last so many captured symbols, or all where there are fewer.
+pub fn last_of(state: &State, count: usize) -> &[Sym]
+    ensures { result.now ≡ last_captured count state.now }
+{
+    let captured = state.captured.as_slice();
+    let (_, last) = captured.split_at(captured.len().saturating_sub(count));
+    last
+}
+
+fn all_but_last(subs: &[Sym]) -> &[Sym]
+    ensures { result.now ≡ all_but_last subs.now }
+{
+    let (before, _) = subs.split_at(subs.len().saturating_sub(1));
+    before
+}
+
+fn subscripts(alloc: Global, symbols: &[Sym]) -> Result<Subscripts<Sym>, AllocError>
+    ensures { IfOk result (λ s. s ≡ symbols.now) }
+{
+    let mut subs = Subscripts::new(alloc);
+    for symbol in symbols {
+        subs.push(copy_of(symbol)?)?;
+    }
+    Ok(subs)
+}
+
+fn reference_to(
+    alloc: Global,
+    extent: Extent,
+    access: Access,
+    name: &Name,
+    symbols: &[Sym],
+) -> Result<Reference, AllocError>
+    ensures { IfOk result (λ r. r ≡ reference extent access name.now symbols.now) }
+{
+    Ok(Reference {
+        root: name.copy()?,
+        subs: subscripts(alloc, symbols)?,
+        extent,
+        access,
+    })
+}
+
+fn fault_of(rules: &Rules, held: &[LockTerm], reference: &Reference) -> Option<Code>
+    ensures { result ≡ answer rules.now held.now reference.now }
+{
+    match covered(rules, reference, held) {
+        Ok(()) => None,
+        Err(code) => Some(code),
+    }
+}
+
+fn mend_of(
+    spot: &Spot,
+    code: Code,
+    held: &[LockTerm],
+    reference: &Reference,
+) -> Result<Mend, AllocError> {
+    if code != Code::Uncovered {
+        return Ok(Mend::Nothing);
+    }
+    let lacking = templates(spot.alloc, spot.scope.rules(), reference, held)?;
+    Ok(Mend::Locks(lacking))
+}
+
+/// A touch of a global: how far it goes and what it does, its name at the column of its `^`.
+#[derive(Clone, Copy, Drop)]
+pub struct Touch<'a> {
+    pub extent: Extent,
+    pub access: Access,
+    pub column: Column,
+    pub name: &'a Name,
+}
+
+impl<'a> Touch<'a> {
+    /// What is wrong with a touch of the node with these subscripts, and what would mend it.
+    pub fn fault(
+        &self,
+        spot: &Spot,
+        symbols: &[Sym],
+        state: &State,
+    ) -> Result<Option<(Code, Mend)>, AllocError>
+        ensures { IfOk result (λ f. option_map (λ x. x.0) f
+            ≡ checked (spot_of spot.now) self.now.extent self.now.access self.now.name.now symbols.now state.now) }
+    {
+        let reference = reference_to(spot.alloc, self.extent, self.access, self.name, symbols)?;
+        let held = state.case.held.as_slice();
+        match fault_of(spot.scope.rules(), held, &reference) {
+            None => Ok(None),
+            Some(code) => {
+                let mend = mend_of(spot, code, held, &reference)?;
+                Ok(Some((code, mend)))
+            }
+        }
+    }
+}
+
+/// What becomes of a state of which a fault was found, or none.
+pub fn covered_or(
+    spot: &Spot,
+    column: Column,
+    fault: Option<(Code, Mend)>,
+    state: State,
+    walk: &mut Walk,
+) -> Result<(), AllocError>
+    ensures { OnOk result (walk.new ≡ add_all
+        (covered_or (option_map (λ x. x.0) fault) spot.now.line column state) walk.old) }
+{
+    match fault {
+        None => walk.go(state),
+        Some((code, mend)) => walk.refuse(spot.line, column, code, mend),
+    }
+}
+
+/// A touch of the node whose subscripts were captured last; they are forgotten.
+#[derive(Clone, Copy, Drop)]
+pub struct TouchLast<'a> {
+    pub spot: &'a Spot<'a>,
+    pub touch: Touch<'a>,
+    pub count: usize,
+}
+
+impl<'a> Row for TouchLast<'a> {
+    ghost outcomes = { λ r s. touch_last (spot_of r.spot.now) r.touch.extent r.touch.access r.touch.column
+        r.touch.name.now r.count s };
+
+    fn make(&self, state: State, walk: &mut Walk) -> Result<(), AllocError> {
+        let fault = self
+            .touch
+            .fault(self.spot, last_of(&state, self.count), &state)?;
+        covered_or(
+            self.spot,
+            self.touch.column,
+            fault,
+            state.without_last(self.count),
+            walk,
+        )
+    }
+}
+
+/// The use of a global with as many subscripts, which were captured last; they are forgotten.
+#[derive(Clone, Copy, Drop)]
+pub struct ReadLast<'a> {
+    pub spot: &'a Spot<'a>,
+    pub how: Use,
+    pub column: Column,
+    pub name: &'a Name,
+    pub count: usize,
+}
+
+impl<'a> ReadLast<'a> {
+    fn fault(&self, state: &State) -> Result<Option<(Code, Mend)>, AllocError>
+        ensures { IfOk result (λ f. option_map (λ x. x.0) f ≡ read_fault (spot_of self.now.spot.now) self.now.how
+            self.now.name.now (last_captured self.now.count state.now) state.now) }
+    {
+        let subs = last_of(state, self.count);
+        let touch = Touch {
+            extent: Extent::Tree,
+            access: Access::Reads,
+            column: self.column,
+            name: self.name,
+        };
+        match self.how {
+            Use::ItsValue => {
+                let touch = Touch {
+                    extent: Extent::Node,
+                    access: Access::Reads,
+                    column: self.column,
+                    name: self.name,
+                };
+                touch.fault(self.spot, subs, state)
+            }
+            Use::Below => touch.fault(self.spot, subs, state),
+            Use::Beside => touch.fault(self.spot, all_but_last(subs), state),
+            Use::AllOfIt => touch.fault(self.spot, &[], state),
+            Use::Spelled => Ok(None),
+        }
+    }
+}
+
+impl<'a> Row for ReadLast<'a> {
+    ghost outcomes = { λ r s. read_last (spot_of r.spot.now) r.how r.column r.name.now r.count s };
+
+    fn make(&self, state: State, walk: &mut Walk) -> Result<(), AllocError> {
+        let fault = self.fault(&state)?;
+        covered_or(
+            self.spot,
+            self.column,
+            fault,
+            state.without_last(self.count),
+            walk,
+        )
+    }
+}

@@ -1,0 +1,43 @@
+// Rows of the walk: what is made of one state.
+
+ghost use Rattle.std.specs.Prelude.{◌≡◌, List, IfOk, OnOk};
+ghost use Rattle.mlk_calls.specs.declared.state.State.{State};
+ghost use Rattle.mlk_calls.specs.States.{without_last};
+ghost use Rattle.mlk_rows.specs.Walks.{Outcome, add_all, each, each_changed};
+
+use crate::walk::{Walk, put};
+use mlk_calls::State;
+use mlk_text::List;
+use std::alloc::{AllocError, Global};
+
+/// What becomes of one state.
+pub trait Row {
+    ghost outcomes: { Self → State → List Outcome };
+
+    /// Adds what becomes of the state to the walk.
+    fn make(&self, state: State, walk: &mut Walk) -> Result<(), AllocError>
+        ensures { OnOk result (walk.new ≡ add_all (outcomes self.now state) walk.old) };
+}
+
+/// The row, for each state that goes on.
+pub fn each<R: Row>(alloc: Global, row: &R, walk: Walk) -> Result<Walk, AllocError>
+    ensures { IfOk result (λ w. w ≡ each (R.outcomes row.now) walk) }
+{
+    let (mut walk, going) = walk.take_states(alloc);
+    for state in going.into_vec() {
+        row.make(state, &mut walk)?;
+    }
+    Ok(walk)
+}
+
+/// The last so many captured symbols of each state are forgotten.
+pub fn forget(alloc: Global, count: usize, walk: Walk) -> Result<Walk, AllocError>
+    ensures { IfOk result (λ w. w ≡ each_changed (without_last count) walk) }
+{
+    let (walk, going) = walk.take_states(alloc);
+    let mut states = List::new(alloc);
+    for state in going.into_vec() {
+        put(&mut states, state.without_last(count))?;
+    }
+    Ok(walk.with_states(states))
+}

@@ -1,0 +1,25 @@
+// Where in a line the walk stands.
+
+use mlk_calls::Scope;
+use mlk_cert::Case;
+use mlk_text::{Column, List};
+use std::alloc::Global;
+
+/// A block of lines below a line: the number of its first line, and the cases in which it may end.
+#[derive(Drop)]
+pub struct Block {
+    pub first: usize,
+    pub ends: List<Case>,
+}
+
+/// A place in a line: what the walk is given, the line's number, counted from 1, its level and its block, and the column
+/// of the running command's word.
+#[derive(Clone, Copy, Drop)]
+pub struct Spot<'a> {
+    pub alloc: Global,
+    pub scope: &'a Scope<'a>,
+    pub line: usize,
+    pub level: u32,
+    pub block: Option<&'a Block>,
+    pub word: Column,
+}

@@ -1,0 +1,281 @@
+// The walk of a line.
+
+ghost use Rattle.std.specs.Prelude.{◌≡◌, ◌↔◌, IsTrue, ◌∷◌, ◌++◌, [], IfOk, OnOk, map};
+ghost use Rattle.mlk_calls.specs.States.{same_state};
+ghost use Rattle.mlk_rows.specs.Walks.{Goes, Skips, Quits, Refused, add, add_all, put, put_all, is_large, too_many, few, joined, with_states};
+ghost use Rattle.std.specs.List.{list_any};
+
+use mlk_calls::State;
+use mlk_cert::{Case, ExitCase, NameSet};
+use mlk_names::LockTerm;
+use mlk_text::{Code, Column, List};
+use std::alloc::{AllocError, Global};
+use std::marker::Model;
+
+/// A fault of a line: its number, counted from 1, and its column.
+#[derive(Drop)]
+pub struct Fault {
+    pub line: usize,
+    pub column: Column,
+    pub code: Code,
+}
+
+/// What would mend a fault: a change of the certificate, or of the program. A contract says nothing of it.
+#[derive(Drop)]
+pub enum Mend {
+    /// nothing that is known here
+    Nothing,
+    /// this case, listed at a line, or at one of its rounds
+    Listed(usize, usize, Case),
+    /// this exit, listed in the summary
+    Exit(ExitCase),
+    /// these names, listed as changed in the summary
+    Changes(Vec<NameSet>),
+    /// no higher least rank than this one in the summary
+    Rank(u32),
+    /// what the callee claims and releases: its least rank, and whether it may release all locks
+    Callee(Option<u32>, bool),
+    /// in the summary, that all locks may be released
+    Drops,
+    /// these locks, held
+    Locks(Vec<LockTerm>),
+}
+
+/// A fault, and what would mend it.
+#[derive(Drop)]
+pub struct Found {
+    pub fault: Fault,
+    pub mend: Mend,
+}
+
+/// Faults that were found, in the order in which they were. A contract sees the faults, without what would mend them.
+#[derive(Drop)]
+pub struct Faults {
+    items: Vec<Found>,
+}
+
+impl Model for Faults {
+    ghost use Rattle.std.specs.Prelude.{List as Elements, map};
+    ghost use Rattle.mlk_rows.specs.declared.walk.Fault.{Fault};
+
+    ghost Value = { Elements Fault };
+
+    ghost view = { λ l. map (λ f. f.fault) l.items.items };
+}
+
+/// A case that quit, with the column of the QUIT.
+#[derive(Drop)]
+pub struct Quit {
+    pub column: Column,
+    pub case: Case,
+}
+
+/// What the walk of a line has come to: the states that go on, none twice; what skipped and what quit; what was refused;
+/// and whether the line is over, since it had more states than it may have.
+#[derive(Drop)]
+pub struct Walk {
+    pub going: List<State>,
+    pub skips: List<Case>,
+    pub quits: List<Quit>,
+    pub faults: Faults,
+    pub over: bool,
+}
+
+impl Faults {
+    /// No faults.
+    pub fn new(alloc: Global) -> Faults
+        ensures { result ≡ [] }
+    {
+        Faults {
+            items: Vec::new(alloc),
+        }
+    }
+
+    /// One more fault.
+    pub fn push(&mut self, fault: Fault, mend: Mend) -> Result<(), AllocError>
+        ensures { OnOk result (self.new ≡ self.old ++ fault ∷ []) }
+    {
+        self.items.push(Found { fault, mend })?;
+        Ok(())
+    }
+
+    /// The faults, each with what would mend it.
+    pub fn into_vec(self) -> Vec<Found>
+        ensures { map (λ f. f.fault) result.items ≡ self }
+    {
+        self.items
+    }
+}
+
+fn is_equal(state: &State, other: &State) -> bool
+    ensures { IsTrue result ↔ (state.now ≡ other.now) }
+{
+    state == other
+}
+
+fn is_same(state: &State, other: &State) -> bool
+    ensures { result ≡ same_state state.now other.now }
+{
+    is_equal(state, other)
+}
+
+fn is_among(states: &[State], state: &State) -> bool
+    ensures { result ≡ list_any (same_state state.now) states.now }
+{
+    states.iter().any(|other| is_same(state, other))
+}
+
+/// One more state, where it isn't there yet.
+pub fn put(states: &mut List<State>, state: State) -> Result<(), AllocError>
+    ensures { OnOk result (states.new ≡ put state states.old) }
+{
+    if is_among(states.as_slice(), &state) {
+        return Ok(());
+    }
+    states.push(state)
+}
+
+/// These states, each once, after those.
+pub fn put_all(states: List<State>, new: Vec<State>) -> Result<List<State>, AllocError>
+    ensures { IfOk result (λ all. all ≡ put_all new.items states) }
+{
+    let mut all = states;
+    for state in new {
+        put(&mut all, state)?;
+    }
+    Ok(all)
+}
+
+fn is_large(state: &State) -> bool
+    ensures { result ≡ is_large state.now }
+{
+    state.case.held.as_slice().len() > 16 || state.case.own.as_slice().len() > 64
+}
+
+fn some_large(states: &[State]) -> bool
+    ensures { result ≡ list_any is_large states.now }
+{
+    states.iter().any(|state| is_large(state))
+}
+
+/// Whether there are more than 16 states, or one has more than 16 held terms or 64 items of own names.
+#[tactic(auto, unfolding(crate::specs::Walks::too_many))]
+pub fn too_many(states: &[State]) -> bool
+    ensures { result ≡ too_many states.now }
+{
+    states.len() > 16 || some_large(states)
+}
+
+impl Walk {
+    /// A state goes on.
+    pub fn go(&mut self, state: State) -> Result<(), AllocError>
+        ensures { OnOk result (self.new ≡ add (Goes state) self.old) }
+    {
+        put(&mut self.going, state)
+    }
+
+    /// These states go on.
+    pub fn go_all(&mut self, states: Vec<State>) -> Result<(), AllocError>
+        ensures { OnOk result (self.new ≡ add_all (map Goes states.items) self.old) }
+    {
+        for state in states {
+            self.go(state)?;
+        }
+        Ok(())
+    }
+
+    /// A case skips the rest of its line or round.
+    pub fn skip(&mut self, case: Case) -> Result<(), AllocError>
+        ensures { OnOk result (self.new ≡ add (Skips case) self.old) }
+    {
+        self.skips.push(case)
+    }
+
+    /// A case quits at a column.
+    pub fn quit(&mut self, column: Column, case: Case) -> Result<(), AllocError>
+        ensures { OnOk result (self.new ≡ add (Quits column case) self.old) }
+    {
+        self.quits.push(Quit { column, case })
+    }
+
+    /// A state is refused at a place.
+    pub fn refuse(
+        &mut self,
+        line: usize,
+        column: Column,
+        code: Code,
+        mend: Mend,
+    ) -> Result<(), AllocError>
+        ensures { OnOk result (self.new ≡ add (Refused line column code) self.old) }
+    {
+        self.faults.push(Fault { line, column, code }, mend)
+    }
+
+    /// The walk without its states, and these.
+    pub fn take_states(self, alloc: Global) -> (Walk, List<State>)
+        ensures rest { result.0 ≡ with_states [] self }
+        ensures going { result.1 ≡ self.going }
+    {
+        let Walk {
+            going,
+            skips,
+            quits,
+            faults,
+            over,
+        } = self;
+        let walk = Walk {
+            going: List::new(alloc),
+            skips,
+            quits,
+            faults,
+            over,
+        };
+        (walk, going)
+    }
+
+    /// The walk with these states in place of those that go on.
+    pub fn with_states(self, states: List<State>) -> Walk
+        ensures { result ≡ with_states states self }
+    {
+        let Walk {
+            going: _,
+            skips,
+            quits,
+            faults,
+            over,
+        } = self;
+        Walk {
+            going: states,
+            skips,
+            quits,
+            faults,
+            over,
+        }
+    }
+
+    /// Whether there are too many states is asked, for a command's word in this line: if so, the line is over.
+    #[tactic(auto, unfolding(crate::specs::Walks::few))]
+    pub fn few(self, alloc: Global, line: usize, word: Column) -> Result<Walk, AllocError>
+        ensures { IfOk result (λ w. w ≡ few line word self) }
+    {
+        if !too_many(self.going.as_slice()) {
+            return Ok(self);
+        }
+        let (mut walk, _) = self.take_states(alloc);
+        walk.over = true;
+        walk.refuse(line, word, Code::TooManyCases, Mend::Nothing)?;
+        Ok(walk)
+    }
+
+    /// These states beside those that go on, which stand first; nothing where the line is over.
+    pub fn join(self, alloc: Global, states: List<State>) -> Result<Walk, AllocError>
+        ensures { IfOk result (λ w. w ≡ joined states self) }
+    {
+        if self.over {
+            return Ok(self);
+        }
+        let (walk, going) = self.take_states(alloc);
+        let all = put_all(states, going.into_vec())?;
+        Ok(walk.with_states(all))
+    }
+}
