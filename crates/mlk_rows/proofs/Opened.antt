@@ -6,7 +6,6 @@ use Rattle.mlk_text.specs.declared.operator.Op.{Op}
 use Rattle.mlk_text.specs.declared.operator.UnaryOp.{UnaryOp}
 use Rattle.mlk_expr.specs.declared.tree.Callee.{Callee}
 use Rattle.mlk_expr.specs.declared.tree.Function.{Function}
-use Rattle.mlk_expr.specs.declared.tree.Special.{Special}
 use Rattle.mlk_expr.specs.declared.tree.Expr.{Expr, fold-roll-Expr}
 use Rattle.mlk_expr.specs.declared.tree.Actual.{Actual}
 use Rattle.mlk_expr.specs.declared.tree.Subscript.{Subscript}

@@ -1,12 +1,11 @@
 -- Expressions, from left to right: what their references and calls make of states. Standard: expressions, `$SELECT`,
 -- extrinsic functions, actual lists; a reference's subscripts come before its touch.
-use Rattle.std.specs.Prelude.{ℕ, Bool, true, false, not, if◌then◌else◌, List, [], ◌∷◌, ◌++◌, length, map, filter, fold, suc, zero, Option, Some, None}
+use Rattle.std.specs.Prelude.{ℕ, Bool, true, false, not, if◌then◌else◌, List, [], ◌∷◌, map, filter, fold, suc, zero, Option, Some, None}
 use Rattle.mlk_expr.specs.declared.tree.Callee.{Callee}
 use Rattle.mlk_expr.specs.Trees.{Tree, Lit, Free, LocalName, GlobalName, SpecialName, Prefixed, Chain, PatternText}
 use Rattle.mlk_expr.specs.Trees.{Func, Selected, BareCall, CallOf, Trees, no_trees, tree, Subs, no_subs, sub, Links}
 use Rattle.mlk_expr.specs.Trees.{no_links, link, Choices, no_choices, choice, ActualTree, Given, ByRef, Missing}
 use Rattle.mlk_expr.specs.Trees.{Actuals, no_actuals, actual}
-use Rattle.mlk_names.specs.declared.symbol.Sym.{Sym}
 use Rattle.mlk_names.specs.declared.symbol.Sym.TheVariants.{Unknown}
 use Rattle.mlk_program.specs.Calls.{as_list}
 use Rattle.mlk_calls.specs.Symbols.{symbol_in, truth_in}
@@ -16,7 +15,7 @@ use Rattle.mlk_calls.specs.States.{with_symbol, without_last}
 use Rattle.mlk_calls.specs.Scope.{Scope}
 use Rattle.mlk_calls.specs.Calls.{at_call}
 use Rattle.mlk_rows.specs.declared.walk.Walk.{Walk}
-use Rattle.mlk_rows.specs.Walks.{Outcome, Goes, each, each_changed, few, with_states, both_ways, all_placed}
+use Rattle.mlk_rows.specs.Walks.{each, each_changed, few, with_states, both_ways, all_placed}
 use Rattle.mlk_rows.specs.Spots.{Spot}
 use Rattle.mlk_rows.specs.declared.reference.Use.{Use}
 use Rattle.mlk_rows.specs.declared.reference.Use.TheVariants.{ItsValue}
