@@ -5,6 +5,7 @@ pub mod Examples
 pub mod LockExamples
 pub mod FoldLemmas
 pub mod StackLemmas
+pub mod PendingLemmas
 pub mod LockNameLemmas
 pub mod SettleLemmas
 pub mod BinderLemmas

@@ -13,5 +13,6 @@ pub mod Runs
 pub mod Seen
 pub mod Views
 pub mod TaskViews
+pub mod JobViews
 pub mod PartViews
 pub mod Laws

@@ -5,10 +5,12 @@ mod asking;
 mod binding;
 mod cell;
 mod choice;
+mod job;
 mod law;
 mod locking;
 mod operator;
 mod parts;
+mod pending;
 mod stack;
 mod task;
 

@@ -1,0 +1,67 @@
+-- What is pending, the last one first.
+use Rattle.std.proofs.Common.{◌≡◌, ℕ, Bool, true, false, List, [], ◌∷◌, ◌++◌, suc, ◌-◌, ◌<◌, ◌≤◌, length, take, get_or, map, reverse, refl, sym, ap, ◌∙◌, arith, take-suc}
+use Rattle.std.specs.Prelude.{if◌then◌else◌}
+use Rattle.std.proofs.lemmas.List.{reverse-append, map-append, take_all}
+use Rattle.mlk_jobs.specs.declared.binding.Binder.{Binder}
+use Rattle.mlk_jobs.specs.declared.pending.Pending.{Pending}
+use Rattle.mlk_jobs.specs.Tasks.{Task}
+use Rattle.mlk_jobs.specs.Lines.{from_first}
+use Rattle.mlk_jobs.specs.JobViews.{pending_of, tasks_of}
+
+pub tasks_after : (binders : List Binder) (ps : List Pending) (p : Pending)
+    → tasks_of binders (ps ++ p ∷ []) ≡ pending_of binders p ∷ tasks_of binders ps
+tasks_after binders ps p =
+    ap reverse (map-append (pending_of binders) ps (p ∷ []))
+    ∙ reverse-append (map (pending_of binders) ps) (pending_of binders p ∷ [])
+
+goes_on : (is : Task → Bool) (binders : List Binder) (all ps : List Pending) (p : Pending)
+    → all ≡ ps ++ p ∷ [] → is (pending_of binders p) ≡ false
+    → from_first is (tasks_of binders ps) ≡ from_first is (tasks_of binders all)
+goes_on is binders all ps p e fails =
+    sym (ap (λ l. from_first is (tasks_of binders l)) e ∙ ap (from_first is) (tasks_after binders ps p) ∙ rw fails refl)
+
+stops_there : (is : Task → Bool) (binders : List Binder) (all ps : List Pending) (p : Pending)
+    → all ≡ ps ++ p ∷ [] → is (pending_of binders p) ≡ true
+    → tasks_of binders all ≡ from_first is (tasks_of binders all)
+stops_there is binders all ps p e passes =
+    let whole : tasks_of binders all ≡ pending_of binders p ∷ tasks_of binders ps =
+    ap (tasks_of binders) e ∙ tasks_after binders ps p in
+    whole ∙ sym (ap (from_first is) whole ∙ rw passes refl)
+
+at_count : (ps : List Pending) (count : ℕ) (p : Pending) → 0 < count → count ≤ length ps
+    → p ≡ get_or ps (count - 1) p → take count ps ≡ take (count - 1) ps ++ p ∷ []
+at_count ps count p some within stands =
+    let e : count ≡ suc (count - 1) = omega (arith, some) in
+    ap (λ k. take k ps) e ∙ take-suc ps (count - 1) p (omega (arith, some, within))
+    ∙ ap (λ q. take (count - 1) ps ++ q ∷ []) (sym stands)
+
+-- What stays, counted from the front: `count` are left to look at, the last of which is `p`.
+abbrev pub Left : (Task → Bool) → List Pending → ℕ → Type 0
+Left is ps count = (binders : List Binder)
+    → from_first is (tasks_of binders (take count ps)) ≡ from_first is (tasks_of binders ps)
+
+pub left_first : (is : Task → Bool) (ps : List Pending) (count : ℕ) → count ≡ length ps → Left is ps count
+left_first is ps count e binders = ap (λ l. from_first is (tasks_of binders l)) (take_all count ps (omega (arith, e)))
+
+pub left_goes : (is : Task → Bool) (ps : List Pending) (count : ℕ) (p : Pending) (b : Bool) → 0 < count
+    → count ≤ length ps → p ≡ get_or ps (count - 1) p → ((binders : List Binder) → b ≡ is (pending_of binders p))
+    → b ≡ false → Left is ps count → Left is ps (count - 1)
+left_goes is ps count p b some within stands is_b fails h binders =
+    goes_on is binders (take count ps) (take (count - 1) ps) p (at_count ps count p some within stands)
+    (sym (is_b binders) ∙ fails)
+    ∙ h binders
+
+pub left_stops : (is : Task → Bool) (ps : List Pending) (count : ℕ) (p : Pending) (b : Bool) → 0 < count
+    → count ≤ length ps → p ≡ get_or ps (count - 1) p → ((binders : List Binder) → b ≡ is (pending_of binders p))
+    → b ≡ true → Left is ps count
+    → (binders : List Binder) → tasks_of binders (take count ps) ≡ from_first is (tasks_of binders ps)
+left_stops is ps count p b some within stands is_b passes h binders =
+    stops_there is binders (take count ps) (take (count - 1) ps) p (at_count ps count p some within stands)
+    (sym (is_b binders) ∙ passes)
+    ∙ h binders
+
+pub left_none : (is : Task → Bool) (ps : List Pending) (count : ℕ) → count ≡ 0 → Left is ps count
+    → (binders : List Binder) → tasks_of binders (take count ps) ≡ from_first is (tasks_of binders ps)
+left_none is ps count e h binders =
+    ap (λ k. tasks_of binders (take k ps)) e
+    ∙ sym (ap (λ k. from_first is (tasks_of binders (take k ps))) e) ∙ h binders

@@ -1,0 +1,44 @@
+-- The definition's jobs of the code's. This project's own.
+use Rattle.std.specs.Prelude.{ℕ, List, map, reverse, take, length}
+use Rattle.mlk_jobs.specs.declared.binding.Binder.{Binder as BinderIn}
+use Rattle.mlk_jobs.specs.declared.job.Job.{Job as JobIn}
+use Rattle.mlk_jobs.specs.declared.pending.Frame.{Frame as FrameIn}
+use Rattle.mlk_jobs.specs.declared.pending.Frame.TheVariants as frame
+use Rattle.mlk_jobs.specs.declared.pending.Pending.{Pending}
+use Rattle.mlk_jobs.specs.declared.pending.Pending.TheVariants as pending
+use Rattle.mlk_jobs.specs.Tasks as task
+use Rattle.mlk_jobs.specs.Tasks.{Task, Job, Frame, NoValue, AwaitsValue, HasValue}
+use Rattle.mlk_jobs.specs.Views.{bindings_of, value_at}
+use Rattle.mlk_jobs.specs.TaskViews.{task_of}
+
+abbrev pub frame_of : FrameIn → Frame
+frame_of frame.NoValue = NoValue
+frame_of (frame.AwaitsValue test) = AwaitsValue test
+frame_of (frame.HasValue test) = HasValue test
+
+-- an end puts back as many of the binders as there were
+abbrev pub pending_of : List BinderIn → Pending → Task
+pending_of binders (pending.Task t) = task_of t
+pending_of binders (pending.EndBlock back test) =
+    task.EndBlock (bindings_of (take back.binders binders)) back.next test
+pending_of binders (pending.EndFrame frame back routine) =
+    task.EndFrame (frame_of frame) (bindings_of (take back.binders binders)) back.next routine
+
+-- the last one of the code is done first
+abbrev pub tasks_of : List BinderIn → List Pending → List Task
+tasks_of binders ps = reverse (map (pending_of binders) ps)
+
+-- each generation has a table, so their number is the first unused one
+abbrev pub job_of : JobIn → Job
+job_of j = record {
+  number = j.number;
+  test = j.test;
+  routine = j.routine;
+  bindings = bindings_of j.binders.items;
+  next = length j.tables.items;
+  cells = value_at j.tables.items;
+  values = j.values;
+  held = j.held;
+  tasks = tasks_of j.binders.items j.pending.items;
+  stopped = j.stopped;
+}
