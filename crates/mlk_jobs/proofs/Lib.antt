@@ -12,3 +12,5 @@ pub mod BinderLemmas
 pub mod CellLemmas
 pub mod PartLemmas
 pub mod ExprParts
+pub mod TreeParts
+pub mod CommandParts

@@ -15,4 +15,5 @@ pub mod Views
 pub mod TaskViews
 pub mod JobViews
 pub mod PartViews
+pub mod ArgumentViews
 pub mod Laws

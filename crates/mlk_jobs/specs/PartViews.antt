@@ -6,7 +6,7 @@ use Rattle.mlk_expr.specs.declared.tree.Subscript.{Subscript}
 use Rattle.mlk_expr.specs.declared.tree.Callee.{Callee}
 use Rattle.mlk_expr.specs.declared.tree.Function.{Function}
 use Rattle.mlk_expr.specs.declared.tree.Function.TheVariants as function
-use Rattle.mlk_expr.specs.Trees.{Tree, PatternText, Trees, Subs, Links, ActualTree, trees, trees_from, sub_trees, subs_from, links, links_from}
+use Rattle.mlk_expr.specs.Trees.{Tree, LocalName, GlobalName, PatternText, Trees, Subs, Links, ActualTree, trees, trees_from, sub_trees, subs_from, links, links_from}
 use Rattle.mlk_jobs.specs.declared.parts.expr.Naming.{Naming}
 use Rattle.mlk_jobs.specs.declared.parts.expr.Naming.TheVariants as naming
 use Rattle.mlk_jobs.specs.Tasks.{Task, AskValue, Call}
@@ -45,3 +45,17 @@ is_pattern _ = false
 -- an extrinsic call with these actuals
 abbrev pub called_with : Callee → List ActualTree → List Task
 called_with callee given = each_actual given ++ Call true callee given ∷ []
+
+abbrev pub extrinsic_parts : Callee → Option (List ActualTree) → List Task
+extrinsic_parts callee None = Call true callee [] ∷ []
+extrinsic_parts callee (Some given) = called_with callee given
+
+-- any value, once these arguments were evaluated
+abbrev pub values_with : Trees → List Task
+values_with args = each_tree args ++ AskValue (count_trees args) ∷ []
+
+-- a local or a global
+abbrev pub is_variable : Tree → Bool
+is_variable (LocalName name subs) = true
+is_variable (GlobalName column name subs) = true
+is_variable _ = false

@@ -3,6 +3,8 @@
 ghost use Rattle.std.specs.Prelude.{◌∷◌, [], OnOk};
 ghost use Rattle.mlk_jobs.specs.TaskViews.{Adds, task_of};
 
+pub(crate) mod argument;
+pub(crate) mod command;
 pub(crate) mod evaluate;
 pub(crate) mod expr;
 

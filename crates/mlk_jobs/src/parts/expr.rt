@@ -24,7 +24,7 @@ pub(crate) fn count_subscripts(subscripts: &[Subscript]) -> usize
 }
 
 #[tactic(auto, using(crate::proofs::PartLemmas::args_counted))]
-fn count_arguments(arguments: &[Expr]) -> usize
+pub(crate) fn count_arguments(arguments: &[Expr]) -> usize
     ensures count { result ≡ count_trees (args_of arguments.now) }
     ensures len { result ≡ length arguments.now }
 {
@@ -46,7 +46,10 @@ pub(crate) fn each_subscript<'a>(
     Ok(())
 }
 
-fn each_argument<'a>(parts: &mut Vec<Task<'a>>, arguments: &'a [Expr]) -> Result<(), AllocError>
+pub(crate) fn each_argument<'a>(
+    parts: &mut Vec<Task<'a>>,
+    arguments: &'a [Expr],
+) -> Result<(), AllocError>
     ensures { OnOk result (Adds (each_tree (args_of arguments.now)) parts.old.items parts.new.items) }
 {
     let mut left = arguments;
@@ -58,7 +61,7 @@ fn each_argument<'a>(parts: &mut Vec<Task<'a>>, arguments: &'a [Expr]) -> Result
 }
 
 // A global is read.
-fn read_global<'a>(
+pub(crate) fn read_global<'a>(
     parts: &mut Vec<Task<'a>>,
     name: &'a Name,
     subscripts: &'a [Subscript],
@@ -72,7 +75,7 @@ fn read_global<'a>(
     Ok(())
 }
 
-fn read_local<'a>(
+pub(crate) fn read_local<'a>(
     parts: &mut Vec<Task<'a>>,
     name: &'a Name,
     subscripts: &'a [Subscript],
@@ -92,7 +95,10 @@ fn read_local<'a>(
     }
 }
 
-fn special_parts<'a>(parts: &mut Vec<Task<'a>>, special: Special) -> Result<(), AllocError>
+pub(crate) fn special_parts<'a>(
+    parts: &mut Vec<Task<'a>>,
+    special: Special,
+) -> Result<(), AllocError>
     ensures { OnOk result (Adds (special_parts special) parts.old.items parts.new.items) }
 {
     match special {
@@ -156,7 +162,7 @@ fn query_parts<'a>(
 }
 
 // Subscripts and further arguments are used up, and any value is given.
-fn ask_parts<'a>(
+pub(crate) fn ask_parts<'a>(
     parts: &mut Vec<Task<'a>>,
     subscripts: &'a [Subscript],
     more: &'a [Expr],
@@ -187,7 +193,7 @@ fn read_parts<'a>(
 
 // Functions that are given a name.
 #[derive(Clone, Copy, Drop)]
-enum Naming {
+pub(crate) enum Naming {
     Data,
     Get,
     Order,
@@ -195,7 +201,7 @@ enum Naming {
     Name,
 }
 
-fn named_by(function: Function) -> Option<Naming>
+pub(crate) fn named_by(function: Function) -> Option<Naming>
     ensures { option_map naming_of result ≡ named_function function }
 {
     match function {
@@ -220,7 +226,7 @@ fn named_by(function: Function) -> Option<Naming>
     }
 }
 
-fn of_global<'a>(
+pub(crate) fn of_global<'a>(
     parts: &mut Vec<Task<'a>>,
     naming: Naming,
     name: &'a Name,
