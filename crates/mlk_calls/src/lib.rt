@@ -5,6 +5,7 @@ mod call;
 mod changing;
 mod claim;
 mod law;
+mod listed;
 mod mend;
 mod names;
 mod scope;
@@ -18,7 +19,10 @@ pub use claim::{claimed, may_take, release_all, release_one};
 pub use law::{
     all_but_allows, folds_are, held_are, includes_decides, rank_is, same_decides, tables_are,
 };
+pub use listed::{is_exit, is_listed};
 pub use mend::{call_changes, callee_summary, missing_need};
+pub use names::{is_among, is_own};
 pub use scope::{Entries, Scope};
-pub use state::{Refusal, State};
+pub use state::{Refusal, State, copy_case};
 pub use symbol::{symbol_of, truth_of};
+pub use term::mention;

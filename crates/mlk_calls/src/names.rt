@@ -9,8 +9,9 @@ use mlk_cert::{NameSet, Own, Shared};
 use mlk_text::Name;
 use std::alloc::{AllocError, Global};
 
+/// Whether the name is among these. It takes no memory.
 #[tactic(auto, unfolding(crate::specs::Names::is_among))]
-fn is_among(names: &[Name], name: &Name) -> bool
+pub fn is_among(names: &[Name], name: &Name) -> bool
     ensures { result ≡ is_among names.now name.now }
 {
     names.iter().any(|other| *name == *other)
@@ -34,13 +35,14 @@ pub(crate) fn have(sets: &[NameSet], name: &Name) -> bool
     sets.iter().any(|set| has(set, name))
 }
 
-fn is_own(own: &[Own], name: &Name) -> bool
+/// Whether a name is own: one of the items has it, at any level. It takes no memory.
+pub fn is_own(own: &[Own], name: &Name) -> bool
     ensures { result ≡ is_own own.now name.now }
 {
     own.iter().any(|item| has(&item.names, name))
 }
 
-fn are_among(names: &[Name], others: &[Name]) -> bool
+pub(crate) fn are_among(names: &[Name], others: &[Name]) -> bool
     ensures { result ≡ list_all (is_among names.now) others.now }
 {
     others.iter().all(|name| is_among(names, name))

@@ -24,7 +24,7 @@ pub struct Refusal {
 }
 
 /// A case that is equal to this one, and shares its lists.
-pub(crate) fn copy_case(case: &Case) -> Result<Case, AllocError>
+pub fn copy_case(case: &Case) -> Result<Case, AllocError>
     ensures { IfOk result (λ c. c ≡ case.now) }
 {
     Ok(Case {

@@ -19,7 +19,7 @@ fn is_equal(first: &LockTerm, second: &LockTerm) -> bool
     first == second
 }
 
-fn is_same(first: &LockTerm, second: &LockTerm) -> bool
+pub(crate) fn is_same(first: &LockTerm, second: &LockTerm) -> bool
     ensures { result ≡ same_term first.now second.now }
 {
     is_equal(first, second)
@@ -61,8 +61,8 @@ fn has_such(names: &[NameSet], symbols: &[KnownSym]) -> bool
     symbols.iter().any(|symbol| is_such(names, symbol))
 }
 
-/// Whether some term mentions one of the names in a subscript.
-pub(crate) fn mention(names: &[NameSet], terms: &[LockTerm]) -> bool
+/// Whether some term mentions one of the names in a subscript. It takes no memory.
+pub fn mention(names: &[NameSet], terms: &[LockTerm]) -> bool
     ensures { result ≡ mention names.now terms.now }
 {
     terms
