@@ -7,16 +7,15 @@ use Rattle.std.proofs.lemmas.Bool.Decides.{nat_tests}
 use Rattle.mlk_routine.specs.Trees.{RoutineTree}
 use Rattle.mlk_program.specs.declared.entry.EntryId.{EntryId}
 use Rattle.mlk_program.specs.Entries.{entry_by}
-use Rattle.mlk_cert.specs.declared.block.Summary.{Summary}
 use Rattle.mlk_cert.specs.declared.block.EntryCert.{EntryCert}
-use Rattle.mlk_calls.specs.Scope.{same_entry, summary_at, has_entry, firsts, summary_in, summary_of, is_declared, certified, declared}
+use Rattle.mlk_calls.specs.Scope.{same_entry, block_at, has_entry, firsts, block_in, block_of, is_declared, certified, declared}
 use Rattle.mlk_calls.specs.Entries.{further, gained, gained_if}
 use Rattle.mlk_calls.specs.Laws.{TablesAre}
 
-abbrev pub shown : List (EntryId × Bor Summary) → List (EntryId × Summary)
+abbrev pub shown : List (EntryId × Bor EntryCert) → List (EntryId × EntryCert)
 shown pairs = map (λ p. (p.0, p.1.now)) pairs
 
-pub found_at : (e : EntryId) (test : EntryId → Bool) → ((k : EntryId) → test k ≡ same_entry e k) → (pairs : List (EntryId × Bor Summary)) → option_copied (lookup test pairs) ≡ summary_at (shown pairs) e
+pub found_at : (e : EntryId) (test : EntryId → Bool) → ((k : EntryId) → test k ≡ same_entry e k) → (pairs : List (EntryId × Bor EntryCert)) → option_copied (lookup test pairs) ≡ block_at (shown pairs) e
 found_at e test is [] = refl
 found_at e test is (p ∷ pairs) =
     ⊎_elim
@@ -25,7 +24,7 @@ found_at e test is (p ∷ pairs) =
     (cases_Bool (test p.0))
 
 -- whether a key is there
-pub there : (e : EntryId) (test : EntryId → Bool) → ((k : EntryId) → test k ≡ same_entry e k) → (pairs : List (EntryId × Bor Summary)) → is_some (lookup test pairs) ≡ has_entry (map (λ p. p.0) (shown pairs)) e
+pub there : (e : EntryId) (test : EntryId → Bool) → ((k : EntryId) → test k ≡ same_entry e k) → (pairs : List (EntryId × Bor EntryCert)) → is_some (lookup test pairs) ≡ has_entry (map (λ p. p.0) (shown pairs)) e
 there e test is [] = refl
 there e test is (p ∷ pairs) =
     ⊎_elim
@@ -34,7 +33,7 @@ there e test is (p ∷ pairs) =
     (cases_Bool (test p.0))
 
 -- one more pair
-pub shown_more : (pairs : List (EntryId × Bor Summary)) (k : EntryId) (s : Bor Summary) → shown (pairs ++ (k, s) ∷ []) ≡ shown pairs ++ (k, s.now) ∷ []
+pub shown_more : (pairs : List (EntryId × Bor EntryCert)) (k : EntryId) (s : Bor EntryCert) → shown (pairs ++ (k, s) ∷ []) ≡ shown pairs ++ (k, s.now) ∷ []
 shown_more [] k s = refl
 shown_more (p ∷ pairs) k s = ap (λ z. (p.0, p.1.now) ∷ z) (shown_more pairs k s)
 
@@ -143,23 +142,23 @@ module _ (e : EntryId) where
   apart : (k f : EntryId) → same_entry e k ≡ false → same_entry k f ≡ true → same_entry e f ≡ false
   apart k f h g = ap (same_entry e) (sym (entry_is k f g)) ∙ h
 
-  others_summary : (k : EntryId) → same_entry e k ≡ false → (pairs : List (EntryId × Summary))
-      → summary_at (filter (λ p. not (same_entry k p.0)) pairs) e ≡ summary_at pairs e
-  others_summary k h [] = refl
-  others_summary k h (p ∷ pairs) =
+  others_block : (k : EntryId) → same_entry e k ≡ false → (pairs : List (EntryId × EntryCert))
+      → block_at (filter (λ p. not (same_entry k p.0)) pairs) e ≡ block_at pairs e
+  others_block k h [] = refl
+  others_block k h (p ∷ pairs) =
       ⊎_elim
-      (λ (g : same_entry k p.0 ≡ true). let i = apart k p.0 h g in rw (g, i) (others_summary k h pairs))
+      (λ (g : same_entry k p.0 ≡ true). let i = apart k p.0 h g in rw (g, i) (others_block k h pairs))
       (λ (g : same_entry k p.0 ≡ false).
-      ⊎_elim (λ (i : same_entry e p.0 ≡ true). rw (g, i) refl) (λ (i : same_entry e p.0 ≡ false). rw (g, i) (others_summary k h pairs))
+      ⊎_elim (λ (i : same_entry e p.0 ≡ true). rw (g, i) refl) (λ (i : same_entry e p.0 ≡ false). rw (g, i) (others_block k h pairs))
       (cases_Bool (same_entry e p.0)))
       (cases_Bool (same_entry k p.0))
 
-  first_summary : (pairs : List (EntryId × Summary)) → summary_at (firsts (λ p. p.0) pairs) e ≡ summary_at pairs e
-  first_summary [] = refl
-  first_summary (p ∷ pairs) =
+  first_block : (pairs : List (EntryId × EntryCert)) → block_at (firsts (λ p. p.0) pairs) e ≡ block_at pairs e
+  first_block [] = refl
+  first_block (p ∷ pairs) =
       ⊎_elim
       (λ (h : same_entry e p.0 ≡ true). rw h refl)
-      (λ (h : same_entry e p.0 ≡ false). rw h (others_summary p.0 h (firsts (λ p. p.0) pairs) ∙ first_summary pairs))
+      (λ (h : same_entry e p.0 ≡ false). rw h (others_block p.0 h (firsts (λ p. p.0) pairs) ∙ first_block pairs))
       (cases_Bool (same_entry e p.0))
 
   others_there : (k : EntryId) → same_entry e k ≡ false → (es : List EntryId) → has_entry (filter (λ f. not (same_entry k f)) es) e ≡ has_entry es e
@@ -181,12 +180,12 @@ module _ (e : EntryId) where
       (cases_Bool (same_entry e f))
 
   module _ (routines : List RoutineTree) where
-    by_block : (blocks : List EntryCert) → summary_at (filter_map (summary_in routines) blocks) e ≡ summary_of routines blocks e
+    by_block : (blocks : List EntryCert) → block_at (filter_map (block_in routines) blocks) e ≡ block_of routines blocks e
     by_block [] = refl
     by_block (b ∷ blocks) = of (entry_by routines b.entry) refl (by_block blocks)
       where
-        of : (o : Option EntryId) → entry_by routines b.entry ≡ o → summary_at (filter_map (summary_in routines) blocks) e ≡ summary_of routines blocks e
-            → summary_at (filter_map (summary_in routines) (b ∷ blocks)) e ≡ summary_of routines (b ∷ blocks) e
+        of : (o : Option EntryId) → entry_by routines b.entry ≡ o → block_at (filter_map (block_in routines) blocks) e ≡ block_of routines blocks e
+            → block_at (filter_map (block_in routines) (b ∷ blocks)) e ≡ block_of routines (b ∷ blocks) e
         of None i h = rw i h
         of (Some k) i h =
             ⊎_elim (λ (g : same_entry e k ≡ true). rw (i, g) refl) (λ (g : same_entry e k ≡ false). rw (i, g) h) (cases_Bool (same_entry e k))
@@ -204,6 +203,6 @@ module _ (e : EntryId) where
 pub tables_are : TablesAre
 unfolding certified declared
 tables_are routines blocks texts = record {
-  certified = λ e. first_summary e (filter_map (summary_in routines) blocks) ∙ by_block e routines blocks;
+  certified = λ e. first_block e (filter_map (block_in routines) blocks) ∙ by_block e routines blocks;
   declared = λ e. first_there e (filter_map (entry_by routines) texts) ∙ by_text e routines texts;
 }

@@ -55,7 +55,7 @@ scope mods low drops = record {
   routines = [];
   own = 0;
   rules = record { families = family x 10 ∷ family (codes "LOG") 20 ∷ []; covers = []; private = []; readonly = []; entries = [] };
-  summaries = [];
+  blocks = [];
   declared_entries = [];
   summary = summary [] [] mods low drops;
   declared = false;

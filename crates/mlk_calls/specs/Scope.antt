@@ -33,9 +33,6 @@ is_declared routines texts e = list_any (names_entry routines e) texts
 abbrev pub block_of : List RoutineTree → List EntryCert → EntryId → Option EntryCert
 block_of routines blocks e = find (λ (b : EntryCert). names_entry routines e b.entry) blocks
 
-abbrev pub summary_of : List RoutineTree → List EntryCert → EntryId → Option Summary
-summary_of routines blocks e = option_map (λ (b : EntryCert). b.summary) (block_of routines blocks e)
-
 -- the cases of a point; a point that the lines don't have is never asked for
 abbrev pub is_at : ℕ → ℕ → Point → Bool
 is_at number round p = (p.line == number) && (p.round == round)
@@ -47,10 +44,10 @@ cases_of (Some p) = p.cases
 abbrev pub listed_at : List Point → ℕ → ℕ → List Case
 listed_at points number round = cases_of (find (is_at number round) points)
 
--- what is known of entries, in two tables: the summaries of those that are certified, and those that are declared
-abbrev pub summary_at : List (EntryId × Summary) → EntryId → Option Summary
-summary_at [] e = None
-summary_at (s ∷ summaries) e = if same_entry e s.0 then Some s.1 else summary_at summaries e
+-- what is known of entries, in two tables: the blocks of those that are certified, and those that are declared
+abbrev pub block_at : List (EntryId × EntryCert) → EntryId → Option EntryCert
+block_at [] e = None
+block_at (b ∷ blocks) e = if same_entry e b.0 then Some b.1 else block_at blocks e
 
 abbrev pub has_entry : List EntryId → EntryId → Bool
 has_entry entries e = list_any (same_entry e) entries
@@ -60,31 +57,31 @@ abbrev pub firsts : {A : Type 0} → (A → EntryId) → List A → List A
 firsts entry [] = []
 firsts entry (a ∷ items) = a ∷ filter (λ b. not (same_entry (entry a) (entry b))) (firsts entry items)
 
--- The certified entries in the order of their blocks, each with the summary of its first block; a block that names no
--- entry is left out.
-abbrev pub summary_in : List RoutineTree → EntryCert → Option (EntryId × Summary)
-summary_in routines b = option_map (λ e. (e, b.summary)) (entry_by routines b.entry)
+-- The certified entries in the order of their blocks, each with its first block; a block that names no entry is left
+-- out.
+abbrev pub block_in : List RoutineTree → EntryCert → Option (EntryId × EntryCert)
+block_in routines b = option_map (λ e. (e, b)) (entry_by routines b.entry)
 
-unfoldable pub certified : List RoutineTree → List EntryCert → List (EntryId × Summary)
-certified routines blocks = firsts (λ p. p.0) (filter_map (summary_in routines) blocks)
+unfoldable pub certified : List RoutineTree → List EntryCert → List (EntryId × EntryCert)
+certified routines blocks = firsts (λ p. p.0) (filter_map (block_in routines) blocks)
 
 -- the declared entries in the order of the rules, each once; a text that names no entry is left out
 unfoldable pub declared : List RoutineTree → List (List ℕ) → List EntryId
 declared routines texts = firsts (λ e. e) (filter_map (entry_by routines) texts)
 
 -- that the tables say of each entry what its block and the rules say
-pub record AreEntries (routines : List RoutineTree) (blocks : List EntryCert) (texts : List (List ℕ)) (found : List (EntryId × Summary) × List EntryId) : Type 0 where
-  pub certified : (e : EntryId) → summary_at found.0 e ≡ summary_of routines blocks e
+pub record AreEntries (routines : List RoutineTree) (blocks : List EntryCert) (texts : List (List ℕ)) (found : List (EntryId × EntryCert) × List EntryId) : Type 0 where
+  pub certified : (e : EntryId) → block_at found.0 e ≡ block_of routines blocks e
   pub declared : (e : EntryId) → has_entry found.1 e ≡ is_declared routines texts e
 
--- the program's routines and which of them, from 0, is walked; the rules; the certified entries with their summaries, and
--- the declared ones; the walked entry's own summary, whether it is declared, and its points; and which names are shared
+-- the program's routines and which of them, from 0, is walked; the rules; the certified entries with their blocks, and the
+-- declared ones; the walked entry's own summary, whether it is declared, and its points; and which names are shared
 -- in a frame with these names of its own
 pub record Scope : Type 0 where
   pub routines : List RoutineTree
   pub own : ℕ
   pub rules : RuleLists
-  pub summaries : List (EntryId × Summary)
+  pub blocks : List (EntryId × EntryCert)
   pub declared_entries : List EntryId
   pub summary : Summary
   pub declared : Bool
@@ -93,7 +90,7 @@ pub record Scope : Type 0 where
 
 -- the summary of a certified entry; whether a job may begin at an entry; the cases listed at a line and round
 abbrev pub summary_for : Scope → EntryId → Option Summary
-summary_for sc e = summary_at sc.summaries e
+summary_for sc e = option_map (λ (b : EntryCert). b.summary) (block_at sc.blocks e)
 
 abbrev pub begins_jobs : Scope → EntryId → Bool
 begins_jobs sc e = has_entry sc.declared_entries e
@@ -104,12 +101,12 @@ listed sc number round = listed_at sc.points number round
 -- The scope of an entry and of the block that is believed of it. Which names are shared is one of the program's facts,
 -- whatever names are own.
 abbrev pub scope_with :
-    List RoutineTree → RuleLists → List (EntryId × Summary) × List EntryId → EntryId → EntryCert → Scope
+    List RoutineTree → RuleLists → List (EntryId × EntryCert) × List EntryId → EntryId → EntryCert → Scope
 scope_with routines rules entries e b = record {
   routines = routines;
   own = e.routine;
   rules = rules;
-  summaries = entries.0;
+  blocks = entries.0;
   declared_entries = entries.1;
   summary = b.summary;
   declared = has_entry entries.1 e;

@@ -1,10 +1,10 @@
 // What the walk of an entry's lines is given.
 
-ghost use Rattle.std.specs.Prelude.{◌≡◌, ◌++◌, [], IfOk, OnOk, map, filter_map, option_copied};
+ghost use Rattle.std.specs.Prelude.{◌≡◌, ◌++◌, [], IfOk, OnOk, map, filter_map, option_copied, option_map};
 ghost use Rattle.mlk_routine.specs.Views.{routine_of};
 ghost use Rattle.mlk_program.specs.Entries.{entry_by};
 ghost use Rattle.mlk_calls.specs.Entries.{further, gained, gained_if};
-ghost use Rattle.mlk_calls.specs.Scope.{certified, declared, firsts, summary_in, summary_at, has_entry, scope_with, scope_of, listed, listed_at};
+ghost use Rattle.mlk_calls.specs.Scope.{certified, declared, firsts, block_in, block_at, has_entry, scope_with, scope_of, listed, listed_at};
 
 use indexmap::{IndexMap, IndexSet};
 use mlk_cert::{Case, EntryCert, Own, Point, Summary};
@@ -14,20 +14,20 @@ use mlk_text::{Name, Value};
 use std::alloc::{AllocError, Global};
 use std::marker::Model;
 
-/// What is known of entries: the summaries of those that are certified, and which are declared. A contract sees the two
+/// What is known of entries: the blocks of those that are certified, and which are declared. A contract sees the two
 /// lists.
 #[derive(Drop)]
 pub struct Entries<'a> {
-    certified: IndexMap<EntryId, &'a Summary>,
+    certified: IndexMap<EntryId, &'a EntryCert>,
     declared: IndexSet<EntryId>,
 }
 
 impl<'a> Model for Entries<'a> {
     ghost use Rattle.std.specs.Prelude.{List, map};
     ghost use Rattle.mlk_program.specs.declared.entry.EntryId.{EntryId};
-    ghost use Rattle.mlk_cert.specs.declared.block.Summary.{Summary};
+    ghost use Rattle.mlk_cert.specs.declared.block.EntryCert.{EntryCert};
 
-    ghost Value = { List (EntryId × Summary) × List EntryId };
+    ghost Value = { List (EntryId × EntryCert) × List EntryId };
 
     ghost view = { λ e. (map (λ p. (p.0, p.1.now)) e.certified.entries, e.declared.keys) };
 }
@@ -42,15 +42,15 @@ impl<'a> Entries<'a> {
         }
     }
 
-    // Adds the summary of an entry, where it has none yet.
-    fn certify(&mut self, entry: EntryId, summary: &'a Summary) -> Result<(), AllocError>
-        ensures summaries { OnOk result (self.new.0 ≡ gained (λ p. p.0) self.old.0 (entry, summary.now)) }
+    // Adds the block of an entry, where it has none yet.
+    fn certify(&mut self, entry: EntryId, block: &'a EntryCert) -> Result<(), AllocError>
+        ensures blocks { OnOk result (self.new.0 ≡ gained (λ p. p.0) self.old.0 (entry, block.now)) }
         ensures declared { OnOk result (self.new.1 ≡ self.old.1) }
     {
         if self.certified.contains_key(&entry) {
             return Ok(());
         }
-        let Ok(_) = self.certified.insert(entry, summary) else {
+        let Ok(_) = self.certified.insert(entry, block) else {
             return Err(AllocError);
         };
         Ok(())
@@ -58,27 +58,27 @@ impl<'a> Entries<'a> {
 
     fn declare(&mut self, entry: EntryId) -> Result<(), AllocError>
         ensures declared { OnOk result (self.new.1 ≡ gained (λ e. e) self.old.1 entry) }
-        ensures summaries { OnOk result (self.new.0 ≡ self.old.0) }
+        ensures blocks { OnOk result (self.new.0 ≡ self.old.0) }
     {
         self.declared.insert(entry)?;
         Ok(())
     }
 
     fn certify_block(&mut self, program: &Program, block: &'a EntryCert) -> Result<(), AllocError>
-        ensures summaries { OnOk result
-            (self.new.0 ≡ gained_if (λ p. p.0) self.old.0 (summary_in (map routine_of program.now) block.now)) }
+        ensures blocks { OnOk result
+            (self.new.0 ≡ gained_if (λ p. p.0) self.old.0 (block_in (map routine_of program.now) block.now)) }
         ensures declared { OnOk result (self.new.1 ≡ self.old.1) }
     {
         match program.entry(block.entry.as_bytes()) {
             None => Ok(()),
-            Some(entry) => self.certify(entry, &block.summary),
+            Some(entry) => self.certify(entry, block),
         }
     }
 
     fn declare_text(&mut self, program: &Program, text: &Value) -> Result<(), AllocError>
         ensures declared { OnOk result
             (self.new.1 ≡ gained_if (λ e. e) self.old.1 (entry_by (map routine_of program.now) text.now)) }
-        ensures summaries { OnOk result (self.new.0 ≡ self.old.0) }
+        ensures blocks { OnOk result (self.new.0 ≡ self.old.0) }
     {
         match program.entry(text.as_bytes()) {
             None => Ok(()),
@@ -87,8 +87,8 @@ impl<'a> Entries<'a> {
     }
 
     fn certify_all(&mut self, program: &Program, blocks: &'a [EntryCert]) -> Result<(), AllocError>
-        ensures summaries { OnOk result (self.new.0 ≡ self.old.0 ++ further (λ p. p.0) self.old.0
-            (firsts (λ p. p.0) (filter_map (summary_in (map routine_of program.now)) blocks.now))) }
+        ensures blocks { OnOk result (self.new.0 ≡ self.old.0 ++ further (λ p. p.0) self.old.0
+            (firsts (λ p. p.0) (filter_map (block_in (map routine_of program.now)) blocks.now))) }
         ensures declared { OnOk result (self.new.1 ≡ self.old.1) }
     {
         let mut left = blocks;
@@ -102,7 +102,7 @@ impl<'a> Entries<'a> {
     fn declare_all(&mut self, program: &Program, texts: &[Value]) -> Result<(), AllocError>
         ensures declared { OnOk result (self.new.1 ≡ self.old.1 ++ further (λ e. e) self.old.1
             (firsts (λ e. e) (filter_map (entry_by (map routine_of program.now)) texts.now))) }
-        ensures summaries { OnOk result (self.new.0 ≡ self.old.0) }
+        ensures blocks { OnOk result (self.new.0 ≡ self.old.0) }
     {
         let mut left = texts;
         while let Some((text, others)) = left.split_first() {
@@ -112,7 +112,7 @@ impl<'a> Entries<'a> {
         Ok(())
     }
 
-    /// What is known of a program's entries: the first block that names an entry has its summary, and the rules declare
+    /// What is known of a program's entries: the first block that names an entry is its own, and the rules declare
     /// entries. What names no entry of the program is left out.
     pub fn of(
         alloc: Global,
@@ -129,11 +129,19 @@ impl<'a> Entries<'a> {
         Ok(found)
     }
 
-    /// The summary of a certified entry. It takes no memory.
-    pub fn summary(&self, entry: EntryId) -> Option<&'a Summary>
-        ensures { option_copied result ≡ summary_at self.now.0 entry }
+    /// The block of a certified entry, the first that names it. It takes no memory.
+    pub fn block(&self, entry: EntryId) -> Option<&'a EntryCert>
+        ensures { option_copied result ≡ block_at self.now.0 entry }
     {
         self.certified.get(&entry).copied()
+    }
+
+    /// The summary of a certified entry. It takes no memory.
+    pub fn summary(&self, entry: EntryId) -> Option<&'a Summary>
+        ensures { option_copied result ≡ option_map (λ b. b.summary) (block_at self.now.0 entry) }
+    {
+        let block = self.block(entry)?;
+        Some(&block.summary)
     }
 
     /// Whether the entry is declared. It takes no memory.

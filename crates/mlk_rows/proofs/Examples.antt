@@ -44,7 +44,7 @@ scope = record {
     readonly = [];
     entries = [];
   };
-  summaries = [];
+  blocks = [];
   declared_entries = [];
   summary = record { need = []; exits = []; mods = []; low = None; drops = false };
   declared = false;

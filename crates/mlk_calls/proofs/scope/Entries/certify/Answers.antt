@@ -4,17 +4,17 @@ use Rattle.mlk_program.proofs.NameTables.{none_from}
 use Rattle.mlk_calls.proofs.EntryTables.{shown, there, shown_more, gains_none, gains_one}
 use Rattle.mlk_calls.proofs.scope.Entries.certify.Goals as goal
 
-pub returns-then-contains_key-clause-summaries : goal.returns-then-contains_key-clause-summaries
-returns-then-contains_key-clause-summaries c =
+pub returns-then-contains_key-clause-blocks : goal.returns-then-contains_key-clause-blocks
+returns-then-contains_key-clause-blocks c =
     let found = there c.args.entry _ (λ k. refl) c.self.inside.certified.entries in
-    rw (← c.self.view_is) (gains_none (λ p. p.0) (shown c.self.inside.certified.entries) (c.args.entry, c.args.summary.now)
+    rw (← c.self.view_is) (gains_none (λ p. p.0) (shown c.self.inside.certified.entries) (c.args.entry, c.args.block.now)
     (sym found ∙ sym c.contains_key.ensures ∙ c.if-contains_key.true))
 
-pub returns-clause-summaries : goal.returns-clause-summaries
-returns-clause-summaries c =
+pub returns-clause-blocks : goal.returns-clause-blocks
+returns-clause-blocks c =
     let es = c.self.inside.certified.entries in
     let found = there c.args.entry _ (λ k. refl) es in
     let absent = none_from _ (sym c.contains_key.ensures ∙ c.if-contains_key.false) in
-    let last = c.in-Ok.ensures.entries ∙ insert_entry-new _ c.self.inside.certified _ c.args.summary absent in
-    rw (← c.self.view_is) (ap shown last ∙ shown_more es c.args.entry c.args.summary
-    ∙ gains_one (λ p. p.0) (shown es) (c.args.entry, c.args.summary.now) (sym found ∙ sym c.contains_key.ensures ∙ c.if-contains_key.false))
+    let last = c.in-Ok.ensures.entries ∙ insert_entry-new _ c.self.inside.certified _ c.args.block absent in
+    rw (← c.self.view_is) (ap shown last ∙ shown_more es c.args.entry c.args.block
+    ∙ gains_one (λ p. p.0) (shown es) (c.args.entry, c.args.block.now) (sym found ∙ sym c.contains_key.ensures ∙ c.if-contains_key.false))

@@ -2,16 +2,16 @@ use Rattle.std.proofs.Common.{◌∙◌, ap}
 use Rattle.std.specs.Prelude.{map, filter_map}
 use Rattle.mlk_routine.specs.Views.{routine_of}
 use Rattle.mlk_program.specs.Entries.{entry_by}
-use Rattle.mlk_calls.specs.Scope.{certified, declared, firsts, summary_in}
+use Rattle.mlk_calls.specs.Scope.{certified, declared, firsts, block_in}
 use Rattle.mlk_calls.proofs.EntryTables.{all_found}
 use Rattle.mlk_calls.proofs.scope.Entries.of.Goals as goal
 
 pub returns-clause-certified : goal.returns-clause-certified
 unfolding certified
 returns-clause-certified c =
-    c.in_ok-declare_all.ensures.summaries
-    ∙ all_found (λ p. p.0) (summary_in (map routine_of c.args.program.now)) _ _ c.args.blocks.now (ap (λ z. z.0) c.new-found.ensures)
-    c.in_ok-certify_all.ensures.summaries
+    c.in_ok-declare_all.ensures.blocks
+    ∙ all_found (λ p. p.0) (block_in (map routine_of c.args.program.now)) _ _ c.args.blocks.now (ap (λ z. z.0) c.new-found.ensures)
+    c.in_ok-certify_all.ensures.blocks
 
 pub returns-clause-declared : goal.returns-clause-declared
 unfolding declared

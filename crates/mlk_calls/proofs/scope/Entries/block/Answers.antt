@@ -1,7 +1,7 @@
 use Rattle.std.proofs.Common.{◌∙◌, ap, refl}
 use Rattle.std.specs.Prelude.{option_copied}
 use Rattle.mlk_calls.proofs.EntryTables.{found_at}
-use Rattle.mlk_calls.proofs.scope.Entries.summary.Goals as goal
+use Rattle.mlk_calls.proofs.scope.Entries.block.Goals as goal
 
 pub returns : goal.returns
 returns c =
