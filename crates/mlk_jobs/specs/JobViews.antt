@@ -1,5 +1,7 @@
 -- The definition's jobs of the code's. This project's own.
-use Rattle.std.specs.Prelude.{ℕ, List, map, reverse, take, length}
+use Rattle.std.specs.Prelude.{ℕ, List, [], map, reverse, take, length}
+use Rattle.mlk_names.specs.declared.lock_name.LockName.{LockName}
+use Rattle.mlk_locks.specs.Counts.{all_lowered}
 use Rattle.mlk_jobs.specs.declared.binding.Binder.{Binder as BinderIn}
 use Rattle.mlk_jobs.specs.declared.job.Job.{Job as JobIn}
 use Rattle.mlk_jobs.specs.declared.pending.Frame.{Frame as FrameIn}
@@ -42,3 +44,10 @@ job_of j = record {
   tasks = tasks_of j.binders.items j.pending.items;
   stopped = j.stopped;
 }
+
+-- what is held after a release
+abbrev pub releasing : List LockName → Job → Job
+releasing names j = record j { held = all_lowered names j.held }
+
+abbrev pub holding_nothing : Job → Job
+holding_nothing j = record j { held = [] }

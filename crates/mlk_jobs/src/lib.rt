@@ -4,6 +4,7 @@
 mod asking;
 mod binding;
 mod cell;
+mod change;
 mod choice;
 mod job;
 mod law;
