@@ -1,6 +1,5 @@
 -- What is pending, the last one first.
 use Rattle.std.proofs.Common.{◌≡◌, ℕ, Bool, true, false, List, [], ◌∷◌, ◌++◌, suc, ◌-◌, ◌<◌, ◌≤◌, length, take, get_or, map, reverse, refl, sym, ap, ◌∙◌, arith, take-suc}
-use Rattle.std.specs.Prelude.{if◌then◌else◌}
 use Rattle.std.proofs.lemmas.List.{reverse-append, map-append, take_all}
 use Rattle.mlk_jobs.specs.declared.binding.Binder.{Binder}
 use Rattle.mlk_jobs.specs.declared.pending.Pending.{Pending}

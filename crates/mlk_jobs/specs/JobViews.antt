@@ -1,5 +1,5 @@
 -- The definition's jobs of the code's. This project's own.
-use Rattle.std.specs.Prelude.{ℕ, List, [], map, reverse, take, length}
+use Rattle.std.specs.Prelude.{List, [], map, reverse, take, length}
 use Rattle.mlk_names.specs.declared.lock_name.LockName.{LockName}
 use Rattle.mlk_locks.specs.Counts.{all_lowered}
 use Rattle.mlk_jobs.specs.declared.binding.Binder.{Binder as BinderIn}

@@ -1,7 +1,5 @@
 use Rattle.std.proofs.Common.{arith}
-use Rattle.std.specs.Prelude.{◌||◌, Bool}
-use Rattle.mlk_jobs.specs.Tasks.{Task}
-use Rattle.mlk_jobs.specs.Lines.{is_round, is_lines, is_end}
+use Rattle.mlk_jobs.specs.Lines.{is_end}
 use Rattle.mlk_jobs.proofs.PendingLemmas.{left_goes, left_stops, left_none}
 use Rattle.mlk_jobs.proofs.pending.kept_to_end.Goals as goal
 

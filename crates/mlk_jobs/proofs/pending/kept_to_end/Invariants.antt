@@ -1,6 +1,5 @@
 use Rattle.std.proofs.Common.{◌≤◌, length}
-use Rattle.std.specs.Prelude.{◌||◌}
-use Rattle.mlk_jobs.specs.Lines.{is_round, is_lines, is_end}
+use Rattle.mlk_jobs.specs.Lines.{is_end}
 use Rattle.mlk_jobs.proofs.PendingLemmas.{Left}
 use Rattle.mlk_jobs.proofs.pending.kept_to_end.Given as goal
 
