@@ -4,7 +4,7 @@ use Rattle.std.specs.Prelude.{bytes_eq, if◌then◌else◌, ◌&&◌, nat_lt, s
 use Rattle.std.proofs.lemmas.Bool.Decides.{nat_tests}
 use Rattle.mlk_jobs.specs.declared.cell.Table.{Table}
 use Rattle.mlk_jobs.specs.Bindings.{Cell, Cells, put, forgotten}
-use Rattle.mlk_jobs.specs.Views.{in_table, Puts, value_in, value_at}
+use Rattle.mlk_jobs.specs.Views.{in_table, Puts, value_in, value_at, without}
 
 -- functions that agree everywhere are one
 pub one_function : (f g : Cells) → ((c : Cell) → f c ≡ g c) → f ≡ g
@@ -19,23 +19,42 @@ suc_zero k = grind (arith, nat_tests)
 suc_suc : (g k : ℕ) → (suc g == suc k) ≡ (g == k)
 suc_suc g k = grind (arith, nat_tests)
 
-put_in : (ts : List Table) (g : ℕ) (t u : Table) (name value : List ℕ) → g < length ts → t ≡ get_or ts g t
-    → Puts name value t u → (k : ℕ) (n : List ℕ)
+put_in : (ts : List Table) (g : ℕ) (t u : Table) (name : List ℕ) (value : Option (List ℕ)) → g < length ts
+    → t ≡ get_or ts g t → Puts name value t u → (k : ℕ) (n : List ℕ)
     → value_in n (slice_get (slice_set ts g u) k)
-    ≡ (if (g == k) && bytes_eq name n then Some value else value_in n (slice_get ts k))
+    ≡ (if (g == k) && bytes_eq name n then value else value_in n (slice_get ts k))
 put_in [] g t u name value l e p k n = absurd (omega arith)
 put_in (x ∷ ts) zero t u name value l e p zero n =
-    p n ∙ ap (λ (z : Table). if bytes_eq name n then Some value else in_table z n) e
+    p n ∙ ap (λ (z : Table). if bytes_eq name n then value else in_table z n) e
 put_in (x ∷ ts) zero t u name value l e p (suc k) n = rw (zero_suc k) refl
 put_in (x ∷ ts) (suc g) t u name value l e p zero n = rw (suc_zero g) refl
 put_in (x ∷ ts) (suc g) t u name value l e p (suc k) n =
     rw (suc_suc g k) (put_in ts g t u name value (omega arith) e p k n)
 
 pub values_put : (ts : List Table) (g : ℕ) (t u : Table) (name value : List ℕ) → g < length ts → t ≡ get_or ts g t
-    → Puts name value t u
+    → Puts name (Some value) t u
     → value_at (slice_set ts g u) ≡ put (record { generation = g; name = name }) value (value_at ts)
 values_put ts g t u name value l e p =
-    one_function _ _ (λ c. put_in ts g t u name value l e p c.generation c.name)
+    one_function _ _ (λ c. put_in ts g t u name (Some value) l e p c.generation c.name)
+
+pub values_cleared : (ts : List Table) (g : ℕ) (t u : Table) (name : List ℕ) → g < length ts → t ≡ get_or ts g t
+    → Puts name None t u
+    → value_at (slice_set ts g u) ≡ without (record { generation = g; name = name }) (value_at ts)
+values_cleared ts g t u name l e p =
+    one_function _ _ (λ c. put_in ts g t u name None l e p c.generation c.name)
+
+same_in : (ts : List Table) (g : ℕ) (t u : Table) → g < length ts → t ≡ get_or ts g t
+    → ((n : List ℕ) → in_table u n ≡ in_table t n) → (k : ℕ) (n : List ℕ)
+    → value_in n (slice_get (slice_set ts g u) k) ≡ value_in n (slice_get ts k)
+same_in [] g t u l e p k n = absurd (omega arith)
+same_in (x ∷ ts) zero t u l e p zero n = p n ∙ ap (λ (z : Table). in_table z n) e
+same_in (x ∷ ts) zero t u l e p (suc k) n = refl
+same_in (x ∷ ts) (suc g) t u l e p zero n = refl
+same_in (x ∷ ts) (suc g) t u l e p (suc k) n = same_in ts g t u (omega arith) e p k n
+
+pub values_same : (ts : List Table) (g : ℕ) (t u : Table) → g < length ts → t ≡ get_or ts g t
+    → ((n : List ℕ) → in_table u n ≡ in_table t n) → value_at (slice_set ts g u) ≡ value_at ts
+values_same ts g t u l e p = one_function _ _ (λ c. same_in ts g t u l e p c.generation c.name)
 
 no_less : (k : ℕ) → nat_lt k 0 ≡ false
 no_less k = grind (arith, nat_tests)

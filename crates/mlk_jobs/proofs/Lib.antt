@@ -10,7 +10,4 @@ pub mod LockNameLemmas
 pub mod SettleLemmas
 pub mod BinderLemmas
 pub mod CellLemmas
-pub mod PartLemmas
-pub mod ExprParts
-pub mod TreeParts
-pub mod CommandParts
+pub mod SoundLemmas

@@ -1,5 +1,7 @@
 -- How many subscripts a name has.
-use Rattle.std.proofs.Common.{◌≡◌, ℕ, List, [], ◌∷◌, Vec, Global, length, refl, ap, ◌∙◌, arith}
+use Rattle.std.proofs.Common.{◌≡◌, ℕ, List, [], ◌∷◌, Vec, Global, length, map, refl, sym, ap, ◌∙◌, ◌≤◌, ◌+◌, ◌-◌, min, arith}
+use Rattle.std.specs.Prelude.{◌^◌}
+use Rattle.std.proofs.Math.Nat.{min-eq_left}
 use Rattle.mlk_expr.specs.declared.tree.Subscript.{Subscript}
 use Rattle.mlk_expr.specs.declared.tree.Expr.TheVariants as rust
 use Rattle.mlk_expr.specs.Trees.{tree_of, subs_from, sub_trees, LocalName, GlobalName}
@@ -8,6 +10,7 @@ use Rattle.mlk_routine.specs.declared.tree.Variable.{Variable}
 use Rattle.mlk_routine.specs.Views.{variable_of}
 use Rattle.mlk_jobs.specs.Expressions.{count_subs}
 use Rattle.mlk_jobs.specs.Commands.{count_in}
+use Rattle.mlk_jobs.specs.Locking.{count_all}
 
 count_is : (ss : List Subscript) → length ss ≡ count_subs (subs_from (sub_trees ss))
 count_is [] = refl
@@ -25,3 +28,11 @@ global_count v column name subs slice is same =
     let e : tree_of v.name ≡ GlobalName column name (subs_from (sub_trees subs.items)) =
     ap tree_of is ∙ tree_global column name subs in
     rw (e, same) (count_is subs.items)
+
+-- a count that stops at the greatest number
+pub counted_up : (left : List Variable) (count whole : ℕ) → length left ≡ 0 → count ≤ 2 ^ 64 - 1
+    → min (count_all (map variable_of left) + count) (2 ^ 64 - 1) ≡ whole → count ≡ whole
+counted_up [] count whole e l h =
+    let z : count ≡ 0 + count = omega arith in
+    sym (min-eq_left l) ∙ ap (λ k. min k (2 ^ 64 - 1)) z ∙ h
+counted_up (v ∷ left) count whole e l h = absurd (omega (arith, e))

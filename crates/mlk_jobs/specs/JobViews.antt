@@ -1,5 +1,5 @@
 -- The definition's jobs of the code's. This project's own.
-use Rattle.std.specs.Prelude.{List, [], map, reverse, take, length}
+use Rattle.std.specs.Prelude.{ℕ, List, [], map, reverse, take, length}
 use Rattle.mlk_names.specs.declared.lock_name.LockName.{LockName}
 use Rattle.mlk_locks.specs.Counts.{all_lowered}
 use Rattle.mlk_jobs.specs.declared.binding.Binder.{Binder as BinderIn}
@@ -10,7 +10,8 @@ use Rattle.mlk_jobs.specs.declared.pending.Pending.{Pending}
 use Rattle.mlk_jobs.specs.declared.pending.Pending.TheVariants as pending
 use Rattle.mlk_jobs.specs.Tasks as task
 use Rattle.mlk_jobs.specs.Tasks.{Task, Job, Frame, NoValue, AwaitsValue, HasValue}
-use Rattle.mlk_jobs.specs.Views.{bindings_of, value_at}
+use Rattle.mlk_jobs.specs.Bindings.{look}
+use Rattle.mlk_jobs.specs.Views.{bindings_of, value_at, without}
 use Rattle.mlk_jobs.specs.TaskViews.{task_of}
 
 abbrev pub frame_of : FrameIn → Frame
@@ -51,3 +52,7 @@ releasing names j = record j { held = all_lowered names j.held }
 
 abbrev pub holding_nothing : Job → Job
 holding_nothing j = record j { held = [] }
+
+-- a name has no value any more
+abbrev pub cleared : List ℕ → Job → Job
+cleared name j = record j { cells = without (look j.bindings name) j.cells }

@@ -14,6 +14,5 @@ pub mod Seen
 pub mod Views
 pub mod TaskViews
 pub mod JobViews
-pub mod PartViews
-pub mod ArgumentViews
+pub mod Sound
 pub mod Laws

@@ -7,7 +7,7 @@ use Rattle.mlk_jobs.specs.declared.binding.Cell.{Cell as CellIn}
 use Rattle.mlk_jobs.specs.declared.binding.Binder.{Binder as BinderIn}
 use Rattle.mlk_jobs.specs.declared.binding.Binder.TheVariants as binder
 use Rattle.mlk_jobs.specs.declared.cell.Table.{Table}
-use Rattle.mlk_jobs.specs.Bindings.{Names, Only, AllBut, Cell, Binder, Fresh, ByReference, Bindings, Cells, covers}
+use Rattle.mlk_jobs.specs.Bindings.{Names, Only, AllBut, Cell, Binder, Fresh, ByReference, Bindings, Cells, covers, same_cell}
 
 abbrev pub names_of : NamesIn → Names
 names_of (names.Only name) = Only name.now
@@ -33,8 +33,9 @@ bound_by (ByReference formal cell) n = if bytes_eq formal n then Some cell else 
 abbrev pub in_table : Table → List ℕ → Option (List ℕ)
 in_table t n = lookup (λ k. bytes_eq n k.now) t.values.entries
 
-abbrev pub Puts : List ℕ → List ℕ → Table → Table → Type 0
-Puts name value old new = (n : List ℕ) → in_table new n ≡ (if bytes_eq name n then Some value else in_table old n)
+-- this value, or none, is put at a name
+abbrev pub Puts : List ℕ → Option (List ℕ) → Table → Table → Type 0
+Puts name value old new = (n : List ℕ) → in_table new n ≡ (if bytes_eq name n then value else in_table old n)
 
 abbrev pub value_in : List ℕ → Option Table → Option (List ℕ)
 value_in n None = None
@@ -42,3 +43,7 @@ value_in n (Some t) = in_table t n
 
 abbrev pub value_at : List Table → Cells
 value_at tables c = value_in c.name (slice_get tables c.generation)
+
+-- a cell is left without a value
+abbrev pub without : Cell → Cells → Cells
+without cell cells c = if same_cell cell c then None else cells c

@@ -10,7 +10,7 @@ use mlk_locks::Refusal;
 use mlk_text::Value;
 
 /// Nothing may be chosen at a step that asks nothing.
-pub(crate) fn not_asked(choice: &Choice) -> Result<(), Refusal>
+pub fn not_asked(choice: &Choice) -> Result<(), Refusal>
     ensures { (j : Job) → without_choice choice.now (Ok j) ≡ and_then (λ _. Ok j) result }
 {
     match choice {
@@ -20,7 +20,7 @@ pub(crate) fn not_asked(choice: &Choice) -> Result<(), Refusal>
 }
 
 /// The value that is chosen.
-pub(crate) fn asked_value(choice: Choice) -> Result<Value, Refusal>
+pub fn asked_value(choice: Choice) -> Result<Value, Refusal>
     ensures { (f : List ℕ → Stepped) → with_value choice f ≡ and_then f result }
 {
     match choice {
@@ -30,7 +30,7 @@ pub(crate) fn asked_value(choice: Choice) -> Result<Value, Refusal>
 }
 
 /// The truth that is chosen.
-pub(crate) fn asked_truth(choice: &Choice) -> Result<bool, Refusal>
+pub fn asked_truth(choice: &Choice) -> Result<bool, Refusal>
     ensures { (f : Bool → Stepped) → with_truth choice.now f ≡ and_then f result }
 {
     match choice {
@@ -40,7 +40,7 @@ pub(crate) fn asked_truth(choice: &Choice) -> Result<bool, Refusal>
 }
 
 /// The truth of a value, where that is known.
-pub(crate) fn known_truth(value: &Value) -> Option<bool>
+pub fn known_truth(value: &Value) -> Option<bool>
     ensures { result ≡ (if is_one value.now then Some true else if is_zero value.now then Some false else None) }
 {
     match value.as_bytes() {
@@ -51,8 +51,7 @@ pub(crate) fn known_truth(value: &Value) -> Option<bool>
 }
 
 /// The truth of a value: known, or else chosen.
-
-pub(crate) fn truth_given(choice: &Choice, value: &Value) -> Result<bool, Refusal>
+pub fn truth_given(choice: &Choice, value: &Value) -> Result<bool, Refusal>
     ensures { (f : Bool → Job) → truth_of choice.now value.now (λ t. Ok (f t)) ≡ and_then (λ t. Ok (f t)) result }
 {
     let Some(truth) = known_truth(value) else {
@@ -63,7 +62,7 @@ pub(crate) fn truth_given(choice: &Choice, value: &Value) -> Result<bool, Refusa
 }
 
 /// A value: a known one, or else what is chosen.
-pub(crate) fn value_given(choice: Choice, known: Option<Value>) -> Result<Value, Refusal>
+pub fn value_given(choice: Choice, known: Option<Value>) -> Result<Value, Refusal>
     ensures { (f : List ℕ → Job)
         → given_or_asked choice known (λ value. Ok (f value)) ≡ and_then (λ value. Ok (f value)) result }
 {

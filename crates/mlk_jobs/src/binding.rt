@@ -8,21 +8,21 @@ use mlk_text::Name;
 
 /// One name, or all names but these.
 #[derive(Clone, Copy, Drop)]
-pub(crate) enum Names<'a> {
+pub enum Names<'a> {
     Only(&'a Name),
     AllBut(&'a [Name]),
 }
 
 /// A cell: which NEW or call made it, and the name that it was made for.
 #[derive(Clone, Copy, Drop)]
-pub(crate) struct Cell<'a> {
-    pub(crate) generation: usize,
-    pub(crate) name: &'a [u8],
+pub struct Cell<'a> {
+    pub generation: usize,
+    pub name: &'a [u8],
 }
 
 /// What binds names to cells.
 #[derive(Clone, Copy, Drop)]
-pub(crate) enum Binder<'a> {
+pub enum Binder<'a> {
     /// new cells of this generation
     Fresh(usize, Names<'a>),
     /// a formal, bound to a cell of its caller
@@ -43,7 +43,7 @@ fn is_among(names: &[Name], name: &[u8]) -> bool
 }
 
 /// Whether these names have this one.
-pub(crate) fn covers(names: Names, name: &[u8]) -> bool
+pub fn covers(names: Names, name: &[u8]) -> bool
     ensures { result ≡ covers (names_of names.entry) name.now }
 {
     match names {
@@ -53,7 +53,7 @@ pub(crate) fn covers(names: Names, name: &[u8]) -> bool
 }
 
 /// Whether two cells are one.
-pub(crate) fn same_cell(first: Cell, second: Cell) -> bool
+pub fn same_cell(first: Cell, second: Cell) -> bool
     ensures { result ≡ same_cell (cell_of first.entry) (cell_of second.entry) }
 {
     first.generation == second.generation && is_same(first.name, second.name)
@@ -82,7 +82,7 @@ fn bound<'a>(binder: Binder<'a>, name: &'a [u8]) -> Option<Cell<'a>>
 }
 
 /// The cell that a name is bound to: the last binder that binds it decides.
-pub(crate) fn look<'a>(binders: &[Binder<'a>], name: &'a [u8]) -> Cell<'a>
+pub fn look<'a>(binders: &[Binder<'a>], name: &'a [u8]) -> Cell<'a>
     ensures { cell_of result ≡ look (bindings_of binders.now) name.now }
 {
     let mut count = binders.len();

@@ -1,8 +1,8 @@
 // What cells hold.
 
-ghost use Rattle.std.specs.Prelude.{◌≡◌, ◌<◌, ℕ, suc, List, length, None, option_copied, slice_get, OnOk, OnErr, min};
+ghost use Rattle.std.specs.Prelude.{◌≡◌, ◌<◌, ℕ, suc, List, length, Some, None, option_copied, slice_get, OnOk, OnErr, min};
 ghost use Rattle.mlk_jobs.specs.Bindings.{put, forgotten};
-ghost use Rattle.mlk_jobs.specs.Views.{cell_of, in_table, value_at, Puts};
+ghost use Rattle.mlk_jobs.specs.Views.{cell_of, in_table, value_at, Puts, without};
 
 use crate::binding::Cell;
 use indexmap::IndexMap;
@@ -11,7 +11,7 @@ use std::alloc::{AllocError, Global};
 
 /// The values of the cells of one generation, each by its name.
 #[derive(Drop)]
-pub(crate) struct Table<'a> {
+pub struct Table<'a> {
     values: IndexMap<&'a [u8], Value>,
 }
 
@@ -33,12 +33,20 @@ impl<'a> Table<'a> {
 
     // Gives a name a value.
     fn put(&mut self, name: &'a [u8], value: Value) -> Result<(), AllocError>
-        ensures { OnOk result (Puts name.now value self.old self.new) }
+        ensures ok { OnOk result (Puts name.now (Some value) self.old self.new) }
+        ensures err { OnErr result ((n : List ℕ) → in_table self.new n ≡ in_table self.old n) }
     {
         let Ok(_) = self.values.insert(name, value) else {
             return Err(AllocError);
         };
         Ok(())
+    }
+
+    // Takes the value of a name away. It takes no memory.
+    fn remove(&mut self, name: &[u8])
+        ensures { Puts name.now None self.old self.new }
+    {
+        let _ = self.values.swap_remove(name);
     }
 }
 
@@ -49,7 +57,7 @@ fn table_at<'t, 'a>(tables: &'t [Table<'a>], generation: usize) -> Option<&'t Ta
 }
 
 /// What a cell holds, if it has a value: the tables are of one generation each, from 0. It takes no memory.
-pub(crate) fn value_of<'t>(tables: &'t [Table], cell: Cell) -> Option<&'t Value>
+pub fn value_of<'t>(tables: &'t [Table], cell: Cell) -> Option<&'t Value>
     ensures { option_copied result ≡ value_at tables.now (cell_of cell.entry) }
 {
     let Some(table) = table_at(tables, cell.generation) else {
@@ -59,8 +67,8 @@ pub(crate) fn value_of<'t>(tables: &'t [Table], cell: Cell) -> Option<&'t Value>
 }
 
 /// Gives a cell a value.
-#[tactic(auto, using(crate::proofs::CellLemmas::values_put))]
-pub(crate) fn store<'a>(
+#[tactic(auto, using(crate::proofs::CellLemmas::values_put, crate::proofs::CellLemmas::values_same))]
+pub fn store<'a>(
     tables: &mut Vec<Table<'a>>,
     cell: Cell<'a>,
     value: Value,
@@ -68,14 +76,25 @@ pub(crate) fn store<'a>(
     requires { cell.generation < length tables.old.items }
     ensures values { OnOk result (value_at tables.new.items
         ≡ put (cell_of cell.entry) value (value_at tables.old.items)) }
+    ensures err { OnErr result (value_at tables.new.items ≡ value_at tables.old.items) }
     ensures len { length tables.new.items ≡ length tables.old.items }
 {
     tables[cell.generation].put(cell.name, value)
 }
 
+/// Leaves a cell without a value. It takes no memory.
+#[tactic(auto, using(crate::proofs::CellLemmas::values_cleared))]
+pub fn clear(tables: &mut Vec<Table>, cell: Cell)
+    requires { cell.generation < length tables.old.items }
+    ensures values { value_at tables.new.items ≡ without (cell_of cell.entry) (value_at tables.old.items) }
+    ensures len { length tables.new.items ≡ length tables.old.items }
+{
+    tables[cell.generation].remove(cell.name);
+}
+
 /// Forgets the cells of this generation and of later ones.
 #[tactic(auto, using(crate::proofs::CellLemmas::values_forgotten))]
-pub(crate) fn forget(tables: &mut Vec<Table>, next: usize)
+pub fn forget(tables: &mut Vec<Table>, next: usize)
     ensures values { value_at tables.new.items ≡ forgotten next (value_at tables.old.items) }
     ensures len { length tables.new.items ≡ min next (length tables.old.items) }
 {
@@ -84,7 +103,7 @@ pub(crate) fn forget(tables: &mut Vec<Table>, next: usize)
 
 /// One more generation, whose cells have no values.
 #[tactic(auto, using(crate::proofs::CellLemmas::values_added))]
-pub(crate) fn add_generation(alloc: Global, tables: &mut Vec<Table>) -> Result<(), AllocError>
+pub fn add_generation(alloc: Global, tables: &mut Vec<Table>) -> Result<(), AllocError>
     ensures values { value_at tables.new.items ≡ value_at tables.old.items }
     ensures len { OnOk result (length tables.new.items ≡ suc (length tables.old.items)) }
     ensures err { OnErr result (length tables.new.items ≡ length tables.old.items) }

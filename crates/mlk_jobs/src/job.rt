@@ -2,6 +2,7 @@
 
 ghost use Rattle.std.specs.Prelude.{◌≡◌, Ok, Err, OnOk, OnErr, IfErr, option_map};
 ghost use Rattle.mlk_jobs.specs.JobViews.{job_of};
+ghost use Rattle.mlk_jobs.specs.Sound.{Sound};
 ghost use Rattle.mlk_jobs.specs.TaskViews.{touch_of};
 ghost use Rattle.mlk_jobs.specs.Runs.{aborted, seen};
 ghost use Rattle.mlk_jobs.specs.Seen.{ready};
@@ -17,20 +18,20 @@ use std::alloc::Global;
 
 /// A job that runs routines.
 #[derive(Drop)]
-pub(crate) struct Job<'a> {
-    pub(crate) number: u32,
-    pub(crate) test: bool,
+pub struct Job<'a> {
+    pub number: u32,
+    pub test: bool,
     /// the routine that runs, counted from 0
-    pub(crate) routine: usize,
+    pub routine: usize,
     /// the newest last
-    pub(crate) binders: Vec<Binder<'a>>,
+    pub binders: Vec<Binder<'a>>,
     /// the values of cells, by generation
-    pub(crate) tables: Vec<Table<'a>>,
-    pub(crate) values: Stack,
-    pub(crate) held: Held,
+    pub tables: Vec<Table<'a>>,
+    pub values: Stack,
+    pub held: Held,
     /// the next one last
-    pub(crate) pending: Vec<Pending<'a>>,
-    pub(crate) stopped: bool,
+    pub pending: Vec<Pending<'a>>,
+    pub stopped: bool,
 }
 
 impl<'a> Seen for Job<'a> {
@@ -57,7 +58,7 @@ impl<'a> Seen for Job<'a> {
 
 impl<'a> Job<'a> {
     /// The reference that the job stands ready at: touching it is its next task. It takes no memory.
-    pub(crate) fn ready(&self) -> Option<&Reference>
+    pub fn ready(&self) -> Option<&Reference>
         ensures { option_map (λ r. touch_of r.now) result ≡ ready (job_of self.now) }
     {
         match self.pending.last() {
@@ -67,10 +68,11 @@ impl<'a> Job<'a> {
     }
 
     /// A job that is aborted holds no lock and does nothing more; one that has nothing to do can't be.
-    pub(crate) fn abort(&mut self, alloc: Global) -> Result<(), Refusal>
+    pub fn abort(&mut self, alloc: Global) -> Result<(), Refusal>
         ensures ok { OnOk result (aborted (job_of self.old) (job_of self.old).tasks ≡ Ok (job_of self.new)) }
         ensures err { IfErr result (λ why. aborted (job_of self.old) (job_of self.old).tasks ≡ Err why) }
         ensures stays { OnErr result (self.new ≡ self.old) }
+        ensures sound { Sound self.old → Sound self.new }
     {
         if self.pending.is_empty() {
             return Err(Refusal::NotEnabled);

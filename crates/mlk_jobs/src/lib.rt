@@ -10,13 +10,21 @@ mod job;
 mod law;
 mod locking;
 mod operator;
-mod parts;
 mod pending;
 mod stack;
 mod task;
 
+pub use asking::{asked_truth, asked_value, not_asked, truth_given, value_given};
+pub use binding::{Binder, Cell, Names, look};
+pub use cell::{Table, add_generation, forget};
 pub use choice::Choice;
+pub use job::Job;
 pub use law::{
     changes_one, ended_stays, folds_agree, held_apart, leaving_out, one_run_of_many,
     rings_are_found, settles_by_steps,
 };
+pub use locking::{count_all, count_in, cut_after, lock_names};
+pub use operator::{given_before, given_between};
+pub use pending::{Back, Frame, Pending};
+pub use stack::Stack;
+pub use task::{Calling, Rest, Task};

@@ -1,9 +1,9 @@
 // The names of LOCK, once their subscripts were computed.
 
-ghost use Rattle.std.specs.Prelude.{◌≡◌, IfOk, length, map, take, drop};
+ghost use Rattle.std.specs.Prelude.{◌≡◌, ◌-◌, ◌^◌, IfOk, length, map, min, take, drop};
 ghost use Rattle.mlk_routine.specs.Views.{variable_of};
 ghost use Rattle.mlk_jobs.specs.Commands.{count_in};
-ghost use Rattle.mlk_jobs.specs.Locking.{root_in, lock_name_of, names_of};
+ghost use Rattle.mlk_jobs.specs.Locking.{root_in, count_all, lock_name_of, names_of};
 
 use mlk_expr::{Expr, Subscript};
 use mlk_names::{LockName, Root};
@@ -23,7 +23,7 @@ fn subscripts_of(variable: &Variable) -> &[Subscript]
 }
 
 /// How many subscripts a name has.
-pub(crate) fn count_in(variable: &Variable) -> usize
+pub fn count_in(variable: &Variable) -> usize
     ensures { result ≡ count_in (variable_of variable.now) }
 {
     subscripts_of(variable).len()
@@ -40,8 +40,8 @@ fn root_in(alloc: Global, variable: &Variable) -> Result<Root, AllocError>
     }
 }
 
-// The first so many values.
-fn first(values: &[Value], count: usize) -> (&[Value], &[Value])
+/// The first so many values, and the others.
+pub fn cut_after(values: &[Value], count: usize) -> (&[Value], &[Value])
     ensures before { result.0.now ≡ take count values.now }
     ensures after { result.1.now ≡ drop count values.now }
 {
@@ -61,8 +61,21 @@ fn lock_name(
     Ok(LockName { root, subs })
 }
 
+/// How many subscripts these names have together; no more than the greatest number that a count has.
+pub fn count_all(names: &[Variable]) -> usize
+    ensures { result ≡ min (count_all (map variable_of names.now)) (2 ^ 64 - 1) }
+{
+    let mut count = 0;
+    let mut left = names;
+    while let Some((variable, others)) = left.split_first() {
+        count = count_in(variable).saturating_add(count);
+        left = others;
+    }
+    count
+}
+
 /// The names of LOCK, of the values of all their subscripts.
-pub(crate) fn lock_names(
+pub fn lock_names(
     alloc: Global,
     names: &[Variable],
     values: &[Value],
@@ -73,7 +86,7 @@ pub(crate) fn lock_names(
     let mut rest = values;
     let mut left = names;
     while let Some((variable, others)) = left.split_first() {
-        let (subscripts, later) = first(rest, count_in(variable));
+        let (subscripts, later) = cut_after(rest, count_in(variable));
         found.push(lock_name(alloc, variable, subscripts)?)?;
         rest = later;
         left = others;

@@ -9,7 +9,7 @@ use std::alloc::{AllocError, Global};
 
 /// What an operator gives of two values, where that is known.
 #[tactic(auto, using(crate::proofs::FoldLemmas::between_given))]
-pub(crate) fn given_between(
+pub fn given_between(
     alloc: Global,
     op: Op,
     first: &Value,
@@ -21,7 +21,7 @@ pub(crate) fn given_between(
 }
 
 /// What an operator gives of one value, where that is known.
-pub(crate) fn given_before(
+pub fn given_before(
     alloc: Global,
     op: UnaryOp,
     operand: &Value,

@@ -1,15 +1,18 @@
 // What a job has still to do: tasks, and the ends of the blocks and frames that it is in.
 
-ghost use Rattle.std.specs.Prelude.{◌≡◌, ◌≤◌, ◌||◌, List, length, take};
+ghost use Rattle.std.specs.Prelude.{◌≡◌, ◌≤◌, ◌||◌, ◌++◌, ℕ, List, length, take, map, OnOk, OnErr};
 ghost use Rattle.mlk_jobs.specs.declared.binding.Binder.{Binder};
-ghost use Rattle.mlk_jobs.specs.Lines.{is_round, is_lines, is_end, skipped, to_end};
+ghost use Rattle.mlk_jobs.specs.Lines.{is_round, is_lines, is_end, skipped, to_end, quit_from, quit};
 ghost use Rattle.mlk_jobs.specs.JobViews.{pending_of, tasks_of};
+ghost use Rattle.mlk_jobs.specs.Sound.{Stands};
+ghost use Rattle.mlk_jobs.specs.TaskViews.{task_of};
 
 use crate::task::Task;
+use std::alloc::AllocError;
 
 /// What a frame owes at its end.
 #[derive(Clone, Copy, Debug, Drop, PartialEq, Eq)]
-pub(crate) enum Frame {
+pub enum Frame {
     NoValue,
     /// a value; and `$TEST` is put back
     AwaitsValue(bool),
@@ -19,14 +22,14 @@ pub(crate) enum Frame {
 
 /// How things were at the begin of a block or of a frame: the number of binders, and the first unused generation.
 #[derive(Clone, Copy, Debug, Drop, PartialEq, Eq)]
-pub(crate) struct Back {
-    pub(crate) binders: usize,
-    pub(crate) next: usize,
+pub struct Back {
+    pub binders: usize,
+    pub next: usize,
 }
 
 /// What is still to be done.
 #[derive(Drop)]
-pub(crate) enum Pending<'a> {
+pub enum Pending<'a> {
     Task(Task<'a>),
     /// the end of a block, which puts `$TEST` back
     EndBlock(Back, bool),
@@ -107,8 +110,10 @@ fn kept_to_end(pending: &[Pending]) -> usize
 }
 
 /// The rest of the line is skipped, up to the next round of its innermost FOR. It takes no memory.
+#[tactic(auto, using(crate::proofs::SoundLemmas::stands_taken))]
 pub(crate) fn skip(pending: &mut Vec<Pending>)
-    ensures { (binders : List Binder) → tasks_of binders pending.new.items
+    ensures stands { (binders : List Binder) (n : ℕ) → Stands binders n pending.old.items → Stands binders n pending.new.items }
+    ensures left { (binders : List Binder) → tasks_of binders pending.new.items
         ≡ skipped (tasks_of binders pending.old.items) }
 {
     let kept = kept_by_skip(pending.as_slice());
@@ -116,10 +121,67 @@ pub(crate) fn skip(pending: &mut Vec<Pending>)
 }
 
 /// The block, or else the frame, is quit, up to its end. It takes no memory.
+#[tactic(auto, using(crate::proofs::SoundLemmas::stands_taken))]
 pub(crate) fn go_to_end(pending: &mut Vec<Pending>)
-    ensures { (binders : List Binder) → tasks_of binders pending.new.items
+    ensures stands { (binders : List Binder) (n : ℕ) → Stands binders n pending.old.items → Stands binders n pending.new.items }
+    ensures left { (binders : List Binder) → tasks_of binders pending.new.items
         ≡ to_end (tasks_of binders pending.old.items) }
 {
     let kept = kept_to_end(pending.as_slice());
     pending.truncate(kept);
+}
+
+/// These tasks are done first, the first of them before all. Where there is no memory nothing is changed.
+pub(crate) fn do_first<'a>(
+    pending: &mut Vec<Pending<'a>>,
+    tasks: Vec<Task<'a>>,
+) -> Result<(), AllocError>
+    ensures stands { (binders : List Binder) (n : ℕ) → Stands binders n pending.old.items → Stands binders n pending.new.items }
+    ensures ok { OnOk result ((binders : List Binder) → tasks_of binders pending.new.items
+        ≡ map task_of tasks.entry.items ++ tasks_of binders pending.old.items) }
+    ensures err { OnErr result (pending.new.items ≡ pending.old.items) }
+{
+    let mut left = tasks;
+    pending.reserve(left.len())?;
+    while let Some(task) = left.pop() {
+        pending.push_reserved(Pending::Task(task));
+    }
+    Ok(())
+}
+
+// How many stay where the innermost FOR of the line is quit, else the block, else the frame, once the line was skipped.
+fn kept_by_quit(pending: &[Pending]) -> usize
+    ensures within { result ≤ length pending.now }
+    ensures kept { (binders : List Binder) → tasks_of binders (take result pending.now)
+        ≡ quit_from (tasks_of binders pending.now) }
+{
+    let count = pending.len();
+    if count == 0 {
+        return 0;
+    }
+    if is_round(&pending[count - 1]) {
+        return count - 1;
+    }
+    kept_to_end(pending)
+}
+
+// Quits once the rest of the line was skipped.
+#[tactic(auto, using(crate::proofs::SoundLemmas::stands_taken))]
+fn quit_skipped(pending: &mut Vec<Pending>)
+    ensures stands { (binders : List Binder) (n : ℕ) → Stands binders n pending.old.items → Stands binders n pending.new.items }
+    ensures left { (binders : List Binder) → tasks_of binders pending.new.items
+        ≡ quit_from (tasks_of binders pending.old.items) }
+{
+    let kept = kept_by_quit(pending.as_slice());
+    pending.truncate(kept);
+}
+
+/// QUIT ends the innermost FOR of its line, else the block, else the frame. It takes no memory.
+pub(crate) fn quit(pending: &mut Vec<Pending>)
+    ensures stands { (binders : List Binder) (n : ℕ) → Stands binders n pending.old.items → Stands binders n pending.new.items }
+    ensures left { (binders : List Binder) → tasks_of binders pending.new.items
+        ≡ quit (tasks_of binders pending.old.items) }
+{
+    skip(pending);
+    quit_skipped(pending);
 }

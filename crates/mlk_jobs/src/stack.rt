@@ -1,6 +1,6 @@
 // Values that were computed and not used yet.
 
-ghost use Rattle.std.specs.Prelude.{◌≡◌, ◌∷◌, [], OnOk, OnErr, reverse, take, drop, slice_get, option_map};
+ghost use Rattle.std.specs.Prelude.{◌≡◌, ◌∷◌, [], OnOk, OnErr, reverse, take, drop, length, slice_get, option_map};
 
 use mlk_text::Value;
 use std::alloc::{AllocError, Global};
@@ -8,7 +8,7 @@ use std::marker::Model;
 
 /// Values that were computed and not used yet. A contract sees the last one first.
 #[derive(Drop, Debug)]
-pub(crate) struct Stack {
+pub struct Stack {
     values: Vec<Value>,
 }
 
@@ -22,14 +22,21 @@ impl Model for Stack {
 
 impl Stack {
     /// These values, the first of which was computed first.
-    pub(crate) fn of(values: Vec<Value>) -> Stack
+    pub fn of(values: Vec<Value>) -> Stack
         ensures { result ≡ reverse values.items }
     {
         Stack { values }
     }
 
+    /// How many there are.
+    pub fn depth(&self) -> usize
+        ensures { result ≡ length self.now }
+    {
+        self.values.len()
+    }
+
     /// One more value.
-    pub(crate) fn push(&mut self, value: Value) -> Result<(), AllocError>
+    pub fn push(&mut self, value: Value) -> Result<(), AllocError>
         ensures ok { OnOk result (self.new ≡ value ∷ self.old) }
         ensures err { OnErr result (self.new ≡ self.old) }
     {
@@ -38,7 +45,7 @@ impl Stack {
     }
 
     /// The last so many values, or all where there are fewer, in the order in which they were computed.
-    pub(crate) fn last(&self, count: usize) -> &[Value]
+    pub fn last(&self, count: usize) -> &[Value]
         ensures { result.now ≡ reverse (take count self.now) }
     {
         let (_, last) = self
@@ -47,19 +54,37 @@ impl Stack {
         last
     }
 
-    /// The last value.
-    pub(crate) fn top(&self) -> Option<&Value>
-        ensures { option_map (λ value. value.now) result ≡ slice_get self.now 0 }
+    /// The value that so many came after.
+    #[tactic(auto, using(crate::proofs::StackLemmas::at_depth, crate::proofs::StackLemmas::none_below))]
+    pub fn at(&self, depth: usize) -> Option<&Value>
+        ensures { option_map (λ value. value.now) result ≡ slice_get self.now depth }
     {
-        self.values.last()
+        let count = self.values.len();
+        if depth >= count {
+            return None;
+        }
+        Some(&self.values[count - 1 - depth])
     }
 
     /// The last so many values are used up.
     #[tactic(auto, using(crate::proofs::StackLemmas::kept_are))]
-    pub(crate) fn use_up(&mut self, count: usize)
+    pub fn use_up(&mut self, count: usize)
         ensures { self.new ≡ drop count self.old }
     {
         self.values
             .truncate(self.values.len().saturating_sub(count));
+    }
+
+    /// The last so many values are used up, and another one is pushed. Where there is no memory nothing is changed.
+    #[tactic(auto, using(crate::proofs::StackLemmas::replaced_are))]
+    pub fn replace_last(&mut self, count: usize, value: Value) -> Result<(), AllocError>
+        ensures ok { OnOk result (self.new ≡ value ∷ drop count self.old) }
+        ensures err { OnErr result (self.new ≡ self.old) }
+    {
+        self.values.reserve(1)?;
+        self.values
+            .truncate(self.values.len().saturating_sub(count));
+        self.values.push_reserved(value);
+        Ok(())
     }
 }

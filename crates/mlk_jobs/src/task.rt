@@ -8,22 +8,22 @@ use mlk_text::{Name, Op, UnaryOp, Value};
 
 /// What a call is made by.
 #[derive(Clone, Copy, Drop)]
-pub(crate) enum Calling {
+pub enum Calling {
     ByDo,
     Extrinsic,
 }
 
 /// What is left of a line: its commands, the FOR after them, and the line's block.
 #[derive(Clone, Copy, Drop)]
-pub(crate) struct Rest<'a> {
-    pub(crate) commands: &'a [Command],
-    pub(crate) last: Option<&'a For>,
-    pub(crate) block: &'a [Line],
+pub struct Rest<'a> {
+    pub commands: &'a [Command],
+    pub last: Option<&'a For>,
+    pub block: &'a [Line],
 }
 
 /// A task: a job does its first one, which is replaced by its parts until it is one step.
 #[derive(Drop)]
-pub(crate) enum Task<'a> {
+pub enum Task<'a> {
     Evaluate(&'a Expr),
     Push(&'a Value),
     Fetch(&'a Name),

@@ -4,8 +4,8 @@ use Rattle.mlk_jobs.specs.Lines.{to_end}
 use Rattle.mlk_jobs.specs.JobViews.{tasks_of}
 use Rattle.mlk_jobs.proofs.pending.go_to_end.Goals as goal
 
-pub returns : goal.returns
-returns c = λ binders.
+pub returns-clause-left : goal.returns-clause-left
+returns-clause-left c = λ binders.
     ap (tasks_of binders) c.truncate.ensures.items
     ∙ ap (λ (ps : List Pending). tasks_of binders (take c.kept_to_end-kept.result ps)) (sym c.as_slice.ensures.value)
     ∙ c.kept_to_end-kept.ensures.kept binders

@@ -1,0 +1,8 @@
+pub mod PartLemmas
+pub mod ExprParts
+pub mod TreeParts
+pub mod CommandParts
+pub mod ActionParts
+pub mod LineParts
+pub mod AssignParts
+pub mod MergeParts
