@@ -1,0 +1,22 @@
+use Rattle.std.proofs.Common.{◌∙◌, ap}
+use Rattle.std.specs.Prelude.{option_map, option_copied}
+use Rattle.mlk_expr.specs.Trees.{tree_of}
+use Rattle.mlk_routine.specs.Views.{variable_of}
+use Rattle.mlk_rows.specs.Walks.{each}
+use Rattle.mlk_rows.specs.Spots.{spot_of}
+use Rattle.mlk_rows.specs.Expressions.{value_if}
+use Rattle.mlk_commands.specs.Arguments.{in_time_or_not, read_row, read_variable}
+use Rattle.mlk_commands.proofs.Steps.{carried}
+use Rattle.mlk_commands.proofs.reading.read_variable.Goals as goal
+
+pub returns : goal.returns
+returns c =
+    let p = spot_of c.args.spot.now in
+    let v = variable_of c.args.variable.now in
+    let most = option_map tree_of (option_copied c.args.most) in
+    let timeout = option_map tree_of (option_copied c.args.timeout) in
+    carried c.each-2.result (each (in_time_or_not timeout) c.in_ok-walk-4.walk) (read_variable p v most timeout c.args.walk) c.each-2.ensures
+    (ap (λ w. each (in_time_or_not timeout) w) (c.in_ok-walk-4.ensures
+    ∙ ap (λ w. each (read_row p v) w) (c.in_ok-walk-3.ensures
+    ∙ ap (λ w. value_if p timeout w) (c.in_ok-walk-2.ensures
+    ∙ ap (λ w. value_if p most w) c.in_ok-walk.ensures))))

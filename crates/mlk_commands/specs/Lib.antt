@@ -1,0 +1,5 @@
+pub mod Variables
+pub mod Locks
+pub mod Holding
+pub mod News
+pub mod Arguments

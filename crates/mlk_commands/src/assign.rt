@@ -1,0 +1,228 @@
+// SET.
+
+ghost use Rattle.std.specs.Prelude.{◌≡◌, IfOk, map};
+ghost use Rattle.mlk_expr.specs.Trees.{trees};
+ghost use Rattle.mlk_routine.specs.Views.{variable_of, target_of, set_of};
+ghost use Rattle.mlk_names.specs.declared.reference.Extent.TheVariants as extent;
+ghost use Rattle.mlk_calls.specs.declared.state.State.{State};
+ghost use Rattle.mlk_rows.specs.Spots.{spot_of};
+ghost use Rattle.mlk_rows.specs.Walks.{Outcome};
+ghost use Rattle.mlk_rows.specs.References.{touch};
+ghost use Rattle.mlk_commands.specs.Arguments.{variable_in, arguments_in, capture_targets, symbols_at, read_part, read_target, write_variable, assign, assign_all, count_targets, set_argument};
+
+use crate::variable::{capture_variable, change_local, count_of};
+use mlk_calls::State;
+use mlk_expr::Expr;
+use mlk_names::{Access, Extent, Sym};
+use mlk_routine::{SetArgument, Target, Variable};
+use mlk_rows::{Row, Spot, Touch, Walk, covered_or, each, forget, value, values};
+use std::alloc::AllocError;
+
+fn variable_in(target: &Target) -> &Variable
+    ensures { variable_of result.now ≡ variable_in (target_of target.now) }
+{
+    match target {
+        Target::Whole(variable) => variable,
+        Target::Part(_, variable, _) => variable,
+    }
+}
+
+fn arguments_in(target: &Target) -> &[Expr]
+    ensures { trees result.now ≡ arguments_in (target_of target.now) }
+{
+    match target {
+        Target::Whole(_) => &[],
+        Target::Part(_, _, arguments) => arguments.as_slice(),
+    }
+}
+
+// The subscripts of each target, and the further arguments of `$PIECE` and `$EXTRACT`, are evaluated in place.
+fn capture_targets<'a>(
+    spot: &'a Spot<'a>,
+    targets: &'a [Target],
+    walk: Walk,
+) -> Result<Walk, AllocError>
+    ensures { IfOk result (λ w. w ≡ capture_targets (spot_of spot.now) (map target_of targets.now) walk) }
+{
+    let mut walk = walk;
+    for target in targets {
+        walk = capture_variable(spot, variable_in(target), walk)?;
+        walk = values(spot, arguments_in(target), walk)?;
+    }
+    Ok(walk)
+}
+
+// As many captured symbols as there are, after the first so many.
+fn symbols_at(state: &State, from: usize, count: usize) -> &[Sym]
+    ensures { result.now ≡ symbols_at from count state.now }
+{
+    let captured = state.captured.as_slice();
+    let (_, after) = captured.split_at(from.min(captured.len()));
+    let (symbols, _) = after.split_at(count.min(after.len()));
+    symbols
+}
+
+// A touch of the node whose subscripts were captured after the first so many symbols.
+#[derive(Clone, Copy, Drop)]
+struct TouchAt<'a> {
+    spot: &'a Spot<'a>,
+    touch: Touch<'a>,
+    from: usize,
+    count: usize,
+}
+
+impl<'a> Row for TouchAt<'a> {
+    ghost outcomes = { λ r s. touch (spot_of r.spot.now) r.touch.extent r.touch.access r.touch.column
+        r.touch.name.now (symbols_at r.from r.count s) s };
+
+    fn make(&self, state: State, walk: &mut Walk) -> Result<(), AllocError> {
+        let symbols = symbols_at(&state, self.from, self.count);
+        let fault = self.touch.fault(self.spot, symbols, &state)?;
+        covered_or(self.spot, self.touch.column, fault, state, walk)
+    }
+}
+
+// A global is read before a part of it is assigned to.
+#[derive(Clone, Copy, Drop)]
+struct ReadPart<'a> {
+    spot: &'a Spot<'a>,
+    from: usize,
+    variable: &'a Variable,
+}
+
+impl<'a> Row for ReadPart<'a> {
+    ghost outcomes = { λ r s. read_part (spot_of r.spot.now) r.from (variable_of r.variable.now) s };
+
+    fn make(&self, state: State, walk: &mut Walk) -> Result<(), AllocError> {
+        let spot = self.spot;
+        match &self.variable.name {
+            Expr::Global(column, name, subscripts) => {
+                let touch = Touch {
+                    extent: Extent::Node,
+                    access: Access::Reads,
+                    column: *column,
+                    name,
+                };
+                let row = TouchAt {
+                    spot,
+                    touch,
+                    from: self.from,
+                    count: subscripts.len(),
+                };
+                row.make(state, walk)
+            }
+            _ => walk.go(state),
+        }
+    }
+}
+
+fn read_target<'a>(
+    spot: &'a Spot<'a>,
+    from: usize,
+    target: &'a Target,
+    walk: Walk,
+) -> Result<Walk, AllocError>
+    ensures { IfOk result (λ w. w ≡ read_target (spot_of spot.now) from (target_of target.now) walk) }
+{
+    match target {
+        Target::Whole(_) => Ok(walk),
+        Target::Part(_, variable, _) => {
+            let row = ReadPart {
+                spot,
+                from,
+                variable,
+            };
+            each(spot.alloc, &row, walk)
+        }
+    }
+}
+
+// A variable is assigned to, whose subscripts were captured after the first so many symbols.
+#[derive(Clone, Copy, Drop)]
+struct Write<'a> {
+    spot: &'a Spot<'a>,
+    from: usize,
+    variable: &'a Variable,
+}
+
+impl<'a> Row for Write<'a> {
+    ghost outcomes = { λ r s. write_variable (spot_of r.spot.now) r.from (variable_of r.variable.now) s };
+
+    #[tactic(auto, using(crate::proofs::Opened::counted, crate::proofs::Opened::local_written, crate::proofs::Opened::global_written))]
+    fn make(&self, state: State, walk: &mut Walk) -> Result<(), AllocError> {
+        let spot = self.spot;
+        match &self.variable.name {
+            Expr::Global(column, name, subscripts) => {
+                let touch = Touch {
+                    extent: Extent::Node,
+                    access: Access::Writes,
+                    column: *column,
+                    name,
+                };
+                let row = TouchAt {
+                    spot,
+                    touch,
+                    from: self.from,
+                    count: subscripts.len(),
+                };
+                row.make(state, walk)
+            }
+            Expr::Local(name, subscripts) => {
+                change_local(spot, self.variable.column, name, subscripts, state, walk)
+            }
+            _ => walk.go(state),
+        }
+    }
+}
+
+fn assign<'a>(
+    spot: &'a Spot<'a>,
+    from: usize,
+    target: &'a Target,
+    walk: Walk,
+) -> Result<Walk, AllocError>
+    ensures { IfOk result (λ w. w ≡ assign (spot_of spot.now) from (target_of target.now) walk) }
+{
+    let walk = read_target(spot, from, target, walk)?;
+    let row = Write {
+        spot,
+        from,
+        variable: variable_in(target),
+    };
+    each(spot.alloc, &row, walk)
+}
+
+// Each target is assigned to in turn; and how many symbols were captured for them, which memory bounds.
+fn assign_all<'a>(
+    spot: &'a Spot<'a>,
+    targets: &'a [Target],
+    walk: Walk,
+) -> Result<(Walk, usize), AllocError>
+    ensures walk { IfOk result (λ r. r.0 ≡ assign_all (spot_of spot.now) 0 (map target_of targets.now) walk) }
+    ensures count { IfOk result (λ r. r.1 ≡ count_targets (map target_of targets.now)) }
+{
+    let mut walk = walk;
+    let mut from: usize = 0;
+    for target in targets {
+        walk = assign(spot, from, target, walk)?;
+        let Some(next) = from.checked_add(count_of(variable_in(target))) else {
+            return Err(AllocError);
+        };
+        from = next;
+    }
+    Ok((walk, from))
+}
+
+/// SET: the subscripts of all targets, then the value, then each target is assigned to in turn.
+pub fn set_argument<'a>(
+    spot: &'a Spot<'a>,
+    argument: &'a SetArgument,
+    walk: Walk,
+) -> Result<Walk, AllocError>
+    ensures { IfOk result (λ w. w ≡ set_argument (spot_of spot.now) (set_of argument.now) walk) }
+{
+    let walk = capture_targets(spot, &argument.targets, walk)?;
+    let walk = value(spot, &argument.value, walk)?;
+    let (walk, count) = assign_all(spot, &argument.targets, walk)?;
+    forget(spot.alloc, count, walk)
+}

@@ -1,0 +1,140 @@
+// DO of a label, and JOB.
+
+ghost use Rattle.std.specs.Prelude.{◌≡◌, IfOk};
+ghost use Rattle.mlk_expr.specs.Trees.{tree_of, actual_trees};
+ghost use Rattle.mlk_routine.specs.Views.{call_of, do_of};
+ghost use Rattle.mlk_calls.specs.declared.state.State.{State};
+ghost use Rattle.mlk_rows.specs.Spots.{spot_of};
+ghost use Rattle.mlk_rows.specs.Walks.{Outcome, each};
+ghost use Rattle.mlk_rows.specs.Expressions.{by_condition};
+ghost use Rattle.mlk_commands.specs.Arguments.{given_in, capture_given, forget_given, do_row, do_argument, job_row, job_argument};
+
+use mlk_calls::{Calling, State, at_job};
+use mlk_expr::{Actual, Expr};
+use mlk_routine::{Call, DoArgument};
+use mlk_rows::{
+    CallRow, Mend, Row, Spot, Walk, capture_actuals, each, forget, value, where_it_holds,
+};
+use mlk_text::Failure;
+use std::alloc::AllocError;
+
+// The actuals of a call; none without a list.
+fn given_of(call: &Call) -> &[Actual]
+    ensures { actual_trees result.now ≡ given_in (call_of call.now) }
+{
+    match &call.actuals {
+        None => &[],
+        Some(given) => given.as_slice(),
+    }
+}
+
+fn capture_given<'a>(spot: &'a Spot<'a>, call: &'a Call, walk: Walk) -> Result<Walk, AllocError>
+    ensures { IfOk result (λ w. w ≡ capture_given (spot_of spot.now) (call_of call.now) walk) }
+{
+    capture_actuals(spot, given_of(call), walk)
+}
+
+fn forget_given(spot: &Spot, call: &Call, walk: Walk) -> Result<Walk, AllocError>
+    ensures { IfOk result (λ w. w ≡ forget_given (call_of call.now) walk) }
+{
+    forget(spot.alloc, given_of(call).len(), walk)
+}
+
+// A call whose actuals were captured last.
+#[derive(Clone, Copy, Drop)]
+struct Calls<'a> {
+    spot: &'a Spot<'a>,
+    call: &'a Call,
+}
+
+impl<'a> Row for Calls<'a> {
+    ghost outcomes = { λ r s. do_row (spot_of r.spot.now) (call_of r.call.now) s };
+
+    fn make(&self, state: State, walk: &mut Walk) -> Result<(), AllocError> {
+        let row = CallRow {
+            spot: self.spot,
+            how: Calling::ByDo,
+            column: self.call.column,
+            callee: &self.call.callee,
+            given: given_of(self.call),
+        };
+        row.make(state, walk)
+    }
+}
+
+// A call where a condition that was evaluated may be true; where it may be false, its actuals are forgotten.
+fn call_where<'a>(
+    spot: &'a Spot<'a>,
+    call: &'a Call,
+    condition: &'a Expr,
+    walk: Walk,
+) -> Result<Walk, AllocError>
+    ensures { IfOk result (λ w. w ≡ by_condition (spot_of spot.now).scope (tree_of condition.now)
+        (each (do_row (spot_of spot.now) (call_of call.now))) (forget_given (call_of call.now)) walk) }
+{
+    let (held, failed) = where_it_holds(spot, condition, walk)?;
+    let found = each(spot.alloc, &Calls { spot, call }, held)?;
+    if found.over {
+        return Ok(found);
+    }
+    let (rest, waiting) = found.take_states(spot.alloc);
+    let left = forget_given(spot, call, rest.with_states(failed))?;
+    left.join(spot.alloc, waiting)
+}
+
+/// DO of a label: the actuals, the argument's own postconditional, the call.
+pub fn do_argument<'a>(
+    spot: &'a Spot<'a>,
+    argument: &'a DoArgument,
+    walk: Walk,
+) -> Result<Walk, AllocError>
+    ensures { IfOk result (λ w. w ≡ do_argument (spot_of spot.now) (do_of argument.now) walk) }
+{
+    let call = &argument.call;
+    let walk = capture_given(spot, call, walk)?;
+    match &argument.condition {
+        None => each(spot.alloc, &Calls { spot, call }, walk),
+        Some(condition) => {
+            let walk = value(spot, condition, walk)?;
+            call_where(spot, call, condition, walk)
+        }
+    }
+}
+
+// A job is begun at a callee, with actuals that were captured last.
+#[derive(Clone, Copy, Drop)]
+struct Begins<'a> {
+    spot: &'a Spot<'a>,
+    call: &'a Call,
+}
+
+impl<'a> Row for Begins<'a> {
+    ghost outcomes = { λ r s. job_row (spot_of r.spot.now) (call_of r.call.now) s };
+
+    fn make(&self, state: State, walk: &mut Walk) -> Result<(), AllocError> {
+        let spot = self.spot;
+        match at_job(spot.scope, &self.call.callee, given_of(self.call), state) {
+            Ok(state) => walk.go(state),
+            Err(Failure::OutOfMemory) => Err(AllocError),
+            Err(Failure::Refused(refusal)) => {
+                walk.refuse(spot.line, self.call.column, refusal.code, Mend::Nothing)
+            }
+        }
+    }
+}
+
+/// JOB: the actuals, then the entry has to be declared.
+pub fn job_argument<'a>(
+    spot: &'a Spot<'a>,
+    argument: &'a Call,
+    walk: Walk,
+) -> Result<Walk, AllocError>
+    ensures { IfOk result (λ w. w ≡ job_argument (spot_of spot.now) (call_of argument.now) walk) }
+{
+    let walk = capture_given(spot, argument, walk)?;
+    let row = Begins {
+        spot,
+        call: argument,
+    };
+    each(spot.alloc, &row, walk)
+}

@@ -1,0 +1,137 @@
+// Variables as commands name them, and changes of locals.
+
+ghost use Rattle.std.specs.Prelude.{◌≡◌, ◌∷◌, [], IfOk, OnOk};
+ghost use Rattle.mlk_expr.specs.Trees.{sub_trees, subs_from};
+ghost use Rattle.mlk_routine.specs.Views.{variable_of};
+ghost use Rattle.mlk_calls.specs.declared.state.State.{State};
+ghost use Rattle.mlk_calls.specs.Changes.{change};
+ghost use Rattle.mlk_calls.specs.Refusals.{AnswersOf};
+ghost use Rattle.mlk_rows.specs.Spots.{spot_of};
+ghost use Rattle.mlk_rows.specs.Walks.{Outcome, add_all, each};
+ghost use Rattle.mlk_commands.specs.Variables.{subs_of, name_in, count_in, capture_variable, change_at, change_local};
+
+use mlk_calls::{Refusal, State, change, short_names};
+use mlk_cert::NameSet;
+use mlk_expr::{Expr, Subscript};
+use mlk_routine::Variable;
+use mlk_rows::{Mend, Row, Spot, Walk, capture_subs, each};
+use mlk_text::{Code, Column, Failure, Name, copy_of};
+use std::alloc::AllocError;
+
+/// The subscripts of a variable; only locals and globals have some.
+#[tactic(auto, using(crate::proofs::Opened::local_subs, crate::proofs::Opened::global_subs))]
+pub(crate) fn subscripts_of(variable: &Variable) -> &[Subscript]
+    ensures { subs_from (sub_trees result.now) ≡ subs_of (name_in (variable_of variable.now)) }
+{
+    match &variable.name {
+        Expr::Local(_, subscripts) => subscripts.as_slice(),
+        Expr::Global(_, _, subscripts) => subscripts.as_slice(),
+        _ => &[],
+    }
+}
+
+/// How many subscripts a variable has.
+#[tactic(auto, using(crate::proofs::Opened::counted))]
+pub(crate) fn count_of(variable: &Variable) -> usize
+    ensures { result ≡ count_in (variable_of variable.now) }
+{
+    subscripts_of(variable).len()
+}
+
+/// The subscripts of a variable are evaluated.
+pub(crate) fn capture_variable<'a>(
+    spot: &'a Spot<'a>,
+    variable: &'a Variable,
+    walk: Walk,
+) -> Result<Walk, AllocError>
+    ensures { IfOk result (λ w. w ≡ capture_variable (spot_of spot.now) (variable_of variable.now) walk) }
+{
+    capture_subs(spot, subscripts_of(variable), walk)
+}
+
+/// A change of names, at a column.
+#[derive(Clone, Copy, Drop)]
+pub struct Change<'a> {
+    pub spot: &'a Spot<'a>,
+    pub column: Column,
+    pub names: &'a NameSet,
+}
+
+impl<'a> Change<'a> {
+    // What would mend a refused change: that the summary lists the names.
+    fn mend(&self, refusal: &Refusal) -> Result<Mend, AllocError> {
+        let spot = self.spot;
+        match refusal.code {
+            Code::SummaryShort => {
+                let names = [copy_of(self.names)?];
+                let short = short_names(spot.alloc, spot.scope, &names, &refusal.state)?;
+                Ok(Mend::Changes(short))
+            }
+            _ => Ok(Mend::Nothing),
+        }
+    }
+
+    fn changed(&self, state: State) -> Result<State, Failure<Refusal>>
+        ensures { AnswersOf state (λ s. s) result
+            (change (spot_of self.now.spot.now).scope (self.now.names.now ∷ []) state) }
+    {
+        let names = [copy_of(self.names)?];
+        change(self.spot.alloc, self.spot.scope, &names, state)
+    }
+}
+
+impl<'a> Row for Change<'a> {
+    ghost outcomes = { λ r s. change_at (spot_of r.spot.now) r.column r.names.now s };
+
+    fn make(&self, state: State, walk: &mut Walk) -> Result<(), AllocError> {
+        match self.changed(state) {
+            Ok(state) => walk.go(state),
+            Err(Failure::OutOfMemory) => Err(AllocError),
+            Err(Failure::Refused(refusal)) => {
+                let mend = self.mend(&refusal)?;
+                walk.refuse(self.spot.line, self.column, refusal.code, mend)
+            }
+        }
+    }
+}
+
+/// A change of names, at a column.
+pub(crate) fn change_all<'a>(
+    spot: &'a Spot<'a>,
+    column: Column,
+    names: &'a NameSet,
+    walk: Walk,
+) -> Result<Walk, AllocError>
+    ensures { IfOk result (λ w. w ≡ each (change_at (spot_of spot.now) column names.now) walk) }
+{
+    let row = Change {
+        spot,
+        column,
+        names,
+    };
+    each(spot.alloc, &row, walk)
+}
+
+/// A change of a local, at a column; with subscripts nothing that is known changes.
+pub(crate) fn change_local(
+    spot: &Spot,
+    column: Column,
+    name: &Name,
+    subscripts: &[Subscript],
+    state: State,
+    walk: &mut Walk,
+) -> Result<(), AllocError>
+    ensures { OnOk result (walk.new ≡ add_all (change_local (spot_of spot.now) column name.now
+        (subs_from (sub_trees subscripts.now)) state) walk.old) }
+{
+    if let Some(_) = subscripts.split_first() {
+        return walk.go(state);
+    }
+    let names = NameSet::Only(name.copy()?);
+    let row = Change {
+        spot,
+        column,
+        names: &names,
+    };
+    row.make(state, walk)
+}

@@ -1,0 +1,4 @@
+pub mod Commands
+pub mod Loops
+pub mod Endings
+pub mod Lines

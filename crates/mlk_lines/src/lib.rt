@@ -1,0 +1,17 @@
+//! What lines make of the cases that a certificate lists for them: commands, FOR, blocks, and the ends of lines.
+#![tactic(auto)]
+
+mod action;
+mod argument;
+mod block;
+mod conditioned;
+mod control;
+mod ending;
+mod found;
+mod level;
+mod line_end;
+mod rounds;
+
+pub use found::{LineFault, LineFaults};
+pub use level::walk_lines;
+pub use line_end::Around;
