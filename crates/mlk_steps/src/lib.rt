@@ -8,6 +8,7 @@ mod expression;
 mod line;
 mod local;
 mod locking;
+mod merge;
 mod quit;
 mod replace;
 mod scope;
