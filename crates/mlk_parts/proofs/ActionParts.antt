@@ -1,9 +1,8 @@
 -- What commands are replaced by, by kind.
-use Rattle.std.proofs.Common.{◌≡◌, ◌∙◌, List, [], ◌∷◌, Option, Some, None, Vec, Global, refl, sym}
-use Rattle.std.specs.Prelude.{map, flat_map, option_map}
+use Rattle.std.proofs.Common.{◌≡◌, List, [], ◌∷◌, Option, Some, None, refl}
+use Rattle.std.specs.Prelude.{map, flat_map}
 use Rattle.std.proofs.lemmas.List.Folds.{flat_map-map}
-use Rattle.mlk_expr.specs.declared.tree.Expr.{Expr}
-use Rattle.mlk_expr.specs.Trees.{tree_of, trees, Tree}
+use Rattle.mlk_expr.specs.Trees.{Tree}
 use Rattle.mlk_routine.specs.declared.tree.DoArgument.{DoArgument}
 use Rattle.mlk_routine.specs.declared.tree.KillArgument.{KillArgument}
 use Rattle.mlk_routine.specs.declared.tree.LockArgument.{LockArgument}
@@ -13,9 +12,9 @@ use Rattle.mlk_routine.specs.declared.tree.MergeArgument.{MergeArgument}
 use Rattle.mlk_routine.specs.declared.tree.ReadArgument.{ReadArgument}
 use Rattle.mlk_routine.specs.declared.tree.SetArgument.{SetArgument}
 use Rattle.mlk_routine.specs.declared.tree.WriteArgument.{WriteArgument}
-use Rattle.mlk_routine.specs.Trees.{LineTrees, ActionTree, Do, Hang, If, Job, Kill, Lock, Merge, New, Quit, Read, Set, Write, DoTree, KillTree, LockTree, NewTree}
+use Rattle.mlk_routine.specs.Trees.{LineTrees, Do, If, Kill, Lock, New, Quit, DoTree, KillTree, LockTree, NewTree}
 use Rattle.mlk_routine.specs.Views.{do_of, kill_of, lock_of, new_of, call_of, merge_of, read_of, set_of, write_of}
-use Rattle.mlk_jobs.specs.Commands.{evaluated, block_parts, action_parts, do_parts, kill_parts, lock_parts, new_parts, job_parts, merge_parts, read_parts, set_parts, write_parts}
+use Rattle.mlk_jobs.specs.Commands.{block_parts, action_parts, do_parts, kill_parts, lock_parts, new_parts, job_parts, merge_parts, read_parts, set_parts, write_parts}
 use Rattle.mlk_parts.specs.ArgumentViews.{do_all, if_all, kill_all, lock_all, new_all, quit_parts}
 
 pub do_some : (block : LineTrees) (x : DoArgument) (rest xs : List DoArgument) → xs ≡ x ∷ rest

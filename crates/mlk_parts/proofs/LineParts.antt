@@ -1,6 +1,6 @@
 -- What lines and their commands are, one level taken apart.
-use Rattle.std.proofs.Common.{◌≡◌, ◌∙◌, ap, sym, refl, List, [], ◌∷◌, ◌++◌, Option, Some, None, Box, Global, ℕ}
-use Rattle.std.specs.Prelude.{map, is_some, option_map}
+use Rattle.std.proofs.Common.{◌≡◌, ap, sym, refl, List, [], ◌∷◌, Option, Some, None, Box, Global, ℕ}
+use Rattle.std.specs.Prelude.{map, option_map}
 use Rattle.mlk_routine.specs.declared.tree.Commands.{Commands}
 use Rattle.mlk_routine.specs.declared.tree.Control.{Control}
 use Rattle.mlk_routine.specs.declared.tree.For.{For}
@@ -9,14 +9,14 @@ use Rattle.mlk_routine.specs.declared.tree.Commands.TheFolds.{fold_out-For}
 use Rattle.mlk_routine.specs.declared.routine.Line.{Line}
 use Rattle.mlk_routine.specs.declared.routine.Line.TheViews.{out-Line}
 use Rattle.mlk_routine.specs.declared.routine.Line.TheFolds.{fold_out-Line}
-use Rattle.mlk_routine.specs.Trees.{CommandTrees, then_for, HeadTree, LineTrees, LineHead, ControlTree}
+use Rattle.mlk_routine.specs.Trees.{CommandTrees, then_for, HeadTree, LineTrees, LineHead}
 use Rattle.mlk_routine.specs.Views.{commands_of, command_of, control_of, parameter_of, commands_from, commands_step, for_step, last_or_none, line_of, line_step, lines_from}
 use Rattle.mlk_program.specs.Entries.{formals_of}
 use Rattle.mlk_program.proofs.FoundCommands.{none_last, some_last}
 use Rattle.mlk_jobs.specs.Tasks.{Forever, Parameters}
 use Rattle.mlk_jobs.specs.Lines.{next_command}
-use Rattle.mlk_jobs.specs.Calling.{formals_in, commands_in}
-use Rattle.mlk_jobs.specs.TaskViews.{for_of, block_of}
+use Rattle.mlk_jobs.specs.Calling.{formals_in}
+use Rattle.mlk_jobs.specs.TaskViews.{for_of}
 
 commands_with : (c : Commands) (o : Option (Box For Global)) → (out-Commands c).last ≡ o
     → commands_from (map command_of (out-Commands c).before.items) (last_or_none (option_map (λ b. for_of b.value) o))
