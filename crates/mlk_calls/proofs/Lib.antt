@@ -4,6 +4,7 @@ pub mod Passing
 pub mod Folded
 pub mod ExprTrees
 pub mod EntryTables
+pub mod PointOrder
 pub mod CallSteps
 pub mod CaseTests
 pub mod Examples

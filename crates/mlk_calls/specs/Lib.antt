@@ -7,6 +7,7 @@ pub mod States
 pub mod Refusals
 pub mod Scope
 pub mod Entries
+pub mod Points
 pub mod Symbols
 pub mod Changes
 pub mod Claims

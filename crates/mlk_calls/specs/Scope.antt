@@ -1,7 +1,7 @@
 -- What the walk of an entry's lines is given. This project's own choice.
-use Rattle.std.specs.Prelude.{ℕ, ◌≡◌, Bool, ◌&&◌, ◌==◌, not, false, if◌then◌else◌, List, [], ◌∷◌, map, find, filter, filter_map}
+use Rattle.std.specs.Prelude.{ℕ, ◌≡◌, Bool, ◌&&◌, ◌==◌, nat_lt, not, false, if◌then◌else◌, List, [], ◌∷◌, map, find, filter, filter_map}
 use Rattle.std.specs.Prelude.{Option, Some, None, option_map}
-use Rattle.std.specs.List.{list_any}
+use Rattle.std.specs.List.{list_any, list_all}
 use Rattle.mlk_routine.specs.Trees.{RoutineTree}
 use Rattle.mlk_program.specs.declared.entry.EntryId.{EntryId}
 use Rattle.mlk_routine.specs.Views.{routine_of}
@@ -43,6 +43,10 @@ cases_of (Some p) = p.cases
 
 abbrev pub listed_at : List Point → ℕ → ℕ → List Case
 listed_at points number round = cases_of (find (is_at number round) points)
+
+-- a point of an earlier line
+abbrev pub is_earlier : ℕ → Point → Bool
+is_earlier number p = nat_lt p.line number
 
 -- what is known of entries, in two tables: the blocks of those that are certified, and those that are declared
 abbrev pub block_at : List (EntryId × EntryCert) → EntryId → Option EntryCert
@@ -97,6 +101,10 @@ begins_jobs sc e = has_entry sc.declared_entries e
 
 abbrev pub listed : Scope → ℕ → ℕ → List Case
 listed sc number round = listed_at sc.points number round
+
+-- whether all points are of earlier lines than this one
+abbrev pub is_past : Scope → ℕ → Bool
+is_past sc number = list_all (is_earlier number) sc.points
 
 -- The scope of an entry and of the block that is believed of it. Which names are shared is one of the program's facts,
 -- whatever names are own.

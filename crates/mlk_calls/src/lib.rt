@@ -8,6 +8,7 @@ mod law;
 mod listed;
 mod mend;
 mod names;
+mod points;
 mod scope;
 mod state;
 mod symbol;

@@ -3,11 +3,12 @@
 ghost use Rattle.std.specs.Prelude.{◌≡◌, ◌++◌, [], IfOk, OnOk, map, filter_map, option_copied, option_map};
 ghost use Rattle.mlk_routine.specs.Views.{routine_of};
 ghost use Rattle.mlk_program.specs.Entries.{entry_by};
-ghost use Rattle.mlk_calls.specs.Entries.{further, gained, gained_if};
-ghost use Rattle.mlk_calls.specs.Scope.{certified, declared, firsts, block_in, block_at, has_entry, scope_with, scope_of, listed, listed_at};
+ghost use Rattle.mlk_cert.specs.Limits.{points_below};
+ghost use Rattle.mlk_cert.specs.Lists.{ascends};
 
+use crate::points::{are_earlier, are_earlier_in_order, are_in_order, cases_at, cases_in_order};
 use indexmap::{IndexMap, IndexSet};
-use mlk_cert::{Case, EntryCert, Own, Point, Summary};
+use mlk_cert::{Case, EntryCert, Own, Summary};
 use mlk_coverage::{Rules, entries};
 use mlk_program::{EntryId, Program};
 use mlk_text::{Name, Value};
@@ -33,6 +34,9 @@ impl<'a> Model for Entries<'a> {
 }
 
 impl<'a> Entries<'a> {
+    ghost use Rattle.mlk_calls.specs.Entries.{further, gained, gained_if};
+    ghost use Rattle.mlk_calls.specs.Scope.{certified, declared, firsts, block_in, block_at, has_entry};
+
     fn new(alloc: Global) -> Entries<'a>
         ensures { result ≡ ([], []) }
     {
@@ -161,25 +165,16 @@ pub struct Scope<'a> {
     // the walked entry, and the block that is believed of it
     pub(crate) entry: EntryId,
     pub(crate) block: &'a EntryCert,
-}
-
-// The cases of the first point at a line and round.
-fn cases_at(points: &[Point], line: usize, round: usize) -> &[Case]
-    ensures { result.now ≡ listed_at points.now line round }
-{
-    let mut left = points;
-    while let Some((point, others)) = left.split_first() {
-        if point.line.number() as usize == line && point.round as usize == round {
-            return point.cases.as_slice();
-        }
-        left = others;
-    }
-    &[]
+    // whether the block's points stand in order, as those of a certificate do
+    in_order: bool,
+    ghost order: { in_order ≡ ascends points_below block.now.points },
 }
 
 impl<'a> Scope<'a> {
+    ghost use Rattle.mlk_calls.specs.Scope.{scope_with, scope_of, listed, is_past};
+
     /// What the walk of an entry's lines is given, where this block is believed of it. The entries are those of the same
-    /// program and rules, and of the block's certificate.
+    /// program and rules, and of the block's certificate. It takes no memory, and goes once through the block's points.
     pub fn of(
         program: &'a Program<'a>,
         rules: &'a Rules,
@@ -190,12 +185,14 @@ impl<'a> Scope<'a> {
         ensures { scope_of result
             ≡ scope_with (map routine_of program.now) rules.now entries.now entry block.now }
     {
+        let in_order = are_in_order(block.points.as_slice());
         Scope {
             program,
             rules,
             entries,
             entry,
             block,
+            in_order,
         }
     }
 
@@ -220,12 +217,29 @@ impl<'a> Scope<'a> {
         self.entries.is_declared(self.entry)
     }
 
-    /// The cases that are listed at a line, or at one of its rounds. It takes no memory. It goes through the block's
-    /// points: who asks line by line had better go through them too.
+    /// The cases that are listed at a line, or at one of its rounds. It takes no memory. Where the block's points stand in
+    /// order, they are searched by halves, else one by one.
     pub fn listed(&self, line: usize, round: usize) -> &'a [Case]
         ensures { result.now ≡ listed (scope_of self.now) line round }
     {
-        cases_at(self.block.points.as_slice(), line, round)
+        let points = self.block.points.as_slice();
+        if self.in_order {
+            cases_in_order(points, line, round)
+        } else {
+            cases_at(points, line, round)
+        }
+    }
+
+    /// Whether all points are of earlier lines, so that nothing is listed at this line. It takes no memory.
+    pub fn is_past(&self, line: usize) -> bool
+        ensures { result ≡ is_past (scope_of self.now) line }
+    {
+        let points = self.block.points.as_slice();
+        if self.in_order {
+            are_earlier_in_order(points, line)
+        } else {
+            are_earlier(points, line)
+        }
     }
 
     /// Whether the name is shared in a frame with these names of its own: some call of the program passes it by

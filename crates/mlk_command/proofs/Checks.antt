@@ -1,25 +1,30 @@
--- What is refused on the way from texts to a report.
-use Rattle.std.proofs.Common.{◌≡◌, ℕ, ◌<◌, ◌≤◌, ◌+◌, ◌++◌, List, [], ◌∷◌, length, take, drop, slice_index_or, sym, ap, ◌∙◌, subst, inl, inr, take-append-drop, append-nil}
+-- What is refused on the way from texts to a report, and what of straight lines is kept.
+use Rattle.std.proofs.Common.{◌≡◌, ℕ, ◌<◌, ◌≤◌, ◌+◌, ◌++◌, List, [], ◌∷◌, Result, Ok, Err, length, take, drop, slice_index_or, sym, ap, ◌∙◌, subst, take-append-drop, append-nil}
+use Rattle.std.specs.Prelude.{IfOk, IfErr}
 use Rattle.std.proofs.lemmas.List.{drop_all, drop_more, take_more}
 use Rattle.mlk_text.specs.declared.failure.Failure.{Failure}
 use Rattle.mlk_text.specs.declared.failure.Failure.TheVariants as failure
-use Rattle.mlk_text.specs.Failures.{FailsAs}
 use Rattle.mlk_text.specs.declared.fault.Fault.{Fault}
 use Rattle.mlk_routine.specs.Trees.{RoutineTree}
 use Rattle.mlk_routine.specs.Refusals.{NoRoutine, Places}
 use Rattle.mlk_program.specs.Program.{IsProgram, IsLinkFault}
 use Rattle.mlk_program.specs.Linking.{IfRefused}
-use Rattle.mlk_machine.specs.declared.plain.tree.Routine.{Routine}
 use Rattle.mlk_coverage.specs.declared.rules.RuleLists.{RuleLists}
 use Rattle.mlk_rules.specs.RuleSections.{SaysRules, RefusesRules}
 use Rattle.mlk_rules.specs.declared.read.fault.RulesFault.{RulesFault}
+use Rattle.mlk_cert.specs.declared.read.fault.CertFault.{CertFault}
+use Rattle.mlk_cert.specs.declared.block.EntryCert.{EntryCert}
+use Rattle.mlk_cert.specs.Theorem.{Spells, IsReading}
+use Rattle.mlk_cert.specs.Refusals.{IsPlaced}
+use Rattle.mlk_machine.specs.declared.plain.tree.Routine.{Routine as StraightRoutine}
+use Rattle.mlk_walk.specs.declared.cert.Certificate.{Certificate as StraightCertificate}
+use Rattle.mlk_walk.specs.Theorem.{EachRunIsBalanced, NoJobsClash}
 use Rattle.mlk_walk.specs.Straight.{straight}
-use Rattle.mlk_command.specs.CertificateTheorem.{NoCertificate, FirstFault}
-use Rattle.mlk_command.specs.declared.certificate.read.CertificateError.{CertificateError}
-use Rattle.mlk_command.specs.declared.certificate.read.CertificateError.TheVariants as certificate_error
+use Rattle.mlk_command.specs.CertificateSpelling.{Spells as SpellsStraight}
 use Rattle.mlk_command.specs.declared.source.Source.{Source}
-use Rattle.mlk_command.specs.declared.source.Sources.{Sources}
-use Rattle.mlk_command.specs.Checked.{IsRead, AreRead, AreStraight, IsRefusedBy, refusal_of_routine, refusal_of_rules, refusal_of_certificate, RefusesFirst, RefusesTrees}
+use Rattle.mlk_command.specs.declared.checked.Refusal.{Refusal}
+use Rattle.mlk_command.specs.declared.checked.Refusal.TheVariants as refusal
+use Rattle.mlk_command.specs.Checked.{IsRead, AreRead, IsKept, IsFirst, IsRefusalBy, IsRefusalWith, IsRefusalUnder, IsRefusalOf, refusal_of_routine, refusal_of_rules, refusal_of_certificate, RefusesFirst}
 
 -- one routine more is read
 read-one-more : (sources : List Source) (trees : List RoutineTree) (source : Source) (tree : RoutineTree) → AreRead sources trees → IsRead source tree → AreRead (sources ++ source ∷ []) (trees ++ tree ∷ [])
@@ -55,30 +60,87 @@ all-routines sources i trees past read =
     let whole : take i sources ≡ sources = sym (append-nil (take i sources)) ∙ ap (λ l. take i sources ++ l) (sym (drop_all i sources past)) ∙ take-append-drop i sources in
     subst (λ l. AreRead l trees) whole read
 
--- the trees make no program, or none of straight lines
-pub by-link : (trees : List RoutineTree) (e : Failure Fault) → IfRefused e (IsLinkFault trees) → RefusesTrees trees e
-by-link trees failure.OutOfMemory refused = record {}
-by-link trees (failure.Refused fault) refused = inl refused
-
-pub by-lines : (trees : List RoutineTree) (e : Failure Fault) → IsProgram trees → FailsAs e (straight trees) → RefusesTrees trees e
-by-lines trees failure.OutOfMemory program refused = record {}
-by-lines trees (failure.Refused fault) program refused = inr (program, refused)
-
 -- what is refused, as a refusal of the texts
-pub by-routine : (sources : Sources) (e : Failure Fault) → RefusesFirst sources.routines.items e → IsRefusedBy sources (refusal_of_routine e)
+pub by-routine : (sources : List Source) (e : Failure Fault) → RefusesFirst sources e → IsFirst sources (refusal_of_routine e)
 by-routine sources failure.OutOfMemory refused = record {}
-by-routine sources (failure.Refused fault) refused = inl refused
+by-routine sources (failure.Refused fault) refused = refused
 
-pub by-trees : (sources : Sources) (trees : List RoutineTree) (e : Failure Fault) → AreRead sources.routines.items trees → RefusesTrees trees e → IsRefusedBy sources (refusal_of_routine e)
-by-trees sources trees failure.OutOfMemory read refused = record {}
-by-trees sources trees (failure.Refused fault) read (inl unlinked) = inr (inl (trees, read, unlinked))
-by-trees sources trees (failure.Refused fault) read (inr outside) = inr (inr (trees, read, outside.0, outside.1))
+pub by-link : (trees : List RoutineTree) (rules_text text : List ℕ) (e : Failure Fault) → IfRefused e (IsLinkFault trees)
+    → IsRefusalOf trees rules_text text (refusal_of_routine e)
+by-link trees rules_text text failure.OutOfMemory refused = record {}
+by-link trees rules_text text (failure.Refused fault) refused = refused
 
-pub by-rules : (sources : Sources) (plain : List Routine) (e : Failure RulesFault) → AreStraight sources plain → RefusesRules sources.rules.items e → IsRefusedBy sources (refusal_of_rules e)
-by-rules sources plain failure.OutOfMemory lines refused = record {}
-by-rules sources plain (failure.Refused fault) lines refused = (plain, lines, refused)
+pub by-rules : (trees : List RoutineTree) (rules_text text : List ℕ) (e : Failure RulesFault) → RefusesRules rules_text e
+    → IsRefusalUnder trees rules_text text (refusal_of_rules e)
+by-rules trees rules_text text failure.OutOfMemory refused = record {}
+by-rules trees rules_text text (failure.Refused fault) refused = refused
 
-pub by-certificate : (sources : Sources) (plain : List Routine) (rules : RuleLists) (e : CertificateError) → AreStraight sources plain → SaysRules sources.rules.items rules
-    → NoCertificate sources.certificate.items e → FirstFault sources.certificate.items e → IsRefusedBy sources (refusal_of_certificate e)
-by-certificate sources plain rules certificate_error.OutOfMemory lines said none refused = record {}
-by-certificate sources plain rules (certificate_error.Refused fault) lines said none refused = (plain, rules, lines, said, none, refused)
+pub by-certificate : (trees : List RoutineTree) (rules : RuleLists) (text : List ℕ) (e : Failure CertFault)
+    → IsReading text (Err e) → IsPlaced text e → IsRefusalWith trees rules text (refusal_of_certificate e)
+by-certificate trees rules text failure.OutOfMemory back placed = record {}
+by-certificate trees rules text (failure.Refused fault) back placed = ((λ blocks spelled. back blocks spelled), placed)
+
+pub err_turned : {A B : Type 0} {P Q : B → Type 0} (r : Result A B) → ((b : B) → P b → Q b) → IfErr r P → IfErr r Q
+err_turned (Ok a) f h = h
+err_turned (Err b) f h = f b h
+
+pub ok_turned : {A B : Type 0} {P Q : A → Type 0} (r : Result A B) → ((a : A) → P a → Q a) → IfOk r P → IfOk r Q
+ok_turned (Ok a) f h = f a h
+ok_turned (Err b) f h = h
+
+-- What is refused below is refused above, where what stands before is read.
+pub below : (trees : List RoutineTree) (rules : RuleLists) (blocks : List EntryCert) (text : List ℕ) (r : Refusal) → Spells blocks text
+    → IsRefusalBy trees rules blocks text r → IsRefusalWith trees rules text r
+below trees rules blocks text refusal.OutOfMemory spelled refused = record {}
+below trees rules blocks text (refusal.Routine fault) spelled refused = refused
+below trees rules blocks text (refusal.Rules fault) spelled refused = refused
+below trees rules blocks text (refusal.Certificate fault) spelled refused = absurd refused
+below trees rules blocks text (refusal.Entry entry) spelled refused = (blocks, spelled, refused)
+below trees rules blocks text refusal.Disagreement spelled refused = (blocks, spelled, refused.0, refused.1)
+
+pub under : (trees : List RoutineTree) (rules : RuleLists) (rules_text text : List ℕ) (r : Refusal) → SaysRules rules_text rules
+    → IsRefusalWith trees rules text r → IsRefusalUnder trees rules_text text r
+under trees rules rules_text text refusal.OutOfMemory said refused = record {}
+under trees rules rules_text text (refusal.Routine fault) said refused = refused
+under trees rules rules_text text (refusal.Rules fault) said refused = absurd refused
+under trees rules rules_text text (refusal.Certificate fault) said refused = (rules, said, refused)
+under trees rules rules_text text (refusal.Entry entry) said refused = (rules, said, refused)
+under trees rules rules_text text refusal.Disagreement said refused = (rules, said, refused)
+
+pub linked : (trees : List RoutineTree) (rules_text text : List ℕ) (r : Refusal) → IsProgram trees
+    → IsRefusalUnder trees rules_text text r → IsRefusalOf trees rules_text text r
+linked trees rules_text text refusal.OutOfMemory program refused = record {}
+linked trees rules_text text (refusal.Routine fault) program refused = absurd refused
+linked trees rules_text text (refusal.Rules fault) program refused = (program, refused)
+linked trees rules_text text (refusal.Certificate fault) program refused = (program, refused)
+linked trees rules_text text (refusal.Entry entry) program refused = (program, refused)
+linked trees rules_text text refusal.Disagreement program refused = (program, refused)
+
+abbrev IsNoValue : {A B : Type 0} → Result A B → Type 0
+IsNoValue (Err b) = Unit {0}
+IsNoValue (Ok a) = ⊥
+
+abbrev value_or : {A B : Type 0} → A → Result A B → A
+value_or a (Ok b) = b
+value_or a (Err f) = a
+
+same_Ok : {A B : Type 0} (a b : A) (r : Result A B) → r ≡ Ok a → r ≡ Ok b → a ≡ b
+same_Ok a b r e f = ap (value_or a) (sym e ∙ f)
+
+-- What no straight line has, and a text that no certificate of straight lines has, break no promise.
+pub no-lines : (trees : List RoutineTree) (rules : RuleLists) (text : List ℕ) (fault : Fault) → straight trees ≡ Err fault → IsKept trees rules text
+no-lines trees rules text fault outside plain lines certificate spelled = absurd (subst IsNoValue (sym outside ∙ lines) (record {}))
+
+pub no-certificate : (trees : List RoutineTree) (rules : RuleLists) (text : List ℕ)
+    → ((c : StraightCertificate) → SpellsStraight c text → ⊥) → IsKept trees rules text
+no-certificate trees rules text none plain lines certificate spelled = absurd (none certificate spelled)
+
+-- The walk of straight lines finds nothing,
+pub both-kept : (trees : List RoutineTree) (rules : RuleLists) (text : List ℕ) (plain : List StraightRoutine) (certificate : StraightCertificate)
+    → straight trees ≡ Ok plain → ((c : StraightCertificate) → SpellsStraight c text → c ≡ certificate)
+    → EachRunIsBalanced plain rules certificate → NoJobsClash plain rules → IsKept trees rules text
+both-kept trees rules text plain certificate lines only balanced apart other others c spelled =
+    let same : other ≡ plain = same_Ok other plain (straight trees) others lines in (
+      subst (λ p. EachRunIsBalanced p rules c) (sym same) (subst (λ d. EachRunIsBalanced plain rules d) (sym (only c spelled)) balanced),
+      subst (λ p. NoJobsClash p rules) (sym same) apart,
+    )

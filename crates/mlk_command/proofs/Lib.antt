@@ -15,3 +15,4 @@ pub mod CertificateBlocks
 pub mod CertificatePartsBack
 pub mod CertificateBack
 pub mod FileLemmas
+pub mod Printing

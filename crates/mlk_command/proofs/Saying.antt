@@ -10,14 +10,15 @@ use Rattle.mlk_command.specs.declared.program.Answer.TheVariants as answer
 use Rattle.mlk_command.specs.Files.{Texts, AreTexts}
 use Rattle.mlk_command.specs.CommandLine.{IsRequest}
 use Rattle.mlk_command.specs.Checked.{IsChecked, IsRefusedBy}
-use Rattle.mlk_command.specs.Ran.{PrintsReport, TellsRefusal, Answers, AnswersWords}
+use Rattle.mlk_command.specs.Ran.{trees_of, PrintsReport, TellsRefusal, Answers, AnswersWords}
 
-pub report-answers : (holds : Texts) (lacks : List ℕ → Type 0) (request : Request) (sources : Sources) (checked : Checked) (a : Answer) → AreTexts holds request sources → IsChecked sources checked → PrintsReport checked a
+pub report-answers : (holds : Texts) (lacks : List ℕ → Type 0) (request : Request) (sources : Sources) (checked : Checked) (a : Answer) → AreTexts holds request sources → IsChecked sources (trees_of checked) checked.report → PrintsReport checked a
     → Answers holds lacks request a
 report-answers holds lacks request sources checked (answer.Report text status) texts answered printed = record {
   sources = sources;
   texts = texts;
-  checked = checked;
+  trees = trees_of checked;
+  rows = checked.report;
   answered = answered;
   printed = printed.0;
   ended = printed.1;

@@ -1,27 +1,30 @@
 -- What the check of texts answers. This project's own choice.
-use Rattle.std.specs.Prelude.{◌≡◌, ◌⊎◌, List, [], ◌∷◌, ◌++◌, Some, None, Ok, Err}
+use Rattle.std.specs.Prelude.{◌≡◌, ◌≢◌, ◌⊎◌, ℕ, Bool, true, false, List, [], ◌∷◌, ◌++◌, Some, None, Ok}
 use Rattle.mlk_text.specs.declared.fault.Fault.{Fault}
-use Rattle.mlk_machine.specs.declared.plain.tree.Routine.{Routine}
-use Rattle.mlk_coverage.specs.declared.rules.RuleLists.{RuleLists}
-use Rattle.mlk_walk.specs.declared.cert.Certificate.{Certificate}
-use Rattle.mlk_walk.specs.Report.{IsReport, all_entries, missing}
-use Rattle.mlk_walk.specs.Theorem.{EachRunIsBalanced, NoJobsClash}
+use Rattle.mlk_text.specs.declared.failure.Failure.{Failure}
+use Rattle.mlk_text.specs.declared.failure.Failure.TheVariants as failure
 use Rattle.mlk_routine.specs.Trees.{RoutineTree}
 use Rattle.mlk_routine.specs.RoutineGrammar.{IsRoutine}
 use Rattle.mlk_routine.specs.Refusals.{NoRoutine, Places}
 use Rattle.mlk_program.specs.Program.{IsProgram, IsLinkFault}
-use Rattle.mlk_walk.specs.Straight.{straight}
-use Rattle.mlk_command.specs.CertificateSpelling.{Spells}
-use Rattle.mlk_command.specs.CertificateTheorem.{NoCertificate, FirstFault}
+use Rattle.mlk_coverage.specs.declared.rules.RuleLists.{RuleLists}
 use Rattle.mlk_rules.specs.RuleSections.{SaysRules, RefusesRules}
-use Rattle.mlk_command.specs.declared.certificate.read.CertificateError.{CertificateError}
-use Rattle.mlk_command.specs.declared.certificate.read.CertificateError.TheVariants as certificate_error
-use Rattle.mlk_text.specs.declared.failure.Failure.{Failure}
 use Rattle.mlk_rules.specs.declared.read.fault.RulesFault.{RulesFault}
-use Rattle.mlk_text.specs.declared.failure.Failure.TheVariants as failure
+use Rattle.mlk_cert.specs.declared.block.EntryCert.{EntryCert}
+use Rattle.mlk_cert.specs.declared.read.fault.CertFault.{CertFault}
+use Rattle.mlk_cert.specs.Theorem.{Spells}
+use Rattle.mlk_cert.specs.Refusals.{IsRefusal}
+use Rattle.mlk_verdicts.specs.declared.report.Row.{Row}
+use Rattle.mlk_verdicts.specs.Reports.{report, missing}
+use Rattle.mlk_machine.specs.declared.plain.tree.Routine.{Routine as StraightRoutine}
+use Rattle.mlk_walk.specs.declared.cert.Certificate.{Certificate as StraightCertificate}
+use Rattle.mlk_walk.specs.declared.report.Row.{Row as StraightRow}
+use Rattle.mlk_walk.specs.Report.{IsReport, all_entries}
+use Rattle.mlk_walk.specs.Theorem.{EachRunIsBalanced, NoJobsClash}
+use Rattle.mlk_walk.specs.Straight.{straight}
+use Rattle.mlk_command.specs.CertificateSpelling.{Spells as SpellsStraight}
 use Rattle.mlk_command.specs.declared.source.Source.{Source}
 use Rattle.mlk_command.specs.declared.source.Sources.{Sources}
-use Rattle.mlk_command.specs.declared.checked.Checked.{Checked}
 use Rattle.mlk_command.specs.declared.checked.Refusal.{Refusal}
 use Rattle.mlk_command.specs.declared.checked.Refusal.TheVariants as refusal
 
@@ -36,28 +39,48 @@ AreRead [] (tree ∷ trees) = ⊥
 AreRead (source ∷ sources) [] = ⊥
 AreRead (source ∷ sources) (tree ∷ trees) = IsRead source tree × AreRead sources trees
 
--- the trees of all routines, which make a program
-abbrev pub AreLinked : Sources → List RoutineTree → Type 0
-AreLinked sources trees = AreRead sources.routines.items trees × IsProgram trees
+-- Where the program and the certificate's text are of straight lines, each moment of each run of one job is balanced, and
+-- no two jobs ever clash.
+abbrev pub IsKept : List RoutineTree → RuleLists → List ℕ → Type 0
+IsKept trees rules text = (plain : List StraightRoutine) → straight trees ≡ Ok plain
+    → (certificate : StraightCertificate) → SpellsStraight certificate text
+    → EachRunIsBalanced plain rules certificate × NoJobsClash plain rules
 
--- a program of these straight lines
-abbrev pub AreStraight : Sources → List Routine → Type 0
-AreStraight sources plain = (trees : List RoutineTree) × AreLinked sources trees × (straight trees ≡ Ok plain)
+-- They are, and the walk of straight lines finds faults.
+pub record HasFaults (trees : List RoutineTree) (rules : RuleLists) (text : List ℕ) : Type 0 where
+  pub plain : List StraightRoutine
+  pub lines : straight trees ≡ Ok plain
+  pub certificate : StraightCertificate
+  pub spelled : SpellsStraight certificate text
+  pub rows : List StraightRow
+  pub report : IsReport plain rules certificate (all_entries plain) rows
+  pub some : rows ≢ []
 
--- the program, the rules and the certificate that the texts spell
-abbrev pub AreSpelled : Sources → List Routine → RuleLists → Certificate → Type 0
-AreSpelled sources plain rules certificate = AreStraight sources plain × SaysRules sources.rules.items rules
-    × Spells certificate sources.certificate.items
+-- which of them is answered
+abbrev pub TellsKept : Bool → List RoutineTree → RuleLists → List ℕ → Type 0
+TellsKept true trees rules text = IsKept trees rules text
+TellsKept false trees rules text = HasFaults trees rules text
 
--- The report is that of what the texts spell, and where it has no row, each run keeps the rules.
-pub record IsChecked (sources : Sources) (checked : Checked) : Type 0 where
-  pub rules : RuleLists
-  pub certificate : Certificate
-  pub spelled : AreSpelled sources checked.plain rules certificate
-  pub named : missing checked.plain rules certificate ≡ None
-  pub rows : IsReport checked.plain rules certificate (all_entries checked.plain) checked.report
-  pub one_job : checked.report ≡ [] → EachRunIsBalanced checked.plain rules certificate
-  pub all_jobs : checked.report ≡ [] → NoJobsClash checked.plain rules
+-- The report of a program by rules and a certificate's blocks, whose entries it has. Where it has no row, and all is of
+-- straight lines, each run keeps the rules.
+pub record IsReportBy (trees : List RoutineTree) (rules : RuleLists) (blocks : List EntryCert) (text : List ℕ) (rows : List Row) : Type 0 where
+  pub named : missing trees rules blocks ≡ None
+  pub are : rows ≡ report trees rules blocks
+  pub kept : rows ≡ [] → IsKept trees rules text
+
+-- the same by the certificate that a text spells, by the rules that a text says, and of trees that make a program
+abbrev pub IsReportWith : List RoutineTree → RuleLists → List ℕ → List Row → Type 0
+IsReportWith trees rules text rows = (blocks : List EntryCert) × Spells blocks text × IsReportBy trees rules blocks text rows
+
+abbrev pub IsReportUnder : List RoutineTree → List ℕ → List ℕ → List Row → Type 0
+IsReportUnder trees rules_text text rows = (rules : RuleLists) × SaysRules rules_text rules × IsReportWith trees rules text rows
+
+abbrev pub IsReportOf : List RoutineTree → List ℕ → List ℕ → List Row → Type 0
+IsReportOf trees rules_text text rows = IsProgram trees × IsReportUnder trees rules_text text rows
+
+abbrev pub IsChecked : Sources → List RoutineTree → List Row → Type 0
+IsChecked sources trees rows = AreRead sources.routines.items trees
+    × IsReportOf trees sources.rules.items sources.certificate.items rows
 
 -- the first routine that is refused: those before it are read
 pub record IsFirstRefused (sources : List Source) (fault : Fault) : Type 0 where
@@ -70,30 +93,69 @@ pub record IsFirstRefused (sources : List Source) (fault : Fault) : Type 0 where
   pub none : NoRoutine source.stem.now source.text.items (failure.Refused fault)
   pub place : Places source.stem.now source.text.items (failure.Refused fault)
 
--- the routines make no program
-abbrev pub IsUnlinked : List Source → Fault → Type 0
-IsUnlinked sources fault = (trees : List RoutineTree) × AreRead sources trees × IsLinkFault trees fault
+-- No certificate has the text.
+abbrev pub NoCertificate : List ℕ → CertFault → Type 0
+NoCertificate text fault = ((blocks : List EntryCert) → Spells blocks text → ⊥) × IsRefusal text fault
 
--- they make one, which is not of straight lines
-abbrev pub IsOutside : List Source → Fault → Type 0
-IsOutside sources fault = (trees : List RoutineTree) × AreRead sources trees × IsProgram trees
-    × (straight trees ≡ Err fault)
+-- Why a program has no report: an entry that it lacks, or that the walk of straight lines finds faults where the walk of
+-- all of M finds none; no such texts are known. Want of memory says nothing.
+abbrev pub IsRefusalBy : List RoutineTree → RuleLists → List EntryCert → List ℕ → Refusal → Type 0
+IsRefusalBy trees rules blocks text refusal.OutOfMemory = Unit {0}
+IsRefusalBy trees rules blocks text (refusal.Routine fault) = ⊥
+IsRefusalBy trees rules blocks text (refusal.Rules fault) = ⊥
+IsRefusalBy trees rules blocks text (refusal.Certificate fault) = ⊥
+IsRefusalBy trees rules blocks text (refusal.Entry entry) = missing trees rules blocks ≡ Some entry
+IsRefusalBy trees rules blocks text refusal.Disagreement = (report trees rules blocks ≡ []) × HasFaults trees rules text
 
--- Why texts have no report. It is told of a routine first, then of their linking, of a command that no straight line
--- has, of the rules, of the certificate, of an entry that the routines lack: what is told later speaks of texts that
--- pass what stands before. Want of memory says nothing.
+-- It is told of the certificate's text first,
+abbrev pub IsRefusalWith : List RoutineTree → RuleLists → List ℕ → Refusal → Type 0
+IsRefusalWith trees rules text refusal.OutOfMemory = Unit {0}
+IsRefusalWith trees rules text (refusal.Routine fault) = ⊥
+IsRefusalWith trees rules text (refusal.Rules fault) = ⊥
+IsRefusalWith trees rules text (refusal.Certificate fault) = NoCertificate text fault
+IsRefusalWith trees rules text (refusal.Entry entry) =
+    (blocks : List EntryCert) × Spells blocks text × (missing trees rules blocks ≡ Some entry)
+IsRefusalWith trees rules text refusal.Disagreement = (blocks : List EntryCert) × Spells blocks text
+    × (report trees rules blocks ≡ []) × HasFaults trees rules text
+
+-- of the rules' text before it,
+abbrev pub IsRefusalUnder : List RoutineTree → List ℕ → List ℕ → Refusal → Type 0
+IsRefusalUnder trees rules_text text refusal.OutOfMemory = Unit {0}
+IsRefusalUnder trees rules_text text (refusal.Routine fault) = ⊥
+IsRefusalUnder trees rules_text text (refusal.Rules fault) = RefusesRules rules_text (failure.Refused fault)
+IsRefusalUnder trees rules_text text (refusal.Certificate fault) =
+    (rules : RuleLists) × SaysRules rules_text rules × NoCertificate text fault
+IsRefusalUnder trees rules_text text (refusal.Entry entry) =
+    (rules : RuleLists) × SaysRules rules_text rules × IsRefusalWith trees rules text (refusal.Entry entry)
+IsRefusalUnder trees rules_text text refusal.Disagreement =
+    (rules : RuleLists) × SaysRules rules_text rules × IsRefusalWith trees rules text refusal.Disagreement
+
+-- and of the linking of the trees before both.
+abbrev pub IsRefusalOf : List RoutineTree → List ℕ → List ℕ → Refusal → Type 0
+IsRefusalOf trees rules_text text refusal.OutOfMemory = Unit {0}
+IsRefusalOf trees rules_text text (refusal.Routine fault) = IsLinkFault trees fault
+IsRefusalOf trees rules_text text (refusal.Rules fault) =
+    IsProgram trees × IsRefusalUnder trees rules_text text (refusal.Rules fault)
+IsRefusalOf trees rules_text text (refusal.Certificate fault) =
+    IsProgram trees × IsRefusalUnder trees rules_text text (refusal.Certificate fault)
+IsRefusalOf trees rules_text text (refusal.Entry entry) =
+    IsProgram trees × IsRefusalUnder trees rules_text text (refusal.Entry entry)
+IsRefusalOf trees rules_text text refusal.Disagreement =
+    IsProgram trees × IsRefusalUnder trees rules_text text refusal.Disagreement
+
+-- the refusal of a routine's reading
+abbrev pub IsFirst : List Source → Refusal → Type 0
+IsFirst sources refusal.OutOfMemory = Unit {0}
+IsFirst sources (refusal.Routine fault) = IsFirstRefused sources fault
+IsFirst sources (refusal.Rules fault) = ⊥
+IsFirst sources (refusal.Certificate fault) = ⊥
+IsFirst sources (refusal.Entry entry) = ⊥
+IsFirst sources refusal.Disagreement = ⊥
+
+-- Why texts have no report: it is told of a routine that is not read, else of what all routines make.
 abbrev pub IsRefusedBy : Sources → Refusal → Type 0
-IsRefusedBy sources refusal.OutOfMemory = Unit {0}
-IsRefusedBy sources (refusal.Routine fault) = IsFirstRefused sources.routines.items fault
-    ⊎ IsUnlinked sources.routines.items fault ⊎ IsOutside sources.routines.items fault
-IsRefusedBy sources (refusal.Rules fault) = (plain : List Routine) × AreStraight sources plain
-    × RefusesRules sources.rules.items (failure.Refused fault)
-IsRefusedBy sources (refusal.Certificate fault) = (plain : List Routine) × (rules : RuleLists)
-    × AreStraight sources plain × SaysRules sources.rules.items rules
-    × NoCertificate sources.certificate.items (certificate_error.Refused fault)
-    × FirstFault sources.certificate.items (certificate_error.Refused fault)
-IsRefusedBy sources (refusal.Entry entry) = (plain : List Routine) × (rules : RuleLists) × (certificate : Certificate)
-    × AreSpelled sources plain rules certificate × (missing plain rules certificate ≡ Some entry)
+IsRefusedBy sources r = IsFirst sources.routines.items r ⊎ ((trees : List RoutineTree)
+    × AreRead sources.routines.items trees × IsRefusalOf trees sources.rules.items sources.certificate.items r)
 
 -- the same of what a reader refuses
 abbrev pub refusal_of_routine : Failure Fault → Refusal
@@ -104,18 +166,28 @@ abbrev pub refusal_of_rules : Failure RulesFault → Refusal
 refusal_of_rules failure.OutOfMemory = refusal.OutOfMemory
 refusal_of_rules (failure.Refused fault) = refusal.Rules fault
 
-abbrev pub refusal_of_certificate : CertificateError → Refusal
-refusal_of_certificate certificate_error.OutOfMemory = refusal.OutOfMemory
-refusal_of_certificate (certificate_error.Refused fault) = refusal.Certificate fault
+abbrev pub refusal_of_certificate : Failure CertFault → Refusal
+refusal_of_certificate failure.OutOfMemory = refusal.OutOfMemory
+refusal_of_certificate (failure.Refused fault) = refusal.Certificate fault
 
--- the same of the reading of routines, and of what is made of their trees
+-- the same of the reading of routines
 abbrev pub RefusesFirst : List Source → Failure Fault → Type 0
 RefusesFirst sources failure.OutOfMemory = Unit {0}
 RefusesFirst sources (failure.Refused fault) = IsFirstRefused sources fault
 
-abbrev pub RefusesTrees : List RoutineTree → Failure Fault → Type 0
-RefusesTrees trees failure.OutOfMemory = Unit {0}
-RefusesTrees trees (failure.Refused fault) = IsLinkFault trees fault ⊎ (IsProgram trees × (straight trees ≡ Err fault))
+-- what is told of an entry that is lacking, and where straight lines are walked again
+abbrev pub TellsEntry : List ℕ → Refusal → Type 0
+TellsEntry text refusal.OutOfMemory = Unit {0}
+TellsEntry text (refusal.Routine fault) = ⊥
+TellsEntry text (refusal.Rules fault) = ⊥
+TellsEntry text (refusal.Certificate fault) = ⊥
+TellsEntry text (refusal.Entry entry) = entry ≡ text
+TellsEntry text refusal.Disagreement = ⊥
 
-abbrev pub MakesLines : List RoutineTree → List Routine → Type 0
-MakesLines trees plain = IsProgram trees × (straight trees ≡ Ok plain)
+abbrev pub IsDoubt : List RoutineTree → RuleLists → List ℕ → List Row → Refusal → Type 0
+IsDoubt trees rules text rows refusal.OutOfMemory = Unit {0}
+IsDoubt trees rules text rows (refusal.Routine fault) = ⊥
+IsDoubt trees rules text rows (refusal.Rules fault) = ⊥
+IsDoubt trees rules text rows (refusal.Certificate fault) = ⊥
+IsDoubt trees rules text rows (refusal.Entry entry) = ⊥
+IsDoubt trees rules text rows refusal.Disagreement = (rows ≡ []) × HasFaults trees rules text

@@ -1,5 +1,5 @@
 -- The lines that the program prints. This project's own choice.
-use Rattle.std.specs.Prelude.{ℕ, ◌-◌, List, [], ◌∷◌, ◌++◌, Option, Some, None, codes, slice_get, length}
+use Rattle.std.specs.Prelude.{ℕ, List, [], ◌∷◌, ◌++◌, Option, Some, None, codes, length}
 use Rattle.std.specs.Fmt.{decimal}
 use Rattle.mlk_text.specs.declared.code.Code.{Code}
 use Rattle.mlk_text.specs.declared.code.Code.TheVariants.{EntryMissing}
@@ -7,13 +7,14 @@ use Rattle.mlk_text.specs.declared.fault.Fault.{Fault}
 use Rattle.mlk_text.specs.declared.fault.LeftOut.{LeftOut}
 use Rattle.mlk_text.specs.Codes.{number_of, word_of}
 use Rattle.mlk_text.specs.Words.{left_out_word}
-use Rattle.mlk_machine.specs.declared.plain.tree.Line.{Line}
-use Rattle.mlk_machine.specs.declared.plain.tree.Routine.{Routine}
-use Rattle.mlk_walk.specs.declared.report.Row.{Row}
+use Rattle.mlk_routine.specs.Trees.{RoutineTree}
+use Rattle.mlk_program.specs.declared.entry.EntryId.{EntryId}
+use Rattle.mlk_program.specs.Entries.{text_of_entry}
+use Rattle.mlk_verdicts.specs.declared.report.Row.{Row}
 use Rattle.mlk_rules.specs.declared.read.fault.RulesFault.{RulesFault}
-use Rattle.mlk_command.specs.declared.certificate.read.CertificateFault.{CertificateFault}
+use Rattle.mlk_cert.specs.declared.read.fault.CertFault.{CertFault}
 use Rattle.mlk_rules.specs.RuleAnswers.{section_word}
-use Rattle.mlk_walk.specs.declared.verdict.WalkFault.{WalkFault}
+use Rattle.mlk_rows.specs.declared.walk.Fault.{Fault as WalkFault}
 
 abbrev pub space : List ℕ
 space = 32 ∷ []
@@ -48,34 +49,33 @@ abbrev pub rules_line : RulesFault → List ℕ
 rules_line f = codes "refused rules " ++ section_word f.section ++ space ++ decimal f.index ++ space ++ code_text f.code ++ line_end
 
 -- `refused cert LINE CODE NAME`
-abbrev pub certificate_line : CertificateFault → List ℕ
+abbrev pub certificate_line : CertFault → List ℕ
 certificate_line f = codes "refused cert " ++ decimal f.line ++ space ++ code_text f.code ++ line_end
+
+-- what is told where the two walks of straight lines disagree
+abbrev pub disagreement_line : List ℕ
+disagreement_line = codes "error the walk of straight lines finds faults that the walk of all of M does not" ++ line_end
 
 -- `error file PATH`
 abbrev pub file_line : List ℕ → List ℕ
 file_line path = codes "error file " ++ path ++ line_end
 
 -- an entry: `LABEL^ROUTINE`, or `^ROUTINE` where its line has no label
-abbrev pub label_text : Option Line → List ℕ
-label_text None = []
-label_text (Some l) = by (l.label)
-  where
-    by : Option (List ℕ) → List ℕ
-    by None = []
-    by (Some label) = label
+abbrev pub or_nothing : Option (List ℕ) → List ℕ
+or_nothing None = []
+or_nothing (Some text) = text
 
-abbrev pub entry_text : Option Routine → ℕ → List ℕ
-entry_text None n = codes "^"
-entry_text (Some x) n = label_text (slice_get x.lines (n - 1)) ++ codes "^" ++ x.name
+abbrev pub entry_text : List RoutineTree → EntryId → List ℕ
+entry_text routines e = or_nothing (text_of_entry routines e)
 
 -- `LABEL^ROUTINE line:column CODE NAME`
 abbrev pub fault_text : WalkFault → List ℕ
 fault_text f = space ++ place_text f.line f.column ++ space ++ code_text f.code ++ line_end
 
-abbrev pub row_line : List Routine → Row → List ℕ
-row_line routines r = entry_text (slice_get routines r.entry.routine) r.entry.line ++ fault_text r.fault
+abbrev pub row_line : List RoutineTree → Row → List ℕ
+row_line routines r = entry_text routines r.entry ++ fault_text r.fault
 
-abbrev pub row_lines : List Routine → List Row → List ℕ
+abbrev pub row_lines : List RoutineTree → List Row → List ℕ
 row_lines routines [] = []
 row_lines routines (r ∷ rows) = row_line routines r ++ row_lines routines rows
 
@@ -84,5 +84,5 @@ abbrev pub last_line : List Row → List ℕ
 last_line [] = codes "yes" ++ line_end
 last_line (r ∷ rows) = codes "no " ++ decimal (length (r ∷ rows)) ++ line_end
 
-abbrev pub report_text : List Routine → List Row → List ℕ
+abbrev pub report_text : List RoutineTree → List Row → List ℕ
 report_text routines rows = row_lines routines rows ++ last_line rows

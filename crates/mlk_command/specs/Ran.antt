@@ -1,8 +1,10 @@
 -- What the program says: what it prints on standard output, what it tells on the error stream, and the status that
 -- it ends with. This project's own choice.
-use Rattle.std.specs.Prelude.{◌≡◌, ◌⊎◌, ℕ, List, [], ◌∷◌, Option, String}
+use Rattle.std.specs.Prelude.{◌≡◌, ◌⊎◌, ℕ, List, [], ◌∷◌, map, Option, String}
 use Rattle.std.specs.Io.KnownBytes.{Keeps, Appends}
-use Rattle.mlk_walk.specs.declared.report.Row.{Row}
+use Rattle.mlk_routine.specs.Trees.{RoutineTree}
+use Rattle.mlk_routine.specs.Views.{routine_of}
+use Rattle.mlk_verdicts.specs.declared.report.Row.{Row}
 use Rattle.mlk_command.specs.declared.source.Sources.{Sources}
 use Rattle.mlk_command.specs.declared.words.Request.{Request}
 use Rattle.mlk_command.specs.declared.checked.Checked.{Checked}
@@ -10,7 +12,7 @@ use Rattle.mlk_command.specs.declared.checked.Refusal.{Refusal}
 use Rattle.mlk_command.specs.declared.checked.Refusal.TheVariants as refusal
 use Rattle.mlk_command.specs.declared.program.Answer.{Answer}
 use Rattle.mlk_command.specs.declared.program.Answer.TheVariants as answer
-use Rattle.mlk_command.specs.Printed.{report_text, fault_line, rules_line, certificate_line, missing_line, file_line}
+use Rattle.mlk_command.specs.Printed.{report_text, fault_line, rules_line, certificate_line, missing_line, disagreement_line, file_line}
 use Rattle.mlk_command.specs.Files.{Texts, AreTexts, IsFirstLost, paths_of}
 use Rattle.mlk_command.specs.CommandLine.{IsRequest, AsksNothing}
 use Rattle.mlk_command.specs.Checked.{IsChecked, IsRefusedBy}
@@ -27,10 +29,16 @@ IsRefusalLine (refusal.Routine fault) line = line ≡ fault_line fault
 IsRefusalLine (refusal.Rules fault) line = line ≡ rules_line fault
 IsRefusalLine (refusal.Certificate fault) line = line ≡ certificate_line fault
 IsRefusalLine (refusal.Entry entry) line = line ≡ missing_line entry
+IsRefusalLine refusal.Disagreement line = line ≡ disagreement_line
+
+-- the trees of what was read
+abbrev pub trees_of : Checked → List RoutineTree
+trees_of checked = map routine_of checked.routines.items
 
 -- the text and the status of a report, where memory doesn't run out
 abbrev pub PrintsReport : Checked → Answer → Type 0
-PrintsReport checked (answer.Report text status) = (text ≡ report_text checked.plain checked.report) × (status ≡ status_of checked.report)
+PrintsReport checked (answer.Report text status) =
+    (text ≡ report_text (trees_of checked) checked.report) × (status ≡ status_of checked.report)
 PrintsReport checked (answer.Refused line) = ⊥
 PrintsReport checked (answer.Unread line) = ⊥
 PrintsReport checked (answer.Usage text) = ⊥
@@ -56,10 +64,11 @@ TellsUnread path answer.OutOfMemory = Unit {0}
 pub record IsReported (holds : Texts) (request : Request) (text : List ℕ) (status : ℕ) : Type 0 where
   pub sources : Sources
   pub texts : AreTexts holds request sources
-  pub checked : Checked
-  pub answered : IsChecked sources checked
-  pub printed : text ≡ report_text checked.plain checked.report
-  pub ended : status ≡ status_of checked.report
+  pub trees : List RoutineTree
+  pub rows : List Row
+  pub answered : IsChecked sources trees rows
+  pub printed : text ≡ report_text trees rows
+  pub ended : status ≡ status_of rows
 
 -- the refusal of the texts at the paths
 pub record IsRefusedThere (holds : Texts) (request : Request) (line : List ℕ) : Type 0 where

@@ -1,14 +1,17 @@
 // The lines that the program prints.
 
-ghost use Rattle.std.specs.Prelude.{◌≡◌, ◌++◌, OnOk, IfOk, slice_get, option_copied};
-ghost use Rattle.mlk_command.specs.Printed.{code_text, place_text, left_out_text, fault_line, missing_line, rules_line, certificate_line, file_line, label_text, entry_text, fault_text, row_line, row_lines, last_line, report_text};
+ghost use Rattle.std.specs.Prelude.{◌≡◌, ◌++◌, OnOk, IfOk, map, slice_get, option_copied};
+ghost use Rattle.mlk_routine.specs.Views.{line_of, routine_of};
+ghost use Rattle.mlk_program.specs.Entries.{label_of, text_with};
+ghost use Rattle.mlk_command.specs.Printed.{code_text, place_text, left_out_text, fault_line, missing_line, rules_line, certificate_line, disagreement_line, file_line, entry_text, fault_text, row_line, row_lines, last_line, report_text};
 
-use crate::certificate::CertificateFault;
 use crate::text::Text;
-use mlk_machine::plain::{EntryText, Line, Plain, Routine};
+use mlk_cert::CertFault;
+use mlk_program::EntryId;
+use mlk_routine::{Line, Routine};
 use mlk_rules::RulesFault;
-use mlk_text::{Code, Fault, LeftOut};
-use mlk_walk::{Report, Row, WalkFault};
+use mlk_text::{Code, Fault, LeftOut, Value};
+use mlk_verdicts::{Report, Row};
 use std::alloc::{AllocError, Global};
 
 fn push_code(text: &mut Text, code: Code) -> Result<(), AllocError>
@@ -60,7 +63,7 @@ pub(crate) fn fault_line(alloc: Global, fault: &Fault) -> Result<Text, AllocErro
 }
 
 /// `refused entry TEXT 901 EntryMissing`
-pub(crate) fn missing_line(alloc: Global, entry: &EntryText) -> Result<Text, AllocError>
+pub(crate) fn missing_line(alloc: Global, entry: &Value) -> Result<Text, AllocError>
     ensures { IfOk result (λ t. t ≡ missing_line entry.now) }
 {
     let mut text = Text::new(alloc);
@@ -88,15 +91,26 @@ pub(crate) fn rules_line(alloc: Global, fault: &RulesFault) -> Result<Text, Allo
 }
 
 /// `refused cert LINE CODE NAME`
-pub(crate) fn certificate_line(alloc: Global, fault: &CertificateFault) -> Result<Text, AllocError>
+pub(crate) fn certificate_line(alloc: Global, fault: &CertFault) -> Result<Text, AllocError>
     ensures { IfOk result (λ t. t ≡ certificate_line fault.now) }
 {
     let mut text = Text::new(alloc);
     text.push(b"refused cert ")?;
-    text.push_number(fault.line as usize)?;
+    text.push_number(fault.line.number() as usize)?;
     text.push(b" ")?;
     push_code(&mut text, fault.code)?;
     text.push(b"\n")?;
+    Ok(text)
+}
+
+/// What is told where the two walks of straight lines disagree.
+pub(crate) fn disagreement_line(alloc: Global) -> Result<Text, AllocError>
+    ensures { IfOk result (λ t. t ≡ disagreement_line) }
+{
+    let mut text = Text::new(alloc);
+    text.push(
+        b"error the walk of straight lines finds faults that the walk of all of M does not\n",
+    )?;
     Ok(text)
 }
 
@@ -111,61 +125,65 @@ pub(crate) fn file_line(alloc: Global, path: &str) -> Result<Text, AllocError>
     Ok(text)
 }
 
-fn label_of(line: Option<&Line>) -> &[u8]
-    ensures { result.now ≡ label_text (option_copied line.entry) }
+// A routine's line of the first level, counted from 0, as an entry.
+fn push_entry_of(text: &mut Text, routine: &Routine, line: &Line) -> Result<(), AllocError>
+    ensures { OnOk result (text.new ≡ text.old ++ text_with (label_of (line_of line.now).0) routine.now.name) }
 {
-    match line {
-        None => b"",
-        Some(line) => match &line.label {
-            None => b"",
-            Some(label) => label.as_bytes(),
-        },
+    if let Some(label) = &line.label {
+        text.push(label.as_bytes())?;
+    }
+    text.push(b"^")?;
+    text.push(routine.name.as_bytes())
+}
+
+fn routine_at(routines: &[Routine], place: usize) -> Option<&Routine>
+    ensures { option_copied result ≡ slice_get routines.now place }
+{
+    routines.get(place)
+}
+
+fn line_at(lines: &[Line], place: usize) -> Option<&Line>
+    ensures { option_copied result ≡ slice_get lines.now place }
+{
+    lines.get(place)
+}
+
+#[tactic(auto, using(crate::proofs::Printing::entry_none, crate::proofs::Printing::line_none, crate::proofs::Printing::line_some))]
+fn push_entry(text: &mut Text, routines: &[Routine], entry: EntryId) -> Result<(), AllocError>
+    ensures { OnOk result (text.new ≡ text.old ++ entry_text (map routine_of routines.now) entry) }
+{
+    let Some(routine) = routine_at(routines, entry.routine()) else {
+        return Ok(());
+    };
+    match line_at(routine.lines.as_slice(), entry.line()) {
+        None => Ok(()),
+        Some(line) => push_entry_of(text, routine, line),
     }
 }
 
-fn push_entry(text: &mut Text, routine: Option<&Routine>, line: usize) -> Result<(), AllocError>
-    ensures { OnOk result (text.new ≡ text.old ++ entry_text (option_copied routine.entry) line) }
-{
-    let Some(routine) = routine else {
-        text.push(b"^")?;
-        return Ok(());
-    };
-    text.push(label_of(routine.lines.as_slice().get(line.saturating_sub(1))))?;
-    text.push(b"^")?;
-    text.push(routine.name.as_bytes())?;
-    Ok(())
-}
-
-fn routine_of(plain: &Plain, routine: usize) -> Option<&Routine>
-    ensures { option_copied result ≡ slice_get plain.now routine }
-{
-    plain.as_slice().get(routine)
-}
-
-fn push_fault(text: &mut Text, fault: &WalkFault) -> Result<(), AllocError>
+fn push_fault(text: &mut Text, fault: &mlk_rows::Fault) -> Result<(), AllocError>
     ensures { OnOk result (text.new ≡ text.old ++ fault_text fault.now) }
 {
     text.push(b" ")?;
-    push_place(text, fault.line, fault.column)?;
+    push_place(text, fault.line, fault.column.number())?;
     text.push(b" ")?;
     push_code(text, fault.code)?;
     text.push(b"\n")?;
     Ok(())
 }
 
-fn push_row(text: &mut Text, plain: &Plain, row: &Row) -> Result<(), AllocError>
-    ensures { OnOk result (text.new ≡ text.old ++ row_line plain.now row.now) }
+fn push_row(text: &mut Text, routines: &[Routine], row: &Row) -> Result<(), AllocError>
+    ensures { OnOk result (text.new ≡ text.old ++ row_line (map routine_of routines.now) row.now) }
 {
-    push_entry(text, routine_of(plain, row.entry.routine), row.entry.line)?;
-    push_fault(text, &row.fault)?;
-    Ok(())
+    push_entry(text, routines, row.entry)?;
+    push_fault(text, &row.fault)
 }
 
-fn push_rows(text: &mut Text, plain: &Plain, rows: &[Row]) -> Result<(), AllocError>
-    ensures { OnOk result (text.new ≡ text.old ++ row_lines plain.now rows.now) }
+fn push_rows(text: &mut Text, routines: &[Routine], rows: &[Row]) -> Result<(), AllocError>
+    ensures { OnOk result (text.new ≡ text.old ++ row_lines (map routine_of routines.now) rows.now) }
 {
     for row in rows {
-        push_row(text, plain, row)?;
+        push_row(text, routines, row)?;
     }
     Ok(())
 }
@@ -184,11 +202,15 @@ fn push_last(text: &mut Text, rows: &[Row]) -> Result<(), AllocError>
 }
 
 /// The text of a report: a line for each row, and `yes` or `no N`.
-pub(crate) fn report_text(alloc: Global, plain: &Plain, report: &Report) -> Result<Text, AllocError>
-    ensures { IfOk result (λ t. t ≡ report_text plain.now report.now) }
+pub(crate) fn report_text(
+    alloc: Global,
+    routines: &[Routine],
+    report: &Report,
+) -> Result<Text, AllocError>
+    ensures { IfOk result (λ t. t ≡ report_text (map routine_of routines.now) report.now) }
 {
     let mut text = Text::new(alloc);
-    push_rows(&mut text, plain, report.rows())?;
+    push_rows(&mut text, routines, report.rows())?;
     push_last(&mut text, report.rows())?;
     Ok(text)
 }

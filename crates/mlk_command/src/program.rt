@@ -7,12 +7,13 @@ ghost use Rattle.mlk_command.specs.Ran.{status_of, PrintsReport, IsRefusalLine, 
 
 use crate::checked::{Checked, Refusal, check_texts};
 use crate::printed::{
-    certificate_line, fault_line, file_line, missing_line, report_text, rules_line,
+    certificate_line, disagreement_line, fault_line, file_line, missing_line, report_text,
+    rules_line,
 };
 use crate::source::{FileError, Files, read_files};
 use crate::text::Text;
 use crate::words::{Request, UsageError, read_request};
-use mlk_walk::Report;
+use mlk_verdicts::Report;
 use std::alloc::{AllocError, Global};
 use std::io::{self, ErrorKind, Write};
 
@@ -47,7 +48,7 @@ fn status_of(report: &Report) -> u8
 fn report_answer(alloc: Global, checked: &Checked) -> Answer
     ensures { PrintsReport checked.now result }
 {
-    match report_text(alloc, &checked.plain, &checked.report) {
+    match report_text(alloc, checked.routines.as_slice(), &checked.report) {
         Ok(text) => Answer::Report(text, status_of(&checked.report)),
         Err(AllocError) => Answer::OutOfMemory,
     }
@@ -62,6 +63,7 @@ fn refusal_line(alloc: Global, refusal: &Refusal) -> Result<Text, AllocError>
         Refusal::Rules(fault) => rules_line(alloc, fault),
         Refusal::Certificate(fault) => certificate_line(alloc, fault),
         Refusal::Entry(entry) => missing_line(alloc, entry),
+        Refusal::Disagreement => disagreement_line(alloc),
     }
 }
 

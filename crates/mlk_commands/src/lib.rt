@@ -18,5 +18,6 @@ pub use condition::if_argument;
 pub use kill::{kill_all_but, kill_argument};
 pub use locks::{Release, lock_argument};
 pub use news::{new_all_but, new_argument};
+pub use order::in_order;
 pub use reading::{merge_argument, read_argument, write_argument};
 pub use variable::Change;

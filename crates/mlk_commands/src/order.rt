@@ -34,7 +34,7 @@ fn ordered(alloc: Global, names: &[Name]) -> Result<BTreeSet<Vec<u8>>, AllocErro
 }
 
 /// These names in the order of their bytes, none twice.
-pub(crate) fn in_order(alloc: Global, names: &[Name]) -> Result<List<Name>, AllocError>
+pub fn in_order(alloc: Global, names: &[Name]) -> Result<List<Name>, AllocError>
     ensures { IfOk result (λ l. l ≡ in_order names.now) }
 {
     let mut found = List::new(alloc);

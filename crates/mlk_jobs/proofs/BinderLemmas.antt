@@ -32,7 +32,7 @@ past_look (ByReference formal cell) bs n h = elim (cases_Bool (bytes_eq formal n
 ]
 
 -- the binders up to a place, the newest first
-turned : (bs : List BinderIn) (count : ℕ) (b : BinderIn) → 0 < count → count ≤ length bs → b ≡ get_or bs (count - 1) b
+pub turned : (bs : List BinderIn) (count : ℕ) (b : BinderIn) → 0 < count → count ≤ length bs → b ≡ get_or bs (count - 1) b
     → bindings_of (take count bs) ≡ binder_of b ∷ bindings_of (take (count - 1) bs)
 turned bs count b p l e =
     let k : count - 1 + 1 ≡ count = omega arith in

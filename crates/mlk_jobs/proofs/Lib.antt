@@ -10,4 +10,6 @@ pub mod LockNameLemmas
 pub mod SettleLemmas
 pub mod BinderLemmas
 pub mod CellLemmas
+pub mod TakenLemmas
 pub mod SoundLemmas
+pub mod AnswerLemmas

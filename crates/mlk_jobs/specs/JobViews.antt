@@ -1,5 +1,6 @@
 -- The definition's jobs of the code's. This project's own.
-use Rattle.std.specs.Prelude.{ℕ, List, [], map, reverse, take, length}
+use Rattle.std.specs.Prelude.{◌≡◌, ◌≤◌, ℕ, List, [], map, reverse, take, length}
+use Rattle.std.specs.Vec.{vec_capacity}
 use Rattle.mlk_names.specs.declared.lock_name.LockName.{LockName}
 use Rattle.mlk_locks.specs.Counts.{all_lowered}
 use Rattle.mlk_jobs.specs.declared.binding.Binder.{Binder as BinderIn}
@@ -10,7 +11,7 @@ use Rattle.mlk_jobs.specs.declared.pending.Pending.{Pending}
 use Rattle.mlk_jobs.specs.declared.pending.Pending.TheVariants as pending
 use Rattle.mlk_jobs.specs.Tasks as task
 use Rattle.mlk_jobs.specs.Tasks.{Task, Job, Frame, NoValue, AwaitsValue, HasValue}
-use Rattle.mlk_jobs.specs.Bindings.{look}
+use Rattle.mlk_jobs.specs.Bindings.{Names, look, killed}
 use Rattle.mlk_jobs.specs.Views.{bindings_of, value_at, without}
 use Rattle.mlk_jobs.specs.TaskViews.{task_of}
 
@@ -56,3 +57,12 @@ holding_nothing j = record j { held = [] }
 -- a name has no value any more
 abbrev pub cleared : List ℕ → Job → Job
 cleared name j = record j { cells = without (look j.bindings name) j.cells }
+
+-- KILL of these names
+abbrev pub killing : Names → Job → Job
+killing names j = record j { cells = killed j.bindings names j.cells }
+
+-- What is pending stays, and so does the room for it.
+abbrev pub KeepsPending : JobIn → JobIn → Type 0
+KeepsPending old new =
+    (new.pending.items ≡ old.pending.items) × (vec_capacity old.pending ≤ vec_capacity new.pending)

@@ -11,6 +11,8 @@ pub mod Calling
 pub mod Advance
 pub mod Runs
 pub mod Seen
+pub mod Killing
+pub mod Answering
 pub mod Views
 pub mod TaskViews
 pub mod JobViews

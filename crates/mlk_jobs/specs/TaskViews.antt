@@ -15,6 +15,18 @@ use Rattle.mlk_jobs.specs.declared.task.Calling.TheVariants as calling
 use Rattle.mlk_jobs.specs.declared.task.Rest.{Rest}
 use Rattle.mlk_jobs.specs.declared.task.Task.{Task as TaskIn}
 use Rattle.mlk_jobs.specs.declared.task.Task.TheVariants as here
+use Rattle.mlk_jobs.specs.declared.task.ValueTask.{ValueTask}
+use Rattle.mlk_jobs.specs.declared.task.ValueTask.TheVariants as a_value
+use Rattle.mlk_jobs.specs.declared.task.LocalTask.{LocalTask}
+use Rattle.mlk_jobs.specs.declared.task.LocalTask.TheVariants as a_local
+use Rattle.mlk_jobs.specs.declared.task.TestTask.{TestTask}
+use Rattle.mlk_jobs.specs.declared.task.TestTask.TheVariants as a_test
+use Rattle.mlk_jobs.specs.declared.task.LockTask.{LockTask}
+use Rattle.mlk_jobs.specs.declared.task.LockTask.TheVariants as a_lock
+use Rattle.mlk_jobs.specs.declared.task.ScopeTask.{ScopeTask}
+use Rattle.mlk_jobs.specs.declared.task.ScopeTask.TheVariants as a_scope
+use Rattle.mlk_jobs.specs.declared.task.LineTask.{LineTask}
+use Rattle.mlk_jobs.specs.declared.task.LineTask.TheVariants as a_line
 use Rattle.mlk_jobs.specs.Tasks as task
 use Rattle.mlk_jobs.specs.Tasks.{Task}
 use Rattle.mlk_jobs.specs.Views.{names_of}
@@ -46,51 +58,69 @@ touch_of r = record {
   access = r.access;
 }
 
-abbrev pub task_of : TaskIn → Task
-task_of (here.Evaluate e) = task.Evaluate (tree_of e.now)
-task_of (here.Push value) = task.Push value.now
-task_of (here.Fetch name) = task.Fetch name.now
-task_of here.PushJob = task.PushJob
-task_of here.PushTest = task.PushTest
-task_of (here.ApplyUnary op) = task.ApplyUnary op
-task_of (here.ApplyBinary op) = task.ApplyBinary op
-task_of (here.AskValue n) = task.AskValue n
-task_of (here.DropValues n) = task.Drop n
-task_of (here.Select branches) = task.Select (choices_from (choices branches.now))
-task_of (here.Selected value others) = task.Selected (tree_of value.now) (choices_from (choices others.now))
-task_of (here.FormReference name n e a) = task.FormReference name.now n e a
-task_of (here.DoTouch r) = task.DoTouch (touch_of r)
-task_of (here.Store name value) = task.Store name.now value
-task_of (here.StoreAny name) = task.StoreAny name.now
-task_of (here.StoreLast name) = task.StoreLast name.now
-task_of (here.KillNames names) = task.KillNames (names_of names)
-task_of (here.NewNames names) = task.NewNames (names_of names)
-task_of (here.Assign targets) = task.Assign (map target_of targets.now)
-task_of (here.Merge target source) = task.Merge (variable_of target.now) (variable_of source.now)
-task_of here.SetTest = task.SetTest
-task_of here.AskTest = task.AskTest
-task_of (here.SkipIf test) = task.SkipIf test
-task_of (here.Conditionally action block) = task.Conditionally (action_of action.now) (block_of block.now)
-task_of (here.LockNamed sign names timed) = task.LockNamed sign (map variable_of names.now) timed
-task_of (here.Claim names timed) = task.Claim names.items timed
-task_of (here.Release names) = task.Release names.items
-task_of here.ReleaseAll = task.ReleaseAll
-task_of (here.Call how callee given) = task.Call (is_extrinsic how) callee.now (actual_trees given.now)
-task_of (here.CallIf callee given) = task.CallIf callee.now (actual_trees given.now)
-task_of (here.Block lines) = task.Block (block_of lines.now)
-task_of (here.RunLines lines) = task.RunLines (map line_of lines.now)
-task_of (here.RunCommands r) = task.RunCommands (commands_left r) (block_of r.block.now)
-task_of (here.Parameters v ps r) =
+abbrev pub value_task : ValueTask → Task
+value_task (a_value.Evaluate e) = task.Evaluate (tree_of e.now)
+value_task (a_value.Push value) = task.Push value.now
+value_task (a_value.Fetch name) = task.Fetch name.now
+value_task a_value.PushJob = task.PushJob
+value_task a_value.PushTest = task.PushTest
+value_task (a_value.ApplyUnary op) = task.ApplyUnary op
+value_task (a_value.ApplyBinary op) = task.ApplyBinary op
+value_task (a_value.AskValue n) = task.AskValue n
+value_task (a_value.DropValues n) = task.Drop n
+value_task (a_value.Select branches) = task.Select (choices_from (choices branches.now))
+value_task (a_value.Selected value others) = task.Selected (tree_of value.now) (choices_from (choices others.now))
+value_task (a_value.FormReference name n e a) = task.FormReference name.now n e a
+value_task (a_value.DoTouch r) = task.DoTouch (touch_of r)
+
+abbrev pub local_task : LocalTask → Task
+local_task (a_local.Store name value) = task.Store name.now value
+local_task (a_local.StoreAny name) = task.StoreAny name.now
+local_task (a_local.StoreLast name) = task.StoreLast name.now
+local_task (a_local.KillNames names) = task.KillNames (names_of names)
+local_task (a_local.NewNames names) = task.NewNames (names_of names)
+local_task (a_local.Assign targets) = task.Assign (map target_of targets.now)
+local_task (a_local.Merge target source) = task.Merge (variable_of target.now) (variable_of source.now)
+
+abbrev pub test_task : TestTask → Task
+test_task a_test.SetTest = task.SetTest
+test_task a_test.AskTest = task.AskTest
+test_task (a_test.SkipIf test) = task.SkipIf test
+test_task (a_test.Conditionally action block) = task.Conditionally (action_of action.now) (block_of block.now)
+
+abbrev pub lock_task : LockTask → Task
+lock_task (a_lock.LockNamed sign names timed) = task.LockNamed sign (map variable_of names.now) timed
+lock_task (a_lock.Claim names timed) = task.Claim names.items timed
+lock_task (a_lock.Release names) = task.Release names.items
+lock_task a_lock.ReleaseAll = task.ReleaseAll
+
+abbrev pub scope_task : ScopeTask → Task
+scope_task (a_scope.Call how callee given) = task.Call (is_extrinsic how) callee.now (actual_trees given.now)
+scope_task (a_scope.CallIf callee given) = task.CallIf callee.now (actual_trees given.now)
+scope_task (a_scope.Block lines) = task.Block (block_of lines.now)
+
+abbrev pub line_task : LineTask → Task
+line_task (a_line.RunLines lines) = task.RunLines (map line_of lines.now)
+line_task (a_line.RunCommands r) = task.RunCommands (commands_left r) (block_of r.block.now)
+line_task (a_line.Parameters v ps r) =
     task.Parameters v.now (map parameter_of ps.now) (commands_left r) (block_of r.block.now)
-task_of (here.Forever r) = task.Forever (commands_left r) (block_of r.block.now)
-task_of (here.NextValue v r) = task.NextValue v.now (commands_left r) (block_of r.block.now)
-task_of (here.FirstRound v ps r) =
+line_task (a_line.Forever r) = task.Forever (commands_left r) (block_of r.block.now)
+line_task (a_line.NextValue v r) = task.NextValue v.now (commands_left r) (block_of r.block.now)
+line_task (a_line.FirstRound v ps r) =
     task.FirstRound v.now (map parameter_of ps.now) (commands_left r) (block_of r.block.now)
-task_of (here.LaterRound v ps r) =
+line_task (a_line.LaterRound v ps r) =
     task.LaterRound v.now (map parameter_of ps.now) (commands_left r) (block_of r.block.now)
-task_of here.QuitHere = task.QuitHere
-task_of here.QuitWithValue = task.QuitWithValue
-task_of here.HaltJob = task.HaltJob
+line_task a_line.QuitHere = task.QuitHere
+line_task a_line.QuitWithValue = task.QuitWithValue
+line_task a_line.HaltJob = task.HaltJob
+
+abbrev pub task_of : TaskIn → Task
+task_of (here.Value t) = value_task t
+task_of (here.Local t) = local_task t
+task_of (here.Test t) = test_task t
+task_of (here.Lock t) = lock_task t
+task_of (here.Scope t) = scope_task t
+task_of (here.Line t) = line_task t
 
 -- these tasks are added
 abbrev pub Adds : List Task → List TaskIn → List TaskIn → Type 0

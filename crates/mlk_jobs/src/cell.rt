@@ -1,10 +1,12 @@
 // What cells hold.
 
-ghost use Rattle.std.specs.Prelude.{◌≡◌, ◌<◌, ℕ, suc, List, length, Some, None, option_copied, slice_get, OnOk, OnErr, min};
+ghost use Rattle.std.specs.Prelude.{◌≡◌, ◌<◌, ℕ, suc, List, length, Some, None, option_copied, slice_get, OnOk, OnErr, min, map, not, if◌then◌else◌};
 ghost use Rattle.mlk_jobs.specs.Bindings.{put, forgotten};
-ghost use Rattle.mlk_jobs.specs.Views.{cell_of, in_table, value_at, Puts, without};
+ghost use Rattle.mlk_jobs.specs.Killing.{is_taken, without_taken};
+ghost use Rattle.mlk_jobs.specs.Views.{names_of, bindings_of, cell_of, in_table, value_at, Puts, without};
 
-use crate::binding::Cell;
+use crate::binding::{Binder, Cell, Names};
+use crate::kill::is_taken;
 use indexmap::IndexMap;
 use mlk_text::Value;
 use std::alloc::{AllocError, Global};
@@ -16,7 +18,8 @@ pub struct Table<'a> {
 }
 
 impl<'a> Table<'a> {
-    fn new(alloc: Global) -> Table<'a>
+    /// A table without values.
+    pub fn new(alloc: Global) -> Table<'a>
         ensures { (n : List ℕ) → in_table result n ≡ None }
     {
         Table {
@@ -31,8 +34,8 @@ impl<'a> Table<'a> {
         self.values.get(name)
     }
 
-    // Gives a name a value.
-    fn put(&mut self, name: &'a [u8], value: Value) -> Result<(), AllocError>
+    /// Gives a name a value.
+    pub fn put(&mut self, name: &'a [u8], value: Value) -> Result<(), AllocError>
         ensures ok { OnOk result (Puts name.now (Some value) self.old self.new) }
         ensures err { OnErr result ((n : List ℕ) → in_table self.new n ≡ in_table self.old n) }
     {
@@ -47,6 +50,35 @@ impl<'a> Table<'a> {
         ensures { Puts name.now None self.old self.new }
     {
         let _ = self.values.swap_remove(name);
+    }
+
+    // Takes the values of the cells of this generation away that KILL takes. It takes no memory.
+    fn leave_out(
+        &mut self,
+        generation: usize,
+        binders: &[Binder],
+        names: Names,
+        shared: &[Cell],
+        spared: &[Cell],
+    )
+        ensures { (n : List ℕ) → in_table self.new n
+            ≡ (if is_taken (bindings_of binders.now) (names_of names.entry) (map cell_of shared.now)
+            (map cell_of spared.now) (record { generation = generation; name = n }) then None else in_table self.old n) }
+    {
+        self.values.retain(
+            |name: &&[u8], value: &mut Value| -> bool
+                ensures result { result ≡ not (is_taken (bindings_of binders.entry.now) (names_of names.entry)
+                    (map cell_of shared.entry.now) (map cell_of spared.entry.now)
+                    (record { generation = generation; name = name.now.now })) }
+                ensures value { value.new ≡ value.old }
+            {
+                let cell = Cell {
+                    generation,
+                    name: *name,
+                };
+                !is_taken(binders, names, shared, spared, cell)
+            },
+        );
     }
 }
 
@@ -90,6 +122,25 @@ pub fn clear(tables: &mut Vec<Table>, cell: Cell)
     ensures len { length tables.new.items ≡ length tables.old.items }
 {
     tables[cell.generation].remove(cell.name);
+}
+
+/// Takes the values of the cells away that KILL takes. It takes no memory.
+pub(crate) fn leave_out(
+    tables: &mut Vec<Table>,
+    binders: &[Binder],
+    names: Names,
+    shared: &[Cell],
+    spared: &[Cell],
+)
+    ensures values { value_at tables.new.items ≡ without_taken (bindings_of binders.now) (names_of names.entry)
+        (map cell_of shared.now) (map cell_of spared.now) (value_at tables.old.items) }
+    ensures len { length tables.new.items ≡ length tables.old.items }
+{
+    let mut generation = 0;
+    while generation < tables.len() {
+        tables[generation].leave_out(generation, binders, names, shared, spared);
+        generation += 1;
+    }
 }
 
 /// Forgets the cells of this generation and of later ones.

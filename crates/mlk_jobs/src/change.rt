@@ -5,15 +5,17 @@ ghost use Rattle.mlk_text.specs.Failures.{Answers};
 ghost use Rattle.mlk_locks.specs.Counts.{has_room};
 ghost use Rattle.mlk_jobs.specs.Bindings.{look};
 ghost use Rattle.mlk_jobs.specs.Choices.{pushed, dropped, last_values, doing, stored};
-ghost use Rattle.mlk_jobs.specs.Lines.{skipped, to_end, quit};
+ghost use Rattle.mlk_jobs.specs.Lines.{skipped, to_end, quit, answered};
 ghost use Rattle.mlk_jobs.specs.Locking.{tested, if_free, held_more};
 ghost use Rattle.mlk_jobs.specs.Sound.{Sound};
 ghost use Rattle.mlk_jobs.specs.TaskViews.{task_of};
-ghost use Rattle.mlk_jobs.specs.JobViews.{job_of, cleared, releasing, holding_nothing};
+ghost use Rattle.mlk_jobs.specs.Views.{names_of};
+ghost use Rattle.mlk_jobs.specs.JobViews.{job_of, cleared, killing, releasing, holding_nothing, KeepsPending};
 
-use crate::binding::look;
-use crate::cell::{clear, store, value_of};
+use crate::binding::{Names, look};
+use crate::cell::{clear, leave_out, store, value_of};
 use crate::job::Job;
+use crate::kill::{cells_of_formals, cells_spared};
 use crate::pending;
 use crate::task::Task;
 use mlk_locks::{Held, Refusal};
@@ -26,6 +28,7 @@ impl<'a> Job<'a> {
     pub fn push(&mut self, value: Value) -> Result<(), AllocError>
         ensures ok { OnOk result (job_of self.new ≡ pushed value (job_of self.old)) }
         ensures err { OnErr result (job_of self.new ≡ job_of self.old) }
+        ensures room { OnErr result (KeepsPending self.old self.new) }
         ensures sound { Sound self.old → Sound self.new }
     {
         self.values.push(value)
@@ -50,6 +53,7 @@ impl<'a> Job<'a> {
     pub fn replace_last(&mut self, count: usize, value: Value) -> Result<(), AllocError>
         ensures ok { OnOk result (job_of self.new ≡ pushed value (dropped count (job_of self.old))) }
         ensures err { OnErr result (job_of self.new ≡ job_of self.old) }
+        ensures room { OnErr result (KeepsPending self.old self.new) }
         ensures sound { Sound self.old → Sound self.new }
     {
         self.values.replace_last(count, value)
@@ -60,6 +64,7 @@ impl<'a> Job<'a> {
         requires { (look (job_of self.old).bindings name.now).generation < (job_of self.old).next }
         ensures ok { OnOk result (job_of self.new ≡ stored name.now value (job_of self.old)) }
         ensures err { OnErr result (job_of self.new ≡ job_of self.old) }
+        ensures room { OnErr result (KeepsPending self.old self.new) }
         ensures sound { Sound self.old → Sound self.new }
     {
         let cell = look(self.binders.as_slice(), name);
@@ -74,6 +79,25 @@ impl<'a> Job<'a> {
     {
         let cell = look(self.binders.as_slice(), name);
         clear(&mut self.tables, cell);
+    }
+
+    /// Each cell of these names is left without a value, unless a name that is spared shares it.
+    pub fn kill(&mut self, alloc: Global, names: Names<'a>) -> Result<(), AllocError>
+        ensures ok { OnOk result (job_of self.new ≡ killing (names_of names.entry) (job_of self.old)) }
+        ensures err { OnErr result (job_of self.new ≡ job_of self.old) }
+        ensures room { OnErr result (KeepsPending self.old self.new) }
+        ensures sound { Sound self.old → Sound self.new }
+    {
+        let shared = cells_of_formals(alloc, self.binders.as_slice(), names)?;
+        let spared = cells_spared(alloc, self.binders.as_slice(), names)?;
+        leave_out(
+            &mut self.tables,
+            self.binders.as_slice(),
+            names,
+            shared.as_slice(),
+            spared.as_slice(),
+        );
+        Ok(())
     }
 
     /// `$TEST` is set. It takes no memory.
@@ -112,6 +136,7 @@ impl<'a> Job<'a> {
         ensures ok { OnOk result (job_of self.new
             ≡ doing (map task_of tasks.entry.items ++ (job_of self.old).tasks) (job_of self.old)) }
         ensures err { OnErr result (job_of self.new ≡ job_of self.old) }
+        ensures room { OnErr result (KeepsPending self.old self.new) }
         ensures sound { Sound self.old → Sound self.new }
     {
         pending::do_first(&mut self.pending, tasks)?;
@@ -140,6 +165,17 @@ impl<'a> Job<'a> {
         ensures sound { Sound self.old → Sound self.new }
     {
         pending::quit(&mut self.pending);
+    }
+
+    /// The frame at whose end the job is keeps the last value, if it awaits one; else the value is not used. It takes no
+    /// memory.
+    pub fn answer(&mut self)
+        ensures changed { job_of self.new ≡ answered (job_of self.old) (job_of self.old).tasks }
+        ensures sound { Sound self.old → Sound self.new }
+    {
+        if !pending::keep_value(&mut self.pending) {
+            self.values.use_up(1);
+        }
     }
 
     /// Nothing is left to do. It takes no memory.

@@ -11,7 +11,7 @@ use crate::binding::Binder;
 use crate::cell::Table;
 use crate::pending::Pending;
 use crate::stack::Stack;
-use crate::task::Task;
+use crate::task::{LockTask, Task, ValueTask};
 use mlk_locks::{Held, Refusal, Seen};
 use mlk_names::{LockName, Reference};
 use std::alloc::Global;
@@ -50,7 +50,7 @@ impl<'a> Seen for Job<'a> {
 
     fn awaited(&self) -> &[LockName] {
         match self.pending.last() {
-            Some(Pending::Task(Task::Claim(names, false))) => names.as_slice(),
+            Some(Pending::Task(Task::Lock(LockTask::Claim(names, false)))) => names.as_slice(),
             _ => &[],
         }
     }
@@ -62,7 +62,7 @@ impl<'a> Job<'a> {
         ensures { option_map (λ r. touch_of r.now) result ≡ ready (job_of self.now) }
     {
         match self.pending.last() {
-            Some(Pending::Task(Task::DoTouch(reference))) => Some(reference),
+            Some(Pending::Task(Task::Value(ValueTask::DoTouch(reference)))) => Some(reference),
             _ => None,
         }
     }

@@ -7,6 +7,7 @@ mod cell;
 mod change;
 mod choice;
 mod job;
+mod kill;
 mod law;
 mod locking;
 mod operator;
@@ -27,4 +28,6 @@ pub use locking::{count_all, count_in, cut_after, lock_names};
 pub use operator::{given_before, given_between};
 pub use pending::{Back, Frame, Pending};
 pub use stack::Stack;
-pub use task::{Calling, Rest, Task};
+pub use task::{
+    Calling, LineTask, LocalTask, LockTask, Rest, ScopeTask, Task, TestTask, ValueTask,
+};

@@ -1,13 +1,16 @@
 // What a job has still to do: tasks, and the ends of the blocks and frames that it is in.
 
-ghost use Rattle.std.specs.Prelude.{◌≡◌, ◌≤◌, ◌||◌, ◌++◌, ℕ, List, length, take, map, OnOk, OnErr};
+ghost use Rattle.std.specs.Prelude.{◌≡◌, ◌≤◌, ◌||◌, ◌++◌, ◌∷◌, [], ℕ, List, length, take, map, OnOk, OnErr};
+ghost use Rattle.std.specs.Vec.{vec_capacity};
 ghost use Rattle.mlk_jobs.specs.declared.binding.Binder.{Binder};
+ghost use Rattle.mlk_jobs.specs.declared.pending.Pending.{Pending};
+ghost use Rattle.mlk_jobs.specs.Answering.{awaits, with_value, keeps_value, value_kept};
 ghost use Rattle.mlk_jobs.specs.Lines.{is_round, is_lines, is_end, skipped, to_end, quit_from, quit};
 ghost use Rattle.mlk_jobs.specs.JobViews.{pending_of, tasks_of};
 ghost use Rattle.mlk_jobs.specs.Sound.{Stands};
 ghost use Rattle.mlk_jobs.specs.TaskViews.{task_of};
 
-use crate::task::Task;
+use crate::task::{LineTask, Task};
 use std::alloc::AllocError;
 
 /// What a frame owes at its end.
@@ -43,10 +46,10 @@ fn is_round(pending: &Pending) -> bool
 {
     match pending {
         Pending::Task(
-            Task::Parameters(_, _, _)
-            | Task::Forever(_)
-            | Task::NextValue(_, _)
-            | Task::LaterRound(_, _, _),
+            Task::Line(LineTask::Parameters(_, _, _))
+            | Task::Line(LineTask::Forever(_))
+            | Task::Line(LineTask::NextValue(_, _))
+            | Task::Line(LineTask::LaterRound(_, _, _)),
         ) => true,
         _ => false,
     }
@@ -56,7 +59,7 @@ fn is_round(pending: &Pending) -> bool
 fn is_lines(pending: &Pending) -> bool
     ensures { (binders : List Binder) → result ≡ is_lines (pending_of binders pending.now) }
 {
-    matches!(pending, Pending::Task(Task::RunLines(_)))
+    matches!(pending, Pending::Task(Task::Line(LineTask::RunLines(_))))
 }
 
 // Whether this is the end of a block or of a frame.
@@ -140,6 +143,7 @@ pub(crate) fn do_first<'a>(
     ensures ok { OnOk result ((binders : List Binder) → tasks_of binders pending.new.items
         ≡ map task_of tasks.entry.items ++ tasks_of binders pending.old.items) }
     ensures err { OnErr result (pending.new.items ≡ pending.old.items) }
+    ensures room { OnErr result (vec_capacity pending.old ≤ vec_capacity pending.new) }
 {
     let mut left = tasks;
     pending.reserve(left.len())?;
@@ -184,4 +188,41 @@ pub(crate) fn quit(pending: &mut Vec<Pending>)
 {
     skip(pending);
     quit_skipped(pending);
+}
+
+// Whether this is the end of a frame that awaits a value.
+fn awaits(pending: &Pending) -> bool
+    ensures { (binders : List Binder) → result ≡ awaits (pending_of binders pending.now) }
+{
+    matches!(pending, Pending::EndFrame(Frame::AwaitsValue(_), _, _))
+}
+
+// The same end, where the frame has its value then.
+fn with_value(pending: Pending) -> Pending
+    ensures same { (binders : List Binder) → pending_of binders result ≡ with_value (pending_of binders pending.entry) }
+    ensures stands { (binders : List Binder) (n : ℕ) (ps : List Pending)
+        → Stands binders n (ps ++ pending.entry ∷ []) → Stands binders n (ps ++ result ∷ []) }
+{
+    match pending {
+        Pending::EndFrame(Frame::AwaitsValue(test), back, routine) => {
+            Pending::EndFrame(Frame::HasValue(test), back, routine)
+        }
+        other => other,
+    }
+}
+
+/// The frame at whose end the job is keeps the value that QUIT gave, if it awaits one; whether it does. It takes no
+/// memory.
+pub(crate) fn keep_value(pending: &mut Vec<Pending>) -> bool
+    ensures stands { (binders : List Binder) (n : ℕ) → Stands binders n pending.old.items → Stands binders n pending.new.items }
+    ensures kept { (binders : List Binder) → tasks_of binders pending.new.items
+        ≡ value_kept (tasks_of binders pending.old.items) }
+    ensures keeps { (binders : List Binder) → result ≡ keeps_value (tasks_of binders pending.old.items) }
+{
+    let Some(last) = pending.pop() else {
+        return false;
+    };
+    let is_kept = awaits(&last);
+    pending.push_reserved(with_value(last));
+    is_kept
 }

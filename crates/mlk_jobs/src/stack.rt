@@ -20,6 +20,14 @@ impl Model for Stack {
     ghost view = { λ s. reverse s.values.items };
 }
 
+// The last so many values, or all where there are fewer.
+fn last_of(values: &[Value], count: usize) -> &[Value]
+    ensures { result.now ≡ reverse (take count (reverse values.now)) }
+{
+    let (_, last) = values.split_at(values.len().saturating_sub(count));
+    last
+}
+
 impl Stack {
     /// These values, the first of which was computed first.
     pub fn of(values: Vec<Value>) -> Stack
@@ -48,10 +56,19 @@ impl Stack {
     pub fn last(&self, count: usize) -> &[Value]
         ensures { result.now ≡ reverse (take count self.now) }
     {
-        let (_, last) = self
+        last_of(self.values.as_slice(), count)
+    }
+
+    /// The last so many values before the last ones, of which so many are skipped, in the order in which they were
+    /// computed.
+    #[tactic(auto, using(crate::proofs::StackLemmas::kept_are))]
+    pub fn before(&self, skipped: usize, count: usize) -> &[Value]
+        ensures { result.now ≡ reverse (take count (drop skipped self.now)) }
+    {
+        let (kept, _) = self
             .values
-            .split_at(self.values.len().saturating_sub(count));
-        last
+            .split_at(self.values.len().saturating_sub(skipped));
+        last_of(kept, count)
     }
 
     /// The value that so many came after.

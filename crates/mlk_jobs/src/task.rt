@@ -21,9 +21,9 @@ pub struct Rest<'a> {
     pub block: &'a [Line],
 }
 
-/// A task: a job does its first one, which is replaced by its parts until it is one step.
+/// What expressions are made of: each leaves one more value.
 #[derive(Drop)]
-pub enum Task<'a> {
+pub enum ValueTask<'a> {
     Evaluate(&'a Expr),
     Push(&'a Value),
     Fetch(&'a Name),
@@ -42,6 +42,11 @@ pub enum Task<'a> {
     FormReference(&'a Name, usize, Extent, Access),
     /// its subscripts are constants
     DoTouch(Reference),
+}
+
+/// What is done to locals, and the assignments of SET and MERGE.
+#[derive(Drop)]
+pub enum LocalTask<'a> {
     Store(&'a Name, Value),
     StoreAny(&'a Name),
     StoreLast(&'a Name),
@@ -50,19 +55,39 @@ pub enum Task<'a> {
     Assign(&'a [Target]),
     /// the target, then the source
     Merge(&'a Variable, &'a Variable),
+}
+
+/// What is done by a truth.
+#[derive(Drop)]
+pub enum TestTask<'a> {
     SetTest,
     AskTest,
     SkipIf(bool),
     /// a command whose postconditional was evaluated, and the block of its line
     Conditionally(&'a Action, &'a [Line]),
+}
+
+/// What is done to locks.
+#[derive(Drop)]
+pub enum LockTask<'a> {
     /// names whose subscripts were evaluated, and whether there is a timeout
     LockNamed(Sign, &'a [Variable], bool),
     Claim(Vec<LockName>, bool),
     Release(Vec<LockName>),
     ReleaseAll,
+}
+
+/// What begins a frame or a block.
+#[derive(Drop)]
+pub enum ScopeTask<'a> {
     Call(Calling, &'a Callee, &'a [Actual]),
     CallIf(&'a Callee, &'a [Actual]),
     Block(&'a [Line]),
+}
+
+/// What is done of lines: their commands, the rounds of FOR, and QUIT and HALT.
+#[derive(Drop)]
+pub enum LineTask<'a> {
     RunLines(&'a [Line]),
     RunCommands(Rest<'a>),
     Parameters(&'a Name, &'a [Parameter], Rest<'a>),
@@ -73,4 +98,15 @@ pub enum Task<'a> {
     QuitHere,
     QuitWithValue,
     HaltJob,
+}
+
+/// A task: a job does its first one, which is replaced by its parts until it is one step.
+#[derive(Drop)]
+pub enum Task<'a> {
+    Value(ValueTask<'a>),
+    Local(LocalTask<'a>),
+    Test(TestTask<'a>),
+    Lock(LockTask<'a>),
+    Scope(ScopeTask<'a>),
+    Line(LineTask<'a>),
 }

@@ -15,7 +15,6 @@ use Rattle.mlk_calls.specs.Terms.{mention, mention_such}
 use Rattle.mlk_calls.specs.Cases.{is_listed, is_exit, holds_some, last_saved, before_last}
 use Rattle.mlk_calls.specs.declared.state.State.{State}
 use Rattle.mlk_calls.specs.Scope.{Scope, listed, scope_of}
-use Rattle.mlk_rows.specs.declared.walk.Fault.{Fault}
 use Rattle.mlk_rows.specs.declared.walk.Quit.{Quit}
 use Rattle.mlk_rows.specs.declared.walk.Walk.{Walk}
 use Rattle.mlk_routine.specs.declared.routine.Line.{Line}

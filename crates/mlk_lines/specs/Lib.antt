@@ -1,4 +1,5 @@
 pub mod Commands
+pub mod Counting
 pub mod Loops
 pub mod Endings
 pub mod Lines

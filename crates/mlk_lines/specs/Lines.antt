@@ -1,6 +1,6 @@
 -- Lines: each is walked from the cases that the certificate lists at its start, to the cases listed at the next line of
 -- its level, to the block's end, or to the frame's. Standard: line structure, levels.
-use Rattle.std.specs.Prelude.{ℕ, List, [], ◌∷◌, ◌++◌, map, Option, Some, None}
+use Rattle.std.specs.Prelude.{ℕ, List, [], ◌++◌, map, Option, Some, None}
 use Rattle.mlk_text.specs.Places.{column_at}
 use Rattle.mlk_routine.specs.Trees.{HeadTree, LineHead, LineTrees, no_lines, line}
 use Rattle.mlk_cert.specs.declared.case.Case.{Case}

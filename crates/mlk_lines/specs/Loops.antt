@@ -1,6 +1,6 @@
 -- FOR, and the commands of a line. Standard: FOR, forparameter; that its rounds are walked once, from the cases that the
 -- certificate lists for them, is this project's own choice.
-use Rattle.std.specs.Prelude.{ℕ, Bool, true, false, if◌then◌else◌, List, [], ◌∷◌, ◌++◌, map, fold, Option, Some, None}
+use Rattle.std.specs.Prelude.{ℕ, true, if◌then◌else◌, List, [], ◌∷◌, ◌++◌, map, fold, Option, Some, None}
 use Rattle.mlk_text.specs.declared.code.Code.TheVariants.{CaseNotListed}
 use Rattle.mlk_routine.specs.Trees.{CommandTree, Does, CommandTrees, finished, then_command, then_for}
 use Rattle.mlk_routine.specs.Trees.{ParameterTree, Once, Endless, Limited, ControlTree, Runs}

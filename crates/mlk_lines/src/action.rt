@@ -9,6 +9,7 @@ ghost use Rattle.mlk_calls.specs.Cases.{holds_some};
 ghost use Rattle.mlk_rows.specs.Spots.{spot_of};
 ghost use Rattle.mlk_rows.specs.Walks.{Outcome, add_all};
 ghost use Rattle.mlk_lines.specs.Commands.{if_row, else_row, halt_row, quit_row, do_calls, if_all, kill_each, lock_each, new_each, act};
+ghost use Rattle.mlk_lines.specs.Counting.{counted};
 
 use crate::argument::{conditions_in_turn, in_turn};
 use crate::block::do_block;
@@ -109,12 +110,13 @@ impl<'a> Row for QuitRow<'a> {
     }
 }
 
+#[tactic(auto, using(crate::proofs::FewStates::counted_found))]
 fn do_action<'a>(
     spot: &'a Spot<'a>,
     calls: &'a [DoArgument],
     walk: Walk,
 ) -> Result<Walk, AllocError>
-    ensures { IfOk result (λ w. w ≡ do_calls (spot_of spot.now) (map do_of calls.now) walk) }
+    ensures { IfOk result (λ w. counted w ≡ counted (do_calls (spot_of spot.now) (map do_of calls.now) walk)) }
 {
     match calls.split_first() {
         None => do_block(spot, walk),
@@ -181,13 +183,15 @@ fn quit_action<'a>(
     each(spot.alloc, &QuitRow { spot }, walk)
 }
 
-/// What a command does, without its postconditional.
+/// What a command does, without its postconditional. Of more states than 17 the first 17 may go on alone, so it has to be
+/// asked whether there are too many.
+#[tactic(auto, using(crate::proofs::FewStates::counted_found))]
 pub(crate) fn act<'a>(
     spot: &'a Spot<'a>,
     action: &'a Action,
     walk: Walk,
 ) -> Result<Walk, AllocError>
-    ensures { IfOk result (λ w. w ≡ act (spot_of spot.now) (action_of action.now) walk) }
+    ensures { IfOk result (λ w. counted w ≡ counted (act (spot_of spot.now) (action_of action.now) walk)) }
 {
     match action {
         Action::Do(calls) => do_action(spot, calls, walk),

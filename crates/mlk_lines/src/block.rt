@@ -1,11 +1,12 @@
 // DO without arguments: the block below the line.
 
-ghost use Rattle.std.specs.Prelude.{◌≡◌, IfOk, OnOk, flat_map, map, []};
+ghost use Rattle.std.specs.Prelude.{◌≡◌, IfOk, OnOk, flat_map, length, map, nat_lt, take, []};
 ghost use Rattle.std.specs.List.{list_any};
 ghost use Rattle.mlk_calls.specs.States.{at_rest};
 ghost use Rattle.mlk_rows.specs.Spots.{spot_of};
 ghost use Rattle.mlk_rows.specs.Walks.{add_all, put_all};
 ghost use Rattle.mlk_lines.specs.Commands.{entering, enters, enter_row, block_ends, do_block};
+ghost use Rattle.mlk_lines.specs.Counting.{counted};
 
 use mlk_calls::{State, is_listed};
 use mlk_cert::Case;
@@ -55,20 +56,30 @@ fn enter_all(
     Ok(some)
 }
 
-// The states in which the block may end.
+/// Whether there are more states than may go on.
+pub(crate) fn are_many(states: &[State]) -> bool
+    ensures { result ≡ nat_lt 16 (length states.now) }
+{
+    states.len() > 16
+}
+
+// The states in which the block may end; of more than 17 the first 17, which are too many already.
 fn ends_of(alloc: Global, block: &Block) -> Result<List<State>, AllocError>
-    ensures { IfOk result (λ s. s ≡ put_all (map at_rest block.now.ends) []) }
+    ensures { IfOk result (λ s. take 17 s ≡ take 17 (put_all (map at_rest block.now.ends) [])) }
 {
     let mut ends = List::new(alloc);
     let cases = block.ends.as_slice();
     for case in cases {
+        if are_many(ends.as_slice()) {
+            return Ok(ends);
+        }
         put(&mut ends, State::at_rest(alloc, case)?)?;
     }
     Ok(ends)
 }
 
 fn block_ends(alloc: Global, entered: bool, block: &Block) -> Result<List<State>, AllocError>
-    ensures { IfOk result (λ s. s ≡ block_ends entered block.now) }
+    ensures { IfOk result (λ s. take 17 s ≡ take 17 (block_ends entered block.now)) }
 {
     if !entered {
         return Ok(List::new(alloc));
@@ -77,7 +88,7 @@ fn block_ends(alloc: Global, entered: bool, block: &Block) -> Result<List<State>
 }
 
 fn through(spot: &Spot, block: &Block, walk: Walk) -> Result<Walk, AllocError>
-    ensures { IfOk result (λ w. w ≡ do_block (spot_of spot.now) (Some block.now) walk) }
+    ensures { IfOk result (λ w. counted w ≡ counted (do_block (spot_of spot.now) (Some block.now) walk)) }
 {
     let (mut rest, going) = walk.take_states(spot.alloc);
     let entered = enter_all(spot, block, going.into_vec(), &mut rest)?;
@@ -85,9 +96,10 @@ fn through(spot: &Spot, block: &Block, walk: Walk) -> Result<Walk, AllocError>
     Ok(rest.with_states(ends))
 }
 
-/// The block below the line: the states that enter it are those in which it may end. Without a block nothing happens.
+/// The block below the line: after it come the states in which it may end. Without a block nothing happens. Of more
+/// states than 17 the first 17 go on, so it has to be asked whether there are too many.
 pub(crate) fn do_block(spot: &Spot, walk: Walk) -> Result<Walk, AllocError>
-    ensures { IfOk result (λ w. w ≡ do_block (spot_of spot.now) (spot_of spot.now).block walk) }
+    ensures { IfOk result (λ w. counted w ≡ counted (do_block (spot_of spot.now) (spot_of spot.now).block walk)) }
 {
     match spot.block {
         None => Ok(walk),

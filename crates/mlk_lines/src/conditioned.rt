@@ -7,6 +7,7 @@ ghost use Rattle.mlk_rows.specs.Spots.{spot_of};
 ghost use Rattle.mlk_rows.specs.Walks.{joined, with_states};
 ghost use Rattle.mlk_rows.specs.Expressions.{conditioned};
 ghost use Rattle.mlk_lines.specs.Commands.{act, stay, command as result_of};
+ghost use Rattle.mlk_lines.specs.Counting.{counted};
 
 use crate::action::act;
 use mlk_calls::State;
@@ -33,18 +34,19 @@ fn where_true<'a>(
     command: &'a Command,
     walk: Walk,
 ) -> Result<Walk, AllocError>
-    ensures { IfOk result (λ w. w ≡ conditioned (spot_of spot.now) (Some (tree_of condition.now))
-        (act (spot_of spot.now) (action_of command.now.action)) stay walk) }
+    ensures { IfOk result (λ w. counted w ≡ counted (conditioned (spot_of spot.now) (Some (tree_of condition.now))
+        (act (spot_of spot.now) (action_of command.now.action)) stay walk)) }
 {
     let walk = value(spot, condition, walk)?;
     let (held, aside) = where_it_holds(spot, condition, walk)?;
     let found = act(spot, &command.action, held)?;
-    with_aside(spot.alloc, aside, found)
+    let walk = with_aside(spot.alloc, aside, found)?;
+    Ok(walk)
 }
 
 fn conditioned<'a>(spot: &'a Spot<'a>, command: &'a Command, walk: Walk) -> Result<Walk, AllocError>
-    ensures { IfOk result (λ w. w ≡ conditioned (spot_of spot.now) (option_map tree_of command.now.condition)
-        (act (spot_of spot.now) (action_of command.now.action)) stay walk) }
+    ensures { IfOk result (λ w. counted w ≡ counted (conditioned (spot_of spot.now) (option_map tree_of command.now.condition)
+        (act (spot_of spot.now) (action_of command.now.action)) stay walk)) }
 {
     match &command.condition {
         None => act(spot, &command.action, walk),

@@ -1,18 +1,20 @@
 // FOR, and the commands of a line.
 
-ghost use Rattle.std.specs.Prelude.{◌≡◌, IfOk, None, Some, fold, map, option_map};
+ghost use Rattle.std.specs.Prelude.{◌≡◌, IfOk, None, Some, fold, map, option_map, take};
 ghost use Rattle.mlk_routine.specs.Views.{parameter_of, control_of, command_of, commands_of};
 ghost use Rattle.mlk_calls.specs.States.{at_rest};
 ghost use Rattle.mlk_rows.specs.Spots.{spot_of};
-ghost use Rattle.mlk_rows.specs.Walks.{begin};
+ghost use Rattle.mlk_rows.specs.Walks.{begin, put_all};
+ghost use Rattle.mlk_lines.specs.Counting.{counted};
 ghost use Rattle.mlk_lines.specs.Loops.{rounds_of, parameters, controlled, and_faults, and_states, over_too, after_rounds, at_word, one_command, commands};
 
+use crate::block::are_many;
 use crate::conditioned::perform;
 use crate::rounds::{Rounds, after_round, begin_rounds, parameter};
 use mlk_calls::State;
 use mlk_cert::{Case, NameSet};
 use mlk_routine::{Command, Commands, Control, Parameter};
-use mlk_rows::{Faults, Quit, Spot, Walk, put_all};
+use mlk_rows::{Faults, Quit, Spot, Walk, put, put_all};
 use mlk_text::{Column, List};
 use std::alloc::{AllocError, Global};
 
@@ -55,15 +57,29 @@ fn add_faults(faults: Faults, walk: Walk) -> Result<Walk, AllocError>
     Ok(walk)
 }
 
-// These states too, each once, unless the line is over.
+// These states too, each once; of more than 17 some may be left out, since 17 are too many already.
+#[tactic(auto, using(crate::proofs::FewStates::no_more))]
+fn put_few(states: List<State>, new: Vec<State>) -> Result<List<State>, AllocError>
+    ensures { IfOk result (λ all. take 17 all ≡ take 17 (put_all new.items states)) }
+{
+    let mut all = states;
+    for state in new {
+        if !are_many(all.as_slice()) {
+            put(&mut all, state)?;
+        }
+    }
+    Ok(all)
+}
+
+// These states too, each once, unless the line is over. Of more than 17 some may be left out.
 fn and_states(alloc: Global, states: Vec<State>, walk: Walk) -> Result<Walk, AllocError>
-    ensures { IfOk result (λ w. w ≡ and_states states.items walk) }
+    ensures { IfOk result (λ w. counted w ≡ counted (and_states states.items walk)) }
 {
     if walk.over {
         return Ok(walk);
     }
     let (rest, going) = walk.take_states(alloc);
-    let all = put_all(going, states)?;
+    let all = put_few(going, states)?;
     Ok(rest.with_states(all))
 }
 

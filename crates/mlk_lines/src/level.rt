@@ -117,7 +117,7 @@ fn walk_line<'a>(
 }
 
 /// The walk of lines of one level and of their blocks: what is found is added, and the cases are answered in which the
-/// lines' own block may end.
+/// lines' own block may end. A line past all points of the scope costs no more than that it is looked at.
 #[cycle(level)]
 pub fn walk_lines<'a>(
     alloc: Global,
@@ -135,6 +135,9 @@ pub fn walk_lines<'a>(
     let mut later = lines;
     for line in lines {
         later = without_first(later);
+        if scope.is_past(line.number) && line.block.as_slice().is_empty() {
+            continue;
+        }
         let mut ends = walk_line(alloc, scope, line, around, next_of(around, later), found)?;
         all.append(&mut ends)?;
     }

@@ -12,7 +12,7 @@ use crate::adding::add;
 use crate::command::{block_parts, evaluated, if_parts};
 use crate::part::add_all;
 use mlk_expr::Expr;
-use mlk_jobs::{Names, Task};
+use mlk_jobs::{LineTask, LocalTask, LockTask, Names, Task, TestTask, ValueTask};
 use mlk_routine::{
     Action, Call, Command, DoArgument, KillArgument, Line, LockArgument, MergeArgument,
     NewArgument, ReadArgument, SetArgument, WriteArgument,
@@ -36,7 +36,7 @@ fn if_all<'a>(parts: &mut Vec<Task<'a>>, conditions: &'a [Expr]) -> Result<(), A
     ensures { OnOk result (Adds (if_all (trees conditions.now)) parts.old.items parts.new.items) }
 {
     let Some((first, others)) = conditions.split_first() else {
-        return add(parts, Task::SkipIf(false));
+        return add(parts, Task::Test(TestTask::SkipIf(false)));
     };
     if_parts(parts, first)?;
     let mut left = others;
@@ -68,7 +68,7 @@ fn kill_all<'a>(parts: &mut Vec<Task<'a>>, kills: &'a [KillArgument]) -> Result<
     ensures { OnOk result (Adds (kill_all (map kill_of kills.now)) parts.old.items parts.new.items) }
 {
     match kills.split_first() {
-        None => add(parts, Task::KillNames(Names::AllBut(&[]))),
+        None => add(parts, Task::Local(LocalTask::KillNames(Names::AllBut(&[])))),
         Some(_) => add_all(parts, kills),
     }
 }
@@ -79,7 +79,7 @@ fn lock_all<'a>(parts: &mut Vec<Task<'a>>, locks: &'a [LockArgument]) -> Result<
     ensures { OnOk result (Adds (lock_all (map lock_of locks.now)) parts.old.items parts.new.items) }
 {
     match locks.split_first() {
-        None => add(parts, Task::ReleaseAll),
+        None => add(parts, Task::Lock(LockTask::ReleaseAll)),
         Some(_) => add_all(parts, locks),
     }
 }
@@ -90,7 +90,7 @@ fn new_all<'a>(parts: &mut Vec<Task<'a>>, news: &'a [NewArgument]) -> Result<(),
     ensures { OnOk result (Adds (new_all (map new_of news.now)) parts.old.items parts.new.items) }
 {
     match news.split_first() {
-        None => add(parts, Task::NewNames(Names::AllBut(&[]))),
+        None => add(parts, Task::Local(LocalTask::NewNames(Names::AllBut(&[])))),
         Some(_) => add_all(parts, news),
     }
 }
@@ -146,12 +146,12 @@ fn quit_parts<'a>(parts: &mut Vec<Task<'a>>, value: &'a Option<Expr>) -> Result<
 {
     match value {
         None => {
-            add(parts, Task::QuitHere)?;
+            add(parts, Task::Line(LineTask::QuitHere))?;
             Ok(())
         }
         Some(value) => {
-            add(parts, Task::Evaluate(value))?;
-            add(parts, Task::QuitWithValue)?;
+            add(parts, Task::Value(ValueTask::Evaluate(value)))?;
+            add(parts, Task::Line(LineTask::QuitWithValue))?;
             Ok(())
         }
     }
@@ -168,8 +168,8 @@ pub fn action_parts<'a>(
 {
     match action {
         Action::Do(calls) => do_all(parts, block, calls),
-        Action::Else => add(parts, Task::SkipIf(true)),
-        Action::Halt => add(parts, Task::HaltJob),
+        Action::Else => add(parts, Task::Test(TestTask::SkipIf(true))),
+        Action::Halt => add(parts, Task::Line(LineTask::HaltJob)),
         Action::Hang(times) => each_evaluated(parts, times),
         Action::If(conditions) => if_all(parts, conditions),
         Action::Job(calls) => job_all(parts, calls),
@@ -195,8 +195,11 @@ pub(crate) fn command_parts<'a>(
     match &command.condition {
         None => action_parts(parts, block, &command.action),
         Some(condition) => {
-            add(parts, Task::Evaluate(condition))?;
-            add(parts, Task::Conditionally(&command.action, block))?;
+            add(parts, Task::Value(ValueTask::Evaluate(condition)))?;
+            add(
+                parts,
+                Task::Test(TestTask::Conditionally(&command.action, block)),
+            )?;
             Ok(())
         }
     }

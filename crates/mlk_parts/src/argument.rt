@@ -11,7 +11,7 @@ use crate::adding::add;
 use crate::command::{evaluated, evaluated_if, given_in, in_time, in_variable};
 use crate::evaluate::each_actual;
 use mlk_expr::Expr;
-use mlk_jobs::{Calling, Names, Task, count_in};
+use mlk_jobs::{Calling, LocalTask, Names, ScopeTask, Task, ValueTask, count_in};
 use mlk_routine::{DoArgument, MergeArgument, NewArgument, ReadArgument, Variable, WriteArgument};
 use mlk_text::Name;
 use std::alloc::AllocError;
@@ -46,8 +46,8 @@ fn store_last<'a>(parts: &mut Vec<Task<'a>>, variable: &'a Variable) -> Result<(
     ensures { OnOk result (Adds (store_last (variable_of variable.now)) parts.old.items parts.new.items) }
 {
     match bare_name(variable) {
-        Some(name) => add(parts, Task::StoreLast(name)),
-        None => add(parts, Task::DropValues(1)),
+        Some(name) => add(parts, Task::Local(LocalTask::StoreLast(name))),
+        None => add(parts, Task::Value(ValueTask::DropValues(1))),
     }
 }
 
@@ -63,13 +63,16 @@ pub(crate) fn do_parts<'a>(
         None => {
             add(
                 parts,
-                Task::Call(Calling::ByDo, &argument.call.callee, given),
+                Task::Scope(ScopeTask::Call(Calling::ByDo, &argument.call.callee, given)),
             )?;
             Ok(())
         }
         Some(condition) => {
-            add(parts, Task::Evaluate(condition))?;
-            add(parts, Task::CallIf(&argument.call.callee, given))?;
+            add(parts, Task::Value(ValueTask::Evaluate(condition)))?;
+            add(
+                parts,
+                Task::Scope(ScopeTask::CallIf(&argument.call.callee, given)),
+            )?;
             Ok(())
         }
     }
@@ -82,8 +85,14 @@ pub(crate) fn new_parts<'a>(
     ensures { OnOk result (Adds (new_parts (new_of argument.now)) parts.old.items parts.new.items) }
 {
     match argument {
-        NewArgument::One(_, name) => add(parts, Task::NewNames(Names::Only(name))),
-        NewArgument::AllBut(names) => add(parts, Task::NewNames(Names::AllBut(names.as_slice()))),
+        NewArgument::One(_, name) => add(
+            parts,
+            Task::Local(LocalTask::NewNames(Names::Only(name))),
+        ),
+        NewArgument::AllBut(names) => add(
+            parts,
+            Task::Local(LocalTask::NewNames(Names::AllBut(names.as_slice()))),
+        ),
     }
 }
 
@@ -95,7 +104,10 @@ pub(crate) fn merge_parts<'a>(
 {
     in_variable(parts, &argument.target)?;
     in_variable(parts, &argument.source)?;
-    add(parts, Task::Merge(&argument.target, &argument.source))?;
+    add(
+        parts,
+        Task::Local(LocalTask::Merge(&argument.target, &argument.source)),
+    )?;
     Ok(())
 }
 
@@ -108,7 +120,7 @@ fn read_after<'a>(
     ensures { OnOk result (Adds (read_after (variable_of variable.now) (option_map tree_of timeout.now)) parts.old.items parts.new.items) }
 {
     evaluated_if(parts, timeout)?;
-    add(parts, Task::AskValue(count_in(variable)))?;
+    add(parts, Task::Value(ValueTask::AskValue(count_in(variable))))?;
     store_last(parts, variable)?;
     in_time(parts, timeout)?;
     Ok(())

@@ -15,7 +15,7 @@ use crate::argument::bare_name;
 use crate::command::subscripts_of;
 use crate::expr::count_subscripts;
 use mlk_expr::Expr;
-use mlk_jobs::{Task, count_in, cut_after};
+use mlk_jobs::{LocalTask, LockTask, Task, ValueTask, count_in, cut_after};
 use mlk_names::{Access, Extent, LockName, Reference, Sym};
 use mlk_routine::{Sign, Target, Variable};
 use mlk_text::{Name, Subscripts, Value};
@@ -57,7 +57,7 @@ pub(crate) fn touch<'a>(
     ensures { OnOk result (Adds (DoTouch (touch_of name.now subs.now extent access) ∷ []) parts.old.items parts.new.items) }
 {
     let reference = concrete(alloc, name, subs, extent, access)?;
-    add(parts, Task::DoTouch(reference))?;
+    add(parts, Task::Value(ValueTask::DoTouch(reference)))?;
     Ok(())
 }
 
@@ -71,7 +71,7 @@ fn read_and_written<'a>(
     ensures { OnOk result (Adds (read_and_written name.now subs.now) parts.old.items parts.new.items) }
 {
     touch(alloc, parts, name, subs, Extent::Node, Access::Reads)?;
-    add(parts, Task::DropValues(1))?;
+    add(parts, Task::Value(ValueTask::DropValues(1)))?;
     touch(alloc, parts, name, subs, Extent::Node, Access::Writes)?;
     Ok(())
 }
@@ -121,7 +121,7 @@ fn assign_whole<'a>(
         (option_map (λ n. n.now) global.entry)) parts.old.items parts.new.items) }
 {
     if let Some(name) = local {
-        add(parts, Task::Store(name, value.copy()?))?;
+        add(parts, Task::Local(LocalTask::Store(name, value.copy()?)))?;
         return Ok(());
     }
     match global {
@@ -143,7 +143,7 @@ fn assign_part<'a>(
         (option_map (λ n. n.now) global.entry)) parts.old.items parts.new.items) }
 {
     if let Some(name) = local {
-        add(parts, Task::StoreAny(name))?;
+        add(parts, Task::Local(LocalTask::StoreAny(name)))?;
         return Ok(());
     }
     match global {
@@ -250,11 +250,11 @@ pub fn by_sign<'a>(
 {
     match sign {
         Sign::None => {
-            add(parts, Task::ReleaseAll)?;
-            add(parts, Task::Claim(names, timed))?;
+            add(parts, Task::Lock(LockTask::ReleaseAll))?;
+            add(parts, Task::Lock(LockTask::Claim(names, timed)))?;
             Ok(())
         }
-        Sign::Plus => add(parts, Task::Claim(names, timed)),
-        Sign::Minus => add(parts, Task::Release(names)),
+        Sign::Plus => add(parts, Task::Lock(LockTask::Claim(names, timed))),
+        Sign::Minus => add(parts, Task::Lock(LockTask::Release(names))),
     }
 }

@@ -10,7 +10,7 @@ ghost use Rattle.mlk_parts.specs.PartViews.{subs_of};
 use crate::adding::add;
 use crate::expr::each_subscript;
 use mlk_expr::{Actual, Expr, Subscript};
-use mlk_jobs::Task;
+use mlk_jobs::{ScopeTask, Task, TestTask, ValueTask};
 use mlk_routine::{Line, Variable};
 use std::alloc::AllocError;
 
@@ -50,8 +50,8 @@ pub(crate) fn evaluated<'a>(
 ) -> Result<(), AllocError>
     ensures { OnOk result (Adds (evaluated (tree_of expression.now)) parts.old.items parts.new.items) }
 {
-    add(parts, Task::Evaluate(expression))?;
-    add(parts, Task::DropValues(1))?;
+    add(parts, Task::Value(ValueTask::Evaluate(expression)))?;
+    add(parts, Task::Value(ValueTask::DropValues(1)))?;
     Ok(())
 }
 
@@ -88,7 +88,7 @@ pub(crate) fn block_parts<'a>(
 {
     match block.split_first() {
         None => Ok(()),
-        Some(_) => add(parts, Task::Block(block)),
+        Some(_) => add(parts, Task::Scope(ScopeTask::Block(block))),
     }
 }
 
@@ -96,9 +96,9 @@ pub(crate) fn block_parts<'a>(
 pub(crate) fn if_parts<'a>(parts: &mut Vec<Task<'a>>, condition: &'a Expr) -> Result<(), AllocError>
     ensures { OnOk result (Adds (if_parts (tree_of condition.now)) parts.old.items parts.new.items) }
 {
-    add(parts, Task::Evaluate(condition))?;
-    add(parts, Task::SetTest)?;
-    add(parts, Task::SkipIf(false))?;
+    add(parts, Task::Value(ValueTask::Evaluate(condition)))?;
+    add(parts, Task::Test(TestTask::SetTest))?;
+    add(parts, Task::Test(TestTask::SkipIf(false)))?;
     Ok(())
 }
 
@@ -112,6 +112,6 @@ pub(crate) fn in_time<'a>(
 {
     match timeout {
         None => Ok(()),
-        Some(_) => add(parts, Task::AskTest),
+        Some(_) => add(parts, Task::Test(TestTask::AskTest)),
     }
 }

@@ -12,7 +12,7 @@ use crate::expr::{
     special_parts,
 };
 use mlk_expr::{Actual, Callee, Expr, Function, Op};
-use mlk_jobs::{Calling, Task};
+use mlk_jobs::{Calling, ScopeTask, Task, ValueTask};
 use mlk_names::Extent;
 use std::alloc::AllocError;
 
@@ -41,10 +41,10 @@ fn operand<'a>(parts: &mut Vec<Task<'a>>, op: Op, operand: &'a Expr) -> Result<(
     ensures { OnOk result (Adds (operation (link op (tree_of operand.now) no_links)) parts.old.items parts.new.items) }
 {
     if is_pattern(operand) {
-        return add(parts, Task::AskValue(1));
+        return add(parts, Task::Value(ValueTask::AskValue(1)));
     }
-    add(parts, Task::Evaluate(operand))?;
-    add(parts, Task::ApplyBinary(op))?;
+    add(parts, Task::Value(ValueTask::Evaluate(operand)))?;
+    add(parts, Task::Value(ValueTask::ApplyBinary(op)))?;
     Ok(())
 }
 
@@ -64,7 +64,7 @@ fn actual_parts<'a>(parts: &mut Vec<Task<'a>>, actual: &'a Actual) -> Result<(),
     ensures { OnOk result (Adds (each_actual (actual_of actual.now ∷ [])) parts.old.items parts.new.items) }
 {
     match actual {
-        Actual::Value(value) => add(parts, Task::Evaluate(value)),
+        Actual::Value(value) => add(parts, Task::Value(ValueTask::Evaluate(value))),
         Actual::ByRef(_, _) | Actual::Missing => Ok(()),
     }
 }
@@ -93,7 +93,10 @@ fn call_parts<'a>(
     ensures { OnOk result (Adds (called_with callee.now (actual_trees actuals.now)) parts.old.items parts.new.items) }
 {
     each_actual(parts, actuals)?;
-    add(parts, Task::Call(Calling::Extrinsic, callee, actuals))?;
+    add(
+        parts,
+        Task::Scope(ScopeTask::Call(Calling::Extrinsic, callee, actuals)),
+    )?;
     Ok(())
 }
 
@@ -102,7 +105,10 @@ fn value_parts<'a>(parts: &mut Vec<Task<'a>>, arguments: &'a [Expr]) -> Result<(
     ensures { OnOk result (Adds (values_with (args_of arguments.now)) parts.old.items parts.new.items) }
 {
     each_argument(parts, arguments)?;
-    add(parts, Task::AskValue(count_arguments(arguments)))?;
+    add(
+        parts,
+        Task::Value(ValueTask::AskValue(count_arguments(arguments))),
+    )?;
     Ok(())
 }
 
@@ -145,7 +151,10 @@ fn extrinsic<'a>(
     ensures { OnOk result (Adds (extrinsic_parts callee.now (option_map (λ v. actual_trees v.items) actuals.now)) parts.old.items parts.new.items) }
 {
     match actuals {
-        None => add(parts, Task::Call(Calling::Extrinsic, callee, &[])),
+        None => add(
+            parts,
+            Task::Scope(ScopeTask::Call(Calling::Extrinsic, callee, &[])),
+        ),
         Some(given) => call_parts(parts, callee, given),
     }
 }
@@ -156,23 +165,23 @@ pub fn parts_of<'a>(parts: &mut Vec<Task<'a>>, expression: &'a Expr) -> Result<(
     ensures { OnOk result (Adds (parts_of (tree_of expression.now)) parts.old.items parts.new.items) }
 {
     match expression {
-        Expr::Lit(value) => add(parts, Task::Push(value)),
-        Expr::Free | Expr::Pattern(_) => add(parts, Task::AskValue(0)),
+        Expr::Lit(value) => add(parts, Task::Value(ValueTask::Push(value))),
+        Expr::Free | Expr::Pattern(_) => add(parts, Task::Value(ValueTask::AskValue(0))),
         Expr::Local(name, subscripts) => read_local(parts, name, subscripts),
         Expr::Global(_, name, subscripts) => read_global(parts, name, subscripts, Extent::Node),
         Expr::Special(special) => special_parts(parts, *special),
         Expr::Unary(op, operand) => {
-            add(parts, Task::Evaluate(operand))?;
-            add(parts, Task::ApplyUnary(*op))?;
+            add(parts, Task::Value(ValueTask::Evaluate(operand)))?;
+            add(parts, Task::Value(ValueTask::ApplyUnary(*op)))?;
             Ok(())
         }
         Expr::Binary(first, rest) => {
-            add(parts, Task::Evaluate(first))?;
+            add(parts, Task::Value(ValueTask::Evaluate(first)))?;
             chain(parts, rest)?;
             Ok(())
         }
         Expr::Func(function, arguments) => function_parts(parts, *function, arguments),
-        Expr::Select(branches) => add(parts, Task::Select(branches)),
+        Expr::Select(branches) => add(parts, Task::Value(ValueTask::Select(branches))),
         Expr::Call(_, callee, actuals) => extrinsic(parts, callee, actuals),
     }
 }

@@ -9,7 +9,7 @@ ghost use Rattle.mlk_parts.specs.PartViews.{subs_of, args_of, asked, naming_of, 
 
 use crate::adding::add;
 use mlk_expr::{Actual, Expr, Function, Op, Special, Subscript};
-use mlk_jobs::{Calling, Task};
+use mlk_jobs::{Calling, Task, ValueTask};
 use mlk_names::{Access, Extent};
 use mlk_text::Name;
 use std::alloc::AllocError;
@@ -40,7 +40,7 @@ pub(crate) fn each_subscript<'a>(
 {
     let mut left = subscripts;
     while let Some((subscript, others)) = left.split_first() {
-        add(parts, Task::Evaluate(&subscript.value))?;
+        add(parts, Task::Value(ValueTask::Evaluate(&subscript.value)))?;
         left = others;
     }
     Ok(())
@@ -54,7 +54,7 @@ pub(crate) fn each_argument<'a>(
 {
     let mut left = arguments;
     while let Some((argument, others)) = left.split_first() {
-        add(parts, Task::Evaluate(argument))?;
+        add(parts, Task::Value(ValueTask::Evaluate(argument)))?;
         left = others;
     }
     Ok(())
@@ -70,7 +70,12 @@ pub(crate) fn read_global<'a>(
     ensures { OnOk result (Adds (read_global name.now (subs_of subscripts.now) extent) parts.old.items parts.new.items) }
 {
     each_subscript(parts, subscripts)?;
-    let form = Task::FormReference(name, count_subscripts(subscripts), extent, Access::Reads);
+    let form = Task::Value(ValueTask::FormReference(
+        name,
+        count_subscripts(subscripts),
+        extent,
+        Access::Reads,
+    ));
     add(parts, form)?;
     Ok(())
 }
@@ -84,12 +89,15 @@ pub(crate) fn read_local<'a>(
 {
     match subscripts.split_first() {
         None => {
-            add(parts, Task::Fetch(name))?;
+            add(parts, Task::Value(ValueTask::Fetch(name)))?;
             Ok(())
         }
         Some(_) => {
             each_subscript(parts, subscripts)?;
-            add(parts, Task::AskValue(count_subscripts(subscripts)))?;
+            add(
+                parts,
+                Task::Value(ValueTask::AskValue(count_subscripts(subscripts))),
+            )?;
             Ok(())
         }
     }
@@ -102,8 +110,8 @@ pub(crate) fn special_parts<'a>(
     ensures { OnOk result (Adds (special_parts special) parts.old.items parts.new.items) }
 {
     match special {
-        Special::Job => add(parts, Task::PushJob),
-        Special::Test => add(parts, Task::PushTest),
+        Special::Job => add(parts, Task::Value(ValueTask::PushJob)),
+        Special::Test => add(parts, Task::Value(ValueTask::PushTest)),
         Special::Device
         | Special::Horolog
         | Special::Io
@@ -113,7 +121,7 @@ pub(crate) fn special_parts<'a>(
         | Special::Storage
         | Special::System
         | Special::X
-        | Special::Y => add(parts, Task::AskValue(0)),
+        | Special::Y => add(parts, Task::Value(ValueTask::AskValue(0))),
     }
 }
 
@@ -122,7 +130,10 @@ fn unused<'a>(parts: &mut Vec<Task<'a>>, arguments: &'a [Expr]) -> Result<(), Al
     ensures { OnOk result (Adds (unused (args_of arguments.now)) parts.old.items parts.new.items) }
 {
     each_argument(parts, arguments)?;
-    add(parts, Task::DropValues(count_arguments(arguments)))?;
+    add(
+        parts,
+        Task::Value(ValueTask::DropValues(count_arguments(arguments))),
+    )?;
     Ok(())
 }
 
@@ -136,9 +147,9 @@ fn order_parts<'a>(
     ensures { OnOk result (Adds (of_global function.Order name.now (subs_of subscripts.now) (args_of more.now)) parts.old.items parts.new.items) }
 {
     each_subscript(parts, subscripts)?;
-    add(parts, Task::DropValues(1))?;
+    add(parts, Task::Value(ValueTask::DropValues(1)))?;
     let above = count_subscripts(subscripts).saturating_sub(1);
-    let form = Task::FormReference(name, above, Extent::Tree, Access::Reads);
+    let form = Task::Value(ValueTask::FormReference(name, above, Extent::Tree, Access::Reads));
     add(parts, form)?;
     unused(parts, more)?;
     Ok(())
@@ -154,8 +165,11 @@ fn query_parts<'a>(
     ensures { OnOk result (Adds (of_global function.Query name.now (subs_of subscripts.now) (args_of more.now)) parts.old.items parts.new.items) }
 {
     each_subscript(parts, subscripts)?;
-    add(parts, Task::DropValues(count_subscripts(subscripts)))?;
-    let form = Task::FormReference(name, 0, Extent::Tree, Access::Reads);
+    add(
+        parts,
+        Task::Value(ValueTask::DropValues(count_subscripts(subscripts))),
+    )?;
+    let form = Task::Value(ValueTask::FormReference(name, 0, Extent::Tree, Access::Reads));
     add(parts, form)?;
     unused(parts, more)?;
     Ok(())
@@ -172,7 +186,7 @@ pub(crate) fn ask_parts<'a>(
     each_subscript(parts, subscripts)?;
     each_argument(parts, more)?;
     let count = count_subscripts(subscripts) + count_arguments(more);
-    add(parts, Task::AskValue(count))?;
+    add(parts, Task::Value(ValueTask::AskValue(count)))?;
     Ok(())
 }
 

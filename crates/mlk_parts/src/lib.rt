@@ -18,6 +18,6 @@ pub use action::action_parts;
 pub use adding::add;
 pub use assign::{assignments, by_sign, concrete, count_parts};
 pub use evaluate::parts_of;
-pub use line::{formals_in, has_formals, line_parts, next_command};
+pub use line::{formals_in, has_formals, line_parts, line_rest, next_command};
 pub use merge::{merge_source, merge_target};
 pub use round::{first_round, later_round, parameter_parts};

@@ -10,7 +10,7 @@ ghost use Rattle.mlk_jobs.specs.TaskViews.{Adds, for_of, commands_left, block_of
 
 use crate::action::command_parts;
 use crate::adding::add;
-use mlk_jobs::{Rest, Task};
+use mlk_jobs::{LineTask, Rest, Task};
 use mlk_routine::{Commands, For, Line};
 use mlk_text::Name;
 use std::alloc::AllocError;
@@ -25,9 +25,9 @@ fn last_for(last: &Option<Box<For>>) -> Option<&For>
     }
 }
 
-/// All of these commands, on a line with this block.
+// All of these commands, on a line with this block.
 #[tactic(auto, using(crate::proofs::LineParts::commands_out))]
-pub fn rest_of<'a>(commands: &'a Commands, block: &'a [Line]) -> Rest<'a>
+fn rest_of<'a>(commands: &'a Commands, block: &'a [Line]) -> Rest<'a>
     ensures commands { commands_left result ≡ commands_of commands.now }
     ensures block { result.block.now ≡ block.now }
 {
@@ -49,10 +49,14 @@ fn for_parts<'a>(
 {
     let rest = rest_of(&last.rest, block);
     match &last.control {
-        None => add(parts, Task::Forever(rest)),
+        None => add(parts, Task::Line(LineTask::Forever(rest))),
         Some(control) => add(
             parts,
-            Task::Parameters(&control.variable, control.parameters.as_slice(), rest),
+            Task::Line(LineTask::Parameters(
+                &control.variable,
+                control.parameters.as_slice(),
+                rest,
+            )),
         ),
     }
 }
@@ -85,7 +89,7 @@ pub fn next_command<'a>(parts: &mut Vec<Task<'a>>, rest: Rest<'a>) -> Result<(),
         last: rest.last,
         block: rest.block,
     };
-    add(parts, Task::RunCommands(left))?;
+    add(parts, Task::Line(LineTask::RunCommands(left)))?;
     Ok(())
 }
 
@@ -108,8 +112,16 @@ pub fn formals_in(line: &Line) -> &[Name]
     }
 }
 
-/// A line, and the lines after it.
+/// The commands of a line, on its block.
 #[tactic(auto, using(crate::proofs::LineParts::line_out))]
+pub fn line_rest(line: &Line) -> Rest<'_>
+    ensures commands { commands_left result ≡ commands_in (line_of line.now).0 }
+    ensures block { block_of result.block.now ≡ (line_of line.now).1 }
+{
+    rest_of(&line.commands, line.block.as_slice())
+}
+
+/// A line, and the lines after it.
 pub fn line_parts<'a>(
     parts: &mut Vec<Task<'a>>,
     line: &'a Line,
@@ -118,8 +130,7 @@ pub fn line_parts<'a>(
     ensures { OnOk result (Adds (RunCommands (commands_in (line_of line.now).0) (line_of line.now).1
         ∷ RunLines (map line_of later.now) ∷ []) parts.old.items parts.new.items) }
 {
-    let rest = rest_of(&line.commands, line.block.as_slice());
-    add(parts, Task::RunCommands(rest))?;
-    add(parts, Task::RunLines(later))?;
+    add(parts, Task::Line(LineTask::RunCommands(line_rest(line))))?;
+    add(parts, Task::Line(LineTask::RunLines(later)))?;
     Ok(())
 }

@@ -9,7 +9,7 @@ ghost use Rattle.mlk_parts.specs.AssignViews.{source_read, into_local, unread, t
 use crate::adding::add;
 use crate::argument::bare_name;
 use crate::assign::{global_name, is_global, touch};
-use mlk_jobs::Task;
+use mlk_jobs::{LocalTask, Task, ValueTask};
 use mlk_names::{Access, Extent};
 use mlk_routine::Variable;
 use mlk_text::{Name, Value};
@@ -53,9 +53,9 @@ fn into_local<'a>(
     ensures { OnOk result (Adds (into_local name.now is_read) parts.old.items parts.new.items) }
 {
     if is_read {
-        add(parts, Task::StoreLast(name))
+        add(parts, Task::Local(LocalTask::StoreLast(name)))
     } else {
-        add(parts, Task::StoreAny(name))
+        add(parts, Task::Local(LocalTask::StoreAny(name)))
     }
 }
 
@@ -65,7 +65,7 @@ fn unread<'a>(parts: &mut Vec<Task<'a>>, is_read: bool) -> Result<(), AllocError
     ensures { OnOk result (Adds (unread is_read) parts.old.items parts.new.items) }
 {
     if is_read {
-        add(parts, Task::DropValues(1))
+        add(parts, Task::Value(ValueTask::DropValues(1)))
     } else {
         Ok(())
     }

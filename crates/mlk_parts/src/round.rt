@@ -9,7 +9,7 @@ ghost use Rattle.mlk_jobs.specs.TaskViews.{Adds, commands_left, block_of};
 
 use crate::adding::add;
 use mlk_expr::Expr;
-use mlk_jobs::{Rest, Task};
+use mlk_jobs::{LineTask, LocalTask, Rest, Task, ValueTask};
 use mlk_routine::Parameter;
 use mlk_text::Name;
 use std::alloc::AllocError;
@@ -22,8 +22,8 @@ fn both_evaluated<'a>(
 ) -> Result<(), AllocError>
     ensures { OnOk result (Adds (Evaluate (tree_of start.now) ∷ Evaluate (tree_of step.now) ∷ []) parts.old.items parts.new.items) }
 {
-    add(parts, Task::Evaluate(start))?;
-    add(parts, Task::Evaluate(step))?;
+    add(parts, Task::Value(ValueTask::Evaluate(start)))?;
+    add(parts, Task::Value(ValueTask::Evaluate(step)))?;
     Ok(())
 }
 
@@ -35,8 +35,8 @@ fn start_stored<'a>(
 ) -> Result<(), AllocError>
     ensures { OnOk result (Adds (Drop unused ∷ StoreLast variable.now ∷ []) parts.old.items parts.new.items) }
 {
-    add(parts, Task::DropValues(unused))?;
-    add(parts, Task::StoreLast(variable))?;
+    add(parts, Task::Value(ValueTask::DropValues(unused)))?;
+    add(parts, Task::Local(LocalTask::StoreLast(variable)))?;
     Ok(())
 }
 
@@ -56,24 +56,30 @@ pub fn parameter_parts<'a>(
     };
     match first {
         Parameter::Once(value) => {
-            add(parts, Task::Evaluate(value))?;
-            add(parts, Task::StoreLast(variable))?;
-            add(parts, Task::RunCommands(rest))?;
-            add(parts, Task::Parameters(variable, later, rest))?;
+            add(parts, Task::Value(ValueTask::Evaluate(value)))?;
+            add(parts, Task::Local(LocalTask::StoreLast(variable)))?;
+            add(parts, Task::Line(LineTask::RunCommands(rest)))?;
+            add(
+                parts,
+                Task::Line(LineTask::Parameters(variable, later, rest)),
+            )?;
             Ok(())
         }
         Parameter::Endless(start, step) => {
             both_evaluated(parts, start, step)?;
             start_stored(parts, 1, variable)?;
-            add(parts, Task::RunCommands(rest))?;
-            add(parts, Task::NextValue(variable, rest))?;
+            add(parts, Task::Line(LineTask::RunCommands(rest)))?;
+            add(parts, Task::Line(LineTask::NextValue(variable, rest)))?;
             Ok(())
         }
         Parameter::Limited(start, step, limit) => {
             both_evaluated(parts, start, step)?;
-            add(parts, Task::Evaluate(limit))?;
+            add(parts, Task::Value(ValueTask::Evaluate(limit)))?;
             start_stored(parts, 2, variable)?;
-            add(parts, Task::FirstRound(variable, later, rest))?;
+            add(
+                parts,
+                Task::Line(LineTask::FirstRound(variable, later, rest)),
+            )?;
             Ok(())
         }
     }
@@ -91,10 +97,16 @@ pub fn first_round<'a>(
         (commands_left rest.entry) (block_of rest.entry.block.now) is_run) parts.old.items parts.new.items) }
 {
     if !is_run {
-        return add(parts, Task::Parameters(variable, parameters, rest));
+        return add(
+            parts,
+            Task::Line(LineTask::Parameters(variable, parameters, rest)),
+        );
     }
-    add(parts, Task::RunCommands(rest))?;
-    add(parts, Task::LaterRound(variable, parameters, rest))?;
+    add(parts, Task::Line(LineTask::RunCommands(rest)))?;
+    add(
+        parts,
+        Task::Line(LineTask::LaterRound(variable, parameters, rest)),
+    )?;
     Ok(())
 }
 
@@ -110,10 +122,16 @@ pub fn later_round<'a>(
         (commands_left rest.entry) (block_of rest.entry.block.now) is_run) parts.old.items parts.new.items) }
 {
     if !is_run {
-        return add(parts, Task::Parameters(variable, parameters, rest));
+        return add(
+            parts,
+            Task::Line(LineTask::Parameters(variable, parameters, rest)),
+        );
     }
-    add(parts, Task::StoreAny(variable))?;
-    add(parts, Task::RunCommands(rest))?;
-    add(parts, Task::LaterRound(variable, parameters, rest))?;
+    add(parts, Task::Local(LocalTask::StoreAny(variable)))?;
+    add(parts, Task::Line(LineTask::RunCommands(rest)))?;
+    add(
+        parts,
+        Task::Line(LineTask::LaterRound(variable, parameters, rest)),
+    )?;
     Ok(())
 }

@@ -14,7 +14,7 @@ use crate::evaluate::each_actual;
 use crate::expr::{count_subscripts, each_argument};
 use crate::part::add_all;
 use mlk_expr::{Actual, Expr};
-use mlk_jobs::{Names, Task};
+use mlk_jobs::{LocalTask, LockTask, Names, Task, ValueTask};
 use mlk_names::{Access, Extent};
 use mlk_routine::{Call, KillArgument, LockArgument, SetArgument, Target, Variable};
 use std::alloc::AllocError;
@@ -27,7 +27,7 @@ fn actuals_used<'a>(parts: &mut Vec<Task<'a>>, given: &'a [Actual]) -> Result<()
     let before = parts.len();
     each_actual(parts, given)?;
     let count = parts.len().saturating_sub(before);
-    add(parts, Task::DropValues(count))?;
+    add(parts, Task::Value(ValueTask::DropValues(count)))?;
     Ok(())
 }
 
@@ -45,14 +45,17 @@ fn kill_variable<'a>(parts: &mut Vec<Task<'a>>, variable: &'a Variable) -> Resul
 {
     match &variable.name {
         Expr::Local(name, subscripts) => match subscripts.split_first() {
-            None => add(parts, Task::KillNames(Names::Only(name))),
-            Some(_) => add(parts, Task::DropValues(count_subscripts(subscripts))),
+            None => add(parts, Task::Local(LocalTask::KillNames(Names::Only(name)))),
+            Some(_) => add(
+                parts,
+                Task::Value(ValueTask::DropValues(count_subscripts(subscripts))),
+            ),
         },
         Expr::Global(_, name, subscripts) => {
             let count = count_subscripts(subscripts);
             add(
                 parts,
-                Task::FormReference(name, count, Extent::Tree, Access::Writes),
+                Task::Value(ValueTask::FormReference(name, count, Extent::Tree, Access::Writes)),
             )
         }
         Expr::Lit(_)
@@ -64,7 +67,7 @@ fn kill_variable<'a>(parts: &mut Vec<Task<'a>>, variable: &'a Variable) -> Resul
         | Expr::Func(_, _)
         | Expr::Select(_)
         | Expr::Call(_, _, None)
-        | Expr::Call(_, _, Some(_)) => add(parts, Task::DropValues(0)),
+        | Expr::Call(_, _, Some(_)) => add(parts, Task::Value(ValueTask::DropValues(0))),
     }
 }
 
@@ -80,7 +83,10 @@ pub(crate) fn kill_parts<'a>(
             kill_variable(parts, variable)?;
             Ok(())
         }
-        KillArgument::AllBut(names) => add(parts, Task::KillNames(Names::AllBut(names.as_slice()))),
+        KillArgument::AllBut(names) => add(
+            parts,
+            Task::Local(LocalTask::KillNames(Names::AllBut(names.as_slice()))),
+        ),
     }
 }
 
@@ -106,7 +112,7 @@ pub(crate) fn lock_parts<'a>(
     let timed = argument.timeout.is_some();
     add(
         parts,
-        Task::LockNamed(argument.sign, argument.names.as_slice(), timed),
+        Task::Lock(LockTask::LockNamed(argument.sign, argument.names.as_slice(), timed)),
     )?;
     Ok(())
 }
@@ -153,7 +159,10 @@ pub(crate) fn set_parts<'a>(
     ensures { OnOk result (Adds (set_parts (set_of argument.now)) parts.old.items parts.new.items) }
 {
     in_targets(parts, &argument.targets)?;
-    add(parts, Task::Evaluate(&argument.value))?;
-    add(parts, Task::Assign(argument.targets.as_slice()))?;
+    add(parts, Task::Value(ValueTask::Evaluate(&argument.value)))?;
+    add(
+        parts,
+        Task::Local(LocalTask::Assign(argument.targets.as_slice())),
+    )?;
     Ok(())
 }

@@ -1,4 +1,5 @@
 pub mod Opened
 pub mod Waiting
+pub mod Gathering
 pub mod StateTests
 pub mod Examples

@@ -5,9 +5,10 @@ ghost use Rattle.mlk_expr.specs.Trees.{tree_of};
 ghost use Rattle.mlk_calls.specs.Scope.{scope_of};
 ghost use Rattle.mlk_rows.specs.Walks.{with_states, joins};
 ghost use Rattle.mlk_rows.specs.Expressions.{where_it_may_be, if_agrees};
+ghost use Rattle.mlk_rows.specs.Gathered.{gathered};
 
 use crate::spot::Spot;
-use crate::walk::Walk;
+use crate::walk::{Walk, put_all};
 use mlk_calls::{State, truth_of};
 use mlk_expr::Expr;
 use mlk_text::List;
@@ -74,15 +75,28 @@ pub fn where_it_holds(
     Ok((rest.with_states(sides.holds), sides.fails))
 }
 
+// The states that wait, and those that go on, in one list.
+fn gathered(waiting: Vec<List<State>>, going: List<State>) -> Result<List<State>, AllocError>
+    ensures { IfOk result (λ all. all ≡ gathered waiting.items going) }
+{
+    let mut left = waiting.into_iter();
+    let Some(mut all) = left.next() else {
+        return Ok(going);
+    };
+    for states in left {
+        all = put_all(all, states.into_vec())?;
+    }
+    put_all(all, going.into_vec())
+}
+
 /// The states that wait, beside those that go on: those that waited longest stand first.
-#[tactic(auto, using(crate::proofs::Waiting::joins_last))]
 pub fn join_all(alloc: Global, waiting: Vec<List<State>>, walk: Walk) -> Result<Walk, AllocError>
     ensures { IfOk result (λ w. w ≡ joins waiting.items walk) }
 {
-    let mut left = waiting;
-    let mut walk = walk;
-    while let Some(states) = left.pop() {
-        walk = walk.join(alloc, states)?;
+    if walk.over {
+        return Ok(walk);
     }
-    Ok(walk)
+    let (rest, going) = walk.take_states(alloc);
+    let all = gathered(waiting, going)?;
+    Ok(rest.with_states(all))
 }

@@ -12,8 +12,9 @@ use mlk_text::{Code, Column, List};
 use std::alloc::{AllocError, Global};
 use std::marker::Model;
 
-/// A fault of a line: its number, counted from 1, and its column.
-#[derive(Drop)]
+/// A fault of a line: its number, counted from 1, and its column. Faults are in the order of lines, columns and numbers
+/// of codes.
+#[derive(Clone, Copy, Debug, Drop, PartialEq, Eq, PartialOrd, Ord)]
 pub struct Fault {
     pub line: usize,
     pub column: Column,

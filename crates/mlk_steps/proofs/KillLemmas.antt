@@ -6,8 +6,7 @@ use Rattle.std.proofs.lemmas.Slice.Eq.{bytes_eq-Decides}
 use Rattle.mlk_jobs.specs.Bindings.{Only, Cell, Fresh, ByReference, Bindings, Cells, covers, same_cell, look, is_shared_by_formal, is_named, killed}
 use Rattle.mlk_jobs.specs.Tasks.{Job}
 use Rattle.mlk_jobs.specs.Views.{without}
-use Rattle.mlk_jobs.specs.JobViews.{cleared}
-use Rattle.mlk_steps.specs.Steps.{killing}
+use Rattle.mlk_jobs.specs.JobViews.{cleared, killing}
 
 shared_same : (all bs : Bindings) (n : List ℕ) (c : Cell) → is_shared_by_formal all bs (Only n) c ≡ true
     → same_cell (look all n) c ≡ true

@@ -4,3 +4,4 @@ pub mod ScopeLemmas
 pub mod LineSteps
 pub mod AssignSteps
 pub mod KillLemmas
+pub mod TruthLemmas

@@ -11,7 +11,7 @@ use Rattle.mlk_jobs.specs.declared.binding.Binder.{Binder as BinderIn}
 use Rattle.mlk_jobs.specs.declared.job.Job.{Job as JobIn}
 use Rattle.mlk_jobs.specs.declared.pending.Back.{Back}
 use Rattle.mlk_jobs.specs.declared.pending.Pending.{Pending}
-use Rattle.mlk_jobs.specs.Bindings.{Names, Bindings, Fresh, killed}
+use Rattle.mlk_jobs.specs.Bindings.{Names, Bindings, Fresh}
 use Rattle.mlk_jobs.specs.Calling.{back_to}
 use Rattle.mlk_jobs.specs.Tasks.{Job}
 use Rattle.mlk_jobs.specs.Choices.{Stepped, without_choice, with_truth}
@@ -55,7 +55,3 @@ IsBack back j = AreBack j.binders.items (length j.tables.items) j.pending.items 
 -- names and the routine are as they were at the begin of a frame
 abbrev pub left_to : Bindings → ℕ → ℕ → Job → Job
 left_to back next routine j = record (back_to back next j) { routine = routine }
-
--- KILL of these names
-abbrev pub killing : Names → Job → Job
-killing names j = record j { cells = killed j.bindings names j.cells }

@@ -10,7 +10,7 @@ use mlk_locks::Refusal;
 use mlk_text::Failure;
 
 /// The answer, or the reason why there is none.
-pub(crate) fn or_refused<T>(answer: Result<T, Refusal>) -> Result<T, Failure<Refusal>>
+pub fn or_refused<T>(answer: Result<T, Refusal>) -> Result<T, Failure<Refusal>>
     ensures { Answers (λ x. x) result answer }
 {
     match answer {
@@ -20,7 +20,7 @@ pub(crate) fn or_refused<T>(answer: Result<T, Refusal>) -> Result<T, Failure<Ref
 }
 
 /// Nothing may be chosen at a step that asks nothing.
-pub(crate) fn nothing_asked(choice: &Choice) -> Result<(), Failure<Refusal>>
+pub fn nothing_asked(choice: &Choice) -> Result<(), Failure<Refusal>>
     ensures { (j : Job) → Answers (λ _. j) result (without_choice choice.now (Ok j)) }
 {
     or_refused(not_asked(choice))

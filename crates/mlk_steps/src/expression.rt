@@ -6,7 +6,7 @@ ghost use Rattle.mlk_text.specs.Failures.{Answers};
 ghost use Rattle.mlk_jobs.specs.Bindings.{look};
 ghost use Rattle.mlk_jobs.specs.Values.{fold_before, fold_between};
 ghost use Rattle.mlk_jobs.specs.Choices.{without_choice, with_value, with_last, given_or_asked, pushed, dropped, fetched, test_text};
-ghost use Rattle.mlk_jobs.specs.JobViews.{job_of};
+ghost use Rattle.mlk_jobs.specs.JobViews.{job_of, KeepsPending};
 ghost use Rattle.mlk_jobs.specs.Sound.{Sound};
 
 use crate::ask::{nothing_asked, or_refused};
@@ -16,10 +16,11 @@ use mlk_locks::Refusal;
 use mlk_text::{Failure, Name, Value};
 use std::alloc::{AllocError, Global};
 
-/// A value is computed. Nothing is asked.
-pub(crate) fn push(job: &mut Job, choice: &Choice, value: Value) -> Result<(), Failure<Refusal>>
+// A value is computed. Nothing is asked.
+fn push(job: &mut Job, choice: &Choice, value: Value) -> Result<(), Failure<Refusal>>
     ensures answer { Answers (λ _. job_of job.new) result (without_choice choice.now (Ok (pushed value (job_of job.old)))) }
     ensures stays { OnErr result (job_of job.new ≡ job_of job.old) }
+    ensures room { OnErr result (KeepsPending job.old job.new) }
     ensures sound { Sound job.old → Sound job.new }
 {
     nothing_asked(choice)?;
@@ -27,12 +28,24 @@ pub(crate) fn push(job: &mut Job, choice: &Choice, value: Value) -> Result<(), F
     Ok(())
 }
 
+/// A value of the program's text. Nothing is asked.
+pub fn push_copy(job: &mut Job, choice: &Choice, value: &Value) -> Result<(), Failure<Refusal>>
+    ensures answer { Answers (λ _. job_of job.new) result (without_choice choice.now (Ok (pushed value.now (job_of job.old)))) }
+    ensures stays { OnErr result (job_of job.new ≡ job_of job.old) }
+    ensures room { OnErr result (KeepsPending job.old job.new) }
+    ensures sound { Sound job.old → Sound job.new }
+{
+    let copy = value.copy()?;
+    push(job, choice, copy)
+}
+
 /// The value of a local without subscripts, where it has one.
 #[tactic(auto, using(crate::proofs::StepLemmas::none_fetched, crate::proofs::StepLemmas::some_fetched))]
-pub(crate) fn fetch(job: &mut Job, choice: &Choice, name: &Name) -> Result<(), Failure<Refusal>>
+pub fn fetch(job: &mut Job, choice: &Choice, name: &Name) -> Result<(), Failure<Refusal>>
     ensures answer { Answers (λ _. job_of job.new) result (without_choice choice.now
         (fetched (job_of job.old) (job_of job.old).tasks ((job_of job.old).cells (look (job_of job.old).bindings name.now)))) }
     ensures stays { OnErr result (job_of job.new ≡ job_of job.old) }
+    ensures room { OnErr result (KeepsPending job.old job.new) }
     ensures sound { Sound job.old → Sound job.new }
 {
     let Some(value) = job.value_of(name.as_bytes()) else {
@@ -51,14 +64,11 @@ fn number_text(alloc: Global, number: u32) -> Result<Value, AllocError>
 }
 
 /// `$JOB`.
-pub(crate) fn push_job(
-    alloc: Global,
-    job: &mut Job,
-    choice: &Choice,
-) -> Result<(), Failure<Refusal>>
+pub fn push_job(alloc: Global, job: &mut Job, choice: &Choice) -> Result<(), Failure<Refusal>>
     ensures answer { Answers (λ _. job_of job.new) result (without_choice choice.now
         (Ok (pushed (decimal (job_of job.old).number) (job_of job.old)))) }
     ensures stays { OnErr result (job_of job.new ≡ job_of job.old) }
+    ensures room { OnErr result (KeepsPending job.old job.new) }
     ensures sound { Sound job.old → Sound job.new }
 {
     let text = number_text(alloc, job.number)?;
@@ -74,14 +84,11 @@ fn test_text(alloc: Global, test: bool) -> Result<Value, AllocError>
 }
 
 /// `$TEST`.
-pub(crate) fn push_test(
-    alloc: Global,
-    job: &mut Job,
-    choice: &Choice,
-) -> Result<(), Failure<Refusal>>
+pub fn push_test(alloc: Global, job: &mut Job, choice: &Choice) -> Result<(), Failure<Refusal>>
     ensures answer { Answers (λ _. job_of job.new) result (without_choice choice.now
         (Ok (pushed (test_text (job_of job.old).test) (job_of job.old)))) }
     ensures stays { OnErr result (job_of job.new ≡ job_of job.old) }
+    ensures room { OnErr result (KeepsPending job.old job.new) }
     ensures sound { Sound job.old → Sound job.new }
 {
     let text = test_text(alloc, job.test)?;
@@ -89,10 +96,11 @@ pub(crate) fn push_test(
 }
 
 /// Any value, in place of the last so many.
-pub(crate) fn ask_value(job: &mut Job, choice: Choice, count: usize) -> Result<(), Failure<Refusal>>
+pub fn ask_value(job: &mut Job, choice: Choice, count: usize) -> Result<(), Failure<Refusal>>
     ensures answer { Answers (λ _. job_of job.new) result
         (with_value choice (λ v. Ok (pushed v (dropped count (job_of job.old))))) }
     ensures stays { OnErr result (job_of job.new ≡ job_of job.old) }
+    ensures room { OnErr result (KeepsPending job.old job.new) }
     ensures sound { Sound job.old → Sound job.new }
 {
     let value = or_refused(asked_value(choice))?;
@@ -110,6 +118,7 @@ fn give_value(
     ensures answer { Answers (λ _. job_of job.new) result
         (given_or_asked choice known (λ v. Ok (pushed v (dropped count (job_of job.old))))) }
     ensures stays { OnErr result (job_of job.new ≡ job_of job.old) }
+    ensures room { OnErr result (KeepsPending job.old job.new) }
     ensures sound { Sound job.old → Sound job.new }
 {
     let Some(value) = known else {
@@ -122,7 +131,7 @@ fn give_value(
 
 /// An operator before the last value.
 #[tactic(auto, using(crate::proofs::StepLemmas::no_last, crate::proofs::StepLemmas::the_last))]
-pub(crate) fn apply_unary(
+pub fn apply_unary(
     alloc: Global,
     job: &mut Job,
     choice: Choice,
@@ -131,6 +140,7 @@ pub(crate) fn apply_unary(
     ensures answer { Answers (λ _. job_of job.new) result (with_last (job_of job.old).values
         (λ a. given_or_asked choice (fold_before op a) (λ v. Ok (pushed v (dropped 1 (job_of job.old)))))) }
     ensures stays { OnErr result (job_of job.new ≡ job_of job.old) }
+    ensures room { OnErr result (KeepsPending job.old job.new) }
     ensures sound { Sound job.old → Sound job.new }
 {
     let Some(operand) = job.values.at(0) else {
@@ -142,7 +152,7 @@ pub(crate) fn apply_unary(
 
 /// An operator between the last two values.
 #[tactic(auto, using(crate::proofs::StepLemmas::no_last, crate::proofs::StepLemmas::no_second, crate::proofs::StepLemmas::last_two))]
-pub(crate) fn apply_binary(
+pub fn apply_binary(
     alloc: Global,
     job: &mut Job,
     choice: Choice,
@@ -152,6 +162,7 @@ pub(crate) fn apply_binary(
         (λ b. with_last (drop 1 (job_of job.old).values) (λ a. given_or_asked choice (fold_between op a b)
         (λ v. Ok (pushed v (dropped 2 (job_of job.old))))))) }
     ensures stays { OnErr result (job_of job.new ≡ job_of job.old) }
+    ensures room { OnErr result (KeepsPending job.old job.new) }
     ensures sound { Sound job.old → Sound job.new }
 {
     let Some(second) = job.values.at(0) else {
@@ -165,13 +176,10 @@ pub(crate) fn apply_binary(
 }
 
 /// The last so many values are not used.
-pub(crate) fn drop_values(
-    job: &mut Job,
-    choice: &Choice,
-    count: usize,
-) -> Result<(), Failure<Refusal>>
+pub fn drop_values(job: &mut Job, choice: &Choice, count: usize) -> Result<(), Failure<Refusal>>
     ensures answer { Answers (λ _. job_of job.new) result (without_choice choice.now (Ok (dropped count (job_of job.old)))) }
     ensures stays { OnErr result (job_of job.new ≡ job_of job.old) }
+    ensures room { OnErr result (KeepsPending job.old job.new) }
     ensures sound { Sound job.old → Sound job.new }
 {
     nothing_asked(choice)?;

@@ -6,13 +6,13 @@ ghost use Rattle.mlk_routine.specs.Views.{line_of, parameter_of};
 ghost use Rattle.mlk_jobs.specs.Tasks.{RunCommands, Forever, NextValue, StoreAny};
 ghost use Rattle.mlk_jobs.specs.Choices.{without_choice, with_truth, doing};
 ghost use Rattle.mlk_jobs.specs.Lines.{next_line, next_command, parameter_parts, first_round, later_round};
-ghost use Rattle.mlk_jobs.specs.JobViews.{job_of};
+ghost use Rattle.mlk_jobs.specs.JobViews.{job_of, KeepsPending};
 ghost use Rattle.mlk_jobs.specs.Sound.{Sound};
 ghost use Rattle.mlk_jobs.specs.TaskViews.{commands_left, block_of};
 
 use crate::ask::{nothing_asked, or_refused};
 use crate::replace::replace;
-use mlk_jobs::{Choice, Job, Rest, Task, asked_truth};
+use mlk_jobs::{Choice, Job, LineTask, LocalTask, Rest, Task, asked_truth};
 use mlk_locks::Refusal;
 use mlk_parts::{
     add, first_round, has_formals, later_round, line_parts, next_command, parameter_parts,
@@ -23,7 +23,7 @@ use std::alloc::Global;
 
 /// The next line; a job does not go on to a line with a formal list.
 #[tactic(auto, using(crate::proofs::LineSteps::line_entered, crate::proofs::LineSteps::line_refused))]
-pub(crate) fn run_lines<'a>(
+pub fn run_lines<'a>(
     alloc: Global,
     job: &mut Job<'a>,
     choice: &Choice,
@@ -32,6 +32,7 @@ pub(crate) fn run_lines<'a>(
     ensures answer { Answers (λ _. job_of job.new) result (without_choice choice.now
         (next_line (map line_of lines.now) (job_of job.old).tasks (job_of job.old))) }
     ensures stays { OnErr result (job_of job.new ≡ job_of job.old) }
+    ensures room { OnErr result (KeepsPending job.old job.new) }
     ensures sound { Sound job.old → Sound job.new }
 {
     let Some((line, later)) = lines.split_first() else {
@@ -47,7 +48,7 @@ pub(crate) fn run_lines<'a>(
 
 /// What is left of a line.
 #[tactic(auto, using(crate::proofs::LineSteps::command_then))]
-pub(crate) fn run_commands<'a>(
+pub fn run_commands<'a>(
     alloc: Global,
     job: &mut Job<'a>,
     choice: &Choice,
@@ -57,6 +58,7 @@ pub(crate) fn run_commands<'a>(
         (Ok (doing (next_command (commands_left rest.entry) (block_of rest.entry.block.now) (job_of job.old).tasks)
         (job_of job.old)))) }
     ensures stays { OnErr result (job_of job.new ≡ job_of job.old) }
+    ensures room { OnErr result (KeepsPending job.old job.new) }
     ensures sound { Sound job.old → Sound job.new }
 {
     let mut parts = Vec::new(alloc);
@@ -65,7 +67,7 @@ pub(crate) fn run_commands<'a>(
 }
 
 /// The parameters of FOR that are left.
-pub(crate) fn run_parameters<'a>(
+pub fn run_parameters<'a>(
     alloc: Global,
     job: &mut Job<'a>,
     choice: &Choice,
@@ -77,6 +79,7 @@ pub(crate) fn run_parameters<'a>(
         (Ok (doing (parameter_parts variable.now (map parameter_of parameters.now) (commands_left rest.entry)
         (block_of rest.entry.block.now) ++ (job_of job.old).tasks) (job_of job.old)))) }
     ensures stays { OnErr result (job_of job.new ≡ job_of job.old) }
+    ensures room { OnErr result (KeepsPending job.old job.new) }
     ensures sound { Sound job.old → Sound job.new }
 {
     let mut parts = Vec::new(alloc);
@@ -85,7 +88,7 @@ pub(crate) fn run_parameters<'a>(
 }
 
 /// A round of FOR without an argument.
-pub(crate) fn run_forever<'a>(
+pub fn run_forever<'a>(
     alloc: Global,
     job: &mut Job<'a>,
     choice: &Choice,
@@ -95,16 +98,17 @@ pub(crate) fn run_forever<'a>(
         (Ok (doing (RunCommands (commands_left rest.entry) (block_of rest.entry.block.now)
         ∷ Forever (commands_left rest.entry) (block_of rest.entry.block.now) ∷ (job_of job.old).tasks) (job_of job.old)))) }
     ensures stays { OnErr result (job_of job.new ≡ job_of job.old) }
+    ensures room { OnErr result (KeepsPending job.old job.new) }
     ensures sound { Sound job.old → Sound job.new }
 {
     let mut parts = Vec::new(alloc);
-    add(&mut parts, Task::RunCommands(rest))?;
-    add(&mut parts, Task::Forever(rest))?;
+    add(&mut parts, Task::Line(LineTask::RunCommands(rest)))?;
+    add(&mut parts, Task::Line(LineTask::Forever(rest)))?;
     replace(job, choice, parts)
 }
 
 /// The next round of FOR without a limit: its variable may have any value.
-pub(crate) fn run_next_value<'a>(
+pub fn run_next_value<'a>(
     alloc: Global,
     job: &mut Job<'a>,
     choice: &Choice,
@@ -116,17 +120,18 @@ pub(crate) fn run_next_value<'a>(
         ∷ NextValue variable.now (commands_left rest.entry) (block_of rest.entry.block.now) ∷ (job_of job.old).tasks)
         (job_of job.old)))) }
     ensures stays { OnErr result (job_of job.new ≡ job_of job.old) }
+    ensures room { OnErr result (KeepsPending job.old job.new) }
     ensures sound { Sound job.old → Sound job.new }
 {
     let mut parts = Vec::new(alloc);
-    add(&mut parts, Task::StoreAny(variable))?;
-    add(&mut parts, Task::RunCommands(rest))?;
-    add(&mut parts, Task::NextValue(variable, rest))?;
+    add(&mut parts, Task::Local(LocalTask::StoreAny(variable)))?;
+    add(&mut parts, Task::Line(LineTask::RunCommands(rest)))?;
+    add(&mut parts, Task::Line(LineTask::NextValue(variable, rest)))?;
     replace(job, choice, parts)
 }
 
 /// Whether there is a first round, where FOR has a limit.
-pub(crate) fn run_first_round<'a>(
+pub fn run_first_round<'a>(
     alloc: Global,
     job: &mut Job<'a>,
     choice: &Choice,
@@ -138,6 +143,7 @@ pub(crate) fn run_first_round<'a>(
         Ok (doing (first_round variable.now (map parameter_of parameters.now) (commands_left rest.entry)
         (block_of rest.entry.block.now) t ++ (job_of job.old).tasks) (job_of job.old)))) }
     ensures stays { OnErr result (job_of job.new ≡ job_of job.old) }
+    ensures room { OnErr result (KeepsPending job.old job.new) }
     ensures sound { Sound job.old → Sound job.new }
 {
     let is_run = or_refused(asked_truth(choice))?;
@@ -148,7 +154,7 @@ pub(crate) fn run_first_round<'a>(
 }
 
 /// Whether there is a later round, where FOR has a limit.
-pub(crate) fn run_later_round<'a>(
+pub fn run_later_round<'a>(
     alloc: Global,
     job: &mut Job<'a>,
     choice: &Choice,
@@ -160,6 +166,7 @@ pub(crate) fn run_later_round<'a>(
         Ok (doing (later_round variable.now (map parameter_of parameters.now) (commands_left rest.entry)
         (block_of rest.entry.block.now) t ++ (job_of job.old).tasks) (job_of job.old)))) }
     ensures stays { OnErr result (job_of job.new ≡ job_of job.old) }
+    ensures room { OnErr result (KeepsPending job.old job.new) }
     ensures sound { Sound job.old → Sound job.new }
 {
     let is_run = or_refused(asked_truth(choice))?;

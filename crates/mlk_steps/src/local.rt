@@ -4,17 +4,18 @@ ghost use Rattle.std.specs.Prelude.{◌≡◌, OnErr, Ok};
 ghost use Rattle.mlk_text.specs.Failures.{Answers};
 ghost use Rattle.mlk_jobs.specs.Choices.{without_choice, with_value, with_last, dropped, stored};
 ghost use Rattle.mlk_jobs.specs.Bindings.{Only};
-ghost use Rattle.mlk_jobs.specs.JobViews.{job_of};
+ghost use Rattle.mlk_jobs.specs.Views.{names_of};
+ghost use Rattle.mlk_jobs.specs.JobViews.{job_of, killing, KeepsPending};
 ghost use Rattle.mlk_jobs.specs.Sound.{Sound};
-ghost use Rattle.mlk_steps.specs.Steps.{killing};
 
 use crate::ask::{nothing_asked, or_refused};
-use mlk_jobs::{Choice, Job, asked_value};
+use mlk_jobs::{Choice, Job, Names, asked_value};
 use mlk_locks::Refusal;
 use mlk_text::{Failure, Name, Value};
+use std::alloc::Global;
 
 /// A value is stored in a local. Nothing is asked.
-pub(crate) fn store<'a>(
+pub fn store<'a>(
     job: &mut Job<'a>,
     choice: &Choice,
     name: &'a Name,
@@ -24,6 +25,7 @@ pub(crate) fn store<'a>(
     ensures answer { Answers (λ _. job_of job.new) result (without_choice choice.now
         (Ok (stored name.now value.now (job_of job.old)))) }
     ensures stays { OnErr result (job_of job.new ≡ job_of job.old) }
+    ensures room { OnErr result (KeepsPending job.old job.new) }
     ensures sound { Sound job.new }
 {
     nothing_asked(choice)?;
@@ -33,7 +35,7 @@ pub(crate) fn store<'a>(
 }
 
 /// Any value is stored in a local.
-pub(crate) fn store_any<'a>(
+pub fn store_any<'a>(
     job: &mut Job<'a>,
     choice: Choice,
     name: &'a Name,
@@ -42,6 +44,7 @@ pub(crate) fn store_any<'a>(
     ensures answer { Answers (λ _. job_of job.new) result
         (with_value choice (λ v. Ok (stored name.now v (job_of job.old)))) }
     ensures stays { OnErr result (job_of job.new ≡ job_of job.old) }
+    ensures room { OnErr result (KeepsPending job.old job.new) }
     ensures sound { Sound job.new }
 {
     let value = or_refused(asked_value(choice))?;
@@ -51,7 +54,7 @@ pub(crate) fn store_any<'a>(
 
 /// The last value is stored in a local.
 #[tactic(auto, using(crate::proofs::StepLemmas::no_last, crate::proofs::StepLemmas::the_last))]
-pub(crate) fn store_last<'a>(
+pub fn store_last<'a>(
     job: &mut Job<'a>,
     choice: &Choice,
     name: &'a Name,
@@ -60,6 +63,7 @@ pub(crate) fn store_last<'a>(
     ensures answer { Answers (λ _. job_of job.new) result (without_choice choice.now
         (with_last (job_of job.old).values (λ v. Ok (stored name.now v (dropped 1 (job_of job.old)))))) }
     ensures stays { OnErr result (job_of job.new ≡ job_of job.old) }
+    ensures room { OnErr result (KeepsPending job.old job.new) }
     ensures sound { Sound job.new }
 {
     let Some(value) = job.values.at(0) else {
@@ -72,19 +76,54 @@ pub(crate) fn store_last<'a>(
     Ok(())
 }
 
-/// KILL of one name leaves the cell that it is bound to without a value.
-pub(crate) fn kill_one<'a>(
-    job: &mut Job<'a>,
-    choice: &Choice,
-    name: &'a Name,
-) -> Result<(), Failure<Refusal>>
+// KILL of one name leaves the cell that it is bound to without a value.
+fn kill_one<'a>(job: &mut Job<'a>, choice: &Choice, name: &'a Name) -> Result<(), Failure<Refusal>>
     requires { Sound job.old }
     ensures answer { Answers (λ _. job_of job.new) result (without_choice choice.now
         (Ok (killing (Only name.now) (job_of job.old)))) }
     ensures stays { OnErr result (job_of job.new ≡ job_of job.old) }
+    ensures room { OnErr result (KeepsPending job.old job.new) }
     ensures sound { Sound job.new }
 {
     nothing_asked(choice)?;
     job.clear(name.as_bytes());
     Ok(())
+}
+
+// KILL of all names but some.
+fn kill_all_but<'a>(
+    alloc: Global,
+    job: &mut Job<'a>,
+    choice: &Choice,
+    names: Names<'a>,
+) -> Result<(), Failure<Refusal>>
+    ensures answer { Answers (λ _. job_of job.new) result (without_choice choice.now
+        (Ok (killing (names_of names.entry) (job_of job.old)))) }
+    ensures stays { OnErr result (job_of job.new ≡ job_of job.old) }
+    ensures room { OnErr result (KeepsPending job.old job.new) }
+    ensures sound { Sound job.old → Sound job.new }
+{
+    nothing_asked(choice)?;
+    job.kill(alloc, names)?;
+    Ok(())
+}
+
+/// KILL leaves the cells of its names without a value.
+pub fn kill<'a>(
+    alloc: Global,
+    job: &mut Job<'a>,
+    choice: &Choice,
+    names: Names<'a>,
+) -> Result<(), Failure<Refusal>>
+    requires { Sound job.old }
+    ensures answer { Answers (λ _. job_of job.new) result (without_choice choice.now
+        (Ok (killing (names_of names.entry) (job_of job.old)))) }
+    ensures stays { OnErr result (job_of job.new ≡ job_of job.old) }
+    ensures room { OnErr result (KeepsPending job.old job.new) }
+    ensures sound { Sound job.new }
+{
+    match names {
+        Names::Only(name) => kill_one(job, choice, name),
+        Names::AllBut(_) => kill_all_but(alloc, job, choice, names),
+    }
 }

@@ -9,7 +9,7 @@ ghost use Rattle.mlk_jobs.specs.Choices.{without_choice, doing, dropped, last_va
 ghost use Rattle.mlk_jobs.specs.Locking.{count_all, names_of, by_sign, claimed};
 ghost use Rattle.mlk_locks.specs.Counts as counts;
 ghost use Rattle.mlk_steps.specs.Steps.{held_if, claim_if};
-ghost use Rattle.mlk_jobs.specs.JobViews.{job_of, releasing, holding_nothing};
+ghost use Rattle.mlk_jobs.specs.JobViews.{job_of, releasing, holding_nothing, KeepsPending};
 ghost use Rattle.mlk_jobs.specs.Sound.{Sound};
 
 use crate::ask::{nothing_asked, or_refused};
@@ -22,14 +22,11 @@ use mlk_text::Failure;
 use std::alloc::{AllocError, Global};
 
 /// Each of these names is held once less.
-pub(crate) fn release(
-    job: &mut Job,
-    choice: &Choice,
-    names: &[LockName],
-) -> Result<(), Failure<Refusal>>
+pub fn release(job: &mut Job, choice: &Choice, names: &[LockName]) -> Result<(), Failure<Refusal>>
     ensures answer { Answers (λ _. job_of job.new) result (without_choice choice.now
         (Ok (releasing names.now (job_of job.old)))) }
     ensures stays { OnErr result (job_of job.new ≡ job_of job.old) }
+    ensures room { OnErr result (KeepsPending job.old job.new) }
     ensures sound { Sound job.old → Sound job.new }
 {
     nothing_asked(choice)?;
@@ -38,14 +35,11 @@ pub(crate) fn release(
 }
 
 /// Nothing is held any more.
-pub(crate) fn release_all(
-    alloc: Global,
-    job: &mut Job,
-    choice: &Choice,
-) -> Result<(), Failure<Refusal>>
+pub fn release_all(alloc: Global, job: &mut Job, choice: &Choice) -> Result<(), Failure<Refusal>>
     ensures answer { Answers (λ _. job_of job.new) result (without_choice choice.now
         (Ok (holding_nothing (job_of job.old)))) }
     ensures stays { OnErr result (job_of job.new ≡ job_of job.old) }
+    ensures room { OnErr result (KeepsPending job.old job.new) }
     ensures sound { Sound job.old → Sound job.new }
 {
     nothing_asked(choice)?;
@@ -81,6 +75,7 @@ fn claim_untimed(
 ) -> Result<(), Failure<Refusal>>
     ensures answer { Answers (λ _. job_of job.new) result (claim_if are_free choice.now names.now false (job_of job.old)) }
     ensures stays { OnErr result (job_of job.new ≡ job_of job.old) }
+    ensures room { OnErr result (KeepsPending job.old job.new) }
     ensures sound { Sound job.old → Sound job.new }
 {
     let held = held_with(alloc, &job.held, names, are_free)?;
@@ -99,6 +94,7 @@ fn claim_timed(
 ) -> Result<(), Failure<Refusal>>
     ensures answer { Answers (λ _. job_of job.new) result (claim_if are_free choice.now names.now true (job_of job.old)) }
     ensures stays { OnErr result (job_of job.new ≡ job_of job.old) }
+    ensures room { OnErr result (KeepsPending job.old job.new) }
     ensures sound { Sound job.old → Sound job.new }
 {
     let is_granted = or_refused(asked_truth(choice))?;
@@ -112,7 +108,7 @@ fn claim_timed(
 
 /// All names of an argument are claimed in one step; `are_free` says whether other jobs leave them free.
 #[tactic(auto, using(crate::proofs::ClaimLemmas::claimed_by))]
-pub(crate) fn claim(
+pub fn claim(
     alloc: Global,
     job: &mut Job,
     choice: &Choice,
@@ -123,6 +119,7 @@ pub(crate) fn claim(
     ensures answer { (free : LockName → Bool) → list_all free names.now ≡ are_free
         → Answers (λ _. job_of job.new) result (claimed free choice.now names.now timed (job_of job.old)) }
     ensures stays { OnErr result (job_of job.new ≡ job_of job.old) }
+    ensures room { OnErr result (KeepsPending job.old job.new) }
     ensures sound { Sound job.old → Sound job.new }
 {
     if timed {
@@ -151,7 +148,7 @@ fn use_up_subscripts(job: &mut Job, names: &[Variable])
 }
 
 /// The names of an argument, whose subscripts were evaluated.
-pub(crate) fn name_locks<'a>(
+pub fn name_locks<'a>(
     alloc: Global,
     job: &mut Job<'a>,
     choice: &Choice,
@@ -164,6 +161,7 @@ pub(crate) fn name_locks<'a>(
         (map variable_of names.now)) timed ++ (job_of job.old).tasks)
         (dropped (count_all (map variable_of names.now)) (job_of job.old))))) }
     ensures stays { OnErr result (job_of job.new ≡ job_of job.old) }
+    ensures room { OnErr result (KeepsPending job.old job.new) }
     ensures sound { Sound job.old → Sound job.new }
 {
     nothing_asked(choice)?;

@@ -3,10 +3,10 @@
 ghost use Rattle.std.specs.Prelude.{◌≡◌, [], OnErr, Ok, take};
 ghost use Rattle.mlk_text.specs.Failures.{Answers};
 ghost use Rattle.mlk_jobs.specs.Choices.{without_choice, doing};
-ghost use Rattle.mlk_jobs.specs.Lines.{quit};
+ghost use Rattle.mlk_jobs.specs.Lines.{quit, to_end, answered};
 ghost use Rattle.mlk_jobs.specs.Calling.{frame_end};
 ghost use Rattle.mlk_jobs.specs.Views.{bindings_of};
-ghost use Rattle.mlk_jobs.specs.JobViews.{frame_of, job_of};
+ghost use Rattle.mlk_jobs.specs.JobViews.{frame_of, job_of, KeepsPending};
 ghost use Rattle.mlk_jobs.specs.Sound.{Sound};
 ghost use Rattle.mlk_steps.specs.Steps.{left_to, IsBack};
 
@@ -17,10 +17,11 @@ use mlk_locks::Refusal;
 use mlk_text::Failure;
 
 /// QUIT without a value.
-pub(crate) fn quit_here(job: &mut Job, choice: &Choice) -> Result<(), Failure<Refusal>>
+pub fn quit_here(job: &mut Job, choice: &Choice) -> Result<(), Failure<Refusal>>
     ensures answer { Answers (λ _. job_of job.new) result (without_choice choice.now
         (Ok (doing (quit (job_of job.old).tasks) (job_of job.old)))) }
     ensures stays { OnErr result (job_of job.new ≡ job_of job.old) }
+    ensures room { OnErr result (KeepsPending job.old job.new) }
     ensures sound { Sound job.old → Sound job.new }
 {
     nothing_asked(choice)?;
@@ -28,11 +29,26 @@ pub(crate) fn quit_here(job: &mut Job, choice: &Choice) -> Result<(), Failure<Re
     Ok(())
 }
 
+/// QUIT with a value, which was computed last.
+pub fn quit_with_value(job: &mut Job, choice: &Choice) -> Result<(), Failure<Refusal>>
+    ensures answer { Answers (λ _. job_of job.new) result (without_choice choice.now
+        (Ok (answered (job_of job.old) (to_end (job_of job.old).tasks)))) }
+    ensures stays { OnErr result (job_of job.new ≡ job_of job.old) }
+    ensures room { OnErr result (KeepsPending job.old job.new) }
+    ensures sound { Sound job.old → Sound job.new }
+{
+    nothing_asked(choice)?;
+    job.go_to_end();
+    job.answer();
+    Ok(())
+}
+
 /// HALT.
-pub(crate) fn halt(job: &mut Job, choice: &Choice) -> Result<(), Failure<Refusal>>
+pub fn halt(job: &mut Job, choice: &Choice) -> Result<(), Failure<Refusal>>
     ensures answer { Answers (λ _. job_of job.new) result (without_choice choice.now
         (Ok (doing [] (job_of job.old)))) }
     ensures stays { OnErr result (job_of job.new ≡ job_of job.old) }
+    ensures room { OnErr result (KeepsPending job.old job.new) }
     ensures sound { Sound job.old → Sound job.new }
 {
     nothing_asked(choice)?;
@@ -51,7 +67,7 @@ fn leave(job: &mut Job, back: Back, routine: usize)
 }
 
 /// The end of a frame: one of `$$` puts `$TEST` back, and gives any value where QUIT gave none.
-pub(crate) fn end_frame(
+pub fn end_frame(
     job: &mut Job,
     choice: Choice,
     frame: Frame,
@@ -63,6 +79,7 @@ pub(crate) fn end_frame(
     ensures answer { Answers (λ _. job_of job.new) result (frame_end choice (frame_of frame)
         (left_to (bindings_of (take back.binders job.old.binders.items)) back.next routine (job_of job.old))) }
     ensures stays { OnErr result (job_of job.new ≡ job_of job.old) }
+    ensures room { OnErr result (KeepsPending job.old job.new) }
     ensures sound { Sound job.new }
 {
     match frame {

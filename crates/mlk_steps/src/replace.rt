@@ -5,7 +5,7 @@ ghost use Rattle.mlk_text.specs.Failures.{Answers};
 ghost use Rattle.mlk_expr.specs.Trees.{tree_of};
 ghost use Rattle.mlk_jobs.specs.Choices.{without_choice, doing};
 ghost use Rattle.mlk_jobs.specs.Expressions.{parts_of};
-ghost use Rattle.mlk_jobs.specs.JobViews.{job_of};
+ghost use Rattle.mlk_jobs.specs.JobViews.{job_of, KeepsPending};
 ghost use Rattle.mlk_jobs.specs.Sound.{Sound};
 ghost use Rattle.mlk_jobs.specs.TaskViews.{task_of};
 
@@ -26,6 +26,7 @@ pub(crate) fn replace<'a>(
     ensures answer { Answers (λ _. job_of job.new) result (without_choice choice.now
         (Ok (doing (map task_of parts.entry.items ++ (job_of job.old).tasks) (job_of job.old)))) }
     ensures stays { OnErr result (job_of job.new ≡ job_of job.old) }
+    ensures room { OnErr result (KeepsPending job.old job.new) }
     ensures sound { Sound job.old → Sound job.new }
 {
     nothing_asked(choice)?;
@@ -34,7 +35,7 @@ pub(crate) fn replace<'a>(
 }
 
 /// An expression.
-pub(crate) fn evaluate<'a>(
+pub fn evaluate<'a>(
     alloc: Global,
     job: &mut Job<'a>,
     choice: &Choice,
@@ -43,6 +44,7 @@ pub(crate) fn evaluate<'a>(
     ensures answer { Answers (λ _. job_of job.new) result (without_choice choice.now
         (Ok (doing (parts_of (tree_of expression.now) ++ (job_of job.old).tasks) (job_of job.old)))) }
     ensures stays { OnErr result (job_of job.new ≡ job_of job.old) }
+    ensures room { OnErr result (KeepsPending job.old job.new) }
     ensures sound { Sound job.old → Sound job.new }
 {
     let mut parts = Vec::new(alloc);

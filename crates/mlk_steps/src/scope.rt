@@ -8,13 +8,13 @@ ghost use Rattle.mlk_jobs.specs.Choices.{without_choice, doing};
 ghost use Rattle.mlk_jobs.specs.Locking.{tested};
 ghost use Rattle.mlk_jobs.specs.Calling.{back_to};
 ghost use Rattle.mlk_jobs.specs.Views.{names_of, bindings_of};
-ghost use Rattle.mlk_jobs.specs.JobViews.{job_of};
+ghost use Rattle.mlk_jobs.specs.JobViews.{job_of, KeepsPending};
 ghost use Rattle.mlk_jobs.specs.Sound.{Sound};
 ghost use Rattle.mlk_jobs.specs.TaskViews.{block_of};
 ghost use Rattle.mlk_steps.specs.Steps.{made_new, IsBack};
 
 use crate::ask::nothing_asked;
-use mlk_jobs::{Back, Binder, Choice, Job, Names, Pending, Task, add_generation, forget};
+use mlk_jobs::{Back, Binder, Choice, Job, LineTask, Names, Pending, Task, add_generation, forget};
 use mlk_locks::Refusal;
 use mlk_routine::Line;
 use mlk_text::Failure;
@@ -28,7 +28,7 @@ fn next_generation(job: &Job) -> usize
 }
 
 /// The names are bound to new cells.
-pub(crate) fn make_new<'a>(
+pub fn make_new<'a>(
     alloc: Global,
     job: &mut Job<'a>,
     choice: &Choice,
@@ -38,6 +38,7 @@ pub(crate) fn make_new<'a>(
     ensures answer { Answers (λ _. job_of job.new) result (without_choice choice.now
         (Ok (made_new (names_of names.entry) (job_of job.old)))) }
     ensures stays { OnErr result (job_of job.new ≡ job_of job.old) }
+    ensures room { OnErr result (KeepsPending job.old job.new) }
     ensures sound { Sound job.new }
 {
     nothing_asked(choice)?;
@@ -50,7 +51,7 @@ pub(crate) fn make_new<'a>(
 
 /// A block begins: its end puts names and `$TEST` back.
 #[tactic(auto, using(crate::proofs::ScopeLemmas::lines_again, crate::proofs::ScopeLemmas::block_begun, crate::proofs::ScopeLemmas::stands_with_block))]
-pub(crate) fn begin_block<'a>(
+pub fn begin_block<'a>(
     job: &mut Job<'a>,
     choice: &Choice,
     lines: &'a [Line],
@@ -60,6 +61,7 @@ pub(crate) fn begin_block<'a>(
         (Ok (doing (RunLines (as_lines (block_of lines.now)) ∷ EndBlock (job_of job.old).bindings (job_of job.old).next
         (job_of job.old).test ∷ (job_of job.old).tasks) (job_of job.old)))) }
     ensures stays { OnErr result (job_of job.new ≡ job_of job.old) }
+    ensures room { OnErr result (KeepsPending job.old job.new) }
     ensures sound { Sound job.new }
 {
     nothing_asked(choice)?;
@@ -70,7 +72,7 @@ pub(crate) fn begin_block<'a>(
     job.pending.reserve(2)?;
     job.pending.push_reserved(Pending::EndBlock(back, job.test));
     job.pending
-        .push_reserved(Pending::Task(Task::RunLines(lines)));
+        .push_reserved(Pending::Task(Task::Line(LineTask::RunLines(lines))));
     Ok(())
 }
 
@@ -85,7 +87,7 @@ pub(crate) fn go_back(job: &mut Job, back: Back)
 }
 
 /// The end of a block.
-pub(crate) fn end_block(
+pub fn end_block(
     job: &mut Job,
     choice: &Choice,
     back: Back,
@@ -96,6 +98,7 @@ pub(crate) fn end_block(
     ensures answer { Answers (λ _. job_of job.new) result (without_choice choice.now
         (Ok (tested test (back_to (bindings_of (take back.binders job.old.binders.items)) back.next (job_of job.old))))) }
     ensures stays { OnErr result (job_of job.new ≡ job_of job.old) }
+    ensures room { OnErr result (KeepsPending job.old job.new) }
     ensures sound { Sound job.new }
 {
     nothing_asked(choice)?;

@@ -5,124 +5,124 @@ ghost use Rattle.mlk_text.specs.Codes.{number_of, word_of};
 
 /// A refusal or a fault: 1xx expressions, 2xx lines and commands, 3xx linking, 4xx the rule file,
 /// 5xx events, 6xx the certificate, 7xx the walk, 8xx the maker, 9xx the whole run.
-#[derive(Clone, Copy, Debug, Drop, PartialEq, Eq)]
+#[derive(Clone, Copy, Debug, Drop, PartialEq, Eq, PartialOrd, Ord)]
 pub enum Code {
     /// 101: an expression is expected here, broken off, or followed by what ends none
-    ExprForm,
+    ExprForm = 101,
     /// 102: an expression uses something that is left out; a word says what
-    ExprLeftOut,
+    ExprLeftOut = 102,
     /// 103: an expression is nested more than 64 deep
-    ExprDeep,
+    ExprDeep = 103,
     /// 104: a name has more than 31 characters
-    NameLong,
+    NameLong = 104,
     /// 201: a byte that may not stand at its place
-    Byte,
+    Byte = 201,
     /// 202: a label, a formal list or a line start of another form
-    LineForm,
+    LineForm = 202,
     /// 203: a label stands twice
-    LabelTwice,
+    LabelTwice = 203,
     /// 204: a line more than one level deeper than the line before
-    LevelJump,
+    LevelJump = 204,
     /// 205: a word that is no command
-    UnknownCommand,
+    UnknownCommand = 205,
     /// 206: a command that is left out; its full word is named
-    CommandLeftOut,
+    CommandLeftOut = 206,
     /// 207: an argument of another form
-    ArgumentForm,
+    ArgumentForm = 207,
     /// 208: spacing that is not that of commands
-    Spacing,
+    Spacing = 208,
     /// 209: a block whose head line has no argumentless DO
-    BlockUnreached,
+    BlockUnreached = 209,
     /// 210: a routine past one of its limits: bytes, lines, levels, FORs on a line
-    TooLarge,
+    TooLarge = 210,
     /// 211: a file whose stem is no name
-    RoutineName,
+    RoutineName = 211,
     /// 301: two routines of one name
-    RoutineTwice,
+    RoutineTwice = 301,
     /// 302: a call of a label or a routine that is not there
-    UnknownLabel,
+    UnknownLabel = 302,
     /// 303: a call whose actual list does not fit the formal list
-    Arity,
+    Arity = 303,
     /// 304: more than 65,535 routines or 1,048,575 entries
-    TooMany,
+    TooMany = 304,
     /// 401: a rule file that is no TOML
-    Toml,
+    Toml = 401,
     /// 402: a key that is unknown, missing or of another type
-    Key,
+    Key = 402,
     /// 403: a pattern, a lock name or an entry of another form
-    Pattern,
+    Pattern = 403,
     /// 404: a variable in a lock that its pattern lacks
-    TemplateVariable,
+    TemplateVariable = 404,
     /// 405: one family is a prefix of another
-    FamiliesMeet,
+    FamiliesMeet = 405,
     /// 406: a section, a pattern, a name or a rank past its limit
-    RulesLimit,
+    RulesLimit = 406,
     /// 501: an event that is not enabled
-    NotEnabled,
+    NotEnabled = 501,
     /// 502: a choice of the wrong kind, or more values than formals
-    BadChoice,
+    BadChoice = 502,
     /// 503: an event of a job that never began
-    UnknownJob,
+    UnknownJob = 503,
     /// 504: a line of another form in an event file
-    EventForm,
+    EventForm = 504,
     /// 601: a certificate without its head line
-    Head,
+    Head = 601,
     /// 602: a line of another form in a certificate
-    Form,
+    Form = 602,
     /// 603: lines or items of a certificate out of order
-    Order,
+    Order = 603,
     /// 604: two blocks of a certificate with one entry text
-    EntryTwice,
+    EntryTwice = 604,
     /// 605: a certificate past one of its limits
-    CertLimit,
+    CertLimit = 605,
     /// 606: a certificate that ends before its end line
-    NoEnd,
+    NoEnd = 606,
     /// 701: a reference that surely lies in no rule
-    Unruled,
+    Unruled = 701,
     /// 702: a cover rule may be met and its lock is not held
-    Uncovered,
+    Uncovered = 702,
     /// 703: a write that may meet a readonly rule
-    ReadOnly,
+    ReadOnly = 703,
     /// 704: a private rule may be met without the job's own number
-    NotPrivate,
+    NotPrivate = 704,
     /// 705: a change of a name that a held lock mentions
-    Pinned,
+    Pinned = 705,
     /// 706: a release of a lock that is not listed as held
-    NotHeld,
+    NotHeld = 706,
     /// 707: a claim of a lock in no family
-    Unranked,
+    Unranked = 707,
     /// 708: an untimed claim that is not above all that is held
-    RankOrder,
+    RankOrder = 708,
     /// 709: a declared entry ends with a lock held
-    HeldAtEnd,
+    HeldAtEnd = 709,
     /// 710: a case reaches a point that lists none including it
-    CaseNotListed,
+    CaseNotListed = 710,
     /// 711: a needed lock is not held, or a declared entry has needs
-    NeedMissing,
+    NeedMissing = 711,
     /// 712: the summary leaves out a change, a claim or a release of all
-    SummaryShort,
+    SummaryShort = 712,
     /// 713: a called or declared entry without a certificate
-    NoCertificate,
+    NoCertificate = 713,
     /// 714: a name passed by reference in a lock name
-    SharedName,
+    SharedName = 714,
     /// 715: a lock name with an unknown subscript
-    UnknownSubscript,
+    UnknownSubscript = 715,
     /// 716: a line sequence that reaches a line with a formal list
-    FallsIntoFormals,
+    FallsIntoFormals = 716,
     /// 717: more than 16 cases, 16 held locks or 64 own items
-    TooManyCases,
+    TooManyCases = 717,
     /// 718: a held lock mentions a name whose binding ends
-    NameEscapes,
+    NameEscapes = 718,
     /// 719: a callee that may release all locks is called while some are set aside
-    DropsFrame,
+    DropsFrame = 719,
     /// 801: the maker found no certificate
-    GaveUp,
+    GaveUp = 801,
     /// 901: a declared or certified entry that the routines lack
-    EntryMissing,
+    EntryMissing = 901,
     /// 902: no worker, or more than 64
-    Workers,
+    Workers = 902,
     /// 903: a task whose gate stayed shut
-    GateShut,
+    GateShut = 903,
 }
 
 impl Code {
@@ -130,66 +130,7 @@ impl Code {
     pub fn number(self) -> u16
         ensures { result ≡ number_of self }
     {
-        match self {
-            Code::ExprForm => 101,
-            Code::ExprLeftOut => 102,
-            Code::ExprDeep => 103,
-            Code::NameLong => 104,
-            Code::Byte => 201,
-            Code::LineForm => 202,
-            Code::LabelTwice => 203,
-            Code::LevelJump => 204,
-            Code::UnknownCommand => 205,
-            Code::CommandLeftOut => 206,
-            Code::ArgumentForm => 207,
-            Code::Spacing => 208,
-            Code::BlockUnreached => 209,
-            Code::TooLarge => 210,
-            Code::RoutineName => 211,
-            Code::RoutineTwice => 301,
-            Code::UnknownLabel => 302,
-            Code::Arity => 303,
-            Code::TooMany => 304,
-            Code::Toml => 401,
-            Code::Key => 402,
-            Code::Pattern => 403,
-            Code::TemplateVariable => 404,
-            Code::FamiliesMeet => 405,
-            Code::RulesLimit => 406,
-            Code::NotEnabled => 501,
-            Code::BadChoice => 502,
-            Code::UnknownJob => 503,
-            Code::EventForm => 504,
-            Code::Head => 601,
-            Code::Form => 602,
-            Code::Order => 603,
-            Code::EntryTwice => 604,
-            Code::CertLimit => 605,
-            Code::NoEnd => 606,
-            Code::Unruled => 701,
-            Code::Uncovered => 702,
-            Code::ReadOnly => 703,
-            Code::NotPrivate => 704,
-            Code::Pinned => 705,
-            Code::NotHeld => 706,
-            Code::Unranked => 707,
-            Code::RankOrder => 708,
-            Code::HeldAtEnd => 709,
-            Code::CaseNotListed => 710,
-            Code::NeedMissing => 711,
-            Code::SummaryShort => 712,
-            Code::NoCertificate => 713,
-            Code::SharedName => 714,
-            Code::UnknownSubscript => 715,
-            Code::FallsIntoFormals => 716,
-            Code::TooManyCases => 717,
-            Code::NameEscapes => 718,
-            Code::DropsFrame => 719,
-            Code::GaveUp => 801,
-            Code::EntryMissing => 901,
-            Code::Workers => 902,
-            Code::GateShut => 903,
-        }
+        self as u16
     }
 
     /// The name that is printed after the number.

@@ -49,8 +49,10 @@ use Rattle.mlk_rows.specs.Walks.{too_many, few}
 use Rattle.mlk_calls.specs.Scope.{certified, declared}
 use Rattle.mlk_calls.specs.Names.{is_among, have, spares}
 use Rattle.mlk_calls.specs.Values.{whole}
-use Rattle.mlk_verdicts.specs.Verdicts.{entry_faults, line_faults}
-use Rattle.mlk_verdicts.specs.Reports.{Row, report}
+use Rattle.mlk_verdicts.specs.declared.report.Row.{Row}
+use Rattle.mlk_verdicts.specs.Faults.{fault_cmp}
+use Rattle.mlk_verdicts.specs.Verdicts.{known, entry_faults, line_faults}
+use Rattle.mlk_verdicts.specs.Reports.{report}
 
 abbrev callee : Option (List ℕ) → Option (List ℕ) → Callee
 callee label routine = record { label = label; routine = routine }
@@ -120,7 +122,7 @@ deposit-yes-blocks = ((block (codes "DEP^BANK") [] (Some 10) false []
     ((point_of 1 0 ((case_of Any [] ((own_item 1 (Only (codes "AMT"))) ∷ (own_item 1 (Only (codes "ID"))) ∷ []) ((codes "AMT") ∷ (codes "ID") ∷ []) []) ∷ [])) ∷ [])) ∷ [])
 
 pub deposit-yes : report deposit-yes-routines (base_rules ((codes "DEP^BANK") ∷ [])) deposit-yes-blocks ≡ ([])
-unfolding report entry_faults answer same_term same_case includes leaves_by same_state too_many few certified declared fold_between fold_before byte_text digits entry_of label_at name_at digits_at is_among have spares whole
+unfolding report entry_faults fault_cmp answer same_term same_case includes leaves_by same_state too_many few certified declared fold_between fold_before byte_text digits entry_of label_at name_at digits_at is_among have spares whole
 deposit-yes = refl
 
 -- DEP(ID,AMT) LOCK +^ACCT(ID) SET ^ACCT(ID,"bal")=$GET(^ACCT(ID,"bal"))+AMT LOCK -^ACCT(ID) QUIT
@@ -136,7 +138,7 @@ deposit-low-missing-blocks = ((block (codes "DEP^BANK") [] None false []
     ((point_of 1 0 ((case_of Any [] ((own_item 1 (Only (codes "AMT"))) ∷ (own_item 1 (Only (codes "ID"))) ∷ []) ((codes "AMT") ∷ (codes "ID") ∷ []) []) ∷ [])) ∷ [])) ∷ [])
 
 pub deposit-low-missing : report deposit-low-missing-routines (base_rules ((codes "DEP^BANK") ∷ [])) deposit-low-missing-blocks ≡ ((row 0 0 1 19 SummaryShort) ∷ [])
-unfolding report entry_faults answer same_term same_case includes leaves_by same_state too_many few certified declared fold_between fold_before byte_text digits entry_of label_at name_at digits_at is_among have spares whole
+unfolding report entry_faults fault_cmp answer same_term same_case includes leaves_by same_state too_many few certified declared fold_between fold_before byte_text digits entry_of label_at name_at digits_at is_among have spares whole
 deposit-low-missing = refl
 
 -- TAKE SET ^ACCT(1)=5 LOCK +^ACCT(1) LOCK -^ACCT(1) QUIT
@@ -152,7 +154,7 @@ take-write-before-lock-blocks = ((block (codes "TAKE^ONE") [] (Some 10) false []
     ((point_of 1 0 ((case_of Any [] [] [] []) ∷ [])) ∷ [])) ∷ [])
 
 pub take-write-before-lock : report take-write-before-lock-routines (rules_of ((family (lock_name (root.Global (codes "ACCT")) ([])) 10) ∷ []) ((cover (pattern_of (codes "ACCT") (element.Variable ∷ []) extent.Tree) (template (root.Global (codes "ACCT")) ((part_of.Place 0) ∷ []))) ∷ []) ([]) ([]) ((codes "TAKE^ONE") ∷ [])) take-write-before-lock-blocks ≡ ((row 0 0 1 10 Uncovered) ∷ [])
-unfolding report entry_faults answer same_term same_case includes leaves_by same_state too_many few certified declared fold_between fold_before byte_text digits entry_of label_at name_at digits_at is_among have spares whole
+unfolding report entry_faults fault_cmp answer same_term same_case includes leaves_by same_state too_many few certified declared fold_between fold_before byte_text digits entry_of label_at name_at digits_at is_among have spares whole
 take-write-before-lock = refl
 
 --  SET ^ACCT(ID)=1 LOCK -^ACCT(ID) QUIT
@@ -171,7 +173,7 @@ timed-lock-else-quit-blocks = ((block (codes "T^TWO") [] None false []
     ((point_of 1 0 ((case_of Any [] ((own_item 1 (Only (codes "ID"))) ∷ []) ((codes "ID") ∷ []) []) ∷ [])) ∷ (point_of 2 0 ((case_of One ((lock_term (root.Global (codes "ACCT")) ((known.Local (codes "ID")) ∷ [])) ∷ []) ((own_item 1 (Only (codes "ID"))) ∷ []) ((codes "ID") ∷ []) []) ∷ [])) ∷ [])) ∷ [])
 
 pub timed-lock-else-quit : report timed-lock-else-quit-routines (base_rules ((codes "T^TWO") ∷ [])) timed-lock-else-quit-blocks ≡ ([])
-unfolding report entry_faults answer same_term same_case includes leaves_by same_state too_many few certified declared fold_between fold_before byte_text digits entry_of label_at name_at digits_at is_among have spares whole
+unfolding report entry_faults fault_cmp answer same_term same_case includes leaves_by same_state too_many few certified declared fold_between fold_before byte_text digits entry_of label_at name_at digits_at is_among have spares whole
 timed-lock-else-quit = refl
 
 --  SET ^ACCT(ID)=1 LOCK -^ACCT(ID) QUIT
@@ -190,7 +192,7 @@ timed-lock-second-line-not-listed-blocks = ((block (codes "T^TWO") [] None false
     ((point_of 1 0 ((case_of Any [] ((own_item 1 (Only (codes "ID"))) ∷ []) ((codes "ID") ∷ []) []) ∷ [])) ∷ [])) ∷ [])
 
 pub timed-lock-second-line-not-listed : report timed-lock-second-line-not-listed-routines (base_rules ((codes "T^TWO") ∷ [])) timed-lock-second-line-not-listed-blocks ≡ ((row 0 0 2 1 CaseNotListed) ∷ [])
-unfolding report entry_faults answer same_term same_case includes leaves_by same_state too_many few certified declared fold_between fold_before byte_text digits entry_of label_at name_at digits_at is_among have spares whole
+unfolding report entry_faults fault_cmp answer same_term same_case includes leaves_by same_state too_many few certified declared fold_between fold_before byte_text digits entry_of label_at name_at digits_at is_among have spares whole
 timed-lock-second-line-not-listed = refl
 
 --  SET ^ACCT(ID)=1 LOCK -^ACCT(ID) QUIT
@@ -209,7 +211,7 @@ timed-lock-exit-not-listed-blocks = ((block (codes "T^TWO") [] None false []
     ((point_of 1 0 ((case_of Any [] ((own_item 1 (Only (codes "ID"))) ∷ []) ((codes "ID") ∷ []) []) ∷ [])) ∷ (point_of 2 0 ((case_of One ((lock_term (root.Global (codes "ACCT")) ((known.Local (codes "ID")) ∷ [])) ∷ []) ((own_item 1 (Only (codes "ID"))) ∷ []) ((codes "ID") ∷ []) []) ∷ [])) ∷ [])) ∷ [])
 
 pub timed-lock-exit-not-listed : report timed-lock-exit-not-listed-routines (base_rules ((codes "T^TWO") ∷ [])) timed-lock-exit-not-listed-blocks ≡ ((row 0 0 1 31 CaseNotListed) ∷ [])
-unfolding report entry_faults answer same_term same_case includes leaves_by same_state too_many few certified declared fold_between fold_before byte_text digits entry_of label_at name_at digits_at is_among have spares whole
+unfolding report entry_faults fault_cmp answer same_term same_case includes leaves_by same_state too_many few certified declared fold_between fold_before byte_text digits entry_of label_at name_at digits_at is_among have spares whole
 timed-lock-exit-not-listed = refl
 
 --  SET ^ACCT(ID)=1 LOCK -^ACCT(ID) QUIT
@@ -228,7 +230,7 @@ timed-lock-declared-with-need-blocks = ((block (codes "T^TWO") ((lock_term (root
     ((point_of 1 0 ((case_of Any [] ((own_item 1 (Only (codes "ID"))) ∷ []) ((codes "ID") ∷ []) []) ∷ [])) ∷ (point_of 2 0 ((case_of One ((lock_term (root.Global (codes "ACCT")) ((known.Local (codes "ID")) ∷ [])) ∷ []) ((own_item 1 (Only (codes "ID"))) ∷ []) ((codes "ID") ∷ []) []) ∷ [])) ∷ [])) ∷ [])
 
 pub timed-lock-declared-with-need : report timed-lock-declared-with-need-routines (base_rules ((codes "T^TWO") ∷ [])) timed-lock-declared-with-need-blocks ≡ ((row 0 0 1 1 CaseNotListed) ∷ (row 0 0 1 1 NeedMissing) ∷ [])
-unfolding report entry_faults answer same_term same_case includes leaves_by same_state too_many few certified declared fold_between fold_before byte_text digits entry_of label_at name_at digits_at is_among have spares whole
+unfolding report entry_faults fault_cmp answer same_term same_case includes leaves_by same_state too_many few certified declared fold_between fold_before byte_text digits entry_of label_at name_at digits_at is_among have spares whole
 timed-lock-declared-with-need = refl
 
 --  LOCK  QUIT
@@ -247,7 +249,7 @@ timed-lock-untested-blocks = ((block (codes "T^TIMED") [] None true []
     ((point_of 1 0 ((case_of Any [] ((own_item 1 (Only (codes "ID"))) ∷ []) ((codes "ID") ∷ []) []) ∷ [])) ∷ (point_of 2 0 ((case_of Zero [] ((own_item 1 (Only (codes "ID"))) ∷ []) ((codes "ID") ∷ []) []) ∷ (case_of Zero ((lock_term (root.Global (codes "ACCT")) ((known.Local (codes "ID")) ∷ [])) ∷ []) ((own_item 1 (Only (codes "ID"))) ∷ []) ((codes "ID") ∷ []) []) ∷ (case_of One ((lock_term (root.Global (codes "ACCT")) ((known.Local (codes "ID")) ∷ [])) ∷ []) ((own_item 1 (Only (codes "ID"))) ∷ []) ((codes "ID") ∷ []) []) ∷ [])) ∷ [])) ∷ [])
 
 pub timed-lock-untested : report timed-lock-untested-routines (base_rules ((codes "T^TIMED") ∷ [])) timed-lock-untested-blocks ≡ ((row 0 0 1 37 Uncovered) ∷ [])
-unfolding report entry_faults answer same_term same_case includes leaves_by same_state too_many few certified declared fold_between fold_before byte_text digits entry_of label_at name_at digits_at is_among have spares whole
+unfolding report entry_faults fault_cmp answer same_term same_case includes leaves_by same_state too_many few certified declared fold_between fold_before byte_text digits entry_of label_at name_at digits_at is_among have spares whole
 timed-lock-untested = refl
 
 --  SET ^ACCT(ID)=1 LOCK -^ACCT(ID) QUIT
@@ -272,7 +274,7 @@ timed-lock-block-keeps-test-blocks = ((block (codes "T^BLOCK") [] None false []
     ((point_of 1 0 ((case_of Any [] ((own_item 1 (Only (codes "ID"))) ∷ []) ((codes "ID") ∷ []) []) ∷ [])) ∷ (point_of 2 0 ((case_of Zero [] ((own_item 1 (Only (codes "ID"))) ∷ []) ((codes "ID") ∷ []) (Zero ∷ [])) ∷ (case_of One ((lock_term (root.Global (codes "ACCT")) ((known.Local (codes "ID")) ∷ [])) ∷ []) ((own_item 1 (Only (codes "ID"))) ∷ []) ((codes "ID") ∷ []) (One ∷ [])) ∷ [])) ∷ (point_of 3 0 ((case_of Zero [] ((own_item 1 (Only (codes "ID"))) ∷ []) ((codes "ID") ∷ []) []) ∷ (case_of One ((lock_term (root.Global (codes "ACCT")) ((known.Local (codes "ID")) ∷ [])) ∷ []) ((own_item 1 (Only (codes "ID"))) ∷ []) ((codes "ID") ∷ []) []) ∷ [])) ∷ (point_of 4 0 ((case_of One ((lock_term (root.Global (codes "ACCT")) ((known.Local (codes "ID")) ∷ [])) ∷ []) ((own_item 1 (Only (codes "ID"))) ∷ []) ((codes "ID") ∷ []) []) ∷ [])) ∷ [])) ∷ [])
 
 pub timed-lock-block-keeps-test : report timed-lock-block-keeps-test-routines (base_rules ((codes "T^BLOCK") ∷ [])) timed-lock-block-keeps-test-blocks ≡ ([])
-unfolding report entry_faults answer same_term same_case includes leaves_by same_state too_many few certified declared fold_between fold_before byte_text digits entry_of label_at name_at digits_at is_among have spares whole
+unfolding report entry_faults fault_cmp answer same_term same_case includes leaves_by same_state too_many few certified declared fold_between fold_before byte_text digits entry_of label_at name_at digits_at is_among have spares whole
 timed-lock-block-keeps-test = refl
 
 -- BUMP(ID) LOCK +^ACCT(ID) SET ID=ID+1 LOCK -^ACCT(ID) QUIT
@@ -288,7 +290,7 @@ bump-pinned-blocks = ((block (codes "BUMP^BANK") [] (Some 10) false []
     ((point_of 1 0 ((case_of Any [] ((own_item 1 (Only (codes "ID"))) ∷ []) ((codes "ID") ∷ []) []) ∷ [])) ∷ [])) ∷ [])
 
 pub bump-pinned : report bump-pinned-routines (base_rules ((codes "BUMP^BANK") ∷ [])) bump-pinned-blocks ≡ ((row 0 0 1 30 Pinned) ∷ [])
-unfolding report entry_faults answer same_term same_case includes leaves_by same_state too_many few certified declared fold_between fold_before byte_text digits entry_of label_at name_at digits_at is_among have spares whole
+unfolding report entry_faults fault_cmp answer same_term same_case includes leaves_by same_state too_many few certified declared fold_between fold_before byte_text digits entry_of label_at name_at digits_at is_among have spares whole
 bump-pinned = refl
 
 -- E LOCK +^A(9) SET ^A(1+2*3)=0 LOCK -^A(9) QUIT
@@ -304,7 +306,7 @@ operators-left-to-right-blocks = ((block (codes "E^SUM") [] (Some 5) false []
     ((point_of 1 0 ((case_of Any [] [] [] []) ∷ [])) ∷ [])) ∷ [])
 
 pub operators-left-to-right : report operators-left-to-right-routines (rules_of ((family (lock_name (root.Global (codes "A")) ([])) 5) ∷ []) ((cover (pattern_of (codes "A") ((element.Literal (codes "9")) ∷ []) extent.Tree) (template (root.Global (codes "A")) ((part_of.Literal (codes "9")) ∷ []))) ∷ []) ([]) ((pattern_of (codes "A") ((element.Literal (codes "7")) ∷ []) extent.Tree) ∷ []) ((codes "E^SUM") ∷ [])) operators-left-to-right-blocks ≡ ([])
-unfolding report entry_faults answer same_term same_case includes leaves_by same_state too_many few certified declared fold_between fold_before byte_text digits entry_of label_at name_at digits_at is_among have spares whole
+unfolding report entry_faults fault_cmp answer same_term same_case includes leaves_by same_state too_many few certified declared fold_between fold_before byte_text digits entry_of label_at name_at digits_at is_among have spares whole
 operators-left-to-right = refl
 
 --  LOCK -^A(1) QUIT
@@ -332,11 +334,11 @@ literal-subscripts-blocks = ((block (codes "E^LIT") [] (Some 5) false []
     ((point_of 1 0 ((case_of Any [] [] [] []) ∷ [])) ∷ (point_of 2 0 ((case_of Any ((lock_term (root.Global (codes "A")) ((known.Const (codes "1")) ∷ [])) ∷ []) [] [] []) ∷ [])) ∷ (point_of 3 0 ((case_of Any ((lock_term (root.Global (codes "A")) ((known.Const (codes "1")) ∷ [])) ∷ []) [] [] []) ∷ [])) ∷ (point_of 4 0 ((case_of Any ((lock_term (root.Global (codes "A")) ((known.Const (codes "1")) ∷ [])) ∷ []) [] [] []) ∷ [])) ∷ (point_of 5 0 ((case_of Any ((lock_term (root.Global (codes "A")) ((known.Const (codes "1")) ∷ [])) ∷ []) [] [] []) ∷ [])) ∷ [])) ∷ [])
 
 pub literal-subscripts : report literal-subscripts-routines (rules_of ((family (lock_name (root.Global (codes "A")) ([])) 5) ∷ []) ((cover (pattern_of (codes "A") (element.Variable ∷ []) extent.Tree) (template (root.Global (codes "A")) ((part_of.Place 0) ∷ []))) ∷ []) ([]) ([]) ((codes "E^LIT") ∷ [])) literal-subscripts-blocks ≡ ((row 0 0 4 6 Uncovered) ∷ [])
-unfolding report entry_faults answer same_term same_case includes leaves_by same_state too_many few certified declared fold_between fold_before byte_text digits entry_of label_at name_at digits_at is_among have spares whole
+unfolding report entry_faults fault_cmp answer same_term same_case includes leaves_by same_state too_many few certified declared fold_between fold_before byte_text digits entry_of label_at name_at digits_at is_among have spares whole
 literal-subscripts = refl
 
 -- what the walk of its line 4 alone finds
-pub literal-subscripts-line : line_faults literal-subscripts-routines (rules_of ((family (lock_name (root.Global (codes "A")) ([])) 5) ∷ []) ((cover (pattern_of (codes "A") (element.Variable ∷ []) extent.Tree) (template (root.Global (codes "A")) ((part_of.Place 0) ∷ []))) ∷ []) ([]) ([]) ((codes "E^LIT") ∷ [])) literal-subscripts-blocks (record { routine = 0; line = 0 }) 4 ≡ record { line = 4; column = 6; code = Uncovered } ∷ []
+pub literal-subscripts-line : line_faults literal-subscripts-routines (rules_of ((family (lock_name (root.Global (codes "A")) ([])) 5) ∷ []) ((cover (pattern_of (codes "A") (element.Variable ∷ []) extent.Tree) (template (root.Global (codes "A")) ((part_of.Place 0) ∷ []))) ∷ []) ([]) ([]) ((codes "E^LIT") ∷ [])) (known literal-subscripts-routines (rules_of ((family (lock_name (root.Global (codes "A")) ([])) 5) ∷ []) ((cover (pattern_of (codes "A") (element.Variable ∷ []) extent.Tree) (template (root.Global (codes "A")) ((part_of.Place 0) ∷ []))) ∷ []) ([]) ([]) ((codes "E^LIT") ∷ [])) literal-subscripts-blocks) (record { routine = 0; line = 0 }) 4 ≡ record { line = 4; column = 6; code = Uncovered } ∷ []
 unfolding line_faults answer same_term same_case includes leaves_by same_state too_many few certified declared fold_between fold_before byte_text digits entry_of label_at name_at digits_at is_among have spares whole
 literal-subscripts-line = refl
 
@@ -358,7 +360,7 @@ extrinsic-call-pinned-blocks = ((block (codes "RUN^CAP") [] (Some 10) false []
     ((point_of 2 0 ((case_of Any [] [] [] []) ∷ [])) ∷ [])) ∷ [])
 
 pub extrinsic-call-pinned : report extrinsic-call-pinned-routines (base_rules ((codes "RUN^CAP") ∷ [])) extrinsic-call-pinned-blocks ≡ ((row 0 0 1 36 Pinned) ∷ [])
-unfolding report entry_faults answer same_term same_case includes leaves_by same_state too_many few certified declared fold_between fold_before byte_text digits entry_of label_at name_at digits_at is_among have spares whole
+unfolding report entry_faults fault_cmp answer same_term same_case includes leaves_by same_state too_many few certified declared fold_between fold_before byte_text digits entry_of label_at name_at digits_at is_among have spares whole
 extrinsic-call-pinned = refl
 
 -- N(X) LOCK +^ACCT(X) SET Y=$ORDER(^ACCT(X)) LOCK -^ACCT(X) QUIT
@@ -374,7 +376,7 @@ order-below-one-account-blocks = ((block (codes "N^ORD") [] (Some 10) false ((On
     ((point_of 1 0 ((case_of Any [] ((own_item 1 (Only (codes "X"))) ∷ []) ((codes "X") ∷ []) []) ∷ [])) ∷ [])) ∷ [])
 
 pub order-below-one-account : report order-below-one-account-routines (base_rules ((codes "N^ORD") ∷ [])) order-below-one-account-blocks ≡ ((row 0 0 1 34 Uncovered) ∷ [])
-unfolding report entry_faults answer same_term same_case includes leaves_by same_state too_many few certified declared fold_between fold_before byte_text digits entry_of label_at name_at digits_at is_among have spares whole
+unfolding report entry_faults fault_cmp answer same_term same_case includes leaves_by same_state too_many few certified declared fold_between fold_before byte_text digits entry_of label_at name_at digits_at is_among have spares whole
 order-below-one-account = refl
 
 -- P SET ^TMP($J,1)=2 KILL ^TMP QUIT
@@ -390,7 +392,7 @@ private-kill-all-blocks = ((block (codes "P^PRIV") [] None false []
     ((point_of 1 0 ((case_of Any [] [] [] []) ∷ [])) ∷ [])) ∷ [])
 
 pub private-kill-all : report private-kill-all-routines (base_rules ((codes "P^PRIV") ∷ [])) private-kill-all-blocks ≡ ((row 0 0 1 25 NotPrivate) ∷ [])
-unfolding report entry_faults answer same_term same_case includes leaves_by same_state too_many few certified declared fold_between fold_before byte_text digits entry_of label_at name_at digits_at is_among have spares whole
+unfolding report entry_faults fault_cmp answer same_term same_case includes leaves_by same_state too_many few certified declared fold_between fold_before byte_text digits entry_of label_at name_at digits_at is_among have spares whole
 private-kill-all = refl
 
 -- D LOCK +^LOG LOCK +^LOG(5) LOCK  QUIT
@@ -421,7 +423,7 @@ rank-order-blocks = ((block (codes "A^RANK") [] (Some 20) true []
     ((point_of 4 0 ((case_of Any [] [] [] []) ∷ [])) ∷ [])) ∷ [])
 
 pub rank-order : report rank-order-routines (base_rules ((codes "A^RANK") ∷ (codes "B^RANK") ∷ (codes "C^RANK") ∷ (codes "D^RANK") ∷ [])) rank-order-blocks ≡ ((row 0 0 1 20 RankOrder) ∷ [])
-unfolding report entry_faults answer same_term same_case includes leaves_by same_state too_many few certified declared fold_between fold_before byte_text digits entry_of label_at name_at digits_at is_among have spares whole
+unfolding report entry_faults fault_cmp answer same_term same_case includes leaves_by same_state too_many few certified declared fold_between fold_before byte_text digits entry_of label_at name_at digits_at is_among have spares whole
 rank-order = refl
 
 -- GRAB(K) LOCK +^ACCT(K) QUIT
@@ -442,7 +444,7 @@ wrapper-takes-lock-blocks = ((block (codes "USE^WRAP") [] (Some 10) false []
     ((point_of 2 0 ((case_of Any [] ((own_item 1 (Only (codes "K"))) ∷ []) ((codes "K") ∷ []) []) ∷ [])) ∷ [])) ∷ [])
 
 pub wrapper-takes-lock : report wrapper-takes-lock-routines (base_rules ((codes "USE^WRAP") ∷ [])) wrapper-takes-lock-blocks ≡ ([])
-unfolding report entry_faults answer same_term same_case includes leaves_by same_state too_many few certified declared fold_between fold_before byte_text digits entry_of label_at name_at digits_at is_among have spares whole
+unfolding report entry_faults fault_cmp answer same_term same_case includes leaves_by same_state too_many few certified declared fold_between fold_before byte_text digits entry_of label_at name_at digits_at is_among have spares whole
 wrapper-takes-lock = refl
 
 -- GRAB(K) SET K=K+1 LOCK +^ACCT(K) QUIT
@@ -463,7 +465,7 @@ wrapper-changed-name-blocks = ((block (codes "USE^WRAP") [] (Some 10) false []
     ((point_of 2 0 ((case_of Any [] ((own_item 1 (Only (codes "K"))) ∷ []) ((codes "K") ∷ []) []) ∷ [])) ∷ [])) ∷ [])
 
 pub wrapper-changed-name : report wrapper-changed-name-routines (base_rules ((codes "USE^WRAP") ∷ [])) wrapper-changed-name-blocks ≡ ((row 0 1 2 34 NameEscapes) ∷ [])
-unfolding report entry_faults answer same_term same_case includes leaves_by same_state too_many few certified declared fold_between fold_before byte_text digits entry_of label_at name_at digits_at is_among have spares whole
+unfolding report entry_faults fault_cmp answer same_term same_case includes leaves_by same_state too_many few certified declared fold_between fold_before byte_text digits entry_of label_at name_at digits_at is_among have spares whole
 wrapper-changed-name = refl
 
 -- GRAB(K) LOCK +^ACCT(K) QUIT
@@ -484,7 +486,7 @@ wrapper-exit-without-lock-blocks = ((block (codes "USE^WRAP") [] (Some 10) false
     ((point_of 2 0 ((case_of Any [] ((own_item 1 (Only (codes "K"))) ∷ []) ((codes "K") ∷ []) []) ∷ [])) ∷ [])) ∷ [])
 
 pub wrapper-exit-without-lock : report wrapper-exit-without-lock-routines (base_rules ((codes "USE^WRAP") ∷ [])) wrapper-exit-without-lock-blocks ≡ ((row 0 0 1 25 Uncovered) ∷ (row 0 1 2 24 CaseNotListed) ∷ [])
-unfolding report entry_faults answer same_term same_case includes leaves_by same_state too_many few certified declared fold_between fold_before byte_text digits entry_of label_at name_at digits_at is_among have spares whole
+unfolding report entry_faults fault_cmp answer same_term same_case includes leaves_by same_state too_many few certified declared fold_between fold_before byte_text digits entry_of label_at name_at digits_at is_among have spares whole
 wrapper-exit-without-lock = refl
 
 -- GRAB(K) LOCK +^ACCT(K) QUIT
@@ -503,7 +505,7 @@ wrapper-callee-uncertified-blocks = ((block (codes "USE^WRAP") [] (Some 10) fals
     ((point_of 1 0 ((case_of Any [] ((own_item 1 (Only (codes "ID"))) ∷ []) ((codes "ID") ∷ []) []) ∷ [])) ∷ [])) ∷ [])
 
 pub wrapper-callee-uncertified : report wrapper-callee-uncertified-routines (base_rules ((codes "USE^WRAP") ∷ [])) wrapper-callee-uncertified-blocks ≡ ((row 0 0 1 12 NoCertificate) ∷ [])
-unfolding report entry_faults answer same_term same_case includes leaves_by same_state too_many few certified declared fold_between fold_before byte_text digits entry_of label_at name_at digits_at is_among have spares whole
+unfolding report entry_faults fault_cmp answer same_term same_case includes leaves_by same_state too_many few certified declared fold_between fold_before byte_text digits entry_of label_at name_at digits_at is_among have spares whole
 wrapper-callee-uncertified = refl
 
 -- G(Y) QUIT
@@ -524,7 +526,7 @@ shared-name-blocks = ((block (codes "S^SHR") [] (Some 10) false []
     ((point_of 2 0 ((case_of Any [] ((own_item 1 (Only (codes "Y"))) ∷ []) ((codes "Y") ∷ []) []) ∷ [])) ∷ [])) ∷ [])
 
 pub shared-name : report shared-name-routines (base_rules ((codes "S^SHR") ∷ [])) shared-name-blocks ≡ ((row 0 0 1 27 SharedName) ∷ [])
-unfolding report entry_faults answer same_term same_case includes leaves_by same_state too_many few certified declared fold_between fold_before byte_text digits entry_of label_at name_at digits_at is_among have spares whole
+unfolding report entry_faults fault_cmp answer same_term same_case includes leaves_by same_state too_many few certified declared fold_between fold_before byte_text digits entry_of label_at name_at digits_at is_among have spares whole
 shared-name = refl
 
 -- B(C) QUIT
@@ -543,7 +545,7 @@ falls-into-formals-blocks = ((block (codes "A^FALL") [] None false ((Only (codes
     ((point_of 1 0 ((case_of Any [] [] [] []) ∷ [])) ∷ [])) ∷ [])
 
 pub falls-into-formals : report falls-into-formals-routines (base_rules ((codes "A^FALL") ∷ [])) falls-into-formals-blocks ≡ ((row 0 0 2 1 FallsIntoFormals) ∷ [])
-unfolding report entry_faults answer same_term same_case includes leaves_by same_state too_many few certified declared fold_between fold_before byte_text digits entry_of label_at name_at digits_at is_among have spares whole
+unfolding report entry_faults fault_cmp answer same_term same_case includes leaves_by same_state too_many few certified declared fold_between fold_before byte_text digits entry_of label_at name_at digits_at is_among have spares whole
 falls-into-formals = refl
 
 -- H LOCK +^LOG HALT
@@ -559,7 +561,7 @@ halt-with-lock-blocks = ((block (codes "H^STOP") [] (Some 20) true []
     ((point_of 1 0 ((case_of Any [] [] [] []) ∷ [])) ∷ [])) ∷ [])
 
 pub halt-with-lock : report halt-with-lock-routines (base_rules ((codes "H^STOP") ∷ [])) halt-with-lock-blocks ≡ ((row 0 0 1 14 HeldAtEnd) ∷ [])
-unfolding report entry_faults answer same_term same_case includes leaves_by same_state too_many few certified declared fold_between fold_before byte_text digits entry_of label_at name_at digits_at is_among have spares whole
+unfolding report entry_faults fault_cmp answer same_term same_case includes leaves_by same_state too_many few certified declared fold_between fold_before byte_text digits entry_of label_at name_at digits_at is_among have spares whole
 halt-with-lock = refl
 
 --  LOCK -^LOG QUIT
@@ -578,7 +580,7 @@ loop-under-lock-blocks = ((block (codes "L^LOOP") [] (Some 20) false ((Only (cod
     ((point_of 1 0 ((case_of Any [] [] [] []) ∷ [])) ∷ (point_of 1 1 ((case_of Any ((lock_term (root.Global (codes "LOG")) ([])) ∷ []) [] [] []) ∷ [])) ∷ (point_of 2 0 ((case_of Any ((lock_term (root.Global (codes "LOG")) ([])) ∷ []) [] [] []) ∷ [])) ∷ [])) ∷ [])
 
 pub loop-under-lock : report loop-under-lock-routines (base_rules ((codes "L^LOOP") ∷ [])) loop-under-lock-blocks ≡ ([])
-unfolding report entry_faults answer same_term same_case includes leaves_by same_state too_many few certified declared fold_between fold_before byte_text digits entry_of label_at name_at digits_at is_among have spares whole
+unfolding report entry_faults fault_cmp answer same_term same_case includes leaves_by same_state too_many few certified declared fold_between fold_before byte_text digits entry_of label_at name_at digits_at is_among have spares whole
 loop-under-lock = refl
 
 --  LOCK -^LOG QUIT
@@ -597,7 +599,7 @@ loop-mods-missing-blocks = ((block (codes "L^LOOP") [] (Some 20) false []
     ((point_of 1 0 ((case_of Any [] [] [] []) ∷ [])) ∷ (point_of 1 1 ((case_of Any ((lock_term (root.Global (codes "LOG")) ([])) ∷ []) [] [] []) ∷ [])) ∷ (point_of 2 0 ((case_of Any ((lock_term (root.Global (codes "LOG")) ([])) ∷ []) [] [] []) ∷ [])) ∷ [])) ∷ [])
 
 pub loop-mods-missing : report loop-mods-missing-routines (base_rules ((codes "L^LOOP") ∷ [])) loop-mods-missing-blocks ≡ ((row 0 0 1 18 SummaryShort) ∷ [])
-unfolding report entry_faults answer same_term same_case includes leaves_by same_state too_many few certified declared fold_between fold_before byte_text digits entry_of label_at name_at digits_at is_among have spares whole
+unfolding report entry_faults fault_cmp answer same_term same_case includes leaves_by same_state too_many few certified declared fold_between fold_before byte_text digits entry_of label_at name_at digits_at is_among have spares whole
 loop-mods-missing = refl
 
 -- B LOCK +^ACCT(1) LOCK -^ACCT(1) QUIT
@@ -618,7 +620,7 @@ call-below-held-rank-blocks = ((block (codes "A^OUT") [] (Some 10) true []
     ((point_of 2 0 ((case_of Any [] [] [] []) ∷ [])) ∷ [])) ∷ [])
 
 pub call-below-held-rank : report call-below-held-rank-routines (base_rules ((codes "A^OUT") ∷ [])) call-below-held-rank-blocks ≡ ((row 0 0 1 17 RankOrder) ∷ [])
-unfolding report entry_faults answer same_term same_case includes leaves_by same_state too_many few certified declared fold_between fold_before byte_text digits entry_of label_at name_at digits_at is_among have spares whole
+unfolding report entry_faults fault_cmp answer same_term same_case includes leaves_by same_state too_many few certified declared fold_between fold_before byte_text digits entry_of label_at name_at digits_at is_among have spares whole
 call-below-held-rank = refl
 
 -- B SET X=1 QUIT
@@ -639,7 +641,7 @@ call-changes-held-name-blocks = ((block (codes "A^CHG") [] (Some 10) false []
     ((point_of 2 0 ((case_of Any [] [] [] []) ∷ [])) ∷ [])) ∷ [])
 
 pub call-changes-held-name : report call-changes-held-name-routines (base_rules ((codes "A^CHG") ∷ [])) call-changes-held-name-blocks ≡ ((row 0 0 1 24 Pinned) ∷ [])
-unfolding report entry_faults answer same_term same_case includes leaves_by same_state too_many few certified declared fold_between fold_before byte_text digits entry_of label_at name_at digits_at is_among have spares whole
+unfolding report entry_faults fault_cmp answer same_term same_case includes leaves_by same_state too_many few certified declared fold_between fold_before byte_text digits entry_of label_at name_at digits_at is_among have spares whole
 call-changes-held-name = refl
 
 -- B LOCK  QUIT
@@ -660,7 +662,7 @@ call-drops-held-locks-blocks = ((block (codes "A^DRP") [] (Some 20) true []
     ((point_of 2 0 ((case_of Any [] [] [] []) ∷ [])) ∷ [])) ∷ [])
 
 pub call-drops-held-locks : report call-drops-held-locks-routines (base_rules ((codes "A^DRP") ∷ [])) call-drops-held-locks-blocks ≡ ((row 0 0 1 17 DropsFrame) ∷ [])
-unfolding report entry_faults answer same_term same_case includes leaves_by same_state too_many few certified declared fold_between fold_before byte_text digits entry_of label_at name_at digits_at is_among have spares whole
+unfolding report entry_faults fault_cmp answer same_term same_case includes leaves_by same_state too_many few certified declared fold_between fold_before byte_text digits entry_of label_at name_at digits_at is_among have spares whole
 call-drops-held-locks = refl
 
 --  QUIT 1
@@ -687,7 +689,7 @@ extrinsic-call-keeps-test-blocks = ((block (codes "A^EXT") [] None false ((Only 
     ((point_of 3 0 ((case_of Any [] [] [] []) ∷ [])) ∷ (point_of 4 0 ((case_of Zero [] [] [] []) ∷ [])) ∷ [])) ∷ [])
 
 pub extrinsic-call-keeps-test : report extrinsic-call-keeps-test-routines (base_rules ((codes "A^EXT") ∷ [])) extrinsic-call-keeps-test-blocks ≡ ([])
-unfolding report entry_faults answer same_term same_case includes leaves_by same_state too_many few certified declared fold_between fold_before byte_text digits entry_of label_at name_at digits_at is_among have spares whole
+unfolding report entry_faults fault_cmp answer same_term same_case includes leaves_by same_state too_many few certified declared fold_between fold_before byte_text digits entry_of label_at name_at digits_at is_among have spares whole
 extrinsic-call-keeps-test = refl
 
 -- a subscript that is captured is unknown once a call has changed its name:
@@ -716,7 +718,7 @@ captured-symbol-forgotten-blocks = ((block (codes "E^CAP") [] (Some 10) false []
     ((point_of 3 0 ((case_of Any [] [] [] []) ∷ [])) ∷ [])) ∷ [])
 
 pub captured-symbol-forgotten : report captured-symbol-forgotten-routines (base_rules ((codes "E^CAP") ∷ [])) captured-symbol-forgotten-blocks ≡ ((row 0 0 1 21 Uncovered) ∷ [])
-unfolding report entry_faults answer same_term same_case includes leaves_by same_state too_many few certified declared fold_between fold_before byte_text digits entry_of label_at name_at digits_at is_among have spares whole
+unfolding report entry_faults fault_cmp answer same_term same_case includes leaves_by same_state too_many few certified declared fold_between fold_before byte_text digits entry_of label_at name_at digits_at is_among have spares whole
 captured-symbol-forgotten = refl
 
 -- the call itself changes the name of an actual, so its exit has an unknown:
@@ -739,7 +741,7 @@ actual-changed-by-its-call-blocks = ((block (codes "USE^WRAP") [] (Some 10) fals
     ((point_of 2 0 ((case_of Any [] ((own_item 1 (Only (codes "K"))) ∷ []) ((codes "K") ∷ []) []) ∷ [])) ∷ [])) ∷ [])
 
 pub actual-changed-by-its-call : report actual-changed-by-its-call-routines (base_rules ((codes "USE^WRAP") ∷ [])) actual-changed-by-its-call-blocks ≡ ((row 0 0 1 12 UnknownSubscript) ∷ [])
-unfolding report entry_faults answer same_term same_case includes leaves_by same_state too_many few certified declared fold_between fold_before byte_text digits entry_of label_at name_at digits_at is_among have spares whole
+unfolding report entry_faults fault_cmp answer same_term same_case includes leaves_by same_state too_many few certified declared fold_between fold_before byte_text digits entry_of label_at name_at digits_at is_among have spares whole
 actual-changed-by-its-call = refl
 
 -- a later actual changes the name of an earlier one:
@@ -768,7 +770,7 @@ actual-changed-by-a-later-one-blocks = ((block (codes "USE^WRAP") [] (Some 10) f
     ((point_of 2 0 ((case_of Any [] ((own_item 1 (Only (codes "K"))) ∷ (own_item 1 (Only (codes "M"))) ∷ []) ((codes "K") ∷ (codes "M") ∷ []) []) ∷ [])) ∷ [])) ∷ [])
 
 pub actual-changed-by-a-later-one : report actual-changed-by-a-later-one-routines (base_rules ((codes "USE^WRAP") ∷ [])) actual-changed-by-a-later-one-blocks ≡ ((row 0 0 1 11 UnknownSubscript) ∷ [])
-unfolding report entry_faults answer same_term same_case includes leaves_by same_state too_many few certified declared fold_between fold_before byte_text digits entry_of label_at name_at digits_at is_among have spares whole
+unfolding report entry_faults fault_cmp answer same_term same_case includes leaves_by same_state too_many few certified declared fold_between fold_before byte_text digits entry_of label_at name_at digits_at is_among have spares whole
 actual-changed-by-a-later-one = refl
 
 -- a formal past the end of the actual list is unknown at an exit:
@@ -791,7 +793,7 @@ actual-past-the-list-blocks = ((block (codes "USE^WRAP") [] (Some 10) false []
     ((point_of 2 0 ((case_of Any [] ((own_item 1 (Only (codes "K"))) ∷ (own_item 1 (Only (codes "M"))) ∷ []) ((codes "K") ∷ (codes "M") ∷ []) []) ∷ [])) ∷ [])) ∷ [])
 
 pub actual-past-the-list : report actual-past-the-list-routines (base_rules ((codes "USE^WRAP") ∷ [])) actual-past-the-list-blocks ≡ ((row 0 0 1 8 UnknownSubscript) ∷ [])
-unfolding report entry_faults answer same_term same_case includes leaves_by same_state too_many few certified declared fold_between fold_before byte_text digits entry_of label_at name_at digits_at is_among have spares whole
+unfolding report entry_faults fault_cmp answer same_term same_case includes leaves_by same_state too_many few certified declared fold_between fold_before byte_text digits entry_of label_at name_at digits_at is_among have spares whole
 actual-past-the-list = refl
 
 -- `^TWICE` and `A^TWICE` are one entry, and the first block counts:
@@ -810,7 +812,7 @@ entry-by-two-texts-blocks = ((block (codes "A^TWICE") [] (Some 20) false []
     ((point_of 1 0 ((case_of Any [] [] [] []) ∷ [])) ∷ [])) ∷ [])
 
 pub entry-by-two-texts : report entry-by-two-texts-routines (base_rules ((codes "^TWICE") ∷ [])) entry-by-two-texts-blocks ≡ ((row 0 0 1 1 HeldAtEnd) ∷ (row 0 0 1 25 CaseNotListed) ∷ [])
-unfolding report entry_faults answer same_term same_case includes leaves_by same_state too_many few certified declared fold_between fold_before byte_text digits entry_of label_at name_at digits_at is_among have spares whole
+unfolding report entry_faults fault_cmp answer same_term same_case includes leaves_by same_state too_many few certified declared fold_between fold_before byte_text digits entry_of label_at name_at digits_at is_among have spares whole
 entry-by-two-texts = refl
 
 --
@@ -821,7 +823,7 @@ abbrev all-empty-blocks : List EntryCert
 all-empty-blocks = ([])
 
 pub all-empty : report all-empty-routines (rules_of ([]) ([]) ([]) ([]) ([])) all-empty-blocks ≡ ([])
-unfolding report entry_faults answer same_term same_case includes leaves_by same_state too_many few certified declared fold_between fold_before byte_text digits entry_of label_at name_at digits_at is_among have spares whole
+unfolding report entry_faults fault_cmp answer same_term same_case includes leaves_by same_state too_many few certified declared fold_between fold_before byte_text digits entry_of label_at name_at digits_at is_among have spares whole
 all-empty = refl
 
 -- B SET ^ACCT(1)=1 QUIT
@@ -842,7 +844,7 @@ callee-need-missing-blocks = ((block (codes "A^NEED") [] None false []
     ((point_of 2 0 ((case_of Any ((lock_term (root.Global (codes "ACCT")) ((known.Const (codes "1")) ∷ [])) ∷ []) [] [] []) ∷ [])) ∷ [])) ∷ [])
 
 pub callee-need-missing : report callee-need-missing-routines (base_rules ((codes "A^NEED") ∷ [])) callee-need-missing-blocks ≡ ((row 0 0 1 6 NeedMissing) ∷ [])
-unfolding report entry_faults answer same_term same_case includes leaves_by same_state too_many few certified declared fold_between fold_before byte_text digits entry_of label_at name_at digits_at is_among have spares whole
+unfolding report entry_faults fault_cmp answer same_term same_case includes leaves_by same_state too_many few certified declared fold_between fold_before byte_text digits entry_of label_at name_at digits_at is_among have spares whole
 callee-need-missing = refl
 
 -- B SET ^ACCT(1)=1 QUIT
@@ -863,7 +865,7 @@ callee-needs-lock-blocks = ((block (codes "A^NEED") [] (Some 10) false []
     ((point_of 2 0 ((case_of Any ((lock_term (root.Global (codes "ACCT")) ((known.Const (codes "1")) ∷ [])) ∷ []) [] [] []) ∷ [])) ∷ [])) ∷ [])
 
 pub callee-needs-lock : report callee-needs-lock-routines (base_rules ((codes "A^NEED") ∷ [])) callee-needs-lock-blocks ≡ ([])
-unfolding report entry_faults answer same_term same_case includes leaves_by same_state too_many few certified declared fold_between fold_before byte_text digits entry_of label_at name_at digits_at is_among have spares whole
+unfolding report entry_faults fault_cmp answer same_term same_case includes leaves_by same_state too_many few certified declared fold_between fold_before byte_text digits entry_of label_at name_at digits_at is_among have spares whole
 callee-needs-lock = refl
 
 -- DEP(ID,AMT) LOCK +^ACCT(ID) SET ^ACCT(ID,"bal")=$GET(^ACCT(ID,"bal"))+AMT LOCK -^ACCT(ID) QUIT
@@ -879,7 +881,7 @@ certificate-point-past-the-lines-blocks = ((block (codes "DEP^BANK") [] (Some 10
     ((point_of 1 0 ((case_of Any [] ((own_item 1 (Only (codes "AMT"))) ∷ (own_item 1 (Only (codes "ID"))) ∷ []) ((codes "AMT") ∷ (codes "ID") ∷ []) []) ∷ [])) ∷ (point_of 9 0 ((case_of Any [] [] [] []) ∷ [])) ∷ [])) ∷ [])
 
 pub certificate-point-past-the-lines : report certificate-point-past-the-lines-routines (base_rules ((codes "DEP^BANK") ∷ [])) certificate-point-past-the-lines-blocks ≡ ([])
-unfolding report entry_faults answer same_term same_case includes leaves_by same_state too_many few certified declared fold_between fold_before byte_text digits entry_of label_at name_at digits_at is_among have spares whole
+unfolding report entry_faults fault_cmp answer same_term same_case includes leaves_by same_state too_many few certified declared fold_between fold_before byte_text digits entry_of label_at name_at digits_at is_among have spares whole
 certificate-point-past-the-lines = refl
 
 -- E LOCK +^ZZ QUIT
@@ -895,7 +897,7 @@ claim-in-no-family-blocks = ((block (codes "E^UNR") [] None false []
     ((point_of 1 0 ((case_of Any [] [] [] []) ∷ [])) ∷ [])) ∷ [])
 
 pub claim-in-no-family : report claim-in-no-family-routines (base_rules ((codes "E^UNR") ∷ [])) claim-in-no-family-blocks ≡ ((row 0 0 1 9 Unranked) ∷ [])
-unfolding report entry_faults answer same_term same_case includes leaves_by same_state too_many few certified declared fold_between fold_before byte_text digits entry_of label_at name_at digits_at is_among have spares whole
+unfolding report entry_faults fault_cmp answer same_term same_case includes leaves_by same_state too_many few certified declared fold_between fold_before byte_text digits entry_of label_at name_at digits_at is_among have spares whole
 claim-in-no-family = refl
 
 -- E LOCK +^ACCT($RANDOM(2)) QUIT
@@ -911,7 +913,7 @@ claim-of-unknown-subscript-blocks = ((block (codes "E^UNK") [] (Some 10) false [
     ((point_of 1 0 ((case_of Any [] [] [] []) ∷ [])) ∷ [])) ∷ [])
 
 pub claim-of-unknown-subscript : report claim-of-unknown-subscript-routines (base_rules ((codes "E^UNK") ∷ [])) claim-of-unknown-subscript-blocks ≡ ((row 0 0 1 15 UnknownSubscript) ∷ [])
-unfolding report entry_faults answer same_term same_case includes leaves_by same_state too_many few certified declared fold_between fold_before byte_text digits entry_of label_at name_at digits_at is_among have spares whole
+unfolding report entry_faults fault_cmp answer same_term same_case includes leaves_by same_state too_many few certified declared fold_between fold_before byte_text digits entry_of label_at name_at digits_at is_among have spares whole
 claim-of-unknown-subscript = refl
 
 -- TAKE LOCK +^ACCT(1) SET ^ACCT(1)=5 LOCK -^ACCT(1) QUIT
@@ -925,7 +927,7 @@ abbrev declared-without-certificate-blocks : List EntryCert
 declared-without-certificate-blocks = ([])
 
 pub declared-without-certificate : report declared-without-certificate-routines (rules_of ((family (lock_name (root.Global (codes "ACCT")) ([])) 10) ∷ []) ((cover (pattern_of (codes "ACCT") (element.Variable ∷ []) extent.Tree) (template (root.Global (codes "ACCT")) ((part_of.Place 0) ∷ []))) ∷ []) ([]) ([]) ((codes "TAKE^ONE") ∷ [])) declared-without-certificate-blocks ≡ ((row 0 0 1 1 NoCertificate) ∷ [])
-unfolding report entry_faults answer same_term same_case includes leaves_by same_state too_many few certified declared fold_between fold_before byte_text digits entry_of label_at name_at digits_at is_among have spares whole
+unfolding report entry_faults fault_cmp answer same_term same_case includes leaves_by same_state too_many few certified declared fold_between fold_before byte_text digits entry_of label_at name_at digits_at is_among have spares whole
 declared-without-certificate = refl
 
 -- N(X) LOCK +^ACCT SET Y=$ORDER(^ACCT(X)) LOCK -^ACCT QUIT
@@ -941,7 +943,7 @@ order-below-all-accounts-blocks = ((block (codes "N^ORD") [] (Some 10) false ((O
     ((point_of 1 0 ((case_of Any [] ((own_item 1 (Only (codes "X"))) ∷ []) ((codes "X") ∷ []) []) ∷ [])) ∷ [])) ∷ [])
 
 pub order-below-all-accounts : report order-below-all-accounts-routines (base_rules ((codes "N^ORD") ∷ [])) order-below-all-accounts-blocks ≡ ([])
-unfolding report entry_faults answer same_term same_case includes leaves_by same_state too_many few certified declared fold_between fold_before byte_text digits entry_of label_at name_at digits_at is_among have spares whole
+unfolding report entry_faults fault_cmp answer same_term same_case includes leaves_by same_state too_many few certified declared fold_between fold_before byte_text digits entry_of label_at name_at digits_at is_among have spares whole
 order-below-all-accounts = refl
 
 -- P SET ^TMP($J,1)=2 QUIT
@@ -957,7 +959,7 @@ private-own-part-blocks = ((block (codes "P^PRIV") [] None false []
     ((point_of 1 0 ((case_of Any [] [] [] []) ∷ [])) ∷ [])) ∷ [])
 
 pub private-own-part : report private-own-part-routines (base_rules ((codes "P^PRIV") ∷ [])) private-own-part-blocks ≡ ([])
-unfolding report entry_faults answer same_term same_case includes leaves_by same_state too_many few certified declared fold_between fold_before byte_text digits entry_of label_at name_at digits_at is_among have spares whole
+unfolding report entry_faults fault_cmp answer same_term same_case includes leaves_by same_state too_many few certified declared fold_between fold_before byte_text digits entry_of label_at name_at digits_at is_among have spares whole
 private-own-part = refl
 
 --  LOCK +^M LOCK  QUIT
@@ -976,7 +978,7 @@ rank-above-every-held-blocks = ((block (codes "E^LAST") [] (Some 7) true []
     ((point_of 1 0 ((case_of Any [] [] [] []) ∷ [])) ∷ (point_of 2 0 ((case_of One ((lock_term (root.Global (codes "A")) ([])) ∷ (lock_term (root.Global (codes "Z")) ([])) ∷ []) [] [] []) ∷ [])) ∷ [])) ∷ [])
 
 pub rank-above-every-held : report rank-above-every-held-routines (rules_of ((family (lock_name (root.Global (codes "A")) ([])) 7) ∷ (family (lock_name (root.Global (codes "M")) ([])) 6) ∷ (family (lock_name (root.Global (codes "Z")) ([])) 5) ∷ []) ([]) ([]) ([]) ((codes "E^LAST") ∷ [])) rank-above-every-held-blocks ≡ ((row 0 0 2 8 RankOrder) ∷ [])
-unfolding report entry_faults answer same_term same_case includes leaves_by same_state too_many few certified declared fold_between fold_before byte_text digits entry_of label_at name_at digits_at is_among have spares whole
+unfolding report entry_faults fault_cmp answer same_term same_case includes leaves_by same_state too_many few certified declared fold_between fold_before byte_text digits entry_of label_at name_at digits_at is_among have spares whole
 rank-above-every-held = refl
 
 -- E SET X=^ACCT QUIT
@@ -992,7 +994,7 @@ read-above-the-pattern-blocks = ((block (codes "E^COV") [] None false ((Only (co
     ((point_of 1 0 ((case_of Any [] [] [] []) ∷ [])) ∷ [])) ∷ [])
 
 pub read-above-the-pattern : report read-above-the-pattern-routines (base_rules ((codes "E^COV") ∷ [])) read-above-the-pattern-blocks ≡ ((row 0 0 1 9 Unruled) ∷ [])
-unfolding report entry_faults answer same_term same_case includes leaves_by same_state too_many few certified declared fold_between fold_before byte_text digits entry_of label_at name_at digits_at is_among have spares whole
+unfolding report entry_faults fault_cmp answer same_term same_case includes leaves_by same_state too_many few certified declared fold_between fold_before byte_text digits entry_of label_at name_at digits_at is_among have spares whole
 read-above-the-pattern = refl
 
 -- E SET X=^TMP($RANDOM(2)) QUIT
@@ -1008,7 +1010,7 @@ read-of-private-unknown-blocks = ((block (codes "E^COV") [] None false ((Only (c
     ((point_of 1 0 ((case_of Any [] [] [] []) ∷ [])) ∷ [])) ∷ [])
 
 pub read-of-private-unknown : report read-of-private-unknown-routines (base_rules ((codes "E^COV") ∷ [])) read-of-private-unknown-blocks ≡ ((row 0 0 1 9 Unruled) ∷ [])
-unfolding report entry_faults answer same_term same_case includes leaves_by same_state too_many few certified declared fold_between fold_before byte_text digits entry_of label_at name_at digits_at is_among have spares whole
+unfolding report entry_faults fault_cmp answer same_term same_case includes leaves_by same_state too_many few certified declared fold_between fold_before byte_text digits entry_of label_at name_at digits_at is_among have spares whole
 read-of-private-unknown = refl
 
 -- E SET X=$DATA(^CONF) QUIT
@@ -1024,7 +1026,7 @@ read-of-readonly-tree-blocks = ((block (codes "E^COV") [] None false ((Only (cod
     ((point_of 1 0 ((case_of Any [] [] [] []) ∷ [])) ∷ [])) ∷ [])
 
 pub read-of-readonly-tree : report read-of-readonly-tree-routines (base_rules ((codes "E^COV") ∷ [])) read-of-readonly-tree-blocks ≡ ([])
-unfolding report entry_faults answer same_term same_case includes leaves_by same_state too_many few certified declared fold_between fold_before byte_text digits entry_of label_at name_at digits_at is_among have spares whole
+unfolding report entry_faults fault_cmp answer same_term same_case includes leaves_by same_state too_many few certified declared fold_between fold_before byte_text digits entry_of label_at name_at digits_at is_among have spares whole
 read-of-readonly-tree = refl
 
 -- T NEW X SET X=1 DO G(.X) QUIT
@@ -1050,7 +1052,7 @@ shared-elsewhere-not-own-blocks = ((block (codes "A^OUTER") [] (Some 10) false [
     ((point_of 3 0 ((case_of Any [] [] [] []) ∷ [])) ∷ [])) ∷ [])
 
 pub shared-elsewhere-not-own : report shared-elsewhere-not-own-routines (base_rules ((codes "A^OUTER") ∷ [])) shared-elsewhere-not-own-blocks ≡ ((row 0 0 1 15 SharedName) ∷ [])
-unfolding report entry_faults answer same_term same_case includes leaves_by same_state too_many few certified declared fold_between fold_before byte_text digits entry_of label_at name_at digits_at is_among have spares whole
+unfolding report entry_faults fault_cmp answer same_term same_case includes leaves_by same_state too_many few certified declared fold_between fold_before byte_text digits entry_of label_at name_at digits_at is_among have spares whole
 shared-elsewhere-not-own = refl
 
 -- G(Y) LOCK +^ACCT(Y) LOCK -^ACCT(Y) QUIT
@@ -1071,7 +1073,7 @@ shared-formal-blocks = ((block (codes "S^REF") [] (Some 10) false []
     ((point_of 2 0 ((case_of Any [] ((own_item 1 (Only (codes "Y"))) ∷ []) ((codes "Y") ∷ []) []) ∷ [])) ∷ [])) ∷ [])
 
 pub shared-formal : report shared-formal-routines (base_rules ((codes "S^REF") ∷ [])) shared-formal-blocks ≡ ((row 0 1 2 18 SharedName) ∷ [])
-unfolding report entry_faults answer same_term same_case includes leaves_by same_state too_many few certified declared fold_between fold_before byte_text digits entry_of label_at name_at digits_at is_among have spares whole
+unfolding report entry_faults fault_cmp answer same_term same_case includes leaves_by same_state too_many few certified declared fold_between fold_before byte_text digits entry_of label_at name_at digits_at is_among have spares whole
 shared-formal = refl
 
 -- TAKE LOCK +^ACCT(1) QUIT
@@ -1087,7 +1089,7 @@ take-held-at-end-blocks = ((block (codes "TAKE^ONE") [] (Some 10) false []
     ((point_of 1 0 ((case_of Any [] [] [] []) ∷ [])) ∷ [])) ∷ [])
 
 pub take-held-at-end : report take-held-at-end-routines (rules_of ((family (lock_name (root.Global (codes "ACCT")) ([])) 10) ∷ []) ((cover (pattern_of (codes "ACCT") (element.Variable ∷ []) extent.Tree) (template (root.Global (codes "ACCT")) ((part_of.Place 0) ∷ []))) ∷ []) ([]) ([]) ((codes "TAKE^ONE") ∷ [])) take-held-at-end-blocks ≡ ((row 0 0 1 21 HeldAtEnd) ∷ [])
-unfolding report entry_faults answer same_term same_case includes leaves_by same_state too_many few certified declared fold_between fold_before byte_text digits entry_of label_at name_at digits_at is_among have spares whole
+unfolding report entry_faults fault_cmp answer same_term same_case includes leaves_by same_state too_many few certified declared fold_between fold_before byte_text digits entry_of label_at name_at digits_at is_among have spares whole
 take-held-at-end = refl
 
 -- TAKE LOCK +^ACCT(1) SET ^ACCT(1)=5 LOCK -^ACCT(1) QUIT
@@ -1103,7 +1105,7 @@ take-low-missing-blocks = ((block (codes "TAKE^ONE") [] None false []
     ((point_of 1 0 ((case_of Any [] [] [] []) ∷ [])) ∷ [])) ∷ [])
 
 pub take-low-missing : report take-low-missing-routines (rules_of ((family (lock_name (root.Global (codes "ACCT")) ([])) 10) ∷ []) ((cover (pattern_of (codes "ACCT") (element.Variable ∷ []) extent.Tree) (template (root.Global (codes "ACCT")) ((part_of.Place 0) ∷ []))) ∷ []) ([]) ([]) ((codes "TAKE^ONE") ∷ [])) take-low-missing-blocks ≡ ((row 0 0 1 12 SummaryShort) ∷ [])
-unfolding report entry_faults answer same_term same_case includes leaves_by same_state too_many few certified declared fold_between fold_before byte_text digits entry_of label_at name_at digits_at is_among have spares whole
+unfolding report entry_faults fault_cmp answer same_term same_case includes leaves_by same_state too_many few certified declared fold_between fold_before byte_text digits entry_of label_at name_at digits_at is_among have spares whole
 take-low-missing = refl
 
 -- TAKE LOCK -^ACCT(1) QUIT
@@ -1119,7 +1121,7 @@ take-not-held-blocks = ((block (codes "TAKE^ONE") [] (Some 10) false []
     ((point_of 1 0 ((case_of Any [] [] [] []) ∷ [])) ∷ [])) ∷ [])
 
 pub take-not-held : report take-not-held-routines (rules_of ((family (lock_name (root.Global (codes "ACCT")) ([])) 10) ∷ []) ((cover (pattern_of (codes "ACCT") (element.Variable ∷ []) extent.Tree) (template (root.Global (codes "ACCT")) ((part_of.Place 0) ∷ []))) ∷ []) ([]) ([]) ((codes "TAKE^ONE") ∷ [])) take-not-held-blocks ≡ ((row 0 0 1 12 NotHeld) ∷ [])
-unfolding report entry_faults answer same_term same_case includes leaves_by same_state too_many few certified declared fold_between fold_before byte_text digits entry_of label_at name_at digits_at is_among have spares whole
+unfolding report entry_faults fault_cmp answer same_term same_case includes leaves_by same_state too_many few certified declared fold_between fold_before byte_text digits entry_of label_at name_at digits_at is_among have spares whole
 take-not-held = refl
 
 -- E LOCK +(^LOG(1),^LOG(2),^LOG(3),^LOG(4),^LOG(5),^LOG(6),^LOG(7),^LOG(8),^LOG(9),^LOG(10),^LOG(11),^LOG(12),^LOG(13),^LOG(14),^LOG(15),^LOG(16),^LOG(17)) LOCK  QUIT
@@ -1135,7 +1137,7 @@ too-many-held-blocks = ((block (codes "E^MANY") [] (Some 20) false []
     ((point_of 1 0 ((case_of Any [] [] [] []) ∷ [])) ∷ [])) ∷ [])
 
 pub too-many-held : report too-many-held-routines (base_rules ((codes "E^MANY") ∷ [])) too-many-held-blocks ≡ ((row 0 0 1 3 TooManyCases) ∷ [])
-unfolding report entry_faults answer same_term same_case includes leaves_by same_state too_many few certified declared fold_between fold_before byte_text digits entry_of label_at name_at digits_at is_among have spares whole
+unfolding report entry_faults fault_cmp answer same_term same_case includes leaves_by same_state too_many few certified declared fold_between fold_before byte_text digits entry_of label_at name_at digits_at is_among have spares whole
 too-many-held = refl
 
 -- E12 QUIT
@@ -1206,7 +1208,7 @@ twelve-entries-blocks = ((block (codes "E1^TWELVE") [] None false []
     ((point_of 12 0 ((case_of Any [] [] [] []) ∷ [])) ∷ [])) ∷ [])
 
 pub twelve-entries : report twelve-entries-routines (base_rules ((codes "E1^TWELVE") ∷ (codes "E2^TWELVE") ∷ (codes "E3^TWELVE") ∷ (codes "E4^TWELVE") ∷ (codes "E5^TWELVE") ∷ (codes "E6^TWELVE") ∷ (codes "E7^TWELVE") ∷ (codes "E8^TWELVE") ∷ (codes "E9^TWELVE") ∷ (codes "E10^TWELVE") ∷ (codes "E11^TWELVE") ∷ (codes "E12^TWELVE") ∷ [])) twelve-entries-blocks ≡ ((row 0 0 1 8 Uncovered) ∷ (row 0 1 2 8 Uncovered) ∷ (row 0 2 3 8 Uncovered) ∷ (row 0 3 4 8 Uncovered) ∷ (row 0 4 5 8 Uncovered) ∷ [])
-unfolding report entry_faults answer same_term same_case includes leaves_by same_state too_many few certified declared fold_between fold_before byte_text digits entry_of label_at name_at digits_at is_among have spares whole
+unfolding report entry_faults fault_cmp answer same_term same_case includes leaves_by same_state too_many few certified declared fold_between fold_before byte_text digits entry_of label_at name_at digits_at is_among have spares whole
 twelve-entries = refl
 
 -- E LOCK +(^A,^B) SET ^G(1)=0 LOCK -(^A,^B) QUIT
@@ -1222,7 +1224,7 @@ two-rules-both-satisfied-blocks = ((block (codes "E^COV") [] (Some 5) false []
     ((point_of 1 0 ((case_of Any [] [] [] []) ∷ [])) ∷ [])) ∷ [])
 
 pub two-rules-both-satisfied : report two-rules-both-satisfied-routines (rules_of ((family (lock_name (root.Global (codes "A")) ([])) 5) ∷ (family (lock_name (root.Global (codes "B")) ([])) 6) ∷ []) ((cover (pattern_of (codes "G") ((element.Literal (codes "1")) ∷ []) extent.Tree) (template (root.Global (codes "A")) ([]))) ∷ (cover (pattern_of (codes "G") (element.Variable ∷ []) extent.Tree) (template (root.Global (codes "B")) ([]))) ∷ []) ([]) ([]) ((codes "E^COV") ∷ [])) two-rules-both-satisfied-blocks ≡ ([])
-unfolding report entry_faults answer same_term same_case includes leaves_by same_state too_many few certified declared fold_between fold_before byte_text digits entry_of label_at name_at digits_at is_among have spares whole
+unfolding report entry_faults fault_cmp answer same_term same_case includes leaves_by same_state too_many few certified declared fold_between fold_before byte_text digits entry_of label_at name_at digits_at is_among have spares whole
 two-rules-both-satisfied = refl
 
 -- E LOCK +^A SET ^G(1)=0 LOCK -^A QUIT
@@ -1238,7 +1240,7 @@ two-rules-one-satisfied-blocks = ((block (codes "E^COV") [] (Some 5) false []
     ((point_of 1 0 ((case_of Any [] [] [] []) ∷ [])) ∷ [])) ∷ [])
 
 pub two-rules-one-satisfied : report two-rules-one-satisfied-routines (rules_of ((family (lock_name (root.Global (codes "A")) ([])) 5) ∷ (family (lock_name (root.Global (codes "B")) ([])) 6) ∷ []) ((cover (pattern_of (codes "G") ((element.Literal (codes "1")) ∷ []) extent.Tree) (template (root.Global (codes "A")) ([]))) ∷ (cover (pattern_of (codes "G") (element.Variable ∷ []) extent.Tree) (template (root.Global (codes "B")) ([]))) ∷ []) ([]) ([]) ((codes "E^COV") ∷ [])) two-rules-one-satisfied-blocks ≡ ((row 0 0 1 16 Uncovered) ∷ [])
-unfolding report entry_faults answer same_term same_case includes leaves_by same_state too_many few certified declared fold_between fold_before byte_text digits entry_of label_at name_at digits_at is_among have spares whole
+unfolding report entry_faults fault_cmp answer same_term same_case includes leaves_by same_state too_many few certified declared fold_between fold_before byte_text digits entry_of label_at name_at digits_at is_among have spares whole
 two-rules-one-satisfied = refl
 
 -- E LOCK +^ACCT(1) SET ^ACCT($RANDOM(2))=1 LOCK -^ACCT(1) QUIT
@@ -1254,7 +1256,7 @@ unknown-subscript-under-one-blocks = ((block (codes "E^COV") [] (Some 10) false 
     ((point_of 1 0 ((case_of Any [] [] [] []) ∷ [])) ∷ [])) ∷ [])
 
 pub unknown-subscript-under-one : report unknown-subscript-under-one-routines (base_rules ((codes "E^COV") ∷ [])) unknown-subscript-under-one-blocks ≡ ((row 0 0 1 22 Uncovered) ∷ [])
-unfolding report entry_faults answer same_term same_case includes leaves_by same_state too_many few certified declared fold_between fold_before byte_text digits entry_of label_at name_at digits_at is_among have spares whole
+unfolding report entry_faults fault_cmp answer same_term same_case includes leaves_by same_state too_many few certified declared fold_between fold_before byte_text digits entry_of label_at name_at digits_at is_among have spares whole
 unknown-subscript-under-one = refl
 
 -- E LOCK +^ACCT SET ^ACCT($RANDOM(2))=1 LOCK -^ACCT QUIT
@@ -1270,7 +1272,7 @@ unknown-subscript-under-whole-blocks = ((block (codes "E^COV") [] (Some 10) fals
     ((point_of 1 0 ((case_of Any [] [] [] []) ∷ [])) ∷ [])) ∷ [])
 
 pub unknown-subscript-under-whole : report unknown-subscript-under-whole-routines (base_rules ((codes "E^COV") ∷ [])) unknown-subscript-under-whole-blocks ≡ ([])
-unfolding report entry_faults answer same_term same_case includes leaves_by same_state too_many few certified declared fold_between fold_before byte_text digits entry_of label_at name_at digits_at is_among have spares whole
+unfolding report entry_faults fault_cmp answer same_term same_case includes leaves_by same_state too_many few certified declared fold_between fold_before byte_text digits entry_of label_at name_at digits_at is_among have spares whole
 unknown-subscript-under-whole = refl
 
 -- E SET ^CONF("x")=1 QUIT
@@ -1286,7 +1288,7 @@ write-of-readonly-blocks = ((block (codes "E^COV") [] None false []
     ((point_of 1 0 ((case_of Any [] [] [] []) ∷ [])) ∷ [])) ∷ [])
 
 pub write-of-readonly : report write-of-readonly-routines (base_rules ((codes "E^COV") ∷ [])) write-of-readonly-blocks ≡ ((row 0 0 1 7 ReadOnly) ∷ [])
-unfolding report entry_faults answer same_term same_case includes leaves_by same_state too_many few certified declared fold_between fold_before byte_text digits entry_of label_at name_at digits_at is_among have spares whole
+unfolding report entry_faults fault_cmp answer same_term same_case includes leaves_by same_state too_many few certified declared fold_between fold_before byte_text digits entry_of label_at name_at digits_at is_among have spares whole
 write-of-readonly = refl
 
 -- E LOCK +^A SET ^A($RANDOM(2))=1 LOCK -^A QUIT
@@ -1302,7 +1304,7 @@ write-that-may-meet-readonly-blocks = ((block (codes "E^COV") [] (Some 5) false 
     ((point_of 1 0 ((case_of Any [] [] [] []) ∷ [])) ∷ [])) ∷ [])
 
 pub write-that-may-meet-readonly : report write-that-may-meet-readonly-routines (rules_of ((family (lock_name (root.Global (codes "A")) ([])) 5) ∷ []) ((cover (pattern_of (codes "A") (element.Variable ∷ []) extent.Tree) (template (root.Global (codes "A")) ((part_of.Place 0) ∷ []))) ∷ []) ([]) ((pattern_of (codes "A") ((element.Literal (codes "7")) ∷ []) extent.Tree) ∷ []) ((codes "E^COV") ∷ [])) write-that-may-meet-readonly-blocks ≡ ((row 0 0 1 16 ReadOnly) ∷ [])
-unfolding report entry_faults answer same_term same_case includes leaves_by same_state too_many few certified declared fold_between fold_before byte_text digits entry_of label_at name_at digits_at is_among have spares whole
+unfolding report entry_faults fault_cmp answer same_term same_case includes leaves_by same_state too_many few certified declared fold_between fold_before byte_text digits entry_of label_at name_at digits_at is_among have spares whole
 write-that-may-meet-readonly = refl
 
 -- of the branches of `$SELECT` the calls in each count:
@@ -1329,7 +1331,7 @@ select-with-calls-blocks = ((block (codes "E^SEL") [] (Some 20) false ((Only (co
     ((point_of 3 0 ((case_of Any [] [] [] []) ∷ [])) ∷ [])) ∷ [])
 
 pub select-with-calls : report select-with-calls-routines (base_rules ((codes "E^SEL") ∷ [])) select-with-calls-blocks ≡ ([])
-unfolding report entry_faults answer same_term same_case includes leaves_by same_state too_many few certified declared fold_between fold_before byte_text digits entry_of label_at name_at digits_at is_among have spares whole
+unfolding report entry_faults fault_cmp answer same_term same_case includes leaves_by same_state too_many few certified declared fold_between fold_before byte_text digits entry_of label_at name_at digits_at is_among have spares whole
 select-with-calls = refl
 
 -- READ with a timeout gives both values of `$TEST`:
@@ -1350,7 +1352,7 @@ read-with-timeout-blocks = ((block (codes "E^REA") [] (Some 20) false ((Only (co
     ((point_of 1 0 ((case_of Any [] [] [] []) ∷ [])) ∷ (point_of 2 0 ((case_of One ((lock_term (root.Global (codes "LOG")) ([])) ∷ []) [] [] []) ∷ [])) ∷ [])) ∷ [])
 
 pub read-with-timeout : report read-with-timeout-routines (base_rules ((codes "E^REA") ∷ [])) read-with-timeout-blocks ≡ ((row 0 0 2 1 CaseNotListed) ∷ [])
-unfolding report entry_faults answer same_term same_case includes leaves_by same_state too_many few certified declared fold_between fold_before byte_text digits entry_of label_at name_at digits_at is_among have spares whole
+unfolding report entry_faults fault_cmp answer same_term same_case includes leaves_by same_state too_many few certified declared fold_between fold_before byte_text digits entry_of label_at name_at digits_at is_among have spares whole
 read-with-timeout = refl
 
 -- MERGE reads the right tree and writes the left one:
@@ -1367,7 +1369,7 @@ merge-of-trees-blocks = ((block (codes "E^MRG") [] (Some 10) false []
     ((point_of 1 0 ((case_of Any [] [] [] []) ∷ [])) ∷ [])) ∷ [])
 
 pub merge-of-trees : report merge-of-trees-routines (base_rules ((codes "E^MRG") ∷ [])) merge-of-trees-blocks ≡ ((row 0 0 1 45 ReadOnly) ∷ [])
-unfolding report entry_faults answer same_term same_case includes leaves_by same_state too_many few certified declared fold_between fold_before byte_text digits entry_of label_at name_at digits_at is_among have spares whole
+unfolding report entry_faults fault_cmp answer same_term same_case includes leaves_by same_state too_many few certified declared fold_between fold_before byte_text digits entry_of label_at name_at digits_at is_among have spares whole
 merge-of-trees = refl
 
 -- a name below a held one needs no order, another one does:
@@ -1384,7 +1386,7 @@ order-below-a-held-name-blocks = ((block (codes "C^RANK") [] (Some 10) true []
     ((point_of 1 0 ((case_of Any [] [] [] []) ∷ [])) ∷ [])) ∷ [])
 
 pub order-below-a-held-name : report order-below-a-held-name-routines (base_rules ((codes "C^RANK") ∷ [])) order-below-a-held-name-blocks ≡ ((row 0 0 1 44 RankOrder) ∷ [])
-unfolding report entry_faults answer same_term same_case includes leaves_by same_state too_many few certified declared fold_between fold_before byte_text digits entry_of label_at name_at digits_at is_among have spares whole
+unfolding report entry_faults fault_cmp answer same_term same_case includes leaves_by same_state too_many few certified declared fold_between fold_before byte_text digits entry_of label_at name_at digits_at is_among have spares whole
 order-below-a-held-name = refl
 
 -- each name of `LOCK -` is one less:
@@ -1401,7 +1403,7 @@ claim-twice-give-back-twice-blocks = ((block (codes "E^GIV") [] (Some 20) false 
     ((point_of 1 0 ((case_of Any [] [] [] []) ∷ [])) ∷ [])) ∷ [])
 
 pub claim-twice-give-back-twice : report claim-twice-give-back-twice-routines (base_rules ((codes "E^GIV") ∷ [])) claim-twice-give-back-twice-blocks ≡ ((row 0 0 1 26 NotHeld) ∷ [])
-unfolding report entry_faults answer same_term same_case includes leaves_by same_state too_many few certified declared fold_between fold_before byte_text digits entry_of label_at name_at digits_at is_among have spares whole
+unfolding report entry_faults fault_cmp answer same_term same_case includes leaves_by same_state too_many few certified declared fold_between fold_before byte_text digits entry_of label_at name_at digits_at is_among have spares whole
 claim-twice-give-back-twice = refl
 
 -- an unsigned LOCK releases first, and the summary has to say so:
@@ -1418,7 +1420,7 @@ unsigned-lock-without-drops-blocks = ((block (codes "E^UNS") [] (Some 20) false 
     ((point_of 1 0 ((case_of Any [] [] [] []) ∷ [])) ∷ [])) ∷ [])
 
 pub unsigned-lock-without-drops : report unsigned-lock-without-drops-routines (base_rules ((codes "E^UNS") ∷ [])) unsigned-lock-without-drops-blocks ≡ ((row 0 0 1 3 SummaryShort) ∷ [])
-unfolding report entry_faults answer same_term same_case includes leaves_by same_state too_many few certified declared fold_between fold_before byte_text digits entry_of label_at name_at digits_at is_among have spares whole
+unfolding report entry_faults fault_cmp answer same_term same_case includes leaves_by same_state too_many few certified declared fold_between fold_before byte_text digits entry_of label_at name_at digits_at is_among have spares whole
 unsigned-lock-without-drops = refl
 
 -- JOB names an entry that is not declared:
@@ -1439,7 +1441,7 @@ job-of-undeclared-entry-blocks = ((block (codes "E^JOB") [] None false []
     ((point_of 1 0 ((case_of Any [] [] [] []) ∷ [])) ∷ [])) ∷ [])
 
 pub job-of-undeclared-entry : report job-of-undeclared-entry-routines (base_rules ((codes "E^JOB") ∷ [])) job-of-undeclared-entry-blocks ≡ ((row 0 0 1 7 NoCertificate) ∷ [])
-unfolding report entry_faults answer same_term same_case includes leaves_by same_state too_many few certified declared fold_between fold_before byte_text digits entry_of label_at name_at digits_at is_among have spares whole
+unfolding report entry_faults fault_cmp answer same_term same_case includes leaves_by same_state too_many few certified declared fold_between fold_before byte_text digits entry_of label_at name_at digits_at is_among have spares whole
 job-of-undeclared-entry = refl
 
 -- KILL of all but some wants one item that has them all:
@@ -1456,7 +1458,7 @@ exclusive-new-and-kill-blocks = ((block (codes "E^EXC") [] None false []
     ((point_of 1 0 ((case_of Any [] ((own_item 1 (Only (codes "A"))) ∷ []) ((codes "A") ∷ []) []) ∷ [])) ∷ [])) ∷ [])
 
 pub exclusive-new-and-kill : report exclusive-new-and-kill-routines (base_rules ((codes "E^EXC") ∷ [])) exclusive-new-and-kill-blocks ≡ ((row 0 0 1 27 SummaryShort) ∷ [])
-unfolding report entry_faults answer same_term same_case includes leaves_by same_state too_many few certified declared fold_between fold_before byte_text digits entry_of label_at name_at digits_at is_among have spares whole
+unfolding report entry_faults fault_cmp answer same_term same_case includes leaves_by same_state too_many few certified declared fold_between fold_before byte_text digits entry_of label_at name_at digits_at is_among have spares whole
 exclusive-new-and-kill = refl
 
 -- a case of a block that saves no `$TEST` describes nothing:
@@ -1481,7 +1483,7 @@ block-without-saved-test-blocks = ((block (codes "E^BLK") [] None false []
     ((point_of 1 0 ((case_of Any [] [] [] []) ∷ [])) ∷ (point_of 2 0 ((case_of Any [] [] [] []) ∷ (case_of Any [] [] [] (Any ∷ [])) ∷ [])) ∷ (point_of 3 0 ((case_of Any [] [] [] []) ∷ [])) ∷ [])) ∷ [])
 
 pub block-without-saved-test : report block-without-saved-test-routines (base_rules ((codes "E^BLK") ∷ [])) block-without-saved-test-blocks ≡ ([])
-unfolding report entry_faults answer same_term same_case includes leaves_by same_state too_many few certified declared fold_between fold_before byte_text digits entry_of label_at name_at digits_at is_among have spares whole
+unfolding report entry_faults fault_cmp answer same_term same_case includes leaves_by same_state too_many few certified declared fold_between fold_before byte_text digits entry_of label_at name_at digits_at is_among have spares whole
 block-without-saved-test = refl
 
 -- a lock name mentions a name whose binding ends with the block:
@@ -1506,7 +1508,7 @@ name-escapes-its-block-blocks = ((block (codes "E^ESC") [] (Some 10) true []
     ((point_of 1 0 ((case_of Any [] [] [] []) ∷ [])) ∷ (point_of 2 0 ((case_of Any [] [] [] (Any ∷ [])) ∷ [])) ∷ (point_of 3 0 ((case_of Any [] [] [] []) ∷ [])) ∷ [])) ∷ [])
 
 pub name-escapes-its-block : report name-escapes-its-block-routines (base_rules ((codes "E^ESC") ∷ [])) name-escapes-its-block-blocks ≡ ((row 0 0 2 32 NameEscapes) ∷ [])
-unfolding report entry_faults answer same_term same_case includes leaves_by same_state too_many few certified declared fold_between fold_before byte_text digits entry_of label_at name_at digits_at is_among have spares whole
+unfolding report entry_faults fault_cmp answer same_term same_case includes leaves_by same_state too_many few certified declared fold_between fold_before byte_text digits entry_of label_at name_at digits_at is_among have spares whole
 name-escapes-its-block = refl
 
 -- FOR without a limit ends by QUIT alone:
@@ -1527,7 +1529,7 @@ loop-without-limit-blocks = ((block (codes "E^FOR") [] None false ((Only (codes 
     ((point_of 1 0 ((case_of Any [] [] [] []) ∷ [])) ∷ (point_of 1 1 ((case_of Any [] [] [] []) ∷ [])) ∷ (point_of 2 0 ((case_of Any [] [] [] []) ∷ [])) ∷ [])) ∷ [])
 
 pub loop-without-limit : report loop-without-limit-routines (base_rules ((codes "E^FOR") ∷ [])) loop-without-limit-blocks ≡ ([])
-unfolding report entry_faults answer same_term same_case includes leaves_by same_state too_many few certified declared fold_between fold_before byte_text digits entry_of label_at name_at digits_at is_among have spares whole
+unfolding report entry_faults fault_cmp answer same_term same_case includes leaves_by same_state too_many few certified declared fold_between fold_before byte_text digits entry_of label_at name_at digits_at is_among have spares whole
 loop-without-limit = refl
 
 -- the rounds of a value are listed, or it is 710 at the word:
@@ -1548,5 +1550,5 @@ loop-of-values-blocks = ((block (codes "E^FOR") [] None false ((Only (codes "I")
     ((point_of 1 0 ((case_of Any [] [] [] []) ∷ [])) ∷ (point_of 1 1 ((case_of One [] [] [] []) ∷ [])) ∷ (point_of 2 0 ((case_of Any [] [] [] []) ∷ [])) ∷ [])) ∷ [])
 
 pub loop-of-values : report loop-of-values-routines (base_rules ((codes "E^FOR") ∷ [])) loop-of-values-blocks ≡ ((row 0 0 1 3 CaseNotListed) ∷ [])
-unfolding report entry_faults answer same_term same_case includes leaves_by same_state too_many few certified declared fold_between fold_before byte_text digits entry_of label_at name_at digits_at is_among have spares whole
+unfolding report entry_faults fault_cmp answer same_term same_case includes leaves_by same_state too_many few certified declared fold_between fold_before byte_text digits entry_of label_at name_at digits_at is_among have spares whole
 loop-of-values = refl

@@ -1,1 +1,4 @@
+pub mod Ascending
+pub mod CodeOrder
 pub mod Examples
+pub mod Ordered

@@ -17,13 +17,14 @@ use Rattle.mlk_cert.specs.declared.block.Summary.{Summary}
 use Rattle.mlk_cert.specs.declared.block.EntryCert.{EntryCert}
 use Rattle.mlk_coverage.specs.declared.rules.RuleLists.{RuleLists}
 use Rattle.mlk_calls.specs.Cases.{is_listed, holds_some}
-use Rattle.mlk_calls.specs.Scope.{Scope, block_of, listed, entry_scope}
+use Rattle.mlk_calls.specs.Scope.{Scope, certified, declared, block_at, listed, scope_with}
 use Rattle.mlk_calls.specs.Calls.{formals_in}
 use Rattle.mlk_commands.specs.News.{in_order}
 use Rattle.mlk_rows.specs.declared.walk.Fault.{Fault}
 use Rattle.mlk_lines.specs.declared.found.LineFault.{LineFault}
 use Rattle.mlk_lines.specs.Endings.{OfFrame, number_of}
 use Rattle.mlk_lines.specs.Lines.{Walked, walk_lines}
+use Rattle.mlk_verdicts.specs.Faults.{ascending}
 
 abbrev pub fault_at : ℕ → ℕ → Code → Fault
 fault_at number column code = record { line = number; column = column; code = code }
@@ -82,23 +83,34 @@ all_faults routines e sc =
     own_faults sc (entry_number (line_of_entry routines e)) (formals_in (line_of_entry routines e))
     ++ map fault_in (entry_walk routines e sc).faults
 
-abbrev pub faults_with : List RoutineTree → RuleLists → List EntryCert → EntryId → Option EntryCert → List Fault
-faults_with routines rules blocks e None = fault_at (entry_number (line_of_entry routines e)) 1 NoCertificate ∷ []
-faults_with routines rules blocks e (Some b) = all_faults routines e (entry_scope routines rules blocks e b)
+-- What is known of entries, in two tables: the certified ones, each with its block, and the declared ones.
+abbrev pub known : List RoutineTree → RuleLists → List EntryCert → List (EntryId × EntryCert) × List EntryId
+known routines rules blocks = (certified routines blocks, declared routines rules.entries)
+
+abbrev pub faults_with :
+    List RoutineTree → RuleLists → List (EntryId × EntryCert) × List EntryId → EntryId → Option EntryCert → List Fault
+faults_with routines rules entries e None = fault_at (entry_number (line_of_entry routines e)) 1 NoCertificate ∷ []
+faults_with routines rules entries e (Some b) = all_faults routines e (scope_with routines rules entries e b)
 
 -- The faults of an entry: without a block it is 713 at its line.
-unfoldable pub entry_faults : List RoutineTree → RuleLists → List EntryCert → EntryId → List Fault
-entry_faults routines rules blocks e = faults_with routines rules blocks e (block_of routines blocks e)
+unfoldable pub entry_faults :
+    List RoutineTree → RuleLists → List (EntryId × EntryCert) × List EntryId → EntryId → List Fault
+entry_faults routines rules entries e = faults_with routines rules entries e (block_at entries.0 e)
+
+-- the verdict: each of them once, in order
+abbrev pub verdict : List RoutineTree → RuleLists → List (EntryId × EntryCert) × List EntryId → EntryId → List Fault
+verdict routines rules entries e = ascending (entry_faults routines rules entries e)
 
 -- Those of its faults that the walk of one line gives, none for a line that the entry lacks.
 abbrev pub is_of : ℕ → LineFault → Bool
 is_of number f = f.walked == number
 
-abbrev pub line_faults_with :
-    List RoutineTree → RuleLists → List EntryCert → EntryId → ℕ → Option EntryCert → List Fault
-line_faults_with routines rules blocks e number None = []
-line_faults_with routines rules blocks e number (Some b) =
-    map fault_in (filter (is_of number) (entry_walk routines e (entry_scope routines rules blocks e b)).faults)
+abbrev pub line_faults_with : List RoutineTree → RuleLists → List (EntryId × EntryCert) × List EntryId → EntryId → ℕ
+    → Option EntryCert → List Fault
+line_faults_with routines rules entries e number None = []
+line_faults_with routines rules entries e number (Some b) =
+    map fault_in (filter (is_of number) (entry_walk routines e (scope_with routines rules entries e b)).faults)
 
-unfoldable pub line_faults : List RoutineTree → RuleLists → List EntryCert → EntryId → ℕ → List Fault
-line_faults routines rules blocks e number = line_faults_with routines rules blocks e number (block_of routines blocks e)
+unfoldable pub line_faults :
+    List RoutineTree → RuleLists → List (EntryId × EntryCert) × List EntryId → EntryId → ℕ → List Fault
+line_faults routines rules entries e number = line_faults_with routines rules entries e number (block_at entries.0 e)

@@ -1,3 +1,18 @@
-//! Verdicts of entries, and reports of programs: their definitions (`specs/`), with worked programs whose reports are
-//! computed from them (`proofs/Examples.antt`). No code answers them yet.
+//! Verdicts of entries, and reports of programs.
 #![tactic(auto)]
+
+mod begin;
+mod check;
+mod entry;
+mod law;
+mod line;
+mod missing;
+mod report;
+mod verdict;
+
+pub use check::{check_all, check_entry};
+pub use law::faults_in_order;
+pub use line::{check_line, walk_line};
+pub use missing::missing_entry;
+pub use report::{Report, Row};
+pub use verdict::Verdict;

@@ -151,7 +151,7 @@ fn reports(rt: HostRuntime) -> Result<(), Fail> {
         let files = [("rules.toml", RULES), ("cert", CERT), ("ONE.m", routine)];
         expect(&rt, rt.alloc(), &CHECK, &files, status, printed, "")?;
     }
-    // The ranks are not asked for yet: a certificate whose `low` leaves the claim out is taken.
+    // The summary leaves the claim out.
     let low = "mlock-cert 1
 entry TAKE^ONE
 need -
@@ -163,7 +163,8 @@ at 1.0 T=* H=- O=- K=- S=-
 end
 ";
     let files = [("rules.toml", RULES), ("cert", low), ("ONE.m", TAKE)];
-    expect(&rt, rt.alloc(), &CHECK, &files, 0, "yes\n", "")?;
+    let printed = "TAKE^ONE 1:12 712 SummaryShort\nno 1\n";
+    expect(&rt, rt.alloc(), &CHECK, &files, 1, printed, "")?;
     Ok(())
 }
 

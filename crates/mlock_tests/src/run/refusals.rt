@@ -5,28 +5,6 @@ use std::test::Fail;
 
 #[test]
 fn refuses_routines(rt: HostRuntime) -> Result<(), Fail> {
-    let rows = [
-        (
-            "TAKE(ID) LOCK +^ACCT(1) QUIT\n",
-            "refused ONE 1:1 202 LineForm\n",
-        ),
-        (
-            "TAKE SET X=1 QUIT\n",
-            "refused ONE 1:6 206 CommandLeftOut SET\n",
-        ),
-        (
-            "TAKE W 1 QUIT\n",
-            "refused ONE 1:6 206 CommandLeftOut WRITE\n",
-        ),
-        (
-            "TAKE WRITE 1 QUIT\n",
-            "refused ONE 1:6 206 CommandLeftOut WRITE\n",
-        ),
-    ];
-    for (routine, told) in rows {
-        let files = [("rules.toml", RULES), ("cert", CERT), ("ONE.m", routine)];
-        expect(&rt, rt.alloc(), &CHECK, &files, 2, "", told)?;
-    }
     let files = [
         ("rules.toml", RULES),
         ("cert", CERT),

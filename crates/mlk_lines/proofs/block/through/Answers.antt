@@ -1,0 +1,17 @@
+use Rattle.std.proofs.Common.{◌≡◌, ◌∙◌, ap, take, rules}
+use Rattle.mlk_rows.specs.Spots.{spot_of}
+use Rattle.mlk_rows.specs.Walks.{each, with_states}
+use Rattle.mlk_lines.specs.Commands.{enter_row, some_enter, block_ends}
+use Rattle.mlk_lines.specs.Counting.{counted}
+use Rattle.mlk_lines.proofs.FewStates.{with_alike}
+use Rattle.mlk_lines.proofs.block.through.Goals as goal
+
+pub returns : goal.returns
+returns c =
+    let p = spot_of c.args.spot.now in
+    let b = c.args.block.now in
+    let ends = block_ends (some_enter p b c.args.walk) b in
+    let rest : c.enter_all.new.walk ≡ each (enter_row p b) c.args.walk = search rules in
+    let first : take 17 c.in_ok-ends.ends ≡ take 17 ends = search rules in
+    ap counted c.with_states.ensures ∙ with_alike c.in_ok-ends.ends ends c.enter_all.new.walk first
+    ∙ ap (λ z. counted (with_states ends z)) rest

@@ -1,0 +1,5 @@
+pub mod FrameLemmas
+pub mod AdvanceLemmas
+pub mod RestoreLemmas
+pub mod SystemLemmas
+pub mod SilentLemmas

@@ -1,0 +1,13 @@
+use Rattle.std.proofs.Common.{◌∙◌, map, sym}
+use Rattle.std.specs.Prelude.{true}
+use Rattle.mlk_routine.specs.Views.{routine_of}
+use Rattle.mlk_jobs.specs.JobViews.{job_of}
+use Rattle.mlk_run.specs.Frames.{claimed_in}
+use Rattle.mlk_run.proofs.SilentLemmas.{hidden_made, all_free}
+use Rattle.mlk_run.proofs.silent.silent_step.Goals as goal
+
+pub returns-in-Ok-clause-made : goal.returns-in-Ok-clause-made
+returns-in-Ok-clause-made c =
+    hidden_made (map routine_of c.args.program.now) (job_of c.args.job.now) (job_of c.step.new.job)
+    (sym c.is_shown.ensures ∙ c.if-is_shown.false)
+    (c.in-Ok.ensures.answer (λ n. true) (all_free (claimed_in (job_of c.args.job.now).tasks)))

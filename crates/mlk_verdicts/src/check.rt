@@ -1,0 +1,186 @@
+// The check of an entry, and of a whole program.
+
+ghost use Rattle.std.specs.Prelude.{◌≡◌, ◌∷◌, ◌++◌, [], IfOk, OnOk, map, flat_map, filter};
+ghost use Rattle.mlk_routine.specs.Views.{line_of, routine_of};
+ghost use Rattle.mlk_calls.specs.Scope.{scope_with};
+ghost use Rattle.mlk_verdicts.specs.Faults.{ascending};
+ghost use Rattle.mlk_text.specs.declared.code.Code.TheVariants.{NoCertificate};
+ghost use Rattle.mlk_program.specs.Entries.{line_of_entry, lines_in};
+ghost use Rattle.mlk_verdicts.specs.Verdicts.{known, fault_at, entry_number, all_faults, verdict};
+ghost use Rattle.mlk_verdicts.specs.Reports.{is_checked, rows_of, line_entries, entries_from, report};
+
+use crate::entry::{number_of, walk_entry};
+use crate::report::Report;
+use crate::verdict::Verdict;
+use mlk_calls::{Entries, Scope};
+use mlk_cert::{Certificate, EntryCert};
+use mlk_coverage::Rules;
+use mlk_program::{EntryId, Program};
+use mlk_routine::{Line, Routine};
+use mlk_rows::Fault;
+use mlk_text::{Code, Column};
+use std::alloc::{AllocError, Global};
+
+/// What a check looks into: a program, its rules, and what is known of its entries.
+#[derive(Clone, Copy, Drop)]
+pub(crate) struct Checks<'a> {
+    pub(crate) program: &'a Program<'a>,
+    pub(crate) rules: &'a Rules,
+    pub(crate) entries: &'a Entries<'a>,
+}
+
+// The verdict of an entry that is certified by a block.
+fn verdict_by(
+    alloc: Global,
+    checks: &Checks<'_>,
+    entry: EntryId,
+    block: &EntryCert,
+) -> Result<Verdict, AllocError>
+    ensures { IfOk result (λ v. v ≡ ascending (all_faults (map routine_of checks.now.program.now) entry
+        (scope_with (map routine_of checks.now.program.now) checks.now.rules.now checks.now.entries.now entry block.now))) }
+{
+    let scope = Scope::of(checks.program, checks.rules, checks.entries, entry, block);
+    let walk = walk_entry(alloc, checks.program, &scope, entry)?;
+    let mut verdict = Verdict::new(alloc);
+    verdict.put_found(walk.lines)?;
+    verdict.put_own(walk.own)?;
+    Ok(verdict)
+}
+
+// The fault of an entry that no block certifies.
+fn uncertified(program: &Program, entry: EntryId) -> Fault
+    ensures { result ≡ fault_at (entry_number (line_of_entry (map routine_of program.now) entry)) 1 NoCertificate }
+{
+    Fault {
+        line: number_of(program.line(entry)),
+        column: Column::new(1),
+        code: Code::NoCertificate,
+    }
+}
+
+#[tactic(auto, unfolding(crate::specs::Verdicts::entry_faults))]
+fn verdict_of(alloc: Global, checks: &Checks<'_>, entry: EntryId) -> Result<Verdict, AllocError>
+    ensures { IfOk result (λ v. v ≡ verdict (map routine_of checks.now.program.now) checks.now.rules.now
+        checks.now.entries.now entry) }
+{
+    if let Some(block) = checks.entries.block(entry) {
+        return verdict_by(alloc, checks, entry, block);
+    }
+    let mut verdict = Verdict::new(alloc);
+    verdict.put(uncertified(checks.program, entry))?;
+    Ok(verdict)
+}
+
+/// The faults of an entry: those of its begin and its exits, and those of the lines that it runs, walked from the cases
+/// of the first block that names it.
+///
+/// Without a block it has the one fault `Code::NoCertificate` at its line, column 1. It looks into the whole
+/// certificate first; `check_all` does so once for all entries.
+pub fn check_entry(
+    alloc: Global,
+    program: &Program<'_>,
+    rules: &Rules,
+    certificate: &Certificate,
+    entry: EntryId,
+) -> Result<Verdict, AllocError>
+    ensures { IfOk result (λ v. v ≡ verdict (map routine_of program.now) rules.now
+        (known (map routine_of program.now) rules.now certificate.now) entry) }
+{
+    let entries = Entries::of(alloc, program, rules, certificate.blocks())?;
+    let checks = Checks {
+        program,
+        rules,
+        entries: &entries,
+    };
+    verdict_of(alloc, &checks, entry)
+}
+
+fn is_checked(entries: &Entries<'_>, entry: EntryId) -> bool
+    ensures { result ≡ is_checked entries.now entry }
+{
+    entries.block(entry).is_some() || entries.is_declared(entry)
+}
+
+// Checks an entry, where it is certified or declared.
+fn check_one(
+    alloc: Global,
+    checks: &Checks<'_>,
+    entry: EntryId,
+    report: &mut Report,
+) -> Result<(), AllocError>
+    ensures { OnOk result (report.new ≡ report.old ++ rows_of (map routine_of checks.now.program.now)
+        checks.now.rules.now checks.now.entries.now entry) }
+{
+    if !is_checked(checks.entries, entry) {
+        return Ok(());
+    }
+    let verdict = verdict_of(alloc, checks, entry)?;
+    report.add(entry, &verdict)
+}
+
+// Checks the entries of a routine.
+fn check_lines(
+    alloc: Global,
+    checks: &Checks<'_>,
+    routine: usize,
+    lines: &[Line],
+    report: &mut Report,
+) -> Result<(), AllocError>
+    ensures { OnOk result (report.new ≡ report.old ++ flat_map
+        (rows_of (map routine_of checks.now.program.now) checks.now.rules.now checks.now.entries.now)
+        (line_entries routine 0 (map line_of lines.now))) }
+{
+    for (number, line) in lines.iter().enumerate() {
+        if number == 0 || line.label.is_some() {
+            check_one(alloc, checks, EntryId::new(routine, number), report)?;
+        }
+    }
+    Ok(())
+}
+
+#[tactic(auto, using(mlk_program::proofs::Directories::lines_same))]
+fn check_routine(
+    alloc: Global,
+    checks: &Checks<'_>,
+    number: usize,
+    routine: &Routine,
+    report: &mut Report,
+) -> Result<(), AllocError>
+    ensures { OnOk result (report.new ≡ report.old ++ flat_map
+        (rows_of (map routine_of checks.now.program.now) checks.now.rules.now checks.now.entries.now)
+        (line_entries number 0 (lines_in (routine_of routine.now)))) }
+{
+    check_lines(alloc, checks, number, routine.lines.as_slice(), report)
+}
+
+fn check_routines(alloc: Global, checks: &Checks<'_>) -> Result<Report, AllocError>
+    ensures { IfOk result (λ r. r ≡ flat_map
+        (rows_of (map routine_of checks.now.program.now) checks.now.rules.now checks.now.entries.now)
+        (entries_from 0 (map routine_of checks.now.program.now))) }
+{
+    let mut report = Report::new(alloc);
+    for (number, routine) in checks.program.routines().iter().enumerate() {
+        check_routine(alloc, checks, number, routine, &mut report)?;
+    }
+    Ok(report)
+}
+
+/// The faults of a program: for each entry that is declared or certified, in the program's order, those of
+/// `check_entry`.
+#[tactic(auto, unfolding(crate::specs::Reports::report))]
+pub fn check_all(
+    alloc: Global,
+    program: &Program<'_>,
+    rules: &Rules,
+    certificate: &Certificate,
+) -> Result<Report, AllocError>
+    ensures { IfOk result (λ r. r ≡ report (map routine_of program.now) rules.now certificate.now) }
+{
+    let entries = Entries::of(alloc, program, rules, certificate.blocks())?;
+    let checks = Checks {
+        program,
+        rules,
+        entries: &entries,
+    };
+    check_routines(alloc, &checks)
+}

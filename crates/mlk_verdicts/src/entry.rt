@@ -1,0 +1,88 @@
+// The walk of an entry.
+
+ghost use Rattle.std.specs.Prelude.{◌≡◌, ◌++◌, IfOk, map, option_map, option_copied};
+ghost use Rattle.mlk_routine.specs.Views.{line_of, routine_of};
+ghost use Rattle.mlk_program.specs.Entries.{line_of_entry, lines_of};
+ghost use Rattle.mlk_calls.specs.Scope.{scope_of};
+ghost use Rattle.mlk_calls.specs.Calls.{formals_in};
+ghost use Rattle.mlk_lines.specs.Endings.{head_of};
+ghost use Rattle.mlk_verdicts.specs.Verdicts.{head_after, entry_walk, entry_number, fault_in, all_faults};
+
+use crate::begin::own_faults;
+use mlk_calls::Scope;
+use mlk_lines::{Around, LineFaults, walk_lines};
+use mlk_program::{EntryId, Program};
+use mlk_routine::Line;
+use mlk_rows::Faults;
+use mlk_text::Name;
+use std::alloc::{AllocError, Global};
+
+/// What is found of an entry: at its line, and by the walks of its lines.
+#[derive(Drop)]
+pub(crate) struct EntryWalk {
+    pub(crate) own: Faults,
+    pub(crate) lines: LineFaults,
+}
+
+// The line after an entry's lines.
+fn line_after<'a>(program: &Program<'a>, entry: EntryId) -> Result<Option<&'a Line>, AllocError>
+    ensures { IfOk result (λ o. option_map head_of (option_copied o) ≡ head_after (map routine_of program.now) entry) }
+{
+    let lines = program.lines_of(entry);
+    let Some(place) = entry.line().checked_add(lines.len()) else {
+        return Err(AllocError);
+    };
+    Ok(program.line(EntryId::new(entry.routine(), place)))
+}
+
+fn formals_of<'a>(line: Option<&'a Line>) -> &'a [Name]
+    ensures { result.now ≡ formals_in (option_map line_of (option_copied line.entry)) }
+{
+    match line {
+        None => &[],
+        Some(line) => match &line.formals {
+            None => &[],
+            Some(formals) => formals.as_slice(),
+        },
+    }
+}
+
+// The number of an entry's line.
+pub(crate) fn number_of(line: Option<&Line>) -> usize
+    ensures { result ≡ entry_number (option_map line_of (option_copied line.entry)) }
+{
+    match line {
+        None => 1,
+        Some(line) => line.number,
+    }
+}
+
+/// What the walks of an entry's lines find.
+pub(crate) fn walk_all<'a>(
+    alloc: Global,
+    program: &'a Program<'a>,
+    scope: &'a Scope<'a>,
+    entry: EntryId,
+) -> Result<LineFaults, AllocError>
+    ensures { IfOk result (λ f. f ≡ (entry_walk (map routine_of program.now) entry (scope_of scope.now)).faults) }
+{
+    let mut found = LineFaults::new(alloc);
+    let around = Around::Frame(line_after(program, entry)?);
+    let _ = walk_lines(alloc, scope, program.lines_of(entry), around, &mut found)?;
+    Ok(found)
+}
+
+/// The walk of an entry in its scope: what is wrong at its line, and what the walks of its lines find.
+pub(crate) fn walk_entry<'a>(
+    alloc: Global,
+    program: &'a Program<'a>,
+    scope: &'a Scope<'a>,
+    entry: EntryId,
+) -> Result<EntryWalk, AllocError>
+    ensures { IfOk result (λ w. w.own ++ map fault_in w.lines ≡ all_faults (map routine_of program.now) entry (scope_of scope.now)) }
+{
+    let line = program.line(entry);
+    let own = own_faults(alloc, scope, number_of(line), formals_of(line))?;
+    let lines = walk_all(alloc, program, scope, entry)?;
+    Ok(EntryWalk { own, lines })
+}

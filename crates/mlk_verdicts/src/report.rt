@@ -1,0 +1,70 @@
+// The report of a program.
+
+ghost use Rattle.std.specs.Prelude.{◌≡◌, ◌↔◌, ◌++◌, [], OnOk, IsTrue, map};
+ghost use Rattle.mlk_verdicts.specs.Reports.{row_of};
+
+use crate::verdict::Verdict;
+use mlk_program::EntryId;
+use mlk_rows::Fault;
+use std::alloc::{AllocError, Global};
+use std::marker::Model;
+
+/// A row of a report: an entry, and a fault of its walk.
+#[derive(Clone, Copy, Debug, Drop, PartialEq, Eq)]
+pub struct Row {
+    pub entry: EntryId,
+    pub fault: Fault,
+}
+
+/// The faults of a program's entries. A contract sees the rows.
+#[derive(Drop, Debug)]
+pub struct Report {
+    rows: Vec<Row>,
+}
+
+impl Model for Report {
+    ghost use Rattle.std.specs.Prelude.{List};
+    ghost use Rattle.mlk_verdicts.specs.declared.report.Row.{Row};
+
+    ghost Value = { List Row };
+
+    ghost view = { λ r. r.rows.items };
+}
+
+impl Report {
+    /// A report without rows.
+    pub(crate) fn new(alloc: Global) -> Report
+        ensures { result ≡ [] }
+    {
+        Report {
+            rows: Vec::new(alloc),
+        }
+    }
+
+    /// The rows, in order.
+    pub fn rows(&self) -> &[Row]
+        ensures { result.now ≡ self.now }
+    {
+        self.rows.as_slice()
+    }
+
+    /// Whether there is no row.
+    pub fn is_yes(&self) -> bool
+        ensures { IsTrue result ↔ (self.now ≡ []) }
+    {
+        self.rows.is_empty()
+    }
+
+    /// The faults of an entry, after the others.
+    pub(crate) fn add(&mut self, entry: EntryId, verdict: &Verdict) -> Result<(), AllocError>
+        ensures { OnOk result (self.new ≡ self.old ++ map (row_of entry) verdict.now) }
+    {
+        for fault in verdict.iter() {
+            self.rows.push(Row {
+                entry,
+                fault: *fault,
+            })?;
+        }
+        Ok(())
+    }
+}
