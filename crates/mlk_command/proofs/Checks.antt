@@ -1,4 +1,4 @@
--- What is refused on the way from texts to a report, and what of straight lines is kept.
+-- What is refused on the way from texts to a report.
 use Rattle.std.proofs.Common.{◌≡◌, ℕ, ◌<◌, ◌≤◌, ◌+◌, ◌++◌, List, [], ◌∷◌, Result, Ok, Err, length, take, drop, slice_index_or, sym, ap, ◌∙◌, subst, take-append-drop, append-nil}
 use Rattle.std.specs.Prelude.{IfOk, IfErr}
 use Rattle.std.proofs.lemmas.List.{drop_all, drop_more, take_more}
@@ -16,15 +16,10 @@ use Rattle.mlk_cert.specs.declared.read.fault.CertFault.{CertFault}
 use Rattle.mlk_cert.specs.declared.block.EntryCert.{EntryCert}
 use Rattle.mlk_cert.specs.Theorem.{Spells, IsReading}
 use Rattle.mlk_cert.specs.Refusals.{IsPlaced}
-use Rattle.mlk_machine.specs.declared.plain.tree.Routine.{Routine as StraightRoutine}
-use Rattle.mlk_walk.specs.declared.cert.Certificate.{Certificate as StraightCertificate}
-use Rattle.mlk_walk.specs.Theorem.{EachRunIsBalanced, NoJobsClash}
-use Rattle.mlk_walk.specs.Straight.{straight}
-use Rattle.mlk_command.specs.CertificateSpelling.{Spells as SpellsStraight}
 use Rattle.mlk_command.specs.declared.source.Source.{Source}
 use Rattle.mlk_command.specs.declared.checked.Refusal.{Refusal}
 use Rattle.mlk_command.specs.declared.checked.Refusal.TheVariants as refusal
-use Rattle.mlk_command.specs.Checked.{IsRead, AreRead, IsKept, IsFirst, IsRefusalBy, IsRefusalWith, IsRefusalUnder, IsRefusalOf, refusal_of_routine, refusal_of_rules, refusal_of_certificate, RefusesFirst}
+use Rattle.mlk_command.specs.Checked.{IsRead, AreRead, IsFirst, IsRefusalBy, IsRefusalWith, IsRefusalUnder, IsRefusalOf, refusal_of_routine, refusal_of_rules, refusal_of_certificate, RefusesFirst}
 
 -- one routine more is read
 read-one-more : (sources : List Source) (trees : List RoutineTree) (source : Source) (tree : RoutineTree) → AreRead sources trees → IsRead source tree → AreRead (sources ++ source ∷ []) (trees ++ tree ∷ [])
@@ -115,32 +110,3 @@ linked trees rules_text text (refusal.Rules fault) program refused = (program, r
 linked trees rules_text text (refusal.Certificate fault) program refused = (program, refused)
 linked trees rules_text text (refusal.Entry entry) program refused = (program, refused)
 linked trees rules_text text refusal.Disagreement program refused = (program, refused)
-
-abbrev IsNoValue : {A B : Type 0} → Result A B → Type 0
-IsNoValue (Err b) = Unit {0}
-IsNoValue (Ok a) = ⊥
-
-abbrev value_or : {A B : Type 0} → A → Result A B → A
-value_or a (Ok b) = b
-value_or a (Err f) = a
-
-same_Ok : {A B : Type 0} (a b : A) (r : Result A B) → r ≡ Ok a → r ≡ Ok b → a ≡ b
-same_Ok a b r e f = ap (value_or a) (sym e ∙ f)
-
--- What no straight line has, and a text that no certificate of straight lines has, break no promise.
-pub no-lines : (trees : List RoutineTree) (rules : RuleLists) (text : List ℕ) (fault : Fault) → straight trees ≡ Err fault → IsKept trees rules text
-no-lines trees rules text fault outside plain lines certificate spelled = absurd (subst IsNoValue (sym outside ∙ lines) (record {}))
-
-pub no-certificate : (trees : List RoutineTree) (rules : RuleLists) (text : List ℕ)
-    → ((c : StraightCertificate) → SpellsStraight c text → ⊥) → IsKept trees rules text
-no-certificate trees rules text none plain lines certificate spelled = absurd (none certificate spelled)
-
--- The walk of straight lines finds nothing,
-pub both-kept : (trees : List RoutineTree) (rules : RuleLists) (text : List ℕ) (plain : List StraightRoutine) (certificate : StraightCertificate)
-    → straight trees ≡ Ok plain → ((c : StraightCertificate) → SpellsStraight c text → c ≡ certificate)
-    → EachRunIsBalanced plain rules certificate → NoJobsClash plain rules → IsKept trees rules text
-both-kept trees rules text plain certificate lines only balanced apart other others c spelled =
-    let same : other ≡ plain = same_Ok other plain (straight trees) others lines in (
-      subst (λ p. EachRunIsBalanced p rules c) (sym same) (subst (λ d. EachRunIsBalanced plain rules d) (sym (only c spelled)) balanced),
-      subst (λ p. NoJobsClash p rules) (sym same) apart,
-    )

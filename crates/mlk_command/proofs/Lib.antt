@@ -3,16 +3,5 @@ pub mod Sources
 pub mod Checks
 pub mod Saying
 pub mod CommandLine
-pub mod CertificateEach
-pub mod CertificateParts
-pub mod CertificateRoom
-pub mod CertificateRuns
-pub mod CertificateFronts
-pub mod CertificateNumbers
-pub mod CertificateSound
-pub mod CertificateEntries
-pub mod CertificateBlocks
-pub mod CertificatePartsBack
-pub mod CertificateBack
 pub mod FileLemmas
 pub mod Printing

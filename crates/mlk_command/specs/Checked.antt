@@ -1,5 +1,5 @@
 -- What the check of texts answers. This project's own choice.
-use Rattle.std.specs.Prelude.{◌≡◌, ◌≢◌, ◌⊎◌, ℕ, Bool, true, false, List, [], ◌∷◌, ◌++◌, Some, None, Ok}
+use Rattle.std.specs.Prelude.{◌≡◌, ◌⊎◌, ℕ, List, [], ◌∷◌, ◌++◌, Some, None}
 use Rattle.mlk_text.specs.declared.fault.Fault.{Fault}
 use Rattle.mlk_text.specs.declared.failure.Failure.{Failure}
 use Rattle.mlk_text.specs.declared.failure.Failure.TheVariants as failure
@@ -16,13 +16,7 @@ use Rattle.mlk_cert.specs.Theorem.{Spells}
 use Rattle.mlk_cert.specs.Refusals.{IsRefusal}
 use Rattle.mlk_verdicts.specs.declared.report.Row.{Row}
 use Rattle.mlk_verdicts.specs.Reports.{report, missing}
-use Rattle.mlk_machine.specs.declared.plain.tree.Routine.{Routine as StraightRoutine}
-use Rattle.mlk_walk.specs.declared.cert.Certificate.{Certificate as StraightCertificate}
-use Rattle.mlk_walk.specs.declared.report.Row.{Row as StraightRow}
-use Rattle.mlk_walk.specs.Report.{IsReport, all_entries}
-use Rattle.mlk_walk.specs.Theorem.{EachRunIsBalanced, NoJobsClash}
-use Rattle.mlk_walk.specs.Straight.{straight}
-use Rattle.mlk_command.specs.CertificateSpelling.{Spells as SpellsStraight}
+use Rattle.mlk_straight.specs.Kept.{IsKept, HasFaults}
 use Rattle.mlk_command.specs.declared.source.Source.{Source}
 use Rattle.mlk_command.specs.declared.source.Sources.{Sources}
 use Rattle.mlk_command.specs.declared.checked.Refusal.{Refusal}
@@ -38,28 +32,6 @@ AreRead [] [] = Unit {0}
 AreRead [] (tree ∷ trees) = ⊥
 AreRead (source ∷ sources) [] = ⊥
 AreRead (source ∷ sources) (tree ∷ trees) = IsRead source tree × AreRead sources trees
-
--- Where the program and the certificate's text are of straight lines, each moment of each run of one job is balanced, and
--- no two jobs ever clash.
-abbrev pub IsKept : List RoutineTree → RuleLists → List ℕ → Type 0
-IsKept trees rules text = (plain : List StraightRoutine) → straight trees ≡ Ok plain
-    → (certificate : StraightCertificate) → SpellsStraight certificate text
-    → EachRunIsBalanced plain rules certificate × NoJobsClash plain rules
-
--- They are, and the walk of straight lines finds faults.
-pub record HasFaults (trees : List RoutineTree) (rules : RuleLists) (text : List ℕ) : Type 0 where
-  pub plain : List StraightRoutine
-  pub lines : straight trees ≡ Ok plain
-  pub certificate : StraightCertificate
-  pub spelled : SpellsStraight certificate text
-  pub rows : List StraightRow
-  pub report : IsReport plain rules certificate (all_entries plain) rows
-  pub some : rows ≢ []
-
--- which of them is answered
-abbrev pub TellsKept : Bool → List RoutineTree → RuleLists → List ℕ → Type 0
-TellsKept true trees rules text = IsKept trees rules text
-TellsKept false trees rules text = HasFaults trees rules text
 
 -- The report of a program by rules and a certificate's blocks, whose entries it has. Where it has no row, and all is of
 -- straight lines, each run keeps the rules.

@@ -1,10 +1,4 @@
 pub mod Printed
-pub mod LockRoots
-pub mod CertificateSpelling
-pub mod CertificateLexing
-pub mod CertificateBlocks
-pub mod CertificateOutcome
-pub mod CertificateTheorem
 pub mod Files
 pub mod CommandLine
 pub mod Checked

@@ -2,20 +2,20 @@
 
 ghost use Rattle.std.specs.Prelude.{◌≡◌, [], map, IfOk, IfErr};
 ghost use Rattle.mlk_routine.specs.Views.{routine_of};
-ghost use Rattle.mlk_command.specs.Checked.{refusal_of_routine, refusal_of_rules, refusal_of_certificate, AreRead, RefusesFirst, IsKept, TellsKept, TellsEntry, IsDoubt, IsReportBy, IsReportWith, IsReportUnder, IsReportOf, IsRefusalBy, IsRefusalWith, IsRefusalUnder, IsRefusalOf, IsChecked, IsRefusedBy};
+ghost use Rattle.mlk_command.specs.Checked.{refusal_of_routine, refusal_of_rules, refusal_of_certificate, AreRead, RefusesFirst, TellsEntry, IsDoubt, IsReportBy, IsReportWith, IsReportUnder, IsReportOf, IsRefusalBy, IsRefusalWith, IsRefusalUnder, IsRefusalOf, IsChecked, IsRefusedBy};
+ghost use Rattle.mlk_straight.specs.Kept.{IsKept};
 ghost use Rattle.mlk_command.specs.Ran.{trees_of};
 ghost use Rattle.mlk_command.specs.declared.checked.Refusal.TheVariants as refusal;
 
-use crate::certificate::{CertificateError, read_certificate};
 use crate::source::{Source, Sources};
 use mlk_cert::{CertFault, Certificate, read_cert};
 use mlk_coverage::Rules;
 use mlk_program::{Program, link};
 use mlk_routine::{Routine, read_routine};
 use mlk_rules::{RulesFault, read_rules};
+use mlk_straight::is_kept;
 use mlk_text::{Failure, Fault, Value};
 use mlk_verdicts::{Report, check_all, missing_entry};
-use mlk_walk::plain_of;
 use std::alloc::{AllocError, Global};
 
 /// Why there is no report.
@@ -88,30 +88,6 @@ fn routines_of(alloc: Global, sources: &[Source<'_>]) -> Result<Vec<Routine>, Fa
         routines.push(read_routine(alloc, source.stem, source.text.as_slice())?)?;
     }
     Ok(routines)
-}
-
-// Whether the walk of straight lines finds no fault either, where the program and the certificate's text are of straight
-// lines.
-fn is_kept(
-    alloc: Global,
-    program: &Program<'_>,
-    rules: &Rules,
-    certificate: &[u8],
-) -> Result<bool, AllocError>
-    ensures { IfOk result (λ b. TellsKept b (map routine_of program.now) rules.now certificate.now) }
-{
-    let plain = match plain_of(alloc, program) {
-        Ok(plain) => plain,
-        Err(Failure::OutOfMemory) => return Err(AllocError),
-        Err(Failure::Refused(_)) => return Ok(true),
-    };
-    let certificate = match read_certificate(alloc, certificate) {
-        Ok(certificate) => certificate,
-        Err(CertificateError::OutOfMemory) => return Err(AllocError),
-        Err(CertificateError::Refused(_)) => return Ok(true),
-    };
-    let report = mlk_walk::check_all(alloc, &plain, rules, &certificate)?;
-    Ok(report.is_yes())
 }
 
 // What is told of an entry that the routines lack.

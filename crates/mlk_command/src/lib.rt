@@ -1,17 +1,14 @@
 //! What `mlock` does: it reads the files that the command line names, checks them, and says what it found.
 #![tactic(auto)]
 
-mod certificate;
 mod checked;
 mod file;
-mod lock_root;
 mod printed;
 mod program;
 mod source;
 mod text;
 mod words;
 
-pub use certificate::{CertificateError, CertificateFault, read_certificate};
 pub use file::{LONGEST_FILE, read_whole};
 pub use program::{run, wrong_words};
 pub use source::Files;

@@ -3,7 +3,7 @@
 mod limits;
 mod values;
 
-use mlk_command::{CertificateError, read_certificate};
+use mlk_straight::{CertificateError, read_certificate};
 use std::alloc::Global;
 use std::test::Fail;
 

@@ -8,3 +8,5 @@ mod certificate;
 mod run;
 #[cfg(test)]
 mod straight;
+#[cfg(test)]
+mod verdicts;

@@ -1,7 +1,7 @@
 // Texts at their limits, and long ones.
 
 use super::answer;
-use mlk_command::read_certificate;
+use mlk_straight::read_certificate;
 use std::alloc::Global;
 use std::test::Fail;
 

@@ -1,6 +1,6 @@
 // What is read of a text, part by part.
 
-use mlk_command::read_certificate;
+use mlk_straight::read_certificate;
 use mlk_machine::plain::Root;
 use std::test::Fail;
 

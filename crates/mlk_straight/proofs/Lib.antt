@@ -1,0 +1,12 @@
+pub mod CertificateEach
+pub mod CertificateParts
+pub mod CertificateRoom
+pub mod CertificateRuns
+pub mod CertificateFronts
+pub mod CertificateNumbers
+pub mod CertificateSound
+pub mod CertificateEntries
+pub mod CertificateBlocks
+pub mod CertificatePartsBack
+pub mod CertificateBack
+pub mod Keeping
