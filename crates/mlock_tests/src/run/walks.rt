@@ -2,6 +2,7 @@
 
 mod calls;
 mod lines;
+mod table;
 
 use super::{BASE, expect, joined};
 use std::alloc::{AllocError, Global};
