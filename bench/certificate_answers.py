@@ -14,7 +14,7 @@ import json
 import pathlib
 import re
 
-from certificates import lay
+from laying import HEXADECIMAL, lay
 
 PROGRAM = """//! Reads certificates from standard input, a line each in hexadecimal digits, and prints what is answered.
 #![tactic(auto)]
@@ -23,24 +23,7 @@ use mlk_cert::read_cert;
 use mlk_text::Failure;
 use std::alloc::Global;
 use std::io::{self, Read};
-
-fn digit(b: u8) -> u8 {
-    if b >= 48 && b < 58 { b - 48 } else if b >= 97 && b < 103 { b - 87 } else { 0 }
-}
-
-fn bytes(alloc: Global, hex: &[u8]) -> io::Result<Vec<u8>> {
-    let mut found = Vec::new(alloc);
-    let mut high = 0;
-    for (i, b) in hex.iter().enumerate() {
-        if i % 2 == 0 {
-            high = digit(*b);
-        } else {
-            found.push(high.wrapping_mul(16).wrapping_add(digit(*b)))?;
-        }
-    }
-    Ok(found)
-}
-
+""" + HEXADECIMAL + """
 fn answer(rt: &HostRuntime, alloc: Global, line: &[u8]) -> io::Result<()> {
     let text = bytes(alloc, line)?;
     let Err(failure) = read_cert(alloc, text.as_slice()) else {

@@ -12,7 +12,8 @@ proves what is left.
 """
 import argparse
 import pathlib
-import shutil
+
+from laying import lay
 
 PROGRAM = """//! Reads certificates, and prints how long that took.
 #![tactic(auto)]
@@ -35,7 +36,6 @@ fn main(rt: HostRuntime) -> io::Result<()> {
     Ok(())
 }
 """
-CRATES = ("mlk_text", "mlk_names", "mlk_cert")
 
 
 def block(entry, lines, held):
@@ -49,19 +49,6 @@ def certificate(entries, lines, held):
     """The text of a certificate."""
     body = "".join(part for entry in range(entries) for part in block(entry, lines, held))
     return f"mlock-cert 1\n{body}end\n"
-
-
-def lay(folder, name, crates, program):
-    """A repository with a program that stands on these crates, and with copies of all crates that it needs."""
-    root = pathlib.Path(__file__).resolve().parent.parent
-    source = folder / "crates" / name / "src"
-    source.mkdir(parents=True, exist_ok=True)
-    (source / "main.rt").write_text(program)
-    kept = [line for line in (root / "crates.txt").read_text().splitlines() if line.split(":")[0] in CRATES]
-    (folder / "crates.txt").write_text("\n".join([*kept, f"{name}: {crates}", ""]))
-    for crate in CRATES:
-        shutil.rmtree(folder / "crates" / crate, ignore_errors=True)
-        shutil.copytree(root / "crates" / crate, folder / "crates" / crate)
 
 
 def main():

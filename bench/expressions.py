@@ -10,7 +10,8 @@ The crates mlk_text and mlk_expr are copied with what was proved of them; `rt ru
 """
 import argparse
 import pathlib
-import shutil
+
+from laying import lay
 
 PROGRAM = """//! Reads each line of standard input as an expression, and prints how long that took.
 #![tactic(auto)]
@@ -70,16 +71,7 @@ def main():
     parser.add_argument("size", metavar="MEGABYTES", type=int, nargs="?", default=20)
     words = parser.parse_args()
     folder, size = words.folder, words.size * 1_000_000
-    root = pathlib.Path(__file__).resolve().parent.parent
-    crates = root / "crates"
-    source = folder / "crates" / "expr_speed" / "src"
-    source.mkdir(parents=True, exist_ok=True)
-    (source / "main.rt").write_text(PROGRAM)
-    kept = [line for line in (root / "crates.txt").read_text().splitlines() if line.split(":")[0] in ("mlk_text", "mlk_expr")]
-    (folder / "crates.txt").write_text("\n".join([*kept, "expr_speed: mlk_expr", ""]))
-    for name in ("mlk_text", "mlk_expr"):
-        shutil.rmtree(folder / "crates" / name, ignore_errors=True)
-        shutil.copytree(crates / name, folder / "crates" / name, ignore=shutil.ignore_patterns("unproved"))
+    lay(folder, "expr_speed", "mlk_expr", PROGRAM)
     block = "".join(line + "\n" for line in LINES)
     (folder / "mixed.txt").write_text(block * (size // len(block) + 1))
     (folder / "chain.txt").write_text("1" + "+1" * 500_000 + "\n")

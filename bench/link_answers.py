@@ -18,9 +18,9 @@ import json
 import pathlib
 import random
 import re
-import shutil
 
-CRATES = ("mlk_text", "mlk_expr", "mlk_routine", "mlk_program")
+from laying import HEXADECIMAL, lay
+
 PROGRAM = """//! Links the programs of standard input, one a line, and prints what is answered.
 #![tactic(auto)]
 
@@ -29,24 +29,7 @@ use mlk_routine::{Routine, read_routine};
 use mlk_text::{Failure, Fault, Name};
 use std::alloc::Global;
 use std::io::{self, Read, Write};
-
-fn digit(b: u8) -> u8 {
-    if b >= 48 && b < 58 { b - 48 } else if b >= 97 && b < 103 { b - 87 } else { 0 }
-}
-
-fn bytes(alloc: Global, hex: &[u8]) -> io::Result<Vec<u8>> {
-    let mut found = Vec::new(alloc);
-    let mut high = 0;
-    for (i, b) in hex.iter().enumerate() {
-        if i % 2 == 0 {
-            high = digit(*b);
-        } else {
-            found.push(high.wrapping_mul(16).wrapping_add(digit(*b)))?;
-        }
-    }
-    Ok(found)
-}
-
+""" + HEXADECIMAL + """
 fn refuse(alloc: Global, out: &mut Vec<u8>, failure: &Failure<Fault>) -> io::Result<()> {
     let Failure::Refused(fault) = failure else {
         out.extend_from_slice(b"memory")?;
@@ -395,19 +378,6 @@ def answered(programs):
         yield " ".join(words + asked), Linked(routines).told()
 
 
-def lay(folder):
-    """A repository with the program, and with copies of the crates that it needs."""
-    root = pathlib.Path(__file__).resolve().parent.parent
-    source = folder / "crates" / "link_answers" / "src"
-    source.mkdir(parents=True, exist_ok=True)
-    (source / "main.rt").write_text(PROGRAM)
-    kept = [line for line in (root / "crates.txt").read_text().splitlines() if line.split(":")[0] in CRATES]
-    (folder / "crates.txt").write_text("\n".join([*kept, "link_answers: mlk_program mlk_routine mlk_text", ""]))
-    for crate in CRATES:
-        shutil.rmtree(folder / "crates" / crate, ignore_errors=True)
-        shutil.copytree(root / "crates" / crate, folder / "crates" / crate)
-
-
 def main():
     parser = argparse.ArgumentParser(description=__doc__, formatter_class=argparse.RawDescriptionHelpFormatter)
     parser.add_argument("folder", metavar="DIR", type=pathlib.Path)
@@ -415,7 +385,7 @@ def main():
     parser.add_argument("--random", metavar="N", type=int, nargs="+")
     parser.add_argument("--limits", action="store_true")
     words = parser.parse_args()
-    lay(words.folder)
+    lay(words.folder, "link_answers", "mlk_program mlk_routine mlk_text", PROGRAM)
     count, seed = [*(words.random or [0]), 1][:2]
     writer = Writer(seed)
     programs = limits() if words.limits else [writer.program() for _ in range(count)]

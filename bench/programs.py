@@ -11,7 +11,8 @@ copied with what was proved of them; `rt run` proves what is left. Instructions 
 """
 import argparse
 import pathlib
-import shutil
+
+from laying import lay
 
 PROGRAM = """//! Reads routines and links them, and prints how long that took.
 #![tactic(auto)]
@@ -49,7 +50,6 @@ fn main(rt: HostRuntime) -> io::Result<()> {
     println!(rt; "{} of {} routines read in {read:?}, linked: {linked}, in {spent:?} together", routines.len(), texts.len())
 }
 """
-CRATES = ("mlk_text", "mlk_expr", "mlk_routine", "mlk_program")
 HEAD = """MAIN(ID,AMT) NEW I,OK,T SET OK=1,T="" LOCK +^ACCT(ID):5 ELSE  QUIT 0
 """
 LINES = """ SET ^ACCT(ID,"part",{n})=$G(^ACCT(ID,"part",{n}))+AMT ; line {n}
@@ -81,15 +81,7 @@ def main():
     parser.add_argument("routines", metavar="ROUTINES", type=int, nargs="?", default=2000)
     words = parser.parse_args()
     folder = words.folder
-    root = pathlib.Path(__file__).resolve().parent.parent
-    source = folder / "crates" / "program_speed" / "src"
-    source.mkdir(parents=True, exist_ok=True)
-    (source / "main.rt").write_text(PROGRAM)
-    kept = [line for line in (root / "crates.txt").read_text().splitlines() if line.split(":")[0] in CRATES]
-    (folder / "crates.txt").write_text("\n".join([*kept, "program_speed: mlk_program mlk_routine", ""]))
-    for name in CRATES:
-        shutil.rmtree(folder / "crates" / name, ignore_errors=True)
-        shutil.copytree(root / "crates" / name, folder / "crates" / name)
+    lay(folder, "program_speed", "mlk_program mlk_routine", PROGRAM)
     (folder / "routines").mkdir(exist_ok=True)
     for number in range(words.routines):
         (folder / "routines" / f"R{number:05}.m").write_text(routine(number, words.routines))

@@ -10,7 +10,8 @@ levels. The crates mlk_text, mlk_expr and mlk_routine are copied with what was p
 """
 import argparse
 import pathlib
-import shutil
+
+from laying import lay
 
 PROGRAM = """//! Reads routines, and prints how long all of them took.
 #![tactic(auto)]
@@ -36,7 +37,6 @@ fn main(rt: HostRuntime) -> io::Result<()> {
     println!(rt; "{} routines of {bytes} bytes, {refused} refused, in {spent:?}", words.len().wrapping_sub(1))
 }
 """
-CRATES = ("mlk_text", "mlk_expr", "mlk_routine")
 LINES = """P{n}(ID,AMT,REASON) ; posts an amount
  NEW OK,T SET OK=1,T=$P(^ACCT(ID),";",2) IF AMT'>0 QUIT 0
  LOCK +^ACCT(ID):5 ELSE  SET ^LOG("busy",$J,{n})=$H QUIT 0
@@ -61,15 +61,7 @@ def main():
     parser.add_argument("routines", metavar="ROUTINES", type=int, nargs="?", default=200)
     words = parser.parse_args()
     folder = words.folder
-    root = pathlib.Path(__file__).resolve().parent.parent
-    source = folder / "crates" / "routine_speed" / "src"
-    source.mkdir(parents=True, exist_ok=True)
-    (source / "main.rt").write_text(PROGRAM)
-    kept = [line for line in (root / "crates.txt").read_text().splitlines() if line.split(":")[0] in CRATES]
-    (folder / "crates.txt").write_text("\n".join([*kept, "routine_speed: mlk_routine", ""]))
-    for name in CRATES:
-        shutil.rmtree(folder / "crates" / name, ignore_errors=True)
-        shutil.copytree(root / "crates" / name, folder / "crates" / name)
+    lay(folder, "routine_speed", "mlk_routine", PROGRAM)
     for name in ("routines", "edges"):
         (folder / name).mkdir(exist_ok=True)
     for n in range(words.routines):

@@ -14,7 +14,8 @@ there, and of these where less may stand. The crates mlk_text and mlk_expr are c
 import argparse
 import pathlib
 import random
-import shutil
+
+from laying import lay
 
 PROGRAM = """//! Reads each line of standard input in seven ways, from the byte that its first three digits tell.
 #![tactic(auto)]
@@ -452,16 +453,7 @@ def main():
     parser.add_argument("lines", metavar="LINES", type=int, nargs="?", default=20_000)
     parser.add_argument("seed", metavar="SEED", type=int, nargs="?", default=1)
     words = parser.parse_args()
-    root = pathlib.Path(__file__).resolve().parent.parent
-    crates = root / "crates"
-    source = words.folder / "crates" / "expr_answers" / "src"
-    source.mkdir(parents=True, exist_ok=True)
-    (source / "main.rt").write_text(PROGRAM)
-    kept = [line for line in (root / "crates.txt").read_text().splitlines() if line.split(":")[0] in ("mlk_text", "mlk_expr")]
-    (words.folder / "crates.txt").write_text("\n".join([*kept, "expr_answers: mlk_expr mlk_text", ""]))
-    for name in ("mlk_text", "mlk_expr"):
-        shutil.rmtree(words.folder / "crates" / name, ignore_errors=True)
-        shutil.copytree(crates / name, words.folder / "crates" / name)
+    lay(words.folder, "expr_answers", "mlk_expr mlk_text", PROGRAM)
     writer = Writer(words.seed)
     texts = [(writer.start(), writer.line()) for _ in range(words.lines)]
     lines = [f"{len(start):03}{start}{text}" for start, text in texts]

@@ -17,9 +17,9 @@ the fault, unless something before it is refused by name.
 import json
 import pathlib
 import re
-import shutil
 import sys
 
+from laying import HEXADECIMAL, lay
 from second_reader import DIGITS, EVERYTHING, LETTERS, NO_CALLS, NO_TOUCHES
 from second_reader import SecondReader, Writer, actuals, expression, reference
 
@@ -41,7 +41,6 @@ ABOVE_LINES = {203, 204, 209, 210}
 MOST_BYTES, MOST_LINES, MOST_LEVELS, MOST_LOOPS = 1 << 20, 65535, 15, 255
 
 
-CRATES = ("mlk_text", "mlk_expr", "mlk_routine")
 PROGRAM = """//! Reads routines from standard input: a line each, the stem and the text in hexadecimal digits with a space between.
 #![tactic(auto)]
 
@@ -49,24 +48,7 @@ use mlk_routine::read_routine;
 use mlk_text::Failure;
 use std::alloc::Global;
 use std::io::{self, Read};
-
-fn digit(b: u8) -> u8 {
-    if b >= 48 && b < 58 { b - 48 } else if b >= 97 && b < 103 { b - 87 } else { 0 }
-}
-
-fn bytes(alloc: Global, hex: &[u8]) -> io::Result<Vec<u8>> {
-    let mut found = Vec::new(alloc);
-    let mut high = 0;
-    for (i, b) in hex.iter().enumerate() {
-        if i % 2 == 0 {
-            high = digit(*b);
-        } else {
-            found.push(high * 16 + digit(*b))?;
-        }
-    }
-    Ok(found)
-}
-
+""" + HEXADECIMAL + """
 fn answer(rt: &HostRuntime, alloc: Global, line: &[u8]) -> io::Result<()> {
     let Some(space) = line.iter().position(|b| *b == b' ') else {
         return Ok(());
@@ -648,15 +630,7 @@ class RoutineWriter(Writer):
 def write(folder, count, seed):
     writer = RoutineWriter(seed)
     texts = [writer.routine() for _ in range(count)]
-    root = pathlib.Path(__file__).resolve().parent.parent
-    source = folder / "crates" / "routine_answers" / "src"
-    source.mkdir(parents=True, exist_ok=True)
-    (source / "main.rt").write_text(PROGRAM)
-    kept = [line for line in (root / "crates.txt").read_text().splitlines() if line.split(":")[0] in CRATES]
-    (folder / "crates.txt").write_text("\n".join([*kept, "routine_answers: mlk_routine mlk_text", ""]))
-    for name in CRATES:
-        shutil.rmtree(folder / "crates" / name, ignore_errors=True)
-        shutil.copytree(root / "crates" / name, folder / "crates" / name)
+    lay(folder, "routine_answers", "mlk_routine mlk_text", PROGRAM)
     lines = [f"{b'R'.hex()} {text.encode('latin-1').hex()}\n" for text in texts]
     (folder / "routines.txt").write_text("".join(lines))
     answers = [routine("R", text) for text in texts]
