@@ -8,5 +8,3 @@ mod certificate;
 mod run;
 #[cfg(test)]
 mod straight;
-#[cfg(test)]
-mod verdicts;

@@ -5,7 +5,6 @@ mod limits;
 mod reading;
 mod refusals;
 mod routines;
-mod walks;
 
 use mlk_command::{Files, run};
 use std::alloc::{AllocError, Global};
@@ -118,61 +117,42 @@ pub(crate) fn expect(
 
 pub(crate) const CHECK: [&str; 5] = ["mlock", "check", "rules.toml", "cert", "ONE.m"];
 
-// A routine, and what is answered of it.
-type Row = (&'static str, u8, &'static str);
-
-// Routines under one entry with one rule, by a certificate that says what they hold.
-const REPORTS: &[Row] = &[
-    (TAKE, 0, "yes\n"),
-    (
-        "TAKE SET ^ACCT(1)=5 LOCK +^ACCT(1) LOCK -^ACCT(1) QUIT\n",
-        1,
-        "TAKE^ONE 1:10 702 Uncovered\nno 1\n",
-    ),
-    (
-        "TAKE LOCK +^ACCT(1) QUIT\n",
-        1,
-        "TAKE^ONE 1:21 709 HeldAtEnd\nno 1\n",
-    ),
-    (
-        "TAKE LOCK -^ACCT(1) QUIT\n",
-        1,
-        "TAKE^ONE 1:12 706 NotHeld\nno 1\n",
-    ),
-    (
-        "TAKE LOCK +^ACCT(1) SET ^LOG=1 LOCK -^ACCT(1) QUIT\n",
-        1,
-        "TAKE^ONE 1:25 701 Unruled\nno 1\n",
-    ),
-    (
-        "TAKE LOCK +^ACCT(1)\n LOCK -^ACCT(1) QUIT\n",
-        1,
-        "TAKE^ONE 2:1 710 CaseNotListed\nno 1\n",
-    ),
-];
-
-// Runs the check of each routine under these rules, and compares what is printed.
-fn each_answers(
-    rt: &impl Abort,
-    alloc: Global,
-    rules: &str,
-    rows: &[Row],
-) -> Result<(), AllocError> {
-    for (routine, status, printed) in rows {
-        let files = [("rules.toml", rules), ("cert", CERT), ("ONE.m", *routine)];
-        expect(rt, alloc, &CHECK, &files, *status, printed, "")?;
-    }
-    Ok(())
-}
-
 #[test]
 fn reports(rt: HostRuntime) -> Result<(), Fail> {
-    each_answers(&rt, rt.alloc(), RULES, REPORTS)?;
-    Ok(())
-}
-
-// The summary leaves the claim out.
-const WITHOUT_CLAIM: &str = "mlock-cert 1
+    let rows = [
+        (TAKE, 0, "yes\n"),
+        (
+            "TAKE SET ^ACCT(1)=5 LOCK +^ACCT(1) LOCK -^ACCT(1) QUIT\n",
+            1,
+            "TAKE^ONE 1:10 702 Uncovered\nno 1\n",
+        ),
+        (
+            "TAKE LOCK +^ACCT(1) QUIT\n",
+            1,
+            "TAKE^ONE 1:21 709 HeldAtEnd\nno 1\n",
+        ),
+        (
+            "TAKE LOCK -^ACCT(1) QUIT\n",
+            1,
+            "TAKE^ONE 1:12 706 NotHeld\nno 1\n",
+        ),
+        (
+            "TAKE LOCK +^ACCT(1) SET ^LOG=1 LOCK -^ACCT(1) QUIT\n",
+            1,
+            "TAKE^ONE 1:25 701 Unruled\nno 1\n",
+        ),
+        (
+            "TAKE LOCK +^ACCT(1)\n LOCK -^ACCT(1) QUIT\n",
+            1,
+            "TAKE^ONE 2:1 710 CaseNotListed\nno 1\n",
+        ),
+    ];
+    for (routine, status, printed) in rows {
+        let files = [("rules.toml", RULES), ("cert", CERT), ("ONE.m", routine)];
+        expect(&rt, rt.alloc(), &CHECK, &files, status, printed, "")?;
+    }
+    // The summary leaves the claim out.
+    let low = "mlock-cert 1
 entry TAKE^ONE
 need -
 low -
@@ -182,41 +162,40 @@ exit T=* H=- K=-
 at 1.0 T=* H=- O=- K=- S=-
 end
 ";
-
-#[test]
-fn a_summary_that_leaves_a_claim_out(rt: HostRuntime) -> Result<(), Fail> {
-    let files = [
-        ("rules.toml", RULES),
-        ("cert", WITHOUT_CLAIM),
-        ("ONE.m", TAKE),
-    ];
+    let files = [("rules.toml", RULES), ("cert", low), ("ONE.m", TAKE)];
     let printed = "TAKE^ONE 1:12 712 SummaryShort\nno 1\n";
     expect(&rt, rt.alloc(), &CHECK, &files, 1, printed, "")?;
     Ok(())
 }
 
-const REPORTS_BY_KIND: &[Row] = &[
-    (TAKE, 0, "yes\n"),
-    (
-        "TAKE SET ^ACCT(1)=5 LOCK +^ACCT(1) LOCK -^ACCT(1) QUIT\n",
-        1,
-        "TAKE^ONE 1:10 702 Uncovered\nno 1\n",
-    ),
-    (
-        "TAKE LOCK +^ACCT(1) SET ^CONF(1)=5 LOCK -^ACCT(1) QUIT\n",
-        1,
-        "TAKE^ONE 1:25 703 ReadOnly\nno 1\n",
-    ),
-    (
-        "TAKE LOCK +^ACCT(1) SET ^TMP(1)=5 LOCK -^ACCT(1) QUIT\n",
-        1,
-        "TAKE^ONE 1:25 701 Unruled\nno 1\n",
-    ),
-];
-
 #[test]
 fn reports_by_rules_of_each_kind(rt: HostRuntime) -> Result<(), Fail> {
     let rules = joined(rt.alloc(), BASE, "[[entry]]\nlabel = \"TAKE^ONE\"\n")?;
-    each_answers(&rt, rt.alloc(), rules.as_str(), REPORTS_BY_KIND)?;
+    let rows = [
+        (TAKE, 0, "yes\n"),
+        (
+            "TAKE SET ^ACCT(1)=5 LOCK +^ACCT(1) LOCK -^ACCT(1) QUIT\n",
+            1,
+            "TAKE^ONE 1:10 702 Uncovered\nno 1\n",
+        ),
+        (
+            "TAKE LOCK +^ACCT(1) SET ^CONF(1)=5 LOCK -^ACCT(1) QUIT\n",
+            1,
+            "TAKE^ONE 1:25 703 ReadOnly\nno 1\n",
+        ),
+        (
+            "TAKE LOCK +^ACCT(1) SET ^TMP(1)=5 LOCK -^ACCT(1) QUIT\n",
+            1,
+            "TAKE^ONE 1:25 701 Unruled\nno 1\n",
+        ),
+    ];
+    for (routine, status, printed) in rows {
+        let files = [
+            ("rules.toml", rules.as_str()),
+            ("cert", CERT),
+            ("ONE.m", routine),
+        ];
+        expect(&rt, rt.alloc(), &CHECK, &files, status, printed, "")?;
+    }
     Ok(())
 }
