@@ -1,0 +1,3 @@
+pub mod OverlapLemmas
+pub mod ClashLemmas
+pub mod PairLemmas

@@ -1,0 +1,3 @@
+pub mod RingLemmas
+pub mod SettleLemmas
+pub mod NumberLemmas
