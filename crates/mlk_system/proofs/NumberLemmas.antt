@@ -1,8 +1,7 @@
 -- The first job of a number, by its place.
-use Rattle.std.proofs.Common.{◌≡◌, ◌∙◌, ◌==◌, ℕ, zero, suc, Bool, true, false, List, [], ◌∷◌, map, get_or, Option, Some, None, Result, Ok, Err, refl, sym, ap, inl, inr}
-use Rattle.std.specs.Prelude.{slice_set, position, option_map, if◌then◌else◌}
+use Rattle.std.proofs.Common.{◌≡◌, ◌∙◌, ◌==◌, ℕ, suc, Bool, List, [], ◌∷◌, map, get_or, Option, Some, None, Ok, Err, refl, sym, ap, inl, inr}
+use Rattle.std.specs.Prelude.{slice_set, position, option_map}
 use Rattle.std.proofs.lemmas.Bool.{cases_Bool}
-use Rattle.mlk_locks.specs.declared.refusal.Refusal.{Refusal}
 use Rattle.mlk_locks.specs.declared.refusal.Refusal.TheVariants.{UnknownJob}
 use Rattle.mlk_routine.specs.Trees.{RoutineTree}
 use Rattle.mlk_program.proofs.NameTables.{position-cons}

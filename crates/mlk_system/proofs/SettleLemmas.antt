@@ -1,5 +1,5 @@
 -- Steps that a job makes by itself, one after another.
-use Rattle.std.proofs.Common.{◌≡◌, ◌∙◌, ℕ, zero, suc, ◌≤◌, List, Result, Ok, Err, refl, sym, ap, arith}
+use Rattle.std.proofs.Common.{◌≡◌, ◌∙◌, ℕ, zero, suc, ◌≤◌, List, Ok, Err, refl, sym, ap, arith}
 use Rattle.mlk_locks.specs.declared.refusal.Refusal.{Refusal}
 use Rattle.mlk_routine.specs.Trees.{RoutineTree}
 use Rattle.mlk_jobs.specs.Tasks.{Job}

@@ -1,4 +1,4 @@
-use Rattle.std.proofs.Common.{◌+◌, ◌<◌, length, map, drop, refl, arith}
+use Rattle.std.proofs.Common.{◌+◌, map, drop, refl, arith}
 use Rattle.mlk_replay.specs.Replays.{event_of}
 use Rattle.mlk_replay.proofs.ReplayLemmas.{half_more, next_event, replayed_refused, replayed_all, begun, none_left}
 use Rattle.mlk_replay.proofs.replaying.replay.Goals as goal
