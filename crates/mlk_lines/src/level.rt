@@ -89,6 +89,31 @@ fn without_first(lines: &[Line]) -> &[Line]
     }
 }
 
+/// The walk of one line alone, where its block may end in these cases: what is found is added, and the cases are answered
+/// in which the line's own block may end. The next line is the one to which a job goes on.
+pub fn walk_alone<'a>(
+    alloc: Global,
+    scope: &'a Scope<'a>,
+    line: &'a Line,
+    around: Around<'a>,
+    next: Option<&'a Line>,
+    inner: List<Case>,
+    found: &mut LineFaults,
+) -> Result<Vec<Case>, AllocError>
+    ensures faults { OnOk result (found.new ≡ found.old
+        ++ map (found_in (number_of (head_of line.now))) (head_walk (scope_of scope.now) (around_of around.entry)
+        (option_map head_of (option_copied next.entry)) (block_with (line_of line.now).1 inner)
+        (head_of line.now)).faults) }
+    ensures ends { IfOk result (λ v. v.items ≡ (head_walk (scope_of scope.now) (around_of around.entry)
+        (option_map head_of (option_copied next.entry)) (block_with (line_of line.now).1 inner)
+        (head_of line.now)).cases) }
+{
+    let block = block_of(line.block.as_slice(), inner);
+    let ends = walk_head(alloc, scope, around, next, &block, line)?;
+    found.add(line.number, ends.faults)?;
+    Ok(ends.cases.into_vec())
+}
+
 // The walk of a line, after that of its block.
 #[cycle(level)]
 fn walk_line<'a>(

@@ -13,5 +13,5 @@ mod line_end;
 mod rounds;
 
 pub use found::{LineFault, LineFaults};
-pub use level::walk_lines;
+pub use level::{walk_alone, walk_lines};
 pub use line_end::Around;

@@ -1,0 +1,135 @@
+// The walk of an entry.
+
+use crate::draft::Draft;
+use crate::lists::At;
+use crate::maker::{Ground, Maker, has_changed};
+use crate::mend::done;
+use crate::need::formals_of;
+use crate::settle::settle_lines;
+use crate::stop::{GaveUp, Stop, gave_up};
+use mlk_cert::{Case, NameSet, Own, Shared, Test};
+use mlk_commands::in_order;
+use mlk_lines::Around;
+use mlk_program::{EntryId, Program};
+use mlk_routine::Line;
+use mlk_rows::Fault;
+use mlk_text::{Code, Column, Failure, List, Name};
+use std::alloc::{AllocError, Global};
+
+/// How often an entry is walked at most in a round. Each time its needs or its summary have grown.
+const MOST_WALKS: usize = 1_000_000;
+
+fn own_formals(alloc: Global, names: &[Name]) -> Result<Vec<Own>, AllocError> {
+    let mut own = Vec::new(alloc);
+    for name in names {
+        own.push(Own {
+            level: 1,
+            names: NameSet::Only(name.copy()?),
+        })?;
+    }
+    Ok(own)
+}
+
+// The case in which an entry begins.
+fn begin_case(ground: &Ground<'_>, draft: &Draft) -> Result<Case, AllocError> {
+    let alloc = ground.alloc;
+    let names = in_order(alloc, formals_of(ground, draft))?;
+    let own = own_formals(alloc, names.as_slice())?;
+    let need = draft.block.summary.need.as_slice();
+    Ok(Case {
+        test: Test::Any,
+        held: Shared::new(alloc, Vec::from_clones(alloc, need)?)?,
+        own: Shared::new(alloc, own)?,
+        kept: Shared::new(alloc, names.into_vec())?,
+        saved: List::new(alloc),
+    })
+}
+
+// The number of an entry's line.
+fn number_of(program: &Program, entry: EntryId) -> usize {
+    match program.line(entry) {
+        None => 1,
+        Some(line) => line.number,
+    }
+}
+
+// The line after an entry's lines.
+fn line_after<'a>(program: &Program<'a>, entry: EntryId) -> Result<Option<&'a Line>, AllocError> {
+    let lines = program.lines_of(entry);
+    let Some(place) = entry.line().checked_add(lines.len()) else {
+        return Err(AllocError);
+    };
+    Ok(program.line(EntryId::new(entry.routine(), place)))
+}
+
+// The case in which an entry begins is listed at its line.
+fn begin(ground: &Ground<'_>, maker: &mut Maker, draft: &mut Draft) -> Result<(), Failure<Stop>> {
+    let line = number_of(ground.program, draft.entry);
+    let case = begin_case(ground, draft)?;
+    let listing = draft.lists.list(ground.alloc, At { line, round: 0 }, case)?;
+    let fault = Fault {
+        line,
+        column: Column::new(1),
+        code: Code::CaseNotListed,
+    };
+    done(maker, fault, listing)?;
+    Ok(())
+}
+
+// Walks an entry's lines: whether they are to be walked again, since the entry calls itself by another summary.
+fn sweep(ground: &Ground<'_>, maker: &mut Maker, draft: &mut Draft) -> Result<bool, Failure<Stop>> {
+    begin(ground, maker, draft)?;
+    let before = draft.changed;
+    let around = Around::Frame(line_after(ground.program, draft.entry)?);
+    settle_lines(
+        ground.program.lines_of(draft.entry),
+        around,
+        ground,
+        maker,
+        draft,
+        true,
+    )?;
+    Ok(draft.changed != before && draft.callees.contains(&draft.entry))
+}
+
+// Walks an entry until its lists grow no more.
+fn walk(ground: &Ground<'_>, maker: &mut Maker, draft: &mut Draft) -> Result<(), Failure<GaveUp>> {
+    for _ in 0..MOST_WALKS {
+        match sweep(ground, maker, draft) {
+            Ok(true) => {}
+            Ok(false) => return Ok(()),
+            Err(Failure::OutOfMemory) => return Err(Failure::OutOfMemory),
+            Err(Failure::Refused(Stop::Anew)) => draft.clear(ground.alloc),
+            Err(Failure::Refused(Stop::Full(fault))) => return gave_up(draft.entry, fault),
+        }
+    }
+    Ok(())
+}
+
+// Whether something that the walk of a draft asked has changed since.
+fn is_stale(maker: &Maker, draft: &Draft) -> bool {
+    let Some(walked) = draft.walked else {
+        return true;
+    };
+    draft
+        .callees
+        .iter()
+        .any(|entry| has_changed(maker, *entry, walked))
+}
+
+/// Walks an entry of which something is known, unless nothing has changed that its walk asks.
+pub(crate) fn walk_entry(
+    ground: &Ground<'_>,
+    maker: &mut Maker,
+    entry: EntryId,
+) -> Result<(), Failure<GaveUp>> {
+    let Some(mut draft) = maker.drafts.remove(&entry) else {
+        return Ok(());
+    };
+    if is_stale(maker, &draft) {
+        walk(ground, maker, &mut draft)?;
+        draft.walked = Some(maker.changes);
+    }
+    maker.drafts.insert(entry, draft)?;
+    Ok(())
+}

@@ -1,0 +1,80 @@
+// All entries of which something is known.
+
+use crate::draft::Draft;
+use crate::stop::Stop;
+use mlk_coverage::Rules;
+use mlk_program::{EntryId, Program};
+use mlk_rows::Fault;
+use mlk_text::{Failure, Value};
+use std::alloc::{AllocError, Global};
+use std::collections::BTreeMap;
+
+/// What the maker looks into.
+#[derive(Clone, Copy, Drop)]
+pub(crate) struct Ground<'a> {
+    pub(crate) alloc: Global,
+    pub(crate) program: &'a Program<'a>,
+    pub(crate) rules: &'a Rules,
+}
+
+/// What is known of all entries but the one that is walked, and the changes so far.
+#[derive(Drop)]
+pub(crate) struct Maker {
+    pub(crate) drafts: BTreeMap<EntryId, Draft>,
+    /// how many changes there were
+    pub(crate) changes: usize,
+    /// whether this is the last round, in which nothing may change
+    pub(crate) last: bool,
+}
+
+impl Maker {
+    /// Nothing is known.
+    pub(crate) fn new(alloc: Global) -> Maker {
+        Maker {
+            drafts: BTreeMap::new(alloc),
+            changes: 0,
+            last: false,
+        }
+    }
+
+    /// Something changes, which mends this fault.
+    pub(crate) fn change(&mut self, fault: Fault) -> Result<(), Failure<Stop>> {
+        self.changes = self.changes.saturating_add(1);
+        if self.last {
+            return Err(Failure::Refused(Stop::Full(fault)));
+        }
+        Ok(())
+    }
+
+    /// An entry of which nothing is known yet, where it is not there; whether it was added.
+    pub(crate) fn add(
+        &mut self,
+        ground: &Ground<'_>,
+        entry: EntryId,
+        declared: bool,
+    ) -> Result<bool, AllocError> {
+        if self.drafts.contains_key(&entry) {
+            return Ok(false);
+        }
+        let Some(text) = ground.program.text_of(ground.alloc, entry)? else {
+            return Ok(false);
+        };
+        let draft = Draft::new(
+            ground.alloc,
+            entry,
+            Value::new(text),
+            declared,
+            self.changes,
+        );
+        self.drafts.insert(entry, draft)?;
+        Ok(true)
+    }
+}
+
+/// Whether the summary of an entry has changed after so many changes.
+pub(crate) fn has_changed(maker: &Maker, entry: EntryId, walked: usize) -> bool {
+    match maker.drafts.get(&entry) {
+        Some(callee) => callee.changed > walked,
+        None => false,
+    }
+}

@@ -1,0 +1,194 @@
+// What mends the faults of a line.
+
+use crate::draft::Draft;
+use crate::lists::{At, Listing};
+use crate::maker::{Ground, Maker};
+use crate::need::is_needed;
+use crate::stop::Stop;
+use crate::summary::{add_exit, add_mods, drop_all, lower, widen};
+use crate::walk::{Site, Target};
+use mlk_cert::{Case, ExitCase, NameSet};
+use mlk_lines::LineFault;
+use mlk_names::LockTerm;
+use mlk_program::EntryId;
+use mlk_routine::Line;
+use mlk_rows::{Fault, Mend};
+use mlk_text::{Code, Column, Failure};
+
+/// What is done of what would mend a fault: whether something changes.
+pub(crate) fn done(
+    maker: &mut Maker,
+    fault: Fault,
+    listing: Listing,
+) -> Result<bool, Failure<Stop>> {
+    match listing {
+        Listing::Known => Ok(false),
+        Listing::Added => {
+            maker.change(fault)?;
+            Ok(true)
+        }
+        Listing::Full => Err(Failure::Refused(Stop::Full(fault))),
+    }
+}
+
+// The same of an entry's summary.
+fn done_in_summary(
+    maker: &mut Maker,
+    draft: &mut Draft,
+    fault: Fault,
+    listing: Listing,
+) -> Result<bool, Failure<Stop>> {
+    let changes = done(maker, fault, listing)?;
+    if changes {
+        draft.changed = maker.changes;
+    }
+    Ok(changes)
+}
+
+// Whether the line itself, or its block, is walked from a point on this line.
+fn is_here(line: &Line, point: usize) -> bool {
+    let begins_block = match line.block.as_slice().first() {
+        Some(first) => first.number == point,
+        None => false,
+    };
+    line.number == point || begins_block
+}
+
+// The entry that is called in a column.
+fn called(targets: &[Target], column: Column) -> Option<EntryId> {
+    for target in targets {
+        if target.column == column && !target.begins {
+            return Some(target.entry);
+        }
+    }
+    None
+}
+
+// Adds the entry that a fault calls, where it has no block yet.
+fn add_called(
+    ground: &Ground<'_>,
+    maker: &mut Maker,
+    draft: &Draft,
+    targets: &[Target],
+    fault: Fault,
+) -> Result<bool, Failure<Stop>> {
+    if fault.code != Code::NoCertificate {
+        return Ok(false);
+    }
+    let Some(entry) = called(targets, fault.column) else {
+        return Ok(false);
+    };
+    if entry == draft.entry || !maker.add(ground, entry, false)? {
+        return Ok(false);
+    }
+    maker.change(fault)?;
+    Ok(true)
+}
+
+// Locks that are lacking are needed, where they may be.
+fn add_needs(
+    ground: &Ground<'_>,
+    maker: &mut Maker,
+    draft: &mut Draft,
+    site: Site<'_>,
+    targets: &[Target],
+    fault: Fault,
+    terms: Vec<LockTerm>,
+) -> Result<bool, Failure<Stop>> {
+    if !is_needed(ground, maker, draft, site, targets, fault, terms.as_slice())? {
+        return Ok(false);
+    }
+    let listing = draft.need(ground.alloc, terms)?;
+    done_in_summary(maker, draft, fault, listing)?;
+    Err(Failure::Refused(Stop::Anew))
+}
+
+// A case is listed at a point.
+fn add_case(
+    ground: &Ground<'_>,
+    maker: &mut Maker,
+    draft: &mut Draft,
+    line: &Line,
+    fault: Fault,
+    at: At,
+    case: Case,
+) -> Result<bool, Failure<Stop>> {
+    let listing = draft.lists.list(ground.alloc, at, case)?;
+    Ok(done(maker, fault, listing)? && is_here(line, at.line))
+}
+
+// A way in which the call may end.
+fn add_end(
+    ground: &Ground<'_>,
+    maker: &mut Maker,
+    draft: &mut Draft,
+    fault: Fault,
+    exit: ExitCase,
+) -> Result<bool, Failure<Stop>> {
+    let listing = add_exit(ground.alloc, &mut draft.block.summary, exit)?;
+    done_in_summary(maker, draft, fault, listing)?;
+    Ok(false)
+}
+
+// Names that the call may change.
+fn add_changes(
+    ground: &Ground<'_>,
+    maker: &mut Maker,
+    draft: &mut Draft,
+    fault: Fault,
+    sets: Vec<NameSet>,
+) -> Result<bool, Failure<Stop>> {
+    let listing = add_mods(ground.alloc, &mut draft.block.summary, sets)?;
+    done_in_summary(maker, draft, fault, listing)
+}
+
+// Mends one fault, where that can be: whether the line has to be walked again.
+fn mend_one(
+    ground: &Ground<'_>,
+    maker: &mut Maker,
+    draft: &mut Draft,
+    site: Site<'_>,
+    targets: &[Target],
+    fault: Fault,
+    mend: Mend,
+) -> Result<bool, Failure<Stop>> {
+    match mend {
+        Mend::Nothing => add_called(ground, maker, draft, targets, fault),
+        Mend::Locks(terms) => add_needs(ground, maker, draft, site, targets, fault, terms),
+        Mend::Listed(line, round, case) => {
+            let at = At { line, round };
+            add_case(ground, maker, draft, site.line, fault, at, case)
+        }
+        Mend::Exit(exit) => add_end(ground, maker, draft, fault, exit),
+        Mend::Changes(sets) => add_changes(ground, maker, draft, fault, sets),
+        Mend::Rank(rank) => {
+            let listing = lower(&mut draft.block.summary, rank);
+            done_in_summary(maker, draft, fault, listing)
+        }
+        Mend::Callee(low, drops) => {
+            let listing = widen(&mut draft.block.summary, low, drops);
+            done_in_summary(maker, draft, fault, listing)
+        }
+        Mend::Drops => {
+            let listing = drop_all(&mut draft.block.summary);
+            done_in_summary(maker, draft, fault, listing)
+        }
+    }
+}
+
+/// Mends the faults of a line, as far as they can be: whether the line has to be walked again.
+pub(crate) fn mend_all(
+    ground: &Ground<'_>,
+    maker: &mut Maker,
+    draft: &mut Draft,
+    site: Site<'_>,
+    targets: &[Target],
+    faults: Vec<(LineFault, Mend)>,
+) -> Result<bool, Failure<Stop>> {
+    let mut again = false;
+    for (found, mend) in faults {
+        let one = mend_one(ground, maker, draft, site, targets, found.fault, mend)?;
+        again = again || one;
+    }
+    Ok(again)
+}

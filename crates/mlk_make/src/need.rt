@@ -1,0 +1,146 @@
+// Locks that a caller may be asked to hold.
+
+use crate::draft::Draft;
+use crate::hand::rounds_in;
+use crate::lists::At;
+use crate::maker::{Ground, Maker};
+use crate::news::are_made_new;
+use crate::probe::{Probe, is_reached};
+use crate::walk::{Site, Target};
+use mlk_calls::{is_among, is_own};
+use mlk_cert::{Case, NameSet};
+use mlk_commands::in_order;
+use mlk_names::{KnownSym, LockTerm};
+use mlk_rows::Fault;
+use mlk_text::{List, Name};
+use std::alloc::{AllocError, Global};
+
+fn add_names(names: &mut Vec<Name>, term: &LockTerm) -> Result<(), AllocError> {
+    for symbol in term.subs.as_slice() {
+        if let KnownSym::Local(name) = symbol {
+            names.push(name.copy()?)?;
+        }
+    }
+    Ok(())
+}
+
+// The names that terms mention, in order.
+fn names_in(alloc: Global, terms: &[LockTerm]) -> Result<List<Name>, AllocError> {
+    let mut names = Vec::new(alloc);
+    for term in terms {
+        add_names(&mut names, term)?;
+    }
+    in_order(alloc, names.as_slice())
+}
+
+fn has(set: &NameSet, name: &Name) -> bool {
+    match set {
+        NameSet::Only(only) => only == name,
+        NameSet::AllBut(others) => !is_among(others.as_slice(), name),
+    }
+}
+
+/// The formals of a draft's entry.
+pub(crate) fn formals_of<'a>(ground: &Ground<'a>, draft: &Draft) -> &'a [Name] {
+    match ground.program.line(draft.entry) {
+        None => &[],
+        Some(line) => match &line.formals {
+            None => &[],
+            Some(formals) => formals.as_slice(),
+        },
+    }
+}
+
+// Whether a name is no formal, and the call changes it or some call shares it.
+fn is_changed(ground: &Ground<'_>, draft: &Draft, name: &Name) -> bool {
+    if is_among(formals_of(ground, draft), name) {
+        return false;
+    }
+    let mods = draft.block.summary.mods.as_slice();
+    ground.program.is_shared(name) || mods.iter().any(|set| has(set, name))
+}
+
+// Whether a case knows a name as it was when the call began.
+fn is_kept(ground: &Ground<'_>, draft: &Draft, case: &Case, name: &Name) -> bool {
+    if is_among(formals_of(ground, draft), name) {
+        return is_among(case.kept.as_slice(), name);
+    }
+    !is_own(case.own.as_slice(), name)
+}
+
+/// Whether a case knows names as they were when the call began.
+pub(crate) fn are_kept(ground: &Ground<'_>, draft: &Draft, case: &Case, names: &[Name]) -> bool {
+    names.iter().all(|name| is_kept(ground, draft, case, name))
+}
+
+// Whether a fault is reached from one of a point's cases with these names as they were when the call began.
+fn is_reached_at(
+    ground: &Ground<'_>,
+    maker: &Maker,
+    draft: &Draft,
+    probe: &Probe<'_>,
+    round: usize,
+) -> Result<bool, AllocError> {
+    let line = probe.site.line;
+    if are_made_new(line, round, probe.fault.column, probe.names) {
+        return Ok(false);
+    }
+    let at = At {
+        line: line.number,
+        round,
+    };
+    for case in draft.lists.cases(at) {
+        if are_kept(ground, draft, case, probe.names)
+            && is_reached(ground, maker, draft, probe, at, case)?
+        {
+            return Ok(true);
+        }
+    }
+    Ok(false)
+}
+
+// The same from one of a line's points.
+fn is_reached_on(
+    ground: &Ground<'_>,
+    maker: &Maker,
+    draft: &Draft,
+    probe: &Probe<'_>,
+) -> Result<bool, AllocError> {
+    for round in 0..rounds_in(&probe.site.line.commands).saturating_add(1) {
+        if is_reached_at(ground, maker, draft, probe, round)? {
+            return Ok(true);
+        }
+    }
+    Ok(false)
+}
+
+/// Whether a fault may be mended by what the caller holds: its entry is not declared, and the locks mention formals that
+/// are kept there, or names that the call neither has for its own nor changes, and that no call shares.
+pub(crate) fn is_needed(
+    ground: &Ground<'_>,
+    maker: &Maker,
+    draft: &Draft,
+    site: Site<'_>,
+    targets: &[Target],
+    fault: Fault,
+    terms: &[LockTerm],
+) -> Result<bool, AllocError> {
+    if draft.declared || terms.is_empty() {
+        return Ok(false);
+    }
+    let names = names_in(ground.alloc, terms)?;
+    let names = names.as_slice();
+    if names.is_empty() {
+        return Ok(true);
+    }
+    if names.iter().any(|name| is_changed(ground, draft, name)) {
+        return Ok(false);
+    }
+    let probe = Probe {
+        site,
+        targets,
+        fault,
+        names,
+    };
+    is_reached_on(ground, maker, draft, &probe)
+}

@@ -1,0 +1,51 @@
+// What NEW makes new before a column of a line.
+
+use crate::hand::round_at;
+use mlk_calls::is_among;
+use mlk_routine::{Action, Command, Commands, Line, NewArgument};
+use mlk_text::{Column, Name};
+
+fn is_made_new(argument: &NewArgument, names: &[Name]) -> bool {
+    match argument {
+        NewArgument::One(_, name) => is_among(names, name),
+        NewArgument::AllBut(kept) => names.iter().any(|name| !is_among(kept.as_slice(), name)),
+    }
+}
+
+// Whether a command before this column makes one of the names new.
+fn makes_new(command: &Command, column: Column, names: &[Name]) -> bool {
+    if command.column >= column {
+        return false;
+    }
+    match &command.action {
+        Action::New(arguments) => {
+            arguments.is_empty()
+                || arguments
+                    .as_slice()
+                    .iter()
+                    .any(|argument| is_made_new(argument, names))
+        }
+        _ => false,
+    }
+}
+
+fn make_new(commands: &Commands, column: Column, names: &[Name]) -> bool {
+    let before = commands
+        .before
+        .as_slice()
+        .iter()
+        .any(|command| makes_new(command, column, names));
+    match &commands.last {
+        None => before,
+        Some(last) => before || make_new(&last.rest, column, names),
+    }
+}
+
+/// Whether a NEW between a line's begin, or that of the rounds of one of its FORs, and this column makes one of the names
+/// new.
+pub(crate) fn are_made_new(line: &Line, round: usize, column: Column, names: &[Name]) -> bool {
+    match round_at(&line.commands, round) {
+        None => make_new(&line.commands, column, names),
+        Some(last) => make_new(&last.rest, column, names),
+    }
+}

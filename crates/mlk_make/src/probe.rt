@@ -1,0 +1,190 @@
+// Whether a fault is reached before some names change. They are told by the walk itself: from a case in which they are
+// not own, by a summary that lets all other names change, it goes no further than where one of them does.
+
+use crate::copy::{copy_cases, copy_summed};
+use crate::draft::{Draft, line_number, round_number};
+use crate::lists::At;
+use crate::maker::{Ground, Maker};
+use crate::need::are_kept;
+use crate::walk::{Site, Target, walk_site};
+use mlk_calls::{copy_case, is_among};
+use mlk_cert::limit::MOST_CASES;
+use mlk_cert::{Case, EntryCert, NameSet, Own, Point, Shared};
+use mlk_lines::LineFault;
+use mlk_routine::Line;
+use mlk_rows::{Fault, Mend};
+use mlk_text::{List, Name, copy_of};
+use std::alloc::{AllocError, Global};
+use std::slice;
+
+/// A fault of a line, and names.
+#[derive(Clone, Copy, Drop)]
+pub(crate) struct Probe<'a> {
+    pub(crate) site: Site<'a>,
+    pub(crate) targets: &'a [Target],
+    pub(crate) fault: Fault,
+    pub(crate) names: &'a [Name],
+}
+
+fn is_one_of(item: &Own, names: &[Name]) -> bool {
+    match &item.names {
+        NameSet::Only(name) => is_among(names, name),
+        NameSet::AllBut(_) => false,
+    }
+}
+
+// The case in which the names are not own.
+fn without(alloc: Global, case: &Case, names: &[Name]) -> Result<Case, AllocError> {
+    let mut own = Vec::new(alloc);
+    for item in case.own.as_slice() {
+        if !is_one_of(item, names) {
+            own.push(copy_of(item)?)?;
+        }
+    }
+    let mut left = copy_case(case)?;
+    left.own = Shared::new(alloc, own)?;
+    Ok(left)
+}
+
+// The block by which all names but these may change.
+fn changing_others(alloc: Global, draft: &Draft, names: &[Name]) -> Result<EntryCert, AllocError> {
+    let mut block = copy_summed(alloc, &draft.block)?;
+    let mut mods = List::new(alloc);
+    mods.push(NameSet::AllBut(List::of(Vec::from_clones(alloc, names)?)))?;
+    block.summary.mods = mods;
+    Ok(block)
+}
+
+fn begins_block(line: &Line, number: usize) -> bool {
+    match line.block.as_slice().first() {
+        Some(first) => first.number == number,
+        None => false,
+    }
+}
+
+// Those of the cases in which a block may end that know the names as they were when the call began.
+fn kept_ends(
+    ground: &Ground<'_>,
+    draft: &Draft,
+    probe: &Probe<'_>,
+) -> Result<List<Case>, AllocError> {
+    let alloc = ground.alloc;
+    let ends = draft
+        .lists
+        .ends_of(alloc, probe.site.line.block.as_slice())?;
+    let mut kept = List::new(alloc);
+    for case in ends.as_slice() {
+        if are_kept(ground, draft, case, probe.names) {
+            kept.push(without(alloc, case, probe.names)?)?;
+        }
+    }
+    Ok(kept)
+}
+
+fn is_same(found: &LineFault, fault: Fault) -> bool {
+    found.fault == fault
+}
+
+// Whether the walk found the fault; the cases that it wants at the begin of the line's block are kept.
+fn take_faults(
+    probe: &Probe<'_>,
+    faults: Vec<(LineFault, Mend)>,
+    entering: &mut List<Case>,
+) -> Result<bool, AllocError> {
+    for (found, mend) in faults {
+        if is_same(&found, probe.fault) {
+            return Ok(true);
+        }
+        if let Mend::Listed(number, _, case) = mend
+            && begins_block(probe.site.line, number)
+        {
+            entering.push(case)?;
+        }
+    }
+    Ok(false)
+}
+
+// The points of a probe: that of the case, and that of the cases that enter the line's block.
+fn points_of(
+    alloc: Global,
+    line: &Line,
+    at: At,
+    case: &Case,
+    entering: &List<Case>,
+) -> Result<List<Point>, AllocError> {
+    let mut points = List::new(alloc);
+    points.push(Point {
+        line: line_number(at.line)?,
+        round: round_number(at.round)?,
+        cases: copy_cases(alloc, slice::from_ref(case))?,
+    })?;
+    if let Some(first) = line.block.as_slice().first() {
+        points.push(Point {
+            line: line_number(first.number)?,
+            round: 0,
+            cases: copy_cases(alloc, entering.as_slice())?,
+        })?;
+    }
+    Ok(points)
+}
+
+// Whether a walk from a case of a point finds the fault; the cases that it wants at the begin of the line's block are kept.
+fn is_found(
+    ground: &Ground<'_>,
+    maker: &Maker,
+    draft: &Draft,
+    probe: &Probe<'_>,
+    block: &EntryCert,
+    entering: &mut List<Case>,
+) -> Result<bool, AllocError> {
+    let inner = kept_ends(ground, draft, probe)?;
+    let inner = inner.as_slice();
+    let walked = walk_site(
+        ground,
+        maker,
+        draft,
+        block,
+        probe.site,
+        probe.targets,
+        inner,
+    )?;
+    take_faults(probe, walked.faults, entering)
+}
+
+// Whether the fault is reached from a case of a point, in which the names are not own.
+fn is_reached_from(
+    ground: &Ground<'_>,
+    maker: &Maker,
+    draft: &Draft,
+    probe: &Probe<'_>,
+    at: At,
+    case: &Case,
+) -> Result<bool, AllocError> {
+    let alloc = ground.alloc;
+    let mut block = changing_others(alloc, draft, probe.names)?;
+    let mut entering = List::new(alloc);
+    for _ in 0..MOST_CASES {
+        let before = entering.as_slice().len();
+        block.points = points_of(alloc, probe.site.line, at, case, &entering)?;
+        if is_found(ground, maker, draft, probe, &block, &mut entering)? {
+            return Ok(true);
+        }
+        if entering.as_slice().len() == before {
+            return Ok(false);
+        }
+    }
+    Ok(false)
+}
+
+/// Whether the fault is reached from a case of a point, with the names as they were when the call began.
+pub(crate) fn is_reached(
+    ground: &Ground<'_>,
+    maker: &Maker,
+    draft: &Draft,
+    probe: &Probe<'_>,
+    at: At,
+    case: &Case,
+) -> Result<bool, AllocError> {
+    let case = without(ground.alloc, case, probe.names)?;
+    is_reached_from(ground, maker, draft, probe, at, &case)
+}

@@ -1,0 +1,105 @@
+// The maker's rounds.
+
+ghost use Rattle.std.specs.Prelude.{◌≡◌, IfOk, IfErr, None, find, map};
+ghost use Rattle.mlk_routine.specs.Views.{routine_of};
+ghost use Rattle.mlk_make.specs.Missing.{is_missing, IsUnmade};
+
+use crate::entry::walk_entry;
+use crate::finish::finish;
+use crate::maker::{Ground, Maker};
+use crate::missing::first_missing;
+use crate::stop::{GaveUp, MakeError};
+use mlk_cert::Certificate;
+use mlk_coverage::{Rules, entries};
+use mlk_program::{EntryId, Program};
+use mlk_routine::Line;
+use mlk_text::{Failure, Value};
+use std::alloc::{AllocError, Global};
+
+/// How many rounds are made.
+const MOST_ROUNDS: usize = 64;
+
+// The declared entries are to be certified.
+fn declare(ground: &Ground<'_>, maker: &mut Maker) -> Result<(), AllocError> {
+    for text in entries(ground.rules) {
+        if let Some(entry) = ground.program.entry(text.as_bytes()) {
+            maker.add(ground, entry, true)?;
+        }
+    }
+    Ok(())
+}
+
+// Walks the entries of a routine, in order.
+fn walk_lines(
+    ground: &Ground<'_>,
+    maker: &mut Maker,
+    routine: usize,
+    lines: &[Line],
+) -> Result<(), Failure<GaveUp>> {
+    for (number, line) in lines.iter().enumerate() {
+        if number == 0 || line.label.is_some() {
+            walk_entry(ground, maker, EntryId::new(routine, number))?;
+        }
+    }
+    Ok(())
+}
+
+// Walks all entries, in order.
+fn walk_all(ground: &Ground<'_>, maker: &mut Maker) -> Result<(), Failure<GaveUp>> {
+    for (number, routine) in ground.program.routines().iter().enumerate() {
+        walk_lines(ground, maker, number, routine.lines.as_slice())?;
+    }
+    Ok(())
+}
+
+// Makes rounds until one changes nothing.
+fn walk_rounds(ground: &Ground<'_>, maker: &mut Maker) -> Result<(), Failure<GaveUp>> {
+    for left in (0..MOST_ROUNDS).rev() {
+        maker.last = left == 0;
+        let before = maker.changes;
+        walk_all(ground, maker)?;
+        if maker.changes == before {
+            return Ok(());
+        }
+    }
+    Ok(())
+}
+
+// Certifies the declared entries and all that they reach.
+fn certify(ground: &Ground<'_>) -> Result<Certificate, Failure<GaveUp>> {
+    let mut maker = Maker::new(ground.alloc);
+    declare(ground, &mut maker)?;
+    walk_rounds(ground, &mut maker)?;
+    finish(ground.alloc, maker)
+}
+
+/// Makes a certificate of the declared entries, and of all that they reach by calls. Its entries are in the program's
+/// order.
+///
+/// Their summaries begin empty. In each round every entry is walked, in order, until its lists grow no more: what would
+/// mend a fault is put in, where it can be. A further round is made while one changes something; 64 are too many.
+pub fn make(
+    alloc: Global,
+    program: &Program<'_>,
+    rules: &Rules,
+) -> Result<Certificate, Failure<MakeError>>
+    // A certificate keeps to all limits by its type. None is made where the program lacks a declared entry:
+    ensures made { IfOk result (λ c. find (is_missing (map routine_of program.now)) rules.now.entries ≡ None) }
+    // then that is told, and nothing else is told so.
+    ensures refused { IfErr result (IsUnmade (map routine_of program.now) rules.now.entries) }
+{
+    if let Some(text) = first_missing(program, entries(rules)) {
+        let text = Value::of(alloc, text)?;
+        return Err(Failure::Refused(MakeError::EntryMissing(text)));
+    }
+    let ground = Ground {
+        alloc,
+        program,
+        rules,
+    };
+    match certify(&ground) {
+        Ok(certificate) => Ok(certificate),
+        Err(Failure::OutOfMemory) => Err(Failure::OutOfMemory),
+        Err(Failure::Refused(place)) => Err(Failure::Refused(MakeError::GaveUp(place))),
+    }
+}

@@ -1,0 +1,211 @@
+// An entry's lines are walked until their lists grow no more.
+
+use crate::draft::Draft;
+use crate::maker::{Ground, Maker, has_changed};
+use crate::mend::mend_all;
+use crate::stop::Stop;
+use crate::walk::{Site, Target, Walked, targets_of, walk_site};
+use mlk_lines::Around;
+use mlk_routine::Line;
+use mlk_rows::Fault;
+use mlk_text::{Code, Column, Failure};
+use std::alloc::AllocError;
+
+/// How often one line is walked at most before the maker gives up. Each time something has grown that has a limit.
+const MOST_WALKS: usize = 1_000_000;
+
+// What the walk of a line changes: what it is walked from, and the cases in which its block may end.
+#[derive(Clone, Copy, Debug, Drop)]
+struct Turn {
+    again: bool,
+    ends: bool,
+}
+
+fn add_callees(draft: &mut Draft, targets: &[Target]) -> Result<(), Failure<Stop>> {
+    for target in targets {
+        if !target.begins {
+            draft.callees.insert(target.entry)?;
+        }
+    }
+    Ok(())
+}
+
+// What the walk of a line finds.
+fn walk_line(
+    ground: &Ground<'_>,
+    maker: &Maker,
+    draft: &Draft,
+    site: Site<'_>,
+    targets: &[Target],
+) -> Result<Walked, AllocError> {
+    let inner = draft
+        .lists
+        .ends_of(ground.alloc, site.line.block.as_slice())?;
+    let inner = inner.as_slice();
+    walk_site(ground, maker, draft, &draft.block, site, targets, inner)
+}
+
+// A line that calls these is walked once.
+fn walk_calling(
+    ground: &Ground<'_>,
+    maker: &mut Maker,
+    draft: &mut Draft,
+    site: Site<'_>,
+    targets: &[Target],
+) -> Result<Turn, Failure<Stop>> {
+    let walked = walk_line(ground, maker, draft, site, targets)?;
+    let ends = draft.lists.end(site.line.number, walked.ends)?;
+    let again = mend_all(ground, maker, draft, site, targets, walked.faults)?;
+    Ok(Turn { again, ends })
+}
+
+// A line is walked once.
+fn walk_once(
+    ground: &Ground<'_>,
+    maker: &mut Maker,
+    draft: &mut Draft,
+    site: Site<'_>,
+) -> Result<Turn, Failure<Stop>> {
+    draft.take(ground.alloc, site.line)?;
+    let targets = targets_of(ground, draft.entry.routine(), site.line)?;
+    add_callees(draft, targets.as_slice())?;
+    walk_calling(ground, maker, draft, site, targets.as_slice())
+}
+
+// The line to which a job goes on, where there is one.
+fn next_of<'a>(around: Around<'a>, later: &'a [Line]) -> Option<&'a Line> {
+    match later.first() {
+        Some(line) => Some(line),
+        None => match around {
+            Around::Block => None,
+            Around::Frame(after) => after,
+        },
+    }
+}
+
+fn without_first(lines: &[Line]) -> &[Line] {
+    match lines.split_first() {
+        None => lines,
+        Some((_, later)) => later,
+    }
+}
+
+// Whether a line calls an entry whose summary has changed since the walked one was walked.
+fn asks_anew(
+    ground: &Ground<'_>,
+    maker: &Maker,
+    draft: &Draft,
+    line: &Line,
+) -> Result<bool, Failure<Stop>> {
+    let Some(walked) = draft.walked else {
+        return Ok(true);
+    };
+    for target in targets_of(ground, draft.entry.routine(), line)? {
+        let is_own = target.entry == draft.entry;
+        if !target.begins && (is_own || has_changed(maker, target.entry, walked)) {
+            return Ok(true);
+        }
+    }
+    Ok(false)
+}
+
+// Whether a line has to be walked: from a new case, or with another summary of what it calls.
+fn is_due(
+    ground: &Ground<'_>,
+    maker: &Maker,
+    draft: &Draft,
+    line: &Line,
+    fresh: bool,
+) -> Result<bool, Failure<Stop>> {
+    if draft.lists.has_new(line.number) {
+        return Ok(true);
+    }
+    if !fresh {
+        return Ok(false);
+    }
+    asks_anew(ground, maker, draft, line)
+}
+
+// Walks a line once, where it is due.
+fn walk_if_due(
+    ground: &Ground<'_>,
+    maker: &mut Maker,
+    draft: &mut Draft,
+    site: Site<'_>,
+    due: bool,
+) -> Result<Turn, Failure<Stop>> {
+    if due {
+        return walk_once(ground, maker, draft, site);
+    }
+    Ok(Turn {
+        again: false,
+        ends: false,
+    })
+}
+
+// A line and its block: whether the cases change in which its own block may end. Where it is fresh, the summaries of what
+// is called may be others than before.
+#[cycle(settle)]
+fn settle_line<'a>(
+    line: &'a Line,
+    around: Around<'a>,
+    next: Option<&'a Line>,
+    ground: &'a Ground<'a>,
+    maker: &mut Maker,
+    draft: &mut Draft,
+    fresh: bool,
+) -> Result<bool, Failure<Stop>> {
+    let site = Site { line, around, next };
+    let mut due = is_due(ground, maker, draft, line, fresh)?;
+    if !due && !fresh {
+        return Ok(false);
+    }
+    let mut is_fresh = fresh;
+    let mut changes = false;
+    for _ in 0..MOST_WALKS {
+        let one = walk_if_due(ground, maker, draft, site, due)?;
+        changes = changes || one.ends;
+        let block = line.block.as_slice();
+        let inner = settle_lines(block, Around::Block, ground, maker, draft, is_fresh)?;
+        due = one.again || inner;
+        if !due {
+            return Ok(changes);
+        }
+        is_fresh = false;
+    }
+    Err(Failure::Refused(Stop::Full(begin_of(line))))
+}
+
+// The place of a line.
+fn begin_of(line: &Line) -> Fault {
+    Fault {
+        line: line.number,
+        column: Column::new(1),
+        code: Code::CaseNotListed,
+    }
+}
+
+/// Lines of one level and their blocks: whether the cases change in which their block may end. A case comes to a line
+/// only from those before it, so the first without a case ends the walk.
+#[cycle(settle)]
+pub(crate) fn settle_lines<'a>(
+    lines: &'a [Line],
+    around: Around<'a>,
+    ground: &'a Ground<'a>,
+    maker: &mut Maker,
+    draft: &mut Draft,
+    fresh: bool,
+) -> Result<bool, Failure<Stop>> {
+    let mut changes = false;
+    let mut later = lines;
+    for line in lines {
+        later = without_first(later);
+        if !draft.lists.has_some(line.number) {
+            return Ok(changes);
+        }
+        let next = next_of(around, later);
+        let one = settle_line(line, around, next, ground, maker, draft, fresh)?;
+        changes = changes || one;
+    }
+    Ok(changes)
+}

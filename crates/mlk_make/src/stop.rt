@@ -1,0 +1,36 @@
+// Why the maker stops.
+
+use mlk_program::EntryId;
+use mlk_rows::Fault;
+use mlk_text::{Failure, Value};
+
+/// Why no certificate was made.
+#[derive(Drop, Debug)]
+pub enum MakeError {
+    /// a declared entry that the program lacks: its text
+    EntryMissing(Value),
+    /// the maker gave up
+    GaveUp(GaveUp),
+}
+
+/// Where the maker gave up: what would mend this fault of the entry is past a limit of certificates, or comes in the last
+/// round.
+#[derive(Clone, Copy, Debug, Drop)]
+pub struct GaveUp {
+    pub entry: EntryId,
+    pub fault: Fault,
+}
+
+/// Why the walk of an entry stops.
+#[derive(Clone, Copy, Debug, Drop)]
+pub(crate) enum Stop {
+    /// its needs have grown, so its lists start anew
+    Anew,
+    /// what would mend this fault is too much
+    Full(Fault),
+}
+
+/// The maker gives up at a fault of an entry.
+pub(crate) fn gave_up<T>(entry: EntryId, fault: Fault) -> Result<T, Failure<GaveUp>> {
+    Err(Failure::Refused(GaveUp { entry, fault }))
+}

@@ -1,0 +1,198 @@
+// The walk of one line.
+
+use crate::copy::{copy_cases, copy_summed};
+use crate::draft::Draft;
+use crate::found::calls_of;
+use crate::maker::{Ground, Maker};
+use mlk_calls::{Entries, Scope};
+use mlk_cert::{Case, EntryCert};
+use mlk_coverage::{RuleLists, Rules};
+use mlk_lines::{Around, LineFault, LineFaults, walk_alone};
+use mlk_program::EntryId;
+use mlk_routine::Line;
+use mlk_rows::Mend;
+use mlk_text::{Column, List, Value};
+use std::alloc::{AllocError, Global};
+
+/// A line, what its lines are, and the line to which a job goes on.
+#[derive(Clone, Copy, Drop)]
+pub(crate) struct Site<'a> {
+    pub(crate) line: &'a Line,
+    pub(crate) around: Around<'a>,
+    pub(crate) next: Option<&'a Line>,
+}
+
+/// What a call in a line names: where the call stands, its entry, and whether a job begins there.
+#[derive(Clone, Copy, Debug, Drop)]
+pub(crate) struct Target {
+    pub(crate) column: Column,
+    pub(crate) entry: EntryId,
+    pub(crate) begins: bool,
+}
+
+/// What the walk of a line finds, and the cases in which its block may end there.
+#[derive(Drop)]
+pub(crate) struct Walked {
+    pub(crate) faults: Vec<(LineFault, Mend)>,
+    pub(crate) ends: Vec<Case>,
+}
+
+/// What the calls of a line of a routine name.
+pub(crate) fn targets_of(
+    ground: &Ground<'_>,
+    routine: usize,
+    line: &Line,
+) -> Result<Vec<Target>, AllocError> {
+    let mut targets = Vec::new(ground.alloc);
+    for call in calls_of(ground.alloc, line)? {
+        if let Some(entry) = ground.program.target(routine, call.callee) {
+            targets.push(Target {
+                column: call.column,
+                entry,
+                begins: call.begins,
+            })?;
+        }
+    }
+    Ok(targets)
+}
+
+// What is known of an entry, where the walked one is no more in its place.
+fn known<'a>(maker: &'a Maker, draft: &'a Draft, entry: EntryId) -> Option<&'a Draft> {
+    if draft.entry == entry {
+        return Some(draft);
+    }
+    maker.drafts.get(&entry)
+}
+
+// The summaries of what is called.
+fn summed(
+    alloc: Global,
+    maker: &Maker,
+    draft: &Draft,
+    targets: &[Target],
+) -> Result<Vec<EntryCert>, AllocError> {
+    let mut blocks = Vec::new(alloc);
+    for target in targets {
+        if !target.begins
+            && let Some(callee) = known(maker, draft, target.entry)
+        {
+            blocks.push(copy_summed(alloc, &callee.block)?)?;
+        }
+    }
+    Ok(blocks)
+}
+
+fn push_declared(texts: &mut List<Value>, draft: &Draft) -> Result<(), AllocError> {
+    if draft.declared {
+        texts.push(draft.block.entry.copy()?)?;
+    }
+    Ok(())
+}
+
+// The texts of those entries that are declared, of the walked one and those at which its line begins jobs.
+fn declared(
+    alloc: Global,
+    maker: &Maker,
+    draft: &Draft,
+    targets: &[Target],
+) -> Result<List<Value>, AllocError> {
+    let mut texts = List::new(alloc);
+    push_declared(&mut texts, draft)?;
+    for target in targets {
+        if target.begins
+            && let Some(begun) = known(maker, draft, target.entry)
+        {
+            push_declared(&mut texts, begun)?;
+        }
+    }
+    Ok(texts)
+}
+
+// Rules that declare entries, and nothing else.
+fn declaring(alloc: Global, entries: List<Value>) -> Result<Option<Rules>, AllocError> {
+    let lists = RuleLists {
+        families: List::new(alloc),
+        covers: List::new(alloc),
+        private: List::new(alloc),
+        readonly: List::new(alloc),
+        entries,
+    };
+    Rules::new(alloc, lists)
+}
+
+// Rules that declare those entries of which a line's walk asks.
+fn declared_rules(
+    alloc: Global,
+    maker: &Maker,
+    draft: &Draft,
+    targets: &[Target],
+) -> Result<Option<Rules>, AllocError> {
+    let entries = declared(alloc, maker, draft, targets)?;
+    declaring(alloc, entries)
+}
+
+// The walk of a line, where this is known of entries.
+fn walk_among(
+    ground: &Ground<'_>,
+    entries: &Entries<'_>,
+    entry: EntryId,
+    block: &EntryCert,
+    site: Site<'_>,
+    inner: &[Case],
+) -> Result<Walked, AllocError> {
+    let alloc = ground.alloc;
+    let scope = Scope::of(ground.program, ground.rules, entries, entry, block);
+    let inner = copy_cases(alloc, inner)?;
+    let mut found = LineFaults::new(alloc);
+    let ends = walk_alone(
+        alloc,
+        &scope,
+        site.line,
+        site.around,
+        site.next,
+        inner,
+        &mut found,
+    )?;
+    Ok(Walked {
+        faults: found.into_vec(),
+        ends,
+    })
+}
+
+// The walk of a line, where entries have these blocks, and are declared by these rules.
+fn walk_by(
+    ground: &Ground<'_>,
+    blocks: &[EntryCert],
+    rules: Option<&Rules>,
+    entry: EntryId,
+    block: &EntryCert,
+    site: Site<'_>,
+    inner: &[Case],
+) -> Result<Walked, AllocError> {
+    let rules = rules.unwrap_or(ground.rules);
+    let entries = Entries::of(ground.alloc, ground.program, rules, blocks)?;
+    walk_among(ground, &entries, entry, block, site, inner)
+}
+
+/// The walk of a line from the cases of a block, where the line's own block may end in these cases.
+pub(crate) fn walk_site(
+    ground: &Ground<'_>,
+    maker: &Maker,
+    draft: &Draft,
+    block: &EntryCert,
+    site: Site<'_>,
+    targets: &[Target],
+    inner: &[Case],
+) -> Result<Walked, AllocError> {
+    let blocks = summed(ground.alloc, maker, draft, targets)?;
+    let few = declared_rules(ground.alloc, maker, draft, targets)?;
+    walk_by(
+        ground,
+        blocks.as_slice(),
+        few.as_ref(),
+        draft.entry,
+        block,
+        site,
+        inner,
+    )
+}
