@@ -1,6 +1,6 @@
 -- What is refused on the way from texts to a report.
-use Rattle.std.proofs.Common.{◌≡◌, ℕ, ◌<◌, ◌≤◌, ◌+◌, ◌++◌, List, [], ◌∷◌, Result, Ok, Err, length, take, drop, slice_index_or, sym, ap, ◌∙◌, subst, take-append-drop, append-nil}
-use Rattle.std.specs.Prelude.{IfOk, IfErr}
+use Rattle.std.proofs.Common.{◌≡◌, ℕ, ◌<◌, ◌≤◌, ◌+◌, ◌++◌, List, [], ◌∷◌, Result, Ok, Err, Option, None, length, take, drop, slice_index_or, sym, ap, ◌∙◌, subst, inl, take-append-drop, append-nil}
+use Rattle.std.specs.Prelude.{IfOk, IfErr, find}
 use Rattle.std.proofs.lemmas.List.{drop_all, drop_more, take_more}
 use Rattle.mlk_text.specs.declared.failure.Failure.{Failure}
 use Rattle.mlk_text.specs.declared.failure.Failure.TheVariants as failure
@@ -16,10 +16,12 @@ use Rattle.mlk_cert.specs.declared.read.fault.CertFault.{CertFault}
 use Rattle.mlk_cert.specs.declared.block.EntryCert.{EntryCert}
 use Rattle.mlk_cert.specs.Theorem.{Spells, IsReading}
 use Rattle.mlk_cert.specs.Refusals.{IsPlaced}
+use Rattle.mlk_make.specs.Missing.{is_missing}
 use Rattle.mlk_command.specs.declared.source.Source.{Source}
+use Rattle.mlk_command.specs.declared.source.Work.{Work}
 use Rattle.mlk_command.specs.declared.checked.Refusal.{Refusal}
 use Rattle.mlk_command.specs.declared.checked.Refusal.TheVariants as refusal
-use Rattle.mlk_command.specs.Checked.{IsRead, AreRead, IsFirst, IsRefusalBy, IsRefusalWith, IsRefusalUnder, IsRefusalOf, refusal_of_routine, refusal_of_rules, refusal_of_certificate, RefusesFirst}
+use Rattle.mlk_command.specs.Checked.{IsRead, AreRead, IsFirst, IsTooLong, IsStuck, IsUnmade, IsRefusalBy, IsRefusalWith, IsRefusalUnder, IsRefusalOf, refusal_of_routine, refusal_of_rules, refusal_of_certificate, RefusesFirst}
 
 -- one routine more is read
 read-one-more : (sources : List Source) (trees : List RoutineTree) (source : Source) (tree : RoutineTree) → AreRead sources trees → IsRead source tree → AreRead (sources ++ source ∷ []) (trees ++ tree ∷ [])
@@ -60,15 +62,15 @@ pub by-routine : (sources : List Source) (e : Failure Fault) → RefusesFirst so
 by-routine sources failure.OutOfMemory refused = record {}
 by-routine sources (failure.Refused fault) refused = refused
 
-pub by-link : (trees : List RoutineTree) (rules_text text : List ℕ) (e : Failure Fault) → IfRefused e (IsLinkFault trees)
-    → IsRefusalOf trees rules_text text (refusal_of_routine e)
-by-link trees rules_text text failure.OutOfMemory refused = record {}
-by-link trees rules_text text (failure.Refused fault) refused = refused
+pub by-link : (trees : List RoutineTree) (rules_text : List ℕ) (w : Work) (e : Failure Fault) → IfRefused e (IsLinkFault trees)
+    → IsRefusalOf trees rules_text w (refusal_of_routine e)
+by-link trees rules_text w failure.OutOfMemory refused = inl (record {})
+by-link trees rules_text w (failure.Refused fault) refused = inl refused
 
-pub by-rules : (trees : List RoutineTree) (rules_text text : List ℕ) (e : Failure RulesFault) → RefusesRules rules_text e
-    → IsRefusalUnder trees rules_text text (refusal_of_rules e)
-by-rules trees rules_text text failure.OutOfMemory refused = record {}
-by-rules trees rules_text text (failure.Refused fault) refused = refused
+pub by-rules : (trees : List RoutineTree) (rules_text : List ℕ) (w : Work) (e : Failure RulesFault) → RefusesRules rules_text e
+    → IsRefusalUnder trees rules_text w (refusal_of_rules e)
+by-rules trees rules_text w failure.OutOfMemory refused = inl (record {})
+by-rules trees rules_text w (failure.Refused fault) refused = inl refused
 
 pub by-certificate : (trees : List RoutineTree) (rules : RuleLists) (text : List ℕ) (e : Failure CertFault)
     → IsReading text (Err e) → IsPlaced text e → IsRefusalWith trees rules text (refusal_of_certificate e)
@@ -92,21 +94,23 @@ below trees rules blocks text (refusal.Rules fault) spelled refused = refused
 below trees rules blocks text (refusal.Certificate fault) spelled refused = absurd refused
 below trees rules blocks text (refusal.Entry entry) spelled refused = (blocks, spelled, refused)
 below trees rules blocks text refusal.Disagreement spelled refused = (blocks, spelled, refused.0, refused.1)
+below trees rules blocks text (refusal.GaveUp entry fault) spelled refused = refused
 
-pub under : (trees : List RoutineTree) (rules : RuleLists) (rules_text text : List ℕ) (r : Refusal) → SaysRules rules_text rules
-    → IsRefusalWith trees rules text r → IsRefusalUnder trees rules_text text r
-under trees rules rules_text text refusal.OutOfMemory said refused = record {}
-under trees rules rules_text text (refusal.Routine fault) said refused = refused
-under trees rules rules_text text (refusal.Rules fault) said refused = absurd refused
-under trees rules rules_text text (refusal.Certificate fault) said refused = (rules, said, refused)
-under trees rules rules_text text (refusal.Entry entry) said refused = (rules, said, refused)
-under trees rules rules_text text refusal.Disagreement said refused = (rules, said, refused)
+-- What is told where no certificate is made.
+pub unmade-too-long : (trees : List RoutineTree) (rules : RuleLists) (blocks : List EntryCert) (r : Refusal) → IsTooLong blocks r → IsUnmade trees rules r
+unmade-too-long trees rules blocks refusal.OutOfMemory told = record {}
+unmade-too-long trees rules blocks (refusal.Routine fault) told = told
+unmade-too-long trees rules blocks (refusal.Rules fault) told = told
+unmade-too-long trees rules blocks (refusal.Certificate fault) told = told
+unmade-too-long trees rules blocks (refusal.Entry entry) told = absurd told
+unmade-too-long trees rules blocks refusal.Disagreement told = told
+unmade-too-long trees rules blocks (refusal.GaveUp entry fault) told = absurd told
 
-pub linked : (trees : List RoutineTree) (rules_text text : List ℕ) (r : Refusal) → IsProgram trees
-    → IsRefusalUnder trees rules_text text r → IsRefusalOf trees rules_text text r
-linked trees rules_text text refusal.OutOfMemory program refused = record {}
-linked trees rules_text text (refusal.Routine fault) program refused = absurd refused
-linked trees rules_text text (refusal.Rules fault) program refused = (program, refused)
-linked trees rules_text text (refusal.Certificate fault) program refused = (program, refused)
-linked trees rules_text text (refusal.Entry entry) program refused = (program, refused)
-linked trees rules_text text refusal.Disagreement program refused = (program, refused)
+pub unmade-stuck : (trees : List RoutineTree) (rules : RuleLists) (r : Refusal) → find (is_missing trees) rules.entries ≡ None → IsStuck trees r → IsUnmade trees rules r
+unmade-stuck trees rules refusal.OutOfMemory none told = record {}
+unmade-stuck trees rules (refusal.Routine fault) none told = told
+unmade-stuck trees rules (refusal.Rules fault) none told = told
+unmade-stuck trees rules (refusal.Certificate fault) none told = absurd told
+unmade-stuck trees rules (refusal.Entry entry) none told = absurd told
+unmade-stuck trees rules refusal.Disagreement none told = told
+unmade-stuck trees rules (refusal.GaveUp entry fault) none told = none

@@ -1,9 +1,11 @@
 -- What the words of a command line ask for.
-use Rattle.std.proofs.Common.{◌≡◌, List, [], ◌∷◌, Bool, true, false, not, Some, refl, codes, option_map}
-use Rattle.clap.specs.Words.{Text, all_of, first_of, is_simple, subcommand_of}
+use Rattle.std.proofs.Common.{◌≡◌, ◌∙◌, List, [], ◌∷◌, Bool, true, false, not, Some, None, refl, codes, option_map}
+use Rattle.clap.specs.Words.{Text, Row, all_of, first_of, is_simple, subcommand_of}
 use Rattle.clap.specs.Takes.{takes}
 use Rattle.clap.proofs.OnLiterals.{clap_on_literals}
-use Rattle.mlk_command.specs.CommandLine.{mlock_app}
+use Rattle.mlk_command.specs.declared.words.Asked.{Asked}
+use Rattle.mlk_command.specs.declared.words.Asked.TheVariants as asked
+use Rattle.mlk_command.specs.CommandLine.{mlock_app, IsAsked}
 
 pub not-true : (b : Bool) → not b ≡ true → b ≡ false
 not-true true h = cc h
@@ -42,3 +44,9 @@ takes_no_command = refl
 takes_no_routine : takes mlock_app (codes "mlock" ∷ codes "check" ∷ codes "r" ∷ codes "c" ∷ []) ≡ false
 unfolding clap_on_literals
 takes_no_routine = refl
+
+-- A command of another name asks for nothing, nor does a check without the path of a certificate.
+pub asks-nothing : (name : Text) (rows : List Row) → (name ≡ codes "make" → ⊥) → (name ≡ codes "verify" → ⊥) → None ≡ first_of (codes "CERT") rows → (a : Asked) → IsAsked name rows a → ⊥
+asks-nothing name rows no-make no-verify none (asked.Check path) h = let bad = none ∙ h.1 in cc bad
+asks-nothing name rows no-make no-verify none asked.Make h = no-make h
+asks-nothing name rows no-make no-verify none asked.Verify h = no-verify h

@@ -1,32 +1,42 @@
 -- What is answered to a request.
-use Rattle.std.proofs.Common.{ℕ, List}
+use Rattle.std.proofs.Common.{◌≡◌, ℕ, List, sym, subst}
 use Rattle.std.specs.Prelude.{String}
 use Rattle.mlk_command.specs.declared.source.Sources.{Sources}
 use Rattle.mlk_command.specs.declared.words.Request.{Request}
 use Rattle.mlk_command.specs.declared.checked.Checked.{Checked}
+use Rattle.mlk_verdicts.specs.declared.report.Row.{Row}
+use Rattle.mlk_command.specs.declared.checked.Outcome.{Outcome}
+use Rattle.mlk_command.specs.declared.checked.Outcome.TheVariants as outcome
 use Rattle.mlk_command.specs.declared.checked.Refusal.{Refusal}
 use Rattle.mlk_command.specs.declared.program.Answer.{Answer}
 use Rattle.mlk_command.specs.declared.program.Answer.TheVariants as answer
 use Rattle.mlk_command.specs.Files.{Texts, AreTexts}
 use Rattle.mlk_command.specs.CommandLine.{IsRequest}
 use Rattle.mlk_command.specs.Checked.{IsChecked, IsRefusedBy}
-use Rattle.mlk_command.specs.Ran.{trees_of, PrintsReport, TellsRefusal, Answers, AnswersWords}
+use Rattle.mlk_command.specs.Ran.{trees_of, PrintsReport, IsPrinted, Prints, TellsRefusal, Answers, AnswersWords}
 
-pub report-answers : (holds : Texts) (lacks : List ℕ → Type 0) (request : Request) (sources : Sources) (checked : Checked) (a : Answer) → AreTexts holds request sources → IsChecked sources (trees_of checked) checked.report → PrintsReport checked a
+-- what is printed of an outcome
+pub prints-report : (checked : Checked) (rows : List Row) (a : Answer) → checked.outcome ≡ outcome.Report rows → PrintsReport (trees_of checked) rows a → Prints checked a
+prints-report checked rows (answer.Report text status) is printed = subst (λ o. IsPrinted (trees_of checked) o text status) (sym is) printed
+prints-report checked rows (answer.Refused line) is printed = printed
+prints-report checked rows (answer.Unread line) is printed = printed
+prints-report checked rows (answer.Usage text) is printed = printed
+prints-report checked rows answer.OutOfMemory is printed = record {}
+
+pub outcome-answers : (holds : Texts) (lacks : List ℕ → Type 0) (request : Request) (sources : Sources) (checked : Checked) (a : Answer) → AreTexts holds request sources → IsChecked sources (trees_of checked) checked.outcome → Prints checked a
     → Answers holds lacks request a
-report-answers holds lacks request sources checked (answer.Report text status) texts answered printed = record {
+outcome-answers holds lacks request sources checked (answer.Report text status) texts answered printed = record {
   sources = sources;
   texts = texts;
   trees = trees_of checked;
-  rows = checked.report;
+  outcome = checked.outcome;
   answered = answered;
-  printed = printed.0;
-  ended = printed.1;
+  printed = printed;
 }
-report-answers holds lacks request sources checked (answer.Refused line) texts answered printed = absurd printed
-report-answers holds lacks request sources checked (answer.Unread line) texts answered printed = absurd printed
-report-answers holds lacks request sources checked (answer.Usage text) texts answered printed = absurd printed
-report-answers holds lacks request sources checked answer.OutOfMemory texts answered printed = record {}
+outcome-answers holds lacks request sources checked (answer.Refused line) texts answered printed = absurd printed
+outcome-answers holds lacks request sources checked (answer.Unread line) texts answered printed = absurd printed
+outcome-answers holds lacks request sources checked (answer.Usage text) texts answered printed = absurd printed
+outcome-answers holds lacks request sources checked answer.OutOfMemory texts answered printed = record {}
 
 pub refusal-answers : (holds : Texts) (lacks : List ℕ → Type 0) (request : Request) (sources : Sources) (r : Refusal) (a : Answer) → AreTexts holds request sources → IsRefusedBy sources r → TellsRefusal r a
     → Answers holds lacks request a

@@ -4,7 +4,11 @@ use Rattle.std.proofs.lemmas.List.{drop_all, drop_more, take_more, map-append}
 use Rattle.mlk_command.specs.declared.source.FileError.{FileError}
 use Rattle.mlk_command.specs.declared.source.FileError.TheVariants as error
 use Rattle.mlk_command.specs.declared.source.Source.{Source}
-use Rattle.mlk_command.specs.Files.{Texts, IsSource, AreSources, AreHeld, Loses, LosesFirst, bytes_of}
+use Rattle.mlk_command.specs.declared.source.Work.{Work}
+use Rattle.mlk_command.specs.declared.source.Work.TheVariants as work
+use Rattle.mlk_command.specs.declared.words.Asked.{Asked}
+use Rattle.mlk_command.specs.declared.words.Asked.TheVariants as asked
+use Rattle.mlk_command.specs.Files.{Texts, IsSource, AreSources, AreHeld, IsWork, Loses, LosesFirst, bytes_of, certificate_path}
 
 -- what stands before a path, the path, and what stands after it
 cut-at : (paths : List (Bor (List ℕ))) (i : ℕ) (d : Bor (List ℕ)) → i < length paths → bytes_of paths ≡ bytes_of (take i paths) ++ (slice_index_or paths i d).now ∷ bytes_of (drop (i + 1) paths)
@@ -61,3 +65,23 @@ loses-after holds lacks path text paths (error.Unread other) held lost = record 
   held = ((text, held), lost.held);
   lost = lost.lost;
 }
+
+-- what is lost among the first paths is lost among all
+pub loses-within : (holds : Texts) (lacks : List ℕ → Type 0) (paths more : List (List ℕ)) (e : FileError) → LosesFirst holds lacks paths e → LosesFirst holds lacks (paths ++ more) e
+loses-within holds lacks paths more error.OutOfMemory lost = record {}
+loses-within holds lacks paths more (error.Unread path) lost = record {
+  front = lost.front;
+  after = lost.after ++ more;
+  cut = ap (λ l. l ++ more) lost.cut ∙ append_assoc lost.front (path.now ∷ lost.after) more;
+  held = lost.held;
+  lost = lost.lost;
+}
+
+-- what is lost after the certificate's text was had
+pub loses-past : (holds : Texts) (lacks : List ℕ → Type 0) (a : Asked) (w : Work) (paths : List (List ℕ)) (e : FileError) → IsWork holds a w → LosesFirst holds lacks paths e
+    → LosesFirst holds lacks (certificate_path a ++ paths) e
+loses-past holds lacks (asked.Check path) (work.Check text) paths e held lost = loses-after holds lacks path.now text.items paths e held lost
+loses-past holds lacks (asked.Check path) work.Make paths e held lost = absurd held
+loses-past holds lacks (asked.Check path) work.Verify paths e held lost = absurd held
+loses-past holds lacks asked.Make w paths e held lost = lost
+loses-past holds lacks asked.Verify w paths e held lost = lost

@@ -1,5 +1,5 @@
 -- What the check of texts answers. This project's own choice.
-use Rattle.std.specs.Prelude.{◌≡◌, ◌⊎◌, ℕ, List, [], ◌∷◌, ◌++◌, Some, None}
+use Rattle.std.specs.Prelude.{◌≡◌, ◌⊎◌, ℕ, List, [], ◌∷◌, ◌++◌, Some, None, find}
 use Rattle.mlk_text.specs.declared.fault.Fault.{Fault}
 use Rattle.mlk_text.specs.declared.failure.Failure.{Failure}
 use Rattle.mlk_text.specs.declared.failure.Failure.TheVariants as failure
@@ -14,11 +14,17 @@ use Rattle.mlk_cert.specs.declared.block.EntryCert.{EntryCert}
 use Rattle.mlk_cert.specs.declared.read.fault.CertFault.{CertFault}
 use Rattle.mlk_cert.specs.Theorem.{Spells}
 use Rattle.mlk_cert.specs.Refusals.{IsRefusal}
+use Rattle.mlk_text.specs.declared.code.Code.TheVariants.{CertLimit}
+use Rattle.mlk_make.specs.Missing.{is_missing}
 use Rattle.mlk_verdicts.specs.declared.report.Row.{Row}
 use Rattle.mlk_verdicts.specs.Reports.{report, missing}
 use Rattle.mlk_straight.specs.Kept.{IsKept, HasFaults}
 use Rattle.mlk_command.specs.declared.source.Source.{Source}
 use Rattle.mlk_command.specs.declared.source.Sources.{Sources}
+use Rattle.mlk_command.specs.declared.source.Work.{Work}
+use Rattle.mlk_command.specs.declared.source.Work.TheVariants as work
+use Rattle.mlk_command.specs.declared.checked.Outcome.{Outcome}
+use Rattle.mlk_command.specs.declared.checked.Outcome.TheVariants as outcome
 use Rattle.mlk_command.specs.declared.checked.Refusal.{Refusal}
 use Rattle.mlk_command.specs.declared.checked.Refusal.TheVariants as refusal
 
@@ -44,15 +50,31 @@ pub record IsReportBy (trees : List RoutineTree) (rules : RuleLists) (blocks : L
 abbrev pub IsReportWith : List RoutineTree → RuleLists → List ℕ → List Row → Type 0
 IsReportWith trees rules text rows = (blocks : List EntryCert) × Spells blocks text × IsReportBy trees rules blocks text rows
 
-abbrev pub IsReportUnder : List RoutineTree → List ℕ → List ℕ → List Row → Type 0
-IsReportUnder trees rules_text text rows = (rules : RuleLists) × SaysRules rules_text rules × IsReportWith trees rules text rows
+-- A text is the one of a certificate, made of a program that has all declared entries. Nothing else is promised of it.
+abbrev pub IsWritten : List EntryCert → List ℕ → Type 0
+IsWritten blocks text = Spells blocks text
 
-abbrev pub IsReportOf : List RoutineTree → List ℕ → List ℕ → List Row → Type 0
-IsReportOf trees rules_text text rows = IsProgram trees × IsReportUnder trees rules_text text rows
+abbrev pub IsMade : List RoutineTree → RuleLists → List ℕ → Type 0
+IsMade trees rules text = (find (is_missing trees) rules.entries ≡ None) × (blocks : List EntryCert) × Spells blocks text
 
-abbrev pub IsChecked : Sources → List RoutineTree → List Row → Type 0
-IsChecked sources trees rows = AreRead sources.routines.items trees
-    × IsReportOf trees sources.rules.items sources.certificate.items rows
+-- What the texts of rules and of routines come to: the report by the certificate that is given, or by one that is made, or
+-- the text of one that is made.
+abbrev pub IsOutcomeWith : List RoutineTree → RuleLists → Work → Outcome → Type 0
+IsOutcomeWith trees rules (work.Check text) (outcome.Report rows) = IsReportWith trees rules text.items rows
+IsOutcomeWith trees rules (work.Check text) (outcome.Made made) = ⊥
+IsOutcomeWith trees rules work.Make (outcome.Report rows) = ⊥
+IsOutcomeWith trees rules work.Make (outcome.Made made) = IsMade trees rules made.items
+IsOutcomeWith trees rules work.Verify (outcome.Report rows) = (text : List ℕ) × IsMade trees rules text × IsReportWith trees rules text rows
+IsOutcomeWith trees rules work.Verify (outcome.Made made) = ⊥
+
+abbrev pub IsOutcomeUnder : List RoutineTree → List ℕ → Work → Outcome → Type 0
+IsOutcomeUnder trees rules_text w o = (rules : RuleLists) × SaysRules rules_text rules × IsOutcomeWith trees rules w o
+
+abbrev pub IsOutcomeOf : List RoutineTree → List ℕ → Work → Outcome → Type 0
+IsOutcomeOf trees rules_text w o = IsProgram trees × IsOutcomeUnder trees rules_text w o
+
+abbrev pub IsChecked : Sources → List RoutineTree → Outcome → Type 0
+IsChecked sources trees o = AreRead sources.routines.items trees × IsOutcomeOf trees sources.rules.items sources.work o
 
 -- the first routine that is refused: those before it are read
 pub record IsFirstRefused (sources : List Source) (fault : Fault) : Type 0 where
@@ -69,6 +91,25 @@ pub record IsFirstRefused (sources : List Source) (fault : Fault) : Type 0 where
 abbrev pub NoCertificate : List ℕ → CertFault → Type 0
 NoCertificate text fault = ((blocks : List EntryCert) → Spells blocks text → ⊥) × IsRefusal text fault
 
+-- the refusal of rules, and of the linking of trees. Want of memory says nothing.
+abbrev pub RefusedRules : List ℕ → Refusal → Type 0
+RefusedRules rules_text refusal.OutOfMemory = Unit {0}
+RefusedRules rules_text (refusal.Routine fault) = ⊥
+RefusedRules rules_text (refusal.Rules fault) = RefusesRules rules_text (failure.Refused fault)
+RefusedRules rules_text (refusal.Certificate fault) = ⊥
+RefusedRules rules_text (refusal.Entry entry) = ⊥
+RefusedRules rules_text refusal.Disagreement = ⊥
+RefusedRules rules_text (refusal.GaveUp entry fault) = ⊥
+
+abbrev pub RefusedLink : List RoutineTree → Refusal → Type 0
+RefusedLink trees refusal.OutOfMemory = Unit {0}
+RefusedLink trees (refusal.Routine fault) = IsLinkFault trees fault
+RefusedLink trees (refusal.Rules fault) = ⊥
+RefusedLink trees (refusal.Certificate fault) = ⊥
+RefusedLink trees (refusal.Entry entry) = ⊥
+RefusedLink trees refusal.Disagreement = ⊥
+RefusedLink trees (refusal.GaveUp entry fault) = ⊥
+
 -- Why a program has no report: an entry that it lacks, or that the walk of straight lines finds faults where the walk of
 -- all of M finds none; no such texts are known. Want of memory says nothing.
 abbrev pub IsRefusalBy : List RoutineTree → RuleLists → List EntryCert → List ℕ → Refusal → Type 0
@@ -78,6 +119,7 @@ IsRefusalBy trees rules blocks text (refusal.Rules fault) = ⊥
 IsRefusalBy trees rules blocks text (refusal.Certificate fault) = ⊥
 IsRefusalBy trees rules blocks text (refusal.Entry entry) = missing trees rules blocks ≡ Some entry
 IsRefusalBy trees rules blocks text refusal.Disagreement = (report trees rules blocks ≡ []) × HasFaults trees rules text
+IsRefusalBy trees rules blocks text (refusal.GaveUp entry fault) = ⊥
 
 -- It is told of the certificate's text first,
 abbrev pub IsRefusalWith : List RoutineTree → RuleLists → List ℕ → Refusal → Type 0
@@ -89,31 +131,42 @@ IsRefusalWith trees rules text (refusal.Entry entry) =
     (blocks : List EntryCert) × Spells blocks text × (missing trees rules blocks ≡ Some entry)
 IsRefusalWith trees rules text refusal.Disagreement = (blocks : List EntryCert) × Spells blocks text
     × (report trees rules blocks ≡ []) × HasFaults trees rules text
+IsRefusalWith trees rules text (refusal.GaveUp entry fault) = ⊥
+
+-- Why no certificate is made: it has a text that is too long, the program lacks a declared entry, or the maker gave up.
+abbrev pub IsTooLong : List EntryCert → Refusal → Type 0
+IsTooLong blocks refusal.OutOfMemory = Unit {0}
+IsTooLong blocks (refusal.Routine fault) = ⊥
+IsTooLong blocks (refusal.Rules fault) = ⊥
+IsTooLong blocks (refusal.Certificate fault) = (fault.code ≡ CertLimit) × (fault.line ≡ 1)
+IsTooLong blocks (refusal.Entry entry) = ⊥
+IsTooLong blocks refusal.Disagreement = ⊥
+IsTooLong blocks (refusal.GaveUp entry fault) = ⊥
+
+abbrev pub IsUnmade : List RoutineTree → RuleLists → Refusal → Type 0
+IsUnmade trees rules refusal.OutOfMemory = Unit {0}
+IsUnmade trees rules (refusal.Routine fault) = ⊥
+IsUnmade trees rules (refusal.Rules fault) = ⊥
+IsUnmade trees rules (refusal.Certificate fault) = (fault.code ≡ CertLimit) × (fault.line ≡ 1)
+IsUnmade trees rules (refusal.Entry entry) = find (is_missing trees) rules.entries ≡ Some entry
+IsUnmade trees rules refusal.Disagreement = ⊥
+IsUnmade trees rules (refusal.GaveUp entry fault) = find (is_missing trees) rules.entries ≡ None
+
+-- It is told of the certificate's text, or of its making, first,
+abbrev pub IsRefusalOfWork : List RoutineTree → RuleLists → Work → Refusal → Type 0
+IsRefusalOfWork trees rules (work.Check text) r = IsRefusalWith trees rules text.items r
+IsRefusalOfWork trees rules work.Make r = IsUnmade trees rules r
+IsRefusalOfWork trees rules work.Verify r =
+    IsUnmade trees rules r ⊎ ((text : List ℕ) × IsMade trees rules text × IsRefusalWith trees rules text r)
 
 -- of the rules' text before it,
-abbrev pub IsRefusalUnder : List RoutineTree → List ℕ → List ℕ → Refusal → Type 0
-IsRefusalUnder trees rules_text text refusal.OutOfMemory = Unit {0}
-IsRefusalUnder trees rules_text text (refusal.Routine fault) = ⊥
-IsRefusalUnder trees rules_text text (refusal.Rules fault) = RefusesRules rules_text (failure.Refused fault)
-IsRefusalUnder trees rules_text text (refusal.Certificate fault) =
-    (rules : RuleLists) × SaysRules rules_text rules × NoCertificate text fault
-IsRefusalUnder trees rules_text text (refusal.Entry entry) =
-    (rules : RuleLists) × SaysRules rules_text rules × IsRefusalWith trees rules text (refusal.Entry entry)
-IsRefusalUnder trees rules_text text refusal.Disagreement =
-    (rules : RuleLists) × SaysRules rules_text rules × IsRefusalWith trees rules text refusal.Disagreement
+abbrev pub IsRefusalUnder : List RoutineTree → List ℕ → Work → Refusal → Type 0
+IsRefusalUnder trees rules_text w r =
+    RefusedRules rules_text r ⊎ ((rules : RuleLists) × SaysRules rules_text rules × IsRefusalOfWork trees rules w r)
 
 -- and of the linking of the trees before both.
-abbrev pub IsRefusalOf : List RoutineTree → List ℕ → List ℕ → Refusal → Type 0
-IsRefusalOf trees rules_text text refusal.OutOfMemory = Unit {0}
-IsRefusalOf trees rules_text text (refusal.Routine fault) = IsLinkFault trees fault
-IsRefusalOf trees rules_text text (refusal.Rules fault) =
-    IsProgram trees × IsRefusalUnder trees rules_text text (refusal.Rules fault)
-IsRefusalOf trees rules_text text (refusal.Certificate fault) =
-    IsProgram trees × IsRefusalUnder trees rules_text text (refusal.Certificate fault)
-IsRefusalOf trees rules_text text (refusal.Entry entry) =
-    IsProgram trees × IsRefusalUnder trees rules_text text (refusal.Entry entry)
-IsRefusalOf trees rules_text text refusal.Disagreement =
-    IsProgram trees × IsRefusalUnder trees rules_text text refusal.Disagreement
+abbrev pub IsRefusalOf : List RoutineTree → List ℕ → Work → Refusal → Type 0
+IsRefusalOf trees rules_text w r = RefusedLink trees r ⊎ (IsProgram trees × IsRefusalUnder trees rules_text w r)
 
 -- the refusal of a routine's reading
 abbrev pub IsFirst : List Source → Refusal → Type 0
@@ -123,11 +176,12 @@ IsFirst sources (refusal.Rules fault) = ⊥
 IsFirst sources (refusal.Certificate fault) = ⊥
 IsFirst sources (refusal.Entry entry) = ⊥
 IsFirst sources refusal.Disagreement = ⊥
+IsFirst sources (refusal.GaveUp entry fault) = ⊥
 
 -- Why texts have no report: it is told of a routine that is not read, else of what all routines make.
 abbrev pub IsRefusedBy : Sources → Refusal → Type 0
 IsRefusedBy sources r = IsFirst sources.routines.items r ⊎ ((trees : List RoutineTree)
-    × AreRead sources.routines.items trees × IsRefusalOf trees sources.rules.items sources.certificate.items r)
+    × AreRead sources.routines.items trees × IsRefusalOf trees sources.rules.items sources.work r)
 
 -- the same of what a reader refuses
 abbrev pub refusal_of_routine : Failure Fault → Refusal
@@ -155,6 +209,7 @@ TellsEntry text (refusal.Rules fault) = ⊥
 TellsEntry text (refusal.Certificate fault) = ⊥
 TellsEntry text (refusal.Entry entry) = entry ≡ text
 TellsEntry text refusal.Disagreement = ⊥
+TellsEntry text (refusal.GaveUp entry fault) = ⊥
 
 abbrev pub IsDoubt : List RoutineTree → RuleLists → List ℕ → List Row → Refusal → Type 0
 IsDoubt trees rules text rows refusal.OutOfMemory = Unit {0}
@@ -163,3 +218,14 @@ IsDoubt trees rules text rows (refusal.Rules fault) = ⊥
 IsDoubt trees rules text rows (refusal.Certificate fault) = ⊥
 IsDoubt trees rules text rows (refusal.Entry entry) = ⊥
 IsDoubt trees rules text rows refusal.Disagreement = (rows ≡ []) × HasFaults trees rules text
+IsDoubt trees rules text rows (refusal.GaveUp entry fault) = ⊥
+
+-- what is told where the maker gave up: nothing else
+abbrev pub IsStuck : List RoutineTree → Refusal → Type 0
+IsStuck trees refusal.OutOfMemory = Unit {0}
+IsStuck trees (refusal.Routine fault) = ⊥
+IsStuck trees (refusal.Rules fault) = ⊥
+IsStuck trees (refusal.Certificate fault) = ⊥
+IsStuck trees (refusal.Entry entry) = ⊥
+IsStuck trees refusal.Disagreement = ⊥
+IsStuck trees (refusal.GaveUp entry fault) = Unit {0}

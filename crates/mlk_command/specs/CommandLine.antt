@@ -5,6 +5,8 @@ use Rattle.clap.specs.Words.{App, Row, Rule, Text, all_of, first_of, new_app, ne
 use Rattle.clap.specs.Simple.{on_top}
 use Rattle.clap.specs.Takes.{takes}
 use Rattle.clap.specs.declared.builder.action.ArgAction.TheVariants.{Set, Append}
+use Rattle.mlk_command.specs.declared.words.Asked.{Asked}
+use Rattle.mlk_command.specs.declared.words.Asked.TheVariants as asked
 use Rattle.mlk_command.specs.declared.words.Request.{Request}
 use Rattle.mlk_command.specs.declared.words.UsageError.{UsageError}
 use Rattle.mlk_command.specs.declared.words.UsageError.TheVariants as usage
@@ -22,24 +24,42 @@ routines_rule = record (new_rule (codes "ROUTINE")) { required = true; action = 
 abbrev pub check_app : App
 check_app = with_rule (with_rule (with_rule (new_app (codes "check")) (path_rule (codes "RULES"))) (path_rule (codes "CERT"))) routines_rule
 
+-- `make RULES ROUTINE..`
+abbrev pub make_app : App
+make_app = with_rule (with_rule (new_app (codes "make")) (path_rule (codes "RULES"))) routines_rule
+
+-- `verify RULES ROUTINE..`
+abbrev pub verify_app : App
+verify_app = with_rule (with_rule (new_app (codes "verify")) (path_rule (codes "RULES"))) routines_rule
+
 -- `mlock` and one of its commands
 abbrev pub mlock_app : App
-mlock_app = with_subcommand (on_top (λ s. record s { subcommand_required = true; has_version = true }) (new_app (codes "mlock"))) check_app.top
+mlock_app = with_subcommand (with_subcommand (with_subcommand (on_top (λ s. record s { subcommand_required = true; has_version = true }) (new_app (codes "mlock"))) check_app.top) make_app.top) verify_app.top
 
--- the request has the paths that a command was given
-pub record IsGiven (rows : List Row) (request : Request) : Type 0 where
+-- what the command of a name is to do, by what it was given
+abbrev pub IsAsked : Text → List Row → Asked → Type 0
+IsAsked name rows (asked.Check path) = (name ≡ codes "check") × (first_of (codes "CERT") rows ≡ Some path.now)
+IsAsked name rows asked.Make = name ≡ codes "make"
+IsAsked name rows asked.Verify = name ≡ codes "verify"
+
+abbrev pub GivesAsked : Text → List Row → Option Asked → Type 0
+GivesAsked name rows None = (a : Asked) → IsAsked name rows a → ⊥
+GivesAsked name rows (Some a) = IsAsked name rows a
+
+-- the request has the paths that the command of a name was given
+pub record IsGiven (name : Text) (rows : List Row) (request : Request) : Type 0 where
+  pub asked : IsAsked name rows request.asked
   pub rules : first_of (codes "RULES") rows ≡ Some request.rules.now
-  pub certificate : first_of (codes "CERT") rows ≡ Some request.certificate.now
   pub routines : all_of (codes "ROUTINE") rows ≡ Some (bytes_of request.routines.items)
 
 -- what a command's own matches give: nothing where no request has these paths
-abbrev pub GivesPaths : List Row → Option Request → Type 0
-GivesPaths rows None = (request : Request) → IsGiven rows request → ⊥
-GivesPaths rows (Some request) = IsGiven rows request
+abbrev pub GivesPaths : Text → List Row → Option Request → Type 0
+GivesPaths name rows None = (request : Request) → IsGiven name rows request → ⊥
+GivesPaths name rows (Some request) = IsGiven name rows request
 
 -- the command that was met was given the paths of the request
 abbrev pub IsMet : Option (Text × List Row) → Request → Type 0
-IsMet met request = (name : Text) × (rows : List Row) × (met ≡ Some (name, rows)) × IsGiven rows request
+IsMet met request = (name : Text) × (rows : List Row) × (met ≡ Some (name, rows)) × IsGiven name rows request
 
 -- what the command that was met gives: nothing where it was given those of no request
 abbrev pub GivesRequest : Option (Text × List Row) → Option Request → Type 0

@@ -6,6 +6,10 @@ use Rattle.mlk_command.specs.declared.source.FileError.{FileError}
 use Rattle.mlk_command.specs.declared.source.FileError.TheVariants as error
 use Rattle.mlk_command.specs.declared.source.Source.{Source}
 use Rattle.mlk_command.specs.declared.source.Sources.{Sources}
+use Rattle.mlk_command.specs.declared.source.Work.{Work}
+use Rattle.mlk_command.specs.declared.source.Work.TheVariants as work
+use Rattle.mlk_command.specs.declared.words.Asked.{Asked}
+use Rattle.mlk_command.specs.declared.words.Asked.TheVariants as asked
 use Rattle.mlk_command.specs.declared.words.Request.{Request}
 
 -- no byte is this one
@@ -38,18 +42,31 @@ AreSources holds [] (source ∷ sources) = ⊥
 AreSources holds (path ∷ paths) [] = ⊥
 AreSources holds (path ∷ paths) (source ∷ sources) = IsSource holds path.now source × AreSources holds paths sources
 
+-- the text of the certificate, where one is named
+abbrev pub IsWork : Texts → Asked → Work → Type 0
+IsWork holds (asked.Check path) (work.Check text) = holds path.now text.items
+IsWork holds (asked.Check path) work.Make = ⊥
+IsWork holds (asked.Check path) work.Verify = ⊥
+IsWork holds asked.Make w = w ≡ work.Make
+IsWork holds asked.Verify w = w ≡ work.Verify
+
 -- the texts are those of the files that a command names
 pub record AreTexts (holds : Texts) (request : Request) (sources : Sources) : Type 0 where
   pub rules : holds request.rules.now sources.rules.items
-  pub certificate : holds request.certificate.now sources.certificate.items
+  pub work : IsWork holds request.asked sources.work
   pub routines : AreSources holds request.routines.items sources.routines.items
 
 abbrev pub bytes_of : List (Bor (List ℕ)) → List (List ℕ)
 bytes_of paths = map (λ path. path.now) paths
 
+abbrev pub certificate_path : Asked → List (List ℕ)
+certificate_path (asked.Check path) = path.now ∷ []
+certificate_path asked.Make = []
+certificate_path asked.Verify = []
+
 -- the paths that a command names, in the order of its words
 abbrev pub paths_of : Request → List (List ℕ)
-paths_of request = request.rules.now ∷ request.certificate.now ∷ bytes_of request.routines.items
+paths_of request = request.rules.now ∷ (certificate_path request.asked ++ bytes_of request.routines.items)
 
 -- each of these paths has a text
 abbrev pub AreHeld : Texts → List (List ℕ) → Type 0

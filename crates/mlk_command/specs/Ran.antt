@@ -8,11 +8,13 @@ use Rattle.mlk_verdicts.specs.declared.report.Row.{Row}
 use Rattle.mlk_command.specs.declared.source.Sources.{Sources}
 use Rattle.mlk_command.specs.declared.words.Request.{Request}
 use Rattle.mlk_command.specs.declared.checked.Checked.{Checked}
+use Rattle.mlk_command.specs.declared.checked.Outcome.{Outcome}
+use Rattle.mlk_command.specs.declared.checked.Outcome.TheVariants as outcome
 use Rattle.mlk_command.specs.declared.checked.Refusal.{Refusal}
 use Rattle.mlk_command.specs.declared.checked.Refusal.TheVariants as refusal
 use Rattle.mlk_command.specs.declared.program.Answer.{Answer}
 use Rattle.mlk_command.specs.declared.program.Answer.TheVariants as answer
-use Rattle.mlk_command.specs.Printed.{report_text, fault_line, rules_line, certificate_line, missing_line, disagreement_line, file_line}
+use Rattle.mlk_command.specs.Printed.{report_text, fault_line, rules_line, certificate_line, missing_line, disagreement_line, stuck_line, file_line}
 use Rattle.mlk_command.specs.Files.{Texts, AreTexts, IsFirstLost, paths_of}
 use Rattle.mlk_command.specs.CommandLine.{IsRequest, AsksNothing}
 use Rattle.mlk_command.specs.Checked.{IsChecked, IsRefusedBy}
@@ -30,19 +32,31 @@ IsRefusalLine (refusal.Rules fault) line = line ≡ rules_line fault
 IsRefusalLine (refusal.Certificate fault) line = line ≡ certificate_line fault
 IsRefusalLine (refusal.Entry entry) line = line ≡ missing_line entry
 IsRefusalLine refusal.Disagreement line = line ≡ disagreement_line
+IsRefusalLine (refusal.GaveUp entry fault) line = line ≡ stuck_line entry fault
 
 -- the trees of what was read
 abbrev pub trees_of : Checked → List RoutineTree
 trees_of checked = map routine_of checked.routines.items
 
 -- the text and the status of a report, where memory doesn't run out
-abbrev pub PrintsReport : Checked → Answer → Type 0
-PrintsReport checked (answer.Report text status) =
-    (text ≡ report_text (trees_of checked) checked.report) × (status ≡ status_of checked.report)
-PrintsReport checked (answer.Refused line) = ⊥
-PrintsReport checked (answer.Unread line) = ⊥
-PrintsReport checked (answer.Usage text) = ⊥
-PrintsReport checked answer.OutOfMemory = Unit {0}
+abbrev pub PrintsReport : List RoutineTree → List Row → Answer → Type 0
+PrintsReport trees rows (answer.Report text status) = (text ≡ report_text trees rows) × (status ≡ status_of rows)
+PrintsReport trees rows (answer.Refused line) = ⊥
+PrintsReport trees rows (answer.Unread line) = ⊥
+PrintsReport trees rows (answer.Usage text) = ⊥
+PrintsReport trees rows answer.OutOfMemory = Unit {0}
+
+-- what is printed of an outcome, and the status: a certificate is printed as it is
+abbrev pub IsPrinted : List RoutineTree → Outcome → List ℕ → ℕ → Type 0
+IsPrinted trees (outcome.Report rows) text status = (text ≡ report_text trees rows) × (status ≡ status_of rows)
+IsPrinted trees (outcome.Made made) text status = (text ≡ made.items) × (status ≡ 0)
+
+abbrev pub Prints : Checked → Answer → Type 0
+Prints checked (answer.Report text status) = IsPrinted (trees_of checked) checked.outcome text status
+Prints checked (answer.Refused line) = ⊥
+Prints checked (answer.Unread line) = ⊥
+Prints checked (answer.Usage text) = ⊥
+Prints checked answer.OutOfMemory = Unit {0}
 
 -- the line of a refusal, where memory doesn't run out
 abbrev pub TellsRefusal : Refusal → Answer → Type 0
@@ -60,15 +74,14 @@ TellsUnread path (answer.Unread line) = line ≡ file_line path
 TellsUnread path (answer.Usage text) = ⊥
 TellsUnread path answer.OutOfMemory = Unit {0}
 
--- the report of the texts at the paths
+-- what the texts at the paths come to
 pub record IsReported (holds : Texts) (request : Request) (text : List ℕ) (status : ℕ) : Type 0 where
   pub sources : Sources
   pub texts : AreTexts holds request sources
   pub trees : List RoutineTree
-  pub rows : List Row
-  pub answered : IsChecked sources trees rows
-  pub printed : text ≡ report_text trees rows
-  pub ended : status ≡ status_of rows
+  pub outcome : Outcome
+  pub answered : IsChecked sources trees outcome
+  pub printed : IsPrinted trees outcome text status
 
 -- the refusal of the texts at the paths
 pub record IsRefusedThere (holds : Texts) (request : Request) (line : List ℕ) : Type 0 where

@@ -2,14 +2,15 @@
 
 ghost use Rattle.std.specs.Prelude.{◌≡◌, [], map, IfOk, IfErr};
 ghost use Rattle.mlk_routine.specs.Views.{routine_of};
-ghost use Rattle.mlk_command.specs.Checked.{refusal_of_routine, refusal_of_rules, refusal_of_certificate, AreRead, RefusesFirst, TellsEntry, IsDoubt, IsReportBy, IsReportWith, IsReportUnder, IsReportOf, IsRefusalBy, IsRefusalWith, IsRefusalUnder, IsRefusalOf, IsChecked, IsRefusedBy};
+ghost use Rattle.mlk_command.specs.Checked.{refusal_of_routine, refusal_of_rules, refusal_of_certificate, AreRead, RefusesFirst, TellsEntry, IsDoubt, IsReportBy, IsReportWith, IsWritten, IsTooLong, IsStuck, IsMade, IsUnmade, IsOutcomeWith, IsOutcomeUnder, IsOutcomeOf, IsRefusalBy, IsRefusalWith, IsRefusalOfWork, IsRefusalUnder, IsRefusalOf, IsChecked, IsRefusedBy};
 ghost use Rattle.mlk_straight.specs.Kept.{IsKept};
 ghost use Rattle.mlk_command.specs.Ran.{trees_of};
 ghost use Rattle.mlk_command.specs.declared.checked.Refusal.TheVariants as refusal;
 
-use crate::source::{Source, Sources};
-use mlk_cert::{CertFault, Certificate, read_cert};
+use crate::source::{Source, Sources, Work};
+use mlk_cert::{CertFault, Certificate, WriteFault, read_cert, write_cert};
 use mlk_coverage::Rules;
+use mlk_make::{GaveUp, MakeError, make};
 use mlk_program::{Program, link};
 use mlk_routine::{Routine, read_routine};
 use mlk_rules::{RulesFault, read_rules};
@@ -29,6 +30,8 @@ pub(crate) enum Refusal {
     Entry(Value),
     /// The walk of straight lines finds faults, and that of all of M finds none. No such texts are known.
     Disagreement,
+    /// No certificate was made: the text of the entry, and the fault at which the maker gave up.
+    GaveUp(Value, mlk_rows::Fault),
 }
 
 impl From<AllocError> for Refusal {
@@ -72,11 +75,19 @@ impl From<Failure<CertFault>> for Refusal {
     }
 }
 
-/// The routines of a program, and the report of its entries.
+/// What texts come to.
+#[derive(Drop)]
+pub(crate) enum Outcome {
+    Report(Report),
+    /// the text of the certificate that was made
+    Made(Vec<u8>),
+}
+
+/// The routines of a program, and what is made of it.
 #[derive(Drop)]
 pub(crate) struct Checked {
     pub routines: Vec<Routine>,
-    pub report: Report,
+    pub outcome: Outcome,
 }
 
 fn routines_of(alloc: Global, sources: &[Source<'_>]) -> Result<Vec<Routine>, Failure<Fault>>
@@ -147,45 +158,112 @@ fn report_with(
     report_by(alloc, program, rules, &certificate, text)
 }
 
-fn report_under(
+// About how long the text of a block is.
+const BLOCK_ROOM: usize = 256;
+
+// The text of a certificate.
+fn written(alloc: Global, certificate: &Certificate) -> Result<Vec<u8>, Refusal>
+    ensures ok { IfOk result (λ text. IsWritten certificate.now text.items) }
+    ensures refused { IfErr result (IsTooLong certificate.now) }
+{
+    let room = certificate.blocks().len().saturating_mul(BLOCK_ROOM);
+    let mut text = Vec::with_capacity(alloc, room)?;
+    match write_cert(alloc, certificate, &mut text) {
+        Ok(()) => Ok(text),
+        Err(Failure::Refused(WriteFault::TooLong(fault))) => Err(Refusal::Certificate(fault)),
+        Err(_) => Err(Refusal::OutOfMemory),
+    }
+}
+
+// What is told where the maker gave up.
+fn stuck(alloc: Global, program: &Program<'_>, place: GaveUp) -> Refusal
+    ensures { IsStuck (map routine_of program.now) result }
+{
+    match program.text_of(alloc, place.entry) {
+        Ok(text) => Refusal::GaveUp(Value::new(text.unwrap_or(Vec::new(alloc))), place.fault),
+        Err(AllocError) => Refusal::OutOfMemory,
+    }
+}
+
+// The text of a certificate that is made.
+fn made(alloc: Global, program: &Program<'_>, rules: &Rules) -> Result<Vec<u8>, Refusal>
+    ensures ok { IfOk result (λ text. IsMade (map routine_of program.now) rules.now text.items) }
+    ensures refused { IfErr result (IsUnmade (map routine_of program.now) rules.now) }
+{
+    let certificate = match make(alloc, program, rules) {
+        Ok(certificate) => certificate,
+        Err(Failure::OutOfMemory) => return Err(Refusal::OutOfMemory),
+        Err(Failure::Refused(MakeError::EntryMissing(text))) => return Err(Refusal::Entry(text)),
+        Err(Failure::Refused(MakeError::GaveUp(place))) => return Err(stuck(alloc, program, place)),
+    };
+    written(alloc, &certificate)
+}
+
+fn outcome_with(
+    alloc: Global,
+    program: &Program<'_>,
+    rules: &Rules,
+    work: &Work,
+) -> Result<Outcome, Refusal>
+    ensures ok { IfOk result (IsOutcomeWith (map routine_of program.now) rules.now work.now) }
+    ensures refused { IfErr result (IsRefusalOfWork (map routine_of program.now) rules.now work.now) }
+{
+    match work {
+        Work::Check(text) => {
+            let report = report_with(alloc, program, rules, text.as_slice())?;
+            Ok(Outcome::Report(report))
+        }
+        Work::Make => {
+            let text = made(alloc, program, rules)?;
+            Ok(Outcome::Made(text))
+        }
+        Work::Verify => {
+            let text = made(alloc, program, rules)?;
+            let report = report_with(alloc, program, rules, text.as_slice())?;
+            Ok(Outcome::Report(report))
+        }
+    }
+}
+
+fn outcome_under(
     alloc: Global,
     program: &Program<'_>,
     rules_text: &[u8],
-    text: &[u8],
-) -> Result<Report, Refusal>
-    ensures ok { IfOk result (IsReportUnder (map routine_of program.now) rules_text.now text.now) }
-    ensures refused { IfErr result (IsRefusalUnder (map routine_of program.now) rules_text.now text.now) }
+    work: &Work,
+) -> Result<Outcome, Refusal>
+    ensures ok { IfOk result (IsOutcomeUnder (map routine_of program.now) rules_text.now work.now) }
+    ensures refused { IfErr result (IsRefusalUnder (map routine_of program.now) rules_text.now work.now) }
 {
     let rules = read_rules(alloc, rules_text)?;
-    report_with(alloc, program, &rules, text)
+    outcome_with(alloc, program, &rules, work)
 }
 
-// The report of routines by the texts of rules and a certificate.
-fn report_of(
+// What routines come to by the text of rules.
+fn outcome_of(
     alloc: Global,
     routines: &[Routine],
     rules_text: &[u8],
-    text: &[u8],
-) -> Result<Report, Refusal>
-    ensures ok { IfOk result (IsReportOf (map routine_of routines.now) rules_text.now text.now) }
-    ensures refused { IfErr result (IsRefusalOf (map routine_of routines.now) rules_text.now text.now) }
+    work: &Work,
+) -> Result<Outcome, Refusal>
+    ensures ok { IfOk result (IsOutcomeOf (map routine_of routines.now) rules_text.now work.now) }
+    ensures refused { IfErr result (IsRefusalOf (map routine_of routines.now) rules_text.now work.now) }
 {
     let program = link(alloc, routines)?;
-    report_under(alloc, &program, rules_text, text)
+    outcome_under(alloc, &program, rules_text, work)
 }
 
-/// The report of texts, or the first refusal: of the routines in order, of their linking, of the rules, of the
-/// certificate, of an entry that the routines lack.
+/// What texts come to, or the first refusal: of the routines in order, of their linking, of the rules, of the
+/// certificate, or of its making, and of an entry that the routines lack.
 pub(crate) fn check_texts(alloc: Global, sources: &Sources<'_>) -> Result<Checked, Refusal>
-    ensures ok { IfOk result (λ c. IsChecked sources.now (trees_of c) c.report) }
+    ensures ok { IfOk result (λ c. IsChecked sources.now (trees_of c) c.outcome) }
     ensures refused { IfErr result (IsRefusedBy sources.now) }
 {
     let routines = routines_of(alloc, sources.routines.as_slice())?;
-    let report = report_of(
+    let outcome = outcome_of(
         alloc,
         routines.as_slice(),
         sources.rules.as_slice(),
-        sources.certificate.as_slice(),
+        &sources.work,
     )?;
-    Ok(Checked { routines, report })
+    Ok(Checked { routines, outcome })
 }

@@ -3,7 +3,7 @@
 ghost use Rattle.std.specs.Prelude.{◌≡◌, ◌++◌, OnOk, IfOk, map, slice_get, option_copied};
 ghost use Rattle.mlk_routine.specs.Views.{line_of, routine_of};
 ghost use Rattle.mlk_program.specs.Entries.{label_of, text_with};
-ghost use Rattle.mlk_command.specs.Printed.{code_text, place_text, left_out_text, fault_line, missing_line, rules_line, certificate_line, disagreement_line, file_line, entry_text, fault_text, row_line, row_lines, last_line, report_text};
+ghost use Rattle.mlk_command.specs.Printed.{code_text, place_text, left_out_text, fault_line, missing_line, rules_line, certificate_line, disagreement_line, stuck_line, file_line, entry_text, fault_text, row_line, row_lines, last_line, report_text};
 
 use crate::text::Text;
 use mlk_cert::CertFault;
@@ -71,6 +71,25 @@ pub(crate) fn missing_line(alloc: Global, entry: &Value) -> Result<Text, AllocEr
     text.push(entry.as_bytes())?;
     text.push(b" ")?;
     push_code(&mut text, Code::EntryMissing)?;
+    text.push(b"\n")?;
+    Ok(text)
+}
+
+/// `refused LABEL^ROUTINE line:column 801 GaveUp`
+pub(crate) fn stuck_line(
+    alloc: Global,
+    entry: &Value,
+    fault: &mlk_rows::Fault,
+) -> Result<Text, AllocError>
+    ensures { IfOk result (λ t. t ≡ stuck_line entry.now fault.now) }
+{
+    let mut text = Text::new(alloc);
+    text.push(b"refused ")?;
+    text.push(entry.as_bytes())?;
+    text.push(b" ")?;
+    push_place(&mut text, fault.line, fault.column.number())?;
+    text.push(b" ")?;
+    push_code(&mut text, Code::GaveUp)?;
     text.push(b"\n")?;
     Ok(text)
 }

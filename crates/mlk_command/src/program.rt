@@ -1,18 +1,20 @@
 // The program, from its words to its status.
 
-ghost use Rattle.std.specs.Prelude.{◌≡◌, ◌≢◌, ◌⊎◌, IfOk, OnOk};
+ghost use Rattle.std.specs.Prelude.{◌≡◌, ◌≢◌, ◌⊎◌, IfOk, OnOk, map};
+ghost use Rattle.mlk_routine.specs.Views.{routine_of};
 ghost use Rattle.std.specs.IoError.{error_kind};
 ghost use Rattle.std.specs.Io.KnownBytes.{Appends};
-ghost use Rattle.mlk_command.specs.Ran.{status_of, PrintsReport, IsRefusalLine, TellsRefusal, TellsUnread, Answers, AnswersWords, IsSaid, Ran};
+ghost use Rattle.mlk_command.specs.Ran.{status_of, PrintsReport, Prints, IsRefusalLine, TellsRefusal, TellsUnread, Answers, AnswersWords, IsSaid, Ran};
 
-use crate::checked::{Checked, Refusal, check_texts};
+use crate::checked::{Checked, Outcome, Refusal, check_texts};
 use crate::printed::{
     certificate_line, disagreement_line, fault_line, file_line, missing_line, report_text,
-    rules_line,
+    rules_line, stuck_line,
 };
 use crate::source::{FileError, Files, read_files};
 use crate::text::Text;
 use crate::words::{Request, UsageError, read_request};
+use mlk_routine::Routine;
 use mlk_verdicts::Report;
 use std::alloc::{AllocError, Global};
 use std::io::{self, ErrorKind, Write};
@@ -28,7 +30,7 @@ const FAILED: u8 = 3;
 // What the program says, before it is said.
 #[derive(Drop, Debug)]
 enum Answer {
-    /// The text of a report, and the status that it ends with.
+    /// The text of a report or of a certificate, and the status that it ends with.
     Report(Text, u8),
     /// The line that tells why the input is refused.
     Refused(Text),
@@ -45,12 +47,22 @@ fn status_of(report: &Report) -> u8
     if report.is_yes() { YES } else { NO }
 }
 
-fn report_answer(alloc: Global, checked: &Checked) -> Answer
-    ensures { PrintsReport checked.now result }
+fn report_answer(alloc: Global, routines: &[Routine], report: &Report) -> Answer
+    ensures { PrintsReport (map routine_of routines.now) report.now result }
 {
-    match report_text(alloc, checked.routines.as_slice(), &checked.report) {
-        Ok(text) => Answer::Report(text, status_of(&checked.report)),
+    match report_text(alloc, routines, report) {
+        Ok(text) => Answer::Report(text, status_of(report)),
         Err(AllocError) => Answer::OutOfMemory,
+    }
+}
+
+fn answer_of(alloc: Global, checked: Checked) -> Answer
+    ensures { Prints checked result }
+{
+    let Checked { routines, outcome } = checked;
+    match outcome {
+        Outcome::Report(report) => report_answer(alloc, routines.as_slice(), &report),
+        Outcome::Made(text) => Answer::Report(Text::of(text), YES),
     }
 }
 
@@ -64,6 +76,7 @@ fn refusal_line(alloc: Global, refusal: &Refusal) -> Result<Text, AllocError>
         Refusal::Certificate(fault) => certificate_line(alloc, fault),
         Refusal::Entry(entry) => missing_line(alloc, entry),
         Refusal::Disagreement => disagreement_line(alloc),
+        Refusal::GaveUp(entry, fault) => stuck_line(alloc, entry, fault),
     }
 }
 
@@ -91,7 +104,7 @@ fn answer_request<F: Files>(alloc: Global, request: &Request<'_>, files: &F) -> 
 {
     match read_files(alloc, files, request) {
         Ok(sources) => match check_texts(alloc, &sources) {
-            Ok(checked) => report_answer(alloc, &checked),
+            Ok(checked) => answer_of(alloc, checked),
             Err(refusal) => refusal_answer(alloc, &refusal),
         },
         Err(FileError::OutOfMemory) => Answer::OutOfMemory,

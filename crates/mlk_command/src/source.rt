@@ -2,9 +2,9 @@
 
 ghost use Rattle.std.specs.Prelude.{◌≡◌, ◌≢◌, List, ℕ, IfOk, IfErr, length};
 ghost use Rattle.std.specs.IoError.{error_kind};
-ghost use Rattle.mlk_command.specs.Files.{IsFileName, IsNameStem, IsPathStem, IsSource, AreSources, AreTexts, bytes_of, paths_of, Loses, LosesFirst};
+ghost use Rattle.mlk_command.specs.Files.{IsFileName, IsNameStem, IsPathStem, IsSource, AreSources, IsWork, AreTexts, bytes_of, certificate_path, paths_of, Loses, LosesFirst};
 
-use crate::words::Request;
+use crate::words::{Asked, Request};
 use std::alloc::Global;
 use std::io::{self, ErrorKind};
 
@@ -37,11 +37,22 @@ pub(crate) struct Source<'a> {
     pub text: Vec<u8>,
 }
 
-/// The texts that a check reads.
+/// What is to be done with the texts.
+#[derive(Drop, Debug)]
+pub(crate) enum Work {
+    /// the check by this text of a certificate
+    Check(Vec<u8>),
+    /// a certificate is made
+    Make,
+    /// the check by the certificate that is made
+    Verify,
+}
+
+/// The texts that were read.
 #[derive(Drop, Debug)]
 pub(crate) struct Sources<'a> {
+    pub work: Work,
     pub rules: Vec<u8>,
-    pub certificate: Vec<u8>,
     pub routines: Vec<Source<'a>>,
 }
 
@@ -121,6 +132,22 @@ fn read_sources<'a, F: Files>(
     Ok(sources)
 }
 
+// The text of the certificate, where one is named.
+fn read_work<'a, F: Files>(
+    alloc: Global,
+    files: &F,
+    asked: &Asked<'a>,
+) -> Result<Work, FileError<'a>>
+    ensures ok { IfOk result (IsWork (F.holds files.now) asked.now) }
+    ensures lost { IfErr result (LosesFirst (F.holds files.now) (F.lacks files.now) (certificate_path asked.now)) }
+{
+    match asked {
+        Asked::Check(path) => Ok(Work::Check(read_file(alloc, files, *path)?)),
+        Asked::Make => Ok(Work::Make),
+        Asked::Verify => Ok(Work::Verify),
+    }
+}
+
 /// Reads all files, in the order of the words.
 pub(crate) fn read_files<'a, F: Files>(
     alloc: Global,
@@ -131,11 +158,11 @@ pub(crate) fn read_files<'a, F: Files>(
     ensures lost { IfErr result (LosesFirst (F.holds files.now) (F.lacks files.now) (paths_of request.now)) }
 {
     let rules = read_file(alloc, files, request.rules)?;
-    let certificate = read_file(alloc, files, request.certificate)?;
+    let work = read_work(alloc, files, &request.asked)?;
     let routines = read_sources(alloc, files, request.routines.as_slice())?;
     Ok(Sources {
+        work,
         rules,
-        certificate,
         routines,
     })
 }

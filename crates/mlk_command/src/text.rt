@@ -28,6 +28,12 @@ impl Text {
         }
     }
 
+    pub fn of(bytes: Vec<u8>) -> Text
+        ensures { result ≡ bytes.items }
+    {
+        Text { bytes }
+    }
+
     pub fn as_bytes(&self) -> &[u8]
         ensures { result.now ≡ self.now }
     {

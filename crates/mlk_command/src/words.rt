@@ -5,17 +5,28 @@ ghost use Rattle.clap.specs.Words.{app_of, rule_of, found_of, rows_of, kind_of};
 ghost use Rattle.clap.specs.Takes.{takes};
 ghost use Rattle.clap.specs.declared.error.kind.ErrorKind.TheVariants.{OutOfMemory};
 ghost use Rattle.clap.specs.Simple.{subcommand_rows_of};
-ghost use Rattle.mlk_command.specs.CommandLine.{path_rule, routines_rule, check_app, mlock_app, GivesPaths, GivesRequest, texts_of, Asks, IsRequest, LacksRequest};
+ghost use Rattle.mlk_command.specs.CommandLine.{path_rule, routines_rule, check_app, make_app, verify_app, mlock_app, GivesAsked, GivesPaths, GivesRequest, texts_of, Asks, IsRequest, LacksRequest};
 
 use clap::error::ErrorKind;
 use clap::{Arg, ArgAction, ArgMatches, Command, Error};
 use std::alloc::{AllocError, Global};
 
-/// What `mlock check` is asked for.
+/// What is to be done with routines and rules.
+#[derive(Drop, Debug)]
+pub(crate) enum Asked<'a> {
+    /// the check by the certificate at this path
+    Check(&'a str),
+    /// a certificate is made
+    Make,
+    /// the check by the certificate that is made
+    Verify,
+}
+
+/// What `mlock` is asked for, with the paths of the rules and the routines.
 #[derive(Drop, Debug)]
 pub(crate) struct Request<'a> {
+    pub asked: Asked<'a>,
     pub rules: &'a str,
-    pub certificate: &'a str,
     pub routines: Vec<&'a str>,
 }
 
@@ -42,6 +53,23 @@ Prints `yes` where every run of the declared entries, by any number of jobs, kee
 fault, as `LABEL^ROUTINE line:column CODE NAME`, and `no N`.
 
 Status: 0 yes, 1 no, 2 refused input, 3 want of memory or a file that can't be read or written.";
+
+const MAKE_HELP: &str = "Makes a certificate of routines";
+
+const MAKE_MORE: &str = "Makes a certificate of routines
+
+Prints the certificate of the declared entries and of all that they call, by which `mlock check` finds as few faults as
+the maker could reach. It is a text to read, to keep beside the routines, and to mend by hand.
+
+Status: 0 made, 2 refused input or given up, 3 want of memory or a file that can't be read or written.";
+
+const VERIFY_HELP: &str = "Makes a certificate of routines and checks them by it";
+
+const VERIFY_MORE: &str = "Makes a certificate of routines and checks them by it
+
+Prints what `mlock check` prints for the certificate that `mlock make` prints: `yes`, or a line for each fault and `no N`.
+
+Status: 0 yes, 1 no, 2 refused input or given up, 3 want of memory or a file that can't be read or written.";
 
 // The program's version, and the kit that it is proved with.
 const VERSION: &str = "0.1.0, proved with rattle-kit-13b logic dac8208d650f15bf";
@@ -78,6 +106,26 @@ fn check_command<'a>(alloc: Global) -> Result<Command<'a>, AllocError>
         .arg(routines(alloc))
 }
 
+fn make_command<'a>(alloc: Global) -> Result<Command<'a>, AllocError>
+    ensures { IfOk result (λ c. app_of c ≡ make_app) }
+{
+    Command::new(alloc, "make")
+        .about(MAKE_HELP)
+        .long_about(MAKE_MORE)
+        .arg(path(alloc, "RULES", RULES_HELP))?
+        .arg(routines(alloc))
+}
+
+fn verify_command<'a>(alloc: Global) -> Result<Command<'a>, AllocError>
+    ensures { IfOk result (λ c. app_of c ≡ verify_app) }
+{
+    Command::new(alloc, "verify")
+        .about(VERIFY_HELP)
+        .long_about(VERIFY_MORE)
+        .arg(path(alloc, "RULES", RULES_HELP))?
+        .arg(routines(alloc))
+}
+
 fn grammar<'a>(alloc: Global) -> Result<Command<'a>, AllocError>
     ensures { IfOk result (λ c. app_of c ≡ mlock_app) }
 {
@@ -85,17 +133,42 @@ fn grammar<'a>(alloc: Global) -> Result<Command<'a>, AllocError>
         .about(ABOUT)
         .version(VERSION)
         .subcommand_required(true)
-        .subcommand(check_command(alloc)?)
+        .subcommand(check_command(alloc)?)?
+        .subcommand(make_command(alloc)?)?
+        .subcommand(verify_command(alloc)?)
 }
 
-// The paths that a command was given.
-fn paths_of<'a>(alloc: Global, matches: &ArgMatches<'a>) -> Result<Option<Request<'a>>, AllocError>
-    ensures { IfOk result (GivesPaths (rows_of (found_of matches.now))) }
+// What the command of this name is to do.
+fn asked_by<'a>(name: &str, matches: &ArgMatches<'a>) -> Option<Asked<'a>>
+    ensures { GivesAsked name.now (rows_of (found_of matches.now)) result }
 {
-    let Some(rules) = matches.get_str("RULES") else {
+    if name == "make" {
+        return Some(Asked::Make);
+    }
+    if name == "verify" {
+        return Some(Asked::Verify);
+    }
+    if name != "check" {
+        return None;
+    }
+    let Some(path) = matches.get_str("CERT") else {
+        return None;
+    };
+    Some(Asked::Check(path))
+}
+
+// What the command of this name, with the paths that it was given, asks for.
+fn given<'a>(
+    alloc: Global,
+    name: &str,
+    matches: &ArgMatches<'a>,
+) -> Result<Option<Request<'a>>, AllocError>
+    ensures { IfOk result (GivesPaths name.now (rows_of (found_of matches.now))) }
+{
+    let Some(asked) = asked_by(name, matches) else {
         return Ok(None);
     };
-    let Some(certificate) = matches.get_str("CERT") else {
+    let Some(rules) = matches.get_str("RULES") else {
         return Ok(None);
     };
     let Some(paths) = matches.get_strs("ROUTINE") else {
@@ -103,8 +176,8 @@ fn paths_of<'a>(alloc: Global, matches: &ArgMatches<'a>) -> Result<Option<Reques
     };
     let routines = Vec::from_slice(alloc, paths)?;
     Ok(Some(Request {
+        asked,
         rules,
-        certificate,
         routines,
     }))
 }
@@ -117,7 +190,7 @@ fn request_of<'a>(
 {
     match matches.subcommand() {
         None => Ok(None),
-        Some((_, inner)) => paths_of(alloc, inner),
+        Some((name, inner)) => given(alloc, name, inner),
     }
 }
 

@@ -1,9 +1,9 @@
-use Rattle.mlk_command.proofs.Saying.{report-answers, refusal-answers}
+use Rattle.mlk_command.proofs.Saying.{outcome-answers, refusal-answers}
 use Rattle.mlk_command.proofs.program.answer_request.Goals as goal
 
 pub returns-in-Ok-check_texts : goal.returns-in-Ok-check_texts
 returns-in-Ok-check_texts g c =
-    report-answers (g.F.Files.holds c.args.files.now) (g.F.Files.lacks c.args.files.now) c.args.request.now c.in-Ok.sources c.in-Ok-check_texts.checked c.report_answer.result c.in-Ok.ensures.ok c.in-Ok-check_texts.ensures.ok c.report_answer.ensures
+    outcome-answers (g.F.Files.holds c.args.files.now) (g.F.Files.lacks c.args.files.now) c.args.request.now c.in-Ok.sources c.in-Ok-check_texts.checked c.answer_of.result c.in-Ok.ensures.ok c.in-Ok-check_texts.ensures.ok c.answer_of.ensures
 
 pub returns-in-Ok : goal.returns-in-Ok
 returns-in-Ok g c =

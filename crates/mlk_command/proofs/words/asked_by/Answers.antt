@@ -1,0 +1,16 @@
+use Rattle.std.proofs.Common.{◌∙◌, sym, ap, codes, rules}
+use Rattle.std.specs.Prelude.{option_map}
+use Rattle.clap.specs.Words.{found_of, rows_of}
+use Rattle.clap.proofs.WalkLemmas.{first_value-rows}
+use Rattle.mlk_command.proofs.CommandLine.{asks-nothing}
+use Rattle.mlk_command.proofs.words.asked_by.Goals as goal
+
+pub returns-in_default : goal.returns-in_default
+returns-in_default c =
+    let found = found_of c.args.matches.now in
+    asks-nothing c.args.name.now (rows_of found) (grind rules) (grind rules) (c.in_default.ensures ∙ first_value-rows found (codes "CERT"))
+
+pub returns : goal.returns
+returns c =
+    let found = found_of c.args.matches.now in
+    (grind rules, sym (first_value-rows found (codes "CERT")) ∙ sym c.get_str.ensures ∙ ap (option_map (λ s. s.now)) c.in-Some.is)
