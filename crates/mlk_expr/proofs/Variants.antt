@@ -1,5 +1,5 @@
 -- The trees of the code's values, one level taken apart.
-use Rattle.std.proofs.Common.{◌≡◌, ℕ, List, Some, Vec, Global, sym, ap, ◌∙◌}
+use Rattle.std.proofs.Common.{◌≡◌, ℕ, List, Some, Vec, Box, Global, sym, ap, ◌∙◌}
 use Rattle.mlk_expr.specs.declared.tree.Callee.{Callee}
 use Rattle.mlk_expr.specs.declared.tree.Function.{Function}
 use Rattle.mlk_expr.specs.declared.tree.Expr.{Expr, fold-roll-Expr}
@@ -25,5 +25,5 @@ tree_global column name subs = ap tree_of (sym (rolls-Global column name subs)) 
 pub tree_func : (f : Function) (args : Vec Expr Global) → tree_of (rust.Func f args) ≡ Func f (trees_from (trees args.items))
 tree_func f args = ap tree_of (sym (rolls-Func f args)) ∙ fold-roll-Expr ActualTree Tree (ℕ × Tree) actual_step expr_step subscript_step (open'.Func f args)
 
-pub tree_call : (column : ℕ) (callee : Callee) (given : Vec Actual Global) → tree_of (rust.Call column callee (Some given)) ≡ CallOf column callee (actuals_from (actual_trees given.items))
+pub tree_call : (column : ℕ) (callee : Box Callee Global) (given : Vec Actual Global) → tree_of (rust.Call column callee (Some given)) ≡ CallOf column callee.value (actuals_from (actual_trees given.items))
 tree_call column callee given = ap tree_of (sym (rolls-Call column callee (Some given))) ∙ fold-roll-Expr ActualTree Tree (ℕ × Tree) actual_step expr_step subscript_step (open'.Call column callee (Some given))

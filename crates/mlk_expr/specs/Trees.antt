@@ -87,7 +87,7 @@ expr_step (open'.Binary b v) = Chain b.value (links_from v.items)
 expr_step (open'.Pattern text) = PatternText text
 expr_step (open'.Func f v) = Func f (trees_from v.items)
 expr_step (open'.Select v) = Selected (choices_from v.items)
-expr_step (open'.Call column callee o) = call_from column callee (option_map (λ v. v.items) o)
+expr_step (open'.Call column callee o) = call_from column callee.value (option_map (λ v. v.items) o)
 
 abbrev pub actual_step : Actual-F ActualTree Tree (ℕ × Tree) → ActualTree
 actual_step (open'.Value t) = Given t

@@ -89,5 +89,5 @@ pub enum Expr {
     /// the conditions of `$SELECT`, each with its value
     Select(Vec<(Expr, Expr)>),
     /// with the column of its `$$`; without an actual list there are no actuals, not even an empty list of them
-    Call(Column, Callee, Option<Vec<Actual>>),
+    Call(Column, Box<Callee>, Option<Vec<Actual>>),
 }

@@ -28,7 +28,7 @@ pub tree_select : (v : Vec (Expr × Expr) Global) → tree_of (rust.Select v) �
 tree_select v = ap tree_of (sym (rolls-Select v))
     ∙ fold-roll-Expr ActualTree Tree (ℕ × Tree) actual_step expr_step subscript_step (open'.Select v)
 
-pub tree_bare : (column : ℕ) (callee : Callee) → tree_of (rust.Call column callee None) ≡ BareCall column callee
+pub tree_bare : (column : ℕ) (callee : Box Callee Global) → tree_of (rust.Call column callee None) ≡ BareCall column callee.value
 tree_bare column callee = ap tree_of (sym (rolls-Call column callee None))
     ∙ fold-roll-Expr ActualTree Tree (ℕ × Tree) actual_step expr_step subscript_step (open'.Call column callee None)
 
@@ -52,15 +52,15 @@ pub select_parts : (v : Vec (Expr × Expr) Global)
     → parts_of (tree_of (rust.Select v)) ≡ Select (choices_from (choices v.items)) ∷ []
 select_parts v = ap parts_of (tree_select v)
 
-pub bare_parts : (column : ℕ) (callee : Callee)
-    → parts_of (tree_of (rust.Call column callee None)) ≡ Call true callee [] ∷ []
+pub bare_parts : (column : ℕ) (callee : Box Callee Global)
+    → parts_of (tree_of (rust.Call column callee None)) ≡ Call true callee.value [] ∷ []
 bare_parts column callee = ap parts_of (tree_bare column callee)
 
-pub call_parts : (column : ℕ) (callee : Callee) (v : Vec Actual Global)
-    → parts_of (tree_of (rust.Call column callee (Some v))) ≡ called_with callee (actual_trees v.items)
+pub call_parts : (column : ℕ) (callee : Box Callee Global) (v : Vec Actual Global)
+    → parts_of (tree_of (rust.Call column callee (Some v))) ≡ called_with callee.value (actual_trees v.items)
 call_parts column callee v =
     ap parts_of (tree_call column callee v)
-    ∙ ap (λ (given : List ActualTree). each_actual given ++ Call true callee given ∷ []) (listed (actual_trees v.items))
+    ∙ ap (λ (given : List ActualTree). each_actual given ++ Call true callee.value given ∷ []) (listed (actual_trees v.items))
 
 pub no_arguments : (f : Function) (b : Bool) → function_parts f b no_trees ≡ values_with no_trees
 no_arguments f true = refl
@@ -116,8 +116,8 @@ pub of_other : (f : Function) (t : Tree) (more : Trees) → is_variable t ≡ fa
     → function_parts f (takes_name f) (tree t more) ≡ values_with (tree t more)
 of_other f t more h = other_first f (takes_name f) t more h
 
-pub extrinsic_call : (column : ℕ) (callee : Callee) (o : Option (Vec Actual Global))
+pub extrinsic_call : (column : ℕ) (callee : Box Callee Global) (o : Option (Vec Actual Global))
     → parts_of (tree_of (rust.Call column callee o))
-    ≡ extrinsic_parts callee (option_map (λ (v : Vec Actual Global). actual_trees v.items) o)
+    ≡ extrinsic_parts callee.value (option_map (λ (v : Vec Actual Global). actual_trees v.items) o)
 extrinsic_call column callee None = bare_parts column callee
 extrinsic_call column callee (Some v) = call_parts column callee v

@@ -72,12 +72,12 @@ tree_select v = ap tree_of (sym (rolls-Select v))
 pub of_select : (v : Vec (Expr × Expr) Global) → of_expr (rust.Select v) ≡ flat_map of_choice v.items
 of_select v = ap in_tree (tree_select v) ∙ choices_flat v.items
 
-pub of_list : (column : ℕ) (callee : Callee) (v : Vec Actual Global) → of_expr (rust.Call column callee (Some v))
-    ≡ Called column callee (Some (actual_trees v.items)) ∷ flat_map of_actual v.items
+pub of_list : (column : ℕ) (callee : Box Callee Global) (v : Vec Actual Global) → of_expr (rust.Call column callee (Some v))
+    ≡ Called column callee.value (Some (actual_trees v.items)) ∷ flat_map of_actual v.items
 of_list column callee v = ap in_tree (tree_call column callee v)
-    ∙ ap (λ given. Called column callee (Some given) ∷ in_actuals (actuals_from (actual_trees v.items)))
+    ∙ ap (λ given. Called column callee.value (Some given) ∷ in_actuals (actuals_from (actual_trees v.items)))
     (as_list_same (actual_trees v.items))
-    ∙ ap (λ more. Called column callee (Some (actual_trees v.items)) ∷ more) (actuals_flat v.items)
+    ∙ ap (λ more. Called column callee.value (Some (actual_trees v.items)) ∷ more) (actuals_flat v.items)
 
 -- first these are added, then those
 pub finds_both : (a b : List CallTree) (old mid new : List CallSite) → Finds a old mid → Finds b mid new
@@ -85,14 +85,14 @@ pub finds_both : (a b : List CallTree) (old mid new : List CallSite) → Finds a
 finds_both a b old mid new h k = k ∙ ap (λ s. s ++ b) h ∙ append_assoc (map site_of old) a b
 
 -- first a call, then those of its actuals
-pub finds_call : (e : Expr) (column : ℕ) (callee : Callee) (o : Option (Vec Actual Global)) (v : Vec Actual Global)
+pub finds_call : (e : Expr) (column : ℕ) (callee : Box Callee Global) (o : Option (Vec Actual Global)) (v : Vec Actual Global)
     (old mid new : List CallSite) → e ≡ rust.Call column callee o → o ≡ Some v
-    → Finds (Called column callee (given_of o) ∷ []) old mid → Finds (flat_map of_actual v.items) mid new
+    → Finds (Called column callee.value (given_of o) ∷ []) old mid → Finds (flat_map of_actual v.items) mid new
     → Finds (of_expr e) old new
 finds_call e column callee o v old mid new is some h k =
     subst (λ calls. Finds calls old new) (sym (ap of_expr (is ∙ ap (rust.Call column callee) some) ∙ of_list column callee v))
-    (finds_both (Called column callee (Some (actual_trees v.items)) ∷ []) (flat_map of_actual v.items) old mid new
-    (subst (λ p. Finds (Called column callee (given_of p) ∷ []) old mid) some h) k)
+    (finds_both (Called column callee.value (Some (actual_trees v.items)) ∷ []) (flat_map of_actual v.items) old mid new
+    (subst (λ p. Finds (Called column callee.value (given_of p) ∷ []) old mid) some h) k)
 
 -- the calls of what lists are made of
 pub calls_of_map : {A B : Type 0} (calls : B → List CallTree) (view : A → B) (xs : List A)

@@ -37,7 +37,7 @@ tree_select : (v : Vec (Expr × Expr) Global) → tree_of (rust.Select v) ≡ Se
 tree_select v = ap tree_of (sym (rolls-Select v))
     ∙ fold-roll-Expr ActualTree Tree (ℕ × Tree) actual_step expr_step subscript_step (open'.Select v)
 
-tree_bare : (column : ℕ) (callee : Callee) → tree_of (rust.Call column callee None) ≡ BareCall column callee
+tree_bare : (column : ℕ) (callee : Box Callee Global) → tree_of (rust.Call column callee None) ≡ BareCall column callee.value
 tree_bare column callee = ap tree_of (sym (rolls-Call column callee None))
     ∙ fold-roll-Expr ActualTree Tree (ℕ × Tree) actual_step expr_step subscript_step (open'.Call column callee None)
 
@@ -77,15 +77,15 @@ module _ (p : Spot) (how : Use) (w : Walk) where
       ≡ evaluate_choices p (choices_from (choices v.items)) w
   select_opens v = ap (λ t. evaluate p how t w) (tree_select v)
 
-  pub bare_opens : (column : ℕ) (callee : Callee) → evaluate p how (tree_of (rust.Call column callee None)) w
-      ≡ extrinsic p column callee [] w
+  pub bare_opens : (column : ℕ) (callee : Box Callee Global) → evaluate p how (tree_of (rust.Call column callee None)) w
+      ≡ extrinsic p column callee.value [] w
   bare_opens column callee = ap (λ t. evaluate p how t w) (tree_bare column callee)
 
-  pub call_opens : (column : ℕ) (callee : Callee) (given : Vec Actual Global)
+  pub call_opens : (column : ℕ) (callee : Box Callee Global) (given : Vec Actual Global)
       → evaluate p how (tree_of (rust.Call column callee (Some given))) w
-      ≡ extrinsic p column callee (actual_trees given.items) (capture_actuals p (actuals_from (actual_trees given.items)) w)
+      ≡ extrinsic p column callee.value (actual_trees given.items) (capture_actuals p (actuals_from (actual_trees given.items)) w)
   call_opens column callee given = ap (λ t. evaluate p how t w) (tree_call column callee given)
-      ∙ ap (λ g. extrinsic p column callee g (capture_actuals p (actuals_from (actual_trees given.items)) w)) (as_list_same (actual_trees given.items))
+      ∙ ap (λ g. extrinsic p column callee.value g (capture_actuals p (actuals_from (actual_trees given.items)) w)) (as_list_same (actual_trees given.items))
 
 pub carried : (r : Result Walk AllocError) (a b : Walk) → IfOk r (λ w. w ≡ a) → b ≡ a → IfOk r (λ w. w ≡ b)
 carried r a b h e = subst (λ z. IfOk r (λ w. w ≡ z)) (sym e) h

@@ -127,10 +127,11 @@ pub(crate) fn call<'a>(
         return Err(no_call(whole));
     }
     let (callee, rest) = callee(alloc, bytes)?;
+    let boxed = Box::new(alloc, callee)?;
     let column = column_of(scope.end, whole);
     let Some(after) = byte_of(b'(', rest) else {
-        return Ok((Expr::Call(column, callee, None), rest));
+        return Ok((Expr::Call(column, boxed, None), rest));
     };
     let (given, rest) = actuals(alloc, scope, Passing::ByReference, after)?;
-    Ok((Expr::Call(column, callee, Some(given)), rest))
+    Ok((Expr::Call(column, boxed, Some(given)), rest))
 }

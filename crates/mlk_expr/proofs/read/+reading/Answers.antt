@@ -250,9 +250,11 @@ operand-returns-in-Caret t c =
 
 pub actuals::call-returns : goal.actuals::call-returns
 actuals::call-returns t c =
-    let whole = tree_call c.column_of-column.result c.in_ok-callee.callee c.in_ok-given.given in
+    let whole = tree_call c.column_of-column.result c.in_ok-boxed.boxed c.in_ok-given.given in
     rw (sym c.column_of-column.ensures) (call-listed (calls_may c.args.scope.allows) c.args.scope.end (nested_in c.args.scope) c.column_of-column.result c.args.bytes.now c.in_ok-callee.callee c.in_ok-callee.rest.now c.in-Some.after.now (actual_trees c.in_ok-given.given.items) c.in_ok-given.rest.now
-    (sym c.if-not-calls.ensures) c.in_ok-callee.ensures (sym c.in-Some.ensures) c.in_ok-given.ensures ∙ ap (λ z. Some (z, c.in_ok-given.rest.now)) (sym whole))
+    (sym c.if-not-calls.ensures) c.in_ok-callee.ensures (sym c.in-Some.ensures) c.in_ok-given.ensures
+    ∙ ap (λ callee. Some (CallOf c.column_of-column.result callee (actuals_from (actual_trees c.in_ok-given.given.items)), c.in_ok-given.rest.now)) (sym c.in_ok-boxed.ensures)
+    ∙ ap (λ z. Some (z, c.in_ok-given.rest.now)) (sym whole))
 
 pub actuals::call-returns-in_err-given : goal.actuals::call-returns-in_err-given
 actuals::call-returns-in_err-given t c =
