@@ -24,4 +24,4 @@ pub use names::{NameSet, Own};
 pub use order::place_of_term;
 pub use read::{CertFault, read_cert};
 pub use shared::Shared;
-pub use write::{WriteFault, write_cert};
+pub use write::{Text, WriteFault, Written, push_flat, push_listed, push_more, write_cert};

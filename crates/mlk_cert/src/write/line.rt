@@ -1,7 +1,7 @@
 // Terms, names and cases, written.
 
 ghost use Rattle.std.specs.Prelude.{◌≡◌, ◌++◌, ◌∷◌, ◌<◌, OnOk, codes};
-ghost use Rattle.mlk_cert.specs.Texts.{listed, hex, byte_text, constant_text, symbol_text, subs_text, root_text, term_text, names_text, own_text, name_text, sign, sign_text, saved_text, case_text, exit_text};
+ghost use Rattle.mlk_cert.specs.Texts.{listed, hex, byte_text, constant_text, symbol_text, subs_text, term_text, names_text, own_text, name_text, sign, sign_text, saved_text, case_text, exit_text};
 
 use crate::case::{Case, ExitCase, Test};
 use crate::names::{NameSet, Own};
@@ -9,7 +9,7 @@ use crate::read::lexeme::is_plain;
 use crate::write::list::{Written, push_flat, push_joined, push_listed, push_more};
 use crate::write::text::Text;
 use mlk_names::{KnownSym, LockTerm, Root};
-use mlk_text::Name;
+use mlk_text::{Name, Value};
 use std::alloc::AllocError;
 
 fn hex(digit: u8) -> u8
@@ -51,6 +51,16 @@ fn push_value(text: &mut Text, value: &[u8]) -> Result<(), AllocError>
     Ok(())
 }
 
+impl Written for Value {
+    ghost use Rattle.mlk_cert.specs.Texts.{constant_text};
+
+    ghost written = { constant_text };
+
+    fn push_to(&self, text: &mut Text) -> Result<(), AllocError> {
+        push_value(text, self.as_bytes())
+    }
+}
+
 impl Written for Name {
     ghost use Rattle.mlk_cert.specs.Texts.{name_text};
 
@@ -68,22 +78,26 @@ impl Written for KnownSym {
 
     fn push_to(&self, text: &mut Text) -> Result<(), AllocError> {
         match self {
-            KnownSym::Const(value) => push_value(text, value.as_bytes()),
+            KnownSym::Const(value) => value.push_to(text),
             KnownSym::Local(name) => text.push(name.as_bytes()),
             KnownSym::Job => text.push(b"$J"),
         }
     }
 }
 
-fn push_root(text: &mut Text, root: &Root) -> Result<(), AllocError>
-    ensures { OnOk result (text.new ≡ text.old ++ root_text root.now) }
-{
-    match root {
-        Root::Global(name) => {
-            text.push_byte(b'^')?;
-            text.push(name.as_bytes())
+impl Written for Root {
+    ghost use Rattle.mlk_cert.specs.Texts.{root_text};
+
+    ghost written = { root_text };
+
+    fn push_to(&self, text: &mut Text) -> Result<(), AllocError> {
+        match self {
+            Root::Global(name) => {
+                text.push_byte(b'^')?;
+                text.push(name.as_bytes())
+            }
+            Root::Local(name) => text.push(name.as_bytes()),
         }
-        Root::Local(name) => text.push(name.as_bytes()),
     }
 }
 
@@ -106,7 +120,7 @@ impl Written for LockTerm {
     ghost written = { term_text };
 
     fn push_to(&self, text: &mut Text) -> Result<(), AllocError> {
-        push_root(text, &self.root)?;
+        self.root.push_to(text)?;
         push_subs(text, self.subs.as_slice())?;
         Ok(())
     }

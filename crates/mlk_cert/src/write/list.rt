@@ -8,19 +8,16 @@ use crate::write::text::Text;
 use std::alloc::AllocError;
 
 /// What has one text.
-pub(crate) trait Written {
+pub trait Written {
     ghost written: { Self → List ℕ };
 
+    /// The text at the end of another.
     fn push_to(&self, text: &mut Text) -> Result<(), AllocError>
         ensures { OnOk result (text.new ≡ text.old ++ written self.now) };
 }
 
 /// Items, each after this byte.
-pub(crate) fn push_more<T: Written>(
-    text: &mut Text,
-    between: u8,
-    items: &[T],
-) -> Result<(), AllocError>
+pub fn push_more<T: Written>(text: &mut Text, between: u8, items: &[T]) -> Result<(), AllocError>
     ensures { OnOk result (text.new ≡ text.old ++ more between T.written items.now) }
 {
     for item in items {
@@ -46,8 +43,8 @@ pub(crate) fn push_joined<T: Written>(
     Ok(())
 }
 
-/// A list on a line.
-pub(crate) fn push_listed<T: Written>(text: &mut Text, items: &[T]) -> Result<(), AllocError>
+/// A list on a line: items with `;` between them, or `-` where there are none.
+pub fn push_listed<T: Written>(text: &mut Text, items: &[T]) -> Result<(), AllocError>
     ensures { OnOk result (text.new ≡ text.old ++ listed T.written items.now) }
 {
     let Some((first, others)) = items.split_first() else {
@@ -60,7 +57,7 @@ pub(crate) fn push_listed<T: Written>(text: &mut Text, items: &[T]) -> Result<()
 }
 
 /// Items, one after another.
-pub(crate) fn push_flat<T: Written>(text: &mut Text, items: &[T]) -> Result<(), AllocError>
+pub fn push_flat<T: Written>(text: &mut Text, items: &[T]) -> Result<(), AllocError>
     ensures { OnOk result (text.new ≡ text.old ++ flat T.written items.now) }
 {
     for item in items {

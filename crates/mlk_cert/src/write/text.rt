@@ -6,8 +6,9 @@ ghost use Rattle.std.specs.Fmt.{decimal};
 use std::alloc::{AllocError, Global};
 use std::marker::Model;
 
+/// A text that is put together piece by piece.
 #[derive(Drop)]
-pub(crate) struct Text {
+pub struct Text {
     bytes: Vec<u8>,
 }
 
@@ -20,6 +21,7 @@ impl Model for Text {
 }
 
 impl Text {
+    /// A text without a byte.
     pub fn new(alloc: Global) -> Text
         ensures { result ≡ [] }
     {
@@ -28,12 +30,14 @@ impl Text {
         }
     }
 
+    /// Its bytes.
     pub fn as_bytes(&self) -> &[u8]
         ensures { result.now ≡ self.now }
     {
         self.bytes.as_slice()
     }
 
+    /// More bytes at its end.
     pub fn push(&mut self, piece: &[u8]) -> Result<(), AllocError>
         ensures { OnOk result (self.new ≡ self.old ++ piece.now) }
     {
@@ -41,6 +45,7 @@ impl Text {
         Ok(())
     }
 
+    /// One more byte at its end.
     pub fn push_byte(&mut self, byte: u8) -> Result<(), AllocError>
         ensures { OnOk result (self.new ≡ self.old ++ byte ∷ []) }
     {
@@ -48,6 +53,7 @@ impl Text {
         Ok(())
     }
 
+    /// The digits of a number at its end.
     pub fn push_number(&mut self, number: u32) -> Result<(), AllocError>
         ensures { OnOk result (self.new ≡ self.old ++ decimal number) }
     {
