@@ -1,12 +1,9 @@
-//! Files of events: what jobs do, one line after another.
+//! Lines of files of events: what a job does.
 #![tactic(auto)]
 
-mod fault;
-mod file;
 mod lexeme;
 mod line;
 mod order;
 
-pub use fault::EventFault;
-pub use file::read_events;
+pub use line::read_line;
 pub use order::{Beginning, Order};

@@ -129,9 +129,9 @@ fn order(alloc: Global, bytes: &[u8]) -> Result<(Order, &[u8]), Failure<NotThere
     Err(Failure::Refused(NotThere))
 }
 
-/// A line at the front, and what is left after its end.
+/// What the line at the front of a file says, and what is left after the line's end; or that no event stands there.
 #[tactic(auto, unfolding(crate::specs::Reading::line_at))]
-pub(crate) fn line(alloc: Global, bytes: &[u8]) -> Result<(Order, &[u8]), Failure<NotThere>>
+pub fn read_line(alloc: Global, bytes: &[u8]) -> Result<(Order, &[u8]), Failure<NotThere>>
     ensures { Reads (λ x. (x.0, x.1.now)) result (line_at bytes.now) }
 {
     let (order, rest) = order(alloc, bytes)?;

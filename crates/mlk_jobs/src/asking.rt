@@ -3,7 +3,7 @@
 ghost use Rattle.std.specs.Prelude.{◌≡◌, List, ℕ, Bool, true, false, Some, None, Ok, if◌then◌else◌};
 ghost use Rattle.mlk_locks.specs.Systems.{and_then};
 ghost use Rattle.mlk_jobs.specs.Tasks.{Job};
-ghost use Rattle.mlk_jobs.specs.Choices.{Stepped, without_choice, with_value, with_truth, truth_of, given_or_asked, is_one, is_zero};
+ghost use Rattle.mlk_jobs.specs.Choices.{Stepped, without_choice, with_value, with_truth, is_one, is_zero};
 
 use crate::choice::Choice;
 use mlk_locks::Refusal;
@@ -48,27 +48,4 @@ pub fn known_truth(value: &Value) -> Option<bool>
         b"0" => Some(false),
         _ => None,
     }
-}
-
-/// The truth of a value: known, or else chosen.
-pub fn truth_given(choice: &Choice, value: &Value) -> Result<bool, Refusal>
-    ensures { (f : Bool → Job) → truth_of choice.now value.now (λ t. Ok (f t)) ≡ and_then (λ t. Ok (f t)) result }
-{
-    let Some(truth) = known_truth(value) else {
-        return asked_truth(choice);
-    };
-    not_asked(choice)?;
-    Ok(truth)
-}
-
-/// A value: a known one, or else what is chosen.
-pub fn value_given(choice: Choice, known: Option<Value>) -> Result<Value, Refusal>
-    ensures { (f : List ℕ → Job)
-        → given_or_asked choice known (λ value. Ok (f value)) ≡ and_then (λ value. Ok (f value)) result }
-{
-    let Some(value) = known else {
-        return asked_value(choice);
-    };
-    not_asked(&choice)?;
-    Ok(value)
 }

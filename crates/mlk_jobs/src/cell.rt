@@ -1,6 +1,6 @@
 // What cells hold.
 
-ghost use Rattle.std.specs.Prelude.{◌≡◌, ◌<◌, ℕ, suc, List, length, Some, None, option_copied, slice_get, OnOk, OnErr, min, map, not, if◌then◌else◌};
+ghost use Rattle.std.specs.Prelude.{◌≡◌, ◌<◌, ℕ, suc, List, length, Some, None, option_copied, slice_get, IfOk, OnOk, OnErr, min, map, not, if◌then◌else◌};
 ghost use Rattle.mlk_jobs.specs.Bindings.{put, forgotten};
 ghost use Rattle.mlk_jobs.specs.Killing.{is_taken, without_taken};
 ghost use Rattle.mlk_jobs.specs.Views.{names_of, bindings_of, cell_of, in_table, value_at, Puts, without};
@@ -25,6 +25,16 @@ impl<'a> Table<'a> {
         Table {
             values: IndexMap::new(alloc),
         }
+    }
+
+    /// A table with the same values.
+    #[tactic(auto, using(crate::proofs::CellLemmas::same_entries))]
+    pub fn copy(&self) -> Result<Table<'a>, AllocError>
+        ensures { IfOk result (λ copy. (n : List ℕ) → in_table copy n ≡ in_table self.now n) }
+    {
+        Ok(Table {
+            values: self.values.clone()?,
+        })
     }
 
     // The value of a name. It takes no memory.

@@ -1,12 +1,10 @@
 // What steps change of a job, each change by itself.
 
-ghost use Rattle.std.specs.Prelude.{◌≡◌, ◌<◌, ◌&&◌, ◌++◌, map, OnOk, OnErr, [], option_copied};
-ghost use Rattle.mlk_text.specs.Failures.{Answers};
-ghost use Rattle.mlk_locks.specs.Counts.{has_room};
+ghost use Rattle.std.specs.Prelude.{◌≡◌, ◌<◌, ◌++◌, map, OnOk, OnErr, [], option_copied};
 ghost use Rattle.mlk_jobs.specs.Bindings.{look};
 ghost use Rattle.mlk_jobs.specs.Choices.{pushed, dropped, last_values, doing, stored};
 ghost use Rattle.mlk_jobs.specs.Lines.{skipped, to_end, quit, answered};
-ghost use Rattle.mlk_jobs.specs.Locking.{tested, if_free, held_more};
+ghost use Rattle.mlk_jobs.specs.Locking.{tested};
 ghost use Rattle.mlk_jobs.specs.Sound.{Sound};
 ghost use Rattle.mlk_jobs.specs.TaskViews.{task_of};
 ghost use Rattle.mlk_jobs.specs.Views.{names_of};
@@ -18,9 +16,9 @@ use crate::job::Job;
 use crate::kill::{cells_of_formals, cells_spared};
 use crate::pending;
 use crate::task::Task;
-use mlk_locks::{Held, Refusal};
+use mlk_locks::Held;
 use mlk_names::LockName;
-use mlk_text::{Failure, Value};
+use mlk_text::Value;
 use std::alloc::{AllocError, Global};
 
 impl<'a> Job<'a> {
@@ -184,28 +182,5 @@ impl<'a> Job<'a> {
         ensures sound { Sound self.old → Sound self.new }
     {
         self.pending.clear();
-    }
-
-    /// The job holds these names once more each, where they are free and no count passes the greatest. Where it can't,
-    /// nothing is changed.
-    pub fn claim(
-        &mut self,
-        alloc: Global,
-        names: &[LockName],
-        are_free: bool,
-    ) -> Result<(), Failure<Refusal>>
-        ensures answer { Answers (λ _. job_of self.new) result
-            (if_free (are_free && has_room names.now (job_of self.old).held) (held_more names.now (job_of self.old))) }
-        ensures stays { OnErr result (self.new ≡ self.old) }
-        ensures sound { Sound self.old → Sound self.new }
-    {
-        if !are_free {
-            return Err(Failure::Refused(Refusal::NotEnabled));
-        }
-        let Some(held) = self.held.claimed(alloc, names)? else {
-            return Err(Failure::Refused(Refusal::NotEnabled));
-        };
-        self.held = held;
-        Ok(())
     }
 }

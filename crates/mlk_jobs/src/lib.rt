@@ -15,7 +15,7 @@ mod pending;
 mod stack;
 mod task;
 
-pub use asking::{asked_truth, asked_value, not_asked, truth_given, value_given};
+pub use asking::{asked_truth, asked_value, known_truth, not_asked};
 pub use binding::{Binder, Cell, Names, look};
 pub use cell::{Table, add_generation, forget};
 pub use choice::Choice;

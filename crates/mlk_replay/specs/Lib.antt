@@ -1,1 +1,3 @@
 pub mod Replays
+pub mod Files
+pub mod InstructionViews

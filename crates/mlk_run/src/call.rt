@@ -16,12 +16,12 @@ ghost use Rattle.mlk_run.specs.Frames.{owed};
 use crate::formals::{binders, count_given, fill};
 use crate::frame::{Begin, begin_frame};
 use mlk_expr::{Actual, Callee};
-use mlk_jobs::{Calling, Choice, Frame, Job, Table, asked_truth};
+use mlk_jobs::{Calling, Choice, Frame, Job, Table, asked_truth, known_truth};
 use mlk_locks::Refusal;
 use mlk_parts::formals_in;
 use mlk_program::{EntryId, Program};
 use mlk_routine::Line;
-use mlk_steps::{known_truth, nothing_asked, or_refused};
+use mlk_steps::{nothing_asked, or_refused};
 use mlk_text::Failure;
 use std::alloc::{AllocError, Global};
 

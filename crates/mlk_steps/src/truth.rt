@@ -1,10 +1,10 @@
 // Steps by the truth of the last value.
 
-ghost use Rattle.std.specs.Prelude.{◌≡◌, ◌∷◌, ◌++◌, [], OnErr, OnOk, Ok, Some, None, true, false, if◌then◌else◌};
+ghost use Rattle.std.specs.Prelude.{◌≡◌, ◌∷◌, ◌++◌, [], OnErr, OnOk, Ok};
 ghost use Rattle.mlk_text.specs.Failures.{Answers};
 ghost use Rattle.mlk_expr.specs.Trees.{tree_of, choices, choices_from};
 ghost use Rattle.mlk_routine.specs.Views.{action_of};
-ghost use Rattle.mlk_jobs.specs.Choices.{by_truth, doing, is_one, is_zero};
+ghost use Rattle.mlk_jobs.specs.Choices.{by_truth, doing};
 ghost use Rattle.mlk_jobs.specs.Commands.{action_parts};
 ghost use Rattle.mlk_jobs.specs.Lines.{tasks_if, chosen};
 ghost use Rattle.mlk_jobs.specs.Locking.{tested};
@@ -15,23 +15,12 @@ ghost use Rattle.mlk_steps.specs.Truths.{truth_chosen, truth_known, truth_in, pa
 
 use crate::ask::or_refused;
 use mlk_expr::Expr;
-use mlk_jobs::{Choice, Job, Task, ValueTask};
+use mlk_jobs::{Choice, Job, Task, ValueTask, known_truth};
 use mlk_locks::Refusal;
 use mlk_parts::{action_parts, add};
 use mlk_routine::{Action, Line};
-use mlk_text::{Failure, Value};
+use mlk_text::Failure;
 use std::alloc::{AllocError, Global};
-
-/// The truth of a value, where that is known.
-pub fn known_truth(value: &Value) -> Option<bool>
-    ensures { result ≡ (if is_one value.now then Some true else if is_zero value.now then Some false else None) }
-{
-    match value.as_bytes() {
-        b"1" => Some(true),
-        b"0" => Some(false),
-        _ => None,
-    }
-}
 
 // The truth that is chosen, where one has to be.
 fn truth_chosen(choice: &Choice) -> Result<bool, Refusal>

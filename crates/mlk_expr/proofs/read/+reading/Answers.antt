@@ -5,7 +5,7 @@ use Rattle.mlk_text.specs.Lexemes.{byte_at}
 use Rattle.mlk_text.specs.Reading.{◌>>=◌, with}
 use Rattle.mlk_text.proofs.Readers.{many_stops, many_goes}
 use Rattle.mlk_expr.specs.Lexemes.{column_of, op_at}
-use Rattle.mlk_expr.specs.Trees.{tree_of, trees, sub_of, sub_trees, links, choice_of, choices, actual_of, actual_trees}
+use Rattle.mlk_expr.specs.Trees.{CallOf, actuals_from, tree_of, trees, sub_of, sub_trees, links, choice_of, choices, actual_of, actual_trees}
 use Rattle.mlk_expr.proofs.Variants.{tree_local, tree_global, tree_call, tree_func}
 use Rattle.mlk_expr.proofs.Followed.{IsPlaced, IsChoice}
 use Rattle.mlk_expr.specs.Touches.{globals_may, calls_may}
@@ -253,7 +253,7 @@ actuals::call-returns t c =
     let whole = tree_call c.column_of-column.result c.in_ok-boxed.boxed c.in_ok-given.given in
     rw (sym c.column_of-column.ensures) (call-listed (calls_may c.args.scope.allows) c.args.scope.end (nested_in c.args.scope) c.column_of-column.result c.args.bytes.now c.in_ok-callee.callee c.in_ok-callee.rest.now c.in-Some.after.now (actual_trees c.in_ok-given.given.items) c.in_ok-given.rest.now
     (sym c.if-not-calls.ensures) c.in_ok-callee.ensures (sym c.in-Some.ensures) c.in_ok-given.ensures
-    ∙ ap (λ callee. Some (CallOf c.column_of-column.result callee (actuals_from (actual_trees c.in_ok-given.given.items)), c.in_ok-given.rest.now)) (sym c.in_ok-boxed.ensures)
+    ∙ ap (λ callee. Some (CallOf c.column_of-column.result callee (actuals_from (actual_trees c.in_ok-given.given.items)), c.in_ok-given.rest.now)) (sym c.in_ok-boxed.ensures.ok)
     ∙ ap (λ z. Some (z, c.in_ok-given.rest.now)) (sym whole))
 
 pub actuals::call-returns-in_err-given : goal.actuals::call-returns-in_err-given

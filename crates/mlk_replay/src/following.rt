@@ -1,0 +1,73 @@
+// Files of events, replayed.
+
+ghost use Rattle.std.specs.Prelude.{◌≡◌, OnOk, IfErr, map, Ok};
+ghost use Rattle.mlk_system.specs.Systems.{jobs_in, routines_in, machine_of, IsSame};
+ghost use Rattle.mlk_replay.specs.Files.{made, FollowedSo, ReplayedFile};
+ghost use Rattle.mlk_replay.specs.InstructionViews.{asked_of, FailsSo};
+
+use crate::fault::{EventsFault, EventsRefusal};
+use crate::instruction::Instruction;
+use crate::reading::read_events;
+use mlk_locks::Refusal;
+use mlk_program::{EntryId, Program};
+use mlk_system::System;
+use mlk_text::{Failure, LineNumber};
+use std::alloc::Global;
+
+// What a line makes of a system.
+fn follow_one<'a>(system: &mut System<'a>, asked: &Instruction) -> Result<(), Failure<Refusal>>
+    ensures ok { OnOk result (made (machine_of system.old) (routines_in system.old) (asked_of asked.now) (jobs_in system.old)
+        ≡ Ok (jobs_in system.new)) }
+    ensures same { IsSame system.old system.new }
+    ensures refused { IfErr result (λ e. FailsSo e
+        (made (machine_of system.old) (routines_in system.old) (asked_of asked.now) (jobs_in system.old))) }
+{
+    match asked {
+        Instruction::Happens(event) => system.step(event),
+        Instruction::GoesOn(job) => {
+            let _ = system.settle(*job)?;
+            Ok(())
+        }
+    }
+}
+
+// What lines in turn make of a system.
+fn follow<'a>(system: &mut System<'a>, lines: &[Instruction]) -> Result<(), Failure<EventsFault>>
+    ensures same { IsSame system.old system.new }
+    ensures followed { FollowedSo (machine_of system.old) (routines_in system.old) (map asked_of lines.now)
+        (jobs_in system.old) (jobs_in system.new) result }
+{
+    let mut left = lines;
+    let mut number: u32 = 1;
+    while let Some((asked, rest)) = left.split_first() {
+        match follow_one(system, asked) {
+            Ok(()) => {
+                left = rest;
+                number = number.saturating_add(1);
+            }
+            Err(Failure::OutOfMemory) => return Err(Failure::OutOfMemory),
+            Err(Failure::Refused(refusal)) => {
+                let line = LineNumber::new(number);
+                let why = EventsRefusal::Refused(refusal);
+                return Err(Failure::Refused(EventsFault { line, why }));
+            }
+        }
+    }
+    Ok(())
+}
+
+/// The system after all lines of a file of events, from no jobs on; or the line at which that stops, and why. A line that is
+/// no event, or that lets a job begin at an entry that the program lacks, is told before anything is replayed.
+pub fn replay_events<'a>(
+    alloc: Global,
+    program: &'a Program<'a>,
+    entries: &'a [EntryId],
+    bytes: &[u8],
+) -> Result<System<'a>, Failure<EventsFault>>
+    ensures { ReplayedFile program.now entries.now bytes.now result }
+{
+    let lines = read_events(alloc, program, bytes)?;
+    let mut system = System::start(alloc, program, entries);
+    follow(&mut system, lines.as_slice())?;
+    Ok(system)
+}
