@@ -1,6 +1,7 @@
 -- What cells hold, table by table.
 use Rattle.std.proofs.Common.{◌≡◌, ◌≤◌, ◌<◌, ◌==◌, ℕ, zero, suc, Bool, true, false, List, [], ◌∷◌, ◌++◌, length, take, get_or, Option, Some, None, refl, sym, ap, ◌∙◌, inl, inr, arith}
 use Rattle.std.specs.Prelude.{bytes_eq, if◌then◌else◌, ◌&&◌, not, nat_lt, slice_get, slice_set, filter}
+use Rattle.std.specs.List.{AllZip}
 use Rattle.std.specs.Map.{lookup}
 use Rattle.std.proofs.lemmas.Bool.{cases_Bool}
 use Rattle.std.proofs.lemmas.Bool.Decides.{nat_tests}
@@ -210,3 +211,14 @@ all_at ts g test l c = elim (cases_Bool (nat_lt c.generation g)) [
 pub all_left_out : (ts : List Table) (g : ℕ) (test : Cell → Bool) → length ts ≤ g
     → left_out test g (value_at ts) ≡ (λ c. if test c then None else value_at ts c)
 all_left_out ts g test l = one_function _ _ (all_at ts g test l)
+
+-- a table that was copied, entry by entry
+entries_same : {K X : Type 0} (es fs : List (K × X)) → AllZip (λ p q. (q.0 ≡ p.0) × (q.1 ≡ p.1)) es fs → fs ≡ es
+entries_same [] [] h = refl
+entries_same [] (f ∷ fs) h = absurd h
+entries_same (e ∷ es) [] h = absurd h
+entries_same (e ∷ es) (f ∷ fs) h = λ i. (h.0.0 i, h.0.1 i) ∷ entries_same es fs h.1 i
+
+pub same_entries : (t u : Table) → AllZip (λ p q. (q.0 ≡ p.0) × (q.1 ≡ p.1)) t.values.entries u.values.entries
+    → (n : List ℕ) → in_table u n ≡ in_table t n
+same_entries t u h n = ap (lookup (λ k. bytes_eq n k.now)) (entries_same t.values.entries u.values.entries h)

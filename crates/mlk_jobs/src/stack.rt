@@ -1,6 +1,6 @@
 // Values that were computed and not used yet.
 
-ghost use Rattle.std.specs.Prelude.{◌≡◌, ◌∷◌, [], OnOk, OnErr, reverse, take, drop, length, slice_get, option_map};
+ghost use Rattle.std.specs.Prelude.{◌≡◌, ◌∷◌, [], IfOk, OnOk, OnErr, reverse, take, drop, length, slice_get, option_map};
 
 use mlk_text::Value;
 use std::alloc::{AllocError, Global};
@@ -28,12 +28,31 @@ fn last_of(values: &[Value], count: usize) -> &[Value]
     last
 }
 
+// Equal values.
+fn copy_values(alloc: Global, values: &[Value]) -> Result<Vec<Value>, AllocError>
+    ensures { IfOk result (λ copies. copies.items ≡ values.now) }
+{
+    let mut copies = Vec::with_capacity(alloc, values.len())?;
+    for value in values {
+        copies.push(value.copy()?)?;
+    }
+    Ok(copies)
+}
+
 impl Stack {
     /// These values, the first of which was computed first.
     pub fn of(values: Vec<Value>) -> Stack
         ensures { result ≡ reverse values.items }
     {
         Stack { values }
+    }
+
+    /// An equal one.
+    pub fn copy(&self) -> Result<Stack, AllocError>
+        ensures { IfOk result (λ copy. copy ≡ self.now) }
+    {
+        let values = copy_values(*self.values.allocator(), self.values.as_slice())?;
+        Ok(Stack { values })
     }
 
     /// How many there are.

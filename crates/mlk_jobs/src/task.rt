@@ -22,7 +22,7 @@ pub struct Rest<'a> {
 }
 
 /// What expressions are made of: each leaves one more value.
-#[derive(Drop)]
+#[derive(Clone, Drop)]
 pub enum ValueTask<'a> {
     Evaluate(&'a Expr),
     Push(&'a Value),
@@ -45,7 +45,7 @@ pub enum ValueTask<'a> {
 }
 
 /// What is done to locals, and the assignments of SET and MERGE.
-#[derive(Drop)]
+#[derive(Clone, Drop)]
 pub enum LocalTask<'a> {
     Store(&'a Name, Value),
     StoreAny(&'a Name),
@@ -58,7 +58,7 @@ pub enum LocalTask<'a> {
 }
 
 /// What is done by a truth.
-#[derive(Drop)]
+#[derive(Clone, Drop)]
 pub enum TestTask<'a> {
     SetTest,
     AskTest,
@@ -78,7 +78,7 @@ pub enum LockTask<'a> {
 }
 
 /// What begins a frame or a block.
-#[derive(Drop)]
+#[derive(Clone, Drop)]
 pub enum ScopeTask<'a> {
     Call(Calling, &'a Callee, &'a [Actual]),
     CallIf(&'a Callee, &'a [Actual]),
@@ -86,7 +86,7 @@ pub enum ScopeTask<'a> {
 }
 
 /// What is done of lines: their commands, the rounds of FOR, and QUIT and HALT.
-#[derive(Drop)]
+#[derive(Clone, Drop)]
 pub enum LineTask<'a> {
     RunLines(&'a [Line]),
     RunCommands(Rest<'a>),

@@ -98,6 +98,20 @@ fn lower(entries: &mut Vec<(LockName, u32)>, name: &LockName)
     }
 }
 
+// Equal entries.
+fn copy_entries(
+    alloc: Global,
+    entries: &[(LockName, u32)],
+) -> Result<Vec<(LockName, u32)>, AllocError>
+    ensures { IfOk result (λ copies. copies.items ≡ entries.now) }
+{
+    let mut copies = Vec::with_capacity(alloc, entries.len())?;
+    for entry in entries {
+        copies.push((copy_of(&entry.0)?, entry.1))?;
+    }
+    Ok(copies)
+}
+
 /// What a job holds: lock names, each with its count.
 #[derive(Drop, Debug)]
 pub struct Held {
@@ -124,6 +138,14 @@ impl Held {
         Held {
             entries: Vec::new(alloc),
         }
+    }
+
+    /// An equal one.
+    pub fn copy(&self) -> Result<Held, AllocError>
+        ensures { IfOk result (λ copy. copy ≡ self.now) }
+    {
+        let entries = copy_entries(*self.entries.allocator(), self.entries.as_slice())?;
+        Ok(Held { entries })
     }
 
     /// The names, each with its count.

@@ -1,3 +1,4 @@
 pub mod RingLemmas
 pub mod SettleLemmas
 pub mod NumberLemmas
+pub mod CopyLemmas

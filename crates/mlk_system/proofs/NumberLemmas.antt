@@ -11,7 +11,6 @@ use Rattle.mlk_jobs.specs.JobViews.{job_of}
 use Rattle.mlk_jobs.specs.Seen.{settled, settled_in, most_silent_steps, behind}
 use Rattle.mlk_run.proofs.SystemLemmas.{place_mapped, job_at, jobs_set}
 use Rattle.mlk_system.specs.Jobs.{job_numbered}
-use Rattle.mlk_system.specs.Settling.{gone_on}
 
 first_not : {A : Type 0} (o : Option ℕ) → o ≡ Some 0 → o ≡ None → A
 first_not None h k = absurd (cc)
@@ -80,22 +79,6 @@ module _ (k : ℕ) where
           rw (t, p.2) (ap (behind x) (one_settled js p.0 j g n p.1 d r))
     ]
 
-    one_gone_on : (js : List Job) (m i : ℕ) (j : Job) → position is_it js ≡ Some i → j ≡ get_or js i j
-        → gone_on routines m k js ≡ slice_set js i (settled routines m j).0
-    one_gone_on [] m i j h e = absurd (cc)
-    one_gone_on (x ∷ js) m i j h e = elim (cases_Bool (is_it x)) [
-      | inl t ↦
-          let s : Some 0 ≡ Some i = sym (position-cons is_it x js ∙ rw t refl) ∙ h in
-          let z : i ≡ 0 = cc in
-          let d : j ≡ x = e ∙ ap (λ n. get_or (x ∷ js) n j) z in
-          rw (t, z, d) refl
-      | inr t ↦
-          let s : option_map suc (position is_it js) ≡ Some i = sym (position-cons is_it x js ∙ rw t refl) ∙ h in
-          let p = some_later (position is_it js) i s in
-          let d : j ≡ get_or js p.0 j = e ∙ ap (λ n. get_or (x ∷ js) n j) p.2 in
-          rw (t, p.2) (ap (λ (is : List Job). x ∷ is) (one_gone_on js m p.0 j p.1 d))
-    ]
-
 -- The same of the code's jobs.
 module _ (k : ℕ) (js : List JobIn) where
   abbrev code_place : Option ℕ
@@ -118,11 +101,3 @@ module _ (k : ℕ) (js : List JobIn) where
   job_settled routines i j h n p e r =
       one_settled k routines (map job_of js) i (job_of j) (job_of h) n (place_mapped js k ∙ sym p) (job_at js i j e) r
       ∙ ap (λ (is : List Job). Ok (is, n)) (jobs_set js i h)
-
-  pub job_gone_on : (routines : List RoutineTree) (m i : ℕ) (j h : JobIn) → Some i ≡ code_place → j ≡ get_or js i j
-      → job_of h ≡ (settled routines m (job_of j)).0
-      → map job_of (slice_set js i h) ≡ gone_on routines m k (map job_of js)
-  job_gone_on routines m i j h p e r =
-      sym (jobs_set js i h)
-      ∙ ap (slice_set (map job_of js) i) r
-      ∙ sym (one_gone_on k routines (map job_of js) m i (job_of j) (place_mapped js k ∙ sym p) (job_at js i j e))

@@ -1,5 +1,5 @@
 pub mod Running
 pub mod Jobs
 pub mod Events
-pub mod Settling
 pub mod Systems
+pub mod Copies

@@ -2,6 +2,7 @@
 #![tactic(auto)]
 
 mod beginning;
+mod copying;
 mod event;
 mod number;
 mod ring;

@@ -1,13 +1,14 @@
 // How far a job goes by itself.
 
 ghost use Rattle.std.specs.Prelude.{◌≡◌, IfOk, OnErr, map};
+ghost use Rattle.mlk_text.specs.Failures.{Answers};
 ghost use Rattle.mlk_routine.specs.Views.{routine_of};
 ghost use Rattle.mlk_jobs.specs.JobViews.{job_of};
-ghost use Rattle.mlk_jobs.specs.Seen.{settled, most_silent_steps};
+ghost use Rattle.mlk_jobs.specs.Seen.{settled, settled_in, most_silent_steps};
 ghost use Rattle.mlk_jobs.specs.Sound.{Sound};
 ghost use Rattle.mlk_run.specs.Jobs.{AreSound};
-ghost use Rattle.mlk_system.specs.Settling.{IsOnTheWay, SettledSo};
 
+use crate::copying::copy_job;
 use mlk_jobs::Job;
 use mlk_locks::{Refusal, place_of};
 use mlk_program::Program;
@@ -27,7 +28,6 @@ pub(crate) fn settle<'a>(
     requires { Sound job.old }
     ensures settled { IfOk result (λ count. settled (map routine_of program.now) most_silent_steps (job_of job.old)
         ≡ (job_of job.new, count)) }
-    ensures partly { OnErr result (IsOnTheWay (map routine_of program.now) (job_of job.old) (job_of job.new)) }
     ensures sound { Sound job.new }
 {
     let mut count = 0;
@@ -41,8 +41,8 @@ pub(crate) fn settle<'a>(
     Ok(count)
 }
 
-/// The first job of this number goes on by itself: how many steps it made. Where memory ran out amid them, those that were
-/// made stay made.
+/// The first job of this number goes on by itself: how many steps it made. It works on a copy of the job: where memory runs
+/// out amid the steps, all jobs are as they were.
 pub(crate) fn settle_numbered<'a>(
     alloc: Global,
     program: &Program<'a>,
@@ -50,15 +50,16 @@ pub(crate) fn settle_numbered<'a>(
     number: u32,
 ) -> Result<u32, Failure<Refusal>>
     requires { AreSound jobs.old.items }
-    ensures settled { SettledSo (map routine_of program.now) number (map job_of jobs.old.items)
-        (map job_of jobs.new.items) result }
+    ensures answer { Answers (λ count. (map job_of jobs.new.items, count)) result
+        (settled_in (map routine_of program.now) number (map job_of jobs.old.items)) }
+    ensures stays { OnErr result (jobs.new ≡ jobs.old) }
     ensures sound { AreSound jobs.new.items }
 {
     let Some(place) = place_of(jobs.as_slice(), number) else {
         return Err(Failure::Refused(Refusal::UnknownJob));
     };
-    match settle(alloc, program, &mut jobs[place]) {
-        Ok(count) => Ok(count),
-        Err(_) => Err(Failure::OutOfMemory),
-    }
+    let mut job = copy_job(alloc, &jobs[place])?;
+    let count = settle(alloc, program, &mut job)?;
+    jobs[place] = job;
+    Ok(count)
 }

@@ -10,7 +10,6 @@ ghost use Rattle.mlk_jobs.specs.Seen.{ready, settled_in};
 ghost use Rattle.mlk_jobs.specs.TaskViews.{touch_of};
 ghost use Rattle.mlk_system.specs.Events.{act_of};
 ghost use Rattle.mlk_system.specs.Jobs.{job_numbered, one_waits, count_held};
-ghost use Rattle.mlk_system.specs.Settling.{SettledSo};
 ghost use Rattle.mlk_system.specs.Systems.{jobs_in, routines_in, machine_of, IsSame, Stays};
 
 use crate::beginning::begin;
@@ -143,10 +142,12 @@ impl<'a> System<'a> {
     }
 
     /// The job of this number goes on by itself while its next task is silent, up to the greatest number of steps: how
-    /// many it made. Where memory ran out amid them, those that were made stay made.
+    /// many it made. Where there is no memory all jobs are as they were.
     pub fn settle(&mut self, number: u32) -> Result<u32, Failure<Refusal>>
-        ensures settled { SettledSo (routines_in self.old) number (jobs_in self.old) (jobs_in self.new) result }
+        ensures answer { Answers (λ count. (jobs_in self.new, count)) result
+            (settled_in (routines_in self.old) number (jobs_in self.old)) }
         ensures same { IsSame self.old self.new }
+        ensures stays { OnErr result (Stays self.old self.new) }
     {
         settle_numbered(self.alloc, self.program, &mut self.jobs, number)
     }
