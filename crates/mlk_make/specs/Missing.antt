@@ -1,5 +1,5 @@
 -- Declared entries that a program lacks. This project's own choice.
-use Rattle.std.specs.Prelude.{ℕ, Bool, List, is_none, find, Option, Some, None, ◌≡◌}
+use Rattle.std.specs.Prelude.{ℕ, Bool, List, is_none, find, Some, None, ◌≡◌}
 use Rattle.mlk_text.specs.declared.failure.Failure.{Failure}
 use Rattle.mlk_text.specs.declared.failure.Failure.TheVariants as failure
 use Rattle.mlk_routine.specs.Trees.{RoutineTree}
