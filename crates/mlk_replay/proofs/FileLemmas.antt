@@ -1,6 +1,10 @@
 -- Files of events, line by line.
 use Rattle.std.proofs.Common.{◌≡◌, ◌≢◌, ◌∙◌, ◌×◌, ◌+◌, ◌<◌, ℕ, suc, List, [], ◌∷◌, ◌++◌, length, map, Option, Some, None, refl, sym, ap, subst, arith, append_assoc, append-nil, length-append}
 use Rattle.std.specs.Prelude.{min, option_map}
+use Rattle.mlk_text.specs.declared.failure.Failure.{Failure}
+use Rattle.mlk_text.specs.declared.failure.Failure.TheVariants.{OutOfMemory, Refused}
+use Rattle.mlk_text.specs.declared.spelling.NotThere.{NotThere}
+use Rattle.mlk_text.specs.Failures.{FailsOn}
 use Rattle.mlk_cert.specs.Lists.{EachPair}
 use Rattle.mlk_routine.specs.Trees.{RoutineTree}
 use Rattle.mlk_events.specs.declared.order.Order.{Order}
@@ -33,6 +37,23 @@ was_read : (routines : List RoutineTree) (xs ys : List ℕ) (a : Asked) → aske
     → Read routines xs ys a
 unfolding asked_at
 was_read routines xs ys a h = read_by routines (line_at xs) xs ys a refl h
+
+-- what a line asks for, by what was read
+pub asks : (routines : List RoutineTree) (xs rest : List ℕ) (o : Order) (a : Asked) → line_at xs ≡ Some (o, rest)
+    → Some a ≡ asked routines o → asked_at routines xs ≡ Some (a, rest)
+unfolding asked_at
+asks routines xs rest o a h e = ap (asked_by routines) h ∙ ap (option_map (λ b. (b, rest))) (sym e)
+
+pub asks_nothing : (routines : List RoutineTree) (xs rest : List ℕ) (o : Order) → line_at xs ≡ Some (o, rest)
+    → None ≡ asked routines o → asked_at routines xs ≡ None
+unfolding asked_at
+asks_nothing routines xs rest o h e = ap (asked_by routines) h ∙ ap (option_map (λ b. (b, rest))) (sym e)
+
+pub no_line : (routines : List RoutineTree) (xs : List ℕ) (e : Failure NotThere) → FailsOn e (line_at xs)
+    → FailsOn e (asked_at routines xs)
+unfolding asked_at
+no_line routines xs OutOfMemory h = tt
+no_line routines xs (Refused why) h = ap (asked_by routines) h
 
 pub asked-shorter : (routines : List RoutineTree) (xs ys : List ℕ) (a : Asked) → asked_at routines xs ≡ Some (a, ys)
     → length ys < length xs

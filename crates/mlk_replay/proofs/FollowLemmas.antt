@@ -1,8 +1,9 @@
 -- Lines of a file of events, one after another.
-use Rattle.std.proofs.Common.{◌≡◌, ◌∙◌, ◌×◌, ◌+◌, ℕ, suc, List, [], ◌∷◌, map, Result, Ok, Err, refl, sym, ap, arith}
+use Rattle.std.proofs.Common.{◌≡◌, ◌∙◌, ◌×◌, ◌+◌, ℕ, suc, List, [], ◌∷◌, map, Result, Ok, Err, refl, sym, ap, subst, arith}
 use Rattle.std.specs.Prelude.{min}
 use Rattle.mlk_text.specs.declared.failure.Failure.{Failure}
 use Rattle.mlk_text.specs.declared.failure.Failure.TheVariants.{OutOfMemory, Refused}
+use Rattle.mlk_text.specs.Failures.{FailsAs}
 use Rattle.mlk_locks.specs.declared.refusal.Refusal.{Refusal}
 use Rattle.mlk_locks.specs.Systems.{Machine, and_then}
 use Rattle.mlk_routine.specs.declared.routine.Routine.{Routine}
@@ -13,13 +14,11 @@ use Rattle.mlk_jobs.specs.declared.choice.Choice.{Choice}
 use Rattle.mlk_jobs.specs.Tasks.{Job}
 use Rattle.mlk_jobs.specs.Seen.{settled_in}
 use Rattle.mlk_system.specs.Running.{Running}
-use Rattle.mlk_system.specs.Settling.{SettledSo}
 use Rattle.mlk_system.specs.Systems.{jobs_in, routines_in, machine_of, machine_in, IsSame}
 use Rattle.mlk_replay.specs.declared.fault.EventsFault.{EventsFault}
 use Rattle.mlk_replay.specs.declared.fault.EventsRefusal.{EventsRefusal}
 use Rattle.mlk_replay.specs.declared.fault.EventsRefusal.TheVariants as refusal
-use Rattle.mlk_replay.specs.Files.{Asked, GoesOn, Says, IsFirstOther, made, then_next, in_turn, StopsSo, FollowedSo, IsRefusedAt, ReplayedFile}
-use Rattle.mlk_replay.specs.InstructionViews.{FailsSo}
+use Rattle.mlk_replay.specs.Files.{Asked, GoesOn, Says, IsFirstOther, made, then_next, in_turn, StopsSo, FollowedSo, IsRefusedAt, IsStopped, ReplayedFile}
 
 -- What is left says what the whole says, where the first of it has this number.
 pub record Half (first now : Running) (all left : List Asked) (line : ℕ) : Type 0 where
@@ -62,8 +61,8 @@ half_stopped first now all left later a line why h l o = (
   h.at,
   (
     sym h.later ∙ ap (λ asks. in_turn (machine_of first) (routines_in first) h.at asks (jobs_in now)) l
-    ∙ ap (then_next (in_turn (machine_of first) (routines_in first) (suc h.at) later) h.at)
-    (made_same first now a (jobs_in now) (Err why) h.same o),
+        ∙ ap (then_next (in_turn (machine_of first) (routines_in first) (suc h.at) later) h.at)
+        (made_same first now a (jobs_in now) (Err why) h.same o),
     h.number,
   ),
 )
@@ -75,13 +74,13 @@ half_all first now all left line h l =
 
 -- a job that goes on by itself
 pub goes_on : (m : Machine Job Choice EntryId) (routines : List RoutineTree) (k count : ℕ) (old new : List Job)
-    → SettledSo routines k old new (Ok count) → made m routines (GoesOn k) old ≡ Ok new
+    → settled_in routines k old ≡ Ok (new, count) → made m routines (GoesOn k) old ≡ Ok new
 goes_on m routines k count old new h = ap (and_then (λ r. Ok r.0)) h
 
-pub stays_there : (m : Machine Job Choice EntryId) (routines : List RoutineTree) (k : ℕ) (old new : List Job)
-    (why : Failure Refusal) → SettledSo routines k old new (Err why) → FailsSo why (made m routines (GoesOn k) old)
-stays_there m routines k old new OutOfMemory h = tt
-stays_there m routines k old new (Refused why) h = ap (and_then (λ r. Ok r.0)) h.0
+pub stays_there : (m : Machine Job Choice EntryId) (routines : List RoutineTree) (k : ℕ) (old : List Job)
+    (why : Failure Refusal) → FailsAs why (settled_in routines k old) → FailsAs why (made m routines (GoesOn k) old)
+stays_there m routines k old OutOfMemory h = tt
+stays_there m routines k old (Refused why) h = ap (and_then (λ r. Ok r.0)) h
 
 -- files
 module _ (program : List Routine) (entries : List EntryId) (bytes : List ℕ) where
@@ -102,8 +101,7 @@ module _ (program : List Routine) (entries : List EntryId) (bytes : List ℕ) wh
   all_followed asks s t e same says h =
       let p = ap (λ (r : Running). r.program) e in
       let q = ap (λ (r : Running). r.entries) e in
-      let j = ap jobs_in e in
-      (
+      let j = ap jobs_in e in (
         same.program ∙ p,
         (same.entries ∙ q, (asks, (says, begun_so s e h))),
       )
@@ -112,3 +110,23 @@ module _ (program : List Routine) (entries : List EntryId) (bytes : List ℕ) wh
           → in_turn (machine_of r) (routines_in r) 1 asks (jobs_in r) ≡ Ok (jobs_in t)
           → in_turn (machine_in program entries) (map routine_of program) 1 asks [] ≡ Ok (jobs_in t)
       begun_so r e h = sym (ap (λ (r : Running). in_turn (machine_of r) (routines_in r) 1 asks (jobs_in r)) e) ∙ h
+
+  pub follow_stopped : (asks : List Asked) (s : Running) (new : List Job) (why : Failure EventsFault)
+      → s ≡ record { program = program; entries = entries; jobs = [] } → Says (map routine_of program) bytes asks
+      → FollowedSo (machine_of s) (routines_in s) asks (jobs_in s) new (Err why)
+      → ReplayedFile program entries bytes (Err why)
+  follow_stopped asks s new OutOfMemory e says h = tt
+  follow_stopped asks s new (Refused fault) e says h = stopped_by fault.why fault.line (begun_as s e h)
+    where
+      begun_as : (r : Running) → r ≡ record { program = program; entries = entries; jobs = [] }
+          → StopsSo (in_turn (machine_of r) (routines_in r) 1 asks (jobs_in r)) fault.line fault.why
+          → StopsSo (in_turn (machine_in program entries) (map routine_of program) 1 asks []) fault.line fault.why
+      begun_as r e h =
+          subst (λ answer. StopsSo answer fault.line fault.why)
+          (ap (λ (r : Running). in_turn (machine_of r) (routines_in r) 1 asks (jobs_in r)) e) h
+
+      stopped_by : (why : EventsRefusal) (line : ℕ)
+          → StopsSo (in_turn (machine_in program entries) (map routine_of program) 1 asks []) line why
+          → IsStopped program entries bytes line why
+      stopped_by refusal.Form line h = absurd h
+      stopped_by (refusal.Refused r) line h = (asks, (says, h))

@@ -1,1 +1,3 @@
 pub mod ReplayLemmas
+pub mod FileLemmas
+pub mod FollowLemmas

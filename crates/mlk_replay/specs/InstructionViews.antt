@@ -1,12 +1,8 @@
 -- The definition's words of the code's, for clauses of calls that are not public. This project's own.
-use Rattle.std.specs.Prelude.{◌≡◌, ◌×◌, ℕ, List, Option, Some, None, option_map, Result, Err}
-use Rattle.mlk_text.specs.declared.failure.Failure.{Failure}
-use Rattle.mlk_text.specs.declared.failure.Failure.TheVariants.{OutOfMemory, Refused}
-use Rattle.mlk_locks.specs.declared.refusal.Refusal.{Refusal}
+use Rattle.std.specs.Prelude.{ℕ, List, Option, Some, None, option_map}
 use Rattle.mlk_routine.specs.Trees.{RoutineTree}
 use Rattle.mlk_events.specs.declared.order.Order.{Order}
 use Rattle.mlk_events.specs.Reading.{line_at}
-use Rattle.mlk_jobs.specs.Tasks.{Job}
 use Rattle.mlk_replay.specs.declared.instruction.Instruction.{Instruction}
 use Rattle.mlk_replay.specs.declared.instruction.Instruction.TheVariants as instruction
 use Rattle.mlk_replay.specs.Files.{Asked, Happens, GoesOn, asked}
@@ -23,8 +19,3 @@ asked_by routines (Some read) = option_map (λ a. (a, read.1)) (asked routines r
 
 unfoldable pub asked_at : List RoutineTree → List ℕ → Option (Asked × List ℕ)
 asked_at routines xs = asked_by routines (line_at xs)
-
--- want of memory says nothing
-abbrev pub FailsSo : Failure Refusal → Result (List Job) Refusal → Type 0
-FailsSo OutOfMemory answer = Unit {0}
-FailsSo (Refused why) answer = answer ≡ Err why

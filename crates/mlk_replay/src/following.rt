@@ -1,9 +1,10 @@
 // Files of events, replayed.
 
-ghost use Rattle.std.specs.Prelude.{◌≡◌, OnOk, IfErr, map, Ok};
+ghost use Rattle.std.specs.Prelude.{map};
+ghost use Rattle.mlk_text.specs.Failures.{Answers};
 ghost use Rattle.mlk_system.specs.Systems.{jobs_in, routines_in, machine_of, IsSame};
 ghost use Rattle.mlk_replay.specs.Files.{made, FollowedSo, ReplayedFile};
-ghost use Rattle.mlk_replay.specs.InstructionViews.{asked_of, FailsSo};
+ghost use Rattle.mlk_replay.specs.InstructionViews.{asked_of};
 
 use crate::fault::{EventsFault, EventsRefusal};
 use crate::instruction::Instruction;
@@ -15,12 +16,11 @@ use mlk_text::{Failure, LineNumber};
 use std::alloc::Global;
 
 // What a line makes of a system.
+#[tactic(auto, using(crate::proofs::FollowLemmas::goes_on, crate::proofs::FollowLemmas::stays_there))]
 fn follow_one<'a>(system: &mut System<'a>, asked: &Instruction) -> Result<(), Failure<Refusal>>
-    ensures ok { OnOk result (made (machine_of system.old) (routines_in system.old) (asked_of asked.now) (jobs_in system.old)
-        ≡ Ok (jobs_in system.new)) }
+    ensures answer { Answers (λ _. jobs_in system.new) result
+        (made (machine_of system.old) (routines_in system.old) (asked_of asked.now) (jobs_in system.old)) }
     ensures same { IsSame system.old system.new }
-    ensures refused { IfErr result (λ e. FailsSo e
-        (made (machine_of system.old) (routines_in system.old) (asked_of asked.now) (jobs_in system.old))) }
 {
     match asked {
         Instruction::Happens(event) => system.step(event),
@@ -58,6 +58,7 @@ fn follow<'a>(system: &mut System<'a>, lines: &[Instruction]) -> Result<(), Fail
 
 /// The system after all lines of a file of events, from no jobs on; or the line at which that stops, and why. A line that is
 /// no event, or that lets a job begin at an entry that the program lacks, is told before anything is replayed.
+#[tactic(auto, using(crate::proofs::FollowLemmas::form_refused, crate::proofs::FollowLemmas::all_followed, crate::proofs::FollowLemmas::follow_stopped))]
 pub fn replay_events<'a>(
     alloc: Global,
     program: &'a Program<'a>,

@@ -14,6 +14,7 @@ use mlk_text::{Failure, LineNumber, NotThere};
 use std::alloc::Global;
 
 // What the line at the front asks for, and what is left after the line's end.
+#[tactic(auto, using(crate::proofs::FileLemmas::asks, crate::proofs::FileLemmas::asks_nothing, crate::proofs::FileLemmas::no_line))]
 fn line<'b>(
     alloc: Global,
     program: &Program,

@@ -27,7 +27,9 @@ returns-in-Err-Refused-clause-refused c =
     let some : c.loop-rest.rest.now ≢ [] = search rules in
     let none : asked_at (map routine_of c.args.program.now) c.loop-rest.rest.now ≡ None =
     subst (λ (e : Failure NotThere). FailsOn e (asked_at (map routine_of c.args.program.now) c.loop-rest.rest.now))
-    c.in-Err-Refused.field-0-is c.in-Err-Refused.ensures in
-    (refl, rw c.new-line.ensures
-    (no_event (map routine_of c.args.program.now) c.args.bytes.now c.loop-rest.rest.now (map asked_of c.loop-rest.found.items)
-    c.loop-rest.number c.loop-rest.invariant some none))
+    c.in-Err-Refused.field-0-is c.in-Err-Refused.ensures in (
+      refl,
+      rw c.new-line.ensures
+          (no_event (map routine_of c.args.program.now) c.args.bytes.now c.loop-rest.rest.now (map asked_of c.loop-rest.found.items)
+          c.loop-rest.number c.loop-rest.invariant some none),
+    )
