@@ -7,19 +7,8 @@ ghost use Rattle.mlk_jobs.specs.TaskViews.{lock_task, task_of};
 ghost use Rattle.mlk_system.specs.Copies.{shown_of, values_in};
 
 use mlk_jobs::{Job, LockTask, Pending, Table, Task};
-use mlk_names::LockName;
 use mlk_text::copy_of;
 use std::alloc::{AllocError, Global};
-
-fn copy_names(alloc: Global, names: &[LockName]) -> Result<Vec<LockName>, AllocError>
-    ensures { IfOk result (λ copies. copies.items ≡ names.now) }
-{
-    let mut copies = Vec::with_capacity(alloc, names.len())?;
-    for name in names {
-        copies.push(copy_of(name)?)?;
-    }
-    Ok(copies)
-}
 
 fn copy_lock_task<'a>(alloc: Global, task: &LockTask<'a>) -> Result<LockTask<'a>, AllocError>
     ensures { IfOk result (λ copy. lock_task copy ≡ lock_task task.now) }
@@ -27,10 +16,13 @@ fn copy_lock_task<'a>(alloc: Global, task: &LockTask<'a>) -> Result<LockTask<'a>
     match task {
         LockTask::LockNamed(sign, names, timed) => Ok(LockTask::LockNamed(*sign, *names, *timed)),
         LockTask::Claim(names, timed) => {
-            let names = copy_names(alloc, names.as_slice())?;
+            let names = Vec::from_clones(alloc, names.as_slice())?;
             Ok(LockTask::Claim(names, *timed))
         }
-        LockTask::Release(names) => Ok(LockTask::Release(copy_names(alloc, names.as_slice())?)),
+        LockTask::Release(names) => Ok(LockTask::Release(Vec::from_clones(
+            alloc,
+            names.as_slice(),
+        )?)),
         LockTask::ReleaseAll => Ok(LockTask::ReleaseAll),
     }
 }

@@ -1,0 +1,7 @@
+use Rattle.std.proofs.Common.{map}
+use Rattle.mlk_replay.specs.InstructionViews.{asked_of}
+use Rattle.mlk_replay.proofs.FollowLemmas.{Half}
+use Rattle.mlk_replay.proofs.following.follow.Given as goal
+
+abbrev pub invariant-loop-asked : goal.invariant-loop-asked
+invariant-loop-asked l = Half l.fn.system l.system (map asked_of l.fn.lines) (map asked_of l.left) l.number
