@@ -1,13 +1,10 @@
 -- What a line leaves.
-use Rattle.std.proofs.Common.{◌≡◌, ◌≢◌, ◌∙◌, ◌+◌, ◌<◌, ◌≤◌, ℕ, suc, List, [], ◌∷◌, ◌++◌, length, Some, None, refl, sym, ap, arith, append_assoc, append-nil, length-append}
-use Rattle.std.specs.Prelude.{min}
-use Rattle.mlk_cert.specs.Lists.{Each}
+use Rattle.std.proofs.Common.{◌≡◌, ◌<◌, ◌≤◌, ℕ, List, [], ◌∷◌, ◌++◌, length, Some, ap, arith, length-append}
 use Rattle.mlk_cert.specs.Texts.{constant_text}
 use Rattle.mlk_cert.specs.Reading.{constant_at}
 use Rattle.mlk_events.specs.declared.order.Order.{Order}
-use Rattle.mlk_events.specs.Texts.{IsOrder, order_text, line_text, file_text}
+use Rattle.mlk_events.specs.Texts.{order_text, line_text}
 use Rattle.mlk_events.specs.Reading.{line_at}
-use Rattle.mlk_events.specs.Files.{IsFirstOther}
 use Rattle.mlk_events.proofs.Formats.{constant-is, line-format}
 
 pub constant-leaves : (v xs ys : List ℕ) → constant_at xs ≡ Some (v, ys) → length ys ≤ length xs
