@@ -16,7 +16,7 @@ use Rattle.mlk_jobs.specs.Sound.{IsWithin, AreNested, Stands, Sound}
 use Rattle.mlk_system.specs.Copies.{Shown, ToDo, BlockEnd, FrameEnd, shown_of, values_in}
 
 -- what the definition sees of what is pending rests on what is shown of it
-by_shown : List Binder → Shown → Task
+abbrev by_shown : List Binder → Shown → Task
 by_shown binders (ToDo t) = t
 by_shown binders (BlockEnd back test) = task.EndBlock (bindings_of (take back.binders binders)) back.next test
 by_shown binders (FrameEnd frame back routine) =
@@ -37,7 +37,7 @@ same_tasks : (bs : List Binder) (ps qs : List Pending) → map shown_of qs ≡ m
 same_tasks bs ps qs h = ap reverse (all_shown bs qs ∙ ap (map (by_shown bs)) h ∙ sym (all_shown bs ps))
 
 -- and so do the ends
-NestedBy : List Binder → ℕ → ℕ → List Shown → Type 0
+abbrev NestedBy : List Binder → ℕ → ℕ → List Shown → Type 0
 NestedBy bs count n [] = Unit {0}
 NestedBy bs count n (ToDo t ∷ ss) = NestedBy bs count n ss
 NestedBy bs count n (BlockEnd back test ∷ ss) = IsWithin bs count n back × NestedBy bs back.binders back.next ss
@@ -68,7 +68,7 @@ same_nested bs count n ps qs h k =
 pub same_table : (t u : Table) → ((n : List ℕ) → in_table u n ≡ in_table t n) → values_in u ≡ values_in t
 same_table t u h i n = h n i
 
-value_by : List ℕ → Option (List ℕ → Option (List ℕ)) → Option (List ℕ)
+abbrev value_by : List ℕ → Option (List ℕ → Option (List ℕ)) → Option (List ℕ)
 value_by n None = None
 value_by n (Some f) = f n
 
@@ -85,7 +85,7 @@ same_values ts us h i c =
     ∙ sym (at_shown ts c.generation c.name)) i
 
 same_count : (ts us : List Table) → map values_in us ≡ map values_in ts → length us ≡ length ts
-same_count ts us h = sym (length-map values_in us) ∙ ap length h ∙ length-map values_in ts
+same_count ts us h = sym (length-map us values_in) ∙ ap length h ∙ length-map ts values_in
 
 -- A copy is the same job, and as sound.
 pub same_job : (j k : JobIn) → k.number ≡ j.number → k.test ≡ j.test → k.routine ≡ j.routine

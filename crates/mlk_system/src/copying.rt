@@ -78,7 +78,6 @@ fn copy_tables<'a>(alloc: Global, tables: &[Table<'a>]) -> Result<Vec<Table<'a>>
 }
 
 /// An equal job.
-#[tactic(auto, using(crate::proofs::CopyLemmas::same_job, crate::proofs::CopyLemmas::same_sound))]
 pub(crate) fn copy_job<'a>(alloc: Global, job: &Job<'a>) -> Result<Job<'a>, AllocError>
     ensures same { IfOk result (λ copy. job_of copy ≡ job_of job.now) }
     ensures sound { Sound job.now → IfOk result Sound }

@@ -18,17 +18,17 @@ returns-in_default-clause-answer c =
 pub settle-requires : goal.settle-requires
 settle-requires c =
     c.in_ok-job.ensures.sound
-    (sound_at c.args.jobs.now.items c.in-Some.place c.index-jobs-place.result
-    (omega (arith, c.in-Some.ensures.within, ap length c.as_slice.ensures.value)) c.index-jobs-place.is c.requires)
+    (sound_at c.args.jobs.now.items c.in-Some.place c.index.result.now
+    (omega (arith, c.in-Some.ensures.within, ap length c.as_slice.ensures.value)) c.index.ensures c.requires)
 
 pub returns-clause-answer : goal.returns-clause-answer
 returns-clause-answer c =
     let place : Some c.in-Some.place ≡ position (λ (j : JobIn). (job_of j).number == c.args.number) c.args.jobs.now.items =
     c.in-Some.ensures.place
     ∙ ap (position (λ (j : JobIn). (job_of j).number == c.args.number)) c.as_slice.ensures.value in
-    let same : job_of c.in_ok-job.job ≡ job_of c.index-jobs-place.result = c.in_ok-job.ensures.same in
+    let same : job_of c.in_ok-job.job ≡ job_of c.index.result.now = c.in_ok-job.ensures.same in
     job_settled c.args.number c.args.jobs.now.items (map routine_of c.args.program.now) c.in-Some.place
-    c.index-jobs-place.result c.settle.new.job c.in_ok-count.count place c.index-jobs-place.is
+    c.index.result.now c.settle.new.job c.in_ok-count.count place c.index.ensures
     (ap (settled (map routine_of c.args.program.now) most_silent_steps) (sym same) ∙ c.in_ok-count.ensures.settled)
 
 pub returns-clause-sound : goal.returns-clause-sound
