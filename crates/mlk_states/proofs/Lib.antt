@@ -1,0 +1,3 @@
+pub mod AskedLemmas
+pub mod CallLemmas
+pub mod KnownLemmas

@@ -1,0 +1,9 @@
+-- Constants, spelled as subscripts of terms are.
+use Rattle.std.proofs.Common.{◌≡◌, ◌++◌, ℕ, List, [], ◌∷◌, map, refl, ap}
+use Rattle.mlk_names.specs.declared.known_symbol.KnownSym.TheVariants.{Const}
+use Rattle.mlk_cert.specs.Lists.{more}
+use Rattle.mlk_cert.specs.Texts.{constant_text, symbol_text}
+
+pub more_values : (vs : List (List ℕ)) → more 44 constant_text vs ≡ more 44 symbol_text (map Const vs)
+more_values [] = refl
+more_values (v ∷ vs) = ap (λ t. 44 ∷ (constant_text v ++ t)) (more_values vs)

@@ -1,0 +1,12 @@
+-- Subscripts of references, spelled as those of terms are.
+use Rattle.std.proofs.Common.{◌≡◌, ◌++◌, ℕ, List, [], ◌∷◌, map, refl, ap}
+use Rattle.mlk_names.specs.declared.known_symbol.KnownSym.TheVariants.{Const}
+use Rattle.mlk_names.specs.declared.symbol.Sym.{Sym}
+use Rattle.mlk_cert.specs.Lists.{more}
+use Rattle.mlk_cert.specs.Texts.{symbol_text}
+use Rattle.mlk_jobs.specs.TaskViews.{constant_of}
+use Rattle.mlk_states.specs.Spelling.{constant_in}
+
+pub more_constants : (ss : List Sym) → more 44 constant_in ss ≡ more 44 symbol_text (map Const (map constant_of ss))
+more_constants [] = refl
+more_constants (s ∷ ss) = ap (λ t. 44 ∷ (constant_in s ++ t)) (more_constants ss)

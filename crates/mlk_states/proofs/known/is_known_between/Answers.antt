@@ -1,0 +1,5 @@
+use Rattle.mlk_states.proofs.KnownLemmas.{some_number}
+use Rattle.mlk_states.proofs.known.is_known_between.Goals as goal
+
+pub returns : goal.returns
+returns c = some_number c.args.op c.args.first.now c.args.second.now _ c.in_default.not-Concatenate c.number_between.ensures

@@ -1,0 +1,4 @@
+pub mod StateViews
+pub mod Asked
+pub mod Printed
+pub mod Spelling

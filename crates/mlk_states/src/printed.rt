@@ -1,0 +1,132 @@
+// A system as text.
+
+ghost use Rattle.std.specs.Prelude.{◌≡◌, ◌++◌, ◌×◌, ℕ, IfOk, OnOk, List, codes, map};
+ghost use Rattle.mlk_cert.specs.Lists.{flat};
+ghost use Rattle.mlk_cert.specs.Texts.{line};
+ghost use Rattle.mlk_routine.specs.Views.{routine_of};
+ghost use Rattle.mlk_jobs.specs.JobViews.{job_of};
+ghost use Rattle.mlk_system.specs.Systems.{jobs_in, routines_in};
+ghost use Rattle.mlk_states.specs.Printed.{clash_line, job_line, pair_text, ring_line, state_text, system_text, waits_line};
+ghost use Rattle.mlk_states.specs.Spelling.{claim_text};
+ghost use Rattle.mlk_states.specs.StateViews.{state_of};
+
+use crate::dispatch::state;
+use crate::holding::push_held;
+use crate::shown::State;
+use crate::spelling::{push_names, push_touch};
+use mlk_cert::Text;
+use mlk_clashes::{clashes, waits};
+use mlk_jobs::Job;
+use mlk_names::LockName;
+use mlk_program::Program;
+use mlk_system::System;
+use std::alloc::{AllocError, Global};
+
+// The names of a claim, and whether there is a timeout.
+fn push_claim(text: &mut Text, names: &[LockName], timed: bool) -> Result<(), AllocError>
+    ensures { OnOk result (text.new ≡ text.old ++ claim_text names.now timed) }
+{
+    push_names(text, names)?;
+    if timed {
+        text.push(b" timed")?;
+    }
+    Ok(())
+}
+
+// What a job does next.
+fn push_state(text: &mut Text, state: State) -> Result<(), AllocError>
+    ensures { OnOk result (text.new ≡ text.old ++ state_text (state_of state)) }
+{
+    match state {
+        State::Ready(reference) => {
+            text.push(b"ready ")?;
+            push_touch(text, reference)
+        }
+        State::Claims(names, timed) => {
+            text.push(b"claims ")?;
+            push_claim(text, names, timed)
+        }
+        State::Releases => text.push(b"releases"),
+        State::AsksChoice => text.push(b"choice"),
+        State::Stuck => text.push(b"stuck"),
+        State::Silent => text.push(b"silent"),
+        State::Ended => text.push(b"ended"),
+        State::Stopped => text.push(b"stopped"),
+    }
+}
+
+// The line of a job.
+fn push_job(alloc: Global, text: &mut Text, program: &Program, job: &Job) -> Result<(), AllocError>
+    ensures { OnOk result (text.new ≡ text.old ++ job_line (map routine_of program.now) (job_of job.now)) }
+{
+    text.push(b"job ")?;
+    text.push_number(job.number)?;
+    text.push_byte(b' ')?;
+    push_state(text, state(program, job))?;
+    text.push(b" holds ")?;
+    push_held(alloc, text, &job.held)?;
+    text.push_byte(b'\n')?;
+    Ok(())
+}
+
+// The lines of jobs.
+fn push_jobs<'a>(
+    alloc: Global,
+    text: &mut Text,
+    program: &Program<'a>,
+    jobs: &[Job<'a>],
+) -> Result<(), AllocError>
+    ensures { OnOk result (text.new ≡ text.old ++ flat (job_line (map routine_of program.now)) (map job_of jobs.now)) }
+{
+    for job in jobs {
+        push_job(alloc, text, program, job)?;
+    }
+    Ok(())
+}
+
+// The lines of two jobs each.
+fn push_pairs(text: &mut Text, word: &[u8], pairs: &[(u32, u32)]) -> Result<(), AllocError>
+    ensures { OnOk result (text.new ≡ text.old ++ flat (λ p. line word.now (pair_text p)) pairs.now) }
+{
+    for (job, other) in pairs {
+        text.push(word)?;
+        text.push_number(*job)?;
+        text.push_byte(b' ')?;
+        text.push_number(*other)?;
+        text.push_byte(b'\n')?;
+    }
+    Ok(())
+}
+
+// The line that says whether some of the jobs wait in a ring.
+fn push_ring(text: &mut Text, system: &System) -> Result<(), AllocError>
+    ensures { OnOk result (text.new ≡ text.old ++ ring_line (jobs_in system.now)) }
+{
+    if system.has_ring()? {
+        text.push(b"ring yes\n")?;
+    } else {
+        text.push(b"ring no\n")?;
+    }
+    Ok(())
+}
+
+/// What is shown of a system: a line for each job, in the order in which they began, with what it does next and what it
+/// holds; a line for each two that clash, and for each that waits for another; and whether some wait in a ring.
+pub fn system_text(alloc: Global, system: &System) -> Result<Text, AllocError>
+    ensures { IfOk result (λ text. text ≡ system_text (routines_in system.now) (jobs_in system.now)) }
+{
+    let mut text = Text::new(alloc);
+    push_jobs(alloc, &mut text, system.program(), system.jobs())?;
+    push_pairs(
+        &mut text,
+        b"clash ",
+        clashes(alloc, system.jobs())?.as_slice(),
+    )?;
+    push_pairs(
+        &mut text,
+        b"waits ",
+        waits(alloc, system.jobs())?.as_slice(),
+    )?;
+    push_ring(&mut text, system)?;
+    Ok(text)
+}

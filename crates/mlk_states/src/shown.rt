@@ -1,0 +1,24 @@
+// What a job does next, in one word.
+
+use mlk_names::{LockName, Reference};
+
+/// What a job does next.
+#[derive(Clone, Copy, Drop)]
+pub enum State<'j> {
+    /// It touches a reference.
+    Ready(&'j Reference),
+    /// It claims these names; whether there is a timeout.
+    Claims(&'j [LockName], bool),
+    /// It releases locks.
+    Releases,
+    /// A value or a truth has to be chosen.
+    AsksChoice,
+    /// Nothing but an abort is left.
+    Stuck,
+    /// It makes a step by itself.
+    Silent,
+    /// Nothing is left to do.
+    Ended,
+    /// It was aborted.
+    Stopped,
+}
