@@ -1,3 +1,7 @@
 pub mod AskedLemmas
 pub mod CallLemmas
+pub mod HeldLemmas
 pub mod KnownLemmas
+pub mod OrderLemmas
+pub mod SpellingLemmas
+pub mod TouchLemmas

@@ -10,7 +10,7 @@ use Rattle.mlk_names.specs.declared.reference.Access.{Access}
 use Rattle.mlk_names.specs.declared.reference.Access.TheVariants.{Reads, Writes}
 use Rattle.mlk_names.specs.declared.reference.Extent.{Extent}
 use Rattle.mlk_names.specs.declared.reference.Extent.TheVariants.{Node, Tree}
-use Rattle.mlk_names.specs.References.{Touch}
+use Rattle.mlk_names.specs.References.{GlobalNode, Touch}
 use Rattle.mlk_cert.specs.Lists.{flat, below}
 use Rattle.mlk_cert.specs.Texts.{line, listed, term_text}
 use Rattle.mlk_locks.specs.Counts.{Counts}
@@ -28,6 +28,9 @@ constants_text root subs = term_text (record { root = root; subs = map Const sub
 abbrev pub name_text : LockName → List ℕ
 name_text n = constants_text n.root n.subs
 
+abbrev pub node_text : GlobalNode → List ℕ
+node_text n = constants_text (Global n.root) n.subs
+
 -- what a job is ready to touch: the node, alone or with all below it, to read or to write
 abbrev pub extent_text : Extent → List ℕ
 extent_text Node = codes " node"
@@ -38,8 +41,7 @@ access_text Reads = codes " reads"
 access_text Writes = codes " writes"
 
 abbrev pub touch_text : Touch → List ℕ
-touch_text t = constants_text (Global t.region.node.root) t.region.node.subs
-    ++ (extent_text t.region.extent ++ access_text t.access)
+touch_text t = node_text t.region.node ++ (extent_text t.region.extent ++ access_text t.access)
 
 -- whether a claim has a timeout
 abbrev pub timed_text : Bool → List ℕ

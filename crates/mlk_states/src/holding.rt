@@ -1,8 +1,8 @@
 // What a job holds, written.
 
 ghost use Rattle.std.specs.Prelude.{◌≡◌, ◌++◌, IfOk, OnOk, map};
-ghost use Rattle.mlk_states.specs.Printed.{ascending, holds_text, name_text};
-ghost use Rattle.mlk_states.specs.Spelling.{holding_text, pair_of};
+ghost use Rattle.mlk_states.specs.Printed.{ascending, holds_text};
+ghost use Rattle.mlk_states.specs.Spelling.{holding_of};
 
 use crate::spelling::text_of;
 use mlk_cert::{Text, Written, push_listed};
@@ -30,16 +30,23 @@ impl Written for Holding {
     }
 }
 
-// Names as texts, in the order in which they were first claimed.
+// A name that is held, as text.
+fn holding(alloc: Global, entry: &(LockName, u32)) -> Result<Holding, AllocError>
+    ensures { IfOk result (λ h. h ≡ holding_of entry.now) }
+{
+    Ok(Holding {
+        name: text_of(alloc, &entry.0)?,
+        count: entry.1,
+    })
+}
+
+// Names that are held, as texts, in the order in which they were first claimed.
 fn holdings(alloc: Global, entries: &[(LockName, u32)]) -> Result<Vec<Holding>, AllocError>
-    ensures { IfOk result (λ found. map pair_of found.items ≡ map (λ h. (name_text h.0, h.1)) entries.now) }
+    ensures { IfOk result (λ found. found.items ≡ map holding_of entries.now) }
 {
     let mut found = Vec::new(alloc);
-    for (name, count) in entries {
-        found.push(Holding {
-            name: text_of(alloc, name)?,
-            count: *count,
-        })?;
+    for entry in entries {
+        found.push(holding(alloc, entry)?)?;
     }
     Ok(found)
 }
@@ -53,6 +60,7 @@ fn sort(holdings: &mut Vec<Holding>) -> Result<(), AllocError>
 }
 
 /// What a job holds: names in the order of their texts, each with its count.
+#[tactic(auto, using(crate::proofs::HeldLemmas::held_as_texts))]
 pub(crate) fn push_held(alloc: Global, text: &mut Text, held: &Held) -> Result<(), AllocError>
     ensures { OnOk result (text.new ≡ text.old ++ holds_text held.now) }
 {

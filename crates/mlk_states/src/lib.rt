@@ -9,6 +9,7 @@ mod known;
 mod printed;
 mod shown;
 mod spelling;
+mod touch;
 
 pub use dispatch::state;
 pub use printed::system_text;
