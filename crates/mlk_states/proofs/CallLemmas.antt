@@ -9,11 +9,11 @@ use Rattle.mlk_program.specs.declared.entry.EntryId.{EntryId}
 use Rattle.mlk_jobs.specs.Calling.{lines_after}
 use Rattle.mlk_run.proofs.FrameLemmas.{lines_some, lines_none}
 
-left_over : (n : ℕ) (ls : List Line) → nat_lt n (length ls) ≡ is_some_there (map line_of (drop n ls))
-left_over zero [] = refl
-left_over zero (l ∷ ls) = refl
-left_over (suc n) [] = refl
-left_over (suc n) (l ∷ ls) = left_over n ls
+left_over : {A B : Type 0} (f : A → B) (n : ℕ) (xs : List A) → nat_lt n (length xs) ≡ is_some_there (map f (drop n xs))
+left_over f zero [] = refl
+left_over f zero (x ∷ xs) = refl
+left_over f (suc n) [] = refl
+left_over f (suc n) (x ∷ xs) = left_over f n xs
 
 pub no_routine : (rs : List Routine) (e : EntryId) → None ≡ slice_get rs e.routine
     → false ≡ is_some_there (lines_after (map routine_of rs) e)
@@ -21,4 +21,4 @@ no_routine rs e h = sym (ap is_some_there (lines_none rs e (sym h)))
 
 pub some_line : (rs : List Routine) (e : EntryId) (r : Routine) → Some r ≡ slice_get rs e.routine
     → nat_lt e.line (length r.lines.items) ≡ is_some_there (lines_after (map routine_of rs) e)
-some_line rs e r h = left_over e.line r.lines.items ∙ sym (ap is_some_there (lines_some rs e r (sym h)))
+some_line rs e r h = left_over line_of e.line r.lines.items ∙ sym (ap is_some_there (lines_some rs e r (sym h)))

@@ -1,5 +1,6 @@
 pub mod AskedLemmas
 pub mod CallLemmas
+pub mod Examples
 pub mod HeldLemmas
 pub mod KnownLemmas
 pub mod OrderLemmas

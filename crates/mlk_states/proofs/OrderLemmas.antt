@@ -1,6 +1,6 @@
 -- A list that ascends by a test, in which items that tie stand as they stood, is what comes of putting its items in one
 -- by one.
-use Rattle.std.proofs.Common.{◌≡◌, ◌∙◌, ℕ, suc, ◌<◌, Bool, true, false, cond, not, ◌&&◌, List, [], ◌∷◌, length, get_or, filter, refl, sym, ap, true≢false, inl, inr, arith, IsSortedBy}
+use Rattle.std.proofs.Common.{◌≡◌, ◌∙◌, ℕ, suc, ◌+◌, ◌<◌, Bool, true, false, cond, not, ◌&&◌, List, [], ◌∷◌, length, get_or, filter, refl, sym, ap, true≢false, inl, inr, arith, IsSortedBy}
 use Rattle.std.specs.Cmp.{IsStrictWeakOrder}
 use Rattle.std.specs.List.Sorted.{ties, IsStableBy}
 use Rattle.std.proofs.lemmas.Bool.{cases_Bool}
@@ -86,15 +86,15 @@ module _ {X : Type 0} (lt : X → X → Bool) (o : IsStrictWeakOrder lt) where
     | inr f ↦ rw f refl
     | inl t ↦ elim (cases_Bool (ties lt x y)) [
       | inl e ↦
-        let d = one_tie x a y e t in
-        let i = put_ties x a ys in
-        rw (t, e, d) (ap (λ zs. y ∷ zs) (rw d at i))
+          let d = one_tie x a y e t in
+          let i = put_ties x a ys in
+          rw (t, e, d) (ap (λ zs. y ∷ zs) (rw d at i))
       | inr e ↦
-        let i = put_ties x a ys in
-        elim (cases_Bool (ties lt x a)) [
-          | inl d ↦ rw (t, e, d) (rw d at i)
-          | inr d ↦ rw (t, e, d) (rw d at i)
-        ]
+          let i = put_ties x a ys in
+          elim (cases_Bool (ties lt x a)) [
+            | inl d ↦ rw (t, e, d) (rw d at i)
+            | inr d ↦ rw (t, e, d) (rw d at i)
+          ]
     ]
   ]
 
@@ -171,11 +171,15 @@ module _ {X : Type 0} (lt : X → X → Bool) (o : IsStrictWeakOrder lt) where
   least_from x [] h = tt
   least_from x (y ∷ ys) h = (h 0 (omega arith), least_from x ys (λ k b. h (suc k) (omega arith)))
 
+  one_less : (x : X) (xs : List X) (k : ℕ) (d : X) → lt (get_or (x ∷ xs) (suc k + 1) d) (get_or (x ∷ xs) (suc k) d) ≡ false
+      → lt (get_or xs (k + 1) d) (get_or xs k d) ≡ false
+  one_less x xs k d h = let r = simp unary_clauses at h in simp unary_clauses r
+
   up_from : (xs : List X) → IsSortedBy lt xs → Up lt xs
   up_from [] s = tt
   up_from (x ∷ xs) s = (
     least_from x xs (λ k b. sorted_far lt o (x ∷ xs) s 0 (suc k) x (omega arith) (omega arith)),
-    up_from xs (λ k d b h. let r = s (suc k) d (omega arith) (omega arith) in simp unary_clauses at r),
+    up_from xs (λ k d b h. one_less x xs k d (s (suc k) d (omega arith) (omega arith))),
   )
 
   pub sorted_is : (xs ys : List X) → IsSortedBy lt ys → IsStableBy lt xs ys → ys ≡ put_all lt xs

@@ -3,10 +3,14 @@ use Rattle.std.proofs.Common.{◌≡◌, ◌++◌, ℕ, List, [], ◌∷◌, map
 use Rattle.mlk_names.specs.declared.known_symbol.KnownSym.TheVariants.{Const}
 use Rattle.mlk_names.specs.declared.symbol.Sym.{Sym}
 use Rattle.mlk_cert.specs.Lists.{more}
-use Rattle.mlk_cert.specs.Texts.{symbol_text}
+use Rattle.mlk_cert.specs.Texts.{symbol_text, subs_text}
 use Rattle.mlk_jobs.specs.TaskViews.{constant_of}
-use Rattle.mlk_states.specs.Spelling.{constant_in}
+use Rattle.mlk_states.specs.Spelling.{constant_in, constants_in}
 
-pub more_constants : (ss : List Sym) → more 44 constant_in ss ≡ more 44 symbol_text (map Const (map constant_of ss))
+more_constants : (ss : List Sym) → more 44 constant_in ss ≡ more 44 symbol_text (map Const (map constant_of ss))
 more_constants [] = refl
 more_constants (s ∷ ss) = ap (λ t. 44 ∷ (constant_in s ++ t)) (more_constants ss)
+
+pub symbols_as_subs : (ss : List Sym) → constants_in constant_in ss ≡ subs_text (map Const (map constant_of ss))
+symbols_as_subs [] = refl
+symbols_as_subs (s ∷ ss) = ap (λ t. 40 ∷ (constant_in s ++ (t ++ 41 ∷ []))) (more_constants ss)

@@ -1,8 +1,9 @@
 -- The parts of what is printed, as the code puts them together. For private clauses alone. This project's own.
-use Rattle.std.specs.Prelude.{ℕ, Bool, List, ◌∷◌, ◌++◌}
+use Rattle.std.specs.Prelude.{ℕ, Bool, List, [], ◌∷◌, ◌++◌}
 use Rattle.std.specs.Fmt.{decimal}
 use Rattle.mlk_names.specs.declared.lock_name.LockName.{LockName}
 use Rattle.mlk_names.specs.declared.symbol.Sym.{Sym}
+use Rattle.mlk_cert.specs.Lists.{more}
 use Rattle.mlk_cert.specs.Texts.{constant_text, listed}
 use Rattle.mlk_jobs.specs.TaskViews.{constant_of}
 use Rattle.mlk_states.specs.declared.holding.Holding.{Holding}
@@ -11,6 +12,11 @@ use Rattle.mlk_states.specs.Printed.{name_text, timed_text}
 -- a subscript that is a constant
 abbrev pub constant_in : Sym → List ℕ
 constant_in s = constant_text (constant_of s)
+
+-- subscripts: none, or in parentheses with commas between them
+abbrev pub constants_in : {A : Type 0} → (A → List ℕ) → List A → List ℕ
+constants_in text [] = []
+constants_in text (a ∷ items) = 40 ∷ (text a ++ (more 44 text items ++ 41 ∷ []))
 
 -- the names of a claim
 abbrev pub claim_text : List LockName → Bool → List ℕ

@@ -31,7 +31,7 @@ impl Written for Holding {
 }
 
 // A name that is held, as text.
-fn holding(alloc: Global, entry: &(LockName, u32)) -> Result<Holding, AllocError>
+fn holding_from(alloc: Global, entry: &(LockName, u32)) -> Result<Holding, AllocError>
     ensures { IfOk result (λ h. h ≡ holding_of entry.now) }
 {
     Ok(Holding {
@@ -46,7 +46,7 @@ fn holdings(alloc: Global, entries: &[(LockName, u32)]) -> Result<Vec<Holding>, 
 {
     let mut found = Vec::new(alloc);
     for entry in entries {
-        found.push(holding(alloc, entry)?)?;
+        found.push(holding_from(alloc, entry)?)?;
     }
     Ok(found)
 }

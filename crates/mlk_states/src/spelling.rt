@@ -1,10 +1,10 @@
 // Lock names, spelled as in certificates.
 
-ghost use Rattle.std.specs.Prelude.{◌≡◌, ◌++◌, IfOk, OnOk, map};
-ghost use Rattle.mlk_names.specs.declared.known_symbol.KnownSym.TheVariants.{Const};
+ghost use Rattle.std.specs.Prelude.{◌≡◌, ◌++◌, IfOk, OnOk};
 ghost use Rattle.mlk_cert.specs.Lists.{more};
-ghost use Rattle.mlk_cert.specs.Texts.{listed, subs_text};
+ghost use Rattle.mlk_cert.specs.Texts.{constant_text, listed};
 ghost use Rattle.mlk_states.specs.Printed.{name_text};
+ghost use Rattle.mlk_states.specs.Spelling.{constants_in};
 
 use mlk_cert::{Text, Written, push_more};
 use mlk_names::LockName;
@@ -12,9 +12,8 @@ use mlk_text::Value;
 use std::alloc::{AllocError, Global};
 
 // Values: none, or in parentheses with commas between them.
-#[tactic(auto, using(crate::proofs::SpellingLemmas::more_values))]
 fn push_values(text: &mut Text, values: &[Value]) -> Result<(), AllocError>
-    ensures { OnOk result (text.new ≡ text.old ++ subs_text (map Const values.now)) }
+    ensures { OnOk result (text.new ≡ text.old ++ constants_in constant_text values.now) }
 {
     let Some((first, others)) = values.split_first() else {
         return Ok(());
@@ -27,6 +26,7 @@ fn push_values(text: &mut Text, values: &[Value]) -> Result<(), AllocError>
 }
 
 // A lock name.
+#[tactic(auto, using(crate::proofs::SpellingLemmas::values_as_subs))]
 fn push_name(text: &mut Text, name: &LockName) -> Result<(), AllocError>
     ensures { OnOk result (text.new ≡ text.old ++ name_text name.now) }
 {

@@ -1,12 +1,11 @@
 // What a job is ready to touch, written.
 
-ghost use Rattle.std.specs.Prelude.{◌≡◌, ◌++◌, OnOk, map};
-ghost use Rattle.mlk_names.specs.declared.known_symbol.KnownSym.TheVariants.{Const};
+ghost use Rattle.std.specs.Prelude.{◌≡◌, ◌++◌, OnOk};
 ghost use Rattle.mlk_cert.specs.Lists.{more};
-ghost use Rattle.mlk_cert.specs.Texts.{constant_text, subs_text};
+ghost use Rattle.mlk_cert.specs.Texts.{constant_text};
 ghost use Rattle.mlk_jobs.specs.TaskViews.{constant_of, touch_of};
 ghost use Rattle.mlk_states.specs.Printed.{access_text, extent_text, node_text, touch_text};
-ghost use Rattle.mlk_states.specs.Spelling.{constant_in};
+ghost use Rattle.mlk_states.specs.Spelling.{constant_in, constants_in};
 
 use mlk_cert::{Text, Written};
 use mlk_names::{Access, Extent, Reference, Sym};
@@ -34,9 +33,8 @@ fn push_more_constants(text: &mut Text, symbols: &[Sym]) -> Result<(), AllocErro
 }
 
 // Subscripts that are constants: none, or in parentheses with commas between them.
-#[tactic(auto, using(crate::proofs::TouchLemmas::more_constants))]
 fn push_constants(text: &mut Text, symbols: &[Sym]) -> Result<(), AllocError>
-    ensures { OnOk result (text.new ≡ text.old ++ subs_text (map Const (map constant_of symbols.now))) }
+    ensures { OnOk result (text.new ≡ text.old ++ constants_in constant_in symbols.now) }
 {
     let Some((first, others)) = symbols.split_first() else {
         return Ok(());
@@ -49,6 +47,7 @@ fn push_constants(text: &mut Text, symbols: &[Sym]) -> Result<(), AllocError>
 }
 
 // A node of a global.
+#[tactic(auto, using(crate::proofs::TouchLemmas::symbols_as_subs))]
 fn push_node(text: &mut Text, reference: &Reference) -> Result<(), AllocError>
     ensures { OnOk result (text.new ≡ text.old ++ node_text (touch_of reference.now).region.node) }
 {
