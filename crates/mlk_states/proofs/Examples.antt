@@ -8,7 +8,8 @@ use Rattle.mlk_names.specs.declared.reference.Access.TheVariants.{Writes}
 use Rattle.mlk_names.specs.declared.reference.Extent.TheVariants.{Tree}
 use Rattle.mlk_cert.specs.Texts.{byte_text}
 use Rattle.mlk_jobs.specs.Seen.{Ready, Claims}
-use Rattle.mlk_states.specs.Printed.{name_text, state_text, holds_text, pair_text}
+use Rattle.mlk_states.specs.Printed.{pair_text}
+use Rattle.mlk_states.specs.StateTexts.{name_text, state_text, holds_text}
 
 abbrev account : List (List ℕ) → LockName
 account subs = record { root = root.Global (codes "ACCT"); subs = subs }

@@ -1,15 +1,18 @@
 -- Held names in the order of their texts.
 use Rattle.std.proofs.Common.{◌≡◌, ◌∙◌, ◌++◌, ℕ, Bool, true, false, cond, not, List, [], ◌∷◌, map, refl, sym, ap, inl, inr, is_lt, nat_lt, ◌==◌, arith}
 use Rattle.std.specs.Ordering.{nat_cmp}
-use Rattle.std.specs.Cmp.Lexicographic.{slice_cmp}
+use Rattle.std.specs.Cmp.Lexicographic.{slice_cmp, nat_list_cmp_total}
 use Rattle.std.proofs.lemmas.Bool.{cases_Bool}
 use Rattle.std.proofs.lemmas.Bool.Decides.{nat_tests}
-use Rattle.mlk_cert.specs.Lists.{below, more, upto}
+use Rattle.std.proofs.lemmas.List.Sorted.{ranks_by}
+use Rattle.mlk_names.specs.declared.lock_name.LockName.{LockName}
+use Rattle.mlk_cert.specs.Lists.{ascends, below, more, upto}
 use Rattle.mlk_cert.specs.Texts.{listed}
 use Rattle.mlk_locks.specs.Counts.{Counts}
-use Rattle.mlk_states.specs.Printed.{put_in, ascending, held_text, holds_text, name_text}
+use Rattle.mlk_states.specs.Laws.{HeldIsSorted}
+use Rattle.mlk_states.specs.StateTexts.{put_in, ascending, held_text, holds_text, name_text}
 use Rattle.mlk_states.specs.Spelling.{holding_of, holding_text}
-use Rattle.mlk_states.proofs.OrderLemmas.{put, put_all}
+use Rattle.mlk_states.proofs.OrderLemmas.{put, put_all, all_ascend, all_moves, all_up}
 
 -- the order of texts is that of their bytes
 below_is : (x y : List ℕ) → is_lt (slice_cmp nat_cmp x y) ≡ below x y
@@ -31,6 +34,24 @@ module _ {A : Type 0} (text : A → List ℕ) where
   pub put_all_is : (xs : List A) → put_all by_text xs ≡ ascending text xs
   put_all_is [] = refl
   put_all_is (a ∷ xs) = ap (put by_text a) (put_all_is xs) ∙ put_is a (ascending text xs)
+
+not_above : (x y : List ℕ) → not (is_lt (slice_cmp nat_cmp y x)) ≡ upto x y
+not_above x y = ap not (below_is y x) ∙ not_not (upto x y)
+  where
+    not_not : (b : Bool) → not (not b) ≡ b
+    not_not true = refl
+    not_not false = refl
+
+-- What is held is printed in the order of the names' texts, and nothing is left out.
+pub held_is_sorted : HeldIsSorted
+held_is_sorted held =
+    let text : LockName × ℕ → List ℕ = λ h. name_text h.0 in
+    let order = ranks_by nat_list_cmp_total text in
+    rw (← put_all_is text held) (
+      ap (λ test. ascends test (put_all (by_text text) held)) (λ i g h. sym (not_above (text g) (text h)) i)
+          ∙ all_ascend (by_text text) order (put_all (by_text text) held) (all_up (by_text text) order held),
+      all_moves (by_text text) order held,
+    )
 
 put_held : (h : _) (held : Counts)
     → put_in (λ a. a.name) (holding_of h) (map holding_of held) ≡ map holding_of (put_in (λ a. name_text a.0) h held)

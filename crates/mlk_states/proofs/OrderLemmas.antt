@@ -1,10 +1,11 @@
 -- A list that ascends by a test, in which items that tie stand as they stood, is what comes of putting its items in one
 -- by one.
-use Rattle.std.proofs.Common.{◌≡◌, ◌∙◌, ℕ, suc, ◌+◌, ◌<◌, Bool, true, false, cond, not, ◌&&◌, List, [], ◌∷◌, length, get_or, filter, refl, sym, ap, true≢false, inl, inr, arith, IsSortedBy}
+use Rattle.std.proofs.Common.{◌≡◌, ◌∙◌, ℕ, suc, ◌+◌, ◌<◌, Bool, true, false, cond, not, ◌&&◌, List, [], ◌∷◌, length, get_or, filter, refl, sym, ap, true≢false, inl, inr, arith, IsSortedBy, IsPermutation}
+use Rattle.mlk_cert.specs.Lists.{ascends}
 use Rattle.std.specs.Cmp.{IsStrictWeakOrder}
 use Rattle.std.specs.List.Sorted.{ties, IsStableBy}
 use Rattle.std.proofs.lemmas.Bool.{cases_Bool}
-use Rattle.std.proofs.lemmas.List.Sorted.{sorted_far}
+use Rattle.std.proofs.lemmas.List.Sorted.{sorted_far, IsPermutation-refl, IsPermutation-trans, IsPermutation-cons, IsPermutation-append_left, IsPermutation-to_front}
 use native.Mathlib.Numerals.{unary_clauses}
 
 module _ {X : Type 0} (lt : X → X → Bool) where
@@ -61,9 +62,29 @@ module _ {X : Type 0} (lt : X → X → Bool) (o : IsStrictWeakOrder lt) where
     | inr f ↦ rw f ((f, least_chain a y ys f l), (l, u))
   ]
 
-  all_up : (xs : List X) → Up lt (put_all lt xs)
+  pub all_up : (xs : List X) → Up lt (put_all lt xs)
   all_up [] = tt
   all_up (a ∷ xs) = put_up a (put_all lt xs) (all_up xs)
+
+  pub all_ascend : (xs : List X) → Up lt xs → ascends (λ a b. not (lt b a)) xs ≡ true
+  all_ascend [] u = refl
+  all_ascend (a ∷ []) u = refl
+  all_ascend (a ∷ b ∷ xs) ((e, l), u) = rw e (all_ascend (b ∷ xs) u)
+
+  put_moves : (a : X) (xs : List X) → IsPermutation (a ∷ xs) (put lt a xs)
+  put_moves a [] = IsPermutation-refl (a ∷ [])
+  put_moves a (b ∷ xs) = elim (cases_Bool (lt b a)) [
+    | inl e ↦
+        let first = IsPermutation-append_left xs (a ∷ b ∷ []) (b ∷ a ∷ []) (IsPermutation-to_front (a ∷ []) b) in
+        rw e (IsPermutation-trans (a ∷ b ∷ xs) (b ∷ a ∷ xs) (b ∷ put lt a xs) first
+        (IsPermutation-cons b (a ∷ xs) (put lt a xs) (put_moves a xs)))
+    | inr e ↦ rw e (IsPermutation-refl (a ∷ b ∷ xs))
+  ]
+
+  pub all_moves : (xs : List X) → IsPermutation xs (put_all lt xs)
+  all_moves [] = IsPermutation-refl []
+  all_moves (a ∷ xs) = IsPermutation-trans (a ∷ xs) (a ∷ put_all lt xs) (put lt a (put_all lt xs))
+      (IsPermutation-cons a xs (put_all lt xs) (all_moves xs)) (put_moves a (put_all lt xs))
 
   -- two that tie with one are not below each other
   one_tie : (x a b : X) → ties lt x b ≡ true → lt b a ≡ true → ties lt x a ≡ false

@@ -7,7 +7,7 @@ use Rattle.mlk_cert.specs.Lists.{more}
 use Rattle.mlk_cert.specs.Texts.{constant_text, listed}
 use Rattle.mlk_jobs.specs.TaskViews.{constant_of}
 use Rattle.mlk_states.specs.declared.holding.Holding.{Holding}
-use Rattle.mlk_states.specs.Printed.{name_text, timed_text}
+use Rattle.mlk_states.specs.StateTexts.{name_text, timed_text}
 
 -- a subscript that is a constant
 abbrev pub constant_in : Sym → List ℕ

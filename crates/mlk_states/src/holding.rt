@@ -1,7 +1,7 @@
 // What a job holds, written.
 
 ghost use Rattle.std.specs.Prelude.{◌≡◌, ◌++◌, IfOk, OnOk, map};
-ghost use Rattle.mlk_states.specs.Printed.{ascending, holds_text};
+ghost use Rattle.mlk_states.specs.StateTexts.{ascending, holds_text};
 ghost use Rattle.mlk_states.specs.Spelling.{holding_of};
 
 use crate::spelling::text_of;

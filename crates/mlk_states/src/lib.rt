@@ -6,11 +6,13 @@ mod call;
 mod dispatch;
 mod holding;
 mod known;
+mod law;
 mod printed;
 mod shown;
 mod spelling;
 mod touch;
 
 pub use dispatch::state;
+pub use law::held_is_sorted;
 pub use printed::system_text;
 pub use shown::State;

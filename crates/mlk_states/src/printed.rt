@@ -6,7 +6,8 @@ ghost use Rattle.mlk_cert.specs.Texts.{line};
 ghost use Rattle.mlk_routine.specs.Views.{routine_of};
 ghost use Rattle.mlk_jobs.specs.JobViews.{job_of};
 ghost use Rattle.mlk_system.specs.Systems.{jobs_in, routines_in};
-ghost use Rattle.mlk_states.specs.Printed.{clash_line, job_line, pair_text, ring_line, state_text, system_text, waits_line};
+ghost use Rattle.mlk_states.specs.Printed.{clash_line, job_line, pair_text, ring_line, system_text, waits_line};
+ghost use Rattle.mlk_states.specs.StateTexts.{state_text};
 ghost use Rattle.mlk_states.specs.Spelling.{claim_text};
 ghost use Rattle.mlk_states.specs.StateViews.{state_of};
 

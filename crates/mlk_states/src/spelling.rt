@@ -3,7 +3,7 @@
 ghost use Rattle.std.specs.Prelude.{◌≡◌, ◌++◌, IfOk, OnOk};
 ghost use Rattle.mlk_cert.specs.Lists.{more};
 ghost use Rattle.mlk_cert.specs.Texts.{constant_text, listed};
-ghost use Rattle.mlk_states.specs.Printed.{name_text};
+ghost use Rattle.mlk_states.specs.StateTexts.{name_text};
 ghost use Rattle.mlk_states.specs.Spelling.{constants_in};
 
 use mlk_cert::{Text, Written, push_more};
@@ -26,7 +26,6 @@ fn push_values(text: &mut Text, values: &[Value]) -> Result<(), AllocError>
 }
 
 // A lock name.
-#[tactic(auto, using(crate::proofs::SpellingLemmas::values_as_subs))]
 fn push_name(text: &mut Text, name: &LockName) -> Result<(), AllocError>
     ensures { OnOk result (text.new ≡ text.old ++ name_text name.now) }
 {

@@ -1,14 +1,16 @@
 // What a job is ready to touch, written.
 
 ghost use Rattle.std.specs.Prelude.{◌≡◌, ◌++◌, OnOk};
+ghost use Rattle.mlk_text.specs.declared.root.Root.TheVariants.{Global};
 ghost use Rattle.mlk_cert.specs.Lists.{more};
-ghost use Rattle.mlk_cert.specs.Texts.{constant_text};
+ghost use Rattle.mlk_cert.specs.Texts.{constant_text, root_text};
 ghost use Rattle.mlk_jobs.specs.TaskViews.{constant_of, touch_of};
-ghost use Rattle.mlk_states.specs.Printed.{access_text, extent_text, node_text, touch_text};
+ghost use Rattle.mlk_states.specs.StateTexts.{access_text, extent_text, node_text, touch_text};
 ghost use Rattle.mlk_states.specs.Spelling.{constant_in, constants_in};
 
 use mlk_cert::{Text, Written};
 use mlk_names::{Access, Extent, Reference, Sym};
+use mlk_text::Name;
 use std::alloc::AllocError;
 
 // A subscript that is a constant.
@@ -46,13 +48,20 @@ fn push_constants(text: &mut Text, symbols: &[Sym]) -> Result<(), AllocError>
     Ok(())
 }
 
+// A global.
+fn push_global(text: &mut Text, name: &Name) -> Result<(), AllocError>
+    ensures { OnOk result (text.new ≡ text.old ++ root_text (Global name.now)) }
+{
+    text.push_byte(b'^')?;
+    text.push(name.as_bytes())?;
+    Ok(())
+}
+
 // A node of a global.
-#[tactic(auto, using(crate::proofs::TouchLemmas::symbols_as_subs))]
 fn push_node(text: &mut Text, reference: &Reference) -> Result<(), AllocError>
     ensures { OnOk result (text.new ≡ text.old ++ node_text (touch_of reference.now).region.node) }
 {
-    text.push_byte(b'^')?;
-    text.push(reference.root.as_bytes())?;
+    push_global(text, &reference.root)?;
     push_constants(text, reference.subs.as_slice())?;
     Ok(())
 }

@@ -1,4 +1,4 @@
-use Rattle.std.proofs.Common.{◌∙◌, rules, ap, is_lt}
+use Rattle.std.proofs.Common.{◌∙◌, rules}
 use Rattle.std.specs.Cmp.Lexicographic.{nat_list_cmp_total}
 use Rattle.std.proofs.lemmas.Fn.{always_returns_same}
 use Rattle.std.proofs.lemmas.List.Sorted.{ranks_by}
@@ -13,4 +13,4 @@ returns c =
     sorted_is (by_text (λ h. h.name)) order _ _
     (c.in_ok-sort_by.ensures.sorted (by_text (λ h. h.name)) order compares)
     (c.in_ok-sort_by.ensures.stable (by_text (λ h. h.name)) order compares)
-    ∙ put_all_is (λ h. h.name) _
+    ∙ put_all_is (λ h. h.name) c.args.holdings.now.items

@@ -1,6 +1,6 @@
 use Rattle.std.proofs.Common.{◌≡◌, ◌++◌, drop}
 use Rattle.mlk_cert.specs.Lists.{more}
-use Rattle.mlk_states.specs.Printed.{name_text}
+use Rattle.mlk_states.specs.StateTexts.{name_text}
 use Rattle.mlk_states.proofs.spelling.push_more_names.Given as goal
 
 abbrev pub invariant-loop-name : goal.invariant-loop-name
