@@ -8,7 +8,7 @@ use Rattle.mlk_names.specs.declared.reference.Access.TheVariants.{Writes}
 use Rattle.mlk_names.specs.declared.reference.Extent.TheVariants.{Tree}
 use Rattle.mlk_cert.specs.Texts.{byte_text}
 use Rattle.mlk_jobs.specs.Seen.{Ready, Claims}
-use Rattle.mlk_states.specs.Printed.{pair_text}
+use Rattle.mlk_states.specs.Printed.{pair_line}
 use Rattle.mlk_states.specs.StateTexts.{name_text, state_text, holds_text}
 
 abbrev account : List (List ℕ) → LockName
@@ -40,6 +40,6 @@ held-written : holds_text ((account (codes "1" ∷ []), 1) ∷ (log, 12) ∷ (ac
 unfolding byte_text digits
 held-written = refl
 
-pair-written : pair_text (2, 10) ≡ codes "2 10"
+pair-written : pair_line (codes "waits ") (2, 10) ≡ codes "waits 2 10" ++ 10 ∷ []
 unfolding digits
 pair-written = refl

@@ -1,8 +1,8 @@
 -- Which operators have a known result.
-use Rattle.std.proofs.Common.{◌≡◌, ◌∙◌, ℕ, ℤ, zero, suc, pos, negsuc, Bool, true, false, List, [], ◌∷◌, ◌++◌, Option, Some, None, refl, sym, ap, subst, inl, inr}
-use Rattle.std.specs.Prelude.{◌+◌, ◌&&◌, neg_ℤ, unsigned_abs, nat_le, length, is_some, bytes_eq, codes, if◌then◌else◌}
+use Rattle.std.proofs.Common.{◌≡◌, ◌∙◌, ℕ, ℤ, zero, suc, pos, negsuc, Bool, true, false, List, [], ◌∷◌, ◌++◌, Option, Some, None, refl, sym, ap, subst, inl, inr, arith}
+use Rattle.std.specs.Prelude.{◌+◌, ◌<◌, ◌^◌, ◌&&◌, neg_ℤ, unsigned_abs, nat_le, length, is_some, bytes_eq, codes, if◌then◌else◌}
 use Rattle.std.specs.Fmt.{signed_decimal}
-use Rattle.std.proofs.lemmas.Bool.{cases_Bool}
+use Rattle.std.proofs.lemmas.Bool.{cases_Bool, lt-leb}
 use Rattle.std.proofs.lemmas.List.{length-append}
 use Rattle.mlk_text.specs.Outcome.{Finds}
 use Rattle.mlk_text.specs.Folding.{IsWhole, folded}
@@ -33,7 +33,7 @@ some_plus a None h = none_found (fold_before Plus a) (λ t e. let i = (folds_agr
 
 pub some_minus : (a : List ℕ) (o : Option ℤ) → Finds (λ z. IsWhole z a) o → is_some o ≡ is_some (fold_before Minus a)
 some_minus a (Some z) h =
-    let few = rw (same_size z) h.0 in
+    let few : unsigned_abs (neg_ℤ z) < 10 ^ 15 = rw (same_size z) h.0 in
     one_found (fold_before Minus a) (signed_decimal (neg_ℤ z))
     ((folds_agree.before Minus a (signed_decimal (neg_ℤ z))).1 (z, h, (few, refl)))
 some_minus a None h = none_found (fold_before Minus a) (λ t e. let i = (folds_agree.before Minus a t).0 e in h i.0 i.1)
@@ -58,9 +58,19 @@ some_joined text = elim (cases_Bool (nat_le (length text) 255)) [
   | inr e ↦ rw e refl
 ]
 
-pub joined_known : (a b : List ℕ) → nat_le (length a + length b) 255 ≡ is_some (fold_between Concatenate a b)
+joined_known : (a b : List ℕ) → nat_le (length a + length b) 255 ≡ is_some (fold_between Concatenate a b)
 unfolding fold_between
 joined_known a b = ap (λ n. nat_le n 255) (sym (length-append a b)) ∙ some_joined (a ++ b)
+
+pub joined_so : (a b l m : List ℕ) → l ≡ a → m ≡ b
+    → nat_le (length l + length m) 255 ≡ is_some (fold_between Concatenate a b)
+joined_so a b l m e f = rw (e, f) (joined_known a b)
+
+pub too_long : (a b l : List ℕ) → l ≡ a → 255 < length l
+    → nat_le (length l) 255 ≡ is_some (fold_between Concatenate a b)
+too_long a b l same h =
+    let k = subst (λ (x : List ℕ). 255 < length x) same h in
+    lt-leb (length l) 255 h ∙ sym (lt-leb (length a + length b) 255 (omega (arith, k))) ∙ joined_known a b
 
 pub some_number : (op : Op) (a b : List ℕ) (o : Option ℤ) → (op ≡ Concatenate → ⊥)
     → Finds (λ z. (x y : ℤ) × IsWhole x a × IsWhole y b × (folded op x y ≡ Some z)) o

@@ -4,5 +4,6 @@ pub mod Examples
 pub mod HeldLemmas
 pub mod KnownLemmas
 pub mod OrderLemmas
+pub mod PrintedLemmas
 pub mod SpellingLemmas
 pub mod TouchLemmas

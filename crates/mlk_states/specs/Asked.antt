@@ -48,8 +48,8 @@ has_choices (choice condition value rest) = true
 
 -- a truth, and what comes where it is true and where it is false
 abbrev pub by_last_truth : List (List ℕ) → State → State → State
-by_last_truth [] yes no = Stuck
-by_last_truth (v ∷ values) yes no = if is_one v then yes else if is_zero v then no else AsksChoice
+by_last_truth [] one other = Stuck
+by_last_truth (v ∷ values) one other = if is_one v then one else if is_zero v then other else AsksChoice
 
 -- a call
 abbrev pub by_target : List RoutineTree → Option EntryId → State

@@ -4,3 +4,4 @@ pub mod StateTexts
 pub mod Printed
 pub mod Spelling
 pub mod Laws
+pub mod Lines

@@ -18,14 +18,14 @@ job_line routines j = line (codes "job ")
     (decimal j.number ++ 32 ∷ (state_text (state routines j) ++ (codes " holds " ++ holds_text j.held)))
 
 -- the line of two jobs, by their numbers
-abbrev pub pair_text : ℕ × ℕ → List ℕ
-pair_text p = decimal p.0 ++ 32 ∷ decimal p.1
+abbrev pub pair_line : List ℕ → ℕ × ℕ → List ℕ
+pair_line word p = line word (decimal p.0 ++ 32 ∷ decimal p.1)
 
-abbrev pub clash_line : ℕ × ℕ → List ℕ
-clash_line p = line (codes "clash ") (pair_text p)
+abbrev pub clash_lines : List Job → List ℕ
+clash_lines jobs = flat (pair_line (codes "clash ")) (clashes jobs)
 
-abbrev pub waits_line : ℕ × ℕ → List ℕ
-waits_line p = line (codes "waits ") (pair_text p)
+abbrev pub waits_lines : List Job → List ℕ
+waits_lines jobs = flat (pair_line (codes "waits ")) (waits_among jobs)
 
 -- the line that says whether some of the jobs wait in a ring
 abbrev pub ring_text : Bool → List ℕ
@@ -37,5 +37,5 @@ ring_line jobs = line (codes "ring ") (ring_text (has_ring_of seen jobs))
 
 -- All jobs in the order in which they began, then those that clash, those that wait, and the ring.
 abbrev pub system_text : List RoutineTree → List Job → List ℕ
-system_text routines jobs = flat (job_line routines) jobs
-    ++ (flat clash_line (clashes jobs) ++ (flat waits_line (waits_among jobs) ++ ring_line jobs))
+system_text routines jobs =
+    flat (job_line routines) jobs ++ (clash_lines jobs ++ (waits_lines jobs ++ ring_line jobs))

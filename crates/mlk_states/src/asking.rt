@@ -68,16 +68,15 @@ pub(crate) fn applies_binary<'j>(job: &Job, op: Op) -> State<'j>
 pub(crate) fn selects<'j>(branches: &[(Expr, Expr)]) -> State<'j>
     ensures { state_of result ≡ if_enabled (has_choices (choices_from (choices branches.now))) }
 {
-    if branches.is_empty() {
-        State::Stuck
-    } else {
-        State::Silent
+    match branches.split_first() {
+        Some(_) => State::Silent,
+        None => State::Stuck,
     }
 }
 
 /// What a job does by the truth of its last value.
 pub(crate) fn uses_truth<'j>(job: &Job, if_true: State<'j>, if_false: State<'j>) -> State<'j>
-    ensures { state_of result ≡ by_last_truth (job_of job.now).values (state_of if_true) (state_of if_false) }
+    ensures { state_of result ≡ by_last_truth (job_of job.now).values (state_of if_true.entry) (state_of if_false.entry) }
 {
     let Some(value) = job.values.at(0) else {
         return State::Stuck;

@@ -3,7 +3,6 @@
 ghost use Rattle.mlk_states.specs.Laws.{HeldIsSorted};
 
 /// What a job holds is printed in the order of the names' texts, and all of it is printed.
-#[tactic(auto, using(crate::proofs::HeldLemmas::held_is_sorted))]
 pub fn held_is_sorted()
     ensures { HeldIsSorted }
 {}

@@ -1,13 +1,14 @@
 // A system as text.
 
-ghost use Rattle.std.specs.Prelude.{◌≡◌, ◌++◌, ◌×◌, ℕ, IfOk, OnOk, List, codes, map};
+ghost use Rattle.std.specs.Prelude.{◌≡◌, ◌++◌, IfOk, OnOk, codes, map};
 ghost use Rattle.mlk_cert.specs.Lists.{flat};
 ghost use Rattle.mlk_cert.specs.Texts.{line};
 ghost use Rattle.mlk_routine.specs.Views.{routine_of};
 ghost use Rattle.mlk_jobs.specs.JobViews.{job_of};
 ghost use Rattle.mlk_system.specs.Systems.{jobs_in, routines_in};
-ghost use Rattle.mlk_states.specs.Printed.{clash_line, job_line, pair_text, ring_line, system_text, waits_line};
+ghost use Rattle.mlk_states.specs.Printed.{clash_lines, job_line, pair_line, ring_text, system_text, waits_lines};
 ghost use Rattle.mlk_states.specs.StateTexts.{state_text};
+ghost use Rattle.mlk_states.specs.Lines.{line_of_job};
 ghost use Rattle.mlk_states.specs.Spelling.{claim_text};
 ghost use Rattle.mlk_states.specs.StateViews.{state_of};
 
@@ -37,7 +38,7 @@ fn push_claim(text: &mut Text, names: &[LockName], timed: bool) -> Result<(), Al
 
 // What a job does next.
 fn push_state(text: &mut Text, state: State) -> Result<(), AllocError>
-    ensures { OnOk result (text.new ≡ text.old ++ state_text (state_of state)) }
+    ensures { OnOk result (text.new ≡ text.old ++ state_text (state_of state.entry)) }
 {
     match state {
         State::Ready(reference) => {
@@ -78,7 +79,7 @@ fn push_jobs<'a>(
     program: &Program<'a>,
     jobs: &[Job<'a>],
 ) -> Result<(), AllocError>
-    ensures { OnOk result (text.new ≡ text.old ++ flat (job_line (map routine_of program.now)) (map job_of jobs.now)) }
+    ensures { OnOk result (text.new ≡ text.old ++ flat (line_of_job program.now) jobs.now) }
 {
     for job in jobs {
         push_job(alloc, text, program, job)?;
@@ -86,25 +87,51 @@ fn push_jobs<'a>(
     Ok(())
 }
 
+// The line of two jobs.
+fn push_pair(text: &mut Text, word: &[u8], pair: &(u32, u32)) -> Result<(), AllocError>
+    ensures { OnOk result (text.new ≡ text.old ++ pair_line word.now pair.now) }
+{
+    text.push(word)?;
+    text.push_number(pair.0)?;
+    text.push_byte(b' ')?;
+    text.push_number(pair.1)?;
+    text.push_byte(b'\n')?;
+    Ok(())
+}
+
 // The lines of two jobs each.
 fn push_pairs(text: &mut Text, word: &[u8], pairs: &[(u32, u32)]) -> Result<(), AllocError>
-    ensures { OnOk result (text.new ≡ text.old ++ flat (λ p. line word.now (pair_text p)) pairs.now) }
+    ensures { OnOk result (text.new ≡ text.old ++ flat (pair_line word.now) pairs.now) }
 {
-    for (job, other) in pairs {
-        text.push(word)?;
-        text.push_number(*job)?;
-        text.push_byte(b' ')?;
-        text.push_number(*other)?;
-        text.push_byte(b'\n')?;
+    for pair in pairs {
+        push_pair(text, word, pair)?;
     }
     Ok(())
 }
 
-// The line that says whether some of the jobs wait in a ring.
-fn push_ring(text: &mut Text, system: &System) -> Result<(), AllocError>
-    ensures { OnOk result (text.new ≡ text.old ++ ring_line (jobs_in system.now)) }
+// The lines of jobs that clash.
+fn push_clashes<'a>(alloc: Global, text: &mut Text, jobs: &[Job<'a>]) -> Result<(), AllocError>
+    ensures { OnOk result (text.new ≡ text.old ++ clash_lines (map job_of jobs.now)) }
 {
-    if system.has_ring()? {
+    let pairs = clashes(alloc, jobs)?;
+    push_pairs(text, b"clash ", pairs.as_slice())?;
+    Ok(())
+}
+
+// The lines of jobs that wait.
+fn push_waits<'a>(alloc: Global, text: &mut Text, jobs: &[Job<'a>]) -> Result<(), AllocError>
+    ensures { OnOk result (text.new ≡ text.old ++ waits_lines (map job_of jobs.now)) }
+{
+    let pairs = waits(alloc, jobs)?;
+    push_pairs(text, b"waits ", pairs.as_slice())?;
+    Ok(())
+}
+
+// The line that says whether some of the jobs wait in a ring.
+fn push_ring(text: &mut Text, has_ring: bool) -> Result<(), AllocError>
+    ensures { OnOk result (text.new ≡ text.old ++ line (codes "ring ") (ring_text has_ring)) }
+{
+    if has_ring {
         text.push(b"ring yes\n")?;
     } else {
         text.push(b"ring no\n")?;
@@ -114,21 +141,15 @@ fn push_ring(text: &mut Text, system: &System) -> Result<(), AllocError>
 
 /// What is shown of a system: a line for each job, in the order in which they began, with what it does next and what it
 /// holds; a line for each two that clash, and for each that waits for another; and whether some wait in a ring.
+#[tactic(auto, using(crate::proofs::PrintedLemmas::system_written))]
 pub fn system_text(alloc: Global, system: &System) -> Result<Text, AllocError>
     ensures { IfOk result (λ text. text ≡ system_text (routines_in system.now) (jobs_in system.now)) }
 {
+    let jobs = system.jobs();
     let mut text = Text::new(alloc);
-    push_jobs(alloc, &mut text, system.program(), system.jobs())?;
-    push_pairs(
-        &mut text,
-        b"clash ",
-        clashes(alloc, system.jobs())?.as_slice(),
-    )?;
-    push_pairs(
-        &mut text,
-        b"waits ",
-        waits(alloc, system.jobs())?.as_slice(),
-    )?;
-    push_ring(&mut text, system)?;
+    push_jobs(alloc, &mut text, system.program(), jobs)?;
+    push_clashes(alloc, &mut text, jobs)?;
+    push_waits(alloc, &mut text, jobs)?;
+    push_ring(&mut text, system.has_ring()?)?;
     Ok(text)
 }

@@ -1,9 +1,17 @@
-use Rattle.std.proofs.Common.{◌∙◌}
+use Rattle.std.proofs.Common.{◌∙◌, ℤ, subst}
+use Rattle.mlk_text.specs.Folding.{IsWhole}
+use Rattle.mlk_text.specs.Outcome.{Finds}
 use Rattle.mlk_states.proofs.KnownLemmas.{some_plus, some_minus}
 use Rattle.mlk_states.proofs.known.is_number.Goals as goal
 
 pub returns-clause-plus : goal.returns-clause-plus
-returns-clause-plus c = some_plus c.args.text.now _ c.whole.ensures
+returns-clause-plus c =
+    c.is_some.ensures
+    ∙ some_plus c.args.text.now c.whole.result
+    (subst (λ l. Finds (λ (z : ℤ). IsWhole z l) c.whole.result) c.as_bytes.ensures c.whole.ensures)
 
 pub returns-clause-minus : goal.returns-clause-minus
-returns-clause-minus c = some_minus c.args.text.now _ c.whole.ensures
+returns-clause-minus c =
+    c.is_some.ensures
+    ∙ some_minus c.args.text.now c.whole.result
+    (subst (λ l. Finds (λ (z : ℤ). IsWhole z l) c.whole.result) c.as_bytes.ensures c.whole.ensures)
