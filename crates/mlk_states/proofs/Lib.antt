@@ -3,6 +3,7 @@ pub mod CallLemmas
 pub mod Examples
 pub mod HeldLemmas
 pub mod KnownLemmas
+pub mod NextLemmas
 pub mod OrderLemmas
 pub mod PrintedLemmas
 pub mod SpellingLemmas

@@ -10,9 +10,10 @@ mod law;
 mod printed;
 mod shown;
 mod spelling;
+mod system;
 mod touch;
 
 pub use dispatch::state;
 pub use law::held_is_sorted;
-pub use printed::system_text;
 pub use shown::State;
+pub use system::system_text;

@@ -1,12 +1,11 @@
-// A system as text.
+// The lines that are printed of a system.
 
-ghost use Rattle.std.specs.Prelude.{◌≡◌, ◌++◌, IfOk, OnOk, codes, map};
+ghost use Rattle.std.specs.Prelude.{◌≡◌, ◌++◌, OnOk, codes, map};
 ghost use Rattle.mlk_cert.specs.Lists.{flat};
 ghost use Rattle.mlk_cert.specs.Texts.{line};
 ghost use Rattle.mlk_routine.specs.Views.{routine_of};
 ghost use Rattle.mlk_jobs.specs.JobViews.{job_of};
-ghost use Rattle.mlk_system.specs.Systems.{jobs_in, routines_in};
-ghost use Rattle.mlk_states.specs.Printed.{clash_lines, job_line, pair_line, ring_text, system_text, waits_lines};
+ghost use Rattle.mlk_states.specs.Printed.{clash_lines, job_line, pair_line, ring_text, waits_lines};
 ghost use Rattle.mlk_states.specs.StateTexts.{state_text};
 ghost use Rattle.mlk_states.specs.Lines.{line_of_job};
 ghost use Rattle.mlk_states.specs.Spelling.{claim_text};
@@ -22,7 +21,6 @@ use mlk_clashes::{clashes, waits};
 use mlk_jobs::Job;
 use mlk_names::LockName;
 use mlk_program::Program;
-use mlk_system::System;
 use std::alloc::{AllocError, Global};
 
 // The names of a claim, and whether there is a timeout.
@@ -72,8 +70,8 @@ fn push_job(alloc: Global, text: &mut Text, program: &Program, job: &Job) -> Res
     Ok(())
 }
 
-// The lines of jobs.
-fn push_jobs<'a>(
+/// The lines of jobs.
+pub(crate) fn push_jobs<'a>(
     alloc: Global,
     text: &mut Text,
     program: &Program<'a>,
@@ -109,8 +107,12 @@ fn push_pairs(text: &mut Text, word: &[u8], pairs: &[(u32, u32)]) -> Result<(), 
     Ok(())
 }
 
-// The lines of jobs that clash.
-fn push_clashes<'a>(alloc: Global, text: &mut Text, jobs: &[Job<'a>]) -> Result<(), AllocError>
+/// The lines of jobs that clash.
+pub(crate) fn push_clashes<'a>(
+    alloc: Global,
+    text: &mut Text,
+    jobs: &[Job<'a>],
+) -> Result<(), AllocError>
     ensures { OnOk result (text.new ≡ text.old ++ clash_lines (map job_of jobs.now)) }
 {
     let pairs = clashes(alloc, jobs)?;
@@ -118,8 +120,12 @@ fn push_clashes<'a>(alloc: Global, text: &mut Text, jobs: &[Job<'a>]) -> Result<
     Ok(())
 }
 
-// The lines of jobs that wait.
-fn push_waits<'a>(alloc: Global, text: &mut Text, jobs: &[Job<'a>]) -> Result<(), AllocError>
+/// The lines of jobs that wait.
+pub(crate) fn push_waits<'a>(
+    alloc: Global,
+    text: &mut Text,
+    jobs: &[Job<'a>],
+) -> Result<(), AllocError>
     ensures { OnOk result (text.new ≡ text.old ++ waits_lines (map job_of jobs.now)) }
 {
     let pairs = waits(alloc, jobs)?;
@@ -127,8 +133,8 @@ fn push_waits<'a>(alloc: Global, text: &mut Text, jobs: &[Job<'a>]) -> Result<()
     Ok(())
 }
 
-// The line that says whether some of the jobs wait in a ring.
-fn push_ring(text: &mut Text, has_ring: bool) -> Result<(), AllocError>
+/// The line that says whether some of the jobs wait in a ring.
+pub(crate) fn push_ring(text: &mut Text, has_ring: bool) -> Result<(), AllocError>
     ensures { OnOk result (text.new ≡ text.old ++ line (codes "ring ") (ring_text has_ring)) }
 {
     if has_ring {
@@ -137,19 +143,4 @@ fn push_ring(text: &mut Text, has_ring: bool) -> Result<(), AllocError>
         text.push(b"ring no\n")?;
     }
     Ok(())
-}
-
-/// What is shown of a system: a line for each job, in the order in which they began, with what it does next and what it
-/// holds; a line for each two that clash, and for each that waits for another; and whether some wait in a ring.
-#[tactic(auto, using(crate::proofs::PrintedLemmas::system_written))]
-pub fn system_text(alloc: Global, system: &System) -> Result<Text, AllocError>
-    ensures { IfOk result (λ text. text ≡ system_text (routines_in system.now) (jobs_in system.now)) }
-{
-    let jobs = system.jobs();
-    let mut text = Text::new(alloc);
-    push_jobs(alloc, &mut text, system.program(), jobs)?;
-    push_clashes(alloc, &mut text, jobs)?;
-    push_waits(alloc, &mut text, jobs)?;
-    push_ring(&mut text, system.has_ring()?)?;
-    Ok(text)
 }
