@@ -1,5 +1,5 @@
 -- A system's text, put together.
-use Rattle.std.proofs.Common.{◌≡◌, ◌++◌, ℕ, Bool, List, [], ◌∷◌, map, refl, ap}
+use Rattle.std.proofs.Common.{◌≡◌, ◌∙◌, ◌++◌, ◌+◌, ◌<◌, ℕ, suc, Bool, List, [], ◌∷◌, length, get_or, drop, map, refl, sym, ap, add-one, drop-cons, append_assoc}
 use Rattle.std.specs.Prelude.{codes}
 use Rattle.mlk_cert.specs.Lists.{flat}
 use Rattle.mlk_cert.specs.Texts.{line}
@@ -16,6 +16,20 @@ lines_of_jobs : (p : List Routine) (js : List JobIn)
     → flat (line_of_job p) js ≡ flat (job_line (map routine_of p)) (map job_of js)
 lines_of_jobs p [] = refl
 lines_of_jobs p (j ∷ js) = ap (λ t. line_of_job p j ++ t) (lines_of_jobs p js)
+
+-- the line of one more job
+next_here : (js : List JobIn) (i : ℕ) (j : JobIn) → i < length js → j ≡ get_or js i j → drop i js ≡ j ∷ drop (i + 1) js
+next_here js i j h e = rw (add-one, drop-cons js i j h) (ap (λ y. y ∷ drop (suc i) js) (sym e))
+
+pub line_on : (p : List Routine) (js : List JobIn) (i : ℕ) (j : JobIn) (old new whole : List ℕ) → i < length js
+    → j ≡ get_or js i j → new ≡ old ++ line_of_job p j → old ++ flat (line_of_job p) (drop i js) ≡ whole
+    → new ++ flat (line_of_job p) (drop (i + 1) js) ≡ whole
+line_on p js i j old new whole l e n h =
+    let rest : List ℕ = flat (line_of_job p) (drop (i + 1) js) in
+    ap (λ (t : List ℕ). t ++ rest) n
+    ∙ append_assoc old (line_of_job p j) rest
+    ∙ ap (λ (is : List JobIn). old ++ flat (line_of_job p) is) (sym (next_here js i j l e))
+    ∙ h
 
 pub system_written : (p : List Routine) (js : List JobIn) (ring : Bool) (jobs clashing waiting all : List ℕ)
     → jobs ≡ flat (line_of_job p) js → clashing ≡ jobs ++ clash_lines (map job_of js)
