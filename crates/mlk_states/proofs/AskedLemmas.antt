@@ -1,6 +1,6 @@
 -- What a step without a choice shows of a job.
-use Rattle.std.proofs.Common.{◌≡◌, ◌∙◌, ◌++◌, ℕ, suc, Bool, true, false, List, [], ◌∷◌, drop, Option, Some, None, Ok, Err, refl, ap, inl, inr}
-use Rattle.std.specs.Prelude.{is_some, if◌then◌else◌}
+use Rattle.std.proofs.Common.{◌≡◌, ◌∙◌, ◌++◌, ℕ, suc, Bool, true, false, List, [], ◌∷◌, drop, Option, Some, None, Ok, refl, ap, inl, inr}
+use Rattle.std.specs.Prelude.{is_some}
 use Rattle.std.proofs.lemmas.Bool.{cases_Bool}
 use Rattle.mlk_text.specs.declared.operator.Op.{Op}
 use Rattle.mlk_text.specs.declared.operator.UnaryOp.{UnaryOp}
@@ -20,9 +20,9 @@ use Rattle.mlk_jobs.specs.Choices.{doing, pushed, stored, last_values}
 use Rattle.mlk_jobs.specs.Commands.{action_parts}
 use Rattle.mlk_jobs.specs.Assigning.{assignments, count_parts}
 use Rattle.mlk_jobs.specs.Locking.{tested}
-use Rattle.mlk_jobs.specs.Lines.{selected, tasks_if, chosen as part_chosen, next_line}
+use Rattle.mlk_jobs.specs.Lines.{tasks_if, chosen as part_chosen, next_line}
 use Rattle.mlk_jobs.specs.Calling.{frame_of, called, called_if, entered, lines_after, back_to, frame_end}
-use Rattle.mlk_jobs.specs.Seen.{State, Silent, Stuck, AsksChoice, asks, state_in}
+use Rattle.mlk_jobs.specs.Seen.{State, Silent, asks, state_in}
 use Rattle.mlk_states.specs.Asked.{if_enabled, if_known, by_value, by_last, by_unary, by_binary, by_last_truth, by_target, by_lines, by_frame, has_choices}
 
 fetched_asks : (j : Job) (ts : List Task) (o : Option (List ℕ)) → asks (fetched j ts o) ≡ by_value o

@@ -1,5 +1,5 @@
 -- Whether an entry has a line, and what a call or the next line shows.
-use Rattle.std.proofs.Common.{◌≡◌, ◌∙◌, ◌<◌, ◌≤◌, ℕ, zero, suc, Bool, true, false, List, [], ◌∷◌, length, drop, map, Option, Some, None, refl, sym, ap, arith, inl, inr, lt_irrefl}
+use Rattle.std.proofs.Common.{◌≡◌, ◌∙◌, ◌<◌, ◌≤◌, ℕ, zero, suc, true, false, List, [], ◌∷◌, length, drop, map, Some, None, refl, sym, ap, arith, inl, inr, lt_irrefl}
 use Rattle.std.proofs.lemmas.Bool.{cases_Bool, ltb-false, ltb-true}
 use Rattle.std.specs.Prelude.{nat_lt, slice_get}
 use Rattle.mlk_locks.specs.Lists.{is_some_there}

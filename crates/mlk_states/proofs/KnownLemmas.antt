@@ -1,6 +1,6 @@
 -- Which operators have a known result.
-use Rattle.std.proofs.Common.{◌≡◌, ◌∙◌, ℕ, ℤ, zero, suc, pos, negsuc, Bool, true, false, List, [], ◌∷◌, ◌++◌, Option, Some, None, refl, sym, ap, subst, inl, inr, arith}
-use Rattle.std.specs.Prelude.{◌+◌, ◌<◌, ◌^◌, ◌&&◌, neg_ℤ, unsigned_abs, nat_le, length, is_some, bytes_eq, codes, if◌then◌else◌}
+use Rattle.std.proofs.Common.{◌≡◌, ◌∙◌, ℕ, ℤ, zero, suc, pos, negsuc, true, false, List, ◌++◌, Option, Some, None, refl, sym, ap, subst, inl, inr, arith}
+use Rattle.std.specs.Prelude.{◌+◌, ◌<◌, ◌^◌, neg_ℤ, unsigned_abs, nat_le, length, is_some, if◌then◌else◌}
 use Rattle.std.specs.Fmt.{signed_decimal}
 use Rattle.std.proofs.lemmas.Bool.{cases_Bool, lt-leb}
 use Rattle.std.proofs.lemmas.List.{length-append}
@@ -10,7 +10,7 @@ use Rattle.mlk_text.specs.declared.operator.Op.{Op}
 use Rattle.mlk_text.specs.declared.operator.Op.TheVariants.{Concatenate}
 use Rattle.mlk_text.specs.declared.operator.UnaryOp.TheVariants.{Plus, Minus, Not}
 use Rattle.mlk_text.proofs.Folds.{folded-short}
-use Rattle.mlk_jobs.specs.Values.{if_joined, opposite, fold_before, fold_between}
+use Rattle.mlk_jobs.specs.Values.{if_joined, fold_before, fold_between}
 use Rattle.mlk_jobs.specs.Choices.{is_one, is_zero}
 use Rattle.mlk_jobs.proofs.FoldLemmas.{folds_agree}
 
