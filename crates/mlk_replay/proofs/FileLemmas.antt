@@ -1,5 +1,5 @@
 -- Files of events, line by line.
-use Rattle.std.proofs.Common.{◌≡◌, ◌≢◌, ◌∙◌, ◌×◌, ◌+◌, ◌<◌, ℕ, suc, List, [], ◌∷◌, ◌++◌, length, map, Option, Some, None, refl, sym, ap, subst, arith, append_assoc, append-nil, length-append}
+use Rattle.std.proofs.Common.{◌≡◌, ◌≢◌, ◌∙◌, ◌+◌, ◌<◌, ℕ, suc, List, [], ◌∷◌, ◌++◌, length, map, Option, Some, None, refl, sym, ap, subst, arith, append_assoc, append-nil, length-append}
 use Rattle.std.specs.Prelude.{min, option_map}
 use Rattle.mlk_text.specs.declared.failure.Failure.{Failure}
 use Rattle.mlk_text.specs.declared.failure.Failure.TheVariants.{OutOfMemory, Refused}
@@ -21,10 +21,16 @@ record Read (routines : List RoutineTree) (xs ys : List ℕ) (a : Asked) : Type 
   line : line_at xs ≡ Some (order, ys)
   asks : asked routines order ≡ Some a
 
+abbrev found_or : Asked × List ℕ → Option (Asked × List ℕ) → Asked × List ℕ
+found_or none None = none
+found_or none (Some r) = r
+
 asks_by : (routines : List RoutineTree) (o : Option Asked) (a : Asked) (ys zs : List ℕ)
-    → option_map (λ b. (b, zs)) o ≡ Some (a, ys) → (o ≡ Some a) × (zs ≡ ys)
+    → option_map {U = Asked × List ℕ} (λ b. (b, zs)) o ≡ Some (a, ys) → (o ≡ Some a) × (zs ≡ ys)
 asks_by routines None a ys zs h = absurd (cc h)
-asks_by routines (Some b) a ys zs h = (cc h, cc h)
+asks_by routines (Some b) a ys zs h =
+    let e : ◌≡◌ {A = Asked × List ℕ} (b, zs) (a, ys) = ap (found_or (b, zs)) h in
+    (ap (λ (r : Asked × List ℕ). Some r.0) e, ap (λ (r : Asked × List ℕ). r.1) e)
 
 read_by : (routines : List RoutineTree) (r : Option (Order × List ℕ)) (xs ys : List ℕ) (a : Asked) → line_at xs ≡ r
     → asked_by routines r ≡ Some (a, ys) → Read routines xs ys a
@@ -42,12 +48,12 @@ was_read routines xs ys a h = read_by routines (line_at xs) xs ys a refl h
 pub asks : (routines : List RoutineTree) (xs rest : List ℕ) (o : Order) (a : Asked) → line_at xs ≡ Some (o, rest)
     → Some a ≡ asked routines o → asked_at routines xs ≡ Some (a, rest)
 unfolding asked_at
-asks routines xs rest o a h e = ap (asked_by routines) h ∙ ap (option_map (λ b. (b, rest))) (sym e)
+asks routines xs rest o a h e = ap (asked_by routines) h ∙ ap (option_map {U = Asked × List ℕ} (λ b. (b, rest))) (sym e)
 
 pub asks_nothing : (routines : List RoutineTree) (xs rest : List ℕ) (o : Order) → line_at xs ≡ Some (o, rest)
     → None ≡ asked routines o → asked_at routines xs ≡ None
 unfolding asked_at
-asks_nothing routines xs rest o h e = ap (asked_by routines) h ∙ ap (option_map (λ b. (b, rest))) (sym e)
+asks_nothing routines xs rest o h e = ap (asked_by routines) h ∙ ap (option_map {U = Asked × List ℕ} (λ b. (b, rest))) (sym e)
 
 pub no_line : (routines : List RoutineTree) (xs : List ℕ) (e : Failure NotThere) → FailsOn e (line_at xs)
     → FailsOn e (asked_at routines xs)
@@ -112,7 +118,7 @@ found_there : (routines : List RoutineTree) (o : Order) (a : Asked) (rest later 
 unfolding asked_at
 found_there routines o a rest later is e =
     ap (asked_by routines) (ap line_at e ∙ line-format.complete o later is.0 tt)
-    ∙ ap (λ p. option_map (λ b. (b, later)) p) is.1
+    ∙ ap (λ p. option_map {U = Asked × List ℕ} (λ b. (b, later)) p) is.1
 
 pub no_event : (routines : List RoutineTree) (bytes rest : List ℕ) (asks : List Asked) (line : ℕ)
     → SoFar routines bytes rest asks line → rest ≢ [] → asked_at routines rest ≡ None → IsFirstOther routines bytes line

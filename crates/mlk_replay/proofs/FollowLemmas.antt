@@ -1,5 +1,5 @@
 -- Lines of a file of events, one after another.
-use Rattle.std.proofs.Common.{◌≡◌, ◌∙◌, ◌×◌, ◌+◌, ℕ, suc, List, [], ◌∷◌, map, Result, Ok, Err, refl, sym, ap, subst, arith}
+use Rattle.std.proofs.Common.{◌≡◌, ◌∙◌, ◌+◌, ℕ, suc, List, [], ◌∷◌, length, map, Result, Ok, Err, refl, sym, ap, subst, arith}
 use Rattle.std.specs.Prelude.{min}
 use Rattle.mlk_text.specs.declared.failure.Failure.{Failure}
 use Rattle.mlk_text.specs.declared.failure.Failure.TheVariants.{OutOfMemory, Refused}
@@ -18,6 +18,8 @@ use Rattle.mlk_system.specs.Systems.{jobs_in, routines_in, machine_of, machine_i
 use Rattle.mlk_replay.specs.declared.fault.EventsFault.{EventsFault}
 use Rattle.mlk_replay.specs.declared.fault.EventsRefusal.{EventsRefusal}
 use Rattle.mlk_replay.specs.declared.fault.EventsRefusal.TheVariants as refusal
+use Rattle.mlk_replay.specs.declared.instruction.Instruction.{Instruction}
+use Rattle.mlk_replay.specs.InstructionViews.{asked_of}
 use Rattle.mlk_replay.specs.Files.{Asked, GoesOn, Says, IsFirstOther, made, then_next, in_turn, StopsSo, FollowedSo, IsRefusedAt, IsStopped, ReplayedFile}
 
 -- What is left says what the whole says, where the first of it has this number.
@@ -59,18 +61,20 @@ pub half_stopped : (first now : Running) (all left later : List Asked) (a : Aske
     → StopsSo (in_turn (machine_of first) (routines_in first) 1 all (jobs_in first)) line (refusal.Refused why)
 half_stopped first now all left later a line why h l o = (
   h.at,
-  (
-    sym h.later ∙ ap (λ asks. in_turn (machine_of first) (routines_in first) h.at asks (jobs_in now)) l
-        ∙ ap (then_next (in_turn (machine_of first) (routines_in first) (suc h.at) later) h.at)
-        (made_same first now a (jobs_in now) (Err why) h.same o),
-    h.number,
-  ),
+  sym h.later ∙ ap (λ asks. in_turn (machine_of first) (routines_in first) h.at asks (jobs_in now)) l
+      ∙ ap (then_next (in_turn (machine_of first) (routines_in first) (suc h.at) later) h.at)
+      (made_same first now a (jobs_in now) (Err why) h.same o),
+  h.number,
 )
 
 pub half_all : (first now : Running) (all left : List Asked) (line : ℕ) → Half first now all left line → left ≡ []
     → in_turn (machine_of first) (routines_in first) 1 all (jobs_in first) ≡ Ok (jobs_in now)
 half_all first now all left line h l =
     sym h.later ∙ ap (λ asks. in_turn (machine_of first) (routines_in first) h.at asks (jobs_in now)) l
+
+pub none_left : (lines : List Instruction) → length lines ≡ 0 → map asked_of lines ≡ []
+none_left [] h = refl
+none_left (x ∷ lines) h = absurd (omega (arith, h))
 
 -- a job that goes on by itself
 pub goes_on : (m : Machine Job Choice EntryId) (routines : List RoutineTree) (k count : ℕ) (old new : List Job)
@@ -101,10 +105,7 @@ module _ (program : List Routine) (entries : List EntryId) (bytes : List ℕ) wh
   all_followed asks s t e same says h =
       let p = ap (λ (r : Running). r.program) e in
       let q = ap (λ (r : Running). r.entries) e in
-      let j = ap jobs_in e in (
-        same.program ∙ p,
-        (same.entries ∙ q, (asks, (says, begun_so s e h))),
-      )
+      (same.program ∙ p, same.entries ∙ q, (asks, says, begun_so s e h))
     where
       begun_so : (r : Running) → r ≡ record { program = program; entries = entries; jobs = [] }
           → in_turn (machine_of r) (routines_in r) 1 asks (jobs_in r) ≡ Ok (jobs_in t)
@@ -129,4 +130,4 @@ module _ (program : List Routine) (entries : List EntryId) (bytes : List ℕ) wh
           → StopsSo (in_turn (machine_in program entries) (map routine_of program) 1 asks []) line why
           → IsStopped program entries bytes line why
       stopped_by refusal.Form line h = absurd h
-      stopped_by (refusal.Refused r) line h = (asks, (says, h))
+      stopped_by (refusal.Refused r) line h = (asks, says, h)

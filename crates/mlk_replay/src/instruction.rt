@@ -43,7 +43,7 @@ fn beginning(program: &Program, order: Beginning) -> Option<Instruction>
 }
 
 /// What a line asks for, where the program has the entry at which a job is to begin.
-pub(crate) fn instruction(program: &Program, order: Order) -> Option<Instruction>
+pub(crate) fn instruction_of(program: &Program, order: Order) -> Option<Instruction>
     ensures { option_map asked_of result ≡ asked (map routine_of program.now) order }
 {
     match order {

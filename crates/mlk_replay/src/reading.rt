@@ -7,7 +7,7 @@ ghost use Rattle.mlk_replay.specs.Files.{Says, IsRefusedAt};
 ghost use Rattle.mlk_replay.specs.InstructionViews.{asked_of, asked_at};
 
 use crate::fault::{EventsFault, EventsRefusal};
-use crate::instruction::{Instruction, instruction};
+use crate::instruction::{Instruction, instruction_of};
 use mlk_events::read_line;
 use mlk_program::Program;
 use mlk_text::{Failure, LineNumber, NotThere};
@@ -23,7 +23,7 @@ fn line<'b>(
     ensures { Reads (λ x. (asked_of x.0, x.1.now)) result (asked_at (map routine_of program.now) bytes.now) }
 {
     let (order, rest) = read_line(alloc, bytes)?;
-    let Some(asked) = instruction(program, order) else {
+    let Some(asked) = instruction_of(program, order) else {
         return Err(Failure::Refused(NotThere));
     };
     Ok((asked, rest))
