@@ -1,5 +1,5 @@
 -- What is refused on the way from texts to a report.
-use Rattle.std.proofs.Common.{◌≡◌, ℕ, ◌<◌, ◌≤◌, ◌+◌, ◌++◌, List, [], ◌∷◌, Result, Ok, Err, Option, None, length, take, drop, slice_index_or, sym, ap, ◌∙◌, subst, inl, take-append-drop, append-nil}
+use Rattle.std.proofs.Common.{◌≡◌, ℕ, ◌<◌, ◌≤◌, ◌+◌, ◌++◌, List, [], ◌∷◌, Result, Ok, Err, Option, Some, None, length, take, drop, slice_index_or, sym, ap, ◌∙◌, subst, inl, take-append-drop, append-nil}
 use Rattle.std.specs.Prelude.{IfOk, IfErr, find}
 use Rattle.std.proofs.lemmas.List.{drop_all, drop_more, take_more}
 use Rattle.mlk_text.specs.declared.failure.Failure.{Failure}
@@ -21,7 +21,12 @@ use Rattle.mlk_command.specs.declared.source.Source.{Source}
 use Rattle.mlk_command.specs.declared.source.Work.{Work}
 use Rattle.mlk_command.specs.declared.checked.Refusal.{Refusal}
 use Rattle.mlk_command.specs.declared.checked.Refusal.TheVariants as refusal
-use Rattle.mlk_command.specs.Checked.{IsRead, AreRead, IsFirst, IsTooLong, IsStuck, IsUnmade, IsRefusalBy, IsRefusalWith, IsRefusalUnder, IsRefusalOf, refusal_of_routine, refusal_of_rules, refusal_of_certificate, RefusesFirst}
+use Rattle.mlk_routine.specs.declared.routine.Routine.{Routine}
+use Rattle.mlk_program.specs.declared.entry.EntryId.{EntryId}
+use Rattle.mlk_replay.specs.declared.fault.EventsFault.{EventsFault}
+use Rattle.mlk_replay.specs.Files.{ReplayedFile}
+use Rattle.mlk_command.specs.Replayed.{IsUndeclared, IsStopped}
+use Rattle.mlk_command.specs.Checked.{IsRead, AreRead, IsFirst, IsTooLong, IsStuck, IsUnmade, IsRefusalBy, IsRefusalWith, IsRefusalUnder, IsRefusalOf, refusal_of_routine, refusal_of_rules, refusal_of_certificate, refusal_of_events, RefusesFirst, TellsEntry}
 
 -- one routine more is read
 read-one-more : (sources : List Source) (trees : List RoutineTree) (source : Source) (tree : RoutineTree) → AreRead sources trees → IsRead source tree → AreRead (sources ++ source ∷ []) (trees ++ tree ∷ [])
@@ -95,6 +100,23 @@ below trees rules blocks text (refusal.Certificate fault) spelled refused = absu
 below trees rules blocks text (refusal.Entry entry) spelled refused = (blocks, spelled, refused)
 below trees rules blocks text refusal.Disagreement spelled refused = (blocks, spelled, refused.0, refused.1)
 below trees rules blocks text (refusal.GaveUp entry fault) spelled refused = refused
+below trees rules blocks text (refusal.Events fault) spelled refused = refused
+
+-- Why events are not replayed.
+pub undeclared : (trees : List RoutineTree) (texts : List (List ℕ)) (text : List ℕ) (r : Refusal) → find (is_missing trees) texts ≡ Some text → TellsEntry text r → IsUndeclared trees texts r
+undeclared trees texts text refusal.OutOfMemory first told = record {}
+undeclared trees texts text (refusal.Routine fault) first told = told
+undeclared trees texts text (refusal.Rules fault) first told = told
+undeclared trees texts text (refusal.Certificate fault) first told = told
+undeclared trees texts text (refusal.Entry entry) first told = first ∙ ap Some (sym told)
+undeclared trees texts text refusal.Disagreement first told = told
+undeclared trees texts text (refusal.GaveUp entry fault) first told = told
+undeclared trees texts text (refusal.Events fault) first told = told
+
+pub by-events : (routines : List Routine) (entries : List EntryId) (events : List ℕ) (e : Failure EventsFault) → ReplayedFile routines entries events (Err e)
+    → IsStopped routines entries events (refusal_of_events e)
+by-events routines entries events failure.OutOfMemory stopped = record {}
+by-events routines entries events (failure.Refused fault) stopped = stopped
 
 -- What is told where no certificate is made.
 pub unmade-too-long : (trees : List RoutineTree) (rules : RuleLists) (blocks : List EntryCert) (r : Refusal) → IsTooLong blocks r → IsUnmade trees rules r
@@ -105,6 +127,7 @@ unmade-too-long trees rules blocks (refusal.Certificate fault) told = told
 unmade-too-long trees rules blocks (refusal.Entry entry) told = absurd told
 unmade-too-long trees rules blocks refusal.Disagreement told = told
 unmade-too-long trees rules blocks (refusal.GaveUp entry fault) told = absurd told
+unmade-too-long trees rules blocks (refusal.Events fault) told = told
 
 pub unmade-stuck : (trees : List RoutineTree) (rules : RuleLists) (r : Refusal) → find (is_missing trees) rules.entries ≡ None → IsStuck trees r → IsUnmade trees rules r
 unmade-stuck trees rules refusal.OutOfMemory none told = record {}
@@ -114,3 +137,4 @@ unmade-stuck trees rules (refusal.Certificate fault) none told = absurd told
 unmade-stuck trees rules (refusal.Entry entry) none told = absurd told
 unmade-stuck trees rules refusal.Disagreement none told = told
 unmade-stuck trees rules (refusal.GaveUp entry fault) none told = none
+unmade-stuck trees rules (refusal.Events fault) none told = told

@@ -13,7 +13,7 @@ use Rattle.mlk_command.specs.declared.program.Answer.TheVariants as answer
 use Rattle.mlk_command.specs.Files.{Texts, AreTexts}
 use Rattle.mlk_command.specs.CommandLine.{IsRequest}
 use Rattle.mlk_command.specs.Checked.{IsChecked, IsRefusedBy}
-use Rattle.mlk_command.specs.Ran.{trees_of, PrintsReport, IsPrinted, Prints, TellsRefusal, Answers, AnswersWords}
+use Rattle.mlk_command.specs.Ran.{trees_of, PrintsReport, PrintsText, IsPrinted, Prints, TellsRefusal, Answers, AnswersWords}
 
 -- what is printed of an outcome
 pub prints-report : (checked : Checked) (rows : List Row) (a : Answer) → checked.outcome ≡ outcome.Report rows → PrintsReport (trees_of checked) rows a → Prints checked a
@@ -22,6 +22,13 @@ prints-report checked rows (answer.Refused line) is printed = printed
 prints-report checked rows (answer.Unread line) is printed = printed
 prints-report checked rows (answer.Usage text) is printed = printed
 prints-report checked rows answer.OutOfMemory is printed = record {}
+
+pub prints-text : (checked : Checked) (shown : List ℕ) (a : Answer) → checked.outcome ≡ outcome.Replayed shown → PrintsText shown a → Prints checked a
+prints-text checked shown (answer.Report text status) is printed = subst (λ o. IsPrinted (trees_of checked) o text status) (sym is) printed
+prints-text checked shown (answer.Refused line) is printed = printed
+prints-text checked shown (answer.Unread line) is printed = printed
+prints-text checked shown (answer.Usage text) is printed = printed
+prints-text checked shown answer.OutOfMemory is printed = record {}
 
 pub outcome-answers : (holds : Texts) (lacks : List ℕ → Type 0) (request : Request) (sources : Sources) (checked : Checked) (a : Answer) → AreTexts holds request sources → IsChecked sources (trees_of checked) checked.outcome → Prints checked a
     → Answers holds lacks request a

@@ -8,7 +8,7 @@ use Rattle.mlk_command.specs.declared.source.Work.{Work}
 use Rattle.mlk_command.specs.declared.source.Work.TheVariants as work
 use Rattle.mlk_command.specs.declared.words.Asked.{Asked}
 use Rattle.mlk_command.specs.declared.words.Asked.TheVariants as asked
-use Rattle.mlk_command.specs.Files.{Texts, IsSource, AreSources, AreHeld, IsWork, Loses, LosesFirst, bytes_of, certificate_path}
+use Rattle.mlk_command.specs.Files.{Texts, IsSource, AreSources, AreHeld, IsWork, Loses, LosesFirst, bytes_of, work_path}
 
 -- what stands before a path, the path, and what stands after it
 cut-at : (paths : List (Bor (List ℕ))) (i : ℕ) (d : Bor (List ℕ)) → i < length paths → bytes_of paths ≡ bytes_of (take i paths) ++ (slice_index_or paths i d).now ∷ bytes_of (drop (i + 1) paths)
@@ -77,11 +77,16 @@ loses-within holds lacks paths more (error.Unread path) lost = record {
   lost = lost.lost;
 }
 
--- what is lost after the certificate's text was had
+-- what is lost after the text of the certificate, or of the events, was had
 pub loses-past : (holds : Texts) (lacks : List ℕ → Type 0) (a : Asked) (w : Work) (paths : List (List ℕ)) (e : FileError) → IsWork holds a w → LosesFirst holds lacks paths e
-    → LosesFirst holds lacks (certificate_path a ++ paths) e
+    → LosesFirst holds lacks (work_path a ++ paths) e
 loses-past holds lacks (asked.Check path) (work.Check text) paths e held lost = loses-after holds lacks path.now text.items paths e held lost
 loses-past holds lacks (asked.Check path) work.Make paths e held lost = absurd held
 loses-past holds lacks (asked.Check path) work.Verify paths e held lost = absurd held
+loses-past holds lacks (asked.Check path) (work.Replay text) paths e held lost = absurd held
 loses-past holds lacks asked.Make w paths e held lost = lost
 loses-past holds lacks asked.Verify w paths e held lost = lost
+loses-past holds lacks (asked.Replay path) (work.Check text) paths e held lost = absurd held
+loses-past holds lacks (asked.Replay path) work.Make paths e held lost = absurd held
+loses-past holds lacks (asked.Replay path) work.Verify paths e held lost = absurd held
+loses-past holds lacks (asked.Replay path) (work.Replay text) paths e held lost = loses-after holds lacks path.now text.items paths e held lost

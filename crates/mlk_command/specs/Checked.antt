@@ -19,6 +19,8 @@ use Rattle.mlk_make.specs.Missing.{is_missing}
 use Rattle.mlk_verdicts.specs.declared.report.Row.{Row}
 use Rattle.mlk_verdicts.specs.Reports.{report, missing}
 use Rattle.mlk_straight.specs.Kept.{IsKept, HasFaults}
+use Rattle.mlk_replay.specs.declared.fault.EventsFault.{EventsFault}
+use Rattle.mlk_command.specs.Replayed.{IsReplayed, IsUnreplayed}
 use Rattle.mlk_command.specs.declared.source.Source.{Source}
 use Rattle.mlk_command.specs.declared.source.Sources.{Sources}
 use Rattle.mlk_command.specs.declared.source.Work.{Work}
@@ -58,14 +60,20 @@ abbrev pub IsMade : List RoutineTree → RuleLists → List ℕ → Type 0
 IsMade trees rules text = (find (is_missing trees) rules.entries ≡ None) × (blocks : List EntryCert) × Spells blocks text
 
 -- What the texts of rules and of routines come to: the report by the certificate that is given, or by one that is made, or
--- the text of one that is made.
+-- the text of one that is made, or what is shown of jobs after events.
 abbrev pub IsOutcomeWith : List RoutineTree → RuleLists → Work → Outcome → Type 0
 IsOutcomeWith trees rules (work.Check text) (outcome.Report rows) = IsReportWith trees rules text.items rows
 IsOutcomeWith trees rules (work.Check text) (outcome.Made made) = ⊥
+IsOutcomeWith trees rules (work.Check text) (outcome.Replayed shown) = ⊥
 IsOutcomeWith trees rules work.Make (outcome.Report rows) = ⊥
 IsOutcomeWith trees rules work.Make (outcome.Made made) = IsMade trees rules made.items
+IsOutcomeWith trees rules work.Make (outcome.Replayed shown) = ⊥
 IsOutcomeWith trees rules work.Verify (outcome.Report rows) = (text : List ℕ) × IsMade trees rules text × IsReportWith trees rules text rows
 IsOutcomeWith trees rules work.Verify (outcome.Made made) = ⊥
+IsOutcomeWith trees rules work.Verify (outcome.Replayed shown) = ⊥
+IsOutcomeWith trees rules (work.Replay events) (outcome.Report rows) = ⊥
+IsOutcomeWith trees rules (work.Replay events) (outcome.Made made) = ⊥
+IsOutcomeWith trees rules (work.Replay events) (outcome.Replayed shown) = IsReplayed trees rules events.items shown
 
 abbrev pub IsOutcomeUnder : List RoutineTree → List ℕ → Work → Outcome → Type 0
 IsOutcomeUnder trees rules_text w o = (rules : RuleLists) × SaysRules rules_text rules × IsOutcomeWith trees rules w o
@@ -100,6 +108,7 @@ RefusedRules rules_text (refusal.Certificate fault) = ⊥
 RefusedRules rules_text (refusal.Entry entry) = ⊥
 RefusedRules rules_text refusal.Disagreement = ⊥
 RefusedRules rules_text (refusal.GaveUp entry fault) = ⊥
+RefusedRules rules_text (refusal.Events fault) = ⊥
 
 abbrev pub RefusedLink : List RoutineTree → Refusal → Type 0
 RefusedLink trees refusal.OutOfMemory = Unit {0}
@@ -109,6 +118,7 @@ RefusedLink trees (refusal.Certificate fault) = ⊥
 RefusedLink trees (refusal.Entry entry) = ⊥
 RefusedLink trees refusal.Disagreement = ⊥
 RefusedLink trees (refusal.GaveUp entry fault) = ⊥
+RefusedLink trees (refusal.Events fault) = ⊥
 
 -- Why a program has no report: an entry that it lacks, or that the walk of straight lines finds faults where the walk of
 -- all of M finds none; no such texts are known. Want of memory says nothing.
@@ -120,6 +130,7 @@ IsRefusalBy trees rules blocks text (refusal.Certificate fault) = ⊥
 IsRefusalBy trees rules blocks text (refusal.Entry entry) = missing trees rules blocks ≡ Some entry
 IsRefusalBy trees rules blocks text refusal.Disagreement = (report trees rules blocks ≡ []) × HasFaults trees rules text
 IsRefusalBy trees rules blocks text (refusal.GaveUp entry fault) = ⊥
+IsRefusalBy trees rules blocks text (refusal.Events fault) = ⊥
 
 -- It is told of the certificate's text first,
 abbrev pub IsRefusalWith : List RoutineTree → RuleLists → List ℕ → Refusal → Type 0
@@ -132,6 +143,7 @@ IsRefusalWith trees rules text (refusal.Entry entry) =
 IsRefusalWith trees rules text refusal.Disagreement = (blocks : List EntryCert) × Spells blocks text
     × (report trees rules blocks ≡ []) × HasFaults trees rules text
 IsRefusalWith trees rules text (refusal.GaveUp entry fault) = ⊥
+IsRefusalWith trees rules text (refusal.Events fault) = ⊥
 
 -- Why no certificate is made: it has a text that is too long, the program lacks a declared entry, or the maker gave up.
 abbrev pub IsTooLong : List EntryCert → Refusal → Type 0
@@ -142,6 +154,7 @@ IsTooLong blocks (refusal.Certificate fault) = (fault.code ≡ CertLimit) × (fa
 IsTooLong blocks (refusal.Entry entry) = ⊥
 IsTooLong blocks refusal.Disagreement = ⊥
 IsTooLong blocks (refusal.GaveUp entry fault) = ⊥
+IsTooLong blocks (refusal.Events fault) = ⊥
 
 abbrev pub IsUnmade : List RoutineTree → RuleLists → Refusal → Type 0
 IsUnmade trees rules refusal.OutOfMemory = Unit {0}
@@ -151,13 +164,15 @@ IsUnmade trees rules (refusal.Certificate fault) = (fault.code ≡ CertLimit) ×
 IsUnmade trees rules (refusal.Entry entry) = find (is_missing trees) rules.entries ≡ Some entry
 IsUnmade trees rules refusal.Disagreement = ⊥
 IsUnmade trees rules (refusal.GaveUp entry fault) = find (is_missing trees) rules.entries ≡ None
+IsUnmade trees rules (refusal.Events fault) = ⊥
 
--- It is told of the certificate's text, or of its making, first,
+-- It is told of the certificate's text, or of its making, or of the events, first,
 abbrev pub IsRefusalOfWork : List RoutineTree → RuleLists → Work → Refusal → Type 0
 IsRefusalOfWork trees rules (work.Check text) r = IsRefusalWith trees rules text.items r
 IsRefusalOfWork trees rules work.Make r = IsUnmade trees rules r
 IsRefusalOfWork trees rules work.Verify r =
     IsUnmade trees rules r ⊎ ((text : List ℕ) × IsMade trees rules text × IsRefusalWith trees rules text r)
+IsRefusalOfWork trees rules (work.Replay events) r = IsUnreplayed trees rules events.items r
 
 -- of the rules' text before it,
 abbrev pub IsRefusalUnder : List RoutineTree → List ℕ → Work → Refusal → Type 0
@@ -177,6 +192,7 @@ IsFirst sources (refusal.Certificate fault) = ⊥
 IsFirst sources (refusal.Entry entry) = ⊥
 IsFirst sources refusal.Disagreement = ⊥
 IsFirst sources (refusal.GaveUp entry fault) = ⊥
+IsFirst sources (refusal.Events fault) = ⊥
 
 -- Why texts have no report: it is told of a routine that is not read, else of what all routines make.
 abbrev pub IsRefusedBy : Sources → Refusal → Type 0
@@ -196,6 +212,10 @@ abbrev pub refusal_of_certificate : Failure CertFault → Refusal
 refusal_of_certificate failure.OutOfMemory = refusal.OutOfMemory
 refusal_of_certificate (failure.Refused fault) = refusal.Certificate fault
 
+abbrev pub refusal_of_events : Failure EventsFault → Refusal
+refusal_of_events failure.OutOfMemory = refusal.OutOfMemory
+refusal_of_events (failure.Refused fault) = refusal.Events fault
+
 -- the same of the reading of routines
 abbrev pub RefusesFirst : List Source → Failure Fault → Type 0
 RefusesFirst sources failure.OutOfMemory = Unit {0}
@@ -210,6 +230,7 @@ TellsEntry text (refusal.Certificate fault) = ⊥
 TellsEntry text (refusal.Entry entry) = entry ≡ text
 TellsEntry text refusal.Disagreement = ⊥
 TellsEntry text (refusal.GaveUp entry fault) = ⊥
+TellsEntry text (refusal.Events fault) = ⊥
 
 abbrev pub IsDoubt : List RoutineTree → RuleLists → List ℕ → List Row → Refusal → Type 0
 IsDoubt trees rules text rows refusal.OutOfMemory = Unit {0}
@@ -219,6 +240,7 @@ IsDoubt trees rules text rows (refusal.Certificate fault) = ⊥
 IsDoubt trees rules text rows (refusal.Entry entry) = ⊥
 IsDoubt trees rules text rows refusal.Disagreement = (rows ≡ []) × HasFaults trees rules text
 IsDoubt trees rules text rows (refusal.GaveUp entry fault) = ⊥
+IsDoubt trees rules text rows (refusal.Events fault) = ⊥
 
 -- what is told where the maker gave up: nothing else
 abbrev pub IsStuck : List RoutineTree → Refusal → Type 0
@@ -229,3 +251,4 @@ IsStuck trees (refusal.Certificate fault) = ⊥
 IsStuck trees (refusal.Entry entry) = ⊥
 IsStuck trees refusal.Disagreement = ⊥
 IsStuck trees (refusal.GaveUp entry fault) = Unit {0}
+IsStuck trees (refusal.Events fault) = ⊥

@@ -32,15 +32,22 @@ make_app = with_rule (with_rule (new_app (codes "make")) (path_rule (codes "RULE
 abbrev pub verify_app : App
 verify_app = with_rule (with_rule (new_app (codes "verify")) (path_rule (codes "RULES"))) routines_rule
 
+-- `replay RULES EVENTS ROUTINE..`
+abbrev pub replay_app : App
+replay_app = with_rule (with_rule (with_rule (new_app (codes "replay")) (path_rule (codes "RULES"))) (path_rule (codes "EVENTS"))) routines_rule
+
 -- `mlock` and one of its commands
 abbrev pub mlock_app : App
-mlock_app = with_subcommand (with_subcommand (with_subcommand (on_top (λ s. record s { subcommand_required = true; has_version = true }) (new_app (codes "mlock"))) check_app.top) make_app.top) verify_app.top
+mlock_app =
+    let none = on_top (λ s. record s { subcommand_required = true; has_version = true }) (new_app (codes "mlock")) in
+    with_subcommand (with_subcommand (with_subcommand (with_subcommand none check_app.top) make_app.top) verify_app.top) replay_app.top
 
 -- what the command of a name is to do, by what it was given
 abbrev pub IsAsked : Text → List Row → Asked → Type 0
 IsAsked name rows (asked.Check path) = (name ≡ codes "check") × (first_of (codes "CERT") rows ≡ Some path.now)
 IsAsked name rows asked.Make = name ≡ codes "make"
 IsAsked name rows asked.Verify = name ≡ codes "verify"
+IsAsked name rows (asked.Replay path) = (name ≡ codes "replay") × (first_of (codes "EVENTS") rows ≡ Some path.now)
 
 abbrev pub GivesAsked : Text → List Row → Option Asked → Type 0
 GivesAsked name rows None = (a : Asked) → IsAsked name rows a → ⊥

@@ -42,13 +42,18 @@ AreSources holds [] (source ∷ sources) = ⊥
 AreSources holds (path ∷ paths) [] = ⊥
 AreSources holds (path ∷ paths) (source ∷ sources) = IsSource holds path.now source × AreSources holds paths sources
 
--- the text of the certificate, where one is named
+-- the text of the certificate, or of the events, where one is named
 abbrev pub IsWork : Texts → Asked → Work → Type 0
 IsWork holds (asked.Check path) (work.Check text) = holds path.now text.items
 IsWork holds (asked.Check path) work.Make = ⊥
 IsWork holds (asked.Check path) work.Verify = ⊥
+IsWork holds (asked.Check path) (work.Replay text) = ⊥
 IsWork holds asked.Make w = w ≡ work.Make
 IsWork holds asked.Verify w = w ≡ work.Verify
+IsWork holds (asked.Replay path) (work.Check text) = ⊥
+IsWork holds (asked.Replay path) work.Make = ⊥
+IsWork holds (asked.Replay path) work.Verify = ⊥
+IsWork holds (asked.Replay path) (work.Replay text) = holds path.now text.items
 
 -- the texts are those of the files that a command names
 pub record AreTexts (holds : Texts) (request : Request) (sources : Sources) : Type 0 where
@@ -59,14 +64,15 @@ pub record AreTexts (holds : Texts) (request : Request) (sources : Sources) : Ty
 abbrev pub bytes_of : List (Bor (List ℕ)) → List (List ℕ)
 bytes_of paths = map (λ path. path.now) paths
 
-abbrev pub certificate_path : Asked → List (List ℕ)
-certificate_path (asked.Check path) = path.now ∷ []
-certificate_path asked.Make = []
-certificate_path asked.Verify = []
+abbrev pub work_path : Asked → List (List ℕ)
+work_path (asked.Check path) = path.now ∷ []
+work_path asked.Make = []
+work_path asked.Verify = []
+work_path (asked.Replay path) = path.now ∷ []
 
 -- the paths that a command names, in the order of its words
 abbrev pub paths_of : Request → List (List ℕ)
-paths_of request = request.rules.now ∷ (certificate_path request.asked ++ bytes_of request.routines.items)
+paths_of request = request.rules.now ∷ (work_path request.asked ++ bytes_of request.routines.items)
 
 -- each of these paths has a text
 abbrev pub AreHeld : Texts → List (List ℕ) → Type 0

@@ -2,7 +2,7 @@
 use Rattle.std.specs.Prelude.{ℕ, List, [], ◌∷◌, ◌++◌, Option, Some, None, codes, length}
 use Rattle.std.specs.Fmt.{decimal}
 use Rattle.mlk_text.specs.declared.code.Code.{Code}
-use Rattle.mlk_text.specs.declared.code.Code.TheVariants.{EntryMissing, GaveUp}
+use Rattle.mlk_text.specs.declared.code.Code.TheVariants.{EntryMissing, GaveUp, EventForm, NotEnabled, BadChoice, UnknownJob}
 use Rattle.mlk_text.specs.declared.fault.Fault.{Fault}
 use Rattle.mlk_text.specs.declared.fault.LeftOut.{LeftOut}
 use Rattle.mlk_text.specs.Codes.{number_of, word_of}
@@ -13,6 +13,10 @@ use Rattle.mlk_program.specs.Entries.{text_of_entry}
 use Rattle.mlk_verdicts.specs.declared.report.Row.{Row}
 use Rattle.mlk_rules.specs.declared.read.fault.RulesFault.{RulesFault}
 use Rattle.mlk_cert.specs.declared.read.fault.CertFault.{CertFault}
+use Rattle.mlk_locks.specs.declared.refusal.Refusal.TheVariants as cant
+use Rattle.mlk_replay.specs.declared.fault.EventsFault.{EventsFault}
+use Rattle.mlk_replay.specs.declared.fault.EventsRefusal.{EventsRefusal}
+use Rattle.mlk_replay.specs.declared.fault.EventsRefusal.TheVariants as why
 use Rattle.mlk_rules.specs.RuleAnswers.{section_word}
 use Rattle.mlk_rows.specs.declared.walk.Fault.{Fault as WalkFault}
 
@@ -55,6 +59,17 @@ rules_line f = codes "refused rules " ++ section_word f.section ++ space ++ deci
 -- `refused cert LINE CODE NAME`
 abbrev pub certificate_line : CertFault → List ℕ
 certificate_line f = codes "refused cert " ++ decimal f.line ++ space ++ code_text f.code ++ line_end
+
+-- why events are not replayed
+abbrev pub events_code : EventsRefusal → Code
+events_code why.Form = EventForm
+events_code (why.Refused cant.NotEnabled) = NotEnabled
+events_code (why.Refused cant.BadChoice) = BadChoice
+events_code (why.Refused cant.UnknownJob) = UnknownJob
+
+-- `refused line LINE CODE NAME`
+abbrev pub events_line : EventsFault → List ℕ
+events_line f = codes "refused line " ++ decimal f.line ++ space ++ code_text (events_code f.why) ++ line_end
 
 -- what is told where the two walks of straight lines disagree
 abbrev pub disagreement_line : List ℕ

@@ -14,7 +14,7 @@ use Rattle.mlk_command.specs.declared.checked.Refusal.{Refusal}
 use Rattle.mlk_command.specs.declared.checked.Refusal.TheVariants as refusal
 use Rattle.mlk_command.specs.declared.program.Answer.{Answer}
 use Rattle.mlk_command.specs.declared.program.Answer.TheVariants as answer
-use Rattle.mlk_command.specs.Printed.{report_text, fault_line, rules_line, certificate_line, missing_line, disagreement_line, stuck_line, file_line}
+use Rattle.mlk_command.specs.Printed.{report_text, fault_line, rules_line, certificate_line, missing_line, disagreement_line, stuck_line, events_line, file_line}
 use Rattle.mlk_command.specs.Files.{Texts, AreTexts, IsFirstLost, paths_of}
 use Rattle.mlk_command.specs.CommandLine.{IsRequest, AsksNothing}
 use Rattle.mlk_command.specs.Checked.{IsChecked, IsRefusedBy}
@@ -33,6 +33,7 @@ IsRefusalLine (refusal.Certificate fault) line = line ≡ certificate_line fault
 IsRefusalLine (refusal.Entry entry) line = line ≡ missing_line entry
 IsRefusalLine refusal.Disagreement line = line ≡ disagreement_line
 IsRefusalLine (refusal.GaveUp entry fault) line = line ≡ stuck_line entry fault
+IsRefusalLine (refusal.Events fault) line = line ≡ events_line fault
 
 -- the trees of what was read
 abbrev pub trees_of : Checked → List RoutineTree
@@ -46,10 +47,19 @@ PrintsReport trees rows (answer.Unread line) = ⊥
 PrintsReport trees rows (answer.Usage text) = ⊥
 PrintsReport trees rows answer.OutOfMemory = Unit {0}
 
--- what is printed of an outcome, and the status: a certificate is printed as it is
+-- a text, where memory doesn't run out
+abbrev pub PrintsText : List ℕ → Answer → Type 0
+PrintsText shown (answer.Report text status) = (text ≡ shown) × (status ≡ 0)
+PrintsText shown (answer.Refused line) = ⊥
+PrintsText shown (answer.Unread line) = ⊥
+PrintsText shown (answer.Usage text) = ⊥
+PrintsText shown answer.OutOfMemory = Unit {0}
+
+-- what is printed of an outcome, and the status: a certificate is printed as it is, and so is what is shown of jobs
 abbrev pub IsPrinted : List RoutineTree → Outcome → List ℕ → ℕ → Type 0
 IsPrinted trees (outcome.Report rows) text status = (text ≡ report_text trees rows) × (status ≡ status_of rows)
 IsPrinted trees (outcome.Made made) text status = (text ≡ made.items) × (status ≡ 0)
+IsPrinted trees (outcome.Replayed shown) text status = (text ≡ shown) × (status ≡ 0)
 
 abbrev pub Prints : Checked → Answer → Type 0
 Prints checked (answer.Report text status) = IsPrinted (trees_of checked) checked.outcome text status

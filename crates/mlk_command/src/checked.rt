@@ -2,16 +2,18 @@
 
 ghost use Rattle.std.specs.Prelude.{◌≡◌, [], map, IfOk, IfErr};
 ghost use Rattle.mlk_routine.specs.Views.{routine_of};
-ghost use Rattle.mlk_command.specs.Checked.{refusal_of_routine, refusal_of_rules, refusal_of_certificate, AreRead, RefusesFirst, TellsEntry, IsDoubt, IsReportBy, IsReportWith, IsWritten, IsTooLong, IsStuck, IsMade, IsUnmade, IsOutcomeWith, IsOutcomeUnder, IsOutcomeOf, IsRefusalBy, IsRefusalWith, IsRefusalOfWork, IsRefusalUnder, IsRefusalOf, IsChecked, IsRefusedBy};
+ghost use Rattle.mlk_command.specs.Checked.{refusal_of_routine, refusal_of_rules, refusal_of_certificate, refusal_of_events, AreRead, RefusesFirst, TellsEntry, IsDoubt, IsReportBy, IsReportWith, IsWritten, IsTooLong, IsStuck, IsMade, IsUnmade, IsOutcomeWith, IsOutcomeUnder, IsOutcomeOf, IsRefusalBy, IsRefusalWith, IsRefusalOfWork, IsRefusalUnder, IsRefusalOf, IsChecked, IsRefusedBy};
 ghost use Rattle.mlk_straight.specs.Kept.{IsKept};
 ghost use Rattle.mlk_command.specs.Ran.{trees_of};
 ghost use Rattle.mlk_command.specs.declared.checked.Refusal.TheVariants as refusal;
 
+use crate::replayed::jobs_text;
 use crate::source::{Source, Sources, Work};
 use mlk_cert::{CertFault, Certificate, WriteFault, read_cert, write_cert};
 use mlk_coverage::Rules;
 use mlk_make::{GaveUp, MakeError, make};
 use mlk_program::{Program, link};
+use mlk_replay::EventsFault;
 use mlk_routine::{Routine, read_routine};
 use mlk_rules::{RulesFault, read_rules};
 use mlk_straight::is_kept;
@@ -32,6 +34,7 @@ pub(crate) enum Refusal {
     Disagreement,
     /// No certificate was made: the text of the entry, and the fault at which the maker gave up.
     GaveUp(Value, mlk_rows::Fault),
+    Events(EventsFault),
 }
 
 impl From<AllocError> for Refusal {
@@ -75,12 +78,25 @@ impl From<Failure<CertFault>> for Refusal {
     }
 }
 
+impl From<Failure<EventsFault>> for Refusal {
+    ghost from_gives = { λ e r. r ≡ refusal_of_events e };
+
+    fn from(error: Failure<EventsFault>) -> Refusal {
+        match error {
+            Failure::OutOfMemory => Refusal::OutOfMemory,
+            Failure::Refused(fault) => Refusal::Events(fault),
+        }
+    }
+}
+
 /// What texts come to.
 #[derive(Drop)]
 pub(crate) enum Outcome {
     Report(Report),
     /// the text of the certificate that was made
     Made(Vec<u8>),
+    /// what is shown of the jobs
+    Replayed(mlk_cert::Text),
 }
 
 /// The routines of a program, and what is made of it.
@@ -101,8 +117,8 @@ fn routines_of(alloc: Global, sources: &[Source<'_>]) -> Result<Vec<Routine>, Fa
     Ok(routines)
 }
 
-// What is told of an entry that the routines lack.
-fn lacks(alloc: Global, entry: &[u8]) -> Refusal
+/// What is told of an entry that the routines lack.
+pub(crate) fn lacks(alloc: Global, entry: &[u8]) -> Refusal
     ensures { TellsEntry entry.now result }
 {
     match Vec::from_slice(alloc, entry) {
@@ -222,6 +238,10 @@ fn outcome_with(
             let report = report_with(alloc, program, rules, text.as_slice())?;
             Ok(Outcome::Report(report))
         }
+        Work::Replay(events) => {
+            let text = jobs_text(alloc, program, rules, events.as_slice())?;
+            Ok(Outcome::Replayed(text))
+        }
     }
 }
 
@@ -253,7 +273,7 @@ fn outcome_of(
 }
 
 /// What texts come to, or the first refusal: of the routines in order, of their linking, of the rules, of the
-/// certificate, or of its making, and of an entry that the routines lack.
+/// certificate, or of its making, and of an entry that the routines lack; of events after that entry.
 pub(crate) fn check_texts(alloc: Global, sources: &Sources<'_>) -> Result<Checked, Refusal>
     ensures ok { IfOk result (λ c. IsChecked sources.now (trees_of c) c.outcome) }
     ensures refused { IfErr result (IsRefusedBy sources.now) }

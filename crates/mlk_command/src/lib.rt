@@ -1,10 +1,11 @@
-//! What `mlock` does: it reads the files that the command line names, checks them, and says what it found.
+//! What `mlock` does: it reads the files that the command line names, checks them or replays events, and says what it found.
 #![tactic(auto)]
 
 mod checked;
 mod file;
 mod printed;
 mod program;
+mod replayed;
 mod source;
 mod text;
 mod words;

@@ -3,11 +3,13 @@
 ghost use Rattle.std.specs.Prelude.{◌≡◌, ◌++◌, OnOk, IfOk, map, slice_get, option_copied};
 ghost use Rattle.mlk_routine.specs.Views.{line_of, routine_of};
 ghost use Rattle.mlk_program.specs.Entries.{label_of, text_with};
-ghost use Rattle.mlk_command.specs.Printed.{code_text, place_text, left_out_text, fault_line, missing_line, rules_line, certificate_line, disagreement_line, stuck_line, file_line, entry_text, fault_text, row_line, row_lines, last_line, report_text};
+ghost use Rattle.mlk_command.specs.Printed.{code_text, place_text, left_out_text, fault_line, missing_line, rules_line, certificate_line, events_code, events_line, disagreement_line, stuck_line, file_line, entry_text, fault_text, row_line, row_lines, last_line, report_text};
 
 use crate::text::Text;
 use mlk_cert::CertFault;
+use mlk_locks::Refusal;
 use mlk_program::EntryId;
+use mlk_replay::{EventsFault, EventsRefusal};
 use mlk_routine::{Line, Routine};
 use mlk_rules::RulesFault;
 use mlk_text::{Code, Fault, LeftOut, Value};
@@ -118,6 +120,30 @@ pub(crate) fn certificate_line(alloc: Global, fault: &CertFault) -> Result<Text,
     text.push_number(fault.line.number() as usize)?;
     text.push(b" ")?;
     push_code(&mut text, fault.code)?;
+    text.push(b"\n")?;
+    Ok(text)
+}
+
+fn events_code(why: EventsRefusal) -> Code
+    ensures { result ≡ events_code why }
+{
+    match why {
+        EventsRefusal::Form => Code::EventForm,
+        EventsRefusal::Refused(Refusal::NotEnabled) => Code::NotEnabled,
+        EventsRefusal::Refused(Refusal::BadChoice) => Code::BadChoice,
+        EventsRefusal::Refused(Refusal::UnknownJob) => Code::UnknownJob,
+    }
+}
+
+/// `refused line LINE CODE NAME`
+pub(crate) fn events_line(alloc: Global, fault: &EventsFault) -> Result<Text, AllocError>
+    ensures { IfOk result (λ t. t ≡ events_line fault.now) }
+{
+    let mut text = Text::new(alloc);
+    text.push(b"refused line ")?;
+    text.push_number(fault.line.number() as usize)?;
+    text.push(b" ")?;
+    push_code(&mut text, events_code(fault.why))?;
     text.push(b"\n")?;
     Ok(text)
 }

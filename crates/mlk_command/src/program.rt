@@ -4,12 +4,12 @@ ghost use Rattle.std.specs.Prelude.{◌≡◌, ◌≢◌, ◌⊎◌, IfOk, OnOk,
 ghost use Rattle.mlk_routine.specs.Views.{routine_of};
 ghost use Rattle.std.specs.IoError.{error_kind};
 ghost use Rattle.std.specs.Io.KnownBytes.{Appends};
-ghost use Rattle.mlk_command.specs.Ran.{status_of, PrintsReport, Prints, IsRefusalLine, TellsRefusal, TellsUnread, Answers, AnswersWords, IsSaid, Ran};
+ghost use Rattle.mlk_command.specs.Ran.{status_of, PrintsReport, PrintsText, Prints, IsRefusalLine, TellsRefusal, TellsUnread, Answers, AnswersWords, IsSaid, Ran};
 
 use crate::checked::{Checked, Outcome, Refusal, check_texts};
 use crate::printed::{
-    certificate_line, disagreement_line, fault_line, file_line, missing_line, report_text,
-    rules_line, stuck_line,
+    certificate_line, disagreement_line, events_line, fault_line, file_line, missing_line,
+    report_text, rules_line, stuck_line,
 };
 use crate::source::{FileError, Files, read_files};
 use crate::text::Text;
@@ -30,7 +30,7 @@ const FAILED: u8 = 3;
 // What the program says, before it is said.
 #[derive(Drop, Debug)]
 enum Answer {
-    /// The text of a report or of a certificate, and the status that it ends with.
+    /// The text of a report, of a certificate or of jobs, and the status that it ends with.
     Report(Text, u8),
     /// The line that tells why the input is refused.
     Refused(Text),
@@ -56,6 +56,16 @@ fn report_answer(alloc: Global, routines: &[Routine], report: &Report) -> Answer
     }
 }
 
+fn text_answer(alloc: Global, bytes: &[u8]) -> Answer
+    ensures { PrintsText bytes.now result }
+{
+    let mut text = Text::new(alloc);
+    match text.push(bytes) {
+        Ok(()) => Answer::Report(text, YES),
+        Err(AllocError) => Answer::OutOfMemory,
+    }
+}
+
 fn answer_of(alloc: Global, checked: Checked) -> Answer
     ensures { Prints checked result }
 {
@@ -63,6 +73,7 @@ fn answer_of(alloc: Global, checked: Checked) -> Answer
     match outcome {
         Outcome::Report(report) => report_answer(alloc, routines.as_slice(), &report),
         Outcome::Made(text) => Answer::Report(Text::of(text), YES),
+        Outcome::Replayed(text) => text_answer(alloc, text.as_bytes()),
     }
 }
 
@@ -77,6 +88,7 @@ fn refusal_line(alloc: Global, refusal: &Refusal) -> Result<Text, AllocError>
         Refusal::Entry(entry) => missing_line(alloc, entry),
         Refusal::Disagreement => disagreement_line(alloc),
         Refusal::GaveUp(entry, fault) => stuck_line(alloc, entry, fault),
+        Refusal::Events(fault) => events_line(alloc, fault),
     }
 }
 
@@ -188,8 +200,8 @@ pub fn wrong_words<E: Write>(error: &io::Error, err: &mut E) -> u8
     REFUSED
 }
 
-/// Does what the words ask for, of which the first is the program's name, and answers the status: 0 for `yes`, 1 for
-/// `no`, 2 for refused input, 3 for want of memory or a file that can't be read or written.
+/// Does what the words ask for, of which the first is the program's name, and answers the status: 0 for `yes`,
+/// a certificate or jobs, 1 for `no`, 2 for refused input, 3 for want of memory or a file that can't be read or written.
 ///
 /// Reports go to `out`, all else to `err`; a fault of `err` changes nothing.
 pub fn run<F: Files, O: Write, E: Write>(

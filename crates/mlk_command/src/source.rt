@@ -2,7 +2,7 @@
 
 ghost use Rattle.std.specs.Prelude.{◌≡◌, ◌≢◌, List, ℕ, IfOk, IfErr, length};
 ghost use Rattle.std.specs.IoError.{error_kind};
-ghost use Rattle.mlk_command.specs.Files.{IsFileName, IsNameStem, IsPathStem, IsSource, AreSources, IsWork, AreTexts, bytes_of, certificate_path, paths_of, Loses, LosesFirst};
+ghost use Rattle.mlk_command.specs.Files.{IsFileName, IsNameStem, IsPathStem, IsSource, AreSources, IsWork, AreTexts, bytes_of, work_path, paths_of, Loses, LosesFirst};
 
 use crate::words::{Asked, Request};
 use std::alloc::Global;
@@ -46,6 +46,8 @@ pub(crate) enum Work {
     Make,
     /// the check by the certificate that is made
     Verify,
+    /// the events of this text are replayed
+    Replay(Vec<u8>),
 }
 
 /// The texts that were read.
@@ -132,19 +134,20 @@ fn read_sources<'a, F: Files>(
     Ok(sources)
 }
 
-// The text of the certificate, where one is named.
+// The text of the certificate, or of the events, where one is named.
 fn read_work<'a, F: Files>(
     alloc: Global,
     files: &F,
     asked: &Asked<'a>,
 ) -> Result<Work, FileError<'a>>
     ensures ok { IfOk result (IsWork (F.holds files.now) asked.now) }
-    ensures lost { IfErr result (LosesFirst (F.holds files.now) (F.lacks files.now) (certificate_path asked.now)) }
+    ensures lost { IfErr result (LosesFirst (F.holds files.now) (F.lacks files.now) (work_path asked.now)) }
 {
     match asked {
         Asked::Check(path) => Ok(Work::Check(read_file(alloc, files, *path)?)),
         Asked::Make => Ok(Work::Make),
         Asked::Verify => Ok(Work::Verify),
+        Asked::Replay(path) => Ok(Work::Replay(read_file(alloc, files, *path)?)),
     }
 }
 

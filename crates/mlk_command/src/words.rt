@@ -5,7 +5,7 @@ ghost use Rattle.clap.specs.Words.{app_of, rule_of, found_of, rows_of, kind_of};
 ghost use Rattle.clap.specs.Takes.{takes};
 ghost use Rattle.clap.specs.declared.error.kind.ErrorKind.TheVariants.{OutOfMemory};
 ghost use Rattle.clap.specs.Simple.{subcommand_rows_of};
-ghost use Rattle.mlk_command.specs.CommandLine.{path_rule, routines_rule, check_app, make_app, verify_app, mlock_app, GivesAsked, GivesPaths, GivesRequest, texts_of, Asks, IsRequest, LacksRequest};
+ghost use Rattle.mlk_command.specs.CommandLine.{path_rule, routines_rule, check_app, make_app, verify_app, replay_app, mlock_app, GivesAsked, GivesPaths, GivesRequest, texts_of, Asks, IsRequest, LacksRequest};
 
 use clap::error::ErrorKind;
 use clap::{Arg, ArgAction, ArgMatches, Command, Error};
@@ -20,6 +20,8 @@ pub(crate) enum Asked<'a> {
     Make,
     /// the check by the certificate that is made
     Verify,
+    /// the events at this path are replayed
+    Replay(&'a str),
 }
 
 /// What `mlock` is asked for, with the paths of the rules and the routines.
@@ -70,6 +72,20 @@ const VERIFY_MORE: &str = "Makes a certificate of routines and checks them by it
 Prints what `mlock check` prints for the certificate that `mlock make` prints: `yes`, or a line for each fault and `no N`.
 
 Status: 0 yes, 1 no, 2 refused input or given up, 3 want of memory or a file that can't be read or written.";
+
+const EVENTS_HELP: &str = "The events, a line each: which job begins, goes on or is aborted";
+
+const REPLAY_HELP: &str = "Replays events of jobs and shows where each job stands";
+
+const REPLAY_MORE: &str = "Replays events of jobs and shows where each job stands
+
+The jobs run the routines from the declared entries, by the events of the file in turn, such as these: `begin 1 DEP^BANK
+0 \"A\" \"5\"`, `run 1`, `go 1`, `abort 1`. Prints a line for each job, with what it does next and what it holds, as `job
+1 claims ^LOG holds ^ACCT(\"A\")*1`; a line for each two that stand ready to touch one node that one of them writes, and
+for each that waits for another; and `ring yes` where jobs wait for each other in a ring, else `ring no`.
+
+Status: 0 replayed, 2 refused input or an event that can't happen, 3 want of memory or a file that can't be read or
+written.";
 
 // The program's version, and the kit that it is proved with.
 const VERSION: &str = "0.1.0, proved with rattle-kit-13b logic dac8208d650f15bf";
@@ -126,6 +142,17 @@ fn verify_command<'a>(alloc: Global) -> Result<Command<'a>, AllocError>
         .arg(routines(alloc))
 }
 
+fn replay_command<'a>(alloc: Global) -> Result<Command<'a>, AllocError>
+    ensures { IfOk result (λ c. app_of c ≡ replay_app) }
+{
+    Command::new(alloc, "replay")
+        .about(REPLAY_HELP)
+        .long_about(REPLAY_MORE)
+        .arg(path(alloc, "RULES", RULES_HELP))?
+        .arg(path(alloc, "EVENTS", EVENTS_HELP))?
+        .arg(routines(alloc))
+}
+
 fn grammar<'a>(alloc: Global) -> Result<Command<'a>, AllocError>
     ensures { IfOk result (λ c. app_of c ≡ mlock_app) }
 {
@@ -135,7 +162,8 @@ fn grammar<'a>(alloc: Global) -> Result<Command<'a>, AllocError>
         .subcommand_required(true)
         .subcommand(check_command(alloc)?)?
         .subcommand(make_command(alloc)?)?
-        .subcommand(verify_command(alloc)?)
+        .subcommand(verify_command(alloc)?)?
+        .subcommand(replay_command(alloc)?)
 }
 
 // What the command of this name is to do.
@@ -147,6 +175,12 @@ fn asked_by<'a>(name: &str, matches: &ArgMatches<'a>) -> Option<Asked<'a>>
     }
     if name == "verify" {
         return Some(Asked::Verify);
+    }
+    if name == "replay" {
+        let Some(path) = matches.get_str("EVENTS") else {
+            return None;
+        };
+        return Some(Asked::Replay(path));
     }
     if name != "check" {
         return None;
