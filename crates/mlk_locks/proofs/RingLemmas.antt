@@ -1,13 +1,9 @@
 -- Taking away those that wait for none of the rest finds a ring where there is one.
-use Rattle.std.proofs.Common.{◌≡◌, ◌↔◌, ℕ, zero, suc, ◌≤◌, Bool, true, false, List, [], ◌∷◌, length, map, filter, refl, sym, ap, ◌∙◌, subst, arith, inl, inr}
-use Rattle.std.specs.Prelude.{◌==◌, not}
+use Rattle.std.proofs.Common.{◌≡◌, ◌↔◌, ℕ, zero, suc, ◌≤◌, Bool, true, List, [], ◌∷◌, length, refl, sym, ap, ◌∙◌, subst, arith, inl, inr}
 use Rattle.std.specs.List.{list_any}
-use Rattle.std.proofs.lemmas.Bool.Decides.{nat_tests}
-use Rattle.std.proofs.lemmas.List.{length-map}
-use Rattle.mlk_locks.specs.Lists.{Among, is_some_there}
+use Rattle.mlk_locks.specs.Lists.{Among}
 use Rattle.mlk_locks.specs.Rings.{IsRing, HasRing, waiting, left_after, left, has_ring}
-use Rattle.std.proofs.lemmas.Bool.{cases_lt}
-use Rattle.mlk_locks.proofs.ListLemmas.{one_there, there, any_from, any_to, in_filter, into_filter, filter_le, filter_shrinks, any_of_map, filter_of_map}
+use Rattle.mlk_locks.proofs.ListLemmas.{one_there, there, any_from, any_to, in_filter, into_filter, filter_shrinks}
 
 module _ {X : Type 0} (waits : X → X → Bool) where
   stays : (n : ℕ) (xs : List X) → waiting waits xs ≡ xs → left_after waits n xs ≡ xs

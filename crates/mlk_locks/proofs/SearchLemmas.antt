@@ -1,8 +1,8 @@
 -- A search along those that wait for one another finds a ring where there is one.
-use Rattle.std.proofs.Common.{◌≡◌, ◌≢◌, ◌<◌, ◌≤◌, ◌+◌, ℕ, zero, suc, Bool, true, false, Option, Some, None, List, [], ◌∷◌, length, map, refl, sym, ap, ◌∙◌, subst, arith, inl, inr, set, get_or, ◌++◌, reverse, replicate}
-use Rattle.std.specs.Prelude.{◌⊎◌, ⊤, ◌&&◌, ◌==◌, not}
+use Rattle.std.proofs.Common.{◌≡◌, ◌≢◌, ◌<◌, ◌≤◌, ◌+◌, ℕ, zero, suc, Bool, true, false, Some, List, [], ◌∷◌, length, refl, sym, ap, ◌∙◌, subst, arith, inl, inr, set, get_or, ◌++◌, reverse}
+use Rattle.std.specs.Prelude.{◌⊎◌, ◌&&◌, ◌==◌, not}
 use Rattle.std.proofs.lemmas.Bool.{cases_lt, and_parts, not-true}
-use Rattle.std.proofs.lemmas.List.{length-replicate, length-set, length-append, reverse-append}
+use Rattle.std.proofs.lemmas.List.{length-set, length-append, reverse-append}
 use Rattle.std.proofs.lemmas.List.Sums.{sum_by-set}
 use Rattle.std.specs.List.{list_any, slice_get, sum_by}
 use Rattle.std.proofs.lemmas.Option.{slice_get_within, slice_get-get_or, slice_get_read, get_or_from_slice_get}
@@ -13,9 +13,8 @@ use Rattle.mlk_names.specs.declared.lock_name.LockName.{LockName}
 use Rattle.mlk_locks.specs.Counts.{excludes}
 use Rattle.mlk_locks.specs.Waiting.{View, awaited, waits, waits_as}
 use Rattle.mlk_locks.specs.Lists.{Among, is_some_there}
-use Rattle.mlk_locks.specs.Rings.{IsRing, waiting, left, has_ring}
-use Rattle.mlk_locks.specs.Searches.{is_free, is_new, IsFree, FreeAt, AreFree, Passed, WaitsAt, IsNext, IsStop, Leads, IsPath, places, IsMet, Searching, weight}
-use Rattle.mlk_locks.proofs.ListLemmas.{one_there, in_filter, any_from}
+use Rattle.mlk_locks.specs.Rings.{left, has_ring}
+use Rattle.mlk_locks.specs.Searches.{is_free, is_new, IsFree, FreeAt, AreFree, Passed, WaitsAt, IsNext, IsPath, places, IsMet, Searching, weight}
 use Rattle.mlk_locks.proofs.RingLemmas.{left_within, left_each, ring_is_found}
 
 -- what stands in a list has a place

@@ -1,6 +1,6 @@
 -- What a search for a ring knows on its way: which jobs are in none, and the path of jobs, each of which waits for the next,
 -- that it follows. Jobs are named by their places. This project's own.
-use Rattle.std.specs.Prelude.{⊤, ◌≡◌, ◌≢◌, ◌⊎◌, ◌<◌, ◌+◌, ℕ, Bool, true, false, Option, Some, List, [], ◌∷◌, length, map}
+use Rattle.std.specs.Prelude.{⊤, ◌≡◌, ◌≢◌, ◌⊎◌, ◌<◌, ◌+◌, ℕ, Bool, true, false, Some, List, [], ◌∷◌, length, map}
 use Rattle.std.specs.List.{slice_get, sum_by}
 use Rattle.mlk_locks.specs.declared.ring.Mark.{Mark}
 use Rattle.mlk_locks.specs.declared.ring.Mark.TheVariants.{New, OnPath, Free}

@@ -31,7 +31,14 @@ pub trait Seen {
 fn some_excluded(held: &Held, names: &[LockName]) -> bool
     ensures { result ≡ list_any (excludes held.now) names.now }
 {
-    names.iter().any(|name| held.excludes(name))
+    let mut left = names;
+    while let Some((name, others)) = left.split_first() {
+        if held.excludes(name) {
+            return true;
+        }
+        left = others;
+    }
+    false
 }
 
 /// Whether one job waits for the other. It takes no memory.
@@ -52,7 +59,14 @@ fn keeps<J: Seen>(job: &J, number: u32, name: &LockName) -> bool
 fn some_keeps<J: Seen>(jobs: &[J], number: u32, name: &LockName) -> bool
     ensures { result ≡ list_any (λ j. not ((J.seen j).number == number) && excludes (J.seen j).held name.now) jobs.now }
 {
-    jobs.iter().any(|job| keeps(job, number, name))
+    let mut left = jobs;
+    while let Some((job, others)) = left.split_first() {
+        if keeps(job, number, name) {
+            return true;
+        }
+        left = others;
+    }
+    false
 }
 
 /// Whether no other job than the one of this number holds a name that conflicts. It takes no memory.

@@ -1,6 +1,5 @@
-use Rattle.std.proofs.Common.{◌≡◌, ◌∙◌, arith, length, reverse, set, refl, sym, ap, subst, Some, List}
-use Rattle.std.specs.List.{slice_get, sum_by}
-use Rattle.std.proofs.lemmas.Option.{slice_get_read, slice_get_within}
+use Rattle.std.proofs.Common.{◌≡◌, ◌∙◌, arith, length, reverse, set, sym, ap, subst, List}
+use Rattle.std.specs.List.{sum_by}
 use Rattle.mlk_locks.specs.declared.ring.Mark.{Mark}
 use Rattle.mlk_locks.specs.declared.ring.Mark.TheVariants.{OnPath}
 use Rattle.mlk_locks.specs.declared.ring.Stop.{Stop}

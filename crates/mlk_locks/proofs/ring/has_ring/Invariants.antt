@@ -1,4 +1,4 @@
-use Rattle.std.proofs.Common.{◌<◌, ◌-◌, ◌≤◌, ℕ, [], length}
+use Rattle.std.proofs.Common.{◌<◌, ◌-◌, ℕ, [], length}
 use Rattle.mlk_locks.specs.Waiting.{waits_as}
 use Rattle.mlk_locks.specs.Searches.{FreeAt, Searching}
 use Rattle.mlk_locks.proofs.ring.has_ring.Given as goal

@@ -1,10 +1,8 @@
-use Rattle.std.proofs.Common.{◌≡◌, ◌∙◌, ◌++◌, ◌∷◌, [], List, reverse, set, sym, ap, subst}
+use Rattle.std.proofs.Common.{◌≡◌, ◌∙◌, ◌++◌, ◌∷◌, [], List, reverse, sym, ap, subst}
 use Rattle.std.proofs.lemmas.List.{reverse-append}
-use Rattle.mlk_locks.specs.declared.ring.Mark.{Mark}
-use Rattle.mlk_locks.specs.declared.ring.Mark.TheVariants.{OnPath}
 use Rattle.mlk_locks.specs.declared.ring.Stop.{Stop}
 use Rattle.mlk_locks.specs.Waiting.{waits_as}
-use Rattle.mlk_locks.specs.Searches.{is_new, IsMet, Searching}
+use Rattle.mlk_locks.specs.Searches.{is_new, IsMet}
 use Rattle.mlk_locks.proofs.SearchLemmas.{begins_so, met_before}
 use Rattle.mlk_locks.proofs.ring.search.Goals as goal
 
@@ -24,7 +22,8 @@ loop-stop-init g c =
 pub loop-stop-preserved : goal.loop-stop-preserved
 loop-stop-preserved g c =
     let e : reverse c.loop-stop.path.items ≡ c.in-Some.stop ∷ reverse c.pop.new.self.items =
-    ap reverse c.in-Some.ensures.items ∙ reverse-append c.pop.new.self.items (c.in-Some.stop ∷ []) in
-    (c.in_ok-go_on.ensures.goes c.if-branch.false,
-    c.in_ok-go_on.ensures.met c.if-branch.false c.args.start
-    (subst (λ path. IsMet (waits_as g.J.Seen.seen) c.args.jobs.now path c.args.start) e c.loop-stop.invariant.1))
+    ap reverse c.in-Some.ensures.items ∙ reverse-append c.pop.new.self.items (c.in-Some.stop ∷ []) in (
+      c.in_ok-go_on.ensures.goes c.if-branch.false,
+      c.in_ok-go_on.ensures.met c.if-branch.false c.args.start
+          (subst (λ path. IsMet (waits_as g.J.Seen.seen) c.args.jobs.now path c.args.start) e c.loop-stop.invariant.1),
+    )
