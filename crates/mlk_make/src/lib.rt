@@ -23,6 +23,8 @@ mod settle;
 mod stop;
 mod summary;
 mod walk;
+mod watch;
 
-pub use rounds::make;
+pub use rounds::{make, make_watched};
 pub use stop::{GaveUp, MakeError};
+pub use watch::{Stage, Unwatched, Watch};

@@ -9,6 +9,7 @@ use crate::finish::finish;
 use crate::maker::{Ground, Maker};
 use crate::missing::first_missing;
 use crate::stop::{GaveUp, MakeError};
+use crate::watch::{Stage, Unwatched, Watch};
 use mlk_cert::Certificate;
 use mlk_coverage::{Rules, entries};
 use mlk_program::{EntryId, Program};
@@ -45,19 +46,30 @@ fn walk_lines(
 }
 
 // Walks all entries, in order.
-fn walk_all(ground: &Ground<'_>, maker: &mut Maker) -> Result<(), Failure<GaveUp>> {
-    for (number, routine) in ground.program.routines().iter().enumerate() {
+fn walk_all<W: Watch>(
+    ground: &Ground<'_>,
+    maker: &mut Maker,
+    round: usize,
+    watch: &W,
+) -> Result<(), Failure<GaveUp>> {
+    let routines = ground.program.routines();
+    for (number, routine) in routines.iter().enumerate() {
+        watch.see(Stage::Making(round), number, routines.len());
         walk_lines(ground, maker, number, routine.lines.as_slice())?;
     }
     Ok(())
 }
 
 // Makes rounds until one changes nothing.
-fn walk_rounds(ground: &Ground<'_>, maker: &mut Maker) -> Result<(), Failure<GaveUp>> {
-    for left in (0..MOST_ROUNDS).rev() {
-        maker.last = left == 0;
+fn walk_rounds<W: Watch>(
+    ground: &Ground<'_>,
+    maker: &mut Maker,
+    watch: &W,
+) -> Result<(), Failure<GaveUp>> {
+    for round in 1..=MOST_ROUNDS {
+        maker.last = round == MOST_ROUNDS;
         let before = maker.changes;
-        walk_all(ground, maker)?;
+        walk_all(ground, maker, round, watch)?;
         if maker.changes == before {
             return Ok(());
         }
@@ -66,10 +78,10 @@ fn walk_rounds(ground: &Ground<'_>, maker: &mut Maker) -> Result<(), Failure<Gav
 }
 
 // Certifies the declared entries and all that they reach.
-fn certify(ground: &Ground<'_>) -> Result<Certificate, Failure<GaveUp>> {
+fn certify<W: Watch>(ground: &Ground<'_>, watch: &W) -> Result<Certificate, Failure<GaveUp>> {
     let mut maker = Maker::new(ground.alloc);
     declare(ground, &mut maker)?;
-    walk_rounds(ground, &mut maker)?;
+    walk_rounds(ground, &mut maker, watch)?;
     finish(ground.alloc, maker)
 }
 
@@ -88,6 +100,19 @@ pub fn make(
     // then that is told, and nothing else is told so.
     ensures refused { IfErr result (IsUnmade (map routine_of program.now) rules.now.entries) }
 {
+    make_watched(alloc, program, rules, &Unwatched)
+}
+
+/// What `make` makes, and how far it has come is told as it goes.
+pub fn make_watched<W: Watch>(
+    alloc: Global,
+    program: &Program<'_>,
+    rules: &Rules,
+    watch: &W,
+) -> Result<Certificate, Failure<MakeError>>
+    ensures made { IfOk result (λ c. find (is_missing (map routine_of program.now)) rules.now.entries ≡ None) }
+    ensures refused { IfErr result (IsUnmade (map routine_of program.now) rules.now.entries) }
+{
     if let Some(text) = first_missing(program, entries(rules)) {
         let text = Value::of(alloc, text)?;
         return Err(Failure::Refused(MakeError::EntryMissing(text)));
@@ -97,7 +122,7 @@ pub fn make(
         program,
         rules,
     };
-    match certify(&ground) {
+    match certify(&ground, watch) {
         Ok(certificate) => Ok(certificate),
         Err(Failure::OutOfMemory) => Err(Failure::OutOfMemory),
         Err(Failure::Refused(place)) => Err(Failure::Refused(MakeError::GaveUp(place))),

@@ -1,16 +1,16 @@
 -- The command line, by what `clap` makes of its words. This project's own choice.
-use Rattle.std.specs.Prelude.{◌≡◌, List, Option, Some, None, codes, true, map, string_bytes, String}
+use Rattle.std.specs.Borrow.{Bor}
+use Rattle.std.specs.Prelude.{ℕ, ◌≡◌, List, Option, Some, None, codes, true, map, string_bytes, String}
 use Rattle.clap.specs.Lexer.{usize_max}
 use Rattle.clap.specs.Words.{App, Row, Rule, Text, all_of, first_of, new_app, new_rule, subcommand_of, with_rule, with_subcommand}
 use Rattle.clap.specs.Simple.{on_top}
 use Rattle.clap.specs.Takes.{takes}
 use Rattle.clap.specs.declared.builder.action.ArgAction.TheVariants.{Set, Append}
-use Rattle.mlk_command.specs.declared.words.Asked.{Asked}
-use Rattle.mlk_command.specs.declared.words.Asked.TheVariants as asked
-use Rattle.mlk_command.specs.declared.words.Request.{Request}
-use Rattle.mlk_command.specs.declared.words.UsageError.{UsageError}
-use Rattle.mlk_command.specs.declared.words.UsageError.TheVariants as usage
-use Rattle.mlk_command.specs.Files.{bytes_of}
+use Rattle.mlk_words.specs.declared.words.Asked.{Asked}
+use Rattle.mlk_words.specs.declared.words.Asked.TheVariants as asked
+use Rattle.mlk_words.specs.declared.words.Request.{Request}
+use Rattle.mlk_words.specs.declared.words.UsageError.{UsageError}
+use Rattle.mlk_words.specs.declared.words.UsageError.TheVariants as usage
 
 -- a path that must be given, once
 abbrev pub path_rule : Text → Rule
@@ -36,11 +36,13 @@ verify_app = with_rule (with_rule (new_app (codes "verify")) (path_rule (codes "
 abbrev pub replay_app : App
 replay_app = with_rule (with_rule (with_rule (new_app (codes "replay")) (path_rule (codes "RULES"))) (path_rule (codes "EVENTS"))) routines_rule
 
+-- `mlock` before it has a command
+abbrev pub no_command_app : App
+no_command_app = on_top (λ s. record s { subcommand_required = true; has_version = true }) (new_app (codes "mlock"))
+
 -- `mlock` and one of its commands
 abbrev pub mlock_app : App
-mlock_app =
-    let none = on_top (λ s. record s { subcommand_required = true; has_version = true }) (new_app (codes "mlock")) in
-    with_subcommand (with_subcommand (with_subcommand (with_subcommand none check_app.top) make_app.top) verify_app.top) replay_app.top
+mlock_app = with_subcommand (with_subcommand (with_subcommand (with_subcommand no_command_app check_app.top) make_app.top) verify_app.top) replay_app.top
 
 -- what the command of a name is to do, by what it was given
 abbrev pub IsAsked : Text → List Row → Asked → Type 0
@@ -52,6 +54,10 @@ IsAsked name rows (asked.Replay path) = (name ≡ codes "replay") × (first_of (
 abbrev pub GivesAsked : Text → List Row → Option Asked → Type 0
 GivesAsked name rows None = (a : Asked) → IsAsked name rows a → ⊥
 GivesAsked name rows (Some a) = IsAsked name rows a
+
+-- the bytes of paths
+abbrev pub bytes_of : List (Bor (List ℕ)) → List Text
+bytes_of paths = map (λ path. path.now) paths
 
 -- the request has the paths that the command of a name was given
 pub record IsGiven (name : Text) (rows : List Row) (request : Request) : Type 0 where

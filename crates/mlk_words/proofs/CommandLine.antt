@@ -3,9 +3,9 @@ use Rattle.std.proofs.Common.{◌≡◌, ◌∙◌, sym, List, [], ◌∷◌, Bo
 use Rattle.clap.specs.Words.{Text, Row, all_of, first_of, is_simple, subcommand_of}
 use Rattle.clap.specs.Takes.{takes}
 use Rattle.clap.proofs.OnLiterals.{clap_on_literals}
-use Rattle.mlk_command.specs.declared.words.Asked.{Asked}
-use Rattle.mlk_command.specs.declared.words.Asked.TheVariants as asked
-use Rattle.mlk_command.specs.CommandLine.{mlock_app, IsAsked}
+use Rattle.mlk_words.specs.declared.words.Asked.{Asked}
+use Rattle.mlk_words.specs.declared.words.Asked.TheVariants as asked
+use Rattle.mlk_words.specs.CommandLine.{mlock_app, IsAsked}
 
 pub not-true : (b : Bool) → not b ≡ true → b ≡ false
 not-true true h = cc h

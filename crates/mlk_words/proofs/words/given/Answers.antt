@@ -2,8 +2,8 @@ use Rattle.std.proofs.Common.{sym, ap, ◌∙◌, Some, codes}
 use Rattle.std.specs.Prelude.{option_map}
 use Rattle.clap.specs.Words.{found_of}
 use Rattle.clap.proofs.WalkLemmas.{first_value-rows, raw_values-rows}
-use Rattle.mlk_command.specs.Files.{bytes_of}
-use Rattle.mlk_command.proofs.words.given.Goals as goal
+use Rattle.mlk_words.specs.CommandLine.{bytes_of}
+use Rattle.mlk_words.proofs.words.given.Goals as goal
 
 pub returns-in_default-get_str : goal.returns-in_default-get_str
 returns-in_default-get_str c = λ request given.

@@ -3,9 +3,9 @@ use Rattle.std.proofs.lemmas.Result.{err_from_is_err_and}
 use Rattle.clap.specs.declared.error.kind.ErrorKind.TheVariants.{OutOfMemory}
 use Rattle.clap.specs.Words.{HasMatchesOf, kind_of}
 use Rattle.clap.specs.Takes.{takes}
-use Rattle.mlk_command.specs.CommandLine.{GivesRequest, texts_of}
-use Rattle.mlk_command.proofs.CommandLine.{is-exact}
-use Rattle.mlk_command.proofs.words.read_words.Goals as goal
+use Rattle.mlk_words.specs.CommandLine.{GivesRequest, texts_of}
+use Rattle.mlk_words.proofs.CommandLine.{is-exact}
+use Rattle.mlk_words.proofs.words.read_words.Goals as goal
 
 pub returns-clause-asks : goal.returns-clause-asks
 returns-clause-asks c =

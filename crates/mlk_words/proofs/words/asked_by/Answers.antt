@@ -2,8 +2,8 @@ use Rattle.std.proofs.Common.{◌∙◌, sym, ap, codes, rules}
 use Rattle.std.specs.Prelude.{option_map}
 use Rattle.clap.specs.Words.{found_of, rows_of}
 use Rattle.clap.proofs.WalkLemmas.{first_value-rows}
-use Rattle.mlk_command.proofs.CommandLine.{asks-nothing, replays-nothing}
-use Rattle.mlk_command.proofs.words.asked_by.Goals as goal
+use Rattle.mlk_words.proofs.CommandLine.{asks-nothing, replays-nothing}
+use Rattle.mlk_words.proofs.words.asked_by.Goals as goal
 
 pub returns-in_default : goal.returns-in_default
 returns-in_default c =

@@ -1,11 +1,11 @@
 // The command line, as `clap` reads it.
 
 ghost use Rattle.std.specs.Prelude.{◌≡◌, IfOk, IfErr, true, false};
-ghost use Rattle.clap.specs.Words.{app_of, rule_of, found_of, rows_of, kind_of};
+ghost use Rattle.clap.specs.Words.{app_of, rule_of, found_of, rows_of, kind_of, with_subcommand};
 ghost use Rattle.clap.specs.Takes.{takes};
 ghost use Rattle.clap.specs.declared.error.kind.ErrorKind.TheVariants.{OutOfMemory};
 ghost use Rattle.clap.specs.Simple.{subcommand_rows_of};
-ghost use Rattle.mlk_command.specs.CommandLine.{path_rule, routines_rule, check_app, make_app, verify_app, replay_app, mlock_app, GivesAsked, GivesPaths, GivesRequest, texts_of, Asks, IsRequest, LacksRequest};
+ghost use Rattle.mlk_words.specs.CommandLine.{path_rule, routines_rule, check_app, make_app, verify_app, replay_app, no_command_app, mlock_app, GivesAsked, GivesPaths, GivesRequest, texts_of, Asks, IsRequest, LacksRequest};
 
 use clap::error::ErrorKind;
 use clap::{Arg, ArgAction, ArgMatches, Command, Error};
@@ -13,7 +13,7 @@ use std::alloc::{AllocError, Global};
 
 /// What is to be done with routines and rules.
 #[derive(Drop, Debug)]
-pub(crate) enum Asked<'a> {
+pub enum Asked<'a> {
     /// the check by the certificate at this path
     Check(&'a str),
     /// a certificate is made
@@ -26,7 +26,7 @@ pub(crate) enum Asked<'a> {
 
 /// What `mlock` is asked for, with the paths of the rules and the routines.
 #[derive(Drop, Debug)]
-pub(crate) struct Request<'a> {
+pub struct Request<'a> {
     pub asked: Asked<'a>,
     pub rules: &'a str,
     pub routines: Vec<&'a str>,
@@ -34,7 +34,7 @@ pub(crate) struct Request<'a> {
 
 /// Why the words ask for nothing.
 #[derive(Drop, Debug)]
-pub(crate) enum UsageError {
+pub enum UsageError {
     OutOfMemory,
     /// `clap`'s text, help that was asked for too.
     Usage(String),
@@ -88,7 +88,7 @@ Status: 0 replayed, 2 refused input or an event that can't happen, 3 want of mem
 written.";
 
 // The program's version, and the kit that it is proved with.
-const VERSION: &str = "0.1.0, proved with rattle-kit-13b logic dac8208d650f15bf";
+const VERSION: &str = "0.1.0, proved with rattle-kit-13f logic dac8208d650f15bf";
 
 const ABOUT: &str = "Checks that M routines touch shared data only under their locks";
 
@@ -153,17 +153,31 @@ fn replay_command<'a>(alloc: Global) -> Result<Command<'a>, AllocError>
         .arg(routines(alloc))
 }
 
-fn grammar<'a>(alloc: Global) -> Result<Command<'a>, AllocError>
-    ensures { IfOk result (λ c. app_of c ≡ mlock_app) }
+// `mlock` before it has a command.
+fn without_commands<'a>(alloc: Global) -> Command<'a>
+    ensures { app_of result ≡ no_command_app }
 {
     Command::new(alloc, "mlock")
         .about(ABOUT)
         .version(VERSION)
         .subcommand_required(true)
-        .subcommand(check_command(alloc)?)?
-        .subcommand(make_command(alloc)?)?
-        .subcommand(verify_command(alloc)?)?
-        .subcommand(replay_command(alloc)?)
+}
+
+// One command more, which is none of all commands.
+fn with_command<'a>(app: Command<'a>, command: Command<'a>) -> Result<Command<'a>, AllocError>
+    requires { (app_of command).top.is_plain ≡ true }
+    ensures { IfOk result (λ c. app_of c ≡ with_subcommand (app_of app.entry) (app_of command.entry).top) }
+{
+    app.subcommand(command)
+}
+
+fn grammar<'a>(alloc: Global) -> Result<Command<'a>, AllocError>
+    ensures { IfOk result (λ c. app_of c ≡ mlock_app) }
+{
+    let app = with_command(without_commands(alloc), check_command(alloc)?)?;
+    let app = with_command(app, make_command(alloc)?)?;
+    let app = with_command(app, verify_command(alloc)?)?;
+    with_command(app, replay_command(alloc)?)
 }
 
 // What the command of this name is to do.
@@ -237,10 +251,7 @@ fn read_words<'a>(alloc: Global, words: &'a [String]) -> Result<Option<Request<'
 }
 
 /// What the words ask for, of which the first is the program's name.
-pub(crate) fn read_request<'a>(
-    alloc: Global,
-    words: &'a [String],
-) -> Result<Request<'a>, UsageError>
+pub fn read_request<'a>(alloc: Global, words: &'a [String]) -> Result<Request<'a>, UsageError>
     ensures asks { IfOk result (IsRequest words.now) }
     ensures refused { IfErr result (LacksRequest words.now) }
 {
