@@ -2,14 +2,15 @@
 
 ghost use Rattle.std.specs.Prelude.{◌≡◌, [], map, IfOk, IfErr};
 ghost use Rattle.mlk_routine.specs.Views.{routine_of};
-ghost use Rattle.mlk_command.specs.Checked.{refusal_of_routine, refusal_of_rules, refusal_of_certificate, refusal_of_events, AreRead, RefusesFirst, TellsEntry, IsDoubt, IsReportBy, IsReportWith, IsWritten, IsTooLong, IsStuck, IsMade, IsUnmade, IsOutcomeWith, IsOutcomeUnder, IsOutcomeOf, IsRefusalBy, IsRefusalWith, IsRefusalOfWork, IsRefusalUnder, IsRefusalOf, IsChecked, IsRefusedBy};
+ghost use Rattle.mlk_command.specs.Checked.{refusal_of_routine, refusal_of_rules, refusal_of_certificate, refusal_of_events, AreRead, RefusesFirst, TellsEntry, IsDoubt, IsReportBy, IsReportWith, IsStuck, IsMade, IsUnmade, IsOutcomeWith, IsOutcomeUnder, IsOutcomeOf, IsRefusalBy, IsRefusalWith, IsRefusalOfWork, IsRefusalUnder, IsRefusalOf, IsChecked, IsRefusedBy};
+ghost use Rattle.mlk_cert.specs.Theorem.{Spells};
 ghost use Rattle.mlk_straight.specs.Kept.{IsKept};
 ghost use Rattle.mlk_command.specs.Ran.{trees_of};
 ghost use Rattle.mlk_command.specs.declared.checked.Refusal.TheVariants as refusal;
 
 use crate::replayed::jobs_text;
 use crate::source::{Source, Sources, Work};
-use mlk_cert::{CertFault, Certificate, WriteFault, read_cert, write_cert};
+use mlk_cert::{CertFault, Certificate, Spelled, read_cert};
 use mlk_coverage::Rules;
 use mlk_make::{GaveUp, MakeError, Stage, Watch, make_watched};
 use mlk_program::{Program, link};
@@ -182,21 +183,26 @@ fn report_with<W: Watch>(
     report_by(alloc, program, rules, &certificate, text, watch)
 }
 
-// About how long the text of a block is.
-const BLOCK_ROOM: usize = 256;
-
-// The text of a certificate.
-fn written(alloc: Global, certificate: &Certificate) -> Result<Vec<u8>, Refusal>
-    ensures ok { IfOk result (λ text. IsWritten certificate.now text.items) }
-    ensures refused { IfErr result (IsTooLong certificate.now) }
+// The report by a certificate that was made, and its text.
+fn report_of<W: Watch>(
+    alloc: Global,
+    program: &Program<'_>,
+    rules: &Rules,
+    made: &Spelled,
+    watch: &W,
+) -> Result<Report, Refusal>
+    requires { Spells made.now.certificate made.now.text.items }
+    ensures ok { IfOk result (IsReportWith (map routine_of program.now) rules.now made.now.text.items) }
+    ensures refused { IfErr result (IsRefusalWith (map routine_of program.now) rules.now made.now.text.items) }
 {
-    let room = certificate.blocks().len().saturating_mul(BLOCK_ROOM);
-    let mut text = Vec::with_capacity(alloc, room)?;
-    match write_cert(alloc, certificate, &mut text) {
-        Ok(()) => Ok(text),
-        Err(Failure::Refused(WriteFault::TooLong(fault))) => Err(Refusal::Certificate(fault)),
-        Err(_) => Err(Refusal::OutOfMemory),
-    }
+    report_by(
+        alloc,
+        program,
+        rules,
+        &made.certificate,
+        made.text.as_slice(),
+        watch,
+    )
 }
 
 // What is told where the maker gave up.
@@ -209,23 +215,24 @@ fn stuck(alloc: Global, program: &Program<'_>, place: GaveUp) -> Refusal
     }
 }
 
-// The text of a certificate that is made.
+// The certificate that is made, and its text.
 fn made<W: Watch>(
     alloc: Global,
     program: &Program<'_>,
     rules: &Rules,
     watch: &W,
-) -> Result<Vec<u8>, Refusal>
-    ensures ok { IfOk result (λ text. IsMade (map routine_of program.now) rules.now text.items) }
+) -> Result<Spelled, Refusal>
+    ensures ok { IfOk result (λ s. IsMade (map routine_of program.now) rules.now s.text.items) }
+    ensures spells { IfOk result (λ s. Spells s.certificate s.text.items) }
     ensures refused { IfErr result (IsUnmade (map routine_of program.now) rules.now) }
 {
-    let certificate = match make_watched(alloc, program, rules, watch) {
-        Ok(certificate) => certificate,
-        Err(Failure::OutOfMemory) => return Err(Refusal::OutOfMemory),
-        Err(Failure::Refused(MakeError::EntryMissing(text))) => return Err(Refusal::Entry(text)),
-        Err(Failure::Refused(MakeError::GaveUp(place))) => return Err(stuck(alloc, program, place)),
-    };
-    written(alloc, &certificate)
+    match make_watched(alloc, program, rules, watch) {
+        Ok(made) => Ok(made),
+        Err(Failure::OutOfMemory) => Err(Refusal::OutOfMemory),
+        Err(Failure::Refused(MakeError::EntryMissing(text))) => Err(Refusal::Entry(text)),
+        Err(Failure::Refused(MakeError::TooLong(fault))) => Err(Refusal::Certificate(fault)),
+        Err(Failure::Refused(MakeError::GaveUp(place))) => Err(stuck(alloc, program, place)),
+    }
 }
 
 fn outcome_with<W: Watch>(
@@ -244,12 +251,12 @@ fn outcome_with<W: Watch>(
             Ok(Outcome::Report(report))
         }
         Work::Make => {
-            let text = made(alloc, program, rules, watch)?;
-            Ok(Outcome::Made(text))
+            let made = made(alloc, program, rules, watch)?;
+            Ok(Outcome::Made(made.text))
         }
         Work::Verify => {
-            let text = made(alloc, program, rules, watch)?;
-            let report = report_with(alloc, program, rules, text.as_slice(), watch)?;
+            let made = made(alloc, program, rules, watch)?;
+            let report = report_of(alloc, program, rules, &made, watch)?;
             Ok(Outcome::Report(report))
         }
         Work::Replay(events) => {

@@ -1,6 +1,5 @@
 // What is known so far of an entry.
 
-use crate::copy::copy_cases;
 use crate::hand::rounds_in;
 use crate::lists::{At, Listing, Lists};
 use crate::summary::{add_needs, empty_summary};
@@ -11,16 +10,17 @@ use mlk_routine::Line;
 use mlk_text::{LineNumber, List, Value};
 use std::alloc::{AllocError, Global};
 use std::collections::BTreeSet;
+use std::mem;
 
 /// What is known so far of an entry.
 #[derive(Drop)]
 pub(crate) struct Draft {
     pub(crate) entry: EntryId,
     pub(crate) declared: bool,
-    /// its text, its summary, and the points that are in hand: those of the line that is walked, and of the begin of
-    /// its block
+    /// its text, its summary, and while a line is walked the points that are in hand: those of the line, and of the begin
+    /// of its block
     pub(crate) block: EntryCert,
-    /// all of its points
+    /// its points but those in hand
     pub(crate) lists: Lists,
     /// whose summaries were asked
     pub(crate) callees: BTreeSet<EntryId>,
@@ -31,10 +31,11 @@ pub(crate) struct Draft {
 }
 
 impl Draft {
-    /// Nothing is known of an entry with this text, after so many changes.
+    /// Nothing is known of an entry with this text, whose line has this number, after so many changes.
     pub(crate) fn new(
         alloc: Global,
         entry: EntryId,
+        line: usize,
         text: Value,
         declared: bool,
         changed: usize,
@@ -47,7 +48,7 @@ impl Draft {
                 summary: empty_summary(alloc),
                 points: List::new(alloc),
             },
-            lists: Lists::new(alloc),
+            lists: Lists::new(alloc, line),
             callees: BTreeSet::new(alloc),
             changed,
             walked: None,
@@ -56,7 +57,7 @@ impl Draft {
 
     /// The points and the exits start anew.
     pub(crate) fn clear(&mut self, alloc: Global) {
-        self.lists = Lists::new(alloc);
+        self.lists.clear();
         self.block.summary.exits = List::new(alloc);
     }
 
@@ -69,38 +70,55 @@ impl Draft {
         add_needs(alloc, &mut self.block.summary, terms)
     }
 
-    fn add_point(&self, alloc: Global, at: At, points: &mut List<Point>) -> Result<(), AllocError> {
-        let cases = self.lists.cases(at);
-        if cases.is_empty() {
+    // Takes the cases of a point in hand, where it has some.
+    fn take_point(
+        &mut self,
+        alloc: Global,
+        at: At,
+        points: &mut List<Point>,
+    ) -> Result<(), AllocError> {
+        let Some(cases) = self.lists.take(alloc, at) else {
             return Ok(());
-        }
+        };
         points.push(Point {
             line: line_number(at.line)?,
             round: round_number(at.round)?,
-            cases: copy_cases(alloc, cases)?,
+            cases,
         })
     }
 
     /// Takes the points of a line and of its block's begin in hand.
     pub(crate) fn take(&mut self, alloc: Global, line: &Line) -> Result<(), AllocError> {
+        self.lists.walk(line.number);
         let mut points = List::new(alloc);
         for round in 0..rounds_in(&line.commands).saturating_add(1) {
             let at = At {
                 line: line.number,
                 round,
             };
-            self.add_point(alloc, at, &mut points)?;
+            self.take_point(alloc, at, &mut points)?;
         }
         if let Some(first) = line.block.as_slice().first() {
             let at = At {
                 line: first.number,
                 round: 0,
             };
-            self.add_point(alloc, at, &mut points)?;
+            self.take_point(alloc, at, &mut points)?;
         }
         self.block.points = points;
-        self.lists.walk(line.number);
         Ok(())
+    }
+
+    /// Puts the points in hand back.
+    pub(crate) fn put_back(&mut self, alloc: Global) {
+        let points = mem::replace(&mut self.block.points, List::new(alloc));
+        for point in points.into_vec() {
+            let at = At {
+                line: point.line.number() as usize,
+                round: point.round as usize,
+            };
+            self.lists.put(at, point.cases);
+        }
     }
 }
 

@@ -2,7 +2,7 @@
 
 use crate::draft::Draft;
 use crate::lists::At;
-use crate::maker::{Ground, Maker, has_changed};
+use crate::maker::{Ground, Maker, has_changed, number_of};
 use crate::mend::done;
 use crate::need::formals_of;
 use crate::settle::settle_lines;
@@ -43,14 +43,6 @@ fn begin_case(ground: &Ground<'_>, draft: &Draft) -> Result<Case, AllocError> {
         kept: Shared::new(alloc, names.into_vec())?,
         saved: List::new(alloc),
     })
-}
-
-// The number of an entry's line.
-fn number_of(program: &Program, entry: EntryId) -> usize {
-    match program.line(entry) {
-        None => 1,
-        Some(line) => line.number,
-    }
 }
 
 // The line after an entry's lines.

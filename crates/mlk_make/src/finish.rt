@@ -1,56 +1,33 @@
 // The certificate of what is known.
 
+ghost use Rattle.std.specs.Prelude.{IfOk, IfErr};
+ghost use Rattle.mlk_cert.specs.Theorem.{Spells};
+ghost use Rattle.mlk_make.specs.Missing.{IsUnspelled, IfRefused};
+
 use crate::draft::{Draft, line_number, round_number};
 use crate::lists::{At, Lists};
 use crate::maker::Maker;
 use crate::order::cases_in_order;
-use crate::stop::{GaveUp, gave_up};
-use mlk_cert::{Case, Certificate, EntryCert, ExitCase, Point, Shared, Summary, certificate_of};
+use crate::stop::{GaveUp, MakeError};
+use mlk_cert::{Case, CertFault, EntryCert, ExitCase, Point, Shared, Spelled, Summary, spell};
 use mlk_program::EntryId;
 use mlk_rows::Fault;
 use mlk_text::{Code, Column, Failure, List};
 use std::alloc::{AllocError, Global};
 
-// The place that is told where what was made is no certificate after all. No such case is known.
-fn nowhere(line: usize) -> Fault {
-    Fault {
-        line,
-        column: Column::new(1),
-        code: Code::CaseNotListed,
-    }
-}
-
-// Cases in the order of their texts, for a line of an entry.
-fn ordered(
-    alloc: Global,
-    entry: EntryId,
-    line: usize,
-    cases: Vec<Case>,
-) -> Result<List<Case>, Failure<GaveUp>> {
-    match cases_in_order(alloc, cases) {
-        Ok(cases) => Ok(cases),
-        Err(Failure::OutOfMemory) => Err(Failure::OutOfMemory),
-        Err(Failure::Refused(_)) => gave_up(entry, nowhere(line)),
-    }
-}
-
-fn point(
-    alloc: Global,
-    entry: EntryId,
-    at: At,
-    cases: List<Case>,
-) -> Result<Point, Failure<GaveUp>> {
+// A point with its cases in order.
+fn point(alloc: Global, at: At, cases: List<Case>) -> Result<Point, AllocError> {
     Ok(Point {
         line: line_number(at.line)?,
         round: round_number(at.round)?,
-        cases: ordered(alloc, entry, at.line, cases.into_vec())?,
+        cases: cases_in_order(alloc, cases.into_vec())?,
     })
 }
 
-fn points(alloc: Global, entry: EntryId, lists: Lists) -> Result<List<Point>, Failure<GaveUp>> {
+fn points(alloc: Global, lists: Lists) -> Result<List<Point>, AllocError> {
     let mut all = List::new(alloc);
     for (at, cases) in lists.into_points(alloc)? {
-        all.push(point(alloc, entry, at, cases)?)?;
+        all.push(point(alloc, at, cases)?)?;
     }
     Ok(all)
 }
@@ -67,17 +44,13 @@ fn case_of(alloc: Global, exit: ExitCase) -> Result<Case, AllocError> {
 }
 
 // Exits have the order of cases that say nothing but what they say.
-fn exits(
-    alloc: Global,
-    entry: EntryId,
-    given: List<ExitCase>,
-) -> Result<List<ExitCase>, Failure<GaveUp>> {
+fn exits(alloc: Global, given: List<ExitCase>) -> Result<List<ExitCase>, AllocError> {
     let mut cases = Vec::new(alloc);
     for exit in given.into_vec() {
         cases.push(case_of(alloc, exit)?)?;
     }
     let mut all = List::new(alloc);
-    for case in ordered(alloc, entry, 1, cases)?.into_vec() {
+    for case in cases_in_order(alloc, cases)?.into_vec() {
         all.push(ExitCase {
             test: case.test,
             held: case.held,
@@ -87,13 +60,8 @@ fn exits(
     Ok(all)
 }
 
-fn block(alloc: Global, draft: Draft) -> Result<EntryCert, Failure<GaveUp>> {
-    let Draft {
-        entry,
-        block,
-        lists,
-        ..
-    } = draft;
+fn block(alloc: Global, draft: Draft) -> Result<EntryCert, AllocError> {
+    let Draft { block, lists, .. } = draft;
     let Summary {
         need,
         exits: given,
@@ -105,24 +73,48 @@ fn block(alloc: Global, draft: Draft) -> Result<EntryCert, Failure<GaveUp>> {
         entry: block.entry,
         summary: Summary {
             need,
-            exits: exits(alloc, entry, given)?,
+            exits: exits(alloc, given)?,
             mods,
             low,
             drops,
         },
-        points: points(alloc, entry, lists)?,
+        points: points(alloc, lists)?,
     })
 }
 
-/// The certificate of all entries of which something is known.
-pub(crate) fn finish(alloc: Global, maker: Maker) -> Result<Certificate, Failure<GaveUp>> {
-    let mut blocks = Vec::new(alloc);
+fn blocks(alloc: Global, maker: Maker) -> Result<Vec<EntryCert>, AllocError> {
+    let mut all = Vec::new(alloc);
     for (_, draft) in maker.drafts {
-        blocks.push(block(alloc, draft)?)?;
+        all.push(block(alloc, draft)?)?;
     }
-    match certificate_of(alloc, blocks) {
-        Ok(certificate) => Ok(certificate),
+    Ok(all)
+}
+
+// What is told where blocks are refused as a certificate. No such blocks are known but those whose text is too long.
+fn refused(fault: CertFault) -> MakeError
+    ensures { IsUnspelled result }
+{
+    if fault.code == Code::CertLimit && fault.line.number() == 1 {
+        return MakeError::TooLong(fault);
+    }
+    MakeError::GaveUp(GaveUp {
+        entry: EntryId::new(0, 0),
+        fault: Fault {
+            line: 1,
+            column: Column::new(1),
+            code: Code::CaseNotListed,
+        },
+    })
+}
+
+/// The certificate of all entries of which something is known, and its text.
+pub(crate) fn finish(alloc: Global, maker: Maker) -> Result<Spelled, Failure<MakeError>>
+    ensures spells { IfOk result (λ s. Spells s.certificate s.text.items) }
+    ensures refused { IfErr result (λ e. IfRefused e IsUnspelled) }
+{
+    match spell(alloc, blocks(alloc, maker)?) {
+        Ok(made) => Ok(made),
         Err(Failure::OutOfMemory) => Err(Failure::OutOfMemory),
-        Err(Failure::Refused(_)) => gave_up(EntryId::new(0, 0), nowhere(1)),
+        Err(Failure::Refused(fault)) => Err(Failure::Refused(refused(fault))),
     }
 }

@@ -2,6 +2,7 @@
 
 use crate::draft::Draft;
 use crate::stop::Stop;
+use mlk_calls::Entries;
 use mlk_coverage::Rules;
 use mlk_program::{EntryId, Program};
 use mlk_rows::Fault;
@@ -15,6 +16,8 @@ pub(crate) struct Ground<'a> {
     pub(crate) alloc: Global,
     pub(crate) program: &'a Program<'a>,
     pub(crate) rules: &'a Rules,
+    /// the declared entries, without any block
+    pub(crate) declared: &'a Entries<'a>,
 }
 
 /// What is known of all entries but the one that is walked, and the changes so far.
@@ -62,12 +65,21 @@ impl Maker {
         let draft = Draft::new(
             ground.alloc,
             entry,
+            number_of(ground.program, entry),
             Value::new(text),
             declared,
             self.changes,
         );
         self.drafts.insert(entry, draft)?;
         Ok(true)
+    }
+}
+
+/// The number of an entry's line.
+pub(crate) fn number_of(program: &Program<'_>, entry: EntryId) -> usize {
+    match program.line(entry) {
+        None => 1,
+        Some(line) => line.number,
     }
 }
 

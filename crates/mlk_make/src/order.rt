@@ -2,9 +2,9 @@
 
 ghost use Rattle.std.specs.Prelude.{◌≤◌, IfOk, length};
 
-use mlk_cert::{Case, NameSet, Point, Test, with_case};
+use mlk_cert::{Case, NameSet, Test, Text, Written};
 use mlk_commands::in_order;
-use mlk_text::{Failure, LineNumber, List, Name};
+use mlk_text::{List, Name};
 use std::alloc::{AllocError, Global};
 
 fn text_of(alloc: Global, names: &[Name]) -> Result<Vec<u8>, AllocError> {
@@ -55,56 +55,57 @@ pub(crate) fn set_in_order(alloc: Global, set: NameSet) -> Result<NameSet, Alloc
     }
 }
 
-// The cases in order, of which all say the same of `$TEST`. Where they keep to no order, or break a limit, they are given
-// back at a point.
-fn in_order_of_texts(alloc: Global, cases: Vec<Case>) -> Result<Vec<Case>, Failure<Point>> {
-    if cases.len() < 2 {
-        return Ok(cases);
+// The places of what a case says of `$TEST` in the order of the signs.
+fn place_of_test(case: &Case) -> u8 {
+    match case.test {
+        Test::Any => 0,
+        Test::Zero => 1,
+        Test::One => 2,
     }
-    let mut point = Point {
-        line: LineNumber::new(1),
-        round: 0,
-        cases: List::new(alloc),
-    };
-    for case in cases {
-        point = with_case(alloc, point, case)?;
-    }
-    Ok(point.cases.into_vec())
 }
 
-// Those cases that say this of `$TEST`, and the others.
-fn parted(
-    alloc: Global,
-    test: Test,
-    cases: Vec<Case>,
-) -> Result<(Vec<Case>, Vec<Case>), AllocError> {
-    let mut these = Vec::new(alloc);
-    let mut others = Vec::new(alloc);
-    for case in cases {
-        if case.test == test {
-            these.push(case)?;
-        } else {
-            others.push(case)?;
-        }
-    }
-    Ok((these, others))
+fn how_many(cases: &[Case], test: Test) -> usize {
+    cases.iter().filter(|case| case.test == test).count()
 }
 
-/// Cases in the order of their texts, in which `$TEST` comes first. Where they keep to no order, or break a limit, some are
-/// given back at a point.
+// Whether no two of the cases say the same of `$TEST`.
+fn are_told_apart(cases: &[Case]) -> bool {
+    how_many(cases, Test::Any) < 2
+        && how_many(cases, Test::Zero) < 2
+        && how_many(cases, Test::One) < 2
+}
+
+// Cases, each after its text.
+fn with_texts(alloc: Global, cases: Vec<Case>) -> Result<Vec<(Text, Case)>, AllocError> {
+    let mut all = Vec::new(alloc);
+    for case in cases {
+        let mut text = Text::new(alloc);
+        case.push_to(&mut text)?;
+        all.push((text, case))?;
+    }
+    Ok(all)
+}
+
+// Cases in the order of their texts.
+fn by_texts(alloc: Global, cases: Vec<Case>) -> Result<List<Case>, AllocError> {
+    let mut all = with_texts(alloc, cases)?;
+    all.sort_by(|first, second| first.0.as_bytes().cmp(second.0.as_bytes()))?;
+    let mut ordered = List::new(alloc);
+    for (_, case) in all {
+        ordered.push(case)?;
+    }
+    Ok(ordered)
+}
+
+/// Cases in the order of their texts, in which `$TEST` comes first. A text is written only where that does not tell two
+/// cases apart.
 pub(crate) fn cases_in_order(
     alloc: Global,
-    cases: Vec<Case>,
-) -> Result<List<Case>, Failure<Point>> {
-    if cases.len() < 2 {
+    mut cases: Vec<Case>,
+) -> Result<List<Case>, AllocError> {
+    if are_told_apart(cases.as_slice()) {
+        cases.sort_by_key(place_of_test)?;
         return Ok(List::of(cases));
     }
-    let (any, others) = parted(alloc, Test::Any, cases)?;
-    let (zero, one) = parted(alloc, Test::Zero, others)?;
-    let mut all = in_order_of_texts(alloc, any)?;
-    let mut zero = in_order_of_texts(alloc, zero)?;
-    let mut one = in_order_of_texts(alloc, one)?;
-    all.append(&mut zero)?;
-    all.append(&mut one)?;
-    Ok(List::of(all))
+    by_texts(alloc, cases)
 }

@@ -138,7 +138,6 @@ fn is_found(
     entering: &mut List<Case>,
 ) -> Result<bool, AllocError> {
     let inner = kept_ends(ground, draft, probe)?;
-    let inner = inner.as_slice();
     let walked = walk_site(
         ground,
         maker,

@@ -2,7 +2,8 @@
 
 ghost use Rattle.std.specs.Prelude.{◌≡◌, IfOk, IfErr, None, find, map};
 ghost use Rattle.mlk_routine.specs.Views.{routine_of};
-ghost use Rattle.mlk_make.specs.Missing.{is_missing, IsUnmade};
+ghost use Rattle.mlk_cert.specs.Theorem.{Spells};
+ghost use Rattle.mlk_make.specs.Missing.{is_missing, IsUnmade, IsUnspelled, IfRefused};
 
 use crate::entry::walk_entry;
 use crate::finish::finish;
@@ -10,7 +11,8 @@ use crate::maker::{Ground, Maker};
 use crate::missing::first_missing;
 use crate::stop::{GaveUp, MakeError};
 use crate::watch::{Stage, Unwatched, Watch};
-use mlk_cert::Certificate;
+use mlk_calls::Entries;
+use mlk_cert::Spelled;
 use mlk_coverage::{Rules, entries};
 use mlk_program::{EntryId, Program};
 use mlk_routine::Line;
@@ -77,26 +79,52 @@ fn walk_rounds<W: Watch>(
     Ok(())
 }
 
-// Certifies the declared entries and all that they reach.
-fn certify<W: Watch>(ground: &Ground<'_>, watch: &W) -> Result<Certificate, Failure<GaveUp>> {
+// Walks the declared entries and all that they reach.
+fn walked<W: Watch>(ground: &Ground<'_>, watch: &W) -> Result<Maker, Failure<GaveUp>> {
     let mut maker = Maker::new(ground.alloc);
     declare(ground, &mut maker)?;
     walk_rounds(ground, &mut maker, watch)?;
-    finish(ground.alloc, maker)
+    Ok(maker)
 }
 
-/// Makes a certificate of the declared entries, and of all that they reach by calls. Its entries are in the program's
-/// order.
+// Certifies the declared entries and all that they reach.
+fn certify<W: Watch>(
+    alloc: Global,
+    program: &Program<'_>,
+    rules: &Rules,
+    watch: &W,
+) -> Result<Spelled, Failure<MakeError>>
+    ensures spells { IfOk result (λ s. Spells s.certificate s.text.items) }
+    ensures refused { IfErr result (λ e. IfRefused e IsUnspelled) }
+{
+    let declared = Entries::of(alloc, program, rules, &[])?;
+    let ground = Ground {
+        alloc,
+        program,
+        rules,
+        declared: &declared,
+    };
+    match walked(&ground, watch) {
+        Ok(maker) => finish(alloc, maker),
+        Err(Failure::OutOfMemory) => Err(Failure::OutOfMemory),
+        Err(Failure::Refused(place)) => Err(Failure::Refused(MakeError::GaveUp(place))),
+    }
+}
+
+/// Makes a certificate of the declared entries, and of all that they reach by calls, and its text. Its entries are in the
+/// program's order.
 ///
 /// Their summaries begin empty. In each round every entry is walked, in order, until its lists grow no more: what would
-/// mend a fault is put in, where it can be. A further round is made while one changes something; 64 are too many.
+/// mend a fault is put in, where it can be. A further round is made while one changes something; 64 are too many. What was
+/// found is written, and the certificate is read of the text.
 pub fn make(
     alloc: Global,
     program: &Program<'_>,
     rules: &Rules,
-) -> Result<Certificate, Failure<MakeError>>
-    // A certificate keeps to all limits by its type. None is made where the program lacks a declared entry:
-    ensures made { IfOk result (λ c. find (is_missing (map routine_of program.now)) rules.now.entries ≡ None) }
+) -> Result<Spelled, Failure<MakeError>>
+    // It keeps to all limits, and the text is its own. None is made where the program lacks a declared entry:
+    ensures spells { IfOk result (λ s. Spells s.certificate s.text.items) }
+    ensures made { IfOk result (λ s. find (is_missing (map routine_of program.now)) rules.now.entries ≡ None) }
     // then that is told, and nothing else is told so.
     ensures refused { IfErr result (IsUnmade (map routine_of program.now) rules.now.entries) }
 {
@@ -109,22 +137,14 @@ pub fn make_watched<W: Watch>(
     program: &Program<'_>,
     rules: &Rules,
     watch: &W,
-) -> Result<Certificate, Failure<MakeError>>
-    ensures made { IfOk result (λ c. find (is_missing (map routine_of program.now)) rules.now.entries ≡ None) }
+) -> Result<Spelled, Failure<MakeError>>
+    ensures spells { IfOk result (λ s. Spells s.certificate s.text.items) }
+    ensures made { IfOk result (λ s. find (is_missing (map routine_of program.now)) rules.now.entries ≡ None) }
     ensures refused { IfErr result (IsUnmade (map routine_of program.now) rules.now.entries) }
 {
     if let Some(text) = first_missing(program, entries(rules)) {
         let text = Value::of(alloc, text)?;
         return Err(Failure::Refused(MakeError::EntryMissing(text)));
     }
-    let ground = Ground {
-        alloc,
-        program,
-        rules,
-    };
-    match certify(&ground, watch) {
-        Ok(certificate) => Ok(certificate),
-        Err(Failure::OutOfMemory) => Err(Failure::OutOfMemory),
-        Err(Failure::Refused(place)) => Err(Failure::Refused(MakeError::GaveUp(place))),
-    }
+    certify(alloc, program, rules, watch)
 }

@@ -8,6 +8,7 @@ use mlk_cert::{Case, ExitCase, NameSet, Shared, Summary, place_of_term};
 use mlk_names::LockTerm;
 use mlk_text::List;
 use std::alloc::{AllocError, Global};
+use std::mem;
 
 /// The summary of a call that does nothing.
 pub(crate) fn empty_summary(alloc: Global) -> Summary {
@@ -54,7 +55,7 @@ fn add_mod(alloc: Global, summary: &mut Summary, set: NameSet) -> Result<Listing
         return Ok(Listing::Full);
     }
     let place = place_of_set(alloc, mods, &set)?;
-    let mut all = Vec::from_clones(alloc, mods)?;
+    let mut all = mem::replace(&mut summary.mods, List::new(alloc)).into_vec();
     all.insert(place, set)?;
     summary.mods = List::of(all);
     Ok(Listing::Added)

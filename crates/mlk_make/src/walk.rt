@@ -1,6 +1,6 @@
 // The walk of one line.
 
-use crate::copy::{copy_cases, copy_summed};
+use crate::copy::copy_summed;
 use crate::draft::Draft;
 use crate::found::calls_of;
 use crate::maker::{Ground, Maker};
@@ -138,11 +138,10 @@ fn walk_among(
     entry: EntryId,
     block: &EntryCert,
     site: Site<'_>,
-    inner: &[Case],
+    inner: List<Case>,
 ) -> Result<Walked, AllocError> {
     let alloc = ground.alloc;
     let scope = Scope::of(ground.program, ground.rules, entries, entry, block);
-    let inner = copy_cases(alloc, inner)?;
     let mut found = LineFaults::new(alloc);
     let ends = walk_alone(
         alloc,
@@ -167,7 +166,7 @@ fn walk_by(
     entry: EntryId,
     block: &EntryCert,
     site: Site<'_>,
-    inner: &[Case],
+    inner: List<Case>,
 ) -> Result<Walked, AllocError> {
     let rules = rules.unwrap_or(ground.rules);
     let entries = Entries::of(ground.alloc, ground.program, rules, blocks)?;
@@ -182,9 +181,12 @@ pub(crate) fn walk_site(
     block: &EntryCert,
     site: Site<'_>,
     targets: &[Target],
-    inner: &[Case],
+    inner: List<Case>,
 ) -> Result<Walked, AllocError> {
     let blocks = summed(ground.alloc, maker, draft, targets)?;
+    if blocks.is_empty() {
+        return walk_among(ground, ground.declared, draft.entry, block, site, inner);
+    }
     let few = declared_rules(ground.alloc, maker, draft, targets)?;
     walk_by(
         ground,
