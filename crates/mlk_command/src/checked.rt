@@ -235,8 +235,8 @@ fn outcome_with(
             Ok(Outcome::Report(report))
         }
         Work::Make => {
-            let made = made(alloc, program, rules)?;
-            Ok(Outcome::Made(made.text))
+            let Spelled { text, .. } = made(alloc, program, rules)?;
+            Ok(Outcome::Made(text))
         }
         Work::Verify => {
             let made = made(alloc, program, rules)?;
