@@ -2,13 +2,10 @@
 //! the check.
 #![tactic(auto)]
 
-mod call;
 mod copy;
 mod draft;
 mod entry;
-mod expr;
 mod finish;
-mod found;
 mod hand;
 mod lists;
 mod maker;
