@@ -2,23 +2,17 @@
 //! the check.
 #![tactic(auto)]
 
-mod copy;
-mod draft;
 mod entry;
 mod finish;
-mod hand;
-mod lists;
 mod maker;
 mod mend;
 mod missing;
 mod need;
 mod news;
-mod order;
 mod probe;
 mod rounds;
 mod settle;
 mod stop;
-mod summary;
 mod walk;
 
 pub use rounds::make;

@@ -1,11 +1,10 @@
 // The walk of one line.
 
-use crate::copy::copy_summed;
-use crate::draft::Draft;
 use crate::maker::{Ground, Maker};
 use mlk_calls::{Entries, Scope};
 use mlk_cert::{Case, EntryCert};
 use mlk_coverage::{RuleLists, Rules};
+use mlk_drafts::{Draft, copy_summed};
 use mlk_lines::{Around, LineFault, LineFaults, walk_alone};
 use mlk_program::{EntryId, calls_of};
 use mlk_routine::{Action, Command, Commands, Line};
