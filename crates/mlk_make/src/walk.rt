@@ -65,7 +65,7 @@ pub(crate) fn targets_of(
     let mut begun = BTreeSet::new(ground.alloc);
     add_all_begun(&mut begun, &line.commands)?;
     let mut targets = Vec::new(ground.alloc);
-    for call in calls_of(ground.alloc, line)? {
+    for call in calls_of(ground.alloc, &line.commands)? {
         if let Some(entry) = ground.program.target(routine, call.callee) {
             targets.push(Target {
                 column: call.column,
