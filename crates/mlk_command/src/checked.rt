@@ -251,8 +251,8 @@ fn outcome_with<W: Watch>(
             Ok(Outcome::Report(report))
         }
         Work::Make => {
-            let made = made(alloc, program, rules, watch)?;
-            Ok(Outcome::Made(made.text))
+            let Spelled { text, .. } = made(alloc, program, rules, watch)?;
+            Ok(Outcome::Made(text))
         }
         Work::Verify => {
             let made = made(alloc, program, rules, watch)?;

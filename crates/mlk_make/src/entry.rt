@@ -1,7 +1,5 @@
 // The walk of an entry.
 
-use crate::draft::Draft;
-use crate::lists::At;
 use crate::maker::{Ground, Maker, has_changed, number_of};
 use crate::mend::done;
 use crate::need::formals_of;
@@ -9,6 +7,7 @@ use crate::settle::settle_lines;
 use crate::stop::{GaveUp, Stop, gave_up};
 use mlk_cert::{Case, NameSet, Own, Shared, Test};
 use mlk_commands::in_order;
+use mlk_drafts::{At, Draft};
 use mlk_lines::Around;
 use mlk_program::{EntryId, Program};
 use mlk_routine::Line;

@@ -1,9 +1,9 @@
 // All entries of which something is known.
 
-use crate::draft::Draft;
 use crate::stop::Stop;
 use mlk_calls::Entries;
 use mlk_coverage::Rules;
+use mlk_drafts::Draft;
 use mlk_program::{EntryId, Program};
 use mlk_rows::Fault;
 use mlk_text::{Failure, Value};

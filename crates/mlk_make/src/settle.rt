@@ -1,10 +1,10 @@
 // An entry's lines are walked until their lists grow no more.
 
-use crate::draft::Draft;
 use crate::maker::{Ground, Maker, has_changed};
 use crate::mend::mend_all;
 use crate::stop::Stop;
 use crate::walk::{Site, Target, Walked, targets_of, walk_site};
+use mlk_drafts::Draft;
 use mlk_lines::Around;
 use mlk_routine::Line;
 use mlk_rows::Fault;

@@ -22,7 +22,7 @@ pub(crate) fn empty_summary(alloc: Global) -> Summary {
 }
 
 /// Lists an exit that the walk found missing.
-pub(crate) fn add_exit(
+pub fn add_exit(
     alloc: Global,
     summary: &mut Summary,
     exit: ExitCase,
@@ -62,7 +62,7 @@ fn add_mod(alloc: Global, summary: &mut Summary, set: NameSet) -> Result<Listing
 }
 
 /// Lists names that may change.
-pub(crate) fn add_mods(
+pub fn add_mods(
     alloc: Global,
     summary: &mut Summary,
     sets: Vec<NameSet>,
@@ -79,7 +79,7 @@ pub(crate) fn add_mods(
 }
 
 /// A call may claim what has this rank.
-pub(crate) fn lower(summary: &mut Summary, rank: u32) -> Listing {
+pub fn lower(summary: &mut Summary, rank: u32) -> Listing {
     let is_low = match summary.low {
         Some(low) => low <= rank,
         None => false,
@@ -92,7 +92,7 @@ pub(crate) fn lower(summary: &mut Summary, rank: u32) -> Listing {
 }
 
 /// A call may release all locks.
-pub(crate) fn drop_all(summary: &mut Summary) -> Listing {
+pub fn drop_all(summary: &mut Summary) -> Listing {
     if summary.drops {
         return Listing::Known;
     }
@@ -101,7 +101,7 @@ pub(crate) fn drop_all(summary: &mut Summary) -> Listing {
 }
 
 /// What a callee claims and releases; what it claims comes first.
-pub(crate) fn widen(summary: &mut Summary, low: Option<u32>, drops: bool) -> Listing {
+pub fn widen(summary: &mut Summary, low: Option<u32>, drops: bool) -> Listing {
     if let Some(rank) = low
         && lower(summary, rank) == Listing::Added
     {

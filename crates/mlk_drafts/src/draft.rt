@@ -14,25 +14,26 @@ use std::mem;
 
 /// What is known so far of an entry.
 #[derive(Drop)]
-pub(crate) struct Draft {
-    pub(crate) entry: EntryId,
-    pub(crate) declared: bool,
+pub struct Draft {
+    pub entry: EntryId,
+    /// whether the rules declare it
+    pub declared: bool,
     /// its text, its summary, and while a line is walked the points that are in hand: those of the line, and of the begin
     /// of its block
-    pub(crate) block: EntryCert,
+    pub block: EntryCert,
     /// its points but those in hand
-    pub(crate) lists: Lists,
+    pub lists: Lists,
     /// whose summaries were asked
-    pub(crate) callees: BTreeSet<EntryId>,
+    pub callees: BTreeSet<EntryId>,
     /// how many changes there were when its summary changed last
-    pub(crate) changed: usize,
+    pub changed: usize,
     /// how many there were when it was walked last; none before
-    pub(crate) walked: Option<usize>,
+    pub walked: Option<usize>,
 }
 
 impl Draft {
     /// Nothing is known of an entry with this text, whose line has this number, after so many changes.
-    pub(crate) fn new(
+    pub fn new(
         alloc: Global,
         entry: EntryId,
         line: usize,
@@ -56,17 +57,13 @@ impl Draft {
     }
 
     /// The points and the exits start anew.
-    pub(crate) fn clear(&mut self, alloc: Global) {
+    pub fn clear(&mut self, alloc: Global) {
         self.lists.clear();
         self.block.summary.exits = List::new(alloc);
     }
 
     /// More locks are needed.
-    pub(crate) fn need(
-        &mut self,
-        alloc: Global,
-        terms: Vec<LockTerm>,
-    ) -> Result<Listing, AllocError> {
+    pub fn need(&mut self, alloc: Global, terms: Vec<LockTerm>) -> Result<Listing, AllocError> {
         add_needs(alloc, &mut self.block.summary, terms)
     }
 
@@ -88,7 +85,7 @@ impl Draft {
     }
 
     /// Takes the points of a line and of its block's begin in hand.
-    pub(crate) fn take(&mut self, alloc: Global, line: &Line) -> Result<(), AllocError> {
+    pub fn take(&mut self, alloc: Global, line: &Line) -> Result<(), AllocError> {
         self.lists.walk(line.number);
         let mut points = List::new(alloc);
         for round in 0..rounds_in(&line.commands).saturating_add(1) {
@@ -110,7 +107,7 @@ impl Draft {
     }
 
     /// Puts the points in hand back.
-    pub(crate) fn put_back(&mut self, alloc: Global) {
+    pub fn put_back(&mut self, alloc: Global) {
         let points = mem::replace(&mut self.block.points, List::new(alloc));
         for point in points.into_vec() {
             let at = At {
@@ -123,7 +120,7 @@ impl Draft {
 }
 
 /// The number of a line, as a certificate has it.
-pub(crate) fn line_number(line: usize) -> Result<LineNumber, AllocError> {
+pub fn line_number(line: usize) -> Result<LineNumber, AllocError> {
     match u32::try_from(line) {
         Ok(number) => Ok(LineNumber::new(number)),
         Err(_) => Err(AllocError),
@@ -131,7 +128,7 @@ pub(crate) fn line_number(line: usize) -> Result<LineNumber, AllocError> {
 }
 
 /// The number of a FOR, as a certificate has it.
-pub(crate) fn round_number(round: usize) -> Result<u32, AllocError> {
+pub fn round_number(round: usize) -> Result<u32, AllocError> {
     match u32::try_from(round) {
         Ok(number) => Ok(number),
         Err(_) => Err(AllocError),

@@ -11,14 +11,14 @@ use std::mem;
 
 /// A point: a line, and 0 or which FOR of it.
 #[derive(Clone, Copy, Debug, Drop, PartialEq, Eq)]
-pub(crate) struct At {
-    pub(crate) line: usize,
-    pub(crate) round: usize,
+pub struct At {
+    pub line: usize,
+    pub round: usize,
 }
 
 /// What becomes of what is to be listed.
 #[derive(Clone, Copy, Debug, Drop, PartialEq, Eq)]
-pub(crate) enum Listing {
+pub enum Listing {
     /// it is there already
     Known,
     Added,
@@ -72,7 +72,7 @@ impl LineLists {
 
 /// The points of an entry, and the cases in which the lines of its blocks end them: by the lines, from the entry's own on.
 #[derive(Drop)]
-pub(crate) struct Lists {
+pub struct Lists {
     first: usize,
     lines: Vec<LineLists>,
 }
@@ -134,7 +134,7 @@ impl Lists {
     }
 
     /// The cases of a point.
-    pub(crate) fn cases(&self, at: At) -> &[Case] {
+    pub fn cases(&self, at: At) -> &[Case] {
         let point = match self.line(at.line) {
             Some(lists) => lists.point(at.round),
             None => None,
@@ -146,12 +146,12 @@ impl Lists {
     }
 
     /// Whether a line has a case.
-    pub(crate) fn has_some(&self, line: usize) -> bool {
+    pub fn has_some(&self, line: usize) -> bool {
         !self.cases(At { line, round: 0 }).is_empty()
     }
 
     /// Whether a line has a case that was not walked yet.
-    pub(crate) fn has_new(&self, line: usize) -> bool {
+    pub fn has_new(&self, line: usize) -> bool {
         match self.line(line) {
             Some(lists) => lists.begin.as_slice().len() > lists.walked,
             None => false,
@@ -184,12 +184,7 @@ impl Lists {
     }
 
     /// Lists a case at a point, where none of its cases says no more than this one.
-    pub(crate) fn list(
-        &mut self,
-        alloc: Global,
-        at: At,
-        case: Case,
-    ) -> Result<Listing, AllocError> {
+    pub fn list(&mut self, alloc: Global, at: At, case: Case) -> Result<Listing, AllocError> {
         let Some(lists) = self.opened(alloc, at.line)? else {
             return Ok(Listing::Full);
         };
@@ -201,7 +196,7 @@ impl Lists {
     }
 
     /// The cases in which a line ends its block; whether they are others than before.
-    pub(crate) fn end(
+    pub fn end(
         &mut self,
         alloc: Global,
         line: usize,
@@ -219,7 +214,7 @@ impl Lists {
     }
 
     /// The cases in which these lines of a block end it.
-    pub(crate) fn ends_of(&self, alloc: Global, lines: &[Line]) -> Result<List<Case>, AllocError> {
+    pub fn ends_of(&self, alloc: Global, lines: &[Line]) -> Result<List<Case>, AllocError> {
         let mut all = Vec::new(alloc);
         for line in lines {
             if let Some(lists) = self.line(line.number) {

@@ -3,7 +3,7 @@
 use mlk_routine::{Commands, For};
 
 /// How many FORs a line has.
-pub(crate) fn rounds_in(commands: &Commands) -> usize {
+pub fn rounds_in(commands: &Commands) -> usize {
     match &commands.last {
         None => 0,
         Some(last) => last.index.max(rounds_in(&last.rest)),
@@ -11,7 +11,7 @@ pub(crate) fn rounds_in(commands: &Commands) -> usize {
 }
 
 /// The FOR of a line that is this one, counted from 1.
-pub(crate) fn round_at(commands: &Commands, round: usize) -> Option<&For> {
+pub fn round_at(commands: &Commands, round: usize) -> Option<&For> {
     let last = commands.last.as_ref()?;
     if last.index == round {
         return Some(last);

@@ -6,7 +6,7 @@ use mlk_text::List;
 use std::alloc::{AllocError, Global};
 
 /// Copies of cases, which share their lists.
-pub(crate) fn copy_cases(alloc: Global, cases: &[Case]) -> Result<List<Case>, AllocError> {
+pub fn copy_cases(alloc: Global, cases: &[Case]) -> Result<List<Case>, AllocError> {
     let mut copies = List::new(alloc);
     for case in cases {
         copies.push(copy_case(case)?)?;
@@ -43,7 +43,7 @@ pub(crate) fn copy_summary(alloc: Global, summary: &Summary) -> Result<Summary, 
 }
 
 /// A copy of a block without its points.
-pub(crate) fn copy_summed(alloc: Global, block: &EntryCert) -> Result<EntryCert, AllocError> {
+pub fn copy_summed(alloc: Global, block: &EntryCert) -> Result<EntryCert, AllocError> {
     Ok(EntryCert {
         entry: block.entry.copy()?,
         summary: copy_summary(alloc, &block.summary)?,
