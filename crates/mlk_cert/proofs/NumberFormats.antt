@@ -3,7 +3,7 @@ use Rattle.std.proofs.Common.{one-add, ◌≡◌, ◌<◌, ◌≤◌, ◌+◌, �
 use Rattle.std.specs.Prelude.{◌==◌, nat_le, if◌then◌else◌}
 use Rattle.std.specs.Fmt.{decimal, digits as digits'}
 use Rattle.std.specs.Int.Digits.{digits_of, number_from_digits_after, number_from_digits, AllBelowBase}
-use Rattle.std.proofs.lemmas.Fmt.{decimal-digits_of}
+use Rattle.std.proofs.lemmas.Fmt.{decimal-digits_of, decimal_digit, decimal_step}
 use Rattle.std.proofs.lemmas.Int.Digits.{digits_of_step, number_after_ge, number_digits_of, all_below_base_digits_of, first_digits_of}
 use Rattle.std.proofs.Math.Seq.{drop-append_seam, take-append_seam}
 use Rattle.std.proofs.lemmas.List.{map-append}
@@ -239,3 +239,10 @@ shown-no-dash n ys none = elim (cases_Bool (n == 0)) [
 
 pub decimal-no-dash : (n : ℕ) (ys : List ℕ) → n < 2 ^ 64 → byte_at 45 ys ≡ None → byte_at 45 (decimal n ++ ys) ≡ None
 decimal-no-dash n ys small none = ap (λ l. byte_at 45 (l ++ ys)) (decimal-shown n small) ∙ shown-no-dash n ys none
+
+-- a number's digits, after others
+pub one_digit : (n : ℕ) (before : List ℕ) → n < 10 → before ++ (48 + n) ∷ [] ≡ before ++ decimal n
+one_digit n before small = ap (λ z. before ++ z) (sym (decimal_digit n small))
+
+pub last_digit : (n : ℕ) (before : List ℕ) → 10 ≤ n → n < 2 ^ 64 → (before ++ decimal (n / 10)) ++ (48 + n % 10) ∷ [] ≡ before ++ decimal n
+last_digit n before large small = append_assoc before (decimal (n / 10)) ((48 + n % 10) ∷ []) ∙ ap (λ z. before ++ z) (sym (decimal_step n large small))

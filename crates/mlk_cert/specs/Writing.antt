@@ -8,6 +8,9 @@ use Rattle.mlk_cert.specs.declared.write.whole.WriteFault.{WriteFault}
 use Rattle.mlk_cert.specs.declared.write.whole.WriteFault.TheVariants.{TooLong, Io}
 use Rattle.mlk_cert.specs.Limits.{longest}
 use Rattle.mlk_cert.specs.Texts.{certificate_text}
+use Rattle.mlk_cert.specs.Theorem.{Spells}
+use Rattle.mlk_cert.specs.Refusals.{IsRefusal}
+use Rattle.mlk_cert.specs.declared.read.fault.CertFault.{CertFault}
 
 -- Its text is too long, which is a limit at line 1, and the writer is as it was; or the writer has a fault, of which it
 -- alone can say more.
@@ -15,3 +18,9 @@ abbrev pub IsUnwritten : {W : Type 0} → List EntryCert → W → W → Failure
 IsUnwritten blocks old new OutOfMemory = new ≡ old
 IsUnwritten blocks old new (Refused (TooLong fault)) = (longest < length (certificate_text blocks)) × ((fault.code ≡ CertLimit) × ((fault.line ≡ 1) × (new ≡ old)))
 IsUnwritten blocks old new (Refused (Io e)) = length (certificate_text blocks) ≤ longest
+
+-- Why blocks and their text are no certificate and its text: the fault that is told of the text. Want of memory says
+-- nothing.
+abbrev pub IsUnspelled : List EntryCert → Failure CertFault → Type 0
+IsUnspelled blocks OutOfMemory = Unit {0}
+IsUnspelled blocks (Refused fault) = (Spells blocks (certificate_text blocks) → ⊥) × IsRefusal (certificate_text blocks) fault

@@ -5,7 +5,7 @@ ghost use Rattle.mlk_cert.specs.Lists.{Each, EachPair};
 ghost use Rattle.mlk_cert.specs.Inclusion.{Covers, Included};
 
 use crate::case::{Case, Test};
-use mlk_text::Name;
+use mlk_text::{Name, are_equal};
 
 // Whether the second says no more of `$TEST` than the first.
 fn covers(first: Test, second: Test) -> bool
@@ -51,7 +51,7 @@ pub(crate) fn same<T: PartialEq>(first: &[T], second: &[T]) -> bool
     requires { (x y : T) → Decides (T.eq x y) (x ≡ y) }
     ensures { IsTrue result ↔ (second.now ≡ first.now) }
 {
-    second == first
+    are_equal(second, first)
 }
 
 /// Whether the second case is included in the first: it says no more than the first, so it holds wherever the first

@@ -12,6 +12,7 @@ mod names;
 mod order;
 mod read;
 mod shared;
+mod spelled;
 mod write;
 
 pub use block::{EntryCert, Point, Summary};
@@ -24,4 +25,5 @@ pub use names::{NameSet, Own};
 pub use order::place_of_term;
 pub use read::{CertFault, read_cert};
 pub use shared::Shared;
+pub use spelled::{Spelled, spell};
 pub use write::{Text, WriteFault, Written, push_flat, push_listed, push_more, write_cert};

@@ -2,7 +2,7 @@
 
 ghost use Rattle.std.specs.Prelude.{◌≡◌, IfOk};
 
-use mlk_text::List;
+use mlk_text::{List, are_equal};
 use std::alloc::{AllocError, Global};
 use std::marker::Model;
 use std::sync::Arc;
@@ -53,7 +53,7 @@ impl<T: PartialEq + Drop> PartialEq for Shared<T> {
     ghost laws = { lists_per T.laws };
 
     fn eq(&self, other: &Shared<T>) -> bool {
-        self.as_slice() == other.as_slice()
+        are_equal(self.as_slice(), other.as_slice())
     }
 }
 

@@ -26,7 +26,7 @@ use Rattle.mlk_program.specs.declared.entry.EntryId.{EntryId}
 use Rattle.mlk_replay.specs.declared.fault.EventsFault.{EventsFault}
 use Rattle.mlk_replay.specs.Files.{ReplayedFile}
 use Rattle.mlk_command.specs.Replayed.{IsUndeclared, IsStopped}
-use Rattle.mlk_command.specs.Checked.{IsRead, AreRead, IsFirst, IsTooLong, IsStuck, IsUnmade, IsRefusalBy, IsRefusalWith, IsRefusalUnder, IsRefusalOf, refusal_of_routine, refusal_of_rules, refusal_of_certificate, refusal_of_events, RefusesFirst, TellsEntry}
+use Rattle.mlk_command.specs.Checked.{IsRead, AreRead, IsFirst, IsStuck, IsUnmade, IsRefusalBy, IsRefusalWith, IsRefusalUnder, IsRefusalOf, refusal_of_routine, refusal_of_rules, refusal_of_certificate, refusal_of_events, RefusesFirst, TellsEntry}
 
 -- one routine more is read
 read-one-more : (sources : List Source) (trees : List RoutineTree) (source : Source) (tree : RoutineTree) → AreRead sources trees → IsRead source tree → AreRead (sources ++ source ∷ []) (trees ++ tree ∷ [])
@@ -119,16 +119,6 @@ by-events routines entries events failure.OutOfMemory stopped = record {}
 by-events routines entries events (failure.Refused fault) stopped = stopped
 
 -- What is told where no certificate is made.
-pub unmade-too-long : (trees : List RoutineTree) (rules : RuleLists) (blocks : List EntryCert) (r : Refusal) → IsTooLong blocks r → IsUnmade trees rules r
-unmade-too-long trees rules blocks refusal.OutOfMemory told = record {}
-unmade-too-long trees rules blocks (refusal.Routine fault) told = told
-unmade-too-long trees rules blocks (refusal.Rules fault) told = told
-unmade-too-long trees rules blocks (refusal.Certificate fault) told = told
-unmade-too-long trees rules blocks (refusal.Entry entry) told = absurd told
-unmade-too-long trees rules blocks refusal.Disagreement told = told
-unmade-too-long trees rules blocks (refusal.GaveUp entry fault) told = absurd told
-unmade-too-long trees rules blocks (refusal.Events fault) told = told
-
 pub unmade-stuck : (trees : List RoutineTree) (rules : RuleLists) (r : Refusal) → find (is_missing trees) rules.entries ≡ None → IsStuck trees r → IsUnmade trees rules r
 unmade-stuck trees rules refusal.OutOfMemory none told = record {}
 unmade-stuck trees rules (refusal.Routine fault) none told = told

@@ -2,7 +2,7 @@
 use Rattle.std.proofs.Common.{◌≡◌, ℕ, List, sym, subst}
 use Rattle.std.specs.Prelude.{String}
 use Rattle.mlk_command.specs.declared.source.Sources.{Sources}
-use Rattle.mlk_command.specs.declared.words.Request.{Request}
+use Rattle.mlk_words.specs.declared.words.Request.{Request}
 use Rattle.mlk_command.specs.declared.checked.Checked.{Checked}
 use Rattle.mlk_verdicts.specs.declared.report.Row.{Row}
 use Rattle.mlk_command.specs.declared.checked.Outcome.{Outcome}
@@ -11,7 +11,7 @@ use Rattle.mlk_command.specs.declared.checked.Refusal.{Refusal}
 use Rattle.mlk_command.specs.declared.program.Answer.{Answer}
 use Rattle.mlk_command.specs.declared.program.Answer.TheVariants as answer
 use Rattle.mlk_command.specs.Files.{Texts, AreTexts}
-use Rattle.mlk_command.specs.CommandLine.{IsRequest}
+use Rattle.mlk_words.specs.CommandLine.{IsRequest}
 use Rattle.mlk_command.specs.Checked.{IsChecked, IsRefusedBy}
 use Rattle.mlk_command.specs.Ran.{trees_of, PrintsReport, PrintsText, IsPrinted, Prints, TellsRefusal, Answers, AnswersWords}
 

@@ -6,9 +6,10 @@ use Rattle.mlk_command.specs.declared.source.FileError.TheVariants as error
 use Rattle.mlk_command.specs.declared.source.Source.{Source}
 use Rattle.mlk_command.specs.declared.source.Work.{Work}
 use Rattle.mlk_command.specs.declared.source.Work.TheVariants as work
-use Rattle.mlk_command.specs.declared.words.Asked.{Asked}
-use Rattle.mlk_command.specs.declared.words.Asked.TheVariants as asked
-use Rattle.mlk_command.specs.Files.{Texts, IsSource, AreSources, AreHeld, IsWork, Loses, LosesFirst, bytes_of, work_path}
+use Rattle.mlk_words.specs.declared.words.Asked.{Asked}
+use Rattle.mlk_words.specs.declared.words.Asked.TheVariants as asked
+use Rattle.mlk_command.specs.Files.{Texts, IsSource, AreSources, AreHeld, IsWork, Loses, LosesFirst, work_path}
+use Rattle.mlk_words.specs.CommandLine.{bytes_of}
 
 -- what stands before a path, the path, and what stands after it
 cut-at : (paths : List (Bor (List ℕ))) (i : ℕ) (d : Bor (List ℕ)) → i < length paths → bytes_of paths ≡ bytes_of (take i paths) ++ (slice_index_or paths i d).now ∷ bytes_of (drop (i + 1) paths)

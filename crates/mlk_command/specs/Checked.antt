@@ -53,9 +53,6 @@ abbrev pub IsReportWith : List RoutineTree → RuleLists → List ℕ → List R
 IsReportWith trees rules text rows = (blocks : List EntryCert) × Spells blocks text × IsReportBy trees rules blocks text rows
 
 -- A text is the one of a certificate, made of a program that has all declared entries. Nothing else is promised of it.
-abbrev pub IsWritten : List EntryCert → List ℕ → Type 0
-IsWritten blocks text = Spells blocks text
-
 abbrev pub IsMade : List RoutineTree → RuleLists → List ℕ → Type 0
 IsMade trees rules text = (find (is_missing trees) rules.entries ≡ None) × (blocks : List EntryCert) × Spells blocks text
 
@@ -146,16 +143,6 @@ IsRefusalWith trees rules text (refusal.GaveUp entry fault) = ⊥
 IsRefusalWith trees rules text (refusal.Events fault) = ⊥
 
 -- Why no certificate is made: it has a text that is too long, the program lacks a declared entry, or the maker gave up.
-abbrev pub IsTooLong : List EntryCert → Refusal → Type 0
-IsTooLong blocks refusal.OutOfMemory = Unit {0}
-IsTooLong blocks (refusal.Routine fault) = ⊥
-IsTooLong blocks (refusal.Rules fault) = ⊥
-IsTooLong blocks (refusal.Certificate fault) = (fault.code ≡ CertLimit) × (fault.line ≡ 1)
-IsTooLong blocks (refusal.Entry entry) = ⊥
-IsTooLong blocks refusal.Disagreement = ⊥
-IsTooLong blocks (refusal.GaveUp entry fault) = ⊥
-IsTooLong blocks (refusal.Events fault) = ⊥
-
 abbrev pub IsUnmade : List RoutineTree → RuleLists → Refusal → Type 0
 IsUnmade trees rules refusal.OutOfMemory = Unit {0}
 IsUnmade trees rules (refusal.Routine fault) = ⊥

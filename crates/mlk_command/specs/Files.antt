@@ -8,9 +8,10 @@ use Rattle.mlk_command.specs.declared.source.Source.{Source}
 use Rattle.mlk_command.specs.declared.source.Sources.{Sources}
 use Rattle.mlk_command.specs.declared.source.Work.{Work}
 use Rattle.mlk_command.specs.declared.source.Work.TheVariants as work
-use Rattle.mlk_command.specs.declared.words.Asked.{Asked}
-use Rattle.mlk_command.specs.declared.words.Asked.TheVariants as asked
-use Rattle.mlk_command.specs.declared.words.Request.{Request}
+use Rattle.mlk_words.specs.CommandLine.{bytes_of}
+use Rattle.mlk_words.specs.declared.words.Asked.{Asked}
+use Rattle.mlk_words.specs.declared.words.Asked.TheVariants as asked
+use Rattle.mlk_words.specs.declared.words.Request.{Request}
 
 -- no byte is this one
 abbrev pub Lacks : ℕ → List ℕ → Type 0
@@ -60,9 +61,6 @@ pub record AreTexts (holds : Texts) (request : Request) (sources : Sources) : Ty
   pub rules : holds request.rules.now sources.rules.items
   pub work : IsWork holds request.asked sources.work
   pub routines : AreSources holds request.routines.items sources.routines.items
-
-abbrev pub bytes_of : List (Bor (List ℕ)) → List (List ℕ)
-bytes_of paths = map (λ path. path.now) paths
 
 abbrev pub work_path : Asked → List (List ℕ)
 work_path (asked.Check path) = path.now ∷ []

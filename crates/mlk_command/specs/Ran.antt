@@ -6,7 +6,7 @@ use Rattle.mlk_routine.specs.Trees.{RoutineTree}
 use Rattle.mlk_routine.specs.Views.{routine_of}
 use Rattle.mlk_verdicts.specs.declared.report.Row.{Row}
 use Rattle.mlk_command.specs.declared.source.Sources.{Sources}
-use Rattle.mlk_command.specs.declared.words.Request.{Request}
+use Rattle.mlk_words.specs.declared.words.Request.{Request}
 use Rattle.mlk_command.specs.declared.checked.Checked.{Checked}
 use Rattle.mlk_command.specs.declared.checked.Outcome.{Outcome}
 use Rattle.mlk_command.specs.declared.checked.Outcome.TheVariants as outcome
@@ -16,7 +16,7 @@ use Rattle.mlk_command.specs.declared.program.Answer.{Answer}
 use Rattle.mlk_command.specs.declared.program.Answer.TheVariants as answer
 use Rattle.mlk_command.specs.Printed.{report_text, fault_line, rules_line, certificate_line, missing_line, disagreement_line, stuck_line, events_line, file_line}
 use Rattle.mlk_command.specs.Files.{Texts, AreTexts, IsFirstLost, paths_of}
-use Rattle.mlk_command.specs.CommandLine.{IsRequest, AsksNothing}
+use Rattle.mlk_words.specs.CommandLine.{IsRequest, AsksNothing}
 use Rattle.mlk_command.specs.Checked.{IsChecked, IsRefusedBy}
 
 -- 0 for `yes`, 1 for `no`

@@ -2,16 +2,17 @@
 
 ghost use Rattle.std.specs.Prelude.{◌≡◌, [], map, IfOk, IfErr};
 ghost use Rattle.mlk_routine.specs.Views.{routine_of};
-ghost use Rattle.mlk_command.specs.Checked.{refusal_of_routine, refusal_of_rules, refusal_of_certificate, refusal_of_events, AreRead, RefusesFirst, TellsEntry, IsDoubt, IsReportBy, IsReportWith, IsWritten, IsTooLong, IsStuck, IsMade, IsUnmade, IsOutcomeWith, IsOutcomeUnder, IsOutcomeOf, IsRefusalBy, IsRefusalWith, IsRefusalOfWork, IsRefusalUnder, IsRefusalOf, IsChecked, IsRefusedBy};
+ghost use Rattle.mlk_command.specs.Checked.{refusal_of_routine, refusal_of_rules, refusal_of_certificate, refusal_of_events, AreRead, RefusesFirst, TellsEntry, IsDoubt, IsReportBy, IsReportWith, IsStuck, IsMade, IsUnmade, IsOutcomeWith, IsOutcomeUnder, IsOutcomeOf, IsRefusalBy, IsRefusalWith, IsRefusalOfWork, IsRefusalUnder, IsRefusalOf, IsChecked, IsRefusedBy};
+ghost use Rattle.mlk_cert.specs.Theorem.{Spells};
 ghost use Rattle.mlk_straight.specs.Kept.{IsKept};
 ghost use Rattle.mlk_command.specs.Ran.{trees_of};
 ghost use Rattle.mlk_command.specs.declared.checked.Refusal.TheVariants as refusal;
 
 use crate::replayed::jobs_text;
 use crate::source::{Source, Sources, Work};
-use mlk_cert::{CertFault, Certificate, WriteFault, read_cert, write_cert};
+use mlk_cert::{CertFault, Certificate, Spelled, read_cert};
 use mlk_coverage::Rules;
-use mlk_make::{GaveUp, MakeError, make};
+use mlk_make::{GaveUp, MakeError, Stage, Watch, make_watched};
 use mlk_program::{Program, link};
 use mlk_replay::EventsFault;
 use mlk_routine::{Routine, read_routine};
@@ -106,12 +107,17 @@ pub(crate) struct Checked {
     pub outcome: Outcome,
 }
 
-fn routines_of(alloc: Global, sources: &[Source<'_>]) -> Result<Vec<Routine>, Failure<Fault>>
+fn routines_of<W: Watch>(
+    alloc: Global,
+    sources: &[Source<'_>],
+    watch: &W,
+) -> Result<Vec<Routine>, Failure<Fault>>
     ensures ok { IfOk result (λ r. AreRead sources.now (map routine_of r.items)) }
     ensures refused { IfErr result (RefusesFirst sources.now) }
 {
     let mut routines = Vec::new(alloc);
     for source in sources {
+        watch.see(Stage::Reading, routines.len(), sources.len());
         routines.push(read_routine(alloc, source.stem, source.text.as_slice())?)?;
     }
     Ok(routines)
@@ -144,12 +150,13 @@ fn confirmed(
     Ok(report)
 }
 
-fn report_by(
+fn report_by<W: Watch>(
     alloc: Global,
     program: &Program<'_>,
     rules: &Rules,
     certificate: &Certificate,
     text: &[u8],
+    watch: &W,
 ) -> Result<Report, Refusal>
     ensures ok { IfOk result (IsReportBy (map routine_of program.now) rules.now certificate.now text.now) }
     ensures refused { IfErr result (IsRefusalBy (map routine_of program.now) rules.now certificate.now text.now) }
@@ -157,38 +164,45 @@ fn report_by(
     if let Some(entry) = missing_entry(program, rules, certificate) {
         return Err(lacks(alloc, entry));
     }
+    watch.see(Stage::Checking, 0, 0);
     let report = check_all(alloc, program, rules, certificate)?;
     confirmed(alloc, program, rules, text, report)
 }
 
-fn report_with(
+fn report_with<W: Watch>(
     alloc: Global,
     program: &Program<'_>,
     rules: &Rules,
     text: &[u8],
+    watch: &W,
 ) -> Result<Report, Refusal>
     ensures ok { IfOk result (IsReportWith (map routine_of program.now) rules.now text.now) }
     ensures refused { IfErr result (IsRefusalWith (map routine_of program.now) rules.now text.now) }
 {
     let certificate = read_cert(alloc, text)?;
-    report_by(alloc, program, rules, &certificate, text)
+    report_by(alloc, program, rules, &certificate, text, watch)
 }
 
-// About how long the text of a block is.
-const BLOCK_ROOM: usize = 256;
-
-// The text of a certificate.
-fn written(alloc: Global, certificate: &Certificate) -> Result<Vec<u8>, Refusal>
-    ensures ok { IfOk result (λ text. IsWritten certificate.now text.items) }
-    ensures refused { IfErr result (IsTooLong certificate.now) }
+// The report by a certificate that was made, and its text.
+fn report_of<W: Watch>(
+    alloc: Global,
+    program: &Program<'_>,
+    rules: &Rules,
+    made: &Spelled,
+    watch: &W,
+) -> Result<Report, Refusal>
+    requires { Spells made.now.certificate made.now.text.items }
+    ensures ok { IfOk result (IsReportWith (map routine_of program.now) rules.now made.now.text.items) }
+    ensures refused { IfErr result (IsRefusalWith (map routine_of program.now) rules.now made.now.text.items) }
 {
-    let room = certificate.blocks().len().saturating_mul(BLOCK_ROOM);
-    let mut text = Vec::with_capacity(alloc, room)?;
-    match write_cert(alloc, certificate, &mut text) {
-        Ok(()) => Ok(text),
-        Err(Failure::Refused(WriteFault::TooLong(fault))) => Err(Refusal::Certificate(fault)),
-        Err(_) => Err(Refusal::OutOfMemory),
-    }
+    report_by(
+        alloc,
+        program,
+        rules,
+        &made.certificate,
+        made.text.as_slice(),
+        watch,
+    )
 }
 
 // What is told where the maker gave up.
@@ -201,41 +215,48 @@ fn stuck(alloc: Global, program: &Program<'_>, place: GaveUp) -> Refusal
     }
 }
 
-// The text of a certificate that is made.
-fn made(alloc: Global, program: &Program<'_>, rules: &Rules) -> Result<Vec<u8>, Refusal>
-    ensures ok { IfOk result (λ text. IsMade (map routine_of program.now) rules.now text.items) }
+// The certificate that is made, and its text.
+fn made<W: Watch>(
+    alloc: Global,
+    program: &Program<'_>,
+    rules: &Rules,
+    watch: &W,
+) -> Result<Spelled, Refusal>
+    ensures ok { IfOk result (λ s. IsMade (map routine_of program.now) rules.now s.text.items) }
+    ensures spells { IfOk result (λ s. Spells s.certificate s.text.items) }
     ensures refused { IfErr result (IsUnmade (map routine_of program.now) rules.now) }
 {
-    let certificate = match make(alloc, program, rules) {
-        Ok(certificate) => certificate,
-        Err(Failure::OutOfMemory) => return Err(Refusal::OutOfMemory),
-        Err(Failure::Refused(MakeError::EntryMissing(text))) => return Err(Refusal::Entry(text)),
-        Err(Failure::Refused(MakeError::GaveUp(place))) => return Err(stuck(alloc, program, place)),
-    };
-    written(alloc, &certificate)
+    match make_watched(alloc, program, rules, watch) {
+        Ok(made) => Ok(made),
+        Err(Failure::OutOfMemory) => Err(Refusal::OutOfMemory),
+        Err(Failure::Refused(MakeError::EntryMissing(text))) => Err(Refusal::Entry(text)),
+        Err(Failure::Refused(MakeError::TooLong(fault))) => Err(Refusal::Certificate(fault)),
+        Err(Failure::Refused(MakeError::GaveUp(place))) => Err(stuck(alloc, program, place)),
+    }
 }
 
-fn outcome_with(
+fn outcome_with<W: Watch>(
     alloc: Global,
     program: &Program<'_>,
     rules: &Rules,
     work: &Work,
+    watch: &W,
 ) -> Result<Outcome, Refusal>
     ensures ok { IfOk result (IsOutcomeWith (map routine_of program.now) rules.now work.now) }
     ensures refused { IfErr result (IsRefusalOfWork (map routine_of program.now) rules.now work.now) }
 {
     match work {
         Work::Check(text) => {
-            let report = report_with(alloc, program, rules, text.as_slice())?;
+            let report = report_with(alloc, program, rules, text.as_slice(), watch)?;
             Ok(Outcome::Report(report))
         }
         Work::Make => {
-            let text = made(alloc, program, rules)?;
+            let Spelled { text, .. } = made(alloc, program, rules, watch)?;
             Ok(Outcome::Made(text))
         }
         Work::Verify => {
-            let text = made(alloc, program, rules)?;
-            let report = report_with(alloc, program, rules, text.as_slice())?;
+            let made = made(alloc, program, rules, watch)?;
+            let report = report_of(alloc, program, rules, &made, watch)?;
             Ok(Outcome::Report(report))
         }
         Work::Replay(events) => {
@@ -245,45 +266,52 @@ fn outcome_with(
     }
 }
 
-fn outcome_under(
+fn outcome_under<W: Watch>(
     alloc: Global,
     program: &Program<'_>,
     rules_text: &[u8],
     work: &Work,
+    watch: &W,
 ) -> Result<Outcome, Refusal>
     ensures ok { IfOk result (IsOutcomeUnder (map routine_of program.now) rules_text.now work.now) }
     ensures refused { IfErr result (IsRefusalUnder (map routine_of program.now) rules_text.now work.now) }
 {
     let rules = read_rules(alloc, rules_text)?;
-    outcome_with(alloc, program, &rules, work)
+    outcome_with(alloc, program, &rules, work, watch)
 }
 
 // What routines come to by the text of rules.
-fn outcome_of(
+fn outcome_of<W: Watch>(
     alloc: Global,
     routines: &[Routine],
     rules_text: &[u8],
     work: &Work,
+    watch: &W,
 ) -> Result<Outcome, Refusal>
     ensures ok { IfOk result (IsOutcomeOf (map routine_of routines.now) rules_text.now work.now) }
     ensures refused { IfErr result (IsRefusalOf (map routine_of routines.now) rules_text.now work.now) }
 {
     let program = link(alloc, routines)?;
-    outcome_under(alloc, &program, rules_text, work)
+    outcome_under(alloc, &program, rules_text, work, watch)
 }
 
 /// What texts come to, or the first refusal: of the routines in order, of their linking, of the rules, of the
 /// certificate, or of its making, and of an entry that the routines lack; of events after that entry.
-pub(crate) fn check_texts(alloc: Global, sources: &Sources<'_>) -> Result<Checked, Refusal>
+pub(crate) fn check_texts<W: Watch>(
+    alloc: Global,
+    sources: &Sources<'_>,
+    watch: &W,
+) -> Result<Checked, Refusal>
     ensures ok { IfOk result (λ c. IsChecked sources.now (trees_of c) c.outcome) }
     ensures refused { IfErr result (IsRefusedBy sources.now) }
 {
-    let routines = routines_of(alloc, sources.routines.as_slice())?;
+    let routines = routines_of(alloc, sources.routines.as_slice(), watch)?;
     let outcome = outcome_of(
         alloc,
         routines.as_slice(),
         sources.rules.as_slice(),
         &sources.work,
+        watch,
     )?;
     Ok(Checked { routines, outcome })
 }

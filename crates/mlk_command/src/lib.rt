@@ -8,8 +8,8 @@ mod program;
 mod replayed;
 mod source;
 mod text;
-mod words;
 
 pub use file::{LONGEST_FILE, read_whole};
-pub use program::{run, wrong_words};
+pub use mlk_make::{Stage, Unwatched, Watch};
+pub use program::{run, run_watched, wrong_words};
 pub use source::Files;

@@ -13,9 +13,10 @@ use crate::printed::{
 };
 use crate::source::{FileError, Files, read_files};
 use crate::text::Text;
-use crate::words::{Request, UsageError, read_request};
+use mlk_make::{Unwatched, Watch};
 use mlk_routine::Routine;
 use mlk_verdicts::Report;
+use mlk_words::{Request, UsageError, read_request};
 use std::alloc::{AllocError, Global};
 use std::io::{self, ErrorKind, Write};
 
@@ -111,11 +112,16 @@ fn unread_answer(alloc: Global, path: &str) -> Answer
 }
 
 // What is answered to a request, from the texts of the files.
-fn answer_request<F: Files>(alloc: Global, request: &Request<'_>, files: &F) -> Answer
+fn answer_request<F: Files, W: Watch>(
+    alloc: Global,
+    request: &Request<'_>,
+    files: &F,
+    watch: &W,
+) -> Answer
     ensures { Answers (F.holds files.now) (F.lacks files.now) request.now result }
 {
     match read_files(alloc, files, request) {
-        Ok(sources) => match check_texts(alloc, &sources) {
+        Ok(sources) => match check_texts(alloc, &sources, watch) {
             Ok(checked) => answer_of(alloc, checked),
             Err(refusal) => refusal_answer(alloc, &refusal),
         },
@@ -124,11 +130,11 @@ fn answer_request<F: Files>(alloc: Global, request: &Request<'_>, files: &F) -> 
     }
 }
 
-fn answer_words<F: Files>(alloc: Global, words: &[String], files: &F) -> Answer
+fn answer_words<F: Files, W: Watch>(alloc: Global, words: &[String], files: &F, watch: &W) -> Answer
     ensures { AnswersWords (F.holds files.now) (F.lacks files.now) words.now result }
 {
     match read_request(alloc, words) {
-        Ok(request) => answer_request(alloc, &request, files),
+        Ok(request) => answer_request(alloc, &request, files, watch),
         Err(UsageError::OutOfMemory) => Answer::OutOfMemory,
         Err(UsageError::Usage(text)) => Answer::Usage(text),
     }
@@ -213,6 +219,22 @@ pub fn run<F: Files, O: Write, E: Write>(
 ) -> u8
     ensures { Ran (F.holds files.now) (F.lacks files.now) words.now (O.contents out.old) (O.contents out.new) result }
 {
-    let answer = answer_words(alloc, words, files);
+    run_watched(alloc, words, files, &Unwatched, out, err)
+}
+
+/// Does what `run` does, and tells how far it has come as it goes. Before anything is written, it tells that it is at its
+/// end.
+pub fn run_watched<F: Files, W: Watch, O: Write, E: Write>(
+    alloc: Global,
+    words: &[String],
+    files: &F,
+    watch: &W,
+    out: &mut O,
+    err: &mut E,
+) -> u8
+    ensures { Ran (F.holds files.now) (F.lacks files.now) words.now (O.contents out.old) (O.contents out.new) result }
+{
+    let answer = answer_words(alloc, words, files, watch);
+    watch.end();
     say(&answer, out, err)
 }

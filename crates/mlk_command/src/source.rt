@@ -2,9 +2,10 @@
 
 ghost use Rattle.std.specs.Prelude.{◌≡◌, ◌≢◌, List, ℕ, IfOk, IfErr, length};
 ghost use Rattle.std.specs.IoError.{error_kind};
-ghost use Rattle.mlk_command.specs.Files.{IsFileName, IsNameStem, IsPathStem, IsSource, AreSources, IsWork, AreTexts, bytes_of, work_path, paths_of, Loses, LosesFirst};
+ghost use Rattle.mlk_command.specs.Files.{IsFileName, IsNameStem, IsPathStem, IsSource, AreSources, IsWork, AreTexts, work_path, paths_of, Loses, LosesFirst};
+ghost use Rattle.mlk_words.specs.CommandLine.{bytes_of};
 
-use crate::words::{Asked, Request};
+use mlk_words::{Asked, Request};
 use std::alloc::Global;
 use std::io::{self, ErrorKind};
 

@@ -4,6 +4,7 @@ use Rattle.mlk_text.specs.declared.failure.Failure.{Failure}
 use Rattle.mlk_text.specs.declared.failure.Failure.TheVariants as failure
 use Rattle.mlk_routine.specs.Trees.{RoutineTree}
 use Rattle.mlk_program.specs.Entries.{entry_by}
+use Rattle.mlk_text.specs.declared.code.Code.TheVariants.{CertLimit}
 use Rattle.mlk_make.specs.declared.stop.MakeError.{MakeError}
 use Rattle.mlk_make.specs.declared.stop.MakeError.TheVariants as error
 
@@ -11,9 +12,21 @@ use Rattle.mlk_make.specs.declared.stop.MakeError.TheVariants as error
 abbrev pub is_missing : List RoutineTree → List ℕ → Bool
 is_missing routines text = is_none (entry_by routines text)
 
--- Why no certificate is made: the first of these entry texts that the program lacks, where it lacks one; else the maker
--- gave up. Of want of memory nothing is said.
+-- the text of what was made is too long, or the maker gave up
+abbrev pub IsUnspelled : MakeError → Type 0
+IsUnspelled (error.EntryMissing text) = ⊥
+IsUnspelled (error.TooLong fault) = (fault.code ≡ CertLimit) × (fault.line ≡ 1)
+IsUnspelled (error.GaveUp place) = Unit {0}
+
+-- want of memory says nothing
+abbrev pub IfRefused : Failure MakeError → (MakeError → Type 0) → Type 0
+IfRefused failure.OutOfMemory Is = Unit {0}
+IfRefused (failure.Refused e) Is = Is e
+
+-- Why no certificate is made: the first of these entry texts that the program lacks, where it lacks one; else its text is
+-- too long, which is a limit at its first line, or the maker gave up. Of want of memory nothing is said.
 abbrev pub IsUnmade : List RoutineTree → List (List ℕ) → Failure MakeError → Type 0
 IsUnmade routines texts failure.OutOfMemory = Unit {0}
 IsUnmade routines texts (failure.Refused (error.EntryMissing text)) = find (is_missing routines) texts ≡ Some text
+IsUnmade routines texts (failure.Refused (error.TooLong fault)) = (find (is_missing routines) texts ≡ None) × (fault.code ≡ CertLimit) × (fault.line ≡ 1)
 IsUnmade routines texts (failure.Refused (error.GaveUp place)) = find (is_missing routines) texts ≡ None

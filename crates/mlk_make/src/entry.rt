@@ -1,14 +1,13 @@
 // The walk of an entry.
 
-use crate::draft::Draft;
-use crate::lists::At;
-use crate::maker::{Ground, Maker, has_changed};
+use crate::maker::{Ground, Maker, has_changed, number_of};
 use crate::mend::done;
 use crate::need::formals_of;
 use crate::settle::settle_lines;
 use crate::stop::{GaveUp, Stop, gave_up};
 use mlk_cert::{Case, NameSet, Own, Shared, Test};
 use mlk_commands::in_order;
+use mlk_drafts::{At, Draft};
 use mlk_lines::Around;
 use mlk_program::{EntryId, Program};
 use mlk_routine::Line;
@@ -43,14 +42,6 @@ fn begin_case(ground: &Ground<'_>, draft: &Draft) -> Result<Case, AllocError> {
         kept: Shared::new(alloc, names.into_vec())?,
         saved: List::new(alloc),
     })
-}
-
-// The number of an entry's line.
-fn number_of(program: &Program, entry: EntryId) -> usize {
-    match program.line(entry) {
-        None => 1,
-        Some(line) => line.number,
-    }
 }
 
 // The line after an entry's lines.

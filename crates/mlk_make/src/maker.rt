@@ -1,8 +1,9 @@
 // All entries of which something is known.
 
-use crate::draft::Draft;
 use crate::stop::Stop;
+use mlk_calls::Entries;
 use mlk_coverage::Rules;
+use mlk_drafts::Draft;
 use mlk_program::{EntryId, Program};
 use mlk_rows::Fault;
 use mlk_text::{Failure, Value};
@@ -15,6 +16,8 @@ pub(crate) struct Ground<'a> {
     pub(crate) alloc: Global,
     pub(crate) program: &'a Program<'a>,
     pub(crate) rules: &'a Rules,
+    /// the declared entries, without any block
+    pub(crate) declared: &'a Entries<'a>,
 }
 
 /// What is known of all entries but the one that is walked, and the changes so far.
@@ -62,12 +65,21 @@ impl Maker {
         let draft = Draft::new(
             ground.alloc,
             entry,
+            number_of(ground.program, entry),
             Value::new(text),
             declared,
             self.changes,
         );
         self.drafts.insert(entry, draft)?;
         Ok(true)
+    }
+}
+
+/// The number of an entry's line.
+pub(crate) fn number_of(program: &Program<'_>, entry: EntryId) -> usize {
+    match program.line(entry) {
+        None => 1,
+        Some(line) => line.number,
     }
 }
 

@@ -1,13 +1,11 @@
 // What mends the faults of a line.
 
-use crate::draft::Draft;
-use crate::lists::{At, Listing};
 use crate::maker::{Ground, Maker};
 use crate::need::is_needed;
 use crate::stop::Stop;
-use crate::summary::{add_exit, add_mods, drop_all, lower, widen};
 use crate::walk::{Site, Target};
 use mlk_cert::{Case, ExitCase, NameSet};
+use mlk_drafts::{At, Draft, Listing, add_exit, add_mods, drop_all, lower, widen};
 use mlk_lines::LineFault;
 use mlk_names::LockTerm;
 use mlk_program::EntryId;

@@ -1,8 +1,5 @@
 // Locks that a caller may be asked to hold.
 
-use crate::draft::Draft;
-use crate::hand::rounds_in;
-use crate::lists::At;
 use crate::maker::{Ground, Maker};
 use crate::news::are_made_new;
 use crate::probe::{Probe, is_reached};
@@ -10,6 +7,7 @@ use crate::walk::{Site, Target};
 use mlk_calls::{is_among, is_own};
 use mlk_cert::{Case, NameSet};
 use mlk_commands::in_order;
+use mlk_drafts::{At, Draft, rounds_in};
 use mlk_names::{KnownSym, LockTerm};
 use mlk_rows::Fault;
 use mlk_text::{List, Name};

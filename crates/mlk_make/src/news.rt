@@ -1,7 +1,7 @@
 // What NEW makes new before a column of a line.
 
-use crate::hand::round_at;
 use mlk_calls::is_among;
+use mlk_drafts::round_at;
 use mlk_routine::{Action, Command, Commands, Line, NewArgument};
 use mlk_text::{Column, Name};
 

@@ -1,15 +1,13 @@
 // Whether a fault is reached before some names change. They are told by the walk itself: from a case in which they are
 // not own, by a summary that lets all other names change, it goes no further than where one of them does.
 
-use crate::copy::{copy_cases, copy_summed};
-use crate::draft::{Draft, line_number, round_number};
-use crate::lists::At;
 use crate::maker::{Ground, Maker};
 use crate::need::are_kept;
 use crate::walk::{Site, Target, walk_site};
 use mlk_calls::{copy_case, is_among};
 use mlk_cert::limit::MOST_CASES;
 use mlk_cert::{Case, EntryCert, NameSet, Own, Point, Shared};
+use mlk_drafts::{At, Draft, copy_cases, copy_summed, line_number, round_number};
 use mlk_lines::LineFault;
 use mlk_routine::Line;
 use mlk_rows::{Fault, Mend};
@@ -138,7 +136,6 @@ fn is_found(
     entering: &mut List<Case>,
 ) -> Result<bool, AllocError> {
     let inner = kept_ends(ground, draft, probe)?;
-    let inner = inner.as_slice();
     let walked = walk_site(
         ground,
         maker,

@@ -2,14 +2,17 @@
 
 ghost use Rattle.std.specs.Prelude.{◌≡◌, IfOk, IfErr, None, find, map};
 ghost use Rattle.mlk_routine.specs.Views.{routine_of};
-ghost use Rattle.mlk_make.specs.Missing.{is_missing, IsUnmade};
+ghost use Rattle.mlk_cert.specs.Theorem.{Spells};
+ghost use Rattle.mlk_make.specs.Missing.{is_missing, IsUnmade, IsUnspelled, IfRefused};
 
 use crate::entry::walk_entry;
 use crate::finish::finish;
 use crate::maker::{Ground, Maker};
 use crate::missing::first_missing;
 use crate::stop::{GaveUp, MakeError};
-use mlk_cert::Certificate;
+use crate::watch::{Stage, Unwatched, Watch};
+use mlk_calls::Entries;
+use mlk_cert::Spelled;
 use mlk_coverage::{Rules, entries};
 use mlk_program::{EntryId, Program};
 use mlk_routine::Line;
@@ -45,19 +48,30 @@ fn walk_lines(
 }
 
 // Walks all entries, in order.
-fn walk_all(ground: &Ground<'_>, maker: &mut Maker) -> Result<(), Failure<GaveUp>> {
-    for (number, routine) in ground.program.routines().iter().enumerate() {
+fn walk_all<W: Watch>(
+    ground: &Ground<'_>,
+    maker: &mut Maker,
+    round: usize,
+    watch: &W,
+) -> Result<(), Failure<GaveUp>> {
+    let routines = ground.program.routines();
+    for (number, routine) in routines.iter().enumerate() {
+        watch.see(Stage::Making(round), number, routines.len());
         walk_lines(ground, maker, number, routine.lines.as_slice())?;
     }
     Ok(())
 }
 
 // Makes rounds until one changes nothing.
-fn walk_rounds(ground: &Ground<'_>, maker: &mut Maker) -> Result<(), Failure<GaveUp>> {
-    for left in (0..MOST_ROUNDS).rev() {
-        maker.last = left == 0;
+fn walk_rounds<W: Watch>(
+    ground: &Ground<'_>,
+    maker: &mut Maker,
+    watch: &W,
+) -> Result<(), Failure<GaveUp>> {
+    for round in 1..=MOST_ROUNDS {
+        maker.last = round == MOST_ROUNDS;
         let before = maker.changes;
-        walk_all(ground, maker)?;
+        walk_all(ground, maker, round, watch)?;
         if maker.changes == before {
             return Ok(());
         }
@@ -65,41 +79,72 @@ fn walk_rounds(ground: &Ground<'_>, maker: &mut Maker) -> Result<(), Failure<Gav
     Ok(())
 }
 
-// Certifies the declared entries and all that they reach.
-fn certify(ground: &Ground<'_>) -> Result<Certificate, Failure<GaveUp>> {
+// Walks the declared entries and all that they reach.
+fn walked<W: Watch>(ground: &Ground<'_>, watch: &W) -> Result<Maker, Failure<GaveUp>> {
     let mut maker = Maker::new(ground.alloc);
     declare(ground, &mut maker)?;
-    walk_rounds(ground, &mut maker)?;
-    finish(ground.alloc, maker)
+    walk_rounds(ground, &mut maker, watch)?;
+    Ok(maker)
 }
 
-/// Makes a certificate of the declared entries, and of all that they reach by calls. Its entries are in the program's
-/// order.
+// Certifies the declared entries and all that they reach.
+fn certify<W: Watch>(
+    alloc: Global,
+    program: &Program<'_>,
+    rules: &Rules,
+    watch: &W,
+) -> Result<Spelled, Failure<MakeError>>
+    ensures spells { IfOk result (λ s. Spells s.certificate s.text.items) }
+    ensures refused { IfErr result (λ e. IfRefused e IsUnspelled) }
+{
+    let declared = Entries::of(alloc, program, rules, &[])?;
+    let ground = Ground {
+        alloc,
+        program,
+        rules,
+        declared: &declared,
+    };
+    match walked(&ground, watch) {
+        Ok(maker) => finish(alloc, maker),
+        Err(Failure::OutOfMemory) => Err(Failure::OutOfMemory),
+        Err(Failure::Refused(place)) => Err(Failure::Refused(MakeError::GaveUp(place))),
+    }
+}
+
+/// Makes a certificate of the declared entries, and of all that they reach by calls, and its text. Its entries are in the
+/// program's order.
 ///
 /// Their summaries begin empty. In each round every entry is walked, in order, until its lists grow no more: what would
-/// mend a fault is put in, where it can be. A further round is made while one changes something; 64 are too many.
+/// mend a fault is put in, where it can be. A further round is made while one changes something; 64 are too many. What was
+/// found is written, and the certificate is read of the text.
 pub fn make(
     alloc: Global,
     program: &Program<'_>,
     rules: &Rules,
-) -> Result<Certificate, Failure<MakeError>>
-    // A certificate keeps to all limits by its type. None is made where the program lacks a declared entry:
-    ensures made { IfOk result (λ c. find (is_missing (map routine_of program.now)) rules.now.entries ≡ None) }
+) -> Result<Spelled, Failure<MakeError>>
+    // It keeps to all limits, and the text is its own. None is made where the program lacks a declared entry:
+    ensures spells { IfOk result (λ s. Spells s.certificate s.text.items) }
+    ensures made { IfOk result (λ s. find (is_missing (map routine_of program.now)) rules.now.entries ≡ None) }
     // then that is told, and nothing else is told so.
+    ensures refused { IfErr result (IsUnmade (map routine_of program.now) rules.now.entries) }
+{
+    make_watched(alloc, program, rules, &Unwatched)
+}
+
+/// What `make` makes, and how far it has come is told as it goes.
+pub fn make_watched<W: Watch>(
+    alloc: Global,
+    program: &Program<'_>,
+    rules: &Rules,
+    watch: &W,
+) -> Result<Spelled, Failure<MakeError>>
+    ensures spells { IfOk result (λ s. Spells s.certificate s.text.items) }
+    ensures made { IfOk result (λ s. find (is_missing (map routine_of program.now)) rules.now.entries ≡ None) }
     ensures refused { IfErr result (IsUnmade (map routine_of program.now) rules.now.entries) }
 {
     if let Some(text) = first_missing(program, entries(rules)) {
         let text = Value::of(alloc, text)?;
         return Err(Failure::Refused(MakeError::EntryMissing(text)));
     }
-    let ground = Ground {
-        alloc,
-        program,
-        rules,
-    };
-    match certify(&ground) {
-        Ok(certificate) => Ok(certificate),
-        Err(Failure::OutOfMemory) => Err(Failure::OutOfMemory),
-        Err(Failure::Refused(place)) => Err(Failure::Refused(MakeError::GaveUp(place))),
-    }
+    certify(alloc, program, rules, watch)
 }

@@ -1,10 +1,10 @@
 // An entry's lines are walked until their lists grow no more.
 
-use crate::draft::Draft;
 use crate::maker::{Ground, Maker, has_changed};
 use crate::mend::mend_all;
 use crate::stop::Stop;
 use crate::walk::{Site, Target, Walked, targets_of, walk_site};
+use mlk_drafts::Draft;
 use mlk_lines::Around;
 use mlk_routine::Line;
 use mlk_rows::Fault;
@@ -41,35 +41,26 @@ fn walk_line(
     let inner = draft
         .lists
         .ends_of(ground.alloc, site.line.block.as_slice())?;
-    let inner = inner.as_slice();
     walk_site(ground, maker, draft, &draft.block, site, targets, inner)
 }
 
 // A line that calls these is walked once.
-fn walk_calling(
+fn walk_once(
     ground: &Ground<'_>,
     maker: &mut Maker,
     draft: &mut Draft,
     site: Site<'_>,
     targets: &[Target],
 ) -> Result<Turn, Failure<Stop>> {
+    add_callees(draft, targets)?;
+    draft.take(ground.alloc, site.line)?;
     let walked = walk_line(ground, maker, draft, site, targets)?;
-    let ends = draft.lists.end(site.line.number, walked.ends)?;
+    draft.put_back(ground.alloc);
+    let ends = draft
+        .lists
+        .end(ground.alloc, site.line.number, walked.ends)?;
     let again = mend_all(ground, maker, draft, site, targets, walked.faults)?;
     Ok(Turn { again, ends })
-}
-
-// A line is walked once.
-fn walk_once(
-    ground: &Ground<'_>,
-    maker: &mut Maker,
-    draft: &mut Draft,
-    site: Site<'_>,
-) -> Result<Turn, Failure<Stop>> {
-    draft.take(ground.alloc, site.line)?;
-    let targets = targets_of(ground, draft.entry.routine(), site.line)?;
-    add_callees(draft, targets.as_slice())?;
-    walk_calling(ground, maker, draft, site, targets.as_slice())
 }
 
 // The line to which a job goes on, where there is one.
@@ -91,39 +82,14 @@ fn without_first(lines: &[Line]) -> &[Line] {
 }
 
 // Whether a line calls an entry whose summary has changed since the walked one was walked.
-fn asks_anew(
-    ground: &Ground<'_>,
-    maker: &Maker,
-    draft: &Draft,
-    line: &Line,
-) -> Result<bool, Failure<Stop>> {
+fn asks_anew(maker: &Maker, draft: &Draft, targets: &[Target]) -> bool {
     let Some(walked) = draft.walked else {
-        return Ok(true);
+        return true;
     };
-    for target in targets_of(ground, draft.entry.routine(), line)? {
+    targets.iter().any(|target| {
         let is_own = target.entry == draft.entry;
-        if !target.begins && (is_own || has_changed(maker, target.entry, walked)) {
-            return Ok(true);
-        }
-    }
-    Ok(false)
-}
-
-// Whether a line has to be walked: from a new case, or with another summary of what it calls.
-fn is_due(
-    ground: &Ground<'_>,
-    maker: &Maker,
-    draft: &Draft,
-    line: &Line,
-    fresh: bool,
-) -> Result<bool, Failure<Stop>> {
-    if draft.lists.has_new(line.number) {
-        return Ok(true);
-    }
-    if !fresh {
-        return Ok(false);
-    }
-    asks_anew(ground, maker, draft, line)
+        !target.begins && (is_own || has_changed(maker, target.entry, walked))
+    })
 }
 
 // Walks a line once, where it is due.
@@ -132,10 +98,11 @@ fn walk_if_due(
     maker: &mut Maker,
     draft: &mut Draft,
     site: Site<'_>,
+    targets: &[Target],
     due: bool,
 ) -> Result<Turn, Failure<Stop>> {
     if due {
-        return walk_once(ground, maker, draft, site);
+        return walk_once(ground, maker, draft, site, targets);
     }
     Ok(Turn {
         again: false,
@@ -143,8 +110,8 @@ fn walk_if_due(
     })
 }
 
-// A line and its block: whether the cases change in which its own block may end. Where it is fresh, the summaries of what
-// is called may be others than before.
+// A line and its block: whether the cases change in which its own block may end. It is walked from a new case, or with
+// another summary of what it calls: where it is fresh, summaries may be others than before.
 #[cycle(settle)]
 fn settle_line<'a>(
     line: &'a Line,
@@ -155,15 +122,18 @@ fn settle_line<'a>(
     draft: &mut Draft,
     fresh: bool,
 ) -> Result<bool, Failure<Stop>> {
-    let site = Site { line, around, next };
-    let mut due = is_due(ground, maker, draft, line, fresh)?;
-    if !due && !fresh {
+    let has_new = draft.lists.has_new(line.number);
+    if !has_new && !fresh {
         return Ok(false);
     }
+    let site = Site { line, around, next };
+    let targets = targets_of(ground, draft.entry.routine(), line)?;
+    let targets = targets.as_slice();
+    let mut due = has_new || asks_anew(maker, draft, targets);
     let mut is_fresh = fresh;
     let mut changes = false;
     for _ in 0..MOST_WALKS {
-        let one = walk_if_due(ground, maker, draft, site, due)?;
+        let one = walk_if_due(ground, maker, draft, site, targets, due)?;
         changes = changes || one.ends;
         let block = line.block.as_slice();
         let inner = settle_lines(block, Around::Block, ground, maker, draft, is_fresh)?;

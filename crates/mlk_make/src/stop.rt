@@ -1,5 +1,6 @@
 // Why the maker stops.
 
+use mlk_cert::CertFault;
 use mlk_program::EntryId;
 use mlk_rows::Fault;
 use mlk_text::{Failure, Value};
@@ -9,6 +10,8 @@ use mlk_text::{Failure, Value};
 pub enum MakeError {
     /// a declared entry that the program lacks: its text
     EntryMissing(Value),
+    /// the text of the certificate is too long: the limit
+    TooLong(CertFault),
     /// the maker gave up
     GaveUp(GaveUp),
 }

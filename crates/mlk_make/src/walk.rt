@@ -1,18 +1,17 @@
 // The walk of one line.
 
-use crate::copy::{copy_cases, copy_summed};
-use crate::draft::Draft;
-use crate::found::calls_of;
 use crate::maker::{Ground, Maker};
 use mlk_calls::{Entries, Scope};
 use mlk_cert::{Case, EntryCert};
 use mlk_coverage::{RuleLists, Rules};
+use mlk_drafts::{Draft, copy_summed};
 use mlk_lines::{Around, LineFault, LineFaults, walk_alone};
-use mlk_program::EntryId;
-use mlk_routine::Line;
+use mlk_program::{EntryId, calls_of};
+use mlk_routine::{Action, Command, Commands, Line};
 use mlk_rows::Mend;
 use mlk_text::{Column, List, Value};
 use std::alloc::{AllocError, Global};
+use std::collections::BTreeSet;
 
 /// A line, what its lines are, and the line to which a job goes on.
 #[derive(Clone, Copy, Drop)]
@@ -37,19 +36,41 @@ pub(crate) struct Walked {
     pub(crate) ends: Vec<Case>,
 }
 
+// Adds the columns of the calls by which a command begins jobs.
+fn add_begun(columns: &mut BTreeSet<Column>, command: &Command) -> Result<(), AllocError> {
+    if let Action::Job(calls) = &command.action {
+        for call in calls {
+            columns.insert(call.column)?;
+        }
+    }
+    Ok(())
+}
+
+fn add_all_begun(columns: &mut BTreeSet<Column>, commands: &Commands) -> Result<(), AllocError> {
+    for command in commands.before.as_slice() {
+        add_begun(columns, command)?;
+    }
+    match &commands.last {
+        None => Ok(()),
+        Some(last) => add_all_begun(columns, &last.rest),
+    }
+}
+
 /// What the calls of a line of a routine name.
 pub(crate) fn targets_of(
     ground: &Ground<'_>,
     routine: usize,
     line: &Line,
 ) -> Result<Vec<Target>, AllocError> {
+    let mut begun = BTreeSet::new(ground.alloc);
+    add_all_begun(&mut begun, &line.commands)?;
     let mut targets = Vec::new(ground.alloc);
-    for call in calls_of(ground.alloc, line)? {
+    for call in calls_of(ground.alloc, &line.commands)? {
         if let Some(entry) = ground.program.target(routine, call.callee) {
             targets.push(Target {
                 column: call.column,
                 entry,
-                begins: call.begins,
+                begins: begun.contains(&call.column),
             })?;
         }
     }
@@ -138,11 +159,10 @@ fn walk_among(
     entry: EntryId,
     block: &EntryCert,
     site: Site<'_>,
-    inner: &[Case],
+    inner: List<Case>,
 ) -> Result<Walked, AllocError> {
     let alloc = ground.alloc;
     let scope = Scope::of(ground.program, ground.rules, entries, entry, block);
-    let inner = copy_cases(alloc, inner)?;
     let mut found = LineFaults::new(alloc);
     let ends = walk_alone(
         alloc,
@@ -167,7 +187,7 @@ fn walk_by(
     entry: EntryId,
     block: &EntryCert,
     site: Site<'_>,
-    inner: &[Case],
+    inner: List<Case>,
 ) -> Result<Walked, AllocError> {
     let rules = rules.unwrap_or(ground.rules);
     let entries = Entries::of(ground.alloc, ground.program, rules, blocks)?;
@@ -182,9 +202,12 @@ pub(crate) fn walk_site(
     block: &EntryCert,
     site: Site<'_>,
     targets: &[Target],
-    inner: &[Case],
+    inner: List<Case>,
 ) -> Result<Walked, AllocError> {
     let blocks = summed(ground.alloc, maker, draft, targets)?;
+    if blocks.is_empty() {
+        return walk_among(ground, ground.declared, draft.entry, block, site, inner);
+    }
     let few = declared_rules(ground.alloc, maker, draft, targets)?;
     walk_by(
         ground,

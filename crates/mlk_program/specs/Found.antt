@@ -1,4 +1,4 @@
--- The calls that were found. For private clauses alone. This project's own.
+-- The calls that were found. This project's own.
 use Rattle.std.specs.Prelude.{ℕ, ◌≡◌, List, [], ◌∷◌, ◌++◌, map, flat_map, Option, Some, None, option_map, Vec}
 use Rattle.std.specs.declared.alloc.Global.{Global}
 use Rattle.mlk_expr.specs.declared.tree.Expr.{Expr}

@@ -9,9 +9,9 @@ use mlk_expr::{Actual, Callee};
 use mlk_text::Column;
 use std::alloc::AllocError;
 
-/// A call in a tree.
+/// A call in a tree: its column, what it calls, and its actuals.
 #[derive(Clone, Copy, Drop)]
-pub(crate) struct CallSite<'a> {
+pub struct CallSite<'a> {
     pub column: Column,
     pub callee: &'a Callee,
     pub actuals: &'a Option<Vec<Actual>>,

@@ -1,9 +1,9 @@
 // The calls in commands.
 
-ghost use Rattle.std.specs.Prelude.{OnOk, flat_map, Some};
+ghost use Rattle.std.specs.Prelude.{◌≡◌, IfOk, OnOk, flat_map, map, Some};
 ghost use Rattle.mlk_routine.specs.Views.{variable_of, do_of, kill_of, lock_of, merge_of, read_of, target_of, set_of, write_of, action_of, command_of, parameter_of, call_of, control_of, commands_of};
 ghost use Rattle.mlk_program.specs.Calls.{in_variable, in_call, in_do, in_kill, in_lock, in_merge, in_read, in_target, in_set, in_write, in_action, in_command, in_parameter, in_control, in_commands};
-ghost use Rattle.mlk_program.specs.Found.{Finds, of_expr, of_actual};
+ghost use Rattle.mlk_program.specs.Found.{Finds, site_of, of_expr, of_actual};
 
 use crate::call::{CallSite, add_call};
 use crate::expr;
@@ -12,7 +12,7 @@ use mlk_routine::{
     Action, Call, Command, Commands, Control, DoArgument, KillArgument, LockArgument,
     MergeArgument, Parameter, ReadArgument, SetArgument, Target, Variable, WriteArgument,
 };
-use std::alloc::AllocError;
+use std::alloc::{AllocError, Global};
 
 /// What calls may stand in.
 pub(crate) trait HasCalls {
@@ -276,4 +276,13 @@ pub(crate) fn in_commands<'a>(
         in_commands(found, &last.rest)?;
     }
     Ok(())
+}
+
+/// The calls of a line's commands, in the order in which they are written.
+pub fn calls_of<'a>(alloc: Global, commands: &'a Commands) -> Result<Vec<CallSite<'a>>, AllocError>
+    ensures { IfOk result (λ v. map site_of v.items ≡ in_commands (commands_of commands.now)) }
+{
+    let mut found = Vec::new(alloc);
+    in_commands(&mut found, commands)?;
+    Ok(found)
 }

@@ -1,6 +1,7 @@
 // Lists of any elements.
 
 ghost use Rattle.std.specs.Prelude.{◌≡◌, ◌∷◌, ◌++◌, [], OnOk, OnErr};
+ghost use Rattle.std.specs.Cmp.Lexicographic.{pointwise};
 
 use std::alloc::{AllocError, Global};
 use std::marker::Model;
@@ -68,6 +69,25 @@ impl<T> List<T> {
     }
 }
 
+/// Whether two lists have the same elements in the same order. Most that are compared have few elements.
+pub fn are_equal<T: PartialEq>(items: &[T], others: &[T]) -> bool
+    ensures { result ≡ pointwise T.eq items.now others.now }
+{
+    let mut left = items;
+    let mut left_others = others;
+    while let Some((item, rest)) = left.split_first() {
+        let Some((other, rest_others)) = left_others.split_first() else {
+            return false;
+        };
+        if *item != *other {
+            return false;
+        }
+        left = rest;
+        left_others = rest_others;
+    }
+    left_others.is_empty()
+}
+
 /// Adds an item at the end. The first takes room for itself alone, since most lists of a routine have one item.
 pub fn push_sparing<T: Drop>(items: &mut Vec<T>, item: T) -> Result<(), AllocError>
     ensures { OnOk result (items.new.items ≡ items.old.items ++ item ∷ []) }
@@ -95,7 +115,7 @@ impl<T: PartialEq> PartialEq for List<T> {
     ghost laws = { lists_per T.laws };
 
     fn eq(&self, other: &List<T>) -> bool {
-        self.as_slice() == other.as_slice()
+        are_equal(self.as_slice(), other.as_slice())
     }
 }
 

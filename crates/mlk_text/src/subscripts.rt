@@ -2,6 +2,7 @@
 
 ghost use Rattle.std.specs.Prelude.{◌≡◌, ◌∷◌, ◌++◌, [], OnOk};
 
+use crate::list::are_equal;
 use smallvec::SmallVec;
 use std::alloc::{AllocError, Global};
 use std::default::MadeWith;
@@ -81,7 +82,7 @@ impl<T: PartialEq> PartialEq for Subscripts<T> {
     ghost laws = { lists_per T.laws };
 
     fn eq(&self, other: &Subscripts<T>) -> bool {
-        self.as_slice() == other.as_slice()
+        are_equal(self.as_slice(), other.as_slice())
     }
 }
 

@@ -1,6 +1,6 @@
 // The bytes of names and values. Most are short, and then stand in the struct itself.
 
-ghost use Rattle.std.specs.Prelude.{◌≡◌, ◌≤◌, IfOk, length};
+ghost use Rattle.std.specs.Prelude.{◌≡◌, ◌≤◌, IfOk, length, bytes_eq};
 ghost use Rattle.mlk_text.specs.Texts.{bytes_of};
 
 use std::alloc::{AllocError, Global};
@@ -8,6 +8,25 @@ use std::marker::Model;
 
 // How many bytes stand in the struct itself.
 const MOST_SHORT: usize = 23;
+
+// Whether the bytes are the same. Most of those that are compared are few, or differ early.
+fn are_same(bytes: &[u8], others: &[u8]) -> bool
+    ensures { result ≡ bytes_eq bytes.now others.now }
+{
+    let mut left = bytes;
+    let mut left_others = others;
+    while let Some((byte, rest)) = left.split_first() {
+        let Some((other, rest_others)) = left_others.split_first() else {
+            return false;
+        };
+        if *byte != *other {
+            return false;
+        }
+        left = rest;
+        left_others = rest_others;
+    }
+    left_others.is_empty()
+}
 
 /// Up to 23 bytes.
 #[derive(Debug, Drop)]
@@ -83,6 +102,13 @@ impl Text {
             Text::Short(short) => short.as_bytes(),
             Text::Long(bytes) => bytes.as_slice(),
         }
+    }
+
+    /// Whether the bytes are the same.
+    pub(crate) fn is_same(&self, other: &Text) -> bool
+        ensures { result ≡ bytes_eq (bytes_of self.now) (bytes_of other.now) }
+    {
+        are_same(self.as_bytes(), other.as_bytes())
     }
 
     /// An equal text, on the same allocator.

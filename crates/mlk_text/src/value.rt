@@ -83,7 +83,7 @@ impl PartialEq for Value {
     ghost laws = { Prim.search (comparing, rules) };
 
     fn eq(&self, other: &Value) -> bool {
-        self.as_bytes() == other.as_bytes()
+        self.text.is_same(&other.text)
     }
 }
 

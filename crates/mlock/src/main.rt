@@ -1,7 +1,10 @@
 //! `mlock`: checks that M routines touch shared data only under their locks.
 #![tactic(auto)]
 
-use mlk_command::{Files, read_whole, run, wrong_words};
+mod progress;
+
+use crate::progress::Progress;
+use mlk_command::{Files, read_whole, run_watched, wrong_words};
 use std::alloc::Global;
 use std::fs::File;
 use std::io;
@@ -31,7 +34,15 @@ fn main(rt: HostRuntime) -> ExitCode {
     let status = match words_of(&rt) {
         Ok(words) => {
             let disk = Disk { rt: &rt };
-            run(rt.alloc(), words.as_slice(), &disk, &mut out, &mut err)
+            let progress = Progress::new(&rt);
+            run_watched(
+                rt.alloc(),
+                words.as_slice(),
+                &disk,
+                &progress,
+                &mut out,
+                &mut err,
+            )
         }
         Err(error) => wrong_words(&error, &mut err),
     };

@@ -232,3 +232,13 @@ pub(crate) fn push_case(text: &mut Text, case: &Case) -> Result<(), AllocError>
     push_saved(text, case.saved.as_slice())?;
     Ok(())
 }
+
+impl Written for Case {
+    ghost use Rattle.mlk_cert.specs.Texts.{case_text};
+
+    ghost written = { case_text };
+
+    fn push_to(&self, text: &mut Text) -> Result<(), AllocError> {
+        push_case(text, self)
+    }
+}

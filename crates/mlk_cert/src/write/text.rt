@@ -1,7 +1,7 @@
 // A text that is put together piece by piece.
 
-ghost use Rattle.std.specs.Prelude.{◌≡◌, ◌++◌, ◌∷◌, [], OnOk, length};
-ghost use Rattle.std.specs.Fmt.{decimal};
+ghost use Rattle.std.specs.Prelude.{◌≡◌, ◌<◌, ◌++◌, ◌∷◌, [], OnOk, decimal};
+ghost use Rattle.std.specs.Vec.{vec_len, vec_capacity};
 
 use std::alloc::{AllocError, Global};
 use std::marker::Model;
@@ -10,6 +10,17 @@ use std::marker::Model;
 #[derive(Drop)]
 pub struct Text {
     bytes: Vec<u8>,
+}
+
+// Room for one more byte.
+fn make_room(bytes: &mut Vec<u8>) -> Result<(), AllocError>
+    ensures items { bytes.new.items ≡ bytes.old.items }
+    ensures room { OnOk result (vec_len bytes.new < vec_capacity bytes.new) }
+{
+    if bytes.len() < bytes.capacity() {
+        return Ok(());
+    }
+    bytes.reserve(1)
 }
 
 impl Model for Text {
@@ -37,28 +48,41 @@ impl Text {
         self.bytes.as_slice()
     }
 
-    /// More bytes at its end.
-    pub fn push(&mut self, piece: &[u8]) -> Result<(), AllocError>
-        ensures { OnOk result (self.new ≡ self.old ++ piece.now) }
-    {
-        self.bytes.extend_from_slice(piece)?;
-        Ok(())
-    }
-
     /// One more byte at its end.
     pub fn push_byte(&mut self, byte: u8) -> Result<(), AllocError>
         ensures { OnOk result (self.new ≡ self.old ++ byte ∷ []) }
     {
-        self.bytes.push(byte)?;
+        make_room(&mut self.bytes)?;
+        self.bytes.push_reserved(byte);
+        Ok(())
+    }
+
+    /// More bytes at its end.
+    pub fn push(&mut self, piece: &[u8]) -> Result<(), AllocError>
+        ensures { OnOk result (self.new ≡ self.old ++ piece.now) }
+    {
+        for byte in piece {
+            self.push_byte(*byte)?;
+        }
         Ok(())
     }
 
     /// The digits of a number at its end.
+    #[tactic(auto, using(crate::proofs::NumberFormats::one_digit, crate::proofs::NumberFormats::last_digit))]
     pub fn push_number(&mut self, number: u32) -> Result<(), AllocError>
         ensures { OnOk result (self.new ≡ self.old ++ decimal number) }
     {
-        let digits = number.to_string(*self.bytes.allocator())?;
-        self.bytes.extend_from_slice(digits.as_bytes())?;
-        Ok(())
+        if number < 10 {
+            return self.push_byte(b'0' + number as u8);
+        }
+        self.push_number(number / 10)?;
+        self.push_byte(b'0' + (number % 10) as u8)
+    }
+
+    /// Its bytes, as a vector.
+    pub fn into_bytes(self) -> Vec<u8>
+        ensures { result.items ≡ self }
+    {
+        self.bytes
     }
 }

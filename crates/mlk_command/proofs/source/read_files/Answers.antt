@@ -1,5 +1,6 @@
 use Rattle.std.proofs.Common.{rules, subst, ◌++◌}
-use Rattle.mlk_command.specs.Files.{LosesFirst, bytes_of, work_path}
+use Rattle.mlk_command.specs.Files.{LosesFirst, work_path}
+use Rattle.mlk_words.specs.CommandLine.{bytes_of}
 use Rattle.mlk_command.proofs.Sources.{loses-front, loses-after, loses-within, loses-past}
 use Rattle.mlk_command.proofs.source.read_files.Goals as goal
 

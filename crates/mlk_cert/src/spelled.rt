@@ -1,0 +1,35 @@
+// Certificates with their texts.
+
+ghost use Rattle.std.specs.Prelude.{◌≡◌, IfOk, IfErr};
+ghost use Rattle.mlk_cert.specs.Texts.{certificate_text};
+ghost use Rattle.mlk_cert.specs.Theorem.{Spells};
+ghost use Rattle.mlk_cert.specs.Writing.{IsUnspelled};
+
+use crate::block::EntryCert;
+use crate::certificate::Certificate;
+use crate::read::{CertFault, read_cert};
+use crate::write::whole::certificate_text;
+use mlk_text::Failure;
+use std::alloc::Global;
+
+/// A certificate and its text.
+#[derive(Drop)]
+pub struct Spelled {
+    pub certificate: Certificate,
+    pub text: Vec<u8>,
+}
+
+/// The text of blocks that someone made, and the certificate that is read of it, where they keep to all limits and orders
+/// and it is not too long.
+pub fn spell(alloc: Global, made: Vec<EntryCert>) -> Result<Spelled, Failure<CertFault>>
+    // It is the one text of the certificate,
+    ensures spells { IfOk result (λ s. Spells s.certificate s.text.items) }
+    // and of the blocks.
+    ensures text { IfOk result (λ s. s.text.items ≡ certificate_text made.items) }
+    // Where blocks are refused, they are no certificate, or their text is too long.
+    ensures refused { IfErr result (IsUnspelled made.items) }
+{
+    let text = certificate_text(alloc, made.as_slice())?.into_bytes();
+    let certificate = read_cert(alloc, text.as_slice())?;
+    Ok(Spelled { certificate, text })
+}

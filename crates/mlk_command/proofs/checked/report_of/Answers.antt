@@ -1,0 +1,10 @@
+use Rattle.std.specs.Prelude.{map}
+use Rattle.mlk_routine.specs.Views.{routine_of}
+use Rattle.mlk_command.proofs.Checks.{below, ok_turned, err_turned}
+use Rattle.mlk_command.proofs.checked.report_of.Goals as goal
+
+pub returns-clause-ok : goal.returns-clause-ok
+returns-clause-ok c = ok_turned c.report_by.result (λ r h. (c.args.made.now.certificate, c.requires, h)) c.report_by.ensures.ok
+
+pub returns-clause-refused : goal.returns-clause-refused
+returns-clause-refused c = err_turned c.report_by.result (λ r h. below _ _ _ _ r c.requires h) c.report_by.ensures.refused

@@ -1,0 +1,76 @@
+// The block of an entry, of what is known of it.
+
+use crate::draft::{Draft, line_number, round_number};
+use crate::lists::{At, Lists};
+use crate::order::cases_in_order;
+use mlk_cert::{Case, EntryCert, ExitCase, Point, Shared, Summary};
+use mlk_text::List;
+use std::alloc::{AllocError, Global};
+
+// A point with its cases in order.
+fn point(alloc: Global, at: At, cases: List<Case>) -> Result<Point, AllocError> {
+    Ok(Point {
+        line: line_number(at.line)?,
+        round: round_number(at.round)?,
+        cases: cases_in_order(alloc, cases.into_vec())?,
+    })
+}
+
+fn points(alloc: Global, lists: Lists) -> Result<List<Point>, AllocError> {
+    let mut all = List::new(alloc);
+    for (at, cases) in lists.into_points(alloc)? {
+        all.push(point(alloc, at, cases)?)?;
+    }
+    Ok(all)
+}
+
+// The case at an entry's end, of which an exit says all.
+fn case_of(alloc: Global, exit: ExitCase) -> Result<Case, AllocError> {
+    Ok(Case {
+        test: exit.test,
+        held: exit.held,
+        own: Shared::new(alloc, Vec::new(alloc))?,
+        kept: exit.kept,
+        saved: List::new(alloc),
+    })
+}
+
+// Exits have the order of cases that say nothing but what they say.
+fn exits(alloc: Global, given: List<ExitCase>) -> Result<List<ExitCase>, AllocError> {
+    let mut cases = Vec::new(alloc);
+    for exit in given.into_vec() {
+        cases.push(case_of(alloc, exit)?)?;
+    }
+    let mut all = List::new(alloc);
+    for case in cases_in_order(alloc, cases)?.into_vec() {
+        all.push(ExitCase {
+            test: case.test,
+            held: case.held,
+            kept: case.kept,
+        })?;
+    }
+    Ok(all)
+}
+
+/// The block of an entry by what is known of it.
+pub fn block_of(alloc: Global, draft: Draft) -> Result<EntryCert, AllocError> {
+    let Draft { block, lists, .. } = draft;
+    let Summary {
+        need,
+        exits: given,
+        mods,
+        low,
+        drops,
+    } = block.summary;
+    Ok(EntryCert {
+        entry: block.entry,
+        summary: Summary {
+            need,
+            exits: exits(alloc, given)?,
+            mods,
+            low,
+            drops,
+        },
+        points: points(alloc, lists)?,
+    })
+}

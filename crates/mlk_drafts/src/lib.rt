@@ -1,0 +1,17 @@
+//! What the maker of certificates knows so far of an entry: its summary, and the cases at its points. Nothing rests on it.
+#![tactic(auto)]
+
+mod block;
+mod copy;
+mod draft;
+mod hand;
+mod lists;
+mod order;
+mod summary;
+
+pub use block::block_of;
+pub use copy::{copy_cases, copy_summed};
+pub use draft::{Draft, line_number, round_number};
+pub use hand::{round_at, rounds_in};
+pub use lists::{At, Listing, Lists};
+pub use summary::{add_exit, add_mods, drop_all, lower, widen};

@@ -1,0 +1,31 @@
+// Who is told how far long work has come.
+
+/// What is being done.
+#[derive(Clone, Copy, Debug, Drop, PartialEq, Eq)]
+pub enum Stage {
+    /// the texts of routines are read
+    Reading,
+    /// a certificate is made, in this round, counted from 1
+    Making(usize),
+    /// the lines are checked by a certificate
+    Checking,
+}
+
+/// Who is told how far long work has come. What is done with it changes nothing of the work.
+pub trait Watch {
+    /// So many of so many routines are done at a stage; 0 of 0 where that is not counted. It may be told very often.
+    fn see(&self, stage: Stage, done: usize, of: usize);
+
+    /// All work is done, and something else may be written now.
+    fn end(&self);
+}
+
+/// Nobody.
+#[derive(Clone, Copy, Debug, Drop)]
+pub struct Unwatched;
+
+impl Watch for Unwatched {
+    fn see(&self, _stage: Stage, _done: usize, _of: usize) {}
+
+    fn end(&self) {}
+}

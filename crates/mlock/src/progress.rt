@@ -1,0 +1,82 @@
+// How far long work has come, shown on a terminal.
+
+use mlk_command::{Stage, Watch};
+use std::cell::Cell;
+use std::io::IsTerminal;
+use std::time::{Duration, Instant};
+
+// Work that takes fewer milliseconds is not told of.
+const FIRST_SHOWN: u64 = 500;
+
+// The line is written anew after so many milliseconds at the soonest.
+const NEXT_SHOWN: u64 = 100;
+
+/// Shows on the error stream how far work has come, in one line that is written over and taken away at the end; nothing
+/// where that stream is no terminal.
+#[derive(Drop)]
+pub(crate) struct Progress<'a> {
+    rt: &'a HostRuntime,
+    is_shown: Cell<bool>,
+    // when the line is to be written next; none where it never is
+    due: Cell<Option<Instant>>,
+}
+
+impl<'a> Progress<'a> {
+    /// Work begins now.
+    pub(crate) fn new(rt: &'a HostRuntime) -> Progress<'a> {
+        let due = if rt.stderr().is_terminal() {
+            moment_after(rt, FIRST_SHOWN)
+        } else {
+            None
+        };
+        Progress {
+            rt,
+            is_shown: Cell::new(false),
+            due: Cell::new(due),
+        }
+    }
+
+    // Writes the line.
+    fn show(&self, stage: Stage, done: usize, of: usize) {
+        let _ = match stage {
+            Stage::Reading => eprint!(self.rt; "\r\x1b[Kreading: routine {done} of {of}"),
+            Stage::Making(round) => {
+                eprint!(self.rt;
+                    "\r\x1b[Kmaking a certificate, round {round}: routine {done} of {of}"
+                )
+            }
+            Stage::Checking => eprint!(self.rt; "\r\x1b[Kchecking"),
+        };
+        self.is_shown.set(true);
+        self.due.set(moment_after(self.rt, NEXT_SHOWN));
+    }
+}
+
+impl Watch for Progress<'_> {
+    fn see(&self, stage: Stage, done: usize, of: usize) {
+        let Some(due) = self.due.get() else {
+            return;
+        };
+        let Ok(now) = Instant::now(self.rt) else {
+            return;
+        };
+        if now >= due {
+            self.show(stage, done, of);
+        }
+    }
+
+    fn end(&self) {
+        if self.is_shown.get() {
+            let _ = eprint!(self.rt; "\r\x1b[K");
+            self.is_shown.set(false);
+        }
+    }
+}
+
+// The moment so many milliseconds later than now, where the clock tells.
+fn moment_after(rt: &HostRuntime, wait: u64) -> Option<Instant> {
+    let Ok(now) = Instant::now(rt) else {
+        return None;
+    };
+    now.checked_add(Duration::from_millis(wait))
+}
