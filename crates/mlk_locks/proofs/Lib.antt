@@ -1,6 +1,7 @@
 pub mod Answered
 pub mod ListLemmas
 pub mod RingLemmas
+pub mod SearchLemmas
 pub mod NameLemmas
 pub mod Counting
 pub mod WaitLemmas

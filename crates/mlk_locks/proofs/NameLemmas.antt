@@ -1,8 +1,8 @@
 -- The tests of names say what they ought to, and who holds what in_conflict excludes.
-use Rattle.std.proofs.Common.{◌≡◌, ℕ, zero, suc, ◌+◌, ◌<◌, Bool, true, false, List, [], ◌∷◌, refl, ap, ◌∙◌, subst, arith, inl, inr}
-use Rattle.std.specs.Prelude.{◌⊎◌, ◌&&◌, bytes_eq, if◌then◌else◌, nat_lt}
+use Rattle.std.proofs.Common.{◌≡◌, ℕ, zero, suc, ◌+◌, ◌<◌, Bool, true, false, List, [], ◌∷◌, refl, sym, ap, ◌∙◌, subst, arith, inl, inr}
+use Rattle.std.specs.Prelude.{◌⊎◌, ◌&&◌, ◌||◌, bytes_eq, Decides, if◌then◌else◌, nat_lt}
 use Rattle.std.proofs.lemmas.Slice.Eq.{bytes_eq-Decides}
-use Rattle.std.proofs.lemmas.Bool.{and_parts, and_from, or_cases, or_left, or_right, lt-ltb, ltb-true}
+use Rattle.std.proofs.lemmas.Bool.{cases_Bool, and_parts, and_from, or_cases, or_left, or_right, lt-ltb, ltb-true}
 use Rattle.mlk_names.specs.declared.lock_name.LockName.{LockName}
 use Rattle.mlk_text.specs.declared.root.Root.{Root}
 use Rattle.mlk_text.specs.declared.root.Root.TheVariants.{Global, Local}
@@ -73,6 +73,75 @@ first_both (x ∷ xs) (y ∷ ys) h k =
 first_self : (xs : List (List ℕ)) → are_first xs xs ≡ true
 first_self [] = refl
 first_self (x ∷ xs) = and_from (bytes_eq x x) (are_first xs xs) ((bytes_eq-Decides x x).1 refl) (first_self xs)
+
+-- two lists that are equal as far as both go
+pub agree_none : (ys : List (List ℕ)) → true ≡ (are_first [] ys || are_first ys [])
+agree_none ys = refl
+
+pub agree_past : (x : List ℕ) (xs : List (List ℕ)) → true ≡ (are_first (x ∷ xs) [] || are_first [] (x ∷ xs))
+agree_past x xs = refl
+
+turned : (x y : List ℕ) → bytes_eq x y ≡ bytes_eq y x
+turned x y = elim (cases_Bool (bytes_eq x y)) [
+  | inl e ↦ e ∙ sym ((bytes_eq-Decides y x).1 (sym ((bytes_eq-Decides x y).0 e)))
+  | inr e ↦ elim (cases_Bool (bytes_eq y x)) [
+    | inl f ↦ absurd (let g : false ≡ true = sym e ∙ (bytes_eq-Decides x y).1 (sym ((bytes_eq-Decides y x).0 f)) in cc)
+    | inr f ↦ e ∙ sym f
+  ]
+]
+
+pub agree_more : (x y : List ℕ) (xs ys : List (List ℕ)) → bytes_eq x y ≡ true
+    → (are_first xs ys || are_first ys xs) ≡ (are_first (x ∷ xs) (y ∷ ys) || are_first (y ∷ ys) (x ∷ xs))
+agree_more x y xs ys e = rw (e, sym (turned x y) ∙ e) refl
+
+pub agree_not : (x y : List ℕ) (xs ys : List (List ℕ)) → bytes_eq x y ≡ false
+    → false ≡ (are_first (x ∷ xs) (y ∷ ys) || are_first (y ∷ ys) (x ∷ xs))
+agree_not x y xs ys e = rw (e, sym (turned x y) ∙ e) refl
+
+same_root_turned : (a b : Root) → same_root a b ≡ same_root b a
+same_root_turned (Global a) (Global b) = turned a b
+same_root_turned (Global a) (Local b) = refl
+same_root_turned (Local a) (Global b) = refl
+same_root_turned (Local a) (Local b) = turned a b
+
+-- a conflict, subscripts first
+pub conflict_so : (m n : LockName)
+    → ((are_first m.subs n.subs || are_first n.subs m.subs) && same_root m.root n.root) ≡ in_conflict m n
+unfolding in_conflict is_above
+conflict_so m n =
+    ap (λ b. b) (turned_around (same_root m.root n.root) (are_first m.subs n.subs) (are_first n.subs m.subs))
+    ∙ ap (λ b. (same_root m.root n.root && are_first m.subs n.subs) || (b && are_first n.subs m.subs))
+    (same_root_turned m.root n.root)
+  where
+    turned_around : (r a b : Bool) → ((a || b) && r) ≡ ((r && a) || (r && b))
+    turned_around true true b = refl
+    turned_around true false true = refl
+    turned_around true false false = refl
+    turned_around false true b = refl
+    turned_around false false true = refl
+    turned_around false false false = refl
+
+-- the same as it is tested: subscripts first, and where they agree the roots
+pub conflict_then : (a b : Bool) (m n : LockName) (xs ys : List (List ℕ)) → xs ≡ m.subs → ys ≡ n.subs
+    → a ≡ (are_first xs ys || are_first ys xs) → a ≡ true → b ≡ same_root m.root n.root → b ≡ in_conflict m n
+conflict_then a b m n xs ys e f h t r =
+    let P : List (List ℕ) → List (List ℕ) → Type 0 = λ us vs. a ≡ (are_first us vs || are_first vs us) in
+    let g : P m.subs n.subs = subst (λ us. P us n.subs) e (subst (P xs) f h) in
+    r ∙ ap (λ c. c && same_root m.root n.root) (sym t ∙ g) ∙ conflict_so m n
+
+pub conflict_else : (a : Bool) (m n : LockName) (xs ys : List (List ℕ)) → xs ≡ m.subs → ys ≡ n.subs
+    → a ≡ (are_first xs ys || are_first ys xs) → a ≡ false → a ≡ in_conflict m n
+conflict_else a m n xs ys e f h t =
+    let P : List (List ℕ) → List (List ℕ) → Type 0 = λ us vs. a ≡ (are_first us vs || are_first vs us) in
+    let g : P m.subs n.subs = subst (λ us. P us n.subs) e (subst (P xs) f h) in
+    t ∙ ap (λ c. c && same_root m.root n.root) (sym t ∙ g) ∙ conflict_so m n
+
+pub root_tested : (b : Bool) (m n : Root) → Decides b (m ≡ n) → b ≡ same_root m n
+root_tested true m n h = let e : m ≡ n = h.0 refl in sym (rw e (same_root_self n))
+root_tested false m n h = elim (cases_Bool (same_root m n)) [
+  | inl e ↦ absurd (let g : false ≡ true = h.1 (same_root_is m n e) in cc)
+  | inr e ↦ sym e
+]
 
 pub same_self : (n : LockName) → same_name n n ≡ true
 unfolding same_name is_above

@@ -1,12 +1,12 @@
 // What a job holds.
 
-ghost use Rattle.std.specs.Prelude.{◌≡◌, ◌<◌, ◌^◌, [], IfOk, OnOk, IfSome, length, position, nat_lt, ◌&&◌};
+ghost use Rattle.std.specs.Prelude.{◌≡◌, ◌<◌, ◌^◌, [], IfOk, OnOk, IfSome, length, position, nat_lt, ◌&&◌, ◌||◌};
 ghost use Rattle.std.specs.List.{list_any};
-ghost use Rattle.mlk_locks.specs.NameTests.{in_conflict, same_name};
+ghost use Rattle.mlk_locks.specs.NameTests.{are_first, in_conflict, same_name};
 ghost use Rattle.mlk_locks.specs.Counts.{excludes, count_of, raised, lowered, all_lowered, claimed, greatest_count};
 
-use mlk_names::{LockName, conflict};
-use mlk_text::copy_of;
+use mlk_names::LockName;
+use mlk_text::{Value, copy_of};
 use std::alloc::{AllocError, Global};
 use std::marker::Model;
 
@@ -17,20 +17,45 @@ fn is_same(first: &LockName, second: &LockName) -> bool
     first == second
 }
 
-// Whether one of the names is the other, or above it.
+// Whether two lists of subscripts are equal as far as both go.
+#[tactic(auto, using(crate::proofs::NameLemmas::agree_none, crate::proofs::NameLemmas::agree_past, crate::proofs::NameLemmas::agree_more, crate::proofs::NameLemmas::agree_not))]
+fn agree(first: &[Value], second: &[Value]) -> bool
+    ensures { result ≡ (are_first first.now second.now || are_first second.now first.now) }
+{
+    let mut left = first;
+    let mut right = second;
+    while let Some((one, later)) = left.split_first() {
+        let Some((two, rest)) = right.split_first() else {
+            return true;
+        };
+        if one != two {
+            return false;
+        }
+        left = later;
+        right = rest;
+    }
+    true
+}
+
+// Whether one of the names is the other, or above it. Each subscript is looked at once, since this is asked of all jobs.
 fn in_conflict(first: &LockName, second: &LockName) -> bool
     ensures { result ≡ in_conflict first.now second.now }
 {
-    conflict(first, second)
+    agree(first.subs.as_slice(), second.subs.as_slice()) && first.root == second.root
 }
 
 // Whether one of these keeps the name from other jobs.
 fn some_excludes(entries: &[(LockName, u32)], name: &LockName) -> bool
     ensures { result ≡ list_any (λ h. nat_lt 0 h.1 && in_conflict name.now h.0) entries.now }
 {
-    entries
-        .iter()
-        .any(|entry| entry.1 > 0 && in_conflict(name, &entry.0))
+    let mut left = entries;
+    while let Some((entry, others)) = left.split_first() {
+        if entry.1 > 0 && in_conflict(name, &entry.0) {
+            return true;
+        }
+        left = others;
+    }
+    false
 }
 
 // The place of a name's entry.

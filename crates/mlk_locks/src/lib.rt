@@ -4,6 +4,7 @@
 mod held;
 mod law;
 mod refusal;
+mod ring;
 mod sharing;
 
 pub use held::Held;
@@ -12,4 +13,5 @@ pub use law::{
     waiting_is_tested,
 };
 pub use refusal::Refusal;
-pub use sharing::{Seen, are_free, has_ring, is_free, is_numbered, place_of, waits_for};
+pub use ring::has_ring;
+pub use sharing::{Seen, are_free, is_free, is_numbered, place_of, waits_for};

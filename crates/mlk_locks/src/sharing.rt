@@ -1,14 +1,12 @@
-// What jobs share: which names are free, who waits for whom, and whether some wait in a ring.
+// What jobs share: which names are free, and who waits for whom.
 
-ghost use Rattle.std.specs.Prelude.{◌≡◌, ◌==◌, ◌&&◌, ◌<◌, not, IfOk, IfSome, length, map, filter, position};
+ghost use Rattle.std.specs.Prelude.{◌≡◌, ◌==◌, ◌&&◌, ◌<◌, not, IfSome, length, position};
 ghost use Rattle.std.specs.List.{list_any, list_all};
 ghost use Rattle.mlk_locks.specs.Counts.{excludes};
-ghost use Rattle.mlk_locks.specs.Waiting.{is_free_among, is_numbered, waits, waits_as};
-ghost use Rattle.mlk_locks.specs.Rings.{waiting, has_ring};
+ghost use Rattle.mlk_locks.specs.Waiting.{is_free_among, is_numbered, waits};
 
 use crate::held::Held;
 use mlk_names::LockName;
-use std::alloc::{AllocError, Global};
 
 /// A job, as far as other jobs know of it.
 pub trait Seen {
@@ -33,7 +31,14 @@ pub trait Seen {
 fn some_excluded(held: &Held, names: &[LockName]) -> bool
     ensures { result ≡ list_any (excludes held.now) names.now }
 {
-    names.iter().any(|name| held.excludes(name))
+    let mut left = names;
+    while let Some((name, others)) = left.split_first() {
+        if held.excludes(name) {
+            return true;
+        }
+        left = others;
+    }
+    false
 }
 
 /// Whether one job waits for the other. It takes no memory.
@@ -54,7 +59,14 @@ fn keeps<J: Seen>(job: &J, number: u32, name: &LockName) -> bool
 fn some_keeps<J: Seen>(jobs: &[J], number: u32, name: &LockName) -> bool
     ensures { result ≡ list_any (λ j. not ((J.seen j).number == number) && excludes (J.seen j).held name.now) jobs.now }
 {
-    jobs.iter().any(|job| keeps(job, number, name))
+    let mut left = jobs;
+    while let Some((job, others)) = left.split_first() {
+        if keeps(job, number, name) {
+            return true;
+        }
+        left = others;
+    }
+    false
 }
 
 /// Whether no other job than the one of this number holds a name that conflicts. It takes no memory.
@@ -84,51 +96,4 @@ pub fn place_of<J: Seen>(jobs: &[J], number: u32) -> Option<usize>
     ensures within { IfSome result (λ i. i < length jobs.now) }
 {
     jobs.iter().position(|job| job.number() == number)
-}
-
-// Whether the job waits for one of these.
-fn waits_for_some<J: Seen>(job: &J, jobs: &[&J]) -> bool
-    ensures { result ≡ list_any (λ other. waits (J.seen job.now) (J.seen other.now)) jobs.now }
-{
-    jobs.iter().any(|other| waits_for(job, *other))
-}
-
-// Those that wait for one of them all, by references.
-fn filtered<'a, J: Seen>(alloc: Global, jobs: &[&'a J]) -> Result<Vec<&'a J>, AllocError>
-    ensures { IfOk result (λ some. some.items
-        ≡ filter (λ job. list_any (λ other. waits (J.seen job.now) (J.seen other.now)) jobs.now) jobs.now) }
-{
-    jobs.iter()
-        .copied()
-        .filter(|job| waits_for_some(*job, jobs))
-        .collect(alloc)
-}
-
-// Those that wait for one of them all.
-fn waiting<'a, J: Seen>(alloc: Global, jobs: &[&'a J]) -> Result<Vec<&'a J>, AllocError>
-    ensures { IfOk result (λ some. map (λ job. job.now) some.items
-        ≡ waiting (waits_as J.seen) (map (λ job. job.now) jobs.now)) }
-{
-    let some = filtered(alloc, jobs)?;
-    Ok(some)
-}
-
-// All of them, by references.
-fn all_of<'a, J: Seen>(alloc: Global, jobs: &'a [J]) -> Result<Vec<&'a J>, AllocError>
-    ensures { IfOk result (λ all. map (λ job. job.now) all.items ≡ jobs.now) }
-{
-    jobs.iter().collect(alloc)
-}
-
-/// Whether some of the jobs wait in a ring: each for one of them.
-pub fn has_ring<J: Seen>(alloc: Global, jobs: &[J]) -> Result<bool, AllocError>
-    ensures { IfOk result (λ found. found ≡ has_ring (waits_as J.seen) jobs.now) }
-{
-    let mut left = all_of(alloc, jobs)?;
-    let mut next = waiting(alloc, left.as_slice())?;
-    while next.len() < left.len() {
-        left = next;
-        next = waiting(alloc, left.as_slice())?;
-    }
-    Ok(!left.is_empty())
 }
