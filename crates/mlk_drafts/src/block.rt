@@ -52,25 +52,27 @@ fn exits(alloc: Global, given: List<ExitCase>) -> Result<List<ExitCase>, AllocEr
     Ok(all)
 }
 
-/// The block of an entry by what is known of it.
-pub fn block_of(alloc: Global, draft: Draft) -> Result<EntryCert, AllocError> {
-    let Draft { block, lists, .. } = draft;
-    let Summary {
-        need,
-        exits: given,
-        mods,
-        low,
-        drops,
-    } = block.summary;
-    Ok(EntryCert {
-        entry: block.entry,
-        summary: Summary {
+impl Draft {
+    /// The block of the entry, of all that is known of it.
+    pub fn into_block(self, alloc: Global) -> Result<EntryCert, AllocError> {
+        let Draft { block, lists, .. } = self;
+        let Summary {
             need,
-            exits: exits(alloc, given)?,
+            exits: given,
             mods,
             low,
             drops,
-        },
-        points: points(alloc, lists)?,
-    })
+        } = block.summary;
+        Ok(EntryCert {
+            entry: block.entry,
+            summary: Summary {
+                need,
+                exits: exits(alloc, given)?,
+                mods,
+                low,
+                drops,
+            },
+            points: points(alloc, lists)?,
+        })
+    }
 }

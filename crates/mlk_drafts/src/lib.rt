@@ -9,7 +9,6 @@ mod lists;
 mod order;
 mod summary;
 
-pub use block::block_of;
 pub use copy::{copy_cases, copy_summed};
 pub use draft::{Draft, line_number, round_number};
 pub use hand::{round_at, rounds_in};

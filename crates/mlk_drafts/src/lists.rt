@@ -83,7 +83,7 @@ fn is_small(case: &Case) -> bool {
         && case.kept.as_slice().len() <= MOST_KEPT
 }
 
-// Lists a case where it says less than each of these.
+// Lists a case, where none of these says no more than it.
 fn list_among(cases: &mut List<Case>, case: Case) -> Result<Listing, AllocError> {
     if is_listed(cases.as_slice(), &case) {
         return Ok(Listing::Known);
@@ -117,20 +117,16 @@ impl Lists {
         self.lines.get_mut(number.checked_sub(self.first)?)
     }
 
-    // What is known of a line, which is there from now on; none of a line before the entry.
-    fn opened(
-        &mut self,
-        alloc: Global,
-        number: usize,
-    ) -> Result<Option<&mut LineLists>, AllocError> {
+    // The line is there from now on, unless it stands before the entry.
+    fn open(&mut self, alloc: Global, number: usize) -> Result<(), AllocError> {
         let Some(place) = number.checked_sub(self.first) else {
-            return Ok(None);
+            return Ok(());
         };
         if place >= self.lines.len() {
             let places = place.saturating_add(1);
             self.lines.resize_with(places, || LineLists::new(alloc))?;
         }
-        Ok(self.lines.get_mut(place))
+        Ok(())
     }
 
     /// The cases of a point.
@@ -185,7 +181,8 @@ impl Lists {
 
     /// Lists a case at a point, where none of its cases says no more than this one.
     pub fn list(&mut self, alloc: Global, at: At, case: Case) -> Result<Listing, AllocError> {
-        let Some(lists) = self.opened(alloc, at.line)? else {
+        self.open(alloc, at.line)?;
+        let Some(lists) = self.line_mut(at.line) else {
             return Ok(Listing::Full);
         };
         lists.open(alloc, at.round)?;
@@ -203,7 +200,8 @@ impl Lists {
         cases: Vec<Case>,
     ) -> Result<bool, AllocError> {
         let cases = List::of(cases);
-        let Some(lists) = self.opened(alloc, line)? else {
+        self.open(alloc, line)?;
+        let Some(lists) = self.line_mut(line) else {
             return Ok(false);
         };
         if lists.ends == cases {
@@ -227,11 +225,13 @@ impl Lists {
 
     /// The points in order, each with its cases.
     pub(crate) fn into_points(self, alloc: Global) -> Result<Vec<(At, List<Case>)>, AllocError> {
+        let Lists { first, lines } = self;
         let mut found = Vec::new(alloc);
-        for (place, lists) in self.lines.into_iter().enumerate() {
-            let line = self.first.saturating_add(place);
-            add_point(&mut found, At { line, round: 0 }, lists.begin)?;
-            add_rounds(&mut found, line, lists.rounds)?;
+        for (place, lists) in lines.into_iter().enumerate() {
+            let LineLists { begin, rounds, .. } = lists;
+            let line = first.saturating_add(place);
+            add_point(&mut found, At { line, round: 0 }, begin)?;
+            add_rounds(&mut found, line, rounds)?;
         }
         Ok(found)
     }

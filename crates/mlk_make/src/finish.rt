@@ -7,7 +7,6 @@ ghost use Rattle.mlk_make.specs.Missing.{IsUnspelled, IfRefused};
 use crate::maker::Maker;
 use crate::stop::{GaveUp, MakeError};
 use mlk_cert::{CertFault, EntryCert, Spelled, spell};
-use mlk_drafts::block_of;
 use mlk_program::EntryId;
 use mlk_rows::Fault;
 use mlk_text::{Code, Column, Failure};
@@ -16,7 +15,7 @@ use std::alloc::{AllocError, Global};
 fn blocks(alloc: Global, maker: Maker) -> Result<Vec<EntryCert>, AllocError> {
     let mut all = Vec::new(alloc);
     for (_, draft) in maker.drafts {
-        all.push(block_of(alloc, draft)?)?;
+        all.push(draft.into_block(alloc)?)?;
     }
     Ok(all)
 }

@@ -1,0 +1,2 @@
+pub mod RisingRanks
+pub mod Runs

@@ -1,0 +1,43 @@
+-- What follows for runs of any number of jobs.
+use Rattle.std.specs.Prelude.{◌≡◌, ℕ, ◌<◌, ◌^◌, Bool, true, false, List, [], Ok}
+use Rattle.mlk_coverage.specs.declared.rules.RuleLists.{RuleLists}
+use Rattle.mlk_coverage.specs.Sound.{IsSound}
+use Rattle.mlk_locks.specs.Lists.{Among}
+use Rattle.mlk_locks.specs.Rings.{IsRing, HasRing}
+use Rattle.mlk_locks.specs.Systems.{Event, after}
+use Rattle.mlk_locks.specs.Laws.{Waits, has_ring_of}
+use Rattle.mlk_routine.specs.Trees.{RoutineTree}
+use Rattle.mlk_program.specs.declared.entry.EntryId.{EntryId}
+use Rattle.mlk_jobs.specs.declared.choice.Choice.{Choice}
+use Rattle.mlk_jobs.specs.Tasks.{Job}
+use Rattle.mlk_jobs.specs.Seen.{Clash}
+use Rattle.mlk_jobs.specs.Runs.{machine, seen}
+use Rattle.mlk_safety.specs.Moments.{StandsCovered, StandsInOrder, AtEachMoment}
+
+-- the number is one whose digits `$JOB` gives
+abbrev pub IsNumber : ℕ → Type 0
+IsNumber k = k < 2 ^ 64
+
+-- Where each job by itself always holds what covers the reference at which it stands ready, no two jobs clash, in any
+-- run of any number of jobs begun at declared entries.
+abbrev pub NoClash : Type 0
+NoClash =
+    (routines : List RoutineTree) (declared : EntryId → Bool) (rules : RuleLists) → IsSound rules
+    → AtEachMoment routines declared (StandsCovered rules)
+    → (events : List (Event Choice EntryId)) (jobs : List Job) → after (machine routines declared) events [] ≡ Ok jobs
+    → (i j : Job) → Among i jobs → Among j jobs → IsNumber i.number → IsNumber j.number → Clash i j → ⊥
+
+-- No jobs of these wait for each other in a ring: the test finds none, no list of some of them is one, and no other set
+-- of some of them either.
+pub record IsWithoutRing (jobs : List Job) : Type 0 where
+  pub tested : has_ring_of seen jobs ≡ false
+  pub listed : HasRing (Waits seen) jobs → ⊥
+  pub any : (In : Job → Bool) → IsRing (Waits seen) jobs (λ j. In j ≡ true) → ⊥
+
+-- Where each job by itself always claims in the order of the ranks, no run has a ring.
+abbrev pub NoRing : Type 0
+NoRing =
+    (routines : List RoutineTree) (declared : EntryId → Bool) (rules : RuleLists) → IsSound rules
+    → AtEachMoment routines declared (StandsInOrder rules.families)
+    → (events : List (Event Choice EntryId)) (jobs : List Job) → after (machine routines declared) events [] ≡ Ok jobs
+    → IsWithoutRing jobs
