@@ -1,4 +1,4 @@
-use Rattle.std.proofs.Common.{◌≡◌, ◌∙◌, map, refl, ap}
+use Rattle.std.proofs.Common.{◌∙◌, map, refl, ap}
 use Rattle.mlk_jobs.specs.declared.job.Job.{Job as JobIn}
 use Rattle.mlk_system.specs.Copies.{shown_of, values_in}
 use Rattle.mlk_system.proofs.CopyLemmas.{same_job, same_sound}

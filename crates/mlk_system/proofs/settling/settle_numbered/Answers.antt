@@ -1,4 +1,4 @@
-use Rattle.std.proofs.Common.{◌≡◌, ◌∙◌, ◌==◌, length, map, Some, None, refl, sym, ap, arith}
+use Rattle.std.proofs.Common.{◌≡◌, ◌∙◌, ◌==◌, length, map, Some, None, sym, ap, arith}
 use Rattle.std.specs.Prelude.{position}
 use Rattle.mlk_routine.specs.Views.{routine_of}
 use Rattle.mlk_jobs.specs.declared.job.Job.{Job as JobIn}
