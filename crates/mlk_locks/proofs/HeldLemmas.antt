@@ -5,10 +5,18 @@ use Rattle.std.specs.List.{list_any}
 use Rattle.std.proofs.lemmas.Bool.{cases_Bool, false≢true, and_parts}
 use Rattle.std.proofs.lemmas.Bool.Decides.{nat_tests}
 use Rattle.mlk_names.specs.declared.lock_name.LockName.{LockName}
+use Rattle.mlk_names.specs.LockNames.{Conflict}
 use Rattle.mlk_locks.specs.NameTests.{in_conflict, same_name}
 use Rattle.mlk_locks.specs.Counts.{Counts, excludes, count_of, raised, lowered, all_raised, all_lowered, has_room, claimed, greatest_count}
-use Rattle.mlk_locks.proofs.NameLemmas.{same_is, same_self}
+use Rattle.mlk_locks.proofs.NameLemmas.{conflict_is, conflict_if, same_is, same_self}
 use Rattle.mlk_locks.proofs.Counting.{one, count_of-raised, lowered_le}
+
+pub conflict_tested : (b : Bool) (m n : LockName) → IsTrue b ↔ Conflict m n → b ≡ in_conflict m n
+conflict_tested true m n h = sym (conflict_if m n (h.0 refl))
+conflict_tested false m n h = elim (cases_Bool (in_conflict m n)) [
+  | inl e ↦ absurd (false≢true (h.1 (conflict_is m n e)))
+  | inr e ↦ sym e
+]
 
 pub same_tested : (b : Bool) (m n : LockName) → IsTrue b ↔ (m ≡ n) → b ≡ same_name m n
 same_tested true m n h = let e : m ≡ n = h.0 refl in sym (rw e (same_self n))

@@ -1,6 +1,6 @@
 -- What stands in a list of those that pass a test, and how long it is.
-use Rattle.std.proofs.Common.{◌≡◌, ◌<◌, ◌≤◌, Bool, true, cond, List, [], ◌∷◌, length, filter, refl, sym, ap, ◌∙◌, subst, arith, inl, inr}
-use Rattle.std.specs.Prelude.{◌⊎◌}
+use Rattle.std.proofs.Common.{◌≡◌, ◌<◌, ◌≤◌, Bool, true, cond, List, [], ◌∷◌, length, filter, map, refl, sym, ap, ◌∙◌, subst, arith, inl, inr}
+use Rattle.std.specs.Prelude.{◌⊎◌, ◌||◌}
 use Rattle.std.specs.List.{list_any}
 use Rattle.std.proofs.lemmas.Bool.{cases_Bool, or_cases, or_left, or_right}
 use Rattle.mlk_locks.specs.Lists.{Among, is_some_there}
@@ -61,4 +61,16 @@ filter_shrinks t (x ∷ xs) = elim (cases_Bool (t x)) [
     | inr i ↦ inr (rw e (omega (arith, i)))
   ]
   | inr e ↦ inr (rw e (omega (arith, filter_le t xs)))
+]
+
+pub any_of_map : {X Y : Type 0} (g : X → Y) (t : Y → Bool) (xs : List X) → list_any t (map g xs) ≡ list_any (λ x. t (g x)) xs
+any_of_map g t [] = refl
+any_of_map g t (x ∷ xs) = ap (λ b. t (g x) || b) (any_of_map g t xs)
+
+pub filter_of_map : {X Y : Type 0} (g : X → Y) (s : X → Bool) (t : Y → Bool) (xs : List X)
+    → ((x : X) → s x ≡ t (g x)) → map g (filter s xs) ≡ filter t (map g xs)
+filter_of_map g s t [] same = refl
+filter_of_map g s t (x ∷ xs) same = elim (cases_Bool (t (g x))) [
+  | inl e ↦ rw (same x, e) (ap (λ l. g x ∷ l) (filter_of_map g s t xs same))
+  | inr e ↦ rw (same x, e) (filter_of_map g s t xs same)
 ]

@@ -1,8 +1,8 @@
 -- Where claims follow the ranks, the ranks of what is waited for would rise round a ring without end.
-use Rattle.std.proofs.Common.{◌≡◌, ℕ, zero, suc, ◌+◌, ◌<◌, ◌≤◌, List, [], ◌∷◌, length, ap, arith, inl, inr, Contains}
+use Rattle.std.proofs.Common.{◌≡◌, ℕ, zero, suc, ◌+◌, ◌<◌, ◌≤◌, List, [], ◌∷◌, length, ap, arith, inl, inr}
 use Rattle.std.specs.Prelude.{slice_index_or}
 use Rattle.mlk_names.specs.declared.lock_name.LockName.{LockName}
-use Rattle.mlk_names.specs.LockNames.{IsAbove, Conflict}
+use Rattle.mlk_names.specs.LockNames.{Conflict}
 use Rattle.mlk_names.proofs.NameLemmas.{conflict_above}
 use Rattle.mlk_coverage.specs.declared.family.Family.{Family}
 use Rattle.mlk_coverage.specs.Ranks.{NameHasRank, FamiliesApart}

@@ -1,11 +1,8 @@
 -- Each job of a run is what its own acts make of it, and what two jobs hold is apart: so what each keeps to by itself tells
 -- of all.
-use Rattle.std.proofs.Common.{◌≡◌, ℕ, Bool, true, false, List, [], Some, Ok, sym, ◌∙◌, ⊎_elim}
+use Rattle.std.proofs.Common.{◌≡◌, Bool, true, List, [], Ok, sym, ◌∙◌, ⊎_elim}
 use Rattle.std.proofs.lemmas.Bool.{false_from_ne_true}
 use Rattle.std.proofs.lemmas.Fmt.{decimal_injective}
-use Rattle.mlk_coverage.specs.declared.rules.RuleLists.{RuleLists}
-use Rattle.mlk_coverage.specs.Sound.{IsSound}
-use Rattle.mlk_coverage.specs.Laws.{HoldConflict}
 use Rattle.mlk_coverage.proofs.Apart.{covered_apart}
 use Rattle.mlk_coverage.proofs.SoundLemmas.{by_job}
 use Rattle.mlk_locks.specs.Lists.{Among}
@@ -15,7 +12,6 @@ use Rattle.mlk_routine.specs.Trees.{RoutineTree}
 use Rattle.mlk_program.specs.declared.entry.EntryId.{EntryId}
 use Rattle.mlk_jobs.specs.declared.choice.Choice.{Choice}
 use Rattle.mlk_jobs.specs.Tasks.{Job}
-use Rattle.mlk_jobs.specs.Seen.{Clash}
 use Rattle.mlk_jobs.specs.Runs.{machine, seen}
 use Rattle.mlk_jobs.proofs.MachineLemmas.{held_apart, one_run_of_many, rings_found}
 use Rattle.mlk_safety.specs.Moments.{StandsCovered, StandsInOrder, AtEachMoment}
@@ -47,7 +43,7 @@ no_ring routines declared rules sound each events jobs h =
     let order = in_run routines declared (StandsInOrder rules.families) each events jobs h in
     record {
       tested = false_from_ne_true (has_ring_of seen jobs) (λ found.
-        let r = (rings_found jobs).0 found in no_set seen rules.families jobs sound.apart apart order (λ x. Among x r.0) r.1);
+          let r = (rings_found jobs).0 found in no_set seen rules.families jobs sound.apart apart order (λ x. Among x r.0) r.1);
       listed = λ r. no_set seen rules.families jobs sound.apart apart order (λ x. Among x r.0) r.1;
       any = λ In ring. no_set seen rules.families jobs sound.apart apart order (λ x. In x ≡ true) ring;
     }
