@@ -4,7 +4,7 @@ use Rattle.mlk_command.specs.Checked.{AreRead, IsRefusalOf, IsRefusedBy}
 use Rattle.mlk_command.proofs.checked.check_texts.Goals as goal
 
 pub returns-in_err-outcome-clause-refused : goal.returns-in_err-outcome-clause-refused
-returns-in_err-outcome-clause-refused c =
+returns-in_err-outcome-clause-refused g c =
     let sources = c.args.sources.now in
     let trees = map routine_of c.in_ok-routines.routines.items in
     let r = c.in_err-outcome.field-0.0 in

@@ -5,16 +5,16 @@ use Rattle.mlk_command.proofs.Checks.{by-link, ok_turned, err_turned}
 use Rattle.mlk_command.proofs.checked.outcome_of.Goals as goal
 
 pub returns-in_err-program-clause-refused : goal.returns-in_err-program-clause-refused
-returns-in_err-program-clause-refused c =
+returns-in_err-program-clause-refused g c =
     let refused = by-link (map routine_of c.args.routines.now) c.args.rules_text.now c.args.work.now c.in_err-program.field-0.0 c.in_err-program.ensures.refused in
     grind rules
 
 pub returns-clause-ok : goal.returns-clause-ok
-returns-clause-ok c =
+returns-clause-ok g c =
     let same = c.in_ok-program.ensures.same in
     ok_turned c.outcome_under.result (λ o h. (c.in_ok-program.ensures.linked, subst (λ l. IsOutcomeUnder (map routine_of l) c.args.rules_text.now c.args.work.now o) same h)) c.outcome_under.ensures.ok
 
 pub returns-clause-refused : goal.returns-clause-refused
-returns-clause-refused c =
+returns-clause-refused g c =
     let same = c.in_ok-program.ensures.same in
     err_turned c.outcome_under.result (λ r h. inr (c.in_ok-program.ensures.linked, subst (λ l. IsRefusalUnder (map routine_of l) c.args.rules_text.now c.args.work.now r) same h)) c.outcome_under.ensures.refused

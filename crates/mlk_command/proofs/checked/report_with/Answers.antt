@@ -5,12 +5,12 @@ use Rattle.mlk_command.proofs.Checks.{by-certificate, below, ok_turned, err_turn
 use Rattle.mlk_command.proofs.checked.report_with.Goals as goal
 
 pub returns-in_err-certificate-clause-refused : goal.returns-in_err-certificate-clause-refused
-returns-in_err-certificate-clause-refused c =
+returns-in_err-certificate-clause-refused g c =
     let refused = by-certificate (map routine_of c.args.program.now) c.args.rules.now c.args.text.now c.in_err-certificate.field-0.0 c.in_err-certificate.ensures.back c.in_err-certificate.ensures.place in
     grind rules
 
 pub returns-clause-ok : goal.returns-clause-ok
-returns-clause-ok c = ok_turned c.report_by.result (λ r h. (c.in_ok-certificate.certificate, c.in_ok-certificate.ensures.ok, h)) c.report_by.ensures.ok
+returns-clause-ok g c = ok_turned c.report_by.result (λ r h. (c.in_ok-certificate.certificate, c.in_ok-certificate.ensures.ok, h)) c.report_by.ensures.ok
 
 pub returns-clause-refused : goal.returns-clause-refused
-returns-clause-refused c = err_turned c.report_by.result (λ r h. below _ _ _ _ r c.in_ok-certificate.ensures.ok h) c.report_by.ensures.refused
+returns-clause-refused g c = err_turned c.report_by.result (λ r h. below _ _ _ _ r c.in_ok-certificate.ensures.ok h) c.report_by.ensures.refused

@@ -8,7 +8,7 @@ use Rattle.mlk_command.proofs.Checks.{routine-more, first-refused, all-routines}
 use Rattle.mlk_command.proofs.checked.routines_of.Goals as goal
 
 pub returns-in_err-read_routine-clause-refused : goal.returns-in_err-read_routine-clause-refused
-returns-in_err-read_routine-clause-refused c =
+returns-in_err-read_routine-clause-refused g c =
     let source = c.source-item.result in
     let e = c.in_err-read_routine.field-0.0 in
     let none = subst (λ text. NoRoutine source.stem.now text e) c.as_slice.ensures.value c.in_err-read_routine.ensures.refused in
@@ -17,7 +17,7 @@ returns-in_err-read_routine-clause-refused c =
     grind rules
 
 pub loop-source-preserved : goal.loop-source-preserved
-loop-source-preserved c =
+loop-source-preserved g c =
     let source = c.source-item.result in
     let tree = routine_of c.in_ok-read_routine.field-0 in
     let read = subst (λ text. IsRoutine source.stem.now tree text) c.as_slice.ensures.value c.in_ok-read_routine.ensures.found in
@@ -25,4 +25,4 @@ loop-source-preserved c =
     (ap (map routine_of) (grind rules) ∙ map-append routine_of c.loop-source.routines.items (c.in_ok-read_routine.field-0 ∷ [])) c.loop-source.invariant read
 
 pub returns-clause-ok : goal.returns-clause-ok
-returns-clause-ok c = all-routines c.args.sources.now c.loop-source.source-index (map routine_of c.loop-source.routines.items) c.loop-source-test.false c.loop-source.invariant
+returns-clause-ok g c = all-routines c.args.sources.now c.loop-source.source-index (map routine_of c.loop-source.routines.items) c.loop-source-test.false c.loop-source.invariant
