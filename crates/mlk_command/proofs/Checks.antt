@@ -1,5 +1,5 @@
 -- What is refused on the way from texts to a report.
-use Rattle.std.proofs.Common.{◌≡◌, ℕ, ◌<◌, ◌≤◌, ◌+◌, ◌++◌, List, [], ◌∷◌, Result, Ok, Err, Option, Some, None, length, take, drop, slice_index_or, sym, ap, ◌∙◌, subst, inl, take-append-drop, append-nil}
+use Rattle.std.proofs.Common.{◌≡◌, ℕ, ◌<◌, ◌≤◌, ◌+◌, ◌++◌, List, [], ◌∷◌, Result, Ok, Err, Option, Some, None, length, take, drop, slice_index_or, sym, ap, ◌∙◌, subst, inl, inr, take-append-drop, append-nil}
 use Rattle.std.specs.Prelude.{IfOk, IfErr, find}
 use Rattle.std.proofs.lemmas.List.{drop_all, drop_more, take_more}
 use Rattle.mlk_text.specs.declared.failure.Failure.{Failure}
@@ -19,6 +19,7 @@ use Rattle.mlk_cert.specs.Refusals.{IsPlaced}
 use Rattle.mlk_make.specs.Missing.{is_missing}
 use Rattle.mlk_command.specs.declared.source.Source.{Source}
 use Rattle.mlk_command.specs.declared.source.Work.{Work}
+use Rattle.mlk_command.specs.declared.source.Work.TheVariants as work
 use Rattle.mlk_command.specs.declared.checked.Refusal.{Refusal}
 use Rattle.mlk_command.specs.declared.checked.Refusal.TheVariants as refusal
 use Rattle.mlk_routine.specs.declared.routine.Routine.{Routine}
@@ -26,7 +27,7 @@ use Rattle.mlk_program.specs.declared.entry.EntryId.{EntryId}
 use Rattle.mlk_replay.specs.declared.fault.EventsFault.{EventsFault}
 use Rattle.mlk_replay.specs.Files.{ReplayedFile}
 use Rattle.mlk_command.specs.Replayed.{IsUndeclared, IsStopped}
-use Rattle.mlk_command.specs.Checked.{IsRead, AreRead, IsFirst, IsStuck, IsUnmade, IsRefusalBy, IsRefusalWith, IsRefusalUnder, IsRefusalOf, refusal_of_routine, refusal_of_rules, refusal_of_certificate, refusal_of_events, RefusesFirst, TellsEntry}
+use Rattle.mlk_command.specs.Checked.{IsRead, AreRead, IsFirst, IsStuck, IsUnmade, IsMade, IsRefusalOfWork, IsRefusalBy, IsRefusalWith, IsRefusalUnder, IsRefusalOf, refusal_of_routine, refusal_of_rules, refusal_of_certificate, refusal_of_events, RefusesFirst, TellsEntry}
 
 -- one routine more is read
 read-one-more : (sources : List Source) (trees : List RoutineTree) (source : Source) (tree : RoutineTree) → AreRead sources trees → IsRead source tree → AreRead (sources ++ source ∷ []) (trees ++ tree ∷ [])
@@ -128,3 +129,7 @@ unmade-stuck trees rules (refusal.Entry entry) none told = absurd told
 unmade-stuck trees rules refusal.Disagreement none told = told
 unmade-stuck trees rules (refusal.GaveUp entry fault) none told = none
 unmade-stuck trees rules (refusal.Events fault) none told = told
+
+-- What is told of the report by what was made.
+pub verify-refused : (trees : List RoutineTree) (rules : RuleLists) (text : List ℕ) (r : Refusal) → IsMade trees rules text → IsRefusalWith trees rules text r → IsRefusalOfWork trees rules work.Verify r
+verify-refused trees rules text r made refused = inr (text, made, refused)
