@@ -14,8 +14,8 @@ use Rattle.mlk_jobs.specs.declared.choice.Choice.{Choice}
 use Rattle.mlk_jobs.specs.Tasks.{Job}
 use Rattle.mlk_jobs.specs.Runs.{machine, seen}
 use Rattle.mlk_jobs.proofs.MachineLemmas.{held_apart, one_run_of_many, rings_found}
-use Rattle.mlk_safety.specs.Moments.{StandsCovered, StandsInOrder, AtEachMoment}
-use Rattle.mlk_safety.specs.Laws.{NoClash, NoRing}
+use Rattle.mlk_safety.specs.Moments.{StandsCovered, StandsInOrder, EndsEmpty, AtEachMoment}
+use Rattle.mlk_safety.specs.Laws.{NoClash, NoRing, AllEndEmpty}
 use Rattle.mlk_safety.proofs.RisingRanks.{no_set}
 
 -- what a job keeps to at each moment by itself, it keeps to in a run of many
@@ -47,3 +47,6 @@ no_ring routines declared rules sound each events jobs h =
       listed = λ r. no_set seen rules.families jobs sound.apart apart order (λ x. Among x r.0) r.1;
       any = λ In ring. no_set seen rules.families jobs sound.apart apart order (λ x. In x ≡ true) ring;
     }
+
+pub all_end_empty : AllEndEmpty
+all_end_empty routines declared each = in_run routines declared EndsEmpty each

@@ -12,7 +12,7 @@ use Rattle.mlk_jobs.specs.declared.choice.Choice.{Choice}
 use Rattle.mlk_jobs.specs.Tasks.{Job}
 use Rattle.mlk_jobs.specs.Seen.{Clash}
 use Rattle.mlk_jobs.specs.Runs.{machine, seen}
-use Rattle.mlk_safety.specs.Moments.{StandsCovered, StandsInOrder, AtEachMoment}
+use Rattle.mlk_safety.specs.Moments.{StandsCovered, StandsInOrder, EndsEmpty, AtEachMoment}
 
 -- the number is one whose digits `$JOB` gives
 abbrev pub IsNumber : ℕ → Type 0
@@ -41,3 +41,10 @@ NoRing =
     → AtEachMoment routines declared (StandsInOrder rules.families)
     → (events : List (Event Choice EntryId)) (jobs : List Job) → after (machine routines declared) events [] ≡ Ok jobs
     → IsWithoutRing jobs
+
+-- Where each job by itself holds no lock once it has ended, so does each job of each run.
+abbrev pub AllEndEmpty : Type 0
+AllEndEmpty =
+    (routines : List RoutineTree) (declared : EntryId → Bool) → AtEachMoment routines declared EndsEmpty
+    → (events : List (Event Choice EntryId)) (jobs : List Job) → after (machine routines declared) events [] ≡ Ok jobs
+    → (j : Job) → Among j jobs → EndsEmpty j

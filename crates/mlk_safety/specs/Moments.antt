@@ -16,7 +16,7 @@ use Rattle.mlk_routine.specs.Trees.{RoutineTree}
 use Rattle.mlk_program.specs.declared.entry.EntryId.{EntryId}
 use Rattle.mlk_jobs.specs.declared.choice.Choice.{Choice}
 use Rattle.mlk_jobs.specs.Tasks.{Job}
-use Rattle.mlk_jobs.specs.Seen.{ready}
+use Rattle.mlk_jobs.specs.Seen.{ready, HasEnded}
 use Rattle.mlk_jobs.specs.Runs.{machine, seen}
 use Rattle.mlk_safety.specs.Order.{ClaimsInOrder}
 
@@ -44,6 +44,10 @@ StandsCovered rules j = (t : Touch) → ready j ≡ Some t → IsCoveredAt rules
 -- what it claims next is in order
 abbrev pub StandsInOrder : List Family → Job → Type 0
 StandsInOrder families j = ClaimsInOrder families (seen j)
+
+-- where it has ended by itself, it holds no lock
+abbrev pub EndsEmpty : Job → Type 0
+EndsEmpty j = HasEnded j → (n : LockName) → Holds (seen j) n → ⊥
 
 -- At each moment of each run of one job, begun at a declared entry and granted each claim at any time.
 abbrev pub AtEachMoment : List RoutineTree → (EntryId → Bool) → (Job → Type 0) → Type 0

@@ -1,6 +1,6 @@
 // What runs of many jobs keep to where each job by itself keeps to the rules.
 
-ghost use Rattle.mlk_safety.specs.Laws.{NoClash, NoRing};
+ghost use Rattle.mlk_safety.specs.Laws.{NoClash, NoRing, AllEndEmpty};
 
 /// Where a job by itself always holds what covers the reference at which it stands ready, no two jobs of a run ever stand
 /// ready at overlapping references of which one writes.
@@ -11,4 +11,9 @@ pub fn no_clash()
 /// Where a job by itself claims in the order of the ranks, no jobs of a run ever wait for each other in a ring.
 pub fn no_ring()
     ensures { NoRing }
+{}
+
+/// Where a job by itself holds no lock once it has ended, no job of a run does.
+pub fn all_end_empty()
+    ensures { AllEndEmpty }
 {}
