@@ -21,7 +21,7 @@ pub fn read_whole<R: Read + Drop>(alloc: Global, reader: R) -> io::Result<Vec<u8
 {
     let mut bytes = Vec::new(alloc);
     let mut limited = reader.take(TOO_LONG);
-    limited.read_to_end(&mut bytes)?;
+    io::copy(&mut limited, &mut bytes)?;
     if bytes.len() > LONGEST_FILE {
         return Err(io::Error::from(ErrorKind::FileTooLarge));
     }

@@ -8,6 +8,7 @@ ghost use Rattle.mlk_expr.specs.Words.{function_of, is_select};
 use crate::tree::{Function, Special};
 
 /// Whether a word is this one, short or whole, in either case.
+#[inline(always)]
 pub fn is_either(short: &[u8], whole: &[u8], word: &[u8]) -> bool
     ensures { result ≡ is_either short.now whole.now word.now }
 {

@@ -174,12 +174,12 @@ fn new_action<'a>(
 
 fn quit_action<'a>(
     spot: &'a Spot<'a>,
-    given: Option<&'a Expr>,
+    given: &'a Option<Box<Expr>>,
     walk: Walk,
 ) -> Result<Walk, AllocError>
-    ensures { IfOk result (λ w. w ≡ act (spot_of spot.now) (tree.Quit (option_map tree_of (option_copied given.entry))) walk) }
+    ensures { IfOk result (λ w. w ≡ act (spot_of spot.now) (tree.Quit (option_map (λ b. tree_of b.value) given.now)) walk) }
 {
-    let walk = value_if(spot, given, walk)?;
+    let walk = value_if(spot, given.as_deref(), walk)?;
     each(spot.alloc, &QuitRow { spot }, walk)
 }
 
@@ -204,7 +204,7 @@ pub(crate) fn act<'a>(
         Action::Lock(locks) => lock_action(spot, locks, walk),
         Action::Merge(merges) => in_turn(spot, merges, walk),
         Action::New(news) => new_action(spot, news, walk),
-        Action::Quit(value) => quit_action(spot, value.as_ref(), walk),
+        Action::Quit(value) => quit_action(spot, value, walk),
         Action::Read(reads) => in_turn(spot, reads, walk),
         Action::Set(sets) => in_turn(spot, sets, walk),
         Action::Write(writes) => in_turn(spot, writes, walk),

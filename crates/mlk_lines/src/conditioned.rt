@@ -45,7 +45,7 @@ fn where_true<'a>(
 }
 
 fn conditioned<'a>(spot: &'a Spot<'a>, command: &'a Command, walk: Walk) -> Result<Walk, AllocError>
-    ensures { IfOk result (λ w. counted w ≡ counted (conditioned (spot_of spot.now) (option_map tree_of command.now.condition)
+    ensures { IfOk result (λ w. counted w ≡ counted (conditioned (spot_of spot.now) (option_map (λ b. tree_of b.value) command.now.condition)
         (act (spot_of spot.now) (action_of command.now.action)) stay walk)) }
 {
     match &command.condition {
@@ -61,7 +61,7 @@ pub(crate) fn perform<'a>(
     command: &'a Command,
     walk: Walk,
 ) -> Result<Walk, AllocError>
-    ensures { IfOk result (λ w. w ≡ result_of (spot_of spot.now) (option_map tree_of command.now.condition)
+    ensures { IfOk result (λ w. w ≡ result_of (spot_of spot.now) (option_map (λ b. tree_of b.value) command.now.condition)
         (action_of command.now.action) walk) }
 {
     let walk = conditioned(spot, command, walk)?;

@@ -141,8 +141,8 @@ fn write_all<'a>(parts: &mut Vec<Task<'a>>, writes: &'a [WriteArgument]) -> Resu
 }
 
 // QUIT, with or without a value.
-fn quit_parts<'a>(parts: &mut Vec<Task<'a>>, value: &'a Option<Expr>) -> Result<(), AllocError>
-    ensures { OnOk result (Adds (quit_parts (option_map tree_of value.now)) parts.old.items parts.new.items) }
+fn quit_parts<'a>(parts: &mut Vec<Task<'a>>, value: &'a Option<Box<Expr>>) -> Result<(), AllocError>
+    ensures { OnOk result (Adds (quit_parts (option_map (λ b. tree_of b.value) value.now)) parts.old.items parts.new.items) }
 {
     match value {
         None => {

@@ -62,6 +62,15 @@ impl<T: HasCalls> HasCalls for Option<T> {
     }
 }
 
+impl<T: HasCalls> HasCalls for Box<T> {
+    ghost calls = { λ b. T.calls b.value };
+
+    fn find<'a>(&'a self, found: &mut Vec<CallSite<'a>>) -> Result<(), AllocError> {
+        let inside: &T = self;
+        inside.find(found)
+    }
+}
+
 impl<T: HasCalls> HasCalls for Vec<T> {
     ghost use Rattle.std.specs.Prelude.{flat_map};
 

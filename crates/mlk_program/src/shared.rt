@@ -40,7 +40,7 @@ impl<'a> Shared<'a> {
     pub(crate) fn has(&self, name: &[u8]) -> bool
         ensures { result ≡ list_any (bytes_eq name.now) self.now }
     {
-        self.names.contains(name)
+        !self.names.is_empty() && self.names.contains(name)
     }
 
     fn add(&mut self, name: &'a [u8]) -> Result<(), AllocError>

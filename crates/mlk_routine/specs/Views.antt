@@ -89,13 +89,13 @@ action_of (action.Kill v) = Kill (map kill_of v.items)
 action_of (action.Lock v) = Lock (map lock_of v.items)
 action_of (action.Merge v) = Merge (map merge_of v.items)
 action_of (action.New v) = New (map new_of v.items)
-action_of (action.Quit t) = Quit (option_map tree_of t)
+action_of (action.Quit t) = Quit (option_map (λ b. tree_of b.value) t)
 action_of (action.Read v) = Read (map read_of v.items)
 action_of (action.Set v) = Set (map set_of v.items)
 action_of (action.Write v) = Write (map write_of v.items)
 
 abbrev pub command_of : Command → CommandTree
-command_of c = Does c.column (option_map tree_of c.condition) (action_of c.action)
+command_of c = Does c.column (option_map (λ b. tree_of b.value) c.condition) (action_of c.action)
 
 abbrev pub parameter_of : Parameter → ParameterTree
 parameter_of (parameter.Once t) = Once (tree_of t)

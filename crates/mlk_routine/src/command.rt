@@ -1,6 +1,6 @@
 // Commands but FOR: postconditionals and arguments.
 
-ghost use Rattle.std.specs.Prelude.{◌≡◌, ◌≤◌, ℕ, List, length, option_map, true};
+ghost use Rattle.std.specs.Prelude.{◌≡◌, ◌≤◌, ℕ, List, IfOk, length, option_map, true};
 ghost use Rattle.mlk_expr.specs.Trees.{tree_of, trees};
 ghost use Rattle.mlk_routine.specs.Told.{Told};
 ghost use Rattle.mlk_routine.specs.Faults.{IsFaulty};
@@ -17,7 +17,7 @@ use crate::tree::{Action, Command};
 use crate::word::{Word, command_word};
 use mlk_expr::{Allows, Expr};
 use mlk_text::{Code, Column, Failure, Fault, LeftOut};
-use std::alloc::Global;
+use std::alloc::{AllocError, Global};
 
 /// The postconditional here, where the word may have one, and the byte after it.
 fn condition(
@@ -60,6 +60,13 @@ fn returned(alloc: Global, line: &[u8], at: usize) -> Result<(Expr, usize), Fail
     Ok((value, next))
 }
 
+// Few commands have a postconditional or QUIT's value, so those do not stand in place.
+fn boxed(alloc: Global, value: Expr) -> Result<Box<Expr>, AllocError>
+    ensures { IfOk result (λ b. tree_of b.value ≡ tree_of value) }
+{
+    Ok(Box::new(alloc, value)?)
+}
+
 // Whether no expression begins in this column.
 fn is_no_expression(fault: &Fault, column: Column) -> bool {
     fault.code == Code::ExprForm && fault.place.column == column
@@ -100,9 +107,9 @@ fn quit_value(
     returns: bool,
     line: &[u8],
     at: usize,
-) -> Result<(Option<Expr>, usize), Failure<Fault>>
+) -> Result<(Option<Box<Expr>>, usize), Failure<Fault>>
     requires { at ≤ length line.now }
-    ensures { Told (option_map tree_of) (IsQuit returns) (λ t. ActionEnds (Quit t)) line.now at result }
+    ensures { Told (option_map (λ b. tree_of b.value)) (IsQuit returns) (λ t. ActionEnds (Quit t)) line.now at result }
 {
     if is_bare(line, at) {
         return Ok((None, at));
@@ -111,7 +118,8 @@ fn quit_value(
         return Err(no_value(alloc, line, at));
     }
     let (value, next) = returned(alloc, line, at)?;
-    Ok((Some(value), next))
+    let kept = boxed(alloc, value)?;
+    Ok((Some(kept), next))
 }
 
 /// What `H` does: HALT without arguments, HANG with them.
@@ -162,6 +170,15 @@ fn action(
     }
 }
 
+fn boxed_if(alloc: Global, condition: Option<Expr>) -> Result<Option<Box<Expr>>, AllocError>
+    ensures { IfOk result (λ o. option_map (λ b. tree_of b.value) o ≡ option_map tree_of condition) }
+{
+    match condition {
+        None => Ok(None),
+        Some(condition) => Ok(Some(boxed(alloc, condition)?)),
+    }
+}
+
 /// The command whose word stands here, and the byte after it.
 pub(crate) fn command(
     alloc: Global,
@@ -176,6 +193,7 @@ pub(crate) fn command(
     let (condition, next) = condition(alloc, word, line, next)?;
     let (action, next) = action(alloc, word, returns, line, next)?;
     let column = Column::at(at + 1);
+    let condition = boxed_if(alloc, condition)?;
     Ok((
         Command {
             column,

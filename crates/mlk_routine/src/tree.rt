@@ -129,7 +129,7 @@ pub enum Action {
     Merge(Vec<MergeArgument>),
     /// without arguments all locals
     New(Vec<NewArgument>),
-    Quit(Option<Expr>),
+    Quit(Option<Box<Expr>>),
     Read(Vec<ReadArgument>),
     Set(Vec<SetArgument>),
     Write(Vec<WriteArgument>),
@@ -139,7 +139,7 @@ pub enum Action {
 #[derive(Drop)]
 pub struct Command {
     pub column: Column,
-    pub condition: Option<Expr>,
+    pub condition: Option<Box<Expr>>,
     pub action: Action,
 }
 

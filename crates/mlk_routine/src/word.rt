@@ -1,10 +1,12 @@
 // The words of commands.
 
-ghost use Rattle.std.specs.Prelude.{◌≡◌, ◌≤◌, ℕ, List, length};
+ghost use Rattle.std.specs.Prelude.{◌≡◌, ◌≤◌, ◌∷◌, [], ℕ, List, Some, None, if◌then◌else◌, length};
+ghost use Rattle.mlk_expr.specs.Words.{is_either};
+ghost use Rattle.mlk_routine.specs.declared.word.Word.TheVariants as command;
 ghost use Rattle.mlk_routine.specs.Told.{Told, IsRefusal};
 ghost use Rattle.mlk_routine.specs.Faults.{IsFaulty};
 ghost use Rattle.mlk_routine.specs.CommandWords.{is_for};
-ghost use Rattle.mlk_routine.specs.Kinds.{word_of, has_condition, IsNamed, WordEnds};
+ghost use Rattle.mlk_routine.specs.Kinds.{first_word, word_of, has_condition, IsNamed, WordEnds};
 
 use crate::fault::{no_command, refused};
 use mlk_expr::words::is_either;
@@ -42,42 +44,55 @@ impl Word {
     }
 }
 
-#[tactic(auto, unfolding(crate::specs::Kinds::word_of, crate::specs::Kinds::is_written))]
-fn word_of(word: &[u8]) -> Option<Word>
-    ensures { result ≡ word_of word.now }
+// This command, where the word is its own, short or whole.
+fn if_either(found: Word, short: &[u8], whole: &[u8], word: &[u8]) -> Option<Word>
+    ensures { result ≡ (if is_either short.now whole.now word.now then Some found else None) }
 {
-    if is_either(b"D", b"DO", word) {
-        Some(Word::Do)
-    } else if is_either(b"E", b"ELSE", word) {
-        Some(Word::Else)
-    } else if is_either(b"H", b"H", word) {
+    if is_either(short, whole, word) {
+        Some(found)
+    } else {
+        None
+    }
+}
+
+#[tactic(auto, unfolding(crate::specs::Kinds::word_of, crate::specs::Kinds::is_written))]
+fn halting(word: &[u8]) -> Option<Word>
+    ensures { result ≡ first_word (command.HaltOrHang ∷ command.Halt ∷ command.Hang ∷ []) word.now }
+{
+    if is_either(b"H", b"H", word) {
         Some(Word::HaltOrHang)
     } else if is_either(b"HALT", b"HALT", word) {
         Some(Word::Halt)
     } else if is_either(b"HANG", b"HANG", word) {
         Some(Word::Hang)
-    } else if is_either(b"I", b"IF", word) {
-        Some(Word::If)
-    } else if is_either(b"J", b"JOB", word) {
-        Some(Word::Job)
-    } else if is_either(b"K", b"KILL", word) {
-        Some(Word::Kill)
-    } else if is_either(b"L", b"LOCK", word) {
-        Some(Word::Lock)
-    } else if is_either(b"M", b"MERGE", word) {
-        Some(Word::Merge)
-    } else if is_either(b"N", b"NEW", word) {
-        Some(Word::New)
-    } else if is_either(b"Q", b"QUIT", word) {
-        Some(Word::Quit)
-    } else if is_either(b"R", b"READ", word) {
-        Some(Word::Read)
-    } else if is_either(b"S", b"SET", word) {
-        Some(Word::Set)
-    } else if is_either(b"W", b"WRITE", word) {
-        Some(Word::Write)
     } else {
         None
+    }
+}
+
+// The commands begin with different letters, but those of HALT and HANG.
+#[tactic(auto, unfolding(crate::specs::Kinds::word_of, crate::specs::Kinds::is_written))]
+fn word_of(word: &[u8]) -> Option<Word>
+    ensures { result ≡ word_of word.now }
+{
+    let Some(first) = word.first().copied() else {
+        return None;
+    };
+    match first.to_ascii_uppercase() {
+        b'D' => if_either(Word::Do, b"D", b"DO", word),
+        b'E' => if_either(Word::Else, b"E", b"ELSE", word),
+        b'H' => halting(word),
+        b'I' => if_either(Word::If, b"I", b"IF", word),
+        b'J' => if_either(Word::Job, b"J", b"JOB", word),
+        b'K' => if_either(Word::Kill, b"K", b"KILL", word),
+        b'L' => if_either(Word::Lock, b"L", b"LOCK", word),
+        b'M' => if_either(Word::Merge, b"M", b"MERGE", word),
+        b'N' => if_either(Word::New, b"N", b"NEW", word),
+        b'Q' => if_either(Word::Quit, b"Q", b"QUIT", word),
+        b'R' => if_either(Word::Read, b"R", b"READ", word),
+        b'S' => if_either(Word::Set, b"S", b"SET", word),
+        b'W' => if_either(Word::Write, b"W", b"WRITE", word),
+        _ => None,
     }
 }
 

@@ -2,10 +2,11 @@
 
 ghost use Rattle.std.specs.Prelude.{◌≡◌, IfOk, option_map, option_copied};
 ghost use Rattle.mlk_expr.specs.Trees.{tree_of, trees, trees_from, sub_trees, subs_from, links, links_from, choices, choices_from, actual_of, actual_trees, actuals_from};
+ghost use Rattle.mlk_calls.specs.Scope.{scope_of};
 ghost use Rattle.mlk_rows.specs.Walks.{each};
 ghost use Rattle.mlk_rows.specs.References.{read_last};
 ghost use Rattle.mlk_rows.specs.Spots.{spot_of};
-ghost use Rattle.mlk_rows.specs.Expressions.{capture, capture_unknown, forget_subs, extrinsic, evaluate, evaluate_all, capture_subs, evaluate_links, evaluate_choices, where_chosen, passed_over, capture_actual, capture_actuals, value, value_if, values};
+ghost use Rattle.mlk_rows.specs.Expressions.{with_value, capture, capture_unknown, forget_subs, extrinsic, evaluate, evaluate_all, capture_subs, evaluate_links, evaluate_choices, where_chosen, passed_over, capture_actual, capture_actuals, value, value_if, values};
 
 use crate::call::CallRow;
 use crate::condition::{join_all, where_it_holds};
@@ -19,21 +20,38 @@ use mlk_names::Sym;
 use mlk_text::{Column, List, Name};
 use std::alloc::AllocError;
 
-/// The symbol of an expression that was evaluated is captured, in each state.
-pub fn capture(spot: &Spot, expression: &Expr, walk: Walk) -> Result<Walk, AllocError>
+// The symbol of an expression that was evaluated is captured.
+fn with_value(spot: &Spot, expression: &Expr, state: State) -> Result<State, AllocError>
+    ensures { IfOk result (λ s. s ≡ with_value (scope_of spot.now.scope.now) (tree_of expression.now) state) }
+{
+    let symbol = symbol_of(spot.alloc, spot.scope, &state, expression)?;
+    state.with_symbol(symbol)
+}
+
+fn capture_in_many(spot: &Spot, expression: &Expr, walk: Walk) -> Result<Walk, AllocError>
     ensures { IfOk result (λ w. w ≡ capture (spot_of spot.now).scope (tree_of expression.now) walk) }
 {
     let (walk, going) = walk.take_states(spot.alloc);
     let mut states = List::new(spot.alloc);
     for state in going.into_vec() {
-        let symbol = symbol_of(spot.alloc, spot.scope, &state, expression)?;
-        states.push(state.with_symbol(symbol)?)?;
+        states.push(with_value(spot, expression, state)?)?;
     }
     Ok(walk.with_states(states))
 }
 
-/// Of something without a symbol, unknown is captured.
-pub fn capture_unknown(spot: &Spot, walk: Walk) -> Result<Walk, AllocError>
+/// The symbol of an expression that was evaluated is captured, in each state.
+pub fn capture(spot: &Spot, expression: &Expr, mut walk: Walk) -> Result<Walk, AllocError>
+    ensures { IfOk result (λ w. w ≡ capture (spot_of spot.now).scope (tree_of expression.now) walk) }
+{
+    let Some(state) = walk.take_only() else {
+        return capture_in_many(spot, expression, walk);
+    };
+    walk.going.push(with_value(spot, expression, state)?)?;
+    Ok(walk)
+}
+
+// Of something without a symbol, unknown is captured.
+fn capture_unknown_in_many(spot: &Spot, walk: Walk) -> Result<Walk, AllocError>
     ensures { IfOk result (λ w. w ≡ capture_unknown walk) }
 {
     let (walk, going) = walk.take_states(spot.alloc);
@@ -42,6 +60,17 @@ pub fn capture_unknown(spot: &Spot, walk: Walk) -> Result<Walk, AllocError>
         states.push(state.with_symbol(Sym::Unknown)?)?;
     }
     Ok(walk.with_states(states))
+}
+
+/// Of something without a symbol, unknown is captured.
+pub fn capture_unknown(spot: &Spot, mut walk: Walk) -> Result<Walk, AllocError>
+    ensures { IfOk result (λ w. w ≡ capture_unknown walk) }
+{
+    let Some(state) = walk.take_only() else {
+        return capture_unknown_in_many(spot, walk);
+    };
+    walk.going.push(state.with_symbol(Sym::Unknown)?)?;
+    Ok(walk)
 }
 
 fn forget_subs(spot: &Spot, subscripts: &[Subscript], walk: Walk) -> Result<Walk, AllocError>

@@ -19,8 +19,8 @@ pub trait Row {
         ensures { OnOk result (walk.new ≡ add_all (outcomes self.now state) walk.old) };
 }
 
-/// The row, for each state that goes on.
-pub fn each<R: Row>(alloc: Global, row: &R, walk: Walk) -> Result<Walk, AllocError>
+// The row, for each state that goes on.
+fn each_of_many<R: Row>(alloc: Global, row: &R, walk: Walk) -> Result<Walk, AllocError>
     ensures { IfOk result (λ w. w ≡ each (R.outcomes row.now) walk) }
 {
     let (mut walk, going) = walk.take_states(alloc);
@@ -30,8 +30,19 @@ pub fn each<R: Row>(alloc: Global, row: &R, walk: Walk) -> Result<Walk, AllocErr
     Ok(walk)
 }
 
-/// The last so many captured symbols of each state are forgotten.
-pub fn forget(alloc: Global, count: usize, walk: Walk) -> Result<Walk, AllocError>
+/// The row, for each state that goes on. Mostly there is one, whose place another can take.
+pub fn each<R: Row>(alloc: Global, row: &R, mut walk: Walk) -> Result<Walk, AllocError>
+    ensures { IfOk result (λ w. w ≡ each (R.outcomes row.now) walk) }
+{
+    let Some(state) = walk.take_only() else {
+        return each_of_many(alloc, row, walk);
+    };
+    row.make(state, &mut walk)?;
+    Ok(walk)
+}
+
+// The last so many captured symbols of each state are forgotten.
+fn forget_in_many(alloc: Global, count: usize, walk: Walk) -> Result<Walk, AllocError>
     ensures { IfOk result (λ w. w ≡ each_changed (without_last count) walk) }
 {
     let (walk, going) = walk.take_states(alloc);
@@ -40,4 +51,15 @@ pub fn forget(alloc: Global, count: usize, walk: Walk) -> Result<Walk, AllocErro
         put(&mut states, state.without_last(count))?;
     }
     Ok(walk.with_states(states))
+}
+
+/// The last so many captured symbols of each state are forgotten.
+pub fn forget(alloc: Global, count: usize, mut walk: Walk) -> Result<Walk, AllocError>
+    ensures { IfOk result (λ w. w ≡ each_changed (without_last count) walk) }
+{
+    let Some(state) = walk.take_only() else {
+        return forget_in_many(alloc, count, walk);
+    };
+    walk.going.push(state.without_last(count))?;
+    Ok(walk)
 }

@@ -1,6 +1,6 @@
 // The walk of a line.
 
-ghost use Rattle.std.specs.Prelude.{◌≡◌, ◌↔◌, IsTrue, ◌∷◌, ◌++◌, [], IfOk, OnOk, map};
+ghost use Rattle.std.specs.Prelude.{◌≡◌, ◌↔◌, IsTrue, ◌∷◌, ◌++◌, [], IfOk, MatchOption, OnOk, map};
 ghost use Rattle.mlk_calls.specs.States.{same_state};
 ghost use Rattle.mlk_rows.specs.Walks.{Goes, Skips, Quits, Refused, add, add_all, put, put_all, is_large, too_many, few, joined, with_states};
 ghost use Rattle.std.specs.List.{list_any};
@@ -210,6 +210,17 @@ impl Walk {
         ensures { OnOk result (self.new ≡ add (Refused line column code) self.old) }
     {
         self.faults.push(Fault { line, column, code }, mend)
+    }
+
+    /// The state that goes on, where there is just one: it is taken out, and its room stays.
+    pub fn take_only(&mut self) -> Option<State>
+        ensures { MatchOption result (self.new ≡ self.old) (λ s. (self.old.going ≡ s ∷ []) × (self.new ≡ with_states [] self.old)) }
+    {
+        if self.going.len() == 1 {
+            self.going.pop()
+        } else {
+            None
+        }
     }
 
     /// The walk without its states, and these.

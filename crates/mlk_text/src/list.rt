@@ -1,6 +1,6 @@
 // Lists of any elements.
 
-ghost use Rattle.std.specs.Prelude.{◌≡◌, ◌∷◌, ◌++◌, [], OnOk, OnErr};
+ghost use Rattle.std.specs.Prelude.{◌≡◌, ◌↔◌, ◌<◌, ◌∷◌, ◌++◌, [], IsSome, OnOk, OnErr, length, option_to_list};
 ghost use Rattle.std.specs.Cmp.Lexicographic.{pointwise};
 
 use std::alloc::{AllocError, Global};
@@ -38,6 +38,21 @@ impl<T> List<T> {
         ensures { result.now ≡ self.now }
     {
         self.items.as_slice()
+    }
+
+    /// How many elements there are.
+    pub fn len(&self) -> usize
+        ensures { result ≡ length self.now }
+    {
+        self.items.len()
+    }
+
+    /// Takes the last element away, if there is one. Its room stays.
+    pub fn pop(&mut self) -> Option<T>
+        ensures items { self.old ≡ self.new ++ option_to_list result }
+        ensures variant { IsSome result ↔ (0 < length self.old) }
+    {
+        self.items.pop()
     }
 
     /// The elements as a vector.
@@ -88,12 +103,13 @@ pub fn are_equal<T: PartialEq>(items: &[T], others: &[T]) -> bool
     left_others.is_empty()
 }
 
-/// Adds an item at the end. The first takes room for itself alone, since most lists of a routine have one item.
+/// Adds an item at the end. Room is made for one item first, and then for as many as there are, since most lists of a
+/// routine have one item or two.
 pub fn push_sparing<T: Drop>(items: &mut Vec<T>, item: T) -> Result<(), AllocError>
     ensures { OnOk result (items.new.items ≡ items.old.items ++ item ∷ []) }
 {
-    if items.is_empty() {
-        items.reserve_exact(1)?;
+    if items.len() == items.capacity() {
+        items.reserve_exact(items.len().max(1))?;
     }
     items.push(item)?;
     Ok(())

@@ -5,17 +5,39 @@ ghost use Rattle.mlk_text.specs.Reading.{many};
 ghost use Rattle.mlk_text.specs.Failures.{Reads};
 ghost use Rattle.mlk_cert.specs.Lists.{upto, below};
 ghost use Rattle.mlk_cert.specs.Texts.{is_plain};
-ghost use Rattle.mlk_cert.specs.Reading.{word_at, value_after, leads_zero, number_at, counted_at, hex_value, escaped_at, piece_at, keep, constant_at};
+ghost use Rattle.mlk_cert.specs.Reading.{strip, word_at, value_after, leads_zero, number_at, counted_at, hex_value, escaped_at, piece_at, keep, constant_at};
 
 use mlk_text::lexeme::{byte_of, digits};
 use mlk_text::{Failure, NotThere, Value};
 use std::alloc::Global;
 
+fn stripped<'a>(word: &[u8], bytes: &'a [u8]) -> Option<&'a [u8]>
+    ensures { option_map (λ x. x.now) result ≡ strip word.now bytes.now }
+{
+    let mut left = word;
+    let mut rest = bytes;
+    while let Some((wanted, others)) = left.split_first() {
+        let Some((first, after)) = rest.split_first() else {
+            return None;
+        };
+        if *first != *wanted {
+            return None;
+        }
+        left = others;
+        rest = after;
+    }
+    Some(rest)
+}
+
 /// What is left after this word, where it stands at the front.
+#[tactic(auto, unfolding(crate::specs::Reading::word_at))]
 pub(crate) fn word_of<'a>(word: &[u8], bytes: &'a [u8]) -> Option<&'a [u8]>
     ensures { option_map (λ x. (word.now, x.now)) result ≡ word_at word.now bytes.now }
 {
-    bytes.strip_prefix(word)
+    match stripped(word, bytes) {
+        Some(rest) => Some(rest),
+        None => None,
+    }
 }
 
 /// Whether the first text is not above the second.

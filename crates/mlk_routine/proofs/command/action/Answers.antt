@@ -86,7 +86,7 @@ returns-in_err-arguments-in-Quit c =
 
 pub returns-in_ok-arguments-in-Quit : goal.returns-in_ok-arguments-in-Quit
 returns-in_ok-arguments-in-Quit c =
-    rw (c.in-Quit.is) (turned_found (opened word.Quit (λ e. cc e) c.args.returns c.args.line.now c.args.at) (option_map tree_of c.in_ok-arguments-in-Quit.arguments) c.in_ok-arguments-in-Quit.next c.in_ok-arguments-in-Quit.ensures)
+    rw (c.in-Quit.is) (turned_found (opened word.Quit (λ e. cc e) c.args.returns c.args.line.now c.args.at) (option_map (λ b. tree_of b.value) c.in_ok-arguments-in-Quit.arguments) c.in_ok-arguments-in-Quit.next c.in_ok-arguments-in-Quit.ensures)
 
 pub returns-in_err-arguments-in-Read : goal.returns-in_err-arguments-in-Read
 returns-in_err-arguments-in-Read c =

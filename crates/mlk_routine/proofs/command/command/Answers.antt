@@ -28,7 +28,7 @@ returns-in_err-action c =
 
 pub returns : goal.returns
 returns c =
-    rw c.at-column.ensures
+    rw (c.at-column.ensures, c.in_ok-condition-2.ensures)
     (both_found (command_parts c.args.returns c.args.line.now c.args.at) c.requires c.in_ok-word.word (option_map tree_of c.in_ok-condition.condition, action_of c.in_ok-action.action) c.in_ok-word.next c.in_ok-action.next c.in_ok-word.ensures
     (both_found (tail_parts c.args.returns c.args.line.now c.in_ok-word.word c.in_ok-word.next) c.in_ok-word.ensures.0.within (option_map tree_of c.in_ok-condition.condition) (action_of c.in_ok-action.action) c.in_ok-condition.next c.in_ok-action.next
     c.in_ok-condition.ensures c.in_ok-action.ensures))

@@ -24,4 +24,4 @@ returns-in_err-value c =
 
 pub returns : goal.returns
 returns c =
-    turned_found (value_turned c.args.returns c.args.line.now c.args.at c.if-not-returns.false (sym c.is_bare.ensures ∙ c.if-is_bare.false)) (tree_of c.in_ok-value.value) c.in_ok-value.next c.in_ok-value.ensures
+    rw c.in_ok-kept.ensures (turned_found (value_turned c.args.returns c.args.line.now c.args.at c.if-not-returns.false (sym c.is_bare.ensures ∙ c.if-is_bare.false)) (tree_of c.in_ok-value.value) c.in_ok-value.next c.in_ok-value.ensures)
