@@ -10,7 +10,7 @@ ghost use Rattle.mlk_commands.specs.Locks.{root_of, capture_names, count_names, 
 use crate::variable::{capture_variable, count_of, subscripts_of};
 use mlk_calls::State;
 use mlk_expr::{Expr, Subscript};
-use mlk_names::{KnownSym, LockTerm, Sym};
+use mlk_names::{KnownSym, LockTerm, Sym, TermSubs};
 use mlk_routine::Variable;
 use mlk_rows::{Spot, Walk};
 use mlk_text::{Code, Column, Name, Root, Subscripts};
@@ -135,7 +135,7 @@ fn root_of(alloc: Global, name: &Expr) -> Result<Root, AllocError>
     }
 }
 
-fn known(alloc: Global, symbols: &[Sym]) -> Result<Option<Subscripts<KnownSym>>, AllocError>
+fn known(alloc: Global, symbols: &[Sym]) -> Result<Option<TermSubs>, AllocError>
     ensures { IfOk result (λ o. o ≡ all_known symbols.now) }
 {
     let mut subs = Subscripts::new(alloc);

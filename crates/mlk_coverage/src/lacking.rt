@@ -8,7 +8,7 @@ use crate::held::holds_lock;
 use crate::meet::may_meet;
 use crate::rules::Rules;
 use crate::template::{Part, Template};
-use mlk_names::{KnownSym, LockTerm, Reference, Sym};
+use mlk_names::{KnownSym, LockTerm, Reference, Sym, TermSubs};
 use mlk_text::{Subscripts, copy_of};
 use std::alloc::{AllocError, Global};
 
@@ -29,7 +29,7 @@ fn cut_subs(
     alloc: Global,
     parts: &[Part],
     symbols: &[Sym],
-) -> Result<Subscripts<KnownSym>, AllocError>
+) -> Result<TermSubs, AllocError>
     ensures { IfOk result (λ l. l ≡ before_missing (map (symbol_at symbols.now) parts.now)) }
 {
     let mut items = Vec::new(alloc);

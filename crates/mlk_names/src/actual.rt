@@ -6,7 +6,7 @@ ghost use Rattle.mlk_names.specs.Actuals.{passed, put_in, Puts, PutsIn, NamesAli
 
 use crate::known_symbol::KnownSym;
 use crate::symbol::Sym;
-use crate::term::LockTerm;
+use crate::term::{LockTerm, TermSubs};
 use mlk_text::{Name, Subscripts, copy_of};
 use std::alloc::{AllocError, Global};
 
@@ -48,7 +48,7 @@ fn put_in_all(
     symbols: &[KnownSym],
     formals: &[Name],
     actuals: &[Option<Sym>],
-) -> Result<Option<Subscripts<KnownSym>>, AllocError>
+) -> Result<Option<TermSubs>, AllocError>
     ensures { IfOk result (λ found. Puts formals.now actuals.now symbols.now found) }
 {
     let mut found = Subscripts::new(alloc);

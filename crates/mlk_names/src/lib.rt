@@ -17,6 +17,6 @@ pub use law::{above_one_meet, conflicts_above, names_by_mentioned, overlaps_fore
 pub use lock_name::{LockName, conflict};
 pub use mlk_text::Root;
 pub use overlap::may_overlap;
-pub use reference::{Access, Extent, Reference};
+pub use reference::{Access, Extent, Reference, ReferenceSubs};
 pub use symbol::Sym;
-pub use term::{LockTerm, mentions, prefix};
+pub use term::{LockTerm, TermSubs, mentions, prefix};

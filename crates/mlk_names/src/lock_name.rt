@@ -10,7 +10,7 @@ use mlk_text::{Root, Subscripts, Value};
 #[derive(Clone, Drop, Debug, PartialEq, Eq)]
 pub struct LockName {
     pub root: Root,
-    pub subs: Subscripts<Value>,
+    pub subs: Subscripts<Value, 4>,
 }
 
 impl LockName {

@@ -19,12 +19,15 @@ pub enum Access {
     Writes,
 }
 
+/// The subscripts of a reference, most of which have up to four.
+pub type ReferenceSubs = Subscripts<Sym, 4>;
+
 /// A reference to a global, whose subscripts are symbols.
 #[derive(Clone, Drop, Debug, PartialEq, Eq)]
 pub struct Reference {
     /// The global's name, without its `^`.
     pub root: Name,
-    pub subs: Subscripts<Sym>,
+    pub subs: ReferenceSubs,
     pub extent: Extent,
     pub access: Access,
 }

@@ -8,11 +8,14 @@ use crate::known_symbol::KnownSym;
 use crate::list::begins;
 use mlk_text::{Name, Root, Subscripts};
 
+/// The subscripts of a lock term, most of which have one or two.
+pub type TermSubs = Subscripts<KnownSym, 2>;
+
 /// A lock name whose subscripts are symbols, each of which stands for one value.
 #[derive(Clone, Drop, Debug, PartialEq, Eq)]
 pub struct LockTerm {
     pub root: Root,
-    pub subs: Subscripts<KnownSym>,
+    pub subs: TermSubs,
 }
 
 /// Whether the second term is the first with any subscripts after it. It takes no memory.

@@ -14,7 +14,7 @@ use crate::walk::{Mend, Walk};
 use mlk_calls::State;
 use mlk_coverage::{Rules, covered, templates};
 use mlk_expr::Function;
-use mlk_names::{Access, Extent, LockTerm, Reference, Sym};
+use mlk_names::{Access, Extent, LockTerm, Reference, ReferenceSubs, Sym};
 use mlk_text::{Code, Column, Name, Subscripts, copy_of};
 use std::alloc::{AllocError, Global};
 
@@ -61,7 +61,7 @@ fn all_but_last(subs: &[Sym]) -> &[Sym]
     before
 }
 
-fn subscripts(alloc: Global, symbols: &[Sym]) -> Result<Subscripts<Sym>, AllocError>
+fn subscripts(alloc: Global, symbols: &[Sym]) -> Result<ReferenceSubs, AllocError>
     ensures { IfOk result (λ s. s ≡ symbols.now) }
 {
     let mut subs = Subscripts::new(alloc);

@@ -1,4 +1,4 @@
-// Subscripts: short lists, most of them of up to four elements, which then stand in the struct itself.
+// Subscripts: short lists, most of which stand in the struct itself.
 
 ghost use Rattle.std.specs.Prelude.{◌≡◌, ◌∷◌, ◌++◌, [], OnOk};
 
@@ -8,13 +8,13 @@ use std::alloc::{AllocError, Global};
 use std::default::MadeWith;
 use std::marker::Model;
 
-/// The subscripts of a name, a term or a reference. A contract sees the list of them.
+/// The subscripts of a name, a term or a reference; up to N of them stand in place. A contract sees the list of them.
 #[derive(Drop, Debug)]
-pub struct Subscripts<T> {
-    items: SmallVec<T, 4>,
+pub struct Subscripts<T, const N: usize> {
+    items: SmallVec<T, N>,
 }
 
-impl<T> Model for Subscripts<T> {
+impl<T, const N: usize> Model for Subscripts<T, N> {
     ghost use Rattle.std.specs.Prelude.{List};
     ghost use Rattle.std.specs.Coded.{coded_list};
 
@@ -25,9 +25,9 @@ impl<T> Model for Subscripts<T> {
     ghost view = { λ l. l.items.items };
 }
 
-impl<T: MadeWith<Global> + Drop> Subscripts<T> {
+impl<T: MadeWith<Global> + Drop, const N: usize> Subscripts<T, N> {
     /// No subscripts.
-    pub fn new(alloc: Global) -> Subscripts<T>
+    pub fn new(alloc: Global) -> Subscripts<T, N>
         ensures { result ≡ [] }
     {
         Subscripts {
@@ -36,7 +36,7 @@ impl<T: MadeWith<Global> + Drop> Subscripts<T> {
     }
 
     /// The subscripts of a vector.
-    pub fn of(items: Vec<T>) -> Subscripts<T>
+    pub fn of(items: Vec<T>) -> Subscripts<T, N>
         ensures { result ≡ items.items }
     {
         Subscripts {
@@ -53,7 +53,7 @@ impl<T: MadeWith<Global> + Drop> Subscripts<T> {
     }
 }
 
-impl<T> Subscripts<T> {
+impl<T, const N: usize> Subscripts<T, N> {
     /// The subscripts as a slice.
     pub fn as_slice(&self) -> &[T]
         ensures { result.now ≡ self.now }
@@ -62,31 +62,31 @@ impl<T> Subscripts<T> {
     }
 }
 
-impl<T: Clone + MadeWith<Global>> Clone for Subscripts<T> {
+impl<T: Clone + MadeWith<Global>, const N: usize> Clone for Subscripts<T, N> {
     ghost use Rattle.std.specs.List.{AllZip};
 
     ghost is_clone = { λ a b. AllZip T.is_clone a b };
 
-    fn clone(&self) -> Result<Subscripts<T>, AllocError> {
+    fn clone(&self) -> Result<Subscripts<T, N>, AllocError> {
         Ok(Subscripts {
             items: self.items.clone()?,
         })
     }
 }
 
-impl<T: PartialEq> PartialEq for Subscripts<T> {
+impl<T: PartialEq, const N: usize> PartialEq for Subscripts<T, N> {
     ghost use Rattle.std.specs.Cmp.Lexicographic.{pointwise, lists_per};
 
     ghost eq = { pointwise T.eq };
 
     ghost laws = { lists_per T.laws };
 
-    fn eq(&self, other: &Subscripts<T>) -> bool {
+    fn eq(&self, other: &Subscripts<T, N>) -> bool {
         are_equal(self.as_slice(), other.as_slice())
     }
 }
 
-impl<T: Eq> Eq for Subscripts<T> {
+impl<T: Eq, const N: usize> Eq for Subscripts<T, N> {
     ghost use Rattle.std.specs.Cmp.Lexicographic.{lists_equiv};
 
     ghost laws = { lists_equiv T.Eq.laws };

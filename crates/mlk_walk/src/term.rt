@@ -6,7 +6,7 @@ ghost use Rattle.mlk_names.specs.declared.known_symbol.KnownSym.TheVariants as k
 ghost use Rattle.mlk_walk.specs.Rules.{root_of, term_of, written};
 
 use mlk_machine::plain::{LockName, Node, Root};
-use mlk_names::{Access, Extent, KnownSym, LockTerm, Reference, Sym};
+use mlk_names::{Access, Extent, KnownSym, LockTerm, Reference, ReferenceSubs, Sym, TermSubs};
 use mlk_text::{Subscripts, Value};
 use std::alloc::{AllocError, Global};
 
@@ -19,7 +19,7 @@ fn root_of(root: &Root) -> Result<mlk_names::Root, AllocError>
     }
 }
 
-fn known_constants(alloc: Global, values: &[Value]) -> Result<Subscripts<KnownSym>, AllocError>
+fn known_constants(alloc: Global, values: &[Value]) -> Result<TermSubs, AllocError>
     ensures { IfOk result (λ l. l ≡ map known.Const values.now) }
 {
     let mut items = Vec::new(alloc);
@@ -29,7 +29,7 @@ fn known_constants(alloc: Global, values: &[Value]) -> Result<Subscripts<KnownSy
     Ok(Subscripts::of(items))
 }
 
-fn constants(alloc: Global, values: &[Value]) -> Result<Subscripts<Sym>, AllocError>
+fn constants(alloc: Global, values: &[Value]) -> Result<ReferenceSubs, AllocError>
     ensures { IfOk result (λ l. l ≡ map Const values.now) }
 {
     let mut items = Vec::new(alloc);

@@ -204,5 +204,5 @@ pub(crate) fn constant(alloc: Global, bytes: &[u8]) -> Result<(Value, &[u8]), Fa
     let Some(rest) = byte_of(b'"', rest) else {
         return Err(Failure::Refused(NotThere));
     };
-    Ok((Value::new(value), rest))
+    Ok((Value::of(alloc, value.as_slice())?, rest))
 }

@@ -7,7 +7,7 @@ ghost use Rattle.mlk_cert.specs.Reading.{symbol_at, subs_at, term_at};
 
 use crate::read::lexeme::{constant, is_below, is_upto};
 use crate::read::list::{Item, items};
-use mlk_names::{KnownSym, LockTerm};
+use mlk_names::{KnownSym, LockTerm, TermSubs};
 use mlk_text::lexeme::byte_of;
 use mlk_text::spelling::{name, root};
 use mlk_text::{Failure, Name, NotThere, Subscripts};
@@ -51,7 +51,7 @@ impl Item for KnownSym {
 }
 
 #[tactic(auto, unfolding(crate::specs::Reading::subs_at))]
-fn subs(alloc: Global, bytes: &[u8]) -> Result<(Subscripts<KnownSym>, &[u8]), Failure<NotThere>>
+fn subs(alloc: Global, bytes: &[u8]) -> Result<(TermSubs, &[u8]), Failure<NotThere>>
     ensures { Reads (λ x. (x.0, x.1.now)) result (subs_at bytes.now) }
 {
     let Some(rest) = byte_of(b'(', bytes) else {

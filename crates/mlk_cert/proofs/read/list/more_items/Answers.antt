@@ -9,7 +9,7 @@ use Rattle.mlk_cert.proofs.read.list.more_items.Goals as goal
 
 pub returns-in_err-item-clause-read : goal.returns-in_err-item-clause-read
 returns-in_err-item-clause-read g c =
-    let p = err_from_is_err_and c.from_residual.result c.from_residual.ensures.1 in
+    let p = err_from_is_err_and c.from_residual-in_err-item.result c.from_residual-in_err-item.ensures.1 in
     rw (p.1, p.2) (many_refused (byte_at c.args.between) (next g.T.Item.reads) _ c.loop-next.invariant.reading.0 c.loop-next.rest.now _ c.args.between c.in-Some.next.now c.in_err-item.field-0.0
     (sym c.in-Some.ensures) c.in_err-item.ensures.read c.loop-next.invariant.reading.1 c.loop-next.invariant.reading.2)
 
