@@ -1,2 +1,5 @@
 pub mod RisingRanks
 pub mod Runs
+pub mod Plain
+pub mod Scopes
+pub mod Examples

@@ -12,6 +12,7 @@ use Rattle.mlk_jobs.specs.declared.choice.Choice.{Choice}
 use Rattle.mlk_jobs.specs.Tasks.{Job}
 use Rattle.mlk_jobs.specs.Seen.{Clash}
 use Rattle.mlk_jobs.specs.Runs.{machine, seen}
+use Rattle.mlk_safety.specs.Scopes.{GoesThrough, IsPutBack}
 use Rattle.mlk_safety.specs.Moments.{StandsCovered, StandsInOrder, EndsEmpty, AtEachMoment}
 
 -- the number is one whose digits `$JOB` gives
@@ -48,3 +49,9 @@ AllEndEmpty =
     (routines : List RoutineTree) (declared : EntryId → Bool) → AtEachMoment routines declared EndsEmpty
     → (events : List (Event Choice EntryId)) (jobs : List Job) → after (machine routines declared) events [] ≡ Ok jobs
     → (j : Job) → Among j jobs → EndsEmpty j
+
+-- Where a block or a frame has ended, whatever the job did in it, names are bound as before its begin.
+abbrev pub EndsPutBack : Type 0
+EndsPutBack =
+    (routines : List RoutineTree) (declared : EntryId → Bool) (j i : Job) (through : GoesThrough (machine routines declared) j i)
+    → IsPutBack j through.first i

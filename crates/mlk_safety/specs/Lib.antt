@@ -1,3 +1,4 @@
 pub mod Order
 pub mod Moments
+pub mod Scopes
 pub mod Laws

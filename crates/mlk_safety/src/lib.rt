@@ -1,7 +1,7 @@
 //! From what each job keeps to by itself to what all jobs of a run keep to: no two clash, none wait in a ring, and none
-//! that has ended holds a lock.
+//! that has ended holds a lock. And what the end of a block or a frame puts back.
 #![tactic(auto)]
 
 mod law;
 
-pub use law::{all_end_empty, no_clash, no_ring};
+pub use law::{all_end_empty, ends_put_back, no_clash, no_ring};
