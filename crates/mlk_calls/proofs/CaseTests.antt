@@ -13,7 +13,7 @@ use Rattle.mlk_cert.specs.declared.case.Case.{Case}
 use Rattle.mlk_cert.specs.declared.names.NameSet.{NameSet}
 use Rattle.mlk_cert.specs.declared.names.NameSet.TheVariants.{Only, AllBut}
 use Rattle.mlk_cert.specs.declared.names.Own.{Own}
-use Rattle.mlk_cert.specs.Lists.{Each, EachPair}
+use Rattle.mlk_lexemes.specs.Lists.{Each, EachPair}
 use Rattle.mlk_cert.specs.Inclusion.{Covers, Included}
 use Rattle.mlk_calls.specs.declared.state.State.{State}
 use Rattle.mlk_calls.specs.Names.{is_among}

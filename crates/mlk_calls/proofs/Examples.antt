@@ -17,7 +17,7 @@ use Rattle.mlk_cert.specs.declared.names.NameSet.{NameSet}
 use Rattle.mlk_cert.specs.declared.names.NameSet.TheVariants.{Only, AllBut}
 use Rattle.mlk_cert.specs.declared.names.Own.{Own}
 use Rattle.mlk_cert.specs.declared.block.Summary.{Summary}
-use Rattle.mlk_cert.specs.Texts.{byte_text}
+use Rattle.mlk_lexemes.specs.Texts.{byte_text}
 use Rattle.mlk_calls.specs.declared.state.State.{State}
 use Rattle.mlk_calls.specs.declared.call.Calling.TheVariants.{ByDo}
 use Rattle.mlk_calls.specs.Names.{have, is_among, spares}

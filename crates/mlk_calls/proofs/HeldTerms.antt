@@ -5,9 +5,9 @@ use Rattle.std.specs.List.{position_or_len}
 use Rattle.std.proofs.lemmas.Bool.{cases_Bool, and_parts, and_from}
 use Rattle.std.proofs.lemmas.Bool.Decides.{nat_tests}
 use Rattle.mlk_names.specs.declared.term.LockTerm.{LockTerm}
-use Rattle.mlk_cert.specs.Lists.{ascends, upto, below}
-use Rattle.mlk_cert.specs.Limits.{terms_upto}
-use Rattle.mlk_cert.specs.Texts.{term_text}
+use Rattle.mlk_lexemes.specs.Lists.{ascends, upto, below}
+use Rattle.mlk_lexemes.specs.Kinds.{terms_upto}
+use Rattle.mlk_lexemes.specs.Texts.{term_text}
 use Rattle.mlk_calls.specs.Terms.{same_term, put, put_all, taken}
 use Rattle.mlk_calls.specs.Laws.{one_if, count_of, HeldAre}
 use Rattle.mlk_calls.proofs.TermTests.{same_term_decides}

@@ -7,7 +7,7 @@ use Rattle.std.proofs.lemmas.Bool.{cases_Bool, and_parts}
 use Rattle.std.proofs.lemmas.Bool.Decides.{nat_tests}
 use Rattle.mlk_cert.specs.declared.block.Point.{Point}
 use Rattle.mlk_cert.specs.Limits.{points_below}
-use Rattle.mlk_cert.specs.Lists.{ascends}
+use Rattle.mlk_lexemes.specs.Lists.{ascends}
 use Rattle.mlk_calls.specs.Scope.{is_at, cases_of, listed_at, is_earlier}
 use Rattle.mlk_calls.specs.Points.{is_before, cases_there}
 

@@ -10,8 +10,8 @@ use Rattle.mlk_coverage.specs.declared.family.Family.{Family}
 use Rattle.mlk_coverage.specs.Ranks.{HasRank, FamiliesApart}
 use Rattle.mlk_cert.specs.declared.case.Case.{Case}
 use Rattle.mlk_cert.specs.Inclusion.{Included}
-use Rattle.mlk_cert.specs.Lists.{ascends}
-use Rattle.mlk_cert.specs.Limits.{terms_upto}
+use Rattle.mlk_lexemes.specs.Lists.{ascends}
+use Rattle.mlk_lexemes.specs.Kinds.{terms_upto}
 use Rattle.mlk_cert.specs.declared.names.Own.{Own}
 use Rattle.mlk_cert.specs.declared.names.NameSet.{NameSet}
 use Rattle.mlk_cert.specs.declared.names.NameSet.TheVariants.{Only, AllBut}

@@ -3,7 +3,7 @@
 ghost use Rattle.std.specs.Prelude.{◌≡◌, true, slice_get};
 ghost use Rattle.std.specs.List.{list_all};
 ghost use Rattle.mlk_cert.specs.Limits.{points_below};
-ghost use Rattle.mlk_cert.specs.Lists.{ascends};
+ghost use Rattle.mlk_lexemes.specs.Lists.{ascends};
 ghost use Rattle.mlk_calls.specs.Points.{is_before, cases_there};
 ghost use Rattle.mlk_calls.specs.Scope.{is_at, is_earlier, listed_at};
 

@@ -4,7 +4,7 @@ ghost use Rattle.std.specs.Prelude.{◌≡◌, ◌++◌, [], IfOk, OnOk, map, fi
 ghost use Rattle.mlk_routine.specs.Views.{routine_of};
 ghost use Rattle.mlk_program.specs.Entries.{entry_by};
 ghost use Rattle.mlk_cert.specs.Limits.{points_below};
-ghost use Rattle.mlk_cert.specs.Lists.{ascends};
+ghost use Rattle.mlk_lexemes.specs.Lists.{ascends};
 
 use crate::points::{are_earlier, are_earlier_in_order, are_in_order, cases_at, cases_in_order};
 use indexmap::{IndexMap, IndexSet};

@@ -14,9 +14,9 @@ use Rattle.mlk_text.proofs.Readers.{then_some, with_some, many_goes, many_fails}
 use Rattle.mlk_cert.specs.declared.block.EntryCert.{EntryCert}
 use Rattle.mlk_cert.specs.Limits.{IsBlock}
 use Rattle.mlk_cert.specs.Checks.{has_text, are_distinct, entries, fit_blocks, fits}
-use Rattle.mlk_cert.specs.Reading.{word_at}
-use Rattle.mlk_cert.specs.Blocks.{fit, rest_at, summary_at, points_at, entry_at, block_of, block_at, new_entry_at, new_block_at}
-use Rattle.mlk_cert.proofs.Grouping.{both_true, both_back}
+use Rattle.mlk_lexemes.specs.Reading.{word_at, entry_at}
+use Rattle.mlk_cert.specs.Blocks.{fit, rest_at, summary_at, points_at, block_of, block_at, new_entry_at, new_block_at}
+use Rattle.mlk_lexemes.proofs.Formats.{both_true, both_back}
 use Rattle.mlk_cert.proofs.Loops.{put-nil, line-shorter}
 use Rattle.mlk_cert.proofs.BlockFormats.{body_text, EndsBlock, block-format}
 use Rattle.mlk_cert.proofs.LineFormats.{fit-is}

@@ -1,10 +1,8 @@
 -- Sets of names, signs, cases, and their readers.
-use Rattle.std.proofs.Common.{◌≡◌, ◌<◌, ◌≤◌, ℕ, suc, ◌++◌, List, [], ◌∷◌, length, Some, None, false, refl, sym, ap, ◌∙◌, arith, subst, inl, inr, append_assoc, lit<}
+use Rattle.std.proofs.Common.{◌≡◌, ◌<◌, ◌≤◌, ℕ, suc, ◌++◌, List, ◌∷◌, length, Some, None, refl, sym, ap, ◌∙◌, arith, subst, inl, inr, append_assoc, lit<, []}
 use Rattle.std.specs.Prelude.{Option, ◌==◌, codes}
 use Rattle.std.specs.Fmt.{decimal}
 use Rattle.std.proofs.lemmas.Bool.{cases_Bool, eqb-true}
-use Rattle.std.proofs.lemmas.Bool.Decides.{nat_tests}
-use Rattle.std.proofs.lemmas.Option.{same_Some}
 use Rattle.mlk_text.specs.Reading.{◌>>=◌, many}
 use Rattle.mlk_text.specs.Lexemes.{byte_at, name_at}
 use Rattle.mlk_text.proofs.Readers.{then_some, pair_parts, with_some}
@@ -15,14 +13,16 @@ use Rattle.mlk_cert.specs.declared.case.ExitCase.{ExitCase}
 use Rattle.mlk_cert.specs.declared.names.NameSet.{NameSet}
 use Rattle.mlk_cert.specs.declared.names.NameSet.TheVariants.{Only, AllBut}
 use Rattle.mlk_cert.specs.declared.names.Own.{Own}
-use Rattle.mlk_cert.specs.Lists.{Each, flat, more}
-use Rattle.mlk_cert.specs.Texts.{listed, term_text, name_text, names_text, own_text, sign, sign_text, saved_text, case_text, exit_text}
-use Rattle.mlk_cert.specs.Limits.{IsName, IsTerm}
-use Rattle.mlk_cert.specs.Reading.{keep, list_at, listed_at, term_at, inside_by, names_by, names_at, number_at, positive, own_of, own_at, sign_at, signs_by, saved_by, saved_at, part_at, exit_of, exit_at, case_of, case_at}
-use Rattle.mlk_cert.proofs.Formats.{Format, Anything, byte-is, flat-is, flat-back, list-is, list-back, listed-format, part-is, part-back}
-use Rattle.mlk_cert.proofs.NumberFormats.{number-format, decimal-no-dash}
-use Rattle.mlk_cert.proofs.NameFormats.{NoName, name-format, name-first}
-use Rattle.mlk_cert.proofs.TermFormats.{EndsTerms, EndsNames, terms-format, kept-format}
+use Rattle.mlk_lexemes.specs.Lists.{Each, flat, more}
+use Rattle.mlk_lexemes.specs.Texts.{listed, term_text, name_text}
+use Rattle.mlk_cert.specs.Texts.{names_text, own_text, sign, sign_text, saved_text, case_text, exit_text}
+use Rattle.mlk_lexemes.specs.Kinds.{IsName, IsTerm}
+use Rattle.mlk_lexemes.specs.Reading.{keep, list_at, listed_at, term_at, number_at, positive, part_at}
+use Rattle.mlk_cert.specs.Reading.{inside_by, names_by, names_at, own_of, own_at, sign_at, signs_by, saved_by, saved_at, exit_of, exit_at, case_of, case_at}
+use Rattle.mlk_lexemes.proofs.Formats.{Format, Anything, byte-is, flat-is, flat-back, list-is, list-back, listed-format, part-is, part-back}
+use Rattle.mlk_lexemes.proofs.NumberFormats.{number-format, decimal-no-dash, positive-is, not-zero}
+use Rattle.mlk_lexemes.proofs.NameFormats.{NoName, name-format, name-first}
+use Rattle.mlk_lexemes.proofs.TermFormats.{EndsTerms, EndsNames, terms-format, kept-format}
 
 -- names that are names, in any order
 abbrev pub HasNames : NameSet → Type 0
@@ -79,22 +79,6 @@ names-first (AllBut names) ys is = refl
 
 pub mods-format : Format (listed names_text) (Each HasNames) EndsNames (listed_at names_at)
 mods-format = listed-format names_text HasNames NoName names_at names-format (λ n. refl) names-first
-
--- a level from 1
-pub positive-is : (r : ℕ × List ℕ) (n : ℕ) (ys : List ℕ) → positive r ≡ Some (n, ys) → (r ≡ (n, ys)) × (1 ≤ n)
-positive-is r n ys h = elim (cases_Bool (r.0 == 0)) [
-  | inl e ↦ cc (rw e at h)
-  | inr e ↦
-      let k : ◌≡◌ {A = Option (ℕ × List ℕ)} (Some r) (Some (n, ys)) = rw e at h in
-      let p = same_Some r (n, ys) k in
-      (p, subst (λ m. 1 ≤ m) (ap (λ z. z.0) p) (above-zero r.0 e))
-]
-  where
-    above-zero : (m : ℕ) → (m == 0) ≡ false → 1 ≤ m
-    above-zero m e = grind (arith, nat_tests)
-
-pub not-zero : (n : ℕ) → 1 ≤ n → (n == 0) ≡ false
-not-zero n h = grind (arith, nat_tests)
 
 -- new names at a level in range, in any order
 abbrev pub HasOwn : Own → Type 0

@@ -10,8 +10,10 @@ use Rattle.mlk_cert.specs.declared.case.Case.{Case}
 use Rattle.mlk_cert.specs.declared.names.NameSet.TheVariants.{Only, AllBut}
 use Rattle.mlk_cert.specs.declared.names.Own.{Own}
 use Rattle.mlk_cert.specs.declared.block.EntryCert.{EntryCert}
-use Rattle.mlk_cert.specs.Texts.{byte_text, term_text, names_text, case_text, case_line, certificate_text}
-use Rattle.mlk_cert.specs.Limits.{terms_upto, names_below, own_below}
+use Rattle.mlk_lexemes.specs.Texts.{byte_text, term_text}
+use Rattle.mlk_cert.specs.Texts.{names_text, case_text, case_line, certificate_text}
+use Rattle.mlk_lexemes.specs.Kinds.{terms_upto}
+use Rattle.mlk_cert.specs.Limits.{names_below, own_below}
 
 line_end : List ℕ
 line_end = 10 ∷ []

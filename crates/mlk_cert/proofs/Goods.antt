@@ -10,12 +10,14 @@ use Rattle.mlk_cert.specs.declared.names.NameSet.{NameSet}
 use Rattle.mlk_cert.specs.declared.names.NameSet.TheVariants.{Only, AllBut}
 use Rattle.mlk_cert.specs.declared.names.Own.{Own}
 use Rattle.mlk_cert.specs.declared.block.Point.{Point}
-use Rattle.mlk_cert.specs.Lists.{Each, ascends, below}
-use Rattle.mlk_cert.specs.Limits.{IsName, IsTerm, IsNameSet, IsOwn, AreTerms, AreMods, AreOwn, AreKept, IsCase, IsExit, IsPoint, AreDistinct, terms_upto, names_below, own_below, exits_below, cases_below}
+use Rattle.mlk_lexemes.specs.Lists.{Each, ascends, below}
+use Rattle.mlk_lexemes.specs.Kinds.{IsName, IsTerm, terms_upto}
+use Rattle.mlk_cert.specs.Limits.{IsNameSet, IsOwn, AreTerms, AreMods, AreOwn, AreKept, IsCase, IsExit, IsPoint, AreDistinct, names_below, own_below, exits_below, cases_below}
 use Rattle.mlk_cert.specs.Checks.{ascends_inside, ascend_inside, ascend_inside_own, fit_terms, fit_mods, fit_own, fit_kept, fits_case, fits_exit, fit_exits, fit_cases, each_fits, has_text, are_distinct}
 use Rattle.mlk_cert.specs.Blocks.{Listed}
 use Rattle.mlk_cert.proofs.CaseFormats.{HasNames, HasOwn, HasCase, HasExit}
-use Rattle.mlk_cert.proofs.Grouping.{both_true, both_back, listed_at_place, cases_of, lines_of, HasCases}
+use Rattle.mlk_lexemes.proofs.Formats.{both_true, both_back}
+use Rattle.mlk_cert.proofs.Grouping.{listed_at_place, cases_of, lines_of, HasCases}
 
 pub terms-good : (ts : List LockTerm) → Each IsTerm ts → fit_terms ts ≡ true → AreTerms ts
 terms-good ts is h = let t = both_true (nat_le (length ts) 16) (ascends terms_upto ts) h in record { each = is; few = leb-true _ _ t.0; order = t.1 }

@@ -1,23 +1,17 @@
 -- Cases line by line, and points.
-use Rattle.std.proofs.Common.{◌≡◌, ◌≤◌, ℕ, ◌++◌, List, [], ◌∷◌, length, map, Bool, true, false, refl, sym, ap, ◌∙◌, arith, inl, inr, append_assoc, append-nil, length-append}
+use Rattle.std.proofs.Common.{◌≡◌, ◌≤◌, ℕ, ◌++◌, List, ◌∷◌, length, map, Bool, true, false, refl, sym, ap, ◌∙◌, arith, inl, inr, append_assoc, append-nil, length-append, []}
 use Rattle.std.specs.Prelude.{◌==◌, ◌&&◌, ◌||◌, nat_lt, nat_le, codes}
 use Rattle.std.proofs.lemmas.Bool.{cases_Bool, eqb-true, leb-true, le-leb}
 use Rattle.std.proofs.lemmas.Bool.Decides.{nat_tests}
 use Rattle.std.proofs.lemmas.List.{map-append}
 use Rattle.mlk_cert.specs.declared.case.Case.{Case}
 use Rattle.mlk_cert.specs.declared.block.Point.{Point}
-use Rattle.mlk_cert.specs.Lists.{Each, flat, ascends}
+use Rattle.mlk_lexemes.specs.Lists.{Each, flat, ascends}
+use Rattle.mlk_lexemes.proofs.Formats.{both_back, both_true}
 use Rattle.mlk_cert.specs.Texts.{place_text, case_text, case_line, point_text}
 use Rattle.mlk_cert.specs.Limits.{cases_below, points_below}
 use Rattle.mlk_cert.specs.Checks.{fit_cases, each_fits, fit_points}
 use Rattle.mlk_cert.specs.Blocks.{Listed, point_of, with_case, add_case, grouped}
-
-pub both_true : (a b : Bool) → (a && b) ≡ true → (a ≡ true) × (b ≡ true)
-both_true true b h = (refl, h)
-both_true false b h = cc h
-
-pub both_back : (a b : Bool) → a ≡ true → b ≡ true → (a && b) ≡ true
-both_back a b e f = rw e f
 
 -- a list that ascends has fronts that ascend
 pub ascends-front : {A : Type 0} (before : A → A → Bool) (xs ys : List A) → ascends before (xs ++ ys) ≡ true → ascends before xs ≡ true

@@ -1,8 +1,4 @@
 pub mod Examples
-pub mod Formats
-pub mod NumberFormats
-pub mod NameFormats
-pub mod TermFormats
 pub mod CaseFormats
 pub mod LineFormats
 pub mod Grouping

@@ -1,7 +1,7 @@
 -- Reading lines, blocks and a whole certificate, as functions on lists. For private clauses alone, as `Reading`.
-use Rattle.std.specs.Prelude.{ℕ, suc, ◌==◌, ◌&&◌, ◌||◌, not, nat_lt, if◌then◌else◌, Bool, true, false, List, [], ◌∷◌, ◌++◌, length, Option, Some, None, codes, option_map, option_and_then}
+use Rattle.std.specs.Prelude.{ℕ, suc, ◌==◌, ◌&&◌, ◌||◌, not, nat_lt, if◌then◌else◌, Bool, true, false, List, ◌∷◌, ◌++◌, length, Option, Some, None, codes, option_map, option_and_then, []}
 use Rattle.mlk_text.specs.Reading.{◌>>=◌, with, many}
-use Rattle.mlk_text.specs.Lexemes.{byte_at, name_at, label_at, or_else}
+use Rattle.mlk_text.specs.Lexemes.{byte_at}
 use Rattle.mlk_names.specs.declared.term.LockTerm.{LockTerm}
 use Rattle.mlk_cert.specs.declared.case.Case.{Case}
 use Rattle.mlk_cert.specs.declared.case.ExitCase.{ExitCase}
@@ -9,10 +9,11 @@ use Rattle.mlk_cert.specs.declared.names.NameSet.{NameSet}
 use Rattle.mlk_cert.specs.declared.block.Point.{Point}
 use Rattle.mlk_cert.specs.declared.block.Summary.{Summary}
 use Rattle.mlk_cert.specs.declared.block.EntryCert.{EntryCert}
-use Rattle.mlk_cert.specs.Lists.{last_of, below}
+use Rattle.mlk_lexemes.specs.Lists.{last_of, below}
 use Rattle.mlk_cert.specs.Texts.{end_line, exit_text, case_text}
 use Rattle.mlk_cert.specs.Checks.{fit_terms, fit_mods, fits_case, fits_exit, fit_exits, fit_points, fit_blocks, fits, has_text}
-use Rattle.mlk_cert.specs.Reading.{word_at, number_at, counted_at, listed_at, term_at, names_at, exit_at, case_at, part_at}
+use Rattle.mlk_lexemes.specs.Reading.{word_at, number_at, counted_at, listed_at, term_at, part_at, entry_at}
+use Rattle.mlk_cert.specs.Reading.{names_at, exit_at, case_at}
 
 -- what was read, where it passes a test
 abbrev pub fit : {A : Type 0} → (A → Bool) → A × List ℕ → Option (A × List ℕ)
@@ -102,14 +103,6 @@ grouped points (l ∷ ls) = grouped (add_case points l) ls
 -- the lines of points
 unfoldable pub points_at : List ℕ → Option (List Point × List ℕ)
 points_at xs = with (grouped []) (worded_at (codes "at ") (rest_at listed_case_at fits_listed) xs) >>= fit fit_points
-
--- a label at the front, or nothing
-abbrev pub label_before : List ℕ → Option (List ℕ × List ℕ)
-label_before xs = or_else (label_at xs) (Some ([], xs))
-
--- an entry's text
-unfoldable pub entry_at : List ℕ → Option (List ℕ × List ℕ)
-entry_at xs = label_before xs >>= λ label. byte_at 94 label.1 >>= λ caret. with (λ routine. label.0 ++ 94 ∷ routine) (name_at caret.1)
 
 abbrev pub block_of : List ℕ → Summary → List Point → EntryCert
 block_of entry summary points = record { entry = entry; summary = summary; points = points }

@@ -9,8 +9,9 @@ use Rattle.mlk_cert.specs.declared.names.NameSet.TheVariants.{Only, AllBut}
 use Rattle.mlk_cert.specs.declared.names.Own.{Own}
 use Rattle.mlk_cert.specs.declared.block.Point.{Point}
 use Rattle.mlk_cert.specs.declared.block.EntryCert.{EntryCert}
-use Rattle.mlk_cert.specs.Lists.{ascends, below}
-use Rattle.mlk_cert.specs.Limits.{terms_upto, names_below, own_below, cases_below, exits_below, points_below}
+use Rattle.mlk_lexemes.specs.Lists.{ascends, below}
+use Rattle.mlk_lexemes.specs.Kinds.{terms_upto}
+use Rattle.mlk_cert.specs.Limits.{names_below, own_below, cases_below, exits_below, points_below}
 
 -- whether the names inside the parentheses ascend
 abbrev pub ascends_inside : NameSet → Bool

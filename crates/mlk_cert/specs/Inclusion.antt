@@ -3,7 +3,7 @@ use Rattle.std.specs.Prelude.{◌≡◌, ◌⊎◌, Contains}
 use Rattle.mlk_cert.specs.declared.case.Case.{Case}
 use Rattle.mlk_cert.specs.declared.case.Test.{Test}
 use Rattle.mlk_cert.specs.declared.case.Test.TheVariants.{Any}
-use Rattle.mlk_cert.specs.Lists.{Each, EachPair}
+use Rattle.mlk_lexemes.specs.Lists.{Each, EachPair}
 
 -- the second test says no more than the first
 abbrev pub Covers : Test → Test → Type 0

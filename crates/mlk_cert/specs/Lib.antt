@@ -1,4 +1,3 @@
-pub mod Lists
 pub mod Inclusion
 pub mod Texts
 pub mod Limits

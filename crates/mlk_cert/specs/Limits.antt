@@ -1,12 +1,6 @@
 -- What every certificate keeps to: names are names, numbers are in range, lists are in order and not too long. The
 -- limits are this project's own choice; names and labels are those of ISO/IEC 11756.
-use Rattle.std.specs.Prelude.{ℕ, ◌≡◌, ◌⊎◌, ◌<◌, ◌≤◌, ◌==◌, ◌&&◌, ◌||◌, nat_lt, Bool, true, List, [], ◌∷◌, ◌++◌, length, map, Option, Some, None}
-use Rattle.mlk_text.specs.Lexemes.{name_at}
-use Rattle.mlk_text.specs.Numbers.{are_digits}
-use Rattle.mlk_text.specs.declared.root.Root.{Root}
-use Rattle.mlk_text.specs.declared.root.Root.TheVariants as root
-use Rattle.mlk_names.specs.declared.known_symbol.KnownSym.{KnownSym}
-use Rattle.mlk_names.specs.declared.known_symbol.KnownSym.TheVariants as known
+use Rattle.std.specs.Prelude.{ℕ, ◌≡◌, ◌≤◌, ◌==◌, ◌&&◌, ◌||◌, nat_lt, Bool, true, List, ◌∷◌, length, map, Option, Some, None, []}
 use Rattle.mlk_names.specs.declared.term.LockTerm.{LockTerm}
 use Rattle.mlk_cert.specs.declared.case.Case.{Case}
 use Rattle.mlk_cert.specs.declared.case.ExitCase.{ExitCase}
@@ -16,36 +10,13 @@ use Rattle.mlk_cert.specs.declared.names.Own.{Own}
 use Rattle.mlk_cert.specs.declared.block.Point.{Point}
 use Rattle.mlk_cert.specs.declared.block.Summary.{Summary}
 use Rattle.mlk_cert.specs.declared.block.EntryCert.{EntryCert}
-use Rattle.mlk_cert.specs.Lists.{Each, ascends, upto, below}
-use Rattle.mlk_cert.specs.Texts.{term_text, names_text, case_text, exit_text}
+use Rattle.mlk_lexemes.specs.Lists.{Each, ascends, below}
+use Rattle.mlk_lexemes.specs.Kinds.{IsName, IsEntry, IsTerm, terms_upto}
+use Rattle.mlk_cert.specs.Texts.{names_text, case_text, exit_text}
 
 -- a text has at most 64 MiB
 abbrev pub longest : ℕ
 longest = 67108864
-
--- a name, and nothing after it
-abbrev pub IsName : List ℕ → Type 0
-IsName name = name_at name ≡ Some (name, [])
-
--- bytes are below 256
-abbrev pub IsValue : List ℕ → Type 0
-IsValue value = Each (λ b. b < 256) value
-
-abbrev pub IsSymbol : KnownSym → Type 0
-IsSymbol (known.Const value) = IsValue value
-IsSymbol (known.Local name) = IsName name
-IsSymbol known.Job = Unit {0}
-
-abbrev pub IsRoot : Root → Type 0
-IsRoot (root.Global name) = IsName name
-IsRoot (root.Local name) = IsName name
-
-abbrev pub IsTerm : LockTerm → Type 0
-IsTerm t = IsRoot t.root × Each IsSymbol t.subs
-
--- terms stand in the order of their texts, and may repeat
-abbrev pub terms_upto : LockTerm → LockTerm → Bool
-terms_upto t u = upto (term_text t) (term_text u)
 
 -- sets of names stand in the order of their texts
 abbrev pub names_below : NameSet → NameSet → Bool
@@ -131,14 +102,6 @@ pub record IsPoint (p : Point) : Type 0 where
 -- points stand in the order of their lines, on one line in that of their rounds
 abbrev pub points_below : Point → Point → Bool
 points_below p q = nat_lt p.line q.line || ((p.line == q.line) && nat_lt p.round q.round)
-
--- a label: a name, digits, or nothing
-abbrev pub IsLabel : List ℕ → Type 0
-IsLabel label = (are_digits label ≡ true) ⊎ IsName label
-
--- an entry's text: a label, `^`, and a routine's name
-abbrev pub IsEntry : List ℕ → Type 0
-IsEntry text = (label routine : List ℕ) × IsLabel label × IsName routine × (text ≡ label ++ 94 ∷ routine)
 
 pub record IsBlock (b : EntryCert) : Type 0 where
   pub entry : IsEntry b.entry

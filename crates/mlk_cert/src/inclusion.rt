@@ -1,7 +1,7 @@
 // When one case says no more than another.
 
 ghost use Rattle.std.specs.Prelude.{◌≡◌, ◌↔◌, IsTrue, Contains, Decides};
-ghost use Rattle.mlk_cert.specs.Lists.{Each, EachPair};
+ghost use Rattle.mlk_lexemes.specs.Lists.{Each, EachPair};
 ghost use Rattle.mlk_cert.specs.Inclusion.{Covers, Included};
 
 use crate::case::{Case, Test};

@@ -26,4 +26,4 @@ pub use order::place_of_term;
 pub use read::{CertFault, read_cert};
 pub use shared::Shared;
 pub use spelled::{Spelled, spell};
-pub use write::{Text, WriteFault, Written, push_flat, push_listed, push_more, write_cert};
+pub use write::{WriteFault, write_cert};

@@ -1,12 +1,10 @@
 // The order of terms in a list.
 
 ghost use Rattle.std.specs.Prelude.{◌≡◌, ◌≤◌, IfOk, length};
-ghost use Rattle.mlk_cert.specs.Texts.{term_text};
+ghost use Rattle.mlk_lexemes.specs.Texts.{term_text};
 ghost use Rattle.mlk_cert.specs.Making.{terms_before};
 
-use crate::read::lexeme::is_below;
-use crate::write::list::Written;
-use crate::write::text::Text;
+use mlk_lexemes::{Text, Written, is_below};
 use mlk_names::LockTerm;
 use std::alloc::{AllocError, Global};
 

@@ -97,7 +97,7 @@ pub(crate) enum Outcome {
     /// the text of the certificate that was made
     Made(Vec<u8>),
     /// what is shown of the jobs
-    Replayed(mlk_cert::Text),
+    Replayed(mlk_lexemes::Text),
 }
 
 /// The routines of a program, and what is made of it.

@@ -5,8 +5,8 @@ ghost use Rattle.mlk_routine.specs.Views.{routine_of};
 ghost use Rattle.mlk_command.specs.Replayed.{AreDeclared, IsUndeclared, IsShown, IsStopped, IsReplayed, IsUnreplayed};
 
 use crate::checked::{Refusal, lacks};
-use mlk_cert::Text;
 use mlk_coverage::{Rules, entries};
+use mlk_lexemes::Text;
 use mlk_program::{EntryId, Program};
 use mlk_replay::replay_events;
 use mlk_states::system_text;

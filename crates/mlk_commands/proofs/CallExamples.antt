@@ -12,7 +12,7 @@ use Rattle.mlk_coverage.specs.Computed.{answer}
 use Rattle.mlk_cert.specs.declared.case.Test.{Test}
 use Rattle.mlk_cert.specs.declared.case.Test.TheVariants.{Any, Zero, One}
 use Rattle.mlk_cert.specs.declared.case.Case.{Case}
-use Rattle.mlk_cert.specs.Texts.{byte_text}
+use Rattle.mlk_lexemes.specs.Texts.{byte_text}
 use Rattle.mlk_calls.specs.States.{same_state}
 use Rattle.mlk_calls.specs.Cases.{same_case}
 use Rattle.mlk_calls.specs.Terms.{same_term}

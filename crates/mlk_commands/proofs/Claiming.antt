@@ -12,9 +12,9 @@ use Rattle.mlk_routine.specs.declared.tree.Sign.TheVariants as sign
 use Rattle.mlk_routine.specs.Trees.{VariableTree}
 use Rattle.mlk_names.specs.declared.term.LockTerm.{LockTerm}
 use Rattle.mlk_cert.specs.declared.case.Test.TheVariants.{One}
-use Rattle.mlk_cert.specs.Lists.{below}
+use Rattle.mlk_lexemes.specs.Lists.{below}
 use Rattle.mlk_cert.specs.Making.{terms_before}
-use Rattle.mlk_cert.specs.Texts.{term_text}
+use Rattle.mlk_lexemes.specs.Texts.{term_text}
 use Rattle.mlk_calls.specs.declared.state.State.{State}
 use Rattle.mlk_calls.specs.States.{holding, tested, without_last, last_captured}
 use Rattle.mlk_calls.specs.Terms.{put, put_all}

@@ -11,7 +11,7 @@ use Rattle.mlk_routine.specs.Trees.{VariableTree, LockNames}
 use Rattle.mlk_names.specs.declared.term.LockTerm.{LockTerm}
 use Rattle.mlk_coverage.specs.Computed.{answer}
 use Rattle.mlk_cert.specs.declared.case.Test.TheVariants.{Zero, One}
-use Rattle.mlk_cert.specs.Texts.{byte_text}
+use Rattle.mlk_lexemes.specs.Texts.{byte_text}
 use Rattle.mlk_calls.specs.States.{same_state}
 use Rattle.mlk_calls.specs.Scope.{Scope}
 use Rattle.mlk_calls.specs.Cases.{same_case}

@@ -25,11 +25,7 @@ fn part_at(part: &Part, symbols: &[Sym]) -> Result<Option<KnownSym>, AllocError>
     }
 }
 
-fn cut_subs(
-    alloc: Global,
-    parts: &[Part],
-    symbols: &[Sym],
-) -> Result<TermSubs, AllocError>
+fn cut_subs(alloc: Global, parts: &[Part], symbols: &[Sym]) -> Result<TermSubs, AllocError>
     ensures { IfOk result (λ l. l ≡ before_missing (map (symbol_at symbols.now) parts.now)) }
 {
     let mut items = Vec::new(alloc);

@@ -2,8 +2,9 @@
 
 ghost use Rattle.std.specs.Prelude.{◌≤◌, IfOk, length};
 
-use mlk_cert::{Case, NameSet, Test, Text, Written};
+use mlk_cert::{Case, NameSet, Test};
 use mlk_commands::in_order;
+use mlk_lexemes::{Text, Written};
 use mlk_text::{List, Name};
 use std::alloc::{AllocError, Global};
 

@@ -1,11 +1,12 @@
 -- What a line leaves.
 use Rattle.std.proofs.Common.{◌≡◌, ◌<◌, ◌≤◌, ℕ, List, [], ◌∷◌, ◌++◌, length, Some, ap, arith, length-append}
-use Rattle.mlk_cert.specs.Texts.{constant_text}
-use Rattle.mlk_cert.specs.Reading.{constant_at}
+use Rattle.mlk_lexemes.specs.Texts.{constant_text}
+use Rattle.mlk_lexemes.specs.Reading.{constant_at}
 use Rattle.mlk_events.specs.declared.order.Order.{Order}
 use Rattle.mlk_events.specs.Texts.{order_text, line_text}
 use Rattle.mlk_events.specs.Reading.{line_at}
-use Rattle.mlk_events.proofs.Formats.{constant-is, line-format}
+use Rattle.mlk_lexemes.proofs.TermFormats.{constant-is}
+use Rattle.mlk_events.proofs.Formats.{line-format}
 
 pub constant-leaves : (v xs ys : List ℕ) → constant_at xs ≡ Some (v, ys) → length ys ≤ length xs
 constant-leaves v xs ys h =

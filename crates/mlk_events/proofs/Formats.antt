@@ -1,56 +1,24 @@
 -- Lines of a file of events, and their readers: what is read is the text, and each text is read.
-use Rattle.std.proofs.Common.{◌≡◌, ◌<◌, ℕ, suc, ◌++◌, List, [], ◌∷◌, length, Option, Some, None, Bool, true, false, refl, sym, ap, ◌∙◌, arith, subst, inl, inr, append_assoc, lit<}
+use Rattle.std.proofs.Common.{◌≡◌, ◌<◌, ℕ, suc, ◌++◌, List, ◌∷◌, length, Option, Some, None, Bool, true, false, refl, sym, ap, ◌∙◌, arith, subst, inl, inr, append_assoc, lit<, []}
 use Rattle.std.specs.Prelude.{◌==◌, codes}
 use Rattle.std.specs.Fmt.{decimal}
 use Rattle.std.proofs.lemmas.Bool.{cases_Bool, eqb-true}
 use Rattle.mlk_text.specs.Reading.{many}
 use Rattle.mlk_text.specs.Lexemes.{digits, byte_at}
 use Rattle.mlk_text.proofs.Readers.{then_some, pair_parts, with_some}
-use Rattle.mlk_cert.specs.Lists.{flat, more}
-use Rattle.mlk_cert.specs.Texts.{byte_text, constant_text}
-use Rattle.mlk_cert.specs.Limits.{IsValue, IsEntry}
-use Rattle.mlk_cert.specs.Reading.{word_at, number_at, positive, piece_at, keep, constant_at, next}
-use Rattle.mlk_cert.specs.Blocks.{entry_at}
-use Rattle.mlk_cert.proofs.Formats.{Format, Anything, byte-is, word-is, word-back, flat-is, flat-back, more-is, more-back}
-use Rattle.mlk_cert.proofs.NumberFormats.{number-format}
-use Rattle.mlk_cert.proofs.TermFormats.{NoQuote, piece-format, byte-room}
-use Rattle.mlk_cert.proofs.CaseFormats.{positive-is, not-zero}
-use Rattle.mlk_cert.proofs.BlockFormats.{entry-format}
+use Rattle.mlk_lexemes.specs.Lists.{flat, more}
+use Rattle.mlk_lexemes.specs.Texts.{byte_text, constant_text}
+use Rattle.mlk_lexemes.specs.Kinds.{IsValue, IsEntry}
+use Rattle.mlk_lexemes.specs.Reading.{word_at, number_at, positive, constant_at, next, entry_at}
+use Rattle.mlk_lexemes.proofs.Formats.{Format, Anything, byte-is, word-is, word-back, more-is, more-back}
+use Rattle.mlk_lexemes.proofs.NumberFormats.{number-format, positive-is, not-zero}
+use Rattle.mlk_lexemes.proofs.TermFormats.{NoQuote, constant-is, constant-back, constant-format}
+use Rattle.mlk_lexemes.proofs.EntryFormats.{entry-format}
 use Rattle.mlk_events.specs.declared.order.Beginning.{Beginning}
 use Rattle.mlk_events.specs.declared.order.Order.{Order}
 use Rattle.mlk_events.specs.declared.order.Order.TheVariants.{Begin, Go, GoValue, GoTruth, Run, Abort}
 use Rattle.mlk_events.specs.Texts.{greatest_job, IsJob, truth_text, test_digit, begin_text, order_text, line_text, IsBeginning, IsOrder}
 use Rattle.mlk_events.specs.Reading.{job_at, test_at, head_at, beginning_of, begin_at, no_by, yes_by, chosen_at, choice_by, go_at, abort_by, run_by, go_by, begin_by, order_at, line_at}
-
--- a constant
-closing-none : (ys : List ℕ) → byte_at 34 ys ≡ None → piece_at (34 ∷ ys) ≡ None
-unfolding piece_at
-closing-none ys h = h
-
-pub constant-is : (v xs ys : List ℕ) → constant_at xs ≡ Some (v, ys) → (xs ≡ constant_text v ++ ys) × IsValue v
-unfolding constant_at
-constant-is v xs ys h =
-    let o = then_some (byte_at 34 xs) _ (v, ys) h in
-    let r = then_some (many piece_at keep (suc (length o.0.1)) o.0.1) _ (v, ys) o.2 in
-    let c = with_some _ (byte_at 34 r.0.1) v ys r.2 in
-    let s = flat-is byte_text (λ b. b < 256) Anything piece_at piece-format _ r.0.0 o.0.1 r.0.1 r.1 in
-    let P : List ℕ → Type 0 = λ l. (xs ≡ constant_text l ++ ys) × IsValue l in
-    subst P (sym c.2) (
-      (byte-is 34 o.0.0 xs o.0.1 o.1).0
-          ∙ ap (λ l. 34 ∷ l) (s.0 ∙ ap (λ l. flat byte_text r.0.0 ++ l) (byte-is 34 c.0 r.0.1 ys c.1).0
-          ∙ sym (append_assoc (flat byte_text r.0.0) (34 ∷ []) ys)),
-      s.1,
-    )
-
-constant-back : (v ys : List ℕ) → IsValue v → NoQuote ys → constant_at (constant_text v ++ ys) ≡ Some (v, ys)
-unfolding constant_at
-constant-back v ys is none =
-    let assoc = append_assoc (flat byte_text v) (34 ∷ []) ys in
-    rw assoc (rw (flat-back byte_text (λ b. b < 256) Anything piece_at piece-format byte-room (λ _. tt)
-    (suc (length (flat byte_text v ++ 34 ∷ ys))) v (34 ∷ ys) is (closing-none ys none) (omega arith)) refl)
-
-constant-format : Format constant_text IsValue NoQuote constant_at
-constant-format = record { sound = constant-is; complete = constant-back }
 
 -- the number of a job
 abbrev NoDigit : List ℕ → Type 0

@@ -3,8 +3,7 @@
 use Rattle.std.specs.Prelude.{ℕ, suc, ◌==◌, Bool, true, false, if◌then◌else◌, List, [], ◌∷◌, length, Option, Some, None, codes}
 use Rattle.mlk_text.specs.Reading.{◌>>=◌, with, many}
 use Rattle.mlk_text.specs.Lexemes.{byte_at}
-use Rattle.mlk_cert.specs.Reading.{word_at, counted_at, constant_at, next}
-use Rattle.mlk_cert.specs.Blocks.{entry_at}
+use Rattle.mlk_lexemes.specs.Reading.{word_at, counted_at, constant_at, next, entry_at}
 use Rattle.mlk_events.specs.declared.order.Order.{Order}
 use Rattle.mlk_events.specs.declared.order.Order.TheVariants.{Begin, Go, GoValue, GoTruth, Run, Abort}
 use Rattle.mlk_events.specs.Texts.{greatest_job}

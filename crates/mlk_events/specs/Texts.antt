@@ -2,9 +2,9 @@
 -- names are those of ISO/IEC 11756.
 use Rattle.std.specs.Prelude.{ℕ, ◌≤◌, Bool, true, false, List, [], ◌∷◌, ◌++◌, codes}
 use Rattle.std.specs.Fmt.{decimal}
-use Rattle.mlk_cert.specs.Lists.{Each, flat, more}
-use Rattle.mlk_cert.specs.Texts.{constant_text}
-use Rattle.mlk_cert.specs.Limits.{IsValue, IsEntry}
+use Rattle.mlk_lexemes.specs.Lists.{Each, flat, more}
+use Rattle.mlk_lexemes.specs.Texts.{constant_text}
+use Rattle.mlk_lexemes.specs.Kinds.{IsValue, IsEntry}
 use Rattle.mlk_events.specs.declared.order.Beginning.{Beginning}
 use Rattle.mlk_events.specs.declared.order.Order.{Order}
 use Rattle.mlk_events.specs.declared.order.Order.TheVariants.{Begin, Go, GoValue, GoTruth, Run, Abort}

@@ -1,7 +1,6 @@
 //! Lines of files of events: what a job does.
 #![tactic(auto)]
 
-mod lexeme;
 mod line;
 mod order;
 

@@ -4,14 +4,23 @@ ghost use Rattle.std.specs.Prelude.{◌≡◌, suc, length, option_map};
 ghost use Rattle.mlk_text.specs.Reading.{many};
 ghost use Rattle.mlk_text.specs.Lexemes.{byte_at};
 ghost use Rattle.mlk_text.specs.Failures.{Reads};
-ghost use Rattle.mlk_cert.specs.Reading.{constant_at, next};
-ghost use Rattle.mlk_events.specs.Reading.{test_at, head_at, begin_at, chosen_at, go_at, order_at, line_at};
+ghost use Rattle.mlk_lexemes.specs.Reading.{constant_at, next};
+ghost use Rattle.mlk_events.specs.Reading.{job_at, test_at, head_at, begin_at, chosen_at, go_at, order_at, line_at};
 
-use crate::lexeme::{constant, entry, job, word_of};
 use crate::order::{Beginning, Order};
+use mlk_lexemes::{constant, counted, entry, word_of};
 use mlk_text::lexeme::byte_of;
 use mlk_text::{Failure, List, NotThere, Value};
 use std::alloc::Global;
+
+const GREATEST_JOB: u32 = 4_294_967_295;
+
+// The number of a job at the front, and what is left after it.
+fn job(bytes: &[u8]) -> Option<(u32, &[u8])>
+    ensures { option_map (λ x. (x.0, x.1.now)) result ≡ job_at bytes.now }
+{
+    counted(GREATEST_JOB, bytes)
+}
 
 // `$TEST`, and what is left after it.
 fn test(bytes: &[u8]) -> Option<(bool, &[u8])>

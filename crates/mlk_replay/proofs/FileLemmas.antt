@@ -5,7 +5,7 @@ use Rattle.mlk_text.specs.declared.failure.Failure.{Failure}
 use Rattle.mlk_text.specs.declared.failure.Failure.TheVariants.{OutOfMemory, Refused}
 use Rattle.mlk_text.specs.declared.spelling.NotThere.{NotThere}
 use Rattle.mlk_text.specs.Failures.{FailsOn}
-use Rattle.mlk_cert.specs.Lists.{EachPair}
+use Rattle.mlk_lexemes.specs.Lists.{EachPair}
 use Rattle.mlk_routine.specs.Trees.{RoutineTree}
 use Rattle.mlk_events.specs.declared.order.Order.{Order}
 use Rattle.mlk_events.specs.Texts.{IsOrder, line_text, file_text}

@@ -9,7 +9,7 @@ use Rattle.mlk_routine.specs.Trees.{RoutineTree}
 use Rattle.mlk_routine.specs.Views.{routine_of}
 use Rattle.mlk_program.specs.declared.entry.EntryId.{EntryId}
 use Rattle.mlk_program.specs.Entries.{entry_by}
-use Rattle.mlk_cert.specs.Lists.{EachPair}
+use Rattle.mlk_lexemes.specs.Lists.{EachPair}
 use Rattle.mlk_events.specs.declared.order.Order.{Order}
 use Rattle.mlk_events.specs.declared.order.Order.TheVariants as order
 use Rattle.mlk_events.specs.Texts.{IsOrder, line_text, file_text}

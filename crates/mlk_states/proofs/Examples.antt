@@ -6,7 +6,7 @@ use Rattle.mlk_text.specs.declared.root.Root.TheVariants as root
 use Rattle.mlk_names.specs.declared.lock_name.LockName.{LockName}
 use Rattle.mlk_names.specs.declared.reference.Access.TheVariants.{Writes}
 use Rattle.mlk_names.specs.declared.reference.Extent.TheVariants.{Tree}
-use Rattle.mlk_cert.specs.Texts.{byte_text}
+use Rattle.mlk_lexemes.specs.Texts.{byte_text}
 use Rattle.mlk_jobs.specs.Seen.{Ready, Claims}
 use Rattle.mlk_states.specs.Printed.{pair_line}
 use Rattle.mlk_states.specs.StateTexts.{name_text, state_text, holds_text}

@@ -6,8 +6,8 @@ use Rattle.std.proofs.lemmas.Bool.{cases_Bool}
 use Rattle.std.proofs.lemmas.Bool.Decides.{nat_tests}
 use Rattle.std.proofs.lemmas.List.Sorted.{ranks_by}
 use Rattle.mlk_names.specs.declared.lock_name.LockName.{LockName}
-use Rattle.mlk_cert.specs.Lists.{ascends, below, more, upto}
-use Rattle.mlk_cert.specs.Texts.{listed}
+use Rattle.mlk_lexemes.specs.Lists.{ascends, below, more, upto}
+use Rattle.mlk_lexemes.specs.Texts.{listed}
 use Rattle.mlk_locks.specs.Counts.{Counts}
 use Rattle.mlk_states.specs.Laws.{HeldIsSorted}
 use Rattle.mlk_states.specs.StateTexts.{put_in, ascending, held_text, holds_text, name_text}

@@ -1,7 +1,7 @@
 -- A list that ascends by a test, in which items that tie stand as they stood, is what comes of putting its items in one
 -- by one.
 use Rattle.std.proofs.Common.{◌≡◌, ◌∙◌, ℕ, suc, ◌+◌, ◌<◌, Bool, true, false, cond, not, ◌&&◌, List, [], ◌∷◌, length, get_or, filter, refl, sym, ap, true≢false, inl, inr, arith, IsSortedBy, IsPermutation}
-use Rattle.mlk_cert.specs.Lists.{ascends}
+use Rattle.mlk_lexemes.specs.Lists.{ascends}
 use Rattle.std.specs.Cmp.{IsStrictWeakOrder}
 use Rattle.std.specs.List.Sorted.{ties, IsStableBy}
 use Rattle.std.proofs.lemmas.Bool.{cases_Bool}

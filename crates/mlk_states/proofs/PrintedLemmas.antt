@@ -1,8 +1,8 @@
 -- A system's text, put together.
 use Rattle.std.proofs.Common.{◌≡◌, ◌∙◌, ◌++◌, ◌+◌, ◌<◌, ℕ, suc, Bool, List, [], ◌∷◌, length, get_or, drop, map, refl, sym, ap, add-one, drop-cons, append_assoc}
 use Rattle.std.specs.Prelude.{codes}
-use Rattle.mlk_cert.specs.Lists.{flat}
-use Rattle.mlk_cert.specs.Texts.{line}
+use Rattle.mlk_lexemes.specs.Lists.{flat}
+use Rattle.mlk_lexemes.specs.Texts.{line}
 use Rattle.mlk_locks.specs.Laws.{has_ring_of}
 use Rattle.mlk_routine.specs.declared.routine.Routine.{Routine}
 use Rattle.mlk_routine.specs.Views.{routine_of}

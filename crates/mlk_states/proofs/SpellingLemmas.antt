@@ -2,8 +2,8 @@
 use Rattle.std.proofs.Common.{◌≡◌, ◌++◌, ℕ, List, [], ◌∷◌, map, refl, ap, append_assoc}
 use Rattle.mlk_names.specs.declared.known_symbol.KnownSym.TheVariants.{Const}
 use Rattle.mlk_names.specs.declared.lock_name.LockName.{LockName}
-use Rattle.mlk_cert.specs.Lists.{more}
-use Rattle.mlk_cert.specs.Texts.{constant_text, root_text, subs_text, symbol_text}
+use Rattle.mlk_lexemes.specs.Lists.{more}
+use Rattle.mlk_lexemes.specs.Texts.{constant_text, root_text, subs_text, symbol_text}
 use Rattle.mlk_states.specs.StateTexts.{name_text}
 use Rattle.mlk_states.specs.Spelling.{constants_in}
 

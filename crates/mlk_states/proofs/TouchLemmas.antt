@@ -4,8 +4,8 @@ use Rattle.mlk_text.specs.declared.root.Root.TheVariants.{Global}
 use Rattle.mlk_names.specs.declared.known_symbol.KnownSym.TheVariants.{Const}
 use Rattle.mlk_names.specs.declared.reference.Reference.{Reference}
 use Rattle.mlk_names.specs.declared.symbol.Sym.{Sym}
-use Rattle.mlk_cert.specs.Lists.{more}
-use Rattle.mlk_cert.specs.Texts.{root_text, subs_text, symbol_text}
+use Rattle.mlk_lexemes.specs.Lists.{more}
+use Rattle.mlk_lexemes.specs.Texts.{root_text, subs_text, symbol_text}
 use Rattle.mlk_jobs.specs.TaskViews.{constant_of, touch_of}
 use Rattle.mlk_states.specs.StateTexts.{node_text}
 use Rattle.mlk_states.specs.Spelling.{constant_in, constants_in}

@@ -1,7 +1,7 @@
 -- What the printed text keeps to. This project's own.
 use Rattle.std.specs.Prelude.{◌≡◌, true}
 use Rattle.std.specs.List.Sorted.{IsPermutation}
-use Rattle.mlk_cert.specs.Lists.{ascends, upto}
+use Rattle.mlk_lexemes.specs.Lists.{ascends, upto}
 use Rattle.mlk_locks.specs.Counts.{Counts}
 use Rattle.mlk_states.specs.StateTexts.{ascending, name_text}
 

@@ -2,8 +2,8 @@
 -- some wait in a ring. This project's own.
 use Rattle.std.specs.Prelude.{ℕ, Bool, true, false, List, ◌∷◌, ◌++◌, codes}
 use Rattle.std.specs.Fmt.{decimal}
-use Rattle.mlk_cert.specs.Lists.{flat}
-use Rattle.mlk_cert.specs.Texts.{line}
+use Rattle.mlk_lexemes.specs.Lists.{flat}
+use Rattle.mlk_lexemes.specs.Texts.{line}
 use Rattle.mlk_locks.specs.Laws.{has_ring_of}
 use Rattle.mlk_routine.specs.Trees.{RoutineTree}
 use Rattle.mlk_jobs.specs.Runs.{seen}

@@ -3,8 +3,8 @@ use Rattle.std.specs.Prelude.{ℕ, Bool, List, [], ◌∷◌, ◌++◌}
 use Rattle.std.specs.Fmt.{decimal}
 use Rattle.mlk_names.specs.declared.lock_name.LockName.{LockName}
 use Rattle.mlk_names.specs.declared.symbol.Sym.{Sym}
-use Rattle.mlk_cert.specs.Lists.{more}
-use Rattle.mlk_cert.specs.Texts.{constant_text, listed}
+use Rattle.mlk_lexemes.specs.Lists.{more}
+use Rattle.mlk_lexemes.specs.Texts.{constant_text, listed}
 use Rattle.mlk_jobs.specs.TaskViews.{constant_of}
 use Rattle.mlk_states.specs.declared.holding.Holding.{Holding}
 use Rattle.mlk_states.specs.StateTexts.{name_text, timed_text}

@@ -10,8 +10,8 @@ use Rattle.mlk_names.specs.declared.reference.Access.TheVariants.{Reads, Writes}
 use Rattle.mlk_names.specs.declared.reference.Extent.{Extent}
 use Rattle.mlk_names.specs.declared.reference.Extent.TheVariants.{Node, Tree}
 use Rattle.mlk_names.specs.References.{GlobalNode, Touch}
-use Rattle.mlk_cert.specs.Lists.{below}
-use Rattle.mlk_cert.specs.Texts.{listed, term_text}
+use Rattle.mlk_lexemes.specs.Lists.{below}
+use Rattle.mlk_lexemes.specs.Texts.{listed, term_text}
 use Rattle.mlk_locks.specs.Counts.{Counts}
 use Rattle.mlk_jobs.specs.Seen.{State, Ready, Claims, Releases, AsksChoice, Stuck, Silent, Ended, Stopped}
 

@@ -5,7 +5,7 @@ ghost use Rattle.mlk_states.specs.StateTexts.{ascending, holds_text};
 ghost use Rattle.mlk_states.specs.Spelling.{holding_of};
 
 use crate::spelling::text_of;
-use mlk_cert::{Text, Written, push_listed};
+use mlk_lexemes::{Text, Written, push_listed};
 use mlk_locks::Held;
 use mlk_names::LockName;
 use std::alloc::{AllocError, Global};

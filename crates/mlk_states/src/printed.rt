@@ -1,8 +1,8 @@
 // The lines that are printed of a system.
 
 ghost use Rattle.std.specs.Prelude.{◌≡◌, ◌++◌, OnOk, codes, map};
-ghost use Rattle.mlk_cert.specs.Lists.{flat};
-ghost use Rattle.mlk_cert.specs.Texts.{line};
+ghost use Rattle.mlk_lexemes.specs.Lists.{flat};
+ghost use Rattle.mlk_lexemes.specs.Texts.{line};
 ghost use Rattle.mlk_routine.specs.Views.{routine_of};
 ghost use Rattle.mlk_jobs.specs.JobViews.{job_of};
 ghost use Rattle.mlk_states.specs.Printed.{clash_lines, job_line, pair_line, ring_text, waits_lines};
@@ -16,9 +16,9 @@ use crate::holding::push_held;
 use crate::shown::State;
 use crate::spelling::push_names;
 use crate::touch::push_touch;
-use mlk_cert::Text;
 use mlk_clashes::{clashes, waits};
 use mlk_jobs::Job;
+use mlk_lexemes::Text;
 use mlk_names::LockName;
 use mlk_program::Program;
 use std::alloc::{AllocError, Global};

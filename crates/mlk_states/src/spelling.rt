@@ -1,12 +1,12 @@
 // Lock names, spelled as in certificates.
 
 ghost use Rattle.std.specs.Prelude.{◌≡◌, ◌++◌, IfOk, OnOk};
-ghost use Rattle.mlk_cert.specs.Lists.{more};
-ghost use Rattle.mlk_cert.specs.Texts.{constant_text, listed};
+ghost use Rattle.mlk_lexemes.specs.Lists.{more};
+ghost use Rattle.mlk_lexemes.specs.Texts.{constant_text, listed};
 ghost use Rattle.mlk_states.specs.StateTexts.{name_text};
 ghost use Rattle.mlk_states.specs.Spelling.{constants_in};
 
-use mlk_cert::{Text, Written, push_more};
+use mlk_lexemes::{Text, Written, push_more};
 use mlk_names::LockName;
 use mlk_text::Value;
 use std::alloc::{AllocError, Global};

@@ -5,7 +5,7 @@ ghost use Rattle.mlk_system.specs.Systems.{jobs_in, routines_in};
 ghost use Rattle.mlk_states.specs.Printed.{system_text};
 
 use crate::printed::{push_clashes, push_jobs, push_ring, push_waits};
-use mlk_cert::Text;
+use mlk_lexemes::Text;
 use mlk_system::System;
 use std::alloc::{AllocError, Global};
 

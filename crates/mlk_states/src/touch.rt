@@ -2,13 +2,13 @@
 
 ghost use Rattle.std.specs.Prelude.{◌≡◌, ◌++◌, OnOk};
 ghost use Rattle.mlk_text.specs.declared.root.Root.TheVariants.{Global};
-ghost use Rattle.mlk_cert.specs.Lists.{more};
-ghost use Rattle.mlk_cert.specs.Texts.{constant_text, root_text};
+ghost use Rattle.mlk_lexemes.specs.Lists.{more};
+ghost use Rattle.mlk_lexemes.specs.Texts.{constant_text, root_text};
 ghost use Rattle.mlk_jobs.specs.TaskViews.{constant_of, touch_of};
 ghost use Rattle.mlk_states.specs.StateTexts.{access_text, extent_text, node_text, touch_text};
 ghost use Rattle.mlk_states.specs.Spelling.{constant_in, constants_in};
 
-use mlk_cert::{Text, Written};
+use mlk_lexemes::{Text, Written};
 use mlk_names::{Access, Extent, Reference, Sym};
 use mlk_text::Name;
 use std::alloc::AllocError;

@@ -40,7 +40,7 @@ use Rattle.mlk_cert.specs.declared.names.NameSet.TheVariants.{Only}
 use Rattle.mlk_cert.specs.declared.names.Own.{Own}
 use Rattle.mlk_cert.specs.declared.block.Point.{Point}
 use Rattle.mlk_cert.specs.declared.block.EntryCert.{EntryCert}
-use Rattle.mlk_cert.specs.Texts.{byte_text}
+use Rattle.mlk_lexemes.specs.Texts.{byte_text}
 use Rattle.mlk_calls.specs.Values.{fold_between, fold_before}
 use Rattle.mlk_calls.specs.Terms.{same_term}
 use Rattle.mlk_calls.specs.Cases.{same_case, includes, leaves_by}

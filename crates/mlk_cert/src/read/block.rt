@@ -3,37 +3,18 @@
 ghost use Rattle.std.specs.Prelude.{◌≡◌, ◌++◌, ◌∷◌, [], List, ℕ, IfOk, OnOk, map, codes, not, true};
 ghost use Rattle.mlk_text.specs.Failures.{Reads};
 ghost use Rattle.mlk_cert.specs.Checks.{has_text, fits};
-ghost use Rattle.mlk_cert.specs.Blocks.{rest_at, entry_at, summary_at, points_at, block_at, new_entry_at, new_block_at, blocks_at};
+ghost use Rattle.mlk_lexemes.specs.Reading.{entry_at};
+ghost use Rattle.mlk_cert.specs.Blocks.{rest_at, summary_at, points_at, block_at, new_entry_at, new_block_at, blocks_at};
 
 use crate::block::{EntryCert, Summary};
 use crate::read::fault::{Refusal, other_form};
 use crate::read::fit::Fit;
-use crate::read::lexeme::word_of;
 use crate::read::line::{drops_line, exits, line_end, low_line, mods_line, need_line};
 use crate::read::points::points;
 use indexmap::IndexSet;
-use mlk_text::lexeme::byte_of;
-use mlk_text::spelling::{label_text, name};
-use mlk_text::{Code, Failure, NotThere, Value};
+use mlk_lexemes::{entry, word_of};
+use mlk_text::{Code, Failure, Value};
 use std::alloc::{AllocError, Global};
-
-#[tactic(auto, unfolding(crate::specs::Blocks::entry_at))]
-fn entry(alloc: Global, bytes: &[u8]) -> Result<(Value, &[u8]), Failure<NotThere>>
-    ensures { Reads (λ x. (x.0, x.1.now)) result (entry_at bytes.now) }
-{
-    let (label, rest) = match label_text(bytes) {
-        Some(found) => found,
-        None => bytes.split_at(0),
-    };
-    let Some(rest) = byte_of(b'^', rest) else {
-        return Err(Failure::Refused(NotThere));
-    };
-    let (routine, rest) = name(alloc, rest)?;
-    let mut text = Vec::from_slice(alloc, label)?;
-    text.push(b'^')?;
-    text.extend_from_slice(routine.as_bytes())?;
-    Ok((Value::new(text), rest))
-}
 
 #[tactic(auto, unfolding(crate::specs::Blocks::rest_at))]
 fn entry_line(alloc: Global, bytes: &[u8]) -> Result<(Value, &[u8]), Failure<Refusal>>

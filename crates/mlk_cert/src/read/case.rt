@@ -6,17 +6,17 @@ ghost use Rattle.mlk_text.specs.Lexemes.{name_at};
 ghost use Rattle.mlk_text.specs.Failures.{Reads};
 ghost use Rattle.mlk_cert.specs.Checks.{fit_terms, fit_own, fit_kept, fit_mods, fits_case, fits_exit};
 ghost use Rattle.mlk_cert.specs.Fitting.{passes};
-ghost use Rattle.mlk_cert.specs.Reading.{keep, sign_at, saved_at, part_at, listed_at, term_at, own_at, names_at, exit_at, case_at};
+ghost use Rattle.mlk_lexemes.specs.Reading.{keep, part_at, listed_at, term_at};
+ghost use Rattle.mlk_cert.specs.Reading.{sign_at, saved_at, own_at, names_at, exit_at, case_at};
 
 use crate::case::{Case, ExitCase, Test};
 use crate::limit::{MOST_KEPT, MOST_MODS, MOST_OWN, MOST_TERMS};
 use crate::names::{NameSet, Own};
 use crate::read::fit::{Fit, fit_both, fit_of};
-use crate::read::lexeme::{front_of, word_of};
-use crate::read::list::listed;
 use crate::read::memory::{Memories, Memory};
 use crate::read::names::{ascend_inside, ascend_inside_own};
 use crate::shared::Shared;
+use mlk_lexemes::{front_of, listed, word_of};
 use mlk_names::LockTerm;
 use mlk_text::lexeme::byte_of;
 use mlk_text::{Failure, List, Name, NotThere};
@@ -114,7 +114,7 @@ fn kept_names(alloc: Global, bytes: &[u8]) -> Result<(Vec<Name>, Fit, &[u8]), Fa
     Ok((found, fit, rest))
 }
 
-#[tactic(auto, unfolding(crate::specs::Reading::part_at))]
+#[tactic(auto, unfolding(mlk_lexemes::specs::Reading::part_at))]
 fn test_part(bytes: &[u8]) -> Option<(Test, &[u8])>
     ensures { option_map (λ x. (x.0, x.1.now)) result ≡ part_at (codes "T=") sign_at bytes.now }
 {
@@ -124,7 +124,7 @@ fn test_part(bytes: &[u8]) -> Option<(Test, &[u8])>
     sign(rest)
 }
 
-#[tactic(auto, unfolding(crate::specs::Reading::part_at))]
+#[tactic(auto, unfolding(mlk_lexemes::specs::Reading::part_at))]
 fn held_part<'a>(
     alloc: Global,
     memory: &mut Memory<'a, LockTerm>,
@@ -147,7 +147,7 @@ fn held_part<'a>(
     Ok((list, fit, after))
 }
 
-#[tactic(auto, unfolding(crate::specs::Reading::part_at))]
+#[tactic(auto, unfolding(mlk_lexemes::specs::Reading::part_at))]
 fn own_part<'a>(
     alloc: Global,
     memory: &mut Memory<'a, Own>,
@@ -170,7 +170,7 @@ fn own_part<'a>(
     Ok((list, fit, after))
 }
 
-#[tactic(auto, unfolding(crate::specs::Reading::part_at))]
+#[tactic(auto, unfolding(mlk_lexemes::specs::Reading::part_at))]
 fn kept_part<'a>(
     alloc: Global,
     memory: &mut Memory<'a, Name>,
@@ -193,7 +193,7 @@ fn kept_part<'a>(
     Ok((list, fit, after))
 }
 
-#[tactic(auto, unfolding(crate::specs::Reading::part_at))]
+#[tactic(auto, unfolding(mlk_lexemes::specs::Reading::part_at))]
 fn saved_part(alloc: Global, bytes: &[u8]) -> Result<(List<Test>, &[u8]), Failure<NotThere>>
     ensures { Reads (λ x. (x.0, x.1.now)) result (part_at (codes " S=") saved_at bytes.now) }
 {

@@ -1,17 +1,39 @@
 // Lists that stand on many lines, and are kept once.
 
-ghost use Rattle.std.specs.Prelude.{◌≡◌, ◌++◌, ◌∷◌, IfOk, IfSome};
+ghost use Rattle.std.specs.Prelude.{◌≡◌, ◌++◌, ◌∷◌, IfOk, IfSome, List, Bool};
 ghost use Rattle.mlk_cert.specs.Memories.{Remembers, Recalls};
 
 use crate::names::Own;
-use crate::read::lexeme::word_of;
-use crate::read::list::Item;
 use crate::shared::Shared;
+use mlk_lexemes::{Item, word_of};
 use mlk_names::LockTerm;
 use mlk_text::Name;
 use mlk_text::lexeme::byte_of;
 use std::alloc::AllocError;
 use std::marker::Model;
+
+/// What lists hold that are kept once: whether such a list keeps to its limits.
+pub(crate) trait Limited: Item {
+    ghost fits: { List Self → Bool };
+}
+
+impl Limited for LockTerm {
+    ghost use Rattle.mlk_cert.specs.Checks.{fit_terms};
+
+    ghost fits = { fit_terms };
+}
+
+impl Limited for Own {
+    ghost use Rattle.mlk_cert.specs.Checks.{fit_own};
+
+    ghost fits = { fit_own };
+}
+
+impl Limited for Name {
+    ghost use Rattle.mlk_cert.specs.Checks.{fit_kept};
+
+    ghost fits = { fit_kept };
+}
 
 // A list, and its text.
 #[derive(Drop)]
@@ -22,11 +44,11 @@ struct Known<'a, T> {
 
 /// The last list that was read at one place of a line.
 #[derive(Drop)]
-pub(crate) struct Memory<'a, T: Item> {
+pub(crate) struct Memory<'a, T: Limited> {
     last: Option<Known<'a, T>>,
 }
 
-impl<'a, T: Item> Model for Memory<'a, T> {
+impl<'a, T: Limited> Model for Memory<'a, T> {
     ghost use Rattle.std.specs.Prelude.{ℕ, IfSome};
     ghost use Rattle.mlk_cert.specs.Memories.{Remembers};
 
@@ -37,7 +59,7 @@ impl<'a, T: Item> Model for Memory<'a, T> {
     ghost invariant = { λ m. IfSome m.last (λ k. Remembers T.reads T.fits k.list k.text.now) };
 }
 
-impl<'a, T: Item> Memory<'a, T> {
+impl<'a, T: Limited> Memory<'a, T> {
     pub fn new() -> Memory<'a, T> {
         Memory { last: None }
     }

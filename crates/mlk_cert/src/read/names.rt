@@ -2,15 +2,14 @@
 
 ghost use Rattle.std.specs.Prelude.{◌≡◌, ◌∷◌, IfOk};
 ghost use Rattle.mlk_text.specs.Failures.{Reads};
-ghost use Rattle.mlk_cert.specs.Lists.{ascends, below};
+ghost use Rattle.mlk_lexemes.specs.Lists.{ascends, below};
 ghost use Rattle.mlk_cert.specs.Checks.{ascends_inside, ascend_inside, ascend_inside_own};
 ghost use Rattle.mlk_text.specs.Lexemes.{byte_at};
 ghost use Rattle.mlk_cert.specs.Reading.{inside_by, names_at, own_at};
 
 use crate::limit::DEEPEST_LEVEL;
 use crate::names::{NameSet, Own};
-use crate::read::lexeme::{counted, is_below};
-use crate::read::list::{Item, items};
+use mlk_lexemes::{Item, counted, is_below, items};
 use mlk_text::lexeme::byte_of;
 use mlk_text::spelling::name;
 use mlk_text::{Failure, List, Name, NotThere};
@@ -53,10 +52,6 @@ impl Item for NameSet {
 
     ghost before = { names_below };
 
-    ghost use Rattle.mlk_cert.specs.Checks.{fit_mods};
-
-    ghost fits = { fit_mods };
-
     fn read(alloc: Global, bytes: &[u8]) -> Result<(NameSet, &[u8]), Failure<NotThere>> {
         name_set(alloc, bytes)
     }
@@ -87,10 +82,6 @@ impl Item for Own {
     ghost reads = { own_at };
 
     ghost before = { own_below };
-
-    ghost use Rattle.mlk_cert.specs.Checks.{fit_own};
-
-    ghost fits = { fit_own };
 
     fn read(alloc: Global, bytes: &[u8]) -> Result<(Own, &[u8]), Failure<NotThere>> {
         own(alloc, bytes)

@@ -13,7 +13,7 @@ use crate::certificate::Certificate;
 use crate::limit::LONGEST_TEXT;
 use crate::read::block::blocks;
 use crate::read::fault::{CertFault, Refusal, other_form};
-use crate::read::lexeme::word_of;
+use mlk_lexemes::word_of;
 use mlk_text::{Code, Failure, LineNumber};
 use std::alloc::Global;
 

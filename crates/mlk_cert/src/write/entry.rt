@@ -1,13 +1,13 @@
 // Points, summaries and blocks, written.
 
 ghost use Rattle.std.specs.Prelude.{◌≡◌, ◌++◌, ◌∷◌, OnOk, codes};
-ghost use Rattle.mlk_cert.specs.Texts.{line, listed, term_text, names_text, exit_line, case_line, point_text, low_text, drops_text, summary_text, block_text};
+ghost use Rattle.mlk_lexemes.specs.Texts.{line, listed, term_text};
+ghost use Rattle.mlk_cert.specs.Texts.{names_text, exit_line, case_line, point_text, low_text, drops_text, summary_text, block_text};
 
 use crate::block::{EntryCert, Point, Summary};
 use crate::case::{Case, ExitCase};
 use crate::write::line::{push_case, push_exit};
-use crate::write::list::{Written, push_flat, push_listed};
-use crate::write::text::Text;
+use mlk_lexemes::{Text, Written, push_flat, push_listed};
 use std::alloc::AllocError;
 
 impl Written for ExitCase {

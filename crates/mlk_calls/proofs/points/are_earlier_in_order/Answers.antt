@@ -1,7 +1,7 @@
 use Rattle.std.proofs.Common.{◌≡◌, ◌∙◌, ap, sym, subst, true}
 use Rattle.std.specs.List.{list_all}
 use Rattle.mlk_cert.specs.Limits.{points_below}
-use Rattle.mlk_cert.specs.Lists.{ascends}
+use Rattle.mlk_lexemes.specs.Lists.{ascends}
 use Rattle.mlk_calls.specs.Scope.{is_earlier}
 use Rattle.mlk_calls.proofs.PointOrder.{last_earlier}
 use Rattle.mlk_calls.proofs.points.are_earlier_in_order.Goals as goal

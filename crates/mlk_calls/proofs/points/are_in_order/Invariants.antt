@@ -1,5 +1,5 @@
 use Rattle.std.proofs.Common.{◌≡◌, ◌∷◌, drop}
-use Rattle.mlk_cert.specs.Lists.{ascends}
+use Rattle.mlk_lexemes.specs.Lists.{ascends}
 use Rattle.mlk_cert.specs.Limits.{points_below}
 use Rattle.mlk_calls.proofs.points.are_in_order.Given as goal
 

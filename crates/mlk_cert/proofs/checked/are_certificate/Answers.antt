@@ -1,5 +1,5 @@
 use Rattle.std.proofs.Common.{◌++◌, ap, ◌∙◌}
-use Rattle.mlk_cert.specs.Lists.{flat}
+use Rattle.mlk_lexemes.specs.Lists.{flat}
 use Rattle.mlk_cert.specs.Texts.{block_text, end_line}
 use Rattle.mlk_cert.proofs.Equal.{block-equal}
 use Rattle.mlk_cert.proofs.ReadAgain.{blocks-kept, blocks-refused}

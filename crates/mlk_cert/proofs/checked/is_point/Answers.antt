@@ -1,5 +1,5 @@
 use Rattle.std.proofs.Common.{◌∙◌, ◌++◌}
-use Rattle.mlk_cert.specs.Lists.{flat}
+use Rattle.mlk_lexemes.specs.Lists.{flat}
 use Rattle.mlk_cert.specs.Texts.{point_text}
 use Rattle.std.proofs.Common.{ap}
 use Rattle.mlk_cert.proofs.Equal.{point-equal}

@@ -1,5 +1,5 @@
 use Rattle.std.proofs.Common.{◌↔◌, length, Contains}
-use Rattle.mlk_cert.specs.Lists.{Each}
+use Rattle.mlk_lexemes.specs.Lists.{Each}
 use Rattle.mlk_cert.proofs.inclusion.are_among.Given as goal
 
 abbrev pub invariant-loop-name : goal.invariant-loop-name

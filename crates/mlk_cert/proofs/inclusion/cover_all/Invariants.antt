@@ -1,5 +1,5 @@
 use Rattle.std.proofs.Common.{◌↔◌, length}
-use Rattle.mlk_cert.specs.Lists.{EachPair}
+use Rattle.mlk_lexemes.specs.Lists.{EachPair}
 use Rattle.mlk_cert.specs.Inclusion.{Covers}
 use Rattle.mlk_cert.proofs.inclusion.cover_all.Given as goal
 

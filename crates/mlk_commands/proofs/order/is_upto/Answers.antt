@@ -2,7 +2,7 @@ use Rattle.std.proofs.Common.{refl, arith}
 use Rattle.std.specs.Ordering.{nat_cmp, is_le}
 use Rattle.std.proofs.lemmas.Cmp.{same_from_slice_cmp_tested}
 use Rattle.std.proofs.lemmas.Bool.Decides.{nat_tests}
-use Rattle.mlk_cert.specs.Lists.{upto}
+use Rattle.mlk_lexemes.specs.Lists.{upto}
 use Rattle.mlk_commands.proofs.order.is_upto.Goals as goal
 
 pub returns : goal.returns

@@ -1,6 +1,6 @@
 use Rattle.std.proofs.Common.{◌≡◌, ◌++◌, drop}
-use Rattle.mlk_cert.specs.Lists.{more}
-use Rattle.mlk_cert.specs.Texts.{name_text}
+use Rattle.mlk_lexemes.specs.Lists.{more}
+use Rattle.mlk_lexemes.specs.Texts.{name_text}
 use Rattle.mlk_commands.proofs.order.push_more.Given as goal
 
 abbrev pub invariant-loop-name : goal.invariant-loop-name

@@ -2,8 +2,8 @@ use Rattle.std.proofs.Common.{◌<◌, length, sym, arith}
 use Rattle.std.proofs.lemmas.Result.{err_from_is_err_and}
 use Rattle.mlk_text.specs.Lexemes.{byte_at}
 use Rattle.mlk_text.proofs.Readers.{many_stops, many_goes}
-use Rattle.mlk_cert.specs.Reading.{constant_at, next}
-use Rattle.mlk_cert.proofs.Room.{many_refused, byte-shorter}
+use Rattle.mlk_lexemes.specs.Reading.{constant_at, next}
+use Rattle.mlk_lexemes.proofs.Room.{many_refused, byte-shorter}
 use Rattle.mlk_events.proofs.FileLemmas.{constant-leaves}
 use Rattle.mlk_events.proofs.line.values.Goals as goal
 

@@ -1,7 +1,7 @@
 use Rattle.std.proofs.Common.{◌≡◌, ◌<◌, ℕ, suc, length}
 use Rattle.mlk_text.specs.Reading.{many, put}
 use Rattle.mlk_text.specs.Lexemes.{byte_at}
-use Rattle.mlk_cert.specs.Reading.{constant_at, next}
+use Rattle.mlk_lexemes.specs.Reading.{constant_at, next}
 use Rattle.mlk_events.proofs.line.values.Given as goal
 
 abbrev pub invariant-loop-after : goal.invariant-loop-after

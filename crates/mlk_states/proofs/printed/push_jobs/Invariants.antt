@@ -1,5 +1,5 @@
 use Rattle.std.proofs.Common.{◌≡◌, ◌++◌, drop}
-use Rattle.mlk_cert.specs.Lists.{flat}
+use Rattle.mlk_lexemes.specs.Lists.{flat}
 use Rattle.mlk_states.specs.Lines.{line_of_job}
 use Rattle.mlk_states.proofs.printed.push_jobs.Given as goal
 

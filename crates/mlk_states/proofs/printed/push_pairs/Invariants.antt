@@ -1,5 +1,5 @@
 use Rattle.std.proofs.Common.{◌≡◌, ◌++◌, drop}
-use Rattle.mlk_cert.specs.Lists.{flat}
+use Rattle.mlk_lexemes.specs.Lists.{flat}
 use Rattle.mlk_states.specs.Printed.{pair_line}
 use Rattle.mlk_states.proofs.printed.push_pairs.Given as goal
 

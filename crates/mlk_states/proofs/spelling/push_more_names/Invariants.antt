@@ -1,5 +1,5 @@
 use Rattle.std.proofs.Common.{◌≡◌, ◌++◌, drop}
-use Rattle.mlk_cert.specs.Lists.{more}
+use Rattle.mlk_lexemes.specs.Lists.{more}
 use Rattle.mlk_states.specs.StateTexts.{name_text}
 use Rattle.mlk_states.proofs.spelling.push_more_names.Given as goal
 

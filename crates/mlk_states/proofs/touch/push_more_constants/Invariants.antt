@@ -1,5 +1,5 @@
 use Rattle.std.proofs.Common.{◌≡◌, ◌++◌, drop}
-use Rattle.mlk_cert.specs.Lists.{more}
+use Rattle.mlk_lexemes.specs.Lists.{more}
 use Rattle.mlk_states.specs.Spelling.{constant_in}
 use Rattle.mlk_states.proofs.touch.push_more_constants.Given as goal
 

@@ -10,7 +10,7 @@ use Rattle.mlk_cert.specs.Reading.{exit_at}
 use Rattle.mlk_cert.specs.Blocks.{above_last, next_exit_fits}
 use Rattle.mlk_cert.proofs.CaseFormats.{exit-format}
 use Rattle.mlk_cert.proofs.Loops.{after-is, ended-value}
-use Rattle.mlk_cert.proofs.Room.{front-is}
+use Rattle.mlk_lexemes.proofs.Room.{front-is}
 use Rattle.mlk_cert.proofs.read.line.exit_line.Goals as goal
 
 pub returns-in_err-found-in-Ok-clause-read : goal.returns-in_err-found-in-Ok-clause-read

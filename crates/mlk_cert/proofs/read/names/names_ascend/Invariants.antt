@@ -1,5 +1,5 @@
 use Rattle.std.proofs.Common.{◌≡◌, ◌∷◌, drop}
-use Rattle.mlk_cert.specs.Lists.{ascends, below}
+use Rattle.mlk_lexemes.specs.Lists.{ascends, below}
 use Rattle.mlk_cert.proofs.read.names.names_ascend.Given as goal
 
 abbrev pub invariant-loop-name : goal.invariant-loop-name

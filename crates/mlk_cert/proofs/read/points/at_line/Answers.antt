@@ -8,7 +8,7 @@ use Rattle.mlk_cert.specs.Blocks.{Listed, listed_case_at, fits_listed, next_case
 use Rattle.mlk_cert.proofs.CaseFormats.{case-format}
 use Rattle.mlk_cert.proofs.Loops.{after-is, ended-value}
 use Rattle.mlk_cert.proofs.PointLoops.{listed-read}
-use Rattle.mlk_cert.proofs.Room.{front-is}
+use Rattle.mlk_lexemes.proofs.Room.{front-is}
 use Rattle.mlk_cert.proofs.read.points.at_line.Goals as goal
 
 pub returns-in_err-listed-in-Ok-clause-read : goal.returns-in_err-listed-in-Ok-clause-read

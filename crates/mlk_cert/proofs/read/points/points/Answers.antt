@@ -4,11 +4,11 @@ use Rattle.std.proofs.lemmas.Result.{err_from_is_err_and}
 use Rattle.mlk_text.specs.Failures.{FailsOn}
 use Rattle.mlk_text.proofs.Readers.{many_goes}
 use Rattle.mlk_cert.specs.declared.block.Point.{Point}
-use Rattle.mlk_cert.specs.Lists.{last_of}
+use Rattle.mlk_lexemes.specs.Lists.{last_of}
 use Rattle.mlk_cert.specs.Texts.{case_text}
-use Rattle.mlk_cert.specs.Reading.{word_at}
+use Rattle.mlk_lexemes.specs.Reading.{word_at}
 use Rattle.mlk_cert.specs.Blocks.{rest_at, worded_at, after_at, listed_case_at, fits_listed, next_case_fits, last_case_text, points_at}
-use Rattle.mlk_cert.proofs.Formats.{Anything}
+use Rattle.mlk_lexemes.proofs.Formats.{Anything}
 use Rattle.mlk_cert.proofs.Grouping.{listed_text}
 use Rattle.mlk_cert.proofs.Goods.{GoodListed}
 use Rattle.mlk_cert.proofs.BlockFormats.{listed-rest}

@@ -2,7 +2,7 @@ use Rattle.std.proofs.Common.{◌≡◌, ◌<◌, ℕ, List, [], suc, length, co
 use Rattle.std.specs.Prelude.{option_map}
 use Rattle.mlk_text.specs.Reading.{many, put}
 use Rattle.mlk_cert.specs.Checks.{fit_points}
-use Rattle.mlk_cert.specs.Reading.{word_at}
+use Rattle.mlk_lexemes.specs.Reading.{word_at}
 use Rattle.mlk_cert.specs.Blocks.{Listed, rest_at, listed_case_at, fits_listed, grouped, last_case_text}
 use Rattle.mlk_cert.proofs.read.points.points.Given as goal
 

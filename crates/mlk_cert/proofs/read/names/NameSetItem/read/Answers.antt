@@ -1,8 +1,8 @@
 use Rattle.mlk_cert.specs.Reading.{names_at}
 use Rattle.mlk_cert.specs.Texts.{names_text}
-use Rattle.mlk_cert.proofs.NameFormats.{NoName}
+use Rattle.mlk_lexemes.proofs.NameFormats.{NoName}
 use Rattle.mlk_cert.proofs.CaseFormats.{HasNames, names-format}
-use Rattle.mlk_cert.proofs.Room.{gives-text}
+use Rattle.mlk_lexemes.proofs.Room.{gives-text}
 use Rattle.mlk_cert.proofs.read.names.NameSetItem.read.Goals as goal
 
 pub returns-clause-text : goal.returns-clause-text

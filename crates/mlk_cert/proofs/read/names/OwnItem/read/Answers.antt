@@ -1,8 +1,8 @@
 use Rattle.mlk_cert.specs.Reading.{own_at}
 use Rattle.mlk_cert.specs.Texts.{own_text}
-use Rattle.mlk_cert.proofs.NameFormats.{NoName}
+use Rattle.mlk_lexemes.proofs.NameFormats.{NoName}
 use Rattle.mlk_cert.proofs.CaseFormats.{HasOwn, own-format}
-use Rattle.mlk_cert.proofs.Room.{gives-text}
+use Rattle.mlk_lexemes.proofs.Room.{gives-text}
 use Rattle.mlk_cert.proofs.read.names.OwnItem.read.Goals as goal
 
 pub returns-clause-text : goal.returns-clause-text

@@ -1,5 +1,5 @@
 use Rattle.std.proofs.Common.{◌≡◌, ◌++◌, drop}
-use Rattle.mlk_cert.specs.Lists.{flat}
+use Rattle.mlk_lexemes.specs.Lists.{flat}
 use Rattle.mlk_cert.specs.Texts.{case_line, point_text}
 use Rattle.mlk_cert.proofs.write.entry.PointWritten.push_to.Given as goal
 

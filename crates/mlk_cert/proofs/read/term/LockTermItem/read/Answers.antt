@@ -1,9 +1,0 @@
-use Rattle.mlk_cert.specs.Reading.{term_at}
-use Rattle.mlk_cert.specs.Texts.{term_text}
-use Rattle.mlk_cert.specs.Limits.{IsTerm}
-use Rattle.mlk_cert.proofs.TermFormats.{EndsTerm, term-format}
-use Rattle.mlk_cert.proofs.Room.{gives-text}
-use Rattle.mlk_cert.proofs.read.term.LockTermItem.read.Goals as goal
-
-pub returns-clause-text : goal.returns-clause-text
-returns-clause-text c = gives-text term_text IsTerm EndsTerm term_at term-format c.args.bytes.now c.term.result c.term.ensures

@@ -1,0 +1,6 @@
+pub mod Formats
+pub mod NumberFormats
+pub mod NameFormats
+pub mod TermFormats
+pub mod EntryFormats
+pub mod Room

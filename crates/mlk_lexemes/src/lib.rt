@@ -1,0 +1,14 @@
+//! Lexemes and lists of certificates and files of events: each part, read and written.
+#![tactic(auto)]
+
+mod lexeme;
+mod list;
+mod spelled;
+mod term;
+mod text;
+mod written;
+
+pub use lexeme::{constant, counted, entry, front_of, is_below, is_upto, number, word_of};
+pub use list::{Item, both, items, listed};
+pub use text::Text;
+pub use written::{Written, push_flat, push_joined, push_listed, push_more};

@@ -1,0 +1,130 @@
+//! Reads parts of expressions, and certificates, one for each line of standard input, and prints a line for each: what is
+//! answered.
+//!
+//! A line has the reader (`expr`, `ref` or `actuals`), the byte of the text at which the reader begins, and the text, in
+//! which `\` and two hexadecimal digits are one byte. The answer is `to` and the byte after what was read, or the fault:
+//! its code, its column, and the word of what is left out. Or it has `cert` and a text: then the answer is `read`, or the
+//! line and the code of the fault.
+#![tactic(auto)]
+
+ghost use Rattle.std.specs.Prelude.{◌<◌, ◌≤◌, length};
+
+use bstr::ByteSlice;
+use mlk_cert::read_cert;
+use mlk_expr::{read_actuals, read_expr, read_ref};
+use mlk_text::{Failure, Fault, whole};
+use std::alloc::{AllocError, Global};
+use std::io::{self, ErrorKind, Read, Write};
+
+// A hexadecimal digit.
+fn digit(byte: u8) -> u8
+    ensures { result < 16 }
+{
+    match byte {
+        b'0'..=b'9' => byte - b'0',
+        b'a'..=b'f' => byte - b'a' + 10,
+        _ => 0,
+    }
+}
+
+// Adds what stands after a `\`.
+fn add_coded(text: &mut Vec<u8>, piece: &[u8]) -> Result<(), AllocError> {
+    match piece {
+        [high, low, rest @ ..] => {
+            text.push(digit(*high) * 16 + digit(*low))?;
+            text.extend_from_slice(rest)
+        }
+        _ => Ok(()),
+    }
+}
+
+// The text that is written so.
+fn text_of(alloc: Global, written: &[u8]) -> Result<Vec<u8>, AllocError> {
+    let mut text = Vec::new(alloc);
+    for (place, piece) in written.split_str(b"\\").enumerate() {
+        if place == 0 {
+            text.extend_from_slice(piece)?;
+        } else {
+            add_coded(&mut text, piece)?;
+        }
+    }
+    Ok(text)
+}
+
+// Where the reader of this name stops.
+fn end_of(alloc: Global, reader: &[u8], text: &[u8], at: usize) -> Result<usize, Failure<Fault>>
+    requires { at ≤ length text.now }
+{
+    match reader {
+        b"expr" => Ok(read_expr(alloc, text, at)?.1),
+        b"ref" => Ok(read_ref(alloc, text, at)?.1),
+        _ => Ok(read_actuals(alloc, text, at)?.1),
+    }
+}
+
+// A place in a text.
+fn place_of(digits: &[u8], text: &[u8]) -> usize
+    ensures { result ≤ length text.now }
+{
+    match whole(digits) {
+        Some(place) => usize::try_from(place).unwrap_or(0).min(text.len()),
+        None => 0,
+    }
+}
+
+fn write_fault(fault: &Fault, out: &mut Vec<u8>) -> io::Result<()> {
+    let code = fault.code.number();
+    let column = fault.place.column.number();
+    write!(out, "{code} {column}")?;
+    if let Some(left_out) = &fault.left_out {
+        out.push(b' ')?;
+        out.extend_from_slice(left_out.word())?;
+    }
+    writeln!(out)
+}
+
+// Adds what is answered to the text of a certificate.
+fn answer_cert(alloc: Global, written: &[u8], out: &mut Vec<u8>) -> io::Result<()> {
+    let text = text_of(alloc, written)?;
+    match read_cert(alloc, text.as_slice()) {
+        Ok(_) => writeln!(out, "read"),
+        Err(Failure::Refused(fault)) => {
+            writeln!(out, "{} {}", fault.line.number(), fault.code.number())
+        }
+        Err(Failure::OutOfMemory) => Err(io::Error::from(ErrorKind::OutOfMemory)),
+    }
+}
+
+// Adds what is answered to a part of an expression, which stands after its place.
+fn answer_part(alloc: Global, reader: &[u8], rest: &[u8], out: &mut Vec<u8>) -> io::Result<()> {
+    let Some((at, written)) = rest.split_once_str(b" ") else {
+        return Err(io::Error::from(ErrorKind::InvalidInput));
+    };
+    let text = text_of(alloc, written)?;
+    let at = place_of(at, text.as_slice());
+    match end_of(alloc, reader, text.as_slice(), at) {
+        Ok(end) => writeln!(out, "to {end}"),
+        Err(Failure::Refused(fault)) => write_fault(&fault, out),
+        Err(Failure::OutOfMemory) => Err(io::Error::from(ErrorKind::OutOfMemory)),
+    }
+}
+
+// Adds what is answered to a line.
+fn answer(alloc: Global, line: &[u8], out: &mut Vec<u8>) -> io::Result<()> {
+    match line.split_once_str(b" ") {
+        None => Err(io::Error::from(ErrorKind::InvalidInput)),
+        Some((b"cert", written)) => answer_cert(alloc, written, out),
+        Some((reader, rest)) => answer_part(alloc, reader, rest, out),
+    }
+}
+
+fn main(rt: HostRuntime) -> io::Result<()> {
+    let alloc = rt.alloc();
+    let mut text: Vec<u8> = Vec::new(alloc);
+    let mut out: Vec<u8> = Vec::new(alloc);
+    rt.stdin().read_to_end(&mut text)?;
+    for line in text.as_slice().lines() {
+        answer(alloc, line, &mut out)?;
+    }
+    rt.stdout().write_all(out.as_slice())
+}
