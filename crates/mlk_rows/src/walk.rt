@@ -214,7 +214,8 @@ impl Walk {
 
     /// The state that goes on, where there is just one: it is taken out, and its room stays.
     pub fn take_only(&mut self) -> Option<State>
-        ensures { MatchOption result (self.new ≡ self.old) (λ s. (self.old.going ≡ s ∷ []) × (self.new ≡ with_states [] self.old)) }
+        ensures { MatchOption result (self.new ≡ self.old)
+            (λ s. (self.old.going ≡ s ∷ []) × (self.new ≡ with_states [] self.old)) }
     {
         if self.going.len() == 1 {
             self.going.pop()
