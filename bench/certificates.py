@@ -7,8 +7,8 @@
     /usr/bin/time -v out/cert_speed ../../varied.cert       the memory that it took
 
 plain.cert says the same of all lines of an entry, as a program does that holds one lock over them; varied.cert says
-something else at each line. The crates mlk_text, mlk_names and mlk_cert are copied with what was proved of them; `rt run`
-proves what is left.
+something else at each line. mlk_cert and the crates below it are copied with what was proved of them; `rt run` proves what is
+left.
 """
 import argparse
 import pathlib
