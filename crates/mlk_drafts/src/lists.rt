@@ -91,7 +91,7 @@ fn list_among(cases: &mut List<Case>, case: Case) -> Result<Listing, AllocError>
     if !is_small(&case) || cases.as_slice().len() >= MOST_CASES {
         return Ok(Listing::Full);
     }
-    cases.push(case)?;
+    cases.push_sparing(case)?;
     Ok(Listing::Added)
 }
 

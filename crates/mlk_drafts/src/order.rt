@@ -93,7 +93,7 @@ fn by_texts(alloc: Global, cases: Vec<Case>) -> Result<List<Case>, AllocError> {
     all.sort_by(|first, second| first.0.as_bytes().cmp(second.0.as_bytes()))?;
     let mut ordered = List::new(alloc);
     for (_, case) in all {
-        ordered.push(case)?;
+        ordered.push_sparing(case)?;
     }
     Ok(ordered)
 }

@@ -36,5 +36,6 @@ pub(crate) fn block(
         line.block = block(alloc, line.level, lines)?;
         found.push(line)?;
     }
+    found.shrink_to_fit();
     Ok(found)
 }

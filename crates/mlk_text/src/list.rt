@@ -75,6 +75,15 @@ impl<T> List<T> {
     }
 }
 
+impl<T: Drop> List<T> {
+    /// One more element, at the end, where most lists stay short: see `push_sparing`.
+    pub fn push_sparing(&mut self, item: T) -> Result<(), AllocError>
+        ensures { OnOk result (self.new ≡ self.old ++ item ∷ []) }
+    {
+        push_sparing(&mut self.items, item)
+    }
+}
+
 impl<T> List<T> {
     /// The elements of a vector.
     pub fn of(items: Vec<T>) -> List<T>

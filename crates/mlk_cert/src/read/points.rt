@@ -115,7 +115,7 @@ fn one_more(point: Point, case: Case) -> Result<Point, AllocError>
         round,
         mut cases,
     } = point;
-    cases.push(case)?;
+    cases.push_sparing(case)?;
     Ok(Point { line, round, cases })
 }
 
