@@ -1,5 +1,5 @@
 -- Files of events, line by line.
-use Rattle.std.proofs.Common.{◌≡◌, ◌≢◌, ◌∙◌, ◌+◌, ◌<◌, ℕ, suc, List, [], ◌∷◌, ◌++◌, length, map, Option, Some, None, refl, sym, ap, subst, arith, append_assoc, append-nil, length-append}
+use Rattle.std.proofs.Common.{◌≡◌, ◌≢◌, ◌∙◌, ◌+◌, ◌<◌, ℕ, suc, List, [], ◌∷◌, ◌++◌, length, Option, Some, None, refl, sym, ap, arith, append_assoc, append-nil, length-append}
 use Rattle.std.specs.Prelude.{min, option_map}
 use Rattle.mlk_text.specs.declared.failure.Failure.{Failure}
 use Rattle.mlk_text.specs.declared.failure.Failure.TheVariants.{OutOfMemory, Refused}
@@ -8,7 +8,7 @@ use Rattle.mlk_text.specs.Failures.{FailsOn}
 use Rattle.mlk_lexemes.specs.Lists.{EachPair}
 use Rattle.mlk_routine.specs.Trees.{RoutineTree}
 use Rattle.mlk_events.specs.declared.order.Order.{Order}
-use Rattle.mlk_events.specs.Texts.{IsOrder, line_text, file_text}
+use Rattle.mlk_events.specs.Texts.{line_text, file_text}
 use Rattle.mlk_events.specs.Reading.{line_at}
 use Rattle.mlk_events.proofs.Formats.{line-format}
 use Rattle.mlk_events.proofs.FileLemmas.{line-shorter}

@@ -1,6 +1,6 @@
 -- One job of many.
 use Rattle.std.proofs.Common.{◌≡◌, ◌∙◌, ◌<◌, ◌==◌, ℕ, zero, suc, Bool, true, false, List, [], ◌∷◌, ◌++◌, length, map, get_or, Option, Some, None, Result, Ok, Err, refl, sym, ap, subst, arith, inl, inr}
-use Rattle.std.specs.Prelude.{OnOk, OnErr, IfErr, not, ◌&&◌, ◌||◌, slice_set, position, option_map, if◌then◌else◌}
+use Rattle.std.specs.Prelude.{OnOk, OnErr, IfErr, IfSome, not, ◌&&◌, ◌||◌, slice_set, position, option_map, if◌then◌else◌}
 use Rattle.std.specs.List.{list_any}
 use Rattle.std.proofs.lemmas.Bool.{cases_Bool}
 use Rattle.mlk_text.specs.declared.failure.Failure.{Failure}
@@ -20,6 +20,9 @@ use Rattle.mlk_jobs.specs.Runs.{seen}
 use Rattle.mlk_jobs.specs.JobViews.{job_of}
 use Rattle.mlk_jobs.specs.Sound.{Sound}
 use Rattle.mlk_run.specs.Jobs.{AreSound}
+
+pub found_within : (js : List JobIn) (o : Option ℕ) (i : ℕ) → o ≡ Some i → IfSome o (λ n. n < length js) → i < length js
+found_within js o i e h = subst (λ (x : Option ℕ). IfSome x (λ n. n < length js)) e h
 
 pub sound_at : (js : List JobIn) (i : ℕ) (j : JobIn) → i < length js → j ≡ get_or js i j → AreSound js → Sound j
 sound_at [] i j l e h = absurd (omega arith)

@@ -3,72 +3,84 @@
 ghost use Rattle.std.specs.Prelude.{◌≡◌, OnErr, Ok, Bool, List, map};
 ghost use Rattle.mlk_text.specs.Failures.{Answers};
 ghost use Rattle.mlk_locks.specs.Systems as systems;
+ghost use Rattle.mlk_locks.specs.Waiting.{is_numbered};
 ghost use Rattle.mlk_locks.specs.Systems.{and_then, happens};
 ghost use Rattle.mlk_program.specs.declared.entry.EntryId.{EntryId as EntryOf};
 ghost use Rattle.mlk_routine.specs.Trees.{RoutineTree};
 ghost use Rattle.mlk_routine.specs.Views.{routine_of};
-ghost use Rattle.mlk_jobs.specs.Runs.{machine};
+ghost use Rattle.mlk_jobs.specs.Runs.{machine, seen};
 ghost use Rattle.mlk_jobs.specs.JobViews.{job_of};
-ghost use Rattle.mlk_run.specs.Jobs.{AreSound};
+ghost use Rattle.mlk_run.specs.Jobs.{AreSound, IsPlaceOf};
 
 use crate::beginning::begin;
 use crate::stepping::{claimed_names, step};
 use mlk_jobs::{Choice, Job};
-use mlk_locks::{Refusal, are_free, is_numbered, place_of};
+use mlk_locks::{Refusal, are_free};
 use mlk_program::{EntryId, Program};
 use mlk_text::{Failure, Value};
 use std::alloc::Global;
 
-/// One step of the job of this number, with this choice. Where there is no memory, or the step is refused, all jobs are
-/// as they were.
+/// One step of the job of this number, which stands at this place, if there is one, with this choice. Where there is no
+/// memory, or the step is refused, all jobs are as they were.
 pub fn go<'a>(
     alloc: Global,
     program: &Program<'a>,
     jobs: &mut Vec<Job<'a>>,
+    place: Option<usize>,
     number: u32,
     choice: Choice,
 ) -> Result<(), Failure<Refusal>>
-    requires { AreSound jobs.old.items }
+    requires sound { AreSound jobs.old.items }
+    requires place { IsPlaceOf number jobs.old.items place }
     ensures answer { (declared : EntryOf → Bool) → Answers (λ _. map job_of jobs.new.items) result
         (happens (machine (map routine_of program.now) declared) (map job_of jobs.old.items) number (systems.Go choice)) }
     ensures stays { OnErr result (map job_of jobs.new.items ≡ map job_of jobs.old.items) }
     ensures sound { AreSound jobs.new.items }
 {
-    let Some(place) = place_of(jobs.as_slice(), number) else {
+    let Some(place) = place else {
         return Err(Failure::Refused(Refusal::UnknownJob));
     };
     let are_free = are_free(jobs.as_slice(), number, claimed_names(&jobs[place]));
     step(alloc, program, &mut jobs[place], choice, are_free)
 }
 
-/// The job of this number is aborted: it holds no lock then, and does nothing more.
-pub fn abort(alloc: Global, jobs: &mut Vec<Job>, number: u32) -> Result<(), Refusal>
-    requires { AreSound jobs.old.items }
+/// The job of this number, which stands at this place, if there is one, is aborted: it holds no lock then, and does nothing
+/// more.
+pub fn abort(
+    alloc: Global,
+    jobs: &mut Vec<Job>,
+    place: Option<usize>,
+    number: u32,
+) -> Result<(), Refusal>
+    requires sound { AreSound jobs.old.items }
+    requires place { IsPlaceOf number jobs.old.items place }
     ensures answer { (routines : List RoutineTree) (declared : EntryOf → Bool)
         → happens (machine routines declared) (map job_of jobs.old.items) number systems.Abort
         ≡ and_then (λ _. Ok (map job_of jobs.new.items)) result }
     ensures stays { OnErr result (map job_of jobs.new.items ≡ map job_of jobs.old.items) }
     ensures sound { AreSound jobs.new.items }
 {
-    let Some(place) = place_of(jobs.as_slice(), number) else {
+    let Some(place) = place else {
         return Err(Refusal::UnknownJob);
     };
     jobs[place].abort(alloc)
 }
 
-/// A new job begins at an entry, after the others; `is_declared` says whether the entry may be begun at. Its number is
-/// given once.
+/// A new job begins at an entry, after the others; `is_declared` says whether the entry may be begun at, `is_used` whether
+/// a job has its number.
 pub fn join<'a>(
     alloc: Global,
     program: &Program<'a>,
     jobs: &mut Vec<Job<'a>>,
     entry: EntryId,
     is_declared: bool,
+    is_used: bool,
     number: u32,
     test: bool,
     values: &[Value],
 ) -> Result<(), Failure<Refusal>>
-    requires { AreSound jobs.old.items }
+    requires sound { AreSound jobs.old.items }
+    requires used { is_used ≡ is_numbered seen (map job_of jobs.old.items) number }
     ensures answer { (declared : EntryOf → Bool) → declared entry ≡ is_declared
         → Answers (λ _. map job_of jobs.new.items) result
         (happens (machine (map routine_of program.now) declared) (map job_of jobs.old.items) number
@@ -76,7 +88,7 @@ pub fn join<'a>(
     ensures stays { OnErr result (map job_of jobs.new.items ≡ map job_of jobs.old.items) }
     ensures sound { AreSound jobs.new.items }
 {
-    if is_numbered(jobs.as_slice(), number) {
+    if is_used {
         return Err(Failure::Refused(Refusal::NotEnabled));
     }
     if !is_declared {

@@ -7,8 +7,11 @@ ghost use Rattle.mlk_locks.specs.Systems.{happens};
 ghost use Rattle.mlk_jobs.specs.JobViews.{job_of};
 ghost use Rattle.mlk_run.specs.Jobs.{AreSound};
 ghost use Rattle.mlk_system.specs.Jobs.{is_listed};
+ghost use Rattle.mlk_system.specs.Numbers.{AreNumbers};
 ghost use Rattle.mlk_system.specs.Systems.{machine_in};
 
+use crate::number::is_used;
+use indexmap::IndexSet;
 use mlk_jobs::Job;
 use mlk_locks::Refusal;
 use mlk_program::{EntryId, Program};
@@ -28,28 +31,40 @@ pub(crate) fn begin<'a>(
     alloc: Global,
     program: &Program<'a>,
     entries: &[EntryId],
+    numbers: &mut IndexSet<u32>,
     jobs: &mut Vec<Job<'a>>,
     entry: EntryId,
     number: u32,
     test: bool,
     values: &[Value],
 ) -> Result<(), Failure<Refusal>>
-    requires { AreSound jobs.old.items }
+    requires sound { AreSound jobs.old.items }
+    requires numbers { AreNumbers numbers.old.keys jobs.old.items }
     ensures answer { Answers (λ _. map job_of jobs.new.items) result
         (happens (machine_in program.now entries.now) (map job_of jobs.old.items) number
         (systems.Begin entry test values.now)) }
     ensures stays { OnErr result (map job_of jobs.new.items ≡ map job_of jobs.old.items) }
     ensures sound { AreSound jobs.new.items }
+    ensures numbers { AreNumbers numbers.new.keys jobs.new.items }
 {
     let is_declared = is_declared(entries, entry);
-    join(
+    let is_used = is_used(numbers, number);
+    numbers.reserve(1)?;
+    match join(
         alloc,
         program,
         jobs,
         entry,
         is_declared,
+        is_used,
         number,
         test,
         values,
-    )
+    ) {
+        Ok(()) => {
+            let _ = numbers.insert(number);
+            Ok(())
+        }
+        Err(why) => Err(why),
+    }
 }

@@ -7,6 +7,7 @@ mod event;
 mod number;
 mod ring;
 mod settling;
+mod stepping;
 mod system;
 
 pub use event::{Act, Event};

@@ -7,10 +7,13 @@ ghost use Rattle.mlk_jobs.specs.JobViews.{job_of};
 ghost use Rattle.mlk_jobs.specs.Seen.{settled, settled_in, most_silent_steps};
 ghost use Rattle.mlk_jobs.specs.Sound.{Sound};
 ghost use Rattle.mlk_run.specs.Jobs.{AreSound};
+ghost use Rattle.mlk_system.specs.Numbers.{AreNumbers};
 
 use crate::copying::copy_job;
+use crate::number::place_in;
+use indexmap::IndexSet;
 use mlk_jobs::Job;
-use mlk_locks::{Refusal, place_of};
+use mlk_locks::Refusal;
 use mlk_program::Program;
 use mlk_run::silent_step;
 use mlk_text::Failure;
@@ -46,16 +49,19 @@ pub(crate) fn settle<'a>(
 pub(crate) fn settle_numbered<'a>(
     alloc: Global,
     program: &Program<'a>,
+    numbers: &IndexSet<u32>,
     jobs: &mut Vec<Job<'a>>,
     number: u32,
 ) -> Result<u32, Failure<Refusal>>
-    requires { AreSound jobs.old.items }
+    requires sound { AreSound jobs.old.items }
+    requires numbers { AreNumbers numbers.now.keys jobs.old.items }
     ensures answer { Answers (λ count. (map job_of jobs.new.items, count)) result
         (settled_in (map routine_of program.now) number (map job_of jobs.old.items)) }
     ensures stays { OnErr result (jobs.new ≡ jobs.old) }
     ensures sound { AreSound jobs.new.items }
+    ensures numbers { AreNumbers numbers.now.keys jobs.new.items }
 {
-    let Some(place) = place_of(jobs.as_slice(), number) else {
+    let Some(place) = place_in(numbers, number) else {
         return Err(Failure::Refused(Refusal::UnknownJob));
     };
     let mut job = copy_job(alloc, &jobs[place])?;

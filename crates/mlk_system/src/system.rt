@@ -17,11 +17,12 @@ use crate::event::{Act, Event, copy_of_choice};
 use crate::number::job_numbered;
 use crate::ring::has_ring;
 use crate::settling::settle_numbered;
+use crate::stepping::{abort_numbered, go_numbered};
+use indexmap::IndexSet;
 use mlk_jobs::{Choice, Job};
 use mlk_locks::{Refusal, waits_for};
 use mlk_names::{LockName, Reference};
 use mlk_program::{EntryId, Program};
-use mlk_run::{abort, go};
 use mlk_text::{Failure, Value};
 use std::alloc::{AllocError, Global};
 use std::marker::Model;
@@ -32,6 +33,8 @@ pub struct System<'a> {
     alloc: Global,
     program: &'a Program<'a>,
     entries: &'a [EntryId],
+    // of the jobs, in their order
+    numbers: IndexSet<u32>,
     jobs: Vec<Job<'a>>,
 }
 
@@ -44,6 +47,7 @@ impl<'a> Model for System<'a> {
     ghost use Rattle.mlk_routine.specs.contracts.tree.For as loop_of;
     ghost use Rattle.mlk_routine.specs.contracts.routine.Line as line;
     ghost use Rattle.mlk_run.specs.Jobs.{AreSound};
+    ghost use Rattle.mlk_system.specs.Numbers.{AreNumbers};
     ghost use Rattle.mlk_system.specs.Running.{Running};
 
     ghost Value = { Running };
@@ -60,7 +64,7 @@ impl<'a> Model for System<'a> {
 
     ghost view = { λ s. record { program = s.program.now; entries = s.entries.now; jobs = s.jobs.items } };
 
-    ghost invariant = { λ s. AreSound s.jobs.items };
+    ghost invariant = { λ s. AreSound s.jobs.items × AreNumbers s.numbers.keys s.jobs.items };
 }
 
 impl<'a> System<'a> {
@@ -72,6 +76,7 @@ impl<'a> System<'a> {
             alloc,
             program,
             entries,
+            numbers: IndexSet::new(alloc),
             jobs: Vec::new(alloc),
         }
     }
@@ -93,6 +98,7 @@ impl<'a> System<'a> {
             self.alloc,
             self.program,
             self.entries,
+            &mut self.numbers,
             &mut self.jobs,
             entry,
             number,
@@ -109,7 +115,14 @@ impl<'a> System<'a> {
         ensures stays { OnErr result (Stays self.old self.new) }
     {
         let choice = copy_of_choice(choice)?;
-        go(self.alloc, self.program, &mut self.jobs, number, choice)
+        go_numbered(
+            self.alloc,
+            self.program,
+            &self.numbers,
+            &mut self.jobs,
+            number,
+            choice,
+        )
     }
 
     // A job is aborted.
@@ -119,10 +132,7 @@ impl<'a> System<'a> {
         ensures same { IsSame self.old self.new }
         ensures stays { OnErr result (Stays self.old self.new) }
     {
-        match abort(self.alloc, &mut self.jobs, number) {
-            Ok(()) => Ok(()),
-            Err(why) => Err(Failure::Refused(why)),
-        }
+        abort_numbered(self.alloc, &self.numbers, &mut self.jobs, number)
     }
 
     /// What an event makes of the jobs. Where it can't happen, or there is no memory, all jobs are as they were.
@@ -149,7 +159,13 @@ impl<'a> System<'a> {
         ensures same { IsSame self.old self.new }
         ensures stays { OnErr result (Stays self.old self.new) }
     {
-        settle_numbered(self.alloc, self.program, &mut self.jobs, number)
+        settle_numbered(
+            self.alloc,
+            self.program,
+            &self.numbers,
+            &mut self.jobs,
+            number,
+        )
     }
 
     /// The jobs, in the order in which they began. It takes no memory.
@@ -170,7 +186,7 @@ impl<'a> System<'a> {
     pub fn job(&self, number: u32) -> Option<&Job<'a>>
         ensures { option_map (λ j. job_of j.now) result ≡ job_numbered number (jobs_in self.now) }
     {
-        job_numbered(self.jobs.as_slice(), number)
+        job_numbered(&self.numbers, self.jobs.as_slice(), number)
     }
 
     /// The reference that the job of this number stands ready at. It takes no memory.

@@ -1,7 +1,7 @@
 use Rattle.std.proofs.Common.{rules, ◌≡◌, ◌+◌, map, ap}
 use Rattle.std.specs.Prelude.{min}
 use Rattle.mlk_replay.specs.InstructionViews.{asked_of}
-use Rattle.mlk_replay.proofs.FollowLemmas.{half_begun, half_more, half_stopped, half_all, none_left}
+use Rattle.mlk_replay.proofs.FollowLemmas.{half_begun, half_more, half_all, none_left}
 use Rattle.mlk_replay.proofs.following.follow.Goals as goal
 
 pub loop-asked-init : goal.loop-asked-init

@@ -1,25 +1,22 @@
-use Rattle.std.proofs.Common.{◌≡◌, ◌∙◌, ◌==◌, List, length, map, Some, Ok, ap, sym, arith}
+use Rattle.std.proofs.Common.{◌≡◌, ◌∙◌, ◌==◌, List, map, Some, Ok, ap, sym}
 use Rattle.std.specs.Prelude.{slice_set, position}
 use Rattle.mlk_locks.specs.Systems.{and_then}
-use Rattle.mlk_jobs.specs.declared.job.Job.{Job as JobIn}
 use Rattle.mlk_jobs.specs.Tasks.{Job}
 use Rattle.mlk_jobs.specs.Runs.{machine, seen, aborted}
 use Rattle.mlk_jobs.specs.JobViews.{job_of}
-use Rattle.mlk_run.proofs.SystemLemmas.{sound_at, sound_set, place_mapped, job_at, jobs_set, changed_none, changed_at, on_err, all_stay, aborted_so}
+use Rattle.mlk_run.proofs.SystemLemmas.{found_within, sound_at, sound_set, job_at, jobs_set, changed_none, changed_at, on_err, all_stay, aborted_so}
 use Rattle.mlk_run.proofs.system.abort.Goals as goal
 
 pub returns-in_default-clause-answer : goal.returns-in_default-clause-answer
 returns-in_default-clause-answer c = λ routines declared.
     changed_none (machine routines declared) _ c.args.number (map job_of c.args.jobs.now.items)
-    (place_mapped c.args.jobs.now.items c.args.number
-    ∙ ap (position (λ (j : JobIn). (seen (job_of j)).number == c.args.number)) (sym c.as_slice.ensures.value)
-    ∙ sym c.in_default.ensures.place)
+    (sym c.requires.place.first ∙ c.in_default.is)
 
 pub returns-clause-sound : goal.returns-clause-sound
 returns-clause-sound c =
-    sound_set c.args.jobs.now.items c.in-Some.place c.abort.new.self c.requires
+    sound_set c.args.jobs.now.items c.in-Some.place c.abort.new.self c.requires.sound
     (c.abort.ensures.sound (sound_at c.args.jobs.now.items c.in-Some.place c.index_mut.result.now
-    (omega (arith, c.in-Some.ensures.within, ap length c.as_slice.ensures.value)) c.index_mut.ensures.value c.requires))
+    (found_within c.args.jobs.now.items c.args.place c.in-Some.place c.in-Some.is c.requires.place.within) c.index_mut.ensures.value c.requires.sound))
 
 pub returns-clause-stays : goal.returns-clause-stays
 returns-clause-stays c =
@@ -30,9 +27,7 @@ pub returns-clause-answer : goal.returns-clause-answer
 returns-clause-answer c = λ routines declared.
     let js = c.args.jobs.now.items in
     let found : position (λ (j : Job). (seen j).number == c.args.number) (map job_of js) ≡ Some c.in-Some.place =
-    place_mapped js c.args.number
-    ∙ ap (position (λ (j : JobIn). (seen (job_of j)).number == c.args.number)) (sym c.as_slice.ensures.value)
-    ∙ sym c.in-Some.ensures.place in
+    sym c.requires.place.first ∙ c.in-Some.is in
     changed_at (machine routines declared) (λ (j : Job). aborted j j.tasks) c.args.number (map job_of js) c.in-Some.place
     (job_of c.index_mut.result.now) found (job_at js c.in-Some.place c.index_mut.result.now c.index_mut.ensures.value)
     ∙ aborted_so c.abort.result _ (job_of c.abort.new.self) (λ y. slice_set (map job_of js) c.in-Some.place y)

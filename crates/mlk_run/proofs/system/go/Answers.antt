@@ -1,4 +1,4 @@
-use Rattle.std.proofs.Common.{◌≡◌, ◌∙◌, ◌==◌, Bool, List, length, map, Some, Ok, ap, sym, subst, arith}
+use Rattle.std.proofs.Common.{◌≡◌, ◌∙◌, ◌==◌, Bool, List, map, Some, Ok, ap, sym, subst}
 use Rattle.std.specs.Prelude.{slice_set, position}
 use Rattle.std.specs.List.{list_all}
 use Rattle.mlk_names.specs.declared.lock_name.LockName.{LockName}
@@ -11,24 +11,22 @@ use Rattle.mlk_jobs.specs.Tasks.{Job}
 use Rattle.mlk_jobs.specs.Runs.{machine, seen, go}
 use Rattle.mlk_jobs.specs.JobViews.{job_of}
 use Rattle.mlk_run.specs.Frames.{claimed_in}
-use Rattle.mlk_run.proofs.SystemLemmas.{sound_at, sound_set, free_among, place_mapped, job_at, jobs_set, changed_none, changed_at, answers_all, on_err, all_stay, same_at}
+use Rattle.mlk_run.proofs.SystemLemmas.{found_within, sound_at, sound_set, free_among, job_at, jobs_set, changed_none, changed_at, answers_all, on_err, all_stay, same_at}
 use Rattle.mlk_run.proofs.system.go.Goals as goal
 
 pub returns-in_default-clause-answer : goal.returns-in_default-clause-answer
 returns-in_default-clause-answer c = λ declared.
     changed_none (machine (map routine_of c.args.program.now) declared) _ c.args.number (map job_of c.args.jobs.now.items)
-    (place_mapped c.args.jobs.now.items c.args.number
-    ∙ ap (position (λ (j : JobIn). (seen (job_of j)).number == c.args.number)) (sym c.as_slice.ensures.value)
-    ∙ sym c.in_default.ensures.place)
+    (sym c.requires.place.first ∙ c.in_default.is)
 
 pub step-requires : goal.step-requires
 step-requires c =
     sound_at c.args.jobs.now.items c.in-Some.place c.index_mut.result.now
-    (omega (arith, c.in-Some.ensures.within, ap length c.as_slice.ensures.value)) c.index_mut.ensures.value c.requires
+    (found_within c.args.jobs.now.items c.args.place c.in-Some.place c.in-Some.is c.requires.place.within) c.index_mut.ensures.value c.requires.sound
 
 pub returns-clause-sound : goal.returns-clause-sound
 returns-clause-sound c =
-    sound_set c.args.jobs.now.items c.in-Some.place c.step.new.job c.requires c.step.ensures.sound
+    sound_set c.args.jobs.now.items c.in-Some.place c.step.new.job c.requires.sound c.step.ensures.sound
 
 pub returns-clause-stays : goal.returns-clause-stays
 returns-clause-stays c =
@@ -43,16 +41,14 @@ returns-clause-answer c = λ declared.
     c.claimed_names.ensures
     ∙ ap (λ (j : JobIn). claimed_in (job_of j).tasks)
     (same_at js c.in-Some.place c.index.result.now c.index_mut.result.now
-    (omega (arith, c.in-Some.ensures.within, ap length c.as_slice.ensures.value)) c.index.ensures c.index_mut.ensures.value) in
+    (found_within c.args.jobs.now.items c.args.place c.in-Some.place c.in-Some.is c.requires.place.within) c.index.ensures c.index_mut.ensures.value) in
     let found : position (λ (j : Job). (seen j).number == c.args.number) (map job_of js) ≡ Some c.in-Some.place =
-    place_mapped js c.args.number
-    ∙ ap (position (λ (j : JobIn). (seen (job_of j)).number == c.args.number)) (sym c.as_slice.ensures.value)
-    ∙ sym c.in-Some.ensures.place in
+    sym c.requires.place.first ∙ c.in-Some.is in
     let given : list_all free (claimed_in (job_of c.index_mut.result.now).tasks) ≡ c.are_free-are_free.result =
     ap (list_all free) (sym names)
     ∙ ap (λ (f : LockName → Bool). list_all f c.claimed_names.result.now) (sym (free_among js c.args.number))
     ∙ ap (λ (xs : List JobIn). list_all (is_free_among (λ (j : JobIn). seen (job_of j)) xs c.args.number) c.claimed_names.result.now)
-    (sym c.as_slice-2.ensures.value)
+    (sym c.as_slice.ensures.value)
     ∙ sym c.are_free-are_free.ensures in
     subst (λ (s : _). Answers (λ _. map job_of (slice_set js c.in-Some.place c.step.new.job)) c.step.result s)
     (sym (changed_at (machine (map routine_of c.args.program.now) declared)

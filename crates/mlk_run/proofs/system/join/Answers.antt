@@ -1,36 +1,31 @@
-use Rattle.std.proofs.Common.{◌≡◌, ◌∙◌, false, List, [], ◌∷◌, ◌++◌, map, Ok, ap, sym, subst}
+use Rattle.std.proofs.Common.{◌≡◌, ◌∙◌, false, [], ◌∷◌, ◌++◌, map, Ok, ap, sym, subst}
 use Rattle.std.proofs.lemmas.List.{map-append}
 use Rattle.mlk_text.specs.Failures.{FailsAs}
 use Rattle.mlk_locks.specs.Waiting.{is_numbered}
 use Rattle.mlk_locks.specs.Systems.{and_then}
 use Rattle.mlk_routine.specs.Views.{routine_of}
-use Rattle.mlk_jobs.specs.declared.job.Job.{Job as JobIn}
 use Rattle.mlk_jobs.specs.Tasks.{Job}
 use Rattle.mlk_jobs.specs.Runs.{machine, seen}
 use Rattle.mlk_jobs.specs.JobViews.{job_of}
 use Rattle.mlk_run.specs.Jobs.{AreSound}
-use Rattle.mlk_run.proofs.SystemLemmas.{numbered, join_used, join_declared, fails_then, sound_more}
+use Rattle.mlk_run.proofs.SystemLemmas.{join_used, join_declared, fails_then, sound_more}
 use Rattle.mlk_run.proofs.system.join.Goals as goal
 
-pub returns-then-is_numbered-clause-answer : goal.returns-then-is_numbered-clause-answer
-returns-then-is_numbered-clause-answer c = λ declared h.
+pub returns-then-is_used-clause-answer : goal.returns-then-is_used-clause-answer
+returns-then-is_used-clause-answer c = λ declared h.
     join_used (machine (map routine_of c.args.program.now) declared) c.args.number (map job_of c.args.jobs.now.items) _
-    (sym (numbered c.args.jobs.now.items c.args.number)
-    ∙ ap (λ (xs : List JobIn). is_numbered (λ (j : JobIn). seen (job_of j)) xs c.args.number) (sym c.as_slice.ensures.value)
-    ∙ sym c.is_numbered.ensures ∙ c.if-is_numbered.true)
+    (sym c.requires.used ∙ c.if-is_used.true)
 
 pub returns-in-Ok-push-clause-sound : goal.returns-in-Ok-push-clause-sound
 returns-in-Ok-push-clause-sound c =
     subst AreSound (sym c.in-Ok-push.ensures.items)
-    (sound_more c.args.jobs.now.items c.in-Ok.job c.requires c.in-Ok.ensures.sound)
+    (sound_more c.args.jobs.now.items c.in-Ok.job c.requires.sound c.in-Ok.ensures.sound)
 
 pub returns-in-Ok-push-clause-answer : goal.returns-in-Ok-push-clause-answer
 returns-in-Ok-push-clause-answer c = λ declared h.
     let js = c.args.jobs.now.items in
     let unused : is_numbered seen (map job_of js) c.args.number ≡ false =
-    sym (numbered js c.args.number)
-    ∙ ap (λ (xs : List JobIn). is_numbered (λ (j : JobIn). seen (job_of j)) xs c.args.number) (sym c.as_slice.ensures.value)
-    ∙ sym c.is_numbered.ensures ∙ c.if-is_numbered.false in
+    sym c.requires.used ∙ c.if-is_used.false in
     join_declared (machine (map routine_of c.args.program.now) declared) c.args.number (map job_of js) _
     (declared c.args.entry) (h ∙ c.if-not-is_declared.false) unused
     ∙ ap (and_then (λ (j : Job). Ok (map job_of js ++ j ∷ []))) c.in-Ok.ensures.job
@@ -40,9 +35,7 @@ pub returns-in-Err-clause-answer : goal.returns-in-Err-clause-answer
 returns-in-Err-clause-answer c = λ declared h.
     let js = c.args.jobs.now.items in
     let unused : is_numbered seen (map job_of js) c.args.number ≡ false =
-    sym (numbered js c.args.number)
-    ∙ ap (λ (xs : List JobIn). is_numbered (λ (j : JobIn). seen (job_of j)) xs c.args.number) (sym c.as_slice.ensures.value)
-    ∙ sym c.is_numbered.ensures ∙ c.if-is_numbered.false in
+    sym c.requires.used ∙ c.if-is_used.false in
     subst (λ s. FailsAs c.in-Err.why s)
     (sym (join_declared (machine (map routine_of c.args.program.now) declared) c.args.number (map job_of js) _
     (declared c.args.entry) (h ∙ c.if-not-is_declared.false) unused))
