@@ -6,6 +6,7 @@ use Rattle.std.proofs.lemmas.Bool.{cases_Bool, cases_lt, false≢true, true≢fa
 use Rattle.std.proofs.lemmas.Bool.Decides.{nat_tests}
 use Rattle.std.proofs.lemmas.List.{length-append}
 use Rattle.mlk_expr.specs.Trees.{Tree}
+use Rattle.mlk_text.specs.declared.code.Code.TheVariants.{TooManyCases}
 use Rattle.mlk_calls.specs.declared.state.State.{State}
 use Rattle.mlk_calls.specs.Symbols.{truth_in}
 use Rattle.mlk_calls.specs.Scope.{Scope}
@@ -14,7 +15,7 @@ use Rattle.mlk_rows.specs.Walks.{put_all, with_states, is_large, too_many, few, 
 use Rattle.mlk_rows.specs.Expressions.{agrees, where_it_may_be, by_condition}
 use Rattle.mlk_fewer.specs.Fewer.{Among, AreDistinct, IsClean, IsPart}
 use Rattle.mlk_fewer.proofs.Lists.{in_front, in_back, in_either, all_old, all_new, all_from, all_distinct}
-use Rattle.mlk_fewer.proofs.Rows.{Keeps, clean_with, clean_without, part_with}
+use Rattle.mlk_fewer.proofs.Rows.{Keeps, Tells, clean_with, clean_without, part_with, not_empty}
 
 -- a list at one of its items
 pub record Cut (s : State) (ss : List State) : Type 0 where
@@ -39,7 +40,7 @@ no_more [] ts d more = omega arith
 no_more (s ∷ ss) ts d more =
     let c = cut_at s ts (more s (inl refl)) in
     let less = no_more ss (c.before ++ c.after) d.1 (λ t i.
-        beside s t c.before c.after (λ e. d.0 (subst (λ z. Among z ss) (sym e) i)) (subst (Among t) c.is (more t (inr i)))) in
+    beside s t c.before c.after (λ e. d.0 (subst (λ z. Among z ss) (sym e) i)) (subst (Among t) c.is (more t (inr i)))) in
     let a = length-append c.before c.after in
     let b = length-append c.before (s ∷ c.after) in
     let size = ap length c.is in
@@ -88,15 +89,23 @@ unfolding few
 few_apart line word w d =
     ⊎_elim (λ (e : too_many w.going ≡ true). rw e tt) (λ (e : too_many w.going ≡ false). rw e d) (cases_Bool (too_many w.going))
 
+few_tells : (line word : ℕ) (w : Walk) → Tells w → Tells (few line word w)
+unfolding few
+few_tells line word w t =
+    ⊎_elim
+    (λ (e : too_many w.going ≡ true). rw e (λ o h. not_empty w.faults (record { line = line; column = word; code = TooManyCases }) h))
+    (λ (e : too_many w.going ≡ false). rw e t) (cases_Bool (too_many w.going))
+
 pub few_keeps : (line word : ℕ) → Keeps (few line word)
 few_keeps line word = record {
   back = λ w h. (few_clean line word w h).1;
   apart = few_apart line word;
+  tells = few_tells line word;
   part = λ v w i h.
-    let c = few_clean line word w h in
-    let a = few_same line word w c.0 in
-    let b = few_same line word v (few_of_few v.going w.going i.distinct i.going c.0) in
-    rw (a, b) i;
+      let c = few_clean line word w h in
+      let a = few_same line word w c.0 in
+      let b = few_same line word v (few_of_few v.going w.going i.distinct i.going c.0) in
+      rw (a, b) i;
 }
 
 -- what a walk comes to, beside states that waited
@@ -118,6 +127,11 @@ pub joined_apart : (ss : List State) (w : Walk) → AreDistinct ss → AreDistin
 joined_apart ss w d k =
     ⊎_elim (λ (e : w.over ≡ true). subst (λ (z : Walk). AreDistinct z.going) (sym (ap (λ b. if b then w else with_states (put_all w.going ss) w) e)) k)
     (λ (e : w.over ≡ false). subst (λ (z : Walk). AreDistinct z.going) (sym (joined_same ss w e)) (all_distinct w.going ss d)) (cases_Bool w.over)
+
+pub joined_tells : (ss : List State) (w : Walk) → Tells w → Tells (joined ss w)
+joined_tells ss w t =
+    ⊎_elim (λ (e : w.over ≡ true). subst Tells (sym (ap (λ b. if b then w else with_states (put_all w.going ss) w) e)) t)
+    (λ (e : w.over ≡ false). subst Tells (sym (joined_same ss w e)) t) (cases_Bool w.over)
 
 pub joined_part : (ss ts : List State) (v w : Walk) → IsPart v w → IsClean w → ((s : State) → Among s ss → Among s ts) → AreDistinct ss
     → IsPart (joined ss v) (joined ts w)
@@ -191,22 +205,32 @@ module _ (sc : Scope) (t : Tree) (run other : Walk → Walk) (one : Keeps run) (
       subst (λ (z : Walk). AreDistinct z.going) (sym (ways_same w e)) (joined_apart (first_of w).going (second_of w) f g))
       (cases_Bool (first_of w).over)
 
+  ways_tell : (w : Walk) → Tells w → Tells (by_condition sc t run other w)
+  ways_tell w h =
+      let f = one.tells (with_states (true_of w) w) h in
+      let g = two.tells (with_states (false_of w) (first_of w)) f in
+      ⊎_elim
+      (λ (e : (first_of w).over ≡ true). subst Tells (sym (ap (λ b. if b then first_of w else joined (first_of w).going (second_of w)) e)) f)
+      (λ (e : (first_of w).over ≡ false). subst Tells (sym (ways_same w e)) (joined_tells (first_of w).going (second_of w) g))
+      (cases_Bool (first_of w).over)
+
   pub ways_keep : Keeps (by_condition sc t run other)
   ways_keep = record {
     back = λ w h. clean_without (true_of w) w (one.back (with_states (true_of w) w) (first_clean w (ways_clean w h).1));
     apart = ways_apart;
+    tells = ways_tell;
     part = λ v w i h.
-      let c = ways_clean w h in
-      let f = first_clean w c.1 in
-      let p = one.part (with_states (true_of v) v) (with_states (true_of w) w)
-          (part_with v w (true_of v) (true_of w) i (filter_part (λ s. agrees true (truth_in sc t s)) v.going w.going i.going)
-          (filter_distinct (λ s. agrees true (truth_in sc t s)) v.going i.distinct)) f in
-      let q = two.part (with_states (false_of v) (first_of v)) (with_states (false_of w) (first_of w))
-          (part_with (first_of v) (first_of w) (false_of v) (false_of w) p (filter_part (λ s. agrees false (truth_in sc t s)) v.going w.going i.going)
-          (filter_distinct (λ s. agrees false (truth_in sc t s)) v.going i.distinct)) c.1 in
-      let a = ways_same w c.0 in
-      let b = ways_same v p.clean.goes_on in
-      subst (λ z. IsPart z (by_condition sc t run other w)) (sym b)
-      (subst (IsPart (joined (first_of v).going (second_of v))) (sym a)
-      (joined_part (first_of v).going (first_of w).going (second_of v) (second_of w) q c.1 p.going p.distinct));
+        let c = ways_clean w h in
+        let f = first_clean w c.1 in
+        let p = one.part (with_states (true_of v) v) (with_states (true_of w) w)
+        (part_with v w (true_of v) (true_of w) i (filter_part (λ s. agrees true (truth_in sc t s)) v.going w.going i.going)
+        (filter_distinct (λ s. agrees true (truth_in sc t s)) v.going i.distinct)) f in
+        let q = two.part (with_states (false_of v) (first_of v)) (with_states (false_of w) (first_of w))
+        (part_with (first_of v) (first_of w) (false_of v) (false_of w) p (filter_part (λ s. agrees false (truth_in sc t s)) v.going w.going i.going)
+        (filter_distinct (λ s. agrees false (truth_in sc t s)) v.going i.distinct)) c.1 in
+        let a = ways_same w c.0 in
+        let b = ways_same v p.clean.goes_on in
+        subst (λ z. IsPart z (by_condition sc t run other w)) (sym b)
+        (subst (IsPart (joined (first_of v).going (second_of v))) (sym a)
+        (joined_part (first_of v).going (first_of w).going (second_of v) (second_of w) q c.1 p.going p.distinct));
   }

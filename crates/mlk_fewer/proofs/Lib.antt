@@ -3,3 +3,4 @@ pub mod Rows
 pub mod Counts
 pub mod Walks
 pub mod Rounds
+pub mod Passing

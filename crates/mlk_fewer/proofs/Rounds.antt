@@ -19,8 +19,8 @@ use Rattle.mlk_lines.specs.Commands.{command}
 use Rattle.mlk_lines.specs.Loops.{Rounds, begin_round, round_or_after, after_round, step_variable, step_again, limited, parameter, parameters, controlled, and_faults, ended_in, quit_in, and_states, over_too, after_rounds, at_word, one_command, commands}
 use Rattle.mlk_fewer.specs.Fewer.{Among, AreDistinct, IsClean, IsPart, ListsEachOnce, FewerCases, EachAlone}
 use Rattle.mlk_fewer.proofs.Lists.{all_old, all_new, all_from, all_distinct, in_map, from_map}
-use Rattle.mlk_fewer.proofs.Rows.{Keeps, both, stays, each_keeps, clean_with, clean_without, part_with, not_empty}
-use Rattle.mlk_fewer.proofs.Counts.{few_keeps, joined_part, joined_clean, joined_apart}
+use Rattle.mlk_fewer.proofs.Rows.{Keeps, Tells, both, stays, each_keeps, clean_with, clean_without, part_with, not_empty}
+use Rattle.mlk_fewer.proofs.Counts.{few_keeps, joined_part, joined_clean, joined_apart, joined_tells}
 use Rattle.mlk_fewer.proofs.Walks.{command_keeps, value_part}
 
 -- the states in which a round ended
@@ -35,14 +35,17 @@ round_clean ended w h =
 round_keeps : (ended : List State) → AreDistinct ended → Keeps (after_round ended)
 round_keeps ended d = record {
   back = round_clean ended;
+  tells = λ w t.
+      ⊎_elim (λ (e : w.over ≡ true). subst Tells (sym (ap (λ b. if b then w else with_states ended w) e)) t)
+      (λ (e : w.over ≡ false). subst Tells (sym (round_same ended w e)) t) (cases_Bool w.over);
   apart = λ w k.
-    ⊎_elim (λ (e : w.over ≡ true). subst (λ (z : Walk). AreDistinct z.going) (sym (ap (λ b. if b then w else with_states ended w) e)) k)
-    (λ (e : w.over ≡ false). subst (λ (z : Walk). AreDistinct z.going) (sym (round_same ended w e)) d) (cases_Bool w.over);
+      ⊎_elim (λ (e : w.over ≡ true). subst (λ (z : Walk). AreDistinct z.going) (sym (ap (λ b. if b then w else with_states ended w) e)) k)
+      (λ (e : w.over ≡ false). subst (λ (z : Walk). AreDistinct z.going) (sym (round_same ended w e)) d) (cases_Bool w.over);
   part = λ v w i h.
-    let c = round_clean ended w h in
-    let a = round_same ended v i.clean.goes_on in
-    let b = round_same ended w c.goes_on in
-    rw (a, b) (part_with v w ended ended i (λ s r. r) d);
+      let c = round_clean ended w h in
+      let a = round_same ended v i.clean.goes_on in
+      let b = round_same ended w c.goes_on in
+      rw (a, b) (part_with v w ended ended i (λ s r. r) d);
 }
 
 module _ (p : Spot) (r : Rounds) (d : AreDistinct r.ended) where
@@ -62,9 +65,10 @@ module _ (p : Spot) (r : Rounds) (d : AreDistinct r.ended) where
   limited_keeps = record {
     back = λ w h. after_again_keeps.back w (joined_clean w.going (after_again w) h);
     apart = λ w k. joined_apart w.going (after_again w) k (after_again_keeps.apart w k);
+    tells = λ w t. joined_tells w.going (after_again w) (after_again_keeps.tells w t);
     part = λ v w i h.
-      let c = joined_clean w.going (after_again w) h in
-      joined_part v.going w.going (after_again v) (after_again w) (after_again_keeps.part v w i c) c i.going i.distinct;
+        let c = joined_clean w.going (after_again w) h in
+        joined_part v.going w.going (after_again v) (after_again w) (after_again_keeps.part v w i c) c i.going i.distinct;
   }
 
   started_keeps : (f : Walk → Walk) → Keeps f → (row : State → List Outcome) → Keeps (λ w. each row (step_variable p r (f w)))
@@ -98,11 +102,11 @@ controlled_keeps p (Some (Runs column name qs)) cases ended d =
     parameters_keep p (record { column = column; variable = Only name; cases = cases; ended = ended }) d qs
 
 -- the faults of the rounds
-no_first : {A : Type 0} (xs ys : List A) → xs ++ ys ≡ [] → xs ≡ []
+pub no_first : {A : Type 0} (xs ys : List A) → xs ++ ys ≡ [] → xs ≡ []
 no_first [] ys e = refl
 no_first (x ∷ xs) ys e = cc e
 
-no_second : {A : Type 0} (xs ys : List A) → xs ++ ys ≡ [] → ys ≡ []
+pub no_second : {A : Type 0} (xs ys : List A) → xs ++ ys ≡ [] → ys ≡ []
 no_second [] ys e = e
 no_second (x ∷ xs) ys e = cc e
 
@@ -110,15 +114,16 @@ faults_keep : (faults : List Fault) → Keeps (and_faults faults)
 faults_keep faults = record {
   back = λ w h. record { faultless = no_first w.faults faults h.faultless; goes_on = h.goes_on };
   apart = λ w d. d;
+  tells = λ w t e h. t e (no_first w.faults faults h);
   part = λ v w i h.
-    let none = no_second w.faults faults h.faultless in
-    record {
-      clean = record { faultless = ap (λ z. z ++ faults) i.clean.faultless ∙ none; goes_on = i.clean.goes_on };
-      going = i.going;
-      skips = i.skips;
-      quits = i.quits;
-      distinct = i.distinct;
-    };
+      let none = no_second w.faults faults h.faultless in
+      record {
+        clean = record { faultless = ap (λ z. z ++ faults) i.clean.faultless ∙ none; goes_on = i.clean.goes_on };
+        going = i.going;
+        skips = i.skips;
+        quits = i.quits;
+        distinct = i.distinct;
+      };
 }
 
 -- states beside those that go on
@@ -133,20 +138,23 @@ states_clean ss w h =
 states_keep : (ss : List State) → Keeps (and_states ss)
 states_keep ss = record {
   back = states_clean ss;
+  tells = λ w t.
+      ⊎_elim (λ (e : w.over ≡ true). subst Tells (sym (ap (λ b. if b then w else with_states (put_all ss w.going) w) e)) t)
+      (λ (e : w.over ≡ false). subst Tells (sym (states_same ss w e)) t) (cases_Bool w.over);
   apart = λ w d.
-    ⊎_elim (λ (e : w.over ≡ true). subst (λ (z : Walk). AreDistinct z.going) (sym (ap (λ b. if b then w else with_states (put_all ss w.going) w) e)) d)
-    (λ (e : w.over ≡ false). subst (λ (z : Walk). AreDistinct z.going) (sym (states_same ss w e)) (all_distinct ss w.going d)) (cases_Bool w.over);
+      ⊎_elim (λ (e : w.over ≡ true). subst (λ (z : Walk). AreDistinct z.going) (sym (ap (λ b. if b then w else with_states (put_all ss w.going) w) e)) d)
+      (λ (e : w.over ≡ false). subst (λ (z : Walk). AreDistinct z.going) (sym (states_same ss w e)) (all_distinct ss w.going d)) (cases_Bool w.over);
   part = λ v w i h.
-    let c = states_clean ss w h in
-    let a = states_same ss v i.clean.goes_on in
-    let b = states_same ss w c.goes_on in
-    rw (a, b) (part_with v w (put_all ss v.going) (put_all ss w.going) i
-    (λ s r. ⊎_elim (λ (l : Among s v.going). all_old s ss w.going (i.going s l)) (λ (m : Among s ss). all_new s ss w.going m) (all_from s ss v.going r))
-    (all_distinct ss v.going i.distinct));
+      let c = states_clean ss w h in
+      let a = states_same ss v i.clean.goes_on in
+      let b = states_same ss w c.goes_on in
+      rw (a, b) (part_with v w (put_all ss v.going) (put_all ss w.going) i
+      (λ s r. ⊎_elim (λ (l : Among s v.going). all_old s ss w.going (i.going s l)) (λ (m : Among s ss). all_new s ss w.going m) (all_from s ss v.going r))
+      (all_distinct ss v.going i.distinct));
 }
 
 -- FOR, given what its rounds come to
-module _ (p : Spot) (control : Option ControlTree) (cases : List Case) (inner : Walk) (d : AreDistinct inner.going) where
+module _ (p : Spot) (control : Option ControlTree) (cases : List Case) (inner : Walk) (d : AreDistinct inner.going) (told : Tells inner) where
   abbrev inside : Walk → Walk
   inside w = few p.line p.word (and_states (quit_in inner) (controlled p control cases (ended_in inner) (and_faults inner.faults w)))
 
@@ -190,28 +198,40 @@ module _ (p : Spot) (control : Option ControlTree) (cases : List Case) (inner : 
       (cases_Bool inner.over)))
       (cases_Bool w.over)
 
+  loop_tells : (w : Walk) → Tells w → Tells (after_rounds p control cases inner w)
+  loop_tells w t =
+      ⊎_elim (λ (e : w.over ≡ true). subst Tells (sym (ap (λ b. if b then w else rest_of w) e)) t)
+      (λ (e : w.over ≡ false).
+      subst Tells (sym (ap (λ b. if b then w else rest_of w) e))
+      (⊎_elim (λ (f : inner.over ≡ true). subst Tells (sym (ap (λ b. if b then over_too (and_faults inner.faults w) else inside w) f)) (λ o h. told f (no_second w.faults inner.faults h)))
+      (λ (f : inner.over ≡ false). subst Tells (sym (ap (λ b. if b then over_too (and_faults inner.faults w) else inside w) f)) (inside_keeps.tells w t))
+      (cases_Bool inner.over)))
+      (cases_Bool w.over)
+
   rounds_keep : Keeps (after_rounds p control cases inner)
   rounds_keep = record {
     back = λ w h. let o = loop_open w h in inside_keeps.back w o.2;
     apart = loop_apart;
+    tells = loop_tells;
     part = λ v w i h.
-      let o = loop_open w h in
-      let a = loop_same v i.clean.goes_on o.1 in
-      let b = loop_same w o.0 o.1 in
-      subst (λ z. IsPart z (after_rounds p control cases inner w)) (sym a)
-      (subst (IsPart (inside v)) (sym b) (inside_keeps.part v w i o.2));
+        let o = loop_open w h in
+        let a = loop_same v i.clean.goes_on o.1 in
+        let b = loop_same w o.0 o.1 in
+        subst (λ z. IsPart z (after_rounds p control cases inner w)) (sym a)
+        (subst (IsPart (inside v)) (sym b) (inside_keeps.part v w i o.2));
   }
 
 -- the commands of a line
 one_keeps : (p : Spot) (c : CommandTree) → Keeps (λ w. one_command p w c)
 one_keeps p (Does column condition action) = command_keeps (at_word p column) condition action
 
-commands_keep : (p : Spot) → ListsEachOnce p.scope → (cs : CommandTrees) → Keeps (commands p cs)
+pub commands_keep : (p : Spot) → ListsEachOnce p.scope → (cs : CommandTrees) → Keeps (commands p cs)
 commands_keep p once finished = stays
 commands_keep p once (then_command c rest) = both (λ w. one_command p w c) (commands p rest) (one_keeps p c) (commands_keep p once rest)
 commands_keep p once (then_for column index control rest) =
     rounds_keep (at_word p column) control (listed p.scope p.line index) (commands p rest (begin (listed p.scope p.line index)))
     ((commands_keep p once rest).apart (begin (listed p.scope p.line index)) (once p.line index))
+    ((commands_keep p once rest).tells (begin (listed p.scope p.line index)) (λ e h. false≢true e))
 
 pub fewer_cases : FewerCases
 fewer_cases p cs once v w i h = (commands_keep p once cs).part v w i h

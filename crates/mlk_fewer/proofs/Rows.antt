@@ -20,22 +20,28 @@ use Rattle.mlk_rows.specs.Expressions.{with_value, capture, capture_unknown}
 use Rattle.mlk_fewer.specs.Fewer.{Among, AreDistinct, IsClean, IsPart}
 use Rattle.mlk_fewer.proofs.Lists.{in_front, in_back, in_either, in_map, from_map, in_flat, from_flat, put_old, put_new, put_from, put_distinct, all_new, all_from, all_distinct}
 
+-- a line that is over has a fault
+abbrev pub Tells : Walk → Type 0
+Tells w = w.over ≡ true → w.faults ≡ [] → ⊥
+
 -- A walk of a part comes to a part of what the whole comes to, where nothing wrong is found in the whole. States that are
--- told apart stay so, and what was found wrong stays.
+-- told apart stay so, what was found wrong stays, and where the line is over it is told why.
 pub record Keeps (F : Walk → Walk) : Type 0 where
   pub back : (w : Walk) → IsClean (F w) → IsClean w
   pub apart : (w : Walk) → AreDistinct w.going → AreDistinct (F w).going
+  pub tells : (w : Walk) → Tells w → Tells (F w)
   pub part : (v w : Walk) → IsPart v w → IsClean (F w) → IsPart (F v) (F w)
 
 pub both : (F G : Walk → Walk) → Keeps F → Keeps G → Keeps (λ w. G (F w))
 both F G f g = record {
   back = λ w h. f.back w (g.back (F w) h);
   apart = λ w d. g.apart (F w) (f.apart w d);
+  tells = λ w t. g.tells (F w) (f.tells w t);
   part = λ v w i h. g.part (F v) (F w) (f.part v w i (g.back (F w) h)) h;
 }
 
 pub stays : Keeps (λ w. w)
-stays = record { back = λ w h. h; apart = λ w d. d; part = λ v w i h. i }
+stays = record { back = λ w h. h; apart = λ w d. d; tells = λ w t. t; part = λ v w i h. i }
 
 -- what is said of a walk without its states
 pub clean_with : (ss : List State) (w : Walk) → IsClean w → IsClean (with_states ss w)
@@ -186,6 +192,24 @@ quits_from (o ∷ os) w q h =
     (λ (l : Among q (add o w).quits). ⊎_elim (λ (m : Among q w.quits). inl m) (λ (e : quit_at q ≡ o). inr (inl e)) (quits_made o w q l))
     (λ (r : Among (quit_at q) os). inr (inr r)) (quits_from os (add o w) q h)
 
+-- what is told stays told
+fault_back : (o : Outcome) (w : Walk) → (add o w).faults ≡ [] → w.faults ≡ []
+fault_back (Goes s) w h = h
+fault_back (Skips c) w h = h
+fault_back (Quits column c) w h = h
+fault_back (Refused line column code) w h = absurd (not_empty w.faults (record { line = line; column = column; code = code }) h)
+
+faults_back : (os : List Outcome) (w : Walk) → (add_all os w).faults ≡ [] → w.faults ≡ []
+faults_back [] w h = h
+faults_back (o ∷ os) w h = fault_back o w (faults_back os (add o w) h)
+
+over_same : (os : List Outcome) (w : Walk) → (add_all os w).over ≡ w.over
+over_same [] w = refl
+over_same (Goes s ∷ os) w = over_same os (add (Goes s) w)
+over_same (Skips c ∷ os) w = over_same os (add (Skips c) w)
+over_same (Quits column c ∷ os) w = over_same os (add (Quits column c) w)
+over_same (Refused line column code ∷ os) w = over_same os (add (Refused line column code) w)
+
 -- a row, at each state
 no_old : {X : Type 0} → ⊥ ⊎ X → X
 no_old (inl h) = absurd h
@@ -195,19 +219,20 @@ pub each_keeps : (row : State → List Outcome) → Keeps (each row)
 each_keeps row = record {
   back = λ w h. clean_without [] w (all_back (flat_map row w.going) (with_states [] w) h).0;
   apart = λ w d. going_distinct (flat_map row w.going) (with_states [] w) tt;
+  tells = λ w t e h. t (sym (over_same (flat_map row w.going) (with_states [] w)) ∙ e) (faults_back (flat_map row w.going) (with_states [] w) h);
   part = λ v w i h.
-    let t = all_back (flat_map row w.going) (with_states [] w) h in
-    let os = flat_map row v.going in
-    let more : (o : Outcome) → Among o os → Among o (flat_map row w.going) = λ o r. (let f = from_flat row o v.going r in in_flat row f.0 o w.going (i.going f.0 f.1) f.2) in
-    record {
-      clean = all_clean os (with_states [] v) (clean_with [] v i.clean) (λ o r. t.1 o (more o r));
-      going = λ s r. going_new (flat_map row w.going) (with_states [] w) s (more (Goes s) (no_old (going_from os (with_states [] v) s r)));
-      skips = λ c r. ⊎_elim (λ (l : Among c v.skips). skips_old (flat_map row w.going) (with_states [] w) c (i.skips c l))
-          (λ (m : Among (Skips c) os). skips_new (flat_map row w.going) (with_states [] w) c (more (Skips c) m)) (skips_from os (with_states [] v) c r);
-      quits = λ q r. ⊎_elim (λ (l : Among q v.quits). quits_old (flat_map row w.going) (with_states [] w) q (i.quits q l))
-          (λ (m : Among (quit_at q) os). quits_new (flat_map row w.going) (with_states [] w) q (more (quit_at q) m)) (quits_from os (with_states [] v) q r);
-      distinct = going_distinct os (with_states [] v) tt;
-    };
+      let t = all_back (flat_map row w.going) (with_states [] w) h in
+      let os = flat_map row v.going in
+      let more : (o : Outcome) → Among o os → Among o (flat_map row w.going) = λ o r. (let f = from_flat row o v.going r in in_flat row f.0 o w.going (i.going f.0 f.1) f.2) in
+      record {
+        clean = all_clean os (with_states [] v) (clean_with [] v i.clean) (λ o r. t.1 o (more o r));
+        going = λ s r. going_new (flat_map row w.going) (with_states [] w) s (more (Goes s) (no_old (going_from os (with_states [] v) s r)));
+        skips = λ c r. ⊎_elim (λ (l : Among c v.skips). skips_old (flat_map row w.going) (with_states [] w) c (i.skips c l))
+            (λ (m : Among (Skips c) os). skips_new (flat_map row w.going) (with_states [] w) c (more (Skips c) m)) (skips_from os (with_states [] v) c r);
+        quits = λ q r. ⊎_elim (λ (l : Among q v.quits). quits_old (flat_map row w.going) (with_states [] w) q (i.quits q l))
+            (λ (m : Among (quit_at q) os). quits_new (flat_map row w.going) (with_states [] w) q (more (quit_at q) m)) (quits_from os (with_states [] v) q r);
+        distinct = going_distinct os (with_states [] v) tt;
+      };
 }
 
 -- other states in place of those that go on
@@ -225,10 +250,11 @@ pub changed_keeps : (change : State → State) → Keeps (each_changed change)
 changed_keeps change = record {
   back = λ w h. clean_without (put_all (map change w.going) []) w h;
   apart = λ w d. all_distinct (map change w.going) [] tt;
+  tells = λ w t. t;
   part = λ v w i h. part_with v w (put_all (map change v.going) []) (put_all (map change w.going) []) i
-    (λ s r. let m = from_map change s v.going (no_old (all_from s (map change v.going) [] r)) in
-    all_new s (map change w.going) [] (subst (λ z. Among z (map change w.going)) (sym m.2) (in_map change m.0 w.going (i.going m.0 m.1))))
-    (all_distinct (map change v.going) [] tt);
+      (λ s r. let m = from_map change s v.going (no_old (all_from s (map change v.going) [] r)) in
+      all_new s (map change w.going) [] (subst (λ z. Among z (map change w.going)) (sym m.2) (in_map change m.0 w.going (i.going m.0 m.1))))
+      (all_distinct (map change v.going) [] tt);
 }
 
 map_distinct : (f : State → State) → ((s t : State) → f s ≡ f t → s ≡ t) → (ss : List State) → AreDistinct ss → AreDistinct (map f ss)
@@ -240,9 +266,10 @@ pub mapped_keeps : (f : State → State) → ((s t : State) → f s ≡ f t → 
 mapped_keeps f one = record {
   back = λ w h. clean_without (map f w.going) w h;
   apart = λ w d. map_distinct f one w.going d;
+  tells = λ w t. t;
   part = λ v w i h. part_with v w (map f v.going) (map f w.going) i
-    (λ s r. let m = from_map f s v.going r in subst (λ z. Among z (map f w.going)) (sym m.2) (in_map f m.0 w.going (i.going m.0 m.1)))
-    (map_distinct f one v.going i.distinct);
+      (λ s r. let m = from_map f s v.going r in subst (λ z. Among z (map f w.going)) (sym m.2) (in_map f m.0 w.going (i.going m.0 m.1)))
+      (map_distinct f one v.going i.distinct);
 }
 
 -- one more captured symbol tells no states alike

@@ -49,7 +49,7 @@ forgotten_keeps no_subs = stays
 forgotten_keeps (sub column t rest) = changed_keeps (without_last (count_subs (sub column t rest)))
 
 none_keep : Keeps (λ w. with_states [] w)
-none_keep = record { back = λ w h. clean_without [] w h; apart = λ w d. tt; part = λ v w i h. part_with v w [] [] i (λ s r. r) tt }
+none_keep = record { back = λ w h. clean_without [] w h; apart = λ w d. tt; tells = λ w t. t; part = λ v w i h. part_with v w [] [] i (λ s r. r) tt }
 
 mutual
   evaluated_keeps : (p : Spot) (how : Use) (t : Tree) → Keeps (evaluate p how t)
@@ -232,19 +232,20 @@ some_of_more f ss ts more h = let m = some_there f ss h in there_some f m.0 ts (
 block_keeps : (p : Spot) (o : Option Block) → Keeps (do_block p o)
 block_keeps p None = stays
 block_keeps p (Some b) = record {
+  tells = (each_keeps (enter_row p b)).tells;
   apart = λ w d. ⊎_elim (λ (e : some_enter p b w ≡ true). rw e (all_distinct (map at_rest b.ends) [] tt)) (λ (e : some_enter p b w ≡ false). rw e tt)
       (cases_Bool (some_enter p b w));
   back = λ w h. (each_keeps (enter_row p b)).back w (clean_without (block_ends (some_enter p b w) b) (each (enter_row p b) w) h);
   part = λ v w i h.
-    let c = clean_without (block_ends (some_enter p b w) b) (each (enter_row p b) w) h in
-    let q = (each_keeps (enter_row p b)).part v w i c in
-    ⊎_elim
-    (λ (e : some_enter p b v ≡ true).
-    let k : some_enter p b w ≡ true = some_of_more (enters p b) v.going w.going i.going e in
-    rw (e, k) (part_with (each (enter_row p b) v) (each (enter_row p b) w) (block_ends true b) (block_ends true b) q (λ s r. r) (all_distinct (map at_rest b.ends) [] tt)))
-    (λ (e : some_enter p b v ≡ false).
-    rw e (part_with (each (enter_row p b) v) (each (enter_row p b) w) [] (block_ends (some_enter p b w) b) q (λ s r. absurd r) tt))
-    (cases_Bool (some_enter p b v));
+      let c = clean_without (block_ends (some_enter p b w) b) (each (enter_row p b) w) h in
+      let q = (each_keeps (enter_row p b)).part v w i c in
+      ⊎_elim
+      (λ (e : some_enter p b v ≡ true).
+      let k : some_enter p b w ≡ true = some_of_more (enters p b) v.going w.going i.going e in
+      rw (e, k) (part_with (each (enter_row p b) v) (each (enter_row p b) w) (block_ends true b) (block_ends true b) q (λ s r. r) (all_distinct (map at_rest b.ends) [] tt)))
+      (λ (e : some_enter p b v ≡ false).
+      rw e (part_with (each (enter_row p b) v) (each (enter_row p b) w) [] (block_ends (some_enter p b w) b) q (λ s r. absurd r) tt))
+      (cases_Bool (some_enter p b v));
 }
 
 -- commands

@@ -3,4 +3,4 @@
 
 mod law;
 
-pub use law::{each_alone, fewer_cases};
+pub use law::{each_alone, fewer_cases, lines_pass};
