@@ -1,8 +1,8 @@
 -- Of fewer states there are not too many where there are not of more; states that wait for others.
-use Rattle.std.proofs.Common.{◌≡◌, ◌≤◌, ◌<◌, ◌+◌, ℕ, suc, true, false, Bool, List, [], ◌∷◌, ◌++◌, length, map, refl, ap, sym, ◌∙◌, inl, inr, ⊎_elim, arith, subst}
-use Rattle.std.specs.Prelude.{◌⊎◌, if◌then◌else◌, ◌||◌, nat_lt, filter, Option}
+use Rattle.std.proofs.Common.{◌≡◌, ◌≤◌, ◌<◌, ℕ, true, false, Bool, List, [], ◌∷◌, ◌++◌, length, refl, ap, sym, ◌∙◌, inl, inr, ⊎_elim, arith, subst}
+use Rattle.std.specs.Prelude.{if◌then◌else◌, ◌||◌, nat_lt, filter}
 use Rattle.std.specs.List.{list_any}
-use Rattle.std.proofs.lemmas.Bool.{cases_Bool, cases_lt, false≢true, true≢false, ltb-true}
+use Rattle.std.proofs.lemmas.Bool.{cases_Bool, cases_lt, true≢false}
 use Rattle.std.proofs.lemmas.Bool.Decides.{nat_tests}
 use Rattle.std.proofs.lemmas.List.{length-append}
 use Rattle.mlk_expr.specs.Trees.{Tree}
@@ -11,11 +11,11 @@ use Rattle.mlk_calls.specs.declared.state.State.{State}
 use Rattle.mlk_calls.specs.Symbols.{truth_in}
 use Rattle.mlk_calls.specs.Scope.{Scope}
 use Rattle.mlk_rows.specs.declared.walk.Walk.{Walk}
-use Rattle.mlk_rows.specs.Walks.{put_all, with_states, is_large, too_many, few, overfull, joined, both_ways}
+use Rattle.mlk_rows.specs.Walks.{put_all, with_states, is_large, too_many, few, overfull, joined}
 use Rattle.mlk_rows.specs.Expressions.{agrees, where_it_may_be, by_condition}
 use Rattle.mlk_fewer.specs.Fewer.{Among, AreDistinct, IsClean, IsPart}
 use Rattle.mlk_fewer.proofs.Lists.{in_front, in_back, in_either, all_old, all_new, all_from, all_distinct}
-use Rattle.mlk_fewer.proofs.Rows.{Keeps, Tells, clean_with, clean_without, part_with, not_empty}
+use Rattle.mlk_fewer.proofs.Rows.{Keeps, Tells, clean_without, part_with, not_empty}
 
 -- a list at one of its items
 pub record Cut (s : State) (ss : List State) : Type 0 where

@@ -1,8 +1,8 @@
 -- What stands in lists, and in lists of states that are told apart.
-use Rattle.std.proofs.Common.{◌≡◌, ◌≤◌, ◌<◌, ℕ, suc, true, false, Bool, List, [], ◌∷◌, ◌++◌, length, map, refl, ap, sym, ◌∙◌, inl, inr, ⊎_elim, arith, subst}
-use Rattle.std.specs.Prelude.{◌⊎◌, if◌then◌else◌, ◌||◌, flat_map, filter}
+use Rattle.std.proofs.Common.{◌≡◌, true, false, List, [], ◌∷◌, ◌++◌, map, refl, ap, sym, ◌∙◌, inl, inr, ⊎_elim, subst}
+use Rattle.std.specs.Prelude.{◌⊎◌, ◌||◌, flat_map}
 use Rattle.std.specs.List.{list_any}
-use Rattle.std.proofs.lemmas.Bool.{cases_Bool, false≢true, true≢false}
+use Rattle.std.proofs.lemmas.Bool.{cases_Bool, false≢true}
 use Rattle.mlk_calls.specs.declared.state.State.{State}
 use Rattle.mlk_calls.specs.States.{same_state}
 use Rattle.mlk_calls.proofs.CaseTests.{same_decides}

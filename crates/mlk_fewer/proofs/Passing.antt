@@ -1,16 +1,12 @@
 -- What is asked at the end of a line, of what a line without faults comes to.
-use Rattle.std.proofs.Common.{◌≡◌, ℕ, true, false, Bool, List, [], ◌∷◌, ◌++◌, map, refl, ap, sym, ◌∙◌, inl, inr, ⊎_elim, subst, Option}
-use Rattle.std.specs.Prelude.{if◌then◌else◌, fold}
-use Rattle.std.proofs.lemmas.Bool.{cases_Bool, true≢false, false≢true}
+use Rattle.std.proofs.Common.{◌≡◌, true, false, List, [], ◌∷◌, ◌++◌, map, refl, ap, sym, ◌∙◌, inl, inr, ⊎_elim, subst, Option}
+use Rattle.std.specs.Prelude.{if◌then◌else◌}
+use Rattle.std.proofs.lemmas.Bool.{cases_Bool, false≢true}
 use Rattle.mlk_text.specs.Places.{column_at}
 use Rattle.mlk_cert.specs.declared.case.Case.{Case}
-use Rattle.mlk_routine.specs.Trees.{HeadTree, LineHead, LineTrees, no_lines, line, CommandTrees}
-use Rattle.mlk_calls.specs.declared.state.State.{State}
-use Rattle.mlk_calls.specs.States.{at_rest}
+use Rattle.mlk_routine.specs.Trees.{HeadTree, LineHead, LineTrees, no_lines, line}
 use Rattle.mlk_calls.specs.Scope.{Scope, listed}
 use Rattle.mlk_rows.specs.declared.walk.Walk.{Walk}
-use Rattle.mlk_rows.specs.declared.walk.Fault.{Fault}
-use Rattle.mlk_rows.specs.declared.walk.Quit.{Quit}
 use Rattle.mlk_rows.specs.declared.spot.Block.{Block}
 use Rattle.mlk_rows.specs.Walks.{begin}
 use Rattle.mlk_rows.specs.Spots.{Spot}

@@ -1,8 +1,7 @@
 -- What FOR, and the commands of a line, make of fewer states.
-use Rattle.std.proofs.Common.{◌≡◌, ℕ, true, false, Bool, List, [], ◌∷◌, ◌++◌, map, refl, ap, sym, ◌∙◌, inl, inr, ⊎_elim, subst, Option, None, Some}
-use Rattle.std.specs.Prelude.{if◌then◌else◌, fold}
+use Rattle.std.proofs.Common.{◌≡◌, true, false, List, [], ◌∷◌, ◌++◌, map, refl, ap, sym, ◌∙◌, inl, inr, ⊎_elim, subst, Option, None, Some}
+use Rattle.std.specs.Prelude.{if◌then◌else◌}
 use Rattle.std.proofs.lemmas.Bool.{cases_Bool, true≢false, false≢true}
-use Rattle.mlk_expr.specs.Trees.{Tree}
 use Rattle.mlk_cert.specs.declared.case.Case.{Case}
 use Rattle.mlk_routine.specs.Trees.{CommandTree, Does, ParameterTree, Once, Endless, Limited, ControlTree, Runs, CommandTrees, finished, then_command, then_for}
 use Rattle.mlk_cert.specs.declared.names.NameSet.TheVariants.{Only}
@@ -11,15 +10,14 @@ use Rattle.mlk_calls.specs.States.{at_rest}
 use Rattle.mlk_calls.specs.Scope.{listed}
 use Rattle.mlk_rows.specs.declared.walk.Walk.{Walk}
 use Rattle.mlk_rows.specs.declared.walk.Fault.{Fault}
-use Rattle.mlk_rows.specs.Walks.{Outcome, put_all, with_states, few, each, begin, joined}
+use Rattle.mlk_rows.specs.Walks.{Outcome, put_all, with_states, few, each, begin}
 use Rattle.mlk_rows.specs.Spots.{Spot}
 use Rattle.mlk_rows.specs.Expressions.{value}
 use Rattle.mlk_commands.specs.Variables.{change_at}
-use Rattle.mlk_lines.specs.Commands.{command}
 use Rattle.mlk_lines.specs.Loops.{Rounds, begin_round, round_or_after, after_round, step_variable, step_again, limited, parameter, parameters, controlled, and_faults, ended_in, quit_in, and_states, over_too, after_rounds, at_word, one_command, commands}
 use Rattle.mlk_fewer.specs.Fewer.{Among, AreDistinct, IsClean, IsPart, ListsEachOnce, FewerCases, EachAlone}
-use Rattle.mlk_fewer.proofs.Lists.{all_old, all_new, all_from, all_distinct, in_map, from_map}
-use Rattle.mlk_fewer.proofs.Rows.{Keeps, Tells, both, stays, each_keeps, clean_with, clean_without, part_with, not_empty}
+use Rattle.mlk_fewer.proofs.Lists.{all_old, all_new, all_from, all_distinct, in_map}
+use Rattle.mlk_fewer.proofs.Rows.{Keeps, Tells, both, stays, each_keeps, clean_without, part_with}
 use Rattle.mlk_fewer.proofs.Counts.{few_keeps, joined_part, joined_clean, joined_apart, joined_tells}
 use Rattle.mlk_fewer.proofs.Walks.{command_keeps, value_part}
 

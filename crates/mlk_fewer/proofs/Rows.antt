@@ -1,11 +1,6 @@
 -- What rows make of fewer states.
-use Rattle.std.proofs.Common.{◌≡◌, ◌≤◌, ◌<◌, ◌+◌, ℕ, suc, true, false, Bool, List, [], ◌∷◌, ◌++◌, length, map, refl, ap, sym, ◌∙◌, inl, inr, ⊎_elim, arith, subst, drop}
-use Rattle.std.specs.Prelude.{◌⊎◌, if◌then◌else◌, ◌||◌, nat_lt, flat_map, filter}
-use Rattle.std.specs.List.{list_any}
-use Rattle.std.proofs.lemmas.Bool.{cases_Bool, cases_lt, false≢true, true≢false}
-use Rattle.std.proofs.lemmas.Bool.Decides.{nat_tests}
-use Rattle.std.proofs.lemmas.List.{length-append}
-use Rattle.mlk_text.specs.declared.code.Code.{Code}
+use Rattle.std.proofs.Common.{◌≡◌, true, List, [], ◌∷◌, ◌++◌, map, refl, ap, sym, ◌∙◌, inl, inr, ⊎_elim, subst, drop}
+use Rattle.std.specs.Prelude.{◌⊎◌, flat_map}
 use Rattle.mlk_names.specs.declared.symbol.Sym.{Sym}
 use Rattle.mlk_names.specs.declared.symbol.Sym.TheVariants.{Unknown}
 use Rattle.mlk_cert.specs.declared.case.Case.{Case}
@@ -15,7 +10,7 @@ use Rattle.mlk_calls.specs.States.{with_symbol}
 use Rattle.mlk_calls.specs.Scope.{Scope}
 use Rattle.mlk_rows.specs.declared.walk.Walk.{Walk}
 use Rattle.mlk_rows.specs.declared.walk.Quit.{Quit}
-use Rattle.mlk_rows.specs.Walks.{Outcome, Goes, Skips, Quits, Refused, put, put_all, add, add_all, with_states, each, each_changed, is_large, too_many, few, overfull}
+use Rattle.mlk_rows.specs.Walks.{Outcome, Goes, Skips, Quits, Refused, put_all, add, add_all, with_states, each, each_changed}
 use Rattle.mlk_rows.specs.Expressions.{with_value, capture, capture_unknown}
 use Rattle.mlk_fewer.specs.Fewer.{Among, AreDistinct, IsClean, IsPart}
 use Rattle.mlk_fewer.proofs.Lists.{in_front, in_back, in_either, in_map, from_map, in_flat, from_flat, put_old, put_new, put_from, put_distinct, all_new, all_from, all_distinct}

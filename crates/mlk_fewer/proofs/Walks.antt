@@ -1,8 +1,8 @@
 -- What expressions, arguments and commands make of fewer states.
-use Rattle.std.proofs.Common.{◌≡◌, ℕ, ◌+◌, true, false, Bool, List, [], ◌∷◌, ◌++◌, map, refl, ap, sym, ◌∙◌, inl, inr, ⊎_elim, subst, Option, None, Some}
-use Rattle.std.specs.Prelude.{if◌then◌else◌, fold, ◌||◌}
+use Rattle.std.proofs.Common.{◌≡◌, ℕ, ◌+◌, true, false, Bool, List, [], ◌∷◌, map, refl, ap, sym, ◌∙◌, inl, inr, ⊎_elim, Option, None, Some}
+use Rattle.std.specs.Prelude.{◌||◌}
 use Rattle.std.specs.List.{list_any}
-use Rattle.std.proofs.lemmas.Bool.{cases_Bool, true≢false, false≢true}
+use Rattle.std.proofs.lemmas.Bool.{cases_Bool, false≢true}
 use Rattle.mlk_expr.specs.declared.tree.Callee.{Callee}
 use Rattle.mlk_expr.specs.Trees.{Tree, Lit, Free, LocalName, GlobalName, SpecialName, Prefixed, Chain, PatternText, Func, Selected, BareCall, CallOf}
 use Rattle.mlk_expr.specs.Trees.{Trees, no_trees, tree, Subs, no_subs, sub, Links, no_links, link, Choices, no_choices, choice}
@@ -11,7 +11,7 @@ use Rattle.mlk_program.specs.Calls.{as_list}
 use Rattle.mlk_routine.specs.Trees.{VariableTree, CallTree, DoTree, DoCall, KillTree, KillOne, KillAllBut, NewTree, NewOne, NewAllBut}
 use Rattle.mlk_routine.specs.Trees.{LockTree, LockNames, MergeTree, MergeInto, ReadTree, ReadText, ReadFormat, ReadLine, ReadCharacter}
 use Rattle.mlk_routine.specs.Trees.{TargetTree, SetWhole, SetPart, SetTree, SetTo, WriteTree, WriteValue, WriteCharacter, WriteFormat}
-use Rattle.mlk_routine.specs.Trees.{ActionTree, Do, Else, Halt, Hang, If, Job, Kill, Lock, Merge, New, Quit, Read, Set, Write, CommandTree, Does}
+use Rattle.mlk_routine.specs.Trees.{ActionTree, Do, Else, Halt, Hang, If, Job, Kill, Lock, Merge, New, Quit, Read, Set, Write}
 use Rattle.mlk_rows.specs.declared.walk.Walk.{Walk}
 use Rattle.mlk_rows.specs.declared.spot.Block.{Block}
 use Rattle.mlk_rows.specs.declared.reference.Use.{Use}
@@ -20,19 +20,18 @@ use Rattle.mlk_calls.specs.declared.state.State.{State}
 use Rattle.mlk_calls.specs.declared.call.Calling.TheVariants.{Extrinsic}
 use Rattle.mlk_calls.specs.Calls.{at_call}
 use Rattle.mlk_calls.specs.States.{at_rest, without_last}
-use Rattle.mlk_calls.specs.Scope.{Scope}
 use Rattle.mlk_calls.specs.Symbols.{truth_in}
 use Rattle.mlk_calls.specs.Claims.{held_too}
-use Rattle.mlk_rows.specs.Walks.{all_placed, put_all, with_states, few, each, each_changed}
+use Rattle.mlk_rows.specs.Walks.{all_placed, with_states, few, each}
 use Rattle.mlk_rows.specs.Spots.{Spot}
 use Rattle.mlk_rows.specs.References.{use_of, read_last}
-use Rattle.mlk_rows.specs.Expressions.{count_subs, forget_subs, extrinsic, evaluate, evaluate_all, capture_subs, evaluate_links, evaluate_choices, capture_actual, capture_actuals, capture, capture_unknown, by_condition, value, value_if, values, conditioned}
+use Rattle.mlk_rows.specs.Expressions.{count_subs, forget_subs, extrinsic, evaluate, evaluate_all, capture_subs, evaluate_links, evaluate_choices, capture_actual, capture_actuals, capture, by_condition, value, value_if, values, conditioned}
 use Rattle.mlk_commands.specs.Variables.{subs_of, name_in, count_in, capture_variable}
 use Rattle.mlk_commands.specs.Locks.{capture_names, known_names, lock_row, is_timed, lock_argument, release}
 use Rattle.mlk_commands.specs.Arguments.{variable_in, arguments_in, capture_target, capture_targets, read_target, read_part, write_variable, assign, assign_all, set_argument, kill_row, kill_argument, new_argument, in_time_or_not, read_row, read_variable, read_argument, merge_from, merge_argument, write_argument, capture_given, given_in, do_row, forget_given, do_argument, job_row, job_argument, by_truth, if_argument, forget, count_targets}
 use Rattle.mlk_lines.specs.Commands.{turn, in_turn, if_row, else_row, enters, enter_row, block_ends, some_enter, do_block, halt_row, quit_row, do_calls, if_all, kill_each, lock_each, new_each, act, stay, command}
-use Rattle.mlk_fewer.specs.Fewer.{Among, AreDistinct, IsClean, IsPart}
-use Rattle.mlk_fewer.proofs.Lists.{all_distinct, found_there, there_found}
+use Rattle.mlk_fewer.specs.Fewer.{Among}
+use Rattle.mlk_fewer.proofs.Lists.{all_distinct}
 use Rattle.mlk_fewer.proofs.Rows.{Keeps, both, stays, each_keeps, changed_keeps, capture_keeps, unknown_keeps, clean_without, part_with}
 use Rattle.mlk_fewer.proofs.Counts.{few_keeps, ways_keep}
 

@@ -1,6 +1,6 @@
 -- Walks of fewer cases. That a walk finds nothing wrong is said of all cases that are listed at a line; a job is in one
 -- of them. This project's own.
-use Rattle.std.specs.Prelude.{◌≡◌, ◌⊎◌, ℕ, Bool, false, List, [], ◌∷◌, map}
+use Rattle.std.specs.Prelude.{◌≡◌, ◌⊎◌, ℕ, false, List, [], ◌∷◌, map}
 use Rattle.mlk_cert.specs.declared.case.Case.{Case}
 use Rattle.mlk_routine.specs.Trees.{CommandTrees}
 use Rattle.mlk_calls.specs.declared.state.State.{State}

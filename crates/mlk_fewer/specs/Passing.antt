@@ -1,6 +1,6 @@
 -- What it means that nothing wrong is found in an entry's lines: from each case that is listed at a line, all that the line
 -- comes to goes well at its end. This project's own.
-use Rattle.std.specs.Prelude.{◌≡◌, ℕ, List, [], ◌∷◌, Option}
+use Rattle.std.specs.Prelude.{◌≡◌, List, [], ◌∷◌, Option}
 use Rattle.mlk_text.specs.Places.{column_at}
 use Rattle.mlk_cert.specs.declared.case.Case.{Case}
 use Rattle.mlk_routine.specs.Trees.{HeadTree, LineHead, LineTrees, no_lines, line}
