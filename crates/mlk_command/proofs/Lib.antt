@@ -2,5 +2,4 @@ pub mod Paths
 pub mod Sources
 pub mod Checks
 pub mod Saying
-pub mod FileLemmas
 pub mod Printing

@@ -129,6 +129,9 @@ abbrev pub endings : LineEnd → Walk → List Ending
 endings e w = map (state_end e) w.going ++ (map (case_end e) w.skips ++ map (quit_end e) w.quits)
 
 -- the faults of a line, and the cases in which its block may end there
+abbrev pub Ended : Type 0
+Ended = Ends
+
 abbrev pub add_ending : Ends → Ending → Ends
 add_ending ends (Faulty line column code) =
     record ends { faults = ends.faults ++ record { line = line; column = column; code = code } ∷ [] }

@@ -3,3 +3,4 @@ pub mod Runs
 pub mod Plain
 pub mod Scopes
 pub mod Examples
+pub mod KeptExample
