@@ -12,7 +12,6 @@ use Rattle.mlk_locks.specs.declared.refusal.Refusal.TheVariants.{UnknownJob, Not
 use Rattle.mlk_locks.specs.Counts.{excludes}
 use Rattle.mlk_locks.specs.Waiting.{is_free_among, is_numbered}
 use Rattle.mlk_locks.specs.Systems.{Machine, number, and_then, changed, joined}
-use Rattle.mlk_program.proofs.Directories.{position-map}
 use Rattle.mlk_program.proofs.NameTables.{position-cons}
 use Rattle.mlk_jobs.specs.declared.job.Job.{Job as JobIn}
 use Rattle.mlk_jobs.specs.Tasks.{Job}
@@ -44,10 +43,6 @@ any_keeps (j ∷ js) k n =
 pub free_among : (js : List JobIn) (k : ℕ)
     → is_free_among (λ j. seen (job_of j)) js k ≡ is_free_among seen (map job_of js) k
 free_among js k = λ i n. not (any_keeps js k n i)
-
-pub place_mapped : (js : List JobIn) (k : ℕ)
-    → position (λ j. (seen j).number == k) (map job_of js) ≡ position (λ j. (seen (job_of j)).number == k) js
-place_mapped js k = position-map (λ j. (seen j).number == k) job_of js
 
 pub job_at : (js : List JobIn) (i : ℕ) (j : JobIn) → j ≡ get_or js i j → job_of j ≡ get_or (map job_of js) i (job_of j)
 job_at [] i j e = refl
@@ -121,11 +116,6 @@ pub sound_more : (js : List JobIn) (j : JobIn) → AreSound js → Sound j → A
 sound_more [] j h k = (k, tt)
 sound_more (x ∷ js) j h k = (h.0, sound_more js j h.1 k)
 
-pub numbered : (js : List JobIn) (k : ℕ)
-    → is_numbered (λ j. seen (job_of j)) js k ≡ is_numbered seen (map job_of js) k
-numbered [] k = refl
-numbered (j ∷ js) k = ap (λ (b : Bool). (j.number == k) || b) (numbered js k)
-
 -- what is said of one job is said of all
 pub set_same : (js : List JobIn) (i : ℕ) (j : JobIn) → j ≡ get_or js i j → slice_set (map job_of js) i (job_of j) ≡ map job_of js
 set_same [] i j e = refl
@@ -148,10 +138,6 @@ aborted_so (Err why) x j g h k = ap (and_then (λ y. Ok (g y))) k
 module _ {J C E : Type 0} (m : Machine J C E) (k : ℕ) (js : List J) (b : Result J Refusal) where
   pub join_used : is_numbered m.view js k ≡ true → joined m k js b ≡ Err NotEnabled
   join_used h = rw h refl
-
-  pub join_undeclared : (d : Bool) → d ≡ false → is_numbered m.view js k ≡ false
-      → joined m k js (if d then b else Err NotEnabled) ≡ Err NotEnabled
-  join_undeclared d e h = rw (h, e) refl
 
   pub join_declared : (d : Bool) → d ≡ true → is_numbered m.view js k ≡ false
       → joined m k js (if d then b else Err NotEnabled) ≡ and_then (λ j. Ok (js ++ j ∷ [])) b

@@ -217,6 +217,13 @@ impl<'a> System<'a> {
         }
     }
 
+    /// The names that the job of this number holds, each with its count. It takes no memory.
+    pub fn held(&self, number: u32) -> Option<&[(LockName, u32)]>
+        ensures { option_map (λ h. h.now) result ≡ option_map (λ j. j.held) (job_numbered number (jobs_in self.now)) }
+    {
+        Some(self.job(number)?.held.entries())
+    }
+
     /// Whether some of the jobs wait in a ring: each for one of them.
     pub fn has_ring(&self) -> Result<bool, AllocError>
         ensures { IfOk result (λ found. found ≡ has_ring_of seen (jobs_in self.now)) }

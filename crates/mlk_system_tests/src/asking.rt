@@ -36,8 +36,20 @@ fn counts_are(system: &System<'_>, name: &LockName, wanted: &[(u32, u32)]) -> bo
         .all(|(job, count)| system.holds(*job, name) == *count)
 }
 
-fn answers_are(system: &System<'_>, name: &LockName) -> bool {
+// How many names a job holds.
+fn names_held(system: &System<'_>, job: u32) -> Option<usize> {
+    Some(system.held(job)?.len())
+}
+
+fn holdings_are(system: &System<'_>, name: &LockName) -> bool {
     counts_are(system, name, &[(7, 1), (3, 0), (1, 0)])
+        && names_held(system, 7) == Some(1)
+        && names_held(system, 3) == Some(0)
+        && names_held(system, 1) == None
+}
+
+fn answers_are(system: &System<'_>, name: &LockName) -> bool {
+    holdings_are(system, name)
         && system.waits_for(3, 7)
         && !system.waits_for(7, 3)
         && !system.waits_for(3, 1)
