@@ -1,0 +1,151 @@
+-- What a block or a frame puts back at its end, and what steps do to those that are open.
+use Rattle.std.proofs.Common.{◌≡◌, ℕ, ◌≤◌, Bool, true, false, List, [], ◌∷◌, map, Option, Some, None, refl, ap, subst}
+use Rattle.std.specs.Prelude.{◌&&◌, if◌then◌else◌, Ok, Err}
+use Rattle.mlk_names.specs.declared.lock_name.LockName.{LockName}
+use Rattle.mlk_names.specs.declared.reference.Access.{Access}
+use Rattle.mlk_names.specs.declared.reference.Access.TheVariants.{Reads, Writes}
+use Rattle.mlk_locks.specs.declared.refusal.Refusal.{Refusal}
+use Rattle.mlk_locks.specs.declared.refusal.Refusal.TheVariants.{NotEnabled}
+use Rattle.mlk_locks.specs.Counts.{has_room}
+use Rattle.std.specs.List.{list_all}
+use Rattle.mlk_expr.specs.Trees.{Tree, Choices, no_choices, choice as condition, ActualTree}
+use Rattle.mlk_routine.specs.Trees.{RoutineTree, LineHead}
+use Rattle.mlk_program.specs.declared.entry.EntryId.{EntryId}
+use Rattle.mlk_jobs.specs.declared.choice.Choice.{Choice}
+use Rattle.mlk_jobs.specs.declared.choice.Choice.TheVariants as choice
+use Rattle.mlk_jobs.specs.Bindings.{Bindings, Cell}
+use Rattle.mlk_jobs.specs.Tasks.{Task, Job, LineTree, Frame, NoValue, AwaitsValue, HasValue, Mark, BlockMark, FrameMark, marks}
+use Rattle.mlk_jobs.specs.Choices.{Stepped, without_choice, with_value, with_truth, with_last, truth_of, by_truth, is_one, is_zero, given_or_asked, fetched, touched, dropped, doing}
+use Rattle.mlk_jobs.specs.Locking.{claimed, timed_claim, if_free}
+use Rattle.mlk_jobs.specs.Lines.{selected, chosen, next_line}
+use Rattle.mlk_jobs.specs.Calling.{entered, called, called_if}
+
+-- what an open block or frame puts back
+pub record Kept : Type 0 where
+  pub back : Bindings
+  pub next : ℕ
+  pub test : Option Bool
+
+abbrev pub test_in : Frame → Option Bool
+test_in NoValue = None
+test_in (AwaitsValue test) = Some test
+test_in (HasValue test) = Some test
+
+abbrev pub kept_by : Mark → Kept
+kept_by (BlockMark back next test) = record { back = back; next = next; test = Some test }
+kept_by (FrameMark frame back next routine) = record { back = back; next = next; test = test_in frame }
+
+abbrev pub kept : List Task → List Kept
+kept ts = map kept_by (marks ts)
+
+-- What a step may do to them: nothing; open one, which puts all back; end the innermost one; or the job has ended.
+pub data Move (j i : Job) : Type 0 where
+  stays : kept i.tasks ≡ kept j.tasks → Move j i
+  opens : (test : Option Bool) → kept i.tasks ≡ record { back = j.bindings; next = j.next; test = test } ∷ kept j.tasks
+      → ((t : Bool) → test ≡ Some t → j.test ≡ t) → Move j i
+  ends : (k : Kept) → kept j.tasks ≡ k ∷ kept i.tasks → i.bindings ≡ k.back → i.next ≡ k.next
+      → ((c : Cell) → k.next ≤ c.generation → i.cells c ≡ None) → ((t : Bool) → k.test ≡ Some t → i.test ≡ t) → Move j i
+  halts : kept i.tasks ≡ [] → Move j i
+
+module _ (j : Job) where
+  abbrev pub Moves : Stepped → Type 0
+  Moves s = (i : Job) → s ≡ Ok i → Move j i
+
+  pub done : (k : Job) → Move j k → Moves (Ok k)
+  done k m i e = let f : k ≡ i = cc in subst (Move j) f m
+
+  pub refused : (why : Refusal) → Moves (Err why)
+  refused why i e = cc
+
+  pub same : (k : Job) → marks k.tasks ≡ marks j.tasks → Moves (Ok k)
+  same k e = done k (stays (ap (map kept_by) e))
+
+  pub unasked : (c : Choice) (s : Stepped) → Moves s → Moves (without_choice c s)
+  unasked choice.None s h i e = h i e
+  unasked (choice.Value v) (Ok k) h i e = cc
+  unasked (choice.Value v) (Err w) h i e = cc
+  unasked (choice.Truth t) (Ok k) h i e = cc
+  unasked (choice.Truth t) (Err w) h i e = cc
+
+  pub of_value : (c : Choice) (f : List ℕ → Stepped) → ((v : List ℕ) → Moves (f v)) → Moves (with_value c f)
+  of_value choice.None f h i e = cc
+  of_value (choice.Value v) f h i e = h v i e
+  of_value (choice.Truth t) f h i e = cc
+
+  pub of_truth : (c : Choice) (f : Bool → Stepped) → ((t : Bool) → Moves (f t)) → Moves (with_truth c f)
+  of_truth choice.None f h i e = cc
+  of_truth (choice.Value v) f h i e = cc
+  of_truth (choice.Truth t) f h i e = h t i e
+
+  pub of_last : (vs : List (List ℕ)) (f : List ℕ → Stepped) → ((v : List ℕ) → Moves (f v)) → Moves (with_last vs f)
+  of_last [] f h i e = cc
+  of_last (v ∷ vs) f h i e = h v i e
+
+  pub of_if : (b : Bool) (s t : Stepped) → Moves s → Moves t → Moves (if b then s else t)
+  of_if true s t p q i e = p i e
+  of_if false s t p q i e = q i e
+
+  pub of_known : (c : Choice) (v : List ℕ) (f : Bool → Stepped) → ((t : Bool) → Moves (f t)) → Moves (truth_of c v f)
+  of_known c v f h =
+      of_if (is_one v) _ _ (unasked c (f true) (h true))
+      (of_if (is_zero v) _ _ (unasked c (f false) (h false)) (of_truth c f h))
+
+  pub of_condition : (c : Choice) (k : Job) (f : Bool → Job → Stepped) → ((t : Bool) → Moves (f t (dropped 1 k))) → Moves (by_truth c k f)
+  of_condition c k f h = of_last k.values _ (λ v. of_known c v (λ t. f t (dropped 1 k)) h)
+
+  pub of_result : (c : Choice) (o : Option (List ℕ)) (f : List ℕ → Stepped) → ((v : List ℕ) → Moves (f v)) → Moves (given_or_asked c o f)
+  of_result c None f h = of_value c f h
+  of_result c (Some v) f h = unasked c (f v) (h v)
+
+  pub of_fetch : (ts : List Task) → marks ts ≡ marks j.tasks → (o : Option (List ℕ)) → Moves (fetched j ts o)
+  of_fetch ts e None = refused NotEnabled
+  of_fetch ts e (Some v) = same _ e
+
+  pub of_touch : (c : Choice) (a : Access) (ts : List Task) → marks ts ≡ marks j.tasks → Moves (touched c a j ts)
+  of_touch c Reads ts e = of_value c _ (λ v. same _ e)
+  of_touch c Writes ts e = unasked c _ (same _ e)
+
+  pub of_select : (cs : Choices) (ts : List Task) → marks ts ≡ marks j.tasks → Moves (selected cs ts j)
+  of_select no_choices ts e = refused NotEnabled
+  of_select (condition c v rest) ts e = same _ e
+
+  pub of_choice : (value : Tree) (others : Choices) (ts : List Task) → marks ts ≡ marks j.tasks → (t : Bool)
+      → Moves (chosen value others ts t (dropped 1 j))
+  of_choice value others ts e true = same _ e
+  of_choice value others ts e false = same _ e
+
+  pub of_line : (lines : List LineTree) (ts : List Task) → marks ts ≡ marks j.tasks → Moves (next_line lines ts j)
+  of_line [] ts e = same _ e
+  of_line ((LineHead n level end label None commands, block) ∷ lines) ts e = same _ e
+  of_line ((LineHead n level end label (Some formals) commands, block) ∷ lines) ts e = refused NotEnabled
+
+  pub of_grant : (b : Bool) (k : Job) → marks k.tasks ≡ marks j.tasks → Moves (if_free b k)
+  of_grant true k d = same k d
+  of_grant false k d = refused NotEnabled
+
+  pub of_claim : (c : Choice) (names : List LockName) (timed : Bool) (free : LockName → Bool) (ts : List Task) → marks ts ≡ marks j.tasks
+      → Moves (claimed free c names timed (doing ts j))
+  of_claim c names false free ts e = unasked c _ (of_grant (list_all free names && has_room names j.held) _ e)
+  of_claim c names true free ts e = of_truth c _ (λ t. elim t as (λ t. Moves (timed_claim free names t (doing ts j))) [
+    | true ↦ of_grant (list_all free names && has_room names j.held) _ e
+    | false ↦ same _ e
+  ])
+
+  -- a call opens a frame
+  pub of_entered : (frame : Frame) (r : ℕ) (given : List ActualTree) (lines : List LineTree) (ts : List Task) (k : Job)
+      → marks ts ≡ marks j.tasks → k.bindings ≡ j.bindings → k.next ≡ j.next
+      → ((t : Bool) → test_in frame ≡ Some t → j.test ≡ t) → Moves (entered frame r given lines ts k)
+  of_entered frame r given [] ts k e b n t = refused NotEnabled
+  of_entered frame r given ((head, block) ∷ lines) ts k e b n t =
+      done _ (opens (test_in frame) (rw (b, n, e) refl) t)
+
+  pub of_call : (routines : List RoutineTree) (frame : Frame) (o : Option EntryId) (given : List ActualTree) (ts : List Task) (k : Job)
+      → marks ts ≡ marks j.tasks → k.bindings ≡ j.bindings → k.next ≡ j.next
+      → ((t : Bool) → test_in frame ≡ Some t → j.test ≡ t) → Moves (called routines frame o given ts k)
+  of_call routines frame None given ts k e b n t = refused NotEnabled
+  of_call routines frame (Some x) given ts k e b n t = of_entered frame x.routine given _ ts k e b n t
+
+  pub of_call_if : (t : Bool) (routines : List RoutineTree) (o : Option EntryId) (given : List ActualTree) (ts : List Task)
+      → marks ts ≡ marks j.tasks → Moves (called_if t routines o given ts (dropped 1 j))
+  of_call_if true routines o given ts e = of_call routines NoValue o given ts (dropped 1 j) e refl refl (λ t h. cc)
+  of_call_if false routines o given ts e = same _ e
