@@ -99,23 +99,31 @@ fn check(
     walk(rt, alloc, &program, &rules, certificate)
 }
 
-fn all(rt: &HostRuntime, alloc: Global, words: &[String]) -> io::Result<Instant> {
+fn all(
+    rt: &HostRuntime,
+    alloc: Global,
+    rules: &str,
+    certificate: &str,
+    paths: &[String],
+) -> io::Result<Instant> {
     let begin = Instant::now(rt)?;
-    let texts = read_files(rt, alloc, &words[1..])?;
+    let rules = fs::read(rt, rules)?;
+    let certificate = fs::read(rt, certificate)?;
+    let texts = read_files(rt, alloc, paths)?;
     println!(rt; "files {:?}", begin.elapsed(rt)?)?;
     let begin = Instant::now(rt)?;
-    let routines = routines_of(alloc, &words[3..], &texts.as_slice()[2..])?;
+    let routines = routines_of(alloc, paths, texts.as_slice())?;
     println!(rt; "routines {:?}, {} of them", begin.elapsed(rt)?, routines.len())?;
-    check(rt, alloc, routines.as_slice(), texts[0].as_slice(), texts[1].as_slice())?;
+    check(rt, alloc, routines.as_slice(), rules.as_slice(), certificate.as_slice())?;
     Instant::now(rt)
 }
 
 fn main(rt: HostRuntime) -> io::Result<()> {
     let words: Vec<String> = std::env::args(&rt)?.collect(rt.alloc())?;
-    if words.len() < 4 {
+    let [_, rules, certificate, paths @ ..] = words.as_slice() else {
         return println!(rt; "check_speed RULES CERT ROUTINE..");
-    }
-    let end = all(&rt, rt.alloc(), words.as_slice())?;
+    };
+    let end = all(&rt, rt.alloc(), rules.as_str(), certificate.as_str(), paths)?;
     println!(rt; "giving back {:?}", end.elapsed(&rt)?)
 }
 """
