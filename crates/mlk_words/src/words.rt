@@ -88,7 +88,7 @@ Status: 0 replayed, 2 refused input or an event that can't happen, 3 want of mem
 written.";
 
 // The program's version, and the kit that it is proved with.
-const VERSION: &str = "0.1.0, proved with rattle-kit-13b logic dac8208d650f15bf";
+const VERSION: &str = "0.1.0, proved with rattle-kit-13f logic dac8208d650f15bf";
 
 const ABOUT: &str = "Checks that M routines touch shared data only under their locks";
 
