@@ -12,9 +12,7 @@ use std::test::Fail;
 fn case(alloc: Global, kept: &[u8]) -> Result<Case, AllocError> {
     let mut names: Vec<Name> = Vec::new(alloc);
     for letter in kept {
-        let mut name = Vec::new(alloc);
-        name.push(*letter)?;
-        names.push(Name::new(name))?;
+        names.push(Name::of(alloc, &[*letter])?)?;
     }
     Ok(Case {
         test: Test::Any,

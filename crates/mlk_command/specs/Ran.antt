@@ -61,12 +61,15 @@ IsPrinted trees (outcome.Report rows) text status = (text ≡ report_text trees 
 IsPrinted trees (outcome.Made made) text status = (text ≡ made.items) × (status ≡ 0)
 IsPrinted trees (outcome.Replayed shown) text status = (text ≡ shown) × (status ≡ 0)
 
+abbrev pub PrintsOutcome : List RoutineTree → Outcome → Answer → Type 0
+PrintsOutcome trees o (answer.Report text status) = IsPrinted trees o text status
+PrintsOutcome trees o (answer.Refused line) = ⊥
+PrintsOutcome trees o (answer.Unread line) = ⊥
+PrintsOutcome trees o (answer.Usage text) = ⊥
+PrintsOutcome trees o answer.OutOfMemory = Unit {0}
+
 abbrev pub Prints : Checked → Answer → Type 0
-Prints checked (answer.Report text status) = IsPrinted (trees_of checked) checked.outcome text status
-Prints checked (answer.Refused line) = ⊥
-Prints checked (answer.Unread line) = ⊥
-Prints checked (answer.Usage text) = ⊥
-Prints checked answer.OutOfMemory = Unit {0}
+Prints checked a = PrintsOutcome (trees_of checked) checked.outcome a
 
 -- the line of a refusal, where memory doesn't run out
 abbrev pub TellsRefusal : Refusal → Answer → Type 0

@@ -180,7 +180,9 @@ fn report_with<W: Watch>(
     ensures refused { IfErr result (IsRefusalWith (map routine_of program.now) rules.now text.now) }
 {
     let certificate = read_cert(alloc, text)?;
-    report_by(alloc, program, rules, &certificate, text, watch)
+    let report = report_by(alloc, program, rules, &certificate, text, watch);
+    watch.discard(certificate);
+    report
 }
 
 // The report by a certificate that was made, and its text.
@@ -257,6 +259,7 @@ fn outcome_with<W: Watch>(
         Work::Verify => {
             let made = made(alloc, program, rules, watch)?;
             let report = report_of(alloc, program, rules, &made, watch)?;
+            watch.discard(made);
             Ok(Outcome::Report(report))
         }
         Work::Replay(events) => {
@@ -292,7 +295,9 @@ fn outcome_of<W: Watch>(
     ensures refused { IfErr result (IsRefusalOf (map routine_of routines.now) rules_text.now work.now) }
 {
     let program = link(alloc, routines)?;
-    outcome_under(alloc, &program, rules_text, work, watch)
+    let outcome = outcome_under(alloc, &program, rules_text, work, watch);
+    watch.discard(program);
+    outcome
 }
 
 /// What texts come to, or the first refusal: of the routines in order, of their linking, of the rules, of the

@@ -4,7 +4,7 @@ ghost use Rattle.std.specs.Prelude.{◌≡◌, ◌≢◌, ◌⊎◌, IfOk, OnOk,
 ghost use Rattle.mlk_routine.specs.Views.{routine_of};
 ghost use Rattle.std.specs.IoError.{error_kind};
 ghost use Rattle.std.specs.Io.KnownBytes.{Appends};
-ghost use Rattle.mlk_command.specs.Ran.{status_of, PrintsReport, PrintsText, Prints, IsRefusalLine, TellsRefusal, TellsUnread, Answers, AnswersWords, IsSaid, Ran};
+ghost use Rattle.mlk_command.specs.Ran.{status_of, PrintsReport, PrintsText, PrintsOutcome, Prints, IsRefusalLine, TellsRefusal, TellsUnread, Answers, AnswersWords, IsSaid, Ran};
 
 use crate::checked::{Checked, Outcome, Refusal, check_texts};
 use crate::printed::{
@@ -67,15 +67,23 @@ fn text_answer(alloc: Global, bytes: &[u8]) -> Answer
     }
 }
 
-fn answer_of(alloc: Global, checked: Checked) -> Answer
-    ensures { Prints checked result }
+fn outcome_answer(alloc: Global, routines: &[Routine], outcome: Outcome) -> Answer
+    ensures { PrintsOutcome (map routine_of routines.now) outcome result }
 {
-    let Checked { routines, outcome } = checked;
     match outcome {
-        Outcome::Report(report) => report_answer(alloc, routines.as_slice(), &report),
+        Outcome::Report(report) => report_answer(alloc, routines, &report),
         Outcome::Made(text) => Answer::Report(Text::of(text), YES),
         Outcome::Replayed(text) => text_answer(alloc, text.as_bytes()),
     }
+}
+
+fn answer_of<W: Watch>(alloc: Global, checked: Checked, watch: &W) -> Answer
+    ensures { Prints checked result }
+{
+    let Checked { routines, outcome } = checked;
+    let answer = outcome_answer(alloc, routines.as_slice(), outcome);
+    watch.discard(routines);
+    answer
 }
 
 fn refusal_line(alloc: Global, refusal: &Refusal) -> Result<Text, AllocError>
@@ -122,7 +130,7 @@ fn answer_request<F: Files, W: Watch>(
 {
     match read_files(alloc, files, request) {
         Ok(sources) => match check_texts(alloc, &sources, watch) {
-            Ok(checked) => answer_of(alloc, checked),
+            Ok(checked) => answer_of(alloc, checked, watch),
             Err(refusal) => refusal_answer(alloc, &refusal),
         },
         Err(FileError::OutOfMemory) => Answer::OutOfMemory,

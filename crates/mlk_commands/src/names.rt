@@ -131,7 +131,7 @@ fn root_of(alloc: Global, name: &Expr) -> Result<Root, AllocError>
     match name {
         Expr::Global(_, name, _) => Ok(Root::Global(name.copy()?)),
         Expr::Local(name, _) => Ok(Root::Local(name.copy()?)),
-        _ => Ok(Root::Local(Name::new(Vec::new(alloc)))),
+        _ => Ok(Root::Local(Name::of(alloc, b"")?)),
     }
 }
 

@@ -40,7 +40,7 @@ pub fn in_order(alloc: Global, names: &[Name]) -> Result<List<Name>, AllocError>
 {
     let mut found = List::new(alloc);
     for bytes in ordered(alloc, names)? {
-        found.push(Name::new(bytes))?;
+        found.push(Name::of(alloc, bytes.as_slice())?)?;
     }
     Ok(found)
 }

@@ -36,7 +36,7 @@ fn root_in(alloc: Global, variable: &Variable) -> Result<Root, AllocError>
     match &variable.name {
         Expr::Global(_, name, _) => Ok(Root::Global(name.copy()?)),
         Expr::Local(name, _) => Ok(Root::Local(name.copy()?)),
-        _ => Ok(Root::Local(Name::new(Vec::new(alloc)))),
+        _ => Ok(Root::Local(Name::of(alloc, b"")?)),
     }
 }
 

@@ -10,11 +10,8 @@ ghost use Rattle.mlk_lexemes.specs.Reading.{next, list_at, listed_at};
 use crate::lexeme::front_of;
 use crate::written::Written;
 use mlk_text::lexeme::byte_of;
-use mlk_text::{Failure, NotThere};
+use mlk_text::{Failure, NotThere, likely_length};
 use std::alloc::Global;
-
-// How many bytes are looked at for a list's length.
-const MOST_LOOKED_AT: usize = 128;
 
 /// What can be an item of a list.
 pub trait Item: Written + Drop + Sized {
@@ -41,17 +38,9 @@ pub fn both(first: bool, second: bool) -> bool
     first && second
 }
 
-// How many items a list seems to have, whose first stands before these bytes: so most lists take no more memory than they
-// need.
-fn likely_length(between: u8, bytes: &[u8]) -> usize {
-    let end = if between == b';' { b' ' } else { b')' };
-    bytes
-        .iter()
-        .take(MOST_LOOKED_AT)
-        .take_while(|b| **b != end)
-        .filter(|b| **b == between)
-        .count()
-        .saturating_add(1)
+// The byte after the last item of a list.
+fn end_of(between: u8) -> u8 {
+    if between == b';' { b' ' } else { b')' }
 }
 
 // The items after the first, and whether all stand in order.
@@ -67,7 +56,7 @@ fn more_items<'a, T: Item>(
         (next T.reads) (suc (length bytes.now)) bytes.now)) }
     ensures order { IfOk result (λ x. x.1 ≡ ascends T.before x.0.items) }
 {
-    let mut found = Vec::with_capacity(alloc, likely_length(between, bytes))?;
+    let mut found = Vec::with_capacity(alloc, likely_length(between, end_of(between), bytes))?;
     let mut last = first;
     let mut text = first_text;
     let mut ordered = true;

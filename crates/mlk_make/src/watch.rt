@@ -18,6 +18,10 @@ pub trait Watch {
 
     /// All work is done, and something else may be written now.
     fn end(&self);
+
+    /// Takes what is not needed any more. Where the process ends soon it may be kept: the system then takes all memory
+    /// back at once.
+    fn discard<T: Drop>(&self, value: T);
 }
 
 /// Nobody.
@@ -28,4 +32,6 @@ impl Watch for Unwatched {
     fn see(&self, _stage: Stage, _done: usize, _of: usize) {}
 
     fn end(&self) {}
+
+    fn discard<T: Drop>(&self, _value: T) {}
 }

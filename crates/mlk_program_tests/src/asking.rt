@@ -101,11 +101,11 @@ fn shared(rt: HostRuntime) {
         .ok()
         .expect(&rt, "a program");
     for text in [b"X".as_slice(), b"Y", b"Q", b"K", b"M", b"V"].iter() {
-        let name = Name::new(Vec::from_slice(alloc, text).ok().expect(&rt, "memory"));
+        let name = Name::of(alloc, text).ok().expect(&rt, "memory");
         assert!(rt; program.is_shared(&name), "{text:?}");
     }
     for text in [b"Z".as_slice(), b"L", b"N", b"W", b"A", b""].iter() {
-        let name = Name::new(Vec::from_slice(alloc, text).ok().expect(&rt, "memory"));
+        let name = Name::of(alloc, text).ok().expect(&rt, "memory");
         assert!(rt; !program.is_shared(&name), "{text:?}");
     }
 }

@@ -14,7 +14,7 @@ ghost use Rattle.mlk_expr.specs.declared.scope.Allows.TheVariants.{Everything};
 use crate::fault::refused;
 use crate::part::{expression, has, name};
 use mlk_expr::{Allows, Expr};
-use mlk_text::{Code, Failure, Fault, Name};
+use mlk_text::{Code, Failure, Fault, Name, push_sparing};
 use std::alloc::Global;
 
 /// What stands between the commas of a list.
@@ -75,7 +75,7 @@ pub(crate) fn listed<T: Item>(
     items.push(first)?;
     while has(line, next, b',') {
         let (item, end) = T::read(alloc, line, next + 1)?;
-        items.push(item)?;
+        push_sparing(&mut items, item)?;
         next = end;
     }
     Ok((items, next))

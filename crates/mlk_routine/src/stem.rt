@@ -28,5 +28,5 @@ pub(crate) fn stem_name(alloc: Global, stem: &[u8]) -> Result<Option<Name>, Allo
     if !is_name(&spelled) {
         return Ok(None);
     }
-    Ok(Some(Name::new(spelled)))
+    Ok(Some(Name::of(alloc, spelled.as_slice())?))
 }

@@ -9,7 +9,7 @@ use std::alloc::{AllocError, Global};
 use std::test::Fail;
 
 fn name(alloc: Global, text: &str) -> Result<Name, AllocError> {
-    Ok(Name::new(Vec::from_slice(alloc, text.as_bytes())?))
+    Name::of(alloc, text.as_bytes())
 }
 
 fn value(alloc: Global, text: &str) -> Result<Value, AllocError> {

@@ -127,7 +127,7 @@ fn unary_folds(rt: HostRuntime) -> Result<(), Fail> {
 #[test]
 fn copies(rt: HostRuntime) -> Result<(), Fail> {
     let alloc = rt.alloc();
-    let name = Name::new(Vec::from_slice(alloc, b"ACCT")?);
+    let name = Name::of(alloc, b"ACCT")?;
     assert!(rt; name.clone()? == name);
     let text = value(alloc, b"12")?;
     assert!(rt; text.clone()? == text);

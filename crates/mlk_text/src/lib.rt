@@ -31,7 +31,7 @@ pub use folding::{fold, fold_number, fold_unary, whole};
 pub use law::{
     both_read, entries_written, literals_canonical, one_canonical, one_code, one_text, one_whole,
 };
-pub use list::{List, are_equal, push_sparing};
+pub use list::{List, are_equal, likely_length, push_sparing};
 pub use name::Name;
 pub use numeral::canonical;
 pub use operator::{Op, Relation, UnaryOp};

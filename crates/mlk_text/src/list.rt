@@ -124,6 +124,21 @@ pub fn push_sparing<T: Drop>(items: &mut Vec<T>, item: T) -> Result<(), AllocErr
     Ok(())
 }
 
+// How far a list is looked through for how long it may be.
+const MOST_LOOKED_AT: usize = 128;
+
+/// How many items a list seems to have whose first stands before these bytes, with this byte between items and that one
+/// after the last: so most lists of a text take no more memory than they need. It may be wrong, and costs little.
+pub fn likely_length(between: u8, end: u8, bytes: &[u8]) -> usize {
+    bytes
+        .iter()
+        .take(MOST_LOOKED_AT)
+        .take_while(|b| **b != end)
+        .filter(|b| **b == between)
+        .count()
+        .saturating_add(1)
+}
+
 impl<T> From<Vec<T>> for List<T> {
     ghost from_gives = { λ v l. l ≡ v.items };
 

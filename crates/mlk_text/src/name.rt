@@ -2,7 +2,7 @@
 
 ghost use Rattle.std.specs.Prelude.{◌≡◌, IfOk};
 
-use crate::text::Text;
+use crate::text::NameText;
 use std::alloc::{AllocError, Global};
 use std::marker::Model;
 
@@ -11,34 +11,25 @@ use std::marker::Model;
 /// A label may be digits instead. Readers make names; the type itself takes any bytes.
 #[derive(Drop, Debug)]
 pub struct Name {
-    text: Text,
+    text: NameText,
 }
 
 impl Model for Name {
     ghost use Rattle.std.specs.Prelude.{List, ℕ};
-    ghost use Rattle.mlk_text.specs.Texts.{bytes_of};
+    ghost use Rattle.mlk_text.specs.Texts.{name_bytes_of};
 
     ghost Value = { List ℕ };
 
-    ghost view = { λ n. bytes_of n.text };
+    ghost view = { λ n. name_bytes_of n.text };
 }
 
 impl Name {
-    /// The name with these bytes.
-    pub fn new(bytes: Vec<u8>) -> Name
-        ensures { result ≡ bytes.items }
-    {
-        Name {
-            text: Text::Long(bytes),
-        }
-    }
-
-    /// The name with these bytes. Up to 23 of them take no memory beside the name itself.
+    /// The name with these bytes. Up to 14 of them take no memory beside the name itself.
     pub fn of(alloc: Global, bytes: &[u8]) -> Result<Name, AllocError>
         ensures { IfOk result (λ name. name ≡ bytes.now) }
     {
         Ok(Name {
-            text: Text::new(alloc, bytes)?,
+            text: NameText::new(alloc, bytes)?,
         })
     }
 

@@ -1,13 +1,16 @@
 // The bytes of names and values. Most are short, and then stand in the struct itself.
 
 ghost use Rattle.std.specs.Prelude.{◌≡◌, ◌≤◌, IfOk, length, bytes_eq};
-ghost use Rattle.mlk_text.specs.Texts.{bytes_of};
+ghost use Rattle.mlk_text.specs.Texts.{bytes_of, name_bytes_of};
 
 use std::alloc::{AllocError, Global};
 use std::marker::Model;
 
-// How many bytes stand in the struct itself.
+// How many bytes of a value stand in the struct itself.
 const MOST_SHORT: usize = 23;
+
+// How many bytes of a name do: most are shorter, and a tree of a routine has very many of them.
+const MOST_SHORT_NAME: usize = 14;
 
 // Whether the bytes are the same. Most of those that are compared are few, or differ early.
 fn are_same(bytes: &[u8], others: &[u8]) -> bool
@@ -28,29 +31,30 @@ fn are_same(bytes: &[u8], others: &[u8]) -> bool
     left_others.is_empty()
 }
 
-/// Up to 23 bytes.
+/// Up to N bytes.
 #[derive(Debug, Drop)]
-pub(crate) struct Short {
-    bytes: [u8; MOST_SHORT],
+pub(crate) struct Short<const N: usize> {
+    bytes: [u8; N],
     length: u8,
 }
 
-impl Model for Short {
+impl<const N: usize> Model for Short<N> {
     ghost use Rattle.std.specs.Prelude.{List, ℕ, take, ◌≤◌};
 
     ghost Value = { List ℕ };
 
     ghost view = { λ s. take s.length s.bytes };
 
-    ghost invariant = { λ s. s.length ≤ 23 };
+    ghost invariant = { λ s. s.length ≤ N };
 }
 
-impl Short {
-    fn new(bytes: &[u8]) -> Short
-        requires { length bytes.now ≤ 23 }
+impl<const N: usize> Short<N> {
+    fn new(bytes: &[u8]) -> Short<N>
+        requires fits { length bytes.now ≤ N }
+        requires few { N ≤ 255 }
         ensures { result ≡ bytes.now }
     {
-        let mut kept = [0; MOST_SHORT];
+        let mut kept = [0; N];
         let (front, _) = kept.split_at_mut(bytes.len());
         front.copy_from_slice(bytes);
         Short {
@@ -66,7 +70,7 @@ impl Short {
         front
     }
 
-    fn copy(&self) -> Short
+    fn copy(&self) -> Short<N>
         ensures { result ≡ self.now }
     {
         Short {
@@ -76,10 +80,10 @@ impl Short {
     }
 }
 
-/// Any bytes.
+/// The bytes of a value: any.
 #[derive(Debug, Drop)]
 pub(crate) enum Text {
-    Short(Short),
+    Short(Short<MOST_SHORT>),
     Long(Vec<u8>),
 }
 
@@ -118,6 +122,52 @@ impl Text {
         match self {
             Text::Short(short) => Ok(Text::Short(short.copy())),
             Text::Long(bytes) => Ok(Text::Long(bytes.clone()?)),
+        }
+    }
+}
+
+/// The bytes of a name: any, though few names have many.
+#[derive(Debug, Drop)]
+pub(crate) enum NameText {
+    Short(Short<MOST_SHORT_NAME>),
+    Long(Box<Vec<u8>>),
+}
+
+impl NameText {
+    /// The text with these bytes.
+    pub(crate) fn new(alloc: Global, bytes: &[u8]) -> Result<NameText, AllocError>
+        ensures { IfOk result (λ t. name_bytes_of t ≡ bytes.now) }
+    {
+        if bytes.len() <= MOST_SHORT_NAME {
+            return Ok(NameText::Short(Short::new(bytes)));
+        }
+        let kept = Vec::from_slice(alloc, bytes)?;
+        Ok(NameText::Long(Box::new(alloc, kept)?))
+    }
+
+    pub(crate) fn as_bytes(&self) -> &[u8]
+        ensures { result.now ≡ name_bytes_of self.now }
+    {
+        match self {
+            NameText::Short(short) => short.as_bytes(),
+            NameText::Long(bytes) => bytes.as_slice(),
+        }
+    }
+
+    /// Whether the bytes are the same.
+    pub(crate) fn is_same(&self, other: &NameText) -> bool
+        ensures { result ≡ bytes_eq (name_bytes_of self.now) (name_bytes_of other.now) }
+    {
+        are_same(self.as_bytes(), other.as_bytes())
+    }
+
+    /// An equal text, on the same allocator.
+    pub(crate) fn copy(&self) -> Result<NameText, AllocError>
+        ensures { IfOk result (λ t. name_bytes_of t ≡ name_bytes_of self.now) }
+    {
+        match self {
+            NameText::Short(short) => Ok(NameText::Short(short.copy())),
+            NameText::Long(bytes) => Ok(NameText::Long(bytes.clone()?)),
         }
     }
 }

@@ -15,8 +15,8 @@ use crate::read::chain;
 use crate::refusal::{Offence, Wrong, no_actual, no_actuals_end, no_call, refused};
 use crate::scope::{Passing, Scope};
 use crate::tree::{Actual, Expr};
-use mlk_text::Failure;
 use mlk_text::lexeme::byte_of;
+use mlk_text::{Failure, likely_length};
 use std::alloc::Global;
 
 #[tactic(auto, unfolding(crate::specs::Reading::actual_with, crate::specs::Lexemes::lent_at))]
@@ -100,7 +100,7 @@ fn actuals_rest(
         (many (byte_at 44) (next (actual_with passing scope.end (nested_in scope)))
         (suc (length bytes.now)) bytes.now)) }
 {
-    let mut found = Vec::with_capacity(alloc, 1)?;
+    let mut found = Vec::with_capacity(alloc, likely_length(b',', b')', bytes))?;
     found.push(first)?;
     let mut rest = bytes;
     while let Some(after) = byte_of(b',', rest) {

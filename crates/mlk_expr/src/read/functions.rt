@@ -20,8 +20,8 @@ use crate::refusal::{
 use crate::scope::{Allows, Scope};
 use crate::tree::{Expr, Function};
 use crate::words::{function_of, is_select, special_of};
-use mlk_text::Failure;
 use mlk_text::lexeme::{byte_of, word_at};
+use mlk_text::{Failure, likely_length};
 use std::alloc::Global;
 
 // Expressions to the closing parenthesis.
@@ -48,7 +48,7 @@ fn exprs_rest(
     ensures { Reads (λ x. (trees x.0.items, x.1.now)) result
         (put (tree_of first ∷ []) (many (byte_at 44) (next (nested_in scope)) (suc (length bytes.now)) bytes.now)) }
 {
-    let mut found = Vec::with_capacity(alloc, 1)?;
+    let mut found = Vec::with_capacity(alloc, likely_length(b',', b')', bytes))?;
     found.push(first)?;
     let mut rest = bytes;
     while let Some(after) = byte_of(b',', rest) {
@@ -72,7 +72,7 @@ fn others(
         (few (suc most) (put (tree_of first ∷ [])
         (many (byte_at 44) (next (nested_in scope)) (suc (length bytes.now)) bytes.now))) }
 {
-    let mut found = Vec::with_capacity(alloc, 1)?;
+    let mut found = Vec::with_capacity(alloc, likely_length(b',', b')', bytes))?;
     found.push(first)?;
     let mut rest = bytes;
     while let Some(after) = byte_of(b',', rest) {
@@ -165,7 +165,7 @@ fn choices_rest(
         (put (choice_of first ∷ [])
         (many (byte_at 44) (next (choice_with (nested_in scope))) (suc (length bytes.now)) bytes.now)) }
 {
-    let mut found = Vec::with_capacity(alloc, 1)?;
+    let mut found = Vec::with_capacity(alloc, likely_length(b',', b')', bytes))?;
     found.push(first)?;
     let mut rest = bytes;
     while let Some(after) = byte_of(b',', rest) {

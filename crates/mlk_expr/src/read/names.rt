@@ -15,9 +15,9 @@ use crate::read::chain;
 use crate::refusal::{Offence, Wrong, no_end, refused};
 use crate::scope::Scope;
 use crate::tree::{Expr, Subscript};
-use mlk_text::Failure;
 use mlk_text::lexeme::byte_of;
 use mlk_text::limit::MOST_SUBSCRIPTS;
+use mlk_text::{Failure, likely_length};
 use std::alloc::Global;
 
 #[cycle(reading)]
@@ -63,7 +63,7 @@ fn subs_rest(
         (few 32 (put (sub_of first ∷ [])
         (many (byte_at 44) (next (placed scope.end (nested_in scope))) (suc (length bytes.now)) bytes.now))) }
 {
-    let mut found = Vec::with_capacity(alloc, 1)?;
+    let mut found = Vec::with_capacity(alloc, likely_length(b',', b')', bytes))?;
     found.push(first)?;
     let mut rest = bytes;
     while let Some(after) = byte_of(b',', rest) {

@@ -39,7 +39,7 @@ pub(super) fn family_with(alloc: Global, text: &[u8]) -> Result<Vec<u8>, AllocEr
 }
 
 pub(super) fn name(alloc: Global, text: &[u8]) -> Result<Name, AllocError> {
-    Ok(Name::new(Vec::from_slice(alloc, text)?))
+    Name::of(alloc, text)
 }
 
 // No subscripts of an empty text, an unknown one of `?`, the job's number of `$J`, the local `ID`, else this constant.
