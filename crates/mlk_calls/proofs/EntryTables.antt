@@ -4,7 +4,7 @@ use Rattle.std.specs.Prelude.{map, filter, filter_map, option_copied, ◌==◌, 
 use Rattle.std.specs.Map.{lookup}
 use Rattle.std.proofs.lemmas.Bool.{cases_Bool, and_parts}
 use Rattle.std.proofs.lemmas.Bool.Decides.{nat_tests}
-use Rattle.mlk_routine.specs.Trees.{RoutineTree}
+use Rattle.mlk_tree.specs.Trees.{RoutineTree}
 use Rattle.mlk_program.specs.declared.entry.EntryId.{EntryId}
 use Rattle.mlk_program.specs.Entries.{entry_by}
 use Rattle.mlk_cert.specs.declared.block.EntryCert.{EntryCert}

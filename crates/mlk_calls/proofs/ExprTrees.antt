@@ -1,13 +1,13 @@
 -- The trees of the code's expressions.
 use Rattle.std.proofs.Common.{◌≡◌, ◌∙◌, ap, sym, ℕ, List, Vec, Box, Global}
 use Rattle.mlk_text.specs.declared.operator.Op.{Op}
-use Rattle.mlk_expr.specs.declared.tree.Expr.{Expr, fold-roll-Expr}
-use Rattle.mlk_expr.specs.declared.tree.Subscript.{Subscript}
-use Rattle.mlk_expr.specs.declared.tree.Expr.TheVariants as rust
-use Rattle.mlk_expr.specs.declared.tree.Expr.TheVariants.{rolls-Binary}
-use Rattle.mlk_expr.specs.declared.tree.Actual.TheOpen as open'
-use Rattle.mlk_expr.specs.Trees.{Tree, Chain, ActualTree, tree_of, sub_trees, subs_from, links, links_from, actual_step, expr_step, subscript_step}
-use Rattle.mlk_expr.proofs.Variants.{tree_local}
+use Rattle.mlk_tree.specs.declared.expr.Expr.{Expr, fold-roll-Expr}
+use Rattle.mlk_tree.specs.declared.expr.Subscript.{Subscript}
+use Rattle.mlk_tree.specs.declared.expr.Expr.TheVariants as rust
+use Rattle.mlk_tree.specs.declared.expr.Expr.TheVariants.{rolls-Binary}
+use Rattle.mlk_tree.specs.declared.expr.Actual.TheOpen as open'
+use Rattle.mlk_tree.specs.ExprTrees.{Tree, Chain, ActualTree, tree_of, sub_trees, subs_from, links, links_from, actual_step, expr_step, subscript_step}
+use Rattle.mlk_tree.proofs.Variants.{tree_local}
 use Rattle.mlk_calls.specs.declared.state.State.{State}
 use Rattle.mlk_calls.specs.Scope.{Scope}
 use Rattle.mlk_calls.specs.Symbols.{symbol_in, chain_in, local_symbol}

@@ -5,9 +5,9 @@ use Rattle.std.specs.Prelude.{option_map, option_and_then, Result, Ok, Err}
 use Rattle.std.specs.List.{list_all}
 use Rattle.mlk_text.specs.declared.code.Code.{Code}
 use Rattle.mlk_text.specs.declared.code.Code.TheVariants.{RankOrder, NeedMissing, SummaryShort, NoCertificate, UnknownSubscript, DropsFrame}
-use Rattle.mlk_expr.specs.declared.tree.Callee.{Callee}
-use Rattle.mlk_expr.specs.Trees.{ActualTree, Given, ByRef, Missing}
-use Rattle.mlk_routine.specs.Trees.{HeadTree, LineTrees}
+use Rattle.mlk_tree.specs.declared.expr.Callee.{Callee}
+use Rattle.mlk_tree.specs.ExprTrees.{ActualTree, Given, ByRef, Missing}
+use Rattle.mlk_tree.specs.Trees.{HeadTree, LineTrees}
 use Rattle.mlk_program.specs.declared.entry.EntryId.{EntryId}
 use Rattle.mlk_program.specs.Entries.{formals_of, target_of, line_of_entry}
 use Rattle.mlk_names.specs.declared.symbol.Sym.{Sym}

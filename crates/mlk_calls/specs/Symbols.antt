@@ -4,10 +4,10 @@ use Rattle.std.specs.Prelude.{ℕ, Bool, true, false, not, if◌then◌else◌, 
 use Rattle.mlk_text.specs.declared.operator.Op.{Op}
 use Rattle.mlk_text.specs.declared.operator.UnaryOp.{UnaryOp}
 use Rattle.mlk_text.specs.declared.operator.UnaryOp.TheVariants.{Plus, Minus, Not}
-use Rattle.mlk_expr.specs.declared.tree.Special.{Special}
-use Rattle.mlk_expr.specs.declared.tree.Special.TheVariants as special
-use Rattle.mlk_expr.specs.Trees.{Tree, Lit, Free, LocalName, GlobalName, SpecialName, Prefixed, Chain, PatternText}
-use Rattle.mlk_expr.specs.Trees.{Func, Selected, BareCall, CallOf, Subs, no_subs, sub, Links, no_links, link}
+use Rattle.mlk_tree.specs.declared.expr.Special.{Special}
+use Rattle.mlk_tree.specs.declared.expr.Special.TheVariants as special
+use Rattle.mlk_tree.specs.ExprTrees.{Tree, Lit, Free, LocalName, GlobalName, SpecialName, Prefixed, Chain, PatternText}
+use Rattle.mlk_tree.specs.ExprTrees.{Func, Selected, BareCall, CallOf, Subs, no_subs, sub, Links, no_links, link}
 use Rattle.mlk_names.specs.declared.symbol.Sym.{Sym}
 use Rattle.mlk_names.specs.declared.symbol.Sym.TheVariants.{Const, Local, Job, Unknown}
 use Rattle.mlk_cert.specs.declared.case.Test.{Test}

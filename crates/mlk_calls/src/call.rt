@@ -2,8 +2,8 @@
 
 ghost use Rattle.std.specs.Prelude.{◌≡◌, ◌++◌, ◌-◌, IfOk, OnOk, Some, map, flat_map, length, take, option_map, option_copied};
 ghost use Rattle.mlk_text.specs.Failures.{Answers};
-ghost use Rattle.mlk_expr.specs.Trees.{actual_of, actual_trees};
-ghost use Rattle.mlk_routine.specs.Views.{line_of};
+ghost use Rattle.mlk_tree.specs.ExprTrees.{actual_of, actual_trees};
+ghost use Rattle.mlk_tree.specs.Views.{line_of};
 ghost use Rattle.mlk_calls.specs.Lists.{all_some};
 ghost use Rattle.mlk_calls.specs.Refusals.{AnswersOf};
 ghost use Rattle.mlk_calls.specs.Terms.{put_term, put_terms, put_all};
@@ -20,10 +20,9 @@ use crate::state::{Refusal, State, before_last, copy_case, last_of};
 use crate::term::{copies, put_all, rank, take_all};
 use mlk_cert::{Case, ExitCase, NameSet, Shared, Summary, Test};
 use mlk_coverage::Rules;
-use mlk_expr::{Actual, Callee};
 use mlk_names::{LockTerm, Sym, substitute};
-use mlk_routine::Line;
 use mlk_text::{Code, Failure, List, Name, copy_of};
+use mlk_tree::{Actual, Callee, Line};
 use std::alloc::{AllocError, Global};
 
 /// How a callee is called.

@@ -1,7 +1,7 @@
 // What would mend a refused call.
 
 ghost use Rattle.std.specs.Prelude.{◌≡◌, IfOk, Some, option_copied};
-ghost use Rattle.mlk_expr.specs.Trees.{actual_trees};
+ghost use Rattle.mlk_tree.specs.ExprTrees.{actual_trees};
 ghost use Rattle.mlk_calls.specs.Scope.{scope_of};
 ghost use Rattle.mlk_calls.specs.Calls.{called_of, callee_summary, changes_by, missing_by, missing_need};
 
@@ -10,8 +10,8 @@ use crate::scope::Scope;
 use crate::state::{State, last_of};
 use crate::term::{copies, first_missing};
 use mlk_cert::{NameSet, Summary};
-use mlk_expr::{Actual, Callee};
 use mlk_names::{LockTerm, Sym};
+use mlk_tree::{Actual, Callee};
 use std::alloc::{AllocError, Global};
 
 /// The summary of what is called, where it has a certificate: its least rank, and whether it may release all locks, are

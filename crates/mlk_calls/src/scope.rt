@@ -1,7 +1,7 @@
 // What the walk of an entry's lines is given.
 
 ghost use Rattle.std.specs.Prelude.{◌≡◌, ◌++◌, [], IfOk, OnOk, map, filter_map, option_copied, option_map};
-ghost use Rattle.mlk_routine.specs.Views.{routine_of};
+ghost use Rattle.mlk_tree.specs.Views.{routine_of};
 ghost use Rattle.mlk_program.specs.Entries.{entry_by};
 ghost use Rattle.mlk_cert.specs.Limits.{points_below};
 ghost use Rattle.mlk_lexemes.specs.Lists.{ascends};

@@ -1,7 +1,7 @@
 // What is known of expressions.
 
 ghost use Rattle.std.specs.Prelude.{◌≡◌, IfOk, true, drop};
-ghost use Rattle.mlk_expr.specs.Trees.{tree_of, links, links_from, subs_from, sub_trees};
+ghost use Rattle.mlk_tree.specs.ExprTrees.{tree_of, links, links_from, subs_from, sub_trees};
 ghost use Rattle.mlk_calls.specs.Scope.{scope_of};
 ghost use Rattle.mlk_calls.specs.Symbols.{local_symbol, before_symbol, between_symbols, symbol_in, truth_in, chain_in, truth_of_symbol, truth_of_text};
 ghost use Rattle.mlk_calls.specs.Values.{fold_before, fold_between};
@@ -10,9 +10,9 @@ ghost use Rattle.mlk_calls.specs.Cases.{known_test};
 use crate::scope::Scope;
 use crate::state::State;
 use mlk_cert::Test;
-use mlk_expr::{Expr, Op, Special, Subscript, UnaryOp};
 use mlk_names::Sym;
-use mlk_text::{Name, Value, fold, fold_unary};
+use mlk_text::{Name, Op, UnaryOp, Value, fold, fold_unary};
+use mlk_tree::{Expr, Special, Subscript};
 use std::alloc::{AllocError, Global};
 
 fn fold_before(alloc: Global, op: UnaryOp, value: &Value) -> Result<Option<Value>, AllocError>

@@ -5,7 +5,7 @@ use Rattle.std.proofs.lemmas.List.{drop_all, drop_more, take_more}
 use Rattle.mlk_text.specs.declared.failure.Failure.{Failure}
 use Rattle.mlk_text.specs.declared.failure.Failure.TheVariants as failure
 use Rattle.mlk_text.specs.declared.fault.Fault.{Fault}
-use Rattle.mlk_routine.specs.Trees.{RoutineTree}
+use Rattle.mlk_tree.specs.Trees.{RoutineTree}
 use Rattle.mlk_routine.specs.Refusals.{NoRoutine, Places}
 use Rattle.mlk_program.specs.Program.{IsProgram, IsLinkFault}
 use Rattle.mlk_program.specs.Linking.{IfRefused}
@@ -22,7 +22,7 @@ use Rattle.mlk_command.specs.declared.source.Work.{Work}
 use Rattle.mlk_command.specs.declared.source.Work.TheVariants as work
 use Rattle.mlk_command.specs.declared.checked.Refusal.{Refusal}
 use Rattle.mlk_command.specs.declared.checked.Refusal.TheVariants as refusal
-use Rattle.mlk_routine.specs.declared.routine.Routine.{Routine}
+use Rattle.mlk_tree.specs.declared.routine.Routine.{Routine}
 use Rattle.mlk_program.specs.declared.entry.EntryId.{EntryId}
 use Rattle.mlk_replay.specs.declared.fault.EventsFault.{EventsFault}
 use Rattle.mlk_replay.specs.Files.{ReplayedFile}

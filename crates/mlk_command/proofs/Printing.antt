@@ -2,9 +2,9 @@
 use Rattle.std.proofs.Common.{◌≡◌, ℕ, List, [], map, Option, Some, None, sym, ap, ◌∙◌}
 use Rattle.std.specs.Prelude.{option_map, option_and_then, slice_get}
 use Rattle.std.proofs.lemmas.Option.{slice_get-map}
-use Rattle.mlk_routine.specs.declared.routine.Line.{Line}
-use Rattle.mlk_routine.specs.declared.routine.Routine.{Routine}
-use Rattle.mlk_routine.specs.Views.{line_of, routine_of}
+use Rattle.mlk_tree.specs.declared.routine.Line.{Line}
+use Rattle.mlk_tree.specs.declared.routine.Routine.{Routine}
+use Rattle.mlk_tree.specs.Views.{line_of, routine_of}
 use Rattle.mlk_program.specs.Entries.{label_of, text_with, text_in}
 use Rattle.mlk_program.specs.declared.entry.EntryId.{EntryId}
 use Rattle.mlk_program.proofs.Directories.{lines_same}

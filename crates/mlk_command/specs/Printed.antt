@@ -7,7 +7,7 @@ use Rattle.mlk_text.specs.declared.fault.Fault.{Fault}
 use Rattle.mlk_text.specs.declared.fault.LeftOut.{LeftOut}
 use Rattle.mlk_text.specs.Codes.{number_of, word_of}
 use Rattle.mlk_text.specs.Words.{left_out_word}
-use Rattle.mlk_routine.specs.Trees.{RoutineTree}
+use Rattle.mlk_tree.specs.Trees.{RoutineTree}
 use Rattle.mlk_program.specs.declared.entry.EntryId.{EntryId}
 use Rattle.mlk_program.specs.Entries.{text_of_entry}
 use Rattle.mlk_verdicts.specs.declared.report.Row.{Row}

@@ -2,8 +2,8 @@
 -- it ends with. This project's own choice.
 use Rattle.std.specs.Prelude.{◌≡◌, ◌⊎◌, ℕ, List, [], ◌∷◌, map, Option, String}
 use Rattle.std.specs.Io.KnownBytes.{Keeps, Appends}
-use Rattle.mlk_routine.specs.Trees.{RoutineTree}
-use Rattle.mlk_routine.specs.Views.{routine_of}
+use Rattle.mlk_tree.specs.Trees.{RoutineTree}
+use Rattle.mlk_tree.specs.Views.{routine_of}
 use Rattle.mlk_verdicts.specs.declared.report.Row.{Row}
 use Rattle.mlk_command.specs.declared.source.Sources.{Sources}
 use Rattle.mlk_words.specs.declared.words.Request.{Request}

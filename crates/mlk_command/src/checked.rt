@@ -1,7 +1,7 @@
 // From the texts of files to a report.
 
 ghost use Rattle.std.specs.Prelude.{◌≡◌, [], map, IfOk, IfErr};
-ghost use Rattle.mlk_routine.specs.Views.{routine_of};
+ghost use Rattle.mlk_tree.specs.Views.{routine_of};
 ghost use Rattle.mlk_command.specs.Checked.{refusal_of_routine, refusal_of_rules, refusal_of_certificate, refusal_of_events, AreRead, RefusesFirst, TellsEntry, IsDoubt, IsReportBy, IsReportWith, IsStuck, IsMade, IsUnmade, IsOutcomeWith, IsOutcomeUnder, IsOutcomeOf, IsRefusalBy, IsRefusalWith, IsRefusalOfWork, IsRefusalUnder, IsRefusalOf, IsChecked, IsRefusedBy};
 ghost use Rattle.mlk_cert.specs.Theorem.{Spells};
 ghost use Rattle.mlk_straight.specs.Kept.{IsKept};
@@ -15,10 +15,11 @@ use mlk_coverage::Rules;
 use mlk_make::{GaveUp, MakeError, Stage, Watch, make_watched};
 use mlk_program::{Program, link};
 use mlk_replay::EventsFault;
-use mlk_routine::{Routine, read_routine};
+use mlk_routine::read_routine;
 use mlk_rules::{RulesFault, read_rules};
 use mlk_straight::is_kept;
 use mlk_text::{Failure, Fault, Value};
+use mlk_tree::Routine;
 use mlk_verdicts::{Report, check_all, missing_entry};
 use std::alloc::{AllocError, Global};
 

@@ -1,7 +1,7 @@
 // The lines that the program prints.
 
 ghost use Rattle.std.specs.Prelude.{◌≡◌, ◌++◌, OnOk, IfOk, map, slice_get, option_copied};
-ghost use Rattle.mlk_routine.specs.Views.{line_of, routine_of};
+ghost use Rattle.mlk_tree.specs.Views.{line_of, routine_of};
 ghost use Rattle.mlk_program.specs.Entries.{label_of, text_with};
 ghost use Rattle.mlk_command.specs.Printed.{code_text, place_text, left_out_text, fault_line, missing_line, rules_line, certificate_line, events_code, events_line, disagreement_line, stuck_line, file_line, entry_text, fault_text, row_line, row_lines, last_line, report_text};
 
@@ -10,9 +10,9 @@ use mlk_cert::CertFault;
 use mlk_locks::Refusal;
 use mlk_program::EntryId;
 use mlk_replay::{EventsFault, EventsRefusal};
-use mlk_routine::{Line, Routine};
 use mlk_rules::RulesFault;
 use mlk_text::{Code, Fault, LeftOut, Value};
+use mlk_tree::{Line, Routine};
 use mlk_verdicts::{Report, Row};
 use std::alloc::{AllocError, Global};
 

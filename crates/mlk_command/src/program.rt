@@ -1,7 +1,7 @@
 // The program, from its words to its status.
 
 ghost use Rattle.std.specs.Prelude.{◌≡◌, ◌≢◌, ◌⊎◌, IfOk, OnOk, map};
-ghost use Rattle.mlk_routine.specs.Views.{routine_of};
+ghost use Rattle.mlk_tree.specs.Views.{routine_of};
 ghost use Rattle.std.specs.IoError.{error_kind};
 ghost use Rattle.std.specs.Io.KnownBytes.{Appends};
 ghost use Rattle.mlk_command.specs.Ran.{status_of, PrintsReport, PrintsText, PrintsOutcome, Prints, IsRefusalLine, TellsRefusal, TellsUnread, Answers, AnswersWords, IsSaid, Ran};
@@ -14,7 +14,7 @@ use crate::printed::{
 use crate::source::{FileError, Files, read_files};
 use crate::text::Text;
 use mlk_make::{Unwatched, Watch};
-use mlk_routine::Routine;
+use mlk_tree::Routine;
 use mlk_verdicts::Report;
 use mlk_words::{Request, UsageError, read_request};
 use std::alloc::{AllocError, Global};

@@ -1,7 +1,7 @@
 // From the text of events to that of the jobs.
 
 ghost use Rattle.std.specs.Prelude.{◌≡◌, IfOk, IfErr, map};
-ghost use Rattle.mlk_routine.specs.Views.{routine_of};
+ghost use Rattle.mlk_tree.specs.Views.{routine_of};
 ghost use Rattle.mlk_command.specs.Replayed.{AreDeclared, IsUndeclared, IsShown, IsStopped, IsReplayed, IsUnreplayed};
 
 use crate::checked::{Refusal, lacks};

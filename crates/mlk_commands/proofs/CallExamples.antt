@@ -4,9 +4,9 @@ use Rattle.std.specs.Prelude.{codes, Option, Some, None}
 use Rattle.std.specs.Fmt.{digits}
 use Rattle.mlk_text.specs.declared.code.Code.TheVariants.{NeedMissing, NoCertificate, UnknownSubscript}
 use Rattle.mlk_text.specs.declared.operator.UnaryOp.TheVariants.{Not}
-use Rattle.mlk_expr.specs.declared.tree.Special.TheVariants as special
-use Rattle.mlk_expr.specs.Trees.{Tree, Lit, SpecialName, Prefixed, ActualTree, Given, ByRef}
-use Rattle.mlk_routine.specs.Trees.{CallTree, Called, DoCall}
+use Rattle.mlk_tree.specs.declared.expr.Special.TheVariants as special
+use Rattle.mlk_tree.specs.ExprTrees.{Tree, Lit, SpecialName, Prefixed, ActualTree, Given, ByRef}
+use Rattle.mlk_tree.specs.Trees.{CallTree, Called, DoCall}
 use Rattle.mlk_names.specs.declared.term.LockTerm.{LockTerm}
 use Rattle.mlk_coverage.specs.Computed.{answer}
 use Rattle.mlk_cert.specs.declared.case.Test.{Test}

@@ -1,7 +1,7 @@
 -- Columns of names.
 use Rattle.std.proofs.Common.{◌≡◌, ℕ, zero, suc, List, [], ◌∷◌, refl, map, drop, length}
-use Rattle.mlk_routine.specs.declared.tree.Variable.{Variable}
-use Rattle.mlk_routine.specs.Views.{variable_of}
+use Rattle.mlk_tree.specs.declared.command.Variable.{Variable}
+use Rattle.mlk_tree.specs.Views.{variable_of}
 use Rattle.mlk_commands.specs.Locks.{column_at}
 
 abbrev pub column_first : List Variable → ℕ

@@ -3,11 +3,11 @@ use Rattle.std.proofs.Common.{◌≡◌, ℕ, List, [], ◌∷◌, ◌++◌, ref
 use Rattle.std.specs.Prelude.{codes, Some, None, true, false}
 use Rattle.std.specs.Fmt.{digits}
 use Rattle.mlk_text.specs.declared.code.Code.TheVariants.{Uncovered, NotHeld, Unranked, RankOrder, SummaryShort, SharedName, UnknownSubscript, TooManyCases}
-use Rattle.mlk_expr.specs.declared.tree.Special.TheVariants as special
-use Rattle.mlk_expr.specs.Trees.{Tree, Lit, LocalName, SpecialName, no_subs, sub}
-use Rattle.mlk_routine.specs.declared.tree.Sign.{Sign}
-use Rattle.mlk_routine.specs.declared.tree.Sign.TheVariants as sign
-use Rattle.mlk_routine.specs.Trees.{VariableTree, LockNames}
+use Rattle.mlk_tree.specs.declared.expr.Special.TheVariants as special
+use Rattle.mlk_tree.specs.ExprTrees.{Tree, Lit, LocalName, SpecialName, no_subs, sub}
+use Rattle.mlk_tree.specs.declared.command.Sign.{Sign}
+use Rattle.mlk_tree.specs.declared.command.Sign.TheVariants as sign
+use Rattle.mlk_tree.specs.Trees.{VariableTree, LockNames}
 use Rattle.mlk_names.specs.declared.term.LockTerm.{LockTerm}
 use Rattle.mlk_coverage.specs.Computed.{answer}
 use Rattle.mlk_cert.specs.declared.case.Test.TheVariants.{Zero, One}

@@ -1,11 +1,11 @@
 -- What is made of variables, by the kinds of their names.
 use Rattle.std.proofs.Common.{◌≡◌, ◌∙◌, refl, ap, ℕ, suc, length, Bool, List, [], ◌∷◌, Vec, Global}
 use Rattle.mlk_text.specs.declared.root.Root.TheVariants as root
-use Rattle.mlk_expr.specs.declared.tree.Subscript.{Subscript}
-use Rattle.mlk_expr.specs.declared.tree.Expr.TheVariants as rust
-use Rattle.mlk_expr.specs.Trees.{tree_of, sub_trees, subs_from, LocalName}
-use Rattle.mlk_expr.proofs.Variants.{tree_local, tree_global}
-use Rattle.mlk_routine.specs.Trees.{Named}
+use Rattle.mlk_tree.specs.declared.expr.Subscript.{Subscript}
+use Rattle.mlk_tree.specs.declared.expr.Expr.TheVariants as rust
+use Rattle.mlk_tree.specs.ExprTrees.{tree_of, sub_trees, subs_from, LocalName}
+use Rattle.mlk_tree.proofs.Variants.{tree_local, tree_global}
+use Rattle.mlk_tree.specs.Trees.{Named}
 use Rattle.mlk_names.specs.declared.reference.Access.TheVariants.{Reads, Writes}
 use Rattle.mlk_names.specs.declared.reference.Extent.TheVariants as extent
 use Rattle.mlk_calls.specs.declared.state.State.{State}

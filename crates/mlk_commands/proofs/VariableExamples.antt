@@ -3,10 +3,10 @@ use Rattle.std.proofs.Common.{◌≡◌, ℕ, List, [], ◌∷◌, refl}
 use Rattle.std.specs.Prelude.{codes, Some, None, false}
 use Rattle.std.specs.Fmt.{digits}
 use Rattle.mlk_text.specs.declared.code.Code.TheVariants.{Uncovered, ReadOnly, Pinned, SummaryShort}
-use Rattle.mlk_expr.specs.Trees.{Lit}
-use Rattle.mlk_routine.specs.declared.tree.Part.TheVariants.{Piece}
-use Rattle.mlk_routine.specs.Trees.{VariableTree, TargetTree, SetWhole, SetPart, SetTo, KillOne, KillAllBut, NewOne, NewAllBut}
-use Rattle.mlk_routine.specs.Trees.{ReadText, ReadLine, ReadCharacter, MergeInto, WriteValue, WriteFormat}
+use Rattle.mlk_tree.specs.ExprTrees.{Lit}
+use Rattle.mlk_tree.specs.declared.command.Part.TheVariants.{Piece}
+use Rattle.mlk_tree.specs.Trees.{VariableTree, TargetTree, SetWhole, SetPart, SetTo, KillOne, KillAllBut, NewOne, NewAllBut}
+use Rattle.mlk_tree.specs.Trees.{ReadText, ReadLine, ReadCharacter, MergeInto, WriteValue, WriteFormat}
 use Rattle.mlk_coverage.specs.Computed.{answer}
 use Rattle.mlk_cert.specs.declared.case.Test.TheVariants.{Any, Zero, One}
 use Rattle.mlk_cert.specs.declared.case.Case.{Case}

@@ -1,6 +1,6 @@
 -- Two ways, one after the other.
 use Rattle.std.proofs.Common.{◌≡◌, Bool, true, false, List, [], refl, ap, sym, ◌∙◌}
-use Rattle.mlk_expr.specs.Trees.{Tree}
+use Rattle.mlk_tree.specs.ExprTrees.{Tree}
 use Rattle.mlk_calls.specs.declared.state.State.{State}
 use Rattle.mlk_calls.specs.Scope.{Scope}
 use Rattle.mlk_rows.specs.declared.walk.Walk.{Walk}

@@ -4,8 +4,8 @@ use Rattle.std.proofs.Common.{ℕ, List, [], ◌∷◌}
 use Rattle.std.specs.Prelude.{codes, bytes_eq, ◌+◌, Option, Some, None, Bool, false}
 use Rattle.mlk_text.specs.declared.code.Code.{Code}
 use Rattle.mlk_text.specs.declared.root.Root.TheVariants as root
-use Rattle.mlk_expr.specs.Trees.{Tree, Lit, LocalName, GlobalName, no_subs, sub}
-use Rattle.mlk_routine.specs.Trees.{VariableTree, Named, RoutineTree, Named_routine, line, no_lines, LineHead, finished}
+use Rattle.mlk_tree.specs.ExprTrees.{Tree, Lit, LocalName, GlobalName, no_subs, sub}
+use Rattle.mlk_tree.specs.Trees.{VariableTree, Named, RoutineTree, Named_routine, line, no_lines, LineHead, finished}
 use Rattle.mlk_program.specs.declared.entry.EntryId.{EntryId}
 use Rattle.mlk_names.specs.declared.known_symbol.KnownSym.{KnownSym}
 use Rattle.mlk_names.specs.declared.known_symbol.KnownSym.TheVariants as known

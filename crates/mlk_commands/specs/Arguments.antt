@@ -1,11 +1,11 @@
 -- What one argument of a command makes of states. Standard: SET, KILL, NEW, READ, MERGE, WRITE, DO, JOB, IF; the order
 -- within an argument is from left to right, but that SET evaluates its left subscripts, then its value, then assigns.
 use Rattle.std.specs.Prelude.{ℕ, ◌+◌, Bool, true, false, List, [], ◌∷◌, length, take, drop, fold, Option, Some, None}
-use Rattle.mlk_expr.specs.Trees.{Tree, LocalName, GlobalName, ActualTree, actuals_from}
-use Rattle.mlk_routine.specs.Trees.{VariableTree, Named, CallTree, Called, DoTree, DoCall, KillTree, KillOne, KillAllBut}
-use Rattle.mlk_routine.specs.Trees.{NewTree, NewOne, NewAllBut, MergeTree, MergeInto, ReadTree, ReadText, ReadFormat}
-use Rattle.mlk_routine.specs.Trees.{ReadLine, ReadCharacter, TargetTree, SetWhole, SetPart, SetTree, SetTo}
-use Rattle.mlk_routine.specs.Trees.{WriteTree, WriteValue, WriteCharacter, WriteFormat}
+use Rattle.mlk_tree.specs.ExprTrees.{Tree, LocalName, GlobalName, ActualTree, actuals_from}
+use Rattle.mlk_tree.specs.Trees.{VariableTree, Named, CallTree, Called, DoTree, DoCall, KillTree, KillOne, KillAllBut}
+use Rattle.mlk_tree.specs.Trees.{NewTree, NewOne, NewAllBut, MergeTree, MergeInto, ReadTree, ReadText, ReadFormat}
+use Rattle.mlk_tree.specs.Trees.{ReadLine, ReadCharacter, TargetTree, SetWhole, SetPart, SetTree, SetTo}
+use Rattle.mlk_tree.specs.Trees.{WriteTree, WriteValue, WriteCharacter, WriteFormat}
 use Rattle.mlk_names.specs.declared.symbol.Sym.{Sym}
 use Rattle.mlk_names.specs.declared.reference.Access.TheVariants.{Reads, Writes}
 use Rattle.mlk_names.specs.declared.reference.Extent.TheVariants as extent

@@ -6,10 +6,10 @@ use Rattle.mlk_text.specs.declared.code.Code.{Code}
 use Rattle.mlk_text.specs.declared.code.Code.TheVariants.{SharedName, UnknownSubscript}
 use Rattle.mlk_text.specs.declared.root.Root.{Root}
 use Rattle.mlk_text.specs.declared.root.Root.TheVariants as root
-use Rattle.mlk_expr.specs.Trees.{Tree, LocalName, GlobalName, Subs, no_subs, sub}
-use Rattle.mlk_routine.specs.declared.tree.Sign.{Sign}
-use Rattle.mlk_routine.specs.declared.tree.Sign.TheVariants as sign
-use Rattle.mlk_routine.specs.Trees.{VariableTree, LockTree, LockNames}
+use Rattle.mlk_tree.specs.ExprTrees.{Tree, LocalName, GlobalName, Subs, no_subs, sub}
+use Rattle.mlk_tree.specs.declared.command.Sign.{Sign}
+use Rattle.mlk_tree.specs.declared.command.Sign.TheVariants as sign
+use Rattle.mlk_tree.specs.Trees.{VariableTree, LockTree, LockNames}
 use Rattle.mlk_names.specs.declared.symbol.Sym.{Sym}
 use Rattle.mlk_names.specs.declared.symbol.Sym.TheVariants.{Const, Local, Job, Unknown}
 use Rattle.mlk_names.specs.declared.term.LockTerm.{LockTerm}

@@ -1,8 +1,8 @@
 -- Variables as commands name them, and changes of locals. Standard: SET, KILL, READ (a variable's subscripts are
 -- evaluated before the command acts on it).
 use Rattle.std.specs.Prelude.{ℕ, List, [], ◌∷◌}
-use Rattle.mlk_expr.specs.Trees.{Tree, LocalName, GlobalName, Subs, no_subs, sub}
-use Rattle.mlk_routine.specs.Trees.{VariableTree, Named}
+use Rattle.mlk_tree.specs.ExprTrees.{Tree, LocalName, GlobalName, Subs, no_subs, sub}
+use Rattle.mlk_tree.specs.Trees.{VariableTree, Named}
 use Rattle.mlk_cert.specs.declared.names.NameSet.{NameSet}
 use Rattle.mlk_cert.specs.declared.names.NameSet.TheVariants.{Only}
 use Rattle.mlk_calls.specs.declared.state.State.{State}

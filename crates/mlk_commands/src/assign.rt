@@ -1,8 +1,8 @@
 // SET.
 
 ghost use Rattle.std.specs.Prelude.{◌≡◌, IfOk, map};
-ghost use Rattle.mlk_expr.specs.Trees.{trees};
-ghost use Rattle.mlk_routine.specs.Views.{variable_of, target_of, set_of};
+ghost use Rattle.mlk_tree.specs.ExprTrees.{trees};
+ghost use Rattle.mlk_tree.specs.Views.{variable_of, target_of, set_of};
 ghost use Rattle.mlk_names.specs.declared.reference.Extent.TheVariants as extent;
 ghost use Rattle.mlk_calls.specs.declared.state.State.{State};
 ghost use Rattle.mlk_rows.specs.Spots.{spot_of};
@@ -12,10 +12,9 @@ ghost use Rattle.mlk_commands.specs.Arguments.{variable_in, arguments_in, captur
 
 use crate::variable::{capture_variable, change_local, count_of};
 use mlk_calls::State;
-use mlk_expr::Expr;
 use mlk_names::{Access, Extent, Sym};
-use mlk_routine::{SetArgument, Target, Variable};
 use mlk_rows::{Row, Spot, Touch, Walk, covered_or, each, forget, value, values};
+use mlk_tree::{Expr, SetArgument, Target, Variable};
 use std::alloc::AllocError;
 
 fn variable_in(target: &Target) -> &Variable

@@ -1,8 +1,8 @@
 // DO of a label, and JOB.
 
 ghost use Rattle.std.specs.Prelude.{◌≡◌, IfOk};
-ghost use Rattle.mlk_expr.specs.Trees.{tree_of, actual_trees};
-ghost use Rattle.mlk_routine.specs.Views.{call_of, do_of};
+ghost use Rattle.mlk_tree.specs.ExprTrees.{tree_of, actual_trees};
+ghost use Rattle.mlk_tree.specs.Views.{call_of, do_of};
 ghost use Rattle.mlk_calls.specs.declared.state.State.{State};
 ghost use Rattle.mlk_rows.specs.Spots.{spot_of};
 ghost use Rattle.mlk_rows.specs.Walks.{Outcome, each};
@@ -10,12 +10,11 @@ ghost use Rattle.mlk_rows.specs.Expressions.{by_condition};
 ghost use Rattle.mlk_commands.specs.Arguments.{given_in, capture_given, forget_given, do_row, do_argument, job_row, job_argument};
 
 use mlk_calls::{Calling, State, at_job};
-use mlk_expr::{Actual, Expr};
-use mlk_routine::{Call, DoArgument};
 use mlk_rows::{
     CallRow, Mend, Row, Spot, Walk, capture_actuals, each, forget, value, where_it_holds,
 };
 use mlk_text::Failure;
+use mlk_tree::{Actual, Call, DoArgument, Expr};
 use std::alloc::AllocError;
 
 // The actuals of a call; none without a list.

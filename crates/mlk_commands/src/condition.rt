@@ -1,7 +1,7 @@
 // IF.
 
 ghost use Rattle.std.specs.Prelude.{◌≡◌, IfOk};
-ghost use Rattle.mlk_expr.specs.Trees.{tree_of};
+ghost use Rattle.mlk_tree.specs.ExprTrees.{tree_of};
 ghost use Rattle.mlk_calls.specs.declared.state.State.{State};
 ghost use Rattle.mlk_calls.specs.Symbols.{truth_in};
 ghost use Rattle.mlk_rows.specs.Spots.{spot_of};
@@ -10,8 +10,8 @@ ghost use Rattle.mlk_commands.specs.Arguments.{by_truth, if_argument};
 
 use mlk_calls::{State, truth_of};
 use mlk_cert::Test;
-use mlk_expr::Expr;
 use mlk_rows::{Row, Spot, Walk, each, value};
+use mlk_tree::Expr;
 use std::alloc::AllocError;
 
 // `$TEST` is the condition's truth; where it may be false, the rest of the line is skipped.

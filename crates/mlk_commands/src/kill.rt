@@ -1,7 +1,7 @@
 // KILL.
 
 ghost use Rattle.std.specs.Prelude.{◌≡◌, IfOk};
-ghost use Rattle.mlk_routine.specs.Views.{variable_of, kill_of};
+ghost use Rattle.mlk_tree.specs.Views.{variable_of, kill_of};
 ghost use Rattle.mlk_calls.specs.declared.state.State.{State};
 ghost use Rattle.mlk_rows.specs.Spots.{spot_of};
 ghost use Rattle.mlk_rows.specs.Walks.{Outcome};
@@ -11,11 +11,10 @@ use crate::order::in_order;
 use crate::variable::{capture_variable, change_all, change_local};
 use mlk_calls::State;
 use mlk_cert::NameSet;
-use mlk_expr::Expr;
 use mlk_names::{Access, Extent};
-use mlk_routine::{KillArgument, Variable};
 use mlk_rows::{Row, Spot, Touch, TouchLast, Walk, each};
 use mlk_text::{List, Name};
+use mlk_tree::{Expr, KillArgument, Variable};
 use std::alloc::AllocError;
 
 /// A variable is killed, whose subscripts were captured last.

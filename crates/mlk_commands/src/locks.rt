@@ -1,8 +1,8 @@
 // LOCK.
 
 ghost use Rattle.std.specs.Prelude.{◌≡◌, ◌++◌, IfOk, OnOk, drop, map, option_map};
-ghost use Rattle.mlk_expr.specs.Trees.{tree_of};
-ghost use Rattle.mlk_routine.specs.Views.{variable_of, lock_of};
+ghost use Rattle.mlk_tree.specs.ExprTrees.{tree_of};
+ghost use Rattle.mlk_tree.specs.Views.{variable_of, lock_of};
 ghost use Rattle.mlk_calls.specs.declared.state.State.{State};
 ghost use Rattle.mlk_calls.specs.States.{holding};
 ghost use Rattle.mlk_calls.specs.Claims.{release_all};
@@ -15,11 +15,10 @@ use crate::names::{capture_names, count_names, names_fault, terms_of};
 use mlk_calls::{State, claimed, may_take, release_all, release_one};
 use mlk_cert::{Shared, Test};
 use mlk_coverage::rank_of;
-use mlk_expr::Expr;
 use mlk_names::LockTerm;
-use mlk_routine::{LockArgument, Sign, Variable};
 use mlk_rows::{Mend, Row, Spot, Walk, each, last_of, value_if};
 use mlk_text::{Code, Column, Failure, copy_of};
+use mlk_tree::{Expr, LockArgument, Sign, Variable};
 use std::alloc::{AllocError, Global};
 
 // The subscripts of names, which were captured last, are known.

@@ -1,19 +1,18 @@
 // Lock names, as LOCK gives them.
 
 ghost use Rattle.std.specs.Prelude.{◌≡◌, IfOk, map, option_map, take, drop};
-ghost use Rattle.mlk_expr.specs.Trees.{tree_of, sub_trees, subs_from};
-ghost use Rattle.mlk_routine.specs.Views.{variable_of};
+ghost use Rattle.mlk_tree.specs.ExprTrees.{tree_of, sub_trees, subs_from};
+ghost use Rattle.mlk_tree.specs.Views.{variable_of};
 ghost use Rattle.mlk_calls.specs.Terms.{all_known};
 ghost use Rattle.mlk_rows.specs.Spots.{spot_of};
 ghost use Rattle.mlk_commands.specs.Locks.{root_of, capture_names, count_names, unknown_code, subscript_fault, subs_fault, names_fault, term_of, terms_of};
 
 use crate::variable::{capture_variable, count_of, subscripts_of};
 use mlk_calls::State;
-use mlk_expr::{Expr, Subscript};
 use mlk_names::{KnownSym, LockTerm, Sym, TermSubs};
-use mlk_routine::Variable;
 use mlk_rows::{Spot, Walk};
 use mlk_text::{Code, Column, Name, Root, Subscripts};
+use mlk_tree::{Expr, Subscript, Variable};
 use std::alloc::{AllocError, Global};
 
 /// The names are evaluated in order.

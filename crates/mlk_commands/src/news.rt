@@ -1,7 +1,7 @@
 // NEW.
 
 ghost use Rattle.std.specs.Prelude.{◌≡◌, IfOk};
-ghost use Rattle.mlk_routine.specs.Views.{new_of};
+ghost use Rattle.mlk_tree.specs.Views.{new_of};
 ghost use Rattle.mlk_calls.specs.declared.state.State.{State};
 ghost use Rattle.mlk_calls.specs.Refusals.{AnswersOf};
 ghost use Rattle.mlk_rows.specs.Spots.{spot_of};
@@ -12,9 +12,9 @@ ghost use Rattle.mlk_commands.specs.Arguments.{new_all_but, new_argument};
 use crate::order::{in_order, put_own};
 use mlk_calls::{Refusal, State, changed, mention};
 use mlk_cert::{NameSet, Own, Shared};
-use mlk_routine::NewArgument;
 use mlk_rows::{Mend, Row, Spot, Walk, each};
 use mlk_text::{Code, Column, Failure, List, Name, copy_of};
+use mlk_tree::NewArgument;
 use std::alloc::{AllocError, Global};
 
 // What changes by being made new: while a held term mentions one of the names that is refused. A summary need not list it.

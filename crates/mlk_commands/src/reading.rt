@@ -1,8 +1,8 @@
 // READ, MERGE and WRITE.
 
 ghost use Rattle.std.specs.Prelude.{◌≡◌, IfOk, option_map, option_copied};
-ghost use Rattle.mlk_expr.specs.Trees.{tree_of};
-ghost use Rattle.mlk_routine.specs.Views.{variable_of, read_of, merge_of, write_of};
+ghost use Rattle.mlk_tree.specs.ExprTrees.{tree_of};
+ghost use Rattle.mlk_tree.specs.Views.{variable_of, read_of, merge_of, write_of};
 ghost use Rattle.mlk_calls.specs.declared.state.State.{State};
 ghost use Rattle.mlk_rows.specs.Spots.{spot_of};
 ghost use Rattle.mlk_rows.specs.Walks.{Outcome};
@@ -12,10 +12,9 @@ use crate::kill::Kill;
 use crate::variable::{capture_variable, change_local, count_of};
 use mlk_calls::State;
 use mlk_cert::Test;
-use mlk_expr::Expr;
 use mlk_names::{Access, Extent};
-use mlk_routine::{MergeArgument, ReadArgument, Variable, WriteArgument};
 use mlk_rows::{Row, Spot, Touch, TouchLast, Walk, each, value, value_if};
+use mlk_tree::{Expr, MergeArgument, ReadArgument, Variable, WriteArgument};
 use std::alloc::AllocError;
 
 // With a timeout `$TEST` is 1 or 0.

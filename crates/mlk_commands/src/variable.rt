@@ -1,8 +1,8 @@
 // Variables as commands name them, and changes of locals.
 
 ghost use Rattle.std.specs.Prelude.{◌≡◌, ◌∷◌, [], IfOk, OnOk};
-ghost use Rattle.mlk_expr.specs.Trees.{sub_trees, subs_from};
-ghost use Rattle.mlk_routine.specs.Views.{variable_of};
+ghost use Rattle.mlk_tree.specs.ExprTrees.{sub_trees, subs_from};
+ghost use Rattle.mlk_tree.specs.Views.{variable_of};
 ghost use Rattle.mlk_calls.specs.declared.state.State.{State};
 ghost use Rattle.mlk_calls.specs.Changes.{change};
 ghost use Rattle.mlk_calls.specs.Refusals.{AnswersOf};
@@ -12,10 +12,9 @@ ghost use Rattle.mlk_commands.specs.Variables.{subs_of, name_in, count_in, captu
 
 use mlk_calls::{Refusal, State, change, short_names};
 use mlk_cert::NameSet;
-use mlk_expr::{Expr, Subscript};
-use mlk_routine::Variable;
 use mlk_rows::{Mend, Row, Spot, Walk, capture_subs, each};
 use mlk_text::{Code, Column, Failure, Name, copy_of};
+use mlk_tree::{Expr, Subscript, Variable};
 use std::alloc::AllocError;
 
 /// The subscripts of a variable; only locals and globals have some.

@@ -1,6 +1,6 @@
 // The FORs of a line.
 
-use mlk_routine::{Commands, For};
+use mlk_tree::{Commands, For};
 
 /// How many FORs a line has.
 pub fn rounds_in(commands: &Commands) -> usize {

@@ -4,8 +4,8 @@ use crate::copy::copy_cases;
 use mlk_calls::is_listed;
 use mlk_cert::Case;
 use mlk_cert::limit::{MOST_CASES, MOST_KEPT, MOST_OWN, MOST_TERMS};
-use mlk_routine::Line;
 use mlk_text::List;
+use mlk_tree::Line;
 use std::alloc::{AllocError, Global};
 use std::mem;
 

@@ -6,9 +6,9 @@ use Rattle.mlk_text.specs.Reading.{many, Many}
 use Rattle.mlk_text.specs.Lexemes.{byte_at, name_at, label_at}
 use Rattle.mlk_text.proofs.Lexemes.{byte-is, byte-takes, name-after}
 use Rattle.mlk_text.proofs.Readers.{then_some, pair_parts, with_some, After, after-self, after-one, after_then, Exact, many_sound, many_after, many_complete}
-use Rattle.mlk_expr.specs.Trees.{Tree, ActualTree, Given, ByRef, Missing}
-use Rattle.mlk_expr.specs.declared.tree.Callee.{Callee}
-use Rattle.mlk_expr.specs.declared.tree.Function.{Function}
+use Rattle.mlk_tree.specs.ExprTrees.{Tree, ActualTree, Given, ByRef, Missing}
+use Rattle.mlk_tree.specs.declared.expr.Callee.{Callee}
+use Rattle.mlk_tree.specs.declared.expr.Function.{Function}
 use Rattle.mlk_expr.specs.declared.scope.Allows.TheVariants.{NoTouches}
 use Rattle.mlk_expr.specs.declared.scope.Passing.TheVariants.{ByReference}
 use Rattle.mlk_expr.specs.Touches.{may_stand}

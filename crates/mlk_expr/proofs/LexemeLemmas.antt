@@ -13,7 +13,7 @@ use Rattle.mlk_text.specs.Reading.{with}
 use Rattle.mlk_text.specs.Lexemes.{is_digit, is_letter, digits, byte_at, name_at, digits_at, label_at, letters, or_else, word_at}
 use Rattle.mlk_text.proofs.Lexemes.{byte-is, name-after, digits-after}
 use Rattle.mlk_text.proofs.Readers.{pair_parts, with_some, After, after-one, after_then, Takes}
-use Rattle.mlk_expr.specs.declared.tree.Function.{Function}
+use Rattle.mlk_tree.specs.declared.expr.Function.{Function}
 use Rattle.mlk_expr.specs.declared.lexeme.Kind.{Kind}
 use Rattle.mlk_expr.specs.declared.lexeme.Kind.TheVariants as kind
 use Rattle.mlk_expr.specs.Words.{special_of, special_to_principal, special_from_quit, function_of, function_to_fnumber, function_to_piece, function_from_qlength, is_select, is_either}

@@ -19,5 +19,4 @@ pub mod Loops
 pub mod Scopes
 pub mod Labels
 pub mod Steps
-pub mod Variants
 pub mod Places

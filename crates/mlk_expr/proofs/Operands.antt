@@ -6,11 +6,11 @@ use Rattle.mlk_text.specs.Lexemes.{byte_at, name_at, inside, IsQuoted, word_at}
 use Rattle.mlk_text.specs.Canonical.{canonical_text}
 use Rattle.mlk_text.proofs.Lexemes.{byte-is, name-after, quoted-sound, quoted-complete, quoted-after}
 use Rattle.mlk_text.proofs.Readers.{then_some, pair_parts, with_some, After, after-one, after_then, Exact}
-use Rattle.mlk_expr.specs.declared.tree.Callee.{Callee}
-use Rattle.mlk_expr.specs.declared.tree.Special.{Special}
+use Rattle.mlk_tree.specs.declared.expr.Callee.{Callee}
+use Rattle.mlk_tree.specs.declared.expr.Special.{Special}
 use Rattle.mlk_expr.specs.declared.lexeme.Kind.{Kind}
 use Rattle.mlk_expr.specs.declared.lexeme.Kind.TheVariants as kind
-use Rattle.mlk_expr.specs.Trees.{Tree, Lit, Free, LocalName, GlobalName, SpecialName, Prefixed, Chain, PatternText, Func, Selected, BareCall, CallOf}
+use Rattle.mlk_tree.specs.ExprTrees.{Tree, Lit, Free, LocalName, GlobalName, SpecialName, Prefixed, Chain, PatternText, Func, Selected, BareCall, CallOf}
 use Rattle.mlk_expr.specs.declared.scope.Allows.TheVariants.{Everything}
 use Rattle.mlk_expr.specs.declared.scope.Passing.TheVariants.{ByReference}
 use Rattle.mlk_expr.specs.Words.{special_of, function_of, is_select}

@@ -15,7 +15,7 @@ use Rattle.mlk_expr.specs.declared.scope.Allows.TheVariants.{Everything, NoTouch
 use Rattle.mlk_expr.specs.declared.scope.Scope.{Scope}
 use Rattle.mlk_expr.specs.declared.scope.Passing.{Passing}
 use Rattle.mlk_expr.specs.declared.scope.Passing.TheVariants.{ByReference, ByValue}
-use Rattle.mlk_expr.specs.Trees.{Tree, Lit, Free, LocalName, GlobalName, SpecialName, Prefixed, Chain, PatternText, Func, Selected, BareCall, CallOf, Trees, no_trees, tree, Subs, no_subs, sub, Links, no_links, link, Choices, no_choices, choice, ActualTree, Given, ByRef, Missing, Actuals, no_actuals, actual, subs_from}
+use Rattle.mlk_tree.specs.ExprTrees.{Tree, Lit, Free, LocalName, GlobalName, SpecialName, Prefixed, Chain, PatternText, Func, Selected, BareCall, CallOf, Trees, no_trees, tree, Subs, no_subs, sub, Links, no_links, link, Choices, no_choices, choice, ActualTree, Given, ByRef, Missing, Actuals, no_actuals, actual, subs_from}
 use Rattle.mlk_expr.specs.Touches.{Standing, may_stand, trees_may, subs_may, links_may, choices_may, actual_may, actuals_may, subs_stand, given_stand}
 use Rattle.mlk_expr.specs.Lexemes.{column_of, kind_of, op_at, is_match, lent_at, is_missing, starts_reference, ends}
 use Rattle.mlk_expr.specs.Reading.{kept, quietly, chain_with, subs_with, local_with, global_with, right_by, actual_by, actual_with, pattern_at, operand_with, atom_at, atom_in, nested_at, nested_in, quiet, operand_in, ended, expr_at, expr_in, reference_at, reference_in, after_open, list_by, actual_list_at, actual_list_in}

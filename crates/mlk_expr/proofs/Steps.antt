@@ -5,14 +5,14 @@ use Rattle.std.proofs.lemmas.Bool.{cases_Bool, ne_eqb, ltb-false}
 use Rattle.mlk_text.specs.Reading.{◌>>=◌, with, put, many}
 use Rattle.mlk_text.specs.Lexemes.{byte_at, name_at}
 use Rattle.mlk_text.proofs.Readers.{pair_parts, with_some, after_length}
-use Rattle.mlk_expr.specs.declared.tree.Callee.{Callee}
-use Rattle.mlk_expr.specs.declared.tree.Function.{Function}
-use Rattle.mlk_expr.specs.declared.tree.Subscript.{Subscript}
+use Rattle.mlk_tree.specs.declared.expr.Callee.{Callee}
+use Rattle.mlk_tree.specs.declared.expr.Function.{Function}
+use Rattle.mlk_tree.specs.declared.expr.Subscript.{Subscript}
 use Rattle.mlk_expr.specs.declared.lexeme.Kind.TheVariants as kind
 use Rattle.mlk_text.specs.declared.failure.Failure.{Failure}
 use Rattle.mlk_expr.specs.declared.refusal.Offence.{Offence}
 use Rattle.mlk_text.specs.declared.failure.Failure.TheVariants.{OutOfMemory, Refused}
-use Rattle.mlk_expr.specs.Trees.{Tree, LocalName, GlobalName, CallOf, Func, ActualTree, subs_from, trees_from, actuals_from, sub_of}
+use Rattle.mlk_tree.specs.ExprTrees.{Tree, LocalName, GlobalName, CallOf, Func, ActualTree, subs_from, trees_from, actuals_from, sub_of}
 use Rattle.mlk_expr.specs.declared.scope.Allows.{Allows}
 use Rattle.mlk_expr.specs.declared.scope.Passing.TheVariants.{ByReference}
 use Rattle.mlk_expr.specs.Touches.{globals_may}

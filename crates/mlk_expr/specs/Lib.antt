@@ -1,4 +1,3 @@
-pub mod Trees
 pub mod Touches
 pub mod Words
 pub mod Lexemes

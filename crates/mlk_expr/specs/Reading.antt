@@ -6,14 +6,14 @@ use Rattle.mlk_text.specs.Reading.{◌>>=◌, with, many}
 use Rattle.mlk_text.specs.Lexemes.{byte_at, word_at, name_at, label_at, inside}
 use Rattle.mlk_text.specs.Canonical.{canonical_text}
 use Rattle.mlk_text.specs.declared.operator.Op.{Op}
-use Rattle.mlk_expr.specs.declared.tree.Callee.{Callee}
-use Rattle.mlk_expr.specs.declared.tree.Function.{Function}
-use Rattle.mlk_expr.specs.declared.tree.Special.{Special}
+use Rattle.mlk_tree.specs.declared.expr.Callee.{Callee}
+use Rattle.mlk_tree.specs.declared.expr.Function.{Function}
+use Rattle.mlk_tree.specs.declared.expr.Special.{Special}
 use Rattle.mlk_expr.specs.declared.lexeme.Kind.{Kind}
 use Rattle.mlk_expr.specs.declared.lexeme.Kind.TheVariants as kind
-use Rattle.mlk_expr.specs.Trees.{Tree, Lit, Free, LocalName, GlobalName, SpecialName, Prefixed, PatternText, Func}
-use Rattle.mlk_expr.specs.Trees.{Selected, BareCall, CallOf, ActualTree, Given, ByRef, Missing, trees_from, subs_from}
-use Rattle.mlk_expr.specs.Trees.{choices_from, actuals_from}
+use Rattle.mlk_tree.specs.ExprTrees.{Tree, Lit, Free, LocalName, GlobalName, SpecialName, Prefixed, PatternText, Func}
+use Rattle.mlk_tree.specs.ExprTrees.{Selected, BareCall, CallOf, ActualTree, Given, ByRef, Missing, trees_from, subs_from}
+use Rattle.mlk_tree.specs.ExprTrees.{choices_from, actuals_from}
 use Rattle.mlk_expr.specs.declared.scope.Allows.{Allows}
 use Rattle.mlk_expr.specs.declared.scope.Allows.TheVariants.{Everything, NoTouches}
 use Rattle.mlk_expr.specs.declared.scope.Scope.{Scope}

@@ -3,10 +3,10 @@
 use Rattle.std.specs.Prelude.{ℕ, ◌||◌, if◌then◌else◌, Bool, List, Option, Some, None, codes}
 use Rattle.std.specs.Str.{str_eq_ignore_ascii_case}
 use Rattle.mlk_text.specs.Lexemes.{or_else}
-use Rattle.mlk_expr.specs.declared.tree.Special.{Special}
-use Rattle.mlk_expr.specs.declared.tree.Special.TheVariants as special
-use Rattle.mlk_expr.specs.declared.tree.Function.{Function}
-use Rattle.mlk_expr.specs.declared.tree.Function.TheVariants as function
+use Rattle.mlk_tree.specs.declared.expr.Special.{Special}
+use Rattle.mlk_tree.specs.declared.expr.Special.TheVariants as special
+use Rattle.mlk_tree.specs.declared.expr.Function.{Function}
+use Rattle.mlk_tree.specs.declared.expr.Function.TheVariants as function
 
 abbrev pub is_either : List ℕ → List ℕ → List ℕ → Bool
 is_either short whole w = str_eq_ignore_ascii_case w short || str_eq_ignore_ascii_case w whole

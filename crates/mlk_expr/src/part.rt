@@ -5,7 +5,7 @@ ghost use Rattle.mlk_text.specs.Failures.{Reads, IsRefused};
 ghost use Rattle.mlk_text.specs.Lexemes.{name_at, label_at, inside};
 ghost use Rattle.mlk_text.specs.Reading.{with};
 ghost use Rattle.mlk_expr.specs.Lexemes.{numeral_at, lent_at};
-ghost use Rattle.mlk_expr.specs.Trees.{Lit, tree_of};
+ghost use Rattle.mlk_tree.specs.ExprTrees.{Lit, tree_of};
 ghost use Rattle.mlk_expr.specs.Grammar.{named, has_subscript, asks_subscript};
 ghost use Rattle.mlk_expr.specs.Reading.{where_may, number_of, callee_at};
 ghost use Rattle.mlk_expr.specs.Touches.{globals_may};
@@ -15,10 +15,10 @@ use crate::refusal::{
     Offence, Wrong, no_global, no_label, no_name, no_number, no_routine, refused,
 };
 use crate::scope::Allows;
-use crate::tree::{Callee, Expr, Function};
 use mlk_text::lexeme::{byte_of, is_text_byte};
 use mlk_text::spelling::{label_text, name_text};
 use mlk_text::{Failure, Name, Value, canonical, literal};
+use mlk_tree::{Callee, Expr, Function};
 use std::alloc::{AllocError, Global};
 
 /// The name at the front, and what is after it.

@@ -3,7 +3,7 @@
 ghost use Rattle.std.specs.Prelude.{suc, length};
 ghost use Rattle.mlk_text.specs.Reading.{with, many};
 ghost use Rattle.mlk_expr.specs.Lexemes.{op_at, is_match};
-ghost use Rattle.mlk_expr.specs.Trees.{Prefixed, tree_of, links};
+ghost use Rattle.mlk_tree.specs.ExprTrees.{Prefixed, tree_of, links};
 ghost use Rattle.mlk_expr.specs.Reading.{nested_in, pattern_at, right_by, linked, enclosed_with, operand_in, atom_in};
 ghost use Rattle.mlk_text.specs.Failures.{Reads};
 
@@ -18,9 +18,9 @@ use crate::read::functions::dollar;
 use crate::read::names::{global, local};
 use crate::refusal::{Offence, Wrong, no_end, no_operand, refused, too_deep};
 use crate::scope::Scope;
-use crate::tree::Expr;
 use mlk_text::lexeme::byte_of;
 use mlk_text::{Failure, Op, UnaryOp, Value, push_sparing};
+use mlk_tree::Expr;
 use std::alloc::Global;
 
 /// The expression at the front that nests so deep at most, and what is after it.

@@ -5,7 +5,7 @@ ghost use Rattle.mlk_expr.specs.Words.{is_either, special_to_principal, special_
 ghost use Rattle.mlk_expr.specs.Words.{special_of, function_to_fnumber, function_to_piece, function_from_qlength};
 ghost use Rattle.mlk_expr.specs.Words.{function_of, is_select};
 
-use crate::tree::{Function, Special};
+use mlk_tree::{Function, Special};
 
 /// Whether a word is this one, short or whole, in either case.
 #[inline(always)]

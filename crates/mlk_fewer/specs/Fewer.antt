@@ -2,7 +2,7 @@
 -- of them. This project's own.
 use Rattle.std.specs.Prelude.{◌≡◌, ◌⊎◌, ℕ, false, List, [], ◌∷◌, map}
 use Rattle.mlk_cert.specs.declared.case.Case.{Case}
-use Rattle.mlk_routine.specs.Trees.{CommandTrees}
+use Rattle.mlk_tree.specs.Trees.{CommandTrees}
 use Rattle.mlk_calls.specs.declared.state.State.{State}
 use Rattle.mlk_calls.specs.States.{at_rest}
 use Rattle.mlk_calls.specs.Scope.{Scope, listed}

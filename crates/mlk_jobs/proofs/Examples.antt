@@ -2,8 +2,8 @@
 -- ` / ` ends a line.
 use Rattle.std.proofs.Common.{◌≡◌, refl, List, [], ◌∷◌, Some, None}
 use Rattle.std.specs.Prelude.{codes, true}
-use Rattle.mlk_expr.specs.Trees.{Lit, CallOf, no_actuals}
-use Rattle.mlk_routine.specs.Trees.{Do, Else, Halt, If, Kill, KillAllBut, New, NewOne, Quit, Once, Limited, Runs, no_lines, RoutineTree}
+use Rattle.mlk_tree.specs.ExprTrees.{Lit, CallOf, no_actuals}
+use Rattle.mlk_tree.specs.Trees.{Do, Else, Halt, If, Kill, KillAllBut, New, NewOne, Quit, Once, Limited, Runs, no_lines, RoutineTree}
 use Rattle.mlk_jobs.specs.declared.choice.Choice.TheVariants as choice
 use Rattle.mlk_jobs.specs.Seen.{Stuck, Ended, settled}
 use Rattle.mlk_jobs.proofs.Trees.{value_of, local, global, global_at, set, callee, do_label, by_reference, commands, for_each, at_label, unlabelled, lines, routine, played, writes_at}

@@ -12,11 +12,11 @@ use Rattle.mlk_locks.specs.NameTests.{is_above, in_conflict, same_name}
 use Rattle.mlk_locks.specs.Counts.{Counts}
 use Rattle.mlk_locks.specs.Systems.{Act, Begin, Go, Abort, Event, after}
 use Rattle.mlk_locks.specs.Laws.{has_ring_of}
-use Rattle.mlk_expr.specs.declared.tree.Function.TheVariants as function
-use Rattle.mlk_expr.specs.Trees.{Tree, Lit, GlobalName, Func, tree, no_trees, no_subs, sub}
-use Rattle.mlk_routine.specs.declared.tree.Sign.TheVariants as sign
-use Rattle.mlk_routine.specs.declared.tree.Part.TheVariants as part
-use Rattle.mlk_routine.specs.Trees.{VariableTree, ActionTree, Lock, LockNames, Set, SetTo, SetPart, Quit, Write, WriteValue, Merge, MergeInto, no_lines, RoutineTree}
+use Rattle.mlk_tree.specs.declared.expr.Function.TheVariants as function
+use Rattle.mlk_tree.specs.ExprTrees.{Tree, Lit, GlobalName, Func, tree, no_trees, no_subs, sub}
+use Rattle.mlk_tree.specs.declared.command.Sign.TheVariants as sign
+use Rattle.mlk_tree.specs.declared.command.Part.TheVariants as part
+use Rattle.mlk_tree.specs.Trees.{VariableTree, ActionTree, Lock, LockNames, Set, SetTo, SetPart, Quit, Write, WriteValue, Merge, MergeInto, no_lines, RoutineTree}
 use Rattle.mlk_program.specs.declared.entry.EntryId.{EntryId}
 use Rattle.mlk_jobs.specs.declared.choice.Choice.{Choice}
 use Rattle.mlk_jobs.specs.declared.choice.Choice.TheVariants as choice

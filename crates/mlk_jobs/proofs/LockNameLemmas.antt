@@ -2,12 +2,12 @@
 use Rattle.std.proofs.Common.{◌≡◌, ℕ, List, [], ◌∷◌, Vec, Global, length, map, refl, sym, ap, ◌∙◌, ◌≤◌, ◌+◌, ◌-◌, min, arith}
 use Rattle.std.specs.Prelude.{◌^◌}
 use Rattle.std.proofs.Math.Nat.{min-eq_left}
-use Rattle.mlk_expr.specs.declared.tree.Subscript.{Subscript}
-use Rattle.mlk_expr.specs.declared.tree.Expr.TheVariants as rust
-use Rattle.mlk_expr.specs.Trees.{tree_of, subs_from, sub_trees, LocalName, GlobalName}
-use Rattle.mlk_expr.proofs.Variants.{tree_local, tree_global}
-use Rattle.mlk_routine.specs.declared.tree.Variable.{Variable}
-use Rattle.mlk_routine.specs.Views.{variable_of}
+use Rattle.mlk_tree.specs.declared.expr.Subscript.{Subscript}
+use Rattle.mlk_tree.specs.declared.expr.Expr.TheVariants as rust
+use Rattle.mlk_tree.specs.ExprTrees.{tree_of, subs_from, sub_trees, LocalName, GlobalName}
+use Rattle.mlk_tree.proofs.Variants.{tree_local, tree_global}
+use Rattle.mlk_tree.specs.declared.command.Variable.{Variable}
+use Rattle.mlk_tree.specs.Views.{variable_of}
 use Rattle.mlk_jobs.specs.Expressions.{count_subs}
 use Rattle.mlk_jobs.specs.Commands.{count_in}
 use Rattle.mlk_jobs.specs.Locking.{count_all}

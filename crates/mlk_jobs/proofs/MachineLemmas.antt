@@ -11,7 +11,7 @@ use Rattle.mlk_locks.proofs.Counting.{all_more}
 use Rattle.mlk_locks.proofs.SystemLemmas as systems
 use Rattle.mlk_locks.proofs.LeavingLemmas as leaving
 use Rattle.mlk_locks.proofs.WaitLemmas as waiting
-use Rattle.mlk_routine.specs.Trees.{RoutineTree}
+use Rattle.mlk_tree.specs.Trees.{RoutineTree}
 use Rattle.mlk_program.specs.Entries.{target_of}
 use Rattle.mlk_program.specs.declared.entry.EntryId.{EntryId}
 use Rattle.mlk_jobs.specs.declared.choice.Choice.{Choice}

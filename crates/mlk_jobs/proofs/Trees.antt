@@ -2,11 +2,11 @@
 use Rattle.std.specs.Prelude.{ℕ, true, false, List, [], ◌∷◌, Option, Some, None, Ok, Err}
 use Rattle.mlk_names.specs.declared.reference.Extent.TheVariants as extent
 use Rattle.mlk_names.specs.declared.reference.Access.TheVariants.{Writes}
-use Rattle.mlk_expr.specs.declared.tree.Callee.{Callee}
-use Rattle.mlk_expr.specs.Trees.{Tree, LocalName, GlobalName, no_subs, sub, ActualTree, ByRef}
-use Rattle.mlk_routine.specs.Trees.{VariableTree, Named, Called, DoCall, SetTo, SetWhole, ActionTree, Do, Set, CommandTrees}
-use Rattle.mlk_routine.specs.Trees.{Does, finished, then_command, then_for, ControlTree, HeadTree, LineHead, LineTrees, no_lines, line}
-use Rattle.mlk_routine.specs.Trees.{RoutineTree, Named_routine}
+use Rattle.mlk_tree.specs.declared.expr.Callee.{Callee}
+use Rattle.mlk_tree.specs.ExprTrees.{Tree, LocalName, GlobalName, no_subs, sub, ActualTree, ByRef}
+use Rattle.mlk_tree.specs.Trees.{VariableTree, Named, Called, DoCall, SetTo, SetWhole, ActionTree, Do, Set, CommandTrees}
+use Rattle.mlk_tree.specs.Trees.{Does, finished, then_command, then_for, ControlTree, HeadTree, LineHead, LineTrees, no_lines, line}
+use Rattle.mlk_tree.specs.Trees.{RoutineTree, Named_routine}
 use Rattle.mlk_program.specs.declared.entry.EntryId.{EntryId}
 use Rattle.mlk_jobs.specs.declared.choice.Choice.{Choice}
 use Rattle.mlk_jobs.specs.Tasks.{Job}

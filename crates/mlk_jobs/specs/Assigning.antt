@@ -2,8 +2,8 @@
 use Rattle.std.specs.Prelude.{ℕ, ◌+◌, List, [], ◌∷◌, ◌++◌, length, take, drop}
 use Rattle.mlk_names.specs.declared.reference.Extent.TheVariants as extent
 use Rattle.mlk_names.specs.declared.reference.Access.TheVariants.{Reads, Writes}
-use Rattle.mlk_expr.specs.Trees.{LocalName, GlobalName, no_subs}
-use Rattle.mlk_routine.specs.Trees.{VariableTree, Named, TargetTree, SetWhole, SetPart}
+use Rattle.mlk_tree.specs.ExprTrees.{LocalName, GlobalName, no_subs}
+use Rattle.mlk_tree.specs.Trees.{VariableTree, Named, TargetTree, SetWhole, SetPart}
 use Rattle.mlk_jobs.specs.Tasks as task
 use Rattle.mlk_jobs.specs.Tasks.{Task}
 use Rattle.mlk_jobs.specs.Commands.{count_in}

@@ -2,8 +2,8 @@
 -- parameter passing, DO, extrinsic functions, QUIT.
 use Rattle.std.specs.Prelude.{ℕ, suc, Bool, true, false, List, [], ◌∷◌, ◌++◌, drop, Option, Some, None, Ok, Err, slice_get}
 use Rattle.mlk_locks.specs.declared.refusal.Refusal.TheVariants.{NotEnabled}
-use Rattle.mlk_expr.specs.Trees.{ActualTree, Given, ByRef, Missing}
-use Rattle.mlk_routine.specs.Trees.{HeadTree, LineHead, CommandTrees, RoutineTree}
+use Rattle.mlk_tree.specs.ExprTrees.{ActualTree, Given, ByRef, Missing}
+use Rattle.mlk_tree.specs.Trees.{HeadTree, LineHead, CommandTrees, RoutineTree}
 use Rattle.mlk_program.specs.declared.entry.EntryId.{EntryId}
 use Rattle.mlk_program.specs.Entries.{lines_in}
 use Rattle.mlk_jobs.specs.declared.choice.Choice.{Choice}

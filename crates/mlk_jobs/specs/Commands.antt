@@ -1,9 +1,9 @@
 -- What a command is replaced by, argument by argument. Restates ISO/IEC 11756, commands.
 use Rattle.std.specs.Prelude.{ℕ, true, false, List, [], ◌∷◌, ◌++◌, flat_map, length, is_some, Option, Some, None}
-use Rattle.mlk_expr.specs.Trees.{Tree, LocalName, GlobalName, Subs, no_subs, ActualTree}
-use Rattle.mlk_routine.specs.Trees.{VariableTree, Named, CallTree, Called, DoTree, DoCall, KillTree, KillOne, KillAllBut, NewTree, NewOne, NewAllBut, LockTree, LockNames, MergeTree, MergeInto}
-use Rattle.mlk_routine.specs.Trees.{ReadTree, ReadText, ReadFormat, ReadLine, ReadCharacter, TargetTree, SetWhole, SetPart, SetTree, SetTo, WriteTree, WriteValue, WriteCharacter, WriteFormat}
-use Rattle.mlk_routine.specs.Trees.{ActionTree, Do, Else, Halt, Hang, If, Job, Kill, Lock, Merge, New, Quit, Read, Set, Write, LineTrees, no_lines, line}
+use Rattle.mlk_tree.specs.ExprTrees.{Tree, LocalName, GlobalName, Subs, no_subs, ActualTree}
+use Rattle.mlk_tree.specs.Trees.{VariableTree, Named, CallTree, Called, DoTree, DoCall, KillTree, KillOne, KillAllBut, NewTree, NewOne, NewAllBut, LockTree, LockNames, MergeTree, MergeInto}
+use Rattle.mlk_tree.specs.Trees.{ReadTree, ReadText, ReadFormat, ReadLine, ReadCharacter, TargetTree, SetWhole, SetPart, SetTree, SetTo, WriteTree, WriteValue, WriteCharacter, WriteFormat}
+use Rattle.mlk_tree.specs.Trees.{ActionTree, Do, Else, Halt, Hang, If, Job, Kill, Lock, Merge, New, Quit, Read, Set, Write, LineTrees, no_lines, line}
 use Rattle.mlk_names.specs.declared.reference.Extent.TheVariants as extent
 use Rattle.mlk_names.specs.declared.reference.Access.TheVariants.{Writes}
 use Rattle.mlk_jobs.specs.Bindings.{Only, AllBut}

@@ -2,12 +2,12 @@
 -- Restates ISO/IEC 11756, expressions, functions, special variables. Which values are known is this project's own
 -- choice: all others may be any.
 use Rattle.std.specs.Prelude.{ℕ, suc, ◌-◌, ◌+◌, Bool, true, false, List, [], ◌∷◌, ◌++◌}
-use Rattle.mlk_expr.specs.declared.tree.Special.{Special}
-use Rattle.mlk_expr.specs.declared.tree.Special.TheVariants as special
-use Rattle.mlk_expr.specs.declared.tree.Function.{Function}
-use Rattle.mlk_expr.specs.declared.tree.Function.TheVariants as function
-use Rattle.mlk_expr.specs.Trees.{Tree, Lit, Free, LocalName, GlobalName, SpecialName, Prefixed, Chain, PatternText, Func, Selected, BareCall, CallOf}
-use Rattle.mlk_expr.specs.Trees.{Trees, no_trees, tree, Subs, no_subs, sub, Links, no_links, link, ActualTree, Given, ByRef, Missing, Actuals, no_actuals, actual}
+use Rattle.mlk_tree.specs.declared.expr.Special.{Special}
+use Rattle.mlk_tree.specs.declared.expr.Special.TheVariants as special
+use Rattle.mlk_tree.specs.declared.expr.Function.{Function}
+use Rattle.mlk_tree.specs.declared.expr.Function.TheVariants as function
+use Rattle.mlk_tree.specs.ExprTrees.{Tree, Lit, Free, LocalName, GlobalName, SpecialName, Prefixed, Chain, PatternText, Func, Selected, BareCall, CallOf}
+use Rattle.mlk_tree.specs.ExprTrees.{Trees, no_trees, tree, Subs, no_subs, sub, Links, no_links, link, ActualTree, Given, ByRef, Missing, Actuals, no_actuals, actual}
 use Rattle.mlk_names.specs.declared.reference.Extent.{Extent}
 use Rattle.mlk_names.specs.declared.reference.Extent.TheVariants as extent
 use Rattle.mlk_names.specs.declared.reference.Access.TheVariants.{Reads}

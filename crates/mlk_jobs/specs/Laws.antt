@@ -7,7 +7,7 @@ use Rattle.mlk_names.specs.declared.lock_name.LockName.{LockName}
 use Rattle.mlk_locks.specs.declared.refusal.Refusal.TheVariants.{NotEnabled}
 use Rattle.mlk_locks.specs.Systems.{and_then}
 use Rattle.mlk_locks.specs.Laws as any
-use Rattle.mlk_routine.specs.Trees.{RoutineTree}
+use Rattle.mlk_tree.specs.Trees.{RoutineTree}
 use Rattle.mlk_program.specs.declared.entry.EntryId.{EntryId}
 use Rattle.mlk_jobs.specs.declared.choice.Choice.{Choice}
 use Rattle.mlk_jobs.specs.declared.choice.Choice.TheVariants as choice

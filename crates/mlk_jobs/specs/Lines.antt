@@ -2,9 +2,9 @@
 -- that a job does not go on to a line with a formal list is this project's own choice.
 use Rattle.std.specs.Prelude.{ℕ, Bool, true, false, ◌||◌, if◌then◌else◌, List, [], ◌∷◌, ◌++◌, Option, Some, None, Ok, Err}
 use Rattle.mlk_locks.specs.declared.refusal.Refusal.TheVariants.{NotEnabled}
-use Rattle.mlk_expr.specs.Trees.{Tree, Choices, no_choices, choice}
-use Rattle.mlk_routine.specs.Trees.{ParameterTree, Once, Endless, Limited, ControlTree, Runs}
-use Rattle.mlk_routine.specs.Trees.{CommandTree, Does, CommandTrees, finished, then_command, then_for, LineHead, LineTrees}
+use Rattle.mlk_tree.specs.ExprTrees.{Tree, Choices, no_choices, choice}
+use Rattle.mlk_tree.specs.Trees.{ParameterTree, Once, Endless, Limited, ControlTree, Runs}
+use Rattle.mlk_tree.specs.Trees.{CommandTree, Does, CommandTrees, finished, then_command, then_for, LineHead, LineTrees}
 use Rattle.mlk_jobs.specs.Tasks as task
 use Rattle.mlk_jobs.specs.Tasks.{Task, Job, LineTree, AwaitsValue, HasValue}
 use Rattle.mlk_jobs.specs.Tasks.{RunLines, RunCommands, Parameters, Forever, NextValue, FirstRound, LaterRound, EndBlock, EndFrame}

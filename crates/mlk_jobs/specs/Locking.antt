@@ -5,10 +5,10 @@ use Rattle.std.specs.List.{list_all}
 use Rattle.mlk_text.specs.declared.root.Root.{Root}
 use Rattle.mlk_text.specs.declared.root.Root.TheVariants as root
 use Rattle.mlk_names.specs.declared.lock_name.LockName.{LockName}
-use Rattle.mlk_expr.specs.Trees.{LocalName, GlobalName}
-use Rattle.mlk_routine.specs.declared.tree.Sign.{Sign}
-use Rattle.mlk_routine.specs.declared.tree.Sign.TheVariants as sign
-use Rattle.mlk_routine.specs.Trees.{VariableTree, Named}
+use Rattle.mlk_tree.specs.ExprTrees.{LocalName, GlobalName}
+use Rattle.mlk_tree.specs.declared.command.Sign.{Sign}
+use Rattle.mlk_tree.specs.declared.command.Sign.TheVariants as sign
+use Rattle.mlk_tree.specs.Trees.{VariableTree, Named}
 use Rattle.mlk_locks.specs.declared.refusal.Refusal.TheVariants.{NotEnabled}
 use Rattle.mlk_locks.specs.Counts.{all_raised, has_room}
 use Rattle.mlk_jobs.specs.declared.choice.Choice.{Choice}

@@ -5,8 +5,8 @@ use Rattle.mlk_names.specs.declared.lock_name.LockName.{LockName}
 use Rattle.mlk_locks.specs.declared.refusal.Refusal.TheVariants.{NotEnabled, BadChoice}
 use Rattle.mlk_locks.specs.Waiting.{Claim, View}
 use Rattle.mlk_locks.specs.Systems.{Machine}
-use Rattle.mlk_expr.specs.Trees.{ActualTree, Given, Lit}
-use Rattle.mlk_routine.specs.Trees.{RoutineTree}
+use Rattle.mlk_tree.specs.ExprTrees.{ActualTree, Given, Lit}
+use Rattle.mlk_tree.specs.Trees.{RoutineTree}
 use Rattle.mlk_program.specs.declared.entry.EntryId.{EntryId}
 use Rattle.mlk_jobs.specs.declared.choice.Choice.{Choice}
 use Rattle.mlk_jobs.specs.Bindings.{no_values}

@@ -4,12 +4,12 @@ use Rattle.mlk_names.specs.declared.symbol.Sym.{Sym}
 use Rattle.mlk_names.specs.declared.symbol.Sym.TheVariants as sym
 use Rattle.mlk_names.specs.declared.reference.Reference.{Reference}
 use Rattle.mlk_names.specs.References.{Touch}
-use Rattle.mlk_expr.specs.Trees.{tree_of, choices, choices_from, actual_trees}
-use Rattle.mlk_routine.specs.declared.tree.For.{For}
-use Rattle.mlk_routine.specs.declared.tree.Commands.TheFolds.{fold-For}
-use Rattle.mlk_routine.specs.declared.routine.Line.{Line}
-use Rattle.mlk_routine.specs.Trees.{CommandTrees, LineTrees}
-use Rattle.mlk_routine.specs.Views.{commands_step, for_step, commands_from, last_or_none, command_of, line_of, lines_from, action_of, variable_of, target_of, parameter_of}
+use Rattle.mlk_tree.specs.ExprTrees.{tree_of, choices, choices_from, actual_trees}
+use Rattle.mlk_tree.specs.declared.command.For.{For}
+use Rattle.mlk_tree.specs.declared.command.Commands.TheFolds.{fold-For}
+use Rattle.mlk_tree.specs.declared.routine.Line.{Line}
+use Rattle.mlk_tree.specs.Trees.{CommandTrees, LineTrees}
+use Rattle.mlk_tree.specs.Views.{commands_step, for_step, commands_from, last_or_none, command_of, line_of, lines_from, action_of, variable_of, target_of, parameter_of}
 use Rattle.mlk_jobs.specs.declared.task.Calling.{Calling}
 use Rattle.mlk_jobs.specs.declared.task.Calling.TheVariants as calling
 use Rattle.mlk_jobs.specs.declared.task.Rest.{Rest}

@@ -7,10 +7,10 @@ use Rattle.mlk_names.specs.declared.lock_name.LockName.{LockName}
 use Rattle.mlk_names.specs.References.{Touch}
 use Rattle.mlk_names.specs.declared.reference.Extent.{Extent}
 use Rattle.mlk_names.specs.declared.reference.Access.{Access}
-use Rattle.mlk_expr.specs.declared.tree.Callee.{Callee}
-use Rattle.mlk_expr.specs.Trees.{Tree, Choices, ActualTree}
-use Rattle.mlk_routine.specs.declared.tree.Sign.{Sign}
-use Rattle.mlk_routine.specs.Trees.{VariableTree, TargetTree, ActionTree, CommandTrees, ParameterTree, HeadTree, LineTrees}
+use Rattle.mlk_tree.specs.declared.expr.Callee.{Callee}
+use Rattle.mlk_tree.specs.ExprTrees.{Tree, Choices, ActualTree}
+use Rattle.mlk_tree.specs.declared.command.Sign.{Sign}
+use Rattle.mlk_tree.specs.Trees.{VariableTree, TargetTree, ActionTree, CommandTrees, ParameterTree, HeadTree, LineTrees}
 use Rattle.mlk_jobs.specs.Bindings.{Names, Bindings, Cells}
 use Rattle.mlk_locks.specs.Counts.{Counts}
 

@@ -1,14 +1,13 @@
 // The names of LOCK, once their subscripts were computed.
 
 ghost use Rattle.std.specs.Prelude.{◌≡◌, ◌-◌, ◌^◌, IfOk, length, map, min, take, drop};
-ghost use Rattle.mlk_routine.specs.Views.{variable_of};
+ghost use Rattle.mlk_tree.specs.Views.{variable_of};
 ghost use Rattle.mlk_jobs.specs.Commands.{count_in};
 ghost use Rattle.mlk_jobs.specs.Locking.{root_in, count_all, lock_name_of, names_of};
 
-use mlk_expr::{Expr, Subscript};
 use mlk_names::{LockName, Root};
-use mlk_routine::Variable;
 use mlk_text::{Name, Subscripts, Value};
+use mlk_tree::{Expr, Subscript, Variable};
 use std::alloc::{AllocError, Global};
 
 // The subscripts of a name.

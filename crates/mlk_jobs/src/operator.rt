@@ -3,8 +3,7 @@
 ghost use Rattle.std.specs.Prelude.{◌≡◌, IfOk};
 ghost use Rattle.mlk_jobs.specs.Values.{fold_between, fold_before};
 
-use mlk_expr::{Op, UnaryOp};
-use mlk_text::{Value, fold, fold_unary};
+use mlk_text::{Op, UnaryOp, Value, fold, fold_unary};
 use std::alloc::{AllocError, Global};
 
 /// What an operator gives of two values, where that is known.

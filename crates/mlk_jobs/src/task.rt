@@ -1,10 +1,11 @@
 // What a job has to do.
 
 use crate::binding::Names;
-use mlk_expr::{Actual, Callee, Expr};
 use mlk_names::{Access, Extent, LockName, Reference};
-use mlk_routine::{Action, Command, For, Line, Parameter, Sign, Target, Variable};
 use mlk_text::{Name, Op, UnaryOp, Value};
+use mlk_tree::{
+    Action, Actual, Callee, Command, Expr, For, Line, Parameter, Sign, Target, Variable,
+};
 
 /// What a call is made by.
 #[derive(Clone, Copy, Drop)]

@@ -1,19 +1,19 @@
 -- What is made of no states is nothing: no state, no fault.
 use Rattle.std.proofs.Common.{◌≡◌, ◌∙◌, ◌<◌, ap, refl, arith, ℕ, ◌+◌, true, List, [], ◌∷◌, Option, None, Some, length, drop, map, slice_index_or}
-use Rattle.mlk_expr.specs.declared.tree.Callee.{Callee}
-use Rattle.mlk_expr.specs.Trees.{Tree, Lit, Free, LocalName, GlobalName, SpecialName, Prefixed, Chain, PatternText, Func, Selected, BareCall, CallOf}
-use Rattle.mlk_expr.specs.Trees.{Trees, no_trees, tree, Subs, no_subs, sub, Links, no_links, link, Choices, no_choices, choice}
-use Rattle.mlk_expr.specs.Trees.{ActualTree, Given, ByRef, Missing, Actuals, no_actuals, actual, actuals_from}
-use Rattle.mlk_routine.specs.Trees.{VariableTree, CallTree, DoTree, DoCall, KillTree, KillOne, KillAllBut, NewTree, NewOne, NewAllBut}
-use Rattle.mlk_routine.specs.Trees.{LockTree, LockNames, MergeTree, MergeInto, ReadTree, ReadText, ReadFormat, ReadLine, ReadCharacter}
-use Rattle.mlk_routine.specs.Trees.{TargetTree, SetWhole, SetPart, SetTree, SetTo, WriteTree, WriteValue, WriteCharacter, WriteFormat}
-use Rattle.mlk_routine.specs.Trees.{ActionTree, Do, Else, Halt, Hang, If, Job, Kill, Lock, Merge, New, Quit, Read, Set, Write, CommandTree, Does}
-use Rattle.mlk_routine.specs.Trees.{ParameterTree, Once, Endless, Limited, ControlTree, Runs, CommandTrees, finished, then_command, then_for, HeadTree, LineHead, LineTrees, no_lines, line}
+use Rattle.mlk_tree.specs.declared.expr.Callee.{Callee}
+use Rattle.mlk_tree.specs.ExprTrees.{Tree, Lit, Free, LocalName, GlobalName, SpecialName, Prefixed, Chain, PatternText, Func, Selected, BareCall, CallOf}
+use Rattle.mlk_tree.specs.ExprTrees.{Trees, no_trees, tree, Subs, no_subs, sub, Links, no_links, link, Choices, no_choices, choice}
+use Rattle.mlk_tree.specs.ExprTrees.{ActualTree, Given, ByRef, Missing, Actuals, no_actuals, actual, actuals_from}
+use Rattle.mlk_tree.specs.Trees.{VariableTree, CallTree, DoTree, DoCall, KillTree, KillOne, KillAllBut, NewTree, NewOne, NewAllBut}
+use Rattle.mlk_tree.specs.Trees.{LockTree, LockNames, MergeTree, MergeInto, ReadTree, ReadText, ReadFormat, ReadLine, ReadCharacter}
+use Rattle.mlk_tree.specs.Trees.{TargetTree, SetWhole, SetPart, SetTree, SetTo, WriteTree, WriteValue, WriteCharacter, WriteFormat}
+use Rattle.mlk_tree.specs.Trees.{ActionTree, Do, Else, Halt, Hang, If, Job, Kill, Lock, Merge, New, Quit, Read, Set, Write, CommandTree, Does}
+use Rattle.mlk_tree.specs.Trees.{ParameterTree, Once, Endless, Limited, ControlTree, Runs, CommandTrees, finished, then_command, then_for, HeadTree, LineHead, LineTrees, no_lines, line}
 use Rattle.mlk_text.specs.Places.{column_at}
-use Rattle.mlk_routine.specs.declared.routine.Line.{Line}
-use Rattle.mlk_routine.specs.declared.routine.Line.TheViews.{out-Line}
-use Rattle.mlk_routine.specs.declared.routine.Line.TheFolds.{fold_out-Line}
-use Rattle.mlk_routine.specs.Views.{commands_of, line_step, line_of, lines_from}
+use Rattle.mlk_tree.specs.declared.routine.Line.{Line}
+use Rattle.mlk_tree.specs.declared.routine.Line.TheViews.{out-Line}
+use Rattle.mlk_tree.specs.declared.routine.Line.TheFolds.{fold_out-Line}
+use Rattle.mlk_tree.specs.Views.{commands_of, line_step, line_of, lines_from}
 use Rattle.mlk_coverage.proofs.CheckLemmas.{drop_step}
 use Rattle.mlk_program.specs.Calls.{as_list}
 use Rattle.mlk_cert.specs.declared.names.NameSet.TheVariants.{Only}

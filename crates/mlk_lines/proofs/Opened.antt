@@ -2,13 +2,13 @@
 use Rattle.std.specs.Prelude.{fold, option_map, IfOk}
 use Rattle.std.specs.declared.alloc.AllocError.{AllocError}
 use Rattle.std.proofs.Common.{◌≡◌, ◌∙◌, ap, sym, subst, refl, List, [], ◌∷◌, ◌++◌, map, Some, None, Result, Box, Global}
-use Rattle.mlk_routine.specs.declared.tree.Command.{Command}
-use Rattle.mlk_routine.specs.declared.tree.Commands.{Commands}
-use Rattle.mlk_routine.specs.declared.tree.For.{For}
-use Rattle.mlk_routine.specs.declared.tree.Commands.TheViews.{out-Commands, out-For}
-use Rattle.mlk_routine.specs.declared.tree.Commands.TheFolds.{fold-For, fold_out-For}
-use Rattle.mlk_routine.specs.Trees.{CommandTrees, finished}
-use Rattle.mlk_routine.specs.Views.{commands_of, command_of, control_of, commands_from, commands_step, for_step}
+use Rattle.mlk_tree.specs.declared.command.Command.{Command}
+use Rattle.mlk_tree.specs.declared.command.Commands.{Commands}
+use Rattle.mlk_tree.specs.declared.command.For.{For}
+use Rattle.mlk_tree.specs.declared.command.Commands.TheViews.{out-Commands, out-For}
+use Rattle.mlk_tree.specs.declared.command.Commands.TheFolds.{fold-For, fold_out-For}
+use Rattle.mlk_tree.specs.Trees.{CommandTrees, finished}
+use Rattle.mlk_tree.specs.Views.{commands_of, command_of, control_of, commands_from, commands_step, for_step}
 use Rattle.mlk_program.proofs.FoundCommands.{none_last, some_last}
 use Rattle.mlk_cert.specs.declared.case.Test.{Test}
 use Rattle.mlk_cert.specs.declared.case.Case.{Case}

@@ -2,9 +2,9 @@
 use Rattle.std.specs.Prelude.{Bool, true, false, if◌then◌else◌, List, [], ◌∷◌, ◌++◌, map, fold, Option, Some, None}
 use Rattle.std.specs.List.{list_any}
 use Rattle.mlk_text.specs.declared.code.Code.TheVariants.{HeldAtEnd, CaseNotListed, SummaryShort}
-use Rattle.mlk_expr.specs.Trees.{Tree}
-use Rattle.mlk_routine.specs.Trees.{ActionTree, Do, Else, Halt, Hang, If, Job, Kill, Lock, Merge, New, Quit, Read, Set, Write}
-use Rattle.mlk_routine.specs.Trees.{DoTree, KillTree, LockTree, NewTree}
+use Rattle.mlk_tree.specs.ExprTrees.{Tree}
+use Rattle.mlk_tree.specs.Trees.{ActionTree, Do, Else, Halt, Hang, If, Job, Kill, Lock, Merge, New, Quit, Read, Set, Write}
+use Rattle.mlk_tree.specs.Trees.{DoTree, KillTree, LockTree, NewTree}
 use Rattle.mlk_cert.specs.declared.case.Case.{Case}
 use Rattle.mlk_calls.specs.Cases.{known_test, is_listed, holds_some}
 use Rattle.mlk_calls.specs.Scope.{listed}

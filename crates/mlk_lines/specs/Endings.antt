@@ -5,7 +5,7 @@ use Rattle.std.specs.Prelude.{ℕ, Bool, not, ◌&&◌, ◌==◌, if◌then◌el
 use Rattle.std.specs.List.{list_any}
 use Rattle.mlk_text.specs.declared.code.Code.{Code}
 use Rattle.mlk_text.specs.declared.code.Code.TheVariants.{HeldAtEnd, CaseNotListed, FallsIntoFormals, NameEscapes}
-use Rattle.mlk_routine.specs.Trees.{HeadTree, LineHead}
+use Rattle.mlk_tree.specs.Trees.{HeadTree, LineHead}
 use Rattle.mlk_program.specs.Entries.{formals_of}
 use Rattle.mlk_cert.specs.declared.case.Test.{Test}
 use Rattle.mlk_cert.specs.declared.case.Case.{Case}
@@ -17,8 +17,8 @@ use Rattle.mlk_calls.specs.declared.state.State.{State}
 use Rattle.mlk_calls.specs.Scope.{Scope, listed, scope_of}
 use Rattle.mlk_rows.specs.declared.walk.Quit.{Quit}
 use Rattle.mlk_rows.specs.declared.walk.Walk.{Walk}
-use Rattle.mlk_routine.specs.declared.routine.Line.{Line}
-use Rattle.mlk_routine.specs.Views.{line_of}
+use Rattle.mlk_tree.specs.declared.routine.Line.{Line}
+use Rattle.mlk_tree.specs.Views.{line_of}
 use Rattle.mlk_lines.specs.declared.ending.Ends.{Ends}
 use Rattle.mlk_lines.specs.declared.line_end.Around.{Around as GivenAround}
 use Rattle.mlk_lines.specs.declared.line_end.Around.TheVariants as given

@@ -2,7 +2,7 @@
 -- its level, to the block's end, or to the frame's. Standard: line structure, levels.
 use Rattle.std.specs.Prelude.{ℕ, List, [], ◌++◌, map, Option, Some, None}
 use Rattle.mlk_text.specs.Places.{column_at}
-use Rattle.mlk_routine.specs.Trees.{HeadTree, LineHead, LineTrees, no_lines, line}
+use Rattle.mlk_tree.specs.Trees.{HeadTree, LineHead, LineTrees, no_lines, line}
 use Rattle.mlk_cert.specs.declared.case.Case.{Case}
 use Rattle.mlk_calls.specs.Scope.{Scope, listed}
 use Rattle.mlk_rows.specs.declared.spot.Block.{Block}

@@ -2,8 +2,8 @@
 -- certificate lists for them, is this project's own choice.
 use Rattle.std.specs.Prelude.{ℕ, true, if◌then◌else◌, List, [], ◌∷◌, ◌++◌, map, fold, Option, Some, None}
 use Rattle.mlk_text.specs.declared.code.Code.TheVariants.{CaseNotListed}
-use Rattle.mlk_routine.specs.Trees.{CommandTree, Does, CommandTrees, finished, then_command, then_for}
-use Rattle.mlk_routine.specs.Trees.{ParameterTree, Once, Endless, Limited, ControlTree, Runs}
+use Rattle.mlk_tree.specs.Trees.{CommandTree, Does, CommandTrees, finished, then_command, then_for}
+use Rattle.mlk_tree.specs.Trees.{ParameterTree, Once, Endless, Limited, ControlTree, Runs}
 use Rattle.mlk_cert.specs.declared.case.Case.{Case}
 use Rattle.mlk_cert.specs.declared.names.NameSet.{NameSet}
 use Rattle.mlk_cert.specs.declared.names.NameSet.TheVariants.{Only}

@@ -1,9 +1,9 @@
 // What a command does, without its postconditional.
 
 ghost use Rattle.std.specs.Prelude.{◌≡◌, IfOk, OnOk, List, map, option_map, option_copied};
-ghost use Rattle.mlk_expr.specs.Trees.{tree_of, trees};
-ghost use Rattle.mlk_routine.specs.Trees as tree;
-ghost use Rattle.mlk_routine.specs.Views.{action_of, do_of, kill_of, lock_of, new_of};
+ghost use Rattle.mlk_tree.specs.ExprTrees.{tree_of, trees};
+ghost use Rattle.mlk_tree.specs.Trees as tree;
+ghost use Rattle.mlk_tree.specs.Views.{action_of, do_of, kill_of, lock_of, new_of};
 ghost use Rattle.mlk_calls.specs.declared.state.State.{State};
 ghost use Rattle.mlk_calls.specs.Cases.{holds_some};
 ghost use Rattle.mlk_rows.specs.Spots.{spot_of};
@@ -16,11 +16,10 @@ use crate::block::do_block;
 use mlk_calls::State;
 use mlk_cert::Test;
 use mlk_commands::{Release, kill_all_but, new_all_but};
-use mlk_expr::Expr;
 use mlk_names::LockTerm;
-use mlk_routine::{Action, DoArgument, KillArgument, LockArgument, NewArgument};
 use mlk_rows::{Mend, Row, Spot, Walk, each, value_if};
 use mlk_text::{Code, List};
+use mlk_tree::{Action, DoArgument, Expr, KillArgument, LockArgument, NewArgument};
 use std::alloc::{AllocError, Global};
 
 // IF without arguments: where `$TEST` is 0 the rest of the line is skipped; where it is not known, it is known then.

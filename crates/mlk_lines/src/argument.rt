@@ -1,9 +1,9 @@
 // Arguments of commands, in turn.
 
 ghost use Rattle.std.specs.Prelude.{◌≡◌, IfOk, map};
-ghost use Rattle.mlk_expr.specs.Trees.{Tree, tree_of};
-ghost use Rattle.mlk_routine.specs.Trees.{CallTree, DoTree, KillTree, LockTree, MergeTree, NewTree, ReadTree, SetTree, WriteTree};
-ghost use Rattle.mlk_routine.specs.Views.{do_of, kill_of, lock_of, merge_of, new_of, read_of, set_of, write_of, call_of};
+ghost use Rattle.mlk_tree.specs.ExprTrees.{Tree, tree_of};
+ghost use Rattle.mlk_tree.specs.Trees.{CallTree, DoTree, KillTree, LockTree, MergeTree, NewTree, ReadTree, SetTree, WriteTree};
+ghost use Rattle.mlk_tree.specs.Views.{do_of, kill_of, lock_of, merge_of, new_of, read_of, set_of, write_of, call_of};
 ghost use Rattle.mlk_rows.specs.Spots.{spot_of};
 ghost use Rattle.mlk_rows.specs.Expressions as expressions;
 ghost use Rattle.mlk_commands.specs.Arguments as row;
@@ -14,12 +14,11 @@ use mlk_commands::{
     do_argument, if_argument, job_argument, kill_argument, lock_argument, merge_argument,
     new_argument, read_argument, set_argument, write_argument,
 };
-use mlk_expr::Expr;
-use mlk_routine::{
-    Call, DoArgument, KillArgument, LockArgument, MergeArgument, NewArgument, ReadArgument,
+use mlk_rows::{Spot, Walk, value};
+use mlk_tree::{
+    Call, DoArgument, Expr, KillArgument, LockArgument, MergeArgument, NewArgument, ReadArgument,
     SetArgument, WriteArgument,
 };
-use mlk_rows::{Spot, Walk, value};
 use std::alloc::AllocError;
 
 /// An argument of a command.

@@ -1,8 +1,8 @@
 // A command but FOR.
 
 ghost use Rattle.std.specs.Prelude.{◌≡◌, IfOk, Some, if◌then◌else◌, option_map};
-ghost use Rattle.mlk_expr.specs.Trees.{tree_of};
-ghost use Rattle.mlk_routine.specs.Views.{action_of, command_of};
+ghost use Rattle.mlk_tree.specs.ExprTrees.{tree_of};
+ghost use Rattle.mlk_tree.specs.Views.{action_of, command_of};
 ghost use Rattle.mlk_rows.specs.Spots.{spot_of};
 ghost use Rattle.mlk_rows.specs.Walks.{joined, with_states};
 ghost use Rattle.mlk_rows.specs.Expressions.{conditioned};
@@ -11,10 +11,9 @@ ghost use Rattle.mlk_lines.specs.Counting.{counted};
 
 use crate::action::act;
 use mlk_calls::State;
-use mlk_expr::Expr;
-use mlk_routine::Command;
 use mlk_rows::{Spot, Walk, value, where_it_holds};
 use mlk_text::List;
+use mlk_tree::{Command, Expr};
 use std::alloc::{AllocError, Global};
 
 // What was found, and beside it the states that were set aside; where the line is over, they are not looked at.

@@ -1,7 +1,7 @@
 // FOR, and the commands of a line.
 
 ghost use Rattle.std.specs.Prelude.{◌≡◌, IfOk, None, Some, fold, map, option_map, take};
-ghost use Rattle.mlk_routine.specs.Views.{parameter_of, control_of, command_of, commands_of};
+ghost use Rattle.mlk_tree.specs.Views.{parameter_of, control_of, command_of, commands_of};
 ghost use Rattle.mlk_calls.specs.States.{at_rest};
 ghost use Rattle.mlk_rows.specs.Spots.{spot_of};
 ghost use Rattle.mlk_rows.specs.Walks.{begin, put_all};
@@ -13,9 +13,9 @@ use crate::conditioned::perform;
 use crate::rounds::{Rounds, after_round, begin_rounds, parameter};
 use mlk_calls::State;
 use mlk_cert::{Case, NameSet};
-use mlk_routine::{Command, Commands, Control, Parameter};
 use mlk_rows::{Faults, Quit, Spot, Walk, put, put_all};
 use mlk_text::{Column, List};
+use mlk_tree::{Command, Commands, Control, Parameter};
 use std::alloc::{AllocError, Global};
 
 // The cases that skipped, at rest.

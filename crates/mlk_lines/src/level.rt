@@ -1,7 +1,7 @@
 // Lines of one level, and their blocks.
 
 ghost use Rattle.std.specs.Prelude.{◌≡◌, ◌++◌, IfOk, OnOk, Option, drop, map, option_map, option_copied};
-ghost use Rattle.mlk_routine.specs.Views.{line_of, lines_from};
+ghost use Rattle.mlk_tree.specs.Views.{line_of, lines_from};
 ghost use Rattle.mlk_rows.specs.declared.spot.Block.{Block};
 ghost use Rattle.mlk_calls.specs.Scope.{scope_of};
 ghost use Rattle.mlk_lines.specs.Endings.{OfBlock, around_of, head_of, number_of};
@@ -13,9 +13,9 @@ use crate::found::LineFaults;
 use crate::line_end::{Around, LineEnd};
 use mlk_calls::Scope;
 use mlk_cert::Case;
-use mlk_routine::Line;
 use mlk_rows::{Block, Spot};
 use mlk_text::{Column, List};
+use mlk_tree::Line;
 use std::alloc::{AllocError, Global};
 
 // The line to which a job goes on, where there is one.

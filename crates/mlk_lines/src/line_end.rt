@@ -12,9 +12,9 @@ use crate::ending::Ends;
 use mlk_calls::{Scope, State, is_among, is_exit, is_listed, is_own, mention};
 use mlk_cert::{Case, ExitCase, Own, Shared, Test};
 use mlk_names::{KnownSym, LockTerm};
-use mlk_routine::Line;
 use mlk_rows::{Mend, Quit, Walk};
 use mlk_text::{Code, Column, List, Name, copy_of};
+use mlk_tree::Line;
 use std::alloc::{AllocError, Global};
 use std::slice;
 

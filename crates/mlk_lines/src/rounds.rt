@@ -1,7 +1,7 @@
 // The rounds of a FOR.
 
 ghost use Rattle.std.specs.Prelude.{◌≡◌, ◌∷◌, [], IfOk, OnOk};
-ghost use Rattle.mlk_routine.specs.Views.{parameter_of};
+ghost use Rattle.mlk_tree.specs.Views.{parameter_of};
 ghost use Rattle.mlk_calls.specs.declared.state.State.{State};
 ghost use Rattle.mlk_rows.specs.Spots.{spot_of};
 ghost use Rattle.mlk_rows.specs.Walks.{Outcome, Refused, add_all, each};
@@ -11,9 +11,9 @@ ghost use Rattle.mlk_lines.specs.Loops.{rounds_of, begin_round, round_or_after, 
 use mlk_calls::{State, is_listed};
 use mlk_cert::{Case, NameSet};
 use mlk_commands::Change;
-use mlk_routine::Parameter;
 use mlk_rows::{Mend, Row, Spot, Walk, each, value};
 use mlk_text::{Code, Column, List};
+use mlk_tree::Parameter;
 use std::alloc::{AllocError, Global};
 
 /// Of a FOR, whose word's column stands in the spot: its variable with the column of its name, which FOR of its line it

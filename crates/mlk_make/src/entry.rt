@@ -10,9 +10,9 @@ use mlk_commands::in_order;
 use mlk_drafts::{At, Draft};
 use mlk_lines::Around;
 use mlk_program::{EntryId, Program};
-use mlk_routine::Line;
 use mlk_rows::Fault;
 use mlk_text::{Code, Column, Failure, List, Name};
+use mlk_tree::Line;
 use std::alloc::{AllocError, Global};
 
 /// How often an entry is walked at most in a round. Each time its needs or its summary have grown.

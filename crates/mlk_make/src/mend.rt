@@ -9,9 +9,9 @@ use mlk_drafts::{At, Draft, Listing, add_exit, add_mods, drop_all, lower, widen}
 use mlk_lines::LineFault;
 use mlk_names::LockTerm;
 use mlk_program::EntryId;
-use mlk_routine::Line;
 use mlk_rows::{Fault, Mend};
 use mlk_text::{Code, Column, Failure};
+use mlk_tree::Line;
 
 /// What is done of what would mend a fault: whether something changes.
 pub(crate) fn done(

@@ -2,8 +2,8 @@
 
 use mlk_calls::is_among;
 use mlk_drafts::round_at;
-use mlk_routine::{Action, Command, Commands, Line, NewArgument};
 use mlk_text::{Column, Name};
+use mlk_tree::{Action, Command, Commands, Line, NewArgument};
 
 fn is_made_new(argument: &NewArgument, names: &[Name]) -> bool {
     match argument {

@@ -9,9 +9,9 @@ use mlk_cert::limit::MOST_CASES;
 use mlk_cert::{Case, EntryCert, NameSet, Own, Point, Shared};
 use mlk_drafts::{At, Draft, copy_cases, copy_summed, line_number, round_number};
 use mlk_lines::LineFault;
-use mlk_routine::Line;
 use mlk_rows::{Fault, Mend};
 use mlk_text::{List, Name, copy_of};
+use mlk_tree::Line;
 use std::alloc::{AllocError, Global};
 use std::slice;
 

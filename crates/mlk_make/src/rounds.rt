@@ -1,7 +1,7 @@
 // The maker's rounds.
 
 ghost use Rattle.std.specs.Prelude.{◌≡◌, IfOk, IfErr, None, find, map};
-ghost use Rattle.mlk_routine.specs.Views.{routine_of};
+ghost use Rattle.mlk_tree.specs.Views.{routine_of};
 ghost use Rattle.mlk_cert.specs.Theorem.{Spells};
 ghost use Rattle.mlk_make.specs.Missing.{is_missing, IsUnmade, IsUnspelled, IfRefused};
 
@@ -15,8 +15,8 @@ use mlk_calls::Entries;
 use mlk_cert::Spelled;
 use mlk_coverage::{Rules, entries};
 use mlk_program::{EntryId, Program};
-use mlk_routine::Line;
 use mlk_text::{Failure, Value};
+use mlk_tree::Line;
 use std::alloc::{AllocError, Global};
 
 /// How many rounds are made.

@@ -6,9 +6,9 @@ use crate::stop::Stop;
 use crate::walk::{Site, Target, Walked, targets_of, walk_site};
 use mlk_drafts::Draft;
 use mlk_lines::Around;
-use mlk_routine::Line;
 use mlk_rows::Fault;
 use mlk_text::{Code, Column, Failure};
+use mlk_tree::Line;
 use std::alloc::AllocError;
 
 /// How often one line is walked at most before the maker gives up. Each time something has grown that has a limit.

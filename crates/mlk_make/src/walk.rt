@@ -7,9 +7,9 @@ use mlk_coverage::{RuleLists, Rules};
 use mlk_drafts::{Draft, copy_summed};
 use mlk_lines::{Around, LineFault, LineFaults, walk_alone};
 use mlk_program::{EntryId, calls_of};
-use mlk_routine::{Action, Command, Commands, Line};
 use mlk_rows::Mend;
 use mlk_text::{Column, List, Value};
+use mlk_tree::{Action, Command, Commands, Line};
 use std::alloc::{AllocError, Global};
 use std::collections::BTreeSet;
 

@@ -2,18 +2,18 @@
 use Rattle.std.proofs.Common.{◌≡◌, List, [], ◌∷◌, Option, Some, None, refl}
 use Rattle.std.specs.Prelude.{map, flat_map}
 use Rattle.std.proofs.lemmas.List.Folds.{flat_map-map}
-use Rattle.mlk_expr.specs.Trees.{Tree}
-use Rattle.mlk_routine.specs.declared.tree.DoArgument.{DoArgument}
-use Rattle.mlk_routine.specs.declared.tree.KillArgument.{KillArgument}
-use Rattle.mlk_routine.specs.declared.tree.LockArgument.{LockArgument}
-use Rattle.mlk_routine.specs.declared.tree.NewArgument.{NewArgument}
-use Rattle.mlk_routine.specs.declared.tree.Call.{Call}
-use Rattle.mlk_routine.specs.declared.tree.MergeArgument.{MergeArgument}
-use Rattle.mlk_routine.specs.declared.tree.ReadArgument.{ReadArgument}
-use Rattle.mlk_routine.specs.declared.tree.SetArgument.{SetArgument}
-use Rattle.mlk_routine.specs.declared.tree.WriteArgument.{WriteArgument}
-use Rattle.mlk_routine.specs.Trees.{LineTrees, Do, If, Kill, Lock, New, Quit, DoTree, KillTree, LockTree, NewTree}
-use Rattle.mlk_routine.specs.Views.{do_of, kill_of, lock_of, new_of, call_of, merge_of, read_of, set_of, write_of}
+use Rattle.mlk_tree.specs.ExprTrees.{Tree}
+use Rattle.mlk_tree.specs.declared.command.DoArgument.{DoArgument}
+use Rattle.mlk_tree.specs.declared.command.KillArgument.{KillArgument}
+use Rattle.mlk_tree.specs.declared.command.LockArgument.{LockArgument}
+use Rattle.mlk_tree.specs.declared.command.NewArgument.{NewArgument}
+use Rattle.mlk_tree.specs.declared.command.Call.{Call}
+use Rattle.mlk_tree.specs.declared.command.MergeArgument.{MergeArgument}
+use Rattle.mlk_tree.specs.declared.command.ReadArgument.{ReadArgument}
+use Rattle.mlk_tree.specs.declared.command.SetArgument.{SetArgument}
+use Rattle.mlk_tree.specs.declared.command.WriteArgument.{WriteArgument}
+use Rattle.mlk_tree.specs.Trees.{LineTrees, Do, If, Kill, Lock, New, Quit, DoTree, KillTree, LockTree, NewTree}
+use Rattle.mlk_tree.specs.Views.{do_of, kill_of, lock_of, new_of, call_of, merge_of, read_of, set_of, write_of}
 use Rattle.mlk_jobs.specs.Commands.{block_parts, action_parts, do_parts, kill_parts, lock_parts, new_parts, job_parts, merge_parts, read_parts, set_parts, write_parts}
 use Rattle.mlk_parts.specs.ArgumentViews.{do_all, if_all, kill_all, lock_all, new_all, quit_parts}
 

@@ -4,15 +4,15 @@ use Rattle.std.specs.Prelude.{◌^◌}
 use Rattle.std.proofs.Math.Nat.{min-eq_left}
 use Rattle.std.proofs.lemmas.Bool.{false≢true}
 use Rattle.std.proofs.lemmas.List.{length-map}
-use Rattle.mlk_expr.specs.declared.tree.Expr.{Expr}
-use Rattle.mlk_expr.specs.declared.tree.Subscript.{Subscript}
-use Rattle.mlk_expr.specs.declared.tree.Expr.TheVariants as rust
-use Rattle.mlk_expr.specs.Trees.{Tree, Lit, Free, LocalName, GlobalName, SpecialName, Prefixed, Chain, PatternText, Func, Selected, BareCall, CallOf, no_subs, sub, tree_of, trees}
-use Rattle.mlk_expr.proofs.Variants.{tree_global}
-use Rattle.mlk_routine.specs.declared.tree.Part.{Part}
-use Rattle.mlk_routine.specs.declared.tree.Target.{Target}
-use Rattle.mlk_routine.specs.Views.{target_of}
-use Rattle.mlk_routine.specs.Trees.{VariableTree, Named, SetWhole, SetPart}
+use Rattle.mlk_tree.specs.declared.expr.Expr.{Expr}
+use Rattle.mlk_tree.specs.declared.expr.Subscript.{Subscript}
+use Rattle.mlk_tree.specs.declared.expr.Expr.TheVariants as rust
+use Rattle.mlk_tree.specs.ExprTrees.{Tree, Lit, Free, LocalName, GlobalName, SpecialName, Prefixed, Chain, PatternText, Func, Selected, BareCall, CallOf, no_subs, sub, tree_of, trees}
+use Rattle.mlk_tree.proofs.Variants.{tree_global}
+use Rattle.mlk_tree.specs.declared.command.Part.{Part}
+use Rattle.mlk_tree.specs.declared.command.Target.{Target}
+use Rattle.mlk_tree.specs.Views.{target_of}
+use Rattle.mlk_tree.specs.Trees.{VariableTree, Named, SetWhole, SetPart}
 use Rattle.mlk_jobs.specs.Assigning.{assigned, count_parts, merge_source}
 use Rattle.mlk_parts.specs.PartViews.{is_global}
 use Rattle.mlk_parts.specs.ArgumentViews.{bare_name}

@@ -1,11 +1,11 @@
 -- The subscripts of variables.
 use Rattle.std.proofs.Common.{◌≡◌, ap, ℕ, false, refl, sym, List, [], ◌∷◌, Some, None, Vec, Global}
 use Rattle.std.proofs.lemmas.Bool.{false≢true}
-use Rattle.mlk_expr.specs.declared.tree.Subscript.{Subscript}
-use Rattle.mlk_expr.specs.declared.tree.Expr.TheVariants as rust
-use Rattle.mlk_expr.specs.Trees.{Tree, Lit, Free, LocalName, GlobalName, SpecialName, Prefixed, Chain, PatternText, Func, Selected, BareCall, CallOf, Subs, no_subs, sub, tree_of}
-use Rattle.mlk_expr.proofs.Variants.{tree_local, tree_global}
-use Rattle.mlk_routine.specs.Trees.{VariableTree, Named}
+use Rattle.mlk_tree.specs.declared.expr.Subscript.{Subscript}
+use Rattle.mlk_tree.specs.declared.expr.Expr.TheVariants as rust
+use Rattle.mlk_tree.specs.ExprTrees.{Tree, Lit, Free, LocalName, GlobalName, SpecialName, Prefixed, Chain, PatternText, Func, Selected, BareCall, CallOf, Subs, no_subs, sub, tree_of}
+use Rattle.mlk_tree.proofs.Variants.{tree_local, tree_global}
+use Rattle.mlk_tree.specs.Trees.{VariableTree, Named}
 use Rattle.mlk_names.specs.declared.reference.Extent.TheVariants as extent
 use Rattle.mlk_names.specs.declared.reference.Access.TheVariants.{Writes}
 use Rattle.mlk_jobs.specs.Bindings.{Only}

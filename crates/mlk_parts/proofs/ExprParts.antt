@@ -2,7 +2,7 @@
 use Rattle.std.proofs.Common.{◌≡◌, true, false, List, [], ◌∷◌, ◌++◌, refl, sym, ap}
 use Rattle.std.proofs.lemmas.Bool.{false≢true}
 use Rattle.mlk_text.specs.declared.operator.Op.{Op}
-use Rattle.mlk_expr.specs.Trees.{Tree, Lit, Free, LocalName, GlobalName, SpecialName, Prefixed, Chain, PatternText, Func, Selected, BareCall, CallOf, Links, no_links, link, ActualTree, Given, ByRef, Missing, actuals_from}
+use Rattle.mlk_tree.specs.ExprTrees.{Tree, Lit, Free, LocalName, GlobalName, SpecialName, Prefixed, Chain, PatternText, Func, Selected, BareCall, CallOf, Links, no_links, link, ActualTree, Given, ByRef, Missing, actuals_from}
 use Rattle.mlk_jobs.specs.Tasks.{Evaluate, ApplyBinary, AskValue}
 use Rattle.mlk_jobs.specs.Expressions.{operation, each_actual, as_list}
 use Rattle.mlk_parts.specs.PartViews.{is_pattern}

@@ -1,16 +1,16 @@
 -- What lines and their commands are, one level taken apart.
 use Rattle.std.proofs.Common.{◌≡◌, ap, sym, refl, List, [], ◌∷◌, Option, Some, None, Box, Global, ℕ}
 use Rattle.std.specs.Prelude.{map, option_map}
-use Rattle.mlk_routine.specs.declared.tree.Commands.{Commands}
-use Rattle.mlk_routine.specs.declared.tree.Control.{Control}
-use Rattle.mlk_routine.specs.declared.tree.For.{For}
-use Rattle.mlk_routine.specs.declared.tree.Commands.TheViews.{out-Commands, out-For}
-use Rattle.mlk_routine.specs.declared.tree.Commands.TheFolds.{fold_out-For}
-use Rattle.mlk_routine.specs.declared.routine.Line.{Line}
-use Rattle.mlk_routine.specs.declared.routine.Line.TheViews.{out-Line}
-use Rattle.mlk_routine.specs.declared.routine.Line.TheFolds.{fold_out-Line}
-use Rattle.mlk_routine.specs.Trees.{CommandTrees, then_for, HeadTree, LineTrees, LineHead}
-use Rattle.mlk_routine.specs.Views.{commands_of, command_of, control_of, parameter_of, commands_from, commands_step, for_step, last_or_none, line_of, line_step, lines_from}
+use Rattle.mlk_tree.specs.declared.command.Commands.{Commands}
+use Rattle.mlk_tree.specs.declared.command.Control.{Control}
+use Rattle.mlk_tree.specs.declared.command.For.{For}
+use Rattle.mlk_tree.specs.declared.command.Commands.TheViews.{out-Commands, out-For}
+use Rattle.mlk_tree.specs.declared.command.Commands.TheFolds.{fold_out-For}
+use Rattle.mlk_tree.specs.declared.routine.Line.{Line}
+use Rattle.mlk_tree.specs.declared.routine.Line.TheViews.{out-Line}
+use Rattle.mlk_tree.specs.declared.routine.Line.TheFolds.{fold_out-Line}
+use Rattle.mlk_tree.specs.Trees.{CommandTrees, then_for, HeadTree, LineTrees, LineHead}
+use Rattle.mlk_tree.specs.Views.{commands_of, command_of, control_of, parameter_of, commands_from, commands_step, for_step, last_or_none, line_of, line_step, lines_from}
 use Rattle.mlk_program.specs.Entries.{formals_of}
 use Rattle.mlk_program.proofs.FoundCommands.{none_last, some_last}
 use Rattle.mlk_jobs.specs.Tasks.{Forever, Parameters}

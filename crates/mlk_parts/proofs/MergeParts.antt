@@ -1,8 +1,8 @@
 -- MERGE, by what is merged into what.
 use Rattle.std.proofs.Common.{◌≡◌, ℕ, refl, List}
 use Rattle.std.specs.Prelude.{is_some}
-use Rattle.mlk_expr.specs.Trees.{Lit, Free, LocalName, GlobalName, SpecialName, Prefixed, Chain, PatternText, Func, Selected, BareCall, CallOf, no_subs, sub}
-use Rattle.mlk_routine.specs.Trees.{VariableTree, Named}
+use Rattle.mlk_tree.specs.ExprTrees.{Lit, Free, LocalName, GlobalName, SpecialName, Prefixed, Chain, PatternText, Func, Selected, BareCall, CallOf, no_subs, sub}
+use Rattle.mlk_tree.specs.Trees.{VariableTree, Named}
 use Rattle.mlk_jobs.specs.Assigning.{merge_target}
 use Rattle.mlk_parts.specs.ArgumentViews.{bare_name}
 use Rattle.mlk_parts.specs.AssignViews.{global_name, merged_into}

@@ -3,13 +3,13 @@ use Rattle.std.proofs.Common.{◌≡◌, ◌+◌, ◌-◌, suc, List, [], ◌∷
 use Rattle.std.specs.Prelude.{flat_map, is_some, option_map}
 use Rattle.std.proofs.lemmas.List.{length-append, length-map}
 use Rattle.std.proofs.lemmas.List.Folds.{flat_map-map}
-use Rattle.mlk_expr.specs.declared.tree.Expr.{Expr}
-use Rattle.mlk_expr.specs.declared.tree.Subscript.{Subscript}
+use Rattle.mlk_tree.specs.declared.expr.Expr.{Expr}
+use Rattle.mlk_tree.specs.declared.expr.Subscript.{Subscript}
 use Rattle.mlk_jobs.specs.declared.task.Task.{Task as TaskIn}
-use Rattle.mlk_expr.specs.Trees.{tree_of, trees}
-use Rattle.mlk_routine.specs.declared.tree.Target.{Target}
-use Rattle.mlk_routine.specs.declared.tree.Variable.{Variable}
-use Rattle.mlk_routine.specs.Views.{variable_of, target_of}
+use Rattle.mlk_tree.specs.ExprTrees.{tree_of, trees}
+use Rattle.mlk_tree.specs.declared.command.Target.{Target}
+use Rattle.mlk_tree.specs.declared.command.Variable.{Variable}
+use Rattle.mlk_tree.specs.Views.{variable_of, target_of}
 use Rattle.mlk_jobs.specs.Tasks.{Task, Evaluate}
 use Rattle.mlk_jobs.specs.Expressions.{count_subs, count_trees, each_tree}
 use Rattle.mlk_jobs.specs.Commands.{in_variable, target_parts}

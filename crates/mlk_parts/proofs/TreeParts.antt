@@ -3,16 +3,16 @@ use Rattle.std.proofs.Common.{◌≡◌, ◌∙◌, ap, sym, ℕ, Bool, true, fa
 use Rattle.std.specs.Prelude.{option_map}
 use Rattle.std.proofs.lemmas.Bool.{cases_Bool, false≢true}
 use Rattle.mlk_text.specs.declared.operator.Op.{Op}
-use Rattle.mlk_expr.specs.declared.tree.Callee.{Callee}
-use Rattle.mlk_expr.specs.declared.tree.Function.{Function}
-use Rattle.mlk_expr.specs.declared.tree.Expr.{Expr, fold-roll-Expr}
-use Rattle.mlk_expr.specs.declared.tree.Actual.{Actual}
-use Rattle.mlk_expr.specs.declared.tree.Subscript.{Subscript}
-use Rattle.mlk_expr.specs.declared.tree.Actual.TheOpen as open'
-use Rattle.mlk_expr.specs.declared.tree.Expr.TheVariants as rust
-use Rattle.mlk_expr.specs.declared.tree.Expr.TheVariants.{rolls-Binary, rolls-Select, rolls-Call}
-use Rattle.mlk_expr.specs.Trees.{Tree, Lit, Free, LocalName, GlobalName, SpecialName, Prefixed, Chain, PatternText, Func, Selected, BareCall, CallOf, Trees, no_trees, tree, ActualTree, choices, choices_from, links, links_from, actual_trees, actual_step, expr_step, subscript_step, tree_of}
-use Rattle.mlk_expr.proofs.Variants.{tree_local, tree_global, tree_func, tree_call}
+use Rattle.mlk_tree.specs.declared.expr.Callee.{Callee}
+use Rattle.mlk_tree.specs.declared.expr.Function.{Function}
+use Rattle.mlk_tree.specs.declared.expr.Expr.{Expr, fold-roll-Expr}
+use Rattle.mlk_tree.specs.declared.expr.Actual.{Actual}
+use Rattle.mlk_tree.specs.declared.expr.Subscript.{Subscript}
+use Rattle.mlk_tree.specs.declared.expr.Actual.TheOpen as open'
+use Rattle.mlk_tree.specs.declared.expr.Expr.TheVariants as rust
+use Rattle.mlk_tree.specs.declared.expr.Expr.TheVariants.{rolls-Binary, rolls-Select, rolls-Call}
+use Rattle.mlk_tree.specs.ExprTrees.{Tree, Lit, Free, LocalName, GlobalName, SpecialName, Prefixed, Chain, PatternText, Func, Selected, BareCall, CallOf, Trees, no_trees, tree, ActualTree, choices, choices_from, links, links_from, actual_trees, actual_step, expr_step, subscript_step, tree_of}
+use Rattle.mlk_tree.proofs.Variants.{tree_local, tree_global, tree_func, tree_call}
 use Rattle.mlk_names.specs.declared.reference.Extent.TheVariants.{Node}
 use Rattle.mlk_jobs.specs.Tasks.{Evaluate, Select, Call}
 use Rattle.mlk_jobs.specs.Expressions.{read_local, read_global, function_parts, of_global, takes_name, operation, each_actual, parts_of}

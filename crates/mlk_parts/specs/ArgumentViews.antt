@@ -1,7 +1,7 @@
 -- What arguments of commands are replaced by, in parts. This project's own.
 use Rattle.std.specs.Prelude.{ℕ, false, List, [], ◌∷◌, ◌++◌, length, flat_map, Option, Some, None}
-use Rattle.mlk_expr.specs.Trees.{Tree, LocalName, no_subs, ActualTree}
-use Rattle.mlk_routine.specs.Trees.{VariableTree, Named, DoTree, KillTree, LockTree, NewTree, LineTrees}
+use Rattle.mlk_tree.specs.ExprTrees.{Tree, LocalName, no_subs, ActualTree}
+use Rattle.mlk_tree.specs.Trees.{VariableTree, Named, DoTree, KillTree, LockTree, NewTree, LineTrees}
 use Rattle.mlk_jobs.specs.Bindings.{AllBut}
 use Rattle.mlk_jobs.specs.Tasks.{Task, Evaluate, AskValue, Drop, StoreLast, SkipIf, KillNames, NewNames, ReleaseAll, QuitHere, QuitWithValue}
 use Rattle.mlk_jobs.specs.Expressions.{each_actual}

@@ -2,8 +2,8 @@
 use Rattle.std.specs.Prelude.{ℕ, Bool, true, false, List, [], ◌∷◌, ◌++◌, Option, Some, None}
 use Rattle.mlk_names.specs.declared.reference.Extent.TheVariants as extent
 use Rattle.mlk_names.specs.declared.reference.Access.TheVariants.{Reads, Writes}
-use Rattle.mlk_expr.specs.Trees.{GlobalName}
-use Rattle.mlk_routine.specs.Trees.{VariableTree, Named}
+use Rattle.mlk_tree.specs.ExprTrees.{GlobalName}
+use Rattle.mlk_tree.specs.Trees.{VariableTree, Named}
 use Rattle.mlk_jobs.specs.Tasks.{Task, Drop, Store, StoreAny, StoreLast, DoTouch}
 use Rattle.mlk_jobs.specs.Choices.{touch_of}
 

@@ -1,12 +1,12 @@
 -- What expressions are replaced by, of the code's values. This project's own.
 use Rattle.std.specs.Prelude.{◌+◌, Bool, true, false, if◌then◌else◌, List, [], ◌∷◌, ◌++◌, Option, Some, None}
 use Rattle.mlk_text.specs.declared.operator.Op.{Op}
-use Rattle.mlk_expr.specs.declared.tree.Expr.{Expr}
-use Rattle.mlk_expr.specs.declared.tree.Subscript.{Subscript}
-use Rattle.mlk_expr.specs.declared.tree.Callee.{Callee}
-use Rattle.mlk_expr.specs.declared.tree.Function.{Function}
-use Rattle.mlk_expr.specs.declared.tree.Function.TheVariants as function
-use Rattle.mlk_expr.specs.Trees.{Tree, LocalName, GlobalName, PatternText, Trees, Subs, Links, ActualTree, trees, trees_from, sub_trees, subs_from, links, links_from}
+use Rattle.mlk_tree.specs.declared.expr.Expr.{Expr}
+use Rattle.mlk_tree.specs.declared.expr.Subscript.{Subscript}
+use Rattle.mlk_tree.specs.declared.expr.Callee.{Callee}
+use Rattle.mlk_tree.specs.declared.expr.Function.{Function}
+use Rattle.mlk_tree.specs.declared.expr.Function.TheVariants as function
+use Rattle.mlk_tree.specs.ExprTrees.{Tree, LocalName, GlobalName, PatternText, Trees, Subs, Links, ActualTree, trees, trees_from, sub_trees, subs_from, links, links_from}
 use Rattle.mlk_parts.specs.declared.expr.Naming.{Naming}
 use Rattle.mlk_parts.specs.declared.expr.Naming.TheVariants as naming
 use Rattle.mlk_jobs.specs.Tasks.{Task, AskValue, Call}

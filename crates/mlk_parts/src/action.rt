@@ -1,8 +1,8 @@
 // What commands are replaced by.
 
 ghost use Rattle.std.specs.Prelude.{OnOk, flat_map, map, option_map};
-ghost use Rattle.mlk_expr.specs.Trees.{tree_of, trees};
-ghost use Rattle.mlk_routine.specs.Views.{call_of, do_of, kill_of, lock_of, merge_of, new_of, read_of, set_of, write_of, action_of, command_of};
+ghost use Rattle.mlk_tree.specs.ExprTrees.{tree_of, trees};
+ghost use Rattle.mlk_tree.specs.Views.{call_of, do_of, kill_of, lock_of, merge_of, new_of, read_of, set_of, write_of, action_of, command_of};
 ghost use Rattle.mlk_jobs.specs.Commands.{evaluated, job_parts, merge_parts, read_parts, set_parts, write_parts, action_parts};
 ghost use Rattle.mlk_jobs.specs.Lines.{command_parts};
 ghost use Rattle.mlk_jobs.specs.TaskViews.{Adds, block_of};
@@ -11,10 +11,9 @@ ghost use Rattle.mlk_parts.specs.ArgumentViews.{do_all, if_all, kill_all, lock_a
 use crate::adding::add;
 use crate::command::{block_parts, evaluated, if_parts};
 use crate::part::add_all;
-use mlk_expr::Expr;
 use mlk_jobs::{LineTask, LocalTask, LockTask, Names, Task, TestTask, ValueTask};
-use mlk_routine::{
-    Action, Call, Command, DoArgument, KillArgument, Line, LockArgument, MergeArgument,
+use mlk_tree::{
+    Action, Call, Command, DoArgument, Expr, KillArgument, Line, LockArgument, MergeArgument,
     NewArgument, ReadArgument, SetArgument, WriteArgument,
 };
 use std::alloc::AllocError;

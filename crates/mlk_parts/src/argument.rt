@@ -1,8 +1,8 @@
 // What the arguments of commands are replaced by.
 
 ghost use Rattle.std.specs.Prelude.{◌≡◌, OnOk, option_map};
-ghost use Rattle.mlk_expr.specs.Trees.{tree_of};
-ghost use Rattle.mlk_routine.specs.Views.{variable_of, do_of, new_of, merge_of, read_of, write_of};
+ghost use Rattle.mlk_tree.specs.ExprTrees.{tree_of};
+ghost use Rattle.mlk_tree.specs.Views.{variable_of, do_of, new_of, merge_of, read_of, write_of};
 ghost use Rattle.mlk_jobs.specs.Commands.{do_parts, new_parts, merge_parts, store_last, read_parts, write_parts};
 ghost use Rattle.mlk_jobs.specs.TaskViews.{Adds};
 ghost use Rattle.mlk_parts.specs.ArgumentViews.{bare_name, read_after};
@@ -10,10 +10,11 @@ ghost use Rattle.mlk_parts.specs.ArgumentViews.{bare_name, read_after};
 use crate::adding::add;
 use crate::command::{evaluated, evaluated_if, given_in, in_time, in_variable};
 use crate::evaluate::each_actual;
-use mlk_expr::Expr;
 use mlk_jobs::{Calling, LocalTask, Names, ScopeTask, Task, ValueTask, count_in};
-use mlk_routine::{DoArgument, MergeArgument, NewArgument, ReadArgument, Variable, WriteArgument};
 use mlk_text::Name;
+use mlk_tree::{
+    DoArgument, Expr, MergeArgument, NewArgument, ReadArgument, Variable, WriteArgument,
+};
 use std::alloc::AllocError;
 
 // The name of a local without subscripts.

@@ -1,7 +1,7 @@
 // What SET, MERGE and LOCK do once all that they need was computed.
 
 ghost use Rattle.std.specs.Prelude.{◌≡◌, ◌∷◌, [], IfOk, OnOk, map, min, ◌^◌, ◌-◌, is_some, option_map};
-ghost use Rattle.mlk_routine.specs.Views.{variable_of, target_of};
+ghost use Rattle.mlk_tree.specs.Views.{variable_of, target_of};
 ghost use Rattle.mlk_jobs.specs.Tasks.{DoTouch};
 ghost use Rattle.mlk_jobs.specs.Choices.{touch_of};
 ghost use Rattle.mlk_jobs.specs.Assigning.{subs_of_target, parts_in, count_parts, assigned, assignments};
@@ -14,11 +14,10 @@ use crate::adding::add;
 use crate::argument::bare_name;
 use crate::command::subscripts_of;
 use crate::expr::count_subscripts;
-use mlk_expr::Expr;
 use mlk_jobs::{LocalTask, LockTask, Task, ValueTask, count_in, cut_after};
 use mlk_names::{Access, Extent, LockName, Reference, Sym};
-use mlk_routine::{Sign, Target, Variable};
 use mlk_text::{Name, Subscripts, Value};
+use mlk_tree::{Expr, Sign, Target, Variable};
 use std::alloc::{AllocError, Global};
 
 /// A concrete reference, of subscripts that were computed.

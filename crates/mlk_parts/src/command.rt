@@ -1,17 +1,16 @@
 // What the arguments of commands are replaced by.
 
 ghost use Rattle.std.specs.Prelude.{◌≡◌, OnOk, option_map};
-ghost use Rattle.mlk_expr.specs.Trees.{tree_of, actual_trees};
-ghost use Rattle.mlk_routine.specs.Views.{variable_of};
+ghost use Rattle.mlk_tree.specs.ExprTrees.{tree_of, actual_trees};
+ghost use Rattle.mlk_tree.specs.Views.{variable_of};
 ghost use Rattle.mlk_jobs.specs.Commands.{subs_in, in_variable, evaluated, evaluated_if, given_in, block_parts, if_parts, in_time};
 ghost use Rattle.mlk_jobs.specs.TaskViews.{Adds, block_of};
 ghost use Rattle.mlk_parts.specs.PartViews.{subs_of};
 
 use crate::adding::add;
 use crate::expr::each_subscript;
-use mlk_expr::{Actual, Expr, Subscript};
 use mlk_jobs::{ScopeTask, Task, TestTask, ValueTask};
-use mlk_routine::{Line, Variable};
+use mlk_tree::{Actual, Expr, Line, Subscript, Variable};
 use std::alloc::AllocError;
 
 /// The subscripts of a variable.

@@ -1,7 +1,7 @@
 // What the evaluation of a whole expression is replaced by.
 
 ghost use Rattle.std.specs.Prelude.{◌≡◌, ◌∷◌, [], OnOk, option_map};
-ghost use Rattle.mlk_expr.specs.Trees.{tree_of, actual_of, actual_trees, link, no_links};
+ghost use Rattle.mlk_tree.specs.ExprTrees.{tree_of, actual_of, actual_trees, link, no_links};
 ghost use Rattle.mlk_jobs.specs.Expressions.{function_parts, takes_name, operation, each_actual, parts_of};
 ghost use Rattle.mlk_jobs.specs.TaskViews.{Adds};
 ghost use Rattle.mlk_parts.specs.PartViews.{args_of, links_of, is_pattern, called_with, extrinsic_parts, values_with};
@@ -11,9 +11,10 @@ use crate::expr::{
     ask_parts, count_arguments, each_argument, named_by, of_global, read_global, read_local,
     special_parts,
 };
-use mlk_expr::{Actual, Callee, Expr, Function, Op};
 use mlk_jobs::{Calling, ScopeTask, Task, ValueTask};
 use mlk_names::Extent;
+use mlk_text::Op;
+use mlk_tree::{Actual, Callee, Expr, Function};
 use std::alloc::AllocError;
 
 fn is_pattern(operand: &Expr) -> bool

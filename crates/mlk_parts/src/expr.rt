@@ -1,17 +1,17 @@
 // What an expression is replaced by.
 
 ghost use Rattle.std.specs.Prelude.{◌≡◌, ◌++◌, OnOk, length, option_map};
-ghost use Rattle.mlk_expr.specs.Trees.{tree_of, actual_trees};
-ghost use Rattle.mlk_expr.specs.declared.tree.Function.TheVariants as function;
+ghost use Rattle.mlk_tree.specs.ExprTrees.{tree_of, actual_trees};
+ghost use Rattle.mlk_tree.specs.declared.expr.Function.TheVariants as function;
 ghost use Rattle.mlk_jobs.specs.Expressions.{each_sub, count_subs, each_tree, count_trees, read_global, read_local, operation, special_parts, unused, of_global, takes_name, function_parts, each_actual, parts_of};
 ghost use Rattle.mlk_jobs.specs.TaskViews.{Adds};
 ghost use Rattle.mlk_parts.specs.PartViews.{subs_of, args_of, asked, naming_of, named_function};
 
 use crate::adding::add;
-use mlk_expr::{Actual, Expr, Function, Op, Special, Subscript};
 use mlk_jobs::{Calling, Task, ValueTask};
 use mlk_names::{Access, Extent};
-use mlk_text::Name;
+use mlk_text::{Name, Op};
+use mlk_tree::{Actual, Expr, Function, Special, Subscript};
 use std::alloc::AllocError;
 
 /// How many subscripts there are.

@@ -1,7 +1,7 @@
 // What is left of lines, and what comes next of it.
 
 ghost use Rattle.std.specs.Prelude.{◌≡◌, ◌∷◌, [], OnOk, map, is_some, option_map};
-ghost use Rattle.mlk_routine.specs.Views.{line_of, commands_of, last_or_none};
+ghost use Rattle.mlk_tree.specs.Views.{line_of, commands_of, last_or_none};
 ghost use Rattle.mlk_program.specs.Entries.{formals_of};
 ghost use Rattle.mlk_jobs.specs.Tasks.{RunLines, RunCommands};
 ghost use Rattle.mlk_jobs.specs.Lines.{next_command};
@@ -11,8 +11,8 @@ ghost use Rattle.mlk_jobs.specs.TaskViews.{Adds, for_of, commands_left, block_of
 use crate::action::command_parts;
 use crate::adding::add;
 use mlk_jobs::{LineTask, Rest, Task};
-use mlk_routine::{Commands, For, Line};
 use mlk_text::Name;
+use mlk_tree::{Commands, For, Line};
 use std::alloc::AllocError;
 
 // The FOR that ends commands, if there is one.

@@ -1,7 +1,7 @@
 // What MERGE does once the subscripts of both sides were computed.
 
 ghost use Rattle.std.specs.Prelude.{OnOk, option_map};
-ghost use Rattle.mlk_routine.specs.Views.{variable_of};
+ghost use Rattle.mlk_tree.specs.Views.{variable_of};
 ghost use Rattle.mlk_jobs.specs.Assigning.{merge_source, merge_target};
 ghost use Rattle.mlk_jobs.specs.TaskViews.{Adds};
 ghost use Rattle.mlk_parts.specs.AssignViews.{source_read, into_local, unread, tree_written, merged_into};
@@ -11,8 +11,8 @@ use crate::argument::bare_name;
 use crate::assign::{global_name, is_global, touch};
 use mlk_jobs::{LocalTask, Task, ValueTask};
 use mlk_names::{Access, Extent};
-use mlk_routine::Variable;
 use mlk_text::{Name, Value};
+use mlk_tree::Variable;
 use std::alloc::{AllocError, Global};
 
 // The tree of a global is read, if it is one.

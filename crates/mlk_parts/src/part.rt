@@ -1,14 +1,14 @@
 // Parts of commands, each replaced by tasks, and lists of them.
 
 ghost use Rattle.std.specs.Prelude.{OnOk, flat_map};
-ghost use Rattle.mlk_routine.specs.Views.{variable_of, call_of, do_of, kill_of, new_of, lock_of, merge_of, read_of, target_of, set_of, write_of};
+ghost use Rattle.mlk_tree.specs.Views.{variable_of, call_of, do_of, kill_of, new_of, lock_of, merge_of, read_of, target_of, set_of, write_of};
 ghost use Rattle.mlk_jobs.specs.Commands.{in_variable, job_parts, do_parts, kill_parts, new_parts, lock_parts, merge_parts, read_parts, target_parts, set_parts, write_parts};
 ghost use Rattle.mlk_jobs.specs.TaskViews.{Adds};
 
 use crate::command::in_variable;
 use crate::{argument, target};
 use mlk_jobs::Task;
-use mlk_routine::{
+use mlk_tree::{
     Call, DoArgument, KillArgument, LockArgument, MergeArgument, NewArgument, ReadArgument,
     SetArgument, Target, Variable, WriteArgument,
 };

@@ -1,17 +1,16 @@
 // FOR: its parameters, one after another, and their rounds.
 
 ghost use Rattle.std.specs.Prelude.{◌∷◌, [], OnOk, map};
-ghost use Rattle.mlk_expr.specs.Trees.{tree_of};
-ghost use Rattle.mlk_routine.specs.Views.{parameter_of};
+ghost use Rattle.mlk_tree.specs.ExprTrees.{tree_of};
+ghost use Rattle.mlk_tree.specs.Views.{parameter_of};
 ghost use Rattle.mlk_jobs.specs.Tasks.{Evaluate, Drop, StoreLast};
 ghost use Rattle.mlk_jobs.specs.Lines.{parameter_parts, first_round, later_round};
 ghost use Rattle.mlk_jobs.specs.TaskViews.{Adds, commands_left, block_of};
 
 use crate::adding::add;
-use mlk_expr::Expr;
 use mlk_jobs::{LineTask, LocalTask, Rest, Task, ValueTask};
-use mlk_routine::Parameter;
 use mlk_text::Name;
+use mlk_tree::{Expr, Parameter};
 use std::alloc::AllocError;
 
 // The start and the step are evaluated, in this order.

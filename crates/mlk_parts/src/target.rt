@@ -1,8 +1,8 @@
 // What the arguments of JOB, KILL, LOCK and SET are replaced by.
 
 ghost use Rattle.std.specs.Prelude.{◌≡◌, OnOk, length, flat_map, map};
-ghost use Rattle.mlk_expr.specs.Trees.{tree_of, trees, actual_trees};
-ghost use Rattle.mlk_routine.specs.Views.{variable_of, call_of, kill_of, lock_of, target_of, set_of};
+ghost use Rattle.mlk_tree.specs.ExprTrees.{tree_of, trees, actual_trees};
+ghost use Rattle.mlk_tree.specs.Views.{variable_of, call_of, kill_of, lock_of, target_of, set_of};
 ghost use Rattle.mlk_jobs.specs.Expressions.{each_actual};
 ghost use Rattle.mlk_jobs.specs.Commands.{in_variable, job_parts, kill_variable, kill_parts, lock_parts, target_parts, set_parts};
 ghost use Rattle.mlk_jobs.specs.TaskViews.{Adds};
@@ -13,10 +13,9 @@ use crate::command::{evaluated_if, given_in, in_variable};
 use crate::evaluate::each_actual;
 use crate::expr::{count_subscripts, each_argument};
 use crate::part::add_all;
-use mlk_expr::{Actual, Expr};
 use mlk_jobs::{LocalTask, LockTask, Names, Task, ValueTask};
 use mlk_names::{Access, Extent};
-use mlk_routine::{Call, KillArgument, LockArgument, SetArgument, Target, Variable};
+use mlk_tree::{Actual, Call, Expr, KillArgument, LockArgument, SetArgument, Target, Variable};
 use std::alloc::AllocError;
 
 // Actuals by value, whose values are not used.

@@ -2,20 +2,20 @@
 use Rattle.std.proofs.Common.{◌≡◌, refl, subst, ap, ◌∙◌, sym, ℕ, List, [], ◌∷◌, ◌++◌, Option, Some, Vec, Box, Global, append_assoc}
 use Rattle.std.specs.Prelude.{map, flat_map}
 use Rattle.mlk_text.specs.declared.operator.Op.{Op}
-use Rattle.mlk_expr.specs.declared.tree.Expr.{Expr}
-use Rattle.mlk_expr.specs.declared.tree.Actual.{Actual}
-use Rattle.mlk_expr.specs.declared.tree.Subscript.{Subscript}
-use Rattle.mlk_expr.specs.Trees.{tree_of, trees, actual_trees, sub_trees, links, choices}
-use Rattle.mlk_expr.specs.Trees.{trees_from, actuals_from, subs_from, links_from, choices_from, ActualTree}
-use Rattle.mlk_expr.specs.Trees.{Tree, Chain, Selected, actual_step, expr_step, subscript_step}
-use Rattle.mlk_expr.specs.declared.tree.Callee.{Callee}
-use Rattle.mlk_expr.specs.declared.tree.Function.{Function}
-use Rattle.mlk_expr.specs.declared.tree.Expr.{fold-roll-Expr}
-use Rattle.mlk_expr.specs.declared.tree.Expr.TheVariants as rust
-use Rattle.mlk_expr.specs.declared.tree.Expr.TheVariants.{rolls-Binary, rolls-Select}
-use Rattle.mlk_expr.specs.declared.tree.Actual.TheOpen as open'
-use Rattle.mlk_expr.proofs.Variants.{tree_func, tree_local, tree_global, tree_call}
-use Rattle.mlk_routine.specs.Trees.{CallTree, Called}
+use Rattle.mlk_tree.specs.declared.expr.Expr.{Expr}
+use Rattle.mlk_tree.specs.declared.expr.Actual.{Actual}
+use Rattle.mlk_tree.specs.declared.expr.Subscript.{Subscript}
+use Rattle.mlk_tree.specs.ExprTrees.{tree_of, trees, actual_trees, sub_trees, links, choices}
+use Rattle.mlk_tree.specs.ExprTrees.{trees_from, actuals_from, subs_from, links_from, choices_from, ActualTree}
+use Rattle.mlk_tree.specs.ExprTrees.{Tree, Chain, Selected, actual_step, expr_step, subscript_step}
+use Rattle.mlk_tree.specs.declared.expr.Callee.{Callee}
+use Rattle.mlk_tree.specs.declared.expr.Function.{Function}
+use Rattle.mlk_tree.specs.declared.expr.Expr.{fold-roll-Expr}
+use Rattle.mlk_tree.specs.declared.expr.Expr.TheVariants as rust
+use Rattle.mlk_tree.specs.declared.expr.Expr.TheVariants.{rolls-Binary, rolls-Select}
+use Rattle.mlk_tree.specs.declared.expr.Actual.TheOpen as open'
+use Rattle.mlk_tree.proofs.Variants.{tree_func, tree_local, tree_global, tree_call}
+use Rattle.mlk_tree.specs.Trees.{CallTree, Called}
 use Rattle.mlk_program.specs.Calls.{in_tree, in_trees, in_subs, in_links, in_choices, in_actuals, as_list}
 use Rattle.mlk_program.specs.declared.call.CallSite.{CallSite}
 use Rattle.mlk_program.specs.Found.{Finds, site_of, of_expr, of_subscript, of_link, of_choice, of_actual, given_of}

@@ -1,18 +1,18 @@
 -- The calls of a line's commands.
 use Rattle.std.proofs.Common.{◌≡◌, refl, subst, ap, ◌∙◌, sym, ℕ, List, [], ◌∷◌, ◌++◌, Option, Some, None, Vec, Box, Global, append_assoc, append-nil}
 use Rattle.std.specs.Prelude.{map, flat_map, option_map}
-use Rattle.mlk_expr.specs.Trees.{tree_of, actual_trees, trees}
-use Rattle.mlk_expr.specs.declared.tree.Expr.{Expr}
-use Rattle.mlk_expr.specs.declared.tree.Actual.{Actual}
-use Rattle.mlk_expr.specs.declared.tree.Callee.{Callee}
-use Rattle.mlk_routine.specs.declared.tree.Command.{Command}
-use Rattle.mlk_routine.specs.declared.tree.Commands.{Commands}
-use Rattle.mlk_routine.specs.declared.tree.Control.{Control}
-use Rattle.mlk_routine.specs.declared.tree.For.{For}
-use Rattle.mlk_routine.specs.declared.tree.Commands.TheViews.{out-Commands, out-For}
-use Rattle.mlk_routine.specs.declared.tree.Commands.TheFolds.{fold-For, fold_out-Commands, fold_out-For}
-use Rattle.mlk_routine.specs.Trees.{CallTree, Called, CommandTrees, finished}
-use Rattle.mlk_routine.specs.Views.{commands_of, command_of, control_of, commands_from, commands_step, for_step}
+use Rattle.mlk_tree.specs.ExprTrees.{tree_of, actual_trees, trees}
+use Rattle.mlk_tree.specs.declared.expr.Expr.{Expr}
+use Rattle.mlk_tree.specs.declared.expr.Actual.{Actual}
+use Rattle.mlk_tree.specs.declared.expr.Callee.{Callee}
+use Rattle.mlk_tree.specs.declared.command.Command.{Command}
+use Rattle.mlk_tree.specs.declared.command.Commands.{Commands}
+use Rattle.mlk_tree.specs.declared.command.Control.{Control}
+use Rattle.mlk_tree.specs.declared.command.For.{For}
+use Rattle.mlk_tree.specs.declared.command.Commands.TheViews.{out-Commands, out-For}
+use Rattle.mlk_tree.specs.declared.command.Commands.TheFolds.{fold-For, fold_out-Commands, fold_out-For}
+use Rattle.mlk_tree.specs.Trees.{CallTree, Called, CommandTrees, finished}
+use Rattle.mlk_tree.specs.Views.{commands_of, command_of, control_of, commands_from, commands_step, for_step}
 use Rattle.mlk_program.specs.declared.call.CallSite.{CallSite}
 use Rattle.mlk_program.specs.Calls.{in_tree, in_call, in_actual, in_command, in_control, in_commands}
 use Rattle.mlk_program.specs.Found.{Finds, site_of, of_expr, of_actual, of_option, given_of}

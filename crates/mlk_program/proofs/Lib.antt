@@ -12,4 +12,3 @@ pub mod EntryLines
 pub mod NewLists
 pub mod EntryTexts
 pub mod FittingCalls
-pub mod ReadSpelling

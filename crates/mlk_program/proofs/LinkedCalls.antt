@@ -5,7 +5,7 @@ use Rattle.std.proofs.Math.Seq.{take-suc}
 use Rattle.std.proofs.lemmas.Grind.{flat_map-append}
 use Rattle.std.proofs.lemmas.List.Elements.{Contains-append_cases}
 use Rattle.mlk_text.specs.declared.fault.Fault.{Fault}
-use Rattle.mlk_routine.specs.Trees.{RoutineTree}
+use Rattle.mlk_tree.specs.Trees.{RoutineTree}
 use Rattle.mlk_program.specs.Program.{PlacedCall, call_fault, AreResolved, IsFirstFault, IsCallFault, shared_by}
 use Rattle.mlk_program.specs.Program.{called_formals, takes, shared_with, fault_with, arity_fault}
 use Rattle.mlk_program.specs.Found.{site_of, given_of}

@@ -1,16 +1,16 @@
 -- What the commands of a line make new.
 use Rattle.std.proofs.Common.{◌≡◌, refl, sym, ap, subst, ◌∙◌, List, [], ◌∷◌, ◌++◌, Some, None, Box, Global, map, append_assoc, append-nil}
 use Rattle.std.specs.Prelude.{flat_map}
-use Rattle.mlk_routine.specs.declared.tree.Command.{Command}
-use Rattle.mlk_routine.specs.declared.tree.Commands.{Commands}
-use Rattle.mlk_routine.specs.declared.tree.For.{For}
-use Rattle.mlk_routine.specs.declared.tree.Commands.TheViews.{out-Commands, out-For}
-use Rattle.mlk_routine.specs.declared.tree.Commands.TheFolds.{fold-For, fold_out-For}
-use Rattle.mlk_routine.specs.declared.routine.Line.{Line}
-use Rattle.mlk_routine.specs.declared.routine.Line.TheViews.{out-Line}
-use Rattle.mlk_routine.specs.declared.routine.Line.TheFolds.{fold_out-Line}
-use Rattle.mlk_routine.specs.Trees.{CommandTrees, finished, HeadTree, LineTrees}
-use Rattle.mlk_routine.specs.Views.{commands_of, command_of, commands_from, commands_step, for_step, line_of, line_step}
+use Rattle.mlk_tree.specs.declared.command.Command.{Command}
+use Rattle.mlk_tree.specs.declared.command.Commands.{Commands}
+use Rattle.mlk_tree.specs.declared.command.For.{For}
+use Rattle.mlk_tree.specs.declared.command.Commands.TheViews.{out-Commands, out-For}
+use Rattle.mlk_tree.specs.declared.command.Commands.TheFolds.{fold-For, fold_out-For}
+use Rattle.mlk_tree.specs.declared.routine.Line.{Line}
+use Rattle.mlk_tree.specs.declared.routine.Line.TheViews.{out-Line}
+use Rattle.mlk_tree.specs.declared.routine.Line.TheFolds.{fold_out-Line}
+use Rattle.mlk_tree.specs.Trees.{CommandTrees, finished, HeadTree, LineTrees}
+use Rattle.mlk_tree.specs.Views.{commands_of, command_of, commands_from, commands_step, for_step, line_of, line_step}
 use Rattle.mlk_program.specs.declared.news.NewNames.{NewNames}
 use Rattle.mlk_program.specs.News.{Adds, new_tree, news_with, news_in, news_at, news_of_lines}
 use Rattle.mlk_program.proofs.FoundCommands.{none_last, some_last}

@@ -2,17 +2,17 @@
 -- call stands before those of its actuals. Standard: extrinsic function,
 -- extrinsic special variable (`$$` without a list), DO, JOB.
 use Rattle.std.specs.Prelude.{List, [], ◌∷◌, ◌++◌, flat_map, Option, Some, None}
-use Rattle.mlk_expr.specs.Trees.{Tree, Lit, Free, LocalName, GlobalName, SpecialName, Prefixed, Chain, PatternText}
-use Rattle.mlk_expr.specs.Trees.{Func, Selected, BareCall, CallOf, Trees, no_trees, tree, Subs, no_subs, sub, Links}
-use Rattle.mlk_expr.specs.Trees.{no_links, link, Choices, no_choices, choice, ActualTree, Given, ByRef, Missing}
-use Rattle.mlk_expr.specs.Trees.{Actuals, no_actuals, actual}
-use Rattle.mlk_routine.specs.Trees.{VariableTree, Named, CallTree, Called, DoTree, DoCall, KillTree, KillOne}
-use Rattle.mlk_routine.specs.Trees.{KillAllBut, LockTree, LockNames, MergeTree, MergeInto}
-use Rattle.mlk_routine.specs.Trees.{ReadTree, ReadText, ReadFormat, ReadLine, ReadCharacter, TargetTree, SetWhole}
-use Rattle.mlk_routine.specs.Trees.{SetPart, SetTree, SetTo, WriteTree, WriteValue, WriteCharacter, WriteFormat}
-use Rattle.mlk_routine.specs.Trees.{ActionTree, Do, Else, Halt, Hang, If, Job, Kill, Lock, Merge, New, Quit, Read, Set}
-use Rattle.mlk_routine.specs.Trees.{Write, CommandTree, Does, ParameterTree, Once, Endless, Limited, ControlTree, Runs}
-use Rattle.mlk_routine.specs.Trees.{CommandTrees, finished, then_command, then_for}
+use Rattle.mlk_tree.specs.ExprTrees.{Tree, Lit, Free, LocalName, GlobalName, SpecialName, Prefixed, Chain, PatternText}
+use Rattle.mlk_tree.specs.ExprTrees.{Func, Selected, BareCall, CallOf, Trees, no_trees, tree, Subs, no_subs, sub, Links}
+use Rattle.mlk_tree.specs.ExprTrees.{no_links, link, Choices, no_choices, choice, ActualTree, Given, ByRef, Missing}
+use Rattle.mlk_tree.specs.ExprTrees.{Actuals, no_actuals, actual}
+use Rattle.mlk_tree.specs.Trees.{VariableTree, Named, CallTree, Called, DoTree, DoCall, KillTree, KillOne}
+use Rattle.mlk_tree.specs.Trees.{KillAllBut, LockTree, LockNames, MergeTree, MergeInto}
+use Rattle.mlk_tree.specs.Trees.{ReadTree, ReadText, ReadFormat, ReadLine, ReadCharacter, TargetTree, SetWhole}
+use Rattle.mlk_tree.specs.Trees.{SetPart, SetTree, SetTo, WriteTree, WriteValue, WriteCharacter, WriteFormat}
+use Rattle.mlk_tree.specs.Trees.{ActionTree, Do, Else, Halt, Hang, If, Job, Kill, Lock, Merge, New, Quit, Read, Set}
+use Rattle.mlk_tree.specs.Trees.{Write, CommandTree, Does, ParameterTree, Once, Endless, Limited, ControlTree, Runs}
+use Rattle.mlk_tree.specs.Trees.{CommandTrees, finished, then_command, then_for}
 
 -- the actuals that a list is made of
 abbrev pub as_list : Actuals → List ActualTree

@@ -1,13 +1,13 @@
 -- The calls that were found. This project's own.
 use Rattle.std.specs.Prelude.{ℕ, ◌≡◌, List, [], ◌∷◌, ◌++◌, map, flat_map, Option, Some, None, option_map, Vec}
 use Rattle.std.specs.declared.alloc.Global.{Global}
-use Rattle.mlk_expr.specs.declared.tree.Expr.{Expr}
-use Rattle.mlk_expr.specs.declared.tree.Actual.{Actual}
-use Rattle.mlk_expr.specs.declared.tree.Subscript.{Subscript}
+use Rattle.mlk_tree.specs.declared.expr.Expr.{Expr}
+use Rattle.mlk_tree.specs.declared.expr.Actual.{Actual}
+use Rattle.mlk_tree.specs.declared.expr.Subscript.{Subscript}
 use Rattle.mlk_text.specs.declared.operator.Op.{Op}
-use Rattle.mlk_expr.specs.declared.tree.Callee.{Callee}
-use Rattle.mlk_expr.specs.Trees.{ActualTree, tree_of, actual_of, sub_of, actual_trees}
-use Rattle.mlk_routine.specs.Trees.{CallTree, Called}
+use Rattle.mlk_tree.specs.declared.expr.Callee.{Callee}
+use Rattle.mlk_tree.specs.ExprTrees.{ActualTree, tree_of, actual_of, sub_of, actual_trees}
+use Rattle.mlk_tree.specs.Trees.{CallTree, Called}
 use Rattle.mlk_program.specs.Calls.{in_tree, in_actual}
 use Rattle.mlk_program.specs.declared.call.CallSite.{CallSite}
 

@@ -2,9 +2,8 @@
 -- its actuals.
 use Rattle.std.specs.Prelude.{ℕ, ◌≡◌, List, Contains, Option, Some, true}
 use Rattle.mlk_text.specs.Spellings.{IsName, IsLabel}
-use Rattle.mlk_expr.specs.declared.tree.Callee.{Callee}
-use Rattle.mlk_routine.specs.Trees.{RoutineTree, HeadTree, LineTrees, CallTree, Called}
-use Rattle.mlk_routine.specs.RoutineGrammar.{IsRoutine}
+use Rattle.mlk_tree.specs.declared.expr.Callee.{Callee}
+use Rattle.mlk_tree.specs.Trees.{RoutineTree, HeadTree, LineTrees, CallTree, Called}
 use Rattle.mlk_program.specs.Entries.{name_of, lines_in, label_of, formals_of, entry_in, entry_by, target_of}
 use Rattle.mlk_program.specs.Entries.{line_of_entry, text_of_entry}
 use Rattle.mlk_program.specs.Program.{PlacedCall, calls_of, takes, IsProgram}
@@ -29,10 +28,6 @@ EntriesHaveLines = (routines : List RoutineTree) (e : EntryId) → IsEntryOf rou
 abbrev pub IsSpelled : RoutineTree → Type 0
 IsSpelled tree = IsName (name_of tree) × ((l : HeadTree × LineTrees) (label : List ℕ) → Contains (lines_in tree) l
     → label_of l.0 ≡ Some label → IsLabel label)
-
--- Routines that were read are written so.
-abbrev pub RoutinesSpelled : Type 0
-RoutinesSpelled = (stem text : List ℕ) (tree : RoutineTree) → IsRoutine stem tree text → IsSpelled tree
 
 -- Where no routine stands twice, the text of an entry names that entry. So of two texts of one entry, `^ROUTINE` and one
 -- with the label of the first line, the entry's own is the one with the label.

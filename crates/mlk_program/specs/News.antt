@@ -1,10 +1,10 @@
 -- What NEW makes new. Standard: NEW.
 use Rattle.std.specs.Prelude.{◌≡◌, List, [], ◌∷◌, ◌++◌, map, flat_map}
-use Rattle.mlk_routine.specs.declared.tree.Command.{Command}
-use Rattle.mlk_routine.specs.Trees.{NewTree, NewOne, NewAllBut, CommandTrees, finished, then_command, then_for}
-use Rattle.mlk_routine.specs.Trees.{ActionTree, Do, Else, Halt, Hang, If, Job, Kill, Lock, Merge, New, Quit, Read, Set}
-use Rattle.mlk_routine.specs.Trees.{Write, Does, HeadTree, LineHead, LineTrees}
-use Rattle.mlk_routine.specs.Views.{action_of}
+use Rattle.mlk_tree.specs.declared.command.Command.{Command}
+use Rattle.mlk_tree.specs.Trees.{NewTree, NewOne, NewAllBut, CommandTrees, finished, then_command, then_for}
+use Rattle.mlk_tree.specs.Trees.{ActionTree, Do, Else, Halt, Hang, If, Job, Kill, Lock, Merge, New, Quit, Read, Set}
+use Rattle.mlk_tree.specs.Trees.{Write, Does, HeadTree, LineHead, LineTrees}
+use Rattle.mlk_tree.specs.Views.{action_of}
 use Rattle.mlk_program.specs.declared.news.NewNames.{NewNames}
 use Rattle.mlk_program.specs.declared.news.NewNames.TheVariants as rust
 

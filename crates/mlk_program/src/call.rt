@@ -1,12 +1,12 @@
 // Calls, where they stand in trees.
 
 ghost use Rattle.std.specs.Prelude.{◌≡◌, ◌∷◌, [], OnOk, option_map};
-ghost use Rattle.mlk_expr.specs.Trees.{actual_trees};
-ghost use Rattle.mlk_routine.specs.Trees.{Called};
+ghost use Rattle.mlk_tree.specs.ExprTrees.{actual_trees};
+ghost use Rattle.mlk_tree.specs.Trees.{Called};
 ghost use Rattle.mlk_program.specs.Found.{Finds};
 
-use mlk_expr::{Actual, Callee};
 use mlk_text::Column;
+use mlk_tree::{Actual, Callee};
 use std::alloc::AllocError;
 
 /// A call in a tree: its column, what it calls, and its actuals.

@@ -4,7 +4,8 @@ ghost use Rattle.std.specs.Prelude.{OnOk, flat_map};
 ghost use Rattle.mlk_program.specs.Found.{Finds, of_expr, of_subscript, of_link, of_choice, of_actual};
 
 use crate::call::{CallSite, add_call};
-use mlk_expr::{Actual, Expr, Op, Subscript};
+use mlk_text::Op;
+use mlk_tree::{Actual, Expr, Subscript};
 use std::alloc::AllocError;
 
 /// Adds the calls in an expression.

@@ -1,6 +1,6 @@
 // What programs keep to.
 
-ghost use Rattle.mlk_program.specs.Laws.{EntriesNamed, EntriesHaveLines, RoutinesSpelled, TextsName, CallsFit};
+ghost use Rattle.mlk_program.specs.Laws.{EntriesNamed, EntriesHaveLines, TextsName, CallsFit};
 
 /// What `entry` and `target` answer are entries of the program.
 pub fn entries_named()
@@ -10,11 +10,6 @@ pub fn entries_named()
 /// An entry of a program has a line there.
 pub fn entries_have_lines()
     ensures { EntriesHaveLines }
-{}
-
-/// A routine that was read has a name, and labels, that are written as such.
-pub fn routines_spelled()
-    ensures { RoutinesSpelled }
 {}
 
 /// `entry` of the text of an entry is that entry.

@@ -17,7 +17,7 @@ mod table;
 pub use call::CallSite;
 pub use entry::EntryId;
 pub use found::calls_of;
-pub use law::{calls_fit, entries_have_lines, entries_named, routines_spelled, texts_name};
+pub use law::{calls_fit, entries_have_lines, entries_named, texts_name};
 pub use linking::link;
 pub use news::{NewNames, new_names};
 pub use program::Program;

@@ -1,9 +1,9 @@
 // Linking.
 
 ghost use Rattle.std.specs.Prelude.{◌≡◌, flat_map, IfOk, OnOk, IfErr, Some, None, true, map, not, option_map};
-ghost use Rattle.mlk_expr.specs.Trees.{actual_trees};
-ghost use Rattle.mlk_routine.specs.Views.{line_of, routine_of};
-ghost use Rattle.mlk_routine.specs.RoutineGrammar.{AreDistinct};
+ghost use Rattle.mlk_tree.specs.ExprTrees.{actual_trees};
+ghost use Rattle.mlk_tree.specs.Views.{line_of, routine_of};
+ghost use Rattle.mlk_tree.specs.Distinct.{AreDistinct};
 ghost use Rattle.mlk_program.specs.Entries.{name_of, entries_among, formals_of};
 ghost use Rattle.mlk_program.specs.Program.{takes, called_formals, call_fault, shared_by, AreTooMany, IsTwice, IsPastLimit, IsCallFault, IsFirstFault, calls_of, shared_with, name_at, IsProgram, IsLinkFault};
 ghost use Rattle.mlk_program.specs.Found.{site_of, given_of};
@@ -16,9 +16,8 @@ use crate::fault::refusal;
 use crate::found::in_commands;
 use crate::program::Program;
 use crate::shared::Shared;
-use mlk_expr::{Actual, Callee};
-use mlk_routine::{Line, Routine};
 use mlk_text::{Code, Column, Failure, Fault, List, Name};
+use mlk_tree::{Actual, Callee, Line, Routine};
 use std::alloc::{AllocError, Global};
 
 // How many routines a program may have.

@@ -10,9 +10,10 @@ mod refusals;
 #[cfg(test)]
 use mlk_program::link;
 #[cfg(test)]
-use mlk_routine::{Routine, read_routine};
+use mlk_routine::read_routine;
 #[cfg(test)]
 use mlk_text::{Failure, Fault};
+use mlk_tree::Routine;
 #[cfg(test)]
 use std::alloc::{AllocError, Global};
 

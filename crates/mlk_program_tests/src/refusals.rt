@@ -2,8 +2,9 @@
 
 use crate::routines;
 use mlk_program::link;
-use mlk_routine::{Routine, read_routine};
+use mlk_routine::read_routine;
 use mlk_text::{Failure, Fault};
+use mlk_tree::Routine;
 use std::alloc::Global;
 
 // The code of a refusal, with its routine, line and column.

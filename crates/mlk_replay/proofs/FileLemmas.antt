@@ -6,7 +6,7 @@ use Rattle.mlk_text.specs.declared.failure.Failure.TheVariants.{OutOfMemory, Ref
 use Rattle.mlk_text.specs.declared.spelling.NotThere.{NotThere}
 use Rattle.mlk_text.specs.Failures.{FailsOn}
 use Rattle.mlk_lexemes.specs.Lists.{EachPair}
-use Rattle.mlk_routine.specs.Trees.{RoutineTree}
+use Rattle.mlk_tree.specs.Trees.{RoutineTree}
 use Rattle.mlk_events.specs.declared.order.Order.{Order}
 use Rattle.mlk_events.specs.Texts.{line_text, file_text}
 use Rattle.mlk_events.specs.Reading.{line_at}

@@ -6,9 +6,9 @@ use Rattle.mlk_text.specs.declared.failure.Failure.TheVariants.{OutOfMemory, Ref
 use Rattle.mlk_text.specs.Failures.{FailsAs}
 use Rattle.mlk_locks.specs.declared.refusal.Refusal.{Refusal}
 use Rattle.mlk_locks.specs.Systems.{Machine, and_then}
-use Rattle.mlk_routine.specs.declared.routine.Routine.{Routine}
-use Rattle.mlk_routine.specs.Trees.{RoutineTree}
-use Rattle.mlk_routine.specs.Views.{routine_of}
+use Rattle.mlk_tree.specs.declared.routine.Routine.{Routine}
+use Rattle.mlk_tree.specs.Trees.{RoutineTree}
+use Rattle.mlk_tree.specs.Views.{routine_of}
 use Rattle.mlk_program.specs.declared.entry.EntryId.{EntryId}
 use Rattle.mlk_jobs.specs.declared.choice.Choice.{Choice}
 use Rattle.mlk_jobs.specs.Tasks.{Job}

@@ -4,7 +4,7 @@ use Rattle.mlk_text.specs.declared.failure.Failure.{Failure}
 use Rattle.mlk_text.specs.declared.failure.Failure.TheVariants.{OutOfMemory, Refused}
 use Rattle.mlk_locks.specs.declared.refusal.Refusal.{Refusal}
 use Rattle.mlk_locks.specs.Systems.{Machine, Event, and_then, happens, happened, after, count_happened}
-use Rattle.mlk_routine.specs.declared.routine.Routine.{Routine}
+use Rattle.mlk_tree.specs.declared.routine.Routine.{Routine}
 use Rattle.mlk_program.specs.declared.entry.EntryId.{EntryId}
 use Rattle.mlk_jobs.specs.declared.choice.Choice.{Choice}
 use Rattle.mlk_jobs.specs.Tasks.{Job}

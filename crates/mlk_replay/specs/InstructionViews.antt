@@ -1,6 +1,6 @@
 -- The definition's words of the code's, for clauses of calls that are not public. This project's own.
 use Rattle.std.specs.Prelude.{ℕ, List, Option, Some, None, option_map}
-use Rattle.mlk_routine.specs.Trees.{RoutineTree}
+use Rattle.mlk_tree.specs.Trees.{RoutineTree}
 use Rattle.mlk_events.specs.declared.order.Order.{Order}
 use Rattle.mlk_events.specs.Reading.{line_at}
 use Rattle.mlk_replay.specs.declared.instruction.Instruction.{Instruction}

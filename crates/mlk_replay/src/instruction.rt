@@ -1,7 +1,7 @@
 // What the lines of a file of events ask for.
 
 ghost use Rattle.std.specs.Prelude.{◌≡◌, map, option_map};
-ghost use Rattle.mlk_routine.specs.Views.{routine_of};
+ghost use Rattle.mlk_tree.specs.Views.{routine_of};
 ghost use Rattle.mlk_events.specs.declared.order.Order.TheVariants.{Begin};
 ghost use Rattle.mlk_system.specs.Events.{act_of};
 ghost use Rattle.mlk_replay.specs.Files.{asked, Happens};

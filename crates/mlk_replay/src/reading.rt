@@ -2,7 +2,7 @@
 
 ghost use Rattle.std.specs.Prelude.{◌≡◌, IfOk, IfErr, map};
 ghost use Rattle.mlk_text.specs.Failures.{Reads};
-ghost use Rattle.mlk_routine.specs.Views.{routine_of};
+ghost use Rattle.mlk_tree.specs.Views.{routine_of};
 ghost use Rattle.mlk_replay.specs.Files.{Says, IsRefusedAt};
 ghost use Rattle.mlk_replay.specs.InstructionViews.{asked_of, asked_at};
 

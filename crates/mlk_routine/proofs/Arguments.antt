@@ -9,12 +9,12 @@ use Rattle.mlk_text.specs.declared.fault.Fault.{Fault}
 use Rattle.mlk_text.specs.Lexemes.{is_digit}
 use Rattle.mlk_expr.specs.declared.scope.Allows.TheVariants.{Everything, NoTouches}
 use Rattle.mlk_expr.specs.declared.scope.Passing.TheVariants.{ByReference}
-use Rattle.mlk_expr.specs.declared.tree.Callee.{Callee}
-use Rattle.mlk_expr.specs.Trees.{Tree, Free, ActualTree}
+use Rattle.mlk_tree.specs.declared.expr.Callee.{Callee}
+use Rattle.mlk_tree.specs.ExprTrees.{Tree, Free, ActualTree}
 use Rattle.mlk_expr.specs.Grammar.{Spelled, IsExprWhere}
 use Rattle.mlk_expr.specs.Theorem.{Stands, ExprEnds, label_ends, callee_ends}
 use Rattle.mlk_expr.proofs.Scopes.{given-anything}
-use Rattle.mlk_routine.specs.Trees.{CallTree, Called, DoTree, DoCall}
+use Rattle.mlk_tree.specs.Trees.{CallTree, Called, DoTree, DoCall}
 use Rattle.mlk_routine.specs.Told.{Found, Nowhere, Denied, first_of, byte_at}
 use Rattle.mlk_routine.specs.Ends.{Lacks, CallEnds, DoEnds}
 use Rattle.mlk_routine.specs.CommandGrammar.{IsCall, IsDo, before_condition}

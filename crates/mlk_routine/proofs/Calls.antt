@@ -7,11 +7,11 @@ use Rattle.std.proofs.lemmas.Option.{same_Some}
 use Rattle.mlk_text.specs.Lexemes.{is_digit}
 use Rattle.mlk_expr.specs.declared.scope.Allows.{Allows}
 use Rattle.mlk_expr.specs.declared.scope.Passing.{Passing}
-use Rattle.mlk_expr.specs.declared.tree.Callee.{Callee}
-use Rattle.mlk_expr.specs.Trees.{ActualTree}
+use Rattle.mlk_tree.specs.declared.expr.Callee.{Callee}
+use Rattle.mlk_tree.specs.ExprTrees.{ActualTree}
 use Rattle.mlk_expr.specs.Grammar.{IsActualList, IsActualListWhere, IsCalleeText}
 use Rattle.mlk_expr.specs.Theorem.{Stands, label_ends, callee_ends}
-use Rattle.mlk_routine.specs.Trees.{CallTree, Called}
+use Rattle.mlk_tree.specs.Trees.{CallTree, Called}
 use Rattle.mlk_routine.specs.Told.{Found, first_of, byte_at}
 use Rattle.mlk_routine.specs.Ends.{GivenEnds, CalledEnds, CallEnds}
 use Rattle.mlk_routine.specs.CommandGrammar.{IsGiven, IsCall}

@@ -5,12 +5,12 @@ use Rattle.std.specs.Prelude.{Option, ◌⊎◌}
 use Rattle.std.proofs.lemmas.Bool.{cases_Bool}
 use Rattle.std.proofs.lemmas.Bool.Decides.{nat_tests}
 use Rattle.mlk_text.specs.Lexemes.{is_letter}
-use Rattle.mlk_expr.specs.Trees.{Tree}
+use Rattle.mlk_tree.specs.ExprTrees.{Tree}
 use Rattle.mlk_expr.specs.Grammar.{Spelled}
 use Rattle.mlk_expr.specs.Lexemes.{ends}
 use Rattle.mlk_expr.specs.Theorem.{ExprEnds}
 use Rattle.mlk_routine.specs.declared.word.Word.{Word}
-use Rattle.mlk_routine.specs.Trees.{ActionTree, Do, Else, Halt, Hang, If, Job, Kill, Lock, Merge, New, Quit, Read, Set, Write, CommandTree, Does}
+use Rattle.mlk_tree.specs.Trees.{ActionTree, Do, Else, Halt, Hang, If, Job, Kill, Lock, Merge, New, Quit, Read, Set, Write, CommandTree, Does}
 use Rattle.mlk_routine.specs.Ends.{Lacks, starts, is_command_end, StopEnds, CommandEnd}
 use Rattle.mlk_routine.specs.CommandWords.{may_have_condition, has_arguments}
 use Rattle.mlk_routine.specs.CommandGrammar.{Both, IsValue, IsDo, IsJob, IsKill, IsLock, IsMerge, IsNew, IsRead, IsSet, IsWrite, IsCondition, AreSome, ArePerhaps, AreArgumentsOf, IsQuit, IsCommand}

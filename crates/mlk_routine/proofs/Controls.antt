@@ -4,7 +4,7 @@ use Rattle.std.proofs.Common.{◌≡◌, ◌+◌, ℕ, suc, List, ◌++◌, leng
 use Rattle.std.proofs.lemmas.Option.{same_Some}
 use Rattle.mlk_expr.specs.Grammar.{IsList, IsNameText}
 use Rattle.mlk_expr.specs.Theorem.{LabelEnds}
-use Rattle.mlk_routine.specs.Trees.{ParameterTree, ControlTree, Runs}
+use Rattle.mlk_tree.specs.Trees.{ParameterTree, ControlTree, Runs}
 use Rattle.mlk_routine.specs.Told.{byte_at}
 use Rattle.mlk_routine.specs.Ends.{AreEnded, ParameterEnds, ControlEnds}
 use Rattle.mlk_routine.specs.Stops.{name_equals}

@@ -1,15 +1,15 @@
 -- What a command does, by its word.
 use Rattle.std.proofs.Common.{◌≡◌, ◌≤◌, ℕ, suc, List, [], ◌∷◌, ◌++◌, length, drop, Some, None, Bool, true, false, inl, inr, refl, sym, ap, ◌∙◌, subst}
 use Rattle.std.specs.Prelude.{Option, ◌⊎◌}
-use Rattle.mlk_expr.specs.Trees.{Tree}
+use Rattle.mlk_tree.specs.ExprTrees.{Tree}
 use Rattle.mlk_expr.specs.Theorem.{Stands}
 use Rattle.mlk_text.specs.declared.failure.Failure.{Failure}
 use Rattle.mlk_text.specs.declared.failure.Failure.TheVariants.{OutOfMemory, Refused}
 use Rattle.mlk_text.specs.declared.fault.Fault.{Fault}
 use Rattle.mlk_routine.specs.declared.word.Word.{Word}
 use Rattle.mlk_routine.specs.declared.word.Word.TheVariants as word
-use Rattle.mlk_routine.specs.Trees.{DoTree, CallTree, KillTree, LockTree, MergeTree, NewTree, ReadTree, SetTree, WriteTree}
-use Rattle.mlk_routine.specs.Trees.{ActionTree, Do, Else, Halt, Hang, If, Job, Kill, Lock, Merge, New, Quit, Read, Set, Write}
+use Rattle.mlk_tree.specs.Trees.{DoTree, CallTree, KillTree, LockTree, MergeTree, NewTree, ReadTree, SetTree, WriteTree}
+use Rattle.mlk_tree.specs.Trees.{ActionTree, Do, Else, Halt, Hang, If, Job, Kill, Lock, Merge, New, Quit, Read, Set, Write}
 use Rattle.mlk_routine.specs.Told.{Found, Nowhere, Denied}
 use Rattle.mlk_routine.specs.Faults.{IsFaulty}
 use Rattle.mlk_routine.specs.Ends.{is_stop, is_bare_end, StopEnds}

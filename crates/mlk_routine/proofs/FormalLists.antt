@@ -11,11 +11,13 @@ use Rattle.std.proofs.lemmas.List.Elements.{Contains-append_left, Contains-appen
 use Rattle.std.proofs.lemmas.Map.Views.{Contains-from_any}
 use Rattle.mlk_expr.specs.Grammar.{AreNext, IsNameText}
 use Rattle.mlk_expr.specs.Theorem.{Stands, LabelEnds}
+use Rattle.mlk_tree.proofs.Distinct.{among, bytes_same, in_one, here, not_in_none, among_is, is_among, not_among}
 use Rattle.mlk_routine.specs.Told.{Found, Nowhere, first_of, byte_at}
 use Rattle.mlk_routine.specs.Ends.{AnyEnds}
 use Rattle.mlk_routine.specs.CommandGrammar.{After}
 use Rattle.mlk_routine.specs.Stops.{name_stop}
-use Rattle.mlk_routine.specs.RoutineGrammar.{AreDistinct, IsFormals}
+use Rattle.mlk_routine.specs.RoutineGrammar.{IsFormals}
+use Rattle.mlk_tree.specs.Distinct.{AreDistinct}
 use Rattle.mlk_routine.specs.Lines.{has_name, IsUnseen, IsFormalList}
 use Rattle.mlk_routine.proofs.Sequences.{Parts, Turned, next_is, not_after, both_found, first_nowhere, second_nowhere, turned_found, turned_nowhere}
 use Rattle.mlk_routine.proofs.Bytes.{AfterByte, after_found, after_nowhere, byte_there, byte_before, drop_next}
@@ -49,40 +51,6 @@ same_seen false h = refl
 pub same_new : (b : Bool) → false ≡ not b → b ≡ true
 same_new true h = refl
 same_new false h = cc h
-
--- Names, and whether one is among them.
-abbrev pub among : List ℕ → List (List ℕ) → Bool
-among q names = list_any (bytes_eq q) names
-
-bytes_same : (x y : List ℕ) → bytes_eq x y ≡ true → x ≡ y
-bytes_same x y h = (bytes_eq-Decides x y).0 h
-
-in_one : (n x : List ℕ) → Contains (n ∷ []) x → n ≡ x
-in_one n x (zero, less, is) = is
-in_one n x (suc k, less, is) = absurd (omega (arith, less))
-
-here : (n : List ℕ) (names : List (List ℕ)) → Contains (n ∷ names) n
-here n names = (0, omega arith, refl)
-
-not_in_none : (x : List ℕ) → Contains [] x → ⊥
-not_in_none x (k, less, is) = omega (arith, less)
-
-among_is : (q : List ℕ) (names : List (List ℕ)) → Contains names q → among q names ≡ true
-among_is q [] h = absurd (not_in_none q h)
-among_is q (n ∷ names) h = elim (Contains-append_cases (n ∷ []) names q h) [
-  | inl first ↦ rw ((bytes_eq-Decides q n).1 (sym (in_one n q first))) refl
-  | inr more ↦ rw (among_is q names more) (or_true (bytes_eq q n))
-]
-  where
-    or_true : (b : Bool) → (b || true) ≡ true
-    or_true true = refl
-    or_true false = refl
-
-pub is_among : (q : List ℕ) (names : List (List ℕ)) → among q names ≡ true → Contains names q
-is_among q names h = Contains-from_any bytes_same q names h
-
-pub not_among : (q : List ℕ) (names : List (List ℕ)) → among q names ≡ false → Contains names q → ⊥
-not_among q names h c = cc (sym h ∙ among_is q names c)
 
 -- names, each new after those seen
 abbrev pub AllFresh : List (List ℕ) → List (List ℕ) → Type 0

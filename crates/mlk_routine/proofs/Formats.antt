@@ -8,12 +8,12 @@ use Rattle.mlk_text.specs.declared.failure.Failure.{Failure}
 use Rattle.mlk_text.specs.declared.fault.Fault.{Fault}
 use Rattle.mlk_expr.specs.declared.scope.Allows.{Allows}
 use Rattle.mlk_expr.specs.declared.scope.Allows.TheVariants.{Everything}
-use Rattle.mlk_expr.specs.Trees.{Tree}
+use Rattle.mlk_tree.specs.ExprTrees.{Tree}
 use Rattle.mlk_expr.specs.Grammar.{IsExpr, IsExprWhere}
 use Rattle.mlk_expr.specs.Theorem.{ExprEnds}
 use Rattle.mlk_expr.proofs.JoinedParts.{opens}
 use Rattle.mlk_expr.proofs.JoinedOperands.{nested-opens}
-use Rattle.mlk_routine.specs.Trees.{WriteTree, WriteValue, WriteCharacter, WriteFormat}
+use Rattle.mlk_tree.specs.Trees.{WriteTree, WriteValue, WriteCharacter, WriteFormat}
 use Rattle.mlk_routine.specs.Told.{Told, first_of, byte_at}
 use Rattle.mlk_routine.specs.Ends.{IsRun, RunEnds, AfterEnds, starts, starts_format, FormatEnds, WriteEnds}
 use Rattle.mlk_routine.specs.CommandGrammar.{Both, IsValue, IsAfter, is_mark, IsFormat, IsWrite}

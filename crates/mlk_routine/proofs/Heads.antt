@@ -8,12 +8,12 @@ use Rattle.mlk_text.specs.declared.failure.Failure.TheVariants.{OutOfMemory, Ref
 use Rattle.mlk_text.specs.declared.fault.Fault.{Fault}
 use Rattle.mlk_routine.specs.declared.front.Front.{Front}
 use Rattle.mlk_routine.specs.declared.line.Before.{Before}
-use Rattle.mlk_routine.specs.Trees.{CommandTrees, HeadTree, LineHead, LineTrees}
-use Rattle.mlk_routine.specs.Views.{commands_of, line_step}
-use Rattle.mlk_routine.specs.declared.routine.Line.{Line}
-use Rattle.mlk_routine.specs.declared.routine.Line.TheOpen.{Line-F}
-use Rattle.mlk_routine.specs.declared.routine.Line.TheViews.{roll-Line}
-use Rattle.mlk_routine.specs.declared.routine.Line.TheFolds.{fold-roll-Line}
+use Rattle.mlk_tree.specs.Trees.{CommandTrees, HeadTree, LineHead, LineTrees}
+use Rattle.mlk_tree.specs.Views.{commands_of, line_step}
+use Rattle.mlk_tree.specs.declared.routine.Line.{Line}
+use Rattle.mlk_tree.specs.declared.routine.Line.TheOpen.{Line-F}
+use Rattle.mlk_tree.specs.declared.routine.Line.TheViews.{roll-Line}
+use Rattle.mlk_tree.specs.declared.routine.Line.TheFolds.{fold-roll-Line}
 use Rattle.mlk_routine.specs.Told.{Found, Nowhere, Denied}
 use Rattle.mlk_routine.specs.Faults.{IsFaulty}
 use Rattle.mlk_routine.specs.RoutineGrammar.{IsLabelled, IsComment, IsBody, IsLine, is_line_byte}

@@ -4,13 +4,13 @@ use Rattle.std.specs.Prelude.{Option, ◌⊎◌}
 use Rattle.std.proofs.lemmas.Option.{same_Some}
 use Rattle.mlk_expr.specs.declared.scope.Allows.{Allows}
 use Rattle.mlk_expr.specs.declared.scope.Allows.TheVariants.{Everything, NoTouches, NoCalls}
-use Rattle.mlk_expr.specs.Trees.{Tree}
+use Rattle.mlk_tree.specs.ExprTrees.{Tree}
 use Rattle.mlk_expr.specs.Lexemes.{starts_reference}
 use Rattle.mlk_expr.specs.Grammar.{IsExprWhere}
 use Rattle.mlk_expr.specs.Theorem.{Stands, ExprEnds}
-use Rattle.mlk_routine.specs.declared.tree.Sign.{Sign}
-use Rattle.mlk_routine.specs.declared.tree.Sign.TheVariants as sign
-use Rattle.mlk_routine.specs.Trees.{VariableTree, LockTree, LockNames}
+use Rattle.mlk_tree.specs.declared.command.Sign.{Sign}
+use Rattle.mlk_tree.specs.declared.command.Sign.TheVariants as sign
+use Rattle.mlk_tree.specs.Trees.{VariableTree, LockTree, LockNames}
 use Rattle.mlk_routine.specs.Told.{Found, Nowhere, first_of, byte_at}
 use Rattle.mlk_routine.specs.Ends.{is_stop, VariableEnds, SingleEnds, OneEnds, IsSign, SignEnds, TimeoutEnds, LockEnds}
 use Rattle.mlk_routine.specs.Stops.{variable_stop}

@@ -15,7 +15,7 @@ use Rattle.mlk_text.proofs.Spelled.{word-reads}
 use Rattle.mlk_expr.specs.Theorem.{Stands}
 use Rattle.mlk_routine.specs.declared.word.Word.{Word}
 use Rattle.mlk_routine.specs.declared.word.Word.TheVariants as word
-use Rattle.mlk_routine.specs.Trees.{CommandTree, Does, ControlTree, Runs, CommandTrees, finished, then_command, then_for}
+use Rattle.mlk_tree.specs.Trees.{CommandTree, Does, ControlTree, Runs, CommandTrees, finished, then_command, then_for}
 use Rattle.mlk_routine.specs.Told.{Found, Nowhere, Denied, Told}
 use Rattle.mlk_routine.specs.Faults.{IsFaulty}
 use Rattle.mlk_routine.specs.Ends.{is_stop, starts, ControlEnds, ParameterEnds, IsRun, RunEnds, is_command_end, is_commands_end, is_bare_end, StopEnds, CommandEnd, CommandsEnd}
@@ -24,7 +24,7 @@ use Rattle.mlk_routine.specs.CommandGrammar.{is_space, IsGap, IsCommand, least_o
 use Rattle.mlk_routine.specs.Stops.{parameter_stop}
 use Rattle.mlk_routine.specs.Begins.{front_begins, parameter_begins, control_begins}
 use Rattle.mlk_routine.specs.Kinds.{word_of, is_written, WordEnds}
-use Rattle.mlk_routine.specs.Views.{commands_from}
+use Rattle.mlk_tree.specs.Views.{commands_from}
 use Rattle.mlk_routine.specs.Leading.{LeadsTo, IsPerhapsControl, IsLoop, LoopEnds}
 use Rattle.mlk_routine.proofs.Sequences.{Parts, Turned, stands_at, both_found, first_nowhere, second_nowhere, denied_second, not_after, next_is}
 use Rattle.mlk_routine.proofs.Bytes.{AfterByte}

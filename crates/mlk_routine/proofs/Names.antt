@@ -6,7 +6,7 @@ use Rattle.std.proofs.lemmas.Option.{same_Some}
 use Rattle.mlk_expr.specs.declared.scope.Allows.TheVariants.{Everything, NoCalls}
 use Rattle.mlk_expr.specs.Lexemes.{starts_reference}
 use Rattle.mlk_expr.specs.Grammar.{IsNameText}
-use Rattle.mlk_routine.specs.Trees.{VariableTree, KillTree, KillOne, KillAllBut, MergeTree, MergeInto, NewTree, NewOne, NewAllBut}
+use Rattle.mlk_tree.specs.Trees.{VariableTree, KillTree, KillOne, KillAllBut, MergeTree, MergeInto, NewTree, NewOne, NewAllBut}
 use Rattle.mlk_routine.specs.Told.{Nowhere, first_of, byte_at}
 use Rattle.mlk_routine.specs.Ends.{VariableEnds, KillEnds, MergeEnds, NewEnds, AnyEnds}
 use Rattle.mlk_routine.specs.CommandGrammar.{IsVariable, AreEnclosed, IsKill, IsMerge, IsNew}

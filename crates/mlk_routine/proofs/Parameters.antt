@@ -3,9 +3,9 @@ use Rattle.std.proofs.Common.{◌≡◌, ◌≤◌, ◌+◌, ℕ, suc, List, [],
 use Rattle.std.specs.Prelude.{Option}
 use Rattle.mlk_expr.specs.declared.scope.Allows.TheVariants.{Everything}
 use Rattle.mlk_expr.specs.Lexemes.{ends}
-use Rattle.mlk_expr.specs.Trees.{Tree}
+use Rattle.mlk_tree.specs.ExprTrees.{Tree}
 use Rattle.mlk_expr.specs.Theorem.{Stands, ExprEnds}
-use Rattle.mlk_routine.specs.Trees.{ParameterTree, Once, Endless, Limited}
+use Rattle.mlk_tree.specs.Trees.{ParameterTree, Once, Endless, Limited}
 use Rattle.mlk_routine.specs.Told.{Found, byte_at}
 use Rattle.mlk_routine.specs.Ends.{Lacks, AfterEnds, ParameterEnds}
 use Rattle.mlk_routine.specs.CommandGrammar.{Both, IsValue, IsAfter, IsParameter}

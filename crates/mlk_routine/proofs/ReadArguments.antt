@@ -3,10 +3,10 @@ use Rattle.std.proofs.Common.{◌≡◌, ◌+◌, ℕ, suc, List, [], ◌∷◌,
 use Rattle.std.specs.Prelude.{Option}
 use Rattle.std.proofs.lemmas.Option.{same_Some}
 use Rattle.mlk_expr.specs.declared.scope.Allows.TheVariants.{Everything, NoCalls}
-use Rattle.mlk_expr.specs.Trees.{Tree}
+use Rattle.mlk_tree.specs.ExprTrees.{Tree}
 use Rattle.mlk_expr.specs.Lexemes.{starts_reference}
 use Rattle.mlk_expr.specs.Grammar.{Spelled}
-use Rattle.mlk_routine.specs.Trees.{VariableTree, ReadTree, ReadText, ReadFormat, ReadLine, ReadCharacter}
+use Rattle.mlk_tree.specs.Trees.{VariableTree, ReadTree, ReadText, ReadFormat, ReadLine, ReadCharacter}
 use Rattle.mlk_routine.specs.Told.{first_of, byte_at}
 use Rattle.mlk_routine.specs.Ends.{AfterEnds, VariableEnds, IsPrompt, PromptEnds, starts_format, FormatEnds, TimedEnds, MostEnds, ReadEnds}
 use Rattle.mlk_routine.specs.CommandGrammar.{Both, IsAfter, IsFormat, IsLocal, IsRead}

@@ -8,7 +8,7 @@ use Rattle.mlk_expr.specs.declared.scope.Allows.{Allows}
 use Rattle.mlk_expr.specs.declared.scope.Allows.TheVariants.{Everything, NoCalls, NoTouches}
 use Rattle.mlk_expr.specs.declared.scope.Passing.{Passing}
 use Rattle.mlk_expr.specs.declared.scope.Passing.TheVariants.{ByReference, ByValue}
-use Rattle.mlk_expr.specs.Trees.{Tree, ActualTree}
+use Rattle.mlk_tree.specs.ExprTrees.{Tree, ActualTree}
 use Rattle.mlk_expr.specs.Reading.{expr_at, reference_at, actual_list_at, callee_at}
 use Rattle.mlk_expr.specs.Grammar.{Spelled, IsExpr, IsReference, IsActualList, IsExprWhere, IsReferenceWhere, IsActualListWhere, IsNameText, IsLabelText, IsCalleeText, IsList, AreNext}
 use Rattle.mlk_expr.specs.Theorem.{Stands, ExprEnds, ReferenceEnds, ListEnds, LabelEnds, CalleeEnds}
@@ -18,9 +18,9 @@ use Rattle.mlk_expr.proofs.Places.{whole-exact}
 use Rattle.mlk_expr.proofs.Arguments.{CalleeIs, callee-exact}
 use Rattle.mlk_expr.proofs.Labels.{Names, names-exact, same-name, Labels, labels-exact, same-label, same-callee}
 use Rattle.mlk_expr.proofs.Joined.{same-expr, same-reference, same-list, one-of}
-use Rattle.mlk_routine.specs.declared.tree.Sign.{Sign}
-use Rattle.mlk_routine.specs.declared.tree.Sign.TheVariants as sign
-use Rattle.mlk_routine.specs.Trees.{VariableTree, Named, CallTree, DoTree, DoCall, KillTree, KillOne, KillAllBut, NewTree, NewOne, NewAllBut}
+use Rattle.mlk_tree.specs.declared.command.Sign.{Sign}
+use Rattle.mlk_tree.specs.declared.command.Sign.TheVariants as sign
+use Rattle.mlk_tree.specs.Trees.{VariableTree, Named, CallTree, DoTree, DoCall, KillTree, KillOne, KillAllBut, NewTree, NewOne, NewAllBut}
 use Rattle.mlk_routine.specs.Told.{first_of, byte_at}
 use Rattle.mlk_routine.specs.Ends.{is_stop, AfterEnds, VariableEnds, MoreEnds, AreEnded, GivenEnds, CalledEnds, CallEnds, DoEnds, JobEnds, AnyEnds, KillEnds, NewEnds, MergeEnds, Begins, OneEnds, IsSign, SignEnds, TimeoutEnds, LockEnds, IsRun, RunEnds}
 use Rattle.mlk_routine.specs.Stops.{name_stop, variable_stop}

@@ -6,12 +6,12 @@ use Rattle.std.proofs.lemmas.List.{append_cancel_right}
 use Rattle.std.proofs.lemmas.Option.{same_Some}
 use Rattle.mlk_text.specs.Lexemes.{is_letter, word_at}
 use Rattle.mlk_expr.specs.declared.scope.Allows.TheVariants.{Everything}
-use Rattle.mlk_expr.specs.Trees.{Tree}
+use Rattle.mlk_tree.specs.ExprTrees.{Tree}
 use Rattle.mlk_expr.specs.Grammar.{Spelled, IsList}
 use Rattle.mlk_expr.specs.Theorem.{ExprEnds}
 use Rattle.mlk_routine.specs.declared.word.Word.{Word}
 use Rattle.mlk_routine.specs.declared.word.Word.TheVariants as word
-use Rattle.mlk_routine.specs.Trees.{Quit, finished}
+use Rattle.mlk_tree.specs.Trees.{Quit, finished}
 use Rattle.mlk_routine.specs.Ends.{is_stop, AreEnded, DoEnds, JobEnds, KillEnds, NewEnds, MergeEnds, LockEnds, ReadEnds, WriteEnds, SetEnds, starts, is_bare_end, is_commands_end, StopEnds, CommandEnd, CommandsEnd}
 use Rattle.mlk_routine.specs.Stops.{expr_stop, do_stop, job_stop, kill_stop, merge_stop, new_stop, lock_stop, read_stop, write_stop, set_stop}
 use Rattle.mlk_routine.specs.Begins.{expr_begins, do_begins, job_begins, kill_begins, merge_begins, new_begins, lock_begins, read_begins, write_begins, set_begins}

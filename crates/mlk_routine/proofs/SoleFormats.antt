@@ -6,10 +6,10 @@ use Rattle.std.proofs.lemmas.Option.{same_Some}
 use Rattle.mlk_text.specs.Lexemes.{word_at}
 use Rattle.mlk_text.proofs.Readers.{pair_parts}
 use Rattle.mlk_expr.specs.declared.scope.Allows.TheVariants.{Everything, NoCalls}
-use Rattle.mlk_expr.specs.Trees.{Tree}
+use Rattle.mlk_tree.specs.ExprTrees.{Tree}
 use Rattle.mlk_expr.specs.Grammar.{IsExprWhere, AreNext}
 use Rattle.mlk_expr.specs.Theorem.{ExprEnds}
-use Rattle.mlk_routine.specs.Trees.{VariableTree, TargetTree, SetWhole, SetPart}
+use Rattle.mlk_tree.specs.Trees.{VariableTree, TargetTree, SetWhole, SetPart}
 use Rattle.mlk_routine.specs.Told.{first_of, byte_at}
 use Rattle.mlk_routine.specs.Ends.{VariableEnds, AfterEnds, AnyEnds, IsPrompt, PromptEnds, starts_format, FormatEnds, WriteEnds, ReadEnds, NextEnds, part_of, IsPartOpening, TargetEnds, SetEnds, ParameterEnds, ControlEnds}
 use Rattle.mlk_routine.specs.Stops.{expr_stop, target_stop, parameter_stop}

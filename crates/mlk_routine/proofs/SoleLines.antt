@@ -6,7 +6,7 @@ use Rattle.std.proofs.lemmas.Bool.{cases_Bool}
 use Rattle.std.proofs.lemmas.Bool.Decides.{nat_tests}
 use Rattle.mlk_expr.specs.Grammar.{IsNameText, IsList, AreNext}
 use Rattle.mlk_routine.specs.declared.front.Front.{Front}
-use Rattle.mlk_routine.specs.Trees.{HeadTree, RoutineTree, Named_routine}
+use Rattle.mlk_tree.specs.Trees.{HeadTree, RoutineTree, Named_routine}
 use Rattle.mlk_routine.specs.Told.{Found, first_of, byte_at}
 use Rattle.mlk_routine.specs.Ends.{AnyEnds, RunEnds, IsRun, starts, is_commands_end}
 use Rattle.mlk_routine.specs.CommandGrammar.{AreEnclosed}

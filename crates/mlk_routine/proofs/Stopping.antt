@@ -15,7 +15,7 @@ use Rattle.mlk_routine.specs.Begins.{front_begins, joined_begins}
 use Rattle.mlk_routine.specs.CommandWords.{has_any}
 use Rattle.mlk_routine.specs.CommandGrammar.{IsValue, AreSome, ArePerhaps}
 use Rattle.mlk_routine.specs.Stops.{expr_stop}
-use Rattle.mlk_expr.specs.Trees.{Tree}
+use Rattle.mlk_tree.specs.ExprTrees.{Tree}
 use Rattle.mlk_routine.proofs.Bytes.{AfterByte, byte_there, drop_next}
 
 -- A thing of which more is asked of what stands after it.

@@ -9,12 +9,12 @@ use Rattle.mlk_text.specs.Lexemes.{is_letter, word_at}
 use Rattle.mlk_text.specs.Spellings.{IsWord}
 use Rattle.mlk_text.proofs.Spelled.{word-reads, word-spelled}
 use Rattle.mlk_expr.specs.declared.scope.Allows.TheVariants.{Everything, NoCalls}
-use Rattle.mlk_expr.specs.Trees.{Tree}
+use Rattle.mlk_tree.specs.ExprTrees.{Tree}
 use Rattle.mlk_expr.specs.Grammar.{IsExprWhere, AreNext, IsList}
 use Rattle.mlk_expr.specs.Theorem.{Stands, ExprEnds}
-use Rattle.mlk_routine.specs.declared.tree.Part.{Part}
-use Rattle.mlk_routine.specs.declared.tree.Part.TheVariants as part
-use Rattle.mlk_routine.specs.Trees.{VariableTree, TargetTree, SetWhole, SetPart, SetTree, SetTo}
+use Rattle.mlk_tree.specs.declared.command.Part.{Part}
+use Rattle.mlk_tree.specs.declared.command.Part.TheVariants as part
+use Rattle.mlk_tree.specs.Trees.{VariableTree, TargetTree, SetWhole, SetPart, SetTree, SetTo}
 use Rattle.mlk_routine.specs.Told.{Found, Nowhere, first_of, byte_at}
 use Rattle.mlk_routine.specs.Ends.{Lacks, MoreEnds, AreEnded, AnyEnds, VariableEnds, Begins, SingleEnds, OneEnds, NextEnds, part_of, IsPartOpening, TargetEnds, SetEnds}
 use Rattle.mlk_routine.specs.Stops.{expr_stop}

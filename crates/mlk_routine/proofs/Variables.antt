@@ -7,7 +7,7 @@ use Rattle.mlk_expr.specs.declared.scope.Allows.{Allows}
 use Rattle.mlk_expr.specs.Lexemes.{starts_reference}
 use Rattle.mlk_expr.specs.Grammar.{IsReference, has_subscript}
 use Rattle.mlk_expr.specs.Theorem.{goes_on}
-use Rattle.mlk_routine.specs.Trees.{VariableTree, Named}
+use Rattle.mlk_tree.specs.Trees.{VariableTree, Named}
 use Rattle.mlk_routine.specs.Told.{Nowhere, first_of}
 use Rattle.mlk_routine.specs.Ends.{VariableEnds, Begins}
 use Rattle.mlk_routine.specs.CommandGrammar.{IsVariable}

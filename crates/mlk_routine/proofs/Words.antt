@@ -14,7 +14,7 @@ use Rattle.mlk_text.proofs.Spelled.{word-reads}
 use Rattle.mlk_expr.specs.Words.{is_either}
 use Rattle.mlk_routine.specs.declared.word.Word.{Word}
 use Rattle.mlk_routine.specs.declared.word.Word.TheVariants as word
-use Rattle.mlk_routine.specs.Trees.{ActionTree, Do, Else, Halt, Hang, If, Job, Kill, Lock, Merge, New, Quit, Read, Set, Write}
+use Rattle.mlk_tree.specs.Trees.{ActionTree, Do, Else, Halt, Hang, If, Job, Kill, Lock, Merge, New, Quit, Read, Set, Write}
 use Rattle.mlk_routine.specs.Told.{Found, Nowhere}
 use Rattle.mlk_routine.specs.CommandWords.{is_word_of, is_for}
 use Rattle.mlk_routine.specs.Kinds.{kind, halts_or_hangs, Means, is_written, first_word, all_words, word_of, IsNamed, WordEnds}

@@ -10,18 +10,18 @@ use Rattle.mlk_expr.specs.declared.scope.Allows.{Allows}
 use Rattle.mlk_expr.specs.declared.scope.Allows.TheVariants.{Everything, NoCalls, NoTouches}
 use Rattle.mlk_expr.specs.declared.scope.Passing.{Passing}
 use Rattle.mlk_expr.specs.declared.scope.Passing.TheVariants.{ByReference, ByValue}
-use Rattle.mlk_expr.specs.Trees.{Tree}
+use Rattle.mlk_tree.specs.ExprTrees.{Tree}
 use Rattle.mlk_expr.specs.Lexemes.{starts_reference}
 use Rattle.mlk_expr.specs.Grammar.{Spelled, IsExpr, IsReference, IsExprWhere, IsNameText, IsCallee}
 use Rattle.mlk_expr.proofs.JoinedOperands.{nested-opens}
 use Rattle.mlk_expr.proofs.JoinedParts.{opens}
-use Rattle.mlk_routine.specs.Trees.{VariableTree, Named, CallTree, Called, DoTree, DoCall, KillTree, KillOne}
-use Rattle.mlk_routine.specs.Trees.{KillAllBut, NewTree, NewOne, NewAllBut, MergeTree, MergeInto}
-use Rattle.mlk_routine.specs.Trees.{ParameterTree, Once, Endless, Limited, ControlTree, Runs, LockTree, LockNames}
-use Rattle.mlk_routine.specs.Trees.{ReadTree, ReadText, ReadFormat, ReadLine, ReadCharacter, WriteTree, WriteValue}
-use Rattle.mlk_routine.specs.Trees.{WriteCharacter, WriteFormat, TargetTree, SetWhole, SetPart, SetTree, SetTo}
-use Rattle.mlk_routine.specs.declared.tree.Sign.{Sign}
-use Rattle.mlk_routine.specs.declared.tree.Sign.TheVariants as sign
+use Rattle.mlk_tree.specs.Trees.{VariableTree, Named, CallTree, Called, DoTree, DoCall, KillTree, KillOne}
+use Rattle.mlk_tree.specs.Trees.{KillAllBut, NewTree, NewOne, NewAllBut, MergeTree, MergeInto}
+use Rattle.mlk_tree.specs.Trees.{ParameterTree, Once, Endless, Limited, ControlTree, Runs, LockTree, LockNames}
+use Rattle.mlk_tree.specs.Trees.{ReadTree, ReadText, ReadFormat, ReadLine, ReadCharacter, WriteTree, WriteValue}
+use Rattle.mlk_tree.specs.Trees.{WriteCharacter, WriteFormat, TargetTree, SetWhole, SetPart, SetTree, SetTo}
+use Rattle.mlk_tree.specs.declared.command.Sign.{Sign}
+use Rattle.mlk_tree.specs.declared.command.Sign.TheVariants as sign
 use Rattle.mlk_routine.specs.Ends.{is_stop}
 use Rattle.mlk_routine.specs.CommandGrammar.{IsVariable, IsCall, IsDo, IsJob, IsKill, IsNew, IsMerge, IsParameter}
 use Rattle.mlk_routine.specs.CommandGrammar.{IsControl, before_condition, IsOneOrEnclosed, sign_text, in_names, IsLock}

@@ -3,8 +3,8 @@
 -- commands of events, and all words that begin with Z.
 use Rattle.std.specs.Prelude.{ℕ, Bool, true, false, List, [], ◌∷◌, None, codes}
 use Rattle.mlk_expr.specs.Words.{is_either}
-use Rattle.mlk_routine.specs.Trees.{ActionTree, Do, Else, Halt, Hang, If, Job, Kill, Lock, Merge, New, Quit, Read, Set}
-use Rattle.mlk_routine.specs.Trees.{Write, CommandTrees, finished, then_command, then_for, Does}
+use Rattle.mlk_tree.specs.Trees.{ActionTree, Do, Else, Halt, Hang, If, Job, Kill, Lock, Merge, New, Quit, Read, Set}
+use Rattle.mlk_tree.specs.Trees.{Write, CommandTrees, finished, then_command, then_for, Does}
 
 -- Each command's word, short or whole, in either case. Standard: commands.
 unfoldable pub is_word_of : ActionTree → List ℕ → Bool

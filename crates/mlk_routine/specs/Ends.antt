@@ -2,22 +2,22 @@
 use Rattle.std.specs.Prelude.{ℕ, ◌≡◌, ◌≢◌, ◌⊎◌, ◌==◌, ◌||◌, Bool, true, false, List, [], ◌∷◌, Option}
 use Rattle.std.specs.Prelude.{Some, None, if◌then◌else◌, ◌++◌}
 use Rattle.std.specs.List.{list_all}
-use Rattle.mlk_expr.specs.Trees.{Tree, ActualTree}
+use Rattle.mlk_tree.specs.ExprTrees.{Tree, ActualTree}
 use Rattle.mlk_expr.specs.Spellings.{IsQuoted}
-use Rattle.mlk_expr.specs.declared.tree.Callee.{Callee}
+use Rattle.mlk_tree.specs.declared.expr.Callee.{Callee}
 use Rattle.mlk_expr.specs.Theorem.{ExprEnds, ReferenceEnds, CalleeEnds, LabelEnds}
 use Rattle.mlk_routine.specs.Told.{first_of}
-use Rattle.mlk_routine.specs.Trees.{VariableTree, Named, CallTree, Called, DoTree, DoCall, KillTree, KillOne}
-use Rattle.mlk_routine.specs.Trees.{KillAllBut, MergeTree, MergeInto, ParameterTree, Once, Endless, Limited}
-use Rattle.mlk_routine.specs.Trees.{ControlTree, Runs, NewTree, NewOne, NewAllBut, CommandTree, Does, CommandTrees}
+use Rattle.mlk_tree.specs.Trees.{VariableTree, Named, CallTree, Called, DoTree, DoCall, KillTree, KillOne}
+use Rattle.mlk_tree.specs.Trees.{KillAllBut, MergeTree, MergeInto, ParameterTree, Once, Endless, Limited}
+use Rattle.mlk_tree.specs.Trees.{ControlTree, Runs, NewTree, NewOne, NewAllBut, CommandTree, Does, CommandTrees}
 use Rattle.mlk_routine.specs.CommandWords.{has_arguments}
-use Rattle.mlk_routine.specs.Trees.{LockTree, LockNames}
-use Rattle.mlk_routine.specs.Trees.{ReadTree, ReadText, ReadFormat, ReadLine, ReadCharacter, WriteTree, WriteValue}
-use Rattle.mlk_routine.specs.Trees.{WriteCharacter, WriteFormat, TargetTree, SetWhole, SetPart, SetTree, SetTo}
-use Rattle.mlk_routine.specs.declared.tree.Sign.{Sign}
-use Rattle.mlk_routine.specs.declared.tree.Sign.TheVariants as sign
-use Rattle.mlk_routine.specs.declared.tree.Part.{Part}
-use Rattle.mlk_routine.specs.declared.tree.Part.TheVariants as part
+use Rattle.mlk_tree.specs.Trees.{LockTree, LockNames}
+use Rattle.mlk_tree.specs.Trees.{ReadTree, ReadText, ReadFormat, ReadLine, ReadCharacter, WriteTree, WriteValue}
+use Rattle.mlk_tree.specs.Trees.{WriteCharacter, WriteFormat, TargetTree, SetWhole, SetPart, SetTree, SetTo}
+use Rattle.mlk_tree.specs.declared.command.Sign.{Sign}
+use Rattle.mlk_tree.specs.declared.command.Sign.TheVariants as sign
+use Rattle.mlk_tree.specs.declared.command.Part.{Part}
+use Rattle.mlk_tree.specs.declared.command.Part.TheVariants as part
 use Rattle.mlk_routine.specs.CommandGrammar.{sign_text, is_mark, is_part_word}
 
 -- What an argument may stand before: the line's end, a space, a comma, a closing parenthesis, a comment's semicolon.

@@ -1,5 +1,3 @@
-pub mod Trees
-pub mod Views
 pub mod CommandWords
 pub mod CommandGrammar
 pub mod RoutineGrammar

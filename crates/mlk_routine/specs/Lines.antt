@@ -10,14 +10,15 @@ use Rattle.mlk_expr.specs.Theorem.{LabelEnds}
 use Rattle.mlk_routine.specs.Ends.{Lacks, starts, is_commands_end}
 use Rattle.mlk_routine.specs.RoutineGrammar.{IsFormals, is_blank, ArePeriods, IsStart}
 use Rattle.mlk_routine.specs.RoutineGrammar.{IsComment, IsLine, level_of, reaches, is_line_byte}
-use Rattle.mlk_routine.specs.RoutineGrammar.{AreLines, AreDistinct, labels_of, AreNested, heads_of, percent}
+use Rattle.mlk_routine.specs.RoutineGrammar.{AreLines, labels_of, AreNested, heads_of, percent}
+use Rattle.mlk_tree.specs.Distinct.{AreDistinct}
 use Rattle.mlk_text.specs.Spellings.{IsName}
 use Rattle.mlk_routine.specs.CommandGrammar.{Both, AreCommands}
-use Rattle.mlk_routine.specs.Trees.{CommandTree, Does, Do, CommandTrees}
-use Rattle.mlk_routine.specs.Trees.{finished, HeadTree, LineHead, LineTrees}
+use Rattle.mlk_tree.specs.Trees.{CommandTree, Does, Do, CommandTrees}
+use Rattle.mlk_tree.specs.Trees.{finished, HeadTree, LineHead, LineTrees}
 use Rattle.mlk_routine.specs.declared.line.Before.{Before}
-use Rattle.mlk_routine.specs.declared.routine.Line.{Line}
-use Rattle.mlk_routine.specs.Views.{line_of}
+use Rattle.mlk_tree.specs.declared.routine.Line.{Line}
+use Rattle.mlk_tree.specs.Views.{line_of}
 use Rattle.mlk_routine.specs.declared.front.Front.{Front}
 use Rattle.mlk_routine.specs.Told.{Found, Denied}
 use Rattle.mlk_text.specs.Codes.{number_of}

@@ -5,15 +5,11 @@ use Rattle.std.specs.List.{list_all}
 use Rattle.mlk_text.specs.Lexemes.{is_text}
 use Rattle.mlk_text.specs.Spellings.{IsName, IsLabel}
 use Rattle.mlk_expr.specs.Grammar.{IsList, IsEnclosed, IsNameText}
-use Rattle.mlk_routine.specs.Trees.{CommandTrees, finished, HeadTree, LineHead, LineTrees, no_lines, line}
-use Rattle.mlk_routine.specs.Trees.{RoutineTree, Named_routine}
+use Rattle.mlk_tree.specs.Distinct.{AreDistinct}
+use Rattle.mlk_tree.specs.Trees.{CommandTrees, finished, HeadTree, LineHead, LineTrees, no_lines, line}
+use Rattle.mlk_tree.specs.Trees.{RoutineTree, Named_routine}
 use Rattle.mlk_routine.specs.CommandWords.{reaches_block}
 use Rattle.mlk_routine.specs.CommandGrammar.{AreCommands}
-
--- No two are the same.
-abbrev pub AreDistinct : List (List ℕ) → Type 0
-AreDistinct [] = Unit {0}
-AreDistinct (n ∷ names) = (Contains names n → ⊥) × AreDistinct names
 
 -- A formal list: names in parentheses, with commas between them, no two the same; `()` has none. Standard: formallist.
 abbrev pub IsFormals : List (List ℕ) → List ℕ → Type 0

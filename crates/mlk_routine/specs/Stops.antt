@@ -5,15 +5,15 @@ use Rattle.std.proofs.Common.{arith, sym, subst, inl, inr}
 use Rattle.std.proofs.lemmas.Bool.{or_cases, eqb-true}
 use Rattle.std.proofs.lemmas.Option.{same_Some}
 use Rattle.mlk_text.specs.Lexemes.{is_digit}
-use Rattle.mlk_expr.specs.Trees.{Tree}
+use Rattle.mlk_tree.specs.ExprTrees.{Tree}
 use Rattle.mlk_expr.specs.Lexemes.{ends}
 use Rattle.mlk_expr.specs.Grammar.{has_subscript}
 use Rattle.mlk_expr.specs.Theorem.{ExprEnds, LabelEnds, callee_ends}
-use Rattle.mlk_routine.specs.Trees.{VariableTree, Named, CallTree, Called, DoTree, DoCall, KillTree, KillOne}
-use Rattle.mlk_routine.specs.Trees.{KillAllBut, NewTree, NewOne, NewAllBut, MergeTree, MergeInto}
-use Rattle.mlk_routine.specs.Trees.{ParameterTree, Once, Endless, Limited, LockTree, LockNames}
-use Rattle.mlk_routine.specs.Trees.{ReadTree, ReadText, ReadFormat, ReadLine, ReadCharacter, WriteTree, WriteValue}
-use Rattle.mlk_routine.specs.Trees.{WriteCharacter, WriteFormat, TargetTree, SetWhole, SetPart, SetTree, SetTo}
+use Rattle.mlk_tree.specs.Trees.{VariableTree, Named, CallTree, Called, DoTree, DoCall, KillTree, KillOne}
+use Rattle.mlk_tree.specs.Trees.{KillAllBut, NewTree, NewOne, NewAllBut, MergeTree, MergeInto}
+use Rattle.mlk_tree.specs.Trees.{ParameterTree, Once, Endless, Limited, LockTree, LockNames}
+use Rattle.mlk_tree.specs.Trees.{ReadTree, ReadText, ReadFormat, ReadLine, ReadCharacter, WriteTree, WriteValue}
+use Rattle.mlk_tree.specs.Trees.{WriteCharacter, WriteFormat, TargetTree, SetWhole, SetPart, SetTree, SetTo}
 use Rattle.mlk_routine.specs.Ends.{is_stop, Lacks, VariableEnds, CallEnds, DoEnds, JobEnds}
 use Rattle.mlk_routine.specs.Ends.{KillEnds, MergeEnds, NewEnds, ParameterEnds, LockEnds}
 use Rattle.mlk_routine.specs.Ends.{FormatEnds, MostEnds, ReadEnds, WriteEnds, TargetEnds, SetEnds}

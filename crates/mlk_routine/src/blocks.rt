@@ -2,10 +2,10 @@
 
 ghost use Rattle.std.specs.Prelude.{◌≡◌, ◌<◌, ◌∷◌, suc, map, IfOk, MatchOption};
 ghost use Rattle.mlk_routine.specs.RoutineGrammar.{level_of};
-ghost use Rattle.mlk_routine.specs.Views.{line_of, lines_from};
+ghost use Rattle.mlk_tree.specs.Views.{line_of, lines_from};
 ghost use Rattle.mlk_routine.specs.Lines.{head_of, Upto, IsBlock, IsNotDeeper};
 
-use crate::routine::Line;
+use mlk_tree::Line;
 use std::alloc::{AllocError, Global};
 use std::collections::VecDeque;
 

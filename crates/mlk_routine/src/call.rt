@@ -1,21 +1,21 @@
 // Calls, as DO and JOB have them.
 
 ghost use Rattle.std.specs.Prelude.{◌≡◌, ◌≤◌, length, option_map, Some, true, false};
-ghost use Rattle.mlk_expr.specs.Trees.{actual_trees};
+ghost use Rattle.mlk_tree.specs.ExprTrees.{actual_trees};
 ghost use Rattle.mlk_expr.specs.Grammar.{IsCalleeText};
 ghost use Rattle.mlk_expr.specs.Theorem.{CalleeEnds};
 ghost use Rattle.mlk_expr.specs.declared.scope.Allows.TheVariants.{Everything, NoTouches};
 ghost use Rattle.mlk_expr.specs.declared.scope.Passing.TheVariants.{ByReference};
 ghost use Rattle.mlk_routine.specs.Told.{Found, Told, byte_at};
 ghost use Rattle.mlk_routine.specs.Ends.{GivenEnds, CalledEnds, CallEnds, DoEnds, JobEnds};
-ghost use Rattle.mlk_routine.specs.Views.{call_of, do_of};
+ghost use Rattle.mlk_tree.specs.Views.{call_of, do_of};
 ghost use Rattle.mlk_routine.specs.CommandGrammar.{IsGiven, IsCall, IsDo, IsJob};
 
 use crate::fault::{leaves_out, other_form, refused};
 use crate::part::{expression, has};
-use crate::tree::{Call, DoArgument};
-use mlk_expr::{Actual, Allows, Callee, Passing, read_actuals_where, read_callee};
+use mlk_expr::{Allows, Passing, read_actuals_where, read_callee};
 use mlk_text::{Code, Column, Failure, Fault, LeftOut};
+use mlk_tree::{Actual, Call, Callee, DoArgument};
 use std::alloc::Global;
 
 // The label and the routine here, and the byte after them.

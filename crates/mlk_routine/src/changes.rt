@@ -3,16 +3,16 @@
 ghost use Rattle.std.specs.Prelude.{◌≡◌, ◌≤◌, length, Some, true, false};
 ghost use Rattle.mlk_routine.specs.Told.{Told, byte_at};
 ghost use Rattle.mlk_routine.specs.Ends.{KillEnds, MergeEnds, NewEnds};
-ghost use Rattle.mlk_routine.specs.Views.{kill_of, merge_of, new_of};
+ghost use Rattle.mlk_tree.specs.Views.{kill_of, merge_of, new_of};
 ghost use Rattle.mlk_routine.specs.CommandGrammar.{IsKill, IsMerge, IsNew};
 
 use crate::fault::{leaves_out, refused};
 use crate::item::enclosed;
 use crate::part::{has, name, variable};
-use crate::tree::{KillArgument, MergeArgument, NewArgument};
 use mlk_expr::Allows;
 use mlk_text::lexeme::word_at;
 use mlk_text::{Code, Column, Failure, Fault, LeftOut, List};
+use mlk_tree::{KillArgument, MergeArgument, NewArgument};
 use std::alloc::Global;
 
 /// The argument of KILL here, and the byte after it.

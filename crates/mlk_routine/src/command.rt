@@ -1,22 +1,22 @@
 // Commands but FOR: postconditionals and arguments.
 
 ghost use Rattle.std.specs.Prelude.{◌≡◌, ◌≤◌, ℕ, List, IfOk, length, option_map, true};
-ghost use Rattle.mlk_expr.specs.Trees.{tree_of, trees};
+ghost use Rattle.mlk_tree.specs.ExprTrees.{tree_of, trees};
 ghost use Rattle.mlk_routine.specs.Told.{Told};
 ghost use Rattle.mlk_routine.specs.Faults.{IsFaulty};
 ghost use Rattle.mlk_routine.specs.Ends.{StopEnds, CommandEnd};
-ghost use Rattle.mlk_routine.specs.Views.{action_of, command_of};
+ghost use Rattle.mlk_tree.specs.Views.{action_of, command_of};
 ghost use Rattle.mlk_routine.specs.CommandGrammar.{After, IsValue, IsQuit, IsCommand};
 ghost use Rattle.mlk_routine.specs.Kinds.{IsConditionOf, ConditionEnds, IsActionOf, ActionEnds, IsNothing, halting};
-ghost use Rattle.mlk_routine.specs.Trees.{Quit};
+ghost use Rattle.mlk_tree.specs.Trees.{Quit};
 
 use crate::fault::{leaves_out, refused};
 use crate::part::{after, expression, has};
 use crate::spacing::{first_argument, is_bare, is_command_end, perhaps, some};
-use crate::tree::{Action, Command};
 use crate::word::{Word, command_word};
-use mlk_expr::{Allows, Expr};
+use mlk_expr::Allows;
 use mlk_text::{Code, Column, Failure, Fault, LeftOut};
+use mlk_tree::{Action, Command, Expr};
 use std::alloc::{AllocError, Global};
 
 /// The postconditional here, where the word may have one, and the byte after it.

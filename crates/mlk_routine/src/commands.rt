@@ -6,8 +6,8 @@ ghost use Rattle.mlk_routine.specs.Told.{Told};
 ghost use Rattle.mlk_routine.specs.CommandWords.{is_for};
 ghost use Rattle.mlk_routine.specs.CommandGrammar.{AreCommands};
 ghost use Rattle.mlk_routine.specs.Ends.{StopEnds, CommandsEnd};
-ghost use Rattle.mlk_routine.specs.Views.{command_of, control_of, commands_of, commands_from};
-ghost use Rattle.mlk_routine.specs.Trees.{then_for};
+ghost use Rattle.mlk_tree.specs.Views.{command_of, control_of, commands_of, commands_from};
+ghost use Rattle.mlk_tree.specs.Trees.{then_for};
 ghost use Rattle.mlk_routine.specs.Leading.{Leads, IsPerhapsControl, IsLoop, LoopEnds};
 
 use crate::command::command;
@@ -15,10 +15,10 @@ use crate::fault::refused;
 use crate::parameter::control;
 use crate::run::past_spaces;
 use crate::spacing::{first_argument, is_bare, is_command_end, is_commands_end};
-use crate::tree::{Command, Commands, Control, For};
 use crate::word::is_for;
 use mlk_text::lexeme::word_at;
 use mlk_text::{Code, Column, Failure, Fault, push_sparing};
+use mlk_tree::{Command, Commands, Control, For};
 use std::alloc::{AllocError, Global};
 
 const MOST_LOOPS: usize = 255;

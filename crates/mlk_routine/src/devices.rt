@@ -1,20 +1,20 @@
 // The arguments of READ and WRITE.
 
 ghost use Rattle.std.specs.Prelude.{◌≡◌, ◌≤◌, length, drop, option_map, Some, true};
-ghost use Rattle.mlk_expr.specs.Trees.{tree_of};
+ghost use Rattle.mlk_tree.specs.ExprTrees.{tree_of};
 ghost use Rattle.mlk_routine.specs.Told.{Told, byte_at};
 ghost use Rattle.mlk_routine.specs.Ends.{starts_format, IsPrompt, PromptEnds, FormatEnds, VariableEnds};
 ghost use Rattle.mlk_routine.specs.Ends.{ReadEnds, WriteEnds};
-ghost use Rattle.mlk_routine.specs.Views.{variable_of, read_of, write_of};
+ghost use Rattle.mlk_tree.specs.Views.{variable_of, read_of, write_of};
 ghost use Rattle.mlk_routine.specs.CommandGrammar.{IsFormat, IsLocal, IsRead, IsWrite};
 
 use crate::fault::{leaves_out, refused};
 use crate::part::{after, expression, has, variable};
 use crate::run::{past_marks, text_bytes};
-use crate::tree::{ReadArgument, Variable, WriteArgument};
-use mlk_expr::{Allows, Expr};
+use mlk_expr::Allows;
 use mlk_text::literal::quoted;
 use mlk_text::{Code, Failure, Fault, LeftOut, Value};
+use mlk_tree::{Expr, ReadArgument, Variable, WriteArgument};
 use std::alloc::Global;
 
 /// The text in quotes here, at the first of them, and the byte after it.

@@ -7,14 +7,15 @@ ghost use Rattle.mlk_routine.specs.Begins.{expr_begins, name_begins};
 ghost use Rattle.mlk_routine.specs.Ends.{AreEnded, AnyEnds, Begins, OneEnds};
 ghost use Rattle.mlk_routine.specs.CommandGrammar.{AreEnclosed, IsOneOrEnclosed};
 ghost use Rattle.mlk_expr.specs.Grammar.{IsList, IsExprWhere, IsNameText};
-ghost use Rattle.mlk_expr.specs.Trees.{Tree, tree_of};
+ghost use Rattle.mlk_tree.specs.ExprTrees.{Tree, tree_of};
 ghost use Rattle.mlk_expr.specs.Theorem.{ExprEnds, LabelEnds};
 ghost use Rattle.mlk_expr.specs.declared.scope.Allows.TheVariants.{Everything};
 
 use crate::fault::refused;
 use crate::part::{expression, has, name};
-use mlk_expr::{Allows, Expr};
+use mlk_expr::Allows;
 use mlk_text::{Code, Failure, Fault, Name, push_sparing};
+use mlk_tree::Expr;
 use std::alloc::Global;
 
 /// What stands between the commas of a list.

@@ -1,9 +1,9 @@
 // The arguments that stand in lists.
 
-ghost use Rattle.mlk_routine.specs.Trees.{VariableTree, DoTree, CallTree, KillTree, NewTree, MergeTree, ParameterTree};
-ghost use Rattle.mlk_routine.specs.Trees.{LockTree, ReadTree, WriteTree, TargetTree, SetTree};
-ghost use Rattle.mlk_routine.specs.Views.{variable_of, do_of, call_of, kill_of, new_of, merge_of, parameter_of};
-ghost use Rattle.mlk_routine.specs.Views.{lock_of, read_of, write_of, target_of, set_of};
+ghost use Rattle.mlk_tree.specs.Trees.{VariableTree, DoTree, CallTree, KillTree, NewTree, MergeTree, ParameterTree};
+ghost use Rattle.mlk_tree.specs.Trees.{LockTree, ReadTree, WriteTree, TargetTree, SetTree};
+ghost use Rattle.mlk_tree.specs.Views.{variable_of, do_of, call_of, kill_of, new_of, merge_of, parameter_of};
+ghost use Rattle.mlk_tree.specs.Views.{lock_of, read_of, write_of, target_of, set_of};
 ghost use Rattle.mlk_routine.specs.Ends.{VariableEnds, DoEnds, JobEnds, KillEnds, NewEnds, MergeEnds, ParameterEnds};
 ghost use Rattle.mlk_routine.specs.Ends.{LockEnds, ReadEnds, WriteEnds, TargetEnds, SetEnds};
 ghost use Rattle.mlk_routine.specs.CommandGrammar.{IsVariable, IsDo, IsJob, IsKill, IsNew, IsMerge, IsParameter};
@@ -23,12 +23,12 @@ use crate::lock::lock;
 use crate::parameter::parameter;
 use crate::part::variable;
 use crate::set::{set, target};
-use crate::tree::{
+use mlk_expr::Allows;
+use mlk_text::{Failure, Fault};
+use mlk_tree::{
     Call, DoArgument, KillArgument, LockArgument, MergeArgument, NewArgument, Parameter,
     ReadArgument, SetArgument, Target, Variable, WriteArgument,
 };
-use mlk_expr::Allows;
-use mlk_text::{Failure, Fault};
 use std::alloc::Global;
 
 impl Item for DoArgument {

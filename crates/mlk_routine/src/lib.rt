@@ -21,7 +21,6 @@ mod parameter;
 mod part;
 mod reach;
 mod read;
-mod routine;
 mod run;
 mod seen;
 mod set;
@@ -29,14 +28,12 @@ mod spacing;
 mod start;
 mod stem;
 mod tail;
-mod tree;
 mod word;
 
 pub use law::{one_cut, one_nesting, one_tree};
-pub use read::read_routine;
-pub use routine::{Line, Routine};
-pub use tree::{
-    Action, Call, Command, Commands, Control, DoArgument, For, KillArgument, LockArgument,
-    MergeArgument, NewArgument, Parameter, Part, ReadArgument, SetArgument, Sign, Target, Variable,
-    WriteArgument,
+pub use mlk_tree::{
+    Action, Call, Command, Commands, Control, DoArgument, For, KillArgument, Line, LockArgument,
+    MergeArgument, NewArgument, Parameter, Part, ReadArgument, Routine, SetArgument, Sign, Target,
+    Variable, WriteArgument,
 };
+pub use read::read_routine;

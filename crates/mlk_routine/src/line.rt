@@ -13,10 +13,10 @@ use crate::fault::refused;
 use crate::front::{Front, before_commands};
 use crate::label::label;
 use crate::reach::reaches_block;
-use crate::routine::Line;
 use crate::seen::Seen;
 use crate::tail::tail;
 use mlk_text::{Code, Failure, Fault, Name};
+use mlk_tree::Line;
 use std::alloc::{AllocError, Global};
 
 const MOST_LEVELS: usize = 15;

@@ -7,8 +7,8 @@ ghost use Rattle.mlk_routine.specs.Refusals.{IfRefused, IsOfLine};
 
 use crate::fault::in_line;
 use crate::line::{Before, line};
-use crate::routine::Line;
 use mlk_text::{Failure, Fault};
+use mlk_tree::Line;
 use std::alloc::Global;
 use std::collections::VecDeque;
 

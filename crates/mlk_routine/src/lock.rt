@@ -1,20 +1,20 @@
 // The arguments of LOCK.
 
 ghost use Rattle.std.specs.Prelude.{◌≡◌, ◌≤◌, length, map, option_map, IfOk};
-ghost use Rattle.mlk_expr.specs.Trees.{tree_of};
+ghost use Rattle.mlk_tree.specs.ExprTrees.{tree_of};
 ghost use Rattle.mlk_expr.specs.declared.scope.Allows.TheVariants.{NoTouches};
 ghost use Rattle.mlk_routine.specs.Told.{Found, Told, byte_at};
 ghost use Rattle.mlk_routine.specs.Ends.{IsSign, SignEnds, OneEnds, VariableEnds, TimeoutEnds, LockEnds};
-ghost use Rattle.mlk_routine.specs.Views.{variable_of, lock_of};
+ghost use Rattle.mlk_tree.specs.Views.{variable_of, lock_of};
 ghost use Rattle.mlk_routine.specs.CommandGrammar.{IsVariable, IsOneOrEnclosed, IsLockTimeout, IsLock, in_names};
 
 use crate::fault::{leaves_out, refused};
 use crate::item::one_or_enclosed;
 use crate::items::Unsigned;
 use crate::part::{expression, has, stops};
-use crate::tree::{LockArgument, Sign, Variable};
-use mlk_expr::{Allows, Expr};
+use mlk_expr::Allows;
 use mlk_text::{Code, Failure, Fault, LeftOut};
+use mlk_tree::{Expr, LockArgument, Sign, Variable};
 use std::alloc::{AllocError, Global};
 
 /// The sign here, and the byte after it.

@@ -1,18 +1,18 @@
 // FOR's variable and what it runs through.
 
 ghost use Rattle.std.specs.Prelude.{◌≡◌, ◌≤◌, length, Some, true, false};
-ghost use Rattle.mlk_expr.specs.Trees.{tree_of};
+ghost use Rattle.mlk_tree.specs.ExprTrees.{tree_of};
 ghost use Rattle.mlk_routine.specs.Told.{Told, byte_at};
 ghost use Rattle.mlk_routine.specs.Ends.{ParameterEnds, ControlEnds};
-ghost use Rattle.mlk_routine.specs.Views.{parameter_of, control_of};
+ghost use Rattle.mlk_tree.specs.Views.{parameter_of, control_of};
 ghost use Rattle.mlk_routine.specs.CommandGrammar.{IsParameter, IsControl};
 
 use crate::fault::{leaves_out, refused};
 use crate::item::listed;
 use crate::part::{after, expression, has, name};
-use crate::tree::{Control, Parameter};
 use mlk_expr::Allows;
 use mlk_text::{Code, Column, Failure, Fault, LeftOut};
+use mlk_tree::{Control, Parameter};
 use std::alloc::Global;
 
 /// A parameter of FOR here, and the byte after it.

@@ -1,19 +1,19 @@
 // The parts of arguments that the readers of expressions know.
 
 ghost use Rattle.std.specs.Prelude.{◌≡◌, ◌≤◌, length, drop, option_map, Some, true, false};
-ghost use Rattle.mlk_expr.specs.Trees.{tree_of, actual_trees};
+ghost use Rattle.mlk_tree.specs.ExprTrees.{tree_of, actual_trees};
 ghost use Rattle.mlk_expr.specs.Grammar.{IsExprWhere, IsNameText};
 ghost use Rattle.mlk_expr.specs.Theorem.{ExprEnds, LabelEnds};
 ghost use Rattle.mlk_routine.specs.Told.{Told, byte_at};
 ghost use Rattle.mlk_routine.specs.Ends.{is_stop, AfterEnds, VariableEnds};
-ghost use Rattle.mlk_routine.specs.Views.{variable_of, call_of};
+ghost use Rattle.mlk_tree.specs.Views.{variable_of, call_of};
 ghost use Rattle.mlk_routine.specs.CommandGrammar.{IsAfter, IsVariable, IsCall};
 
 use crate::fault::{other_form, refused};
-use crate::tree::Variable;
 use mlk_expr::lexeme::starts_reference;
-use mlk_expr::{Allows, Expr, read_expr_where, read_name, read_ref_where};
+use mlk_expr::{Allows, read_expr_where, read_name, read_ref_where};
 use mlk_text::{Code, Column, Failure, Fault, Name};
+use mlk_tree::{Expr, Variable};
 use std::alloc::Global;
 
 /// Whether this byte stands here.

@@ -3,10 +3,10 @@
 ghost use Rattle.std.specs.Prelude.{◌≡◌, ◌||◌};
 ghost use Rattle.std.specs.List.{list_any};
 ghost use Rattle.mlk_routine.specs.CommandWords.{reaches_block};
-ghost use Rattle.mlk_routine.specs.Views.{commands_of, command_of};
+ghost use Rattle.mlk_tree.specs.Views.{commands_of, command_of};
 ghost use Rattle.mlk_routine.specs.Lines.{is_block};
 
-use crate::tree::{Action, Command, Commands};
+use mlk_tree::{Action, Command, Commands};
 
 // Whether this is a DO without arguments.
 fn is_block(command: &Command) -> bool

@@ -2,7 +2,7 @@
 
 ghost use Rattle.std.specs.Prelude.{◌≡◌, ◌<◌, ◌≤◌, ℕ, List, length, map, Some, IfOk};
 ghost use Rattle.mlk_expr.specs.declared.scope.Allows.TheVariants.{NoCalls};
-ghost use Rattle.mlk_expr.specs.Trees.{Tree, tree_of, trees};
+ghost use Rattle.mlk_tree.specs.ExprTrees.{Tree, tree_of, trees};
 ghost use Rattle.mlk_expr.specs.Grammar.{AreNext, IsExprWhere};
 ghost use Rattle.mlk_expr.specs.Theorem.{ExprEnds};
 ghost use Rattle.mlk_routine.specs.Told.{Told, IsRefusal, byte_at};
@@ -10,17 +10,17 @@ ghost use Rattle.mlk_routine.specs.Faults.{IsFaulty};
 ghost use Rattle.mlk_routine.specs.Stops.{expr_stop};
 ghost use Rattle.mlk_routine.specs.Begins.{expr_begins};
 ghost use Rattle.mlk_routine.specs.Ends.{AnyEnds, NextEnds, part_of, IsPartOpening, TargetEnds, SetEnds};
-ghost use Rattle.mlk_routine.specs.Views.{target_of, set_of};
+ghost use Rattle.mlk_tree.specs.Views.{target_of, set_of};
 ghost use Rattle.mlk_routine.specs.CommandGrammar.{is_part_word, IsTarget, IsSet};
 
 use crate::fault::{leaves_out, refused};
 use crate::item::{Item, listed, one_or_enclosed};
 use crate::part::{expression, has, variable};
-use crate::tree::{Part, SetArgument, Target};
+use mlk_expr::Allows;
 use mlk_expr::words::{function_of, is_either, is_select};
-use mlk_expr::{Allows, Expr};
 use mlk_text::lexeme::word_at;
 use mlk_text::{Code, Failure, Fault, LeftOut};
+use mlk_tree::{Expr, Part, SetArgument, Target};
 use std::alloc::{AllocError, Global};
 
 /// The function of a target by its word.

@@ -4,14 +4,14 @@ ghost use Rattle.std.specs.Prelude.{◌≡◌, ◌≤◌, length, drop, true, On
 ghost use Rattle.mlk_routine.specs.Faults.{IsFaulty};
 ghost use Rattle.mlk_routine.specs.Ends.{is_commands_end};
 ghost use Rattle.mlk_routine.specs.RoutineGrammar.{IsComment};
-ghost use Rattle.mlk_routine.specs.Views.{commands_of};
+ghost use Rattle.mlk_tree.specs.Views.{commands_of};
 ghost use Rattle.mlk_routine.specs.Lines.{OpeningEnds, IsTailOf, ToldToEnd};
 
 use crate::commands::{Inside, commands};
 use crate::fault::refused;
 use crate::run::text_bytes;
-use crate::tree::Commands;
 use mlk_text::{Code, Failure, Fault};
+use mlk_tree::Commands;
 use std::alloc::Global;
 
 // Tells where a comment that begins here, if one does, has a byte that may not stand in it.

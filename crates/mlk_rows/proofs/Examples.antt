@@ -4,10 +4,10 @@ use Rattle.std.specs.Prelude.{codes, Some, None, true, false}
 use Rattle.std.specs.Fmt.{digits}
 use Rattle.mlk_text.specs.declared.code.Code.TheVariants.{Uncovered, NoCertificate, TooManyCases}
 use Rattle.mlk_text.specs.declared.root.Root.TheVariants as root
-use Rattle.mlk_expr.specs.declared.tree.Function.{Function}
-use Rattle.mlk_expr.specs.declared.tree.Function.TheVariants as function
-use Rattle.mlk_expr.specs.declared.tree.Special.TheVariants as special
-use Rattle.mlk_expr.specs.Trees.{Tree, Lit, LocalName, GlobalName, SpecialName, Func, Selected, BareCall, no_trees, tree, no_subs, sub, no_choices, choice}
+use Rattle.mlk_tree.specs.declared.expr.Function.{Function}
+use Rattle.mlk_tree.specs.declared.expr.Function.TheVariants as function
+use Rattle.mlk_tree.specs.declared.expr.Special.TheVariants as special
+use Rattle.mlk_tree.specs.ExprTrees.{Tree, Lit, LocalName, GlobalName, SpecialName, Func, Selected, BareCall, no_trees, tree, no_subs, sub, no_choices, choice}
 use Rattle.mlk_names.specs.declared.known_symbol.KnownSym.{KnownSym}
 use Rattle.mlk_names.specs.declared.known_symbol.KnownSym.TheVariants as known
 use Rattle.mlk_names.specs.declared.term.LockTerm.{LockTerm}

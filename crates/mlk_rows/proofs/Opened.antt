@@ -4,16 +4,16 @@ use Rattle.std.specs.declared.alloc.AllocError.{AllocError}
 use Rattle.std.proofs.Common.{◌≡◌, ◌∙◌, ap, sym, subst, false, nat_eq, Result, refl, suc, length, ℕ, List, [], ◌∷◌, None, Some, Vec, Box, Global}
 use Rattle.mlk_text.specs.declared.operator.Op.{Op}
 use Rattle.mlk_text.specs.declared.operator.UnaryOp.{UnaryOp}
-use Rattle.mlk_expr.specs.declared.tree.Callee.{Callee}
-use Rattle.mlk_expr.specs.declared.tree.Function.{Function}
-use Rattle.mlk_expr.specs.declared.tree.Expr.{Expr, fold-roll-Expr}
-use Rattle.mlk_expr.specs.declared.tree.Actual.{Actual}
-use Rattle.mlk_expr.specs.declared.tree.Subscript.{Subscript}
-use Rattle.mlk_expr.specs.declared.tree.Actual.TheOpen as open'
-use Rattle.mlk_expr.specs.declared.tree.Expr.TheVariants as rust
-use Rattle.mlk_expr.specs.declared.tree.Expr.TheVariants.{rolls-Unary, rolls-Binary, rolls-Select, rolls-Call}
-use Rattle.mlk_expr.specs.Trees.{Tree, ActualTree, Prefixed, Chain, Selected, BareCall, tree_of, sub_trees, subs_from, trees, trees_from, links, links_from, choices, choices_from, actual_trees, actuals_from, actual_step, expr_step, subscript_step}
-use Rattle.mlk_expr.proofs.Variants.{tree_local, tree_global, tree_func, tree_call}
+use Rattle.mlk_tree.specs.declared.expr.Callee.{Callee}
+use Rattle.mlk_tree.specs.declared.expr.Function.{Function}
+use Rattle.mlk_tree.specs.declared.expr.Expr.{Expr, fold-roll-Expr}
+use Rattle.mlk_tree.specs.declared.expr.Actual.{Actual}
+use Rattle.mlk_tree.specs.declared.expr.Subscript.{Subscript}
+use Rattle.mlk_tree.specs.declared.expr.Actual.TheOpen as open'
+use Rattle.mlk_tree.specs.declared.expr.Expr.TheVariants as rust
+use Rattle.mlk_tree.specs.declared.expr.Expr.TheVariants.{rolls-Unary, rolls-Binary, rolls-Select, rolls-Call}
+use Rattle.mlk_tree.specs.ExprTrees.{Tree, ActualTree, Prefixed, Chain, Selected, BareCall, tree_of, sub_trees, subs_from, trees, trees_from, links, links_from, choices, choices_from, actual_trees, actuals_from, actual_step, expr_step, subscript_step}
+use Rattle.mlk_tree.proofs.Variants.{tree_local, tree_global, tree_func, tree_call}
 use Rattle.mlk_program.proofs.FoundCalls.{as_list_same}
 use Rattle.mlk_rows.specs.declared.walk.Walk.{Walk}
 use Rattle.mlk_rows.specs.declared.reference.Use.{Use}

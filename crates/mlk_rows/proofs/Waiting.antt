@@ -2,8 +2,8 @@
 use Rattle.std.proofs.Common.{◌≡◌, ◌<◌, ◌+◌, ℕ, true, false, List, [], ◌∷◌, ◌++◌, length, drop, slice_index_or, refl, ap, sym, ◌∙◌}
 use Rattle.mlk_calls.specs.declared.state.State.{State}
 use Rattle.mlk_rows.specs.declared.walk.Walk.{Walk}
-use Rattle.mlk_expr.specs.declared.tree.Expr.{Expr}
-use Rattle.mlk_expr.specs.Trees.{Tree, Choices, choice, tree_of, choices, choices_from}
+use Rattle.mlk_tree.specs.declared.expr.Expr.{Expr}
+use Rattle.mlk_tree.specs.ExprTrees.{Tree, Choices, choice, tree_of, choices, choices_from}
 use Rattle.mlk_coverage.proofs.CheckLemmas.{drop_step}
 use Rattle.mlk_rows.specs.Walks.{joined, joins, with_states}
 use Rattle.mlk_rows.specs.Spots.{Spot}

@@ -1,11 +1,11 @@
 -- Expressions, from left to right: what their references and calls make of states. Standard: expressions, `$SELECT`,
 -- extrinsic functions, actual lists; a reference's subscripts come before its touch.
 use Rattle.std.specs.Prelude.{ℕ, Bool, true, false, not, if◌then◌else◌, List, [], ◌∷◌, map, filter, fold, suc, zero, Option, Some, None}
-use Rattle.mlk_expr.specs.declared.tree.Callee.{Callee}
-use Rattle.mlk_expr.specs.Trees.{Tree, Lit, Free, LocalName, GlobalName, SpecialName, Prefixed, Chain, PatternText}
-use Rattle.mlk_expr.specs.Trees.{Func, Selected, BareCall, CallOf, Trees, no_trees, tree, Subs, no_subs, sub, Links}
-use Rattle.mlk_expr.specs.Trees.{no_links, link, Choices, no_choices, choice, ActualTree, Given, ByRef, Missing}
-use Rattle.mlk_expr.specs.Trees.{Actuals, no_actuals, actual}
+use Rattle.mlk_tree.specs.declared.expr.Callee.{Callee}
+use Rattle.mlk_tree.specs.ExprTrees.{Tree, Lit, Free, LocalName, GlobalName, SpecialName, Prefixed, Chain, PatternText}
+use Rattle.mlk_tree.specs.ExprTrees.{Func, Selected, BareCall, CallOf, Trees, no_trees, tree, Subs, no_subs, sub, Links}
+use Rattle.mlk_tree.specs.ExprTrees.{no_links, link, Choices, no_choices, choice, ActualTree, Given, ByRef, Missing}
+use Rattle.mlk_tree.specs.ExprTrees.{Actuals, no_actuals, actual}
 use Rattle.mlk_names.specs.declared.symbol.Sym.TheVariants.{Unknown}
 use Rattle.mlk_program.specs.Calls.{as_list}
 use Rattle.mlk_calls.specs.Symbols.{symbol_in, truth_in}

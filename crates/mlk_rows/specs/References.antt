@@ -3,8 +3,8 @@
 -- it, `$QUERY` all of its global; `$NAME` reads nothing; SET writes the node, KILL the tree, MERGE reads and writes trees.
 use Rattle.std.specs.Prelude.{ℕ, List, [], ◌∷◌, ◌-◌, length, take, Option, Some, None}
 use Rattle.mlk_text.specs.declared.code.Code.{Code}
-use Rattle.mlk_expr.specs.declared.tree.Function.{Function}
-use Rattle.mlk_expr.specs.declared.tree.Function.TheVariants as function
+use Rattle.mlk_tree.specs.declared.expr.Function.{Function}
+use Rattle.mlk_tree.specs.declared.expr.Function.TheVariants as function
 use Rattle.mlk_names.specs.declared.symbol.Sym.{Sym}
 use Rattle.mlk_names.specs.declared.reference.Access.{Access}
 use Rattle.mlk_names.specs.declared.reference.Reference.{Reference}

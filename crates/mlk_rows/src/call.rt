@@ -1,7 +1,7 @@
 // Extrinsic calls.
 
 ghost use Rattle.std.specs.Prelude.{◌≡◌, IfOk, OnOk, length};
-ghost use Rattle.mlk_expr.specs.Trees.{actual_trees};
+ghost use Rattle.mlk_tree.specs.ExprTrees.{actual_trees};
 ghost use Rattle.mlk_calls.specs.declared.state.State.{State};
 ghost use Rattle.mlk_calls.specs.Calls.{at_call};
 ghost use Rattle.mlk_rows.specs.Walks.{Outcome, add_all, all_placed};
@@ -13,8 +13,8 @@ use crate::walk::{Mend, Walk};
 use mlk_calls::{
     Calling, Refusal, State, at_call, call_changes, callee_summary, missing_need, short_names,
 };
-use mlk_expr::{Actual, Callee};
 use mlk_text::{Code, Column, Failure};
+use mlk_tree::{Actual, Callee};
 use std::alloc::AllocError;
 
 /// A call of a callee, at a column, with these actuals, whose symbols were captured last.

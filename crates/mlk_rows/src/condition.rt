@@ -1,7 +1,7 @@
 // Conditions: the states in which they may be true, and those in which they may be false.
 
 ghost use Rattle.std.specs.Prelude.{◌≡◌, ◌++◌, [], IfOk, OnOk, true, false};
-ghost use Rattle.mlk_expr.specs.Trees.{tree_of};
+ghost use Rattle.mlk_tree.specs.ExprTrees.{tree_of};
 ghost use Rattle.mlk_calls.specs.Scope.{scope_of};
 ghost use Rattle.mlk_rows.specs.Walks.{with_states, joins};
 ghost use Rattle.mlk_rows.specs.Expressions.{where_it_may_be, if_agrees};
@@ -10,8 +10,8 @@ ghost use Rattle.mlk_rows.specs.Gathered.{gathered};
 use crate::spot::Spot;
 use crate::walk::{Walk, put_all};
 use mlk_calls::{State, truth_of};
-use mlk_expr::Expr;
 use mlk_text::List;
+use mlk_tree::Expr;
 use std::alloc::{AllocError, Global};
 
 /// The states in which a condition may be true, and those in which it may be false.

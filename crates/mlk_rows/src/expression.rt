@@ -1,7 +1,7 @@
 // Expressions: what their references and calls make of the states of a walk.
 
 ghost use Rattle.std.specs.Prelude.{◌≡◌, IfOk, option_map, option_copied};
-ghost use Rattle.mlk_expr.specs.Trees.{tree_of, trees, trees_from, sub_trees, subs_from, links, links_from, choices, choices_from, actual_of, actual_trees, actuals_from};
+ghost use Rattle.mlk_tree.specs.ExprTrees.{tree_of, trees, trees_from, sub_trees, subs_from, links, links_from, choices, choices_from, actual_of, actual_trees, actuals_from};
 ghost use Rattle.mlk_calls.specs.Scope.{scope_of};
 ghost use Rattle.mlk_rows.specs.Walks.{each};
 ghost use Rattle.mlk_rows.specs.References.{read_last};
@@ -15,9 +15,9 @@ use crate::row::{each, forget};
 use crate::spot::Spot;
 use crate::walk::Walk;
 use mlk_calls::{Calling, State, symbol_of};
-use mlk_expr::{Actual, Callee, Expr, Op, Subscript};
 use mlk_names::Sym;
-use mlk_text::{Column, List, Name};
+use mlk_text::{Column, List, Name, Op};
+use mlk_tree::{Actual, Callee, Expr, Subscript};
 use std::alloc::AllocError;
 
 // The symbol of an expression that was evaluated is captured.

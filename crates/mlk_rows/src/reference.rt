@@ -13,9 +13,9 @@ use crate::spot::Spot;
 use crate::walk::{Mend, Walk};
 use mlk_calls::State;
 use mlk_coverage::{Rules, covered, templates};
-use mlk_expr::Function;
 use mlk_names::{Access, Extent, LockTerm, Reference, ReferenceSubs, Sym};
 use mlk_text::{Code, Column, Name, Subscripts, copy_of};
+use mlk_tree::Function;
 use std::alloc::{AllocError, Global};
 
 /// How an expression or a function uses a name.

@@ -3,8 +3,8 @@ use Rattle.std.proofs.Common.{◌≡◌, ◌∙◌, ℕ, Bool, true, false, List
 use Rattle.mlk_names.specs.declared.lock_name.LockName.{LockName}
 use Rattle.mlk_names.specs.declared.reference.Access.{Access}
 use Rattle.mlk_names.specs.declared.reference.Access.TheVariants.{Reads, Writes}
-use Rattle.mlk_expr.specs.Trees.{Tree, Choices, no_choices, choice, ActualTree}
-use Rattle.mlk_routine.specs.Trees.{RoutineTree, LineHead}
+use Rattle.mlk_tree.specs.ExprTrees.{Tree, Choices, no_choices, choice, ActualTree}
+use Rattle.mlk_tree.specs.Trees.{RoutineTree, LineHead}
 use Rattle.mlk_program.specs.declared.entry.EntryId.{EntryId}
 use Rattle.mlk_program.specs.Entries.{target_of}
 use Rattle.mlk_jobs.specs.declared.choice.Choice.{Choice}

@@ -6,10 +6,10 @@ use Rattle.std.proofs.lemmas.Bool.Decides.{nat_tests}
 use Rattle.std.proofs.lemmas.List.{reverse-append, reverse-reverse, take-append-le, take_all, length-append, length-reverse}
 use Rattle.mlk_locks.specs.declared.refusal.Refusal.TheVariants.{NotEnabled}
 use Rattle.mlk_locks.specs.Counts.{Counts}
-use Rattle.mlk_expr.specs.Trees.{ActualTree, Given, ByRef, Missing}
-use Rattle.mlk_routine.specs.declared.routine.Line.{Line}
-use Rattle.mlk_routine.specs.declared.routine.Routine.{Routine}
-use Rattle.mlk_routine.specs.Views.{line_of, routine_of}
+use Rattle.mlk_tree.specs.ExprTrees.{ActualTree, Given, ByRef, Missing}
+use Rattle.mlk_tree.specs.declared.routine.Line.{Line}
+use Rattle.mlk_tree.specs.declared.routine.Routine.{Routine}
+use Rattle.mlk_tree.specs.Views.{line_of, routine_of}
 use Rattle.mlk_program.specs.declared.entry.EntryId.{EntryId}
 use Rattle.mlk_jobs.specs.declared.choice.Choice.{Choice}
 use Rattle.mlk_jobs.specs.declared.binding.Binder.{Binder as BinderIn}

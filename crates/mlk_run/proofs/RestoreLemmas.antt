@@ -3,7 +3,7 @@ use Rattle.std.proofs.Common.{◌≡◌, ◌∙◌, ◌<◌, ℕ, zero, suc, Boo
 use Rattle.std.specs.List.{list_all}
 use Rattle.std.proofs.lemmas.List.{reverse-append, reverse-reverse}
 use Rattle.mlk_names.specs.declared.lock_name.LockName.{LockName}
-use Rattle.mlk_routine.specs.Trees.{RoutineTree}
+use Rattle.mlk_tree.specs.Trees.{RoutineTree}
 use Rattle.mlk_jobs.specs.declared.choice.Choice.{Choice}
 use Rattle.mlk_jobs.specs.declared.binding.Binder.{Binder as BinderIn}
 use Rattle.mlk_jobs.specs.declared.job.Job.{Job as JobIn}

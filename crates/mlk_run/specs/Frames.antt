@@ -1,7 +1,7 @@
 -- How frames begin. This project's own.
 use Rattle.std.specs.Prelude.{ℕ, suc, Bool, true, false, if◌then◌else◌, List, [], ◌∷◌, ◌++◌, Option, Some, bytes_eq}
 use Rattle.mlk_names.specs.declared.lock_name.LockName.{LockName}
-use Rattle.mlk_expr.specs.Trees.{ActualTree, Given, ByRef, Missing}
+use Rattle.mlk_tree.specs.ExprTrees.{ActualTree, Given, ByRef, Missing}
 use Rattle.mlk_jobs.specs.Bindings.{Binder, Bindings, Cells}
 use Rattle.mlk_jobs.specs.Tasks as task
 use Rattle.mlk_jobs.specs.Tasks.{Task, Job, LineTree, Frame, NoValue, AwaitsValue, RunLines, RunCommands, EndFrame}

@@ -2,7 +2,7 @@
 
 ghost use Rattle.std.specs.Prelude.{◌≡◌, ◌∷◌, [], IfOk, OnOk, Ok, length, map};
 ghost use Rattle.mlk_text.specs.Failures.{Answers};
-ghost use Rattle.mlk_routine.specs.Views.{line_of, routine_of};
+ghost use Rattle.mlk_tree.specs.Views.{line_of, routine_of};
 ghost use Rattle.mlk_jobs.specs.Calling.{entered};
 ghost use Rattle.mlk_jobs.specs.Runs.{blank, by_value, formals_at, begun};
 ghost use Rattle.mlk_jobs.specs.JobViews.{frame_of, job_of};
@@ -15,8 +15,8 @@ use mlk_jobs::{Frame, Job, Stack, Table};
 use mlk_locks::{Held, Refusal};
 use mlk_parts::formals_in;
 use mlk_program::{EntryId, Program};
-use mlk_routine::Line;
 use mlk_text::{Failure, Value};
+use mlk_tree::Line;
 use std::alloc::{AllocError, Global};
 
 // A job before its first frame.

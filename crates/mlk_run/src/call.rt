@@ -2,8 +2,8 @@
 
 ghost use Rattle.std.specs.Prelude.{◌≡◌, ◌∷◌, OnOk, OnErr, Ok, drop, map};
 ghost use Rattle.mlk_text.specs.Failures.{Answers};
-ghost use Rattle.mlk_expr.specs.Trees.{actual_trees};
-ghost use Rattle.mlk_routine.specs.Views.{line_of, routine_of};
+ghost use Rattle.mlk_tree.specs.ExprTrees.{actual_trees};
+ghost use Rattle.mlk_tree.specs.Views.{line_of, routine_of};
 ghost use Rattle.mlk_program.specs.Entries.{target_of};
 ghost use Rattle.mlk_jobs.specs.Calling as calls;
 ghost use Rattle.mlk_jobs.specs.Calling.{entered, called, called_if, lines_after};
@@ -15,14 +15,13 @@ ghost use Rattle.mlk_run.specs.Frames.{owed};
 
 use crate::formals::{binders, count_given, fill};
 use crate::frame::{Begin, begin_frame};
-use mlk_expr::{Actual, Callee};
 use mlk_jobs::{Calling, Choice, Frame, Job, Table, asked_truth, known_truth};
 use mlk_locks::Refusal;
 use mlk_parts::formals_in;
 use mlk_program::{EntryId, Program};
-use mlk_routine::Line;
 use mlk_steps::{nothing_asked, or_refused};
 use mlk_text::Failure;
+use mlk_tree::{Actual, Callee, Line};
 use std::alloc::{AllocError, Global};
 
 /// What a call brings: what its frame owes, its actuals, whose values were computed, and how many values came after

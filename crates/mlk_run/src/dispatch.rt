@@ -4,7 +4,7 @@ ghost use Rattle.std.specs.Prelude.{◌≡◌, ◌∷◌, [], OnErr, Bool, true,
 ghost use Rattle.std.specs.List.{list_all};
 ghost use Rattle.mlk_names.specs.declared.lock_name.LockName.{LockName};
 ghost use Rattle.mlk_text.specs.Failures.{Answers};
-ghost use Rattle.mlk_routine.specs.Views.{routine_of};
+ghost use Rattle.mlk_tree.specs.Views.{routine_of};
 ghost use Rattle.mlk_jobs.specs.Advance.{advance};
 ghost use Rattle.mlk_jobs.specs.JobViews.{job_of, KeepsPending};
 ghost use Rattle.mlk_jobs.specs.Sound.{Sound};

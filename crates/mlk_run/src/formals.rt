@@ -1,14 +1,14 @@
 // What formals are bound to, and the values that they are given.
 
 ghost use Rattle.std.specs.Prelude.{◌≡◌, IfOk, OnOk, List, ℕ, map, Some};
-ghost use Rattle.mlk_expr.specs.Trees.{actual_of, actual_trees};
+ghost use Rattle.mlk_tree.specs.ExprTrees.{actual_of, actual_trees};
 ghost use Rattle.mlk_jobs.specs.Calling.{next_actual, later_actuals, binder, binders, count_given};
 ghost use Rattle.mlk_jobs.specs.Views.{binder_of, bindings_of, in_table};
 ghost use Rattle.mlk_run.specs.Frames.{is_given, filled, filled_first};
 
-use mlk_expr::Actual;
 use mlk_jobs::{Binder, Names, Table, look};
 use mlk_text::{Name, Value};
+use mlk_tree::Actual;
 use std::alloc::{AllocError, Global};
 
 // What a formal is bound to, by the first of the actuals that are left.

@@ -2,7 +2,7 @@
 
 ghost use Rattle.std.specs.Prelude.{◌≡◌, ◌∷◌, ◌++◌, ◌+◌, ◌≤◌, [], List, ℕ, suc, length, map, reverse, take, OnOk, OnErr};
 ghost use Rattle.std.specs.Vec.{vec_len, vec_capacity};
-ghost use Rattle.mlk_routine.specs.Views.{line_of};
+ghost use Rattle.mlk_tree.specs.Views.{line_of};
 ghost use Rattle.mlk_jobs.specs.declared.binding.Binder.{Binder as BinderIn};
 ghost use Rattle.mlk_jobs.specs.JobViews.{frame_of, job_of, tasks_of, KeepsPending};
 ghost use Rattle.mlk_jobs.specs.Sound.{Sound, HaveTables, IsWithin, AreNested};
@@ -11,7 +11,7 @@ ghost use Rattle.mlk_run.specs.Frames.{begun_tasks, frame_begun};
 
 use mlk_jobs::{Back, Binder, Frame, Job, LineTask, Pending, Table, Task};
 use mlk_parts::line_rest;
-use mlk_routine::Line;
+use mlk_tree::Line;
 use std::alloc::AllocError;
 
 /// A line at which a frame begins, in a routine, counted from 0, and the lines after it.

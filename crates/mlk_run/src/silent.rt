@@ -1,7 +1,7 @@
 // Steps that a job makes by itself.
 
 ghost use Rattle.std.specs.Prelude.{◌≡◌, ◌∷◌, [], IfOk, OnErr, false, map};
-ghost use Rattle.mlk_routine.specs.Views.{routine_of};
+ghost use Rattle.mlk_tree.specs.Views.{routine_of};
 ghost use Rattle.mlk_jobs.specs.JobViews.{job_of};
 ghost use Rattle.mlk_jobs.specs.Seen as jobs_seen;
 ghost use Rattle.mlk_jobs.specs.Seen.{state};

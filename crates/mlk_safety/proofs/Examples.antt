@@ -3,7 +3,7 @@ use Rattle.std.proofs.Common.{◌≡◌, refl, sym, subst, ℕ, zero, suc, ◌<�
 use Rattle.std.specs.Prelude.{◌&&◌, nat_lt, codes, Ok, Err}
 use Rattle.std.proofs.lemmas.Bool.{and_parts}
 use Rattle.mlk_locks.specs.Systems.{Machine, Act, Go, and_then, alone, lone_run}
-use Rattle.mlk_routine.specs.Trees.{New, NewOne, Do, Quit, no_lines, RoutineTree}
+use Rattle.mlk_tree.specs.Trees.{New, NewOne, Do, Quit, no_lines, RoutineTree}
 use Rattle.mlk_program.specs.declared.entry.EntryId.{EntryId}
 use Rattle.mlk_jobs.specs.declared.choice.Choice.{Choice}
 use Rattle.mlk_jobs.specs.declared.choice.Choice.TheVariants as choice

@@ -8,8 +8,8 @@ use Rattle.mlk_locks.specs.declared.refusal.Refusal.{Refusal}
 use Rattle.mlk_locks.specs.declared.refusal.Refusal.TheVariants.{NotEnabled}
 use Rattle.mlk_locks.specs.Counts.{has_room}
 use Rattle.std.specs.List.{list_all}
-use Rattle.mlk_expr.specs.Trees.{Tree, Choices, no_choices, choice as condition, ActualTree}
-use Rattle.mlk_routine.specs.Trees.{RoutineTree, LineHead}
+use Rattle.mlk_tree.specs.ExprTrees.{Tree, Choices, no_choices, choice as condition, ActualTree}
+use Rattle.mlk_tree.specs.Trees.{RoutineTree, LineHead}
 use Rattle.mlk_program.specs.declared.entry.EntryId.{EntryId}
 use Rattle.mlk_jobs.specs.declared.choice.Choice.{Choice}
 use Rattle.mlk_jobs.specs.declared.choice.Choice.TheVariants as choice

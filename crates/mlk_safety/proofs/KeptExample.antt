@@ -22,10 +22,10 @@ use Rattle.mlk_locks.specs.Lists.{Among}
 use Rattle.mlk_locks.specs.Systems.{Machine, Event, after, Act, Begin, Go, Abort, and_then, lone_run}
 use Rattle.mlk_locks.specs.declared.refusal.Refusal.{Refusal}
 use Rattle.mlk_locks.specs.declared.refusal.Refusal.TheVariants.{NotEnabled, BadChoice}
-use Rattle.mlk_expr.specs.Trees.{Lit}
-use Rattle.mlk_routine.specs.declared.tree.Sign.{Sign}
-use Rattle.mlk_routine.specs.declared.tree.Sign.TheVariants as sign
-use Rattle.mlk_routine.specs.Trees.{ActionTree, Lock, LockNames, Quit, no_lines, RoutineTree}
+use Rattle.mlk_tree.specs.ExprTrees.{Lit}
+use Rattle.mlk_tree.specs.declared.command.Sign.{Sign}
+use Rattle.mlk_tree.specs.declared.command.Sign.TheVariants as sign
+use Rattle.mlk_tree.specs.Trees.{ActionTree, Lock, LockNames, Quit, no_lines, RoutineTree}
 use Rattle.mlk_program.specs.declared.entry.EntryId.{EntryId}
 use Rattle.mlk_jobs.specs.declared.choice.Choice.{Choice}
 use Rattle.mlk_jobs.specs.declared.choice.Choice.TheVariants as choice

@@ -4,7 +4,7 @@ use Rattle.std.specs.Prelude.{◌||◌, if◌then◌else◌, Ok}
 use Rattle.std.proofs.lemmas.Bool.{cases_Bool}
 use Rattle.mlk_names.specs.declared.lock_name.LockName.{LockName}
 use Rattle.mlk_locks.specs.declared.refusal.Refusal.TheVariants.{NotEnabled}
-use Rattle.mlk_routine.specs.Trees.{RoutineTree, VariableTree}
+use Rattle.mlk_tree.specs.Trees.{RoutineTree, VariableTree}
 use Rattle.mlk_program.specs.Entries.{target_of}
 use Rattle.mlk_jobs.specs.Commands.{count_in, action_parts}
 use Rattle.mlk_jobs.specs.Assigning.{merge_source, merge_target}

@@ -1,19 +1,19 @@
 -- Tasks of which none is the end of a block or a frame: what a task is replaced by.
 use Rattle.std.proofs.Common.{◌≡◌, ◌∙◌, ℕ, Bool, true, false, List, [], ◌∷◌, ◌++◌, flat_map, Option, Some, None, refl, ap, arith, append_assoc, drop, take}
-use Rattle.mlk_expr.specs.declared.tree.Special.{Special}
-use Rattle.mlk_expr.specs.declared.tree.Function.{Function}
-use Rattle.mlk_expr.specs.declared.tree.Function.TheVariants as function
-use Rattle.mlk_expr.specs.Trees.{Tree, Lit, Free, LocalName, GlobalName, SpecialName, Prefixed, Chain, PatternText, Func, Selected, BareCall, CallOf}
-use Rattle.mlk_expr.specs.Trees.{Trees, no_trees, tree, Subs, no_subs, sub, Links, no_links, link, ActualTree, Given, ByRef, Missing}
+use Rattle.mlk_tree.specs.declared.expr.Special.{Special}
+use Rattle.mlk_tree.specs.declared.expr.Function.{Function}
+use Rattle.mlk_tree.specs.declared.expr.Function.TheVariants as function
+use Rattle.mlk_tree.specs.ExprTrees.{Tree, Lit, Free, LocalName, GlobalName, SpecialName, Prefixed, Chain, PatternText, Func, Selected, BareCall, CallOf}
+use Rattle.mlk_tree.specs.ExprTrees.{Trees, no_trees, tree, Subs, no_subs, sub, Links, no_links, link, ActualTree, Given, ByRef, Missing}
 use Rattle.mlk_names.specs.declared.reference.Extent.{Extent}
 use Rattle.mlk_names.specs.declared.reference.Extent.TheVariants as extent
 use Rattle.mlk_names.specs.declared.lock_name.LockName.{LockName}
-use Rattle.mlk_routine.specs.declared.tree.Sign.{Sign}
-use Rattle.mlk_routine.specs.declared.tree.Sign.TheVariants as sign
-use Rattle.mlk_routine.specs.Trees.{VariableTree, CallTree, Called, DoTree, DoCall, KillTree, KillOne, KillAllBut, NewTree, NewOne, NewAllBut, LockTree, LockNames, MergeTree, MergeInto}
-use Rattle.mlk_routine.specs.Trees.{ReadTree, ReadText, ReadFormat, ReadLine, ReadCharacter, TargetTree, SetWhole, SetPart, SetTree, SetTo, WriteTree, WriteValue, WriteCharacter, WriteFormat}
-use Rattle.mlk_routine.specs.Trees.{ActionTree, Do, Else, Halt, Hang, If, Job, Kill, Lock, Merge, New, Quit, Read, Set, Write, LineTrees, no_lines, line}
-use Rattle.mlk_routine.specs.Trees.{ParameterTree, Once, Endless, Limited, CommandTree, Does, CommandTrees, Runs, finished, then_command, then_for}
+use Rattle.mlk_tree.specs.declared.command.Sign.{Sign}
+use Rattle.mlk_tree.specs.declared.command.Sign.TheVariants as sign
+use Rattle.mlk_tree.specs.Trees.{VariableTree, CallTree, Called, DoTree, DoCall, KillTree, KillOne, KillAllBut, NewTree, NewOne, NewAllBut, LockTree, LockNames, MergeTree, MergeInto}
+use Rattle.mlk_tree.specs.Trees.{ReadTree, ReadText, ReadFormat, ReadLine, ReadCharacter, TargetTree, SetWhole, SetPart, SetTree, SetTo, WriteTree, WriteValue, WriteCharacter, WriteFormat}
+use Rattle.mlk_tree.specs.Trees.{ActionTree, Do, Else, Halt, Hang, If, Job, Kill, Lock, Merge, New, Quit, Read, Set, Write, LineTrees, no_lines, line}
+use Rattle.mlk_tree.specs.Trees.{ParameterTree, Once, Endless, Limited, CommandTree, Does, CommandTrees, Runs, finished, then_command, then_for}
 use Rattle.mlk_jobs.specs.Tasks.{Task, Evaluate, AskValue, RunCommands, marks}
 use Rattle.mlk_jobs.specs.Expressions.{each_sub, each_tree, unused, read_global, read_local, operation, special_parts, of_global, function_parts, takes_name, each_actual, as_list, parts_of}
 use Rattle.mlk_jobs.specs.Commands.{evaluated, evaluated_if, subs_in, in_variable, count_in, given_in, do_parts, block_parts, job_parts, if_parts, kill_variable, kill_parts, new_parts, lock_parts, merge_parts, store_last, in_time, read_into, read_parts, target_parts, set_parts, write_parts, action_parts}

@@ -8,7 +8,7 @@ use Rattle.mlk_coverage.proofs.SoundLemmas.{by_job}
 use Rattle.mlk_locks.specs.Lists.{Among}
 use Rattle.mlk_locks.specs.Systems.{Event, after}
 use Rattle.mlk_locks.specs.Laws.{has_ring_of}
-use Rattle.mlk_routine.specs.Trees.{RoutineTree}
+use Rattle.mlk_tree.specs.Trees.{RoutineTree}
 use Rattle.mlk_program.specs.declared.entry.EntryId.{EntryId}
 use Rattle.mlk_jobs.specs.declared.choice.Choice.{Choice}
 use Rattle.mlk_jobs.specs.Tasks.{Job}

@@ -4,10 +4,10 @@ use Rattle.std.specs.Prelude.{is_some}
 use Rattle.std.proofs.lemmas.Bool.{cases_Bool}
 use Rattle.mlk_text.specs.declared.operator.Op.{Op}
 use Rattle.mlk_text.specs.declared.operator.UnaryOp.{UnaryOp}
-use Rattle.mlk_expr.specs.declared.tree.Callee.{Callee}
-use Rattle.mlk_expr.specs.Trees.{Tree, Choices, no_choices, choice, ActualTree}
+use Rattle.mlk_tree.specs.declared.expr.Callee.{Callee}
+use Rattle.mlk_tree.specs.ExprTrees.{Tree, Choices, no_choices, choice, ActualTree}
 use Rattle.mlk_locks.specs.Lists.{is_some_there}
-use Rattle.mlk_routine.specs.Trees.{RoutineTree, LineHead, LineTrees, ActionTree, TargetTree}
+use Rattle.mlk_tree.specs.Trees.{RoutineTree, LineHead, LineTrees, ActionTree, TargetTree}
 use Rattle.mlk_program.specs.declared.entry.EntryId.{EntryId}
 use Rattle.mlk_program.specs.Entries.{target_of}
 use Rattle.mlk_jobs.specs.declared.choice.Choice.TheVariants as chosen

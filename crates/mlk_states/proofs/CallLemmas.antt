@@ -3,9 +3,9 @@ use Rattle.std.proofs.Common.{◌≡◌, ◌∙◌, ◌<◌, ◌≤◌, ℕ, zer
 use Rattle.std.proofs.lemmas.Bool.{cases_Bool, ltb-false, ltb-true}
 use Rattle.std.specs.Prelude.{nat_lt, slice_get}
 use Rattle.mlk_locks.specs.Lists.{is_some_there}
-use Rattle.mlk_routine.specs.declared.routine.Line.{Line}
-use Rattle.mlk_routine.specs.declared.routine.Routine.{Routine}
-use Rattle.mlk_routine.specs.Views.{line_of, routine_of}
+use Rattle.mlk_tree.specs.declared.routine.Line.{Line}
+use Rattle.mlk_tree.specs.declared.routine.Routine.{Routine}
+use Rattle.mlk_tree.specs.Views.{line_of, routine_of}
 use Rattle.mlk_program.specs.declared.entry.EntryId.{EntryId}
 use Rattle.mlk_jobs.specs.Calling.{lines_after}
 use Rattle.mlk_run.proofs.FrameLemmas.{lines_some, lines_none}

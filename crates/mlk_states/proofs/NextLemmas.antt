@@ -1,6 +1,6 @@
 -- What a job's next task shows, the job shows.
 use Rattle.std.proofs.Common.{◌≡◌, ◌∙◌, ◌-◌, ℕ, zero, suc, List, [], ◌∷◌, ◌++◌, length, Some, sym, ap, arith, slice_get}
-use Rattle.mlk_routine.specs.Trees.{RoutineTree}
+use Rattle.mlk_tree.specs.Trees.{RoutineTree}
 use Rattle.mlk_jobs.specs.declared.binding.Binder.{Binder}
 use Rattle.mlk_jobs.specs.declared.job.Job.{Job as JobIn}
 use Rattle.mlk_jobs.specs.declared.pending.Pending.{Pending}

@@ -2,8 +2,8 @@
 use Rattle.std.specs.Prelude.{ℕ, Bool, true, false, if◌then◌else◌, List, [], ◌∷◌, Option, Some, None, is_some}
 use Rattle.mlk_text.specs.declared.operator.Op.{Op}
 use Rattle.mlk_text.specs.declared.operator.UnaryOp.{UnaryOp}
-use Rattle.mlk_expr.specs.Trees.{Choices, no_choices, choice}
-use Rattle.mlk_routine.specs.Trees.{RoutineTree}
+use Rattle.mlk_tree.specs.ExprTrees.{Choices, no_choices, choice}
+use Rattle.mlk_tree.specs.Trees.{RoutineTree}
 use Rattle.mlk_locks.specs.Lists.{is_some_there}
 use Rattle.mlk_program.specs.declared.entry.EntryId.{EntryId}
 use Rattle.mlk_program.specs.Entries.{formals_of}

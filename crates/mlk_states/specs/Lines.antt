@@ -1,7 +1,7 @@
 -- The line of a job of the code's. For private clauses alone. This project's own.
 use Rattle.std.specs.Prelude.{ℕ, List, map}
-use Rattle.mlk_routine.specs.declared.routine.Routine.{Routine}
-use Rattle.mlk_routine.specs.Views.{routine_of}
+use Rattle.mlk_tree.specs.declared.routine.Routine.{Routine}
+use Rattle.mlk_tree.specs.Views.{routine_of}
 use Rattle.mlk_jobs.specs.declared.job.Job.{Job as JobIn}
 use Rattle.mlk_jobs.specs.JobViews.{job_of}
 use Rattle.mlk_states.specs.Printed.{job_line}

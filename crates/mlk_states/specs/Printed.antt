@@ -5,7 +5,7 @@ use Rattle.std.specs.Fmt.{decimal}
 use Rattle.mlk_lexemes.specs.Lists.{flat}
 use Rattle.mlk_lexemes.specs.Texts.{line}
 use Rattle.mlk_locks.specs.Laws.{has_ring_of}
-use Rattle.mlk_routine.specs.Trees.{RoutineTree}
+use Rattle.mlk_tree.specs.Trees.{RoutineTree}
 use Rattle.mlk_jobs.specs.Runs.{seen}
 use Rattle.mlk_jobs.specs.Seen.{state}
 use Rattle.mlk_jobs.specs.Tasks.{Job}

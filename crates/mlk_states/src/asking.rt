@@ -1,7 +1,7 @@
 // What a job that no other sees does next.
 
 ghost use Rattle.std.specs.Prelude.{◌≡◌};
-ghost use Rattle.mlk_expr.specs.Trees.{choices, choices_from};
+ghost use Rattle.mlk_tree.specs.ExprTrees.{choices, choices_from};
 ghost use Rattle.mlk_jobs.specs.Bindings.{look};
 ghost use Rattle.mlk_jobs.specs.JobViews.{frame_of, job_of};
 ghost use Rattle.mlk_states.specs.Asked.{by_value, by_last, by_unary, by_binary, by_last_truth, by_frame, if_enabled, has_choices};
@@ -9,9 +9,9 @@ ghost use Rattle.mlk_states.specs.StateViews.{state_of};
 
 use crate::known::{is_known_before, is_known_between};
 use crate::shown::State;
-use mlk_expr::{Expr, Op, UnaryOp};
 use mlk_jobs::{Frame, Job, known_truth};
-use mlk_text::Name;
+use mlk_text::{Name, Op, UnaryOp};
+use mlk_tree::Expr;
 
 /// What a job does where it reads a local.
 pub(crate) fn fetches<'j>(job: &Job, name: &Name) -> State<'j>

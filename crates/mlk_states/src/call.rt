@@ -3,18 +3,17 @@
 ghost use Rattle.std.specs.Prelude.{◌≡◌, map};
 ghost use Rattle.mlk_locks.specs.Lists.{is_some_there};
 ghost use Rattle.mlk_program.specs.Entries.{target_of};
-ghost use Rattle.mlk_routine.specs.Views.{line_of, routine_of};
+ghost use Rattle.mlk_tree.specs.Views.{line_of, routine_of};
 ghost use Rattle.mlk_jobs.specs.Calling.{lines_after};
 ghost use Rattle.mlk_jobs.specs.JobViews.{job_of};
 ghost use Rattle.mlk_states.specs.Asked.{by_lines, by_target};
 ghost use Rattle.mlk_states.specs.StateViews.{state_of};
 
 use crate::shown::State;
-use mlk_expr::Callee;
 use mlk_jobs::Job;
 use mlk_parts::has_formals;
 use mlk_program::{EntryId, Program};
-use mlk_routine::Line;
+use mlk_tree::{Callee, Line};
 
 // Whether an entry has a line.
 #[tactic(auto, using(crate::proofs::CallLemmas::no_routine, crate::proofs::CallLemmas::some_line))]

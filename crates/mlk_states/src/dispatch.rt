@@ -1,7 +1,7 @@
 // What each kind of task shows of a job.
 
 ghost use Rattle.std.specs.Prelude.{◌≡◌, ◌∷◌, List, map};
-ghost use Rattle.mlk_routine.specs.Views.{routine_of};
+ghost use Rattle.mlk_tree.specs.Views.{routine_of};
 ghost use Rattle.mlk_jobs.specs.Seen as seen;
 ghost use Rattle.mlk_jobs.specs.Seen.{state_in};
 ghost use Rattle.mlk_jobs.specs.Tasks.{Task as TaskOf};

@@ -7,9 +7,8 @@ ghost use Rattle.mlk_jobs.specs.Values.{fold_before, fold_between};
 ghost use Rattle.mlk_text.specs.declared.operator.Op.TheVariants as operator;
 ghost use Rattle.mlk_text.specs.declared.operator.UnaryOp.TheVariants.{Plus, Minus};
 
-use mlk_expr::{Op, UnaryOp};
 use mlk_jobs::known_truth;
-use mlk_text::{Value, fold_number, whole};
+use mlk_text::{Op, UnaryOp, Value, fold_number, whole};
 
 // The longest text that is known of two that are joined.
 const LONGEST_JOIN: usize = 255;

@@ -3,7 +3,7 @@
 ghost use Rattle.std.specs.Prelude.{◌≡◌, ◌++◌, OnOk, codes, map};
 ghost use Rattle.mlk_lexemes.specs.Lists.{flat};
 ghost use Rattle.mlk_lexemes.specs.Texts.{line};
-ghost use Rattle.mlk_routine.specs.Views.{routine_of};
+ghost use Rattle.mlk_tree.specs.Views.{routine_of};
 ghost use Rattle.mlk_jobs.specs.JobViews.{job_of};
 ghost use Rattle.mlk_states.specs.Printed.{clash_lines, job_line, pair_line, ring_text, waits_lines};
 ghost use Rattle.mlk_states.specs.StateTexts.{state_text};

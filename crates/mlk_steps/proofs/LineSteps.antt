@@ -3,7 +3,7 @@ use Rattle.std.proofs.Common.{◌≡◌, List, [], ◌∷◌, ◌++◌, true, fa
 use Rattle.std.specs.Prelude.{is_some}
 use Rattle.std.proofs.lemmas.Bool.{false≢true}
 use Rattle.mlk_locks.specs.declared.refusal.Refusal.TheVariants.{NotEnabled}
-use Rattle.mlk_routine.specs.Trees.{CommandTrees, finished, then_command, then_for, LineHead, LineTrees}
+use Rattle.mlk_tree.specs.Trees.{CommandTrees, finished, then_command, then_for, LineHead, LineTrees}
 use Rattle.mlk_program.specs.Entries.{formals_of}
 use Rattle.mlk_jobs.specs.Tasks.{Task, Job, LineTree, RunCommands, RunLines}
 use Rattle.mlk_jobs.specs.Choices.{doing}

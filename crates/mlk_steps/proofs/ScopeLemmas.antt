@@ -16,8 +16,8 @@ use Rattle.mlk_jobs.specs.Tasks as task
 use Rattle.mlk_jobs.specs.Tasks.{Task, LineTree}
 use Rattle.mlk_jobs.specs.TaskViews.{task_of, block_of}
 use Rattle.mlk_jobs.specs.declared.task.Task.{Task as TaskIn}
-use Rattle.mlk_routine.specs.declared.routine.Line.{Line}
-use Rattle.mlk_routine.specs.Views.{line_of, lines_from}
+use Rattle.mlk_tree.specs.declared.routine.Line.{Line}
+use Rattle.mlk_tree.specs.Views.{line_of, lines_from}
 use Rattle.mlk_program.specs.Entries.{as_lines}
 use Rattle.mlk_jobs.specs.Views.{names_of, binder_of, bindings_of, value_at}
 use Rattle.mlk_jobs.specs.JobViews.{frame_of, job_of, pending_of, tasks_of}

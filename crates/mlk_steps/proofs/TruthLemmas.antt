@@ -5,7 +5,7 @@ use Rattle.std.proofs.lemmas.Bool.{cases_Bool}
 use Rattle.mlk_locks.specs.declared.refusal.Refusal.{Refusal}
 use Rattle.mlk_locks.specs.declared.refusal.Refusal.TheVariants.{NotEnabled}
 use Rattle.mlk_locks.specs.Systems.{and_then}
-use Rattle.mlk_expr.specs.Trees.{Tree, Choices}
+use Rattle.mlk_tree.specs.ExprTrees.{Tree, Choices}
 use Rattle.mlk_jobs.specs.declared.choice.Choice.{Choice}
 use Rattle.mlk_jobs.specs.declared.choice.Choice.TheVariants as choice
 use Rattle.mlk_jobs.specs.Tasks.{Task, Job}

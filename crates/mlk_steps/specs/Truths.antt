@@ -1,6 +1,6 @@
 -- The truth that a step is taken by. This project's own.
 use Rattle.std.specs.Prelude.{ℕ, Bool, true, false, if◌then◌else◌, List, [], ◌∷◌, Option, Some, None, Result, Ok, Err}
-use Rattle.mlk_expr.specs.Trees.{Tree, Choices}
+use Rattle.mlk_tree.specs.ExprTrees.{Tree, Choices}
 use Rattle.mlk_locks.specs.declared.refusal.Refusal.{Refusal}
 use Rattle.mlk_locks.specs.declared.refusal.Refusal.TheVariants.{NotEnabled, BadChoice}
 use Rattle.mlk_jobs.specs.declared.choice.Choice.{Choice}

@@ -2,7 +2,7 @@
 
 ghost use Rattle.std.specs.Prelude.{◌≡◌, ◌++◌, ◌+◌, ◌-◌, ◌^◌, suc, min, OnErr, Ok, map};
 ghost use Rattle.mlk_text.specs.Failures.{Answers};
-ghost use Rattle.mlk_routine.specs.Views.{target_of};
+ghost use Rattle.mlk_tree.specs.Views.{target_of};
 ghost use Rattle.mlk_jobs.specs.Choices.{without_choice, with_last, last_values, dropped, doing};
 ghost use Rattle.mlk_jobs.specs.Assigning.{assignments, count_parts};
 ghost use Rattle.mlk_jobs.specs.JobViews.{job_of, KeepsPending};
@@ -12,8 +12,8 @@ use crate::ask::nothing_asked;
 use mlk_jobs::{Choice, Job};
 use mlk_locks::Refusal;
 use mlk_parts::{assignments, count_parts};
-use mlk_routine::Target;
 use mlk_text::{Failure, Value};
+use mlk_tree::Target;
 use std::alloc::Global;
 
 // How many values SET uses: those that its targets need, and its own.

@@ -2,7 +2,7 @@
 
 ghost use Rattle.std.specs.Prelude.{◌≡◌, OnErr, Ok, if◌then◌else◌};
 ghost use Rattle.mlk_text.specs.Failures.{Answers};
-ghost use Rattle.mlk_expr.specs.Trees.{choices, choices_from};
+ghost use Rattle.mlk_tree.specs.ExprTrees.{choices, choices_from};
 ghost use Rattle.mlk_jobs.specs.Choices.{without_choice, with_truth, same_truth, doing};
 ghost use Rattle.mlk_jobs.specs.Lines.{skipped, selected};
 ghost use Rattle.mlk_jobs.specs.Locking.{tested};
@@ -11,11 +11,11 @@ ghost use Rattle.mlk_jobs.specs.Sound.{Sound};
 
 use crate::ask::{nothing_asked, or_refused};
 use crate::replace::replace;
-use mlk_expr::Expr;
 use mlk_jobs::{Choice, Job, Task, ValueTask, asked_truth};
 use mlk_locks::Refusal;
 use mlk_parts::add;
 use mlk_text::Failure;
+use mlk_tree::Expr;
 use std::alloc::Global;
 
 /// `$TEST` is set to any truth.

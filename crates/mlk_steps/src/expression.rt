@@ -10,10 +10,9 @@ ghost use Rattle.mlk_jobs.specs.JobViews.{job_of, KeepsPending};
 ghost use Rattle.mlk_jobs.specs.Sound.{Sound};
 
 use crate::ask::{nothing_asked, or_refused};
-use mlk_expr::{Op, UnaryOp};
 use mlk_jobs::{Choice, Job, asked_value, given_before, given_between};
 use mlk_locks::Refusal;
-use mlk_text::{Failure, Name, Value};
+use mlk_text::{Failure, Name, Op, UnaryOp, Value};
 use std::alloc::{AllocError, Global};
 
 // A value is computed. Nothing is asked.

@@ -2,7 +2,7 @@
 
 ghost use Rattle.std.specs.Prelude.{◌≡◌, ◌∷◌, ◌++◌, OnErr, Ok, map};
 ghost use Rattle.mlk_text.specs.Failures.{Answers};
-ghost use Rattle.mlk_routine.specs.Views.{line_of, parameter_of};
+ghost use Rattle.mlk_tree.specs.Views.{line_of, parameter_of};
 ghost use Rattle.mlk_jobs.specs.Tasks.{RunCommands, Forever, NextValue, StoreAny};
 ghost use Rattle.mlk_jobs.specs.Choices.{without_choice, with_truth, doing};
 ghost use Rattle.mlk_jobs.specs.Lines.{next_line, next_command, parameter_parts, first_round, later_round};
@@ -17,8 +17,8 @@ use mlk_locks::Refusal;
 use mlk_parts::{
     add, first_round, has_formals, later_round, line_parts, next_command, parameter_parts,
 };
-use mlk_routine::{Line, Parameter};
 use mlk_text::{Failure, Name};
+use mlk_tree::{Line, Parameter};
 use std::alloc::Global;
 
 /// The next line; a job does not go on to a line with a formal list.

@@ -4,7 +4,7 @@ ghost use Rattle.std.specs.Prelude.{◌≡◌, ◌++◌, IfOk, OnErr, Bool, Ok, 
 ghost use Rattle.std.specs.List.{list_all};
 ghost use Rattle.mlk_names.specs.declared.lock_name.LockName.{LockName};
 ghost use Rattle.mlk_text.specs.Failures.{Answers};
-ghost use Rattle.mlk_routine.specs.Views.{variable_of};
+ghost use Rattle.mlk_tree.specs.Views.{variable_of};
 ghost use Rattle.mlk_jobs.specs.Choices.{without_choice, doing, dropped, last_values};
 ghost use Rattle.mlk_jobs.specs.Locking.{count_all, names_of, by_sign, claimed};
 ghost use Rattle.mlk_locks.specs.Counts as counts;
@@ -17,8 +17,8 @@ use mlk_jobs::{Choice, Job, asked_truth, count_all, lock_names};
 use mlk_locks::{Held, Refusal};
 use mlk_names::LockName;
 use mlk_parts::by_sign;
-use mlk_routine::{Sign, Variable};
 use mlk_text::Failure;
+use mlk_tree::{Sign, Variable};
 use std::alloc::{AllocError, Global};
 
 /// Each of these names is held once less.

@@ -2,7 +2,7 @@
 
 ghost use Rattle.std.specs.Prelude.{◌≡◌, ◌++◌, ◌+◌, OnErr, Ok, take, drop};
 ghost use Rattle.mlk_text.specs.Failures.{Answers};
-ghost use Rattle.mlk_routine.specs.Views.{variable_of};
+ghost use Rattle.mlk_tree.specs.Views.{variable_of};
 ghost use Rattle.mlk_jobs.specs.Choices.{without_choice, last_values, dropped, doing};
 ghost use Rattle.mlk_jobs.specs.Commands.{count_in};
 ghost use Rattle.mlk_jobs.specs.Assigning.{merge_source, merge_target};
@@ -13,8 +13,8 @@ use crate::ask::nothing_asked;
 use mlk_jobs::{Choice, Job, count_in, cut_after};
 use mlk_locks::Refusal;
 use mlk_parts::{merge_source, merge_target};
-use mlk_routine::Variable;
 use mlk_text::{Failure, Value};
+use mlk_tree::Variable;
 use std::alloc::Global;
 
 // The subscripts of both sides.

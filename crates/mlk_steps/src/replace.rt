@@ -2,7 +2,7 @@
 
 ghost use Rattle.std.specs.Prelude.{◌≡◌, ◌++◌, OnErr, Ok, map};
 ghost use Rattle.mlk_text.specs.Failures.{Answers};
-ghost use Rattle.mlk_expr.specs.Trees.{tree_of};
+ghost use Rattle.mlk_tree.specs.ExprTrees.{tree_of};
 ghost use Rattle.mlk_jobs.specs.Choices.{without_choice, doing};
 ghost use Rattle.mlk_jobs.specs.Expressions.{parts_of};
 ghost use Rattle.mlk_jobs.specs.JobViews.{job_of, KeepsPending};
@@ -10,11 +10,11 @@ ghost use Rattle.mlk_jobs.specs.Sound.{Sound};
 ghost use Rattle.mlk_jobs.specs.TaskViews.{task_of};
 
 use crate::ask::nothing_asked;
-use mlk_expr::Expr;
 use mlk_jobs::{Choice, Job, Task};
 use mlk_locks::Refusal;
 use mlk_parts::parts_of;
 use mlk_text::Failure;
+use mlk_tree::Expr;
 use std::alloc::Global;
 
 /// These tasks are done in place of the one that was taken away. Nothing is asked.

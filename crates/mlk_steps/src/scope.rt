@@ -16,8 +16,8 @@ ghost use Rattle.mlk_steps.specs.Steps.{made_new, IsBack};
 use crate::ask::nothing_asked;
 use mlk_jobs::{Back, Binder, Choice, Job, LineTask, Names, Pending, Task, add_generation, forget};
 use mlk_locks::Refusal;
-use mlk_routine::Line;
 use mlk_text::Failure;
+use mlk_tree::Line;
 use std::alloc::Global;
 
 // The first generation that no binder has.

@@ -2,8 +2,8 @@
 
 ghost use Rattle.std.specs.Prelude.{◌≡◌, ◌∷◌, ◌++◌, [], OnErr, OnOk, Ok};
 ghost use Rattle.mlk_text.specs.Failures.{Answers};
-ghost use Rattle.mlk_expr.specs.Trees.{tree_of, choices, choices_from};
-ghost use Rattle.mlk_routine.specs.Views.{action_of};
+ghost use Rattle.mlk_tree.specs.ExprTrees.{tree_of, choices, choices_from};
+ghost use Rattle.mlk_tree.specs.Views.{action_of};
 ghost use Rattle.mlk_jobs.specs.Choices.{by_truth, doing};
 ghost use Rattle.mlk_jobs.specs.Commands.{action_parts};
 ghost use Rattle.mlk_jobs.specs.Lines.{tasks_if, chosen};
@@ -14,12 +14,11 @@ ghost use Rattle.mlk_jobs.specs.TaskViews.{Adds, block_of};
 ghost use Rattle.mlk_steps.specs.Truths.{truth_chosen, truth_known, truth_in, part_chosen};
 
 use crate::ask::or_refused;
-use mlk_expr::Expr;
 use mlk_jobs::{Choice, Job, Task, ValueTask, known_truth};
 use mlk_locks::Refusal;
 use mlk_parts::{action_parts, add};
-use mlk_routine::{Action, Line};
 use mlk_text::Failure;
+use mlk_tree::{Action, Expr, Line};
 use std::alloc::{AllocError, Global};
 
 // The truth that is chosen, where one has to be.

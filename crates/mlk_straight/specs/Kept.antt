@@ -1,6 +1,6 @@
 -- What a check of straight lines promises. This project's own choice.
 use Rattle.std.specs.Prelude.{◌≡◌, ◌≢◌, ℕ, Bool, true, false, List, [], Ok}
-use Rattle.mlk_routine.specs.Trees.{RoutineTree}
+use Rattle.mlk_tree.specs.Trees.{RoutineTree}
 use Rattle.mlk_coverage.specs.declared.rules.RuleLists.{RuleLists}
 use Rattle.mlk_machine.specs.declared.plain.tree.Routine.{Routine}
 use Rattle.mlk_walk.specs.declared.cert.Certificate.{Certificate}

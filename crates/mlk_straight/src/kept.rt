@@ -1,7 +1,7 @@
 // What a check of straight lines keeps.
 
 ghost use Rattle.std.specs.Prelude.{IfOk, map};
-ghost use Rattle.mlk_routine.specs.Views.{routine_of};
+ghost use Rattle.mlk_tree.specs.Views.{routine_of};
 ghost use Rattle.mlk_straight.specs.Kept.{TellsKept};
 
 use crate::certificate::{CertificateError, read_certificate};

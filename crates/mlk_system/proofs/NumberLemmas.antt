@@ -3,7 +3,7 @@ use Rattle.std.proofs.Common.{◌≡◌, ◌∙◌, ◌<◌, ◌==◌, ◌||◌,
 use Rattle.std.specs.Prelude.{slice_set, position, option_map}
 use Rattle.std.proofs.lemmas.Bool.{cases_Bool}
 use Rattle.mlk_locks.specs.declared.refusal.Refusal.TheVariants.{UnknownJob, NotEnabled}
-use Rattle.mlk_routine.specs.Trees.{RoutineTree}
+use Rattle.mlk_tree.specs.Trees.{RoutineTree}
 use Rattle.mlk_program.proofs.NameTables.{position-cons}
 use Rattle.mlk_jobs.specs.declared.job.Job.{Job as JobIn}
 use Rattle.mlk_jobs.specs.Tasks.{Job}

@@ -1,7 +1,7 @@
 -- Steps that a job makes by itself, one after another.
 use Rattle.std.proofs.Common.{◌≡◌, ◌∙◌, ℕ, zero, suc, ◌≤◌, List, Ok, Err, refl, sym, ap, arith}
 use Rattle.mlk_locks.specs.declared.refusal.Refusal.{Refusal}
-use Rattle.mlk_routine.specs.Trees.{RoutineTree}
+use Rattle.mlk_tree.specs.Trees.{RoutineTree}
 use Rattle.mlk_jobs.specs.Tasks.{Job}
 use Rattle.mlk_jobs.specs.Choices.{Stepped}
 use Rattle.mlk_jobs.specs.Seen.{state, silent_step, go_on, settled}

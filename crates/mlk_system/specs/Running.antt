@@ -1,7 +1,7 @@
 -- What a system is: routines, the entries at which jobs may begin, and the jobs, in the order in which they began. This
 -- project's own.
 use Rattle.std.specs.Prelude.{List}
-use Rattle.mlk_routine.specs.declared.routine.Routine.{Routine}
+use Rattle.mlk_tree.specs.declared.routine.Routine.{Routine}
 use Rattle.mlk_program.specs.declared.entry.EntryId.{EntryId}
 use Rattle.mlk_jobs.specs.declared.job.Job.{Job as JobIn}
 

@@ -1,9 +1,9 @@
 -- What a system says, in the definition's words. This project's own.
 use Rattle.std.specs.Prelude.{◌≡◌, List, map}
 use Rattle.mlk_locks.specs.Systems.{Machine}
-use Rattle.mlk_routine.specs.declared.routine.Routine.{Routine}
-use Rattle.mlk_routine.specs.Trees.{RoutineTree}
-use Rattle.mlk_routine.specs.Views.{routine_of}
+use Rattle.mlk_tree.specs.declared.routine.Routine.{Routine}
+use Rattle.mlk_tree.specs.Trees.{RoutineTree}
+use Rattle.mlk_tree.specs.Views.{routine_of}
 use Rattle.mlk_program.specs.declared.entry.EntryId.{EntryId}
 use Rattle.mlk_jobs.specs.declared.choice.Choice.{Choice}
 use Rattle.mlk_jobs.specs.JobViews.{job_of}

@@ -41,11 +41,11 @@ pub struct System<'a> {
 impl<'a> Model for System<'a> {
     ghost use Rattle.std.specs.Coded.{codes};
     ghost use Rattle.indexmap.specs.Layout.{hash_map_code};
-    ghost use Rattle.mlk_expr.specs.contracts.tree.Expr as expr;
-    ghost use Rattle.mlk_expr.specs.contracts.tree.Actual as actual;
-    ghost use Rattle.mlk_routine.specs.contracts.tree.Commands as commands;
-    ghost use Rattle.mlk_routine.specs.contracts.tree.For as loop_of;
-    ghost use Rattle.mlk_routine.specs.contracts.routine.Line as line;
+    ghost use Rattle.mlk_tree.specs.contracts.expr.Expr as expr;
+    ghost use Rattle.mlk_tree.specs.contracts.expr.Actual as actual;
+    ghost use Rattle.mlk_tree.specs.contracts.command.Commands as commands;
+    ghost use Rattle.mlk_tree.specs.contracts.command.For as loop_of;
+    ghost use Rattle.mlk_tree.specs.contracts.routine.Line as line;
     ghost use Rattle.mlk_run.specs.Jobs.{AreSound};
     ghost use Rattle.mlk_system.specs.Numbers.{AreNumbers};
     ghost use Rattle.mlk_system.specs.Running.{Running};

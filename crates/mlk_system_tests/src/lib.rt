@@ -16,13 +16,14 @@ use mlk_locks::Refusal;
 #[cfg(test)]
 use mlk_program::{EntryId, Program, link};
 #[cfg(test)]
-use mlk_routine::{Routine, read_routine};
+use mlk_routine::read_routine;
 #[cfg(test)]
 use mlk_states::system_text;
 #[cfg(test)]
 use mlk_system::{Act, Event, System};
 #[cfg(test)]
 use mlk_text::{Failure, Fault, List, Value};
+use mlk_tree::Routine;
 #[cfg(test)]
 use std::alloc::{AllocError, Global};
 

@@ -9,12 +9,12 @@ use Rattle.mlk_text.specs.declared.root.Root.{Root}
 use Rattle.mlk_text.specs.declared.root.Root.TheVariants as root
 use Rattle.mlk_text.specs.declared.operator.Op.TheVariants as op
 use Rattle.mlk_text.specs.declared.operator.Relation.TheVariants as relation
-use Rattle.mlk_expr.specs.declared.tree.Callee.{Callee}
-use Rattle.mlk_expr.specs.declared.tree.Special.TheVariants as special
-use Rattle.mlk_expr.specs.declared.tree.Function.TheVariants as function
-use Rattle.mlk_expr.specs.Trees.{Lit, LocalName, GlobalName, SpecialName, Chain, Func, Selected, BareCall, CallOf, no_trees, tree, no_subs, sub, no_links, link, no_choices, choice, Given, ByRef, no_actuals}
-use Rattle.mlk_routine.specs.declared.tree.Sign.TheVariants as sign
-use Rattle.mlk_routine.specs.Trees.{RoutineTree, Named_routine, no_lines, line, LineHead, finished, then_command, then_for, Does, Do, Else, Halt, If, Job, Kill, Lock, Merge, New, Quit, Read, Set, Write, Named, Called, DoCall, KillOne, KillAllBut, NewOne, NewAllBut, LockNames, MergeInto, ReadLine, SetWhole, SetTo, WriteValue, Once, Endless, Limited, Runs}
+use Rattle.mlk_tree.specs.declared.expr.Callee.{Callee}
+use Rattle.mlk_tree.specs.declared.expr.Special.TheVariants as special
+use Rattle.mlk_tree.specs.declared.expr.Function.TheVariants as function
+use Rattle.mlk_tree.specs.ExprTrees.{Lit, LocalName, GlobalName, SpecialName, Chain, Func, Selected, BareCall, CallOf, no_trees, tree, no_subs, sub, no_links, link, no_choices, choice, Given, ByRef, no_actuals}
+use Rattle.mlk_tree.specs.declared.command.Sign.TheVariants as sign
+use Rattle.mlk_tree.specs.Trees.{RoutineTree, Named_routine, no_lines, line, LineHead, finished, then_command, then_for, Does, Do, Else, Halt, If, Job, Kill, Lock, Merge, New, Quit, Read, Set, Write, Named, Called, DoCall, KillOne, KillAllBut, NewOne, NewAllBut, LockNames, MergeInto, ReadLine, SetWhole, SetTo, WriteValue, Once, Endless, Limited, Runs}
 use Rattle.mlk_names.specs.declared.lock_name.LockName.{LockName}
 use Rattle.mlk_names.specs.declared.known_symbol.KnownSym.{KnownSym}
 use Rattle.mlk_names.specs.declared.known_symbol.KnownSym.TheVariants as known

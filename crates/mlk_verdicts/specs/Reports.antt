@@ -2,7 +2,7 @@
 -- verdict. This project's own choice.
 use Rattle.std.specs.Prelude.{ℕ, suc, Bool, ◌||◌, ◌==◌, if◌then◌else◌, List, [], ◌∷◌, ◌++◌, map, flat_map, is_some, is_none, find}
 use Rattle.std.specs.Prelude.{Option, Some, None}
-use Rattle.mlk_routine.specs.Trees.{RoutineTree, HeadTree, LineTrees}
+use Rattle.mlk_tree.specs.Trees.{RoutineTree, HeadTree, LineTrees}
 use Rattle.mlk_program.specs.declared.entry.EntryId.{EntryId}
 use Rattle.mlk_program.specs.Entries.{lines_in, has_label, entry_by}
 use Rattle.mlk_coverage.specs.declared.rules.RuleLists.{RuleLists}

@@ -4,8 +4,8 @@ use Rattle.std.specs.Prelude.{option_map}
 use Rattle.std.specs.List.{list_any}
 use Rattle.mlk_text.specs.declared.code.Code.{Code}
 use Rattle.mlk_text.specs.declared.code.Code.TheVariants.{HeldAtEnd, CaseNotListed, NeedMissing, NoCertificate}
-use Rattle.mlk_routine.specs.Trees.{RoutineTree, HeadTree, LineTrees}
-use Rattle.mlk_routine.specs.Views.{lines_from}
+use Rattle.mlk_tree.specs.Trees.{RoutineTree, HeadTree, LineTrees}
+use Rattle.mlk_tree.specs.Views.{lines_from}
 use Rattle.mlk_program.specs.declared.entry.EntryId.{EntryId}
 use Rattle.mlk_program.specs.Entries.{line_of_entry, lines_of}
 use Rattle.mlk_cert.specs.declared.case.Test.TheVariants.{Any}

@@ -1,7 +1,7 @@
 // The check of an entry, and of a whole program.
 
 ghost use Rattle.std.specs.Prelude.{◌≡◌, ◌∷◌, ◌++◌, [], IfOk, OnOk, map, flat_map, filter};
-ghost use Rattle.mlk_routine.specs.Views.{line_of, routine_of};
+ghost use Rattle.mlk_tree.specs.Views.{line_of, routine_of};
 ghost use Rattle.mlk_calls.specs.Scope.{scope_with};
 ghost use Rattle.mlk_verdicts.specs.Faults.{ascending};
 ghost use Rattle.mlk_text.specs.declared.code.Code.TheVariants.{NoCertificate};
@@ -16,9 +16,9 @@ use mlk_calls::{Entries, Scope};
 use mlk_cert::{Certificate, EntryCert};
 use mlk_coverage::Rules;
 use mlk_program::{EntryId, Program};
-use mlk_routine::{Line, Routine};
 use mlk_rows::Fault;
 use mlk_text::{Code, Column};
+use mlk_tree::{Line, Routine};
 use std::alloc::{AllocError, Global};
 
 /// What a check looks into: a program, its rules, and what is known of its entries.

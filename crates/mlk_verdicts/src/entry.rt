@@ -1,7 +1,7 @@
 // The walk of an entry.
 
 ghost use Rattle.std.specs.Prelude.{◌≡◌, ◌++◌, IfOk, map, option_map, option_copied};
-ghost use Rattle.mlk_routine.specs.Views.{line_of, routine_of};
+ghost use Rattle.mlk_tree.specs.Views.{line_of, routine_of};
 ghost use Rattle.mlk_program.specs.Entries.{line_of_entry, lines_of};
 ghost use Rattle.mlk_calls.specs.Scope.{scope_of};
 ghost use Rattle.mlk_calls.specs.Calls.{formals_in};
@@ -12,9 +12,9 @@ use crate::begin::own_faults;
 use mlk_calls::Scope;
 use mlk_lines::{Around, LineFaults, walk_lines};
 use mlk_program::{EntryId, Program};
-use mlk_routine::Line;
 use mlk_rows::Faults;
 use mlk_text::Name;
+use mlk_tree::Line;
 use std::alloc::{AllocError, Global};
 
 /// What is found of an entry: at its line, and by the walks of its lines.

@@ -1,7 +1,7 @@
 // The faults of one line of an entry.
 
 ghost use Rattle.std.specs.Prelude.{◌≡◌, [], IfOk, Some, map, filter};
-ghost use Rattle.mlk_routine.specs.Views.{routine_of};
+ghost use Rattle.mlk_tree.specs.Views.{routine_of};
 ghost use Rattle.mlk_verdicts.specs.Faults.{ascending};
 ghost use Rattle.mlk_verdicts.specs.Verdicts.{known, fault_in, is_of, line_faults_with, line_faults};
 

@@ -1,7 +1,7 @@
 // Entry texts that a program lacks.
 
 ghost use Rattle.std.specs.Prelude.{◌≡◌, option_map, find, map};
-ghost use Rattle.mlk_routine.specs.Views.{routine_of};
+ghost use Rattle.mlk_tree.specs.Views.{routine_of};
 ghost use Rattle.mlk_verdicts.specs.Reports.{is_missing, block_text, missing};
 
 use mlk_cert::{Certificate, EntryCert};

@@ -7,22 +7,22 @@ use Rattle.mlk_text.specs.declared.failure.Failure.{Failure}
 use Rattle.mlk_text.specs.declared.failure.Failure.TheVariants.{OutOfMemory, Refused}
 use Rattle.mlk_text.specs.Failures.{FailsAs, FailsOn}
 use Rattle.mlk_program.proofs.NameTables.{drop_at}
-use Rattle.mlk_routine.specs.declared.tree.Command.{Command}
-use Rattle.mlk_routine.specs.declared.tree.Commands.{Commands}
-use Rattle.mlk_routine.specs.declared.tree.For.{For}
-use Rattle.mlk_routine.specs.declared.tree.Commands.TheViews.{out-Commands, out-For}
-use Rattle.mlk_routine.specs.declared.tree.Commands.TheFolds.{fold-For, fold_out-For}
-use Rattle.mlk_routine.specs.declared.routine.Line.{Line}
-use Rattle.mlk_routine.specs.declared.routine.Routine.{Routine}
-use Rattle.mlk_routine.specs.Trees.{CommandTrees, finished}
-use Rattle.mlk_routine.specs.Views.{command_of, commands_of, commands_from, commands_step, for_step, line_of, lines_from, routine_of}
+use Rattle.mlk_tree.specs.declared.command.Command.{Command}
+use Rattle.mlk_tree.specs.declared.command.Commands.{Commands}
+use Rattle.mlk_tree.specs.declared.command.For.{For}
+use Rattle.mlk_tree.specs.declared.command.Commands.TheViews.{out-Commands, out-For}
+use Rattle.mlk_tree.specs.declared.command.Commands.TheFolds.{fold-For, fold_out-For}
+use Rattle.mlk_tree.specs.declared.routine.Line.{Line}
+use Rattle.mlk_tree.specs.declared.routine.Routine.{Routine}
+use Rattle.mlk_tree.specs.Trees.{CommandTrees, finished}
+use Rattle.mlk_tree.specs.Views.{command_of, commands_of, commands_from, commands_step, for_step, line_of, lines_from, routine_of}
 use Rattle.mlk_machine.specs.declared.plain.tree.Command.{Command as PlainCommand}
 use Rattle.mlk_machine.specs.declared.plain.tree.Line.{Line as PlainLine}
 use Rattle.mlk_machine.specs.declared.plain.tree.Routine.{Routine as PlainRoutine}
 use Rattle.mlk_program.proofs.FoundCommands.{none_last, some_last}
-use Rattle.mlk_expr.specs.declared.tree.Subscript.{Subscript}
-use Rattle.mlk_expr.specs.declared.tree.Actual.TheFolds.{fold_out-Subscript}
-use Rattle.mlk_expr.specs.Trees.{ActualTree, Tree, actual_step, expr_step, subscript_step, tree_of, sub_of, sub_trees, subs_from}
+use Rattle.mlk_tree.specs.declared.expr.Subscript.{Subscript}
+use Rattle.mlk_tree.specs.declared.expr.Actual.TheFolds.{fold_out-Subscript}
+use Rattle.mlk_tree.specs.ExprTrees.{ActualTree, Tree, actual_step, expr_step, subscript_step, tree_of, sub_of, sub_trees, subs_from}
 use Rattle.mlk_walk.specs.Straight.{and_more, outside, named, straight_commands, straight_lines, straight, first_of_all, plain_literal, plain_literals}
 use Rattle.mlk_walk.specs.StraightAnswers.{each, of_command, of_line, of_routine}
 

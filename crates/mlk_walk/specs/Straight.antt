@@ -7,10 +7,10 @@ use Rattle.mlk_text.specs.declared.fault.Fault.{Fault}
 use Rattle.mlk_text.specs.declared.place.Place.{Place}
 use Rattle.mlk_text.specs.declared.fault.LeftOut.TheVariants as left_out
 use Rattle.mlk_text.specs.Places.{column_at}
-use Rattle.mlk_expr.specs.Trees.{Tree, Lit, LocalName, GlobalName, Subs, no_subs, sub}
-use Rattle.mlk_routine.specs.declared.tree.Sign.{Sign}
-use Rattle.mlk_routine.specs.declared.tree.Sign.TheVariants as sign
-use Rattle.mlk_routine.specs.Trees.{Named, SetTree, SetTo, SetWhole, LockTree, LockNames, ActionTree, Do, Else, Halt, Hang, If, Job, Kill, Lock, Merge, New, Quit, Read, Set, Write, CommandTree, Does, CommandTrees, finished, then_command, then_for, HeadTree, LineHead, LineTrees, no_lines, line, RoutineTree, Named_routine}
+use Rattle.mlk_tree.specs.ExprTrees.{Tree, Lit, LocalName, GlobalName, Subs, no_subs, sub}
+use Rattle.mlk_tree.specs.declared.command.Sign.{Sign}
+use Rattle.mlk_tree.specs.declared.command.Sign.TheVariants as sign
+use Rattle.mlk_tree.specs.Trees.{Named, SetTree, SetTo, SetWhole, LockTree, LockNames, ActionTree, Do, Else, Halt, Hang, If, Job, Kill, Lock, Merge, New, Quit, Read, Set, Write, CommandTree, Does, CommandTrees, finished, then_command, then_for, HeadTree, LineHead, LineTrees, no_lines, line, RoutineTree, Named_routine}
 use Rattle.mlk_machine.specs.declared.plain.tree.Root.TheVariants as root
 use Rattle.mlk_machine.specs.declared.plain.tree.LockName.{LockName}
 use Rattle.mlk_machine.specs.declared.plain.tree.Node.{Node}

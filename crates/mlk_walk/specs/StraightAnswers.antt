@@ -1,10 +1,10 @@
 -- What the parts of the code's straight lines answer. For private clauses alone. This project's own.
 use Rattle.std.specs.Prelude.{ℕ, List, [], ◌∷◌, Option, Some, None, Result, Ok}
 use Rattle.mlk_text.specs.declared.fault.Fault.{Fault}
-use Rattle.mlk_routine.specs.declared.tree.Command.{Command}
-use Rattle.mlk_routine.specs.declared.routine.Line.{Line}
-use Rattle.mlk_routine.specs.declared.routine.Routine.{Routine}
-use Rattle.mlk_routine.specs.Views.{command_of, line_of, routine_of}
+use Rattle.mlk_tree.specs.declared.command.Command.{Command}
+use Rattle.mlk_tree.specs.declared.routine.Line.{Line}
+use Rattle.mlk_tree.specs.declared.routine.Routine.{Routine}
+use Rattle.mlk_tree.specs.Views.{command_of, line_of, routine_of}
 use Rattle.mlk_machine.specs.declared.plain.tree.Command.{Command as PlainCommand}
 use Rattle.mlk_machine.specs.declared.plain.tree.Line.{Line as PlainLine}
 use Rattle.mlk_machine.specs.declared.plain.tree.Routine.{Routine as PlainRoutine}

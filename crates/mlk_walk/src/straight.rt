@@ -2,19 +2,19 @@
 
 ghost use Rattle.std.specs.Prelude.{◌≡◌, min, map, IfOk};
 ghost use Rattle.mlk_text.specs.Failures.{Reads, Answers};
-ghost use Rattle.mlk_expr.specs.Trees.{tree_of, subs_from, sub_trees};
-ghost use Rattle.mlk_routine.specs.Views.{set_of, lock_of, action_of, command_of, commands_of, routine_of};
+ghost use Rattle.mlk_tree.specs.ExprTrees.{tree_of, subs_from, sub_trees};
+ghost use Rattle.mlk_tree.specs.Views.{set_of, lock_of, action_of, command_of, commands_of, routine_of};
 ghost use Rattle.mlk_walk.specs.Straight.{plain_literal, plain_literals, plain_node, plain_name, plain_set, signed, plain_lock, plain_action, plain_command, word_of, place_at, outside, deeper, straight_commands, straight};
 ghost use Rattle.mlk_walk.specs.StraightAnswers.{only, same, each, of_command, of_line, of_routine};
 
-use mlk_expr::{Expr, Subscript};
 use mlk_machine::plain::{self, LockName, Node, Plain, Root};
 use mlk_program::Program;
-use mlk_routine::{
-    Action, Command, Commands, Line, LockArgument, Routine, SetArgument, Sign, Target,
-};
 use mlk_text::{
     Code, Column, Failure, Fault, LeftOut, LineNumber, List, Name, NotThere, Place, Value,
+};
+use mlk_tree::{
+    Action, Command, Commands, Expr, Line, LockArgument, Routine, SetArgument, Sign, Subscript,
+    Target,
 };
 use std::alloc::{AllocError, Global};
 

@@ -2,8 +2,9 @@
 
 use mlk_machine::plain::{Action, Plain};
 use mlk_program::link;
-use mlk_routine::{Routine, read_routine};
+use mlk_routine::read_routine;
 use mlk_text::{Failure, Fault};
+use mlk_tree::Routine;
 use mlk_walk::plain_of;
 use std::alloc::{AllocError, Global};
 use std::test::Fail;

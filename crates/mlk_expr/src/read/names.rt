@@ -4,7 +4,7 @@ ghost use Rattle.std.specs.Prelude.{◌∷◌, [], suc, length};
 ghost use Rattle.mlk_text.specs.Lexemes.{byte_at};
 ghost use Rattle.mlk_text.specs.Reading.{many, put};
 ghost use Rattle.mlk_expr.specs.Lexemes.{column_of};
-ghost use Rattle.mlk_expr.specs.Trees.{tree_of, sub_of, sub_trees};
+ghost use Rattle.mlk_tree.specs.ExprTrees.{tree_of, sub_of, sub_trees};
 ghost use Rattle.mlk_expr.specs.Reading.{few, next, nested_in, list_with, placed, subs_with, local_with, global_with};
 ghost use Rattle.mlk_expr.specs.Touches.{globals_may};
 ghost use Rattle.mlk_text.specs.Failures.{Reads};
@@ -14,10 +14,10 @@ use crate::part::{global_name, name};
 use crate::read::chain;
 use crate::refusal::{Offence, Wrong, no_end, refused};
 use crate::scope::Scope;
-use crate::tree::{Expr, Subscript};
 use mlk_text::lexeme::byte_of;
 use mlk_text::limit::MOST_SUBSCRIPTS;
 use mlk_text::{Failure, likely_length};
+use mlk_tree::{Expr, Subscript};
 use std::alloc::Global;
 
 #[cycle(reading)]

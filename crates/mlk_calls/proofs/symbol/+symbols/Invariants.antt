@@ -1,5 +1,5 @@
 use Rattle.std.proofs.Common.{◌≡◌, drop}
-use Rattle.mlk_expr.specs.Trees.{links, links_from}
+use Rattle.mlk_tree.specs.ExprTrees.{links, links_from}
 use Rattle.mlk_calls.specs.Scope.{scope_of}
 use Rattle.mlk_calls.specs.Symbols.{chain_in}
 use Rattle.mlk_calls.proofs.symbol.+symbols.Given as goal

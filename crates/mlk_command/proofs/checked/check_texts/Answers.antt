@@ -1,5 +1,5 @@
 use Rattle.std.proofs.Common.{map, inr, rules, subst}
-use Rattle.mlk_routine.specs.Views.{routine_of}
+use Rattle.mlk_tree.specs.Views.{routine_of}
 use Rattle.mlk_command.specs.Checked.{AreRead, IsRefusalOf, IsRefusedBy}
 use Rattle.mlk_command.proofs.checked.check_texts.Goals as goal
 

@@ -1,5 +1,5 @@
 use Rattle.std.proofs.Common.{map, inr, rules, subst}
-use Rattle.mlk_routine.specs.Views.{routine_of}
+use Rattle.mlk_tree.specs.Views.{routine_of}
 use Rattle.mlk_command.specs.Checked.{IsOutcomeUnder, IsRefusalUnder}
 use Rattle.mlk_command.proofs.Checks.{by-link, ok_turned, err_turned}
 use Rattle.mlk_command.proofs.checked.outcome_of.Goals as goal

@@ -1,6 +1,6 @@
 use Rattle.std.proofs.Common.{inr, rules}
 use Rattle.std.specs.Prelude.{map}
-use Rattle.mlk_routine.specs.Views.{routine_of}
+use Rattle.mlk_tree.specs.Views.{routine_of}
 use Rattle.mlk_command.proofs.Checks.{by-rules, ok_turned, err_turned}
 use Rattle.mlk_command.proofs.checked.outcome_under.Goals as goal
 

@@ -1,5 +1,5 @@
 use Rattle.std.proofs.Common.{map, rules}
-use Rattle.mlk_routine.specs.Views.{routine_of}
+use Rattle.mlk_tree.specs.Views.{routine_of}
 use Rattle.mlk_command.specs.declared.source.Work.TheVariants as work
 use Rattle.mlk_command.specs.Checked.{IsRefusalOfWork}
 use Rattle.mlk_command.proofs.Checks.{verify-refused}

@@ -1,6 +1,6 @@
 use Rattle.std.proofs.Common.{subst}
 use Rattle.std.specs.Prelude.{map, IfOk, IfErr}
-use Rattle.mlk_routine.specs.Views.{routine_of}
+use Rattle.mlk_tree.specs.Views.{routine_of}
 use Rattle.mlk_command.specs.Checked.{IsReportBy, IsRefusalBy}
 use Rattle.mlk_command.proofs.Checks.{below, ok_turned, err_turned}
 use Rattle.mlk_command.proofs.checked.report_of.Goals as goal

@@ -1,6 +1,6 @@
 use Rattle.std.proofs.Common.{rules}
 use Rattle.std.specs.Prelude.{map}
-use Rattle.mlk_routine.specs.Views.{routine_of}
+use Rattle.mlk_tree.specs.Views.{routine_of}
 use Rattle.mlk_command.proofs.Checks.{by-certificate, below, ok_turned, err_turned}
 use Rattle.mlk_command.proofs.checked.report_with.Goals as goal
 

@@ -3,7 +3,7 @@ use Rattle.std.proofs.lemmas.List.{map-append}
 use Rattle.std.specs.Prelude.{map}
 use Rattle.mlk_routine.specs.RoutineGrammar.{IsRoutine}
 use Rattle.mlk_routine.specs.Refusals.{NoRoutine, Places}
-use Rattle.mlk_routine.specs.Views.{routine_of}
+use Rattle.mlk_tree.specs.Views.{routine_of}
 use Rattle.mlk_command.proofs.Checks.{routine-more, first-refused, all-routines}
 use Rattle.mlk_command.proofs.checked.routines_of.Goals as goal
 

@@ -1,6 +1,6 @@
 use Rattle.std.proofs.Common.{◌≡◌, ◌++◌, length, map, Some}
 use Rattle.std.specs.Prelude.{find}
-use Rattle.mlk_routine.specs.Views.{routine_of}
+use Rattle.mlk_tree.specs.Views.{routine_of}
 use Rattle.mlk_program.specs.Entries.{entry_by}
 use Rattle.mlk_make.specs.Missing.{is_missing}
 use Rattle.mlk_command.proofs.replayed.declared.Given as goal

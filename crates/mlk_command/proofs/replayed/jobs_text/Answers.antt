@@ -1,5 +1,5 @@
 use Rattle.std.proofs.Common.{refl, inr, map, subst}
-use Rattle.mlk_routine.specs.Views.{routine_of}
+use Rattle.mlk_tree.specs.Views.{routine_of}
 use Rattle.mlk_command.specs.Replayed.{AreDeclared, IsShown, IsStopped}
 use Rattle.mlk_command.proofs.Checks.{ok_turned, err_turned}
 use Rattle.mlk_command.proofs.replayed.jobs_text.Goals as goal

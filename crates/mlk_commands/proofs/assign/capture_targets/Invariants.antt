@@ -1,5 +1,5 @@
 use Rattle.std.proofs.Common.{◌≡◌, drop, map}
-use Rattle.mlk_routine.specs.Views.{target_of}
+use Rattle.mlk_tree.specs.Views.{target_of}
 use Rattle.mlk_rows.specs.Spots.{spot_of}
 use Rattle.mlk_commands.specs.Arguments.{capture_targets}
 use Rattle.mlk_commands.proofs.assign.capture_targets.Given as goal

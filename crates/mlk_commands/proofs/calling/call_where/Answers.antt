@@ -1,5 +1,5 @@
-use Rattle.mlk_expr.specs.Trees.{tree_of}
-use Rattle.mlk_routine.specs.Views.{call_of}
+use Rattle.mlk_tree.specs.ExprTrees.{tree_of}
+use Rattle.mlk_tree.specs.Views.{call_of}
 use Rattle.mlk_rows.specs.Walks.{each, joined}
 use Rattle.mlk_rows.specs.Spots.{spot_of}
 use Rattle.mlk_rows.specs.Expressions.{by_condition}

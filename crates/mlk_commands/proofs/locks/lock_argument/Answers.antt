@@ -1,7 +1,7 @@
 use Rattle.std.proofs.Common.{◌∙◌, ap, map}
 use Rattle.std.specs.Prelude.{option_map}
-use Rattle.mlk_expr.specs.Trees.{tree_of}
-use Rattle.mlk_routine.specs.Views.{variable_of, lock_of}
+use Rattle.mlk_tree.specs.ExprTrees.{tree_of}
+use Rattle.mlk_tree.specs.Views.{variable_of, lock_of}
 use Rattle.mlk_calls.specs.Claims.{held_too}
 use Rattle.mlk_rows.specs.Walks.{each, few}
 use Rattle.mlk_rows.specs.Spots.{spot_of}

@@ -1,5 +1,5 @@
 use Rattle.std.proofs.Common.{◌≡◌, drop, map}
-use Rattle.mlk_routine.specs.Views.{variable_of}
+use Rattle.mlk_tree.specs.Views.{variable_of}
 use Rattle.mlk_rows.specs.Spots.{spot_of}
 use Rattle.mlk_commands.specs.Locks.{capture_names}
 use Rattle.mlk_commands.proofs.names.capture_names.Given as goal

@@ -1,5 +1,5 @@
 use Rattle.std.proofs.Common.{◌≡◌, drop, map}
-use Rattle.mlk_routine.specs.Views.{variable_of}
+use Rattle.mlk_tree.specs.Views.{variable_of}
 use Rattle.mlk_commands.specs.Locks.{count_from, count_names}
 use Rattle.mlk_commands.proofs.names.count_names.Given as goal
 

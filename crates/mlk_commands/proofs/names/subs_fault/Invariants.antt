@@ -1,5 +1,5 @@
 use Rattle.std.proofs.Common.{◌≡◌, drop}
-use Rattle.mlk_expr.specs.Trees.{sub_trees, subs_from}
+use Rattle.mlk_tree.specs.ExprTrees.{sub_trees, subs_from}
 use Rattle.mlk_rows.specs.Spots.{spot_of}
 use Rattle.mlk_commands.specs.Locks.{subs_fault}
 use Rattle.mlk_commands.proofs.names.subs_fault.Given as goal

@@ -1,7 +1,7 @@
 use Rattle.std.proofs.Common.{◌∙◌, ap}
 use Rattle.std.specs.Prelude.{option_map, option_copied}
-use Rattle.mlk_expr.specs.Trees.{tree_of}
-use Rattle.mlk_routine.specs.Views.{variable_of}
+use Rattle.mlk_tree.specs.ExprTrees.{tree_of}
+use Rattle.mlk_tree.specs.Views.{variable_of}
 use Rattle.mlk_rows.specs.Walks.{each}
 use Rattle.mlk_rows.specs.Spots.{spot_of}
 use Rattle.mlk_rows.specs.Expressions.{value_if}

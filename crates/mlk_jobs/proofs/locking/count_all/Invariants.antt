@@ -1,6 +1,6 @@
 use Rattle.std.proofs.Common.{◌≡◌, ◌+◌, ◌-◌, ◌≤◌, length, map, min}
 use Rattle.std.specs.Prelude.{◌^◌}
-use Rattle.mlk_routine.specs.Views.{variable_of}
+use Rattle.mlk_tree.specs.Views.{variable_of}
 use Rattle.mlk_jobs.specs.Locking.{count_all}
 use Rattle.mlk_jobs.proofs.locking.count_all.Given as goal
 

@@ -1,5 +1,5 @@
 use Rattle.std.proofs.Common.{◌≡◌, ◌++◌, length, map}
-use Rattle.mlk_routine.specs.Views.{variable_of}
+use Rattle.mlk_tree.specs.Views.{variable_of}
 use Rattle.mlk_jobs.specs.Locking.{names_of}
 use Rattle.mlk_jobs.proofs.locking.lock_names.Given as goal
 

@@ -1,5 +1,5 @@
 use Rattle.std.proofs.Common.{◌≡◌, drop, map}
-use Rattle.mlk_expr.specs.Trees.{tree_of}
+use Rattle.mlk_tree.specs.ExprTrees.{tree_of}
 use Rattle.mlk_rows.specs.Spots.{spot_of}
 use Rattle.mlk_commands.specs.Arguments.{if_argument}
 use Rattle.mlk_lines.specs.Commands.{in_turn}

@@ -1,6 +1,6 @@
 use Rattle.std.proofs.Common.{◌≡◌, ◌∙◌, ap, rules}
 use Rattle.std.specs.Prelude.{if◌then◌else◌, option_map}
-use Rattle.mlk_routine.specs.Views.{control_of}
+use Rattle.mlk_tree.specs.Views.{control_of}
 use Rattle.mlk_rows.specs.Spots.{spot_of}
 use Rattle.mlk_rows.specs.Walks.{few}
 use Rattle.mlk_lines.specs.Counting.{counted}

@@ -1,6 +1,6 @@
 use Rattle.std.proofs.Common.{◌≡◌, drop, map}
 use Rattle.std.specs.Prelude.{fold}
-use Rattle.mlk_routine.specs.Views.{command_of}
+use Rattle.mlk_tree.specs.Views.{command_of}
 use Rattle.mlk_rows.specs.Spots.{spot_of}
 use Rattle.mlk_lines.specs.Loops.{one_command}
 use Rattle.mlk_lines.proofs.control.before.Given as goal

@@ -1,5 +1,5 @@
 use Rattle.std.proofs.Common.{◌≡◌, drop, map}
-use Rattle.mlk_routine.specs.Views.{parameter_of}
+use Rattle.mlk_tree.specs.Views.{parameter_of}
 use Rattle.mlk_rows.specs.Spots.{spot_of}
 use Rattle.mlk_lines.specs.Loops.{rounds_of, parameters}
 use Rattle.mlk_lines.proofs.control.parameters.Given as goal

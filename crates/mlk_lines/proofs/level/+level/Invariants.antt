@@ -1,5 +1,5 @@
 use Rattle.std.proofs.Common.{◌≡◌, ◌++◌, drop, map}
-use Rattle.mlk_routine.specs.Views.{line_of, lines_from}
+use Rattle.mlk_tree.specs.Views.{line_of, lines_from}
 use Rattle.mlk_calls.specs.Scope.{scope_of}
 use Rattle.mlk_lines.specs.Endings.{around_of}
 use Rattle.mlk_lines.specs.Lines.{walk_lines}

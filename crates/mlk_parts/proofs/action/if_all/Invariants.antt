@@ -1,6 +1,6 @@
 use Rattle.std.proofs.Common.{◌≡◌, ◌++◌, length, map}
 use Rattle.std.specs.Prelude.{flat_map}
-use Rattle.mlk_expr.specs.Trees.{trees}
+use Rattle.mlk_tree.specs.ExprTrees.{trees}
 use Rattle.mlk_jobs.specs.Commands.{if_parts}
 use Rattle.mlk_jobs.specs.TaskViews.{task_of}
 use Rattle.mlk_parts.proofs.action.if_all.Given as goal

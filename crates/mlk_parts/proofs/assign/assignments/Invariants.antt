@@ -1,5 +1,5 @@
 use Rattle.std.proofs.Common.{◌≡◌, ◌++◌, length, map}
-use Rattle.mlk_routine.specs.Views.{target_of}
+use Rattle.mlk_tree.specs.Views.{target_of}
 use Rattle.mlk_jobs.specs.Assigning.{assignments}
 use Rattle.mlk_jobs.specs.TaskViews.{task_of}
 use Rattle.mlk_parts.proofs.assign.assignments.Given as goal

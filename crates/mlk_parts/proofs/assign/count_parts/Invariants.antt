@@ -1,6 +1,6 @@
 use Rattle.std.proofs.Common.{◌≡◌, ◌+◌, ◌-◌, ◌≤◌, length, map, min}
 use Rattle.std.specs.Prelude.{◌^◌}
-use Rattle.mlk_routine.specs.Views.{target_of}
+use Rattle.mlk_tree.specs.Views.{target_of}
 use Rattle.mlk_jobs.specs.Assigning.{count_parts}
 use Rattle.mlk_parts.proofs.assign.count_parts.Given as goal
 

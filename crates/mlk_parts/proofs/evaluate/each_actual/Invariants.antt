@@ -1,5 +1,5 @@
 use Rattle.std.proofs.Common.{◌≡◌, ◌++◌, length, map}
-use Rattle.mlk_expr.specs.Trees.{actual_trees}
+use Rattle.mlk_tree.specs.ExprTrees.{actual_trees}
 use Rattle.mlk_jobs.specs.Expressions.{each_actual}
 use Rattle.mlk_jobs.specs.TaskViews.{task_of}
 use Rattle.mlk_parts.proofs.evaluate.each_actual.Given as goal

@@ -1,6 +1,6 @@
 use Rattle.std.proofs.Common.{take}
 use Rattle.std.specs.Prelude.{map}
-use Rattle.mlk_routine.specs.Views.{new_of}
+use Rattle.mlk_tree.specs.Views.{new_of}
 use Rattle.mlk_program.specs.News.{Adds}
 use Rattle.mlk_program.proofs.news.add_arguments.Given as goal
 

@@ -1,6 +1,6 @@
 use Rattle.std.proofs.Common.{◌≡◌, take}
 use Rattle.std.specs.Prelude.{flat_map, map}
-use Rattle.mlk_routine.specs.Views.{line_of}
+use Rattle.mlk_tree.specs.Views.{line_of}
 use Rattle.mlk_program.specs.News.{new_tree, news_at}
 use Rattle.mlk_program.proofs.news.new_names.Given as goal
 

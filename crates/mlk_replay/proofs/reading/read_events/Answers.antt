@@ -4,7 +4,7 @@ use Rattle.std.proofs.lemmas.List.{map-append}
 use Rattle.mlk_text.specs.declared.failure.Failure.{Failure}
 use Rattle.mlk_text.specs.declared.spelling.NotThere.{NotThere}
 use Rattle.mlk_text.specs.Failures.{FailsOn}
-use Rattle.mlk_routine.specs.Views.{routine_of}
+use Rattle.mlk_tree.specs.Views.{routine_of}
 use Rattle.mlk_replay.specs.InstructionViews.{asked_of, asked_at}
 use Rattle.mlk_replay.proofs.FileLemmas.{asked-shorter, read_more, no_event}
 use Rattle.mlk_replay.proofs.reading.read_events.Goals as goal

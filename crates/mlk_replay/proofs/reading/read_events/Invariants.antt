@@ -1,5 +1,5 @@
 use Rattle.std.proofs.Common.{length, map}
-use Rattle.mlk_routine.specs.Views.{routine_of}
+use Rattle.mlk_tree.specs.Views.{routine_of}
 use Rattle.mlk_replay.specs.InstructionViews.{asked_of}
 use Rattle.mlk_replay.proofs.FileLemmas.{SoFar}
 use Rattle.mlk_replay.proofs.reading.read_events.Given as goal

@@ -1,6 +1,6 @@
 use Rattle.std.proofs.Common.{option_map}
 use Rattle.std.proofs.lemmas.Result.{err_from_is_err_and}
-use Rattle.mlk_expr.specs.Trees.{actual_trees}
+use Rattle.mlk_tree.specs.ExprTrees.{actual_trees}
 use Rattle.mlk_routine.proofs.Sequences.{both_found, denied_first, denied_second}
 use Rattle.mlk_routine.proofs.Calls.{call_parts}
 use Rattle.mlk_routine.proofs.call.call.Goals as goal

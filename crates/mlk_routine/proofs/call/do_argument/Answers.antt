@@ -1,10 +1,10 @@
 use Rattle.std.proofs.Common.{refl, arith}
 use Rattle.std.proofs.lemmas.Result.{err_from_is_err_and}
 use Rattle.mlk_expr.specs.declared.scope.Allows.TheVariants.{Everything}
-use Rattle.mlk_expr.specs.Trees.{tree_of, Free}
+use Rattle.mlk_tree.specs.ExprTrees.{tree_of, Free}
 use Rattle.mlk_expr.specs.Grammar.{IsExprWhere}
 use Rattle.mlk_expr.specs.Theorem.{ExprEnds}
-use Rattle.mlk_routine.specs.Views.{call_of}
+use Rattle.mlk_tree.specs.Views.{call_of}
 use Rattle.mlk_routine.proofs.Sequences.{both_found, denied_first, denied_second}
 use Rattle.mlk_routine.proofs.Bytes.{byte_before, after_found, after_denied}
 use Rattle.mlk_routine.proofs.Arguments.{no_call, do_found, do_parts, colon_again}

@@ -1,6 +1,6 @@
 use Rattle.std.proofs.Common.{refl}
 use Rattle.mlk_routine.specs.Ends.{CallEnds, JobEnds}
-use Rattle.mlk_routine.specs.Views.{call_of}
+use Rattle.mlk_tree.specs.Views.{call_of}
 use Rattle.mlk_routine.specs.CommandGrammar.{IsJob}
 use Rattle.mlk_routine.proofs.Outcomes.{denies}
 use Rattle.mlk_routine.proofs.Arguments.{lacking_nowhere}

@@ -2,7 +2,7 @@ use Rattle.std.proofs.Common.{refl}
 use Rattle.std.proofs.lemmas.Result.{err_from_is_err_and}
 use Rattle.mlk_expr.specs.declared.scope.Allows.TheVariants.{NoCalls}
 use Rattle.mlk_routine.specs.Ends.{VariableEnds}
-use Rattle.mlk_routine.specs.Views.{variable_of}
+use Rattle.mlk_tree.specs.Views.{variable_of}
 use Rattle.mlk_routine.specs.CommandGrammar.{IsVariable}
 use Rattle.mlk_routine.proofs.Sequences.{both_found, denied_second}
 use Rattle.mlk_routine.proofs.Bytes.{after_found, after_denied}

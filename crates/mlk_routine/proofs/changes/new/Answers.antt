@@ -1,7 +1,7 @@
 use Rattle.std.proofs.Common.{◌≡◌, map, refl, sym, subst, ◌∙◌}
 use Rattle.std.proofs.lemmas.List.{map-id}
 use Rattle.std.proofs.lemmas.Result.{err_from_is_err_and}
-use Rattle.mlk_routine.specs.Trees.{NewAllBut}
+use Rattle.mlk_tree.specs.Trees.{NewAllBut}
 use Rattle.mlk_routine.specs.Told.{Found}
 use Rattle.mlk_routine.specs.Ends.{NewEnds}
 use Rattle.mlk_routine.specs.CommandGrammar.{IsNew}

@@ -1,7 +1,7 @@
 use Rattle.std.proofs.Common.{sym, ◌∙◌}
 use Rattle.std.proofs.lemmas.Result.{err_from_is_err_and}
-use Rattle.mlk_expr.specs.Trees.{tree_of}
-use Rattle.mlk_routine.specs.Trees.{Quit}
+use Rattle.mlk_tree.specs.ExprTrees.{tree_of}
+use Rattle.mlk_tree.specs.Trees.{Quit}
 use Rattle.mlk_routine.specs.CommandGrammar.{IsQuit}
 use Rattle.mlk_routine.specs.Kinds.{ActionEnds}
 use Rattle.mlk_routine.proofs.Outcomes.{denies}

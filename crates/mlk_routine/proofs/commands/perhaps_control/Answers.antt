@@ -3,7 +3,7 @@ use Rattle.std.specs.Prelude.{is_some}
 use Rattle.std.proofs.lemmas.Result.{err_from_is_err_and}
 use Rattle.mlk_routine.specs.Ends.{ControlEnds, StopEnds}
 use Rattle.mlk_routine.specs.Begins.{control_begins}
-use Rattle.mlk_routine.specs.Views.{control_of}
+use Rattle.mlk_tree.specs.Views.{control_of}
 use Rattle.mlk_routine.specs.Leading.{IsPerhapsControl}
 use Rattle.mlk_routine.specs.CommandGrammar.{IsControl}
 use Rattle.mlk_routine.proofs.Outcomes.{denies}

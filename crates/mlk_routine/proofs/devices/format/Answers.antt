@@ -1,5 +1,5 @@
 use Rattle.std.proofs.Common.{option_map}
-use Rattle.mlk_expr.specs.Trees.{tree_of}
+use Rattle.mlk_tree.specs.ExprTrees.{tree_of}
 use Rattle.mlk_routine.proofs.Sequences.{both_told}
 use Rattle.mlk_routine.proofs.Formats.{marked_parts, format_told}
 use Rattle.mlk_routine.proofs.devices.format.Goals as goal

@@ -1,9 +1,9 @@
 use Rattle.std.proofs.Common.{◌≤◌, ◌+◌, length, arith, option_map, refl, sym}
 use Rattle.std.proofs.lemmas.Result.{err_from_is_err_and}
 use Rattle.mlk_expr.specs.declared.scope.Allows.TheVariants.{Everything}
-use Rattle.mlk_expr.specs.Trees.{tree_of}
+use Rattle.mlk_tree.specs.ExprTrees.{tree_of}
 use Rattle.mlk_routine.specs.Ends.{AfterEnds, VariableEnds}
-use Rattle.mlk_routine.specs.Views.{variable_of}
+use Rattle.mlk_tree.specs.Views.{variable_of}
 use Rattle.mlk_routine.specs.CommandGrammar.{IsAfter, IsLocal}
 use Rattle.mlk_routine.proofs.Sequences.{both_found, denied_first, denied_second, turned_found, turned_denied}
 use Rattle.mlk_routine.proofs.Bytes.{byte_before, after_found, after_denied}

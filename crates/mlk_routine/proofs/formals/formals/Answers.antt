@@ -5,7 +5,8 @@ use Rattle.mlk_routine.specs.Told.{Found}
 use Rattle.mlk_routine.specs.Ends.{AnyEnds}
 use Rattle.mlk_routine.specs.Lines.{IsUnseen, IsFormalList}
 use Rattle.mlk_routine.proofs.Outcomes.{denies, hands_on}
-use Rattle.mlk_routine.proofs.FormalLists.{NamesSoFar, AreSeen, no_names, names_begin, no_name_here, names_close, names_break, names_go_on, names_nearer, fresh_found, fresh_nowhere, more_seen, among}
+use Rattle.mlk_routine.proofs.FormalLists.{NamesSoFar, AreSeen, no_names, names_begin, no_name_here, names_close, names_break, names_go_on, names_nearer, fresh_found, fresh_nowhere, more_seen}
+use Rattle.mlk_tree.proofs.Distinct.{among}
 use Rattle.mlk_routine.proofs.formals.formals.Goals as goal
 
 pub returns-then-has : goal.returns-then-has

@@ -1,7 +1,7 @@
 use Rattle.std.proofs.Common.{map, option_map}
 use Rattle.std.proofs.lemmas.Result.{err_from_is_err_and}
-use Rattle.mlk_expr.specs.Trees.{tree_of}
-use Rattle.mlk_routine.specs.Views.{variable_of}
+use Rattle.mlk_tree.specs.ExprTrees.{tree_of}
+use Rattle.mlk_tree.specs.Views.{variable_of}
 use Rattle.mlk_routine.proofs.Sequences.{both_found, denied_first, denied_second}
 use Rattle.mlk_routine.proofs.Locks.{timed_parts, lock_parts}
 use Rattle.mlk_routine.proofs.lock.lock.Goals as goal

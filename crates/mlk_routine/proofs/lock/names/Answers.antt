@@ -2,7 +2,7 @@ use Rattle.std.proofs.Common.{map, subst}
 use Rattle.mlk_expr.specs.declared.scope.Allows.TheVariants.{Everything}
 use Rattle.mlk_routine.specs.Told.{Told, byte_at}
 use Rattle.mlk_routine.specs.Ends.{OneEnds, VariableEnds}
-use Rattle.mlk_routine.specs.Views.{variable_of}
+use Rattle.mlk_tree.specs.Views.{variable_of}
 use Rattle.mlk_routine.specs.CommandGrammar.{IsVariable, IsOneOrEnclosed}
 use Rattle.mlk_routine.proofs.Variables.{variable_shut}
 use Rattle.mlk_routine.proofs.Locks.{in_signed}

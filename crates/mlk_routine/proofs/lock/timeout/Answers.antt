@@ -2,8 +2,8 @@ use Rattle.std.proofs.Common.{◌≡◌, inl, inr, refl}
 use Rattle.std.specs.Prelude.{◌⊎◌}
 use Rattle.std.proofs.lemmas.Result.{err_from_is_err_and}
 use Rattle.mlk_expr.specs.declared.scope.Allows.TheVariants.{NoTouches, NoCalls}
-use Rattle.mlk_expr.specs.Trees.{tree_of}
-use Rattle.mlk_routine.specs.declared.tree.Sign.TheVariants as sign
+use Rattle.mlk_tree.specs.ExprTrees.{tree_of}
+use Rattle.mlk_tree.specs.declared.command.Sign.TheVariants as sign
 use Rattle.mlk_expr.specs.Grammar.{IsExprWhere}
 use Rattle.mlk_expr.specs.Theorem.{ExprEnds}
 use Rattle.mlk_routine.proofs.Sequences.{turned_found, turned_denied}

@@ -4,7 +4,7 @@ use Rattle.mlk_expr.specs.declared.scope.Allows.TheVariants.{NoTouches}
 use Rattle.mlk_routine.specs.declared.items.Unsigned.{Unsigned}
 use Rattle.mlk_routine.specs.Told.{Found, byte_at}
 use Rattle.mlk_routine.specs.Ends.{OneEnds, VariableEnds}
-use Rattle.mlk_routine.specs.Views.{variable_of}
+use Rattle.mlk_tree.specs.Views.{variable_of}
 use Rattle.mlk_routine.specs.CommandGrammar.{IsVariable, IsOneOrEnclosed}
 use Rattle.mlk_routine.proofs.Variables.{variable_shut}
 use Rattle.mlk_routine.proofs.lock.unsigned.Goals as goal

@@ -2,7 +2,7 @@ use Rattle.std.proofs.Common.{map, refl}
 use Rattle.std.proofs.lemmas.Result.{err_from_is_err_and}
 use Rattle.mlk_expr.specs.Grammar.{IsList}
 use Rattle.mlk_routine.specs.Ends.{AreEnded, ParameterEnds, ControlEnds}
-use Rattle.mlk_routine.specs.Views.{parameter_of}
+use Rattle.mlk_tree.specs.Views.{parameter_of}
 use Rattle.mlk_routine.specs.CommandGrammar.{IsParameter, IsControl}
 use Rattle.mlk_routine.proofs.Sequences.{both_found, denied_first, denied_second, second_nowhere}
 use Rattle.mlk_routine.proofs.Bytes.{after_found, after_denied, after_missing}

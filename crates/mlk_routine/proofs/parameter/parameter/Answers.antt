@@ -1,7 +1,7 @@
 use Rattle.std.proofs.Common.{Some, None, subst, option_map}
 use Rattle.std.proofs.lemmas.Result.{err_from_is_err_and}
 use Rattle.mlk_expr.specs.declared.scope.Allows.TheVariants.{Everything}
-use Rattle.mlk_expr.specs.Trees.{tree_of}
+use Rattle.mlk_tree.specs.ExprTrees.{tree_of}
 use Rattle.mlk_routine.specs.Told.{Found}
 use Rattle.mlk_routine.specs.Ends.{AfterEnds}
 use Rattle.mlk_routine.specs.CommandGrammar.{IsAfter}

@@ -1,6 +1,6 @@
 use Rattle.std.proofs.Common.{◌+◌, refl}
 use Rattle.std.proofs.lemmas.Result.{err_from_is_err_and}
-use Rattle.mlk_expr.specs.Trees.{tree_of}
+use Rattle.mlk_tree.specs.ExprTrees.{tree_of}
 use Rattle.mlk_expr.specs.Grammar.{IsExprWhere}
 use Rattle.mlk_expr.specs.Theorem.{ExprEnds}
 use Rattle.mlk_routine.specs.Ends.{AfterEnds}

@@ -1,9 +1,9 @@
 use Rattle.std.proofs.Common.{◌≤◌, ◌+◌, List, length, refl, arith}
 use Rattle.std.proofs.lemmas.Result.{err_from_is_err_and}
-use Rattle.mlk_expr.specs.Trees.{Tree, trees}
-use Rattle.mlk_routine.specs.Trees.{VariableTree}
+use Rattle.mlk_tree.specs.ExprTrees.{Tree, trees}
+use Rattle.mlk_tree.specs.Trees.{VariableTree}
 use Rattle.mlk_routine.specs.Ends.{TargetEnds}
-use Rattle.mlk_routine.specs.Views.{variable_of}
+use Rattle.mlk_tree.specs.Views.{variable_of}
 use Rattle.mlk_routine.specs.CommandGrammar.{IsTarget}
 use Rattle.mlk_routine.proofs.Outcomes.{denies}
 use Rattle.mlk_routine.proofs.Sequences.{both_found, denied_first, denied_second, second_nowhere}

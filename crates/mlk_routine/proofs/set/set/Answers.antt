@@ -1,9 +1,9 @@
 use Rattle.std.proofs.Common.{map, refl}
 use Rattle.std.proofs.lemmas.Result.{err_from_is_err_and}
-use Rattle.mlk_expr.specs.Trees.{tree_of}
+use Rattle.mlk_tree.specs.ExprTrees.{tree_of}
 use Rattle.mlk_expr.specs.Theorem.{ExprEnds}
 use Rattle.mlk_routine.specs.Ends.{SetEnds}
-use Rattle.mlk_routine.specs.Views.{target_of}
+use Rattle.mlk_tree.specs.Views.{target_of}
 use Rattle.mlk_routine.specs.CommandGrammar.{IsValue, IsSet}
 use Rattle.mlk_routine.proofs.Outcomes.{denies}
 use Rattle.mlk_routine.proofs.Sequences.{both_found, denied_first, denied_second, second_nowhere}

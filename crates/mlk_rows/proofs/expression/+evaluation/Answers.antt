@@ -1,5 +1,5 @@
 use Rattle.std.proofs.Common.{◌∙◌, ap}
-use Rattle.mlk_expr.specs.Trees.{tree_of, choices, choices_from}
+use Rattle.mlk_tree.specs.ExprTrees.{tree_of, choices, choices_from}
 use Rattle.mlk_rows.specs.Spots.{spot_of}
 use Rattle.mlk_rows.specs.Expressions.{evaluate, evaluate_choices}
 use Rattle.mlk_rows.proofs.Opened.{carried, select_opens}

@@ -1,5 +1,5 @@
 use Rattle.std.proofs.Common.{◌≡◌, drop}
-use Rattle.mlk_expr.specs.Trees.{trees, trees_from, sub_trees, subs_from, links, links_from, choices, choices_from, actual_trees, actuals_from}
+use Rattle.mlk_tree.specs.ExprTrees.{trees, trees_from, sub_trees, subs_from, links, links_from, choices, choices_from, actual_trees, actuals_from}
 use Rattle.mlk_rows.specs.Walks.{joins}
 use Rattle.mlk_rows.specs.Spots.{spot_of}
 use Rattle.mlk_rows.specs.Expressions.{evaluate_all, capture_subs, evaluate_links, evaluate_choices, capture_actuals}

@@ -1,5 +1,5 @@
 use Rattle.std.proofs.Common.{◌≡◌, drop}
-use Rattle.mlk_expr.specs.Trees.{trees}
+use Rattle.mlk_tree.specs.ExprTrees.{trees}
 use Rattle.mlk_rows.specs.Spots.{spot_of}
 use Rattle.mlk_rows.specs.Expressions.{values}
 use Rattle.mlk_rows.proofs.expression.values.Given as goal

@@ -1,6 +1,6 @@
 use Rattle.std.proofs.Common.{◌≡◌, ◌∙◌, ℕ, List, [], ◌∷◌, ◌++◌, length, Ok, ap, sym, arith}
 use Rattle.std.specs.Prelude.{map}
-use Rattle.mlk_routine.specs.Views.{line_of}
+use Rattle.mlk_tree.specs.Views.{line_of}
 use Rattle.mlk_jobs.specs.declared.binding.Binder.{Binder}
 use Rattle.mlk_jobs.specs.Bindings.{Bindings, no_values}
 use Rattle.mlk_jobs.specs.Tasks.{Job}

@@ -1,7 +1,7 @@
 use Rattle.std.proofs.Common.{◌≡◌, ◌∙◌, ℕ, List, [], ◌∷◌, ◌++◌, length, take, drop, reverse, Ok, ap, sym, arith}
 use Rattle.std.specs.Prelude.{map}
-use Rattle.mlk_expr.specs.Trees.{actual_trees}
-use Rattle.mlk_routine.specs.Views.{line_of}
+use Rattle.mlk_tree.specs.ExprTrees.{actual_trees}
+use Rattle.mlk_tree.specs.Views.{line_of}
 use Rattle.mlk_jobs.specs.declared.binding.Binder.{Binder}
 use Rattle.mlk_jobs.specs.Tasks.{Job}
 use Rattle.mlk_jobs.specs.Choices.{dropped}

@@ -1,5 +1,5 @@
 use Rattle.std.proofs.Common.{◌≡◌, ◌++◌, length, map}
-use Rattle.mlk_expr.specs.Trees.{actual_trees}
+use Rattle.mlk_tree.specs.ExprTrees.{actual_trees}
 use Rattle.mlk_jobs.specs.Calling.{binders}
 use Rattle.mlk_jobs.specs.Views.{binder_of, bindings_of}
 use Rattle.mlk_run.proofs.formals.binders.Given as goal

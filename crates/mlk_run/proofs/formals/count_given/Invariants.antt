@@ -1,5 +1,5 @@
 use Rattle.std.proofs.Common.{◌≡◌, ◌+◌, ◌≤◌, length}
-use Rattle.mlk_expr.specs.Trees.{actual_trees}
+use Rattle.mlk_tree.specs.ExprTrees.{actual_trees}
 use Rattle.mlk_jobs.specs.Calling.{count_given}
 use Rattle.mlk_run.proofs.formals.count_given.Given as goal
 

@@ -1,6 +1,6 @@
 use Rattle.std.proofs.Common.{◌≡◌, ◌∙◌, ℕ, suc, List, [], ◌∷◌, ◌++◌, length, take, reverse, ap, sym, subst, arith}
 use Rattle.std.proofs.lemmas.List.{length-append}
-use Rattle.mlk_routine.specs.Views.{line_of}
+use Rattle.mlk_tree.specs.Views.{line_of}
 use Rattle.std.specs.Prelude.{map}
 use Rattle.mlk_jobs.specs.declared.binding.Binder.{Binder}
 use Rattle.mlk_jobs.specs.declared.cell.Table.{Table}

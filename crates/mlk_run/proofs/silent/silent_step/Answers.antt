@@ -1,6 +1,6 @@
 use Rattle.std.proofs.Common.{◌∙◌, map, sym}
 use Rattle.std.specs.Prelude.{true}
-use Rattle.mlk_routine.specs.Views.{routine_of}
+use Rattle.mlk_tree.specs.Views.{routine_of}
 use Rattle.mlk_jobs.specs.JobViews.{job_of}
 use Rattle.mlk_run.specs.Frames.{claimed_in}
 use Rattle.mlk_run.proofs.SilentLemmas.{hidden_made, all_free}

@@ -1,6 +1,6 @@
 use Rattle.std.proofs.Common.{◌≡◌, ◌∙◌, List, [], ◌∷◌, ◌++◌, ap, sym, subst}
 use Rattle.std.specs.Prelude.{map}
-use Rattle.mlk_routine.specs.Views.{routine_of}
+use Rattle.mlk_tree.specs.Views.{routine_of}
 use Rattle.mlk_text.specs.Failures.{FailsAs}
 use Rattle.mlk_jobs.specs.declared.pending.Pending.{Pending}
 use Rattle.mlk_jobs.specs.Choices.{Stepped}

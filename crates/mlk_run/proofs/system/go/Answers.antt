@@ -5,7 +5,7 @@ use Rattle.mlk_names.specs.declared.lock_name.LockName.{LockName}
 use Rattle.mlk_text.specs.Failures.{Answers}
 use Rattle.mlk_locks.specs.Waiting.{is_free_among}
 use Rattle.mlk_locks.specs.Systems.{and_then}
-use Rattle.mlk_routine.specs.Views.{routine_of}
+use Rattle.mlk_tree.specs.Views.{routine_of}
 use Rattle.mlk_jobs.specs.declared.job.Job.{Job as JobIn}
 use Rattle.mlk_jobs.specs.Tasks.{Job}
 use Rattle.mlk_jobs.specs.Runs.{machine, seen, go}

@@ -3,7 +3,7 @@ use Rattle.std.proofs.lemmas.List.{map-append}
 use Rattle.mlk_text.specs.Failures.{FailsAs}
 use Rattle.mlk_locks.specs.Waiting.{is_numbered}
 use Rattle.mlk_locks.specs.Systems.{and_then}
-use Rattle.mlk_routine.specs.Views.{routine_of}
+use Rattle.mlk_tree.specs.Views.{routine_of}
 use Rattle.mlk_jobs.specs.Tasks.{Job}
 use Rattle.mlk_jobs.specs.Runs.{machine, seen}
 use Rattle.mlk_jobs.specs.JobViews.{job_of}

@@ -1,5 +1,5 @@
 use Rattle.std.proofs.Common.{◌≡◌, ◌-◌, length, map, rules, slice_get, Some}
-use Rattle.mlk_routine.specs.Views.{routine_of}
+use Rattle.mlk_tree.specs.Views.{routine_of}
 use Rattle.mlk_jobs.specs.declared.pending.Pending.TheVariants as pending
 use Rattle.mlk_states.proofs.NextLemmas.{next_shows}
 use Rattle.mlk_states.proofs.dispatch.state.Goals as goal

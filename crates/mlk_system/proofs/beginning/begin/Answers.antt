@@ -1,5 +1,5 @@
 use Rattle.std.proofs.Common.{map, sym}
-use Rattle.mlk_routine.specs.Views.{routine_of}
+use Rattle.mlk_tree.specs.Views.{routine_of}
 use Rattle.mlk_system.specs.Jobs.{is_listed}
 use Rattle.mlk_system.proofs.NumberLemmas.{added_number, where_ok}
 use Rattle.mlk_system.proofs.beginning.begin.Goals as goal

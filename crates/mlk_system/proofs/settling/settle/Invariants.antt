@@ -1,5 +1,5 @@
 use Rattle.std.proofs.Common.{◌≡◌, ◌≤◌, ◌-◌, map}
-use Rattle.mlk_routine.specs.Views.{routine_of}
+use Rattle.mlk_tree.specs.Views.{routine_of}
 use Rattle.mlk_jobs.specs.JobViews.{job_of}
 use Rattle.mlk_jobs.specs.Sound.{Sound}
 use Rattle.mlk_jobs.specs.Seen.{settled}

@@ -1,5 +1,5 @@
 use Rattle.std.proofs.Common.{◌≡◌, ◌∙◌, map, sym, ap}
-use Rattle.mlk_routine.specs.Views.{routine_of}
+use Rattle.mlk_tree.specs.Views.{routine_of}
 use Rattle.mlk_jobs.specs.JobViews.{job_of}
 use Rattle.mlk_jobs.specs.Seen.{settled, most_silent_steps}
 use Rattle.mlk_run.proofs.SystemLemmas.{found_within, sound_at, sound_set}

@@ -1,5 +1,5 @@
 use Rattle.std.proofs.Common.{◌∙◌, map, false, sym}
-use Rattle.mlk_routine.specs.Views.{routine_of}
+use Rattle.mlk_tree.specs.Views.{routine_of}
 use Rattle.mlk_jobs.specs.JobViews.{job_of}
 use Rattle.mlk_system.proofs.NumberLemmas.{went_numbers}
 use Rattle.mlk_system.proofs.stepping.go_numbered.Goals as goal

@@ -1,6 +1,6 @@
 use Rattle.std.proofs.Common.{◌≡◌, ◌++◌, map, drop}
 use Rattle.std.specs.Prelude.{flat_map}
-use Rattle.mlk_routine.specs.Views.{line_of, routine_of}
+use Rattle.mlk_tree.specs.Views.{line_of, routine_of}
 use Rattle.mlk_verdicts.specs.Reports.{rows_of, line_entries}
 use Rattle.mlk_verdicts.proofs.check.check_lines.Given as goal
 

@@ -1,6 +1,6 @@
 use Rattle.std.proofs.Common.{◌≡◌, ◌++◌, map, drop}
 use Rattle.std.specs.Prelude.{flat_map}
-use Rattle.mlk_routine.specs.Views.{routine_of}
+use Rattle.mlk_tree.specs.Views.{routine_of}
 use Rattle.mlk_verdicts.specs.Reports.{rows_of, entries_from}
 use Rattle.mlk_verdicts.proofs.check.check_routines.Given as goal
 

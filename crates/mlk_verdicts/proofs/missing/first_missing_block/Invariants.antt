@@ -1,6 +1,6 @@
 use Rattle.std.proofs.Common.{◌≡◌, length, map}
 use Rattle.std.specs.Prelude.{find}
-use Rattle.mlk_routine.specs.Views.{routine_of}
+use Rattle.mlk_tree.specs.Views.{routine_of}
 use Rattle.mlk_verdicts.specs.Reports.{is_missing, block_text}
 use Rattle.mlk_verdicts.proofs.missing.first_missing_block.Given as goal
 

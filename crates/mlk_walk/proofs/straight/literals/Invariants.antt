@@ -1,5 +1,5 @@
 use Rattle.std.proofs.Common.{◌≡◌, take, Some}
-use Rattle.mlk_expr.specs.Trees.{subs_from, sub_trees}
+use Rattle.mlk_tree.specs.ExprTrees.{subs_from, sub_trees}
 use Rattle.mlk_walk.specs.Straight.{plain_literals}
 use Rattle.mlk_walk.proofs.straight.literals.Given as goal
 

@@ -1,6 +1,6 @@
 use Rattle.std.proofs.Common.{◌≡◌, ◌++◌, length}
 use Rattle.std.specs.Prelude.{map, filter_map}
-use Rattle.mlk_routine.specs.Views.{routine_of}
+use Rattle.mlk_tree.specs.Views.{routine_of}
 use Rattle.mlk_program.specs.Entries.{entry_by}
 use Rattle.mlk_calls.specs.Entries.{further}
 use Rattle.mlk_calls.specs.Scope.{firsts}

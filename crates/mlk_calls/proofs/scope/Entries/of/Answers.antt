@@ -1,6 +1,6 @@
 use Rattle.std.proofs.Common.{◌∙◌, ap}
 use Rattle.std.specs.Prelude.{map, filter_map}
-use Rattle.mlk_routine.specs.Views.{routine_of}
+use Rattle.mlk_tree.specs.Views.{routine_of}
 use Rattle.mlk_program.specs.Entries.{entry_by}
 use Rattle.mlk_calls.specs.Scope.{certified, declared, firsts, block_in}
 use Rattle.mlk_calls.proofs.EntryTables.{all_found}

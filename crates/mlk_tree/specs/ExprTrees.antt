@@ -2,14 +2,14 @@
 use Rattle.std.specs.Prelude.{ℕ, List, [], ◌∷◌, map, Option, Some, None, option_map}
 use Rattle.mlk_text.specs.declared.operator.Op.{Op}
 use Rattle.mlk_text.specs.declared.operator.UnaryOp.{UnaryOp}
-use Rattle.mlk_expr.specs.declared.tree.Special.{Special}
-use Rattle.mlk_expr.specs.declared.tree.Function.{Function}
-use Rattle.mlk_expr.specs.declared.tree.Callee.{Callee}
-use Rattle.mlk_expr.specs.declared.tree.Expr.{Expr, fold-Expr}
-use Rattle.mlk_expr.specs.declared.tree.Actual.{Actual, fold-Actual}
-use Rattle.mlk_expr.specs.declared.tree.Subscript.{Subscript, fold-Subscript}
-use Rattle.mlk_expr.specs.declared.tree.Actual.TheOpen as open'
-use Rattle.mlk_expr.specs.declared.tree.Actual.TheOpen.{Expr-F, Actual-F, Subscript-F}
+use Rattle.mlk_tree.specs.declared.expr.Special.{Special}
+use Rattle.mlk_tree.specs.declared.expr.Function.{Function}
+use Rattle.mlk_tree.specs.declared.expr.Callee.{Callee}
+use Rattle.mlk_tree.specs.declared.expr.Expr.{Expr, fold-Expr}
+use Rattle.mlk_tree.specs.declared.expr.Actual.{Actual, fold-Actual}
+use Rattle.mlk_tree.specs.declared.expr.Subscript.{Subscript, fold-Subscript}
+use Rattle.mlk_tree.specs.declared.expr.Actual.TheOpen as open'
+use Rattle.mlk_tree.specs.declared.expr.Actual.TheOpen.{Expr-F, Actual-F, Subscript-F}
 
 mutual
   pub data Tree : Type 0 where

@@ -3,10 +3,10 @@ use Rattle.std.proofs.Common.{◌≡◌, ap, subst, ◌∙◌, ℕ, zero, suc, L
 use Rattle.std.specs.Prelude.{Contains}
 use Rattle.std.proofs.lemmas.List.Elements.{Contains-append_right}
 use Rattle.mlk_text.specs.Spellings.{IsLabel}
-use Rattle.mlk_routine.specs.Trees.{Named_routine, HeadTree, LineHead, LineTrees, no_lines, line}
+use Rattle.mlk_tree.specs.Trees.{Named_routine, HeadTree, LineHead, LineTrees, no_lines, line}
 use Rattle.mlk_routine.specs.RoutineGrammar.{IsLabelled, IsLine, AreLines, IsRoutine, heads_of}
 use Rattle.mlk_program.specs.Entries.{as_lines, label_of}
-use Rattle.mlk_program.specs.Laws.{RoutinesSpelled}
+use Rattle.mlk_command.specs.Laws.{RoutinesSpelled}
 
 one : (a b : List ℕ) → Some a ≡ Some b → a ≡ b
 one a b h = cc h

@@ -1,10 +1,10 @@
 -- Syntax trees of routines without where they lie in memory. A `column` is that of the first byte, counted from 1. This
 -- project's own.
 use Rattle.std.specs.Prelude.{ℕ, List, Option}
-use Rattle.mlk_expr.specs.declared.tree.Callee.{Callee}
-use Rattle.mlk_expr.specs.Trees.{Tree, ActualTree}
-use Rattle.mlk_routine.specs.declared.tree.Sign.{Sign}
-use Rattle.mlk_routine.specs.declared.tree.Part.{Part}
+use Rattle.mlk_tree.specs.declared.expr.Callee.{Callee}
+use Rattle.mlk_tree.specs.ExprTrees.{Tree, ActualTree}
+use Rattle.mlk_tree.specs.declared.command.Sign.{Sign}
+use Rattle.mlk_tree.specs.declared.command.Part.{Part}
 
 -- a local or a global with its subscripts
 pub data VariableTree : Type 0 where

@@ -1,6 +1,6 @@
 // Routines: lines, and blocks under the lines that head them.
 
-use crate::tree::Commands;
+use crate::command::Commands;
 use mlk_text::{List, Name};
 
 /// A line, with the block of deeper lines that follows it.

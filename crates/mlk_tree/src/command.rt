@@ -1,6 +1,6 @@
 // Syntax trees of commands.
 
-use mlk_expr::{Actual, Callee, Expr};
+use crate::expr::{Actual, Callee, Expr};
 use mlk_text::{Column, List, Name, Value};
 
 /// A local or a global with its subscripts, as a command names it, and the column where it begins.

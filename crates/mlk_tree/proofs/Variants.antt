@@ -1,14 +1,14 @@
 -- The trees of the code's values, one level taken apart.
 use Rattle.std.proofs.Common.{◌≡◌, ℕ, List, Some, Vec, Box, Global, sym, ap, ◌∙◌}
-use Rattle.mlk_expr.specs.declared.tree.Callee.{Callee}
-use Rattle.mlk_expr.specs.declared.tree.Function.{Function}
-use Rattle.mlk_expr.specs.declared.tree.Expr.{Expr, fold-roll-Expr}
-use Rattle.mlk_expr.specs.declared.tree.Actual.{Actual}
-use Rattle.mlk_expr.specs.declared.tree.Subscript.{Subscript}
-use Rattle.mlk_expr.specs.declared.tree.Actual.TheOpen as open'
-use Rattle.mlk_expr.specs.declared.tree.Expr.TheVariants as rust
-use Rattle.mlk_expr.specs.declared.tree.Expr.TheVariants.{rolls-Lit, rolls-Free, rolls-Local, rolls-Global, rolls-Func, rolls-Call}
-use Rattle.mlk_expr.specs.Trees.{Tree, ActualTree, Lit, Free, LocalName, GlobalName, Func, CallOf, subs_from, trees_from, actuals_from, actual_step, expr_step, subscript_step, tree_of, sub_trees, trees, actual_trees}
+use Rattle.mlk_tree.specs.declared.expr.Callee.{Callee}
+use Rattle.mlk_tree.specs.declared.expr.Function.{Function}
+use Rattle.mlk_tree.specs.declared.expr.Expr.{Expr, fold-roll-Expr}
+use Rattle.mlk_tree.specs.declared.expr.Actual.{Actual}
+use Rattle.mlk_tree.specs.declared.expr.Subscript.{Subscript}
+use Rattle.mlk_tree.specs.declared.expr.Actual.TheOpen as open'
+use Rattle.mlk_tree.specs.declared.expr.Expr.TheVariants as rust
+use Rattle.mlk_tree.specs.declared.expr.Expr.TheVariants.{rolls-Lit, rolls-Free, rolls-Local, rolls-Global, rolls-Func, rolls-Call}
+use Rattle.mlk_tree.specs.ExprTrees.{Tree, ActualTree, Lit, Free, LocalName, GlobalName, Func, CallOf, subs_from, trees_from, actuals_from, actual_step, expr_step, subscript_step, tree_of, sub_trees, trees, actual_trees}
 
 pub tree_lit : (value : List ℕ) → tree_of (rust.Lit value) ≡ Lit value
 tree_lit value = ap tree_of (sym (rolls-Lit value)) ∙ fold-roll-Expr ActualTree Tree (ℕ × Tree) actual_step expr_step subscript_step (open'.Lit value)

@@ -1,41 +1,41 @@
 -- The trees of the code's values. This project's own.
 use Rattle.std.specs.Prelude.{List, [], ◌∷◌, map, Option, Some, None, option_map}
-use Rattle.mlk_expr.specs.Trees.{tree_of, trees, actual_trees}
-use Rattle.mlk_routine.specs.declared.tree.Variable.{Variable}
-use Rattle.mlk_routine.specs.declared.tree.Call.{Call}
-use Rattle.mlk_routine.specs.declared.tree.DoArgument.{DoArgument}
-use Rattle.mlk_routine.specs.declared.tree.KillArgument.{KillArgument}
-use Rattle.mlk_routine.specs.declared.tree.KillArgument.TheVariants as kill
-use Rattle.mlk_routine.specs.declared.tree.NewArgument.{NewArgument}
-use Rattle.mlk_routine.specs.declared.tree.NewArgument.TheVariants as new
-use Rattle.mlk_routine.specs.declared.tree.LockArgument.{LockArgument}
-use Rattle.mlk_routine.specs.declared.tree.MergeArgument.{MergeArgument}
-use Rattle.mlk_routine.specs.declared.tree.ReadArgument.{ReadArgument}
-use Rattle.mlk_routine.specs.declared.tree.ReadArgument.TheVariants as read
-use Rattle.mlk_routine.specs.declared.tree.Target.{Target}
-use Rattle.mlk_routine.specs.declared.tree.Target.TheVariants as target
-use Rattle.mlk_routine.specs.declared.tree.SetArgument.{SetArgument}
-use Rattle.mlk_routine.specs.declared.tree.WriteArgument.{WriteArgument}
-use Rattle.mlk_routine.specs.declared.tree.WriteArgument.TheVariants as write
-use Rattle.mlk_routine.specs.declared.tree.Action.{Action}
-use Rattle.mlk_routine.specs.declared.tree.Action.TheVariants as action
-use Rattle.mlk_routine.specs.declared.tree.Command.{Command}
-use Rattle.mlk_routine.specs.declared.tree.Parameter.{Parameter}
-use Rattle.mlk_routine.specs.declared.tree.Parameter.TheVariants as parameter
-use Rattle.mlk_routine.specs.declared.tree.Control.{Control}
-use Rattle.mlk_routine.specs.declared.tree.Commands.{Commands, fold-Commands}
-use Rattle.mlk_routine.specs.declared.tree.Commands.TheOpen.{Commands-F, For-F}
-use Rattle.mlk_routine.specs.declared.routine.Line.{Line, fold-Line}
-use Rattle.mlk_routine.specs.declared.routine.Line.TheOpen.{Line-F}
-use Rattle.mlk_routine.specs.declared.routine.Routine.{Routine}
-use Rattle.mlk_routine.specs.Trees.{VariableTree, Named, CallTree, Called, DoTree, DoCall, KillTree, KillOne}
-use Rattle.mlk_routine.specs.Trees.{KillAllBut, NewTree, NewOne, NewAllBut, LockTree, LockNames, MergeTree, MergeInto}
-use Rattle.mlk_routine.specs.Trees.{ReadTree, ReadText, ReadFormat, ReadLine, ReadCharacter, TargetTree, SetWhole}
-use Rattle.mlk_routine.specs.Trees.{SetPart, SetTree, SetTo, WriteTree, WriteValue, WriteCharacter, WriteFormat}
-use Rattle.mlk_routine.specs.Trees.{ActionTree, Do, Else, Halt, Hang, If, Job, Kill, Lock, Merge, New, Quit, Read, Set}
-use Rattle.mlk_routine.specs.Trees.{Write, CommandTree, Does, ParameterTree, Once, Endless, Limited, ControlTree, Runs}
-use Rattle.mlk_routine.specs.Trees.{CommandTrees, finished, then_command, then_for, HeadTree, LineHead, LineTrees}
-use Rattle.mlk_routine.specs.Trees.{no_lines, line, RoutineTree, Named_routine}
+use Rattle.mlk_tree.specs.ExprTrees.{tree_of, trees, actual_trees}
+use Rattle.mlk_tree.specs.declared.command.Variable.{Variable}
+use Rattle.mlk_tree.specs.declared.command.Call.{Call}
+use Rattle.mlk_tree.specs.declared.command.DoArgument.{DoArgument}
+use Rattle.mlk_tree.specs.declared.command.KillArgument.{KillArgument}
+use Rattle.mlk_tree.specs.declared.command.KillArgument.TheVariants as kill
+use Rattle.mlk_tree.specs.declared.command.NewArgument.{NewArgument}
+use Rattle.mlk_tree.specs.declared.command.NewArgument.TheVariants as new
+use Rattle.mlk_tree.specs.declared.command.LockArgument.{LockArgument}
+use Rattle.mlk_tree.specs.declared.command.MergeArgument.{MergeArgument}
+use Rattle.mlk_tree.specs.declared.command.ReadArgument.{ReadArgument}
+use Rattle.mlk_tree.specs.declared.command.ReadArgument.TheVariants as read
+use Rattle.mlk_tree.specs.declared.command.Target.{Target}
+use Rattle.mlk_tree.specs.declared.command.Target.TheVariants as target
+use Rattle.mlk_tree.specs.declared.command.SetArgument.{SetArgument}
+use Rattle.mlk_tree.specs.declared.command.WriteArgument.{WriteArgument}
+use Rattle.mlk_tree.specs.declared.command.WriteArgument.TheVariants as write
+use Rattle.mlk_tree.specs.declared.command.Action.{Action}
+use Rattle.mlk_tree.specs.declared.command.Action.TheVariants as action
+use Rattle.mlk_tree.specs.declared.command.Command.{Command}
+use Rattle.mlk_tree.specs.declared.command.Parameter.{Parameter}
+use Rattle.mlk_tree.specs.declared.command.Parameter.TheVariants as parameter
+use Rattle.mlk_tree.specs.declared.command.Control.{Control}
+use Rattle.mlk_tree.specs.declared.command.Commands.{Commands, fold-Commands}
+use Rattle.mlk_tree.specs.declared.command.Commands.TheOpen.{Commands-F, For-F}
+use Rattle.mlk_tree.specs.declared.routine.Line.{Line, fold-Line}
+use Rattle.mlk_tree.specs.declared.routine.Line.TheOpen.{Line-F}
+use Rattle.mlk_tree.specs.declared.routine.Routine.{Routine}
+use Rattle.mlk_tree.specs.Trees.{VariableTree, Named, CallTree, Called, DoTree, DoCall, KillTree, KillOne}
+use Rattle.mlk_tree.specs.Trees.{KillAllBut, NewTree, NewOne, NewAllBut, LockTree, LockNames, MergeTree, MergeInto}
+use Rattle.mlk_tree.specs.Trees.{ReadTree, ReadText, ReadFormat, ReadLine, ReadCharacter, TargetTree, SetWhole}
+use Rattle.mlk_tree.specs.Trees.{SetPart, SetTree, SetTo, WriteTree, WriteValue, WriteCharacter, WriteFormat}
+use Rattle.mlk_tree.specs.Trees.{ActionTree, Do, Else, Halt, Hang, If, Job, Kill, Lock, Merge, New, Quit, Read, Set}
+use Rattle.mlk_tree.specs.Trees.{Write, CommandTree, Does, ParameterTree, Once, Endless, Limited, ControlTree, Runs}
+use Rattle.mlk_tree.specs.Trees.{CommandTrees, finished, then_command, then_for, HeadTree, LineHead, LineTrees}
+use Rattle.mlk_tree.specs.Trees.{no_lines, line, RoutineTree, Named_routine}
 
 abbrev pub variable_of : Variable → VariableTree
 variable_of v = Named v.column (tree_of v.name)

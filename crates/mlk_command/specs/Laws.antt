@@ -1,0 +1,9 @@
+-- What routines that were read keep to.
+use Rattle.std.specs.Prelude.{ℕ, List}
+use Rattle.mlk_tree.specs.Trees.{RoutineTree}
+use Rattle.mlk_routine.specs.RoutineGrammar.{IsRoutine}
+use Rattle.mlk_program.specs.Laws.{IsSpelled}
+
+-- Routines that were read are written so.
+abbrev pub RoutinesSpelled : Type 0
+RoutinesSpelled = (stem text : List ℕ) (tree : RoutineTree) → IsRoutine stem tree text → IsSpelled tree

@@ -1,0 +1,4 @@
+pub mod ExprTrees
+pub mod Trees
+pub mod Views
+pub mod Distinct

@@ -1,0 +1,14 @@
+//! Syntax trees of M: expressions, commands, lines and routines.
+#![tactic(auto)]
+
+mod command;
+mod expr;
+mod routine;
+
+pub use command::{
+    Action, Call, Command, Commands, Control, DoArgument, For, KillArgument, LockArgument,
+    MergeArgument, NewArgument, Parameter, Part, ReadArgument, SetArgument, Sign, Target, Variable,
+    WriteArgument,
+};
+pub use expr::{Actual, Callee, Expr, Function, Special, Subscript};
+pub use routine::{Line, Routine};
