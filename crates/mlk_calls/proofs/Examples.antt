@@ -18,11 +18,11 @@ use Rattle.mlk_cert.specs.declared.names.NameSet.TheVariants.{Only, AllBut}
 use Rattle.mlk_cert.specs.declared.names.Own.{Own}
 use Rattle.mlk_cert.specs.declared.block.Summary.{Summary}
 use Rattle.mlk_lexemes.specs.Texts.{byte_text}
-use Rattle.mlk_calls.specs.declared.state.State.{State}
+use Rattle.mlk_scope.specs.declared.state.State.{State}
 use Rattle.mlk_calls.specs.declared.call.Calling.TheVariants.{ByDo}
-use Rattle.mlk_calls.specs.Names.{have, is_among, spares}
-use Rattle.mlk_calls.specs.Terms.{same_term}
-use Rattle.mlk_calls.specs.Scope.{Scope}
+use Rattle.mlk_scope.specs.Names.{have, is_among, spares}
+use Rattle.mlk_scope.specs.Terms.{same_term}
+use Rattle.mlk_scope.specs.Scope.{Scope}
 use Rattle.mlk_calls.specs.Changes.{change}
 use Rattle.mlk_calls.specs.Claims.{claim_refused, release_all, release_one}
 use Rattle.mlk_calls.specs.Calls.{Called, call_changing}

@@ -1,12 +1,2 @@
-pub mod ListSteps
-pub mod TermTests
-pub mod Passing
-pub mod Folded
-pub mod ExprTrees
-pub mod EntryTables
-pub mod PointOrder
 pub mod CallSteps
-pub mod CaseTests
 pub mod Examples
-pub mod HeldTerms
-pub mod NameLaws

@@ -18,16 +18,16 @@ use Rattle.mlk_cert.specs.declared.case.ExitCase.{ExitCase}
 use Rattle.mlk_cert.specs.declared.names.NameSet.{NameSet}
 use Rattle.mlk_cert.specs.declared.names.NameSet.TheVariants.{Only}
 use Rattle.mlk_cert.specs.declared.block.Summary.{Summary}
-use Rattle.mlk_calls.specs.Lists.{all_some}
-use Rattle.mlk_calls.specs.Terms.{put_all, all_taken, first_missing, rank_of, put_terms}
-use Rattle.mlk_calls.specs.Cases.{holds_some}
-use Rattle.mlk_calls.specs.declared.state.State.{State}
+use Rattle.mlk_scope.specs.Lists.{all_some}
+use Rattle.mlk_scope.specs.Terms.{put_all, all_taken, first_missing, rank_of, put_terms}
+use Rattle.mlk_scope.specs.Cases.{holds_some}
+use Rattle.mlk_scope.specs.declared.state.State.{State}
 use Rattle.mlk_calls.specs.declared.call.Target.{Target}
 use Rattle.mlk_calls.specs.declared.call.Calling.{Calling}
 use Rattle.mlk_calls.specs.declared.call.Calling.TheVariants.{ByDo, Extrinsic}
-use Rattle.mlk_calls.specs.States.{last_captured, without_last}
+use Rattle.mlk_scope.specs.States.{last_captured, without_last}
 use Rattle.mlk_calls.specs.Claims.{is_low_enough}
-use Rattle.mlk_calls.specs.Scope.{Scope, summary_for, begins_jobs}
+use Rattle.mlk_scope.specs.Scope.{Scope, summary_for, begins_jobs}
 use Rattle.mlk_calls.specs.Changes.{marked, changed_state, change_fault, unless}
 
 -- DO of a label leaves `$TEST` as the callee does, an extrinsic function keeps it

@@ -8,10 +8,10 @@ use Rattle.mlk_names.specs.declared.symbol.Sym.{Sym}
 use Rattle.mlk_names.specs.declared.symbol.Sym.TheVariants.{Const, Local, Job, Unknown}
 use Rattle.mlk_cert.specs.declared.case.Case.{Case}
 use Rattle.mlk_cert.specs.declared.names.NameSet.{NameSet}
-use Rattle.mlk_calls.specs.declared.state.State.{State}
-use Rattle.mlk_calls.specs.Names.{have, may_change, without}
-use Rattle.mlk_calls.specs.Terms.{mention}
-use Rattle.mlk_calls.specs.Scope.{Scope}
+use Rattle.mlk_scope.specs.declared.state.State.{State}
+use Rattle.mlk_scope.specs.Names.{have, may_change, without}
+use Rattle.mlk_scope.specs.Terms.{mention}
+use Rattle.mlk_scope.specs.Scope.{Scope}
 
 -- a captured symbol that mentions a changed name is unknown from then on
 abbrev pub marked : List NameSet → Sym → Sym

@@ -7,10 +7,10 @@ use Rattle.mlk_text.specs.declared.code.Code.TheVariants.{NotHeld, Unranked, Ran
 use Rattle.mlk_names.specs.declared.term.LockTerm.{LockTerm}
 use Rattle.mlk_coverage.specs.declared.family.Family.{Family}
 use Rattle.mlk_cert.specs.declared.case.Test.TheVariants.{Zero, One}
-use Rattle.mlk_calls.specs.declared.state.State.{State}
-use Rattle.mlk_calls.specs.Terms.{put_all, taken, is_within, rank_of}
-use Rattle.mlk_calls.specs.States.{holding, tested}
-use Rattle.mlk_calls.specs.Scope.{Scope}
+use Rattle.mlk_scope.specs.declared.state.State.{State}
+use Rattle.mlk_scope.specs.Terms.{put_all, taken, is_within, rank_of}
+use Rattle.mlk_scope.specs.States.{holding, tested}
+use Rattle.mlk_scope.specs.Scope.{Scope}
 
 -- `-` is above every rank
 abbrev pub is_low_enough : Option ℕ → Option ℕ → Bool

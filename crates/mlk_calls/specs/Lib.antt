@@ -1,16 +1,4 @@
-pub mod Values
-pub mod Names
-pub mod Lists
-pub mod Terms
-pub mod Cases
-pub mod States
-pub mod Refusals
-pub mod Scope
-pub mod Entries
-pub mod Points
-pub mod Symbols
 pub mod Changes
 pub mod Claims
 pub mod Ranks
 pub mod Calls
-pub mod Laws

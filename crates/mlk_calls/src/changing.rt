@@ -2,17 +2,14 @@
 
 ghost use Rattle.std.specs.Prelude.{◌≡◌, IfOk, map};
 ghost use Rattle.std.specs.List.{list_all};
-ghost use Rattle.mlk_calls.specs.Names.{may_change};
-ghost use Rattle.mlk_calls.specs.Scope.{scope_of};
+ghost use Rattle.mlk_scope.specs.Names.{may_change};
+ghost use Rattle.mlk_scope.specs.Scope.{scope_of};
 ghost use Rattle.mlk_calls.specs.Changes.{marked, without_kept, changed_state, change_fault, change, short_names};
-ghost use Rattle.mlk_calls.specs.Refusals.{AnswersOf};
+ghost use Rattle.mlk_scope.specs.Refusals.{AnswersOf};
 
-use crate::names::{have, may_change, without};
-use crate::scope::Scope;
-use crate::state::{Refusal, State};
-use crate::term::mention;
 use mlk_cert::{Case, NameSet};
 use mlk_names::Sym;
+use mlk_scope::{Refusal, Scope, State, have, may_change, mention, without};
 use mlk_text::{Code, Failure, List, copy_of};
 use std::alloc::{AllocError, Global};
 

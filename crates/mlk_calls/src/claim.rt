@@ -2,16 +2,14 @@
 
 ghost use Rattle.std.specs.Prelude.{◌≡◌, ◌&&◌, ℕ, IfOk, IfErr, OnOk, Some, None};
 ghost use Rattle.mlk_calls.specs.Ranks.{is_above, IsHighest};
-ghost use Rattle.mlk_calls.specs.Refusals.{AnswersOf};
-ghost use Rattle.mlk_calls.specs.Scope.{scope_of};
+ghost use Rattle.mlk_scope.specs.Refusals.{AnswersOf};
+ghost use Rattle.mlk_scope.specs.Scope.{scope_of};
 ghost use Rattle.mlk_calls.specs.Claims.{is_low_enough, is_below, order_fault, claim_fault, claim_refused, held_too, release_all, release_one};
 
-use crate::scope::Scope;
-use crate::state::{Refusal, State};
-use crate::term::{copies, is_within, put_all, rank, take_one};
 use mlk_cert::Shared;
 use mlk_coverage::Rules;
 use mlk_names::LockTerm;
+use mlk_scope::{Refusal, Scope, State, copies, is_within, put_all, rank, take_one};
 use mlk_text::{Code, Failure};
 use std::alloc::{AllocError, Global};
 

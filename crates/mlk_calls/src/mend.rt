@@ -2,15 +2,13 @@
 
 ghost use Rattle.std.specs.Prelude.{◌≡◌, IfOk, Some, option_copied};
 ghost use Rattle.mlk_tree.specs.ExprTrees.{actual_trees};
-ghost use Rattle.mlk_calls.specs.Scope.{scope_of};
+ghost use Rattle.mlk_scope.specs.Scope.{scope_of};
 ghost use Rattle.mlk_calls.specs.Calls.{called_of, callee_summary, changes_by, missing_by, missing_need};
 
 use crate::call::{Target, called, changes, lent, passed, put_terms};
-use crate::scope::Scope;
-use crate::state::{State, last_of};
-use crate::term::{copies, first_missing};
 use mlk_cert::{NameSet, Summary};
 use mlk_names::{LockTerm, Sym};
+use mlk_scope::{Scope, State, copies, first_missing, last_of};
 use mlk_tree::{Actual, Callee};
 use std::alloc::{AllocError, Global};
 

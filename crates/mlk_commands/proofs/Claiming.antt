@@ -15,9 +15,9 @@ use Rattle.mlk_cert.specs.declared.case.Test.TheVariants.{One}
 use Rattle.mlk_lexemes.specs.Lists.{below}
 use Rattle.mlk_cert.specs.Making.{terms_before}
 use Rattle.mlk_lexemes.specs.Texts.{term_text}
-use Rattle.mlk_calls.specs.declared.state.State.{State}
-use Rattle.mlk_calls.specs.States.{holding, tested, without_last, last_captured}
-use Rattle.mlk_calls.specs.Terms.{put, put_all}
+use Rattle.mlk_scope.specs.declared.state.State.{State}
+use Rattle.mlk_scope.specs.States.{holding, tested, without_last, last_captured}
+use Rattle.mlk_scope.specs.Terms.{put, put_all}
 use Rattle.mlk_calls.specs.Claims.{held_too, claim_refused, release_all}
 use Rattle.mlk_rows.specs.declared.walk.Walk.{Walk}
 use Rattle.mlk_rows.specs.Walks.{Goes, is_large, each, few}

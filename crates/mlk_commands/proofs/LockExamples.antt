@@ -12,10 +12,10 @@ use Rattle.mlk_names.specs.declared.term.LockTerm.{LockTerm}
 use Rattle.mlk_coverage.specs.Computed.{answer}
 use Rattle.mlk_cert.specs.declared.case.Test.TheVariants.{Zero, One}
 use Rattle.mlk_lexemes.specs.Texts.{byte_text}
-use Rattle.mlk_calls.specs.States.{same_state}
-use Rattle.mlk_calls.specs.Scope.{Scope}
-use Rattle.mlk_calls.specs.Cases.{same_case}
-use Rattle.mlk_calls.specs.Terms.{same_term}
+use Rattle.mlk_scope.specs.States.{same_state}
+use Rattle.mlk_scope.specs.Scope.{Scope}
+use Rattle.mlk_scope.specs.Cases.{same_case}
+use Rattle.mlk_scope.specs.Terms.{same_term}
 use Rattle.mlk_rows.specs.declared.walk.Walk.{Walk}
 use Rattle.mlk_rows.specs.Walks.{begin, each, few, too_many}
 use Rattle.mlk_commands.specs.Locks.{lock_argument, release}

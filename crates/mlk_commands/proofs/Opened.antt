@@ -8,8 +8,8 @@ use Rattle.mlk_tree.proofs.Variants.{tree_local, tree_global}
 use Rattle.mlk_tree.specs.Trees.{Named}
 use Rattle.mlk_names.specs.declared.reference.Access.TheVariants.{Reads, Writes}
 use Rattle.mlk_names.specs.declared.reference.Extent.TheVariants as extent
-use Rattle.mlk_calls.specs.declared.state.State.{State}
-use Rattle.mlk_calls.specs.States.{without_last}
+use Rattle.mlk_scope.specs.declared.state.State.{State}
+use Rattle.mlk_scope.specs.States.{without_last}
 use Rattle.mlk_rows.specs.Walks.{Goes}
 use Rattle.mlk_rows.specs.Spots.{Spot}
 use Rattle.mlk_rows.specs.References.{touch, touch_last}

@@ -14,10 +14,10 @@ use Rattle.mlk_cert.specs.declared.names.NameSet.{NameSet}
 use Rattle.mlk_cert.specs.declared.names.NameSet.TheVariants.{Only, AllBut}
 use Rattle.mlk_cert.specs.declared.names.Own.{Own}
 use Rattle.mlk_lexemes.specs.Texts.{byte_text}
-use Rattle.mlk_calls.specs.States.{same_state}
-use Rattle.mlk_calls.specs.Cases.{same_case}
-use Rattle.mlk_calls.specs.Terms.{same_term}
-use Rattle.mlk_calls.specs.Names.{is_among, have, spares}
+use Rattle.mlk_scope.specs.States.{same_state}
+use Rattle.mlk_scope.specs.Cases.{same_case}
+use Rattle.mlk_scope.specs.Terms.{same_term}
+use Rattle.mlk_scope.specs.Names.{is_among, have, spares}
 use Rattle.mlk_rows.specs.declared.walk.Walk.{Walk}
 use Rattle.mlk_rows.specs.Walks.{begin}
 use Rattle.mlk_commands.specs.News.{in_order}

@@ -1,8 +1,8 @@
 -- Two ways, one after the other.
 use Rattle.std.proofs.Common.{◌≡◌, Bool, true, false, List, [], refl, ap, sym, ◌∙◌}
 use Rattle.mlk_tree.specs.ExprTrees.{Tree}
-use Rattle.mlk_calls.specs.declared.state.State.{State}
-use Rattle.mlk_calls.specs.Scope.{Scope}
+use Rattle.mlk_scope.specs.declared.state.State.{State}
+use Rattle.mlk_scope.specs.Scope.{Scope}
 use Rattle.mlk_rows.specs.declared.walk.Walk.{Walk}
 use Rattle.mlk_rows.specs.Walks.{both_ways, with_states, joined}
 use Rattle.mlk_rows.specs.Expressions.{where_it_may_be, by_condition}

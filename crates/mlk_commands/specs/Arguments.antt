@@ -11,9 +11,9 @@ use Rattle.mlk_names.specs.declared.reference.Access.TheVariants.{Reads, Writes}
 use Rattle.mlk_names.specs.declared.reference.Extent.TheVariants as extent
 use Rattle.mlk_cert.specs.declared.case.Test.TheVariants.{Zero, One}
 use Rattle.mlk_cert.specs.declared.names.NameSet.TheVariants.{Only, AllBut}
-use Rattle.mlk_calls.specs.declared.state.State.{State}
-use Rattle.mlk_calls.specs.States.{without_last, tested}
-use Rattle.mlk_calls.specs.Symbols.{truth_in}
+use Rattle.mlk_scope.specs.declared.state.State.{State}
+use Rattle.mlk_scope.specs.States.{without_last, tested}
+use Rattle.mlk_scope.specs.Symbols.{truth_in}
 use Rattle.mlk_calls.specs.declared.call.Calling.TheVariants.{ByDo}
 use Rattle.mlk_calls.specs.Calls.{at_call, at_job}
 use Rattle.mlk_rows.specs.declared.walk.Walk.{Walk}

@@ -2,8 +2,8 @@
 -- put in its place.
 use Rattle.std.specs.Prelude.{nat_lt, if◌then◌else◌, List, ◌++◌, length}
 use Rattle.mlk_names.specs.declared.term.LockTerm.{LockTerm}
-use Rattle.mlk_calls.specs.declared.state.State.{State}
-use Rattle.mlk_calls.specs.States.{holding}
+use Rattle.mlk_scope.specs.declared.state.State.{State}
+use Rattle.mlk_scope.specs.States.{holding}
 use Rattle.mlk_calls.specs.Claims.{held_too}
 
 abbrev pub held_quickly : List LockTerm → State → State

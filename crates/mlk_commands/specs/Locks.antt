@@ -14,9 +14,9 @@ use Rattle.mlk_names.specs.declared.symbol.Sym.{Sym}
 use Rattle.mlk_names.specs.declared.symbol.Sym.TheVariants.{Const, Local, Job, Unknown}
 use Rattle.mlk_names.specs.declared.term.LockTerm.{LockTerm}
 use Rattle.mlk_cert.specs.declared.case.Test.TheVariants.{Zero, One}
-use Rattle.mlk_calls.specs.declared.state.State.{State}
-use Rattle.mlk_calls.specs.Terms.{all_known}
-use Rattle.mlk_calls.specs.States.{last_captured, without_last, tested}
+use Rattle.mlk_scope.specs.declared.state.State.{State}
+use Rattle.mlk_scope.specs.Terms.{all_known}
+use Rattle.mlk_scope.specs.States.{last_captured, without_last, tested}
 use Rattle.mlk_calls.specs.Claims.{claim_refused, held_too, release_all, release_one}
 use Rattle.mlk_rows.specs.declared.walk.Walk.{Walk}
 use Rattle.mlk_rows.specs.Walks.{Outcome, Goes, Refused, each, few, placed}

@@ -9,8 +9,8 @@ use Rattle.mlk_text.specs.declared.code.Code.TheVariants.{Pinned}
 use Rattle.mlk_cert.specs.declared.names.NameSet.{NameSet}
 use Rattle.mlk_cert.specs.declared.names.Own.{Own}
 use Rattle.mlk_cert.specs.Limits.{own_below}
-use Rattle.mlk_calls.specs.declared.state.State.{State}
-use Rattle.mlk_calls.specs.Terms.{mention}
+use Rattle.mlk_scope.specs.declared.state.State.{State}
+use Rattle.mlk_scope.specs.Terms.{mention}
 use Rattle.mlk_calls.specs.Changes.{changed_state}
 use Rattle.mlk_rows.specs.Walks.{Outcome, placed}
 use Rattle.mlk_rows.specs.Spots.{Spot}

@@ -4,7 +4,7 @@ ghost use Rattle.std.specs.Prelude.{◌≡◌, IfOk, map};
 ghost use Rattle.mlk_tree.specs.ExprTrees.{trees};
 ghost use Rattle.mlk_tree.specs.Views.{variable_of, target_of, set_of};
 ghost use Rattle.mlk_names.specs.declared.reference.Extent.TheVariants as extent;
-ghost use Rattle.mlk_calls.specs.declared.state.State.{State};
+ghost use Rattle.mlk_scope.specs.declared.state.State.{State};
 ghost use Rattle.mlk_rows.specs.Spots.{spot_of};
 ghost use Rattle.mlk_rows.specs.Walks.{Outcome};
 ghost use Rattle.mlk_rows.specs.References.{touch};

@@ -3,7 +3,7 @@
 ghost use Rattle.std.specs.Prelude.{◌≡◌, IfOk};
 ghost use Rattle.mlk_tree.specs.ExprTrees.{tree_of, actual_trees};
 ghost use Rattle.mlk_tree.specs.Views.{call_of, do_of};
-ghost use Rattle.mlk_calls.specs.declared.state.State.{State};
+ghost use Rattle.mlk_scope.specs.declared.state.State.{State};
 ghost use Rattle.mlk_rows.specs.Spots.{spot_of};
 ghost use Rattle.mlk_rows.specs.Walks.{Outcome, each};
 ghost use Rattle.mlk_rows.specs.Expressions.{by_condition};

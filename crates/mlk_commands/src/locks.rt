@@ -3,8 +3,8 @@
 ghost use Rattle.std.specs.Prelude.{◌≡◌, ◌++◌, IfOk, OnOk, drop, map, option_map};
 ghost use Rattle.mlk_tree.specs.ExprTrees.{tree_of};
 ghost use Rattle.mlk_tree.specs.Views.{variable_of, lock_of};
-ghost use Rattle.mlk_calls.specs.declared.state.State.{State};
-ghost use Rattle.mlk_calls.specs.States.{holding};
+ghost use Rattle.mlk_scope.specs.declared.state.State.{State};
+ghost use Rattle.mlk_scope.specs.States.{holding};
 ghost use Rattle.mlk_calls.specs.Claims.{release_all};
 ghost use Rattle.mlk_rows.specs.Spots.{spot_of};
 ghost use Rattle.mlk_rows.specs.Walks.{Outcome, add_all};

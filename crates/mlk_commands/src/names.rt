@@ -3,7 +3,7 @@
 ghost use Rattle.std.specs.Prelude.{◌≡◌, IfOk, map, option_map, take, drop};
 ghost use Rattle.mlk_tree.specs.ExprTrees.{tree_of, sub_trees, subs_from};
 ghost use Rattle.mlk_tree.specs.Views.{variable_of};
-ghost use Rattle.mlk_calls.specs.Terms.{all_known};
+ghost use Rattle.mlk_scope.specs.Terms.{all_known};
 ghost use Rattle.mlk_rows.specs.Spots.{spot_of};
 ghost use Rattle.mlk_commands.specs.Locks.{root_of, capture_names, count_names, unknown_code, subscript_fault, subs_fault, names_fault, term_of, terms_of};
 

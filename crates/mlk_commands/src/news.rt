@@ -2,8 +2,8 @@
 
 ghost use Rattle.std.specs.Prelude.{◌≡◌, IfOk};
 ghost use Rattle.mlk_tree.specs.Views.{new_of};
-ghost use Rattle.mlk_calls.specs.declared.state.State.{State};
-ghost use Rattle.mlk_calls.specs.Refusals.{AnswersOf};
+ghost use Rattle.mlk_scope.specs.declared.state.State.{State};
+ghost use Rattle.mlk_scope.specs.Refusals.{AnswersOf};
 ghost use Rattle.mlk_rows.specs.Spots.{spot_of};
 ghost use Rattle.mlk_rows.specs.Walks.{Outcome, each};
 ghost use Rattle.mlk_commands.specs.News.{renewed, with_own, renew};

@@ -3,9 +3,9 @@
 ghost use Rattle.std.specs.Prelude.{◌≡◌, ◌∷◌, [], IfOk, OnOk};
 ghost use Rattle.mlk_tree.specs.ExprTrees.{sub_trees, subs_from};
 ghost use Rattle.mlk_tree.specs.Views.{variable_of};
-ghost use Rattle.mlk_calls.specs.declared.state.State.{State};
+ghost use Rattle.mlk_scope.specs.declared.state.State.{State};
 ghost use Rattle.mlk_calls.specs.Changes.{change};
-ghost use Rattle.mlk_calls.specs.Refusals.{AnswersOf};
+ghost use Rattle.mlk_scope.specs.Refusals.{AnswersOf};
 ghost use Rattle.mlk_rows.specs.Spots.{spot_of};
 ghost use Rattle.mlk_rows.specs.Walks.{Outcome, add_all, each};
 ghost use Rattle.mlk_commands.specs.Variables.{subs_of, name_in, count_in, capture_variable, change_at, change_local};

@@ -7,9 +7,9 @@ use Rattle.std.proofs.lemmas.Bool.Decides.{nat_tests}
 use Rattle.std.proofs.lemmas.List.{length-append}
 use Rattle.mlk_tree.specs.ExprTrees.{Tree}
 use Rattle.mlk_text.specs.declared.code.Code.TheVariants.{TooManyCases}
-use Rattle.mlk_calls.specs.declared.state.State.{State}
-use Rattle.mlk_calls.specs.Symbols.{truth_in}
-use Rattle.mlk_calls.specs.Scope.{Scope}
+use Rattle.mlk_scope.specs.declared.state.State.{State}
+use Rattle.mlk_scope.specs.Symbols.{truth_in}
+use Rattle.mlk_scope.specs.Scope.{Scope}
 use Rattle.mlk_rows.specs.declared.walk.Walk.{Walk}
 use Rattle.mlk_rows.specs.Walks.{put_all, with_states, is_large, too_many, few, overfull, joined}
 use Rattle.mlk_rows.specs.Expressions.{agrees, where_it_may_be, by_condition}

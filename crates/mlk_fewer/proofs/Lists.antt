@@ -3,9 +3,9 @@ use Rattle.std.proofs.Common.{◌≡◌, true, false, List, [], ◌∷◌, ◌++
 use Rattle.std.specs.Prelude.{◌⊎◌, ◌||◌, flat_map}
 use Rattle.std.specs.List.{list_any}
 use Rattle.std.proofs.lemmas.Bool.{cases_Bool, false≢true}
-use Rattle.mlk_calls.specs.declared.state.State.{State}
-use Rattle.mlk_calls.specs.States.{same_state}
-use Rattle.mlk_calls.proofs.CaseTests.{same_decides}
+use Rattle.mlk_scope.specs.declared.state.State.{State}
+use Rattle.mlk_scope.specs.States.{same_state}
+use Rattle.mlk_scope.proofs.CaseTests.{same_decides}
 use Rattle.mlk_rows.specs.Walks.{put, put_all}
 use Rattle.mlk_fewer.specs.Fewer.{Among, AreDistinct}
 

@@ -5,9 +5,9 @@ use Rattle.std.proofs.lemmas.Bool.{cases_Bool, true≢false, false≢true}
 use Rattle.mlk_cert.specs.declared.case.Case.{Case}
 use Rattle.mlk_tree.specs.Trees.{CommandTree, Does, ParameterTree, Once, Endless, Limited, ControlTree, Runs, CommandTrees, finished, then_command, then_for}
 use Rattle.mlk_cert.specs.declared.names.NameSet.TheVariants.{Only}
-use Rattle.mlk_calls.specs.declared.state.State.{State}
-use Rattle.mlk_calls.specs.States.{at_rest}
-use Rattle.mlk_calls.specs.Scope.{listed}
+use Rattle.mlk_scope.specs.declared.state.State.{State}
+use Rattle.mlk_scope.specs.States.{at_rest}
+use Rattle.mlk_scope.specs.Scope.{listed}
 use Rattle.mlk_rows.specs.declared.walk.Walk.{Walk}
 use Rattle.mlk_rows.specs.declared.walk.Fault.{Fault}
 use Rattle.mlk_rows.specs.Walks.{Outcome, put_all, with_states, few, each, begin}

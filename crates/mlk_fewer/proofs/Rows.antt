@@ -5,9 +5,9 @@ use Rattle.mlk_names.specs.declared.symbol.Sym.{Sym}
 use Rattle.mlk_names.specs.declared.symbol.Sym.TheVariants.{Unknown}
 use Rattle.mlk_cert.specs.declared.case.Case.{Case}
 use Rattle.mlk_tree.specs.ExprTrees.{Tree}
-use Rattle.mlk_calls.specs.declared.state.State.{State}
-use Rattle.mlk_calls.specs.States.{with_symbol}
-use Rattle.mlk_calls.specs.Scope.{Scope}
+use Rattle.mlk_scope.specs.declared.state.State.{State}
+use Rattle.mlk_scope.specs.States.{with_symbol}
+use Rattle.mlk_scope.specs.Scope.{Scope}
 use Rattle.mlk_rows.specs.declared.walk.Walk.{Walk}
 use Rattle.mlk_rows.specs.declared.walk.Quit.{Quit}
 use Rattle.mlk_rows.specs.Walks.{Outcome, Goes, Skips, Quits, Refused, put_all, add, add_all, with_states, each, each_changed}

@@ -16,11 +16,11 @@ use Rattle.mlk_rows.specs.declared.walk.Walk.{Walk}
 use Rattle.mlk_rows.specs.declared.spot.Block.{Block}
 use Rattle.mlk_rows.specs.declared.reference.Use.{Use}
 use Rattle.mlk_rows.specs.declared.reference.Use.TheVariants.{ItsValue}
-use Rattle.mlk_calls.specs.declared.state.State.{State}
+use Rattle.mlk_scope.specs.declared.state.State.{State}
 use Rattle.mlk_calls.specs.declared.call.Calling.TheVariants.{Extrinsic}
 use Rattle.mlk_calls.specs.Calls.{at_call}
-use Rattle.mlk_calls.specs.States.{at_rest, without_last}
-use Rattle.mlk_calls.specs.Symbols.{truth_in}
+use Rattle.mlk_scope.specs.States.{at_rest, without_last}
+use Rattle.mlk_scope.specs.Symbols.{truth_in}
 use Rattle.mlk_calls.specs.Claims.{held_too}
 use Rattle.mlk_rows.specs.Walks.{all_placed, with_states, few, each}
 use Rattle.mlk_rows.specs.Spots.{Spot}

@@ -3,9 +3,9 @@
 use Rattle.std.specs.Prelude.{◌≡◌, ◌⊎◌, ℕ, false, List, [], ◌∷◌, map}
 use Rattle.mlk_cert.specs.declared.case.Case.{Case}
 use Rattle.mlk_tree.specs.Trees.{CommandTrees}
-use Rattle.mlk_calls.specs.declared.state.State.{State}
-use Rattle.mlk_calls.specs.States.{at_rest}
-use Rattle.mlk_calls.specs.Scope.{Scope, listed}
+use Rattle.mlk_scope.specs.declared.state.State.{State}
+use Rattle.mlk_scope.specs.States.{at_rest}
+use Rattle.mlk_scope.specs.Scope.{Scope, listed}
 use Rattle.mlk_rows.specs.declared.walk.Walk.{Walk}
 use Rattle.mlk_rows.specs.declared.walk.Quit.{Quit}
 use Rattle.mlk_rows.specs.Walks.{begin}

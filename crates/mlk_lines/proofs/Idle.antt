@@ -17,8 +17,8 @@ use Rattle.mlk_tree.specs.Views.{commands_of, line_step, line_of, lines_from}
 use Rattle.mlk_coverage.proofs.CheckLemmas.{drop_step}
 use Rattle.mlk_program.specs.Calls.{as_list}
 use Rattle.mlk_cert.specs.declared.names.NameSet.TheVariants.{Only}
-use Rattle.mlk_calls.specs.Scope.{Scope, listed, is_past}
-use Rattle.mlk_calls.proofs.PointOrder.{nothing_past}
+use Rattle.mlk_scope.specs.Scope.{Scope, listed, is_past}
+use Rattle.mlk_scope.proofs.PointOrder.{nothing_past}
 use Rattle.mlk_calls.specs.Claims.{held_too}
 use Rattle.mlk_rows.specs.declared.reference.Use.{Use}
 use Rattle.mlk_rows.specs.declared.reference.Use.TheVariants.{ItsValue}

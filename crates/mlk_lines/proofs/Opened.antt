@@ -12,8 +12,8 @@ use Rattle.mlk_tree.specs.Views.{commands_of, command_of, control_of, commands_f
 use Rattle.mlk_program.proofs.FoundCommands.{none_last, some_last}
 use Rattle.mlk_cert.specs.declared.case.Test.{Test}
 use Rattle.mlk_cert.specs.declared.case.Case.{Case}
-use Rattle.mlk_calls.specs.Scope.{listed}
-use Rattle.mlk_calls.specs.Cases.{last_saved, before_last}
+use Rattle.mlk_scope.specs.Scope.{listed}
+use Rattle.mlk_scope.specs.Cases.{last_saved, before_last}
 use Rattle.mlk_rows.specs.declared.walk.Walk.{Walk}
 use Rattle.mlk_rows.specs.Walks.{begin}
 use Rattle.mlk_rows.specs.Spots.{Spot}

@@ -6,10 +6,10 @@ use Rattle.mlk_tree.specs.ExprTrees.{Tree}
 use Rattle.mlk_tree.specs.Trees.{ActionTree, Do, Else, Halt, Hang, If, Job, Kill, Lock, Merge, New, Quit, Read, Set, Write}
 use Rattle.mlk_tree.specs.Trees.{DoTree, KillTree, LockTree, NewTree}
 use Rattle.mlk_cert.specs.declared.case.Case.{Case}
-use Rattle.mlk_calls.specs.Cases.{known_test, is_listed, holds_some}
-use Rattle.mlk_calls.specs.Scope.{listed}
-use Rattle.mlk_calls.specs.declared.state.State.{State}
-use Rattle.mlk_calls.specs.States.{at_rest}
+use Rattle.mlk_scope.specs.Cases.{known_test, is_listed, holds_some}
+use Rattle.mlk_scope.specs.Scope.{listed}
+use Rattle.mlk_scope.specs.declared.state.State.{State}
+use Rattle.mlk_scope.specs.States.{at_rest}
 use Rattle.mlk_rows.specs.declared.walk.Walk.{Walk}
 use Rattle.mlk_rows.specs.declared.spot.Block.{Block}
 use Rattle.mlk_rows.specs.Walks.{Outcome, Goes, Skips, Quits, Refused, each, few, put_all, with_states}

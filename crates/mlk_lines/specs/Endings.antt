@@ -10,11 +10,11 @@ use Rattle.mlk_program.specs.Entries.{formals_of}
 use Rattle.mlk_cert.specs.declared.case.Test.{Test}
 use Rattle.mlk_cert.specs.declared.case.Case.{Case}
 use Rattle.mlk_cert.specs.declared.names.Own.{Own}
-use Rattle.mlk_calls.specs.Names.{is_among, is_own}
-use Rattle.mlk_calls.specs.Terms.{mention, mention_such}
-use Rattle.mlk_calls.specs.Cases.{is_listed, is_exit, holds_some, last_saved, before_last}
-use Rattle.mlk_calls.specs.declared.state.State.{State}
-use Rattle.mlk_calls.specs.Scope.{Scope, listed, scope_of}
+use Rattle.mlk_scope.specs.Names.{is_among, is_own}
+use Rattle.mlk_scope.specs.Terms.{mention, mention_such}
+use Rattle.mlk_scope.specs.Cases.{is_listed, is_exit, holds_some, last_saved, before_last}
+use Rattle.mlk_scope.specs.declared.state.State.{State}
+use Rattle.mlk_scope.specs.Scope.{Scope, listed, scope_of}
 use Rattle.mlk_rows.specs.declared.walk.Quit.{Quit}
 use Rattle.mlk_rows.specs.declared.walk.Walk.{Walk}
 use Rattle.mlk_tree.specs.declared.routine.Line.{Line}

@@ -7,10 +7,10 @@ use Rattle.mlk_tree.specs.Trees.{ParameterTree, Once, Endless, Limited, ControlT
 use Rattle.mlk_cert.specs.declared.case.Case.{Case}
 use Rattle.mlk_cert.specs.declared.names.NameSet.{NameSet}
 use Rattle.mlk_cert.specs.declared.names.NameSet.TheVariants.{Only}
-use Rattle.mlk_calls.specs.Cases.{is_listed}
-use Rattle.mlk_calls.specs.Scope.{listed}
-use Rattle.mlk_calls.specs.declared.state.State.{State}
-use Rattle.mlk_calls.specs.States.{at_rest}
+use Rattle.mlk_scope.specs.Cases.{is_listed}
+use Rattle.mlk_scope.specs.Scope.{listed}
+use Rattle.mlk_scope.specs.declared.state.State.{State}
+use Rattle.mlk_scope.specs.States.{at_rest}
 use Rattle.mlk_rows.specs.declared.walk.Walk.{Walk}
 use Rattle.mlk_rows.specs.declared.walk.Fault.{Fault}
 use Rattle.mlk_rows.specs.declared.walk.Quit.{Quit}

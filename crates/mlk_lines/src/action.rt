@@ -4,8 +4,8 @@ ghost use Rattle.std.specs.Prelude.{◌≡◌, IfOk, OnOk, List, map, option_map
 ghost use Rattle.mlk_tree.specs.ExprTrees.{tree_of, trees};
 ghost use Rattle.mlk_tree.specs.Trees as tree;
 ghost use Rattle.mlk_tree.specs.Views.{action_of, do_of, kill_of, lock_of, new_of};
-ghost use Rattle.mlk_calls.specs.declared.state.State.{State};
-ghost use Rattle.mlk_calls.specs.Cases.{holds_some};
+ghost use Rattle.mlk_scope.specs.declared.state.State.{State};
+ghost use Rattle.mlk_scope.specs.Cases.{holds_some};
 ghost use Rattle.mlk_rows.specs.Spots.{spot_of};
 ghost use Rattle.mlk_rows.specs.Walks.{Outcome, add_all};
 ghost use Rattle.mlk_lines.specs.Commands.{if_row, else_row, halt_row, quit_row, do_calls, if_all, kill_each, lock_each, new_each, act};

@@ -2,7 +2,7 @@
 
 ghost use Rattle.std.specs.Prelude.{◌≡◌, IfOk, OnOk, flat_map, length, map, nat_lt, take, []};
 ghost use Rattle.std.specs.List.{list_any};
-ghost use Rattle.mlk_calls.specs.States.{at_rest};
+ghost use Rattle.mlk_scope.specs.States.{at_rest};
 ghost use Rattle.mlk_rows.specs.Spots.{spot_of};
 ghost use Rattle.mlk_rows.specs.Walks.{add_all, put_all};
 ghost use Rattle.mlk_lines.specs.Commands.{entering, enters, enter_row, block_ends, do_block};

@@ -2,7 +2,7 @@
 
 ghost use Rattle.std.specs.Prelude.{◌≡◌, IfOk, None, Some, fold, map, option_map, take};
 ghost use Rattle.mlk_tree.specs.Views.{parameter_of, control_of, command_of, commands_of};
-ghost use Rattle.mlk_calls.specs.States.{at_rest};
+ghost use Rattle.mlk_scope.specs.States.{at_rest};
 ghost use Rattle.mlk_rows.specs.Spots.{spot_of};
 ghost use Rattle.mlk_rows.specs.Walks.{begin, put_all};
 ghost use Rattle.mlk_lines.specs.Counting.{counted};

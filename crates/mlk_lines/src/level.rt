@@ -3,7 +3,7 @@
 ghost use Rattle.std.specs.Prelude.{◌≡◌, ◌++◌, IfOk, OnOk, Option, drop, map, option_map, option_copied};
 ghost use Rattle.mlk_tree.specs.Views.{line_of, lines_from};
 ghost use Rattle.mlk_rows.specs.declared.spot.Block.{Block};
-ghost use Rattle.mlk_calls.specs.Scope.{scope_of};
+ghost use Rattle.mlk_scope.specs.Scope.{scope_of};
 ghost use Rattle.mlk_lines.specs.Endings.{OfBlock, around_of, head_of, number_of};
 ghost use Rattle.mlk_lines.specs.Lines.{next_head, block_with, head_walk, line_walk, found_in, walk_lines};
 

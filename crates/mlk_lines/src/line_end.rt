@@ -2,9 +2,9 @@
 
 ghost use Rattle.std.specs.Prelude.{◌≡◌, [], ◌∷◌, IfOk, IfSome, OnOk, filter, map, option_map, option_copied};
 ghost use Rattle.std.specs.List.{list_any};
-ghost use Rattle.mlk_calls.specs.Terms.{is_such, mention_such};
-ghost use Rattle.mlk_calls.specs.Cases.{holds_some, last_saved, before_last};
-ghost use Rattle.mlk_calls.specs.Scope.{scope_of};
+ghost use Rattle.mlk_scope.specs.Terms.{is_such, mention_such};
+ghost use Rattle.mlk_scope.specs.Cases.{holds_some, last_saved, before_last};
+ghost use Rattle.mlk_scope.specs.Scope.{scope_of};
 ghost use Rattle.mlk_lines.specs.Endings.{end_of, around_of, head_of, into_line, is_at_level, escapes_block, is_left, restored, block_end, escapes, frame_end, level_end, quit_end, go_on, case_end, state_end, add_ending, add_endings, at_end};
 
 use crate::action::holds_some;

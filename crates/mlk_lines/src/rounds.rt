@@ -2,7 +2,7 @@
 
 ghost use Rattle.std.specs.Prelude.{◌≡◌, ◌∷◌, [], IfOk, OnOk};
 ghost use Rattle.mlk_tree.specs.Views.{parameter_of};
-ghost use Rattle.mlk_calls.specs.declared.state.State.{State};
+ghost use Rattle.mlk_scope.specs.declared.state.State.{State};
 ghost use Rattle.mlk_rows.specs.Spots.{spot_of};
 ghost use Rattle.mlk_rows.specs.Walks.{Outcome, Refused, add_all, each};
 ghost use Rattle.mlk_text.specs.declared.code.Code.TheVariants.{CaseNotListed};

@@ -19,11 +19,11 @@ use Rattle.mlk_cert.specs.declared.case.Test.{Test}
 use Rattle.mlk_cert.specs.declared.case.Test.TheVariants.{Any, Zero, One}
 use Rattle.mlk_cert.specs.declared.case.Case.{Case}
 use Rattle.mlk_lexemes.specs.Texts.{byte_text}
-use Rattle.mlk_calls.specs.declared.state.State.{State}
-use Rattle.mlk_calls.specs.States.{same_state}
-use Rattle.mlk_calls.specs.Scope.{Scope}
-use Rattle.mlk_calls.specs.Cases.{same_case}
-use Rattle.mlk_calls.specs.Terms.{same_term}
+use Rattle.mlk_scope.specs.declared.state.State.{State}
+use Rattle.mlk_scope.specs.States.{same_state}
+use Rattle.mlk_scope.specs.Scope.{Scope}
+use Rattle.mlk_scope.specs.Cases.{same_case}
+use Rattle.mlk_scope.specs.Terms.{same_term}
 use Rattle.mlk_rows.specs.declared.walk.Fault.{Fault}
 use Rattle.mlk_rows.specs.declared.walk.Walk.{Walk}
 use Rattle.mlk_rows.specs.Walks.{begin, few, too_many}

@@ -18,7 +18,7 @@ use Rattle.mlk_program.proofs.FoundCalls.{as_list_same}
 use Rattle.mlk_rows.specs.declared.walk.Walk.{Walk}
 use Rattle.mlk_rows.specs.declared.reference.Use.{Use}
 use Rattle.mlk_rows.specs.declared.reference.Use.TheVariants.{ItsValue}
-use Rattle.mlk_calls.specs.States.{without_last}
+use Rattle.mlk_scope.specs.States.{without_last}
 use Rattle.mlk_rows.specs.Walks.{each, each_changed}
 use Rattle.mlk_rows.specs.Spots.{Spot}
 use Rattle.mlk_rows.specs.References.{use_of, read_last}

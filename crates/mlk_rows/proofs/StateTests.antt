@@ -6,8 +6,8 @@ use Rattle.std.proofs.lemmas.Slice.Eq.{slice_eq-Decides}
 use Rattle.mlk_names.specs.declared.symbol.Sym.{Sym}
 use Rattle.mlk_names.specs.contracts.symbol.SymPartialEq.TheImpl as sym_eq
 use Rattle.mlk_cert.proofs.Equal.{case-equal}
-use Rattle.mlk_calls.specs.declared.state.State.{State}
-use Rattle.mlk_calls.specs.contracts.state.StatePartialEq.TheImpl as state_eq
+use Rattle.mlk_scope.specs.declared.state.State.{State}
+use Rattle.mlk_scope.specs.contracts.state.StatePartialEq.TheImpl as state_eq
 
 sym_equal : (a b : Sym) → Decides (sym_eq.eq-value.it a b) (a ≡ b)
 sym_equal a b = search (rules, slice_eq-Decides)

@@ -1,6 +1,6 @@
 -- Lists of states that wait.
 use Rattle.std.proofs.Common.{◌≡◌, ◌<◌, ◌+◌, ℕ, true, false, List, [], ◌∷◌, ◌++◌, length, drop, slice_index_or, refl, ap, sym, ◌∙◌}
-use Rattle.mlk_calls.specs.declared.state.State.{State}
+use Rattle.mlk_scope.specs.declared.state.State.{State}
 use Rattle.mlk_rows.specs.declared.walk.Walk.{Walk}
 use Rattle.mlk_tree.specs.declared.expr.Expr.{Expr}
 use Rattle.mlk_tree.specs.ExprTrees.{Tree, Choices, choice, tree_of, choices, choices_from}

@@ -8,11 +8,11 @@ use Rattle.mlk_tree.specs.ExprTrees.{no_links, link, Choices, no_choices, choice
 use Rattle.mlk_tree.specs.ExprTrees.{Actuals, no_actuals, actual}
 use Rattle.mlk_names.specs.declared.symbol.Sym.TheVariants.{Unknown}
 use Rattle.mlk_program.specs.Calls.{as_list}
-use Rattle.mlk_calls.specs.Symbols.{symbol_in, truth_in}
-use Rattle.mlk_calls.specs.declared.state.State.{State}
+use Rattle.mlk_scope.specs.Symbols.{symbol_in, truth_in}
+use Rattle.mlk_scope.specs.declared.state.State.{State}
 use Rattle.mlk_calls.specs.declared.call.Calling.TheVariants.{Extrinsic}
-use Rattle.mlk_calls.specs.States.{with_symbol, without_last}
-use Rattle.mlk_calls.specs.Scope.{Scope}
+use Rattle.mlk_scope.specs.States.{with_symbol, without_last}
+use Rattle.mlk_scope.specs.Scope.{Scope}
 use Rattle.mlk_calls.specs.Calls.{at_call}
 use Rattle.mlk_rows.specs.declared.walk.Walk.{Walk}
 use Rattle.mlk_rows.specs.Walks.{each, each_changed, few, with_states, both_ways, all_placed}

@@ -1,6 +1,6 @@
 -- Lists of states put together in one turn. For private clauses alone. This project's own.
 use Rattle.std.specs.Prelude.{List, [], ◌∷◌, fold}
-use Rattle.mlk_calls.specs.declared.state.State.{State}
+use Rattle.mlk_scope.specs.declared.state.State.{State}
 use Rattle.mlk_rows.specs.Walks.{put_all}
 
 -- each list's states after those before it, each once

@@ -12,8 +12,8 @@ use Rattle.mlk_names.specs.declared.reference.Access.TheVariants.{Reads}
 use Rattle.mlk_names.specs.declared.reference.Extent.{Extent}
 use Rattle.mlk_names.specs.declared.reference.Extent.TheVariants.{Node, Tree}
 use Rattle.mlk_coverage.specs.Computed.{answer}
-use Rattle.mlk_calls.specs.declared.state.State.{State}
-use Rattle.mlk_calls.specs.States.{last_captured, without_last}
+use Rattle.mlk_scope.specs.declared.state.State.{State}
+use Rattle.mlk_scope.specs.States.{last_captured, without_last}
 use Rattle.mlk_rows.specs.Walks.{Outcome, Goes, Refused}
 use Rattle.mlk_rows.specs.declared.reference.Use.{Use}
 use Rattle.mlk_rows.specs.declared.reference.Use.TheVariants.{ItsValue, Below, Beside, AllOfIt, Spelled}

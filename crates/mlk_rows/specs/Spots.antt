@@ -1,6 +1,6 @@
 -- Where in a line the walk stands. This project's own choice.
 use Rattle.std.specs.Prelude.{ℕ, Option, option_copied}
-use Rattle.mlk_calls.specs.Scope.{Scope, scope_of}
+use Rattle.mlk_scope.specs.Scope.{Scope, scope_of}
 use Rattle.mlk_rows.specs.declared.spot.Block.{Block}
 use Rattle.mlk_rows.specs.declared.spot.Spot.{Spot as GivenSpot}
 

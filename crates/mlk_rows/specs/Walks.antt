@@ -4,8 +4,8 @@ use Rattle.std.specs.List.{list_any}
 use Rattle.mlk_text.specs.declared.code.Code.{Code}
 use Rattle.mlk_text.specs.declared.code.Code.TheVariants.{TooManyCases}
 use Rattle.mlk_cert.specs.declared.case.Case.{Case}
-use Rattle.mlk_calls.specs.declared.state.State.{State}
-use Rattle.mlk_calls.specs.States.{same_state, at_rest}
+use Rattle.mlk_scope.specs.declared.state.State.{State}
+use Rattle.mlk_scope.specs.States.{same_state, at_rest}
 use Rattle.mlk_rows.specs.declared.walk.Walk.{Walk}
 
 -- A state goes on, skips the rest of its line or round, quits at a column, or is refused at a place. A state of which no

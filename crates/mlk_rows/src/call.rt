@@ -2,7 +2,7 @@
 
 ghost use Rattle.std.specs.Prelude.{◌≡◌, IfOk, OnOk, length};
 ghost use Rattle.mlk_tree.specs.ExprTrees.{actual_trees};
-ghost use Rattle.mlk_calls.specs.declared.state.State.{State};
+ghost use Rattle.mlk_scope.specs.declared.state.State.{State};
 ghost use Rattle.mlk_calls.specs.Calls.{at_call};
 ghost use Rattle.mlk_rows.specs.Walks.{Outcome, add_all, all_placed};
 ghost use Rattle.mlk_rows.specs.Spots.{spot_of};

@@ -2,7 +2,7 @@
 
 ghost use Rattle.std.specs.Prelude.{◌≡◌, ◌++◌, [], IfOk, OnOk, true, false};
 ghost use Rattle.mlk_tree.specs.ExprTrees.{tree_of};
-ghost use Rattle.mlk_calls.specs.Scope.{scope_of};
+ghost use Rattle.mlk_scope.specs.Scope.{scope_of};
 ghost use Rattle.mlk_rows.specs.Walks.{with_states, joins};
 ghost use Rattle.mlk_rows.specs.Expressions.{where_it_may_be, if_agrees};
 ghost use Rattle.mlk_rows.specs.Gathered.{gathered};

@@ -2,7 +2,7 @@
 
 ghost use Rattle.std.specs.Prelude.{◌≡◌, IfOk, option_map, option_copied};
 ghost use Rattle.mlk_tree.specs.ExprTrees.{tree_of, trees, trees_from, sub_trees, subs_from, links, links_from, choices, choices_from, actual_of, actual_trees, actuals_from};
-ghost use Rattle.mlk_calls.specs.Scope.{scope_of};
+ghost use Rattle.mlk_scope.specs.Scope.{scope_of};
 ghost use Rattle.mlk_rows.specs.Walks.{each};
 ghost use Rattle.mlk_rows.specs.References.{read_last};
 ghost use Rattle.mlk_rows.specs.Spots.{spot_of};

@@ -2,8 +2,8 @@
 
 ghost use Rattle.std.specs.Prelude.{◌≡◌, ◌-◌, ℕ, IfOk, OnOk, Option, length, take, option_map};
 ghost use Rattle.mlk_coverage.specs.Computed.{answer};
-ghost use Rattle.mlk_calls.specs.declared.state.State.{State};
-ghost use Rattle.mlk_calls.specs.States.{last_captured, without_last};
+ghost use Rattle.mlk_scope.specs.declared.state.State.{State};
+ghost use Rattle.mlk_scope.specs.States.{last_captured, without_last};
 ghost use Rattle.mlk_rows.specs.Walks.{Outcome, add_all};
 ghost use Rattle.mlk_rows.specs.References.{use_of, reference, checked, covered_or, touch_last, read_fault, read_last, all_but_last};
 ghost use Rattle.mlk_rows.specs.Spots.{spot_of};

@@ -1,8 +1,8 @@
 // Rows of the walk: what is made of one state.
 
 ghost use Rattle.std.specs.Prelude.{◌≡◌, List, IfOk, OnOk};
-ghost use Rattle.mlk_calls.specs.declared.state.State.{State};
-ghost use Rattle.mlk_calls.specs.States.{without_last};
+ghost use Rattle.mlk_scope.specs.declared.state.State.{State};
+ghost use Rattle.mlk_scope.specs.States.{without_last};
 ghost use Rattle.mlk_rows.specs.Walks.{Outcome, add_all, each, each_changed};
 
 use crate::walk::{Walk, put};

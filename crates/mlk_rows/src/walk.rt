@@ -1,7 +1,7 @@
 // The walk of a line.
 
 ghost use Rattle.std.specs.Prelude.{◌≡◌, ◌↔◌, IsTrue, ◌∷◌, ◌++◌, [], IfOk, MatchOption, OnOk, map};
-ghost use Rattle.mlk_calls.specs.States.{same_state};
+ghost use Rattle.mlk_scope.specs.States.{same_state};
 ghost use Rattle.mlk_rows.specs.Walks.{Goes, Skips, Quits, Refused, add, add_all, put, put_all, is_large, too_many, few, joined, with_states};
 ghost use Rattle.std.specs.List.{list_any};
 

@@ -41,14 +41,14 @@ use Rattle.mlk_cert.specs.declared.names.Own.{Own}
 use Rattle.mlk_cert.specs.declared.block.Point.{Point}
 use Rattle.mlk_cert.specs.declared.block.EntryCert.{EntryCert}
 use Rattle.mlk_lexemes.specs.Texts.{byte_text}
-use Rattle.mlk_calls.specs.Values.{fold_between, fold_before}
-use Rattle.mlk_calls.specs.Terms.{same_term}
-use Rattle.mlk_calls.specs.Cases.{same_case, includes, leaves_by}
-use Rattle.mlk_calls.specs.States.{same_state}
+use Rattle.mlk_scope.specs.Values.{fold_between, fold_before}
+use Rattle.mlk_scope.specs.Terms.{same_term}
+use Rattle.mlk_scope.specs.Cases.{same_case, includes, leaves_by}
+use Rattle.mlk_scope.specs.States.{same_state}
 use Rattle.mlk_rows.specs.Walks.{too_many, few}
-use Rattle.mlk_calls.specs.Scope.{certified, declared}
-use Rattle.mlk_calls.specs.Names.{is_among, have, spares}
-use Rattle.mlk_calls.specs.Values.{whole}
+use Rattle.mlk_scope.specs.Scope.{certified, declared}
+use Rattle.mlk_scope.specs.Names.{is_among, have, spares}
+use Rattle.mlk_scope.specs.Values.{whole}
 use Rattle.mlk_verdicts.specs.declared.report.Row.{Row}
 use Rattle.mlk_verdicts.specs.Faults.{fault_cmp}
 use Rattle.mlk_verdicts.specs.Verdicts.{known, entry_faults, line_faults}

@@ -8,7 +8,7 @@ use Rattle.mlk_program.specs.Entries.{lines_in, has_label, entry_by}
 use Rattle.mlk_coverage.specs.declared.rules.RuleLists.{RuleLists}
 use Rattle.mlk_cert.specs.declared.block.EntryCert.{EntryCert}
 use Rattle.mlk_rows.specs.declared.walk.Fault.{Fault}
-use Rattle.mlk_calls.specs.Scope.{block_at, has_entry}
+use Rattle.mlk_scope.specs.Scope.{block_at, has_entry}
 use Rattle.mlk_verdicts.specs.declared.report.Row.{Row}
 use Rattle.mlk_verdicts.specs.Verdicts.{known, verdict}
 

@@ -16,8 +16,8 @@ use Rattle.mlk_cert.specs.declared.names.Own.{Own}
 use Rattle.mlk_cert.specs.declared.block.Summary.{Summary}
 use Rattle.mlk_cert.specs.declared.block.EntryCert.{EntryCert}
 use Rattle.mlk_coverage.specs.declared.rules.RuleLists.{RuleLists}
-use Rattle.mlk_calls.specs.Cases.{is_listed, holds_some}
-use Rattle.mlk_calls.specs.Scope.{Scope, certified, declared, block_at, listed, scope_with}
+use Rattle.mlk_scope.specs.Cases.{is_listed, holds_some}
+use Rattle.mlk_scope.specs.Scope.{Scope, certified, declared, block_at, listed, scope_with}
 use Rattle.mlk_calls.specs.Calls.{formals_in}
 use Rattle.mlk_commands.specs.News.{in_order}
 use Rattle.mlk_rows.specs.declared.walk.Fault.{Fault}

@@ -2,8 +2,8 @@
 
 ghost use Rattle.std.specs.Prelude.{◌≡◌, ◌++◌, [], IfOk, OnOk, map};
 ghost use Rattle.std.specs.List.{list_any};
-ghost use Rattle.mlk_calls.specs.Cases.{holds_some};
-ghost use Rattle.mlk_calls.specs.Scope.{scope_of};
+ghost use Rattle.mlk_scope.specs.Cases.{holds_some};
+ghost use Rattle.mlk_scope.specs.Scope.{scope_of};
 ghost use Rattle.mlk_verdicts.specs.Verdicts.{own_formal, begin_case, begin_faults, need_faults, leaves_some, exit_faults, own_faults};
 
 use mlk_calls::{Scope, is_listed};

@@ -2,7 +2,7 @@
 
 ghost use Rattle.std.specs.Prelude.{◌≡◌, ◌∷◌, ◌++◌, [], IfOk, OnOk, map, flat_map, filter};
 ghost use Rattle.mlk_tree.specs.Views.{line_of, routine_of};
-ghost use Rattle.mlk_calls.specs.Scope.{scope_with};
+ghost use Rattle.mlk_scope.specs.Scope.{scope_with};
 ghost use Rattle.mlk_verdicts.specs.Faults.{ascending};
 ghost use Rattle.mlk_text.specs.declared.code.Code.TheVariants.{NoCertificate};
 ghost use Rattle.mlk_program.specs.Entries.{line_of_entry, lines_in};

@@ -3,7 +3,7 @@
 ghost use Rattle.std.specs.Prelude.{◌≡◌, ◌++◌, IfOk, map, option_map, option_copied};
 ghost use Rattle.mlk_tree.specs.Views.{line_of, routine_of};
 ghost use Rattle.mlk_program.specs.Entries.{line_of_entry, lines_of};
-ghost use Rattle.mlk_calls.specs.Scope.{scope_of};
+ghost use Rattle.mlk_scope.specs.Scope.{scope_of};
 ghost use Rattle.mlk_calls.specs.Calls.{formals_in};
 ghost use Rattle.mlk_lines.specs.Endings.{head_of};
 ghost use Rattle.mlk_verdicts.specs.Verdicts.{head_after, entry_walk, entry_number, fault_in, all_faults};

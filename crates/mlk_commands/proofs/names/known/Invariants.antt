@@ -1,7 +1,7 @@
 use Rattle.std.proofs.Common.{◌≡◌, ◌++◌, length}
 use Rattle.std.specs.Prelude.{option_map}
 use Rattle.mlk_names.specs.Symbols.{known_of}
-use Rattle.mlk_calls.specs.Lists.{all_some}
+use Rattle.mlk_scope.specs.Lists.{all_some}
 use Rattle.mlk_commands.proofs.names.known.Given as goal
 
 abbrev pub invariant-loop-symbol : goal.invariant-loop-symbol

@@ -1,7 +1,7 @@
 use Rattle.std.proofs.Common.{◌≡◌, ◌∙◌, sym, map, drop, length, true, arith, rules}
 use Rattle.std.specs.Prelude.{nat_lt}
 use Rattle.std.proofs.lemmas.Bool.{ltb-true}
-use Rattle.mlk_calls.specs.States.{at_rest}
+use Rattle.mlk_scope.specs.States.{at_rest}
 use Rattle.mlk_lines.proofs.FewStates.{all_first}
 use Rattle.mlk_lines.proofs.block.ends_of.Goals as goal
 

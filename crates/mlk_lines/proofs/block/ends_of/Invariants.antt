@@ -1,5 +1,5 @@
 use Rattle.std.proofs.Common.{◌≡◌, drop, map, take, []}
-use Rattle.mlk_calls.specs.States.{at_rest}
+use Rattle.mlk_scope.specs.States.{at_rest}
 use Rattle.mlk_rows.specs.Walks.{put_all}
 use Rattle.mlk_lines.proofs.block.ends_of.Given as goal
 

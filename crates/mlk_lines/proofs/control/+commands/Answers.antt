@@ -2,7 +2,7 @@ use Rattle.std.proofs.Common.{◌∙◌, ap, sym, map}
 use Rattle.std.specs.Prelude.{fold, option_map}
 use Rattle.mlk_tree.specs.declared.command.Commands.TheViews.{out-For}
 use Rattle.mlk_tree.specs.Views.{command_of, commands_of, control_of}
-use Rattle.mlk_calls.specs.Scope.{scope_of, listed}
+use Rattle.mlk_scope.specs.Scope.{scope_of, listed}
 use Rattle.mlk_rows.specs.Spots.{spot_of}
 use Rattle.mlk_lines.specs.Loops.{at_word, one_command, after_rounds, commands}
 use Rattle.mlk_lines.proofs.Opened.{carried, for_done}

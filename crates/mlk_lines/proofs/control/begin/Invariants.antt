@@ -1,5 +1,5 @@
 use Rattle.std.proofs.Common.{◌≡◌, take, map}
-use Rattle.mlk_calls.specs.States.{at_rest}
+use Rattle.mlk_scope.specs.States.{at_rest}
 use Rattle.mlk_lines.proofs.control.begin.Given as goal
 
 abbrev pub invariant-loop-case : goal.invariant-loop-case

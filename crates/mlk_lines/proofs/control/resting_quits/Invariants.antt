@@ -1,5 +1,5 @@
 use Rattle.std.proofs.Common.{◌≡◌, map}
-use Rattle.mlk_calls.specs.States.{at_rest}
+use Rattle.mlk_scope.specs.States.{at_rest}
 use Rattle.mlk_lines.proofs.control.resting_quits.Given as goal
 
 abbrev pub invariant-loop-quit : goal.invariant-loop-quit

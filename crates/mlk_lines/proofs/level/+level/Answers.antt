@@ -2,7 +2,7 @@ use Rattle.std.proofs.Common.{◌≡◌, ◌∙◌, ◌++◌, ap, sym, drop, len
 use Rattle.std.specs.Prelude.{◌==◌}
 use Rattle.mlk_coverage.proofs.CheckLemmas.{drop_step}
 use Rattle.mlk_tree.specs.declared.routine.Line.TheViews.{out-Line}
-use Rattle.mlk_calls.specs.Scope.{scope_of, is_past}
+use Rattle.mlk_scope.specs.Scope.{scope_of, is_past}
 use Rattle.mlk_lines.specs.Endings.{around_of}
 use Rattle.mlk_lines.specs.Lines.{Walked}
 use Rattle.mlk_lines.proofs.Idle.{past_turn}

@@ -1,6 +1,6 @@
 use Rattle.std.proofs.Common.{◌≡◌, ◌++◌, drop, map}
 use Rattle.mlk_tree.specs.Views.{line_of, lines_from}
-use Rattle.mlk_calls.specs.Scope.{scope_of}
+use Rattle.mlk_scope.specs.Scope.{scope_of}
 use Rattle.mlk_lines.specs.Endings.{around_of}
 use Rattle.mlk_lines.specs.Lines.{walk_lines}
 use Rattle.mlk_lines.proofs.level.+level.Given as goal

@@ -1,5 +1,5 @@
 use Rattle.std.proofs.Common.{◌∙◌, ap, sym}
-use Rattle.mlk_calls.specs.Cases.{last_saved, before_last}
+use Rattle.mlk_scope.specs.Cases.{last_saved, before_last}
 use Rattle.mlk_lines.proofs.Opened.{last_is, before_is}
 use Rattle.mlk_lines.proofs.line_end.split_last.Goals as goal
 

@@ -1,6 +1,6 @@
 use Rattle.std.proofs.Common.{◌≡◌, true, false}
 use Rattle.mlk_tree.specs.ExprTrees.{tree_of}
-use Rattle.mlk_calls.specs.Scope.{scope_of}
+use Rattle.mlk_scope.specs.Scope.{scope_of}
 use Rattle.mlk_rows.specs.Expressions.{where_it_may_be}
 use Rattle.mlk_rows.proofs.condition.split_by.Given as goal
 

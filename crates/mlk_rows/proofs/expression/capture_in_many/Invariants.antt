@@ -1,6 +1,6 @@
 use Rattle.std.proofs.Common.{◌≡◌, map}
 use Rattle.mlk_tree.specs.ExprTrees.{tree_of}
-use Rattle.mlk_calls.specs.Scope.{scope_of}
+use Rattle.mlk_scope.specs.Scope.{scope_of}
 use Rattle.mlk_rows.specs.Expressions.{with_value}
 use Rattle.mlk_rows.proofs.expression.capture_in_many.Given as goal
 

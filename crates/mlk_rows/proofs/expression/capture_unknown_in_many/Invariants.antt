@@ -1,6 +1,6 @@
 use Rattle.std.proofs.Common.{◌≡◌, map}
 use Rattle.mlk_names.specs.declared.symbol.Sym.TheVariants.{Unknown}
-use Rattle.mlk_calls.specs.States.{with_symbol}
+use Rattle.mlk_scope.specs.States.{with_symbol}
 use Rattle.mlk_rows.proofs.expression.capture_unknown_in_many.Given as goal
 
 abbrev pub invariant-loop-state : goal.invariant-loop-state

@@ -1,5 +1,5 @@
 use Rattle.std.proofs.Common.{◌≡◌, [], map}
-use Rattle.mlk_calls.specs.States.{without_last}
+use Rattle.mlk_scope.specs.States.{without_last}
 use Rattle.mlk_rows.specs.Walks.{put_all}
 use Rattle.mlk_rows.proofs.row.forget_in_many.Given as goal
 

@@ -1,6 +1,6 @@
-use Rattle.mlk_calls.specs.States.{same_state}
-use Rattle.mlk_calls.proofs.TermTests.{one_test}
-use Rattle.mlk_calls.proofs.CaseTests.{same_decides}
+use Rattle.mlk_scope.specs.States.{same_state}
+use Rattle.mlk_scope.proofs.TermTests.{one_test}
+use Rattle.mlk_scope.proofs.CaseTests.{same_decides}
 use Rattle.mlk_rows.proofs.walk.is_same.Goals as goal
 
 pub returns : goal.returns

@@ -1,6 +1,6 @@
 use Rattle.std.proofs.Common.{[], ◌∷◌, subst}
 use Rattle.mlk_calls.specs.Changes.{change}
-use Rattle.mlk_calls.specs.Refusals.{AnswersOf}
+use Rattle.mlk_scope.specs.Refusals.{AnswersOf}
 use Rattle.mlk_rows.specs.Spots.{spot_of}
 use Rattle.mlk_commands.proofs.variable.Change.changed.Goals as goal
 

@@ -1,0 +1,10 @@
+pub mod ListSteps
+pub mod TermTests
+pub mod Passing
+pub mod Folded
+pub mod ExprTrees
+pub mod EntryTables
+pub mod PointOrder
+pub mod CaseTests
+pub mod HeldTerms
+pub mod NameLaws

@@ -1,0 +1,12 @@
+pub mod Values
+pub mod Names
+pub mod Lists
+pub mod Terms
+pub mod Cases
+pub mod States
+pub mod Refusals
+pub mod Scope
+pub mod Entries
+pub mod Points
+pub mod Symbols
+pub mod Laws

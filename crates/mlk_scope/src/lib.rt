@@ -1,0 +1,21 @@
+//! What a walk is given, its states, and what is asked of symbols, names and lock terms there.
+#![tactic(auto)]
+
+mod law;
+mod listed;
+mod names;
+mod points;
+mod scope;
+mod state;
+mod symbol;
+mod term;
+
+pub use law::{
+    all_but_allows, folds_are, held_are, includes_decides, rank_is, same_decides, tables_are,
+};
+pub use listed::{is_exit, is_listed};
+pub use names::{have, is_among, is_own, may_change, without};
+pub use scope::{Entries, Scope};
+pub use state::{Refusal, State, before_last, copy_case, last_of};
+pub use symbol::{symbol_of, truth_of};
+pub use term::{copies, first_missing, is_within, mention, put_all, rank, take_all, take_one};
