@@ -9,14 +9,14 @@ use Rattle.mlk_tree.specs.ExprTrees.{Tree}
 use Rattle.mlk_expr.specs.Grammar.{Spelled}
 use Rattle.mlk_expr.specs.Lexemes.{ends}
 use Rattle.mlk_expr.specs.Theorem.{ExprEnds}
-use Rattle.mlk_routine.specs.declared.word.Word.{Word}
+use Rattle.mlk_arguments.specs.declared.word.Word.{Word}
 use Rattle.mlk_tree.specs.Trees.{ActionTree, Do, Else, Halt, Hang, If, Job, Kill, Lock, Merge, New, Quit, Read, Set, Write, CommandTree, Does}
-use Rattle.mlk_routine.specs.Ends.{Lacks, starts, is_command_end, StopEnds, CommandEnd}
-use Rattle.mlk_routine.specs.CommandWords.{may_have_condition, has_arguments}
-use Rattle.mlk_routine.specs.CommandGrammar.{Both, IsValue, IsDo, IsJob, IsKill, IsLock, IsMerge, IsNew, IsRead, IsSet, IsWrite, IsCondition, AreSome, ArePerhaps, AreArgumentsOf, IsQuit, IsCommand}
-use Rattle.mlk_routine.specs.Kinds.{kind, halts_or_hangs, Means, IsNamed, WordEnds, has_condition, IsConditionOf, ConditionEnds, IsActionOf, ActionEnds}
-use Rattle.mlk_routine.proofs.Sequences.{Parts}
-use Rattle.mlk_routine.proofs.Words.{means_written, written_means}
+use Rattle.mlk_arguments.specs.Ends.{Lacks, starts, is_command_end, StopEnds, CommandEnd}
+use Rattle.mlk_arguments.specs.CommandWords.{may_have_condition, has_arguments}
+use Rattle.mlk_arguments.specs.CommandGrammar.{Both, IsValue, IsDo, IsJob, IsKill, IsLock, IsMerge, IsNew, IsRead, IsSet, IsWrite, IsCondition, AreSome, ArePerhaps, AreArgumentsOf, IsQuit, IsCommand}
+use Rattle.mlk_arguments.specs.Kinds.{kind, halts_or_hangs, Means, IsNamed, WordEnds, has_condition, IsConditionOf, ConditionEnds, IsActionOf, ActionEnds}
+use Rattle.mlk_arguments.proofs.Sequences.{Parts}
+use Rattle.mlk_arguments.proofs.Words.{means_written, written_means}
 
 -- a postconditional and what the command does, after the word
 abbrev pub IsTail : Word → Bool → ℕ → Option Tree × ActionTree → List ℕ → Type 0

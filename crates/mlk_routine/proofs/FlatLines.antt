@@ -8,8 +8,8 @@ use Rattle.mlk_text.specs.declared.failure.Failure.TheVariants.{OutOfMemory, Ref
 use Rattle.mlk_text.specs.declared.fault.Fault.{Fault}
 use Rattle.mlk_routine.specs.declared.line.Before.{Before}
 use Rattle.mlk_tree.specs.Trees.{HeadTree, LineHead}
-use Rattle.mlk_routine.specs.Told.{IsRefusal}
-use Rattle.mlk_routine.specs.Faults.{IsLineFault}
+use Rattle.mlk_arguments.specs.Told.{IsRefusal}
+use Rattle.mlk_arguments.specs.Faults.{IsLineFault}
 use Rattle.mlk_routine.specs.Refusals.{IfRefused, IsOfLine}
 use Rattle.mlk_routine.specs.RoutineGrammar.{AreLines, IsLine, labels_of, level_of, reaches, is_line_byte}
 use Rattle.mlk_tree.specs.Distinct.{AreDistinct}

@@ -12,15 +12,15 @@ use Rattle.std.proofs.lemmas.Map.Views.{Contains-from_any}
 use Rattle.mlk_expr.specs.Grammar.{AreNext, IsNameText}
 use Rattle.mlk_expr.specs.Theorem.{Stands, LabelEnds}
 use Rattle.mlk_tree.proofs.Distinct.{among, bytes_same, in_one, here, not_in_none, among_is, is_among, not_among}
-use Rattle.mlk_routine.specs.Told.{Found, Nowhere, first_of, byte_at}
-use Rattle.mlk_routine.specs.Ends.{AnyEnds}
-use Rattle.mlk_routine.specs.CommandGrammar.{After}
-use Rattle.mlk_routine.specs.Stops.{name_stop}
+use Rattle.mlk_arguments.specs.Told.{Found, Nowhere, first_of, byte_at}
+use Rattle.mlk_arguments.specs.Ends.{AnyEnds}
+use Rattle.mlk_arguments.specs.CommandGrammar.{After}
+use Rattle.mlk_arguments.specs.Stops.{name_stop}
 use Rattle.mlk_routine.specs.RoutineGrammar.{IsFormals}
 use Rattle.mlk_tree.specs.Distinct.{AreDistinct}
 use Rattle.mlk_routine.specs.Lines.{has_name, IsUnseen, IsFormalList}
-use Rattle.mlk_routine.proofs.Sequences.{Parts, Turned, next_is, not_after, both_found, first_nowhere, second_nowhere, turned_found, turned_nowhere}
-use Rattle.mlk_routine.proofs.Bytes.{AfterByte, after_found, after_nowhere, byte_there, byte_before, drop_next}
+use Rattle.mlk_arguments.proofs.Sequences.{Parts, Turned, next_is, not_after, both_found, first_nowhere, second_nowhere, turned_found, turned_nowhere}
+use Rattle.mlk_arguments.proofs.Bytes.{AfterByte, after_found, after_nowhere, byte_there, byte_before, drop_next}
 
 -- the bytes of a name that stands at a place
 pub text_of : (line : List ℕ) (at : ℕ) (name : List ℕ) (next : ℕ) → at ≤ length line → Stands IsNameText LabelEnds line at name next → take (next - at) (drop at line) ≡ name

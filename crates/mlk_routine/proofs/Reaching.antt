@@ -8,7 +8,7 @@ use Rattle.mlk_tree.specs.declared.command.For.{For}
 use Rattle.mlk_tree.specs.declared.command.Commands.TheViews.{out-Commands, out-For}
 use Rattle.mlk_tree.specs.declared.command.Commands.TheFolds.{fold-For, fold_out-Commands, fold_out-For}
 use Rattle.mlk_tree.specs.Trees.{Do, Else, Halt, Hang, If, Job, Kill, Lock, Merge, New, Quit, Read, Set, Write, CommandTree, Does, CommandTrees, finished, then_command}
-use Rattle.mlk_routine.specs.CommandWords.{reaches_block}
+use Rattle.mlk_arguments.specs.CommandWords.{reaches_block}
 use Rattle.mlk_tree.specs.Views.{commands_of, command_of, commands_from, commands_step, for_step}
 use Rattle.mlk_routine.specs.Lines.{is_block}
 

@@ -9,10 +9,10 @@ use Rattle.mlk_text.specs.declared.failure.Failure.{Failure}
 use Rattle.mlk_text.specs.declared.fault.Fault.{Fault}
 use Rattle.mlk_tree.specs.declared.command.Command.{Command}
 use Rattle.mlk_tree.specs.Trees.{CommandTree, CommandTrees, ControlTree}
-use Rattle.mlk_routine.specs.Told.{Found, Nowhere, Denied}
-use Rattle.mlk_routine.specs.CommandWords.{is_for}
-use Rattle.mlk_routine.specs.CommandGrammar.{After, IsControl, IsForHead, AreCommands}
-use Rattle.mlk_routine.specs.Ends.{is_commands_end, StopEnds, CommandsEnd}
+use Rattle.mlk_arguments.specs.Told.{Found, Nowhere, Denied}
+use Rattle.mlk_arguments.specs.CommandWords.{is_for}
+use Rattle.mlk_arguments.specs.CommandGrammar.{After, IsControl, IsForHead, AreCommands}
+use Rattle.mlk_arguments.specs.Ends.{is_commands_end, StopEnds, CommandsEnd}
 use Rattle.mlk_tree.specs.Views.{command_of, commands_from}
 
 -- whatever follows these commands from `next` on, the whole from `at` on is found or denied with it

@@ -1,12 +1,4 @@
-pub mod CommandWords
-pub mod CommandGrammar
 pub mod RoutineGrammar
-pub mod Faults
-pub mod Told
-pub mod Ends
-pub mod Stops
-pub mod Begins
-pub mod Kinds
 pub mod Leading
 pub mod Lines
 pub mod Refusals

@@ -2,18 +2,18 @@
 
 ghost use Rattle.std.specs.Prelude.{◌≡◌, ◌≤◌, ℕ, List, IfOk, length, option_map, true};
 ghost use Rattle.mlk_tree.specs.ExprTrees.{tree_of, trees};
-ghost use Rattle.mlk_routine.specs.Told.{Told};
-ghost use Rattle.mlk_routine.specs.Faults.{IsFaulty};
-ghost use Rattle.mlk_routine.specs.Ends.{StopEnds, CommandEnd};
+ghost use Rattle.mlk_arguments.specs.Told.{Told};
+ghost use Rattle.mlk_arguments.specs.Faults.{IsFaulty};
+ghost use Rattle.mlk_arguments.specs.Ends.{StopEnds, CommandEnd};
 ghost use Rattle.mlk_tree.specs.Views.{action_of, command_of};
-ghost use Rattle.mlk_routine.specs.CommandGrammar.{After, IsValue, IsQuit, IsCommand};
-ghost use Rattle.mlk_routine.specs.Kinds.{IsConditionOf, ConditionEnds, IsActionOf, ActionEnds, IsNothing, halting};
+ghost use Rattle.mlk_arguments.specs.CommandGrammar.{After, IsValue, IsQuit, IsCommand};
+ghost use Rattle.mlk_arguments.specs.Kinds.{IsConditionOf, ConditionEnds, IsActionOf, ActionEnds, IsNothing, halting};
 ghost use Rattle.mlk_tree.specs.Trees.{Quit};
 
-use crate::fault::{leaves_out, refused};
-use crate::part::{after, expression, has};
-use crate::spacing::{first_argument, is_bare, is_command_end, perhaps, some};
-use crate::word::{Word, command_word};
+use mlk_arguments::{
+    Word, after, command_word, expression, first_argument, has, is_bare, is_command_end,
+    leaves_out, perhaps, refused, some,
+};
 use mlk_expr::Allows;
 use mlk_text::{Code, Column, Failure, Fault, LeftOut};
 use mlk_tree::{Action, Command, Expr};

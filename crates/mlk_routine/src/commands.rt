@@ -2,20 +2,18 @@
 
 ghost use Rattle.std.specs.Prelude.{◌≡◌, ◌≤◌, ◌==◌, ◌&&◌, length, drop, option_map, map, is_some, IfOk, true};
 ghost use Rattle.mlk_text.specs.Lexemes.{word_at};
-ghost use Rattle.mlk_routine.specs.Told.{Told};
-ghost use Rattle.mlk_routine.specs.CommandWords.{is_for};
-ghost use Rattle.mlk_routine.specs.CommandGrammar.{AreCommands};
-ghost use Rattle.mlk_routine.specs.Ends.{StopEnds, CommandsEnd};
+ghost use Rattle.mlk_arguments.specs.Told.{Told};
+ghost use Rattle.mlk_arguments.specs.CommandWords.{is_for};
+ghost use Rattle.mlk_arguments.specs.CommandGrammar.{AreCommands};
+ghost use Rattle.mlk_arguments.specs.Ends.{StopEnds, CommandsEnd};
 ghost use Rattle.mlk_tree.specs.Views.{command_of, control_of, commands_of, commands_from};
 ghost use Rattle.mlk_tree.specs.Trees.{then_for};
 ghost use Rattle.mlk_routine.specs.Leading.{Leads, IsPerhapsControl, IsLoop, LoopEnds};
 
 use crate::command::command;
-use crate::fault::refused;
-use crate::parameter::control;
-use crate::run::past_spaces;
-use crate::spacing::{first_argument, is_bare, is_command_end, is_commands_end};
-use crate::word::is_for;
+use mlk_arguments::{
+    control, first_argument, is_bare, is_command_end, is_commands_end, is_for, past_spaces, refused,
+};
 use mlk_text::lexeme::word_at;
 use mlk_text::{Code, Column, Failure, Fault, push_sparing};
 use mlk_tree::{Command, Commands, Control, For};

@@ -4,17 +4,17 @@ ghost use Rattle.std.specs.Prelude.{◌≡◌, ◌<◌, ◌≤◌, ◌+◌, ◌|
 ghost use Rattle.std.specs.Prelude.{true, false, Some, None};
 ghost use Rattle.std.specs.Prelude.{IfOk, IfErr, OnOk};
 ghost use Rattle.std.specs.List.{prefix_len, list_all};
-ghost use Rattle.mlk_routine.specs.Told.{Told};
+ghost use Rattle.mlk_arguments.specs.Told.{Told};
 ghost use Rattle.mlk_routine.specs.RoutineGrammar.{is_line_byte};
 ghost use Rattle.mlk_routine.specs.Lines.{has_name, is_in, is_labelled, level_in, IsFront, FrontEnds, IsKept, Fits};
 ghost use Rattle.mlk_routine.specs.Lines.{FitsAfter, head_of, IsLineOnly, IsWithLine, NoLine, IsMisplaced};
 
-use crate::fault::refused;
 use crate::front::{Front, before_commands};
 use crate::label::label;
 use crate::reach::reaches_block;
 use crate::seen::Seen;
 use crate::tail::tail;
+use mlk_arguments::refused;
 use mlk_text::{Code, Failure, Fault, Name};
 use mlk_tree::Line;
 use std::alloc::{AllocError, Global};

@@ -1,12 +1,12 @@
 // The lines of a text, as they follow each other.
 
 ghost use Rattle.std.specs.Prelude.{◌≤◌, map, length, IfOk, IfErr};
-ghost use Rattle.mlk_routine.specs.Told.{IsRefusal};
+ghost use Rattle.mlk_arguments.specs.Told.{IsRefusal};
 ghost use Rattle.mlk_routine.specs.Lines.{head_of, AreHeadsOnly, NoHeads, texts_of};
 ghost use Rattle.mlk_routine.specs.Refusals.{IfRefused, IsOfLine};
 
-use crate::fault::in_line;
 use crate::line::{Before, line};
+use crate::place::in_line;
 use mlk_text::{Failure, Fault};
 use mlk_tree::Line;
 use std::alloc::Global;

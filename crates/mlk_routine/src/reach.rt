@@ -2,7 +2,7 @@
 
 ghost use Rattle.std.specs.Prelude.{◌≡◌, ◌||◌};
 ghost use Rattle.std.specs.List.{list_any};
-ghost use Rattle.mlk_routine.specs.CommandWords.{reaches_block};
+ghost use Rattle.mlk_arguments.specs.CommandWords.{reaches_block};
 ghost use Rattle.mlk_tree.specs.Views.{commands_of, command_of};
 ghost use Rattle.mlk_routine.specs.Lines.{is_block};
 

@@ -9,8 +9,8 @@ ghost use Rattle.mlk_routine.specs.Lines.{texts_of};
 ghost use Rattle.mlk_routine.specs.Refusals.{NoRoutine, Places};
 
 use crate::blocks::block;
-use crate::fault::whole;
 use crate::lines::lines;
+use crate::place::whole;
 use crate::stem::stem_name;
 use bstr::ByteSlice;
 use mlk_text::{Code, Failure, Fault};

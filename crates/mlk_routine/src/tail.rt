@@ -1,15 +1,15 @@
 // What stands after a line's start.
 
 ghost use Rattle.std.specs.Prelude.{◌≡◌, ◌≤◌, length, drop, true, OnOk, OnErr, IfErr};
-ghost use Rattle.mlk_routine.specs.Faults.{IsFaulty};
-ghost use Rattle.mlk_routine.specs.Ends.{is_commands_end};
+ghost use Rattle.mlk_arguments.specs.Faults.{IsFaulty};
+ghost use Rattle.mlk_arguments.specs.Ends.{is_commands_end};
 ghost use Rattle.mlk_routine.specs.RoutineGrammar.{IsComment};
 ghost use Rattle.mlk_tree.specs.Views.{commands_of};
 ghost use Rattle.mlk_routine.specs.Lines.{OpeningEnds, IsTailOf, ToldToEnd};
 
+use crate::blank::text_bytes;
 use crate::commands::{Inside, commands};
-use crate::fault::refused;
-use crate::run::text_bytes;
+use mlk_arguments::refused;
 use mlk_text::{Code, Failure, Fault};
 use mlk_tree::Commands;
 use std::alloc::Global;

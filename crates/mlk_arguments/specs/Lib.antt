@@ -1,0 +1,8 @@
+pub mod CommandWords
+pub mod CommandGrammar
+pub mod Faults
+pub mod Told
+pub mod Ends
+pub mod Stops
+pub mod Begins
+pub mod Kinds

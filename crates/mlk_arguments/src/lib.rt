@@ -1,0 +1,24 @@
+//! The words and arguments of M's commands: which texts they are, and the readers of them.
+#![tactic(auto)]
+
+mod call;
+mod changes;
+mod devices;
+mod fault;
+mod item;
+mod items;
+mod lock;
+mod parameter;
+mod part;
+mod run;
+mod set;
+mod spacing;
+mod word;
+
+pub use fault::{leaves_out, other_form, refused};
+pub use item::Item;
+pub use parameter::control;
+pub use part::{after, expression, has};
+pub use run::past_spaces;
+pub use spacing::{first_argument, is_bare, is_command_end, is_commands_end, perhaps, some};
+pub use word::{Word, command_word, is_for};

@@ -1,0 +1,94 @@
+// Why a routine was not read, and where.
+
+ghost use Rattle.std.specs.Prelude.{◌≡◌, ◌<◌, ◌^◌};
+ghost use Rattle.mlk_arguments.specs.Told.{IsRefusal};
+ghost use Rattle.mlk_arguments.specs.Faults.{IsLineFault, IsFaulty};
+ghost use Rattle.mlk_routine.specs.Refusals.{IfRefused, IsOfWhole};
+
+use mlk_text::{Code, Column, Failure, Fault, LeftOut, LineNumber, Place, Value};
+use std::alloc::Global;
+
+// Whether a byte may stand outside of comments and texts in quotes.
+fn is_plain(b: u8) -> bool {
+    32 <= b && b <= 126
+}
+
+// Whether a refusal is of a line's place among others, whatever stands in its first column.
+fn is_above(code: Code) -> bool {
+    matches!(
+        code,
+        Code::LabelTwice | Code::LevelJump | Code::BlockUnreached | Code::TooLarge
+    )
+}
+
+// Whether a byte stands in this column that may not stand there.
+fn has_wrong_byte(text: &[u8], column: Column) -> bool {
+    let place = column.number() as usize;
+    if place == 0 || place > text.len() {
+        return false;
+    }
+    !is_plain(text[place - 1])
+}
+
+// A refusal at a place of a routine.
+fn located(
+    alloc: Global,
+    routine: &[u8],
+    number: usize,
+    column: Column,
+    code: Code,
+    left_out: Option<LeftOut>,
+) -> Failure<Fault>
+    requires { number < 2 ^ 32 }
+    ensures { IfRefused result (λ f. (f.code ≡ code) × (f.left_out ≡ left_out) × (f.place.routine ≡ routine.now)
+        × (f.place.line ≡ number) × (f.place.column ≡ column)) }
+{
+    let Ok(bytes) = Vec::from_slice(alloc, routine) else {
+        return Failure::OutOfMemory;
+    };
+    Failure::Refused(Fault {
+        code,
+        place: Place {
+            routine: Value::new(bytes),
+            line: LineNumber::new(u32::try_from(number).unwrap_or(u32::MAX)),
+            column,
+        },
+        left_out,
+    })
+}
+
+/// The refusal of a line by its place in the routine. A byte that may not stand at its place is nothing else.
+pub(crate) fn in_line(
+    alloc: Global,
+    routine: &[u8],
+    number: usize,
+    text: &[u8],
+    failure: Failure<Fault>,
+) -> Failure<Fault>
+    requires few { number < 2 ^ 32 }
+    requires told { IsFaulty text.now failure }
+    ensures same { IsRefusal result → IsRefusal failure }
+    ensures place { IfRefused result (λ f. (f.place.routine ≡ routine.now) × (f.place.line ≡ number)
+        × IsLineFault text.now f) }
+{
+    let Failure::Refused(fault) = failure else {
+        return Failure::OutOfMemory;
+    };
+    let Fault {
+        code,
+        place,
+        left_out,
+    } = fault;
+    let column = place.column;
+    if !is_above(code) && has_wrong_byte(text, column) {
+        return located(alloc, routine, number, column, Code::Byte, None);
+    }
+    located(alloc, routine, number, column, code, left_out)
+}
+
+/// The refusal of a whole routine.
+pub(crate) fn whole(alloc: Global, code: Code, routine: &[u8]) -> Failure<Fault>
+    ensures { IfRefused result (IsOfWhole code routine.now) }
+{
+    located(alloc, routine, 1, Column::new(1), code, None)
+}
