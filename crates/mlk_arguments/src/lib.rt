@@ -19,6 +19,6 @@ pub use fault::{leaves_out, other_form, refused};
 pub use item::Item;
 pub use parameter::control;
 pub use part::{after, expression, has};
-pub use run::past_spaces;
+pub use run::{past_spaces, text_bytes};
 pub use spacing::{first_argument, is_bare, is_command_end, is_commands_end, perhaps, some};
 pub use word::{Word, command_word, is_for};

@@ -2,9 +2,12 @@
 
 ghost use Rattle.std.specs.Prelude.{◌≡◌, ◌≤◌, length};
 ghost use Rattle.std.specs.List.{prefix_len};
+ghost use Rattle.mlk_text.specs.Lexemes.{is_text_byte};
 ghost use Rattle.mlk_arguments.specs.Told.{Found};
 ghost use Rattle.mlk_arguments.specs.Ends.{IsRun, RunEnds};
 ghost use Rattle.mlk_arguments.specs.CommandGrammar.{is_mark, is_space};
+
+use mlk_text::lexeme::is_text_byte;
 
 // How many of them stand at the front.
 fn spaces(bytes: &[u8]) -> usize
@@ -41,4 +44,12 @@ pub(crate) fn past_marks(line: &[u8], at: usize) -> usize
 {
     let (_, bytes) = line.split_at(at);
     at + marks(bytes)
+}
+
+/// How many bytes that may stand in comments and in texts in quotes stand at the front.
+pub fn text_bytes(bytes: &[u8]) -> usize
+    ensures value { result ≡ prefix_len is_text_byte bytes.now }
+    ensures within { result ≤ length bytes.now }
+{
+    bytes.iter().take_while(|b| is_text_byte(**b)).count()
 }

@@ -7,9 +7,8 @@ ghost use Rattle.mlk_routine.specs.RoutineGrammar.{IsComment};
 ghost use Rattle.mlk_tree.specs.Views.{commands_of};
 ghost use Rattle.mlk_routine.specs.Lines.{OpeningEnds, IsTailOf, ToldToEnd};
 
-use crate::blank::text_bytes;
 use crate::commands::{Inside, commands};
-use mlk_arguments::refused;
+use mlk_arguments::{refused, text_bytes};
 use mlk_text::{Code, Failure, Fault};
 use mlk_tree::Commands;
 use std::alloc::Global;
