@@ -1,2 +1,3 @@
 pub mod CallSteps
 pub mod Examples
+pub mod Copies

@@ -159,12 +159,13 @@ impl<'a> Entries<'a> {
 /// What the walk of an entry's lines is given.
 #[derive(Clone, Copy, Drop)]
 pub struct Scope<'a> {
-    pub(crate) program: &'a Program<'a>,
-    pub(crate) rules: &'a Rules,
-    pub(crate) entries: &'a Entries<'a>,
-    // the walked entry, and the block that is believed of it
-    pub(crate) entry: EntryId,
-    pub(crate) block: &'a EntryCert,
+    pub program: &'a Program<'a>,
+    pub rules: &'a Rules,
+    pub entries: &'a Entries<'a>,
+    /// the walked entry
+    pub entry: EntryId,
+    /// what is believed of it
+    pub block: &'a EntryCert,
     // whether the block's points stand in order, as those of a certificate do
     in_order: bool,
     ghost order: { in_order ≡ ascends points_below block.now.points },
