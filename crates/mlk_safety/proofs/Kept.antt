@@ -1,5 +1,5 @@
 -- What a block or a frame puts back at its end, and what steps do to those that are open.
-use Rattle.std.proofs.Common.{◌≡◌, ℕ, ◌≤◌, Bool, true, false, List, [], ◌∷◌, map, Option, Some, None, refl, ap, subst}
+use Rattle.std.proofs.Common.{◌≡◌, ℕ, suc, Bool, true, false, List, [], ◌∷◌, ◌++◌, map, Option, Some, None, refl, ap, subst}
 use Rattle.std.specs.Prelude.{◌&&◌, if◌then◌else◌, Ok, Err}
 use Rattle.mlk_names.specs.declared.lock_name.LockName.{LockName}
 use Rattle.mlk_names.specs.declared.reference.Access.{Access}
@@ -13,12 +13,12 @@ use Rattle.mlk_tree.specs.Trees.{RoutineTree, LineHead}
 use Rattle.mlk_program.specs.declared.entry.EntryId.{EntryId}
 use Rattle.mlk_jobs.specs.declared.choice.Choice.{Choice}
 use Rattle.mlk_jobs.specs.declared.choice.Choice.TheVariants as choice
-use Rattle.mlk_jobs.specs.Bindings.{Bindings, Cell}
+use Rattle.mlk_jobs.specs.Bindings.{Names, Bindings, Fresh, look, put, killed, forgotten}
 use Rattle.mlk_jobs.specs.Tasks.{Task, Job, LineTree, Frame, NoValue, AwaitsValue, HasValue, Mark, BlockMark, FrameMark, marks}
-use Rattle.mlk_jobs.specs.Choices.{Stepped, without_choice, with_value, with_truth, with_last, truth_of, by_truth, is_one, is_zero, given_or_asked, fetched, touched, dropped, doing}
+use Rattle.mlk_jobs.specs.Choices.{Stepped, last_values, without_choice, with_value, with_truth, with_last, truth_of, by_truth, is_one, is_zero, given_or_asked, fetched, touched, dropped, doing}
 use Rattle.mlk_jobs.specs.Locking.{claimed, timed_claim, if_free}
 use Rattle.mlk_jobs.specs.Lines.{selected, chosen, next_line}
-use Rattle.mlk_jobs.specs.Calling.{entered, called, called_if}
+use Rattle.mlk_jobs.specs.Calling.{binders, with_actuals, count_given, formals_in, entered, called, called_if}
 
 -- what an open block or frame puts back
 pub record Kept : Type 0 where
@@ -38,14 +38,32 @@ kept_by (FrameMark frame back next routine) = record { back = back; next = next;
 abbrev pub kept : List Task → List Kept
 kept ts = map kept_by (marks ts)
 
+-- What a step that opens and ends nothing does to names and cells: nothing; it stores a value in the cell of a name; it
+-- leaves cells of names without a value; it makes names new.
+pub data Bound (j i : Job) : Type 0 where
+  untouched : i.bindings ≡ j.bindings → i.next ≡ j.next → i.cells ≡ j.cells → Bound j i
+  stores : (name value : List ℕ) → i.bindings ≡ j.bindings → i.next ≡ j.next
+      → i.cells ≡ put (look j.bindings name) value j.cells → Bound j i
+  kills : (names : Names) → i.bindings ≡ j.bindings → i.next ≡ j.next → i.cells ≡ killed j.bindings names j.cells
+      → Bound j i
+  news : (names : Names) → i.bindings ≡ Fresh j.next names ∷ j.bindings → i.next ≡ suc j.next → i.cells ≡ j.cells
+      → Bound j i
+
+-- What one that opens a block or a frame does: nothing; or formals are bound, and have the values that they are given.
+pub data Opened (j i : Job) : Type 0 where
+  as_block : i.bindings ≡ j.bindings → i.next ≡ j.next → i.cells ≡ j.cells → Opened j i
+  as_frame : (formals : List (List ℕ)) (given : List ActualTree) (values : List (List ℕ))
+      → i.bindings ≡ binders j.bindings j.next formals given ++ j.bindings → i.next ≡ suc j.next
+      → i.cells ≡ with_actuals j.next formals given values j.cells → Opened j i
+
 -- What a step may do to them: nothing; open one, which puts all back; end the innermost one; or the job has ended.
 pub data Move (j i : Job) : Type 0 where
-  stays : kept i.tasks ≡ kept j.tasks → Move j i
+  stays : kept i.tasks ≡ kept j.tasks → Bound j i → Move j i
   opens : (test : Option Bool) → kept i.tasks ≡ record { back = j.bindings; next = j.next; test = test } ∷ kept j.tasks
-      → ((t : Bool) → test ≡ Some t → j.test ≡ t) → Move j i
+      → ((t : Bool) → test ≡ Some t → j.test ≡ t) → Opened j i → Move j i
   ends : (k : Kept) → kept j.tasks ≡ k ∷ kept i.tasks → i.bindings ≡ k.back → i.next ≡ k.next
-      → ((c : Cell) → k.next ≤ c.generation → i.cells c ≡ None) → ((t : Bool) → k.test ≡ Some t → i.test ≡ t) → Move j i
-  halts : kept i.tasks ≡ [] → Move j i
+      → i.cells ≡ forgotten k.next j.cells → ((t : Bool) → k.test ≡ Some t → i.test ≡ t) → Move j i
+  halts : kept i.tasks ≡ [] → i.bindings ≡ j.bindings → i.next ≡ j.next → i.cells ≡ j.cells → Move j i
 
 module _ (j : Job) where
   abbrev pub Moves : Stepped → Type 0
@@ -57,8 +75,8 @@ module _ (j : Job) where
   pub refused : (why : Refusal) → Moves (Err why)
   refused why i e = cc
 
-  pub same : (k : Job) → marks k.tasks ≡ marks j.tasks → Moves (Ok k)
-  same k e = done k (stays (ap (map kept_by) e))
+  pub same : (k : Job) → marks k.tasks ≡ marks j.tasks → k.bindings ≡ j.bindings → k.next ≡ j.next → k.cells ≡ j.cells → Moves (Ok k)
+  same k e b n x = done k (stays (ap (map kept_by) e) (untouched b n x))
 
   pub unasked : (c : Choice) (s : Stepped) → Moves s → Moves (without_choice c s)
   unasked choice.None s h i e = h i e
@@ -99,53 +117,55 @@ module _ (j : Job) where
 
   pub of_fetch : (ts : List Task) → marks ts ≡ marks j.tasks → (o : Option (List ℕ)) → Moves (fetched j ts o)
   of_fetch ts e None = refused NotEnabled
-  of_fetch ts e (Some v) = same _ e
+  of_fetch ts e (Some v) = same _ e refl refl refl
 
   pub of_touch : (c : Choice) (a : Access) (ts : List Task) → marks ts ≡ marks j.tasks → Moves (touched c a j ts)
-  of_touch c Reads ts e = of_value c _ (λ v. same _ e)
-  of_touch c Writes ts e = unasked c _ (same _ e)
+  of_touch c Reads ts e = of_value c _ (λ v. same _ e refl refl refl)
+  of_touch c Writes ts e = unasked c _ (same _ e refl refl refl)
 
   pub of_select : (cs : Choices) (ts : List Task) → marks ts ≡ marks j.tasks → Moves (selected cs ts j)
   of_select no_choices ts e = refused NotEnabled
-  of_select (condition c v rest) ts e = same _ e
+  of_select (condition c v rest) ts e = same _ e refl refl refl
 
   pub of_choice : (value : Tree) (others : Choices) (ts : List Task) → marks ts ≡ marks j.tasks → (t : Bool)
       → Moves (chosen value others ts t (dropped 1 j))
-  of_choice value others ts e true = same _ e
-  of_choice value others ts e false = same _ e
+  of_choice value others ts e true = same _ e refl refl refl
+  of_choice value others ts e false = same _ e refl refl refl
 
   pub of_line : (lines : List LineTree) (ts : List Task) → marks ts ≡ marks j.tasks → Moves (next_line lines ts j)
-  of_line [] ts e = same _ e
-  of_line ((LineHead n level end label None commands, block) ∷ lines) ts e = same _ e
+  of_line [] ts e = same _ e refl refl refl
+  of_line ((LineHead n level end label None commands, block) ∷ lines) ts e = same _ e refl refl refl
   of_line ((LineHead n level end label (Some formals) commands, block) ∷ lines) ts e = refused NotEnabled
 
-  pub of_grant : (b : Bool) (k : Job) → marks k.tasks ≡ marks j.tasks → Moves (if_free b k)
-  of_grant true k d = same k d
-  of_grant false k d = refused NotEnabled
+  pub of_grant : (b : Bool) (k : Job) → marks k.tasks ≡ marks j.tasks → k.bindings ≡ j.bindings → k.next ≡ j.next → k.cells ≡ j.cells
+      → Moves (if_free b k)
+  of_grant true k d x y z = same k d x y z
+  of_grant false k d x y z = refused NotEnabled
 
   pub of_claim : (c : Choice) (names : List LockName) (timed : Bool) (free : LockName → Bool) (ts : List Task) → marks ts ≡ marks j.tasks
       → Moves (claimed free c names timed (doing ts j))
-  of_claim c names false free ts e = unasked c _ (of_grant (list_all free names && has_room names j.held) _ e)
+  of_claim c names false free ts e = unasked c _ (of_grant (list_all free names && has_room names j.held) _ e refl refl refl)
   of_claim c names true free ts e = of_truth c _ (λ t. elim t as (λ t. Moves (timed_claim free names t (doing ts j))) [
-    | true ↦ of_grant (list_all free names && has_room names j.held) _ e
-    | false ↦ same _ e
+    | true ↦ of_grant (list_all free names && has_room names j.held) _ e refl refl refl
+    | false ↦ same _ e refl refl refl
   ])
 
   -- a call opens a frame
   pub of_entered : (frame : Frame) (r : ℕ) (given : List ActualTree) (lines : List LineTree) (ts : List Task) (k : Job)
-      → marks ts ≡ marks j.tasks → k.bindings ≡ j.bindings → k.next ≡ j.next
+      → marks ts ≡ marks j.tasks → k.bindings ≡ j.bindings → k.next ≡ j.next → k.cells ≡ j.cells
       → ((t : Bool) → test_in frame ≡ Some t → j.test ≡ t) → Moves (entered frame r given lines ts k)
-  of_entered frame r given [] ts k e b n t = refused NotEnabled
-  of_entered frame r given ((head, block) ∷ lines) ts k e b n t =
-      done _ (opens (test_in frame) (rw (b, n, e) refl) t)
+  of_entered frame r given [] ts k e b n x t = refused NotEnabled
+  of_entered frame r given ((head, block) ∷ lines) ts k e b n x t =
+      done _ (opens (test_in frame) (rw (b, n, e) refl) t
+      (as_frame (formals_in head) given (last_values (count_given given) k) (rw (b, n) refl) (ap (λ m. suc m) n) (rw (n, x) refl)))
 
   pub of_call : (routines : List RoutineTree) (frame : Frame) (o : Option EntryId) (given : List ActualTree) (ts : List Task) (k : Job)
-      → marks ts ≡ marks j.tasks → k.bindings ≡ j.bindings → k.next ≡ j.next
+      → marks ts ≡ marks j.tasks → k.bindings ≡ j.bindings → k.next ≡ j.next → k.cells ≡ j.cells
       → ((t : Bool) → test_in frame ≡ Some t → j.test ≡ t) → Moves (called routines frame o given ts k)
-  of_call routines frame None given ts k e b n t = refused NotEnabled
-  of_call routines frame (Some x) given ts k e b n t = of_entered frame x.routine given _ ts k e b n t
+  of_call routines frame None given ts k e b n z t = refused NotEnabled
+  of_call routines frame (Some x) given ts k e b n z t = of_entered frame x.routine given _ ts k e b n z t
 
   pub of_call_if : (t : Bool) (routines : List RoutineTree) (o : Option EntryId) (given : List ActualTree) (ts : List Task)
       → marks ts ≡ marks j.tasks → Moves (called_if t routines o given ts (dropped 1 j))
-  of_call_if true routines o given ts e = of_call routines NoValue o given ts (dropped 1 j) e refl refl (λ t h. cc)
-  of_call_if false routines o given ts e = same _ e
+  of_call_if true routines o given ts e = of_call routines NoValue o given ts (dropped 1 j) e refl refl refl (λ t h. cc)
+  of_call_if false routines o given ts e = same _ e refl refl refl

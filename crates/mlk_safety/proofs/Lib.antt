@@ -6,3 +6,4 @@ pub mod Moves
 pub mod Scopes
 pub mod Examples
 pub mod KeptExample
+pub mod Tidy

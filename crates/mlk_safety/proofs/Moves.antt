@@ -1,5 +1,5 @@
 -- What each step does to the open blocks and frames of a job.
-use Rattle.std.proofs.Common.{◌≡◌, ◌∙◌, inl, inr, ℕ, ◌≤◌, Bool, true, false, List, [], ◌∷◌, ◌++◌, map, append_assoc, take, Some, None, refl, sym, ap, arith, drop}
+use Rattle.std.proofs.Common.{◌≡◌, ◌∙◌, inl, inr, ℕ, Bool, true, false, List, [], ◌∷◌, ◌++◌, map, append_assoc, take, Some, refl, sym, ap, arith, drop}
 use Rattle.std.specs.Prelude.{◌||◌, if◌then◌else◌, Ok}
 use Rattle.std.proofs.lemmas.Bool.{cases_Bool}
 use Rattle.mlk_names.specs.declared.lock_name.LockName.{LockName}
@@ -9,7 +9,7 @@ use Rattle.mlk_program.specs.Entries.{target_of}
 use Rattle.mlk_jobs.specs.Commands.{count_in, action_parts}
 use Rattle.mlk_jobs.specs.Assigning.{merge_source, merge_target}
 use Rattle.mlk_jobs.specs.declared.choice.Choice.{Choice}
-use Rattle.mlk_jobs.specs.Bindings.{Bindings, Cell, Cells, forgotten}
+use Rattle.mlk_jobs.specs.Bindings.{Bindings}
 use Rattle.mlk_jobs.specs.Tasks as task
 use Rattle.mlk_jobs.specs.Tasks.{Task, Job, LineTree, Frame, NoValue, AwaitsValue, HasValue, Mark, BlockMark, FrameMark, marks}
 use Rattle.mlk_jobs.specs.Tasks.{RunLines, RunCommands, Parameters, Forever, NextValue, FirstRound, LaterRound, EndBlock, EndFrame}
@@ -20,7 +20,7 @@ use Rattle.mlk_jobs.specs.Calling.{frame_of, back_to, called_if, frame_end}
 use Rattle.mlk_jobs.specs.Advance.{advance}
 use Rattle.mlk_jobs.specs.Runs.{aborted}
 use Rattle.mlk_safety.proofs.Plain.{Plain, expressions, actions, assigns, merged_source, merged_target, signed, rounds_of, round_first, round_later, next_commands}
-use Rattle.mlk_safety.proofs.Kept.{test_in, kept_by, kept, stays, opens, ends, halts, Moves, done, refused, same, unasked, of_value, of_truth, of_last, of_condition, of_result, of_fetch, of_touch, of_select, of_choice, of_line, of_claim, of_call, of_call_if}
+use Rattle.mlk_safety.proofs.Kept.{test_in, kept_by, kept, Bound, untouched, stores, kills, news, as_block, stays, opens, ends, halts, Moves, done, refused, same, unasked, of_value, of_truth, of_last, of_condition, of_result, of_fetch, of_touch, of_select, of_choice, of_line, of_claim, of_call, of_call_if}
 
 -- What is skipped or quit ends nothing.
 no_end : (t : Task) (ts : List Task) → is_end t ≡ false → marks (t ∷ ts) ≡ marks ts
@@ -146,6 +146,55 @@ after_answer j (task.QuitHere ∷ ts) = refl
 after_answer j (task.QuitWithValue ∷ ts) = refl
 after_answer j (task.HaltJob ∷ ts) = refl
 
+-- and nothing of names and cells
+answer_bound : (j : Job) (ts : List Task) → Bound j (answered j ts)
+answer_bound j [] = untouched refl refl refl
+answer_bound j (EndFrame (AwaitsValue test) back next routine ∷ ts) = untouched refl refl refl
+answer_bound j (EndFrame NoValue back next routine ∷ ts) = untouched refl refl refl
+answer_bound j (EndFrame (HasValue test) back next routine ∷ ts) = untouched refl refl refl
+answer_bound j (EndBlock back next test ∷ ts) = untouched refl refl refl
+answer_bound j (task.Evaluate t ∷ ts) = untouched refl refl refl
+answer_bound j (task.Push value ∷ ts) = untouched refl refl refl
+answer_bound j (task.Fetch name ∷ ts) = untouched refl refl refl
+answer_bound j (task.PushJob ∷ ts) = untouched refl refl refl
+answer_bound j (task.PushTest ∷ ts) = untouched refl refl refl
+answer_bound j (task.ApplyUnary op ∷ ts) = untouched refl refl refl
+answer_bound j (task.ApplyBinary op ∷ ts) = untouched refl refl refl
+answer_bound j (task.AskValue n ∷ ts) = untouched refl refl refl
+answer_bound j (task.Drop n ∷ ts) = untouched refl refl refl
+answer_bound j (task.Select cs ∷ ts) = untouched refl refl refl
+answer_bound j (task.Selected value others ∷ ts) = untouched refl refl refl
+answer_bound j (task.FormReference name n x a ∷ ts) = untouched refl refl refl
+answer_bound j (task.DoTouch touch ∷ ts) = untouched refl refl refl
+answer_bound j (task.Store name value ∷ ts) = untouched refl refl refl
+answer_bound j (task.StoreAny name ∷ ts) = untouched refl refl refl
+answer_bound j (task.StoreLast name ∷ ts) = untouched refl refl refl
+answer_bound j (task.KillNames names ∷ ts) = untouched refl refl refl
+answer_bound j (task.NewNames names ∷ ts) = untouched refl refl refl
+answer_bound j (task.Assign targets ∷ ts) = untouched refl refl refl
+answer_bound j (task.Merge target source ∷ ts) = untouched refl refl refl
+answer_bound j (task.SetTest ∷ ts) = untouched refl refl refl
+answer_bound j (task.AskTest ∷ ts) = untouched refl refl refl
+answer_bound j (task.SkipIf test ∷ ts) = untouched refl refl refl
+answer_bound j (task.Conditionally action block ∷ ts) = untouched refl refl refl
+answer_bound j (task.LockNamed sign names timed ∷ ts) = untouched refl refl refl
+answer_bound j (task.Claim names timed ∷ ts) = untouched refl refl refl
+answer_bound j (task.Release names ∷ ts) = untouched refl refl refl
+answer_bound j (task.ReleaseAll ∷ ts) = untouched refl refl refl
+answer_bound j (task.Call extrinsic callee given ∷ ts) = untouched refl refl refl
+answer_bound j (task.CallIf callee given ∷ ts) = untouched refl refl refl
+answer_bound j (task.Block lines ∷ ts) = untouched refl refl refl
+answer_bound j (task.RunLines lines ∷ ts) = untouched refl refl refl
+answer_bound j (task.RunCommands commands block ∷ ts) = untouched refl refl refl
+answer_bound j (task.Parameters v ps rest block ∷ ts) = untouched refl refl refl
+answer_bound j (task.Forever rest block ∷ ts) = untouched refl refl refl
+answer_bound j (task.NextValue v rest block ∷ ts) = untouched refl refl refl
+answer_bound j (task.FirstRound v ps rest block ∷ ts) = untouched refl refl refl
+answer_bound j (task.LaterRound v ps rest block ∷ ts) = untouched refl refl refl
+answer_bound j (task.QuitHere ∷ ts) = untouched refl refl refl
+answer_bound j (task.QuitWithValue ∷ ts) = untouched refl refl refl
+answer_bound j (task.HaltJob ∷ ts) = untouched refl refl refl
+
 merged : (ss : List (List ℕ)) (target source : VariableTree) (ts : List Task)
     → marks (merge_source (drop (count_in target) ss) source ++ merge_target (take (count_in target) ss) target source ++ ts) ≡ marks ts
 merged ss target source ts =
@@ -165,66 +214,63 @@ own_test : (extrinsic : Bool) (j : Job) (t : Bool) → test_in (frame_of extrins
 own_test true j t h = cc
 own_test false j t h = cc
 
-is_forgotten : (next : ℕ) (cells : Cells) (c : Cell) → next ≤ c.generation → forgotten next cells c ≡ None
-is_forgotten next cells c h = grind arith
-
 of_frame_end : (j : Job) (c : Choice) (frame : Frame) (back : Bindings) (next routine : ℕ) (ts : List Task)
     → j.tasks ≡ EndFrame frame back next routine ∷ ts
     → Moves j (frame_end c frame (doing ts (record (back_to back next j) { routine = routine })))
 of_frame_end j c NoValue back next routine ts e =
-    unasked j c _ (done j _ (ends (kept_by (FrameMark NoValue back next routine)) (ap kept e) refl refl (is_forgotten next j.cells) (λ t h. cc)))
+    unasked j c _ (done j _ (ends (kept_by (FrameMark NoValue back next routine)) (ap kept e) refl refl refl (λ t h. cc)))
 of_frame_end j c (AwaitsValue test) back next routine ts e =
-    of_value j c _ (λ v. done j _ (ends (kept_by (FrameMark (AwaitsValue test) back next routine)) (ap kept e) refl refl (is_forgotten next j.cells) (λ t h. cc)))
+    of_value j c _ (λ v. done j _ (ends (kept_by (FrameMark (AwaitsValue test) back next routine)) (ap kept e) refl refl refl (λ t h. cc)))
 of_frame_end j c (HasValue test) back next routine ts e =
-    unasked j c _ (done j _ (ends (kept_by (FrameMark (HasValue test) back next routine)) (ap kept e) refl refl (is_forgotten next j.cells) (λ t h. cc)))
+    unasked j c _ (done j _ (ends (kept_by (FrameMark (HasValue test) back next routine)) (ap kept e) refl refl refl (λ t h. cc)))
 
 pub moves : (routines : List RoutineTree) (free : LockName → Bool) (c : Choice) (j : Job) (ts : List Task) → j.tasks ≡ ts
     → Moves j (advance routines free c j ts)
 moves routines free c j [] e = refused j NotEnabled
-moves routines free c j (task.Evaluate t ∷ ts) e = unasked j c _ (same j _ (expressions t ts ∙ sym (ap marks e)))
-moves routines free c j (task.Push value ∷ ts) e = unasked j c _ (same j _ (sym (ap marks e)))
+moves routines free c j (task.Evaluate t ∷ ts) e = unasked j c _ (same j _ (expressions t ts ∙ sym (ap marks e)) refl refl refl)
+moves routines free c j (task.Push value ∷ ts) e = unasked j c _ (same j _ (sym (ap marks e)) refl refl refl)
 moves routines free c j (task.Fetch name ∷ ts) e = unasked j c _ (of_fetch j ts (sym (ap marks e)) _)
-moves routines free c j (task.PushJob ∷ ts) e = unasked j c _ (same j _ (sym (ap marks e)))
-moves routines free c j (task.PushTest ∷ ts) e = unasked j c _ (same j _ (sym (ap marks e)))
-moves routines free c j (task.ApplyUnary op ∷ ts) e = of_last j j.values _ (λ a. of_result j c _ _ (λ v. same j _ (sym (ap marks e))))
-moves routines free c j (task.ApplyBinary op ∷ ts) e = of_last j j.values _ (λ b. of_last j (drop 1 j.values) _ (λ a. of_result j c _ _ (λ v. same j _ (sym (ap marks e)))))
-moves routines free c j (task.AskValue n ∷ ts) e = of_value j c _ (λ v. same j _ (sym (ap marks e)))
-moves routines free c j (task.Drop n ∷ ts) e = unasked j c _ (same j _ (sym (ap marks e)))
+moves routines free c j (task.PushJob ∷ ts) e = unasked j c _ (same j _ (sym (ap marks e)) refl refl refl)
+moves routines free c j (task.PushTest ∷ ts) e = unasked j c _ (same j _ (sym (ap marks e)) refl refl refl)
+moves routines free c j (task.ApplyUnary op ∷ ts) e = of_last j j.values _ (λ a. of_result j c _ _ (λ v. same j _ (sym (ap marks e)) refl refl refl))
+moves routines free c j (task.ApplyBinary op ∷ ts) e = of_last j j.values _ (λ b. of_last j (drop 1 j.values) _ (λ a. of_result j c _ _ (λ v. same j _ (sym (ap marks e)) refl refl refl)))
+moves routines free c j (task.AskValue n ∷ ts) e = of_value j c _ (λ v. same j _ (sym (ap marks e)) refl refl refl)
+moves routines free c j (task.Drop n ∷ ts) e = unasked j c _ (same j _ (sym (ap marks e)) refl refl refl)
 moves routines free c j (task.Select cs ∷ ts) e = unasked j c _ (of_select j cs ts (sym (ap marks e)))
 moves routines free c j (task.Selected value others ∷ ts) e = of_condition j c j (chosen value others ts) (λ t. of_choice j value others ts (sym (ap marks e)) t)
-moves routines free c j (task.FormReference name n x a ∷ ts) e = unasked j c _ (same j _ (sym (ap marks e)))
+moves routines free c j (task.FormReference name n x a ∷ ts) e = unasked j c _ (same j _ (sym (ap marks e)) refl refl refl)
 moves routines free c j (task.DoTouch touch ∷ ts) e = of_touch j c touch.access ts (sym (ap marks e))
-moves routines free c j (task.Store name value ∷ ts) e = unasked j c _ (same j _ (sym (ap marks e)))
-moves routines free c j (task.StoreAny name ∷ ts) e = of_value j c _ (λ v. same j _ (sym (ap marks e)))
-moves routines free c j (task.StoreLast name ∷ ts) e = unasked j c _ (of_last j j.values _ (λ v. same j _ (sym (ap marks e))))
-moves routines free c j (task.KillNames names ∷ ts) e = unasked j c _ (same j _ (sym (ap marks e)))
-moves routines free c j (task.NewNames names ∷ ts) e = unasked j c _ (same j _ (sym (ap marks e)))
-moves routines free c j (task.Assign targets ∷ ts) e = unasked j c _ (of_last j j.values _ (λ v. same j _ (assigns v targets _ ts ∙ sym (ap marks e))))
-moves routines free c j (task.Merge target source ∷ ts) e = unasked j c _ (same j _ (merged _ target source ts ∙ sym (ap marks e)))
-moves routines free c j (task.SetTest ∷ ts) e = of_condition j c j (λ t i. Ok (doing ts (tested t i))) (λ t. same j _ (sym (ap marks e)))
-moves routines free c j (task.AskTest ∷ ts) e = of_truth j c _ (λ t. same j _ (sym (ap marks e)))
-moves routines free c j (task.SkipIf test ∷ ts) e = unasked j c _ (same j _ (skip_if (same_truth test j.test) ts ∙ sym (ap marks e)))
-moves routines free c j (task.Conditionally action block ∷ ts) e = of_condition j c j (λ t i. Ok (doing (tasks_if t (action_parts block action) ++ ts) i)) (λ t. same j _ (run_if t (action_parts block action) ts (actions block action) ∙ sym (ap marks e)))
-moves routines free c j (task.LockNamed sign names timed ∷ ts) e = unasked j c _ (same j _ (signed sign _ timed ts ∙ sym (ap marks e)))
+moves routines free c j (task.Store name value ∷ ts) e = unasked j c _ (done j _ (stays (sym (ap kept e)) (stores name value refl refl refl)))
+moves routines free c j (task.StoreAny name ∷ ts) e = of_value j c _ (λ v. done j _ (stays (sym (ap kept e)) (stores name v refl refl refl)))
+moves routines free c j (task.StoreLast name ∷ ts) e = unasked j c _ (of_last j j.values _ (λ v. done j _ (stays (sym (ap kept e)) (stores name v refl refl refl))))
+moves routines free c j (task.KillNames names ∷ ts) e = unasked j c _ (done j _ (stays (sym (ap kept e)) (kills names refl refl refl)))
+moves routines free c j (task.NewNames names ∷ ts) e = unasked j c _ (done j _ (stays (sym (ap kept e)) (news names refl refl refl)))
+moves routines free c j (task.Assign targets ∷ ts) e = unasked j c _ (of_last j j.values _ (λ v. same j _ (assigns v targets _ ts ∙ sym (ap marks e)) refl refl refl))
+moves routines free c j (task.Merge target source ∷ ts) e = unasked j c _ (same j _ (merged _ target source ts ∙ sym (ap marks e)) refl refl refl)
+moves routines free c j (task.SetTest ∷ ts) e = of_condition j c j (λ t i. Ok (doing ts (tested t i))) (λ t. same j _ (sym (ap marks e)) refl refl refl)
+moves routines free c j (task.AskTest ∷ ts) e = of_truth j c _ (λ t. same j _ (sym (ap marks e)) refl refl refl)
+moves routines free c j (task.SkipIf test ∷ ts) e = unasked j c _ (same j _ (skip_if (same_truth test j.test) ts ∙ sym (ap marks e)) refl refl refl)
+moves routines free c j (task.Conditionally action block ∷ ts) e = of_condition j c j (λ t i. Ok (doing (tasks_if t (action_parts block action) ++ ts) i)) (λ t. same j _ (run_if t (action_parts block action) ts (actions block action) ∙ sym (ap marks e)) refl refl refl)
+moves routines free c j (task.LockNamed sign names timed ∷ ts) e = unasked j c _ (same j _ (signed sign _ timed ts ∙ sym (ap marks e)) refl refl refl)
 moves routines free c j (task.Claim names timed ∷ ts) e = of_claim j c names timed free ts (sym (ap marks e))
-moves routines free c j (task.Release names ∷ ts) e = unasked j c _ (same j _ (sym (ap marks e)))
-moves routines free c j (task.ReleaseAll ∷ ts) e = unasked j c _ (same j _ (sym (ap marks e)))
-moves routines free c j (task.Call extrinsic callee given ∷ ts) e = unasked j c _ (of_call j routines (frame_of extrinsic j) _ given ts j (sym (ap marks e)) refl refl (own_test extrinsic j))
+moves routines free c j (task.Release names ∷ ts) e = unasked j c _ (same j _ (sym (ap marks e)) refl refl refl)
+moves routines free c j (task.ReleaseAll ∷ ts) e = unasked j c _ (same j _ (sym (ap marks e)) refl refl refl)
+moves routines free c j (task.Call extrinsic callee given ∷ ts) e = unasked j c _ (of_call j routines (frame_of extrinsic j) _ given ts j (sym (ap marks e)) refl refl refl (own_test extrinsic j))
 moves routines free c j (task.CallIf callee given ∷ ts) e = of_condition j c j (λ t i. called_if t routines (target_of routines i.routine callee) given ts i) (λ t. of_call_if j t routines (target_of routines j.routine callee) given ts (sym (ap marks e)))
-moves routines free c j (task.Block lines ∷ ts) e = unasked j c _ (done j _ (opens (Some j.test) (ap (λ ks. record { back = j.bindings; next = j.next; test = Some j.test } ∷ ks) (sym (ap kept e))) (λ t h. cc)))
+moves routines free c j (task.Block lines ∷ ts) e = unasked j c _ (done j _ (opens (Some j.test) (ap (λ ks. record { back = j.bindings; next = j.next; test = Some j.test } ∷ ks) (sym (ap kept e))) (λ t h. cc) (as_block refl refl refl)))
 moves routines free c j (task.RunLines lines ∷ ts) e = unasked j c _ (of_line j lines ts (sym (ap marks e)))
-moves routines free c j (task.RunCommands commands block ∷ ts) e = unasked j c _ (same j _ (next_commands commands block ts ∙ sym (ap marks e)))
-moves routines free c j (task.Parameters v ps rest block ∷ ts) e = unasked j c _ (same j _ (rounds_of v ps rest block ts ∙ sym (ap marks e)))
-moves routines free c j (task.Forever rest block ∷ ts) e = unasked j c _ (same j _ (sym (ap marks e)))
-moves routines free c j (task.NextValue v rest block ∷ ts) e = unasked j c _ (same j _ (sym (ap marks e)))
-moves routines free c j (task.FirstRound v ps rest block ∷ ts) e = of_truth j c _ (λ t. same j _ (round_first v ps rest block t ts ∙ sym (ap marks e)))
-moves routines free c j (task.LaterRound v ps rest block ∷ ts) e = of_truth j c _ (λ t. same j _ (round_later v ps rest block t ts ∙ sym (ap marks e)))
-moves routines free c j (task.QuitHere ∷ ts) e = unasked j c _ (same j _ (after_quit ts ∙ sym (ap marks e)))
-moves routines free c j (task.QuitWithValue ∷ ts) e = unasked j c _ (done j _ (stays (after_answer j (to_end ts) ∙ ap (map kept_by) (to_its_end ts ∙ sym (ap marks e)))))
-moves routines free c j (task.HaltJob ∷ ts) e = unasked j c _ (done j _ (halts refl))
-moves routines free c j (EndBlock back next test ∷ ts) e = unasked j c _ (done j _ (ends (kept_by (BlockMark back next test)) (ap kept e) refl refl (is_forgotten next j.cells) (λ t h. cc)))
+moves routines free c j (task.RunCommands commands block ∷ ts) e = unasked j c _ (same j _ (next_commands commands block ts ∙ sym (ap marks e)) refl refl refl)
+moves routines free c j (task.Parameters v ps rest block ∷ ts) e = unasked j c _ (same j _ (rounds_of v ps rest block ts ∙ sym (ap marks e)) refl refl refl)
+moves routines free c j (task.Forever rest block ∷ ts) e = unasked j c _ (same j _ (sym (ap marks e)) refl refl refl)
+moves routines free c j (task.NextValue v rest block ∷ ts) e = unasked j c _ (same j _ (sym (ap marks e)) refl refl refl)
+moves routines free c j (task.FirstRound v ps rest block ∷ ts) e = of_truth j c _ (λ t. same j _ (round_first v ps rest block t ts ∙ sym (ap marks e)) refl refl refl)
+moves routines free c j (task.LaterRound v ps rest block ∷ ts) e = of_truth j c _ (λ t. same j _ (round_later v ps rest block t ts ∙ sym (ap marks e)) refl refl refl)
+moves routines free c j (task.QuitHere ∷ ts) e = unasked j c _ (same j _ (after_quit ts ∙ sym (ap marks e)) refl refl refl)
+moves routines free c j (task.QuitWithValue ∷ ts) e = unasked j c _ (done j _ (stays (after_answer j (to_end ts) ∙ ap (map kept_by) (to_its_end ts ∙ sym (ap marks e))) (answer_bound j (to_end ts))))
+moves routines free c j (task.HaltJob ∷ ts) e = unasked j c _ (done j _ (halts refl refl refl refl))
+moves routines free c j (EndBlock back next test ∷ ts) e = unasked j c _ (done j _ (ends (kept_by (BlockMark back next test)) (ap kept e) refl refl refl (λ t h. cc)))
 moves routines free c j (EndFrame frame back next routine ∷ ts) e = of_frame_end j c frame back next routine ts e
 
 pub stops : (j : Job) (ts : List Task) → Moves j (aborted j ts)
 stops j [] = refused j NotEnabled
-stops j (t ∷ ts) = done j _ (halts refl)
+stops j (t ∷ ts) = done j _ (halts refl refl refl refl)

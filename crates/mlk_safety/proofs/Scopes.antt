@@ -6,7 +6,7 @@ use Rattle.mlk_locks.specs.Systems.{Act, Begin, Go, Abort, alone, lone_run}
 use Rattle.mlk_tree.specs.Trees.{RoutineTree}
 use Rattle.mlk_program.specs.declared.entry.EntryId.{EntryId}
 use Rattle.mlk_jobs.specs.declared.choice.Choice.{Choice}
-use Rattle.mlk_jobs.specs.Bindings.{Cell}
+use Rattle.mlk_jobs.specs.Bindings.{Cell, Cells, forgotten}
 use Rattle.mlk_jobs.specs.Tasks.{Job, NoValue, AwaitsValue, HasValue, Mark, BlockMark, FrameMark, marks}
 use Rattle.mlk_jobs.specs.Choices.{Stepped}
 use Rattle.mlk_jobs.specs.Runs.{machine}
@@ -29,8 +29,8 @@ count_above front b base = length-append front (b ∷ base)
 -- as long as more are open than the others, it stays
 keeps : (b : Kept) (base : List Kept) (k i : Job) → Above b base (kept k.tasks) → Move k i → length base < count_open i
     → Above b base (kept i.tasks)
-keeps b base k i a (stays e) l = record { front = a.front; is = e ∙ a.is }
-keeps b base k i a (opens test e t) l =
+keeps b base k i a (stays e o) l = record { front = a.front; is = e ∙ a.is }
+keeps b base k i a (opens test e t o) l =
     record { front = record { back = k.bindings; next = k.next; test = test } ∷ a.front; is = e ∙ ap (λ ks. record { back = k.bindings; next = k.next; test = test } ∷ ks) a.is }
 keeps b base k i a (ends x e g n f t) l = on a.front (sym e ∙ a.is)
   where
@@ -39,7 +39,7 @@ keeps b base k i a (ends x e g n f t) l = on a.front (sym e ∙ a.is)
         let d : kept i.tasks ≡ base = cc in
         let m : count_open i ≡ length base = sym (kept_len i) ∙ ap length d in absurd (omega (arith, l, m))
     on (y ∷ front) h = let d : kept i.tasks ≡ front ++ b ∷ base = cc in record { front = front; is = d }
-keeps b base k i a (halts e) l = let m : count_open i ≡ 0 = sym (kept_len i) ∙ ap length e in absurd (omega (arith, l, m))
+keeps b base k i a (halts e u v w) l = let m : count_open i ≡ 0 = sym (kept_len i) ∙ ap length e in absurd (omega (arith, l, m))
 
 -- what was put back at its end
 record Ended (b : Kept) (i : Job) : Type 0 where
@@ -48,37 +48,42 @@ record Ended (b : Kept) (i : Job) : Type 0 where
   cells : (c : Cell) → b.next ≤ c.generation → i.cells c ≡ None
   test : (t : Bool) → b.test ≡ Some t → i.test ≡ t
 
+pub is_forgotten : (next : ℕ) (cells : Cells) (c : Cell) → next ≤ c.generation → forgotten next cells c ≡ None
+is_forgotten next cells c h = grind arith
+
 -- where as many are open as the others, it was ended
 ended : (b : Kept) (base : List Kept) (k i : Job) → Above b base (kept k.tasks) → Move k i → count_open i ≡ length base
     → 0 < length base → Ended b i
-ended b base k i a (stays e) l p =
+ended b base k i a (stays e o) l p =
     let m : count_open i ≡ length a.front + suc (length base) = sym (kept_len i) ∙ ap length (e ∙ a.is) ∙ count_above a.front b base in
     absurd (omega (arith, l, m))
-ended b base k i a (opens test e t) l p =
+ended b base k i a (opens test e t o) l p =
     let m : count_open i ≡ suc (length (kept k.tasks)) = sym (kept_len i) ∙ ap length e in
     let n : length (kept k.tasks) ≡ length a.front + suc (length base) = ap length a.is ∙ count_above a.front b base in
     absurd (omega (arith, l, m, n))
 ended b base k i a (ends x e g n f t) l p = on a.front (sym e ∙ a.is)
   where
     on : (front : List Kept) → x ∷ kept i.tasks ≡ front ++ b ∷ base → Ended b i
-    on [] h = let d : x ≡ b = cc in subst (λ y. Ended y i) d (record { bindings = g; next = n; cells = f; test = t })
+    on [] h =
+        let d : x ≡ b = cc in
+        subst (λ y. Ended y i) d (record { bindings = g; next = n; cells = λ c h. ap (λ m. m c) f ∙ is_forgotten x.next k.cells c h; test = t })
     on (y ∷ front) h =
         let d : kept i.tasks ≡ front ++ b ∷ base = cc in
         let m : count_open i ≡ length front + suc (length base) = sym (kept_len i) ∙ ap length d ∙ count_above front b base in
         absurd (omega (arith, l, m))
-ended b base k i a (halts e) l p =
+ended b base k i a (halts e u v w) l p =
     let m : count_open i ≡ 0 = sym (kept_len i) ∙ ap length e in absurd (omega (arith, l, m, p))
 
 -- a step after which more are open has opened one, which puts all back
 begun : (j first : Job) → Move j first → count_open j < count_open first
     → (test : Option Bool) × (kept first.tasks ≡ record { back = j.bindings; next = j.next; test = test } ∷ kept j.tasks)
     × ((t : Bool) → test ≡ Some t → j.test ≡ t)
-begun j first (stays e) l =
+begun j first (stays e o) l =
     let m : count_open first ≡ count_open j = sym (kept_len first) ∙ ap length e ∙ kept_len j in absurd (omega (arith, l, m))
-begun j first (opens test e t) l = (test, e, t)
+begun j first (opens test e t o) l = (test, e, t)
 begun j first (ends x e g n f t) l =
     let m : count_open j ≡ suc (count_open first) = sym (kept_len j) ∙ ap length e ∙ ap (λ k. suc k) (kept_len first) in absurd (omega (arith, l, m))
-begun j first (halts e) l = let m : count_open first ≡ 0 = sym (kept_len first) ∙ ap length e in absurd (omega (arith, l, m))
+begun j first (halts e u v w) l = let m : count_open first ≡ 0 = sym (kept_len first) ∙ ap length e in absurd (omega (arith, l, m))
 
 -- of the innermost of these
 has_test : (ms : List Mark) (b : Kept) (base : List Kept) → map kept_by ms ≡ b ∷ base → has_own_test ms ≡ true

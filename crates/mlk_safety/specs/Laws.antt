@@ -13,6 +13,7 @@ use Rattle.mlk_jobs.specs.Tasks.{Job}
 use Rattle.mlk_jobs.specs.Seen.{Clash}
 use Rattle.mlk_jobs.specs.Runs.{machine, seen}
 use Rattle.mlk_safety.specs.Scopes.{GoesThrough, IsPutBack}
+use Rattle.mlk_safety.specs.Tidy.{IsTidy, NewAreUnset}
 use Rattle.mlk_safety.specs.Moments.{StandsCovered, StandsInOrder, EndsEmpty, AtEachMoment}
 
 -- the number is one whose digits `$JOB` gives
@@ -55,3 +56,13 @@ abbrev pub EndsPutBack : Type 0
 EndsPutBack =
     (routines : List RoutineTree) (declared : EntryId → Bool) (j i : Job) (through : GoesThrough (machine routines declared) j i)
     → IsPutBack j through.first i
+
+-- At each moment of each run of one job, what blocks and frames put back are ends of what is bound in them, and nothing of
+-- a generation that is not used yet has a value.
+abbrev pub EachIsTidy : Type 0
+EachIsTidy = (routines : List RoutineTree) (declared : EntryId → Bool) → AtEachMoment routines declared IsTidy
+
+-- A name that is made new has no value.
+abbrev pub NewHasNoValue : Type 0
+NewHasNoValue =
+    (routines : List RoutineTree) (declared : EntryId → Bool) → AtEachMoment routines declared (NewAreUnset routines)

@@ -1,4 +1,5 @@
 pub mod Order
 pub mod Moments
 pub mod Scopes
+pub mod Tidy
 pub mod Laws

@@ -1,6 +1,6 @@
 // What runs of many jobs keep to where each job by itself keeps to the rules.
 
-ghost use Rattle.mlk_safety.specs.Laws.{NoClash, NoRing, AllEndEmpty, EndsPutBack};
+ghost use Rattle.mlk_safety.specs.Laws.{NoClash, NoRing, AllEndEmpty, EndsPutBack, EachIsTidy, NewHasNoValue};
 
 /// Where a job by itself always holds what covers the reference at which it stands ready, no two jobs of a run ever stand
 /// ready at overlapping references of which one writes.
@@ -22,4 +22,15 @@ pub fn all_end_empty()
 /// between, and what was new in there is forgotten.
 pub fn ends_put_back()
     ensures { EndsPutBack }
+{}
+
+/// What a block or a frame puts back is at each moment the end of what is bound in it, so to undo is to cut a list; and no
+/// cell that is still to be made has a value.
+pub fn each_is_tidy()
+    ensures { EachIsTidy }
+{}
+
+/// A name that NEW makes new has no value, whatever stood in cells that were forgotten.
+pub fn new_has_no_value()
+    ensures { NewHasNoValue }
 {}

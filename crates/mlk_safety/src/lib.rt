@@ -4,4 +4,4 @@
 
 mod law;
 
-pub use law::{all_end_empty, ends_put_back, no_clash, no_ring};
+pub use law::{all_end_empty, each_is_tidy, ends_put_back, new_has_no_value, no_clash, no_ring};
