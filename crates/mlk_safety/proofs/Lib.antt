@@ -7,3 +7,4 @@ pub mod Scopes
 pub mod Examples
 pub mod KeptExample
 pub mod Tidy
+pub mod Killing

@@ -15,8 +15,8 @@ use Rattle.mlk_jobs.specs.Calling.{binder, binders, with_actuals, next_actual, l
 use Rattle.mlk_jobs.specs.Choices.{Stepped, without_choice, doing}
 use Rattle.mlk_jobs.specs.Advance.{advance}
 use Rattle.mlk_jobs.specs.Runs.{machine, blank, by_value, formals_at}
-use Rattle.mlk_safety.specs.Tidy.{Below, AreNested}
-use Rattle.mlk_safety.specs.Laws.{EachIsTidy, NewHasNoValue}
+use Rattle.mlk_safety.specs.Tidy.{Below, AreNested, AreNew}
+use Rattle.mlk_safety.specs.Laws.{EachIsTidy, NewIsNew}
 use Rattle.mlk_safety.proofs.Kept.{Kept, kept_by, kept, Bound, untouched, stores, kills, news, Opened, as_block, as_frame, Move, stays, opens, ends, halts, Moves, refused, of_if, of_entered}
 use Rattle.mlk_safety.proofs.Moves.{moves, stops}
 use Rattle.mlk_safety.proofs.Scopes.{is_forgotten}
@@ -163,14 +163,33 @@ each_is_tidy routines declared e test values k first j acts b r =
     let t = tidied routines declared e test values k first j acts b r in
     record { nested = marks_nested j.bindings j.next (marks j.tasks) t.nested; older = t.older; unset = t.unset }
 
-unasked_is : (c : Choice) (k i : Job) → without_choice c (Ok k) ≡ Ok i → k ≡ i
+pub unasked_is : (c : Choice) (k i : Job) → without_choice c (Ok k) ≡ Ok i → k ≡ i
 unasked_is choice.None k i h = cc
 unasked_is (choice.Value v) k i h = cc
 unasked_is (choice.Truth t) k i h = cc
 
-pub new_has_no_value : NewHasNoValue
-new_has_no_value routines declared e test values k first j acts b r names ts free c i is h n u =
+-- a name bound to a new cell, and another
+new_look : (names : Names) (g : ℕ) (bs : Bindings) (n : List ℕ) → covers names n ≡ true → look (Fresh g names ∷ bs) n ≡ record { generation = g; name = n }
+new_look names g bs n u = rw u refl
+
+new_alone : (names : Names) (g : ℕ) (bs : Bindings) → Below g bs → (n m : List ℕ) → covers names n ≡ true
+    → look (Fresh g names ∷ bs) m ≡ look (Fresh g names ∷ bs) n → m ≡ n
+new_alone names g bs b n m u e =
+    let at : look (Fresh g names ∷ bs) m ≡ record { generation = g; name = n } = e ∙ new_look names g bs n u in
+    ⊎_elim
+    (λ (w : covers names m ≡ true). ap (λ (c : Cell). c.name) (sym (new_look names g bs m w) ∙ at))
+    (λ (w : covers names m ≡ false).
+    let old : look bs m ≡ record { generation = g; name = n } = rw w at at in
+    let z : (look bs m).generation ≡ g = ap (λ (c : Cell). c.generation) old in
+    let l = below_look g bs m b in absurd (omega (arith, z, l)))
+    (cases_Bool (covers names m))
+
+pub new_is_new : NewIsNew
+new_is_new routines declared e test values k first j acts b r names ts free c i is h =
     let t = tidied routines declared e test values k first j acts b r in
     let step : without_choice c (Ok (doing ts (record j { bindings = Fresh j.next names ∷ j.bindings; next = suc j.next }))) ≡ Ok i =
     subst (λ l. advance routines free c j l ≡ Ok i) is h in
-    subst (λ (z : Job). z.cells (look z.bindings n) ≡ None) (unasked_is c _ i step) (rw u (t.unset (record { generation = j.next; name = n }) (omega arith)))
+    subst (λ (z : Job). AreNew names z) (unasked_is c _ i step) (record {
+      unset = λ n u. rw u (t.unset (record { generation = j.next; name = n }) (omega arith));
+      alone = new_alone names j.next j.bindings t.older;
+    })

@@ -13,7 +13,7 @@ use Rattle.mlk_jobs.specs.Tasks.{Job}
 use Rattle.mlk_jobs.specs.Seen.{Clash}
 use Rattle.mlk_jobs.specs.Runs.{machine, seen}
 use Rattle.mlk_safety.specs.Scopes.{GoesThrough, IsPutBack}
-use Rattle.mlk_safety.specs.Tidy.{IsTidy, NewAreUnset}
+use Rattle.mlk_safety.specs.Tidy.{IsTidy, MakesNew, Kills}
 use Rattle.mlk_safety.specs.Moments.{StandsCovered, StandsInOrder, EndsEmpty, AtEachMoment}
 
 -- the number is one whose digits `$JOB` gives
@@ -62,7 +62,10 @@ EndsPutBack =
 abbrev pub EachIsTidy : Type 0
 EachIsTidy = (routines : List RoutineTree) (declared : EntryId → Bool) → AtEachMoment routines declared IsTidy
 
--- A name that is made new has no value.
-abbrev pub NewHasNoValue : Type 0
-NewHasNoValue =
-    (routines : List RoutineTree) (declared : EntryId → Bool) → AtEachMoment routines declared (NewAreUnset routines)
+-- NEW makes names new: they have no value, and share their cells with no other name.
+abbrev pub NewIsNew : Type 0
+NewIsNew = (routines : List RoutineTree) (declared : EntryId → Bool) → AtEachMoment routines declared (MakesNew routines)
+
+-- KILL takes the values of the cells of its names, and of no others, at any job.
+abbrev pub KillIsExact : Type 0
+KillIsExact = (routines : List RoutineTree) (j : Job) → Kills routines j

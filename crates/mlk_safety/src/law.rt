@@ -1,6 +1,6 @@
 // What runs of many jobs keep to where each job by itself keeps to the rules.
 
-ghost use Rattle.mlk_safety.specs.Laws.{NoClash, NoRing, AllEndEmpty, EndsPutBack, EachIsTidy, NewHasNoValue};
+ghost use Rattle.mlk_safety.specs.Laws.{NoClash, NoRing, AllEndEmpty, EndsPutBack, EachIsTidy, NewIsNew, KillIsExact};
 
 /// Where a job by itself always holds what covers the reference at which it stands ready, no two jobs of a run ever stand
 /// ready at overlapping references of which one writes.
@@ -30,7 +30,14 @@ pub fn each_is_tidy()
     ensures { EachIsTidy }
 {}
 
-/// A name that NEW makes new has no value, whatever stood in cells that were forgotten.
-pub fn new_has_no_value()
-    ensures { NewHasNoValue }
+/// A name that NEW makes new has no value, whatever stood in cells that were forgotten, and shares its cell with no other
+/// name.
+pub fn new_is_new()
+    ensures { NewIsNew }
+{}
+
+/// KILL takes the values of the cells that its names are bound to, those too that other names share, but for what an
+/// exclusive KILL lists; and of no other cell.
+pub fn kill_is_exact()
+    ensures { KillIsExact }
 {}

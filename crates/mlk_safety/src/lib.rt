@@ -4,4 +4,6 @@
 
 mod law;
 
-pub use law::{all_end_empty, each_is_tidy, ends_put_back, new_has_no_value, no_clash, no_ring};
+pub use law::{
+    all_end_empty, each_is_tidy, ends_put_back, kill_is_exact, new_is_new, no_clash, no_ring,
+};
