@@ -12,9 +12,9 @@ returns-in_err-program-clause-refused g c =
 pub returns-clause-ok : goal.returns-clause-ok
 returns-clause-ok g c =
     let same = c.in_ok-program.ensures.same in
-    ok_turned c.outcome_under.result (λ o h. (c.in_ok-program.ensures.linked, subst (λ l. IsOutcomeUnder (map routine_of l) c.args.rules_text.now c.args.work.now o) same h)) c.outcome_under.ensures.ok
+    ok_turned c.outcome_under-outcome.result (λ o h. (c.in_ok-program.ensures.linked, subst (λ l. IsOutcomeUnder (map routine_of l) c.args.rules_text.now c.args.work.now o) same h)) c.outcome_under-outcome.ensures.ok
 
 pub returns-clause-refused : goal.returns-clause-refused
 returns-clause-refused g c =
     let same = c.in_ok-program.ensures.same in
-    err_turned c.outcome_under.result (λ r h. inr (c.in_ok-program.ensures.linked, subst (λ l. IsRefusalUnder (map routine_of l) c.args.rules_text.now c.args.work.now r) same h)) c.outcome_under.ensures.refused
+    err_turned c.outcome_under-outcome.result (λ r h. inr (c.in_ok-program.ensures.linked, subst (λ l. IsRefusalUnder (map routine_of l) c.args.rules_text.now c.args.work.now r) same h)) c.outcome_under-outcome.ensures.refused
