@@ -9,7 +9,7 @@ use Rattle.mlk_locks.specs.declared.refusal.Refusal.TheVariants.{NotEnabled}
 use Rattle.mlk_locks.specs.Counts.{has_room}
 use Rattle.std.specs.List.{list_all}
 use Rattle.mlk_tree.specs.ExprTrees.{Tree, Choices, no_choices, choice as condition, ActualTree}
-use Rattle.mlk_tree.specs.Trees.{RoutineTree, LineHead}
+use Rattle.mlk_tree.specs.Trees.{RoutineTree, HeadTree, LineHead, LineTrees}
 use Rattle.mlk_program.specs.declared.entry.EntryId.{EntryId}
 use Rattle.mlk_jobs.specs.declared.choice.Choice.{Choice}
 use Rattle.mlk_jobs.specs.declared.choice.Choice.TheVariants as choice
@@ -18,7 +18,7 @@ use Rattle.mlk_jobs.specs.Tasks.{Task, Job, LineTree, Frame, NoValue, AwaitsValu
 use Rattle.mlk_jobs.specs.Choices.{Stepped, last_values, without_choice, with_value, with_truth, with_last, truth_of, by_truth, is_one, is_zero, given_or_asked, fetched, touched, dropped, doing}
 use Rattle.mlk_jobs.specs.Locking.{claimed, timed_claim, if_free}
 use Rattle.mlk_jobs.specs.Lines.{selected, chosen, next_line}
-use Rattle.mlk_jobs.specs.Calling.{binders, with_actuals, count_given, formals_in, entered, called, called_if}
+use Rattle.mlk_jobs.specs.Calling.{binders, with_actuals, count_given, formals_in, lines_after, entered, called, called_if}
 
 -- what an open block or frame puts back
 pub record Kept : Type 0 where
@@ -49,28 +49,30 @@ pub data Bound (j i : Job) : Type 0 where
   news : (names : Names) → i.bindings ≡ Fresh j.next names ∷ j.bindings → i.next ≡ suc j.next → i.cells ≡ j.cells
       → Bound j i
 
--- What one that opens a block or a frame does: nothing; or formals are bound, and have the values that they are given.
-pub data Opened (j i : Job) : Type 0 where
-  as_block : i.bindings ≡ j.bindings → i.next ≡ j.next → i.cells ≡ j.cells → Opened j i
-  as_frame : (formals : List (List ℕ)) (given : List ActualTree) (values : List (List ℕ))
-      → i.bindings ≡ binders j.bindings j.next formals given ++ j.bindings → i.next ≡ suc j.next
-      → i.cells ≡ with_actuals j.next formals given values j.cells → Opened j i
+-- What one that opens a block or a frame does: nothing; or formals of a line of these routines are bound, and have the
+-- values that they are given.
+pub data Opened (routines : List RoutineTree) (j i : Job) : Type 0 where
+  as_block : i.bindings ≡ j.bindings → i.next ≡ j.next → i.cells ≡ j.cells → Opened routines j i
+  as_frame : (e : EntryId) (head : HeadTree) (body : LineTrees) (lines : List LineTree) → lines_after routines e ≡ (head, body) ∷ lines
+      → (given : List ActualTree) (values : List (List ℕ))
+      → i.bindings ≡ binders j.bindings j.next (formals_in head) given ++ j.bindings → i.next ≡ suc j.next
+      → i.cells ≡ with_actuals j.next (formals_in head) given values j.cells → Opened routines j i
 
 -- What a step may do to them: nothing; open one, which puts all back; end the innermost one; or the job has ended.
-pub data Move (j i : Job) : Type 0 where
-  stays : kept i.tasks ≡ kept j.tasks → Bound j i → Move j i
+pub data Move (routines : List RoutineTree) (j i : Job) : Type 0 where
+  stays : kept i.tasks ≡ kept j.tasks → Bound j i → Move routines j i
   opens : (test : Option Bool) → kept i.tasks ≡ record { back = j.bindings; next = j.next; test = test } ∷ kept j.tasks
-      → ((t : Bool) → test ≡ Some t → j.test ≡ t) → Opened j i → Move j i
+      → ((t : Bool) → test ≡ Some t → j.test ≡ t) → Opened routines j i → Move routines j i
   ends : (k : Kept) → kept j.tasks ≡ k ∷ kept i.tasks → i.bindings ≡ k.back → i.next ≡ k.next
-      → i.cells ≡ forgotten k.next j.cells → ((t : Bool) → k.test ≡ Some t → i.test ≡ t) → Move j i
-  halts : kept i.tasks ≡ [] → i.bindings ≡ j.bindings → i.next ≡ j.next → i.cells ≡ j.cells → Move j i
+      → i.cells ≡ forgotten k.next j.cells → ((t : Bool) → k.test ≡ Some t → i.test ≡ t) → Move routines j i
+  halts : kept i.tasks ≡ [] → i.bindings ≡ j.bindings → i.next ≡ j.next → i.cells ≡ j.cells → Move routines j i
 
-module _ (j : Job) where
+module _ (routines : List RoutineTree) (j : Job) where
   abbrev pub Moves : Stepped → Type 0
-  Moves s = (i : Job) → s ≡ Ok i → Move j i
+  Moves s = (i : Job) → s ≡ Ok i → Move routines j i
 
-  pub done : (k : Job) → Move j k → Moves (Ok k)
-  done k m i e = let f : k ≡ i = cc in subst (Move j) f m
+  pub done : (k : Job) → Move routines j k → Moves (Ok k)
+  done k m i e = let f : k ≡ i = cc in subst (Move routines j) f m
 
   pub refused : (why : Refusal) → Moves (Err why)
   refused why i e = cc
@@ -151,21 +153,21 @@ module _ (j : Job) where
   ])
 
   -- a call opens a frame
-  pub of_entered : (frame : Frame) (r : ℕ) (given : List ActualTree) (lines : List LineTree) (ts : List Task) (k : Job)
-      → marks ts ≡ marks j.tasks → k.bindings ≡ j.bindings → k.next ≡ j.next → k.cells ≡ j.cells
+  pub of_entered : (frame : Frame) (r : ℕ) (given : List ActualTree) (e : EntryId) (lines : List LineTree) → lines_after routines e ≡ lines
+      → (ts : List Task) (k : Job) → marks ts ≡ marks j.tasks → k.bindings ≡ j.bindings → k.next ≡ j.next → k.cells ≡ j.cells
       → ((t : Bool) → test_in frame ≡ Some t → j.test ≡ t) → Moves (entered frame r given lines ts k)
-  of_entered frame r given [] ts k e b n x t = refused NotEnabled
-  of_entered frame r given ((head, block) ∷ lines) ts k e b n x t =
-      done _ (opens (test_in frame) (rw (b, n, e) refl) t
-      (as_frame (formals_in head) given (last_values (count_given given) k) (rw (b, n) refl) (ap (λ m. suc m) n) (rw (n, x) refl)))
+  of_entered frame r given e [] is ts k m b n x t = refused NotEnabled
+  of_entered frame r given e ((head, block) ∷ lines) is ts k m b n x t =
+      done _ (opens (test_in frame) (rw (b, n, m) refl) t
+      (as_frame e head block lines is given (last_values (count_given given) k) (rw (b, n) refl) (ap (λ q. suc q) n) (rw (n, x) refl)))
 
-  pub of_call : (routines : List RoutineTree) (frame : Frame) (o : Option EntryId) (given : List ActualTree) (ts : List Task) (k : Job)
+  pub of_call : (frame : Frame) (o : Option EntryId) (given : List ActualTree) (ts : List Task) (k : Job)
       → marks ts ≡ marks j.tasks → k.bindings ≡ j.bindings → k.next ≡ j.next → k.cells ≡ j.cells
       → ((t : Bool) → test_in frame ≡ Some t → j.test ≡ t) → Moves (called routines frame o given ts k)
-  of_call routines frame None given ts k e b n z t = refused NotEnabled
-  of_call routines frame (Some x) given ts k e b n z t = of_entered frame x.routine given _ ts k e b n z t
+  of_call frame None given ts k m b n x t = refused NotEnabled
+  of_call frame (Some e) given ts k m b n x t = of_entered frame e.routine given e (lines_after routines e) refl ts k m b n x t
 
-  pub of_call_if : (t : Bool) (routines : List RoutineTree) (o : Option EntryId) (given : List ActualTree) (ts : List Task)
+  pub of_call_if : (t : Bool) (o : Option EntryId) (given : List ActualTree) (ts : List Task)
       → marks ts ≡ marks j.tasks → Moves (called_if t routines o given ts (dropped 1 j))
-  of_call_if true routines o given ts e = of_call routines NoValue o given ts (dropped 1 j) e refl refl refl (λ t h. cc)
-  of_call_if false routines o given ts e = same _ e refl refl refl
+  of_call_if true o given ts e = of_call NoValue o given ts (dropped 1 j) e refl refl refl (λ t h. cc)
+  of_call_if false o given ts e = same _ e refl refl refl

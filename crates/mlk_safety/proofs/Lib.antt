@@ -8,3 +8,4 @@ pub mod Examples
 pub mod KeptExample
 pub mod Tidy
 pub mod Killing
+pub mod Sharing

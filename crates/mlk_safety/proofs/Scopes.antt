@@ -27,19 +27,19 @@ count_above : (front : List Kept) (b : Kept) (base : List Kept) → length (fron
 count_above front b base = length-append front (b ∷ base)
 
 -- as long as more are open than the others, it stays
-keeps : (b : Kept) (base : List Kept) (k i : Job) → Above b base (kept k.tasks) → Move k i → length base < count_open i
+keeps : (routines : List RoutineTree) (b : Kept) (base : List Kept) (k i : Job) → Above b base (kept k.tasks) → Move routines k i → length base < count_open i
     → Above b base (kept i.tasks)
-keeps b base k i a (stays e o) l = record { front = a.front; is = e ∙ a.is }
-keeps b base k i a (opens test e t o) l =
+keeps routines b base k i a (stays e o) l = record { front = a.front; is = e ∙ a.is }
+keeps routines b base k i a (opens test e t o) l =
     record { front = record { back = k.bindings; next = k.next; test = test } ∷ a.front; is = e ∙ ap (λ ks. record { back = k.bindings; next = k.next; test = test } ∷ ks) a.is }
-keeps b base k i a (ends x e g n f t) l = on a.front (sym e ∙ a.is)
+keeps routines b base k i a (ends x e g n f t) l = on a.front (sym e ∙ a.is)
   where
     on : (front : List Kept) → x ∷ kept i.tasks ≡ front ++ b ∷ base → Above b base (kept i.tasks)
     on [] h =
         let d : kept i.tasks ≡ base = cc in
         let m : count_open i ≡ length base = sym (kept_len i) ∙ ap length d in absurd (omega (arith, l, m))
     on (y ∷ front) h = let d : kept i.tasks ≡ front ++ b ∷ base = cc in record { front = front; is = d }
-keeps b base k i a (halts e u v w) l = let m : count_open i ≡ 0 = sym (kept_len i) ∙ ap length e in absurd (omega (arith, l, m))
+keeps routines b base k i a (halts e u v w) l = let m : count_open i ≡ 0 = sym (kept_len i) ∙ ap length e in absurd (omega (arith, l, m))
 
 -- what was put back at its end
 record Ended (b : Kept) (i : Job) : Type 0 where
@@ -52,16 +52,16 @@ pub is_forgotten : (next : ℕ) (cells : Cells) (c : Cell) → next ≤ c.genera
 is_forgotten next cells c h = grind arith
 
 -- where as many are open as the others, it was ended
-ended : (b : Kept) (base : List Kept) (k i : Job) → Above b base (kept k.tasks) → Move k i → count_open i ≡ length base
+ended : (routines : List RoutineTree) (b : Kept) (base : List Kept) (k i : Job) → Above b base (kept k.tasks) → Move routines k i → count_open i ≡ length base
     → 0 < length base → Ended b i
-ended b base k i a (stays e o) l p =
+ended routines b base k i a (stays e o) l p =
     let m : count_open i ≡ length a.front + suc (length base) = sym (kept_len i) ∙ ap length (e ∙ a.is) ∙ count_above a.front b base in
     absurd (omega (arith, l, m))
-ended b base k i a (opens test e t o) l p =
+ended routines b base k i a (opens test e t o) l p =
     let m : count_open i ≡ suc (length (kept k.tasks)) = sym (kept_len i) ∙ ap length e in
     let n : length (kept k.tasks) ≡ length a.front + suc (length base) = ap length a.is ∙ count_above a.front b base in
     absurd (omega (arith, l, m, n))
-ended b base k i a (ends x e g n f t) l p = on a.front (sym e ∙ a.is)
+ended routines b base k i a (ends x e g n f t) l p = on a.front (sym e ∙ a.is)
   where
     on : (front : List Kept) → x ∷ kept i.tasks ≡ front ++ b ∷ base → Ended b i
     on [] h =
@@ -71,19 +71,19 @@ ended b base k i a (ends x e g n f t) l p = on a.front (sym e ∙ a.is)
         let d : kept i.tasks ≡ front ++ b ∷ base = cc in
         let m : count_open i ≡ length front + suc (length base) = sym (kept_len i) ∙ ap length d ∙ count_above front b base in
         absurd (omega (arith, l, m))
-ended b base k i a (halts e u v w) l p =
+ended routines b base k i a (halts e u v w) l p =
     let m : count_open i ≡ 0 = sym (kept_len i) ∙ ap length e in absurd (omega (arith, l, m, p))
 
 -- a step after which more are open has opened one, which puts all back
-begun : (j first : Job) → Move j first → count_open j < count_open first
+begun : (routines : List RoutineTree) (j first : Job) → Move routines j first → count_open j < count_open first
     → (test : Option Bool) × (kept first.tasks ≡ record { back = j.bindings; next = j.next; test = test } ∷ kept j.tasks)
     × ((t : Bool) → test ≡ Some t → j.test ≡ t)
-begun j first (stays e o) l =
+begun routines j first (stays e o) l =
     let m : count_open first ≡ count_open j = sym (kept_len first) ∙ ap length e ∙ kept_len j in absurd (omega (arith, l, m))
-begun j first (opens test e t o) l = (test, e, t)
-begun j first (ends x e g n f t) l =
+begun routines j first (opens test e t o) l = (test, e, t)
+begun routines j first (ends x e g n f t) l =
     let m : count_open j ≡ suc (count_open first) = sym (kept_len j) ∙ ap length e ∙ ap (λ k. suc k) (kept_len first) in absurd (omega (arith, l, m))
-begun j first (halts e u v w) l = let m : count_open first ≡ 0 = sym (kept_len first) ∙ ap length e in absurd (omega (arith, l, m))
+begun routines j first (halts e u v w) l = let m : count_open first ≡ 0 = sym (kept_len first) ∙ ap length e in absurd (omega (arith, l, m))
 
 -- of the innermost of these
 has_test : (ms : List Mark) (b : Kept) (base : List Kept) → map kept_by ms ≡ b ∷ base → has_own_test ms ≡ true
@@ -95,10 +95,10 @@ has_test (FrameMark (AwaitsValue test) back next routine ∷ ms) b base e h = (t
 has_test (FrameMark (HasValue test) back next routine ∷ ms) b base e h = (test, cc)
 
 module _ (routines : List RoutineTree) (declared : EntryId → Bool) where
-  acts_move : (a : Act Choice EntryId) (j i : Job) → alone (machine routines declared) a j ≡ Ok i → Move j i
+  acts_move : (a : Act Choice EntryId) (j i : Job) → alone (machine routines declared) a j ≡ Ok i → Move routines j i
   acts_move (Begin e test values) j i h = cc
   acts_move (Go c) j i h = moves routines (λ _. true) c j j.tasks refl i h
-  acts_move Abort j i h = stops j j.tasks i h
+  acts_move Abort j i h = stops routines j j.tasks i h
 
   abbrev Within : ℕ → List (Act Choice EntryId) → Job → Type 0
   Within n acts first = (before later : List (Act Choice EntryId)) (k : Job) → acts ≡ before ++ later
@@ -119,19 +119,19 @@ module _ (routines : List RoutineTree) (declared : EntryId → Bool) where
           let g : lone_run (machine routines declared) acts i ≡ Ok last = rw e at h in
           rest i last g
           (λ before later n d q. w (x ∷ before) later n (ap (λ l. x ∷ l) d) (rw e q))
-          (keeps b base k i a (acts_move x k i e) (w (x ∷ []) acts i refl (rw e refl)))
+          (keeps routines b base k i a (acts_move x k i e) (w (x ∷ []) acts i refl (rw e refl)))
 
 pub ends_put_back : EndsPutBack
 ends_put_back routines declared j i g =
-    let into : Move j g.first = acts_move routines declared g.goes_in j g.first g.is_first in
-    let b = begun j g.first into (g.is_within [] g.acts g.first refl refl) in
+    let into : Move routines j g.first = acts_move routines declared g.goes_in j g.first g.is_first in
+    let b = begun routines j g.first into (g.is_within [] g.acts g.first refl refl) in
     let k : Kept = record { back = j.bindings; next = j.next; test = b.0 } in
     let w : Within routines declared (length (kept j.tasks)) g.acts g.first =
     λ before later n d q. let l = g.is_within before later n d q in let m = kept_len j in omega (arith, l, m) in
     let a = stays_above routines declared k (kept j.tasks) g.acts g.first g.last g.is_last w (record { front = []; is = b.1 }) in
-    let out : Move g.last i = acts_move routines declared g.goes_out g.last i g.is_out in
+    let out : Move routines g.last i = acts_move routines declared g.goes_out g.last i g.is_out in
     let p : 0 < length (kept j.tasks) = let l = g.is_in_frame in let m = kept_len j in omega (arith, l, m) in
-    let d = ended k (kept j.tasks) g.last i a out (g.as_many ∙ sym (kept_len j)) p in
+    let d = ended routines k (kept j.tasks) g.last i a out (g.as_many ∙ sym (kept_len j)) p in
     record {
       bindings = d.bindings;
       unused = d.next;

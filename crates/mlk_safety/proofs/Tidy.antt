@@ -11,7 +11,7 @@ use Rattle.mlk_jobs.specs.declared.choice.Choice.{Choice}
 use Rattle.mlk_jobs.specs.declared.choice.Choice.TheVariants as choice
 use Rattle.mlk_jobs.specs.Bindings.{Names, covers, Cell, Fresh, ByReference, Bindings, Cells, look, put, killed, forgotten, same_cell, is_named, is_spared}
 use Rattle.mlk_jobs.specs.Tasks.{Job, NoValue, Mark, BlockMark, FrameMark, marks}
-use Rattle.mlk_jobs.specs.Calling.{binder, binders, with_actuals, next_actual, later_actuals, lines_after}
+use Rattle.mlk_jobs.specs.Calling.{binder, binders, with_actuals, next_actual, later_actuals, lines_after, formals_in}
 use Rattle.mlk_jobs.specs.Choices.{Stepped, without_choice, doing}
 use Rattle.mlk_jobs.specs.Advance.{advance}
 use Rattle.mlk_jobs.specs.Runs.{machine, blank, by_value, formals_at}
@@ -70,7 +70,7 @@ actuals_elsewhere g (f ∷ fs) (ByRef column name ∷ given) values cells c l = 
 actuals_elsewhere g (f ∷ fs) (Missing ∷ given) values cells c l = actuals_elsewhere g fs given values cells c l
 
 -- what blocks and frames put back, and that it is of generations before their own
-abbrev Nested : Bindings → ℕ → List Kept → Type 0
+abbrev pub Nested : Bindings → ℕ → List Kept → Type 0
 Nested bs n [] = Unit {0}
 Nested bs n (k ∷ ks) = (front : Bindings) × (bs ≡ front ++ k.back) × Below k.next k.back × (k.next ≤ n) × Nested k.back k.next ks
 
@@ -80,9 +80,9 @@ deeper more bs n m (k ∷ ks) le (front, e, b, l, rest) =
     (more ++ front, ap (λ x. more ++ x) e ∙ sym (append_assoc more front k.back), b, omega (arith, l, le), rest)
 
 pub record Tidied (j : Job) : Type 0 where
-  nested : Nested j.bindings j.next (kept j.tasks)
-  older : Below j.next j.bindings
-  unset : (c : Cell) → j.next ≤ c.generation → j.cells c ≡ None
+  pub nested : Nested j.bindings j.next (kept j.tasks)
+  pub older : Below j.next j.bindings
+  pub unset : (c : Cell) → j.next ≤ c.generation → j.cells c ≡ None
 
 -- the same of other names, cells and tasks
 given_by : (bs : Bindings) (n : ℕ) (cells : Cells) (ks : List Kept) (i : Job) → i.bindings ≡ bs → i.next ≡ n → i.cells ≡ cells → kept i.tasks ≡ ks
@@ -104,38 +104,38 @@ stay_tidy j i t e (news names b n x) =
     (omega arith, below_more j.next (suc j.next) (omega arith) j.bindings t.older)
     (λ c l. t.unset c (omega (arith, l)))
 
-open_tidy : (j i : Job) (test : Option Bool) → Tidied j → kept i.tasks ≡ record { back = j.bindings; next = j.next; test = test } ∷ kept j.tasks
-    → Opened j i → Tidied i
-open_tidy j i test t e (as_block b n x) =
+open_tidy : (routines : List RoutineTree) (j i : Job) (test : Option Bool) → Tidied j → kept i.tasks ≡ record { back = j.bindings; next = j.next; test = test } ∷ kept j.tasks
+    → Opened routines j i → Tidied i
+open_tidy routines j i test t e (as_block b n x) =
     given_by j.bindings j.next j.cells (record { back = j.bindings; next = j.next; test = test } ∷ kept j.tasks) i b n x e
     ([], refl, t.older, omega arith, t.nested) t.older t.unset
-open_tidy j i test t e (as_frame fs given values b n x) =
-    given_by (binders j.bindings j.next fs given ++ j.bindings) (suc j.next) (with_actuals j.next fs given values j.cells)
-    (record { back = j.bindings; next = j.next; test = test } ∷ kept j.tasks) i b n x e
-    (binders j.bindings j.next fs given, refl, t.older, omega arith, t.nested)
-    (binders_below j.bindings j.next fs given j.bindings t.older (below_more j.next (suc j.next) (omega arith) j.bindings t.older))
-    (λ c l. actuals_elsewhere j.next fs given values j.cells c l ∙ t.unset c (omega (arith, l)))
+open_tidy routines j i test t m (as_frame e head body lines is given values b n x) =
+    given_by (binders j.bindings j.next (formals_in head) given ++ j.bindings) (suc j.next) (with_actuals j.next (formals_in head) given values j.cells)
+    (record { back = j.bindings; next = j.next; test = test } ∷ kept j.tasks) i b n x m
+    (binders j.bindings j.next (formals_in head) given, refl, t.older, omega arith, t.nested)
+    (binders_below j.bindings j.next (formals_in head) given j.bindings t.older (below_more j.next (suc j.next) (omega arith) j.bindings t.older))
+    (λ c l. actuals_elsewhere j.next (formals_in head) given values j.cells c l ∙ t.unset c (omega (arith, l)))
 
-pub tidy_after : (j i : Job) → Tidied j → Move j i → Tidied i
-tidy_after j i t (stays e o) = stay_tidy j i t e o
-tidy_after j i t (opens test e h o) = open_tidy j i test t e o
-tidy_after j i t (ends k e b n x h) =
+pub tidy_after : (routines : List RoutineTree) (j i : Job) → Tidied j → Move routines j i → Tidied i
+tidy_after routines j i t (stays e o) = stay_tidy j i t e o
+tidy_after routines j i t (opens test e h o) = open_tidy routines j i test t e o
+tidy_after routines j i t (ends k e b n x h) =
     let there : Nested j.bindings j.next (k ∷ kept i.tasks) = subst (Nested j.bindings j.next) e t.nested in
     given_by k.back k.next (forgotten k.next j.cells) (kept i.tasks) i b n x refl there.4 there.2 (is_forgotten k.next j.cells)
-tidy_after j i t (halts e b n x) = given_by j.bindings j.next j.cells [] i b n x e tt t.older t.unset
+tidy_after routines j i t (halts e b n x) = given_by j.bindings j.next j.cells [] i b n x e tt t.older t.unset
 
 module _ (routines : List RoutineTree) (declared : EntryId → Bool) where
-  begins : (e : EntryId) (test : Bool) (values : List (List ℕ)) (k : ℕ) → Moves (blank k test values) ((machine routines declared).begin e test values k)
+  pub begins : (e : EntryId) (test : Bool) (values : List (List ℕ)) (k : ℕ) → Moves routines (blank k test values) ((machine routines declared).begin e test values k)
   begins e test values k =
-      of_if (blank k test values) (declared e) _ _
-      (of_if (blank k test values) (nat_lt (formals_at (lines_after routines e)) (length values)) _ _ (refused (blank k test values) BadChoice)
-      (of_entered (blank k test values) NoValue e.routine (by_value values) (lines_after routines e) [] (blank k test values) refl refl refl refl (λ t h. cc)))
-      (refused (blank k test values) NotEnabled)
+      of_if routines (blank k test values) (declared e) _ _
+      (of_if routines (blank k test values) (nat_lt (formals_at (lines_after routines e)) (length values)) _ _ (refused routines (blank k test values) BadChoice)
+      (of_entered routines (blank k test values) NoValue e.routine (by_value values) e (lines_after routines e) refl [] (blank k test values) refl refl refl refl (λ t h. cc)))
+      (refused routines (blank k test values) NotEnabled)
 
-  act_moves : (a : Act Choice EntryId) (j i : Job) → alone (machine routines declared) a j ≡ Ok i → Move j i
+  pub act_moves : (a : Act Choice EntryId) (j i : Job) → alone (machine routines declared) a j ≡ Ok i → Move routines j i
   act_moves (Begin e test values) j i h = cc
   act_moves (Go c) j i h = moves routines (λ _. true) c j j.tasks refl i h
-  act_moves Abort j i h = stops j j.tasks i h
+  act_moves Abort j i h = stops routines j j.tasks i h
 
   run_tidy : (acts : List (Act Choice EntryId)) (j i : Job) → Tidied j → lone_run (machine routines declared) acts j ≡ Ok i → Tidied i
   run_tidy [] j i t h = let e : j ≡ i = cc in subst Tidied e t
@@ -144,13 +144,13 @@ module _ (routines : List RoutineTree) (declared : EntryId → Bool) where
       on : (s : Stepped) → alone (machine routines declared) x j ≡ s
           → ((k z : Job) → Tidied k → lone_run (machine routines declared) acts k ≡ Ok z → Tidied z) → Tidied i
       on (Err why) e rest = let z : Err why ≡ Ok i = rw e at h in cc
-      on (Ok k) e rest = rest k i (tidy_after j k t (act_moves x j k e)) (rw e at h)
+      on (Ok k) e rest = rest k i (tidy_after routines j k t (act_moves x j k e)) (rw e at h)
 
   pub tidied : (e : EntryId) (test : Bool) (values : List (List ℕ)) (k : ℕ) (first j : Job) (acts : List (Act Choice EntryId))
       → (machine routines declared).begin e test values k ≡ Ok first → lone_run (machine routines declared) acts first ≡ Ok j → Tidied j
   tidied e test values k first j acts b r =
       let blank_tidy : Tidied (blank k test values) = record { nested = tt; older = omega arith; unset = λ c l. refl } in
-      run_tidy acts first j (tidy_after (blank k test values) first blank_tidy (begins e test values k first b)) r
+      run_tidy acts first j (tidy_after routines (blank k test values) first blank_tidy (begins e test values k first b)) r
 
 -- of the marks themselves
 marks_nested : (bs : Bindings) (n : ℕ) (ms : List Mark) → Nested bs n (map kept_by ms) → AreNested bs ms

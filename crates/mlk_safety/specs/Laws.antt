@@ -13,6 +13,7 @@ use Rattle.mlk_jobs.specs.Tasks.{Job}
 use Rattle.mlk_jobs.specs.Seen.{Clash}
 use Rattle.mlk_jobs.specs.Runs.{machine, seen}
 use Rattle.mlk_safety.specs.Scopes.{GoesThrough, IsPutBack}
+use Rattle.mlk_safety.specs.Sharing.{FormalsDiffer, SharesByReference}
 use Rattle.mlk_safety.specs.Tidy.{IsTidy, MakesNew, Kills}
 use Rattle.mlk_safety.specs.Moments.{StandsCovered, StandsInOrder, EndsEmpty, AtEachMoment}
 
@@ -69,3 +70,9 @@ NewIsNew = (routines : List RoutineTree) (declared : EntryId → Bool) → AtEac
 -- KILL takes the values of the cells of its names, and of no others, at any job.
 abbrev pub KillIsExact : Type 0
 KillIsExact = (routines : List RoutineTree) (j : Job) → Kills routines j
+
+-- Where no formal list has a name twice, names share cells with names outside of a block or frame by reference alone.
+abbrev pub SharedByReference : Type 0
+SharedByReference =
+    (routines : List RoutineTree) (declared : EntryId → Bool) → FormalsDiffer routines
+    → AtEachMoment routines declared SharesByReference

@@ -2,4 +2,5 @@ pub mod Order
 pub mod Moments
 pub mod Scopes
 pub mod Tidy
+pub mod Sharing
 pub mod Laws

@@ -1,6 +1,6 @@
 // What runs of many jobs keep to where each job by itself keeps to the rules.
 
-ghost use Rattle.mlk_safety.specs.Laws.{NoClash, NoRing, AllEndEmpty, EndsPutBack, EachIsTidy, NewIsNew, KillIsExact};
+ghost use Rattle.mlk_safety.specs.Laws.{NoClash, NoRing, AllEndEmpty, EndsPutBack, EachIsTidy, NewIsNew, KillIsExact, SharedByReference};
 
 /// Where a job by itself always holds what covers the reference at which it stands ready, no two jobs of a run ever stand
 /// ready at overlapping references of which one writes.
@@ -40,4 +40,10 @@ pub fn new_is_new()
 /// exclusive KILL lists; and of no other cell.
 pub fn kill_is_exact()
     ensures { KillIsExact }
+{}
+
+/// A name in a block or a frame has the cell of a name outside only by reference, or where it is that name and nothing in
+/// between has bound it.
+pub fn shared_by_reference()
+    ensures { SharedByReference }
 {}
