@@ -1,7 +1,6 @@
 -- What is refused on the way from texts to a report.
-use Rattle.std.proofs.Common.{◌≡◌, ℕ, ◌<◌, ◌≤◌, ◌+◌, ◌++◌, List, [], ◌∷◌, Result, Ok, Err, Option, Some, None, length, take, drop, slice_index_or, sym, ap, ◌∙◌, subst, inl, inr, take-append-drop, append-nil}
+use Rattle.std.proofs.Common.{◌≡◌, ℕ, ◌++◌, List, [], ◌∷◌, Result, Ok, Err, Option, Some, None, sym, ap, ◌∙◌, subst, inl, inr}
 use Rattle.std.specs.Prelude.{IfOk, IfErr, find}
-use Rattle.std.proofs.lemmas.List.{drop_all, drop_more, take_more}
 use Rattle.mlk_text.specs.declared.failure.Failure.{Failure}
 use Rattle.mlk_text.specs.declared.failure.Failure.TheVariants as failure
 use Rattle.mlk_text.specs.declared.fault.Fault.{Fault}
@@ -30,38 +29,26 @@ use Rattle.mlk_command.specs.Replayed.{IsUndeclared, IsStopped}
 use Rattle.mlk_command.specs.Checked.{IsRead, AreRead, IsFirst, IsStuck, IsUnmade, IsMade, IsRefusalOfWork, IsRefusalBy, IsRefusalWith, IsRefusalUnder, IsRefusalOf, refusal_of_routine, refusal_of_rules, refusal_of_certificate, refusal_of_events, RefusesFirst, TellsEntry}
 
 -- one routine more is read
-read-one-more : (sources : List Source) (trees : List RoutineTree) (source : Source) (tree : RoutineTree) → AreRead sources trees → IsRead source tree → AreRead (sources ++ source ∷ []) (trees ++ tree ∷ [])
+pub read-one-more : (sources : List Source) (trees : List RoutineTree) (source : Source) (tree : RoutineTree) → AreRead sources trees → IsRead source tree → AreRead (sources ++ source ∷ []) (trees ++ tree ∷ [])
 read-one-more [] [] source tree read here = (here, record {})
 read-one-more [] (t ∷ trees) source tree read here = absurd read
 read-one-more (s ∷ sources) [] source tree read here = absurd read
 read-one-more (s ∷ sources) (t ∷ trees) source tree read here = (read.0, read-one-more sources trees source tree read.1 here)
 
-pub routine-more : (sources : List Source) (i : ℕ) (d source : Source) (tree : RoutineTree) (trees longer : List RoutineTree) → i < length sources → source ≡ slice_index_or sources i d
-    → longer ≡ trees ++ tree ∷ [] → AreRead (take i sources) trees → IsRead source tree → AreRead (take (i + 1) sources) longer
-routine-more sources i d source tree trees longer less there is read here =
-    let more = read-one-more (take i sources) trees source tree read here in
-    let front : take (i + 1) sources ≡ take i sources ++ source ∷ [] = take_more sources i d less ∙ ap (λ s. take i sources ++ s ∷ []) (sym there) in
-    subst (AreRead (take (i + 1) sources)) (sym is) (subst (λ l. AreRead l (trees ++ tree ∷ [])) (sym front) more)
-
-pub first-refused : (sources : List Source) (i : ℕ) (d source : Source) (trees : List RoutineTree) (e : Failure Fault)
-    → i < length sources → source ≡ slice_index_or sources i d → AreRead (take i sources) trees
-    → NoRoutine source.stem.now source.text.items e → Places source.stem.now source.text.items e → RefusesFirst sources e
-first-refused sources i d source trees failure.OutOfMemory less there read none place = record {}
-first-refused sources i d source trees (failure.Refused fault) less there read none place = record {
-  front = take i sources;
+pub first-refused : (sources front after : List Source) (source : Source) (trees : List RoutineTree) (e : Failure Fault)
+    → sources ≡ front ++ source ∷ after → AreRead front trees → NoRoutine source.stem.now source.text.items e → Places source.stem.now source.text.items e
+    → RefusesFirst sources e
+first-refused sources front after source trees failure.OutOfMemory cut read none place = record {}
+first-refused sources front after source trees (failure.Refused fault) cut read none place = record {
+  front = front;
   source = source;
-  after = drop (i + 1) sources;
-  cut = sym (take-append-drop i sources) ∙ ap (λ l. take i sources ++ l) (drop_more sources i d less) ∙ ap (λ s. take i sources ++ s ∷ drop (i + 1) sources) (sym there);
+  after = after;
+  cut = cut;
   trees = trees;
   read = read;
   none = none;
   place = place;
 }
-
-pub all-routines : (sources : List Source) (i : ℕ) (trees : List RoutineTree) → length sources ≤ i → AreRead (take i sources) trees → AreRead sources trees
-all-routines sources i trees past read =
-    let whole : take i sources ≡ sources = sym (append-nil (take i sources)) ∙ ap (λ l. take i sources ++ l) (sym (drop_all i sources past)) ∙ take-append-drop i sources in
-    subst (λ l. AreRead l trees) whole read
 
 -- what is refused, as a refusal of the texts
 pub by-routine : (sources : List Source) (e : Failure Fault) → RefusesFirst sources e → IsFirst sources (refusal_of_routine e)

@@ -108,18 +108,22 @@ pub(crate) struct Checked {
     pub outcome: Outcome,
 }
 
+// The routines of these texts, each of which is given back once it is read.
 fn routines_of<W: Watch>(
     alloc: Global,
-    sources: &[Source<'_>],
+    sources: Vec<Source<'_>>,
     watch: &W,
 ) -> Result<Vec<Routine>, Failure<Fault>>
-    ensures ok { IfOk result (λ r. AreRead sources.now (map routine_of r.items)) }
-    ensures refused { IfErr result (RefusesFirst sources.now) }
+    ensures ok { IfOk result (λ r. AreRead sources.entry.items (map routine_of r.items)) }
+    ensures refused { IfErr result (RefusesFirst sources.entry.items) }
 {
+    let count = sources.len();
     let mut routines = Vec::new(alloc);
-    for source in sources {
-        watch.see(Stage::Reading, routines.len(), sources.len());
-        routines.push(read_routine(alloc, source.stem, source.text.as_slice())?)?;
+    let mut left = sources.into_iter();
+    while let Some(source) = left.next() {
+        watch.see(Stage::Reading, routines.len(), count);
+        let Source { stem, text } = source;
+        routines.push(read_routine(alloc, stem, text.as_slice())?)?;
     }
     Ok(routines)
 }
@@ -305,19 +309,18 @@ fn outcome_of<W: Watch>(
 /// certificate, or of its making, and of an entry that the routines lack; of events after that entry.
 pub(crate) fn check_texts<W: Watch>(
     alloc: Global,
-    sources: &Sources<'_>,
+    sources: Sources<'_>,
     watch: &W,
 ) -> Result<Checked, Refusal>
-    ensures ok { IfOk result (λ c. IsChecked sources.now (trees_of c) c.outcome) }
-    ensures refused { IfErr result (IsRefusedBy sources.now) }
+    ensures ok { IfOk result (λ c. IsChecked sources.entry (trees_of c) c.outcome) }
+    ensures refused { IfErr result (IsRefusedBy sources.entry) }
 {
-    let routines = routines_of(alloc, sources.routines.as_slice(), watch)?;
-    let outcome = outcome_of(
-        alloc,
-        routines.as_slice(),
-        sources.rules.as_slice(),
-        &sources.work,
-        watch,
-    )?;
+    let Sources {
+        work,
+        rules,
+        routines: files,
+    } = sources;
+    let routines = routines_of(alloc, files, watch)?;
+    let outcome = outcome_of(alloc, routines.as_slice(), rules.as_slice(), &work, watch)?;
     Ok(Checked { routines, outcome })
 }

@@ -129,7 +129,7 @@ fn answer_request<F: Files, W: Watch>(
     ensures { Answers (F.holds files.now) (F.lacks files.now) request.now result }
 {
     match read_files(alloc, files, request) {
-        Ok(sources) => match check_texts(alloc, &sources, watch) {
+        Ok(sources) => match check_texts(alloc, sources, watch) {
             Ok(checked) => answer_of(alloc, checked, watch),
             Err(refusal) => refusal_answer(alloc, &refusal),
         },

@@ -5,6 +5,6 @@ pub returns-in-Ok-check_texts : goal.returns-in-Ok-check_texts
 returns-in-Ok-check_texts g c =
     outcome-answers (g.F.Files.holds c.args.files.now) (g.F.Files.lacks c.args.files.now) c.args.request.now c.in-Ok.sources c.in-Ok-check_texts.checked c.answer_of.result c.in-Ok.ensures.ok c.in-Ok-check_texts.ensures.ok c.answer_of.ensures
 
-pub returns-in-Ok : goal.returns-in-Ok
-returns-in-Ok g c =
+pub returns-in-Err : goal.returns-in-Err
+returns-in-Err g c =
     refusal-answers (g.F.Files.holds c.args.files.now) (g.F.Files.lacks c.args.files.now) c.args.request.now c.in-Ok.sources c.in-Err.refusal c.refusal_answer.result c.in-Ok.ensures.ok c.in-Err.ensures.refused c.refusal_answer.ensures
