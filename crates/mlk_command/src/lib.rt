@@ -11,7 +11,7 @@ mod source;
 mod text;
 
 pub use file::{LONGEST_FILE, read_whole};
-pub use law::routines_spelled;
+pub use law::{formals_distinct, routines_spelled};
 pub use mlk_make::{Stage, Unwatched, Watch};
 pub use program::{run, run_watched, wrong_words};
 pub use source::Files;
