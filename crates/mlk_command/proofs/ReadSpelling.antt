@@ -37,8 +37,8 @@ distinct_names (n ∷ names) s (inner, enclosed, are, distinct) = distinct
 
 line_differs : (n : ℕ) (head : HeadTree) (s : List ℕ) → IsLine n head s → AreDistinct (formals_in head)
 line_differs n (LineHead number level end label None commands) s h = tt
-line_differs n (LineHead number level end None (Some formals) commands) s (front, body, is, counted, ended, at, rest) = absurd at
-line_differs n (LineHead number level end (Some label) (Some formals) commands) s (front, body, is, counted, ended, (list, joined, spelled, good), rest) =
+line_differs n (LineHead number level end None (Some formals) commands) s (front, body, is, counted, ended, at, level_is, rest) = absurd at
+line_differs n (LineHead number level end (Some label) (Some formals) commands) s (front, body, is, counted, ended, (list, joined, spelled, good), level_is, rest) =
     distinct_names formals list good
 
 among : (lines : LineTrees) (l : HeadTree × LineTrees) → Contains (as_lines lines) l → Contains (heads_of lines) l.0
