@@ -3,7 +3,7 @@ use Rattle.std.proofs.Common.{◌≡◌, ℕ, suc, List, [], ◌∷◌, length, 
 use Rattle.mlk_text.specs.declared.operator.Op.TheVariants.{Add, Multiply, Is, IsNot}
 use Rattle.mlk_text.specs.declared.operator.Relation.TheVariants.{SortsAfter, Matches}
 use Rattle.mlk_text.specs.declared.operator.UnaryOp.TheVariants.{Minus}
-use Rattle.mlk_text.specs.Canonical.{canonical_text}
+use Rattle.mlk_values.specs.Canonical.{canonical_text}
 use Rattle.mlk_text.specs.Reading.{many}
 use Rattle.mlk_text.proofs.Readers.{pair_parts}
 use Rattle.mlk_text.specs.Lexemes.{name_at, digits_at, inside, label_at}

@@ -4,7 +4,7 @@
 use Rattle.std.specs.Prelude.{ℕ, zero, suc, ◌≡◌, ◌<◌, ◌≤◌, ◌⊎◌, Bool, true, false, List, [], ◌∷◌, ◌++◌, length, Option, Some, None}
 use Rattle.mlk_text.specs.Reading.{Many}
 use Rattle.mlk_text.specs.Lexemes.{byte_at, name_at, IsQuoted, label_at, word_at}
-use Rattle.mlk_text.specs.Numbers.{IsCanonical}
+use Rattle.mlk_values.specs.Numbers.{IsCanonical}
 use Rattle.mlk_text.specs.declared.operator.Op.{Op}
 use Rattle.mlk_tree.specs.declared.expr.Function.{Function}
 use Rattle.mlk_tree.specs.ExprTrees.{Tree, Lit, Free, LocalName, GlobalName, SpecialName, Prefixed, Chain, PatternText, Func, Selected, BareCall, CallOf, ActualTree, Given, ByRef, Missing, trees_from, subs_from, choices_from, actuals_from}

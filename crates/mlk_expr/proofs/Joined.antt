@@ -5,8 +5,7 @@ use Rattle.std.proofs.lemmas.Bool.{cases_Bool, and_parts}
 use Rattle.std.proofs.lemmas.Bool.Decides.{nat_tests}
 use Rattle.mlk_text.specs.declared.operator.UnaryOp.{UnaryOp}
 use Rattle.mlk_text.specs.declared.operator.UnaryOp.TheVariants as unary
-use Rattle.mlk_text.specs.Lexemes.{is_digit, is_letter, byte_at}
-use Rattle.mlk_text.specs.Numbers.{are_digits}
+use Rattle.mlk_text.specs.Lexemes.{is_digit, is_letter, byte_at, are_digits}
 use Rattle.mlk_text.proofs.Readers.{Exact, one_reading}
 use Rattle.mlk_tree.specs.ExprTrees.{Tree, Lit, Free, LocalName, GlobalName, SpecialName, Prefixed, Chain, PatternText, Func, Selected, BareCall, CallOf, subs_from}
 use Rattle.mlk_expr.specs.Lexemes.{numeral_at, starts_reference, ends}

@@ -5,8 +5,8 @@ use Rattle.std.proofs.lemmas.Bool.{and_parts}
 use Rattle.std.proofs.lemmas.Bool.Decides.{nat_tests}
 use Rattle.mlk_text.specs.declared.operator.UnaryOp.{UnaryOp}
 use Rattle.mlk_text.specs.declared.operator.UnaryOp.TheVariants as unary
-use Rattle.mlk_text.specs.Lexemes.{is_digit, is_letter, byte_at, name_at, doubled}
-use Rattle.mlk_text.specs.Numbers.{are_digits, IsNumeral, IsCanonical}
+use Rattle.mlk_text.specs.Lexemes.{is_digit, is_letter, byte_at, name_at, doubled, are_digits}
+use Rattle.mlk_values.specs.Numbers.{IsNumeral, IsCanonical}
 use Rattle.mlk_tree.specs.ExprTrees.{Tree, Lit, Free, LocalName, GlobalName, SpecialName, Prefixed, Chain, PatternText, Func, Selected, BareCall, CallOf}
 use Rattle.mlk_expr.specs.Lexemes.{ends}
 use Rattle.mlk_text.specs.Spellings.{IsName}

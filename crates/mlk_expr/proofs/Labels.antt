@@ -3,8 +3,7 @@ use Rattle.std.proofs.Common.{◌≡◌, ◌<◌, ℕ, ◌++◌, List, [], ◌�
 use Rattle.std.specs.Prelude.{Option, ◌==◌, ◌||◌, not}
 use Rattle.std.proofs.lemmas.Bool.{cases_Bool, and_parts}
 use Rattle.std.proofs.lemmas.Bool.Decides.{nat_tests}
-use Rattle.mlk_text.specs.Lexemes.{is_digit, is_letter, digits, byte_at, name_at, digits_at, label_at, or_else}
-use Rattle.mlk_text.specs.Numbers.{are_digits}
+use Rattle.mlk_text.specs.Lexemes.{is_digit, is_letter, digits, byte_at, name_at, digits_at, label_at, or_else, are_digits}
 use Rattle.mlk_text.proofs.Lexemes.{name-after}
 use Rattle.mlk_text.proofs.Readers.{Exact}
 use Rattle.mlk_text.specs.Spellings.{IsName, IsLabel}

@@ -4,8 +4,8 @@ use Rattle.std.specs.Prelude.{Option, ◌==◌, ◌&&◌, ◌||◌, if◌then◌
 use Rattle.std.proofs.lemmas.Bool.{cases_Bool, eqb-true, eqb-false, and_parts, or_cases}
 use Rattle.std.proofs.Math.Seq.{drop-append_seam}
 use Rattle.std.proofs.lemmas.Bool.Decides.{nat_tests}
-use Rattle.mlk_text.specs.Lexemes.{is_digit, digits, byte_at}
-use Rattle.mlk_text.specs.Numbers.{are_digits, IsNumeral}
+use Rattle.mlk_text.specs.Lexemes.{is_digit, digits, byte_at, are_digits}
+use Rattle.mlk_values.specs.Numbers.{IsNumeral}
 use Rattle.mlk_text.proofs.Lexemes.{byte-is}
 use Rattle.mlk_expr.specs.Lexemes.{point_len, signed_len, exponent_len, lacks_exponent, mantissa_len, numeral_at, count_len, count_at}
 use Rattle.mlk_expr.specs.Spellings.{IsSign, IsExponent, IsNumber, IsCount}

@@ -2,8 +2,7 @@
 use Rattle.std.proofs.Common.{◌≡◌, ℕ, ◌++◌, List, [], ◌∷◌, length, Bool, true, false, refl, arith}
 use Rattle.std.specs.Prelude.{◌==◌, ◌||◌, not}
 use Rattle.std.proofs.lemmas.Bool.Decides.{nat_tests}
-use Rattle.mlk_text.specs.Lexemes.{is_digit, is_letter, is_name_byte, digits}
-use Rattle.mlk_text.specs.Numbers.{are_digits}
+use Rattle.mlk_text.specs.Lexemes.{is_digit, is_letter, is_name_byte, digits, are_digits}
 use Rattle.mlk_text.proofs.Runs.{stops, run-length, run-is}
 
 -- digits are counted as far as they go

@@ -2,7 +2,7 @@
 -- column `at`; a tree keeps the columns of some of its parts. What follows each other is joined by `++`.
 use Rattle.std.specs.Prelude.{ℕ, zero, suc, ◌≡◌, ◌≢◌, ◌<◌, ◌≤◌, ◌+◌, ◌⊎◌, Bool, true, false, List, [], ◌∷◌, ◌++◌}
 use Rattle.std.specs.Prelude.{length, Option, Some, None}
-use Rattle.mlk_text.specs.Numbers.{IsCanonical}
+use Rattle.mlk_values.specs.Numbers.{IsCanonical}
 use Rattle.mlk_text.specs.declared.operator.Op.{Op}
 use Rattle.mlk_tree.specs.declared.expr.Callee.{Callee}
 use Rattle.mlk_tree.specs.declared.expr.Function.{Function}

@@ -4,7 +4,7 @@ use Rattle.std.specs.Prelude.{ℕ, zero, suc, ◌-◌, ◌==◌, ◌&&◌, nat_l
 use Rattle.std.specs.Prelude.{◌∷◌, length, Option, Some, None, take}
 use Rattle.mlk_text.specs.Reading.{◌>>=◌, with, many}
 use Rattle.mlk_text.specs.Lexemes.{byte_at, word_at, name_at, label_at, inside}
-use Rattle.mlk_text.specs.Canonical.{canonical_text}
+use Rattle.mlk_values.specs.Canonical.{canonical_text}
 use Rattle.mlk_text.specs.declared.operator.Op.{Op}
 use Rattle.mlk_tree.specs.declared.expr.Callee.{Callee}
 use Rattle.mlk_tree.specs.declared.expr.Function.{Function}

@@ -17,8 +17,9 @@ use crate::refusal::{
 use crate::scope::Allows;
 use mlk_text::lexeme::{byte_of, is_text_byte};
 use mlk_text::spelling::{label_text, name_text};
-use mlk_text::{Failure, Name, Value, canonical, literal};
+use mlk_text::{Failure, Name, Value, literal};
 use mlk_tree::{Callee, Expr, Function};
+use mlk_values::canonical;
 use std::alloc::{AllocError, Global};
 
 /// The name at the front, and what is after it.

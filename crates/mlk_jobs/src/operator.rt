@@ -3,7 +3,8 @@
 ghost use Rattle.std.specs.Prelude.{◌≡◌, IfOk};
 ghost use Rattle.mlk_jobs.specs.Values.{fold_between, fold_before};
 
-use mlk_text::{Op, UnaryOp, Value, fold, fold_unary};
+use mlk_text::{Op, UnaryOp, Value};
+use mlk_values::{fold, fold_unary};
 use std::alloc::{AllocError, Global};
 
 /// What an operator gives of two values, where that is known.

@@ -2,8 +2,7 @@
 use Rattle.std.proofs.Common.{◌≡◌, ℕ, ◌++◌, List, ◌∷◌, Some, None, true, false, refl, sym, ap, ◌∙◌, arith, subst, inl, inr, append_assoc, []}
 use Rattle.std.specs.Prelude.{Option, ◌==◌, ◌||◌}
 use Rattle.std.proofs.lemmas.Bool.Decides.{nat_tests}
-use Rattle.mlk_text.specs.Lexemes.{byte_at, digits_at, is_digit, is_letter, label_at, name_at, or_else}
-use Rattle.mlk_text.specs.Numbers.{are_digits}
+use Rattle.mlk_text.specs.Lexemes.{byte_at, digits_at, is_digit, is_letter, label_at, name_at, or_else, are_digits}
 use Rattle.mlk_text.proofs.Readers.{then_some, pair_parts, with_some}
 use Rattle.mlk_lexemes.specs.Lists.{Each}
 use Rattle.mlk_lexemes.specs.Kinds.{IsLabel, IsEntry}

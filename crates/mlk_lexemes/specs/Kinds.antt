@@ -1,7 +1,6 @@
 -- What names, values, subscripts, terms and texts of entries are. Names and labels are those of ISO/IEC 11756.
 use Rattle.std.specs.Prelude.{ℕ, ◌≡◌, ◌⊎◌, ◌<◌, Bool, true, List, ◌∷◌, ◌++◌, Some, []}
-use Rattle.mlk_text.specs.Lexemes.{name_at}
-use Rattle.mlk_text.specs.Numbers.{are_digits}
+use Rattle.mlk_text.specs.Lexemes.{name_at, are_digits}
 use Rattle.mlk_text.specs.declared.root.Root.{Root}
 use Rattle.mlk_text.specs.declared.root.Root.TheVariants as root
 use Rattle.mlk_names.specs.declared.known_symbol.KnownSym.{KnownSym}

@@ -12,7 +12,8 @@ ghost use Rattle.std.specs.Prelude.{◌<◌, ◌≤◌, length};
 use bstr::ByteSlice;
 use mlk_cert::read_cert;
 use mlk_expr::{read_actuals, read_expr, read_ref};
-use mlk_text::{Failure, Fault, whole};
+use mlk_text::{Failure, Fault};
+use mlk_values::whole;
 use std::alloc::{AllocError, Global};
 use std::io::{self, ErrorKind, Read, Write};
 

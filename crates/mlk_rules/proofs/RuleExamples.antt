@@ -10,7 +10,7 @@ use Rattle.mlk_names.specs.declared.reference.Extent.TheVariants.{Tree}
 use Rattle.mlk_rules.specs.declared.read.fault.Section.TheVariants.{File, Lock, Private, Readonly, Entry}
 use Rattle.mlk_rules.specs.declared.read.kinds.Item.TheVariants.{Literal, Variable, Job}
 use Rattle.mlk_rules.specs.RuleAnswers.{refused}
-use Rattle.mlk_text.specs.Canonical.{canonical_text}
+use Rattle.mlk_values.specs.Canonical.{canonical_text}
 use Rattle.mlk_rules.specs.RuleNumbers.{numeral_len, number_at}
 use Rattle.mlk_rules.specs.RuleTexts.{item_at, list_of, parts_of, spelling_of, pattern_of, is_entry}
 use Rattle.mlk_rules.specs.RuleKinds.{is_pattern}

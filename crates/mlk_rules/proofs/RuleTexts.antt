@@ -9,7 +9,7 @@ use Rattle.mlk_text.proofs.Lexemes.{byte-takes, name-after}
 use Rattle.mlk_text.proofs.Readers.{pair_parts, with_some, after_length}
 use Rattle.mlk_rules.specs.declared.read.kinds.Item.{Item}
 use Rattle.mlk_rules.specs.declared.read.kinds.Item.TheVariants.{Literal, Variable}
-use Rattle.mlk_text.specs.Canonical.{canonical_text}
+use Rattle.mlk_values.specs.Canonical.{canonical_text}
 use Rattle.mlk_rules.specs.RuleNumbers.{numeral_len, valued, number_at, negative, negative_at}
 use Rattle.mlk_rules.specs.RuleTexts.{job, quoted, item_at, comma_at}
 use Rattle.mlk_rules.proofs.Quotes.{quoted-after}

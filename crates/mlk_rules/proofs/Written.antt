@@ -7,16 +7,16 @@ use Rattle.std.proofs.lemmas.Bool.Decides.{nat_tests}
 use Rattle.std.proofs.lemmas.Option.{same_Some}
 use Rattle.std.proofs.lemmas.Slice.Eq.{bytes_eq-Decides}
 use Rattle.mlk_text.specs.Spellings.{is_digit, is_letter, is_name_byte, IsName, IsRoot}
-use Rattle.mlk_text.specs.Lexemes.{digits, byte_at, name_at, root_at, entry_of, doubled}
-use Rattle.mlk_text.specs.Numbers.{are_digits, IsNumeral, IsCanonical}
-use Rattle.mlk_text.specs.Canonical.{canonical_text}
+use Rattle.mlk_text.specs.Lexemes.{digits, byte_at, name_at, root_at, entry_of, doubled, are_digits}
+use Rattle.mlk_values.specs.Numbers.{IsNumeral, IsCanonical}
+use Rattle.mlk_values.specs.Canonical.{canonical_text}
 use Rattle.mlk_text.specs.Reading.{Many, separated}
 use Rattle.mlk_text.proofs.Lexemes.{byte-is, byte-takes}
 use Rattle.mlk_text.proofs.Runs.{stops, run-length, parted}
 use Rattle.mlk_text.proofs.Spelled.{name-parts, name-reads, name-spelled, no-caret, root-reads, root-spelled}
 use Rattle.mlk_text.proofs.Entries.{entries-written}
-use Rattle.mlk_text.proofs.Numerals.{digits-parts}
-use Rattle.mlk_text.proofs.CanonicalReading.{canonical-sound, canonical-complete}
+use Rattle.mlk_values.proofs.Numerals.{digits-parts}
+use Rattle.mlk_values.proofs.CanonicalReading.{canonical-sound, canonical-complete}
 use Rattle.mlk_text.proofs.Readers.{then_some, pair_parts, with_some, Exact, Takes, separated-exact}
 use Rattle.mlk_text.specs.declared.root.Root.{Root}
 use Rattle.mlk_text.specs.declared.root.Root.TheVariants as root

@@ -4,7 +4,7 @@
 use Rattle.std.specs.Prelude.{◌≡◌, ◌⊎◌, ◌↔◌, ℕ, true, List, [], ◌∷◌, ◌++◌, Some, codes}
 use Rattle.mlk_text.specs.Lexemes.{doubled}
 use Rattle.mlk_text.specs.Spellings.{IsName, IsRoot, IsEntry}
-use Rattle.mlk_text.specs.Numbers.{IsCanonical}
+use Rattle.mlk_values.specs.Numbers.{IsCanonical}
 use Rattle.mlk_text.specs.declared.root.Root.TheVariants as root
 use Rattle.mlk_names.specs.declared.reference.Extent.{Extent}
 use Rattle.mlk_names.specs.declared.reference.Extent.TheVariants.{Node, Tree}

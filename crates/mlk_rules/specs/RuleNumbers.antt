@@ -3,7 +3,7 @@
 use Rattle.std.specs.Prelude.{ℕ, suc, ◌+◌, ◌==◌, if◌then◌else◌, List, [], ◌∷◌, Option, Some, None, take, drop, bytes_eq}
 use Rattle.mlk_text.specs.Reading.{with}
 use Rattle.mlk_text.specs.Lexemes.{digits}
-use Rattle.mlk_text.specs.Canonical.{canonical_text}
+use Rattle.mlk_values.specs.Canonical.{canonical_text}
 
 -- how far a literal goes: digits, and a point with the digits after it
 abbrev pub fraction_len : List ℕ → ℕ

@@ -6,15 +6,16 @@ use Rattle.std.proofs.lemmas.Bool.{cases_Bool}
 use Rattle.std.proofs.lemmas.Bool.Decides.{nat_tests}
 use Rattle.std.proofs.lemmas.Fmt.{decimal_injective}
 use Rattle.std.proofs.lemmas.Slice.Eq.{bytes_eq-Decides}
-use Rattle.mlk_text.specs.Numbers.{are_digits, number_of_digits}
-use Rattle.mlk_text.specs.Outcome.{Finds}
+use Rattle.mlk_values.specs.Numbers.{number_of_digits}
+use Rattle.mlk_text.specs.Lexemes.{are_digits}
+use Rattle.mlk_values.specs.Outcome.{Finds}
 use Rattle.mlk_text.specs.declared.operator.Op.{Op}
 use Rattle.mlk_text.specs.declared.operator.Op.TheVariants.{Add, Subtract, Multiply, Divide, DivideWhole, Modulo, Power, Concatenate, Is, IsNot}
 use Rattle.mlk_text.specs.declared.operator.UnaryOp.{UnaryOp}
 use Rattle.mlk_text.specs.declared.operator.UnaryOp.TheVariants.{Plus, Minus, Not}
-use Rattle.mlk_text.specs.Folding.{is_short, if_short, folded, IsWhole, IsFold, IsUnaryFold}
-use Rattle.mlk_text.proofs.WholeTexts.{plain-number, decimal-plain}
-use Rattle.mlk_text.proofs.Folds.{folded-short, no_number}
+use Rattle.mlk_values.specs.Folding.{is_short, if_short, folded, IsWhole, IsFold, IsUnaryFold}
+use Rattle.mlk_values.proofs.WholeTexts.{plain-number, decimal-plain}
+use Rattle.mlk_values.proofs.Folds.{folded-short, no_number}
 use Rattle.mlk_scope.specs.Laws.{FoldsAre}
 use Rattle.mlk_scope.specs.Values.{number_in, if_text_of, whole, if_joined, of_numbers, fold_between, opposite, fold_before}
 

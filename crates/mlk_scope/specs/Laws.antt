@@ -2,7 +2,7 @@
 use Rattle.std.specs.Prelude.{◌≡◌, ◌↔◌, ℕ, ◌+◌, Bool, true, if◌then◌else◌, List, [], ◌∷◌, length, Some, None, Decides}
 use Rattle.mlk_text.specs.declared.operator.Op.{Op}
 use Rattle.mlk_text.specs.declared.operator.UnaryOp.{UnaryOp}
-use Rattle.mlk_text.specs.Folding.{IsFold, IsUnaryFold}
+use Rattle.mlk_values.specs.Folding.{IsFold, IsUnaryFold}
 use Rattle.mlk_names.specs.declared.term.LockTerm.{LockTerm}
 use Rattle.mlk_tree.specs.Trees.{RoutineTree}
 use Rattle.mlk_cert.specs.declared.block.EntryCert.{EntryCert}

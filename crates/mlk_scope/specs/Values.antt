@@ -4,8 +4,8 @@
 use Rattle.std.specs.Prelude.{ℕ, ℤ, pos, neg_ℤ, ◌&&◌, ◌==◌, nat_le, if◌then◌else◌, List, [], ◌∷◌, ◌++◌, length, Option, Some, None}
 use Rattle.std.specs.Prelude.{option_map, option_and_then, bytes_eq, codes}
 use Rattle.std.specs.Fmt.{signed_decimal}
-use Rattle.mlk_text.specs.Numbers.{number_of_digits}
-use Rattle.mlk_text.specs.Folding.{is_short, if_short, folded}
+use Rattle.mlk_values.specs.Numbers.{number_of_digits}
+use Rattle.mlk_values.specs.Folding.{is_short, if_short, folded}
 use Rattle.mlk_text.specs.declared.operator.Op.{Op}
 use Rattle.mlk_text.specs.declared.operator.Op.TheVariants.{Concatenate}
 use Rattle.mlk_text.specs.declared.operator.UnaryOp.{UnaryOp}

@@ -11,8 +11,9 @@ use crate::scope::Scope;
 use crate::state::State;
 use mlk_cert::Test;
 use mlk_names::Sym;
-use mlk_text::{Name, Op, UnaryOp, Value, fold, fold_unary};
+use mlk_text::{Name, Op, UnaryOp, Value};
 use mlk_tree::{Expr, Special, Subscript};
+use mlk_values::{fold, fold_unary};
 use std::alloc::{AllocError, Global};
 
 fn fold_before(alloc: Global, op: UnaryOp, value: &Value) -> Result<Option<Value>, AllocError>

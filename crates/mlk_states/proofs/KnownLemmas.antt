@@ -4,12 +4,12 @@ use Rattle.std.specs.Prelude.{◌+◌, ◌<◌, ◌^◌, neg_ℤ, unsigned_abs, 
 use Rattle.std.specs.Fmt.{signed_decimal}
 use Rattle.std.proofs.lemmas.Bool.{cases_Bool, lt-leb}
 use Rattle.std.proofs.lemmas.List.{length-append}
-use Rattle.mlk_text.specs.Outcome.{Finds}
-use Rattle.mlk_text.specs.Folding.{IsWhole, folded}
+use Rattle.mlk_values.specs.Outcome.{Finds}
+use Rattle.mlk_values.specs.Folding.{IsWhole, folded}
 use Rattle.mlk_text.specs.declared.operator.Op.{Op}
 use Rattle.mlk_text.specs.declared.operator.Op.TheVariants.{Concatenate}
 use Rattle.mlk_text.specs.declared.operator.UnaryOp.TheVariants.{Plus, Minus, Not}
-use Rattle.mlk_text.proofs.Folds.{folded-short}
+use Rattle.mlk_values.proofs.Folds.{folded-short}
 use Rattle.mlk_jobs.specs.Values.{if_joined, fold_before, fold_between}
 use Rattle.mlk_jobs.specs.Choices.{is_one, is_zero}
 use Rattle.mlk_jobs.proofs.FoldLemmas.{folds_agree}

@@ -1,14 +1,15 @@
 // Which operators have a known result.
 
 ghost use Rattle.std.specs.Prelude.{◌≡◌, ℤ, Some, is_some};
-ghost use Rattle.mlk_text.specs.Folding.{IsWhole, folded};
-ghost use Rattle.mlk_text.specs.Outcome.{Finds};
+ghost use Rattle.mlk_values.specs.Folding.{IsWhole, folded};
+ghost use Rattle.mlk_values.specs.Outcome.{Finds};
 ghost use Rattle.mlk_jobs.specs.Values.{fold_before, fold_between};
 ghost use Rattle.mlk_text.specs.declared.operator.Op.TheVariants as operator;
 ghost use Rattle.mlk_text.specs.declared.operator.UnaryOp.TheVariants.{Plus, Minus};
 
 use mlk_jobs::known_truth;
-use mlk_text::{Op, UnaryOp, Value, fold_number, whole};
+use mlk_text::{Op, UnaryOp, Value};
+use mlk_values::{fold_number, whole};
 
 // The longest text that is known of two that are joined.
 const LONGEST_JOIN: usize = 255;

@@ -1,4 +1,5 @@
-use mlk_text::{Code, Name, Op, UnaryOp, Value, canonical, fold, fold_number, fold_unary, whole};
+use mlk_text::{Code, Name, Op, UnaryOp, Value};
+use mlk_values::{canonical, fold, fold_number, fold_unary, whole};
 use std::alloc::Global;
 use std::process::Abort;
 use std::test::Fail;

@@ -6,11 +6,3 @@ pub mod Outcomes
 pub mod Runs
 pub mod Spelled
 pub mod Entries
-pub mod Numerals
-pub mod Zeros
-pub mod CanonicalTexts
-pub mod WholeTexts
-pub mod Folds
-pub mod NumberLaws
-pub mod CanonicalReading
-pub mod Examples

@@ -16,6 +16,10 @@ is_text_byte b = (b == 9) || (nat_le 32 b && nat_le b 126) || (nat_le 128 b && n
 abbrev pub is_text : List ℕ → Bool
 is_text = list_all is_text_byte
 
+-- digits and nothing else
+abbrev pub are_digits : List ℕ → Bool
+are_digits = list_all is_digit
+
 -- how many bytes at the front belong to a name
 abbrev pub name_bytes : List ℕ → ℕ
 name_bytes = prefix_len is_name_byte

@@ -4,12 +4,7 @@ pub mod Places
 pub mod Reading
 pub mod Spellings
 pub mod Lexemes
-pub mod Numbers
-pub mod Canonical
-pub mod Folding
-pub mod NumberLaws
 pub mod SpellingLaws
-pub mod Outcome
 pub mod Failures
 pub mod Texts
 pub mod Plain

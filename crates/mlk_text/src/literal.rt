@@ -16,7 +16,7 @@ use crate::value::Value;
 use std::alloc::Global;
 
 /// How many zeros stand at the front.
-pub(crate) fn zeros(bytes: &[u8]) -> usize
+pub fn zeros(bytes: &[u8]) -> usize
     ensures value { result ≡ zeros bytes.now }
     ensures within { result ≤ length bytes.now }
 {
@@ -24,7 +24,7 @@ pub(crate) fn zeros(bytes: &[u8]) -> usize
 }
 
 /// The length without the zeros at the end.
-pub(crate) fn to_last(bytes: &[u8]) -> usize
+pub fn to_last(bytes: &[u8]) -> usize
     ensures { result ≡ to_last bytes.now }
 {
     let mut last = 0;

@@ -5,7 +5,8 @@ ghost use Rattle.mlk_text.specs.Failures.{Reads};
 ghost use Rattle.mlk_rules.specs.RuleNumbers.{fraction_len, numeral_len, number_at, negative, negative_at};
 
 use mlk_text::lexeme::digits;
-use mlk_text::{Failure, NotThere, Value, canonical};
+use mlk_text::{Failure, NotThere, Value};
+use mlk_values::canonical;
 use std::alloc::{AllocError, Global};
 
 // How many bytes at the front are a point and digits after it.

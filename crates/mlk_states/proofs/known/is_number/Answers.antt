@@ -1,6 +1,6 @@
 use Rattle.std.proofs.Common.{◌∙◌, ℤ, subst}
-use Rattle.mlk_text.specs.Folding.{IsWhole}
-use Rattle.mlk_text.specs.Outcome.{Finds}
+use Rattle.mlk_values.specs.Folding.{IsWhole}
+use Rattle.mlk_values.specs.Outcome.{Finds}
 use Rattle.mlk_states.proofs.KnownLemmas.{some_plus, some_minus}
 use Rattle.mlk_states.proofs.known.is_number.Goals as goal
 

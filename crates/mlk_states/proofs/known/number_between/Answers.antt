@@ -1,6 +1,6 @@
 use Rattle.std.proofs.Common.{ℤ, ap, ◌∙◌, subst, to_z, of_z, w64}
-use Rattle.mlk_text.specs.Folding.{IsWhole, folded}
-use Rattle.mlk_text.proofs.Folds.{folds-found, read-back}
+use Rattle.mlk_values.specs.Folding.{IsWhole, folded}
+use Rattle.mlk_values.proofs.Folds.{folds-found, read-back}
 use Rattle.mlk_states.proofs.known.number_between.Goals as goal
 
 pub returns : goal.returns

@@ -1,0 +1,5 @@
+pub mod Numbers
+pub mod Canonical
+pub mod Folding
+pub mod NumberLaws
+pub mod Outcome

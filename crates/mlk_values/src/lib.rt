@@ -1,0 +1,10 @@
+//! Numbers as values: the canonical text of a literal, and what operators give where that is exact.
+#![tactic(auto)]
+
+mod folding;
+mod law;
+mod numeral;
+
+pub use folding::{fold, fold_number, fold_unary, whole};
+pub use law::{both_read, literals_canonical, one_canonical, one_text, one_whole};
+pub use numeral::canonical;
