@@ -7,7 +7,7 @@ use Rattle.mlk_tree.specs.declared.expr.Callee.{Callee}
 use Rattle.mlk_tree.specs.ExprTrees.{Tree, Lit, Free, LocalName, GlobalName, SpecialName, Prefixed, Chain, PatternText, Func, Selected, BareCall, CallOf}
 use Rattle.mlk_tree.specs.ExprTrees.{Trees, no_trees, tree, Subs, no_subs, sub, Links, no_links, link, Choices, no_choices, choice}
 use Rattle.mlk_tree.specs.ExprTrees.{ActualTree, Given, ByRef, Missing, Actuals, no_actuals, actual, actuals_from}
-use Rattle.mlk_program.specs.Calls.{as_list}
+use Rattle.mlk_found.specs.Calls.{as_list}
 use Rattle.mlk_tree.specs.Trees.{VariableTree, CallTree, DoTree, DoCall, KillTree, KillOne, KillAllBut, NewTree, NewOne, NewAllBut}
 use Rattle.mlk_tree.specs.Trees.{LockTree, LockNames, MergeTree, MergeInto, ReadTree, ReadText, ReadFormat, ReadLine, ReadCharacter}
 use Rattle.mlk_tree.specs.Trees.{TargetTree, SetWhole, SetPart, SetTree, SetTo, WriteTree, WriteValue, WriteCharacter, WriteFormat}

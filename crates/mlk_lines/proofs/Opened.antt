@@ -9,7 +9,7 @@ use Rattle.mlk_tree.specs.declared.command.Commands.TheViews.{out-Commands, out-
 use Rattle.mlk_tree.specs.declared.command.Commands.TheFolds.{fold-For, fold_out-For}
 use Rattle.mlk_tree.specs.Trees.{CommandTrees, finished}
 use Rattle.mlk_tree.specs.Views.{commands_of, command_of, control_of, commands_from, commands_step, for_step}
-use Rattle.mlk_program.proofs.FoundCommands.{none_last, some_last}
+use Rattle.mlk_found.proofs.FoundCommands.{none_last, some_last}
 use Rattle.mlk_cert.specs.declared.case.Test.{Test}
 use Rattle.mlk_cert.specs.declared.case.Case.{Case}
 use Rattle.mlk_scope.specs.Scope.{listed}

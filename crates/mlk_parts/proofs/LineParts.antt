@@ -12,7 +12,7 @@ use Rattle.mlk_tree.specs.declared.routine.Line.TheFolds.{fold_out-Line}
 use Rattle.mlk_tree.specs.Trees.{CommandTrees, then_for, HeadTree, LineTrees, LineHead}
 use Rattle.mlk_tree.specs.Views.{commands_of, command_of, control_of, parameter_of, commands_from, commands_step, for_step, last_or_none, line_of, line_step, lines_from}
 use Rattle.mlk_program.specs.Entries.{formals_of}
-use Rattle.mlk_program.proofs.FoundCommands.{none_last, some_last}
+use Rattle.mlk_found.proofs.FoundCommands.{none_last, some_last}
 use Rattle.mlk_jobs.specs.Tasks.{Forever, Parameters}
 use Rattle.mlk_jobs.specs.Lines.{next_command}
 use Rattle.mlk_jobs.specs.Calling.{formals_in}

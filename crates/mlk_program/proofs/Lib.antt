@@ -1,5 +1,3 @@
-pub mod FoundCalls
-pub mod FoundCommands
 pub mod NameTables
 pub mod Directories
 pub mod SharedNames
@@ -9,6 +7,5 @@ pub mod LinkedCalls
 pub mod LinkedLines
 pub mod LinkedRoutines
 pub mod EntryLines
-pub mod NewLists
 pub mod EntryTexts
 pub mod FittingCalls

@@ -7,8 +7,8 @@ use Rattle.mlk_text.specs.declared.fault.Fault.{Fault}
 use Rattle.mlk_tree.specs.declared.routine.Line.{Line}
 use Rattle.mlk_tree.specs.Views.{line_of}
 use Rattle.mlk_tree.specs.Trees.{RoutineTree}
-use Rattle.mlk_program.specs.declared.call.CallSite.{CallSite}
-use Rattle.mlk_program.specs.Found.{site_of}
+use Rattle.mlk_found.specs.declared.call.CallSite.{CallSite}
+use Rattle.mlk_found.specs.Found.{site_of}
 use Rattle.mlk_program.specs.Program.{PlacedCall, AreResolved, shared_by, placed, calls_in}
 
 -- what holds of a refusal, unless memory ran out

@@ -11,7 +11,7 @@ use Rattle.mlk_tree.specs.ExprTrees.{ActualTree, Given, ByRef, Missing}
 use Rattle.mlk_tree.specs.Trees.{RoutineTree, Named_routine, LineTrees, no_lines, line, HeadTree, LineHead}
 use Rattle.mlk_tree.specs.Trees.{CallTree, Called}
 use Rattle.mlk_tree.specs.Distinct.{AreDistinct}
-use Rattle.mlk_program.specs.Calls.{in_commands}
+use Rattle.mlk_found.specs.Calls.{in_commands}
 use Rattle.mlk_program.specs.Entries.{name_of, formals_of, target_of, line_of_entry, entry_count}
 
 -- a call, with the routine in which it stands, counted from 0, and its line

@@ -6,16 +6,15 @@ ghost use Rattle.mlk_tree.specs.Views.{line_of, routine_of};
 ghost use Rattle.mlk_tree.specs.Distinct.{AreDistinct};
 ghost use Rattle.mlk_program.specs.Entries.{name_of, entries_among, formals_of};
 ghost use Rattle.mlk_program.specs.Program.{takes, called_formals, call_fault, shared_by, AreTooMany, IsTwice, IsPastLimit, IsCallFault, IsFirstFault, calls_of, shared_with, name_at, IsProgram, IsLinkFault};
-ghost use Rattle.mlk_program.specs.Found.{site_of, given_of};
+ghost use Rattle.mlk_found.specs.Found.{site_of, given_of};
 ghost use Rattle.mlk_program.specs.Tables.{trees};
 ghost use Rattle.mlk_program.specs.Linking.{IfRefused, Gains, Links, placed_at, placed_in};
 
-use crate::call::CallSite;
 use crate::directory::Directory;
 use crate::fault::refusal;
-use crate::found::in_commands;
 use crate::program::Program;
 use crate::shared::Shared;
+use mlk_found::{CallSite, in_commands};
 use mlk_text::{Code, Column, Failure, Fault, List, Name};
 use mlk_tree::{Actual, Callee, Line, Routine};
 use std::alloc::{AllocError, Global};

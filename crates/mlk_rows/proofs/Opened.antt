@@ -14,7 +14,7 @@ use Rattle.mlk_tree.specs.declared.expr.Expr.TheVariants as rust
 use Rattle.mlk_tree.specs.declared.expr.Expr.TheVariants.{rolls-Unary, rolls-Binary, rolls-Select, rolls-Call}
 use Rattle.mlk_tree.specs.ExprTrees.{Tree, ActualTree, Prefixed, Chain, Selected, BareCall, tree_of, sub_trees, subs_from, trees, trees_from, links, links_from, choices, choices_from, actual_trees, actuals_from, actual_step, expr_step, subscript_step}
 use Rattle.mlk_tree.proofs.Variants.{tree_local, tree_global, tree_func, tree_call}
-use Rattle.mlk_program.proofs.FoundCalls.{as_list_same}
+use Rattle.mlk_found.proofs.FoundCalls.{as_list_same}
 use Rattle.mlk_rows.specs.declared.walk.Walk.{Walk}
 use Rattle.mlk_rows.specs.declared.reference.Use.{Use}
 use Rattle.mlk_rows.specs.declared.reference.Use.TheVariants.{ItsValue}

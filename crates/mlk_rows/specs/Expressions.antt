@@ -7,7 +7,7 @@ use Rattle.mlk_tree.specs.ExprTrees.{Func, Selected, BareCall, CallOf, Trees, no
 use Rattle.mlk_tree.specs.ExprTrees.{no_links, link, Choices, no_choices, choice, ActualTree, Given, ByRef, Missing}
 use Rattle.mlk_tree.specs.ExprTrees.{Actuals, no_actuals, actual}
 use Rattle.mlk_names.specs.declared.symbol.Sym.TheVariants.{Unknown}
-use Rattle.mlk_program.specs.Calls.{as_list}
+use Rattle.mlk_found.specs.Calls.{as_list}
 use Rattle.mlk_scope.specs.Symbols.{symbol_in, truth_in}
 use Rattle.mlk_scope.specs.declared.state.State.{State}
 use Rattle.mlk_calls.specs.declared.call.Calling.TheVariants.{Extrinsic}

@@ -19,7 +19,7 @@ use Rattle.mlk_tree.specs.Views.{command_of, commands_of, commands_from, command
 use Rattle.mlk_machine.specs.declared.plain.tree.Command.{Command as PlainCommand}
 use Rattle.mlk_machine.specs.declared.plain.tree.Line.{Line as PlainLine}
 use Rattle.mlk_machine.specs.declared.plain.tree.Routine.{Routine as PlainRoutine}
-use Rattle.mlk_program.proofs.FoundCommands.{none_last, some_last}
+use Rattle.mlk_found.proofs.FoundCommands.{none_last, some_last}
 use Rattle.mlk_tree.specs.declared.expr.Subscript.{Subscript}
 use Rattle.mlk_tree.specs.declared.expr.Actual.TheFolds.{fold_out-Subscript}
 use Rattle.mlk_tree.specs.ExprTrees.{ActualTree, Tree, actual_step, expr_step, subscript_step, tree_of, sub_of, sub_trees, subs_from}

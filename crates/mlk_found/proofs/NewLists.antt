@@ -11,9 +11,9 @@ use Rattle.mlk_tree.specs.declared.routine.Line.TheViews.{out-Line}
 use Rattle.mlk_tree.specs.declared.routine.Line.TheFolds.{fold_out-Line}
 use Rattle.mlk_tree.specs.Trees.{CommandTrees, finished, HeadTree, LineTrees}
 use Rattle.mlk_tree.specs.Views.{commands_of, command_of, commands_from, commands_step, for_step, line_of, line_step}
-use Rattle.mlk_program.specs.declared.news.NewNames.{NewNames}
-use Rattle.mlk_program.specs.News.{Adds, new_tree, news_with, news_in, news_at, news_of_lines}
-use Rattle.mlk_program.proofs.FoundCommands.{none_last, some_last}
+use Rattle.mlk_found.specs.declared.news.NewNames.{NewNames}
+use Rattle.mlk_found.specs.News.{Adds, new_tree, news_with, news_in, news_at, news_of_lines}
+use Rattle.mlk_found.proofs.FoundCommands.{none_last, some_last}
 
 news_from : (cs : List Command) (last : CommandTrees) → news_in (commands_from (map command_of cs) last)
     ≡ flat_map news_with cs ++ news_in last

@@ -1,7 +1,7 @@
 use Rattle.std.proofs.Common.{take}
 use Rattle.std.specs.Prelude.{flat_map}
-use Rattle.mlk_program.specs.Found.{Finds, of_expr, of_subscript, of_link, of_choice, of_actual}
-use Rattle.mlk_program.proofs.expr.+finding.Given as goal
+use Rattle.mlk_found.specs.Found.{Finds, of_expr, of_subscript, of_link, of_choice, of_actual}
+use Rattle.mlk_found.proofs.expr.+finding.Given as goal
 
 abbrev pub invariant-in_chain-loop-operand : goal.invariant-in_chain-loop-operand
 invariant-in_chain-loop-operand l = Finds (flat_map of_link (take l.operand-index l.rest)) l.fn.found.items l.found.items

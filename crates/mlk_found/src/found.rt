@@ -2,8 +2,8 @@
 
 ghost use Rattle.std.specs.Prelude.{◌≡◌, IfOk, OnOk, flat_map, map, Some};
 ghost use Rattle.mlk_tree.specs.Views.{variable_of, do_of, kill_of, lock_of, merge_of, read_of, target_of, set_of, write_of, action_of, command_of, parameter_of, call_of, control_of, commands_of};
-ghost use Rattle.mlk_program.specs.Calls.{in_variable, in_call, in_do, in_kill, in_lock, in_merge, in_read, in_target, in_set, in_write, in_action, in_command, in_parameter, in_control, in_commands};
-ghost use Rattle.mlk_program.specs.Found.{Finds, site_of, of_expr, of_actual};
+ghost use Rattle.mlk_found.specs.Calls.{in_variable, in_call, in_do, in_kill, in_lock, in_merge, in_read, in_target, in_set, in_write, in_action, in_command, in_parameter, in_control, in_commands};
+ghost use Rattle.mlk_found.specs.Found.{Finds, site_of, of_expr, of_actual};
 
 use crate::call::{CallSite, add_call};
 use crate::expr;
@@ -17,7 +17,7 @@ use std::alloc::{AllocError, Global};
 pub(crate) trait HasCalls {
     ghost use Rattle.std.specs.Prelude.{List, OnOk};
     ghost use Rattle.mlk_tree.specs.Trees.{CallTree};
-    ghost use Rattle.mlk_program.specs.Found.{Finds};
+    ghost use Rattle.mlk_found.specs.Found.{Finds};
 
     /// The calls in it, in order.
     ghost calls: { Self → List CallTree };
@@ -49,7 +49,7 @@ impl HasCalls for Expr {
 }
 
 impl<T: HasCalls> HasCalls for Option<T> {
-    ghost use Rattle.mlk_program.specs.Found.{of_option};
+    ghost use Rattle.mlk_found.specs.Found.{of_option};
 
     ghost calls = { of_option T.calls };
 
@@ -272,7 +272,7 @@ impl HasCalls for Control {
 
 /// Adds the calls of a line.
 #[tactic(auto, using(crate::proofs::FoundCommands::finds_commands, crate::proofs::FoundCommands::finds_for))]
-pub(crate) fn in_commands<'a>(
+pub fn in_commands<'a>(
     found: &mut Vec<CallSite<'a>>,
     commands: &'a Commands,
 ) -> Result<(), AllocError>

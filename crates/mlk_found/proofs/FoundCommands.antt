@@ -13,10 +13,10 @@ use Rattle.mlk_tree.specs.declared.command.Commands.TheViews.{out-Commands, out-
 use Rattle.mlk_tree.specs.declared.command.Commands.TheFolds.{fold-For, fold_out-Commands, fold_out-For}
 use Rattle.mlk_tree.specs.Trees.{CallTree, Called, CommandTrees, finished}
 use Rattle.mlk_tree.specs.Views.{commands_of, command_of, control_of, commands_from, commands_step, for_step}
-use Rattle.mlk_program.specs.declared.call.CallSite.{CallSite}
-use Rattle.mlk_program.specs.Calls.{in_tree, in_call, in_actual, in_command, in_control, in_commands}
-use Rattle.mlk_program.specs.Found.{Finds, site_of, of_expr, of_actual, of_option, given_of}
-use Rattle.mlk_program.proofs.FoundCalls.{finds_both, finds_then_all}
+use Rattle.mlk_found.specs.declared.call.CallSite.{CallSite}
+use Rattle.mlk_found.specs.Calls.{in_tree, in_call, in_actual, in_command, in_control, in_commands}
+use Rattle.mlk_found.specs.Found.{Finds, site_of, of_expr, of_actual, of_option, given_of}
+use Rattle.mlk_found.proofs.FoundCalls.{finds_both, finds_then_all}
 
 -- a call with its actuals
 pub finds_call_with : (column : ℕ) (callee : Callee) (o : Option (Vec Actual Global)) (old mid new : List CallSite)

@@ -1,9 +1,9 @@
 use Rattle.std.proofs.Common.{◌∙◌, ap, take_all}
 use Rattle.std.specs.Prelude.{flat_map}
 use Rattle.mlk_tree.specs.Views.{line_of}
-use Rattle.mlk_program.specs.News.{news_at}
-use Rattle.mlk_program.proofs.NewLists.{news_mapped}
-use Rattle.mlk_program.proofs.news.new_names.Goals as goal
+use Rattle.mlk_found.specs.News.{news_at}
+use Rattle.mlk_found.proofs.NewLists.{news_mapped}
+use Rattle.mlk_found.proofs.news.new_names.Goals as goal
 
 pub returns : goal.returns
 returns c = c.loop-line.invariant

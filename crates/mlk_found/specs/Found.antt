@@ -8,8 +8,8 @@ use Rattle.mlk_text.specs.declared.operator.Op.{Op}
 use Rattle.mlk_tree.specs.declared.expr.Callee.{Callee}
 use Rattle.mlk_tree.specs.ExprTrees.{ActualTree, tree_of, actual_of, sub_of, actual_trees}
 use Rattle.mlk_tree.specs.Trees.{CallTree, Called}
-use Rattle.mlk_program.specs.Calls.{in_tree, in_actual}
-use Rattle.mlk_program.specs.declared.call.CallSite.{CallSite}
+use Rattle.mlk_found.specs.Calls.{in_tree, in_actual}
+use Rattle.mlk_found.specs.declared.call.CallSite.{CallSite}
 
 abbrev pub site_of : CallSite → CallTree
 site_of s = Called s.column s.callee.now (option_map (λ v. actual_trees v.items) s.actuals.now)

@@ -3,7 +3,7 @@
 ghost use Rattle.std.specs.Prelude.{◌≡◌, ◌∷◌, [], OnOk, option_map};
 ghost use Rattle.mlk_tree.specs.ExprTrees.{actual_trees};
 ghost use Rattle.mlk_tree.specs.Trees.{Called};
-ghost use Rattle.mlk_program.specs.Found.{Finds};
+ghost use Rattle.mlk_found.specs.Found.{Finds};
 
 use mlk_text::Column;
 use mlk_tree::{Actual, Callee};

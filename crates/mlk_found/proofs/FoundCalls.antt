@@ -16,9 +16,9 @@ use Rattle.mlk_tree.specs.declared.expr.Expr.TheVariants.{rolls-Binary, rolls-Se
 use Rattle.mlk_tree.specs.declared.expr.Actual.TheOpen as open'
 use Rattle.mlk_tree.proofs.Variants.{tree_func, tree_local, tree_global, tree_call}
 use Rattle.mlk_tree.specs.Trees.{CallTree, Called}
-use Rattle.mlk_program.specs.Calls.{in_tree, in_trees, in_subs, in_links, in_choices, in_actuals, as_list}
-use Rattle.mlk_program.specs.declared.call.CallSite.{CallSite}
-use Rattle.mlk_program.specs.Found.{Finds, site_of, of_expr, of_subscript, of_link, of_choice, of_actual, given_of}
+use Rattle.mlk_found.specs.Calls.{in_tree, in_trees, in_subs, in_links, in_choices, in_actuals, as_list}
+use Rattle.mlk_found.specs.declared.call.CallSite.{CallSite}
+use Rattle.mlk_found.specs.Found.{Finds, site_of, of_expr, of_subscript, of_link, of_choice, of_actual, given_of}
 
 pub trees_flat : (es : List Expr) → in_trees (trees_from (trees es)) ≡ flat_map of_expr es
 trees_flat [] = refl

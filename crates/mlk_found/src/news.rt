@@ -3,7 +3,7 @@
 ghost use Rattle.std.specs.Prelude.{◌≡◌, ◌∷◌, [], OnOk, IfOk, map, flat_map};
 ghost use Rattle.mlk_tree.specs.Views.{line_of, action_of, commands_of, new_of};
 ghost use Rattle.mlk_tree.specs.Trees.{NewOne, NewAllBut};
-ghost use Rattle.mlk_program.specs.News.{Adds, new_tree, news_of, news_with, news_in, news_at, news_of_lines};
+ghost use Rattle.mlk_found.specs.News.{Adds, new_tree, news_of, news_with, news_in, news_at, news_of_lines};
 
 use mlk_text::{Column, Name};
 use mlk_tree::{Action, Command, Commands, Line, NewArgument};

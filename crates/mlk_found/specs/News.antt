@@ -5,8 +5,8 @@ use Rattle.mlk_tree.specs.Trees.{NewTree, NewOne, NewAllBut, CommandTrees, finis
 use Rattle.mlk_tree.specs.Trees.{ActionTree, Do, Else, Halt, Hang, If, Job, Kill, Lock, Merge, New, Quit, Read, Set}
 use Rattle.mlk_tree.specs.Trees.{Write, Does, HeadTree, LineHead, LineTrees}
 use Rattle.mlk_tree.specs.Views.{action_of}
-use Rattle.mlk_program.specs.declared.news.NewNames.{NewNames}
-use Rattle.mlk_program.specs.declared.news.NewNames.TheVariants as rust
+use Rattle.mlk_found.specs.declared.news.NewNames.{NewNames}
+use Rattle.mlk_found.specs.declared.news.NewNames.TheVariants as rust
 
 -- A name, or all names but those of a list; without arguments all names.
 abbrev pub all_without_arguments : List NewTree → List NewTree

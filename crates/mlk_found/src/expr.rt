@@ -1,7 +1,7 @@
 // The calls in expressions.
 
 ghost use Rattle.std.specs.Prelude.{OnOk, flat_map};
-ghost use Rattle.mlk_program.specs.Found.{Finds, of_expr, of_subscript, of_link, of_choice, of_actual};
+ghost use Rattle.mlk_found.specs.Found.{Finds, of_expr, of_subscript, of_link, of_choice, of_actual};
 
 use crate::call::{CallSite, add_call};
 use mlk_text::Op;

@@ -1,0 +1,3 @@
+pub mod FoundCalls
+pub mod FoundCommands
+pub mod NewLists
