@@ -11,12 +11,12 @@ use Rattle.mlk_names.specs.declared.known_symbol.KnownSym.{KnownSym}
 use Rattle.mlk_names.specs.declared.known_symbol.KnownSym.TheVariants as known
 use Rattle.mlk_names.specs.declared.term.LockTerm.{LockTerm}
 use Rattle.mlk_coverage.specs.declared.family.Family.{Family}
-use Rattle.mlk_cert.specs.declared.case.Test.TheVariants.{Any}
-use Rattle.mlk_cert.specs.declared.case.ExitCase.{ExitCase}
-use Rattle.mlk_cert.specs.declared.names.NameSet.{NameSet}
-use Rattle.mlk_cert.specs.declared.names.NameSet.TheVariants.{Only, AllBut}
-use Rattle.mlk_cert.specs.declared.names.Own.{Own}
-use Rattle.mlk_cert.specs.declared.block.Summary.{Summary}
+use Rattle.mlk_blocks.specs.declared.case.Test.TheVariants.{Any}
+use Rattle.mlk_blocks.specs.declared.case.ExitCase.{ExitCase}
+use Rattle.mlk_blocks.specs.declared.names.NameSet.{NameSet}
+use Rattle.mlk_blocks.specs.declared.names.NameSet.TheVariants.{Only, AllBut}
+use Rattle.mlk_blocks.specs.declared.names.Own.{Own}
+use Rattle.mlk_blocks.specs.declared.block.Summary.{Summary}
 use Rattle.mlk_lexemes.specs.Texts.{byte_text}
 use Rattle.mlk_scope.specs.declared.state.State.{State}
 use Rattle.mlk_calls.specs.declared.call.Calling.TheVariants.{ByDo}

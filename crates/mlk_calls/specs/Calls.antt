@@ -13,11 +13,11 @@ use Rattle.mlk_program.specs.Entries.{formals_of, target_of, line_of_entry}
 use Rattle.mlk_names.specs.declared.symbol.Sym.{Sym}
 use Rattle.mlk_names.specs.declared.term.LockTerm.{LockTerm}
 use Rattle.mlk_coverage.specs.declared.family.Family.{Family}
-use Rattle.mlk_cert.specs.declared.case.Test.{Test}
-use Rattle.mlk_cert.specs.declared.case.ExitCase.{ExitCase}
-use Rattle.mlk_cert.specs.declared.names.NameSet.{NameSet}
-use Rattle.mlk_cert.specs.declared.names.NameSet.TheVariants.{Only}
-use Rattle.mlk_cert.specs.declared.block.Summary.{Summary}
+use Rattle.mlk_blocks.specs.declared.case.Test.{Test}
+use Rattle.mlk_blocks.specs.declared.case.ExitCase.{ExitCase}
+use Rattle.mlk_blocks.specs.declared.names.NameSet.{NameSet}
+use Rattle.mlk_blocks.specs.declared.names.NameSet.TheVariants.{Only}
+use Rattle.mlk_blocks.specs.declared.block.Summary.{Summary}
 use Rattle.mlk_scope.specs.Lists.{all_some}
 use Rattle.mlk_scope.specs.Terms.{put_all, all_taken, first_missing, rank_of, put_terms}
 use Rattle.mlk_scope.specs.Cases.{holds_some}

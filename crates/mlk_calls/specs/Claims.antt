@@ -6,7 +6,7 @@ use Rattle.mlk_text.specs.declared.code.Code.{Code}
 use Rattle.mlk_text.specs.declared.code.Code.TheVariants.{NotHeld, Unranked, RankOrder, SummaryShort}
 use Rattle.mlk_names.specs.declared.term.LockTerm.{LockTerm}
 use Rattle.mlk_coverage.specs.declared.family.Family.{Family}
-use Rattle.mlk_cert.specs.declared.case.Test.TheVariants.{Zero, One}
+use Rattle.mlk_blocks.specs.declared.case.Test.TheVariants.{Zero, One}
 use Rattle.mlk_scope.specs.declared.state.State.{State}
 use Rattle.mlk_scope.specs.Terms.{put_all, taken, is_within, rank_of}
 use Rattle.mlk_scope.specs.States.{holding, tested}

@@ -11,9 +11,9 @@ use Rattle.mlk_text.specs.declared.failure.Failure.TheVariants.{OutOfMemory, Ref
 use Rattle.mlk_text.specs.Failures.{FailsOn}
 use Rattle.mlk_text.specs.Reading.{◌>>=◌, with, put, many}
 use Rattle.mlk_text.proofs.Readers.{then_some, with_some, many_goes, many_fails}
-use Rattle.mlk_cert.specs.declared.block.EntryCert.{EntryCert}
-use Rattle.mlk_cert.specs.Limits.{IsBlock}
-use Rattle.mlk_cert.specs.Checks.{has_text, are_distinct, entries, fit_blocks, fits}
+use Rattle.mlk_blocks.specs.declared.block.EntryCert.{EntryCert}
+use Rattle.mlk_blocks.specs.Limits.{IsBlock}
+use Rattle.mlk_blocks.specs.Checks.{has_text, are_distinct, entries, fit_blocks, fits}
 use Rattle.mlk_lexemes.specs.Reading.{word_at, entry_at}
 use Rattle.mlk_cert.specs.Blocks.{fit, rest_at, summary_at, points_at, block_of, block_at, new_entry_at, new_block_at}
 use Rattle.mlk_lexemes.proofs.Formats.{both_true, both_back}

@@ -1,11 +1,8 @@
-pub mod Examples
-pub mod CaseFormats
 pub mod LineFormats
 pub mod Grouping
 pub mod Goods
 pub mod BlockFormats
 pub mod Whole
-pub mod Room
 pub mod Loops
 pub mod PointLoops
 pub mod BlockLoops

@@ -7,8 +7,8 @@ use Rattle.mlk_text.specs.Reading.{many, many_by}
 use Rattle.mlk_text.specs.Lexemes.{byte_at, digits}
 use Rattle.mlk_text.proofs.Readers.{then_some, pair_parts, with_some}
 use Rattle.mlk_lexemes.specs.Lists.{Each, flat}
-use Rattle.mlk_cert.specs.Texts.{low_text, drops_text}
-use Rattle.mlk_cert.specs.Limits.{IsLow}
+use Rattle.mlk_blocks.specs.Texts.{low_text, drops_text}
+use Rattle.mlk_blocks.specs.Limits.{IsLow}
 use Rattle.mlk_lexemes.specs.Reading.{word_at, number_at}
 use Rattle.mlk_cert.specs.Blocks.{fit, rest_at, worded_at, low_by, low_at, drops_by, drops_at}
 use Rattle.mlk_lexemes.proofs.Formats.{Format, Anything, byte-is, word-is, word-back}

@@ -4,11 +4,11 @@ use Rattle.std.specs.Prelude.{Option, ◌==◌, if◌then◌else◌, codes, nat_
 use Rattle.std.proofs.lemmas.Bool.Decides.{nat_tests}
 use Rattle.std.proofs.lemmas.Option.{same_Some}
 use Rattle.mlk_text.proofs.Readers.{then_some, pair_parts}
-use Rattle.mlk_cert.specs.declared.block.EntryCert.{EntryCert}
+use Rattle.mlk_blocks.specs.declared.block.EntryCert.{EntryCert}
 use Rattle.mlk_lexemes.specs.Lists.{flat}
-use Rattle.mlk_cert.specs.Texts.{head_line, end_line, summary_text, point_text, block_text, certificate_text}
-use Rattle.mlk_cert.specs.Limits.{IsBlock, IsCertificate, longest}
-use Rattle.mlk_cert.specs.Checks.{fit_blocks, entries}
+use Rattle.mlk_blocks.specs.Texts.{head_line, end_line, summary_text, point_text, block_text, certificate_text}
+use Rattle.mlk_blocks.specs.Limits.{IsBlock, IsCertificate, longest}
+use Rattle.mlk_blocks.specs.Checks.{fit_blocks, entries}
 use Rattle.mlk_lexemes.specs.Reading.{word_at}
 use Rattle.mlk_cert.specs.Blocks.{fit, worded_at, block_at, blocks_at, finished, body_at}
 use Rattle.mlk_text.specs.Codes.{number_of}

@@ -1,8 +1,3 @@
-pub mod Inclusion
-pub mod Texts
-pub mod Limits
-pub mod Reading
-pub mod Checks
 pub mod Blocks
 pub mod Theorem
 pub mod Writing

@@ -2,19 +2,16 @@
 // from their texts.
 
 ghost use Rattle.std.specs.Prelude.{◌≡◌, ◌↔◌, ◌≤◌, IsTrue, IfOk, IfErr, length};
-ghost use Rattle.mlk_cert.specs.Limits.{IsCase, IsPoint, IsBlock, IsCertificate};
-ghost use Rattle.mlk_cert.specs.Texts.{case_text};
+ghost use Rattle.mlk_blocks.specs.Limits.{IsCase, IsPoint, IsBlock, IsCertificate};
+ghost use Rattle.mlk_blocks.specs.Texts.{case_text};
 ghost use Rattle.mlk_cert.specs.Making.{Made, GivesBack, before, with_more};
 
-use crate::block::{EntryCert, Point};
-use crate::case::Case;
 use crate::certificate::Certificate;
-use crate::inclusion::same;
 use crate::read::case::case;
 use crate::read::memory::Memories;
 use crate::read::points::points;
 use crate::read::whole::body;
-use crate::write::line::push_case;
+use mlk_blocks::{Case, EntryCert, Point, push_case, same};
 use mlk_lexemes::{Text, both, is_below, push_flat};
 use mlk_text::{Failure, List};
 use std::alloc::{AllocError, Global};

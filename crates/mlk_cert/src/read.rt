@@ -6,7 +6,6 @@ mod fault;
 mod fit;
 mod line;
 pub(crate) mod memory;
-mod names;
 pub(crate) mod points;
 pub(crate) mod whole;
 

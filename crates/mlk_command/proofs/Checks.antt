@@ -12,7 +12,7 @@ use Rattle.mlk_coverage.specs.declared.rules.RuleLists.{RuleLists}
 use Rattle.mlk_rules.specs.RuleSections.{SaysRules, RefusesRules}
 use Rattle.mlk_rules.specs.declared.read.fault.RulesFault.{RulesFault}
 use Rattle.mlk_cert.specs.declared.read.fault.CertFault.{CertFault}
-use Rattle.mlk_cert.specs.declared.block.EntryCert.{EntryCert}
+use Rattle.mlk_blocks.specs.declared.block.EntryCert.{EntryCert}
 use Rattle.mlk_cert.specs.Theorem.{Spells, IsReading}
 use Rattle.mlk_cert.specs.Refusals.{IsPlaced}
 use Rattle.mlk_make.specs.Missing.{is_missing}

@@ -10,7 +10,7 @@ use Rattle.mlk_program.specs.Program.{IsProgram, IsLinkFault}
 use Rattle.mlk_coverage.specs.declared.rules.RuleLists.{RuleLists}
 use Rattle.mlk_rules.specs.RuleSections.{SaysRules, RefusesRules}
 use Rattle.mlk_rules.specs.declared.read.fault.RulesFault.{RulesFault}
-use Rattle.mlk_cert.specs.declared.block.EntryCert.{EntryCert}
+use Rattle.mlk_blocks.specs.declared.block.EntryCert.{EntryCert}
 use Rattle.mlk_cert.specs.declared.read.fault.CertFault.{CertFault}
 use Rattle.mlk_cert.specs.Theorem.{Spells}
 use Rattle.mlk_cert.specs.Refusals.{IsRefusal}

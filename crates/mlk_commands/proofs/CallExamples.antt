@@ -9,9 +9,9 @@ use Rattle.mlk_tree.specs.ExprTrees.{Tree, Lit, SpecialName, Prefixed, ActualTre
 use Rattle.mlk_tree.specs.Trees.{CallTree, Called, DoCall}
 use Rattle.mlk_names.specs.declared.term.LockTerm.{LockTerm}
 use Rattle.mlk_coverage.specs.Computed.{answer}
-use Rattle.mlk_cert.specs.declared.case.Test.{Test}
-use Rattle.mlk_cert.specs.declared.case.Test.TheVariants.{Any, Zero, One}
-use Rattle.mlk_cert.specs.declared.case.Case.{Case}
+use Rattle.mlk_blocks.specs.declared.case.Test.{Test}
+use Rattle.mlk_blocks.specs.declared.case.Test.TheVariants.{Any, Zero, One}
+use Rattle.mlk_blocks.specs.declared.case.Case.{Case}
 use Rattle.mlk_lexemes.specs.Texts.{byte_text}
 use Rattle.mlk_scope.specs.States.{same_state}
 use Rattle.mlk_scope.specs.Cases.{same_case}

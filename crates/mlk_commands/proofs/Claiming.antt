@@ -11,7 +11,7 @@ use Rattle.mlk_tree.specs.declared.command.Sign.{Sign}
 use Rattle.mlk_tree.specs.declared.command.Sign.TheVariants as sign
 use Rattle.mlk_tree.specs.Trees.{VariableTree}
 use Rattle.mlk_names.specs.declared.term.LockTerm.{LockTerm}
-use Rattle.mlk_cert.specs.declared.case.Test.TheVariants.{One}
+use Rattle.mlk_blocks.specs.declared.case.Test.TheVariants.{One}
 use Rattle.mlk_lexemes.specs.Lists.{below}
 use Rattle.mlk_cert.specs.Making.{terms_before}
 use Rattle.mlk_lexemes.specs.Texts.{term_text}

@@ -10,7 +10,7 @@ use Rattle.mlk_tree.specs.declared.command.Sign.TheVariants as sign
 use Rattle.mlk_tree.specs.Trees.{VariableTree, LockNames}
 use Rattle.mlk_names.specs.declared.term.LockTerm.{LockTerm}
 use Rattle.mlk_coverage.specs.Computed.{answer}
-use Rattle.mlk_cert.specs.declared.case.Test.TheVariants.{Zero, One}
+use Rattle.mlk_blocks.specs.declared.case.Test.TheVariants.{Zero, One}
 use Rattle.mlk_lexemes.specs.Texts.{byte_text}
 use Rattle.mlk_scope.specs.States.{same_state}
 use Rattle.mlk_scope.specs.Scope.{Scope}

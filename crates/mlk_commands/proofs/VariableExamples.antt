@@ -8,11 +8,11 @@ use Rattle.mlk_tree.specs.declared.command.Part.TheVariants.{Piece}
 use Rattle.mlk_tree.specs.Trees.{VariableTree, TargetTree, SetWhole, SetPart, SetTo, KillOne, KillAllBut, NewOne, NewAllBut}
 use Rattle.mlk_tree.specs.Trees.{ReadText, ReadLine, ReadCharacter, MergeInto, WriteValue, WriteFormat}
 use Rattle.mlk_coverage.specs.Computed.{answer}
-use Rattle.mlk_cert.specs.declared.case.Test.TheVariants.{Any, Zero, One}
-use Rattle.mlk_cert.specs.declared.case.Case.{Case}
-use Rattle.mlk_cert.specs.declared.names.NameSet.{NameSet}
-use Rattle.mlk_cert.specs.declared.names.NameSet.TheVariants.{Only, AllBut}
-use Rattle.mlk_cert.specs.declared.names.Own.{Own}
+use Rattle.mlk_blocks.specs.declared.case.Test.TheVariants.{Any, Zero, One}
+use Rattle.mlk_blocks.specs.declared.case.Case.{Case}
+use Rattle.mlk_blocks.specs.declared.names.NameSet.{NameSet}
+use Rattle.mlk_blocks.specs.declared.names.NameSet.TheVariants.{Only, AllBut}
+use Rattle.mlk_blocks.specs.declared.names.Own.{Own}
 use Rattle.mlk_lexemes.specs.Texts.{byte_text}
 use Rattle.mlk_scope.specs.States.{same_state}
 use Rattle.mlk_scope.specs.Cases.{same_case}

@@ -13,13 +13,13 @@ use Rattle.mlk_names.specs.declared.term.LockTerm.{LockTerm}
 use Rattle.mlk_names.specs.declared.reference.Extent.TheVariants as extent
 use Rattle.mlk_coverage.specs.declared.pattern.Element.TheVariants.{Variable}
 use Rattle.mlk_coverage.specs.declared.template.Part.TheVariants.{Place}
-use Rattle.mlk_cert.specs.declared.case.Test.{Test}
-use Rattle.mlk_cert.specs.declared.case.Test.TheVariants.{Any}
-use Rattle.mlk_cert.specs.declared.case.Case.{Case}
-use Rattle.mlk_cert.specs.declared.names.NameSet.{NameSet}
-use Rattle.mlk_cert.specs.declared.names.NameSet.TheVariants.{Only}
-use Rattle.mlk_cert.specs.declared.names.Own.{Own}
-use Rattle.mlk_cert.specs.declared.block.Summary.{Summary}
+use Rattle.mlk_blocks.specs.declared.case.Test.{Test}
+use Rattle.mlk_blocks.specs.declared.case.Test.TheVariants.{Any}
+use Rattle.mlk_blocks.specs.declared.case.Case.{Case}
+use Rattle.mlk_blocks.specs.declared.names.NameSet.{NameSet}
+use Rattle.mlk_blocks.specs.declared.names.NameSet.TheVariants.{Only}
+use Rattle.mlk_blocks.specs.declared.names.Own.{Own}
+use Rattle.mlk_blocks.specs.declared.block.Summary.{Summary}
 use Rattle.mlk_scope.specs.declared.state.State.{State}
 use Rattle.mlk_scope.specs.Scope.{Scope}
 use Rattle.mlk_rows.specs.declared.walk.Walk.{Walk}

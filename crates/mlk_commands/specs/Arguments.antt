@@ -9,8 +9,8 @@ use Rattle.mlk_tree.specs.Trees.{WriteTree, WriteValue, WriteCharacter, WriteFor
 use Rattle.mlk_names.specs.declared.symbol.Sym.{Sym}
 use Rattle.mlk_names.specs.declared.reference.Access.TheVariants.{Reads, Writes}
 use Rattle.mlk_names.specs.declared.reference.Extent.TheVariants as extent
-use Rattle.mlk_cert.specs.declared.case.Test.TheVariants.{Zero, One}
-use Rattle.mlk_cert.specs.declared.names.NameSet.TheVariants.{Only, AllBut}
+use Rattle.mlk_blocks.specs.declared.case.Test.TheVariants.{Zero, One}
+use Rattle.mlk_blocks.specs.declared.names.NameSet.TheVariants.{Only, AllBut}
 use Rattle.mlk_scope.specs.declared.state.State.{State}
 use Rattle.mlk_scope.specs.States.{without_last, tested}
 use Rattle.mlk_scope.specs.Symbols.{truth_in}

@@ -13,7 +13,7 @@ use Rattle.mlk_tree.specs.Trees.{VariableTree, LockTree, LockNames}
 use Rattle.mlk_names.specs.declared.symbol.Sym.{Sym}
 use Rattle.mlk_names.specs.declared.symbol.Sym.TheVariants.{Const, Local, Job, Unknown}
 use Rattle.mlk_names.specs.declared.term.LockTerm.{LockTerm}
-use Rattle.mlk_cert.specs.declared.case.Test.TheVariants.{Zero, One}
+use Rattle.mlk_blocks.specs.declared.case.Test.TheVariants.{Zero, One}
 use Rattle.mlk_scope.specs.declared.state.State.{State}
 use Rattle.mlk_scope.specs.Terms.{all_known}
 use Rattle.mlk_scope.specs.States.{last_captured, without_last, tested}

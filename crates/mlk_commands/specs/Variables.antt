@@ -3,8 +3,8 @@
 use Rattle.std.specs.Prelude.{ℕ, List, [], ◌∷◌}
 use Rattle.mlk_tree.specs.ExprTrees.{Tree, LocalName, GlobalName, Subs, no_subs, sub}
 use Rattle.mlk_tree.specs.Trees.{VariableTree, Named}
-use Rattle.mlk_cert.specs.declared.names.NameSet.{NameSet}
-use Rattle.mlk_cert.specs.declared.names.NameSet.TheVariants.{Only}
+use Rattle.mlk_blocks.specs.declared.names.NameSet.{NameSet}
+use Rattle.mlk_blocks.specs.declared.names.NameSet.TheVariants.{Only}
 use Rattle.mlk_scope.specs.declared.state.State.{State}
 use Rattle.mlk_calls.specs.Changes.{change}
 use Rattle.mlk_rows.specs.declared.walk.Walk.{Walk}

@@ -6,8 +6,8 @@ ghost use Rattle.std.specs.Ordering.{nat_cmp};
 ghost use Rattle.std.specs.Cmp.Lexicographic.{slice_cmp};
 ghost use Rattle.mlk_lexemes.specs.Lists.{upto, more, joined};
 ghost use Rattle.mlk_lexemes.specs.Texts.{name_text};
-ghost use Rattle.mlk_cert.specs.Texts.{names_text};
-ghost use Rattle.mlk_cert.specs.Limits.{names_below, own_below};
+ghost use Rattle.mlk_blocks.specs.Texts.{names_text};
+ghost use Rattle.mlk_blocks.specs.Limits.{names_below, own_below};
 ghost use Rattle.mlk_commands.specs.News.{in_order, put_own};
 
 use mlk_cert::{NameSet, Own};

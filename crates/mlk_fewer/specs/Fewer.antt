@@ -1,7 +1,7 @@
 -- Walks of fewer cases. That a walk finds nothing wrong is said of all cases that are listed at a line; a job is in one
 -- of them. This project's own.
 use Rattle.std.specs.Prelude.{◌≡◌, ◌⊎◌, ℕ, false, List, [], ◌∷◌, map}
-use Rattle.mlk_cert.specs.declared.case.Case.{Case}
+use Rattle.mlk_blocks.specs.declared.case.Case.{Case}
 use Rattle.mlk_tree.specs.Trees.{CommandTrees}
 use Rattle.mlk_scope.specs.declared.state.State.{State}
 use Rattle.mlk_scope.specs.States.{at_rest}

@@ -16,7 +16,7 @@ use Rattle.mlk_tree.specs.declared.routine.Line.TheFolds.{fold_out-Line}
 use Rattle.mlk_tree.specs.Views.{commands_of, line_step, line_of, lines_from}
 use Rattle.mlk_coverage.proofs.CheckLemmas.{drop_step}
 use Rattle.mlk_found.specs.Calls.{as_list}
-use Rattle.mlk_cert.specs.declared.names.NameSet.TheVariants.{Only}
+use Rattle.mlk_blocks.specs.declared.names.NameSet.TheVariants.{Only}
 use Rattle.mlk_scope.specs.Scope.{Scope, listed, is_past}
 use Rattle.mlk_scope.proofs.PointOrder.{nothing_past}
 use Rattle.mlk_calls.specs.Claims.{held_too}

@@ -10,8 +10,8 @@ use Rattle.mlk_tree.specs.declared.command.Commands.TheFolds.{fold-For, fold_out
 use Rattle.mlk_tree.specs.Trees.{CommandTrees, finished}
 use Rattle.mlk_tree.specs.Views.{commands_of, command_of, control_of, commands_from, commands_step, for_step}
 use Rattle.mlk_found.proofs.FoundCommands.{none_last, some_last}
-use Rattle.mlk_cert.specs.declared.case.Test.{Test}
-use Rattle.mlk_cert.specs.declared.case.Case.{Case}
+use Rattle.mlk_blocks.specs.declared.case.Test.{Test}
+use Rattle.mlk_blocks.specs.declared.case.Case.{Case}
 use Rattle.mlk_scope.specs.Scope.{listed}
 use Rattle.mlk_scope.specs.Cases.{last_saved, before_last}
 use Rattle.mlk_rows.specs.declared.walk.Walk.{Walk}

@@ -5,7 +5,7 @@ use Rattle.mlk_text.specs.declared.code.Code.TheVariants.{HeldAtEnd, CaseNotList
 use Rattle.mlk_tree.specs.ExprTrees.{Tree}
 use Rattle.mlk_tree.specs.Trees.{ActionTree, Do, Else, Halt, Hang, If, Job, Kill, Lock, Merge, New, Quit, Read, Set, Write}
 use Rattle.mlk_tree.specs.Trees.{DoTree, KillTree, LockTree, NewTree}
-use Rattle.mlk_cert.specs.declared.case.Case.{Case}
+use Rattle.mlk_blocks.specs.declared.case.Case.{Case}
 use Rattle.mlk_scope.specs.Cases.{known_test, is_listed, holds_some}
 use Rattle.mlk_scope.specs.Scope.{listed}
 use Rattle.mlk_scope.specs.declared.state.State.{State}

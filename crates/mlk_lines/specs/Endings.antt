@@ -7,9 +7,9 @@ use Rattle.mlk_text.specs.declared.code.Code.{Code}
 use Rattle.mlk_text.specs.declared.code.Code.TheVariants.{HeldAtEnd, CaseNotListed, FallsIntoFormals, NameEscapes}
 use Rattle.mlk_tree.specs.Trees.{HeadTree, LineHead}
 use Rattle.mlk_program.specs.Entries.{formals_of}
-use Rattle.mlk_cert.specs.declared.case.Test.{Test}
-use Rattle.mlk_cert.specs.declared.case.Case.{Case}
-use Rattle.mlk_cert.specs.declared.names.Own.{Own}
+use Rattle.mlk_blocks.specs.declared.case.Test.{Test}
+use Rattle.mlk_blocks.specs.declared.case.Case.{Case}
+use Rattle.mlk_blocks.specs.declared.names.Own.{Own}
 use Rattle.mlk_scope.specs.Names.{is_among, is_own}
 use Rattle.mlk_scope.specs.Terms.{mention, mention_such}
 use Rattle.mlk_scope.specs.Cases.{is_listed, is_exit, holds_some, last_saved, before_last}

@@ -3,7 +3,7 @@
 use Rattle.std.specs.Prelude.{ℕ, List, [], ◌++◌, map, Option, Some, None}
 use Rattle.mlk_text.specs.Places.{column_at}
 use Rattle.mlk_tree.specs.Trees.{HeadTree, LineHead, LineTrees, no_lines, line}
-use Rattle.mlk_cert.specs.declared.case.Case.{Case}
+use Rattle.mlk_blocks.specs.declared.case.Case.{Case}
 use Rattle.mlk_scope.specs.Scope.{Scope, listed}
 use Rattle.mlk_rows.specs.declared.spot.Block.{Block}
 use Rattle.mlk_rows.specs.declared.walk.Fault.{Fault}

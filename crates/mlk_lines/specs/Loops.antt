@@ -4,9 +4,9 @@ use Rattle.std.specs.Prelude.{ℕ, true, if◌then◌else◌, List, [], ◌∷�
 use Rattle.mlk_text.specs.declared.code.Code.TheVariants.{CaseNotListed}
 use Rattle.mlk_tree.specs.Trees.{CommandTree, Does, CommandTrees, finished, then_command, then_for}
 use Rattle.mlk_tree.specs.Trees.{ParameterTree, Once, Endless, Limited, ControlTree, Runs}
-use Rattle.mlk_cert.specs.declared.case.Case.{Case}
-use Rattle.mlk_cert.specs.declared.names.NameSet.{NameSet}
-use Rattle.mlk_cert.specs.declared.names.NameSet.TheVariants.{Only}
+use Rattle.mlk_blocks.specs.declared.case.Case.{Case}
+use Rattle.mlk_blocks.specs.declared.names.NameSet.{NameSet}
+use Rattle.mlk_blocks.specs.declared.names.NameSet.TheVariants.{Only}
 use Rattle.mlk_scope.specs.Cases.{is_listed}
 use Rattle.mlk_scope.specs.Scope.{listed}
 use Rattle.mlk_scope.specs.declared.state.State.{State}

@@ -7,14 +7,14 @@ use Rattle.std.proofs.lemmas.Slice.Eq.{bytes_eq-Decides}
 use Rattle.mlk_names.specs.declared.symbol.Sym.{Sym}
 use Rattle.mlk_names.specs.declared.symbol.Sym.TheVariants.{Const, Local, Job, Unknown}
 use Rattle.mlk_coverage.proofs.Computing.{in_front, in_rest, in_list}
-use Rattle.mlk_cert.specs.declared.case.Test.{Test}
-use Rattle.mlk_cert.specs.declared.case.Test.TheVariants.{Any, Zero, One}
-use Rattle.mlk_cert.specs.declared.case.Case.{Case}
-use Rattle.mlk_cert.specs.declared.names.NameSet.{NameSet}
-use Rattle.mlk_cert.specs.declared.names.NameSet.TheVariants.{Only, AllBut}
-use Rattle.mlk_cert.specs.declared.names.Own.{Own}
+use Rattle.mlk_blocks.specs.declared.case.Test.{Test}
+use Rattle.mlk_blocks.specs.declared.case.Test.TheVariants.{Any, Zero, One}
+use Rattle.mlk_blocks.specs.declared.case.Case.{Case}
+use Rattle.mlk_blocks.specs.declared.names.NameSet.{NameSet}
+use Rattle.mlk_blocks.specs.declared.names.NameSet.TheVariants.{Only, AllBut}
+use Rattle.mlk_blocks.specs.declared.names.Own.{Own}
 use Rattle.mlk_lexemes.specs.Lists.{Each, EachPair}
-use Rattle.mlk_cert.specs.Inclusion.{Covers, Included}
+use Rattle.mlk_blocks.specs.Inclusion.{Covers, Included}
 use Rattle.mlk_scope.specs.declared.state.State.{State}
 use Rattle.mlk_scope.specs.Names.{is_among}
 use Rattle.mlk_scope.specs.Terms.{same_term}

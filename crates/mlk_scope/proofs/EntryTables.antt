@@ -7,7 +7,7 @@ use Rattle.std.proofs.lemmas.Bool.Decides.{nat_tests}
 use Rattle.mlk_tree.specs.Trees.{RoutineTree}
 use Rattle.mlk_program.specs.declared.entry.EntryId.{EntryId}
 use Rattle.mlk_program.specs.Entries.{entry_by}
-use Rattle.mlk_cert.specs.declared.block.EntryCert.{EntryCert}
+use Rattle.mlk_blocks.specs.declared.block.EntryCert.{EntryCert}
 use Rattle.mlk_scope.specs.Scope.{same_entry, block_at, has_entry, firsts, block_in, block_of, is_declared, certified, declared}
 use Rattle.mlk_scope.specs.Entries.{further, gained, gained_if}
 use Rattle.mlk_scope.specs.Laws.{TablesAre}

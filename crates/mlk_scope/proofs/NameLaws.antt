@@ -4,9 +4,9 @@ use Rattle.std.specs.Prelude.{◌||◌, bytes_eq}
 use Rattle.std.specs.List.{list_any, list_all}
 use Rattle.std.proofs.lemmas.Bool.{cases_Bool, and_parts}
 use Rattle.std.proofs.lemmas.Slice.Eq.{bytes_eq-Decides}
-use Rattle.mlk_cert.specs.declared.names.NameSet.{NameSet}
-use Rattle.mlk_cert.specs.declared.names.NameSet.TheVariants.{Only, AllBut}
-use Rattle.mlk_cert.specs.declared.names.Own.{Own}
+use Rattle.mlk_blocks.specs.declared.names.NameSet.{NameSet}
+use Rattle.mlk_blocks.specs.declared.names.NameSet.TheVariants.{Only, AllBut}
+use Rattle.mlk_blocks.specs.declared.names.Own.{Own}
 use Rattle.mlk_scope.specs.Names.{is_among, has, have, is_own, spares}
 use Rattle.mlk_scope.specs.Laws.{AllButAllows}
 

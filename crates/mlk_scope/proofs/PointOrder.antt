@@ -5,8 +5,8 @@ use Rattle.std.specs.List.{list_all}
 use Rattle.std.specs.List.Sorted.{IsPartitionedBy, IsPartitionPoint}
 use Rattle.std.proofs.lemmas.Bool.{cases_Bool, and_parts}
 use Rattle.std.proofs.lemmas.Bool.Decides.{nat_tests}
-use Rattle.mlk_cert.specs.declared.block.Point.{Point}
-use Rattle.mlk_cert.specs.Limits.{points_below}
+use Rattle.mlk_blocks.specs.declared.block.Point.{Point}
+use Rattle.mlk_blocks.specs.Limits.{points_below}
 use Rattle.mlk_lexemes.specs.Lists.{ascends}
 use Rattle.mlk_scope.specs.Scope.{is_at, cases_of, listed_at, is_earlier}
 use Rattle.mlk_scope.specs.Points.{is_before, cases_there}

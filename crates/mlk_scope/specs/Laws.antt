@@ -5,16 +5,16 @@ use Rattle.mlk_text.specs.declared.operator.UnaryOp.{UnaryOp}
 use Rattle.mlk_values.specs.Folding.{IsFold, IsUnaryFold}
 use Rattle.mlk_names.specs.declared.term.LockTerm.{LockTerm}
 use Rattle.mlk_tree.specs.Trees.{RoutineTree}
-use Rattle.mlk_cert.specs.declared.block.EntryCert.{EntryCert}
+use Rattle.mlk_blocks.specs.declared.block.EntryCert.{EntryCert}
 use Rattle.mlk_coverage.specs.declared.family.Family.{Family}
 use Rattle.mlk_coverage.specs.Ranks.{HasRank, FamiliesApart}
-use Rattle.mlk_cert.specs.declared.case.Case.{Case}
-use Rattle.mlk_cert.specs.Inclusion.{Included}
+use Rattle.mlk_blocks.specs.declared.case.Case.{Case}
+use Rattle.mlk_blocks.specs.Inclusion.{Included}
 use Rattle.mlk_lexemes.specs.Lists.{ascends}
 use Rattle.mlk_lexemes.specs.Kinds.{terms_upto}
-use Rattle.mlk_cert.specs.declared.names.Own.{Own}
-use Rattle.mlk_cert.specs.declared.names.NameSet.{NameSet}
-use Rattle.mlk_cert.specs.declared.names.NameSet.TheVariants.{Only, AllBut}
+use Rattle.mlk_blocks.specs.declared.names.Own.{Own}
+use Rattle.mlk_blocks.specs.declared.names.NameSet.{NameSet}
+use Rattle.mlk_blocks.specs.declared.names.NameSet.TheVariants.{Only, AllBut}
 use Rattle.mlk_scope.specs.declared.state.State.{State}
 use Rattle.mlk_scope.specs.Values.{fold_between, fold_before}
 use Rattle.mlk_scope.specs.Terms.{same_term, rank_of, put, put_all, taken}

@@ -2,9 +2,9 @@
 -- parentheses means all but these); that a certificate lists them is this project's own choice.
 use Rattle.std.specs.Prelude.{ℕ, Bool, false, not, ◌||◌, List, filter, bytes_eq}
 use Rattle.std.specs.List.{list_any, list_all}
-use Rattle.mlk_cert.specs.declared.names.NameSet.{NameSet}
-use Rattle.mlk_cert.specs.declared.names.NameSet.TheVariants.{Only, AllBut}
-use Rattle.mlk_cert.specs.declared.names.Own.{Own}
+use Rattle.mlk_blocks.specs.declared.names.NameSet.{NameSet}
+use Rattle.mlk_blocks.specs.declared.names.NameSet.TheVariants.{Only, AllBut}
+use Rattle.mlk_blocks.specs.declared.names.Own.{Own}
 
 unfoldable pub is_among : List (List ℕ) → List ℕ → Bool
 is_among names name = list_any (bytes_eq name) names

@@ -1,7 +1,7 @@
 -- Points that stand in order. For private clauses alone. This project's own.
 use Rattle.std.specs.Prelude.{ℕ, Bool, ◌&&◌, ◌||◌, ◌==◌, nat_lt, if◌then◌else◌, List, [], Option, Some, None}
-use Rattle.mlk_cert.specs.declared.block.Point.{Point}
-use Rattle.mlk_cert.specs.declared.case.Case.{Case}
+use Rattle.mlk_blocks.specs.declared.block.Point.{Point}
+use Rattle.mlk_blocks.specs.declared.case.Case.{Case}
 use Rattle.mlk_scope.specs.Scope.{is_at}
 
 -- that the point stands before a line and round

@@ -9,11 +9,11 @@ use Rattle.mlk_program.specs.Entries.{entry_by}
 use Rattle.mlk_program.specs.Program.{is_shared}
 use Rattle.mlk_scope.specs.declared.scope.Scope.{Scope as GivenScope}
 use Rattle.mlk_coverage.specs.declared.rules.RuleLists.{RuleLists}
-use Rattle.mlk_cert.specs.declared.names.Own.{Own}
-use Rattle.mlk_cert.specs.declared.case.Case.{Case}
-use Rattle.mlk_cert.specs.declared.block.Point.{Point}
-use Rattle.mlk_cert.specs.declared.block.Summary.{Summary}
-use Rattle.mlk_cert.specs.declared.block.EntryCert.{EntryCert}
+use Rattle.mlk_blocks.specs.declared.names.Own.{Own}
+use Rattle.mlk_blocks.specs.declared.case.Case.{Case}
+use Rattle.mlk_blocks.specs.declared.block.Point.{Point}
+use Rattle.mlk_blocks.specs.declared.block.Summary.{Summary}
+use Rattle.mlk_blocks.specs.declared.block.EntryCert.{EntryCert}
 
 -- Entries are compared as entries, never by their texts.
 abbrev pub same_entry : EntryId → EntryId → Bool

@@ -4,8 +4,8 @@ use Rattle.std.specs.Prelude.{ℕ, Bool, true, false, ◌&&◌, ◌-◌, List, [
 use Rattle.mlk_names.specs.declared.symbol.Sym.{Sym}
 use Rattle.mlk_names.specs.declared.symbol.Sym.TheVariants.{Const, Local, Job, Unknown}
 use Rattle.mlk_names.specs.declared.term.LockTerm.{LockTerm}
-use Rattle.mlk_cert.specs.declared.case.Test.{Test}
-use Rattle.mlk_cert.specs.declared.case.Case.{Case}
+use Rattle.mlk_blocks.specs.declared.case.Test.{Test}
+use Rattle.mlk_blocks.specs.declared.case.Case.{Case}
 use Rattle.mlk_scope.specs.declared.state.State.{State}
 use Rattle.mlk_scope.specs.Cases.{same_case, pairwise}
 

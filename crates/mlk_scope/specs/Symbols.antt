@@ -10,7 +10,7 @@ use Rattle.mlk_tree.specs.ExprTrees.{Tree, Lit, Free, LocalName, GlobalName, Spe
 use Rattle.mlk_tree.specs.ExprTrees.{Func, Selected, BareCall, CallOf, Subs, no_subs, sub, Links, no_links, link}
 use Rattle.mlk_names.specs.declared.symbol.Sym.{Sym}
 use Rattle.mlk_names.specs.declared.symbol.Sym.TheVariants.{Const, Local, Job, Unknown}
-use Rattle.mlk_cert.specs.declared.case.Test.{Test}
+use Rattle.mlk_blocks.specs.declared.case.Test.{Test}
 use Rattle.mlk_scope.specs.declared.state.State.{State}
 use Rattle.mlk_scope.specs.Scope.{Scope}
 use Rattle.mlk_scope.specs.Cases.{known_test}

@@ -8,7 +8,7 @@ use Rattle.mlk_names.specs.declared.known_symbol.KnownSym.TheVariants as known
 use Rattle.mlk_names.specs.declared.term.LockTerm.{LockTerm}
 use Rattle.mlk_names.specs.Symbols.{known_of}
 use Rattle.mlk_names.specs.Actuals.{put_in}
-use Rattle.mlk_cert.specs.declared.names.NameSet.{NameSet}
+use Rattle.mlk_blocks.specs.declared.names.NameSet.{NameSet}
 use Rattle.mlk_cert.specs.Making.{terms_before}
 use Rattle.mlk_coverage.specs.declared.family.Family.{Family}
 use Rattle.mlk_coverage.specs.Computed.{same_root, same_symbol, is_prefix}

@@ -2,7 +2,7 @@
 
 ghost use Rattle.std.specs.Prelude.{◌≡◌, IfOk};
 ghost use Rattle.std.specs.List.{list_any, list_all};
-ghost use Rattle.mlk_cert.specs.declared.names.Own.{Own as item};
+ghost use Rattle.mlk_blocks.specs.declared.names.Own.{Own as item};
 ghost use Rattle.mlk_scope.specs.Names.{is_among, has, have, is_own, spares, may_change, without};
 
 use mlk_cert::{NameSet, Own, Shared};

@@ -2,7 +2,7 @@
 
 ghost use Rattle.std.specs.Prelude.{◌≡◌, true, slice_get};
 ghost use Rattle.std.specs.List.{list_all};
-ghost use Rattle.mlk_cert.specs.Limits.{points_below};
+ghost use Rattle.mlk_blocks.specs.Limits.{points_below};
 ghost use Rattle.mlk_lexemes.specs.Lists.{ascends};
 ghost use Rattle.mlk_scope.specs.Points.{is_before, cases_there};
 ghost use Rattle.mlk_scope.specs.Scope.{is_at, is_earlier, listed_at};

@@ -3,7 +3,7 @@
 ghost use Rattle.std.specs.Prelude.{◌≡◌, ◌++◌, [], IfOk, OnOk, map, filter_map, option_copied, option_map};
 ghost use Rattle.mlk_tree.specs.Views.{routine_of};
 ghost use Rattle.mlk_program.specs.Entries.{entry_by};
-ghost use Rattle.mlk_cert.specs.Limits.{points_below};
+ghost use Rattle.mlk_blocks.specs.Limits.{points_below};
 ghost use Rattle.mlk_lexemes.specs.Lists.{ascends};
 
 use crate::points::{are_earlier, are_earlier_in_order, are_in_order, cases_at, cases_in_order};
@@ -26,7 +26,7 @@ pub struct Entries<'a> {
 impl<'a> Model for Entries<'a> {
     ghost use Rattle.std.specs.Prelude.{List, map};
     ghost use Rattle.mlk_program.specs.declared.entry.EntryId.{EntryId};
-    ghost use Rattle.mlk_cert.specs.declared.block.EntryCert.{EntryCert};
+    ghost use Rattle.mlk_blocks.specs.declared.block.EntryCert.{EntryCert};
 
     ghost Value = { List (EntryId × EntryCert) × List EntryId };
 

@@ -31,15 +31,15 @@ use Rattle.mlk_coverage.specs.declared.cover.Cover.{Cover}
 use Rattle.mlk_coverage.specs.declared.family.Family.{Family}
 use Rattle.mlk_coverage.specs.declared.rules.RuleLists.{RuleLists}
 use Rattle.mlk_coverage.specs.Computed.{answer}
-use Rattle.mlk_cert.specs.declared.case.Test.{Test}
-use Rattle.mlk_cert.specs.declared.case.Test.TheVariants.{Any, Zero, One}
-use Rattle.mlk_cert.specs.declared.case.Case.{Case}
-use Rattle.mlk_cert.specs.declared.case.ExitCase.{ExitCase}
-use Rattle.mlk_cert.specs.declared.names.NameSet.{NameSet}
-use Rattle.mlk_cert.specs.declared.names.NameSet.TheVariants.{Only}
-use Rattle.mlk_cert.specs.declared.names.Own.{Own}
-use Rattle.mlk_cert.specs.declared.block.Point.{Point}
-use Rattle.mlk_cert.specs.declared.block.EntryCert.{EntryCert}
+use Rattle.mlk_blocks.specs.declared.case.Test.{Test}
+use Rattle.mlk_blocks.specs.declared.case.Test.TheVariants.{Any, Zero, One}
+use Rattle.mlk_blocks.specs.declared.case.Case.{Case}
+use Rattle.mlk_blocks.specs.declared.case.ExitCase.{ExitCase}
+use Rattle.mlk_blocks.specs.declared.names.NameSet.{NameSet}
+use Rattle.mlk_blocks.specs.declared.names.NameSet.TheVariants.{Only}
+use Rattle.mlk_blocks.specs.declared.names.Own.{Own}
+use Rattle.mlk_blocks.specs.declared.block.Point.{Point}
+use Rattle.mlk_blocks.specs.declared.block.EntryCert.{EntryCert}
 use Rattle.mlk_lexemes.specs.Texts.{byte_text}
 use Rattle.mlk_scope.specs.Values.{fold_between, fold_before}
 use Rattle.mlk_scope.specs.Terms.{same_term}

@@ -6,7 +6,7 @@ use Rattle.mlk_tree.specs.Trees.{RoutineTree, HeadTree, LineTrees}
 use Rattle.mlk_program.specs.declared.entry.EntryId.{EntryId}
 use Rattle.mlk_program.specs.Entries.{lines_in, has_label, entry_by}
 use Rattle.mlk_coverage.specs.declared.rules.RuleLists.{RuleLists}
-use Rattle.mlk_cert.specs.declared.block.EntryCert.{EntryCert}
+use Rattle.mlk_blocks.specs.declared.block.EntryCert.{EntryCert}
 use Rattle.mlk_rows.specs.declared.walk.Fault.{Fault}
 use Rattle.mlk_scope.specs.Scope.{block_at, has_entry}
 use Rattle.mlk_verdicts.specs.declared.report.Row.{Row}

@@ -8,13 +8,13 @@ use Rattle.mlk_tree.specs.Trees.{RoutineTree, HeadTree, LineTrees}
 use Rattle.mlk_tree.specs.Views.{lines_from}
 use Rattle.mlk_program.specs.declared.entry.EntryId.{EntryId}
 use Rattle.mlk_program.specs.Entries.{line_of_entry, lines_of}
-use Rattle.mlk_cert.specs.declared.case.Test.TheVariants.{Any}
-use Rattle.mlk_cert.specs.declared.case.Case.{Case}
-use Rattle.mlk_cert.specs.declared.case.ExitCase.{ExitCase}
-use Rattle.mlk_cert.specs.declared.names.NameSet.TheVariants.{Only}
-use Rattle.mlk_cert.specs.declared.names.Own.{Own}
-use Rattle.mlk_cert.specs.declared.block.Summary.{Summary}
-use Rattle.mlk_cert.specs.declared.block.EntryCert.{EntryCert}
+use Rattle.mlk_blocks.specs.declared.case.Test.TheVariants.{Any}
+use Rattle.mlk_blocks.specs.declared.case.Case.{Case}
+use Rattle.mlk_blocks.specs.declared.case.ExitCase.{ExitCase}
+use Rattle.mlk_blocks.specs.declared.names.NameSet.TheVariants.{Only}
+use Rattle.mlk_blocks.specs.declared.names.Own.{Own}
+use Rattle.mlk_blocks.specs.declared.block.Summary.{Summary}
+use Rattle.mlk_blocks.specs.declared.block.EntryCert.{EntryCert}
 use Rattle.mlk_coverage.specs.declared.rules.RuleLists.{RuleLists}
 use Rattle.mlk_scope.specs.Cases.{is_listed, holds_some}
 use Rattle.mlk_scope.specs.Scope.{Scope, certified, declared, block_at, listed, scope_with}

@@ -4,18 +4,15 @@ ghost use Rattle.std.specs.Prelude.{◌≡◌, ◌∷◌, [], suc, length, optio
 ghost use Rattle.mlk_text.specs.Reading.{many, put};
 ghost use Rattle.mlk_text.specs.Lexemes.{name_at};
 ghost use Rattle.mlk_text.specs.Failures.{Reads};
-ghost use Rattle.mlk_cert.specs.Checks.{fit_terms, fit_own, fit_kept, fit_mods, fits_case, fits_exit};
+ghost use Rattle.mlk_blocks.specs.Checks.{fit_terms, fit_own, fit_kept, fit_mods, fits_case, fits_exit};
 ghost use Rattle.mlk_cert.specs.Fitting.{passes};
 ghost use Rattle.mlk_lexemes.specs.Reading.{keep, part_at, listed_at, term_at};
-ghost use Rattle.mlk_cert.specs.Reading.{sign_at, saved_at, own_at, names_at, exit_at, case_at};
+ghost use Rattle.mlk_blocks.specs.Reading.{sign_at, saved_at, own_at, names_at, exit_at, case_at};
 
-use crate::case::{Case, ExitCase, Test};
-use crate::limit::{MOST_KEPT, MOST_MODS, MOST_OWN, MOST_TERMS};
-use crate::names::{NameSet, Own};
 use crate::read::fit::{Fit, fit_both, fit_of};
 use crate::read::memory::{Memories, Memory};
-use crate::read::names::{ascend_inside, ascend_inside_own};
-use crate::shared::Shared;
+use mlk_blocks::limit::{MOST_KEPT, MOST_MODS, MOST_OWN, MOST_TERMS};
+use mlk_blocks::{Case, ExitCase, NameSet, Own, Shared, Test, ascend_inside, ascend_inside_own};
 use mlk_lexemes::{front_of, listed, word_of};
 use mlk_names::LockTerm;
 use mlk_text::lexeme::byte_of;
@@ -54,7 +51,7 @@ fn more_signs(
     Ok((found, rest))
 }
 
-#[tactic(auto, unfolding(crate::specs::Reading::saved_at))]
+#[tactic(auto, unfolding(mlk_blocks::specs::Reading::saved_at))]
 fn saved(alloc: Global, bytes: &[u8]) -> Result<(List<Test>, &[u8]), Failure<NotThere>>
     ensures { Reads (λ x. (x.0, x.1.now)) result (saved_at bytes.now) }
 {
@@ -205,7 +202,7 @@ fn saved_part(alloc: Global, bytes: &[u8]) -> Result<(List<Test>, &[u8]), Failur
 }
 
 /// The case of an exit, whether it keeps to its limits, and what is left after it.
-#[tactic(auto, unfolding(crate::specs::Reading::exit_at))]
+#[tactic(auto, unfolding(mlk_blocks::specs::Reading::exit_at))]
 pub(crate) fn exit<'a>(
     alloc: Global,
     memories: &mut Memories<'a>,
@@ -223,7 +220,7 @@ pub(crate) fn exit<'a>(
 }
 
 /// A case, whether it keeps to its limits, and what is left after it.
-#[tactic(auto, unfolding(crate::specs::Reading::case_at))]
+#[tactic(auto, unfolding(mlk_blocks::specs::Reading::case_at))]
 pub(crate) fn case<'a>(
     alloc: Global,
     memories: &mut Memories<'a>,

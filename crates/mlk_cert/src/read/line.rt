@@ -2,20 +2,19 @@
 
 ghost use Rattle.std.specs.Prelude.{◌≡◌, ◌&&◌, [], suc, length, option_map, IfOk, codes};
 ghost use Rattle.mlk_text.specs.Failures.{Reads};
-ghost use Rattle.mlk_cert.specs.Checks.{fit_terms, fit_mods, fits_exit, fits};
+ghost use Rattle.mlk_blocks.specs.Checks.{fit_terms, fit_mods, fits_exit, fits};
 ghost use Rattle.mlk_cert.specs.Fitting.{passes};
-ghost use Rattle.mlk_cert.specs.Texts.{exit_text};
+ghost use Rattle.mlk_blocks.specs.Texts.{exit_text};
 ghost use Rattle.mlk_lexemes.specs.Reading.{part_at, listed_at, term_at};
-ghost use Rattle.mlk_cert.specs.Reading.{names_at, exit_at};
+ghost use Rattle.mlk_blocks.specs.Reading.{names_at, exit_at};
 ghost use Rattle.mlk_cert.specs.Blocks.{ended, rest_at, low_at, drops_at, after_at, above_last, next_exit_fits, exits_at};
 
-use crate::case::ExitCase;
-use crate::limit::MOST_EXITS;
-use crate::names::NameSet;
 use crate::read::case::{exit, mods, terms};
 use crate::read::fault::{Refusal, other_form};
 use crate::read::fit::{Fit, fit_both, fit_of};
 use crate::read::memory::Memories;
+use mlk_blocks::limit::MOST_EXITS;
+use mlk_blocks::{ExitCase, NameSet};
 use mlk_lexemes::{front_of, is_below, number, word_of};
 use mlk_names::LockTerm;
 use mlk_text::lexeme::byte_of;

@@ -1,5 +1,5 @@
 use Rattle.std.proofs.Common.{◌∙◌, ap}
-use Rattle.mlk_cert.specs.declared.names.NameSet.TheVariants.{AllBut}
+use Rattle.mlk_blocks.specs.declared.names.NameSet.TheVariants.{AllBut}
 use Rattle.mlk_rows.specs.Walks.{each}
 use Rattle.mlk_rows.specs.Spots.{spot_of}
 use Rattle.mlk_commands.specs.News.{in_order, renew}

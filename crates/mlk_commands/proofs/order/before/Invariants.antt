@@ -1,6 +1,6 @@
 use Rattle.std.proofs.Common.{◌≡◌, take}
 use Rattle.std.specs.Prelude.{filter}
-use Rattle.mlk_cert.specs.Limits.{own_below}
+use Rattle.mlk_blocks.specs.Limits.{own_below}
 use Rattle.mlk_commands.proofs.order.before.Given as goal
 
 abbrev pub invariant-loop-other : goal.invariant-loop-other

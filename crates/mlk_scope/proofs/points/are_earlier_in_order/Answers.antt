@@ -1,6 +1,6 @@
 use Rattle.std.proofs.Common.{◌≡◌, ◌∙◌, ap, sym, subst, true}
 use Rattle.std.specs.List.{list_all}
-use Rattle.mlk_cert.specs.Limits.{points_below}
+use Rattle.mlk_blocks.specs.Limits.{points_below}
 use Rattle.mlk_lexemes.specs.Lists.{ascends}
 use Rattle.mlk_scope.specs.Scope.{is_earlier}
 use Rattle.mlk_scope.proofs.PointOrder.{last_earlier}

@@ -1,6 +1,6 @@
 use Rattle.std.proofs.Common.{◌≡◌, ◌∷◌, drop}
 use Rattle.mlk_lexemes.specs.Lists.{ascends}
-use Rattle.mlk_cert.specs.Limits.{points_below}
+use Rattle.mlk_blocks.specs.Limits.{points_below}
 use Rattle.mlk_scope.proofs.points.are_in_order.Given as goal
 
 abbrev pub invariant-loop-point : goal.invariant-loop-point

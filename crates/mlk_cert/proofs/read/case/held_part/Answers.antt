@@ -1,6 +1,6 @@
 use Rattle.std.proofs.Common.{◌≡◌, ◌∙◌, sym, ap, true, Some, refl}
 use Rattle.mlk_lexemes.specs.Lists.{Each}
-use Rattle.mlk_cert.specs.Checks.{fit_terms}
+use Rattle.mlk_blocks.specs.Checks.{fit_terms}
 use Rattle.mlk_lexemes.specs.Texts.{listed, term_text}
 use Rattle.mlk_lexemes.specs.Kinds.{IsTerm}
 use Rattle.mlk_lexemes.specs.Reading.{listed_at, term_at}

@@ -1,6 +1,6 @@
 use Rattle.std.proofs.Common.{◌≡◌, ◌∙◌, sym, ap, true, Some, refl}
 use Rattle.mlk_lexemes.specs.Lists.{Each}
-use Rattle.mlk_cert.specs.Checks.{fit_kept}
+use Rattle.mlk_blocks.specs.Checks.{fit_kept}
 use Rattle.mlk_text.specs.Lexemes.{name_at}
 use Rattle.mlk_lexemes.specs.Texts.{listed, name_text}
 use Rattle.mlk_lexemes.specs.Kinds.{IsName}

@@ -1,0 +1,5 @@
+pub mod Inclusion
+pub mod Texts
+pub mod Limits
+pub mod Reading
+pub mod Checks

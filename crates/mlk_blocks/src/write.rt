@@ -1,0 +1,6 @@
+//! The writers of blocks and their parts.
+
+mod entry;
+mod line;
+
+pub use line::push_case;
