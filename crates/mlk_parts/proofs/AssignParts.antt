@@ -14,7 +14,7 @@ use Rattle.mlk_tree.specs.declared.command.Target.{Target}
 use Rattle.mlk_tree.specs.Views.{target_of}
 use Rattle.mlk_tree.specs.Trees.{VariableTree, Named, SetWhole, SetPart}
 use Rattle.mlk_jobs.specs.Assigning.{assigned, count_parts, merge_source}
-use Rattle.mlk_parts.specs.PartViews.{is_global}
+use Rattle.mlk_evaluation.specs.PartViews.{is_global}
 use Rattle.mlk_parts.specs.ArgumentViews.{bare_name}
 use Rattle.mlk_parts.specs.AssignViews.{global_name, whole_assigned, part_assigned, source_read}
 

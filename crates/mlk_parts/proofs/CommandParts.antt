@@ -12,7 +12,7 @@ use Rattle.mlk_jobs.specs.Bindings.{Only}
 use Rattle.mlk_jobs.specs.Tasks.{KillNames, Drop, FormReference}
 use Rattle.mlk_jobs.specs.Expressions.{count_subs}
 use Rattle.mlk_jobs.specs.Commands.{subs_in, store_last, kill_variable}
-use Rattle.mlk_parts.specs.PartViews.{subs_of, is_variable}
+use Rattle.mlk_evaluation.specs.PartViews.{subs_of, is_variable}
 use Rattle.mlk_parts.specs.ArgumentViews.{bare_name, stored_in}
 
 pub local_subs : (column : ℕ) (name : List ℕ) (v : Vec Subscript Global)

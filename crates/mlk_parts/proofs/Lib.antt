@@ -1,6 +1,4 @@
 pub mod PartLemmas
-pub mod ExprParts
-pub mod TreeParts
 pub mod CommandParts
 pub mod ActionParts
 pub mod LineParts

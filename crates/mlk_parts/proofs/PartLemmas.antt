@@ -1,20 +1,19 @@
 -- Tasks that are added.
-use Rattle.std.proofs.Common.{◌≡◌, ◌+◌, ◌-◌, suc, List, [], ◌∷◌, ◌++◌, map, length, Option, Some, None, refl, sym, ap, ◌∙◌, arith, append_assoc, append-nil}
+use Rattle.std.proofs.Common.{◌≡◌, ◌+◌, ◌-◌, List, [], ◌∷◌, ◌++◌, map, length, Option, Some, None, refl, sym, ap, ◌∙◌, arith, append_assoc, append-nil}
 use Rattle.std.specs.Prelude.{flat_map, is_some, option_map}
 use Rattle.std.proofs.lemmas.List.{length-append, length-map}
 use Rattle.std.proofs.lemmas.List.Folds.{flat_map-map}
 use Rattle.mlk_tree.specs.declared.expr.Expr.{Expr}
-use Rattle.mlk_tree.specs.declared.expr.Subscript.{Subscript}
 use Rattle.mlk_jobs.specs.declared.task.Task.{Task as TaskIn}
 use Rattle.mlk_tree.specs.ExprTrees.{tree_of, trees}
 use Rattle.mlk_tree.specs.declared.command.Target.{Target}
 use Rattle.mlk_tree.specs.declared.command.Variable.{Variable}
 use Rattle.mlk_tree.specs.Views.{variable_of, target_of}
 use Rattle.mlk_jobs.specs.Tasks.{Task, Evaluate}
-use Rattle.mlk_jobs.specs.Expressions.{count_subs, count_trees, each_tree}
+use Rattle.mlk_jobs.specs.Expressions.{each_tree}
 use Rattle.mlk_jobs.specs.Commands.{in_variable, target_parts}
 use Rattle.mlk_jobs.specs.TaskViews.{Adds, task_of}
-use Rattle.mlk_parts.specs.PartViews.{subs_of, args_of}
+use Rattle.mlk_evaluation.specs.PartViews.{args_of}
 use Rattle.mlk_parts.specs.ArgumentViews.{each_value}
 
 pub adds_both : (p q : List Task) (old now new : List TaskIn) → Adds p old now → Adds q now new → Adds (p ++ q) old new
@@ -31,14 +30,6 @@ adds_more p q all old now new h k =
 
 pub adds_all : (all : List Task) (old new : List TaskIn) → map task_of new ++ [] ≡ map task_of old ++ all → Adds all old new
 adds_all all old new h = sym (append-nil (map task_of new)) ∙ h
-
-pub subs_counted : (ss : List Subscript) → count_subs (subs_of ss) ≡ length ss
-subs_counted [] = refl
-subs_counted (s ∷ ss) = ap suc (subs_counted ss)
-
-pub args_counted : (es : List Expr) → count_trees (args_of es) ≡ length es
-args_counted [] = refl
-args_counted (e ∷ es) = ap suc (args_counted es)
 
 -- how many were added
 pub added_count : (p : List Task) (old new : List TaskIn) → Adds p old new → length new - length old ≡ length p

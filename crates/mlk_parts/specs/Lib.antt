@@ -1,3 +1,2 @@
-pub mod PartViews
 pub mod ArgumentViews
 pub mod AssignViews

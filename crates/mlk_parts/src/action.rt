@@ -8,9 +8,9 @@ ghost use Rattle.mlk_jobs.specs.Lines.{command_parts};
 ghost use Rattle.mlk_jobs.specs.TaskViews.{Adds, block_of};
 ghost use Rattle.mlk_parts.specs.ArgumentViews.{do_all, if_all, kill_all, lock_all, new_all, quit_parts};
 
-use crate::adding::add;
 use crate::command::{block_parts, evaluated, if_parts};
 use crate::part::add_all;
+use mlk_evaluation::add;
 use mlk_jobs::{LineTask, LocalTask, LockTask, Names, Task, TestTask, ValueTask};
 use mlk_tree::{
     Action, Call, Command, DoArgument, Expr, KillArgument, Line, LockArgument, MergeArgument,

@@ -7,9 +7,8 @@ ghost use Rattle.mlk_jobs.specs.Commands.{do_parts, new_parts, merge_parts, stor
 ghost use Rattle.mlk_jobs.specs.TaskViews.{Adds};
 ghost use Rattle.mlk_parts.specs.ArgumentViews.{bare_name, read_after};
 
-use crate::adding::add;
 use crate::command::{evaluated, evaluated_if, given_in, in_time, in_variable};
-use crate::evaluate::each_actual;
+use mlk_evaluation::{add, each_actual};
 use mlk_jobs::{Calling, LocalTask, Names, ScopeTask, Task, ValueTask, count_in};
 use mlk_text::Name;
 use mlk_tree::{

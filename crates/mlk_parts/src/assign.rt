@@ -10,10 +10,9 @@ ghost use Rattle.mlk_jobs.specs.TaskViews.{Adds};
 ghost use Rattle.mlk_jobs.specs.TaskViews as view;
 ghost use Rattle.mlk_parts.specs.AssignViews.{global_name, read_and_written, whole_assigned, part_assigned};
 
-use crate::adding::add;
 use crate::argument::bare_name;
 use crate::command::subscripts_of;
-use crate::expr::count_subscripts;
+use mlk_evaluation::{add, count_subscripts};
 use mlk_jobs::{LocalTask, LockTask, Task, ValueTask, count_in, cut_after};
 use mlk_names::{Access, Extent, LockName, Reference, Sym};
 use mlk_text::{Name, Subscripts, Value};

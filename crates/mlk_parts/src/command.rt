@@ -5,10 +5,9 @@ ghost use Rattle.mlk_tree.specs.ExprTrees.{tree_of, actual_trees};
 ghost use Rattle.mlk_tree.specs.Views.{variable_of};
 ghost use Rattle.mlk_jobs.specs.Commands.{subs_in, in_variable, evaluated, evaluated_if, given_in, block_parts, if_parts, in_time};
 ghost use Rattle.mlk_jobs.specs.TaskViews.{Adds, block_of};
-ghost use Rattle.mlk_parts.specs.PartViews.{subs_of};
+ghost use Rattle.mlk_evaluation.specs.PartViews.{subs_of};
 
-use crate::adding::add;
-use crate::expr::each_subscript;
+use mlk_evaluation::{add, each_subscript};
 use mlk_jobs::{ScopeTask, Task, TestTask, ValueTask};
 use mlk_tree::{Actual, Expr, Line, Subscript, Variable};
 use std::alloc::AllocError;

@@ -1,13 +1,10 @@
-//! What the tasks of a job are replaced by: expressions, commands and their arguments, lines, FOR, SET, MERGE and LOCK.
+//! What the tasks of a job are replaced by: commands and their arguments, lines, FOR, SET, MERGE and LOCK.
 #![tactic(auto)]
 
 mod action;
-mod adding;
 mod argument;
 mod assign;
 mod command;
-mod evaluate;
-mod expr;
 mod line;
 mod merge;
 mod part;
@@ -15,9 +12,8 @@ mod round;
 mod target;
 
 pub use action::action_parts;
-pub use adding::add;
 pub use assign::{assignments, by_sign, concrete, count_parts};
-pub use evaluate::parts_of;
 pub use line::{formals_in, has_formals, line_parts, line_rest, next_command};
 pub use merge::{merge_source, merge_target};
+pub use mlk_evaluation::{add, parts_of};
 pub use round::{first_round, later_round, parameter_parts};

@@ -9,7 +9,7 @@ ghost use Rattle.mlk_jobs.specs.Calling.{formals_in, commands_in};
 ghost use Rattle.mlk_jobs.specs.TaskViews.{Adds, for_of, commands_left, block_of};
 
 use crate::action::command_parts;
-use crate::adding::add;
+use mlk_evaluation::add;
 use mlk_jobs::{LineTask, Rest, Task};
 use mlk_text::Name;
 use mlk_tree::{Commands, For, Line};

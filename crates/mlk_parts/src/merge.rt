@@ -6,9 +6,9 @@ ghost use Rattle.mlk_jobs.specs.Assigning.{merge_source, merge_target};
 ghost use Rattle.mlk_jobs.specs.TaskViews.{Adds};
 ghost use Rattle.mlk_parts.specs.AssignViews.{source_read, into_local, unread, tree_written, merged_into};
 
-use crate::adding::add;
 use crate::argument::bare_name;
 use crate::assign::{global_name, is_global, touch};
+use mlk_evaluation::add;
 use mlk_jobs::{LocalTask, Task, ValueTask};
 use mlk_names::{Access, Extent};
 use mlk_text::{Name, Value};

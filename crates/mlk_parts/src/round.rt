@@ -7,7 +7,7 @@ ghost use Rattle.mlk_jobs.specs.Tasks.{Evaluate, Drop, StoreLast};
 ghost use Rattle.mlk_jobs.specs.Lines.{parameter_parts, first_round, later_round};
 ghost use Rattle.mlk_jobs.specs.TaskViews.{Adds, commands_left, block_of};
 
-use crate::adding::add;
+use mlk_evaluation::add;
 use mlk_jobs::{LineTask, LocalTask, Rest, Task, ValueTask};
 use mlk_text::Name;
 use mlk_tree::{Expr, Parameter};

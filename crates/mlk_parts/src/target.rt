@@ -8,11 +8,9 @@ ghost use Rattle.mlk_jobs.specs.Commands.{in_variable, job_parts, kill_variable,
 ghost use Rattle.mlk_jobs.specs.TaskViews.{Adds};
 ghost use Rattle.mlk_parts.specs.ArgumentViews.{actuals_used, each_value};
 
-use crate::adding::add;
 use crate::command::{evaluated_if, given_in, in_variable};
-use crate::evaluate::each_actual;
-use crate::expr::{count_subscripts, each_argument};
 use crate::part::add_all;
+use mlk_evaluation::{add, count_subscripts, each_actual, each_argument};
 use mlk_jobs::{LocalTask, LockTask, Names, Task, ValueTask};
 use mlk_names::{Access, Extent};
 use mlk_tree::{Actual, Call, Expr, KillArgument, LockArgument, SetArgument, Target, Variable};

@@ -5,7 +5,7 @@ use Rattle.mlk_text.specs.declared.operator.Op.{Op}
 use Rattle.mlk_tree.specs.ExprTrees.{Tree, Lit, Free, LocalName, GlobalName, SpecialName, Prefixed, Chain, PatternText, Func, Selected, BareCall, CallOf, Links, no_links, link, ActualTree, Given, ByRef, Missing, actuals_from}
 use Rattle.mlk_jobs.specs.Tasks.{Evaluate, ApplyBinary, AskValue}
 use Rattle.mlk_jobs.specs.Expressions.{operation, each_actual, as_list}
-use Rattle.mlk_parts.specs.PartViews.{is_pattern}
+use Rattle.mlk_evaluation.specs.PartViews.{is_pattern}
 
 pub pattern_operation : (op : Op) (t : Tree) → is_pattern t ≡ true → operation (link op t no_links) ≡ AskValue 1 ∷ []
 pattern_operation op (Lit value) h = absurd (false≢true h)

@@ -1,8 +1,8 @@
 use Rattle.std.proofs.Common.{◌≡◌, ◌++◌, length, map}
 use Rattle.mlk_jobs.specs.Expressions.{each_sub}
 use Rattle.mlk_jobs.specs.TaskViews.{task_of}
-use Rattle.mlk_parts.specs.PartViews.{subs_of}
-use Rattle.mlk_parts.proofs.expr.each_subscript.Given as goal
+use Rattle.mlk_evaluation.specs.PartViews.{subs_of}
+use Rattle.mlk_evaluation.proofs.expr.each_subscript.Given as goal
 
 abbrev pub invariant-loop-subscript : goal.invariant-loop-subscript
 invariant-loop-subscript l = map task_of l.parts.items ++ each_sub (subs_of l.left) ≡ map task_of l.fn.parts.items ++ each_sub (subs_of l.fn.subscripts)

@@ -5,7 +5,7 @@ ghost use Rattle.mlk_tree.specs.ExprTrees.{tree_of, actual_trees};
 ghost use Rattle.mlk_tree.specs.declared.expr.Function.TheVariants as function;
 ghost use Rattle.mlk_jobs.specs.Expressions.{each_sub, count_subs, each_tree, count_trees, read_global, read_local, operation, special_parts, unused, of_global, takes_name, function_parts, each_actual, parts_of};
 ghost use Rattle.mlk_jobs.specs.TaskViews.{Adds};
-ghost use Rattle.mlk_parts.specs.PartViews.{subs_of, args_of, asked, naming_of, named_function};
+ghost use Rattle.mlk_evaluation.specs.PartViews.{subs_of, args_of, asked, naming_of, named_function};
 
 use crate::adding::add;
 use mlk_jobs::{Calling, Task, ValueTask};
@@ -15,15 +15,15 @@ use mlk_tree::{Actual, Expr, Function, Special, Subscript};
 use std::alloc::AllocError;
 
 /// How many subscripts there are.
-#[tactic(auto, using(crate::proofs::PartLemmas::subs_counted))]
-pub(crate) fn count_subscripts(subscripts: &[Subscript]) -> usize
+#[tactic(auto, using(crate::proofs::PartCounts::subs_counted))]
+pub fn count_subscripts(subscripts: &[Subscript]) -> usize
     ensures count { result ≡ count_subs (subs_of subscripts.now) }
     ensures len { result ≡ length subscripts.now }
 {
     subscripts.len()
 }
 
-#[tactic(auto, using(crate::proofs::PartLemmas::args_counted))]
+#[tactic(auto, using(crate::proofs::PartCounts::args_counted))]
 pub(crate) fn count_arguments(arguments: &[Expr]) -> usize
     ensures count { result ≡ count_trees (args_of arguments.now) }
     ensures len { result ≡ length arguments.now }
@@ -32,7 +32,7 @@ pub(crate) fn count_arguments(arguments: &[Expr]) -> usize
 }
 
 /// Each subscript is evaluated.
-pub(crate) fn each_subscript<'a>(
+pub fn each_subscript<'a>(
     parts: &mut Vec<Task<'a>>,
     subscripts: &'a [Subscript],
 ) -> Result<(), AllocError>
@@ -46,10 +46,8 @@ pub(crate) fn each_subscript<'a>(
     Ok(())
 }
 
-pub(crate) fn each_argument<'a>(
-    parts: &mut Vec<Task<'a>>,
-    arguments: &'a [Expr],
-) -> Result<(), AllocError>
+/// Each argument is evaluated.
+pub fn each_argument<'a>(parts: &mut Vec<Task<'a>>, arguments: &'a [Expr]) -> Result<(), AllocError>
     ensures { OnOk result (Adds (each_tree (args_of arguments.now)) parts.old.items parts.new.items) }
 {
     let mut left = arguments;

@@ -16,8 +16,8 @@ use Rattle.mlk_tree.proofs.Variants.{tree_local, tree_global, tree_func, tree_ca
 use Rattle.mlk_names.specs.declared.reference.Extent.TheVariants.{Node}
 use Rattle.mlk_jobs.specs.Tasks.{Evaluate, Select, Call}
 use Rattle.mlk_jobs.specs.Expressions.{read_local, read_global, function_parts, of_global, takes_name, operation, each_actual, parts_of}
-use Rattle.mlk_parts.specs.PartViews.{subs_of, args_of, links_of, called_with, values_with, asked, named_function, is_variable, extrinsic_parts}
-use Rattle.mlk_parts.proofs.ExprParts.{listed}
+use Rattle.mlk_evaluation.specs.PartViews.{subs_of, args_of, links_of, called_with, values_with, asked, named_function, is_variable, extrinsic_parts}
+use Rattle.mlk_evaluation.proofs.ExprParts.{listed}
 
 pub tree_binary : (b : Box Expr Global) (v : Vec (Op × Expr) Global)
     → tree_of (rust.Binary b v) ≡ Chain (tree_of b.value) (links_from (links v.items))

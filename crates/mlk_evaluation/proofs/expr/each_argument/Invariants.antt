@@ -1,8 +1,8 @@
 use Rattle.std.proofs.Common.{◌≡◌, ◌++◌, length, map}
 use Rattle.mlk_jobs.specs.Expressions.{each_tree}
 use Rattle.mlk_jobs.specs.TaskViews.{task_of}
-use Rattle.mlk_parts.specs.PartViews.{args_of}
-use Rattle.mlk_parts.proofs.expr.each_argument.Given as goal
+use Rattle.mlk_evaluation.specs.PartViews.{args_of}
+use Rattle.mlk_evaluation.proofs.expr.each_argument.Given as goal
 
 abbrev pub invariant-loop-argument : goal.invariant-loop-argument
 invariant-loop-argument l = map task_of l.parts.items ++ each_tree (args_of l.left) ≡ map task_of l.fn.parts.items ++ each_tree (args_of l.fn.arguments)

@@ -4,7 +4,7 @@ ghost use Rattle.std.specs.Prelude.{◌≡◌, ◌∷◌, [], OnOk, option_map};
 ghost use Rattle.mlk_tree.specs.ExprTrees.{tree_of, actual_of, actual_trees, link, no_links};
 ghost use Rattle.mlk_jobs.specs.Expressions.{function_parts, takes_name, operation, each_actual, parts_of};
 ghost use Rattle.mlk_jobs.specs.TaskViews.{Adds};
-ghost use Rattle.mlk_parts.specs.PartViews.{args_of, links_of, is_pattern, called_with, extrinsic_parts, values_with};
+ghost use Rattle.mlk_evaluation.specs.PartViews.{args_of, links_of, is_pattern, called_with, extrinsic_parts, values_with};
 
 use crate::adding::add;
 use crate::expr::{
@@ -72,10 +72,7 @@ fn actual_parts<'a>(parts: &mut Vec<Task<'a>>, actual: &'a Actual) -> Result<(),
 
 /// Actuals by value.
 #[tactic(auto, using(crate::proofs::ExprParts::actual_turn))]
-pub(crate) fn each_actual<'a>(
-    parts: &mut Vec<Task<'a>>,
-    actuals: &'a [Actual],
-) -> Result<(), AllocError>
+pub fn each_actual<'a>(parts: &mut Vec<Task<'a>>, actuals: &'a [Actual]) -> Result<(), AllocError>
     ensures { OnOk result (Adds (each_actual (actual_trees actuals.now)) parts.old.items parts.new.items) }
 {
     let mut left = actuals;

@@ -2,7 +2,7 @@ use Rattle.std.proofs.Common.{◌≡◌, ◌++◌, length, map}
 use Rattle.mlk_tree.specs.ExprTrees.{actual_trees}
 use Rattle.mlk_jobs.specs.Expressions.{each_actual}
 use Rattle.mlk_jobs.specs.TaskViews.{task_of}
-use Rattle.mlk_parts.proofs.evaluate.each_actual.Given as goal
+use Rattle.mlk_evaluation.proofs.evaluate.each_actual.Given as goal
 
 abbrev pub invariant-loop-actual : goal.invariant-loop-actual
 invariant-loop-actual l = map task_of l.parts.items ++ each_actual (actual_trees l.left) ≡ map task_of l.fn.parts.items ++ each_actual (actual_trees l.fn.actuals)

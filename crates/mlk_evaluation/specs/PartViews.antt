@@ -7,8 +7,8 @@ use Rattle.mlk_tree.specs.declared.expr.Callee.{Callee}
 use Rattle.mlk_tree.specs.declared.expr.Function.{Function}
 use Rattle.mlk_tree.specs.declared.expr.Function.TheVariants as function
 use Rattle.mlk_tree.specs.ExprTrees.{Tree, LocalName, GlobalName, PatternText, Trees, Subs, Links, ActualTree, trees, trees_from, sub_trees, subs_from, links, links_from}
-use Rattle.mlk_parts.specs.declared.expr.Naming.{Naming}
-use Rattle.mlk_parts.specs.declared.expr.Naming.TheVariants as naming
+use Rattle.mlk_evaluation.specs.declared.expr.Naming.{Naming}
+use Rattle.mlk_evaluation.specs.declared.expr.Naming.TheVariants as naming
 use Rattle.mlk_jobs.specs.Tasks.{Task, AskValue, Call}
 use Rattle.mlk_jobs.specs.Expressions.{each_sub, count_subs, each_tree, count_trees, takes_name, each_actual}
 

@@ -1,8 +1,8 @@
 use Rattle.std.proofs.Common.{◌≡◌, ◌++◌, length, map}
 use Rattle.mlk_jobs.specs.Expressions.{operation}
 use Rattle.mlk_jobs.specs.TaskViews.{task_of}
-use Rattle.mlk_parts.specs.PartViews.{links_of}
-use Rattle.mlk_parts.proofs.evaluate.chain.Given as goal
+use Rattle.mlk_evaluation.specs.PartViews.{links_of}
+use Rattle.mlk_evaluation.proofs.evaluate.chain.Given as goal
 
 abbrev pub invariant-loop-link : goal.invariant-loop-link
 invariant-loop-link l = map task_of l.parts.items ++ operation (links_of l.left) ≡ map task_of l.fn.parts.items ++ operation (links_of l.fn.rest)

@@ -1,0 +1,3 @@
+pub mod ExprParts
+pub mod TreeParts
+pub mod PartCounts
