@@ -9,7 +9,7 @@ use Rattle.mlk_text.specs.Spellings.{IsName}
 use Rattle.mlk_text.proofs.Spelled.{name-parts}
 use Rattle.mlk_expr.specs.declared.scope.Allows.TheVariants.{Everything}
 use Rattle.mlk_tree.specs.ExprTrees.{Tree, Lit, Free, LocalName, GlobalName, SpecialName, Prefixed, Chain, PatternText, Func, Selected, BareCall, CallOf}
-use Rattle.mlk_expr.specs.Lexemes.{starts_reference}
+use Rattle.mlk_tokens.specs.Lexemes.{starts_reference}
 use Rattle.mlk_expr.specs.Grammar.{IsPlain, IsPattern, IsAtom, IsReference}
 use Rattle.mlk_expr.proofs.JoinedOperands.{canonical-number}
 use Rattle.mlk_expr.proofs.Joined.{number-first, sign-first}

@@ -5,7 +5,7 @@ use Rattle.std.proofs.lemmas.Option.{same_Some}
 use Rattle.mlk_expr.specs.declared.scope.Allows.{Allows}
 use Rattle.mlk_expr.specs.declared.scope.Allows.TheVariants.{Everything, NoTouches, NoCalls}
 use Rattle.mlk_tree.specs.ExprTrees.{Tree}
-use Rattle.mlk_expr.specs.Lexemes.{starts_reference}
+use Rattle.mlk_tokens.specs.Lexemes.{starts_reference}
 use Rattle.mlk_expr.specs.Grammar.{IsExprWhere}
 use Rattle.mlk_expr.specs.Theorem.{Stands, ExprEnds}
 use Rattle.mlk_tree.specs.declared.command.Sign.{Sign}

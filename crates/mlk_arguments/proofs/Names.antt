@@ -4,7 +4,7 @@ use Rattle.std.proofs.Common.{◌≡◌, ◌+◌, ℕ, suc, List, [], ◌∷◌,
 use Rattle.std.specs.Prelude.{◌||◌, ◌==◌}
 use Rattle.std.proofs.lemmas.Option.{same_Some}
 use Rattle.mlk_expr.specs.declared.scope.Allows.TheVariants.{Everything, NoCalls}
-use Rattle.mlk_expr.specs.Lexemes.{starts_reference}
+use Rattle.mlk_tokens.specs.Lexemes.{starts_reference}
 use Rattle.mlk_expr.specs.Grammar.{IsNameText}
 use Rattle.mlk_tree.specs.Trees.{VariableTree, KillTree, KillOne, KillAllBut, MergeTree, MergeInto, NewTree, NewOne, NewAllBut}
 use Rattle.mlk_arguments.specs.Told.{Nowhere, first_of, byte_at}

@@ -4,7 +4,7 @@ use Rattle.std.specs.Prelude.{Option}
 use Rattle.std.proofs.lemmas.Option.{same_Some}
 use Rattle.mlk_expr.specs.declared.scope.Allows.TheVariants.{Everything, NoCalls}
 use Rattle.mlk_tree.specs.ExprTrees.{Tree}
-use Rattle.mlk_expr.specs.Lexemes.{starts_reference}
+use Rattle.mlk_tokens.specs.Lexemes.{starts_reference}
 use Rattle.mlk_expr.specs.Grammar.{Spelled}
 use Rattle.mlk_tree.specs.Trees.{VariableTree, ReadTree, ReadText, ReadFormat, ReadLine, ReadCharacter}
 use Rattle.mlk_arguments.specs.Told.{first_of, byte_at}

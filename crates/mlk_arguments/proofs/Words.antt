@@ -11,7 +11,7 @@ use Rattle.mlk_text.specs.Lexemes.{is_letter, word_at, letters}
 use Rattle.mlk_text.specs.Spellings.{IsWord}
 use Rattle.mlk_text.proofs.Runs.{stops, run-is, parted}
 use Rattle.mlk_text.proofs.Spelled.{word-reads}
-use Rattle.mlk_expr.specs.Words.{is_either}
+use Rattle.mlk_tokens.specs.Words.{is_either}
 use Rattle.mlk_arguments.specs.declared.word.Word.{Word}
 use Rattle.mlk_arguments.specs.declared.word.Word.TheVariants as word
 use Rattle.mlk_tree.specs.Trees.{ActionTree, Do, Else, Halt, Hang, If, Job, Kill, Lock, Merge, New, Quit, Read, Set, Write}

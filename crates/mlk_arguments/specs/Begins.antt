@@ -11,7 +11,7 @@ use Rattle.mlk_expr.specs.declared.scope.Allows.TheVariants.{Everything, NoCalls
 use Rattle.mlk_expr.specs.declared.scope.Passing.{Passing}
 use Rattle.mlk_expr.specs.declared.scope.Passing.TheVariants.{ByReference, ByValue}
 use Rattle.mlk_tree.specs.ExprTrees.{Tree}
-use Rattle.mlk_expr.specs.Lexemes.{starts_reference}
+use Rattle.mlk_tokens.specs.Lexemes.{starts_reference}
 use Rattle.mlk_expr.specs.Grammar.{Spelled, IsExpr, IsReference, IsExprWhere, IsNameText, IsCallee}
 use Rattle.mlk_expr.proofs.JoinedOperands.{nested-opens}
 use Rattle.mlk_expr.proofs.JoinedParts.{opens}

@@ -9,7 +9,7 @@ use Rattle.mlk_expr.specs.declared.scope.Allows.TheVariants.{Everything, NoCalls
 use Rattle.mlk_expr.specs.declared.scope.Passing.{Passing}
 use Rattle.mlk_expr.specs.declared.scope.Passing.TheVariants.{ByReference, ByValue}
 use Rattle.mlk_tree.specs.ExprTrees.{Tree, LocalName, ActualTree}
-use Rattle.mlk_expr.specs.Words.{is_either}
+use Rattle.mlk_tokens.specs.Words.{is_either}
 use Rattle.mlk_expr.specs.Spellings.{IsQuoted}
 use Rattle.mlk_expr.specs.Grammar.{Spelled, IsList, AreNext, IsEnclosed, IsExprWhere, IsReferenceWhere}
 use Rattle.mlk_expr.specs.Grammar.{IsActualListWhere, IsCalleeText, IsNameText}

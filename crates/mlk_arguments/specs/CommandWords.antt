@@ -2,7 +2,7 @@
 -- choice. Left out by name: BREAK, CLOSE, GOTO, OPEN, USE, VIEW, XECUTE, TSTART, TCOMMIT, TROLLBACK, TRESTART, the
 -- commands of events, and all words that begin with Z.
 use Rattle.std.specs.Prelude.{ℕ, Bool, true, false, List, [], ◌∷◌, None, codes}
-use Rattle.mlk_expr.specs.Words.{is_either}
+use Rattle.mlk_tokens.specs.Words.{is_either}
 use Rattle.mlk_tree.specs.Trees.{ActionTree, Do, Else, Halt, Hang, If, Job, Kill, Lock, Merge, New, Quit, Read, Set}
 use Rattle.mlk_tree.specs.Trees.{Write, CommandTrees, finished, then_command, then_for, Does}
 

@@ -6,7 +6,7 @@ use Rattle.mlk_text.specs.declared.fault.Fault.{Fault}
 use Rattle.mlk_text.specs.Lexemes.{is_letter}
 use Rattle.mlk_text.specs.Spellings.{IsWord}
 use Rattle.mlk_tree.specs.ExprTrees.{Tree}
-use Rattle.mlk_expr.specs.Words.{is_either}
+use Rattle.mlk_tokens.specs.Words.{is_either}
 use Rattle.mlk_arguments.specs.declared.word.Word.{Word}
 use Rattle.mlk_arguments.specs.declared.word.Word.TheVariants as word
 use Rattle.mlk_tree.specs.Trees.{ActionTree, Do, Else, Halt, Hang, If, Job, Kill, Lock, Merge, New, Quit, Read, Set}

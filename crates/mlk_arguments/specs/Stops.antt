@@ -6,7 +6,7 @@ use Rattle.std.proofs.lemmas.Bool.{or_cases, eqb-true}
 use Rattle.std.proofs.lemmas.Option.{same_Some}
 use Rattle.mlk_text.specs.Lexemes.{is_digit}
 use Rattle.mlk_tree.specs.ExprTrees.{Tree}
-use Rattle.mlk_expr.specs.Lexemes.{ends}
+use Rattle.mlk_tokens.specs.Lexemes.{ends}
 use Rattle.mlk_expr.specs.Grammar.{has_subscript}
 use Rattle.mlk_expr.specs.Theorem.{ExprEnds, LabelEnds, callee_ends}
 use Rattle.mlk_tree.specs.Trees.{VariableTree, Named, CallTree, Called, DoTree, DoCall, KillTree, KillOne}

@@ -10,9 +10,9 @@ ghost use Rattle.mlk_tree.specs.Views.{variable_of, call_of};
 ghost use Rattle.mlk_arguments.specs.CommandGrammar.{IsAfter, IsVariable, IsCall};
 
 use crate::fault::{other_form, refused};
-use mlk_expr::lexeme::starts_reference;
 use mlk_expr::{Allows, read_expr_where, read_name, read_ref_where};
 use mlk_text::{Code, Column, Failure, Fault, Name};
+use mlk_tokens::lexeme::starts_reference;
 use mlk_tree::{Expr, Variable};
 use std::alloc::Global;
 

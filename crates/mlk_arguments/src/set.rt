@@ -17,9 +17,9 @@ use crate::fault::{leaves_out, refused};
 use crate::item::{Item, listed, one_or_enclosed};
 use crate::part::{expression, has, variable};
 use mlk_expr::Allows;
-use mlk_expr::words::{function_of, is_either, is_select};
 use mlk_text::lexeme::word_at;
 use mlk_text::{Code, Failure, Fault, LeftOut};
+use mlk_tokens::words::{function_of, is_either, is_select};
 use mlk_tree::{Expr, Part, SetArgument, Target};
 use std::alloc::{AllocError, Global};
 

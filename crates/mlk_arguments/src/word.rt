@@ -1,7 +1,7 @@
 // The words of commands.
 
 ghost use Rattle.std.specs.Prelude.{◌≡◌, ◌≤◌, ◌∷◌, [], ℕ, List, Some, None, if◌then◌else◌, length};
-ghost use Rattle.mlk_expr.specs.Words.{is_either};
+ghost use Rattle.mlk_tokens.specs.Words.{is_either};
 ghost use Rattle.mlk_arguments.specs.declared.word.Word.TheVariants as command;
 ghost use Rattle.mlk_arguments.specs.Told.{Told, IsRefusal};
 ghost use Rattle.mlk_arguments.specs.Faults.{IsFaulty};
@@ -9,9 +9,9 @@ ghost use Rattle.mlk_arguments.specs.CommandWords.{is_for};
 ghost use Rattle.mlk_arguments.specs.Kinds.{first_word, word_of, has_condition, IsNamed, WordEnds};
 
 use crate::fault::{no_command, refused};
-use mlk_expr::words::is_either;
 use mlk_text::lexeme::word_at;
 use mlk_text::{Code, Failure, Fault, Value};
+use mlk_tokens::words::is_either;
 use std::alloc::{AllocError, Global};
 
 /// A command but FOR, by its word.
@@ -101,7 +101,10 @@ fn word_of(word: &[u8]) -> Option<Word>
 pub fn is_for(word: &[u8]) -> bool
     ensures { result ≡ is_for word.now }
 {
-    is_either(b"F", b"FOR", word)
+    match word.first().copied() {
+        Some(b'F' | b'f') => is_either(b"F", b"FOR", word),
+        _ => false,
+    }
 }
 
 // The commands that are left out, short and whole.

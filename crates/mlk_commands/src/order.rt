@@ -86,9 +86,15 @@ fn is_upto(x: &[u8], y: &[u8]) -> bool
     x <= y
 }
 
+// Mostly both are single names, whose texts are their bytes.
 fn is_below(alloc: Global, first: &NameSet, second: &NameSet) -> Result<bool, AllocError>
     ensures { IfOk result (λ b. b ≡ names_below first.now second.now) }
 {
+    if let NameSet::Only(name) = first {
+        if let NameSet::Only(other) = second {
+            return Ok(!is_upto(other.as_bytes(), name.as_bytes()));
+        }
+    }
     let text = names_text(alloc, first)?;
     let other = names_text(alloc, second)?;
     Ok(!is_upto(other.as_slice(), text.as_slice()))
@@ -109,7 +115,7 @@ fn own_below(alloc: Global, first: &Own, second: &Own) -> Result<bool, AllocErro
 fn before(alloc: Global, own: &[Own], item: &Own) -> Result<Vec<Own>, AllocError>
     ensures { IfOk result (λ v. v.items ≡ filter (λ p. own_below p item.now) own.now) }
 {
-    let mut found = Vec::new(alloc);
+    let mut found = Vec::with_capacity(alloc, own.len().saturating_add(1))?;
     for other in own {
         if own_below(alloc, other, item)? {
             found.push(copy_of(other)?)?;

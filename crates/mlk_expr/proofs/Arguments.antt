@@ -12,7 +12,7 @@ use Rattle.mlk_tree.specs.declared.expr.Function.{Function}
 use Rattle.mlk_expr.specs.declared.scope.Allows.TheVariants.{NoTouches}
 use Rattle.mlk_expr.specs.declared.scope.Passing.TheVariants.{ByReference}
 use Rattle.mlk_expr.specs.Touches.{may_stand}
-use Rattle.mlk_expr.specs.Lexemes.{column_of, lent_at, is_missing, starts_reference}
+use Rattle.mlk_tokens.specs.Lexemes.{column_of, lent_at, is_missing, starts_reference}
 use Rattle.mlk_expr.specs.Grammar.{has_subscript, asks_subscript}
 use Rattle.mlk_expr.proofs.Followed.{Quiet, Next, IsList, IsActual, IsActuals, IsArguments, IsChoice, IsCallee}
 use Rattle.mlk_expr.specs.Reading.{quietly, next, list_with, actual_by, actual_with, actuals_by, actuals_with, label_alone, label_in, routine_alone, routine_by, callee_by, callee_at, choice_with, others_by, name_and, arguments_by}

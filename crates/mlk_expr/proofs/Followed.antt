@@ -11,8 +11,8 @@ use Rattle.mlk_tree.specs.ExprTrees.{Tree, Lit, Free, LocalName, GlobalName, Spe
 use Rattle.mlk_expr.specs.declared.scope.Allows.TheVariants.{NoTouches}
 use Rattle.mlk_expr.specs.Touches.{may_stand}
 use Rattle.mlk_expr.specs.Grammar.{chained, named, has_subscript, asks_subscript}
-use Rattle.mlk_expr.specs.Words.{special_of, function_of, is_select}
-use Rattle.mlk_expr.specs.Lexemes.{column_of, op_at, is_match, unary_of, numeral_at, count_at, pattern_codes_at, lent_at, starts_reference, is_missing, ends}
+use Rattle.mlk_tokens.specs.Words.{special_of, function_of, is_select}
+use Rattle.mlk_tokens.specs.Lexemes.{column_of, op_at, is_match, unary_of, numeral_at, count_at, pattern_codes_at, lent_at, starts_reference, is_missing, ends}
 
 -- after a comma
 abbrev pub Next : {A : Type 0} → (A → List ℕ → List ℕ → Type 0) → ℕ → A → List ℕ → List ℕ → Type 0

@@ -8,13 +8,13 @@ use Rattle.mlk_text.proofs.Lexemes.{byte-is, name-after, quoted-sound, quoted-co
 use Rattle.mlk_text.proofs.Readers.{then_some, pair_parts, with_some, After, after-one, after_then, Exact}
 use Rattle.mlk_tree.specs.declared.expr.Callee.{Callee}
 use Rattle.mlk_tree.specs.declared.expr.Special.{Special}
-use Rattle.mlk_expr.specs.declared.lexeme.Kind.{Kind}
-use Rattle.mlk_expr.specs.declared.lexeme.Kind.TheVariants as kind
+use Rattle.mlk_tokens.specs.declared.lexeme.Kind.{Kind}
+use Rattle.mlk_tokens.specs.declared.lexeme.Kind.TheVariants as kind
 use Rattle.mlk_tree.specs.ExprTrees.{Tree, Lit, Free, LocalName, GlobalName, SpecialName, Prefixed, Chain, PatternText, Func, Selected, BareCall, CallOf}
 use Rattle.mlk_expr.specs.declared.scope.Allows.TheVariants.{Everything}
 use Rattle.mlk_expr.specs.declared.scope.Passing.TheVariants.{ByReference}
-use Rattle.mlk_expr.specs.Words.{special_of, function_of, is_select}
-use Rattle.mlk_expr.specs.Lexemes.{column_of, kind_of, numeral_at}
+use Rattle.mlk_tokens.specs.Words.{special_of, function_of, is_select}
+use Rattle.mlk_tokens.specs.Lexemes.{column_of, kind_of, numeral_at}
 use Rattle.mlk_expr.specs.Grammar.{named}
 use Rattle.mlk_expr.proofs.Followed.{IsPattern, IsChain, IsPlain, IsOperand, IsAtom, IsChoice}
 use Rattle.mlk_expr.specs.Reading.{quietly, number_by, number_of, pattern_at, chain_with, subs_with, actuals_with, callee_at, call_by, call_with, arguments_by, arguments_with, choice_with, list_with, function_with, special_by, word_by, dollar_by, dollar_with, atom_by, operand_with, atom_at}

@@ -14,8 +14,8 @@ use Rattle.mlk_expr.specs.declared.scope.Allows.{Allows}
 use Rattle.mlk_expr.specs.declared.scope.Allows.TheVariants.{NoTouches}
 use Rattle.mlk_expr.specs.declared.scope.Passing.{Passing}
 use Rattle.mlk_expr.specs.Touches.{may_stand, subs_stand, given_stand, Standing}
-use Rattle.mlk_expr.specs.Words.{special_of, function_of, is_select}
-use Rattle.mlk_expr.specs.Lexemes.{is_match, starts_reference}
+use Rattle.mlk_tokens.specs.Words.{special_of, function_of, is_select}
+use Rattle.mlk_tokens.specs.Lexemes.{is_match, starts_reference}
 use Rattle.mlk_text.specs.Places.{column_at}
 use Rattle.mlk_text.specs.Spellings.{IsName, IsLabel, IsWord}
 use Rattle.mlk_expr.specs.Spellings.{IsNumber, IsQuoted, IsCount, IsCodes, op_text, unary_text}

@@ -11,7 +11,7 @@ use Rattle.mlk_expr.specs.Touches.{lends}
 use Rattle.mlk_text.specs.declared.failure.Failure.{Failure}
 use Rattle.mlk_text.specs.declared.failure.Failure.TheVariants.{OutOfMemory, Refused}
 use Rattle.mlk_tree.specs.ExprTrees.{Tree, ActualTree}
-use Rattle.mlk_expr.specs.Lexemes.{ends}
+use Rattle.mlk_tokens.specs.Lexemes.{ends}
 use Rattle.mlk_expr.specs.Grammar.{has_subscript, IsExpr, IsReference, IsActualList}
 
 -- What may stand after an expression: the line's end, or one of the bytes that end one;

@@ -3,16 +3,13 @@
 
 mod fault;
 mod law;
-pub mod lexeme;
 mod named;
-mod numeral;
 mod part;
 mod pattern;
 mod public;
 mod read;
 mod refusal;
 mod scope;
-pub mod words;
 
 pub use law::one_tree;
 pub use mlk_text::{Op, Relation, UnaryOp};

@@ -4,13 +4,12 @@ ghost use Rattle.std.specs.Prelude.{◌≡◌, IfOk};
 ghost use Rattle.mlk_text.specs.Failures.{Reads, IsRefused};
 ghost use Rattle.mlk_text.specs.Lexemes.{name_at, label_at, inside};
 ghost use Rattle.mlk_text.specs.Reading.{with};
-ghost use Rattle.mlk_expr.specs.Lexemes.{numeral_at, lent_at};
+ghost use Rattle.mlk_tokens.specs.Lexemes.{numeral_at, lent_at};
 ghost use Rattle.mlk_tree.specs.ExprTrees.{Lit, tree_of};
 ghost use Rattle.mlk_expr.specs.Grammar.{named, has_subscript, asks_subscript};
 ghost use Rattle.mlk_expr.specs.Reading.{where_may, number_of, callee_at};
 ghost use Rattle.mlk_expr.specs.Touches.{globals_may};
 
-use crate::numeral::numeral_at;
 use crate::refusal::{
     Offence, Wrong, no_global, no_label, no_name, no_number, no_routine, refused,
 };
@@ -18,6 +17,7 @@ use crate::scope::Allows;
 use mlk_text::lexeme::{byte_of, is_text_byte};
 use mlk_text::spelling::{label_text, name_text};
 use mlk_text::{Failure, Name, Value, literal};
+use mlk_tokens::numeral::numeral_at;
 use mlk_tree::{Callee, Expr, Function};
 use mlk_values::canonical;
 use std::alloc::{AllocError, Global};

@@ -10,7 +10,6 @@ ghost use Rattle.mlk_expr.specs.Theorem.{ExprEnds, ReferenceEnds, ListEnds, Stan
 ghost use Rattle.mlk_expr.specs.declared.scope.Passing.TheVariants.{ByReference};
 
 use crate::fault::located;
-use crate::lexeme::{column_of, may_end, starts_reference};
 use crate::part::global_name;
 use crate::read::actuals::actuals;
 use crate::read::chain;
@@ -19,6 +18,7 @@ use crate::refusal::{Offence, Wrong, no_end, no_operand, refused};
 use crate::scope::{Allows, Passing, Scope};
 use mlk_text::lexeme::byte_of;
 use mlk_text::{Failure, Fault};
+use mlk_tokens::lexeme::{column_of, may_end, starts_reference};
 use mlk_tree::{Actual, Expr};
 use std::alloc::Global;
 

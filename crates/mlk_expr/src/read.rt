@@ -2,7 +2,7 @@
 
 ghost use Rattle.std.specs.Prelude.{suc, length};
 ghost use Rattle.mlk_text.specs.Reading.{with, many};
-ghost use Rattle.mlk_expr.specs.Lexemes.{op_at, is_match};
+ghost use Rattle.mlk_tokens.specs.Lexemes.{op_at, is_match};
 ghost use Rattle.mlk_tree.specs.ExprTrees.{Prefixed, tree_of, links};
 ghost use Rattle.mlk_expr.specs.Reading.{nested_in, pattern_at, right_by, linked, enclosed_with, operand_in, atom_in};
 ghost use Rattle.mlk_text.specs.Failures.{Reads};
@@ -11,7 +11,6 @@ pub mod actuals;
 mod functions;
 pub mod names;
 
-use crate::lexeme::{Kind, is_match, kind_of, op_at};
 use crate::part::{number, text};
 use crate::pattern::pattern;
 use crate::read::functions::dollar;
@@ -20,6 +19,7 @@ use crate::refusal::{Offence, Wrong, no_end, no_operand, refused, too_deep};
 use crate::scope::Scope;
 use mlk_text::lexeme::byte_of;
 use mlk_text::{Failure, Op, UnaryOp, Value, push_sparing};
+use mlk_tokens::lexeme::{Kind, is_match, kind_of, op_at};
 use mlk_tree::Expr;
 use std::alloc::Global;
 

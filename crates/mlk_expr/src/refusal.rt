@@ -3,12 +3,12 @@
 ghost use Rattle.std.specs.Prelude.{◌≡◌};
 ghost use Rattle.mlk_text.specs.Failures.{IsRefused, IsLike};
 
-use crate::lexeme::{Kind, count_at, kind_of};
-use crate::numeral::mantissa_len;
 use crate::scope::Allows;
-use crate::words::{function_of, is_select, special_of};
 use mlk_text::lexeme::{byte_of, is_digit, word_at};
 use mlk_text::{Failure, LeftOut};
+use mlk_tokens::lexeme::{Kind, count_at, kind_of};
+use mlk_tokens::numeral::mantissa_len;
+use mlk_tokens::words::{function_of, is_select, special_of};
 use mlk_tree::{Actual, Expr};
 
 /// What is wrong.

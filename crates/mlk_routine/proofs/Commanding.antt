@@ -7,7 +7,7 @@ use Rattle.std.proofs.lemmas.Bool.Decides.{nat_tests}
 use Rattle.mlk_text.specs.Lexemes.{is_letter}
 use Rattle.mlk_tree.specs.ExprTrees.{Tree}
 use Rattle.mlk_expr.specs.Grammar.{Spelled}
-use Rattle.mlk_expr.specs.Lexemes.{ends}
+use Rattle.mlk_tokens.specs.Lexemes.{ends}
 use Rattle.mlk_expr.specs.Theorem.{ExprEnds}
 use Rattle.mlk_arguments.specs.declared.word.Word.{Word}
 use Rattle.mlk_tree.specs.Trees.{ActionTree, Do, Else, Halt, Hang, If, Job, Kill, Lock, Merge, New, Quit, Read, Set, Write, CommandTree, Does}

@@ -8,6 +8,7 @@ pub mod Labels
 pub mod FormalLists
 pub mod Starts
 pub mod Fronts
+pub mod LineBytes
 pub mod Tails
 pub mod Reaching
 pub mod Heads

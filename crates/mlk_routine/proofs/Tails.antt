@@ -9,7 +9,7 @@ use Rattle.std.proofs.lemmas.Bool.Decides.{nat_tests}
 use Rattle.std.proofs.lemmas.Slice.Eq.{bytes_eq-Decides}
 use Rattle.std.proofs.lemmas.Str.Ascii.{lowercase_is}
 use Rattle.mlk_text.specs.Lexemes.{is_text_byte, is_text}
-use Rattle.mlk_expr.specs.Words.{is_either}
+use Rattle.mlk_tokens.specs.Words.{is_either}
 use Rattle.mlk_expr.specs.Theorem.{Stands}
 use Rattle.mlk_tree.specs.Trees.{ActionTree, Do, Else, Halt, Hang, If, Job, Kill, Lock, Merge, New, Quit, Read, Set, Write, CommandTree, Does, ControlTree, CommandTrees, finished, then_command, then_for}
 use Rattle.mlk_arguments.specs.Told.{Found, Nowhere}

@@ -1,6 +1,6 @@
 -- Lines, blocks and routines, from trees to texts.
 use Rattle.std.specs.Prelude.{ℕ, zero, suc, ◌≡◌, ◌≢◌, ◌<◌, ◌≤◌, ◌+◌, ◌⊎◌, ◌==◌, ◌||◌, not, Bool, true, List, []}
-use Rattle.std.specs.Prelude.{◌∷◌, ◌++◌, length, if◌then◌else◌, Option, Some, None, Contains}
+use Rattle.std.specs.Prelude.{◌∷◌, ◌++◌, length, if◌then◌else◌, Option, Some, None}
 use Rattle.std.specs.List.{list_all}
 use Rattle.mlk_text.specs.Lexemes.{is_text}
 use Rattle.mlk_text.specs.Spellings.{IsName, IsLabel}

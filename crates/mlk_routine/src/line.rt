@@ -14,6 +14,7 @@ use crate::label::label;
 use crate::reach::reaches_block;
 use crate::seen::Seen;
 use crate::tail::tail;
+use bstr::ByteSlice;
 use mlk_arguments::refused;
 use mlk_text::{Code, Failure, Fault, Name};
 use mlk_tree::Line;
@@ -133,9 +134,10 @@ fn line_bytes(text: &[u8]) -> usize
     ensures value { result ≡ prefix_len is_line_byte text.now }
     ensures within { result ≤ length text.now }
 {
-    text.iter()
-        .take_while(|b| !(**b == b'\n' || **b == b'\r'))
-        .count()
+    match text.find_byteset(b"\n\r") {
+        Some(end) => end,
+        None => text.len(),
+    }
 }
 
 /// A line, without its block.

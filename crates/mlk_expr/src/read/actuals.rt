@@ -3,23 +3,23 @@
 ghost use Rattle.std.specs.Prelude.{◌∷◌, [], suc, length};
 ghost use Rattle.mlk_text.specs.Lexemes.{byte_at};
 ghost use Rattle.mlk_text.specs.Reading.{many, put};
-ghost use Rattle.mlk_expr.specs.Lexemes.{column_of};
+ghost use Rattle.mlk_tokens.specs.Lexemes.{column_of};
 ghost use Rattle.mlk_tree.specs.ExprTrees.{tree_of, actual_of, actual_trees};
 ghost use Rattle.mlk_expr.specs.Reading.{next, nested_in, list_with, actual_with, actuals_with, call_with};
 ghost use Rattle.mlk_expr.specs.Touches.{calls_may};
 ghost use Rattle.mlk_text.specs.Failures.{Reads};
 
-use crate::lexeme::{column_of, is_missing};
 use crate::part::{callee, name};
 use crate::read::chain;
 use crate::refusal::{Offence, Wrong, no_actual, no_actuals_end, no_call, refused};
 use crate::scope::{Passing, Scope};
 use mlk_text::lexeme::byte_of;
 use mlk_text::{Failure, likely_length};
+use mlk_tokens::lexeme::{column_of, is_missing};
 use mlk_tree::{Actual, Expr};
 use std::alloc::Global;
 
-#[tactic(auto, unfolding(crate::specs::Reading::actual_with, crate::specs::Lexemes::lent_at))]
+#[tactic(auto, unfolding(crate::specs::Reading::actual_with, mlk_tokens::specs::Lexemes::lent_at))]
 #[cycle(reading)]
 fn actual(
     alloc: Global,

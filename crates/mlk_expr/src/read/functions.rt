@@ -3,14 +3,13 @@
 ghost use Rattle.std.specs.Prelude.{◌∷◌, [], suc, length};
 ghost use Rattle.mlk_text.specs.Lexemes.{byte_at};
 ghost use Rattle.mlk_text.specs.Reading.{many, put};
-ghost use Rattle.mlk_expr.specs.Lexemes.{column_of};
+ghost use Rattle.mlk_tokens.specs.Lexemes.{column_of};
 ghost use Rattle.mlk_tree.specs.ExprTrees.{tree_of, trees, choice_of, choices};
 ghost use Rattle.mlk_expr.specs.Reading.{few, next, nested_in, list_with, choice_with, arguments_with, function_with};
 ghost use Rattle.mlk_expr.specs.Reading.{dollar_with, atom_in, quiet};
 ghost use Rattle.mlk_expr.specs.Touches.{calls_may};
 ghost use Rattle.mlk_text.specs.Failures.{Reads};
 
-use crate::lexeme::starts_reference;
 use crate::part::{asks_subscript, has_subscript, named};
 use crate::read::actuals::call;
 use crate::read::{atom, chain};
@@ -18,9 +17,10 @@ use crate::refusal::{
     Offence, Wrong, no_arguments_end, no_end, no_function, no_operand, no_word, refused,
 };
 use crate::scope::{Allows, Scope};
-use crate::words::{function_of, is_select, special_of};
 use mlk_text::lexeme::{byte_of, word_at};
 use mlk_text::{Failure, likely_length};
+use mlk_tokens::lexeme::starts_reference;
+use mlk_tokens::words::{function_of, is_select, special_of};
 use mlk_tree::{Expr, Function};
 use std::alloc::Global;
 

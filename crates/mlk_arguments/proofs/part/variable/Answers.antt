@@ -1,5 +1,5 @@
 use Rattle.std.proofs.Common.{◌≡◌, false, subst, sym, refl}
-use Rattle.mlk_expr.specs.Lexemes.{starts_reference}
+use Rattle.mlk_tokens.specs.Lexemes.{starts_reference}
 use Rattle.mlk_arguments.specs.Ends.{VariableEnds}
 use Rattle.mlk_arguments.specs.CommandGrammar.{IsVariable}
 use Rattle.mlk_arguments.proofs.Outcomes.{denies}

@@ -4,7 +4,7 @@ use Rattle.std.proofs.lemmas.Result.{err_from_is_err_and}
 use Rattle.mlk_text.specs.Lexemes.{byte_at}
 use Rattle.mlk_text.specs.Reading.{◌>>=◌, with}
 use Rattle.mlk_text.proofs.Readers.{many_stops, many_goes}
-use Rattle.mlk_expr.specs.Lexemes.{column_of, op_at}
+use Rattle.mlk_tokens.specs.Lexemes.{column_of, op_at}
 use Rattle.mlk_tree.specs.ExprTrees.{CallOf, actuals_from, tree_of, trees, sub_of, sub_trees, links, choice_of, choices, actual_of, actual_trees}
 use Rattle.mlk_tree.proofs.Variants.{tree_local, tree_global, tree_call, tree_func}
 use Rattle.mlk_expr.proofs.Followed.{IsPlaced, IsChoice}

@@ -1,13 +1,13 @@
 // Numeric literals as they are written.
 
 ghost use Rattle.std.specs.Prelude.{◌≡◌, ◌≤◌, length, option_map};
-ghost use Rattle.mlk_expr.specs.Lexemes.{signed_len, exponent_len, mantissa_len, lacks_exponent, numeral_at};
+ghost use Rattle.mlk_tokens.specs.Lexemes.{signed_len, exponent_len, mantissa_len, lacks_exponent, numeral_at};
 
 use mlk_text::lexeme::digits;
 
 /// How many bytes of a numeric literal stand before its exponent: 0 where no digit does.
 #[tactic(auto, unfolding(crate::specs::Lexemes::mantissa_len))]
-pub(crate) fn mantissa_len(bytes: &[u8]) -> usize
+pub fn mantissa_len(bytes: &[u8]) -> usize
     ensures value { result ≡ mantissa_len bytes.now }
     ensures within { result ≤ length bytes.now }
 {
@@ -66,7 +66,7 @@ fn lacks_exponent(bytes: &[u8]) -> bool
 
 /// The numeric literal at the front, as it is written, and what is after it.
 #[tactic(auto, unfolding(crate::specs::Lexemes::numeral_at))]
-pub(crate) fn numeral_at(bytes: &[u8]) -> Option<(&[u8], &[u8])>
+pub fn numeral_at(bytes: &[u8]) -> Option<(&[u8], &[u8])>
     ensures { option_map (λ x. (x.0.now, x.1.now)) result ≡ numeral_at bytes.now }
 {
     let n = mantissa_len(bytes);

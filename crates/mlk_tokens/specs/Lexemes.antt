@@ -11,8 +11,8 @@ use Rattle.mlk_text.specs.declared.operator.Relation.{Relation}
 use Rattle.mlk_text.specs.declared.operator.Relation.TheVariants as relation
 use Rattle.mlk_text.specs.declared.operator.UnaryOp.{UnaryOp}
 use Rattle.mlk_text.specs.declared.operator.UnaryOp.TheVariants as unary
-use Rattle.mlk_expr.specs.declared.lexeme.Kind.{Kind}
-use Rattle.mlk_expr.specs.declared.lexeme.Kind.TheVariants as kind
+use Rattle.mlk_tokens.specs.declared.lexeme.Kind.{Kind}
+use Rattle.mlk_tokens.specs.declared.lexeme.Kind.TheVariants as kind
 
 -- the column where xs begins, in a line whose end has this column
 abbrev pub column_of : ℕ → List ℕ → ℕ

@@ -1,9 +1,9 @@
 // The smallest parts of expressions: operators, counts and codes of patterns, and what a byte begins.
 
 ghost use Rattle.std.specs.Prelude.{◌≡◌, ◌≤◌, length, option_map};
-ghost use Rattle.mlk_expr.specs.Lexemes.{column_of, arithmetic_of, relation_of, relation_at, arithmetic_at, op_at};
-ghost use Rattle.mlk_expr.specs.Lexemes.{is_match, unary_of, kind_of, count_at, is_pattern_code, pattern_codes};
-ghost use Rattle.mlk_expr.specs.Lexemes.{pattern_codes_at, starts_reference, is_missing, ends};
+ghost use Rattle.mlk_tokens.specs.Lexemes.{column_of, arithmetic_of, relation_of, relation_at, arithmetic_at, op_at};
+ghost use Rattle.mlk_tokens.specs.Lexemes.{is_match, unary_of, kind_of, count_at, is_pattern_code, pattern_codes};
+ghost use Rattle.mlk_tokens.specs.Lexemes.{pattern_codes_at, starts_reference, is_missing, ends};
 
 use mlk_text::lexeme::{byte_of, digits, is_digit, is_letter};
 use mlk_text::{Column, Op, Relation, UnaryOp};
