@@ -9,3 +9,6 @@ pub mod SystemLemmas
 pub mod LeavingLemmas
 pub mod EntryLemmas
 pub mod HeldLemmas
+pub mod KeyLemmas
+pub mod HolderLemmas
+pub mod TableLemmas

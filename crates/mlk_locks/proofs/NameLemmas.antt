@@ -30,7 +30,7 @@ first_is (x ∷ xs) (y ∷ ys) h =
     let p = and_parts (bytes_eq x y) (are_first xs ys) h in
     begins_cons x y xs ys ((bytes_eq-Decides x y).0 p.0) (first_is xs ys p.1)
 
-first_if : (xs ys : List (List ℕ)) → Begins xs ys → are_first xs ys ≡ true
+pub first_if : (xs ys : List (List ℕ)) → Begins xs ys → are_first xs ys ≡ true
 first_if [] ys b = refl
 first_if (x ∷ xs) [] b = absurd (begins_past x xs b)
 first_if (x ∷ xs) (y ∷ ys) b =

@@ -1,7 +1,7 @@
 -- A search along those that wait for one another finds a ring where there is one.
 use Rattle.std.proofs.Common.{◌≡◌, ◌≢◌, ◌<◌, ◌≤◌, ◌+◌, ℕ, zero, suc, Bool, true, false, Some, List, [], ◌∷◌, length, refl, sym, ap, ◌∙◌, subst, arith, inl, inr, set, get_or, ◌++◌, reverse}
 use Rattle.std.specs.Prelude.{◌⊎◌, ◌&&◌, ◌==◌, not}
-use Rattle.std.proofs.lemmas.Bool.{cases_lt, and_parts, not-true}
+use Rattle.std.proofs.lemmas.Bool.{and_parts, not-true}
 use Rattle.std.proofs.lemmas.List.{length-set, length-append, reverse-append}
 use Rattle.std.proofs.lemmas.List.Sums.{sum_by-set}
 use Rattle.std.specs.List.{list_any, slice_get, sum_by}
@@ -14,7 +14,7 @@ use Rattle.mlk_locks.specs.Counts.{excludes}
 use Rattle.mlk_locks.specs.Waiting.{View, awaited, waits, waits_as}
 use Rattle.mlk_locks.specs.Lists.{Among, is_some_there}
 use Rattle.mlk_locks.specs.Rings.{left, has_ring}
-use Rattle.mlk_locks.specs.Searches.{is_free, is_new, IsFree, FreeAt, AreFree, Passed, WaitsAt, IsNext, IsPath, places, IsMet, Searching, weight}
+use Rattle.mlk_locks.specs.Searches.{is_free, is_new, IsFree, FreeAt, AreFree, WaitsFreely, Waits, WaitsAt, IsNext, IsStop, Leads, IsPath, places, IsMet, Searching, weight}
 use Rattle.mlk_locks.proofs.RingLemmas.{left_within, left_each, ring_is_found}
 
 -- what stands in a list has a place
@@ -70,13 +70,9 @@ less_by_new marks i n h =
     omega (arith, w, sum_by-set weight marks i OnPath New l)
 
 -- the path, with one more on it
-pub longer : (before path path' : List Stop) (p i : ℕ) → path ≡ before ++ record { place = p; next = i } ∷ []
-    → path' ≡ path ++ record { place = i; next = 0 } ∷ []
-    → (reverse path' ≡ record { place = i; next = 0 } ∷ record { place = p; next = i } ∷ reverse before)
-    × (length path' ≡ length before + 2)
-longer before path path' p i e f =
-    let one : Stop = record { place = p; next = i } in
-    let two : Stop = record { place = i; next = 0 } in
+pub longer : (before path path' : List Stop) (one two : Stop) → path ≡ before ++ one ∷ [] → path' ≡ path ++ two ∷ []
+    → (reverse path' ≡ two ∷ one ∷ reverse before) × (length path' ≡ length before + 2)
+longer before path path' one two e f =
     let a : length path ≡ length before + 1 = ap length e ∙ length-append before (one ∷ []) in
     let b : length path' ≡ length path + 1 = ap length f ∙ length-append path (two ∷ []) in (
       ap reverse f ∙ reverse-append path (two ∷ []) ∙ ap (λ l. two ∷ reverse l) e
@@ -96,7 +92,7 @@ set_at (k ∷ ks) (suc i) (suc j) m n l h = elim (set_at ks i j m n (omega (arit
   | inr other ↦ inr (λ e. other.0 (omega (arith, e)), other.1)
 ]
 
-some_at : {X : Type 0} (xs : List X) (i : ℕ) → i < length xs → (x : X) × (slice_get xs i ≡ Some x)
+pub some_at : {X : Type 0} (xs : List X) (i : ℕ) → i < length xs → (x : X) × (slice_get xs i ≡ Some x)
 some_at [] i l = absurd (omega (arith, l))
 some_at (x ∷ xs) zero l = (x, refl)
 some_at (x ∷ xs) (suc i) l = some_at xs i (omega (arith, l))
@@ -112,11 +108,14 @@ waits_for_none x y h = none (not (x.number == y.number)) (awaited x.next) h
 
 module _ {X : Type 0} (waits : X → X → Bool) (xs : List X) where
   -- it waits for none but such as are in no ring, so it is in none
-  pub passes_all : (x : X) (count : ℕ) → length xs ≤ count → Passed waits xs x count → IsFree waits xs x
-  passes_all x count l h a =
+  pub passes_all : (x : X) → Waits waits xs x [] → IsFree waits xs x
+  passes_all x h a =
       let e = left_each waits xs x a in
       let p = place_in xs e.0 (left_within waits (length xs) xs e.0 e.1) in
-      h p.0 (omega (arith, l, slice_get_within xs p.0 e.0 p.1)) e.0 p.1 e.2 e.1
+      elim (h p.0) [
+        | inl z ↦ z
+        | inr f ↦ f e.0 p.1 e.2 e.1
+      ]
 
   -- all are in no ring
   pub all_free : ((i : ℕ) → i < length xs → FreeAt waits xs i) → has_ring waits xs ≡ false
@@ -174,43 +173,69 @@ module _ {X : Type 0} (waits : X → X → Bool) (xs : List X) where
         ];
       })
 
-  -- one more is passed
-  pub pass : (x : X) (count : ℕ) → Passed waits xs x count
-      → ((y : X) → slice_get xs count ≡ Some y → waits x y ≡ true → IsFree waits xs y) → Passed waits xs x (count + 1)
-  pass x count h one i l y e w = elim (cases_lt i count) [
-    | inl within ↦ h i within y e w
-    | inr past ↦
-        let same : i ≡ count = omega (arith, l, past) in
-        let P : ℕ → Type 0 = λ j. slice_get xs j ≡ Some y in one y (subst P same e) w
+  -- one of those that are left goes
+  pub one_less : (x : X) (old new : List ℕ) (i : ℕ) → Waits waits xs x old → old ≡ new ++ i ∷ []
+      → WaitsFreely waits xs x i → Waits waits xs x new
+  one_less x old new i h e f j = elim (h j) [
+    | inl a ↦ elim (among_more j new i (subst (λ (l : List ℕ). Among j l) e a)) [
+      | inl b ↦ inl b
+      | inr same ↦ inr (subst (WaitsFreely waits xs x) (sym same) f)
+    ]
+    | inr g ↦ inr g
+  ]
+    where
+      among_more : (j : ℕ) (l : List ℕ) (i : ℕ) → Among j (l ++ i ∷ []) → Among j l ⊎ (j ≡ i)
+      among_more j [] i (inl e) = inr e
+      among_more j [] i (inr e) = absurd e
+      among_more j (k ∷ l) i (inl e) = inl (inl e)
+      among_more j (k ∷ l) i (inr a) = elim (among_more j l i a) [
+        | inl b ↦ inl (inr b)
+        | inr same ↦ inr same
+      ]
+
+  nothing : (l : List ℕ) → (0 < length l → ⊥) → l ≡ []
+  nothing [] h = refl
+  nothing (i ∷ l) h = absurd (h (omega arith))
+
+  -- none of them is left
+  pub none_left : (x : X) (left : List ℕ) → Waits waits xs x left → (0 < length left → ⊥) → IsFree waits xs x
+  none_left x left h none = passes_all x (subst (λ (l : List ℕ). Waits waits xs x l) (nothing left none) h)
+
+  pub none_waits : (x : X) (left other : List ℕ) → Waits waits xs x left → (0 < length left → ⊥) → Waits waits xs x other
+  none_waits x left other h none i = elim (h i) [
+    | inl a ↦ absurd (subst (λ (l : List ℕ). Among i l) (nothing left none) a)
+    | inr f ↦ inr f
   ]
 
   -- it waits for the one at this place, which may be in a ring
-  pub next_found : (marks : List Mark) (x y : X) (m : Mark) (i : ℕ) → Passed waits xs x i → slice_get xs i ≡ Some y
+  pub next_found : (marks : List Mark) (x y : X) (m : Mark) (i : ℕ) → slice_get xs i ≡ Some y
       → slice_get marks i ≡ Some m → true ≡ (not (is_free m) && waits x y) → IsNext waits xs marks x i
-  next_found marks x y m i p e f h =
+  next_found marks x y m i e f h =
       let t = and_parts (not (is_free m)) (waits x y) (sym h) in
       record {
         waits_for = record { other = y; is_at = e; does = t.1 };
         mark = m;
         is_marked = f;
         is_left = λ z. marked_free m z (not-true (is_free m) t.0);
-        passed = p;
       }
 
   -- it does not wait for the one at this place, or that is in no ring
-  pub next_passed : (marks : List Mark) (x y : X) (m : Mark) (i : ℕ) → AreFree waits xs marks → Passed waits xs x i
+  pub next_passed : (marks : List Mark) (x y : X) (m : Mark) (i : ℕ) → AreFree waits xs marks
       → slice_get xs i ≡ Some y → slice_get marks i ≡ Some m → false ≡ (not (is_free m) && waits x y)
-      → Passed waits xs x (i + 1)
-  next_passed marks x y m i free p e f h =
-      pass x i p (λ z g w.
+      → WaitsFreely waits xs x i
+  next_passed marks x y m i free e f h z g w =
       let same : y ≡ z = one_value i y z e g in
       let waits_so : waits x y ≡ true = ap (waits x) same ∙ w in
       let marked : is_free m ≡ true = marked_so (is_free m) (waits x y) h waits_so in
-      free i (f ∙ ap Some (is_marked m marked)) z g)
+      free i (f ∙ ap Some (is_marked m marked)) z g
     where
       marked_so : (a b : Bool) → false ≡ (not a && b) → b ≡ true → a ≡ true
       marked_so true b h e = refl
       marked_so false b h e = absurd (let g : false ≡ true = h ∙ e in cc)
+
+  -- there is none at this place
+  pub past_all : (x : X) (i : ℕ) → length xs ≤ i → WaitsFreely waits xs x i
+  past_all x i l y e w = absurd (omega (arith, l, slice_get_within xs i y e))
 
   -- a job that waits for none but such as are in no ring is done with
   pub freed : (marks : List Mark) (s : Stop) (before : List Stop) (x : X) → Searching waits xs marks (s ∷ before)
@@ -240,43 +265,53 @@ module _ {X : Type 0} (waits : X → X → Bool) (xs : List X) where
   freed_met s before x e f i (inr (inr a)) = inr a
 
   -- the first of a path
-  begun : (marks : List Mark) (i : ℕ) (x : X) → Searching waits xs marks [] → slice_get xs i ≡ Some x
-      → i < length marks → Searching waits xs (set marks i OnPath) (record { place = i; next = 0 } ∷ [])
-  begun marks i x h e l = record {
-    all = length-set marks i OnPath ∙ h.all;
-    free = λ j g. elim (set_at marks i j OnPath Free l g) [
+  begun : (marks : List Mark) (s : Stop) → Searching waits xs marks [] → IsStop waits xs s
+      → s.place < length marks → Searching waits xs (set marks s.place OnPath) (s ∷ [])
+  begun marks s h t l = record {
+    all = length-set marks s.place OnPath ∙ h.all;
+    free = λ j g. elim (set_at marks s.place j OnPath Free l g) [
       | inl same ↦ absurd (cc)
       | inr other ↦ h.free j other.1
     ];
-    on_path = λ j g. elim (set_at marks i j OnPath OnPath l g) [
+    on_path = λ j g. elim (set_at marks s.place j OnPath OnPath l g) [
       | inl same ↦ inl same.0
       | inr other ↦ absurd (h.on_path j other.1)
     ];
-    is_path = (record { job = x; is_at = e; passed = λ j k. absurd (omega (arith, k)) }, tt, tt);
+    is_path = (t, tt, tt);
   }
 
   -- one more on the path
-  pub followed : (marks : List Mark) (s : Stop) (before : List Stop) (x : X) (i : ℕ)
+  pub followed : (marks : List Mark) (s now last : Stop) (before : List Stop) (x : X) (i : ℕ)
       → Searching waits xs marks (s ∷ before) → slice_get xs s.place ≡ Some x → IsNext waits xs marks x i
-      → i < length marks
-      → Searching waits xs (set marks i OnPath)
-      (record { place = i; next = 0 } ∷ record { place = s.place; next = i } ∷ before)
-  followed marks s before x i h e n l = record {
-    all = length-set marks i OnPath ∙ h.all;
-    free = λ j g. elim (set_at marks i j OnPath Free l g) [
-      | inl same ↦ absurd (cc)
-      | inr other ↦ h.free j other.1
-    ];
-    on_path = λ j g. elim (set_at marks i j OnPath OnPath l g) [
-      | inl same ↦ inl same.0
-      | inr other ↦ inr (h.on_path j other.1)
-    ];
-    is_path = (
-      record { job = n.waits_for.other; is_at = n.waits_for.is_at; passed = λ j k. absurd (omega (arith, k)) },
-      (x, e, n.waits_for),
-      (record { job = x; is_at = e; passed = n.passed }, h.is_path.1, h.is_path.2),
-    );
-  }
+      → i < length marks → now.place ≡ s.place → Waits waits xs x now.left.items → IsStop waits xs last → last.place ≡ i
+      → Searching waits xs (set marks i OnPath) (last ∷ now ∷ before)
+  followed marks s now last before x i h e n l same left t at =
+      let here : slice_get xs now.place ≡ Some x = ap (slice_get xs) same ∙ e in record {
+        all = length-set marks i OnPath ∙ h.all;
+        free = λ j g. elim (set_at marks i j OnPath Free l g) [
+          | inl z ↦ absurd (cc)
+          | inr other ↦ h.free j other.1
+        ];
+        on_path = λ j g. elim (set_at marks i j OnPath OnPath l g) [
+          | inl z ↦ inl (z.0 ∙ sym at)
+          | inr other ↦ elim (h.on_path j other.1) [
+            | inl z ↦ inr (inl (z ∙ sym same))
+            | inr a ↦ inr (inr a)
+          ]
+        ];
+        is_path = (
+          t,
+          (x, here, subst (WaitsAt waits xs x) (sym at) n.waits_for),
+          (record { job = x; is_at = here; left = left }, subst (λ p. Leads waits xs before p) (sym same) h.is_path.1, h.is_path.2),
+        );
+      }
+
+  -- what is met stays so
+  pub followed_met : (s now last : Stop) (before : List Stop) → now.place ≡ s.place → (i : ℕ)
+      → IsMet waits xs (s ∷ before) i → IsMet waits xs (last ∷ now ∷ before) i
+  followed_met s now last before same i (inl g) = inl g
+  followed_met s now last before same i (inr (inl z)) = inr (inr (inl (z ∙ sym same)))
+  followed_met s now last before same i (inr (inr a)) = inr (inr (inr a))
 
   -- what a stop goes on with is marked
   pub mark_of : (marks : List Mark) (x : X) (i : ℕ) (d : Mark) → (n : IsNext waits xs marks x i) → get_or marks i d ≡ n.mark
@@ -307,6 +342,15 @@ module _ {X : Type 0} (waits : X → X → Bool) (xs : List X) where
   stop_is marks s before x h e =
       slice_get_read xs (length xs) s.place x refl (omega (arith, h.all, stop_within marks s before h)) e
 
+  pub left_at : (marks : List Mark) (s : Stop) (before : List Stop) (x : X) → Searching waits xs marks (s ∷ before)
+      → slice_get xs s.place ≡ Some x → Waits waits xs x s.left.items
+  left_at marks s before x h e =
+      let stop = h.is_path.0 in
+      subst (λ y. Waits waits xs y s.left.items) (one_value s.place stop.job x stop.is_at e) stop.left
+
+  pub next_there : (marks : List Mark) (x : X) (i : ℕ) → IsNext waits xs marks x i → i < length xs
+  next_there marks x i n = slice_get_within xs i n.waits_for.other n.waits_for.is_at
+
   pub next_within : (marks : List Mark) (x : X) (i : ℕ) → IsNext waits xs marks x i → i < length marks
   next_within marks x i n = slice_get_within marks i n.mark n.is_marked
 
@@ -317,15 +361,13 @@ module _ {X : Type 0} (waits : X → X → Bool) (xs : List X) where
       let e : slice_get marks i ≡ Some (get_or marks i d) = slice_get-get_or marks i d (omega (arith, h.all, l)) in
       h.free i (e ∙ ap Some (free_one (get_or marks i d) f (λ z. h.on_path i (e ∙ ap Some z))))
 
-  pub begins_so : (marks : List Mark) (i : ℕ) → Searching waits xs marks [] → i < length xs
-      → (marks' : List Mark) (path : List Stop) → marks' ≡ set marks i OnPath → path ≡ record { place = i; next = 0 } ∷ []
+  pub begins_so : (marks : List Mark) (s : Stop) (i : ℕ) → Searching waits xs marks [] → IsStop waits xs s → s.place ≡ i
+      → i < length xs → (marks' : List Mark) (path : List Stop) → marks' ≡ set marks s.place OnPath → path ≡ s ∷ []
       → Searching waits xs marks' (reverse path) × IsMet waits xs (reverse path) i
-  begins_so marks i h l marks' path e f =
-      let x = some_at xs i l in
+  begins_so marks s i h t at l marks' path e f =
       let P : List Mark → List Stop → Type 0 = λ ms ps. Searching waits xs ms (reverse ps) × IsMet waits xs (reverse ps) i in
-      let s : P (set marks i OnPath) (record { place = i; next = 0 } ∷ []) =
-      (begun marks i x.0 h x.1 (omega (arith, h.all, l)), inr (inl refl)) in
-      subst (λ ms. P ms path) (sym e) (subst (P (set marks i OnPath)) (sym f) s)
+      let b : P (set marks s.place OnPath) (s ∷ []) = (begun marks s h t (omega (arith, h.all, l, at)), inr (inl (sym at))) in
+      subst (λ ms. P ms path) (sym e) (subst (P (set marks s.place OnPath)) (sym f) b)
 
 pub waits_not : {X : Type 0} (view : X → View) (xs : List X) (x : X) → 0 ≡ length (awaited (view x).next)
     → IsFree (waits_as view) xs x

@@ -10,7 +10,7 @@ use Rattle.mlk_locks.proofs.RingLemmas.{found}
 use Rattle.mlk_locks.proofs.ListLemmas.{any_from, any_to}
 use Rattle.mlk_locks.proofs.NameLemmas.{excludes_is, excludes_if}
 
-waits_is : (a b : View) → waits a b ≡ true → WaitsFor a b
+pub waits_is : (a b : View) → waits a b ≡ true → WaitsFor a b
 waits_is a b h =
     let p = and_parts (not (a.number == b.number)) (list_any (excludes b.held) (awaited a.next)) h in
     let w = any_from (excludes b.held) (awaited a.next) p.1 in

@@ -4,5 +4,7 @@ pub mod Counts
 pub mod Rings
 pub mod Searches
 pub mod Waiting
+pub mod Keys
+pub mod Tables
 pub mod Systems
 pub mod Laws

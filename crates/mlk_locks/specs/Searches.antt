@@ -1,6 +1,6 @@
 -- What a search for a ring knows on its way: which jobs are in none, and the path of jobs, each of which waits for the next,
 -- that it follows. Jobs are named by their places. This project's own.
-use Rattle.std.specs.Prelude.{⊤, ◌≡◌, ◌≢◌, ◌⊎◌, ◌<◌, ◌+◌, ℕ, Bool, true, false, Some, List, [], ◌∷◌, length, map}
+use Rattle.std.specs.Prelude.{⊤, ◌≡◌, ◌≢◌, ◌⊎◌, ◌+◌, ℕ, Bool, true, false, Some, List, [], ◌∷◌, length, map}
 use Rattle.std.specs.List.{slice_get, sum_by}
 use Rattle.mlk_locks.specs.declared.ring.Mark.{Mark}
 use Rattle.mlk_locks.specs.declared.ring.Mark.TheVariants.{New, OnPath, Free}
@@ -31,10 +31,13 @@ is_new Free = false
 abbrev pub AreFree : {X : Type 0} → (X → X → Bool) → List X → List Mark → Type 0
 AreFree waits xs marks = (i : ℕ) → slice_get marks i ≡ Some Free → FreeAt waits xs i
 
--- of the first ones, so many, it waits for none but such as are in no ring
-abbrev pub Passed : {X : Type 0} → (X → X → Bool) → List X → X → ℕ → Type 0
-Passed {X} waits xs x count =
-    (i : ℕ) → i < count → (y : X) → slice_get xs i ≡ Some y → waits x y ≡ true → IsFree waits xs y
+-- it does not wait for the one at this place, or that one is in no ring
+abbrev pub WaitsFreely : {X : Type 0} → (X → X → Bool) → List X → X → ℕ → Type 0
+WaitsFreely {X} waits xs x i = (y : X) → slice_get xs i ≡ Some y → waits x y ≡ true → IsFree waits xs y
+
+-- it waits for those at these places at most, and for such as are in no ring
+abbrev pub Waits : {X : Type 0} → (X → X → Bool) → List X → X → List ℕ → Type 0
+Waits waits xs x left = (i : ℕ) → Among i left ⊎ WaitsFreely waits xs x i
 
 -- it waits for the job at this place
 pub record WaitsAt {X : Type 0} (waits : X → X → Bool) (xs : List X) (x : X) (i : ℕ) : Type 0 where
@@ -42,19 +45,18 @@ pub record WaitsAt {X : Type 0} (waits : X → X → Bool) (xs : List X) (x : X)
   pub is_at : slice_get xs i ≡ Some other
   pub does : waits x other ≡ true
 
--- the next one to follow: it is not marked as free, and it waits for none before it
+-- one to follow: it is waited for, and not marked as free
 pub record IsNext {X : Type 0} (waits : X → X → Bool) (xs : List X) (marks : List Mark) (x : X) (i : ℕ) : Type 0 where
   pub waits_for : WaitsAt waits xs x i
   pub mark : Mark
   pub is_marked : slice_get marks i ≡ Some mark
   pub is_left : mark ≢ Free
-  pub passed : Passed waits xs x i
 
--- a stop of a path, before which the path has these, the last one first
+-- a stop of a path, with the places that are left to follow
 pub record IsStop {X : Type 0} (waits : X → X → Bool) (xs : List X) (s : Stop) : Type 0 where
   pub job : X
   pub is_at : slice_get xs s.place ≡ Some job
-  pub passed : Passed waits xs job s.next
+  pub left : Waits waits xs job s.left.items
 
 -- the last stop of a path waits for the job at this place, if there is one
 abbrev pub Leads : {X : Type 0} → (X → X → Bool) → List X → List Stop → ℕ → Type 0

@@ -2,10 +2,13 @@
 #![tactic(auto)]
 
 mod held;
+mod holders;
+mod key;
 mod law;
 mod refusal;
 mod ring;
 mod sharing;
+mod table;
 
 pub use held::Held;
 pub use law::{
@@ -15,3 +18,4 @@ pub use law::{
 pub use refusal::Refusal;
 pub use ring::has_ring;
 pub use sharing::{Seen, are_free, is_free, is_numbered, place_of, waits_for};
+pub use table::LockTable;

@@ -1,13 +1,16 @@
-// Rings of jobs that wait, found by a search along those that wait for one another: each job is met once, and tries each
-// other job once at most.
+// Rings of jobs that wait, found by a search along those that wait for one another: each job is met once, and tries those
+// alone that may hold a name which it awaits.
 
-ghost use Rattle.std.specs.Prelude.{◌≡◌, ◌<◌, ◌++◌, ◌∷◌, ◌&&◌, not, [], ℕ, suc, true, false, IfOk, OnOk, IfSome, IfNone, length, reverse, set};
+ghost use Rattle.std.specs.Prelude.{◌≡◌, ◌⊎◌, ◌<◌, ◌++◌, ◌∷◌, ◌&&◌, not, [], ℕ, suc, true, false, Some, IfOk, OnOk, IfSome, IfNone, length, reverse, set, slice_get};
+ghost use Rattle.mlk_names.specs.declared.lock_name.LockName.{LockName};
 ghost use Rattle.mlk_locks.specs.Rings.{has_ring};
-ghost use Rattle.mlk_locks.specs.Searches.{is_free, is_new, IsFree, FreeAt, AreFree, Passed, IsNext, IsMet, Searching, work};
-ghost use Rattle.mlk_locks.specs.Waiting.{waits_as};
+ghost use Rattle.mlk_locks.specs.Searches.{is_free, is_new, IsFree, FreeAt, AreFree, WaitsFreely, Waits, IsNext, IsStop, IsMet, Searching, work};
+ghost use Rattle.mlk_locks.specs.Tables.{CoversWaiting, IsFound, ListsAll};
+ghost use Rattle.mlk_locks.specs.Waiting.{Holds, awaited, waits_as};
 ghost use Rattle.mlk_locks.specs.declared.ring.Mark.TheVariants.{OnPath};
 
 use crate::sharing::{Seen, waits_for};
+use crate::table::LockTable;
 use std::alloc::{AllocError, Global};
 
 // How far a search came with a job.
@@ -21,11 +24,12 @@ enum Mark {
     Free,
 }
 
-// A job on a path, by its place: what stands before `next`, and may be in a ring, it does not wait for.
-#[derive(Clone, Copy, Debug, Drop)]
+// A job on a path, by its place, and the places of those that it may have to be followed to: it waits for no other that may
+// be in a ring.
+#[derive(Debug, Drop)]
 struct Stop {
     place: usize,
-    next: usize,
+    left: Vec<usize>,
 }
 
 // Whether a job waits for another one, of this mark, that may be in a ring.
@@ -39,23 +43,33 @@ fn follows<J: Seen>(job: &J, other: &J, mark: Mark) -> bool
     }
 }
 
-// The first place, from `next` on, of a job that it waits for and that may be in a ring.
-fn next_of<J: Seen>(jobs: &[J], marks: &[Mark], job: &J, next: usize) -> Option<usize>
+// Whether a job waits for the one of this place, and that one may be in a ring.
+fn leads<J: Seen>(jobs: &[J], marks: &[Mark], job: &J, place: usize) -> bool
     requires all { length marks.now ≡ length jobs.now }
     requires free { AreFree (waits_as J.seen) jobs.now marks.now }
-    requires passed { Passed (waits_as J.seen) jobs.now job.now next }
+    ensures found { result ≡ true → IsNext (waits_as J.seen) jobs.now marks.now job.now place }
+    ensures none { result ≡ false → WaitsFreely (waits_as J.seen) jobs.now job.now place }
+{
+    if place >= jobs.len() {
+        return false;
+    }
+    follows(job, &jobs[place], marks[place])
+}
+
+// The last of these places of a job that it waits for and that may be in a ring. Those after it go.
+fn next_of<J: Seen>(jobs: &[J], marks: &[Mark], job: &J, left: &mut Vec<usize>) -> Option<usize>
+    requires all { length marks.now ≡ length jobs.now }
+    requires free { AreFree (waits_as J.seen) jobs.now marks.now }
+    requires left { Waits (waits_as J.seen) jobs.now job.now left.old.items }
+    ensures left { Waits (waits_as J.seen) jobs.now job.now left.new.items }
     ensures found { IfSome result (λ i. IsNext (waits_as J.seen) jobs.now marks.now job.now i) }
     ensures none { IfNone result (IsFree (waits_as J.seen) jobs.now job.now) }
 {
-    if job.awaited().is_empty() {
-        return None;
-    }
-    let mut place = next;
-    while place < jobs.len() {
-        if follows(job, &jobs[place], marks[place]) {
+    while let Some(place) = left.pop() {
+        if leads(jobs, marks, job, place) {
+            left.push_reserved(place);
             return Some(place);
         }
-        place += 1;
     }
     None
 }
@@ -71,13 +85,25 @@ fn is_new(mark: Mark) -> bool
     }
 }
 
-// A job that is met goes on the path.
-fn meet(marks: &mut Vec<Mark>, path: &mut Vec<Stop>, place: usize) -> Result<(), AllocError>
-    requires { place < length marks.old.items }
-    ensures path { OnOk result (path.new.items ≡ path.old.items ++ (record { place = place; next = 0 }) ∷ []) }
-    ensures marks { OnOk result (marks.new.items ≡ set marks.old.items place OnPath) }
+// A stop at the job of a place, before any that it waits for is followed.
+fn stop_at<J: Seen>(jobs: &[J], table: &LockTable, place: usize) -> Result<Stop, AllocError>
+    requires within { place < length jobs.now }
+    requires covers { CoversWaiting J.seen table.now jobs.now }
+    ensures stop { IfOk result (λ s. IsStop (waits_as J.seen) jobs.now s) }
+    ensures place { IfOk result (λ s. s.place ≡ place) }
 {
-    path.push(Stop { place, next: 0 })?;
+    let left = table.against(jobs[place].awaited())?;
+    Ok(Stop { place, left })
+}
+
+// A job that is met goes on the path.
+fn meet(marks: &mut Vec<Mark>, path: &mut Vec<Stop>, stop: Stop) -> Result<(), AllocError>
+    requires { stop.place < length marks.old.items }
+    ensures path { OnOk result (path.new.items ≡ path.old.items ++ stop ∷ []) }
+    ensures marks { OnOk result (marks.new.items ≡ set marks.old.items stop.place OnPath) }
+{
+    let place = stop.place;
+    path.push(stop)?;
     marks[place] = Mark::OnPath;
     Ok(())
 }
@@ -85,11 +111,13 @@ fn meet(marks: &mut Vec<Mark>, path: &mut Vec<Stop>, place: usize) -> Result<(),
 // Goes on from the last stop of a path: whether it waits for one of the path, so that there is a ring.
 fn go_on<J: Seen>(
     jobs: &[J],
+    table: &LockTable,
     marks: &mut Vec<Mark>,
     path: &mut Vec<Stop>,
     stop: Stop,
 ) -> Result<bool, AllocError>
-    requires { Searching (waits_as J.seen) jobs.now marks.old.items (stop ∷ reverse path.old.items) }
+    requires covers { CoversWaiting J.seen table.now jobs.now }
+    requires goes { Searching (waits_as J.seen) jobs.now marks.old.items (stop ∷ reverse path.old.items) }
     ensures ring { IfOk result (λ found. found ≡ true → has_ring (waits_as J.seen) jobs.now ≡ true) }
     ensures goes { IfOk result (λ found. found ≡ false
         → Searching (waits_as J.seen) jobs.now marks.new.items (reverse path.new.items)) }
@@ -99,20 +127,19 @@ fn go_on<J: Seen>(
     ensures less { IfOk result (λ found. found ≡ false
         → work marks.new.items path.new.items < suc (work marks.old.items path.old.items)) }
 {
-    match next_of(jobs, marks.as_slice(), &jobs[stop.place], stop.next) {
+    let Stop { place, mut left } = stop;
+    match next_of(jobs, marks.as_slice(), &jobs[place], &mut left) {
         None => {
-            marks[stop.place] = Mark::Free;
+            marks[place] = Mark::Free;
             Ok(false)
         }
         Some(next) => {
             if !is_new(marks[next]) {
                 return Ok(true);
             }
-            path.push(Stop {
-                place: stop.place,
-                next,
-            })?;
-            meet(marks, path, next)?;
+            let last = stop_at(jobs, table, next)?;
+            path.push(Stop { place, left })?;
+            meet(marks, path, last)?;
             Ok(false)
         }
     }
@@ -123,9 +150,11 @@ fn go_on<J: Seen>(
 fn search<J: Seen>(
     alloc: Global,
     jobs: &[J],
+    table: &LockTable,
     marks: &mut Vec<Mark>,
     start: usize,
 ) -> Result<bool, AllocError>
+    requires covers { CoversWaiting J.seen table.now jobs.now }
     requires within { start < length jobs.now }
     requires begins { Searching (waits_as J.seen) jobs.now marks.old.items [] }
     ensures ring { IfOk result (λ found. found ≡ true → has_ring (waits_as J.seen) jobs.now ≡ true) }
@@ -136,23 +165,50 @@ fn search<J: Seen>(
         return Ok(false);
     }
     let mut path = Vec::new(alloc);
-    meet(marks, &mut path, start)?;
+    let first = stop_at(jobs, table, start)?;
+    meet(marks, &mut path, first)?;
     while let Some(stop) = path.pop() {
-        if go_on(jobs, marks, &mut path, stop)? {
+        if go_on(jobs, table, marks, &mut path, stop)? {
             return Ok(true);
         }
     }
     Ok(false)
 }
 
+// What a job holds comes to a table, if the job waits: others are in no ring.
+fn list_waiting<J: Seen>(table: &mut LockTable, place: usize, job: &J) -> Result<(), AllocError>
+    ensures found { OnOk result ((0 ≡ length (awaited (J.seen job.now).next))
+        ⊎ ((n : LockName) → Holds (J.seen job.now) n → IsFound table.new place n)) }
+    ensures kept { ListsAll table.old table.new }
+{
+    if job.awaited().is_empty() {
+        return Ok(());
+    }
+    table.list_held(place, job.held().entries())
+}
+
+// A table of those that wait.
+fn table_of<J: Seen>(alloc: Global, jobs: &[J]) -> Result<LockTable, AllocError>
+    ensures { IfOk result (λ table. CoversWaiting J.seen table jobs.now) }
+{
+    let mut table = LockTable::new(alloc);
+    let mut place = 0;
+    while place < jobs.len() {
+        list_waiting(&mut table, place, &jobs[place])?;
+        place += 1;
+    }
+    Ok(table)
+}
+
 /// Whether some of the jobs wait in a ring: each for one of them.
 pub fn has_ring<J: Seen>(alloc: Global, jobs: &[J]) -> Result<bool, AllocError>
     ensures { IfOk result (λ found. found ≡ has_ring (waits_as J.seen) jobs.now) }
 {
+    let table = table_of(alloc, jobs)?;
     let mut marks = vec![in alloc; Mark::New; jobs.len()]?;
     let mut start = 0;
     while start < jobs.len() {
-        if search(alloc, jobs, &mut marks, start)? {
+        if search(alloc, jobs, &table, &mut marks, start)? {
             return Ok(true);
         }
         start += 1;

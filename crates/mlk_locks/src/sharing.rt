@@ -48,8 +48,8 @@ pub fn waits_for<J: Seen>(job: &J, other: &J) -> bool
     job.number() != other.number() && some_excluded(other.held(), job.awaited())
 }
 
-// Whether the job, if it has another number, keeps the name from others.
-fn keeps<J: Seen>(job: &J, number: u32, name: &LockName) -> bool
+/// Whether the job, if it has another number, keeps the name from others.
+pub(crate) fn keeps<J: Seen>(job: &J, number: u32, name: &LockName) -> bool
     ensures { result ≡ (not ((J.seen job.now).number == number) && excludes (J.seen job.now).held name.now) }
 {
     job.number() != number && job.held().excludes(name)

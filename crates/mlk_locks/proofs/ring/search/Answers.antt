@@ -1,4 +1,4 @@
-use Rattle.std.proofs.Common.{◌≡◌, ◌∙◌, ◌++◌, ◌∷◌, [], List, reverse, sym, ap, subst}
+use Rattle.std.proofs.Common.{◌≡◌, ◌∙◌, ◌++◌, ◌∷◌, [], List, arith, reverse, sym, ap, subst}
 use Rattle.std.proofs.lemmas.List.{reverse-append}
 use Rattle.mlk_locks.specs.declared.ring.Stop.{Stop}
 use Rattle.mlk_locks.specs.Waiting.{waits_as}
@@ -11,12 +11,16 @@ returns-then-not-is_new-clause-free g c = λ same. met_before (waits_as g.J.Seen
     c.args.start c.index.result.now c.requires.begins c.requires.within
     (ap is_new (sym c.index.ensures) ∙ sym c.is_new.ensures ∙ c.if-not-is_new.true)
 
+pub meet-requires : goal.meet-requires
+meet-requires g c = omega (arith, c.requires.within, c.requires.begins.all, c.in_ok-first.ensures.place)
+
 pub loop-stop-init : goal.loop-stop-init
 loop-stop-init g c =
-    let one : Stop = record { place = c.args.start; next = 0 } in
-    let e : c.meet.new.path.items ≡ one ∷ [] =
-    c.in_ok-meet.ensures.path ∙ ap (λ (l : List Stop). l ++ one ∷ []) c.new-path.ensures.items in
-    begins_so (waits_as g.J.Seen.seen) c.args.jobs.now c.args.marks.now.items c.args.start c.requires.begins c.requires.within
+    let first : Stop = c.in_ok-first.first in
+    let e : c.meet.new.path.items ≡ first ∷ [] =
+    ◌∙◌ {A = List Stop} c.in_ok-meet.ensures.path (ap (λ (l : List Stop). l ++ first ∷ []) c.new-path.ensures.items) in
+    begins_so (waits_as g.J.Seen.seen) c.args.jobs.now c.args.marks.now.items first c.args.start c.requires.begins
+    c.in_ok-first.ensures.stop c.in_ok-first.ensures.place c.requires.within
     c.meet.new.marks.items c.meet.new.path.items c.in_ok-meet.ensures.marks e
 
 pub loop-stop-preserved : goal.loop-stop-preserved
