@@ -12,6 +12,7 @@ use Rattle.mlk_jobs.specs.Tasks.{Task, Job}
 use Rattle.mlk_jobs.specs.Advance.{advance}
 use Rattle.mlk_jobs.specs.Runs.{go}
 use Rattle.mlk_jobs.specs.Seen.{asks, done, state_in, state, silent_step}
+use Rattle.mlk_run.specs.Frames.{claimed_in}
 use Rattle.mlk_run.specs.Silent.{is_shown}
 
 done_rests : (routines : List RoutineTree) (j : Job) (b : Bool) → silent_step routines j (done b) ≡ Err NotEnabled
@@ -53,3 +54,9 @@ hidden_rests routines j why h e =
 pub all_free : (names : List LockName) → list_all (λ n. true) names ≡ true
 all_free [] = refl
 all_free (n ∷ names) = all_free names
+
+-- no claim is next
+pub hidden_claims : (ts : List Task) → is_shown ts ≡ false → claimed_in ts ≡ []
+hidden_claims [] h = refl
+hidden_claims (task.Claim names timed ∷ ts) h = absurd (false≢true (sym h))
+hidden_claims (t ∷ ts) h = refl

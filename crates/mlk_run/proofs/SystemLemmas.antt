@@ -1,7 +1,7 @@
 -- One job of many.
 use Rattle.std.proofs.Common.{◌≡◌, ◌∙◌, ◌<◌, ◌==◌, ℕ, zero, suc, Bool, true, false, List, [], ◌∷◌, ◌++◌, length, map, get_or, Option, Some, None, Result, Ok, Err, refl, sym, ap, subst, arith, inl, inr}
 use Rattle.std.specs.Prelude.{OnOk, OnErr, IfErr, IfSome, not, ◌&&◌, ◌||◌, slice_set, position, option_map, if◌then◌else◌}
-use Rattle.std.specs.List.{list_any}
+use Rattle.std.specs.List.{list_any, list_all}
 use Rattle.std.proofs.lemmas.Bool.{cases_Bool}
 use Rattle.mlk_text.specs.declared.failure.Failure.{Failure}
 use Rattle.mlk_text.specs.declared.failure.Failure.TheVariants.{OutOfMemory, Refused}
@@ -18,7 +18,8 @@ use Rattle.mlk_jobs.specs.Tasks.{Job}
 use Rattle.mlk_jobs.specs.Runs.{seen}
 use Rattle.mlk_jobs.specs.JobViews.{job_of}
 use Rattle.mlk_jobs.specs.Sound.{Sound}
-use Rattle.mlk_run.specs.Jobs.{AreSound}
+use Rattle.mlk_run.specs.Frames.{claimed_in}
+use Rattle.mlk_run.specs.Jobs.{AreSound, seen_in}
 
 pub found_within : (js : List JobIn) (o : Option ℕ) (i : ℕ) → o ≡ Some i → IfSome o (λ n. n < length js) → i < length js
 found_within js o i e h = subst (λ (x : Option ℕ). IfSome x (λ n. n < length js)) e h
@@ -147,6 +148,19 @@ pub same_at : (js : List JobIn) (i : ℕ) (x y : JobIn) → i < length js → x 
 same_at [] i x y l e d = absurd (omega arith)
 same_at (j ∷ js) zero x y l e d = e ∙ sym d
 same_at (j ∷ js) (suc i) x y l e d = same_at js i x y (omega arith) e d
+
+-- the names that a job claims which is read twice, and whether they are free
+module _ (js : List JobIn) (i : ℕ) (x y : JobIn) (l : i < length js) (e : x ≡ get_or js i x) (d : y ≡ get_or js i y)
+    (names : List LockName) (are : names ≡ claimed_in (job_of x).tasks) where
+  pub claimed_at : names ≡ claimed_in (job_of y).tasks
+  claimed_at = are ∙ ap (λ (j : JobIn). claimed_in (job_of j).tasks) (same_at js i x y l e d)
+
+  pub claimed_free : (k : ℕ) (b : Bool) → b ≡ list_all (is_free_among seen_in js k) names
+      → list_all (is_free_among seen (map job_of js) k) (claimed_in (job_of y).tasks) ≡ b
+  claimed_free k b h =
+      ap (list_all (is_free_among seen (map job_of js) k)) (sym claimed_at)
+      ∙ ap (λ (f : LockName → Bool). list_all f names) (sym (free_among js k))
+      ∙ sym h
 
 pub fails_then : {X Y : Type 0} (f : X → Result Y Refusal) (why : Failure Refusal) (x : Result X Refusal) → FailsAs why x
     → FailsAs why (and_then f x)

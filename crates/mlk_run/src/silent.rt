@@ -7,6 +7,7 @@ ghost use Rattle.mlk_jobs.specs.Seen as jobs_seen;
 ghost use Rattle.mlk_jobs.specs.Seen.{state};
 ghost use Rattle.mlk_jobs.specs.Sound.{Sound};
 ghost use Rattle.mlk_jobs.specs.TaskViews.{task_of};
+ghost use Rattle.mlk_run.specs.Jobs.{TakesNone};
 ghost use Rattle.mlk_run.specs.Silent.{is_shown, if_made};
 
 use crate::stepping::step;
@@ -50,6 +51,7 @@ pub fn silent_step<'a>(
     ensures rests { IfOk result (λ made. made ≡ false → job_of job.new ≡ job_of job.old) }
     ensures stays { OnErr result (job_of job.new ≡ job_of job.old) }
     ensures sound { Sound job.new }
+    ensures held { TakesNone (job_of job.old) (job_of job.new) }
 {
     if is_shown(job) {
         return Ok(false);

@@ -10,21 +10,23 @@ ghost use Rattle.mlk_tree.specs.Trees.{RoutineTree};
 ghost use Rattle.mlk_tree.specs.Views.{routine_of};
 ghost use Rattle.mlk_jobs.specs.Runs.{machine, seen};
 ghost use Rattle.mlk_jobs.specs.JobViews.{job_of};
-ghost use Rattle.mlk_run.specs.Jobs.{AreSound, IsPlaceOf};
+ghost use Rattle.mlk_locks.specs.Tables.{Covers};
+ghost use Rattle.mlk_run.specs.Jobs.{AreSound, IsPlaceOf, StayCovered, seen_in};
 
 use crate::beginning::begin;
 use crate::stepping::{claimed_names, step};
 use mlk_jobs::{Choice, Job};
-use mlk_locks::{Refusal, are_free};
+use mlk_locks::{LockTable, Refusal};
 use mlk_program::{EntryId, Program};
 use mlk_text::{Failure, Value};
 use std::alloc::Global;
 
-/// One step of the job of this number, which stands at this place, if there is one, with this choice. Where there is no
-/// memory, or the step is refused, all jobs are as they were.
+/// One step of the job of this number, which stands at this place, if there is one, with this choice. Which names others
+/// hold is asked of a table that finds them. Where there is no memory, or the step is refused, all jobs are as they were.
 pub fn go<'a>(
     alloc: Global,
     program: &Program<'a>,
+    table: &mut LockTable,
     jobs: &mut Vec<Job<'a>>,
     place: Option<usize>,
     number: u32,
@@ -32,15 +34,19 @@ pub fn go<'a>(
 ) -> Result<(), Failure<Refusal>>
     requires sound { AreSound jobs.old.items }
     requires place { IsPlaceOf number jobs.old.items place }
+    requires covers { Covers seen_in table.old jobs.old.items }
     ensures answer { (declared : EntryOf → Bool) → Answers (λ _. map job_of jobs.new.items) result
         (happens (machine (map routine_of program.now) declared) (map job_of jobs.old.items) number (systems.Go choice)) }
     ensures stays { OnErr result (map job_of jobs.new.items ≡ map job_of jobs.old.items) }
     ensures sound { AreSound jobs.new.items }
+    ensures covers { Covers seen_in table.new jobs.new.items }
 {
     let Some(place) = place else {
         return Err(Failure::Refused(Refusal::UnknownJob));
     };
-    let are_free = are_free(jobs.as_slice(), number, claimed_names(&jobs[place]));
+    let names = claimed_names(&jobs[place]);
+    let are_free = table.are_free(jobs.as_slice(), number, names);
+    table.list(place, names)?;
     step(alloc, program, &mut jobs[place], choice, are_free)
 }
 
@@ -59,6 +65,7 @@ pub fn abort(
         ≡ and_then (λ _. Ok (map job_of jobs.new.items)) result }
     ensures stays { OnErr result (map job_of jobs.new.items ≡ map job_of jobs.old.items) }
     ensures sound { AreSound jobs.new.items }
+    ensures covered { StayCovered jobs.old.items jobs.new.items }
 {
     let Some(place) = place else {
         return Err(Refusal::UnknownJob);
@@ -87,6 +94,7 @@ pub fn join<'a>(
         (systems.Begin entry test values.now)) }
     ensures stays { OnErr result (map job_of jobs.new.items ≡ map job_of jobs.old.items) }
     ensures sound { AreSound jobs.new.items }
+    ensures covered { StayCovered jobs.old.items jobs.new.items }
 {
     if is_used {
         return Err(Failure::Refused(Refusal::NotEnabled));

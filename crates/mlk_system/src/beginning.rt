@@ -5,7 +5,7 @@ ghost use Rattle.mlk_text.specs.Failures.{Answers};
 ghost use Rattle.mlk_locks.specs.Systems as systems;
 ghost use Rattle.mlk_locks.specs.Systems.{happens};
 ghost use Rattle.mlk_jobs.specs.JobViews.{job_of};
-ghost use Rattle.mlk_run.specs.Jobs.{AreSound};
+ghost use Rattle.mlk_run.specs.Jobs.{AreSound, StayCovered};
 ghost use Rattle.mlk_system.specs.Jobs.{is_listed};
 ghost use Rattle.mlk_system.specs.Numbers.{AreNumbers};
 ghost use Rattle.mlk_system.specs.Systems.{machine_in};
@@ -46,6 +46,7 @@ pub(crate) fn begin<'a>(
     ensures stays { OnErr result (map job_of jobs.new.items ≡ map job_of jobs.old.items) }
     ensures sound { AreSound jobs.new.items }
     ensures numbers { AreNumbers numbers.new.keys jobs.new.items }
+    ensures covered { StayCovered jobs.old.items jobs.new.items }
 {
     let is_declared = is_declared(entries, entry);
     let is_used = is_used(numbers, number);

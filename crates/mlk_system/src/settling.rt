@@ -6,7 +6,7 @@ ghost use Rattle.mlk_tree.specs.Views.{routine_of};
 ghost use Rattle.mlk_jobs.specs.JobViews.{job_of};
 ghost use Rattle.mlk_jobs.specs.Seen.{settled, settled_in, most_silent_steps};
 ghost use Rattle.mlk_jobs.specs.Sound.{Sound};
-ghost use Rattle.mlk_run.specs.Jobs.{AreSound};
+ghost use Rattle.mlk_run.specs.Jobs.{AreSound, StayCovered, TakesNone};
 ghost use Rattle.mlk_system.specs.Numbers.{AreNumbers};
 
 use crate::copying::copy_job;
@@ -32,6 +32,7 @@ pub(crate) fn settle<'a>(
     ensures settled { IfOk result (λ count. settled (map routine_of program.now) most_silent_steps (job_of job.old)
         ≡ (job_of job.new, count)) }
     ensures sound { Sound job.new }
+    ensures held { TakesNone (job_of job.old) (job_of job.new) }
 {
     let mut count = 0;
     while count < MOST_SILENT_STEPS {
@@ -60,6 +61,7 @@ pub(crate) fn settle_numbered<'a>(
     ensures stays { OnErr result (jobs.new ≡ jobs.old) }
     ensures sound { AreSound jobs.new.items }
     ensures numbers { AreNumbers numbers.now.keys jobs.new.items }
+    ensures covered { StayCovered jobs.old.items jobs.new.items }
 {
     let Some(place) = place_in(numbers, number) else {
         return Err(Failure::Refused(Refusal::UnknownJob));

@@ -9,13 +9,14 @@ ghost use Rattle.mlk_tree.specs.Trees.{RoutineTree};
 ghost use Rattle.mlk_tree.specs.Views.{routine_of};
 ghost use Rattle.mlk_jobs.specs.JobViews.{job_of};
 ghost use Rattle.mlk_jobs.specs.Runs.{machine};
-ghost use Rattle.mlk_run.specs.Jobs.{AreSound};
+ghost use Rattle.mlk_locks.specs.Tables.{Covers};
+ghost use Rattle.mlk_run.specs.Jobs.{AreSound, StayCovered, seen_in};
 ghost use Rattle.mlk_system.specs.Numbers.{AreNumbers};
 
 use crate::number::place_in;
 use indexmap::IndexSet;
 use mlk_jobs::{Choice, Job};
-use mlk_locks::Refusal;
+use mlk_locks::{LockTable, Refusal};
 use mlk_program::Program;
 use mlk_run::{abort, go};
 use mlk_text::Failure;
@@ -26,20 +27,23 @@ pub(crate) fn go_numbered<'a>(
     alloc: Global,
     program: &Program<'a>,
     numbers: &IndexSet<u32>,
+    table: &mut LockTable,
     jobs: &mut Vec<Job<'a>>,
     number: u32,
     choice: Choice,
 ) -> Result<(), Failure<Refusal>>
     requires sound { AreSound jobs.old.items }
     requires numbers { AreNumbers numbers.now.keys jobs.old.items }
+    requires covers { Covers seen_in table.old jobs.old.items }
     ensures answer { (declared : EntryId → Bool) → Answers (λ _. map job_of jobs.new.items) result
         (happens (machine (map routine_of program.now) declared) (map job_of jobs.old.items) number (systems.Go choice)) }
     ensures stays { OnErr result (map job_of jobs.new.items ≡ map job_of jobs.old.items) }
     ensures sound { AreSound jobs.new.items }
     ensures numbers { AreNumbers numbers.now.keys jobs.new.items }
+    ensures covers { Covers seen_in table.new jobs.new.items }
 {
     let place = place_in(numbers, number);
-    go(alloc, program, jobs, place, number, choice)
+    go(alloc, program, table, jobs, place, number, choice)
 }
 
 /// The job of this number is aborted.
@@ -57,6 +61,7 @@ pub(crate) fn abort_numbered(
     ensures stays { OnErr result (map job_of jobs.new.items ≡ map job_of jobs.old.items) }
     ensures sound { AreSound jobs.new.items }
     ensures numbers { AreNumbers numbers.now.keys jobs.new.items }
+    ensures covered { StayCovered jobs.old.items jobs.new.items }
 {
     let place = place_in(numbers, number);
     match abort(alloc, jobs, place, number) {

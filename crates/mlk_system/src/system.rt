@@ -20,7 +20,7 @@ use crate::settling::settle_numbered;
 use crate::stepping::{abort_numbered, go_numbered};
 use indexmap::IndexSet;
 use mlk_jobs::{Choice, Job};
-use mlk_locks::{Refusal, waits_for};
+use mlk_locks::{LockTable, Refusal, waits_for};
 use mlk_names::{LockName, Reference};
 use mlk_program::{EntryId, Program};
 use mlk_text::{Failure, Value};
@@ -36,6 +36,8 @@ pub struct System<'a> {
     // of the jobs, in their order
     numbers: IndexSet<u32>,
     jobs: Vec<Job<'a>>,
+    // finds the jobs by the names that they hold
+    table: LockTable,
 }
 
 impl<'a> Model for System<'a> {
@@ -46,7 +48,8 @@ impl<'a> Model for System<'a> {
     ghost use Rattle.mlk_tree.specs.contracts.command.Commands as commands;
     ghost use Rattle.mlk_tree.specs.contracts.command.For as loop_of;
     ghost use Rattle.mlk_tree.specs.contracts.routine.Line as line;
-    ghost use Rattle.mlk_run.specs.Jobs.{AreSound};
+    ghost use Rattle.mlk_locks.specs.Tables.{Covers};
+    ghost use Rattle.mlk_run.specs.Jobs.{AreSound, seen_in};
     ghost use Rattle.mlk_system.specs.Numbers.{AreNumbers};
     ghost use Rattle.mlk_system.specs.Running.{Running};
 
@@ -64,7 +67,8 @@ impl<'a> Model for System<'a> {
 
     ghost view = { λ s. record { program = s.program.now; entries = s.entries.now; jobs = s.jobs.items } };
 
-    ghost invariant = { λ s. AreSound s.jobs.items × AreNumbers s.numbers.keys s.jobs.items };
+    ghost invariant = { λ s. AreSound s.jobs.items × AreNumbers s.numbers.keys s.jobs.items
+        × Covers seen_in s.table s.jobs.items };
 }
 
 impl<'a> System<'a> {
@@ -78,6 +82,7 @@ impl<'a> System<'a> {
             entries,
             numbers: IndexSet::new(alloc),
             jobs: Vec::new(alloc),
+            table: LockTable::new(alloc),
         }
     }
 
@@ -119,6 +124,7 @@ impl<'a> System<'a> {
             self.alloc,
             self.program,
             &self.numbers,
+            &mut self.table,
             &mut self.jobs,
             number,
             choice,

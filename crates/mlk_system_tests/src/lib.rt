@@ -1,9 +1,11 @@
-//! Tests of systems, by the public calls: what is refused and leaves all as it was, how far a job goes by itself, and rings of
-//! jobs that wait. The answers are worked out by hand.
+//! Tests of systems, by the public calls: what is refused and leaves all as it was, how far a job goes by itself, claims of
+//! names above and below others, and rings of jobs that wait. The answers are worked out by hand.
 #![tactic(auto)]
 
 #[cfg(test)]
 mod asking;
+#[cfg(test)]
+mod claims;
 #[cfg(test)]
 mod refusals;
 #[cfg(test)]
@@ -33,7 +35,9 @@ fn routines(alloc: Global) -> Result<Vec<Routine>, Failure<Fault>> {
     let text: &[u8] = b"ONE(A) LOCK +^ACCT(A) SET ^ACCT(A)=5 LOCK -^ACCT(A) QUIT\n\
 TWO(A,B,C) LOCK +^ACCT(A) LOCK +(^ACCT(B),^ACCT(C)) QUIT\n\
 LOOP FOR  SET X=1\n\
-OTHER QUIT\n";
+OTHER QUIT\n\
+NEST(A) LOCK:A=0 +^ACCT LOCK:A=1 +^ACCT(1) LOCK:A=2 +^ACCT(1,2) LOCK:A=3 +^ACCT(2) LOCK:A=4 +^LOG LOCK  QUIT\n\
+OWN(A) LOCK +^ACCT(A),+^ACCT,+^ACCT(A,2),+^ACCT(A),-^ACCT,-^ACCT(A),-^ACCT(A,2),-^ACCT(A) QUIT\n";
     let mut routines = Vec::new(alloc);
     routines.push(read_routine(alloc, b"R", text)?)?;
     Ok(routines)

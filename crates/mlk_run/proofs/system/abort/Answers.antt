@@ -1,10 +1,12 @@
-use Rattle.std.proofs.Common.{◌≡◌, ◌∙◌, ◌==◌, List, map, Some, Ok, ap, sym}
+use Rattle.std.proofs.Common.{◌≡◌, ◌∙◌, ◌==◌, List, map, length, Some, Ok, refl, ap, sym}
+use Rattle.std.proofs.lemmas.Option.{slice_get_read}
 use Rattle.std.specs.Prelude.{slice_set, position}
 use Rattle.mlk_locks.specs.Systems.{and_then}
 use Rattle.mlk_jobs.specs.Tasks.{Job}
 use Rattle.mlk_jobs.specs.Runs.{machine, seen, aborted}
 use Rattle.mlk_jobs.specs.JobViews.{job_of}
 use Rattle.mlk_run.proofs.SystemLemmas.{found_within, sound_at, sound_set, job_at, jobs_set, changed_none, changed_at, on_err, all_stay, aborted_so}
+use Rattle.mlk_run.proofs.CoverLemmas.{set_covered, aborted_takes}
 use Rattle.mlk_run.proofs.system.abort.Goals as goal
 
 pub returns-in_default-clause-answer : goal.returns-in_default-clause-answer
@@ -33,3 +35,11 @@ returns-clause-answer c = λ routines declared.
     ∙ aborted_so c.abort.result _ (job_of c.abort.new.self) (λ y. slice_set (map job_of js) c.in-Some.place y)
     c.abort.ensures.ok c.abort.ensures.err
     ∙ ap (λ (z : List Job). and_then (λ _. Ok z) c.abort.result) (jobs_set js c.in-Some.place c.abort.new.self)
+
+pub returns-clause-covered : goal.returns-clause-covered
+returns-clause-covered c =
+    let js = c.args.jobs.now.items in
+    set_covered js c.in-Some.place c.index_mut.result.now c.abort.new.self
+    (slice_get_read js (length js) c.in-Some.place c.index_mut.result.now refl
+    (found_within js c.args.place c.in-Some.place c.in-Some.is c.requires.place.within) c.index_mut.ensures.value)
+    (aborted_takes c.abort.result c.index_mut.result.now c.abort.new.self c.abort.ensures.ok c.abort.ensures.stays)

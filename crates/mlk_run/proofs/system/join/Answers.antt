@@ -7,8 +7,9 @@ use Rattle.mlk_tree.specs.Views.{routine_of}
 use Rattle.mlk_jobs.specs.Tasks.{Job}
 use Rattle.mlk_jobs.specs.Runs.{machine, seen}
 use Rattle.mlk_jobs.specs.JobViews.{job_of}
-use Rattle.mlk_run.specs.Jobs.{AreSound}
+use Rattle.mlk_run.specs.Jobs.{AreSound, StayCovered}
 use Rattle.mlk_run.proofs.SystemLemmas.{join_used, join_declared, fails_then, sound_more}
+use Rattle.mlk_run.proofs.CoverLemmas.{added_covered, begun_holds}
 use Rattle.mlk_run.proofs.system.join.Goals as goal
 
 pub returns-then-is_used-clause-answer : goal.returns-then-is_used-clause-answer
@@ -40,3 +41,14 @@ returns-in-Err-clause-answer c = λ declared h.
     (sym (join_declared (machine (map routine_of c.args.program.now) declared) c.args.number (map job_of js) _
     (declared c.args.entry) (h ∙ c.if-not-is_declared.false) unused))
     (fails_then (λ (j : Job). Ok (map job_of js ++ j ∷ [])) c.in-Err.why _ c.in-Err.ensures.job)
+
+pub returns-in_default-clause-covered : goal.returns-in_default-clause-covered
+returns-in_default-clause-covered c =
+    subst (StayCovered c.args.jobs.now.items) (sym c.in_default.ensures.items) (λ t covers. covers)
+
+pub returns-in-Ok-push-clause-covered : goal.returns-in-Ok-push-clause-covered
+returns-in-Ok-push-clause-covered c =
+    subst (StayCovered c.args.jobs.now.items) (sym c.in-Ok-push.ensures.items)
+    (added_covered c.args.jobs.now.items c.in-Ok.job
+    (begun_holds (map routine_of c.args.program.now) c.args.entry c.args.number c.args.test c.args.values.now c.in-Ok.job
+    c.in-Ok.ensures.job))

@@ -9,7 +9,7 @@ use Rattle.mlk_system.proofs.SettleLemmas.{none_made, one_more, no_more}
 use Rattle.mlk_system.proofs.settling.settle.Goals as goal
 
 pub loop-count-init : goal.loop-count-init
-loop-count-init c = (none_made (map routine_of c.args.program.now) (job_of c.args.job.now), omega arith, c.requires)
+loop-count-init c = (none_made (map routine_of c.args.program.now) (job_of c.args.job.now), omega arith, c.requires, λ n h. h)
 
 pub returns-then-not-made-clause-settled : goal.returns-then-not-made-clause-settled
 returns-then-not-made-clause-settled c =
@@ -34,4 +34,8 @@ loop-count-preserved c =
       subst P more (one_more routines c.loop-count.count (job_of c.args.job.now) now next c.loop-count.invariant.0 goes),
       omega (arith, c.loop-count-test.true),
       c.silent_step.ensures.sound,
+      λ n h. c.loop-count.invariant.3 n (c.silent_step.ensures.held n h),
     )
+
+pub returns-then-not-made-clause-held : goal.returns-then-not-made-clause-held
+returns-then-not-made-clause-held c = λ n h. c.loop-count.invariant.3 n (c.silent_step.ensures.held n h)

@@ -1,8 +1,12 @@
-use Rattle.std.proofs.Common.{◌≡◌, ◌∙◌, map, sym, ap}
+use Rattle.std.proofs.Common.{◌≡◌, ◌∙◌, map, length, refl, sym, ap, subst}
+use Rattle.std.proofs.lemmas.Option.{slice_get_read}
 use Rattle.mlk_tree.specs.Views.{routine_of}
 use Rattle.mlk_jobs.specs.JobViews.{job_of}
 use Rattle.mlk_jobs.specs.Seen.{settled, most_silent_steps}
+use Rattle.mlk_jobs.specs.Tasks.{Job}
+use Rattle.mlk_run.specs.Jobs.{TakesNone}
 use Rattle.mlk_run.proofs.SystemLemmas.{found_within, sound_at, sound_set}
+use Rattle.mlk_run.proofs.CoverLemmas.{set_covered}
 use Rattle.mlk_system.proofs.NumberLemmas.{no_job_settled, job_settled, settled_numbers}
 use Rattle.mlk_system.proofs.settling.settle_numbered.Goals as goal
 
@@ -35,3 +39,12 @@ returns-clause-numbers c =
     c.requires.numbers
     ∙ sym (settled_numbers (map routine_of c.args.program.now) c.args.jobs.now.items c.in-Some.place c.index.result.now
     c.in_ok-job.job c.settle.new.job c.in_ok-count.count c.index.ensures c.in_ok-job.ensures.same c.in_ok-count.ensures.settled)
+
+pub returns-clause-covered : goal.returns-clause-covered
+returns-clause-covered c =
+    let js = c.args.jobs.now.items in
+    set_covered js c.in-Some.place c.index.result.now c.settle.new.job
+    (slice_get_read js (length js) c.in-Some.place c.index.result.now refl
+    (found_within js c.place_in.result c.in-Some.place c.in-Some.is
+    (c.place_in.ensures js c.requires.numbers).within) c.index.ensures)
+    (subst (λ (j : Job). TakesNone j (job_of c.settle.new.job)) c.in_ok-job.ensures.same c.settle.ensures.held)
