@@ -7,25 +7,35 @@ use mlk_system::{Act, Event, System};
 use mlk_text::Failure;
 use std::alloc::Global;
 
-// One job holds a name and another claims one, each by its digit in the routine: what the second one's claim is refused for
-// the first gives back by LOCK, or loses as it is aborted.
+// Which of the routine's names a job claims, by a truth for each.
+const ALL: &[u8] = b"10000";
+
+const ONE: &[u8] = b"01000";
+
+const ONE_TWO: &[u8] = b"00100";
+
+const TWO: &[u8] = b"00010";
+
+const LOG: &[u8] = b"00001";
+
+// One job holds a name and another claims one: where the claim waits, the first gives its name back by LOCK, or is aborted.
 #[derive(Drop)]
-struct Claim {
-    held: u8,
-    claimed: u8,
+struct Claim<'a> {
+    held: &'a [u8],
+    claimed: &'a [u8],
     is_free: bool,
     is_aborted: bool,
 }
 
-// A job begins, and stands ready to claim the name of the digit.
+// A job begins, and stands ready to claim.
 fn stand(
     alloc: Global,
     system: &mut System<'_>,
     entry: EntryId,
     job: u32,
-    digit: u8,
+    values: &[u8],
 ) -> Result<(), Failure<Refusal>> {
-    begin(alloc, system, job, entry, &[digit])?;
+    begin(alloc, system, job, entry, values)?;
     let _ = system.settle(job)?;
     Ok(())
 }
@@ -46,7 +56,7 @@ fn is_kept(system: &mut System<'_>, job: u32) -> bool {
     is_refused(go(system, job), Refusal::NotEnabled)
 }
 
-impl Trial for Claim {
+impl Trial for Claim<'_> {
     fn entry(&self) -> &[u8] {
         b"NEST^R"
     }
@@ -73,7 +83,7 @@ impl Trial for Claim {
     }
 }
 
-fn claim_is_free(alloc: Global, held: u8, claimed: u8) -> bool {
+fn claim_is_free(alloc: Global, held: &[u8], claimed: &[u8]) -> bool {
     passes(
         alloc,
         &Claim {
@@ -85,7 +95,7 @@ fn claim_is_free(alloc: Global, held: u8, claimed: u8) -> bool {
     )
 }
 
-fn claim_waits(alloc: Global, held: u8, claimed: u8, is_aborted: bool) -> bool {
+fn claim_waits(alloc: Global, held: &[u8], claimed: &[u8], is_aborted: bool) -> bool {
     passes(
         alloc,
         &Claim {
@@ -97,34 +107,32 @@ fn claim_waits(alloc: Global, held: u8, claimed: u8, is_aborted: bool) -> bool {
     )
 }
 
-fn claims_are_free(alloc: Global, held: u8, claimed: &[u8]) -> bool {
-    claimed
-        .iter()
-        .all(|digit| claim_is_free(alloc, held, *digit))
+fn claims_are_free(alloc: Global, held: &[u8], claimed: &[&[u8]]) -> bool {
+    claimed.iter().all(|name| claim_is_free(alloc, held, *name))
 }
 
-fn claims_wait(alloc: Global, held: u8, claimed: &[u8]) -> bool {
-    claimed.iter().all(|digit| claim_waits(alloc, held, *digit, false)
-        && claim_waits(alloc, held, *digit, true))
+fn claims_wait(alloc: Global, held: &[u8], claimed: &[&[u8]]) -> bool {
+    claimed.iter().all(|name| claim_waits(alloc, held, *name, false)
+        && claim_waits(alloc, held, *name, true))
 }
 
 #[test]
 fn above_and_below(rt: HostRuntime) {
     let alloc = rt.alloc();
-    assert!(rt; claims_wait(alloc, b'0', b"0123"));
-    assert!(rt; claims_wait(alloc, b'1', b"012"));
-    assert!(rt; claims_wait(alloc, b'2', b"012"));
-    assert!(rt; claims_wait(alloc, b'3', b"03"));
+    assert!(rt; claims_wait(alloc, ALL, &[ALL, ONE, ONE_TWO, TWO]));
+    assert!(rt; claims_wait(alloc, ONE, &[ALL, ONE, ONE_TWO]));
+    assert!(rt; claims_wait(alloc, ONE_TWO, &[ALL, ONE, ONE_TWO]));
+    assert!(rt; claims_wait(alloc, TWO, &[ALL, TWO]));
 }
 
 #[test]
 fn beside(rt: HostRuntime) {
     let alloc = rt.alloc();
-    assert!(rt; claims_are_free(alloc, b'0', b"4"));
-    assert!(rt; claims_are_free(alloc, b'1', b"34"));
-    assert!(rt; claims_are_free(alloc, b'2', b"34"));
-    assert!(rt; claims_are_free(alloc, b'3', b"124"));
-    assert!(rt; claims_are_free(alloc, b'4', b"0123"));
+    assert!(rt; claims_are_free(alloc, ALL, &[LOG]));
+    assert!(rt; claims_are_free(alloc, ONE, &[TWO, LOG]));
+    assert!(rt; claims_are_free(alloc, ONE_TWO, &[TWO, LOG]));
+    assert!(rt; claims_are_free(alloc, TWO, &[ONE, ONE_TWO, LOG]));
+    assert!(rt; claims_are_free(alloc, LOG, &[ALL, ONE, ONE_TWO, TWO]));
 }
 
 // A job claims a name, the one above it, the one below it and the first once more, and gives each of them back in turn.
@@ -165,8 +173,8 @@ impl Trial for Own {
         entry: EntryId,
     ) -> Result<bool, Failure<Refusal>> {
         let mut system = System::start(alloc, program, entries);
-        stand(alloc, &mut system, entry, 1, b'1')?;
-        stand(alloc, &mut system, entry, 2, b'1')?;
+        stand(alloc, &mut system, entry, 1, b"1")?;
+        stand(alloc, &mut system, entry, 2, b"1")?;
         waits_to_the_end(&mut system)
     }
 }

@@ -36,7 +36,7 @@ fn routines(alloc: Global) -> Result<Vec<Routine>, Failure<Fault>> {
 TWO(A,B,C) LOCK +^ACCT(A) LOCK +(^ACCT(B),^ACCT(C)) QUIT\n\
 LOOP FOR  SET X=1\n\
 OTHER QUIT\n\
-NEST(A) LOCK:A=0 +^ACCT LOCK:A=1 +^ACCT(1) LOCK:A=2 +^ACCT(1,2) LOCK:A=3 +^ACCT(2) LOCK:A=4 +^LOG LOCK  QUIT\n\
+NEST(A,B,C,D,E) LOCK:A +^ACCT LOCK:B +^ACCT(1) LOCK:C +^ACCT(1,2) LOCK:D +^ACCT(2) LOCK:E +^LOG LOCK  QUIT\n\
 OWN(A) LOCK +^ACCT(A),+^ACCT,+^ACCT(A,2),+^ACCT(A),-^ACCT,-^ACCT(A),-^ACCT(A,2),-^ACCT(A) QUIT\n";
     let mut routines = Vec::new(alloc);
     routines.push(read_routine(alloc, b"R", text)?)?;
