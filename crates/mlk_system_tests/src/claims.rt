@@ -180,6 +180,6 @@ impl Trial for Own {
 }
 
 #[test]
-fn own(rt: HostRuntime) {
+fn of_its_own(rt: HostRuntime) {
     assert!(rt; passes(rt.alloc(), &Own));
 }
