@@ -1,6 +1,6 @@
 // SET.
 
-ghost use Rattle.std.specs.Prelude.{◌≡◌, IfOk, map};
+ghost use Rattle.std.specs.Prelude.{◌≡◌, IfOk, OnOk, map};
 ghost use Rattle.mlk_tree.specs.ExprTrees.{trees};
 ghost use Rattle.mlk_tree.specs.Views.{variable_of, target_of, set_of};
 ghost use Rattle.mlk_names.specs.declared.reference.Extent.TheVariants as extent;
@@ -39,16 +39,15 @@ fn arguments_in(target: &Target) -> &[Expr]
 fn capture_targets<'a>(
     spot: &'a Spot<'a>,
     targets: &'a [Target],
-    walk: Walk,
-) -> Result<Walk, AllocError>
-    ensures { IfOk result (λ w. w ≡ capture_targets (spot_of spot.now) (map target_of targets.now) walk) }
+    walk: &mut Walk,
+) -> Result<(), AllocError>
+    ensures { OnOk result (walk.new ≡ capture_targets (spot_of spot.now) (map target_of targets.now) walk.old) }
 {
-    let mut walk = walk;
     for target in targets {
-        walk = capture_variable(spot, variable_in(target), walk)?;
-        walk = values(spot, arguments_in(target), walk)?;
+        capture_variable(spot, variable_in(target), walk)?;
+        values(spot, arguments_in(target), walk)?;
     }
-    Ok(walk)
+    Ok(())
 }
 
 // As many captured symbols as there are, after the first so many.
@@ -119,12 +118,12 @@ fn read_target<'a>(
     spot: &'a Spot<'a>,
     from: usize,
     target: &'a Target,
-    walk: Walk,
-) -> Result<Walk, AllocError>
-    ensures { IfOk result (λ w. w ≡ read_target (spot_of spot.now) from (target_of target.now) walk) }
+    walk: &mut Walk,
+) -> Result<(), AllocError>
+    ensures { OnOk result (walk.new ≡ read_target (spot_of spot.now) from (target_of target.now) walk.old) }
 {
     match target {
-        Target::Whole(_) => Ok(walk),
+        Target::Whole(_) => Ok(()),
         Target::Part(_, variable, _) => {
             let row = ReadPart {
                 spot,
@@ -178,11 +177,11 @@ fn assign<'a>(
     spot: &'a Spot<'a>,
     from: usize,
     target: &'a Target,
-    walk: Walk,
-) -> Result<Walk, AllocError>
-    ensures { IfOk result (λ w. w ≡ assign (spot_of spot.now) from (target_of target.now) walk) }
+    walk: &mut Walk,
+) -> Result<(), AllocError>
+    ensures { OnOk result (walk.new ≡ assign (spot_of spot.now) from (target_of target.now) walk.old) }
 {
-    let walk = read_target(spot, from, target, walk)?;
+    read_target(spot, from, target, walk)?;
     let row = Write {
         spot,
         from,
@@ -195,33 +194,32 @@ fn assign<'a>(
 fn assign_all<'a>(
     spot: &'a Spot<'a>,
     targets: &'a [Target],
-    walk: Walk,
-) -> Result<(Walk, usize), AllocError>
-    ensures walk { IfOk result (λ r. r.0 ≡ assign_all (spot_of spot.now) 0 (map target_of targets.now) walk) }
-    ensures count { IfOk result (λ r. r.1 ≡ count_targets (map target_of targets.now)) }
+    walk: &mut Walk,
+) -> Result<usize, AllocError>
+    ensures walk { OnOk result (walk.new ≡ assign_all (spot_of spot.now) 0 (map target_of targets.now) walk.old) }
+    ensures count { IfOk result (λ n. n ≡ count_targets (map target_of targets.now)) }
 {
-    let mut walk = walk;
     let mut from: usize = 0;
     for target in targets {
-        walk = assign(spot, from, target, walk)?;
+        assign(spot, from, target, walk)?;
         let Some(next) = from.checked_add(count_of(variable_in(target))) else {
             return Err(AllocError);
         };
         from = next;
     }
-    Ok((walk, from))
+    Ok(from)
 }
 
 /// SET: the subscripts of all targets, then the value, then each target is assigned to in turn.
 pub fn set_argument<'a>(
     spot: &'a Spot<'a>,
     argument: &'a SetArgument,
-    walk: Walk,
-) -> Result<Walk, AllocError>
-    ensures { IfOk result (λ w. w ≡ set_argument (spot_of spot.now) (set_of argument.now) walk) }
+    walk: &mut Walk,
+) -> Result<(), AllocError>
+    ensures { OnOk result (walk.new ≡ set_argument (spot_of spot.now) (set_of argument.now) walk.old) }
 {
-    let walk = capture_targets(spot, &argument.targets, walk)?;
-    let walk = value(spot, &argument.value, walk)?;
-    let (walk, count) = assign_all(spot, &argument.targets, walk)?;
+    capture_targets(spot, &argument.targets, walk)?;
+    value(spot, &argument.value, walk)?;
+    let count = assign_all(spot, &argument.targets, walk)?;
     forget(spot.alloc, count, walk)
 }

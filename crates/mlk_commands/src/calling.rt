@@ -1,6 +1,6 @@
 // DO of a label, and JOB.
 
-ghost use Rattle.std.specs.Prelude.{◌≡◌, IfOk};
+ghost use Rattle.std.specs.Prelude.{◌≡◌, OnOk};
 ghost use Rattle.mlk_tree.specs.ExprTrees.{tree_of, actual_trees};
 ghost use Rattle.mlk_tree.specs.Views.{call_of, do_of};
 ghost use Rattle.mlk_scope.specs.declared.state.State.{State};
@@ -27,14 +27,14 @@ fn given_of(call: &Call) -> &[Actual]
     }
 }
 
-fn capture_given<'a>(spot: &'a Spot<'a>, call: &'a Call, walk: Walk) -> Result<Walk, AllocError>
-    ensures { IfOk result (λ w. w ≡ capture_given (spot_of spot.now) (call_of call.now) walk) }
+fn capture_given<'a>(spot: &'a Spot<'a>, call: &'a Call, walk: &mut Walk) -> Result<(), AllocError>
+    ensures { OnOk result (walk.new ≡ capture_given (spot_of spot.now) (call_of call.now) walk.old) }
 {
     capture_actuals(spot, given_of(call), walk)
 }
 
-fn forget_given(spot: &Spot, call: &Call, walk: Walk) -> Result<Walk, AllocError>
-    ensures { IfOk result (λ w. w ≡ forget_given (call_of call.now) walk) }
+fn forget_given(spot: &Spot, call: &Call, walk: &mut Walk) -> Result<(), AllocError>
+    ensures { OnOk result (walk.new ≡ forget_given (call_of call.now) walk.old) }
 {
     forget(spot.alloc, given_of(call).len(), walk)
 }
@@ -66,35 +66,35 @@ fn call_where<'a>(
     spot: &'a Spot<'a>,
     call: &'a Call,
     condition: &'a Expr,
-    walk: Walk,
-) -> Result<Walk, AllocError>
-    ensures { IfOk result (λ w. w ≡ by_condition (spot_of spot.now).scope (tree_of condition.now)
-        (each (do_row (spot_of spot.now) (call_of call.now))) (forget_given (call_of call.now)) walk) }
+    walk: &mut Walk,
+) -> Result<(), AllocError>
+    ensures { OnOk result (walk.new ≡ by_condition (spot_of spot.now).scope (tree_of condition.now)
+        (each (do_row (spot_of spot.now) (call_of call.now))) (forget_given (call_of call.now)) walk.old) }
 {
-    let (held, failed) = where_it_holds(spot, condition, walk)?;
-    let found = each(spot.alloc, &Calls { spot, call }, held)?;
-    if found.over {
-        return Ok(found);
+    let failed = where_it_holds(spot, condition, walk)?;
+    each(spot.alloc, &Calls { spot, call }, walk)?;
+    if walk.over {
+        return Ok(());
     }
-    let (rest, waiting) = found.take_states(spot.alloc);
-    let left = forget_given(spot, call, rest.with_states(failed))?;
-    left.join(spot.alloc, waiting)
+    let waiting = std::mem::replace(&mut walk.going, failed);
+    forget_given(spot, call, walk)?;
+    walk.join(spot.alloc, waiting)
 }
 
 /// DO of a label: the actuals, the argument's own postconditional, the call.
 pub fn do_argument<'a>(
     spot: &'a Spot<'a>,
     argument: &'a DoArgument,
-    walk: Walk,
-) -> Result<Walk, AllocError>
-    ensures { IfOk result (λ w. w ≡ do_argument (spot_of spot.now) (do_of argument.now) walk) }
+    walk: &mut Walk,
+) -> Result<(), AllocError>
+    ensures { OnOk result (walk.new ≡ do_argument (spot_of spot.now) (do_of argument.now) walk.old) }
 {
     let call = &argument.call;
-    let walk = capture_given(spot, call, walk)?;
+    capture_given(spot, call, walk)?;
     match &argument.condition {
         None => each(spot.alloc, &Calls { spot, call }, walk),
         Some(condition) => {
-            let walk = value(spot, condition, walk)?;
+            value(spot, condition, walk)?;
             call_where(spot, call, condition, walk)
         }
     }
@@ -126,11 +126,11 @@ impl<'a> Row for Begins<'a> {
 pub fn job_argument<'a>(
     spot: &'a Spot<'a>,
     argument: &'a Call,
-    walk: Walk,
-) -> Result<Walk, AllocError>
-    ensures { IfOk result (λ w. w ≡ job_argument (spot_of spot.now) (call_of argument.now) walk) }
+    walk: &mut Walk,
+) -> Result<(), AllocError>
+    ensures { OnOk result (walk.new ≡ job_argument (spot_of spot.now) (call_of argument.now) walk.old) }
 {
-    let walk = capture_given(spot, argument, walk)?;
+    capture_given(spot, argument, walk)?;
     let row = Begins {
         spot,
         call: argument,

@@ -1,6 +1,6 @@
 // IF.
 
-ghost use Rattle.std.specs.Prelude.{◌≡◌, IfOk};
+ghost use Rattle.std.specs.Prelude.{◌≡◌, OnOk};
 ghost use Rattle.mlk_tree.specs.ExprTrees.{tree_of};
 ghost use Rattle.mlk_scope.specs.declared.state.State.{State};
 ghost use Rattle.mlk_scope.specs.Symbols.{truth_in};
@@ -43,11 +43,11 @@ impl<'a> Row for ByTruth<'a> {
 pub fn if_argument<'a>(
     spot: &'a Spot<'a>,
     argument: &'a Expr,
-    walk: Walk,
-) -> Result<Walk, AllocError>
-    ensures { IfOk result (λ w. w ≡ if_argument (spot_of spot.now) (tree_of argument.now) walk) }
+    walk: &mut Walk,
+) -> Result<(), AllocError>
+    ensures { OnOk result (walk.new ≡ if_argument (spot_of spot.now) (tree_of argument.now) walk.old) }
 {
-    let walk = value(spot, argument, walk)?;
+    value(spot, argument, walk)?;
     let row = ByTruth {
         spot,
         condition: argument,

@@ -1,6 +1,6 @@
 // KILL.
 
-ghost use Rattle.std.specs.Prelude.{◌≡◌, IfOk};
+ghost use Rattle.std.specs.Prelude.{◌≡◌, OnOk};
 ghost use Rattle.mlk_tree.specs.Views.{variable_of, kill_of};
 ghost use Rattle.mlk_scope.specs.declared.state.State.{State};
 ghost use Rattle.mlk_rows.specs.Spots.{spot_of};
@@ -58,9 +58,9 @@ impl<'a> Row for Kill<'a> {
 pub fn kill_all_but<'a>(
     spot: &'a Spot<'a>,
     names: &'a List<Name>,
-    walk: Walk,
-) -> Result<Walk, AllocError>
-    ensures { IfOk result (λ w. w ≡ kill_all_but (spot_of spot.now) names.now walk) }
+    walk: &mut Walk,
+) -> Result<(), AllocError>
+    ensures { OnOk result (walk.new ≡ kill_all_but (spot_of spot.now) names.now walk.old) }
 {
     let others = NameSet::AllBut(in_order(spot.alloc, names.as_slice())?);
     change_all(spot, spot.word, &others, walk)
@@ -70,13 +70,13 @@ pub fn kill_all_but<'a>(
 pub fn kill_argument<'a>(
     spot: &'a Spot<'a>,
     argument: &'a KillArgument,
-    walk: Walk,
-) -> Result<Walk, AllocError>
-    ensures { IfOk result (λ w. w ≡ kill_argument (spot_of spot.now) (kill_of argument.now) walk) }
+    walk: &mut Walk,
+) -> Result<(), AllocError>
+    ensures { OnOk result (walk.new ≡ kill_argument (spot_of spot.now) (kill_of argument.now) walk.old) }
 {
     match argument {
         KillArgument::One(variable) => {
-            let walk = capture_variable(spot, variable, walk)?;
+            capture_variable(spot, variable, walk)?;
             each(spot.alloc, &Kill { spot, variable }, walk)
         }
         KillArgument::AllBut(names) => kill_all_but(spot, names, walk),

@@ -263,15 +263,15 @@ impl<'a> Row for Locks<'a> {
 pub fn lock_argument<'a>(
     spot: &'a Spot<'a>,
     argument: &'a LockArgument,
-    walk: Walk,
-) -> Result<Walk, AllocError>
-    ensures { IfOk result (λ w. w ≡ lock_argument (spot_of spot.now) (lock_of argument.now) walk) }
+    walk: &mut Walk,
+) -> Result<(), AllocError>
+    ensures { OnOk result (walk.new ≡ lock_argument (spot_of spot.now) (lock_of argument.now) walk.old) }
 {
     let names = argument.names.as_slice();
-    let walk = capture_names(spot, names, walk)?;
-    let walk = each(spot.alloc, &Known { spot, argument }, walk)?;
-    let walk = value_if(spot, argument.timeout.as_ref(), walk)?;
-    let walk = each(spot.alloc, &Locks { spot, argument }, walk)?;
+    capture_names(spot, names, walk)?;
+    each(spot.alloc, &Known { spot, argument }, walk)?;
+    value_if(spot, argument.timeout.as_ref(), walk)?;
+    each(spot.alloc, &Locks { spot, argument }, walk)?;
     walk.few(spot.alloc, spot.line, spot.word)
 }
 

@@ -1,6 +1,6 @@
 // Lock names, as LOCK gives them.
 
-ghost use Rattle.std.specs.Prelude.{◌≡◌, IfOk, map, option_map, take, drop};
+ghost use Rattle.std.specs.Prelude.{◌≡◌, IfOk, OnOk, map, option_map, take, drop};
 ghost use Rattle.mlk_tree.specs.ExprTrees.{tree_of, sub_trees, subs_from};
 ghost use Rattle.mlk_tree.specs.Views.{variable_of};
 ghost use Rattle.mlk_scope.specs.Terms.{all_known};
@@ -19,15 +19,14 @@ use std::alloc::{AllocError, Global};
 pub(crate) fn capture_names<'a>(
     spot: &'a Spot<'a>,
     names: &'a [Variable],
-    walk: Walk,
-) -> Result<Walk, AllocError>
-    ensures { IfOk result (λ w. w ≡ capture_names (spot_of spot.now) (map variable_of names.now) walk) }
+    walk: &mut Walk,
+) -> Result<(), AllocError>
+    ensures { OnOk result (walk.new ≡ capture_names (spot_of spot.now) (map variable_of names.now) walk.old) }
 {
-    let mut walk = walk;
     for name in names {
-        walk = capture_variable(spot, name, walk)?;
+        capture_variable(spot, name, walk)?;
     }
-    Ok(walk)
+    Ok(())
 }
 
 /// How many subscripts the names have, which memory bounds.

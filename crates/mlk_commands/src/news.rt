@@ -1,6 +1,6 @@
 // NEW.
 
-ghost use Rattle.std.specs.Prelude.{◌≡◌, IfOk};
+ghost use Rattle.std.specs.Prelude.{◌≡◌, IfOk, OnOk};
 ghost use Rattle.mlk_tree.specs.Views.{new_of};
 ghost use Rattle.mlk_scope.specs.declared.state.State.{State};
 ghost use Rattle.mlk_scope.specs.Refusals.{AnswersOf};
@@ -74,9 +74,9 @@ fn renew<'a>(
     spot: &'a Spot<'a>,
     column: Column,
     names: &'a NameSet,
-    walk: Walk,
-) -> Result<Walk, AllocError>
-    ensures { IfOk result (λ w. w ≡ each (renew (spot_of spot.now) column names.now) walk) }
+    walk: &mut Walk,
+) -> Result<(), AllocError>
+    ensures { OnOk result (walk.new ≡ each (renew (spot_of spot.now) column names.now) walk.old) }
 {
     let row = Renewal {
         spot,
@@ -90,9 +90,9 @@ fn renew<'a>(
 pub fn new_all_but<'a>(
     spot: &'a Spot<'a>,
     names: &'a List<Name>,
-    walk: Walk,
-) -> Result<Walk, AllocError>
-    ensures { IfOk result (λ w. w ≡ new_all_but (spot_of spot.now) names.now walk) }
+    walk: &mut Walk,
+) -> Result<(), AllocError>
+    ensures { OnOk result (walk.new ≡ new_all_but (spot_of spot.now) names.now walk.old) }
 {
     let others = NameSet::AllBut(in_order(spot.alloc, names.as_slice())?);
     renew(spot, spot.word, &others, walk)
@@ -102,9 +102,9 @@ pub fn new_all_but<'a>(
 pub fn new_argument<'a>(
     spot: &'a Spot<'a>,
     argument: &'a NewArgument,
-    walk: Walk,
-) -> Result<Walk, AllocError>
-    ensures { IfOk result (λ w. w ≡ new_argument (spot_of spot.now) (new_of argument.now) walk) }
+    walk: &mut Walk,
+) -> Result<(), AllocError>
+    ensures { OnOk result (walk.new ≡ new_argument (spot_of spot.now) (new_of argument.now) walk.old) }
 {
     match argument {
         NewArgument::One(column, name) => {

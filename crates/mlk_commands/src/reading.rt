@@ -1,6 +1,6 @@
 // READ, MERGE and WRITE.
 
-ghost use Rattle.std.specs.Prelude.{◌≡◌, IfOk, option_map, option_copied};
+ghost use Rattle.std.specs.Prelude.{◌≡◌, OnOk, option_map, option_copied};
 ghost use Rattle.mlk_tree.specs.ExprTrees.{tree_of};
 ghost use Rattle.mlk_tree.specs.Views.{variable_of, read_of, merge_of, write_of};
 ghost use Rattle.mlk_scope.specs.declared.state.State.{State};
@@ -70,15 +70,15 @@ fn read_variable<'a>(
     variable: &'a Variable,
     most: Option<&'a Expr>,
     timeout: Option<&'a Expr>,
-    walk: Walk,
-) -> Result<Walk, AllocError>
-    ensures { IfOk result (λ w. w ≡ read_variable (spot_of spot.now) (variable_of variable.now)
-        (option_map tree_of (option_copied most.entry)) (option_map tree_of (option_copied timeout.entry)) walk) }
+    walk: &mut Walk,
+) -> Result<(), AllocError>
+    ensures { OnOk result (walk.new ≡ read_variable (spot_of spot.now) (variable_of variable.now)
+        (option_map tree_of (option_copied most.entry)) (option_map tree_of (option_copied timeout.entry)) walk.old) }
 {
-    let walk = capture_variable(spot, variable, walk)?;
-    let walk = value_if(spot, most, walk)?;
-    let walk = value_if(spot, timeout, walk)?;
-    let walk = each(spot.alloc, &Read { spot, variable }, walk)?;
+    capture_variable(spot, variable, walk)?;
+    value_if(spot, most, walk)?;
+    value_if(spot, timeout, walk)?;
+    each(spot.alloc, &Read { spot, variable }, walk)?;
     each(spot.alloc, &InTime { timeout }, walk)
 }
 
@@ -86,12 +86,12 @@ fn read_variable<'a>(
 pub fn read_argument<'a>(
     spot: &'a Spot<'a>,
     argument: &'a ReadArgument,
-    walk: Walk,
-) -> Result<Walk, AllocError>
-    ensures { IfOk result (λ w. w ≡ read_argument (spot_of spot.now) (read_of argument.now) walk) }
+    walk: &mut Walk,
+) -> Result<(), AllocError>
+    ensures { OnOk result (walk.new ≡ read_argument (spot_of spot.now) (read_of argument.now) walk.old) }
 {
     match argument {
-        ReadArgument::Text(_) => Ok(walk),
+        ReadArgument::Text(_) => Ok(()),
         ReadArgument::Format(tab) => value_if(spot, tab.as_ref(), walk),
         ReadArgument::Line(variable, most, timeout) => {
             read_variable(spot, variable, most.as_ref(), timeout.as_ref(), walk)
@@ -138,14 +138,14 @@ impl<'a> Row for ReadTree<'a> {
 pub fn merge_argument<'a>(
     spot: &'a Spot<'a>,
     argument: &'a MergeArgument,
-    walk: Walk,
-) -> Result<Walk, AllocError>
-    ensures { IfOk result (λ w. w ≡ merge_argument (spot_of spot.now) (merge_of argument.now) walk) }
+    walk: &mut Walk,
+) -> Result<(), AllocError>
+    ensures { OnOk result (walk.new ≡ merge_argument (spot_of spot.now) (merge_of argument.now) walk.old) }
 {
     let target = &argument.target;
     let source = &argument.source;
-    let walk = capture_variable(spot, target, walk)?;
-    let walk = capture_variable(spot, source, walk)?;
+    capture_variable(spot, target, walk)?;
+    capture_variable(spot, source, walk)?;
     let reads = ReadTree {
         spot,
         variable: source,
@@ -154,7 +154,7 @@ pub fn merge_argument<'a>(
         spot,
         variable: target,
     };
-    let walk = each(spot.alloc, &reads, walk)?;
+    each(spot.alloc, &reads, walk)?;
     each(spot.alloc, &writes, walk)
 }
 
@@ -162,9 +162,9 @@ pub fn merge_argument<'a>(
 pub fn write_argument<'a>(
     spot: &'a Spot<'a>,
     argument: &'a WriteArgument,
-    walk: Walk,
-) -> Result<Walk, AllocError>
-    ensures { IfOk result (λ w. w ≡ write_argument (spot_of spot.now) (write_of argument.now) walk) }
+    walk: &mut Walk,
+) -> Result<(), AllocError>
+    ensures { OnOk result (walk.new ≡ write_argument (spot_of spot.now) (write_of argument.now) walk.old) }
 {
     match argument {
         WriteArgument::Value(expression) => value(spot, expression, walk),

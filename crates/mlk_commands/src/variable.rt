@@ -1,6 +1,6 @@
 // Variables as commands name them, and changes of locals.
 
-ghost use Rattle.std.specs.Prelude.{◌≡◌, ◌∷◌, [], IfOk, OnOk};
+ghost use Rattle.std.specs.Prelude.{◌≡◌, ◌∷◌, [], OnOk};
 ghost use Rattle.mlk_tree.specs.ExprTrees.{sub_trees, subs_from};
 ghost use Rattle.mlk_tree.specs.Views.{variable_of};
 ghost use Rattle.mlk_scope.specs.declared.state.State.{State};
@@ -41,9 +41,9 @@ pub(crate) fn count_of(variable: &Variable) -> usize
 pub(crate) fn capture_variable<'a>(
     spot: &'a Spot<'a>,
     variable: &'a Variable,
-    walk: Walk,
-) -> Result<Walk, AllocError>
-    ensures { IfOk result (λ w. w ≡ capture_variable (spot_of spot.now) (variable_of variable.now) walk) }
+    walk: &mut Walk,
+) -> Result<(), AllocError>
+    ensures { OnOk result (walk.new ≡ capture_variable (spot_of spot.now) (variable_of variable.now) walk.old) }
 {
     capture_subs(spot, subscripts_of(variable), walk)
 }
@@ -99,9 +99,9 @@ pub(crate) fn change_all<'a>(
     spot: &'a Spot<'a>,
     column: Column,
     names: &'a NameSet,
-    walk: Walk,
-) -> Result<Walk, AllocError>
-    ensures { IfOk result (λ w. w ≡ each (change_at (spot_of spot.now) column names.now) walk) }
+    walk: &mut Walk,
+) -> Result<(), AllocError>
+    ensures { OnOk result (walk.new ≡ each (change_at (spot_of spot.now) column names.now) walk.old) }
 {
     let row = Change {
         spot,

@@ -1,6 +1,6 @@
 // What a command does, without its postconditional.
 
-ghost use Rattle.std.specs.Prelude.{◌≡◌, IfOk, OnOk, List, map, option_map, option_copied};
+ghost use Rattle.std.specs.Prelude.{◌≡◌, OnOk, List, map, option_map, option_copied};
 ghost use Rattle.mlk_tree.specs.ExprTrees.{tree_of, trees};
 ghost use Rattle.mlk_tree.specs.Trees as tree;
 ghost use Rattle.mlk_tree.specs.Views.{action_of, do_of, kill_of, lock_of, new_of};
@@ -113,9 +113,9 @@ impl<'a> Row for QuitRow<'a> {
 fn do_action<'a>(
     spot: &'a Spot<'a>,
     calls: &'a [DoArgument],
-    walk: Walk,
-) -> Result<Walk, AllocError>
-    ensures { IfOk result (λ w. counted w ≡ counted (do_calls (spot_of spot.now) (map do_of calls.now) walk)) }
+    walk: &mut Walk,
+) -> Result<(), AllocError>
+    ensures { OnOk result (counted walk.new ≡ counted (do_calls (spot_of spot.now) (map do_of calls.now) walk.old)) }
 {
     match calls.split_first() {
         None => do_block(spot, walk),
@@ -123,8 +123,12 @@ fn do_action<'a>(
     }
 }
 
-fn if_action<'a>(spot: &'a Spot<'a>, conditions: &'a [Expr], walk: Walk) -> Result<Walk, AllocError>
-    ensures { IfOk result (λ w. w ≡ if_all (spot_of spot.now) (trees conditions.now) walk) }
+fn if_action<'a>(
+    spot: &'a Spot<'a>,
+    conditions: &'a [Expr],
+    walk: &mut Walk,
+) -> Result<(), AllocError>
+    ensures { OnOk result (walk.new ≡ if_all (spot_of spot.now) (trees conditions.now) walk.old) }
 {
     match conditions.split_first() {
         None => each(spot.alloc, &IfTest, walk),
@@ -135,9 +139,9 @@ fn if_action<'a>(spot: &'a Spot<'a>, conditions: &'a [Expr], walk: Walk) -> Resu
 fn kill_action<'a>(
     spot: &'a Spot<'a>,
     kills: &'a [KillArgument],
-    walk: Walk,
-) -> Result<Walk, AllocError>
-    ensures { IfOk result (λ w. w ≡ kill_each (spot_of spot.now) (map kill_of kills.now) walk) }
+    walk: &mut Walk,
+) -> Result<(), AllocError>
+    ensures { OnOk result (walk.new ≡ kill_each (spot_of spot.now) (map kill_of kills.now) walk.old) }
 {
     match kills.split_first() {
         None => kill_all_but(spot, &List::new(spot.alloc), walk),
@@ -148,9 +152,9 @@ fn kill_action<'a>(
 fn lock_action<'a>(
     spot: &'a Spot<'a>,
     locks: &'a [LockArgument],
-    walk: Walk,
-) -> Result<Walk, AllocError>
-    ensures { IfOk result (λ w. w ≡ lock_each (spot_of spot.now) (map lock_of locks.now) walk) }
+    walk: &mut Walk,
+) -> Result<(), AllocError>
+    ensures { OnOk result (walk.new ≡ lock_each (spot_of spot.now) (map lock_of locks.now) walk.old) }
 {
     match locks.split_first() {
         None => each(spot.alloc, &Release { spot }, walk),
@@ -161,9 +165,9 @@ fn lock_action<'a>(
 fn new_action<'a>(
     spot: &'a Spot<'a>,
     news: &'a [NewArgument],
-    walk: Walk,
-) -> Result<Walk, AllocError>
-    ensures { IfOk result (λ w. w ≡ new_each (spot_of spot.now) (map new_of news.now) walk) }
+    walk: &mut Walk,
+) -> Result<(), AllocError>
+    ensures { OnOk result (walk.new ≡ new_each (spot_of spot.now) (map new_of news.now) walk.old) }
 {
     match news.split_first() {
         None => new_all_but(spot, &List::new(spot.alloc), walk),
@@ -174,11 +178,11 @@ fn new_action<'a>(
 fn quit_action<'a>(
     spot: &'a Spot<'a>,
     given: &'a Option<Box<Expr>>,
-    walk: Walk,
-) -> Result<Walk, AllocError>
-    ensures { IfOk result (λ w. w ≡ act (spot_of spot.now) (tree.Quit (option_map (λ b. tree_of b.value) given.now)) walk) }
+    walk: &mut Walk,
+) -> Result<(), AllocError>
+    ensures { OnOk result (walk.new ≡ act (spot_of spot.now) (tree.Quit (option_map (λ b. tree_of b.value) given.now)) walk.old) }
 {
-    let walk = value_if(spot, given.as_deref(), walk)?;
+    value_if(spot, given.as_deref(), walk)?;
     each(spot.alloc, &QuitRow { spot }, walk)
 }
 
@@ -188,9 +192,9 @@ fn quit_action<'a>(
 pub(crate) fn act<'a>(
     spot: &'a Spot<'a>,
     action: &'a Action,
-    walk: Walk,
-) -> Result<Walk, AllocError>
-    ensures { IfOk result (λ w. counted w ≡ counted (act (spot_of spot.now) (action_of action.now) walk)) }
+    walk: &mut Walk,
+) -> Result<(), AllocError>
+    ensures { OnOk result (counted walk.new ≡ counted (act (spot_of spot.now) (action_of action.now) walk.old)) }
 {
     match action {
         Action::Do(calls) => do_action(spot, calls, walk),

@@ -1,6 +1,6 @@
 // Arguments of commands, in turn.
 
-ghost use Rattle.std.specs.Prelude.{◌≡◌, IfOk, map};
+ghost use Rattle.std.specs.Prelude.{◌≡◌, OnOk, map};
 ghost use Rattle.mlk_tree.specs.ExprTrees.{Tree, tree_of};
 ghost use Rattle.mlk_tree.specs.Trees.{CallTree, DoTree, KillTree, LockTree, MergeTree, NewTree, ReadTree, SetTree, WriteTree};
 ghost use Rattle.mlk_tree.specs.Views.{do_of, kill_of, lock_of, merge_of, new_of, read_of, set_of, write_of, call_of};
@@ -23,7 +23,7 @@ use std::alloc::AllocError;
 
 /// An argument of a command.
 pub(crate) trait Argument {
-    ghost use Rattle.std.specs.Prelude.{◌≡◌, IfOk};
+    ghost use Rattle.std.specs.Prelude.{◌≡◌, OnOk};
     ghost use Rattle.mlk_rows.specs.declared.walk.Walk.{Walk as Walked};
     ghost use Rattle.mlk_rows.specs.Spots.{Spot as Place, spot_of};
 
@@ -34,19 +34,19 @@ pub(crate) trait Argument {
     ghost made: { Place → Shape → Walked → Walked };
 
     /// What the argument makes of a walk.
-    fn make<'a>(&'a self, spot: &'a Spot<'a>, walk: Walk) -> Result<Walk, AllocError>
-        ensures { IfOk result (λ w. w ≡ made (spot_of spot.now) (tree self.now) walk) };
+    fn make<'a>(&'a self, spot: &'a Spot<'a>, walk: &mut Walk) -> Result<(), AllocError>
+        ensures { OnOk result (walk.new ≡ made (spot_of spot.now) (tree self.now) walk.old) };
 }
 
 // One argument, after which it is asked whether there are too many states.
 fn turn<'a, A: Argument>(
     spot: &'a Spot<'a>,
     argument: &'a A,
-    walk: Walk,
-) -> Result<Walk, AllocError>
-    ensures { IfOk result (λ w. w ≡ turn A.made (spot_of spot.now) walk (A.tree argument.now)) }
+    walk: &mut Walk,
+) -> Result<(), AllocError>
+    ensures { OnOk result (walk.new ≡ turn A.made (spot_of spot.now) walk.old (A.tree argument.now)) }
 {
-    let walk = argument.make(spot, walk)?;
+    argument.make(spot, walk)?;
     walk.few(spot.alloc, spot.line, spot.word)
 }
 
@@ -54,15 +54,14 @@ fn turn<'a, A: Argument>(
 pub(crate) fn in_turn<'a, A: Argument>(
     spot: &'a Spot<'a>,
     arguments: &'a [A],
-    walk: Walk,
-) -> Result<Walk, AllocError>
-    ensures { IfOk result (λ w. w ≡ in_turn A.made (spot_of spot.now) (map A.tree arguments.now) walk) }
+    walk: &mut Walk,
+) -> Result<(), AllocError>
+    ensures { OnOk result (walk.new ≡ in_turn A.made (spot_of spot.now) (map A.tree arguments.now) walk.old) }
 {
-    let mut walk = walk;
     for argument in arguments {
-        walk = turn(spot, argument, walk)?;
+        turn(spot, argument, walk)?;
     }
-    Ok(walk)
+    Ok(())
 }
 
 impl Argument for DoArgument {
@@ -72,7 +71,7 @@ impl Argument for DoArgument {
 
     ghost made = { row.do_argument };
 
-    fn make<'a>(&'a self, spot: &'a Spot<'a>, walk: Walk) -> Result<Walk, AllocError> {
+    fn make<'a>(&'a self, spot: &'a Spot<'a>, walk: &mut Walk) -> Result<(), AllocError> {
         do_argument(spot, self, walk)
     }
 }
@@ -84,7 +83,7 @@ impl Argument for KillArgument {
 
     ghost made = { row.kill_argument };
 
-    fn make<'a>(&'a self, spot: &'a Spot<'a>, walk: Walk) -> Result<Walk, AllocError> {
+    fn make<'a>(&'a self, spot: &'a Spot<'a>, walk: &mut Walk) -> Result<(), AllocError> {
         kill_argument(spot, self, walk)
     }
 }
@@ -96,7 +95,7 @@ impl Argument for LockArgument {
 
     ghost made = { locks.lock_argument };
 
-    fn make<'a>(&'a self, spot: &'a Spot<'a>, walk: Walk) -> Result<Walk, AllocError> {
+    fn make<'a>(&'a self, spot: &'a Spot<'a>, walk: &mut Walk) -> Result<(), AllocError> {
         lock_argument(spot, self, walk)
     }
 }
@@ -108,7 +107,7 @@ impl Argument for MergeArgument {
 
     ghost made = { row.merge_argument };
 
-    fn make<'a>(&'a self, spot: &'a Spot<'a>, walk: Walk) -> Result<Walk, AllocError> {
+    fn make<'a>(&'a self, spot: &'a Spot<'a>, walk: &mut Walk) -> Result<(), AllocError> {
         merge_argument(spot, self, walk)
     }
 }
@@ -120,7 +119,7 @@ impl Argument for NewArgument {
 
     ghost made = { row.new_argument };
 
-    fn make<'a>(&'a self, spot: &'a Spot<'a>, walk: Walk) -> Result<Walk, AllocError> {
+    fn make<'a>(&'a self, spot: &'a Spot<'a>, walk: &mut Walk) -> Result<(), AllocError> {
         new_argument(spot, self, walk)
     }
 }
@@ -132,7 +131,7 @@ impl Argument for ReadArgument {
 
     ghost made = { row.read_argument };
 
-    fn make<'a>(&'a self, spot: &'a Spot<'a>, walk: Walk) -> Result<Walk, AllocError> {
+    fn make<'a>(&'a self, spot: &'a Spot<'a>, walk: &mut Walk) -> Result<(), AllocError> {
         read_argument(spot, self, walk)
     }
 }
@@ -144,7 +143,7 @@ impl Argument for SetArgument {
 
     ghost made = { row.set_argument };
 
-    fn make<'a>(&'a self, spot: &'a Spot<'a>, walk: Walk) -> Result<Walk, AllocError> {
+    fn make<'a>(&'a self, spot: &'a Spot<'a>, walk: &mut Walk) -> Result<(), AllocError> {
         set_argument(spot, self, walk)
     }
 }
@@ -156,7 +155,7 @@ impl Argument for WriteArgument {
 
     ghost made = { row.write_argument };
 
-    fn make<'a>(&'a self, spot: &'a Spot<'a>, walk: Walk) -> Result<Walk, AllocError> {
+    fn make<'a>(&'a self, spot: &'a Spot<'a>, walk: &mut Walk) -> Result<(), AllocError> {
         write_argument(spot, self, walk)
     }
 }
@@ -169,7 +168,7 @@ impl Argument for Call {
 
     ghost made = { row.job_argument };
 
-    fn make<'a>(&'a self, spot: &'a Spot<'a>, walk: Walk) -> Result<Walk, AllocError> {
+    fn make<'a>(&'a self, spot: &'a Spot<'a>, walk: &mut Walk) -> Result<(), AllocError> {
         job_argument(spot, self, walk)
     }
 }
@@ -182,7 +181,7 @@ impl Argument for Expr {
 
     ghost made = { expressions.value };
 
-    fn make<'a>(&'a self, spot: &'a Spot<'a>, walk: Walk) -> Result<Walk, AllocError> {
+    fn make<'a>(&'a self, spot: &'a Spot<'a>, walk: &mut Walk) -> Result<(), AllocError> {
         value(spot, self, walk)
     }
 }
@@ -191,14 +190,13 @@ impl Argument for Expr {
 pub(crate) fn conditions_in_turn<'a>(
     spot: &'a Spot<'a>,
     conditions: &'a [Expr],
-    walk: Walk,
-) -> Result<Walk, AllocError>
-    ensures { IfOk result (λ w. w ≡ in_turn row.if_argument (spot_of spot.now) (map tree_of conditions.now) walk) }
+    walk: &mut Walk,
+) -> Result<(), AllocError>
+    ensures { OnOk result (walk.new ≡ in_turn row.if_argument (spot_of spot.now) (map tree_of conditions.now) walk.old) }
 {
-    let mut walk = walk;
     for condition in conditions {
-        let found = if_argument(spot, condition, walk)?;
-        walk = found.few(spot.alloc, spot.line, spot.word)?;
+        if_argument(spot, condition, walk)?;
+        walk.few(spot.alloc, spot.line, spot.word)?;
     }
-    Ok(walk)
+    Ok(())
 }

@@ -87,22 +87,22 @@ fn block_ends(alloc: Global, entered: bool, block: &Block) -> Result<List<State>
     ends_of(alloc, block)
 }
 
-fn through(spot: &Spot, block: &Block, walk: Walk) -> Result<Walk, AllocError>
-    ensures { IfOk result (λ w. counted w ≡ counted (do_block (spot_of spot.now) (Some block.now) walk)) }
+fn through(spot: &Spot, block: &Block, walk: &mut Walk) -> Result<(), AllocError>
+    ensures { OnOk result (counted walk.new ≡ counted (do_block (spot_of spot.now) (Some block.now) walk.old)) }
 {
-    let (mut rest, going) = walk.take_states(spot.alloc);
-    let entered = enter_all(spot, block, going.into_vec(), &mut rest)?;
-    let ends = block_ends(spot.alloc, entered, block)?;
-    Ok(rest.with_states(ends))
+    let going = walk.take_going(spot.alloc);
+    let entered = enter_all(spot, block, going.into_vec(), walk)?;
+    walk.going = block_ends(spot.alloc, entered, block)?;
+    Ok(())
 }
 
 /// The block below the line: after it come the states in which it may end. Without a block nothing happens. Of more
 /// states than 17 the first 17 go on, so it has to be asked whether there are too many.
-pub(crate) fn do_block(spot: &Spot, walk: Walk) -> Result<Walk, AllocError>
-    ensures { IfOk result (λ w. counted w ≡ counted (do_block (spot_of spot.now) (spot_of spot.now).block walk)) }
+pub(crate) fn do_block(spot: &Spot, walk: &mut Walk) -> Result<(), AllocError>
+    ensures { OnOk result (counted walk.new ≡ counted (do_block (spot_of spot.now) (spot_of spot.now).block walk.old)) }
 {
     match spot.block {
-        None => Ok(walk),
+        None => Ok(()),
         Some(block) => through(spot, block, walk),
     }
 }

@@ -1,6 +1,6 @@
 // A command but FOR.
 
-ghost use Rattle.std.specs.Prelude.{◌≡◌, IfOk, Some, if◌then◌else◌, option_map};
+ghost use Rattle.std.specs.Prelude.{◌≡◌, OnOk, Some, if◌then◌else◌, option_map};
 ghost use Rattle.mlk_tree.specs.ExprTrees.{tree_of};
 ghost use Rattle.mlk_tree.specs.Views.{action_of, command_of};
 ghost use Rattle.mlk_rows.specs.Spots.{spot_of};
@@ -17,35 +17,39 @@ use mlk_tree::{Command, Expr};
 use std::alloc::{AllocError, Global};
 
 // What was found, and beside it the states that were set aside; where the line is over, they are not looked at.
-fn with_aside(alloc: Global, aside: List<State>, found: Walk) -> Result<Walk, AllocError>
-    ensures { IfOk result (λ w. w ≡ (if found.over then found else joined found.going (with_states aside found))) }
+fn with_aside(alloc: Global, aside: List<State>, walk: &mut Walk) -> Result<(), AllocError>
+    ensures { OnOk result (walk.new
+        ≡ (if walk.old.over then walk.old else joined walk.old.going (with_states aside walk.old))) }
 {
-    if found.over {
-        return Ok(found);
+    if walk.over {
+        return Ok(());
     }
-    let (rest, going) = found.take_states(alloc);
-    rest.with_states(aside).join(alloc, going)
+    let going = std::mem::replace(&mut walk.going, aside);
+    walk.join(alloc, going)
 }
 
 fn where_true<'a>(
     spot: &'a Spot<'a>,
     condition: &'a Expr,
     command: &'a Command,
-    walk: Walk,
-) -> Result<Walk, AllocError>
-    ensures { IfOk result (λ w. counted w ≡ counted (conditioned (spot_of spot.now) (Some (tree_of condition.now))
-        (act (spot_of spot.now) (action_of command.now.action)) stay walk)) }
+    walk: &mut Walk,
+) -> Result<(), AllocError>
+    ensures { OnOk result (counted walk.new ≡ counted (conditioned (spot_of spot.now) (Some (tree_of condition.now))
+        (act (spot_of spot.now) (action_of command.now.action)) stay walk.old)) }
 {
-    let walk = value(spot, condition, walk)?;
-    let (held, aside) = where_it_holds(spot, condition, walk)?;
-    let found = act(spot, &command.action, held)?;
-    let walk = with_aside(spot.alloc, aside, found)?;
-    Ok(walk)
+    value(spot, condition, walk)?;
+    let aside = where_it_holds(spot, condition, walk)?;
+    act(spot, &command.action, walk)?;
+    with_aside(spot.alloc, aside, walk)
 }
 
-fn conditioned<'a>(spot: &'a Spot<'a>, command: &'a Command, walk: Walk) -> Result<Walk, AllocError>
-    ensures { IfOk result (λ w. counted w ≡ counted (conditioned (spot_of spot.now) (option_map (λ b. tree_of b.value) command.now.condition)
-        (act (spot_of spot.now) (action_of command.now.action)) stay walk)) }
+fn conditioned<'a>(
+    spot: &'a Spot<'a>,
+    command: &'a Command,
+    walk: &mut Walk,
+) -> Result<(), AllocError>
+    ensures { OnOk result (counted walk.new ≡ counted (conditioned (spot_of spot.now) (option_map (λ b. tree_of b.value) command.now.condition)
+        (act (spot_of spot.now) (action_of command.now.action)) stay walk.old)) }
 {
     match &command.condition {
         None => act(spot, &command.action, walk),
@@ -58,11 +62,11 @@ fn conditioned<'a>(spot: &'a Spot<'a>, command: &'a Command, walk: Walk) -> Resu
 pub(crate) fn perform<'a>(
     spot: &'a Spot<'a>,
     command: &'a Command,
-    walk: Walk,
-) -> Result<Walk, AllocError>
-    ensures { IfOk result (λ w. w ≡ result_of (spot_of spot.now) (option_map (λ b. tree_of b.value) command.now.condition)
-        (action_of command.now.action) walk) }
+    walk: &mut Walk,
+) -> Result<(), AllocError>
+    ensures { OnOk result (walk.new ≡ result_of (spot_of spot.now) (option_map (λ b. tree_of b.value) command.now.condition)
+        (action_of command.now.action) walk.old) }
 {
-    let walk = conditioned(spot, command, walk)?;
+    conditioned(spot, command, walk)?;
     walk.few(spot.alloc, spot.line, spot.word)
 }

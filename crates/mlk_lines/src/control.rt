@@ -1,6 +1,6 @@
 // FOR, and the commands of a line.
 
-ghost use Rattle.std.specs.Prelude.{◌≡◌, IfOk, None, Some, fold, map, option_map, take};
+ghost use Rattle.std.specs.Prelude.{◌≡◌, IfOk, OnOk, None, Some, fold, map, option_map, take};
 ghost use Rattle.mlk_tree.specs.Views.{parameter_of, control_of, command_of, commands_of};
 ghost use Rattle.mlk_scope.specs.States.{at_rest};
 ghost use Rattle.mlk_rows.specs.Spots.{spot_of};
@@ -47,14 +47,13 @@ fn resting_quits(alloc: Global, quits: List<Quit>) -> Result<Vec<State>, AllocEr
 }
 
 // These faults too.
-fn add_faults(faults: Faults, walk: Walk) -> Result<Walk, AllocError>
-    ensures { IfOk result (λ w. w ≡ and_faults faults walk) }
+fn add_faults(faults: Faults, walk: &mut Walk) -> Result<(), AllocError>
+    ensures { OnOk result (walk.new ≡ and_faults faults walk.old) }
 {
-    let mut walk = walk;
     for found in faults.into_vec() {
         walk.faults.push(found.fault, found.mend)?;
     }
-    Ok(walk)
+    Ok(())
 }
 
 // These states too, each once; of more than 17 some may be left out, since 17 are too many already.
@@ -72,39 +71,37 @@ fn put_few(states: List<State>, new: Vec<State>) -> Result<List<State>, AllocErr
 }
 
 // These states too, each once, unless the line is over. Of more than 17 some may be left out.
-fn and_states(alloc: Global, states: Vec<State>, walk: Walk) -> Result<Walk, AllocError>
-    ensures { IfOk result (λ w. counted w ≡ counted (and_states states.items walk)) }
+fn and_states(alloc: Global, states: Vec<State>, walk: &mut Walk) -> Result<(), AllocError>
+    ensures { OnOk result (counted walk.new ≡ counted (and_states states.items walk.old)) }
 {
     if walk.over {
-        return Ok(walk);
+        return Ok(());
     }
-    let (rest, going) = walk.take_states(alloc);
-    let all = put_few(going, states)?;
-    Ok(rest.with_states(all))
+    let going = walk.take_going(alloc);
+    walk.going = put_few(going, states)?;
+    Ok(())
 }
 
 // The line is over.
-fn over_too(alloc: Global, walk: Walk) -> Walk
-    ensures { result ≡ over_too walk }
+fn over_too(alloc: Global, walk: &mut Walk)
+    ensures { walk.new ≡ over_too walk.old }
 {
-    let (mut rest, _) = walk.take_states(alloc);
-    rest.over = true;
-    rest
+    let _ = walk.take_going(alloc);
+    walk.over = true;
 }
 
 fn parameters<'a>(
     spot: &'a Spot<'a>,
     rounds: &Rounds<'a>,
     given: &'a [Parameter],
-    walk: Walk,
-) -> Result<Walk, AllocError>
-    ensures { IfOk result (λ w. w ≡ parameters (spot_of spot.now) (rounds_of rounds.now) (map parameter_of given.now) walk) }
+    walk: &mut Walk,
+) -> Result<(), AllocError>
+    ensures { OnOk result (walk.new ≡ parameters (spot_of spot.now) (rounds_of rounds.now) (map parameter_of given.now) walk.old) }
 {
-    let mut walk = walk;
     for one in given {
-        walk = parameter(spot, rounds, one, walk)?;
+        parameter(spot, rounds, one, walk)?;
     }
-    Ok(walk)
+    Ok(())
 }
 
 // A FOR without a parameter.
@@ -113,12 +110,12 @@ fn endless<'a>(
     index: usize,
     cases: &'a [Case],
     ended: &'a [State],
-    walk: Walk,
-) -> Result<Walk, AllocError>
-    ensures { IfOk result (λ w. w ≡ controlled (spot_of spot.now) None cases.now ended.now walk) }
+    walk: &mut Walk,
+) -> Result<(), AllocError>
+    ensures { OnOk result (walk.new ≡ controlled (spot_of spot.now) None cases.now ended.now walk.old) }
 {
-    let walk = begin_rounds(spot, index, cases, walk)?;
-    let walk = after_round(spot.alloc, ended, walk)?;
+    begin_rounds(spot, index, cases, walk)?;
+    after_round(spot.alloc, ended, walk)?;
     begin_rounds(spot, index, cases, walk)
 }
 
@@ -128,9 +125,9 @@ fn controlled<'a>(
     index: usize,
     cases: &'a [Case],
     ended: &'a [State],
-    walk: Walk,
-) -> Result<Walk, AllocError>
-    ensures { IfOk result (λ w. w ≡ controlled (spot_of spot.now) (Some (control_of control.now)) cases.now ended.now walk) }
+    walk: &mut Walk,
+) -> Result<(), AllocError>
+    ensures { OnOk result (walk.new ≡ controlled (spot_of spot.now) (Some (control_of control.now)) cases.now ended.now walk.old) }
 {
     let variable = NameSet::Only(control.variable.copy()?);
     let rounds = Rounds {
@@ -149,9 +146,9 @@ fn for_rounds<'a>(
     index: usize,
     cases: &'a [Case],
     ended: &'a [State],
-    walk: Walk,
-) -> Result<Walk, AllocError>
-    ensures { IfOk result (λ w. w ≡ controlled (spot_of spot.now) (option_map control_of control.now) cases.now ended.now walk) }
+    walk: &mut Walk,
+) -> Result<(), AllocError>
+    ensures { OnOk result (walk.new ≡ controlled (spot_of spot.now) (option_map control_of control.now) cases.now ended.now walk.old) }
 {
     match control {
         None => endless(spot, index, cases, ended, walk),
@@ -166,12 +163,12 @@ fn after_rounds<'a>(
     index: usize,
     cases: &'a [Case],
     inner: Walk,
-    walk: Walk,
-) -> Result<Walk, AllocError>
-    ensures { IfOk result (λ w. w ≡ after_rounds (spot_of spot.now) (option_map control_of control.now) cases.now inner walk) }
+    walk: &mut Walk,
+) -> Result<(), AllocError>
+    ensures { OnOk result (walk.new ≡ after_rounds (spot_of spot.now) (option_map control_of control.now) cases.now inner walk.old) }
 {
     if walk.over {
-        return Ok(walk);
+        return Ok(());
     }
     let Walk {
         going,
@@ -180,13 +177,14 @@ fn after_rounds<'a>(
         faults,
         over,
     } = inner;
-    let walk = add_faults(faults, walk)?;
+    add_faults(faults, walk)?;
     if over {
-        return Ok(over_too(spot.alloc, walk));
+        over_too(spot.alloc, walk);
+        return Ok(());
     }
     let ended = put_all(going, resting(spot.alloc, skips)?)?;
-    let walk = for_rounds(spot, control, index, cases, ended.as_slice(), walk)?;
-    let walk = and_states(spot.alloc, resting_quits(spot.alloc, quits)?, walk)?;
+    for_rounds(spot, control, index, cases, ended.as_slice(), walk)?;
+    and_states(spot.alloc, resting_quits(spot.alloc, quits)?, walk)?;
     walk.few(spot.alloc, spot.line, spot.word)
 }
 
@@ -203,22 +201,25 @@ fn at_word<'a>(spot: &Spot<'a>, word: Column) -> Spot<'a>
     }
 }
 
-fn one_command<'a>(spot: &'a Spot<'a>, command: &'a Command, walk: Walk) -> Result<Walk, AllocError>
-    ensures { IfOk result (λ w. w ≡ one_command (spot_of spot.now) walk (command_of command.now)) }
+fn one_command<'a>(
+    spot: &'a Spot<'a>,
+    command: &'a Command,
+    walk: &mut Walk,
+) -> Result<(), AllocError>
+    ensures { OnOk result (walk.new ≡ one_command (spot_of spot.now) walk.old (command_of command.now)) }
 {
     let here = at_word(spot, command.column);
     perform(&here, command, walk)
 }
 
 // Commands one after another, as far as the first FOR.
-fn before<'a>(spot: &'a Spot<'a>, given: &'a [Command], walk: Walk) -> Result<Walk, AllocError>
-    ensures { IfOk result (λ w. w ≡ fold (one_command (spot_of spot.now)) walk (map command_of given.now)) }
+fn before<'a>(spot: &'a Spot<'a>, given: &'a [Command], walk: &mut Walk) -> Result<(), AllocError>
+    ensures { OnOk result (walk.new ≡ fold (one_command (spot_of spot.now)) walk.old (map command_of given.now)) }
 {
-    let mut walk = walk;
     for command in given {
-        walk = one_command(spot, command, walk)?;
+        one_command(spot, command, walk)?;
     }
-    Ok(walk)
+    Ok(())
 }
 
 /// The walk of a line or of a round at its begin, from the cases that are listed for it.
@@ -243,16 +244,17 @@ pub(crate) fn begin(alloc: Global, cases: &[Case]) -> Result<Walk, AllocError>
 pub(crate) fn commands<'a>(
     spot: &'a Spot<'a>,
     given: &'a Commands,
-    walk: Walk,
-) -> Result<Walk, AllocError>
-    ensures { IfOk result (λ w. w ≡ commands (spot_of spot.now) (commands_of given.now) walk) }
+    walk: &mut Walk,
+) -> Result<(), AllocError>
+    ensures { OnOk result (walk.new ≡ commands (spot_of spot.now) (commands_of given.now) walk.old) }
 {
-    let walk = before(spot, given.before.as_slice(), walk)?;
+    before(spot, given.before.as_slice(), walk)?;
     let Some(last) = &given.last else {
-        return Ok(walk);
+        return Ok(());
     };
     let cases = spot.scope.listed(spot.line, last.index);
-    let inner = commands(spot, &last.rest, begin(spot.alloc, cases)?)?;
+    let mut inner = begin(spot.alloc, cases)?;
+    commands(spot, &last.rest, &mut inner)?;
     let here = at_word(spot, last.column);
     after_rounds(&here, &last.control, last.index, cases, inner, walk)
 }

@@ -66,8 +66,8 @@ fn walk_head<'a>(
         block: block.as_ref(),
         word: Column::new(1),
     };
-    let walk = begin(alloc, scope.listed(line.number, 0))?;
-    let walk = commands(&spot, &line.commands, walk)?;
+    let mut walk = begin(alloc, scope.listed(line.number, 0))?;
+    commands(&spot, &line.commands, &mut walk)?;
     let end = LineEnd {
         alloc,
         scope,

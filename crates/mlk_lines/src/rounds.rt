@@ -84,22 +84,22 @@ fn copies(alloc: Global, states: &[State]) -> Result<List<State>, AllocError>
 }
 
 /// The states in which a round ended, in place of those that go on, unless the line is over.
-pub(crate) fn after_round(alloc: Global, ended: &[State], walk: Walk) -> Result<Walk, AllocError>
-    ensures { IfOk result (λ w. w ≡ after_round ended.now walk) }
+pub(crate) fn after_round(alloc: Global, ended: &[State], walk: &mut Walk) -> Result<(), AllocError>
+    ensures { OnOk result (walk.new ≡ after_round ended.now walk.old) }
 {
     if walk.over {
-        return Ok(walk);
+        return Ok(());
     }
-    let states = copies(alloc, ended)?;
-    Ok(walk.with_states(states))
+    walk.going = copies(alloc, ended)?;
+    Ok(())
 }
 
 fn step_variable<'a>(
     spot: &'a Spot<'a>,
     rounds: &Rounds<'a>,
-    walk: Walk,
-) -> Result<Walk, AllocError>
-    ensures { IfOk result (λ w. w ≡ step_variable (spot_of spot.now) (rounds_of rounds.now) walk) }
+    walk: &mut Walk,
+) -> Result<(), AllocError>
+    ensures { OnOk result (walk.new ≡ step_variable (spot_of spot.now) (rounds_of rounds.now) walk.old) }
 {
     let row = Change {
         spot,
@@ -114,20 +114,24 @@ pub(crate) fn begin_rounds<'a>(
     spot: &'a Spot<'a>,
     index: usize,
     cases: &'a [Case],
-    walk: Walk,
-) -> Result<Walk, AllocError>
-    ensures { IfOk result (λ w. w ≡ each (begin_round (spot_of spot.now) cases.now) walk) }
+    walk: &mut Walk,
+) -> Result<(), AllocError>
+    ensures { OnOk result (walk.new ≡ each (begin_round (spot_of spot.now) cases.now) walk.old) }
 {
     let row = BeginRound { spot, index, cases };
     each(spot.alloc, &row, walk)
 }
 
 // After each round the variable changes, and a further round begins.
-fn step_again<'a>(spot: &'a Spot<'a>, rounds: &Rounds<'a>, walk: Walk) -> Result<Walk, AllocError>
-    ensures { IfOk result (λ w. w ≡ step_again (spot_of spot.now) (rounds_of rounds.now) walk) }
+fn step_again<'a>(
+    spot: &'a Spot<'a>,
+    rounds: &Rounds<'a>,
+    walk: &mut Walk,
+) -> Result<(), AllocError>
+    ensures { OnOk result (walk.new ≡ step_again (spot_of spot.now) (rounds_of rounds.now) walk.old) }
 {
-    let walk = after_round(spot.alloc, rounds.ended, walk)?;
-    let walk = step_variable(spot, rounds, walk)?;
+    after_round(spot.alloc, rounds.ended, walk)?;
+    step_variable(spot, rounds, walk)?;
     begin_rounds(spot, rounds.index, rounds.cases, walk)
 }
 
@@ -135,12 +139,12 @@ fn step_again<'a>(spot: &'a Spot<'a>, rounds: &Rounds<'a>, walk: Walk) -> Result
 fn round_or_after<'a>(
     spot: &'a Spot<'a>,
     rounds: &Rounds<'a>,
-    walk: Walk,
-) -> Result<Walk, AllocError>
-    ensures { IfOk result (λ w. w ≡ each (round_or_after (spot_of spot.now) (rounds_of rounds.now).cases)
-        (step_variable (spot_of spot.now) (rounds_of rounds.now) walk)) }
+    walk: &mut Walk,
+) -> Result<(), AllocError>
+    ensures { OnOk result (walk.new ≡ each (round_or_after (spot_of spot.now) (rounds_of rounds.now).cases)
+        (step_variable (spot_of spot.now) (rounds_of rounds.now) walk.old)) }
 {
-    let walk = step_variable(spot, rounds, walk)?;
+    step_variable(spot, rounds, walk)?;
     let row = RoundOrAfter {
         spot,
         index: rounds.index,
@@ -149,12 +153,12 @@ fn round_or_after<'a>(
     each(spot.alloc, &row, walk)
 }
 
-fn limited<'a>(spot: &'a Spot<'a>, rounds: &Rounds<'a>, walk: Walk) -> Result<Walk, AllocError>
-    ensures { IfOk result (λ w. w ≡ limited (spot_of spot.now) (rounds_of rounds.now) walk) }
+fn limited<'a>(spot: &'a Spot<'a>, rounds: &Rounds<'a>, walk: &mut Walk) -> Result<(), AllocError>
+    ensures { OnOk result (walk.new ≡ limited (spot_of spot.now) (rounds_of rounds.now) walk.old) }
 {
     let without_round = copies(spot.alloc, walk.going.as_slice())?;
-    let walk = step_again(spot, rounds, walk)?;
-    let walk = after_round(spot.alloc, rounds.ended, walk)?;
+    step_again(spot, rounds, walk)?;
+    after_round(spot.alloc, rounds.ended, walk)?;
     walk.join(spot.alloc, without_round)
 }
 
@@ -163,29 +167,29 @@ pub(crate) fn parameter<'a>(
     spot: &'a Spot<'a>,
     rounds: &Rounds<'a>,
     given: &'a Parameter,
-    walk: Walk,
-) -> Result<Walk, AllocError>
-    ensures { IfOk result (λ w. w ≡ parameter (spot_of spot.now) (rounds_of rounds.now) walk (parameter_of given.now)) }
+    walk: &mut Walk,
+) -> Result<(), AllocError>
+    ensures { OnOk result (walk.new ≡ parameter (spot_of spot.now) (rounds_of rounds.now) walk.old (parameter_of given.now)) }
 {
     match given {
         Parameter::Once(expression) => {
-            let walk = value(spot, expression, walk)?;
-            let walk = step_variable(spot, rounds, walk)?;
-            let walk = begin_rounds(spot, rounds.index, rounds.cases, walk)?;
+            value(spot, expression, walk)?;
+            step_variable(spot, rounds, walk)?;
+            begin_rounds(spot, rounds.index, rounds.cases, walk)?;
             after_round(spot.alloc, rounds.ended, walk)
         }
         Parameter::Endless(start, step) => {
-            let walk = value(spot, start, walk)?;
-            let walk = value(spot, step, walk)?;
-            let walk = step_variable(spot, rounds, walk)?;
-            let walk = begin_rounds(spot, rounds.index, rounds.cases, walk)?;
+            value(spot, start, walk)?;
+            value(spot, step, walk)?;
+            step_variable(spot, rounds, walk)?;
+            begin_rounds(spot, rounds.index, rounds.cases, walk)?;
             step_again(spot, rounds, walk)
         }
         Parameter::Limited(start, step, limit) => {
-            let walk = value(spot, start, walk)?;
-            let walk = value(spot, step, walk)?;
-            let walk = value(spot, limit, walk)?;
-            let walk = round_or_after(spot, rounds, walk)?;
+            value(spot, start, walk)?;
+            value(spot, step, walk)?;
+            value(spot, limit, walk)?;
+            round_or_after(spot, rounds, walk)?;
             limited(spot, rounds, walk)
         }
     }

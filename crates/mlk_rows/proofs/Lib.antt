@@ -1,5 +1,6 @@
 pub mod Opened
 pub mod Waiting
 pub mod Gathering
+pub mod InPlace
 pub mod StateTests
 pub mod Examples

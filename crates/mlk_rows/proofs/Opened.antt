@@ -1,6 +1,5 @@
 -- How the walk of each kind of expression opens.
-use Rattle.std.specs.Prelude.{IfOk}
-use Rattle.std.specs.declared.alloc.AllocError.{AllocError}
+use Rattle.std.specs.Prelude.{OnOk}
 use Rattle.std.proofs.Common.{◌≡◌, ◌∙◌, ap, sym, subst, false, nat_eq, Result, refl, suc, length, ℕ, List, [], ◌∷◌, None, Some, Vec, Box, Global}
 use Rattle.mlk_text.specs.declared.operator.Op.{Op}
 use Rattle.mlk_text.specs.declared.operator.UnaryOp.{UnaryOp}
@@ -87,5 +86,5 @@ module _ (p : Spot) (how : Use) (w : Walk) where
   call_opens column callee given = ap (λ t. evaluate p how t w) (tree_call column callee given)
       ∙ ap (λ g. extrinsic p column callee.value g (capture_actuals p (actuals_from (actual_trees given.items)) w)) (as_list_same (actual_trees given.items))
 
-pub carried : (r : Result Walk AllocError) (a b : Walk) → IfOk r (λ w. w ≡ a) → b ≡ a → IfOk r (λ w. w ≡ b)
-carried r a b h e = subst (λ z. IfOk r (λ w. w ≡ z)) (sym e) h
+pub carried : {T E : Type 0} (r : Result T E) (w a b : Walk) → OnOk r (w ≡ a) → b ≡ a → OnOk r (w ≡ b)
+carried r w a b h e = subst (λ z. OnOk r (w ≡ z)) (sym e) h

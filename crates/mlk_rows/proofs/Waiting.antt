@@ -33,19 +33,17 @@ choice_done p waiting condition value rest w found is e =
 
 -- so is one turn of the loop over them
 pub choice_turn : (p : Spot) (cs : List (Expr × Expr)) (i : ℕ) (c : Expr × Expr) (waiting more : List (List State))
-    (w held found rest next : Walk) (failed going : List State) (whole : Walk)
+    (w held found : Walk) (failed going : List State) (whole : Walk)
     → i < length cs → c ≡ slice_index_or cs i c
     → held ≡ where_chosen p (tree_of c.0) w → failed ≡ passed_over p (tree_of c.0) w
     → found ≡ evaluate p ItsValue (tree_of c.1) held → found.over ≡ false
-    → rest ≡ with_states [] found → going ≡ found.going → more ≡ waiting ++ going ∷ [] → next ≡ with_states failed rest
+    → going ≡ found.going → more ≡ waiting ++ going ∷ []
     → joins waiting (evaluate_choices p (choices_from (choices (drop i cs))) w) ≡ whole
-    → joins more (evaluate_choices p (choices_from (choices (drop (i + 1) cs))) next) ≡ whole
-choice_turn p cs i c waiting more w held found rest next failed going whole low at h f e o r g m n before =
+    → joins more (evaluate_choices p (choices_from (choices (drop (i + 1) cs))) (with_states failed found)) ≡ whole
+choice_turn p cs i c waiting more w held found failed going whole low at h f e o g m before =
     let later : Choices = choices_from (choices (drop (i + 1) cs)) in
-    let over_there : next ≡ with_states (passed_over p (tree_of c.0) w) found =
-    n ∙ ap (λ z. with_states z rest) f ∙ ap (with_states (passed_over p (tree_of c.0) w)) r in
-    ap (λ z. joins z (evaluate_choices p later next)) (m ∙ ap (λ z. waiting ++ z ∷ []) g)
-    ∙ ap (λ z. joins (waiting ++ found.going ∷ []) (evaluate_choices p later z)) over_there
+    ap (λ z. joins z (evaluate_choices p later (with_states failed found))) (m ∙ ap (λ z. waiting ++ z ∷ []) g)
+    ∙ ap (λ z. joins (waiting ++ found.going ∷ []) (evaluate_choices p later (with_states z found))) f
     ∙ choice_done p waiting (tree_of c.0) (tree_of c.1) later w found (e ∙ ap (evaluate p ItsValue (tree_of c.1)) h) o
     ∙ ap (λ z. joins waiting (evaluate_choices p (choices_from (choices z)) w)) (sym (drop_step cs i c low at))
     ∙ before

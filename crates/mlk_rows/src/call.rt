@@ -1,6 +1,6 @@
 // Extrinsic calls.
 
-ghost use Rattle.std.specs.Prelude.{◌≡◌, IfOk, OnOk, length};
+ghost use Rattle.std.specs.Prelude.{◌≡◌, length};
 ghost use Rattle.mlk_tree.specs.ExprTrees.{actual_trees};
 ghost use Rattle.mlk_scope.specs.declared.state.State.{State};
 ghost use Rattle.mlk_calls.specs.Calls.{at_call};

@@ -61,18 +61,20 @@ pub fn split_by(spot: &Spot, condition: &Expr, states: List<State>) -> Result<Si
     Ok(sides)
 }
 
-/// The walk in the states in which a condition that was evaluated may be true, and the states in which it may be false.
+/// The walk goes on in the states in which a condition that was evaluated may be true; the states are answered in which
+/// it may be false.
 pub fn where_it_holds(
     spot: &Spot,
     condition: &Expr,
-    walk: Walk,
-) -> Result<(Walk, List<State>), AllocError>
-    ensures { IfOk result (λ r. (r.0 ≡ with_states (where_it_may_be true (scope_of spot.now.scope.now) (tree_of condition.now) walk.going) walk)
-        × (r.1 ≡ where_it_may_be false (scope_of spot.now.scope.now) (tree_of condition.now) walk.going)) }
+    walk: &mut Walk,
+) -> Result<List<State>, AllocError>
+    ensures holds { OnOk result (walk.new ≡ with_states (where_it_may_be true (scope_of spot.now.scope.now) (tree_of condition.now) walk.old.going) walk.old) }
+    ensures fails { IfOk result (λ s. s ≡ where_it_may_be false (scope_of spot.now.scope.now) (tree_of condition.now) walk.old.going) }
 {
-    let (rest, going) = walk.take_states(spot.alloc);
+    let going = walk.take_going(spot.alloc);
     let sides = split_by(spot, condition, going)?;
-    Ok((rest.with_states(sides.holds), sides.fails))
+    walk.going = sides.holds;
+    Ok(sides.fails)
 }
 
 // The states that wait, and those that go on, in one list.
@@ -90,13 +92,13 @@ fn gathered(waiting: Vec<List<State>>, going: List<State>) -> Result<List<State>
 }
 
 /// The states that wait, beside those that go on: those that waited longest stand first.
-pub fn join_all(alloc: Global, waiting: Vec<List<State>>, walk: Walk) -> Result<Walk, AllocError>
-    ensures { IfOk result (λ w. w ≡ joins waiting.items walk) }
+pub fn join_all(alloc: Global, waiting: Vec<List<State>>, walk: &mut Walk) -> Result<(), AllocError>
+    ensures { OnOk result (walk.new ≡ joins waiting.items walk.old) }
 {
     if walk.over {
-        return Ok(walk);
+        return Ok(());
     }
-    let (rest, going) = walk.take_states(alloc);
-    let all = gathered(waiting, going)?;
-    Ok(rest.with_states(all))
+    let going = walk.take_going(alloc);
+    walk.going = gathered(waiting, going)?;
+    Ok(())
 }

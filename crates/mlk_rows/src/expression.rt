@@ -1,6 +1,6 @@
 // Expressions: what their references and calls make of the states of a walk.
 
-ghost use Rattle.std.specs.Prelude.{◌≡◌, IfOk, option_map, option_copied};
+ghost use Rattle.std.specs.Prelude.{◌≡◌, IfOk, OnOk, option_map, option_copied};
 ghost use Rattle.mlk_tree.specs.ExprTrees.{tree_of, trees, trees_from, sub_trees, subs_from, links, links_from, choices, choices_from, actual_of, actual_trees, actuals_from};
 ghost use Rattle.mlk_scope.specs.Scope.{scope_of};
 ghost use Rattle.mlk_rows.specs.Walks.{each};
@@ -21,63 +21,42 @@ use mlk_tree::{Actual, Callee, Expr, Subscript};
 use std::alloc::AllocError;
 
 // The symbol of an expression that was evaluated is captured.
-fn with_value(spot: &Spot, expression: &Expr, state: State) -> Result<State, AllocError>
-    ensures { IfOk result (λ s. s ≡ with_value (scope_of spot.now.scope.now) (tree_of expression.now) state) }
+fn capture_value(spot: &Spot, expression: &Expr, state: &mut State) -> Result<(), AllocError>
+    ensures { OnOk result (state.new ≡ with_value (scope_of spot.now.scope.now) (tree_of expression.now) state.old) }
 {
-    let symbol = symbol_of(spot.alloc, spot.scope, &state, expression)?;
-    state.with_symbol(symbol)
-}
-
-fn capture_in_many(spot: &Spot, expression: &Expr, walk: Walk) -> Result<Walk, AllocError>
-    ensures { IfOk result (λ w. w ≡ capture (spot_of spot.now).scope (tree_of expression.now) walk) }
-{
-    let (walk, going) = walk.take_states(spot.alloc);
-    let mut states = List::new(spot.alloc);
-    for state in going.into_vec() {
-        states.push(with_value(spot, expression, state)?)?;
-    }
-    Ok(walk.with_states(states))
+    let symbol = symbol_of(spot.alloc, spot.scope, state, expression)?;
+    state.captured.push(symbol)
 }
 
 /// The symbol of an expression that was evaluated is captured, in each state.
-pub fn capture(spot: &Spot, expression: &Expr, mut walk: Walk) -> Result<Walk, AllocError>
-    ensures { IfOk result (λ w. w ≡ capture (spot_of spot.now).scope (tree_of expression.now) walk) }
+pub fn capture(spot: &Spot, expression: &Expr, walk: &mut Walk) -> Result<(), AllocError>
+    ensures { OnOk result (walk.new ≡ capture (spot_of spot.now).scope (tree_of expression.now) walk.old) }
 {
-    let Some(state) = walk.take_only() else {
-        return capture_in_many(spot, expression, walk);
-    };
-    walk.going.push(with_value(spot, expression, state)?)?;
-    Ok(walk)
-}
-
-// Of something without a symbol, unknown is captured.
-fn capture_unknown_in_many(spot: &Spot, walk: Walk) -> Result<Walk, AllocError>
-    ensures { IfOk result (λ w. w ≡ capture_unknown walk) }
-{
-    let (walk, going) = walk.take_states(spot.alloc);
-    let mut states = List::new(spot.alloc);
-    for state in going.into_vec() {
-        states.push(state.with_symbol(Sym::Unknown)?)?;
+    let mut states = walk.take_going(spot.alloc).into_vec();
+    for state in states.iter_mut() {
+        capture_value(spot, expression, state)?;
     }
-    Ok(walk.with_states(states))
+    walk.going = List::of(states);
+    Ok(())
 }
 
 /// Of something without a symbol, unknown is captured.
-pub fn capture_unknown(spot: &Spot, mut walk: Walk) -> Result<Walk, AllocError>
-    ensures { IfOk result (λ w. w ≡ capture_unknown walk) }
+pub fn capture_unknown(spot: &Spot, walk: &mut Walk) -> Result<(), AllocError>
+    ensures { OnOk result (walk.new ≡ capture_unknown walk.old) }
 {
-    let Some(state) = walk.take_only() else {
-        return capture_unknown_in_many(spot, walk);
-    };
-    walk.going.push(state.with_symbol(Sym::Unknown)?)?;
-    Ok(walk)
+    let mut states = walk.take_going(spot.alloc).into_vec();
+    for state in states.iter_mut() {
+        state.captured.push(Sym::Unknown)?;
+    }
+    walk.going = List::of(states);
+    Ok(())
 }
 
-fn forget_subs(spot: &Spot, subscripts: &[Subscript], walk: Walk) -> Result<Walk, AllocError>
-    ensures { IfOk result (λ w. w ≡ forget_subs (subs_from (sub_trees subscripts.now)) walk) }
+fn forget_subs(spot: &Spot, subscripts: &[Subscript], walk: &mut Walk) -> Result<(), AllocError>
+    ensures { OnOk result (walk.new ≡ forget_subs (subs_from (sub_trees subscripts.now)) walk.old) }
 {
     if subscripts.is_empty() {
-        return Ok(walk);
+        return Ok(());
     }
     forget(spot.alloc, subscripts.len(), walk)
 }
@@ -88,9 +67,9 @@ fn read<'a>(
     column: Column,
     name: &'a Name,
     count: usize,
-    walk: Walk,
-) -> Result<Walk, AllocError>
-    ensures { IfOk result (λ w. w ≡ each (read_last (spot_of spot.now) how column name.now count) walk) }
+    walk: &mut Walk,
+) -> Result<(), AllocError>
+    ensures { OnOk result (walk.new ≡ each (read_last (spot_of spot.now) how column name.now count) walk.old) }
 {
     let row = ReadLast {
         spot,
@@ -107,9 +86,9 @@ fn extrinsic<'a>(
     column: Column,
     callee: &'a Callee,
     given: &'a [Actual],
-    walk: Walk,
-) -> Result<Walk, AllocError>
-    ensures { IfOk result (λ w. w ≡ extrinsic (spot_of spot.now) column callee.now (actual_trees given.now) walk) }
+    walk: &mut Walk,
+) -> Result<(), AllocError>
+    ensures { OnOk result (walk.new ≡ extrinsic (spot_of spot.now) column callee.now (actual_trees given.now) walk.old) }
 {
     let row = CallRow {
         spot,
@@ -118,7 +97,7 @@ fn extrinsic<'a>(
         callee,
         given,
     };
-    let walk = each(spot.alloc, &row, walk)?;
+    each(spot.alloc, &row, walk)?;
     walk.few(spot.alloc, spot.line, spot.word)
 }
 
@@ -129,23 +108,23 @@ pub fn evaluate<'a>(
     spot: &'a Spot<'a>,
     how: Use,
     expression: &'a Expr,
-    walk: Walk,
-) -> Result<Walk, AllocError>
-    ensures { IfOk result (λ w. w ≡ evaluate (spot_of spot.now) how (tree_of expression.now) walk) }
+    walk: &mut Walk,
+) -> Result<(), AllocError>
+    ensures { OnOk result (walk.new ≡ evaluate (spot_of spot.now) how (tree_of expression.now) walk.old) }
 {
     match expression {
-        Expr::Lit(_) | Expr::Free | Expr::Special(_) | Expr::Pattern(_) => Ok(walk),
+        Expr::Lit(_) | Expr::Free | Expr::Special(_) | Expr::Pattern(_) => Ok(()),
         Expr::Local(_, subscripts) => {
-            let walk = capture_subs(spot, subscripts, walk)?;
+            capture_subs(spot, subscripts, walk)?;
             forget_subs(spot, subscripts, walk)
         }
         Expr::Global(column, name, subscripts) => {
-            let walk = capture_subs(spot, subscripts, walk)?;
+            capture_subs(spot, subscripts, walk)?;
             read(spot, how, *column, name, subscripts.len(), walk)
         }
         Expr::Unary(_, operand) => evaluate(spot, Use::ItsValue, operand, walk),
         Expr::Binary(first, rest) => {
-            let walk = evaluate(spot, Use::ItsValue, first, walk)?;
+            evaluate(spot, Use::ItsValue, first, walk)?;
             evaluate_links(spot, rest, walk)
         }
         Expr::Func(function, arguments) => {
@@ -155,7 +134,7 @@ pub fn evaluate<'a>(
         Expr::Call(column, callee, given) => match given {
             None => extrinsic(spot, *column, callee, &[], walk),
             Some(given) => {
-                let walk = capture_actuals(spot, given, walk)?;
+                capture_actuals(spot, given, walk)?;
                 extrinsic(spot, *column, callee, given, walk)
             }
         },
@@ -168,17 +147,16 @@ fn evaluate_all<'a>(
     spot: &'a Spot<'a>,
     how: Use,
     arguments: &'a [Expr],
-    walk: Walk,
-) -> Result<Walk, AllocError>
-    ensures { IfOk result (λ w. w ≡ evaluate_all (spot_of spot.now) how (trees_from (trees arguments.now)) walk) }
+    walk: &mut Walk,
+) -> Result<(), AllocError>
+    ensures { OnOk result (walk.new ≡ evaluate_all (spot_of spot.now) how (trees_from (trees arguments.now)) walk.old) }
 {
     let mut how = how;
-    let mut walk = walk;
     for argument in arguments {
-        walk = evaluate(spot, how, argument, walk)?;
+        evaluate(spot, how, argument, walk)?;
         how = Use::ItsValue;
     }
-    Ok(walk)
+    Ok(())
 }
 
 /// Subscripts: each symbol is captured once its subscript is evaluated.
@@ -186,16 +164,15 @@ fn evaluate_all<'a>(
 pub fn capture_subs<'a>(
     spot: &'a Spot<'a>,
     subscripts: &'a [Subscript],
-    walk: Walk,
-) -> Result<Walk, AllocError>
-    ensures { IfOk result (λ w. w ≡ capture_subs (spot_of spot.now) (subs_from (sub_trees subscripts.now)) walk) }
+    walk: &mut Walk,
+) -> Result<(), AllocError>
+    ensures { OnOk result (walk.new ≡ capture_subs (spot_of spot.now) (subs_from (sub_trees subscripts.now)) walk.old) }
 {
-    let mut walk = walk;
     for subscript in subscripts {
-        walk = evaluate(spot, Use::ItsValue, &subscript.value, walk)?;
-        walk = capture(spot, &subscript.value, walk)?;
+        evaluate(spot, Use::ItsValue, &subscript.value, walk)?;
+        capture(spot, &subscript.value, walk)?;
     }
-    Ok(walk)
+    Ok(())
 }
 
 // The operands after the first.
@@ -203,28 +180,27 @@ pub fn capture_subs<'a>(
 fn evaluate_links<'a>(
     spot: &'a Spot<'a>,
     rest: &'a [(Op, Expr)],
-    walk: Walk,
-) -> Result<Walk, AllocError>
-    ensures { IfOk result (λ w. w ≡ evaluate_links (spot_of spot.now) (links_from (links rest.now)) walk) }
+    walk: &mut Walk,
+) -> Result<(), AllocError>
+    ensures { OnOk result (walk.new ≡ evaluate_links (spot_of spot.now) (links_from (links rest.now)) walk.old) }
 {
-    let mut walk = walk;
     for (_, operand) in rest {
-        walk = evaluate(spot, Use::ItsValue, operand, walk)?;
+        evaluate(spot, Use::ItsValue, operand, walk)?;
     }
-    Ok(walk)
+    Ok(())
 }
 
-// A condition: the walk in the states in which it may be true, and the states in which it may be false.
+// A condition: the walk goes on in the states in which it may be true; the states are answered in which it may be false.
 #[cycle(evaluation)]
 fn evaluate_condition<'a>(
     spot: &'a Spot<'a>,
     condition: &'a Expr,
-    walk: Walk,
-) -> Result<(Walk, List<State>), AllocError>
-    ensures { IfOk result (λ r. (r.0 ≡ where_chosen (spot_of spot.now) (tree_of condition.now) walk)
-        × (r.1 ≡ passed_over (spot_of spot.now) (tree_of condition.now) walk)) }
+    walk: &mut Walk,
+) -> Result<List<State>, AllocError>
+    ensures holds { OnOk result (walk.new ≡ where_chosen (spot_of spot.now) (tree_of condition.now) walk.old) }
+    ensures fails { IfOk result (λ s. s ≡ passed_over (spot_of spot.now) (tree_of condition.now) walk.old) }
 {
-    let walk = evaluate(spot, Use::ItsValue, condition, walk)?;
+    evaluate(spot, Use::ItsValue, condition, walk)?;
     where_it_holds(spot, condition, walk)
 }
 
@@ -233,23 +209,20 @@ fn evaluate_condition<'a>(
 fn evaluate_choices<'a>(
     spot: &'a Spot<'a>,
     conditions: &'a [(Expr, Expr)],
-    walk: Walk,
-) -> Result<Walk, AllocError>
-    ensures { IfOk result (λ w. w ≡ evaluate_choices (spot_of spot.now) (choices_from (choices conditions.now)) walk) }
+    walk: &mut Walk,
+) -> Result<(), AllocError>
+    ensures { OnOk result (walk.new ≡ evaluate_choices (spot_of spot.now) (choices_from (choices conditions.now)) walk.old) }
 {
     let mut waiting = Vec::new(spot.alloc);
-    let mut walk = walk;
     for (condition, value) in conditions {
-        let (held, failed) = evaluate_condition(spot, condition, walk)?;
-        let found = evaluate(spot, Use::ItsValue, value, held)?;
-        if found.over {
-            return join_all(spot.alloc, waiting, found);
+        let failed = evaluate_condition(spot, condition, walk)?;
+        evaluate(spot, Use::ItsValue, value, walk)?;
+        if walk.over {
+            return join_all(spot.alloc, waiting, walk);
         }
-        let (rest, going) = found.take_states(spot.alloc);
-        waiting.push(going)?;
-        walk = rest.with_states(failed);
+        waiting.push(std::mem::replace(&mut walk.going, failed))?;
     }
-    let (walk, _) = walk.take_states(spot.alloc);
+    let _ = walk.take_going(spot.alloc);
     join_all(spot.alloc, waiting, walk)
 }
 
@@ -258,13 +231,13 @@ fn evaluate_choices<'a>(
 fn capture_actual<'a>(
     spot: &'a Spot<'a>,
     actual: &'a Actual,
-    walk: Walk,
-) -> Result<Walk, AllocError>
-    ensures { IfOk result (λ w. w ≡ capture_actual (spot_of spot.now) (actual_of actual.now) walk) }
+    walk: &mut Walk,
+) -> Result<(), AllocError>
+    ensures { OnOk result (walk.new ≡ capture_actual (spot_of spot.now) (actual_of actual.now) walk.old) }
 {
     match actual {
         Actual::Value(expression) => {
-            let walk = evaluate(spot, Use::ItsValue, expression, walk)?;
+            evaluate(spot, Use::ItsValue, expression, walk)?;
             capture(spot, expression, walk)
         }
         Actual::ByRef(_, _) | Actual::Missing => capture_unknown(spot, walk),
@@ -277,20 +250,23 @@ fn capture_actual<'a>(
 pub fn capture_actuals<'a>(
     spot: &'a Spot<'a>,
     given: &'a [Actual],
-    walk: Walk,
-) -> Result<Walk, AllocError>
-    ensures { IfOk result (λ w. w ≡ capture_actuals (spot_of spot.now) (actuals_from (actual_trees given.now)) walk) }
+    walk: &mut Walk,
+) -> Result<(), AllocError>
+    ensures { OnOk result (walk.new ≡ capture_actuals (spot_of spot.now) (actuals_from (actual_trees given.now)) walk.old) }
 {
-    let mut walk = walk;
     for actual in given {
-        walk = capture_actual(spot, actual, walk)?;
+        capture_actual(spot, actual, walk)?;
     }
-    Ok(walk)
+    Ok(())
 }
 
 /// The value of an expression.
-pub fn value<'a>(spot: &'a Spot<'a>, expression: &'a Expr, walk: Walk) -> Result<Walk, AllocError>
-    ensures { IfOk result (λ w. w ≡ value (spot_of spot.now) (tree_of expression.now) walk) }
+pub fn value<'a>(
+    spot: &'a Spot<'a>,
+    expression: &'a Expr,
+    walk: &mut Walk,
+) -> Result<(), AllocError>
+    ensures { OnOk result (walk.new ≡ value (spot_of spot.now) (tree_of expression.now) walk.old) }
 {
     evaluate(spot, Use::ItsValue, expression, walk)
 }
@@ -299,12 +275,12 @@ pub fn value<'a>(spot: &'a Spot<'a>, expression: &'a Expr, walk: Walk) -> Result
 pub fn value_if<'a>(
     spot: &'a Spot<'a>,
     expression: Option<&'a Expr>,
-    walk: Walk,
-) -> Result<Walk, AllocError>
-    ensures { IfOk result (λ w. w ≡ value_if (spot_of spot.now) (option_map tree_of (option_copied expression.entry)) walk) }
+    walk: &mut Walk,
+) -> Result<(), AllocError>
+    ensures { OnOk result (walk.new ≡ value_if (spot_of spot.now) (option_map tree_of (option_copied expression.entry)) walk.old) }
 {
     match expression {
-        None => Ok(walk),
+        None => Ok(()),
         Some(expression) => value(spot, expression, walk),
     }
 }
@@ -313,13 +289,12 @@ pub fn value_if<'a>(
 pub fn values<'a>(
     spot: &'a Spot<'a>,
     expressions: &'a [Expr],
-    walk: Walk,
-) -> Result<Walk, AllocError>
-    ensures { IfOk result (λ w. w ≡ values (spot_of spot.now) (trees expressions.now) walk) }
+    walk: &mut Walk,
+) -> Result<(), AllocError>
+    ensures { OnOk result (walk.new ≡ values (spot_of spot.now) (trees expressions.now) walk.old) }
 {
-    let mut walk = walk;
     for expression in expressions {
-        walk = value(spot, expression, walk)?;
+        value(spot, expression, walk)?;
     }
-    Ok(walk)
+    Ok(())
 }

@@ -224,71 +224,36 @@ impl Walk {
         }
     }
 
-    /// The walk without its states, and these.
-    pub fn take_states(self, alloc: Global) -> (Walk, List<State>)
-        ensures rest { result.0 ≡ with_states [] self }
-        ensures going { result.1 ≡ self.going }
+    /// The states that go on are taken out.
+    pub fn take_going(&mut self, alloc: Global) -> List<State>
+        ensures rest { self.new ≡ with_states [] self.old }
+        ensures going { result ≡ self.old.going }
     {
-        let Walk {
-            going,
-            skips,
-            quits,
-            faults,
-            over,
-        } = self;
-        let walk = Walk {
-            going: List::new(alloc),
-            skips,
-            quits,
-            faults,
-            over,
-        };
-        (walk, going)
-    }
-
-    /// The walk with these states in place of those that go on.
-    pub fn with_states(self, states: List<State>) -> Walk
-        ensures { result ≡ with_states states self }
-    {
-        let Walk {
-            going: _,
-            skips,
-            quits,
-            faults,
-            over,
-        } = self;
-        Walk {
-            going: states,
-            skips,
-            quits,
-            faults,
-            over,
-        }
+        std::mem::replace(&mut self.going, List::new(alloc))
     }
 
     /// Whether there are too many states is asked, for a command's word in this line: if so, the line is over.
     #[tactic(auto, unfolding(crate::specs::Walks::few))]
-    pub fn few(self, alloc: Global, line: usize, word: Column) -> Result<Walk, AllocError>
-        ensures { IfOk result (λ w. w ≡ few line word self) }
+    pub fn few(&mut self, alloc: Global, line: usize, word: Column) -> Result<(), AllocError>
+        ensures { OnOk result (self.new ≡ few line word self.old) }
     {
         if !too_many(self.going.as_slice()) {
-            return Ok(self);
+            return Ok(());
         }
-        let (mut walk, _) = self.take_states(alloc);
-        walk.over = true;
-        walk.refuse(line, word, Code::TooManyCases, Mend::Nothing)?;
-        Ok(walk)
+        let _ = self.take_going(alloc);
+        self.over = true;
+        self.refuse(line, word, Code::TooManyCases, Mend::Nothing)
     }
 
     /// These states beside those that go on, which stand first; nothing where the line is over.
-    pub fn join(self, alloc: Global, states: List<State>) -> Result<Walk, AllocError>
-        ensures { IfOk result (λ w. w ≡ joined states self) }
+    pub fn join(&mut self, alloc: Global, states: List<State>) -> Result<(), AllocError>
+        ensures { OnOk result (self.new ≡ joined states self.old) }
     {
         if self.over {
-            return Ok(self);
+            return Ok(());
         }
-        let (walk, going) = self.take_states(alloc);
-        let all = put_all(states, going.into_vec())?;
-        Ok(walk.with_states(all))
+        let going = self.take_going(alloc);
+        self.going = put_all(states, going.into_vec())?;
+        Ok(())
     }
 }

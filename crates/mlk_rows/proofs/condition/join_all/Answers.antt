@@ -6,11 +6,13 @@ use Rattle.mlk_rows.proofs.Gathering.{joins_gather}
 use Rattle.mlk_rows.proofs.condition.join_all.Goals as goal
 
 pub returns-then-walk : goal.returns-then-walk
-returns-then-walk c = sym (joins_over c.args.waiting.items c.args.walk c.if-walk.true)
+returns-then-walk c = sym (joins_over c.args.waiting.items c.args.walk.now c.if-walk.true)
 
 pub returns : goal.returns
 returns c =
-    c.with_states.ensures ∙ ap (λ z. with_states z c.take_states-rest.result.0) c.in_ok-all.ensures
-    ∙ ap (λ z. with_states (gathered c.args.waiting.items z) c.take_states-rest.result.0) c.take_states-rest.ensures.going
-    ∙ ap (with_states (gathered c.args.waiting.items c.args.walk.going)) c.take_states-rest.ensures.rest
-    ∙ sym (joins_gather c.args.waiting.items c.args.walk c.if-walk.false)
+    let w = c.args.walk.now in
+    let waiting = c.args.waiting.items in
+    ap (λ z. with_states z c.take_going-going.new.self) c.in_ok-walk.ensures
+    ∙ ap (λ z. with_states (gathered waiting z) c.take_going-going.new.self) c.take_going-going.ensures.going
+    ∙ ap (with_states (gathered waiting w.going)) c.take_going-going.ensures.rest
+    ∙ sym (joins_gather waiting w c.if-walk.false)

@@ -3,5 +3,5 @@ use Rattle.mlk_rows.proofs.Opened.{carried, forgets}
 use Rattle.mlk_rows.proofs.expression.forget_subs.Goals as goal
 
 pub returns : goal.returns
-returns c = carried _ _ _ c.forget.ensures
-    (forgets c.args.subscripts.now c.args.walk (sym c.is_empty.ensures ∙ c.if-is_empty.false))
+returns c = carried c.forget.result c.forget.new.walk _ _ c.forget.ensures
+    (forgets c.args.subscripts.now c.args.walk.now (sym c.is_empty.ensures ∙ c.if-is_empty.false))

@@ -1,7 +1,0 @@
-use Rattle.std.proofs.Common.{◌≡◌, [], map}
-use Rattle.mlk_scope.specs.States.{without_last}
-use Rattle.mlk_rows.specs.Walks.{put_all}
-use Rattle.mlk_rows.proofs.row.forget_in_many.Given as goal
-
-abbrev pub invariant-loop-state : goal.invariant-loop-state
-invariant-loop-state l = l.states ≡ put_all (map (without_last l.count) l.yielded) []
