@@ -1,8 +1,7 @@
 -- Walks that are made step by step.
 use Rattle.std.proofs.Common.{◌≡◌, Result, subst}
-use Rattle.std.specs.Prelude.{IfOk}
-use Rattle.std.specs.declared.alloc.AllocError.{AllocError}
+use Rattle.std.specs.Prelude.{OnOk}
 use Rattle.mlk_rows.specs.declared.walk.Walk.{Walk}
 
-pub carried : (r : Result Walk AllocError) (a b : Walk) → IfOk r (λ w. w ≡ a) → a ≡ b → IfOk r (λ w. w ≡ b)
-carried r a b h e = subst (λ z. IfOk r (λ w. w ≡ z)) e h
+pub carried : {T E : Type 0} (r : Result T E) (w a b : Walk) → OnOk r (w ≡ a) → a ≡ b → OnOk r (w ≡ b)
+carried r w a b h e = subst (λ z. OnOk r (w ≡ z)) e h

@@ -1,5 +1,5 @@
 -- Two ways, one after the other.
-use Rattle.std.proofs.Common.{◌≡◌, Bool, true, false, List, [], refl, ap, sym, ◌∙◌}
+use Rattle.std.proofs.Common.{◌≡◌, Bool, true, false, List, refl, ap, sym, ◌∙◌}
 use Rattle.mlk_tree.specs.ExprTrees.{Tree}
 use Rattle.mlk_scope.specs.declared.state.State.{State}
 use Rattle.mlk_scope.specs.Scope.{Scope}
@@ -29,12 +29,11 @@ module _ (sc : Scope) (t : Tree) (one other : Walk → Walk) (w held found : Wal
   pub first_is_all : found.over ≡ true → found ≡ by_condition sc t one other w
   first_is_all e = found_is ∙ sym (first_over one other (where_it_may_be true sc t w.going) (where_it_may_be false sc t w.going) w (over_is true e))
 
-  pub then_other : (rest start left : Walk) (failed waiting : List State) → found.over ≡ false
-      → failed ≡ where_it_may_be false sc t w.going → rest ≡ with_states [] found → waiting ≡ found.going
-      → start ≡ with_states failed rest → left ≡ other start → joined waiting left ≡ by_condition sc t one other w
-  then_other rest start left failed waiting e g r k s l =
+  pub then_other : (left : Walk) (failed waiting : List State) → found.over ≡ false
+      → failed ≡ where_it_may_be false sc t w.going → waiting ≡ found.going
+      → left ≡ other (with_states failed found) → joined waiting left ≡ by_condition sc t one other w
+  then_other left failed waiting e g k l =
       let fails : List State = where_it_may_be false sc t w.going in
-      let left_is : left ≡ other (with_states fails found) = l ∙ ap other (s ∙ ap (λ z. with_states z rest) g ∙ ap (with_states fails) r) in
-      ap (joined waiting) left_is ∙ ap (λ z. joined z (other (with_states fails found))) k
+      ap (joined waiting) (l ∙ ap (λ z. other (with_states z found)) g) ∙ ap (λ z. joined z (other (with_states fails found))) k
       ∙ ap (λ (z : Walk). joined z.going (other (with_states fails z))) found_is
       ∙ sym (both_walked one other (where_it_may_be true sc t w.going) fails w (over_is false e))

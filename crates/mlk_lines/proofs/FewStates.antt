@@ -1,7 +1,6 @@
 -- The first states of a walk tell whether it has too many.
 use Rattle.std.proofs.Common.{◌≡◌, ◌≤◌, ◌<◌, ℕ, true, false, List, [], ◌∷◌, ◌++◌, length, take, refl, ap, sym, ◌∙◌, ⊎_elim, arith}
-use Rattle.std.specs.declared.alloc.AllocError.{AllocError}
-use Rattle.std.specs.Prelude.{IfOk, Result, Ok, Err, nat_lt, if◌then◌else◌, ◌||◌}
+use Rattle.std.specs.Prelude.{OnOk, Result, Ok, Err, nat_lt, if◌then◌else◌, ◌||◌}
 use Rattle.std.specs.List.{list_any}
 use Rattle.std.proofs.lemmas.Bool.{cases_Bool, cases_lt, true≢false, ltb-true}
 use Rattle.std.proofs.lemmas.Bool.Decides.{nat_tests}
@@ -65,9 +64,9 @@ unfolding counted
 with_alike ss ts w h = ap (λ z. with_states z w) h
 
 -- what is found exactly
-pub counted_found : (r : Result Walk AllocError) (a : Walk) → IfOk r (λ w. w ≡ a) → IfOk r (λ w. counted w ≡ counted a)
-counted_found (Ok w) a h = ap counted h
-counted_found (Err e) a h = h
+pub counted_found : {T E : Type 0} (r : Result T E) (w a : Walk) → OnOk r (w ≡ a) → OnOk r (counted w ≡ counted a)
+counted_found (Ok x) w a h = ap counted h
+counted_found (Err e) w a h = h
 
 -- what is found beside states that were set aside
 module _ (aside : List State) where
@@ -131,7 +130,7 @@ few_counted line word w =
 few_alike : (line word : ℕ) (v w : Walk) → counted v ≡ counted w → few line word v ≡ few line word w
 few_alike line word v w h = sym (few_counted line word v) ∙ ap (few line word) h ∙ few_counted line word w
 
-pub few_found : (r : Result Walk AllocError) (line word : ℕ) (v w : Walk) → IfOk r (λ x. x ≡ few line word v) → counted v ≡ counted w
-    → IfOk r (λ x. x ≡ few line word w)
-few_found (Ok x) line word v w h e = h ∙ few_alike line word v w e
-few_found (Err e) line word v w h k = h
+pub few_found : {T E : Type 0} (r : Result T E) (line word : ℕ) (x v w : Walk) → OnOk r (x ≡ few line word v) → counted v ≡ counted w
+    → OnOk r (x ≡ few line word w)
+few_found (Ok y) line word x v w h e = h ∙ few_alike line word v w e
+few_found (Err e) line word x v w h k = h

@@ -1,6 +1,5 @@
 -- How lines and their commands open.
-use Rattle.std.specs.Prelude.{fold, option_map, IfOk}
-use Rattle.std.specs.declared.alloc.AllocError.{AllocError}
+use Rattle.std.specs.Prelude.{fold, option_map, OnOk}
 use Rattle.std.proofs.Common.{◌≡◌, ◌∙◌, ap, sym, subst, refl, List, [], ◌∷◌, ◌++◌, map, Some, None, Result, Box, Global}
 use Rattle.mlk_tree.specs.declared.command.Command.{Command}
 use Rattle.mlk_tree.specs.declared.command.Commands.{Commands}
@@ -51,16 +50,16 @@ before_is [] t = refl
 before_is (a ∷ []) t = refl
 before_is (a ∷ b ∷ before) t = ap (λ z. a ∷ z) (before_is (b ∷ before) t)
 
-pub carried : (r : Result Walk AllocError) (a b : Walk) → IfOk r (λ w. w ≡ a) → b ≡ a → IfOk r (λ w. w ≡ b)
-carried r a b h e = subst (λ z. IfOk r (λ w. w ≡ z)) (sym e) h
+pub carried : {T E : Type 0} (r : Result T E) (w a b : Walk) → OnOk r (w ≡ a) → b ≡ a → OnOk r (w ≡ b)
+carried r w a b h e = subst (λ z. OnOk r (w ≡ z)) (sym e) h
 
 -- a FOR is done: the commands before it, its rounds from the cases that are listed for them, and what follows
-pub for_done : (c : Commands) (b : Box For Global) (p here : Spot) (cases : List Case) (w v first inner : Walk) (r : Result Walk AllocError)
+pub for_done : {T E : Type 0} (c : Commands) (b : Box For Global) (p here : Spot) (cases : List Case) (w v first inner x : Walk) (r : Result T E)
     → (out-Commands c).last ≡ Some b → v ≡ fold (one_command p) w (map command_of (out-Commands c).before.items)
     → cases ≡ listed p.scope p.line (out-For b.value).index → first ≡ begin cases
     → inner ≡ commands p (commands_of (out-For b.value).rest) first → here ≡ at_word p (out-For b.value).column
-    → IfOk r (λ x. x ≡ after_rounds here (option_map control_of (out-For b.value).control) cases inner v)
-    → IfOk r (λ x. x ≡ commands p (commands_of c) w)
-for_done c b p here cases w v first inner r is before at begun rounds word h =
-    carried r (after_rounds here (option_map control_of (out-For b.value).control) cases inner v) _ h
+    → OnOk r (x ≡ after_rounds here (option_map control_of (out-For b.value).control) cases inner v)
+    → OnOk r (x ≡ commands p (commands_of c) w)
+for_done c b p here cases w v first inner x r is before at begun rounds word h =
+    carried r x (after_rounds here (option_map control_of (out-For b.value).control) cases inner v) _ h
     (with_for p c b w is ∙ sym (rw (word, rounds, begun, at, before) refl))

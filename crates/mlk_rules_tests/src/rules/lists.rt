@@ -7,22 +7,34 @@ use mlk_text::{List, Subscripts};
 use std::alloc::{AllocError, Global};
 use std::test::Fail;
 
+fn one<T: Drop>(alloc: Global, item: T) -> Result<List<T>, AllocError> {
+    let mut list = List::new(alloc);
+    list.push(item)?;
+    Ok(list)
+}
+
 fn pattern(alloc: Global, global: &[u8], element: Element) -> Result<Pattern, AllocError> {
+    let global = name(alloc, global)?;
     Ok(Pattern {
-        global: name(alloc, global)?,
-        elements: List::of(vec![in alloc; element]?),
+        global,
+        elements: one(alloc, element)?,
         extent: Extent::Tree,
     })
 }
 
+fn lock(alloc: Global) -> Result<Template, AllocError> {
+    let root = Root::Global(name(alloc, b"ACCT")?);
+    Ok(Template {
+        root,
+        parts: one(alloc, Part::Place(0))?,
+    })
+}
+
 fn cover(alloc: Global) -> Result<Cover, AllocError> {
-    let lock = Template {
-        root: Root::Global(name(alloc, b"ACCT")?),
-        parts: List::of(vec![in alloc; Part::Place(0)]?),
-    };
+    let pattern = pattern(alloc, b"ACCT", Element::Variable)?;
     Ok(Cover {
-        pattern: pattern(alloc, b"ACCT", Element::Variable)?,
-        lock,
+        pattern,
+        lock: lock(alloc)?,
     })
 }
 
@@ -34,30 +46,45 @@ fn family(alloc: Global) -> Result<Family, AllocError> {
     Ok(Family { name, rank: 10 })
 }
 
-fn lists(alloc: Global, families: Vec<Family>, private: Element) -> Result<RuleLists, AllocError> {
-    Ok(RuleLists {
-        families: List::of(families),
-        covers: List::of(vec![in alloc; cover(alloc)?]?),
-        private: List::of(vec![in alloc; pattern(alloc, b"TMP", private)?]?),
-        readonly: List::of(Vec::new(alloc)),
-        entries: List::of(Vec::new(alloc)),
-    })
+// Rules of these families, with what is private to a job.
+fn rules(
+    alloc: Global,
+    families: List<Family>,
+    private: Element,
+) -> Result<Option<Rules>, AllocError> {
+    let covers = one(alloc, cover(alloc)?)?;
+    let private = one(alloc, pattern(alloc, b"TMP", private)?)?;
+    let lists = RuleLists {
+        families,
+        covers,
+        private,
+        readonly: List::new(alloc),
+        entries: List::new(alloc),
+    };
+    Rules::new(alloc, lists)
 }
 
 #[test]
 fn sound_lists_are_rules(rt: HostRuntime) -> Result<(), Fail> {
     let alloc = rt.alloc();
-    let one = vec![in alloc; family(alloc)?]?;
-    assert!(rt; Rules::new(alloc, lists(alloc, one, Element::Job)?)?.is_some());
+    let families = one(alloc, family(alloc)?)?;
+    assert!(rt; rules(alloc, families, Element::Job)?.is_some());
     Ok(())
 }
 
 #[test]
-fn other_lists_are_none(rt: HostRuntime) -> Result<(), Fail> {
+fn lists_with_a_variable_in_private_are_none(rt: HostRuntime) -> Result<(), Fail> {
     let alloc = rt.alloc();
-    let one = vec![in alloc; family(alloc)?]?;
-    assert!(rt; Rules::new(alloc, lists(alloc, one, Element::Variable)?)?.is_none());
-    let twice = vec![in alloc; family(alloc)?, family(alloc)?]?;
-    assert!(rt; Rules::new(alloc, lists(alloc, twice, Element::Job)?)?.is_none());
+    let families = one(alloc, family(alloc)?)?;
+    assert!(rt; rules(alloc, families, Element::Variable)?.is_none());
+    Ok(())
+}
+
+#[test]
+fn lists_with_a_family_twice_are_none(rt: HostRuntime) -> Result<(), Fail> {
+    let alloc = rt.alloc();
+    let mut families = one(alloc, family(alloc)?)?;
+    families.push(family(alloc)?)?;
+    assert!(rt; rules(alloc, families, Element::Job)?.is_none());
     Ok(())
 }

@@ -11,6 +11,6 @@ use Rattle.mlk_commands.proofs.kill.kill_all_but.Goals as goal
 pub returns : goal.returns
 returns c =
     let p = spot_of c.args.spot.now in
-    carried c.change_all.result (each (change_at p p.word (AllBut c.in_ok-in_order.field-0)) c.args.walk)
-    (kill_all_but p c.args.names.now c.args.walk) c.change_all.ensures
-    (ap (λ z. each (change_at p p.word (AllBut z)) c.args.walk) (c.in_ok-in_order.ensures ∙ ap in_order c.as_slice.ensures))
+    carried c.change_all.result c.change_all.new.walk (each (change_at p p.word (AllBut c.in_ok-in_order.field-0)) c.args.walk.now)
+    (kill_all_but p c.args.names.now c.args.walk.now) c.change_all.ensures
+    (ap (λ z. each (change_at p p.word (AllBut z)) c.args.walk.now) (c.in_ok-in_order.ensures ∙ ap in_order c.as_slice.ensures))

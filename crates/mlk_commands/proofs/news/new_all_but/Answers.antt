@@ -10,6 +10,6 @@ use Rattle.mlk_commands.proofs.news.new_all_but.Goals as goal
 pub returns : goal.returns
 returns c =
     let p = spot_of c.args.spot.now in
-    carried c.renew.result (each (renew p p.word (AllBut c.in_ok-in_order.field-0)) c.args.walk)
-    (new_all_but p c.args.names.now c.args.walk) c.renew.ensures
-    (ap (λ z. each (renew p p.word (AllBut z)) c.args.walk) (c.in_ok-in_order.ensures ∙ ap in_order c.as_slice.ensures))
+    carried c.renew.result c.renew.new.walk (each (renew p p.word (AllBut c.in_ok-in_order.field-0)) c.args.walk.now)
+    (new_all_but p c.args.names.now c.args.walk.now) c.renew.ensures
+    (ap (λ z. each (renew p p.word (AllBut z)) c.args.walk.now) (c.in_ok-in_order.ensures ∙ ap in_order c.as_slice.ensures))

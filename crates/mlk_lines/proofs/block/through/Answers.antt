@@ -10,8 +10,8 @@ pub returns : goal.returns
 returns c =
     let p = spot_of c.args.spot.now in
     let b = c.args.block.now in
-    let ends = block_ends (some_enter p b c.args.walk) b in
-    let rest : c.enter_all.new.walk ≡ each (enter_row p b) c.args.walk = search rules in
-    let first : take 17 c.in_ok-ends.ends ≡ take 17 ends = search rules in
-    ap counted c.with_states.ensures ∙ with_alike c.in_ok-ends.ends ends c.enter_all.new.walk first
-    ∙ ap (λ z. counted (with_states ends z)) rest
+    let found = c.in_ok-walk.field-0 in
+    let ends = block_ends (some_enter p b c.args.walk.now) b in
+    let rest : c.enter_all.new.walk ≡ each (enter_row p b) c.args.walk.now = search rules in
+    let first : take 17 found ≡ take 17 ends = search rules in
+    with_alike found ends c.enter_all.new.walk first ∙ ap (λ z. counted (with_states ends z)) rest

@@ -13,9 +13,9 @@ returns c =
     let p = spot_of c.args.spot.now in
     let t = tree_of c.args.condition.now in
     let does = act p (action_of c.args.command.now.action) in
-    let w = c.in_ok-walk.walk in
-    ap counted c.in_ok-walk-2.ensures
-    ∙ beside_alike c.in_ok-held.aside c.in_ok-found.found (does c.in_ok-held.held) c.in_ok-found.ensures
-    ∙ ap (λ z. counted (beside z (does c.in_ok-held.held))) c.in_ok-held.ensures.1
-    ∙ ap (λ z. counted (beside (where_it_may_be false p.scope t w.going) (does z))) c.in_ok-held.ensures.0
-    ∙ ap (λ z. counted (by_condition p.scope t does stay z)) c.in_ok-walk.ensures
+    let w = c.value.new.walk in
+    ap counted c.in_ok-with_aside.ensures
+    ∙ beside_alike c.in_ok-aside.aside c.act.new.walk (does c.where_it_holds.new.walk) c.in_ok-act.ensures
+    ∙ ap (λ z. counted (beside z (does c.where_it_holds.new.walk))) c.in_ok-aside.ensures.fails
+    ∙ ap (λ z. counted (beside (where_it_may_be false p.scope t w.going) (does z))) c.in_ok-aside.ensures.holds
+    ∙ ap (λ z. counted (by_condition p.scope t does stay z)) c.in_ok-value.ensures

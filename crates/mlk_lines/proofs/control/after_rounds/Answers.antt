@@ -12,13 +12,13 @@ use Rattle.mlk_lines.proofs.control.after_rounds.Goals as goal
 pub returns : goal.returns
 returns c =
     let p = spot_of c.args.spot.now in
-    let w = c.args.walk in
+    let w = c.args.walk.now in
     let inner = c.args.inner in
     let told = and_faults inner.faults w in
     let rounds = controlled p (option_map control_of c.args.control.now) c.args.cases.now (ended_in inner) told in
     let last = few p.line p.word (and_states (quit_in inner) rounds) in
-    let same : and_states c.in_ok-resting_quits.field-0.items c.in_ok-walk-2.walk ≡ and_states (quit_in inner) rounds = search rules in
-    carried c.few.result last _
-    (few_found _ _ _ _ _ c.few.ensures (c.in_ok-walk-3.ensures ∙ ap counted same))
+    let same : and_states c.in_ok-resting_quits.field-0.items c.for_rounds.new.walk ≡ and_states (quit_in inner) rounds = search rules in
+    carried c.few.result c.few.new.self last _
+    (few_found c.few.result p.line p.word c.few.new.self _ _ c.few.ensures (c.in_ok-and_states.ensures ∙ ap counted same))
     (ap (λ b. if b then w else if inner.over then over_too told else last) c.if-walk.false
     ∙ ap (λ b. if b then over_too told else last) c.if-over.false)

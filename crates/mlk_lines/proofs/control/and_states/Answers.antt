@@ -7,9 +7,9 @@ use Rattle.mlk_lines.proofs.control.and_states.Goals as goal
 
 pub returns : goal.returns
 returns c =
-    let w = c.args.walk in
+    let w = c.args.walk.now in
     let more = c.args.states.items in
-    ap counted c.with_states.ensures ∙ ap (λ z. counted (with_states c.in_ok-all.all z)) c.take_states-rest.ensures.rest
-    ∙ with_alike c.in_ok-all.all (put_all more w.going) w
-    (c.in_ok-all.ensures ∙ ap (λ z. take 17 (put_all more z)) c.take_states-rest.ensures.going)
+    ap (λ z. counted (with_states c.in_ok-walk.field-0 z)) c.take_going-going.ensures.rest
+    ∙ with_alike c.in_ok-walk.field-0 (put_all more w.going) w
+    (c.in_ok-walk.ensures ∙ ap (λ z. take 17 (put_all more z)) c.take_going-going.ensures.going)
     ∙ ap (λ b. counted (if b then w else with_states (put_all more w.going) w)) (sym c.if-walk.false)
