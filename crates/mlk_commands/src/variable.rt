@@ -13,9 +13,10 @@ ghost use Rattle.mlk_commands.specs.Variables.{subs_of, name_in, count_in, captu
 use mlk_calls::{Refusal, State, change, short_names};
 use mlk_cert::NameSet;
 use mlk_rows::{Mend, Row, Spot, Walk, capture_subs, each};
-use mlk_text::{Code, Column, Failure, Name, copy_of};
+use mlk_text::{Code, Column, Failure, Name};
 use mlk_tree::{Expr, Subscript, Variable};
 use std::alloc::AllocError;
+use std::slice;
 
 /// The subscripts of a variable; only locals and globals have some.
 #[tactic(auto, using(crate::proofs::Opened::local_subs, crate::proofs::Opened::global_subs))]
@@ -62,8 +63,8 @@ impl<'a> Change<'a> {
         let spot = self.spot;
         match refusal.code {
             Code::SummaryShort => {
-                let names = [copy_of(self.names)?];
-                let short = short_names(spot.alloc, spot.scope, &names, &refusal.state)?;
+                let names = slice::from_ref(self.names);
+                let short = short_names(spot.alloc, spot.scope, names, &refusal.state)?;
                 Ok(Mend::Changes(short))
             }
             _ => Ok(Mend::Nothing),
@@ -74,8 +75,8 @@ impl<'a> Change<'a> {
         ensures { AnswersOf state (λ s. s) result
             (change (spot_of self.now.spot.now).scope (self.now.names.now ∷ []) state) }
     {
-        let names = [copy_of(self.names)?];
-        change(self.spot.alloc, self.spot.scope, &names, state)
+        let names = slice::from_ref(self.names);
+        change(self.spot.alloc, self.spot.scope, names, state)
     }
 }
 

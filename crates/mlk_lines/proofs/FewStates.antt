@@ -68,6 +68,11 @@ pub counted_found : {T E : Type 0} (r : Result T E) (w a : Walk) → OnOk r (w �
 counted_found (Ok x) w a h = ap counted h
 counted_found (Err e) w a h = h
 
+-- or what is counted alike
+pub alike_found : {T E : Type 0} (r : Result T E) (w a b : Walk) → OnOk r (w ≡ a) → counted a ≡ counted b → OnOk r (counted w ≡ counted b)
+alike_found (Ok x) w a b h e = ap counted h ∙ e
+alike_found (Err x) w a b h e = h
+
 -- what is found beside states that were set aside
 module _ (aside : List State) where
   abbrev pub beside : Walk → Walk

@@ -13,7 +13,7 @@ use crate::spot::Spot;
 use crate::walk::{Mend, Walk};
 use mlk_calls::State;
 use mlk_coverage::{Rules, covered, templates};
-use mlk_names::{Access, Extent, LockTerm, Reference, ReferenceSubs, Sym};
+use mlk_names::{Access, Extent, LockTerm, Reference, Sym};
 use mlk_text::{Code, Column, Name, Subscripts, copy_of};
 use mlk_tree::Function;
 use std::alloc::{AllocError, Global};
@@ -61,16 +61,6 @@ fn all_but_last(subs: &[Sym]) -> &[Sym]
     before
 }
 
-fn subscripts(alloc: Global, symbols: &[Sym]) -> Result<ReferenceSubs, AllocError>
-    ensures { IfOk result (λ s. s ≡ symbols.now) }
-{
-    let mut subs = Subscripts::new(alloc);
-    for symbol in symbols {
-        subs.push(copy_of(symbol)?)?;
-    }
-    Ok(subs)
-}
-
 fn reference_to(
     alloc: Global,
     extent: Extent,
@@ -80,12 +70,16 @@ fn reference_to(
 ) -> Result<Reference, AllocError>
     ensures { IfOk result (λ r. r ≡ reference extent access name.now symbols.now) }
 {
-    Ok(Reference {
+    let mut reference = Reference {
         root: name.copy()?,
-        subs: subscripts(alloc, symbols)?,
+        subs: Subscripts::new(alloc),
         extent,
         access,
-    })
+    };
+    for symbol in symbols {
+        reference.subs.push(copy_of(symbol)?)?;
+    }
+    Ok(reference)
 }
 
 fn fault_of(rules: &Rules, held: &[LockTerm], reference: &Reference) -> Option<Code>
