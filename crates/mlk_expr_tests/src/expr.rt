@@ -1,7 +1,5 @@
 // What the calls answer. The expected trees and places come from the rules of M's expressions.
 
-mod faults;
-mod limits;
 mod names;
 mod operators;
 mod order;
@@ -10,7 +8,6 @@ mod words;
 use mlk_expr::{Actual, Expr, read_actuals, read_expr, read_ref};
 use mlk_text::{Failure, Fault};
 use std::alloc::Global;
-use std::process::Abort;
 use std::test::Fail;
 
 pub(crate) fn is_lit(tree: &Expr, text: &[u8]) -> bool {
@@ -20,7 +17,7 @@ pub(crate) fn is_lit(tree: &Expr, text: &[u8]) -> bool {
     }
 }
 
-pub(crate) fn next_of(alloc: Global, text: &[u8]) -> Option<usize> {
+fn next_of(alloc: Global, text: &[u8]) -> Option<usize> {
     match read_expr(alloc, text, 0) {
         Ok((_, next)) => Some(next),
         Err(_) => None,
@@ -41,19 +38,6 @@ pub(crate) fn is_fault(error: &Failure<Fault>, number: u16, column: u32, word: &
         && place.line.number() == 1
         && place.column.number() == column;
     fault.code.number() == number && placed && same_word
-}
-
-pub(crate) fn is_refused(
-    alloc: Global,
-    text: &[u8],
-    number: u16,
-    column: u32,
-    word: &[u8],
-) -> bool {
-    match read_expr(alloc, text, 0) {
-        Ok(_) => false,
-        Err(error) => is_fault(&error, number, column, word),
-    }
 }
 
 // `+2*3` after `1`.
@@ -132,36 +116,15 @@ fn actuals(rt: HostRuntime) -> Result<(), Fail> {
     Ok(())
 }
 
-// Each byte that ends an expression, after one.
+// Nothing limits how many operators stand in a row.
 #[test]
-fn what_ends_an_expression(rt: HostRuntime) {
+fn a_long_chain(rt: HostRuntime) -> Result<(), Fail> {
     let alloc = rt.alloc();
-    let texts: [&[u8]; 6] = [b"X", b"X ", b"X,", b"X)", b"X:", b"X;"];
-    for text in texts.iter() {
-        assert_eq!(rt; next_of(alloc, text), Some(1), "{text:?}");
+    let mut text = Vec::new(alloc);
+    for _ in 0..500_000 {
+        text.extend_from_slice(b"1+")?;
     }
-}
-
-#[test]
-fn reads_whole_texts(rt: HostRuntime) {
-    let alloc = rt.alloc();
-    let texts: [&[u8]; 14] = [
-        b"00.50",
-        b"1E-3",
-        b"\"a\"\"b\"",
-        b"^A(1,-X(2))]]$l(\"\")'=.5",
-        b"X'?1.3AN1(1\"a\",.N).\"-\"+1",
-        b"$$F^B(.X,,1,\"a\")",
-        b"$$^R",
-        b"$$9()",
-        b"$S(X:1,1:Y)",
-        b"$ORDER(^A(1,\"\"),-1)",
-        b"$T&$JOB!'$x",
-        b"1**2']]3'?1.E",
-        b"%A1#((1)\\2)_%",
-        b"$P(X,\",\",2,3)",
-    ];
-    for text in texts.iter() {
-        assert_eq!(rt; next_of(alloc, text), Some(text.len()), "{text:?}");
-    }
+    text.push(b'1')?;
+    assert_eq!(rt; next_of(alloc, text.as_slice()), Some(1_000_001));
+    Ok(())
 }

@@ -1,4 +1,4 @@
-// Routines that make no program.
+// Routines that make no program. A routine that makes none by itself stands in the rows of `mlk_reader_rows`.
 
 use crate::routines;
 use mlk_program::link;
@@ -32,35 +32,6 @@ fn is_refused(alloc: Global, texts: &[(&[u8], &[u8])], wanted: &Refusal) -> bool
     match link(alloc, routines.as_slice()) {
         Err(Failure::Refused(fault)) => is_wanted(&fault, wanted),
         _ => false,
-    }
-}
-
-// A call without a line, one that a line does not take, and that neither.
-#[test]
-fn calls(rt: HostRuntime) {
-    let alloc = rt.alloc();
-    let rows: [(&[u8], u16, u32, u32); 12] = [
-        (b" DO X\n", 302, 1, 5),
-        (b" DO ^B\n", 302, 1, 5),
-        (b" DO X^B\n", 302, 1, 5),
-        (b" JOB X\n", 302, 1, 6),
-        (b" SET A=1+$$X\n", 302, 1, 10),
-        (b" DO B(1)\nB QUIT\n", 303, 1, 5),
-        (b" DO B(1,2)\nB(X) QUIT\n", 303, 1, 5),
-        (b" DO B\nB(X) QUIT\n", 303, 1, 5),
-        (b" DO B(,,)\nB(X,Y) QUIT\n", 303, 1, 5),
-        (b" DO B($$C(1))\nB(X) QUIT 1\n", 302, 1, 7),
-        (b" WRITE $$B,$$C\nB() QUIT 1\n", 302, 1, 12),
-        (b" IF 1 DO\n . FOR I=1:1:$$C DO B\nB QUIT\n", 302, 2, 14),
-    ];
-    for (text, code, line, column) in rows.iter() {
-        let wanted = Refusal {
-            code: *code,
-            routine: b"A",
-            line: *line,
-            column: *column,
-        };
-        assert!(rt; is_refused(alloc, &[(b"A", text)], &wanted), "{text:?}");
     }
 }
 

@@ -1,10 +1,12 @@
-//! Reads parts of expressions, and certificates, one for each line of standard input, and prints a line for each: what is
-//! answered.
+//! Reads parts of expressions, routines, programs of one routine, rule files and certificates, one for each line of
+//! standard input, and prints a line for each: what is answered.
 //!
 //! A line has the reader (`expr`, `ref` or `actuals`), the byte of the text at which the reader begins, and the text, in
 //! which `\` and two hexadecimal digits are one byte. The answer is `to` and the byte after what was read, or the fault:
-//! its code, its column, and the word of what is left out. Or it has `cert` and a text: then the answer is `read`, or the
-//! line and the code of the fault.
+//! its code, its column, and the word of what is left out. Or it has `routine`, `program`, `rules` or `cert` and a text:
+//! then the answer is `read`, or the fault. For a routine, which is named `R`, that is its place, its code, and the word of
+//! what is left out; so for a program of such a routine alone. For rules it is the section, the index in it, and the code;
+//! for a certificate the line and the code.
 #![tactic(auto)]
 
 ghost use Rattle.std.specs.Prelude.{◌<◌, ◌≤◌, length};
@@ -12,6 +14,9 @@ ghost use Rattle.std.specs.Prelude.{◌<◌, ◌≤◌, length};
 use bstr::ByteSlice;
 use mlk_cert::read_cert;
 use mlk_expr::{read_actuals, read_expr, read_ref};
+use mlk_program::link;
+use mlk_routine::read_routine;
+use mlk_rules::{RulesFault, read_rules};
 use mlk_text::{Failure, Fault};
 use mlk_values::whole;
 use std::alloc::{AllocError, Global};
@@ -73,15 +78,71 @@ fn place_of(digits: &[u8], text: &[u8]) -> usize
     }
 }
 
-fn write_fault(fault: &Fault, out: &mut Vec<u8>) -> io::Result<()> {
-    let code = fault.code.number();
-    let column = fault.place.column.number();
-    write!(out, "{code} {column}")?;
+// Ends a line with the word of what is left out, where something is.
+fn write_left_out(fault: &Fault, out: &mut Vec<u8>) -> io::Result<()> {
     if let Some(left_out) = &fault.left_out {
         out.push(b' ')?;
         out.extend_from_slice(left_out.word())?;
     }
     writeln!(out)
+}
+
+fn write_fault(fault: &Fault, out: &mut Vec<u8>) -> io::Result<()> {
+    let code = fault.code.number();
+    let column = fault.place.column.number();
+    write!(out, "{code} {column}")?;
+    write_left_out(fault, out)
+}
+
+// The fault of a routine or a program.
+fn write_placed(fault: &Fault, out: &mut Vec<u8>) -> io::Result<()> {
+    let line = fault.place.line.number();
+    let column = fault.place.column.number();
+    let code = fault.code.number();
+    out.extend_from_slice(fault.place.routine.as_bytes())?;
+    write!(out, " {line}:{column} {code}")?;
+    write_left_out(fault, out)
+}
+
+fn write_rules_fault(fault: &RulesFault, out: &mut Vec<u8>) -> io::Result<()> {
+    let index = fault.index;
+    let code = fault.code.number();
+    out.extend_from_slice(fault.section.word())?;
+    writeln!(out, " {index} {code}")
+}
+
+fn no_memory() -> io::Error {
+    io::Error::from(ErrorKind::OutOfMemory)
+}
+
+fn read_alone(alloc: Global, text: &[u8]) -> Result<(), Failure<Fault>> {
+    read_routine(alloc, b"R", text)?;
+    Ok(())
+}
+
+fn link_alone(alloc: Global, text: &[u8]) -> Result<(), Failure<Fault>> {
+    let routines = [read_routine(alloc, b"R", text)?];
+    link(alloc, &routines)?;
+    Ok(())
+}
+
+// Adds what is answered to the text of a routine, or of a program.
+fn write_read(read: Result<(), Failure<Fault>>, out: &mut Vec<u8>) -> io::Result<()> {
+    match read {
+        Ok(()) => writeln!(out, "read"),
+        Err(Failure::Refused(fault)) => write_placed(&fault, out),
+        Err(Failure::OutOfMemory) => Err(no_memory()),
+    }
+}
+
+// Adds what is answered to the text of rules.
+fn answer_rules(alloc: Global, written: &[u8], out: &mut Vec<u8>) -> io::Result<()> {
+    let text = text_of(alloc, written)?;
+    match read_rules(alloc, text.as_slice()) {
+        Ok(_) => writeln!(out, "read"),
+        Err(Failure::Refused(fault)) => write_rules_fault(&fault, out),
+        Err(Failure::OutOfMemory) => Err(no_memory()),
+    }
 }
 
 // Adds what is answered to the text of a certificate.
@@ -92,7 +153,7 @@ fn answer_cert(alloc: Global, written: &[u8], out: &mut Vec<u8>) -> io::Result<(
         Err(Failure::Refused(fault)) => {
             writeln!(out, "{} {}", fault.line.number(), fault.code.number())
         }
-        Err(Failure::OutOfMemory) => Err(io::Error::from(ErrorKind::OutOfMemory)),
+        Err(Failure::OutOfMemory) => Err(no_memory()),
     }
 }
 
@@ -106,7 +167,7 @@ fn answer_part(alloc: Global, reader: &[u8], rest: &[u8], out: &mut Vec<u8>) -> 
     match end_of(alloc, reader, text.as_slice(), at) {
         Ok(end) => writeln!(out, "to {end}"),
         Err(Failure::Refused(fault)) => write_fault(&fault, out),
-        Err(Failure::OutOfMemory) => Err(io::Error::from(ErrorKind::OutOfMemory)),
+        Err(Failure::OutOfMemory) => Err(no_memory()),
     }
 }
 
@@ -115,6 +176,13 @@ fn answer(alloc: Global, line: &[u8], out: &mut Vec<u8>) -> io::Result<()> {
     match line.split_once_str(b" ") {
         None => Err(io::Error::from(ErrorKind::InvalidInput)),
         Some((b"cert", written)) => answer_cert(alloc, written, out),
+        Some((b"rules", written)) => answer_rules(alloc, written, out),
+        Some((b"routine", written)) => {
+            write_read(read_alone(alloc, text_of(alloc, written)?.as_slice()), out)
+        }
+        Some((b"program", written)) => {
+            write_read(link_alone(alloc, text_of(alloc, written)?.as_slice()), out)
+        }
         Some((reader, rest)) => answer_part(alloc, reader, rest, out),
     }
 }

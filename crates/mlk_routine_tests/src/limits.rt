@@ -1,6 +1,7 @@
-// Limits, on both sides of each.
+// The greatest texts, on both sides of each limit.
 
-use crate::{Refusal, is_read, is_refused};
+use mlk_routine::read_routine;
+use mlk_text::{Failure, Fault};
 use std::alloc::{AllocError, Global};
 use std::test::Fail;
 
@@ -13,48 +14,28 @@ fn many(alloc: Global, first: &[u8], part: &[u8], times: usize) -> Result<Vec<u8
     Ok(text)
 }
 
-// Lines each one level deeper, so many.
-fn nested(alloc: Global, levels: usize) -> Result<Vec<u8>, AllocError> {
-    let mut text = Vec::new(alloc);
-    for level in 0..levels {
-        let line = many(alloc, b" ", b".", level)?;
-        text.extend_from_slice(line.as_slice())?;
-        text.extend_from_slice(b"DO\n")?;
+fn is_read(alloc: Global, text: &[u8]) -> bool {
+    read_routine(alloc, b"R", text).is_ok()
+}
+
+// Too large, at the first byte.
+fn is_limit(fault: &Fault) -> bool {
+    let place = &fault.place;
+    fault.code.number() == 210 && place.line.number() == 1 && place.column.number() == 1
+}
+
+fn is_too_large(alloc: Global, text: &[u8]) -> bool {
+    match read_routine(alloc, b"R", text) {
+        Err(Failure::Refused(fault)) => is_limit(&fault),
+        _ => false,
     }
-    Ok(text)
-}
-
-fn is_too_large(alloc: Global, text: &[u8], line: u32, column: u32) -> bool {
-    let wanted = Refusal {
-        line,
-        column,
-        code: 210,
-        word: b"",
-    };
-    is_refused(alloc, text, wanted)
-}
-
-#[test]
-fn levels(rt: HostRuntime) -> Result<(), Fail> {
-    let alloc = rt.alloc();
-    assert!(rt; is_read(alloc, nested(alloc, 15)?.as_slice()));
-    assert!(rt; is_too_large(alloc, nested(alloc, 16)?.as_slice(), 16, 1));
-    Ok(())
-}
-
-#[test]
-fn loops(rt: HostRuntime) -> Result<(), Fail> {
-    let alloc = rt.alloc();
-    assert!(rt; is_read(alloc, many(alloc, b" ", b"F  ", 255)?.as_slice()));
-    assert!(rt; is_too_large(alloc, many(alloc, b" ", b"F  ", 256)?.as_slice(), 1, 767));
-    Ok(())
 }
 
 #[test]
 fn lines(rt: HostRuntime) -> Result<(), Fail> {
     let alloc = rt.alloc();
     assert!(rt; is_read(alloc, many(alloc, b"", b"\n", 65_535)?.as_slice()));
-    assert!(rt; is_too_large(alloc, many(alloc, b"", b"\n", 65_536)?.as_slice(), 1, 1));
+    assert!(rt; is_too_large(alloc, many(alloc, b"", b"\n", 65_536)?.as_slice()));
     Ok(())
 }
 
@@ -62,6 +43,6 @@ fn lines(rt: HostRuntime) -> Result<(), Fail> {
 fn bytes(rt: HostRuntime) -> Result<(), Fail> {
     let alloc = rt.alloc();
     assert!(rt; is_read(alloc, many(alloc, b";", b"-", 1_048_575)?.as_slice()));
-    assert!(rt; is_too_large(alloc, many(alloc, b";", b"-", 1_048_576)?.as_slice(), 1, 1));
+    assert!(rt; is_too_large(alloc, many(alloc, b";", b"-", 1_048_576)?.as_slice()));
     Ok(())
 }

@@ -1,6 +1,6 @@
 // The operators: the longest is taken.
 
-use crate::expr::{is_lit, is_refused};
+use crate::expr::is_lit;
 use mlk_expr::{Expr, Op, Relation, read_expr};
 use std::alloc::Global;
 use std::process::Abort;
@@ -64,25 +64,5 @@ fn relations(rt: HostRuntime) {
             is_one_operator(alloc, fails, Op::IsNot(*relation)),
             "{fails:?}"
         );
-    }
-}
-
-// What can't stand after the longest operator, or after a `'` that begins one.
-#[test]
-fn no_longer_operators(rt: HostRuntime) {
-    let alloc = rt.alloc();
-    let rows: [(&[u8], u32); 9] = [
-        (b"1***2", 4),
-        (b"1]]]2", 4),
-        (b"1==2", 3),
-        (b"1<>2", 3),
-        (b"1'", 3),
-        (b"1'+2", 3),
-        (b"1''=2", 3),
-        (b"(1')", 4),
-        (b"X(1,2')", 7),
-    ];
-    for (text, column) in rows.iter() {
-        assert!(rt; is_refused(alloc, text, 101, *column, b""), "{text:?}");
     }
 }

@@ -1,49 +1,12 @@
 // Where the order of evaluation is not certain no global and no call stands, and where less may stand than everything.
 
-use crate::expr::{is_fault, is_refused, next_of};
+use crate::expr::is_fault;
 use mlk_expr::{
-    Actual, Allows, Passing, read_actuals, read_actuals_where, read_expr, read_expr_where,
-    read_ref, read_ref_where,
+    Actual, Allows, Passing, read_actuals, read_actuals_where, read_expr_where, read_ref_where,
 };
 use std::alloc::Global;
 use std::process::Abort;
 use std::test::Fail;
-
-// After the name of `$GET`, `$NAME` and `$ORDER`.
-#[test]
-fn after_a_name(rt: HostRuntime) {
-    let alloc = rt.alloc();
-    let rows: [(&[u8], u32, &[u8]); 14] = [
-        (b"$G(X,^A)", 6, b"ORDER"),
-        (b"$G(X,$$F)", 6, b"ORDER"),
-        (b"$O(A(1),$$F)", 9, b"ORDER"),
-        (b"$NA(A,B(^C))", 9, b"ORDER"),
-        (b"$G(X,$L(1_$G(Y,-^A)))", 17, b"ORDER"),
-        (b"$G(X,$D(^A))", 9, b"ORDER"),
-        (b"$G(X,^1)", 6, b"ORDER"),
-        (b"$G(X,^", 6, b"ORDER"),
-        (b"$G(X,$$@F)", 6, b"ORDER"),
-        (b"$G(X,^@A)", 7, b"INDIRECTION"),
-        (b"$G(X,@A)", 6, b"INDIRECTION"),
-        (b"$G(X,^(1))", 6, b"NAKED"),
-        (b"$G(X,^|1|A)", 6, b"ENVIRONMENT"),
-        (b"$G(X,^$J)", 6, b"SSVN"),
-    ];
-    for (text, column, word) in rows.iter() {
-        assert!(rt; is_refused(alloc, text, 102, *column, word), "{text:?}");
-    }
-    assert!(rt; is_refused(alloc, b"$G(X,1+,^A)", 101, 8, b""));
-    let texts: [&[u8]; 5] = [
-        b"$G(^A(^B),1)",
-        b"$G(X($$F),Y(1))",
-        b"$D(^A($$F))",
-        b"$L(^A,$$F)",
-        b"$G(X,1)_^A",
-    ];
-    for text in texts.iter() {
-        assert_eq!(rt; next_of(alloc, text), Some(text.len()), "{text:?}");
-    }
-}
 
 fn expr_next(alloc: Global, allows: Allows, text: &[u8]) -> Option<usize> {
     match read_expr_where(alloc, allows, text, 0) {
@@ -141,18 +104,6 @@ fn from_a_later_byte(rt: HostRuntime) -> Result<(), Fail> {
             assert_eq!(rt; next, 10);
         }
         Err(error) => assert!(rt; false, "{error:?}"),
-    }
-    match read_ref(alloc, b"SET ^A(1)=2", 4) {
-        Ok((_tree, next)) => assert_eq!(rt; next, 9),
-        Err(error) => assert!(rt; false, "{error:?}"),
-    }
-    match read_expr(alloc, b"SET X=1+@Y", 6) {
-        Ok((_tree, next)) => assert!(rt; false, "{next}"),
-        Err(error) => assert!(rt; is_fault(&error, 102, 9, b"INDIRECTION"), "{error:?}"),
-    }
-    match read_expr(alloc, b"WRITE ", 6) {
-        Ok((_tree, next)) => assert!(rt; false, "{next}"),
-        Err(error) => assert!(rt; is_fault(&error, 101, 7, b""), "{error:?}"),
     }
     Ok(())
 }

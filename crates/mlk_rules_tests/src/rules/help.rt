@@ -11,10 +11,6 @@ pub(super) type Spelled<'a> = (&'a [u8], &'a [u8]);
 pub(super) const BASE: &[u8] =
     b"[[lock]]\nname = \"^ACCT\"\nrank = 10\n[[lock]]\nname = \"^LOG\"\nrank = 20\n[[cover]]\nglobal = \"^ACCT(id,...)\"\nlock = \"^ACCT(id)\"\n[[cover]]\nglobal = \"^LOG(...)\"\nlock = \"^LOG\"\n[[private]]\nglobal = \"^TMP($J,...)\"\n[[readonly]]\nglobal = \"^CONF(...)\"\n[[entry]]\nlabel = \"DEP^BANK\"\n";
 
-pub(super) fn reads(alloc: Global, bytes: &[u8]) -> bool {
-    read_rules(alloc, bytes).is_ok()
-}
-
 pub(super) fn refuses(
     alloc: Global,
     bytes: &[u8],

@@ -1,6 +1,6 @@
 // Rule files that are read.
 
-use super::help::{BASE, family_with, reads};
+use super::help::{BASE, family_with};
 use mlk_names::{Extent, Root};
 use mlk_rules::{Cover, Element, Family, Part, Pattern, entries, read_rules};
 use mlk_text::Value;
@@ -198,28 +198,4 @@ fn reads_places(rt: HostRuntime) -> Result<(), Fail> {
     )?;
     assert!(rt; has_turned(rules.lists().covers.as_slice()));
     Ok(())
-}
-
-#[test]
-fn reads_these(rt: HostRuntime) {
-    let files: &[&[u8]] = &[
-        b"",
-        b"lock = []\ncover = []\nprivate = []\nreadonly = []\nentry = []\n",
-        b"entry = [{label = \"12^%Z\"}]",
-        b"entry = [{label = \"1234567890123456789012345678901234567890^Z\"}]",
-        b"entry = [{label = \"%A^Z\"}, {label = \"^Z\"}, {label = \"^Z\"}]",
-        b"lock = [{name = \"%X\", rank = 999_999}]",
-        b"lock = [{name = \"X(1,2,3,4,5,6,7,8)\", rank = 0}]",
-        b"lock = [{name = \"A(1)\", rank = 1}, {name = \"A(2)\", rank = 1}, {name = \"^A\", rank = 1}]",
-        b"cover = [{global = \"^G(...)\", lock = \"X\"}, {global = \"^G(...)\", lock = \"X\"}]",
-        b"cover = [{global = \"^G\", lock = \"^X(1)\"}]",
-        b"cover = [{global = \"^G(a,b,c,d,e,f,g,h,...)\", lock = \"X(h)\"}]",
-        b"lock = [{name = \"A234567890123456789012345678901(0000000000000000000000001)\", rank = 1}]",
-        b"private = [{global = \"^G(1,2,3,4,5,6,7,$J,...)\"}]",
-        b"private = [{global = \"^G(1,a,$J)\"}, {global = \"^G($J,b,...)\"}]",
-        b"readonly = [{global = \"^G\"}, {global = \"^G(a,.5,...)\"}]",
-    ];
-    for file in files {
-        assert!(rt; reads(rt.alloc(), *file));
-    }
 }
