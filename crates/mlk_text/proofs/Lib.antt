@@ -6,3 +6,4 @@ pub mod Outcomes
 pub mod Runs
 pub mod Spelled
 pub mod Entries
+pub mod FirstWords

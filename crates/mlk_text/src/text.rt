@@ -1,6 +1,7 @@
 // The bytes of names and values. Most are short, and then stand in the struct itself.
 
-ghost use Rattle.std.specs.Prelude.{◌≡◌, ◌≤◌, IfOk, length, bytes_eq};
+ghost use Rattle.std.specs.Prelude.{◌≡◌, ◌≤◌, IfOk, IfSome, IsTrue, length, take, bytes_eq};
+ghost use Rattle.std.specs.Int.{w64, to_le_bytes};
 ghost use Rattle.mlk_text.specs.Texts.{bytes_of, name_bytes_of};
 
 use std::alloc::{AllocError, Global};
@@ -29,6 +30,24 @@ fn are_same(bytes: &[u8], others: &[u8]) -> bool
         left_others = rest_others;
     }
     left_others.is_empty()
+}
+
+// The first eight bytes as one number, where there are so many.
+fn first_word(bytes: &[u8]) -> Option<u64>
+    ensures { IfSome result (λ n. to_le_bytes w64 n ≡ take 8 bytes.now) }
+{
+    let (word, _) = bytes.split_first_chunk()?;
+    Some(u64::from_le_bytes(*word))
+}
+
+// Whether the first eight bytes are the same, where there are so many: they are compared as one number.
+fn have_same_word(bytes: &[u8], others: &[u8]) -> bool
+    ensures { IsTrue result → take 8 bytes.now ≡ take 8 others.now }
+{
+    match (first_word(bytes), first_word(others)) {
+        (Some(word), Some(other)) => word == other,
+        _ => false,
+    }
 }
 
 /// Up to N bytes.
@@ -68,6 +87,19 @@ impl<const N: usize> Short<N> {
     {
         let (front, _) = self.bytes.split_at(self.length as usize);
         front
+    }
+
+    // Whether the bytes are the same. Most are eight at most, which are the same where the eight that stand here are.
+    fn is_same(&self, other: &Short<N>) -> bool
+        ensures { result ≡ bytes_eq self.now other.now }
+    {
+        if self.length != other.length {
+            return false;
+        }
+        if self.length <= 8 && have_same_word(&self.bytes, &other.bytes) {
+            return true;
+        }
+        are_same(self.as_bytes(), other.as_bytes())
     }
 
     fn copy(&self) -> Short<N>
@@ -112,7 +144,10 @@ impl Text {
     pub(crate) fn is_same(&self, other: &Text) -> bool
         ensures { result ≡ bytes_eq (bytes_of self.now) (bytes_of other.now) }
     {
-        are_same(self.as_bytes(), other.as_bytes())
+        match (self, other) {
+            (Text::Short(short), Text::Short(another)) => short.is_same(another),
+            _ => are_same(self.as_bytes(), other.as_bytes()),
+        }
     }
 
     /// An equal text, on the same allocator.
@@ -158,7 +193,10 @@ impl NameText {
     pub(crate) fn is_same(&self, other: &NameText) -> bool
         ensures { result ≡ bytes_eq (name_bytes_of self.now) (name_bytes_of other.now) }
     {
-        are_same(self.as_bytes(), other.as_bytes())
+        match (self, other) {
+            (NameText::Short(short), NameText::Short(another)) => short.is_same(another),
+            _ => are_same(self.as_bytes(), other.as_bytes()),
+        }
     }
 
     /// An equal text, on the same allocator.

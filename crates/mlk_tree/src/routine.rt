@@ -1,18 +1,17 @@
 // Routines: lines, and blocks under the lines that head them.
 
 use crate::command::Commands;
-use mlk_text::{List, Name};
+use mlk_text::{Column, LineNumber, List, Name};
 
 /// A line, with the block of deeper lines that follows it.
 #[derive(Drop)]
 #[cycle(lines)]
 pub struct Line {
-    /// counted from 1
-    pub number: usize,
+    pub number: LineNumber,
     /// one more than the number of its periods
     pub level: usize,
     /// the column after its last byte
-    pub end: usize,
+    pub end: Column,
     pub label: Option<Name>,
     /// none without a formal list; `()` is an empty one
     pub formals: Option<List<Name>>,
