@@ -20,14 +20,14 @@ pub enum Test {
 #[derive(Drop, PartialEq, Eq)]
 pub struct Case {
     pub test: Test,
+    /// What is said of the `$TEST` of each open block, the outermost first.
+    pub saved: List<Test>,
     /// The locks that this call holds, each as often as it holds them.
     pub held: Shared<LockTerm>,
     /// The names that were made new since the call began, and still are.
     pub own: Shared<Own>,
     /// The names that have the values of the call's begin.
     pub kept: Shared<Name>,
-    /// What is said of the `$TEST` of each open block, the outermost first.
-    pub saved: List<Test>,
 }
 
 /// What is said of a job at the end of a call.

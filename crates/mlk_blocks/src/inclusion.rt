@@ -60,8 +60,8 @@ pub fn included(first: &Case, second: &Case) -> bool
     ensures { IsTrue result ↔ Included first.now second.now }
 {
     covers(first.test, second.test)
+        && cover_all(first.saved.as_slice(), second.saved.as_slice())
         && same(first.held.as_slice(), second.held.as_slice())
         && same(first.own.as_slice(), second.own.as_slice())
         && are_among(second.kept.as_slice(), first.kept.as_slice())
-        && cover_all(first.saved.as_slice(), second.saved.as_slice())
 }

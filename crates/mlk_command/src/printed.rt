@@ -11,7 +11,7 @@ use mlk_locks::Refusal;
 use mlk_program::EntryId;
 use mlk_replay::{EventsFault, EventsRefusal};
 use mlk_rules::RulesFault;
-use mlk_text::{Code, Fault, LeftOut, Value};
+use mlk_text::{Code, Column, Fault, LeftOut, LineNumber, Value};
 use mlk_tree::{Line, Routine};
 use mlk_verdicts::{Report, Row};
 use std::alloc::{AllocError, Global};
@@ -25,12 +25,12 @@ fn push_code(text: &mut Text, code: Code) -> Result<(), AllocError>
     Ok(())
 }
 
-fn push_place(text: &mut Text, line: usize, column: u32) -> Result<(), AllocError>
+fn push_place(text: &mut Text, line: LineNumber, column: Column) -> Result<(), AllocError>
     ensures { OnOk result (text.new ≡ text.old ++ place_text line column) }
 {
-    text.push_number(line)?;
+    text.push_number(line.number() as usize)?;
     text.push(b":")?;
-    text.push_number(column as usize)?;
+    text.push_number(column.number() as usize)?;
     Ok(())
 }
 
@@ -52,11 +52,7 @@ pub(crate) fn fault_line(alloc: Global, fault: &Fault) -> Result<Text, AllocErro
     text.push(b"refused ")?;
     text.push(fault.place.routine.as_bytes())?;
     text.push(b" ")?;
-    push_place(
-        &mut text,
-        fault.place.line.number() as usize,
-        fault.place.column.number(),
-    )?;
+    push_place(&mut text, fault.place.line, fault.place.column)?;
     text.push(b" ")?;
     push_code(&mut text, fault.code)?;
     push_left_out(&mut text, &fault.left_out)?;
@@ -89,7 +85,7 @@ pub(crate) fn stuck_line(
     text.push(b"refused ")?;
     text.push(entry.as_bytes())?;
     text.push(b" ")?;
-    push_place(&mut text, fault.line, fault.column.number())?;
+    push_place(&mut text, fault.line, fault.column)?;
     text.push(b" ")?;
     push_code(&mut text, Code::GaveUp)?;
     text.push(b"\n")?;
@@ -210,7 +206,7 @@ fn push_fault(text: &mut Text, fault: &mlk_rows::Fault) -> Result<(), AllocError
     ensures { OnOk result (text.new ≡ text.old ++ fault_text fault.now) }
 {
     text.push(b" ")?;
-    push_place(text, fault.line, fault.column.number())?;
+    push_place(text, fault.line, fault.column)?;
     text.push(b" ")?;
     push_code(text, fault.code)?;
     text.push(b"\n")?;

@@ -1,6 +1,6 @@
 // The block of an entry, of what is known of it.
 
-use crate::draft::{Draft, line_number, round_number};
+use crate::draft::{Draft, round_number};
 use crate::lists::{At, Lists};
 use crate::order::cases_in_order;
 use mlk_cert::{Case, EntryCert, ExitCase, Point, Shared, Summary};
@@ -10,7 +10,7 @@ use std::alloc::{AllocError, Global};
 // A point with its cases in order.
 fn point(alloc: Global, at: At, cases: List<Case>) -> Result<Point, AllocError> {
     Ok(Point {
-        line: line_number(at.line)?,
+        line: at.line,
         round: round_number(at.round)?,
         cases: cases_in_order(alloc, cases.into_vec())?,
     })

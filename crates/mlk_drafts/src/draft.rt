@@ -36,7 +36,7 @@ impl Draft {
     pub fn new(
         alloc: Global,
         entry: EntryId,
-        line: usize,
+        line: LineNumber,
         text: Value,
         declared: bool,
         changed: usize,
@@ -78,7 +78,7 @@ impl Draft {
             return Ok(());
         };
         points.push(Point {
-            line: line_number(at.line)?,
+            line: at.line,
             round: round_number(at.round)?,
             cases,
         })
@@ -111,19 +111,11 @@ impl Draft {
         let points = mem::replace(&mut self.block.points, List::new(alloc));
         for point in points.into_vec() {
             let at = At {
-                line: point.line.number() as usize,
+                line: point.line,
                 round: point.round as usize,
             };
             self.lists.put(at, point.cases);
         }
-    }
-}
-
-/// The number of a line, as a certificate has it.
-pub fn line_number(line: usize) -> Result<LineNumber, AllocError> {
-    match u32::try_from(line) {
-        Ok(number) => Ok(LineNumber::new(number)),
-        Err(_) => Err(AllocError),
     }
 }
 

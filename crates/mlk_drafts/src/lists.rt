@@ -4,7 +4,7 @@ use crate::copy::copy_cases;
 use mlk_calls::is_listed;
 use mlk_cert::Case;
 use mlk_cert::limit::{MOST_CASES, MOST_KEPT, MOST_OWN, MOST_TERMS};
-use mlk_text::List;
+use mlk_text::{LineNumber, List};
 use mlk_tree::Line;
 use std::alloc::{AllocError, Global};
 use std::mem;
@@ -12,7 +12,7 @@ use std::mem;
 /// A point: a line, and 0 or which FOR of it.
 #[derive(Clone, Copy, Debug, Drop, PartialEq, Eq)]
 pub struct At {
-    pub line: usize,
+    pub line: LineNumber,
     pub round: usize,
 }
 
@@ -73,7 +73,7 @@ impl LineLists {
 /// The points of an entry, and the cases in which the lines of its blocks end them: by the lines, from the entry's own on.
 #[derive(Drop)]
 pub struct Lists {
-    first: usize,
+    first: LineNumber,
     lines: Vec<LineLists>,
 }
 
@@ -97,7 +97,7 @@ fn list_among(cases: &mut List<Case>, case: Case) -> Result<Listing, AllocError>
 
 impl Lists {
     /// No points, for an entry whose line has this number.
-    pub(crate) fn new(alloc: Global, first: usize) -> Lists {
+    pub(crate) fn new(alloc: Global, first: LineNumber) -> Lists {
         Lists {
             first,
             lines: Vec::new(alloc),
@@ -109,17 +109,24 @@ impl Lists {
         self.lines.clear();
     }
 
-    fn line(&self, number: usize) -> Option<&LineLists> {
-        self.lines.get(number.checked_sub(self.first)?)
+    // The place of a line, unless it stands before the entry.
+    fn place_of(&self, line: LineNumber) -> Option<usize> {
+        let place = line.number().checked_sub(self.first.number())?;
+        Some(place as usize)
     }
 
-    fn line_mut(&mut self, number: usize) -> Option<&mut LineLists> {
-        self.lines.get_mut(number.checked_sub(self.first)?)
+    fn line(&self, line: LineNumber) -> Option<&LineLists> {
+        self.lines.get(self.place_of(line)?)
+    }
+
+    fn line_mut(&mut self, line: LineNumber) -> Option<&mut LineLists> {
+        let place = self.place_of(line)?;
+        self.lines.get_mut(place)
     }
 
     // The line is there from now on, unless it stands before the entry.
-    fn open(&mut self, alloc: Global, number: usize) -> Result<(), AllocError> {
-        let Some(place) = number.checked_sub(self.first) else {
+    fn open(&mut self, alloc: Global, line: LineNumber) -> Result<(), AllocError> {
+        let Some(place) = self.place_of(line) else {
             return Ok(());
         };
         if place >= self.lines.len() {
@@ -142,12 +149,12 @@ impl Lists {
     }
 
     /// Whether a line has a case.
-    pub fn has_some(&self, line: usize) -> bool {
+    pub fn has_some(&self, line: LineNumber) -> bool {
         !self.cases(At { line, round: 0 }).is_empty()
     }
 
     /// Whether a line has a case that was not walked yet.
-    pub fn has_new(&self, line: usize) -> bool {
+    pub fn has_new(&self, line: LineNumber) -> bool {
         match self.line(line) {
             Some(lists) => lists.begin.as_slice().len() > lists.walked,
             None => false,
@@ -155,7 +162,7 @@ impl Lists {
     }
 
     /// The cases of a line are walked.
-    pub(crate) fn walk(&mut self, line: usize) {
+    pub(crate) fn walk(&mut self, line: LineNumber) {
         if let Some(lists) = self.line_mut(line) {
             lists.walked = lists.begin.as_slice().len();
         }
@@ -196,7 +203,7 @@ impl Lists {
     pub fn end(
         &mut self,
         alloc: Global,
-        line: usize,
+        line: LineNumber,
         cases: Vec<Case>,
     ) -> Result<bool, AllocError> {
         let cases = List::of(cases);
@@ -227,9 +234,11 @@ impl Lists {
     pub(crate) fn into_points(self, alloc: Global) -> Result<Vec<(At, List<Case>)>, AllocError> {
         let Lists { first, lines } = self;
         let mut found = Vec::new(alloc);
-        for (place, lists) in lines.into_iter().enumerate() {
+        let mut number = first.number();
+        for lists in lines {
             let LineLists { begin, rounds, .. } = lists;
-            let line = first.saturating_add(place);
+            let line = LineNumber::new(number);
+            number = number.saturating_add(1);
             add_point(&mut found, At { line, round: 0 }, begin)?;
             add_rounds(&mut found, line, rounds)?;
         }
@@ -252,7 +261,7 @@ fn add_point(
 // Adds the points of a line's FORs.
 fn add_rounds(
     found: &mut Vec<(At, List<Case>)>,
-    line: usize,
+    line: LineNumber,
     rounds: Vec<List<Case>>,
 ) -> Result<(), AllocError> {
     for (place, cases) in rounds.into_iter().enumerate() {

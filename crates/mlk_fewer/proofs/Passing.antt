@@ -2,7 +2,6 @@
 use Rattle.std.proofs.Common.{◌≡◌, true, false, List, [], ◌∷◌, ◌++◌, map, refl, ap, sym, ◌∙◌, inl, inr, ⊎_elim, subst, Option}
 use Rattle.std.specs.Prelude.{if◌then◌else◌}
 use Rattle.std.proofs.lemmas.Bool.{cases_Bool, false≢true}
-use Rattle.mlk_text.specs.Places.{column_at}
 use Rattle.mlk_blocks.specs.declared.case.Case.{Case}
 use Rattle.mlk_tree.specs.Trees.{HeadTree, LineHead, LineTrees, no_lines, line}
 use Rattle.mlk_scope.specs.Scope.{Scope, listed}
@@ -95,7 +94,7 @@ head_passes : (sc : Scope) → ListsEachOnce sc → (around : Around) (next : Op
     → PassesFromEach sc around next block ends head
 head_passes sc once around next block ends (LineHead number level end label formals cs) h all = λ c i.
     let p : Spot = record { scope = sc; line = number; level = level; block = block; word = 1 } in
-    let e : LineEnd = record { scope = sc; around = around; next = next; line = number; level = level; column = column_at end } in
+    let e : LineEnd = record { scope = sc; around = around; next = next; line = number; level = level; column = end } in
     let w = commands p cs (begin (listed sc number 0)) in
     let told = (commands_keep p once cs).tells (begin (listed sc number 0)) (λ o k. false≢true o) in
     part_well e w told h ends all (commands p cs (begin (c ∷ []))) (each_alone p cs once (listed sc number 0) c i (end_clean e w told h))

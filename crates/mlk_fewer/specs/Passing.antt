@@ -1,7 +1,6 @@
 -- What it means that nothing wrong is found in an entry's lines: from each case that is listed at a line, all that the line
 -- comes to goes well at its end. This project's own.
 use Rattle.std.specs.Prelude.{◌≡◌, List, [], ◌∷◌, Option}
-use Rattle.mlk_text.specs.Places.{column_at}
 use Rattle.mlk_blocks.specs.declared.case.Case.{Case}
 use Rattle.mlk_tree.specs.Trees.{HeadTree, LineHead, LineTrees, no_lines, line}
 use Rattle.mlk_scope.specs.declared.state.State.{State}
@@ -32,7 +31,7 @@ pub record GoesWell (e : LineEnd) (ends : List Case) (w : Walk) : Type 0 where
 abbrev pub PassesFromEach : Scope → Around → Option HeadTree → Option Block → List Case → HeadTree → Type 0
 PassesFromEach sc around next block ends (LineHead number level end label formals cs) =
     (c : Case) → Among c (listed sc number 0)
-    → GoesWell (record { scope = sc; around = around; next = next; line = number; level = level; column = column_at end }) ends
+    → GoesWell (record { scope = sc; around = around; next = next; line = number; level = level; column = end }) ends
     (commands (record { scope = sc; line = number; level = level; block = block; word = 1 }) cs (begin (c ∷ [])))
 
 -- each of the lines of one level, and of the blocks below them, each with the cases in which its block may end

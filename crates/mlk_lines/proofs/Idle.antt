@@ -9,7 +9,6 @@ use Rattle.mlk_tree.specs.Trees.{LockTree, LockNames, MergeTree, MergeInto, Read
 use Rattle.mlk_tree.specs.Trees.{TargetTree, SetWhole, SetPart, SetTree, SetTo, WriteTree, WriteValue, WriteCharacter, WriteFormat}
 use Rattle.mlk_tree.specs.Trees.{ActionTree, Do, Else, Halt, Hang, If, Job, Kill, Lock, Merge, New, Quit, Read, Set, Write, CommandTree, Does}
 use Rattle.mlk_tree.specs.Trees.{ParameterTree, Once, Endless, Limited, ControlTree, Runs, CommandTrees, finished, then_command, then_for, HeadTree, LineHead, LineTrees, no_lines, line}
-use Rattle.mlk_text.specs.Places.{column_at}
 use Rattle.mlk_tree.specs.declared.routine.Line.{Line}
 use Rattle.mlk_tree.specs.declared.routine.Line.TheViews.{out-Line}
 use Rattle.mlk_tree.specs.declared.routine.Line.TheFolds.{fold_out-Line}
@@ -256,7 +255,7 @@ commands_idle p h (then_for column index control rest) =
 line_idle : (sc : Scope) (around : Around) (next : Option HeadTree) (block : Option Block) (head : HeadTree)
     → ((round : ℕ) → listed sc (number_of head) round ≡ []) → head_walk sc around next block head ≡ record { faults = []; cases = [] }
 line_idle sc around next block (LineHead number level end label formals cs) h =
-    let e : LineEnd = record { scope = sc; around = around; next = next; line = number; level = level; column = column_at end } in
+    let e : LineEnd = record { scope = sc; around = around; next = next; line = number; level = level; column = end } in
     let p : Spot = record { scope = sc; line = number; level = level; block = block; word = 1 } in
     ap (λ cases. at_end e (commands p cs (begin cases))) (h 0) ∙ ap (at_end e) (commands_idle p h cs)
 

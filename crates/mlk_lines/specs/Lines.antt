@@ -1,7 +1,6 @@
 -- Lines: each is walked from the cases that the certificate lists at its start, to the cases listed at the next line of
 -- its level, to the block's end, or to the frame's. Standard: line structure, levels.
 use Rattle.std.specs.Prelude.{ℕ, List, [], ◌++◌, map, Option, Some, None}
-use Rattle.mlk_text.specs.Places.{column_at}
 use Rattle.mlk_tree.specs.Trees.{HeadTree, LineHead, LineTrees, no_lines, line}
 use Rattle.mlk_blocks.specs.declared.case.Case.{Case}
 use Rattle.mlk_scope.specs.Scope.{Scope, listed}
@@ -33,7 +32,7 @@ block_with (line head block rest) ends = Some (record { first = number_of head; 
 -- the walk of a line to its end
 abbrev pub head_walk : Scope → Around → Option HeadTree → Option Block → HeadTree → Ends
 head_walk sc around next block (LineHead number level end label formals cs) =
-    at_end (record { scope = sc; around = around; next = next; line = number; level = level; column = column_at end })
+    at_end (record { scope = sc; around = around; next = next; line = number; level = level; column = end })
     (commands (record { scope = sc; line = number; level = level; block = block; word = 1 }) cs
     (begin (listed sc number 0)))
 

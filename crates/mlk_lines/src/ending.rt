@@ -5,7 +5,7 @@ ghost use Rattle.mlk_lines.specs.Endings.{Faulty, Leaves, add_ending};
 
 use mlk_cert::Case;
 use mlk_rows::{Fault, Faults, Mend};
-use mlk_text::{Code, Column, List};
+use mlk_text::{Code, Column, LineNumber, List};
 use std::alloc::{AllocError, Global};
 
 /// The faults of a line, and the cases in which its block may end there.
@@ -30,7 +30,7 @@ impl Ends {
     /// A case is refused at a place.
     pub(crate) fn refuse(
         &mut self,
-        line: usize,
+        line: LineNumber,
         column: Column,
         code: Code,
         mend: Mend,

@@ -4,13 +4,14 @@ ghost use Rattle.std.specs.Prelude.{◌≡◌, [], ◌∷◌, ◌++◌, OnOk, ma
 ghost use Rattle.mlk_lines.specs.Lines.{found_in};
 
 use mlk_rows::{Fault, Faults, Mend};
+use mlk_text::LineNumber;
 use std::alloc::{AllocError, Global};
 use std::marker::Model;
 
 /// A fault, and the number of the line whose walk found it, counted from 1.
 #[derive(Drop)]
 pub struct LineFault {
-    pub walked: usize,
+    pub walked: LineNumber,
     pub fault: Fault,
 }
 
@@ -47,7 +48,7 @@ impl LineFaults {
     }
 
     /// These faults too, which the walk of a line found.
-    pub(crate) fn add(&mut self, walked: usize, faults: Faults) -> Result<(), AllocError>
+    pub(crate) fn add(&mut self, walked: LineNumber, faults: Faults) -> Result<(), AllocError>
         ensures { OnOk result (self.new ≡ self.old ++ map (found_in walked) faults) }
     {
         for found in faults.into_vec() {

@@ -75,7 +75,7 @@ fn walk_head<'a>(
         next,
         line: line.number,
         level: line.level,
-        column: Column::at(line.end),
+        column: line.end,
     };
     end.close(walk)
 }

@@ -13,7 +13,7 @@ use mlk_calls::{Scope, State, is_among, is_exit, is_listed, is_own, mention};
 use mlk_cert::{Case, ExitCase, Own, Shared, Test};
 use mlk_names::{KnownSym, LockTerm};
 use mlk_rows::{Mend, Quit, Walk};
-use mlk_text::{Code, Column, List, Name, copy_of};
+use mlk_text::{Code, Column, LineNumber, List, Name, copy_of};
 use mlk_tree::Line;
 use std::alloc::{AllocError, Global};
 use std::slice;
@@ -33,7 +33,7 @@ pub(crate) struct LineEnd<'a> {
     pub(crate) scope: &'a Scope<'a>,
     pub(crate) around: Around<'a>,
     pub(crate) next: Option<&'a Line>,
-    pub(crate) line: usize,
+    pub(crate) line: LineNumber,
     pub(crate) level: usize,
     pub(crate) column: Column,
 }

@@ -9,7 +9,7 @@ use crate::stop::{GaveUp, MakeError};
 use mlk_cert::{CertFault, EntryCert, Spelled, spell};
 use mlk_program::EntryId;
 use mlk_rows::Fault;
-use mlk_text::{Code, Column, Failure};
+use mlk_text::{Code, Column, Failure, LineNumber};
 use std::alloc::{AllocError, Global};
 
 fn blocks(alloc: Global, maker: Maker) -> Result<Vec<EntryCert>, AllocError> {
@@ -30,7 +30,7 @@ fn refused(fault: CertFault) -> MakeError
     MakeError::GaveUp(GaveUp {
         entry: EntryId::new(0, 0),
         fault: Fault {
-            line: 1,
+            line: LineNumber::new(1),
             column: Column::new(1),
             code: Code::CaseNotListed,
         },

@@ -6,7 +6,7 @@ use mlk_coverage::Rules;
 use mlk_drafts::Draft;
 use mlk_program::{EntryId, Program};
 use mlk_rows::Fault;
-use mlk_text::{Failure, Value};
+use mlk_text::{Failure, LineNumber, Value};
 use std::alloc::{AllocError, Global};
 use std::collections::BTreeMap;
 
@@ -76,9 +76,9 @@ impl Maker {
 }
 
 /// The number of an entry's line.
-pub(crate) fn number_of(program: &Program<'_>, entry: EntryId) -> usize {
+pub(crate) fn number_of(program: &Program<'_>, entry: EntryId) -> LineNumber {
     match program.line(entry) {
-        None => 1,
+        None => LineNumber::new(1),
         Some(line) => line.number,
     }
 }

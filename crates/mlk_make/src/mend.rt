@@ -10,7 +10,7 @@ use mlk_lines::LineFault;
 use mlk_names::LockTerm;
 use mlk_program::EntryId;
 use mlk_rows::{Fault, Mend};
-use mlk_text::{Code, Column, Failure};
+use mlk_text::{Code, Column, Failure, LineNumber};
 use mlk_tree::Line;
 
 /// What is done of what would mend a fault: whether something changes.
@@ -44,7 +44,7 @@ fn done_in_summary(
 }
 
 // Whether the line itself, or its block, is walked from a point on this line.
-fn is_here(line: &Line, point: usize) -> bool {
+fn is_here(line: &Line, point: LineNumber) -> bool {
     let begins_block = match line.block.as_slice().first() {
         Some(first) => first.number == point,
         None => false,

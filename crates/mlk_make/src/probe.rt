@@ -7,10 +7,10 @@ use crate::walk::{Site, Target, walk_site};
 use mlk_calls::{copy_case, is_among};
 use mlk_cert::limit::MOST_CASES;
 use mlk_cert::{Case, EntryCert, NameSet, Own, Point, Shared};
-use mlk_drafts::{At, Draft, copy_cases, copy_summed, line_number, round_number};
+use mlk_drafts::{At, Draft, copy_cases, copy_summed, round_number};
 use mlk_lines::LineFault;
 use mlk_rows::{Fault, Mend};
-use mlk_text::{List, Name, copy_of};
+use mlk_text::{LineNumber, List, Name, copy_of};
 use mlk_tree::Line;
 use std::alloc::{AllocError, Global};
 use std::slice;
@@ -53,7 +53,7 @@ fn changing_others(alloc: Global, draft: &Draft, names: &[Name]) -> Result<Entry
     Ok(block)
 }
 
-fn begins_block(line: &Line, number: usize) -> bool {
+fn begins_block(line: &Line, number: LineNumber) -> bool {
     match line.block.as_slice().first() {
         Some(first) => first.number == number,
         None => false,
@@ -112,13 +112,13 @@ fn points_of(
 ) -> Result<List<Point>, AllocError> {
     let mut points = List::new(alloc);
     points.push(Point {
-        line: line_number(at.line)?,
+        line: at.line,
         round: round_number(at.round)?,
         cases: copy_cases(alloc, slice::from_ref(case))?,
     })?;
     if let Some(first) = line.block.as_slice().first() {
         points.push(Point {
-            line: line_number(first.number)?,
+            line: first.number,
             round: 0,
             cases: copy_cases(alloc, entering.as_slice())?,
         })?;

@@ -78,12 +78,12 @@ unfoldable pub IsProgram : List RoutineTree → Type 0
 IsProgram routines = AreDistinct (map name_of routines) × (AreTooMany routines → ⊥)
     × AreResolved routines (calls_of routines)
 
--- a fault of this code at a place; lines and columns are counted up to the greatest one
+-- a fault of this code at a place
 pub record IsFaultAt (code : Code) (routine : List ℕ) (line column : ℕ) (fault : Fault) : Type 0 where
   pub coded : fault.code ≡ code
   pub worded : fault.left_out ≡ None
   pub named : fault.place.routine ≡ routine
-  pub on_line : fault.place.line ≡ min line 4294967295
+  pub on_line : fault.place.line ≡ line
   pub placed : fault.place.column ≡ column
 
 -- a routine is the first whose name stood before

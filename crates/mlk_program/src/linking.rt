@@ -15,7 +15,7 @@ use crate::fault::refusal;
 use crate::program::Program;
 use crate::shared::Shared;
 use mlk_found::{CallSite, in_commands};
-use mlk_text::{Code, Column, Failure, Fault, List, Name};
+use mlk_text::{Code, Column, Failure, Fault, LineNumber, List, Name};
 use mlk_tree::{Actual, Callee, Line, Routine};
 use std::alloc::{AllocError, Global};
 
@@ -32,7 +32,13 @@ fn check_distinct(alloc: Global, directory: &Directory<'_>) -> Result<(), Failur
 {
     for (i, routine) in directory.routines().iter().enumerate() {
         if directory.routine(routine.name.as_bytes()) != Some(i) {
-            return Err(refusal(alloc, Code::RoutineTwice, &routine.name, 1, Column::new(1)));
+            return Err(refusal(
+                alloc,
+                Code::RoutineTwice,
+                &routine.name,
+                LineNumber::new(1),
+                Column::new(1),
+            ));
         }
     }
     Ok(())
@@ -57,7 +63,13 @@ fn check_limits(alloc: Global, routines: &[Routine]) -> Result<(), Failure<Fault
     for (i, routine) in routines.iter().enumerate() {
         entries = entries.saturating_add(entry_count(routine.lines.as_slice()));
         if i >= MOST_ROUTINES || entries > MOST_ENTRIES {
-            return Err(refusal(alloc, Code::TooMany, &routine.name, 1, Column::new(1)));
+            return Err(refusal(
+                alloc,
+                Code::TooMany,
+                &routine.name,
+                LineNumber::new(1),
+                Column::new(1),
+            ));
         }
     }
     Ok(())
@@ -80,7 +92,7 @@ fn takes(formals: &Option<List<Name>>, actuals: &Option<Vec<Actual>>) -> bool
 struct At<'a> {
     routine: usize,
     name: &'a Name,
-    line: usize,
+    line: LineNumber,
 }
 
 // The line that a callee names.

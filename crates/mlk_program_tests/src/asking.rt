@@ -5,13 +5,13 @@ use mlk_program::{EntryId, NewNames, Program, link, new_names};
 use mlk_text::Name;
 use std::alloc::Global;
 
-fn numbers(program: &Program<'_>, entry: EntryId, wanted: &[usize]) -> bool {
+fn numbers(program: &Program<'_>, entry: EntryId, wanted: &[u32]) -> bool {
     let lines = program.lines_of(entry);
     lines.len() == wanted.len()
         && lines
             .iter()
             .zip(wanted)
-            .all(|(line, number)| line.number == *number)
+            .all(|(line, number)| line.number.number() == *number)
 }
 
 fn is_one(new: &NewNames<'_>, column: u32, wanted: &[u8]) -> bool {
@@ -43,7 +43,7 @@ fn entries(rt: HostRuntime) {
     let program = link(alloc, routines.as_slice())
         .ok()
         .expect(&rt, "a program");
-    let rows: [(&[u8], &[usize]); 5] = [
+    let rows: [(&[u8], &[u32]); 5] = [
         (b"^A", &[1]),
         (b"B^A", &[2, 3, 4]),
         (b"C^A", &[3, 4]),

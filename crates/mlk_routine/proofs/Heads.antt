@@ -52,7 +52,7 @@ opening_level k (Some level) s (periods, same, begun) = omega (arith, same)
 
 -- the head of a line, from its parts
 abbrev pub head_tree : ℕ → List ℕ → Front → CommandTrees → HeadTree
-head_tree n s f c = LineHead n (level_in f.level) (suc (length s)) f.label f.formals c
+head_tree n s f c = LineHead n (level_in f.level) (column_at (suc (length s))) f.label f.formals c
 
 module _ (line : List ℕ) (f : Front) (next : ℕ) (found : Found IsFront FrontEnds line 0 f next) where
   at_next : next ≡ length found.0.text
@@ -182,8 +182,8 @@ refused_byte before n line (Refused fault) is_fault bad = (λ head is plain fits
 pub head_roll : (x : Line-F Line) → head_of (roll-Line x) ≡ LineHead x.number x.level x.end x.label x.formals (commands_of x.commands)
 head_roll x = ap (λ p. p.0) (fold-roll-Line (HeadTree × LineTrees) line_step x)
 
-pub head_made : (x : Line-F Line) (n : ℕ) (s : List ℕ) (f : Front) (c : CommandTrees) → x.number ≡ n → x.level ≡ level_in f.level → x.end ≡ suc (length s) → x.label ≡ f.label → x.formals ≡ f.formals → commands_of x.commands ≡ c → head_of (roll-Line x) ≡ head_tree n s f c
+pub head_made : (x : Line-F Line) (n : ℕ) (s : List ℕ) (f : Front) (c : CommandTrees) → x.number ≡ n → x.level ≡ level_in f.level → x.end ≡ column_at (suc (length s)) → x.label ≡ f.label → x.formals ≡ f.formals → commands_of x.commands ≡ c → head_of (roll-Line x) ≡ head_tree n s f c
 head_made x n s f c number level end label formals commands =
     head_roll x ∙ ap (λ k. LineHead k x.level x.end x.label x.formals (commands_of x.commands)) number ∙ ap (λ k. LineHead n k x.end x.label x.formals (commands_of x.commands)) level
-    ∙ ap (λ k. LineHead n (level_in f.level) k x.label x.formals (commands_of x.commands)) end ∙ ap (λ k. LineHead n (level_in f.level) (suc (length s)) k x.formals (commands_of x.commands)) label
-    ∙ ap (λ k. LineHead n (level_in f.level) (suc (length s)) f.label k (commands_of x.commands)) formals ∙ ap (λ k. LineHead n (level_in f.level) (suc (length s)) f.label f.formals k) commands
+    ∙ ap (λ k. LineHead n (level_in f.level) k x.label x.formals (commands_of x.commands)) end ∙ ap (λ k. LineHead n (level_in f.level) (column_at (suc (length s))) k x.formals (commands_of x.commands)) label
+    ∙ ap (λ k. LineHead n (level_in f.level) (column_at (suc (length s))) f.label k (commands_of x.commands)) formals ∙ ap (λ k. LineHead n (level_in f.level) (column_at (suc (length s))) f.label f.formals k) commands

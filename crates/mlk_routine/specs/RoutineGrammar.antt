@@ -4,6 +4,7 @@ use Rattle.std.specs.Prelude.{◌∷◌, ◌++◌, length, if◌then◌else◌, 
 use Rattle.std.specs.List.{list_all}
 use Rattle.mlk_text.specs.Lexemes.{is_text}
 use Rattle.mlk_text.specs.Spellings.{IsName, IsLabel}
+use Rattle.mlk_text.specs.Places.{column_at}
 use Rattle.mlk_expr.specs.Grammar.{IsList, IsEnclosed, IsNameText}
 use Rattle.mlk_tree.specs.Distinct.{AreDistinct}
 use Rattle.mlk_tree.specs.Trees.{CommandTrees, finished, HeadTree, LineHead, LineTrees, no_lines, line}
@@ -58,7 +59,7 @@ IsBody level at commands s = ((level ≡ 1) × (commands ≡ finished) × IsComm
 -- Standard: line.
 abbrev pub IsLine : ℕ → HeadTree → List ℕ → Type 0
 IsLine n (LineHead number level end label formals commands) s = (front body : List ℕ) × (s ≡ front ++ body)
-    × (number ≡ n) × (end ≡ suc (length s)) × IsLabelled label formals front
+    × (number ≡ n) × (end ≡ column_at (suc (length s))) × IsLabelled label formals front
     × ((label ≡ None) ⊎ (level ≡ 1)) × IsBody level (suc (length front)) commands body
 
 -- lines, counted from this number

@@ -16,7 +16,7 @@ use crate::seen::Seen;
 use crate::tail::tail;
 use bstr::ByteSlice;
 use mlk_arguments::refused;
-use mlk_text::{Code, Failure, Fault, Name};
+use mlk_text::{Code, Column, Failure, Fault, LineNumber, Name};
 use mlk_tree::Line;
 use std::alloc::{AllocError, Global};
 
@@ -144,7 +144,7 @@ fn line_bytes(text: &[u8]) -> usize
 pub(crate) fn line<'a>(
     alloc: Global,
     before: &mut Before<'a>,
-    number: usize,
+    number: LineNumber,
     text: &'a [u8],
 ) -> Result<Line, Failure<Fault>>
     ensures line { IfOk result (λ l. IsLineOnly number text.now (head_of l)) }
@@ -174,7 +174,7 @@ pub(crate) fn line<'a>(
     Ok(Line {
         number,
         level,
-        end: text.len() + 1,
+        end: Column::at(text.len() + 1),
         label,
         formals,
         commands,

@@ -7,7 +7,7 @@ ghost use Rattle.mlk_routine.specs.Refusals.{IfRefused, IsOfLine};
 
 use crate::line::{Before, line};
 use crate::place::in_line;
-use mlk_text::{Failure, Fault};
+use mlk_text::{Failure, Fault, LineNumber};
 use mlk_tree::Line;
 use std::alloc::Global;
 use std::collections::VecDeque;
@@ -26,9 +26,10 @@ pub(crate) fn lines(
     let mut before = Before::new(alloc);
     let mut lines = VecDeque::with_capacity(alloc, texts.len())?;
     for (i, text) in texts.iter().enumerate() {
-        match line(alloc, &mut before, i + 1, text) {
+        let number = LineNumber::new((i + 1) as u32);
+        match line(alloc, &mut before, number, text) {
             Ok(read) => lines.push_back(read)?,
-            Err(failure) => return Err(in_line(alloc, routine, i + 1, text, failure)),
+            Err(failure) => return Err(in_line(alloc, routine, number, text, failure)),
         }
     }
     Ok(lines)

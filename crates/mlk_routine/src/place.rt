@@ -1,6 +1,6 @@
 // Why a routine was not read, and where.
 
-ghost use Rattle.std.specs.Prelude.{◌≡◌, ◌<◌, ◌^◌};
+ghost use Rattle.std.specs.Prelude.{◌≡◌};
 ghost use Rattle.mlk_arguments.specs.Told.{IsRefusal};
 ghost use Rattle.mlk_arguments.specs.Faults.{IsLineFault, IsFaulty};
 ghost use Rattle.mlk_routine.specs.Refusals.{IfRefused, IsOfWhole};
@@ -34,12 +34,11 @@ fn has_wrong_byte(text: &[u8], column: Column) -> bool {
 fn located(
     alloc: Global,
     routine: &[u8],
-    number: usize,
+    number: LineNumber,
     column: Column,
     code: Code,
     left_out: Option<LeftOut>,
 ) -> Failure<Fault>
-    requires { number < 2 ^ 32 }
     ensures { IfRefused result (λ f. (f.code ≡ code) × (f.left_out ≡ left_out) × (f.place.routine ≡ routine.now)
         × (f.place.line ≡ number) × (f.place.column ≡ column)) }
 {
@@ -50,7 +49,7 @@ fn located(
         code,
         place: Place {
             routine: Value::new(bytes),
-            line: LineNumber::new(u32::try_from(number).unwrap_or(u32::MAX)),
+            line: number,
             column,
         },
         left_out,
@@ -61,12 +60,11 @@ fn located(
 pub(crate) fn in_line(
     alloc: Global,
     routine: &[u8],
-    number: usize,
+    number: LineNumber,
     text: &[u8],
     failure: Failure<Fault>,
 ) -> Failure<Fault>
-    requires few { number < 2 ^ 32 }
-    requires told { IsFaulty text.now failure }
+    requires { IsFaulty text.now failure }
     ensures same { IsRefusal result → IsRefusal failure }
     ensures place { IfRefused result (λ f. (f.place.routine ≡ routine.now) × (f.place.line ≡ number)
         × IsLineFault text.now f) }
@@ -90,5 +88,12 @@ pub(crate) fn in_line(
 pub(crate) fn whole(alloc: Global, code: Code, routine: &[u8]) -> Failure<Fault>
     ensures { IfRefused result (IsOfWhole code routine.now) }
 {
-    located(alloc, routine, 1, Column::new(1), code, None)
+    located(
+        alloc,
+        routine,
+        LineNumber::new(1),
+        Column::new(1),
+        code,
+        None,
+    )
 }

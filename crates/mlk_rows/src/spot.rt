@@ -2,13 +2,13 @@
 
 use mlk_calls::Scope;
 use mlk_cert::Case;
-use mlk_text::{Column, List};
+use mlk_text::{Column, LineNumber, List};
 use std::alloc::Global;
 
 /// A block of lines below a line: the number of its first line, and the cases in which it may end.
 #[derive(Drop)]
 pub struct Block {
-    pub first: usize,
+    pub first: LineNumber,
     pub ends: List<Case>,
 }
 
@@ -18,7 +18,7 @@ pub struct Block {
 pub struct Spot<'a> {
     pub alloc: Global,
     pub scope: &'a Scope<'a>,
-    pub line: usize,
+    pub line: LineNumber,
     pub level: u32,
     pub block: Option<&'a Block>,
     pub word: Column,

@@ -8,7 +8,7 @@ ghost use Rattle.std.specs.List.{list_any};
 use mlk_calls::State;
 use mlk_cert::{Case, ExitCase, NameSet};
 use mlk_names::LockTerm;
-use mlk_text::{Code, Column, List};
+use mlk_text::{Code, Column, LineNumber, List};
 use std::alloc::{AllocError, Global};
 use std::marker::Model;
 
@@ -16,7 +16,7 @@ use std::marker::Model;
 /// of codes.
 #[derive(Clone, Copy, Debug, Drop, PartialEq, Eq, PartialOrd, Ord)]
 pub struct Fault {
-    pub line: usize,
+    pub line: LineNumber,
     pub column: Column,
     pub code: Code,
 }
@@ -27,7 +27,7 @@ pub enum Mend {
     /// nothing that is known here
     Nothing,
     /// this case, listed at a line, or at one of its rounds
-    Listed(usize, usize, Case),
+    Listed(LineNumber, usize, Case),
     /// this exit, listed in the summary
     Exit(ExitCase),
     /// these names, listed as changed in the summary
@@ -202,7 +202,7 @@ impl Walk {
     /// A state is refused at a place.
     pub fn refuse(
         &mut self,
-        line: usize,
+        line: LineNumber,
         column: Column,
         code: Code,
         mend: Mend,
@@ -234,7 +234,7 @@ impl Walk {
 
     /// Whether there are too many states is asked, for a command's word in this line: if so, the line is over.
     #[tactic(auto, unfolding(crate::specs::Walks::few))]
-    pub fn few(&mut self, alloc: Global, line: usize, word: Column) -> Result<(), AllocError>
+    pub fn few(&mut self, alloc: Global, line: LineNumber, word: Column) -> Result<(), AllocError>
         ensures { OnOk result (self.new ≡ few line word self.old) }
     {
         if !too_many(self.going.as_slice()) {

@@ -8,12 +8,12 @@ ghost use Rattle.mlk_scope.specs.Points.{is_before, cases_there};
 ghost use Rattle.mlk_scope.specs.Scope.{is_at, is_earlier, listed_at};
 
 use mlk_cert::{Case, Point};
+use mlk_text::LineNumber;
 
 fn is_below(point: &Point, other: &Point) -> bool
     ensures { result ≡ points_below point.now other.now }
 {
-    let (line, other_line) = (point.line.number(), other.line.number());
-    line < other_line || (line == other_line && point.round < other.round)
+    point.line < other.line || (point.line == other.line && point.round < other.round)
 }
 
 /// Whether points stand in the order of their lines, on one line in that of their rounds.
@@ -33,21 +33,21 @@ pub(crate) fn are_in_order(points: &[Point]) -> bool
     true
 }
 
-fn is_earlier(point: &Point, line: usize) -> bool
+fn is_earlier(point: &Point, line: LineNumber) -> bool
     ensures { result ≡ is_earlier line point.now }
 {
-    (point.line.number() as usize) < line
+    point.line < line
 }
 
 /// Whether all points are of earlier lines.
-pub(crate) fn are_earlier(points: &[Point], line: usize) -> bool
+pub(crate) fn are_earlier(points: &[Point], line: LineNumber) -> bool
     ensures { result ≡ list_all (is_earlier line) points.now }
 {
     points.iter().all(|point| is_earlier(point, line))
 }
 
 /// Whether all points are of earlier lines, where they stand in order.
-pub(crate) fn are_earlier_in_order(points: &[Point], line: usize) -> bool
+pub(crate) fn are_earlier_in_order(points: &[Point], line: LineNumber) -> bool
     requires { ascends points_below points.now ≡ true }
     ensures { result ≡ list_all (is_earlier line) points.now }
 {
@@ -57,21 +57,20 @@ pub(crate) fn are_earlier_in_order(points: &[Point], line: usize) -> bool
     }
 }
 
-fn is_before(point: &Point, line: usize, round: usize) -> bool
+fn is_before(point: &Point, line: LineNumber, round: usize) -> bool
     ensures { result ≡ is_before line round point.now }
 {
-    let at = point.line.number() as usize;
-    at < line || (at == line && (point.round as usize) < round)
+    point.line < line || (point.line == line && (point.round as usize) < round)
 }
 
-fn is_at(point: &Point, line: usize, round: usize) -> bool
+fn is_at(point: &Point, line: LineNumber, round: usize) -> bool
     ensures { result ≡ is_at line round point.now }
 {
-    point.line.number() as usize == line && point.round as usize == round
+    point.line == line && point.round as usize == round
 }
 
 // How many of points that stand in order are before a line and round.
-fn place_of(points: &[Point], line: usize, round: usize) -> usize
+fn place_of(points: &[Point], line: LineNumber, round: usize) -> usize
     requires { ascends points_below points.now ≡ true }
     ensures { listed_at points.now line round ≡ cases_there line round (slice_get points.now result) }
 {
@@ -83,7 +82,7 @@ fn place_of(points: &[Point], line: usize, round: usize) -> usize
 }
 
 /// The cases of the point at a line and round, among points that stand in order.
-pub(crate) fn cases_in_order(points: &[Point], line: usize, round: usize) -> &[Case]
+pub(crate) fn cases_in_order(points: &[Point], line: LineNumber, round: usize) -> &[Case]
     requires { ascends points_below points.now ≡ true }
     ensures { result.now ≡ listed_at points.now line round }
 {
@@ -94,7 +93,7 @@ pub(crate) fn cases_in_order(points: &[Point], line: usize, round: usize) -> &[C
 }
 
 /// The cases of the first point at a line and round.
-pub(crate) fn cases_at(points: &[Point], line: usize, round: usize) -> &[Case]
+pub(crate) fn cases_at(points: &[Point], line: LineNumber, round: usize) -> &[Case]
     ensures { result.now ≡ listed_at points.now line round }
 {
     let mut left = points;

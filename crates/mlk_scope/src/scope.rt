@@ -11,7 +11,7 @@ use indexmap::{IndexMap, IndexSet};
 use mlk_cert::{Case, EntryCert, Own, Summary};
 use mlk_coverage::{Rules, entries};
 use mlk_program::{EntryId, Program};
-use mlk_text::{Name, Value};
+use mlk_text::{LineNumber, Name, Value};
 use std::alloc::{AllocError, Global};
 use std::marker::Model;
 
@@ -220,7 +220,7 @@ impl<'a> Scope<'a> {
 
     /// The cases that are listed at a line, or at one of its rounds. It takes no memory. Where the block's points stand in
     /// order, they are searched by halves, else one by one.
-    pub fn listed(&self, line: usize, round: usize) -> &'a [Case]
+    pub fn listed(&self, line: LineNumber, round: usize) -> &'a [Case]
         ensures { result.now ≡ listed (scope_of self.now) line round }
     {
         let points = self.block.points.as_slice();
@@ -232,7 +232,7 @@ impl<'a> Scope<'a> {
     }
 
     /// Whether all points are of earlier lines, so that nothing is listed at this line. It takes no memory.
-    pub fn is_past(&self, line: usize) -> bool
+    pub fn is_past(&self, line: LineNumber) -> bool
         ensures { result ≡ is_past (scope_of self.now) line }
     {
         let points = self.block.points.as_slice();

@@ -1,7 +1,7 @@
 // States of a walk.
 
 ghost use Rattle.std.specs.Prelude.{◌≡◌, ◌-◌, [], IfOk, length, take, drop};
-ghost use Rattle.mlk_scope.specs.States.{at_rest, with_symbol, without_last, holding, tested};
+ghost use Rattle.mlk_scope.specs.States.{at_rest, without_last, holding, tested};
 
 use mlk_cert::{Case, Shared, Test};
 use mlk_names::{LockTerm, Sym};
@@ -61,14 +61,6 @@ impl State {
             case: copy_case(case)?,
             captured: List::new(alloc),
         })
-    }
-
-    /// The state with one more captured symbol.
-    pub fn with_symbol(mut self, symbol: Sym) -> Result<State, AllocError>
-        ensures { IfOk result (λ s. s ≡ with_symbol symbol self) }
-    {
-        self.captured.push(symbol)?;
-        Ok(self)
     }
 
     /// The state without the last so many captured symbols.

@@ -11,7 +11,7 @@ use mlk_cert::{Case, ExitCase, NameSet, Own, Shared, Summary, Test};
 use mlk_commands::in_order;
 use mlk_names::LockTerm;
 use mlk_rows::{Fault, Faults, Mend};
-use mlk_text::{Code, Column, List, Name};
+use mlk_text::{Code, Column, LineNumber, List, Name};
 use std::alloc::{AllocError, Global};
 
 fn own_formals(alloc: Global, names: &[Name]) -> Result<Vec<Own>, AllocError>
@@ -46,7 +46,7 @@ fn begin_case(alloc: Global, summary: &Summary, formals: &[Name]) -> Result<Case
 fn add_begin(
     alloc: Global,
     scope: &Scope,
-    line: usize,
+    line: LineNumber,
     formals: &[Name],
     faults: &mut Faults,
 ) -> Result<(), AllocError>
@@ -65,7 +65,7 @@ fn add_begin(
 }
 
 // A declared entry needs nothing.
-fn add_need(scope: &Scope, line: usize, faults: &mut Faults) -> Result<(), AllocError>
+fn add_need(scope: &Scope, line: LineNumber, faults: &mut Faults) -> Result<(), AllocError>
     ensures { OnOk result (faults.new ≡ faults.old ++ need_faults (scope_of scope.now) line) }
 {
     if !scope.declared() || scope.summary().need.as_slice().len() == 0 {
@@ -92,7 +92,7 @@ fn some_leaves(exits: &[ExitCase]) -> bool
 }
 
 // No exit of a declared entry leaves a lock held.
-fn add_exits(scope: &Scope, line: usize, faults: &mut Faults) -> Result<(), AllocError>
+fn add_exits(scope: &Scope, line: LineNumber, faults: &mut Faults) -> Result<(), AllocError>
     ensures { OnOk result (faults.new ≡ faults.old ++ exit_faults (scope_of scope.now) line) }
 {
     if !scope.declared() || !some_leaves(scope.summary().exits.as_slice()) {
@@ -110,7 +110,7 @@ fn add_exits(scope: &Scope, line: usize, faults: &mut Faults) -> Result<(), Allo
 pub(crate) fn own_faults(
     alloc: Global,
     scope: &Scope,
-    line: usize,
+    line: LineNumber,
     formals: &[Name],
 ) -> Result<Faults, AllocError>
     ensures { IfOk result (λ f. f ≡ own_faults (scope_of scope.now) line formals.now) }

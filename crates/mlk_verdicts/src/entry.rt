@@ -13,7 +13,7 @@ use mlk_calls::Scope;
 use mlk_lines::{Around, LineFaults, walk_lines};
 use mlk_program::{EntryId, Program};
 use mlk_rows::Faults;
-use mlk_text::Name;
+use mlk_text::{LineNumber, Name};
 use mlk_tree::Line;
 use std::alloc::{AllocError, Global};
 
@@ -48,11 +48,11 @@ fn formals_of<'a>(line: Option<&'a Line>) -> &'a [Name]
 }
 
 // The number of an entry's line.
-pub(crate) fn number_of(line: Option<&Line>) -> usize
+pub(crate) fn number_of(line: Option<&Line>) -> LineNumber
     ensures { result ≡ entry_number (option_map line_of (option_copied line.entry)) }
 {
     match line {
-        None => 1,
+        None => LineNumber::new(1),
         Some(line) => line.number,
     }
 }

@@ -14,10 +14,11 @@ use mlk_coverage::Rules;
 use mlk_lines::LineFaults;
 use mlk_program::{EntryId, Program};
 use mlk_rows::Faults;
+use mlk_text::LineNumber;
 use std::alloc::{AllocError, Global};
 
 // Those of the faults that the walk of a line found.
-fn faults_of(alloc: Global, found: LineFaults, line: usize) -> Result<Faults, AllocError>
+fn faults_of(alloc: Global, found: LineFaults, line: LineNumber) -> Result<Faults, AllocError>
     ensures { IfOk result (λ f. f ≡ map fault_in (filter (is_of line) found)) }
 {
     let mut faults = Faults::new(alloc);
@@ -35,7 +36,7 @@ fn faults_by(
     checks: &Checks<'_>,
     entry: EntryId,
     block: &EntryCert,
-    line: usize,
+    line: LineNumber,
 ) -> Result<Faults, AllocError>
     ensures { IfOk result (λ f. f ≡ line_faults_with (map routine_of checks.now.program.now) checks.now.rules.now
         checks.now.entries.now entry line (Some block.now)) }
@@ -50,7 +51,7 @@ fn line_faults(
     alloc: Global,
     checks: &Checks<'_>,
     entry: EntryId,
-    line: usize,
+    line: LineNumber,
 ) -> Result<Faults, AllocError>
     ensures { IfOk result (λ f. f ≡ line_faults (map routine_of checks.now.program.now) checks.now.rules.now
         checks.now.entries.now entry line) }
@@ -71,7 +72,7 @@ pub fn walk_line(
     rules: &Rules,
     certificate: &Certificate,
     entry: EntryId,
-    line: usize,
+    line: LineNumber,
 ) -> Result<Faults, AllocError>
     ensures { IfOk result (λ f. f ≡ line_faults (map routine_of program.now) rules.now
         (known (map routine_of program.now) rules.now certificate.now) entry line) }
@@ -92,7 +93,7 @@ pub fn check_line(
     rules: &Rules,
     certificate: &Certificate,
     entry: EntryId,
-    line: usize,
+    line: LineNumber,
 ) -> Result<Verdict, AllocError>
     ensures { IfOk result (λ v. v ≡ ascending (line_faults (map routine_of program.now) rules.now
         (known (map routine_of program.now) rules.now certificate.now) entry line)) }

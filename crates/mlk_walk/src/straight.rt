@@ -278,15 +278,17 @@ fn label_of(label: &Option<Name>) -> Result<Option<Name>, AllocError>
 fn straight_line(alloc: Global, name: &Name, tree: &Line) -> Result<plain::Line, Failure<Fault>>
     ensures { Answers same result (of_line name.now tree.now) }
 {
+    let number = tree.number.number() as usize;
     if tree.formals.is_some() {
-        return Err(Failure::Refused(deeper(alloc, name, tree.number)?));
+        return Err(Failure::Refused(deeper(alloc, name, number)?));
     }
-    let commands = commands(alloc, name, tree.number, &tree.commands)?;
+    let commands = commands(alloc, name, number, &tree.commands)?;
     if let Some(under) = tree.block.first() {
-        return Err(Failure::Refused(deeper(alloc, name, under.number)?));
+        let number = under.number.number() as usize;
+        return Err(Failure::Refused(deeper(alloc, name, number)?));
     }
     let label = label_of(&tree.label)?;
-    let end = Column::at(tree.end).number();
+    let end = Column::at(tree.end.number() as usize).number();
     Ok(plain::Line {
         label,
         commands,
