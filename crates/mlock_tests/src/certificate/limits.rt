@@ -1,46 +1,16 @@
-// Texts at their limits, and long ones.
+// Long texts.
 
-use super::answer;
-use mlk_straight::read_certificate;
+use mlk_straight::{CertificateError, read_certificate};
 use std::alloc::Global;
 use std::test::Fail;
 
-// Lines of so many exits, or of cases of a point.
-fn many_lines(alloc: Global, count: u8, front: &[u8], back: &[u8]) -> Result<Vec<u8>, Fail> {
-    let mut text: Vec<u8> = Vec::new(alloc);
-    text.extend_from_slice(b"mlock-cert 1\nentry A^B\nneed -\nlow -\ndrops 0\nmods -\n")?;
-    for i in 0..count.min(20) {
-        text.extend_from_slice(front)?;
-        text.push(b'A' + i)?;
-        text.extend_from_slice(back)?;
+// The number and the line of a refusal; 0 for a text that is read, 1 for want of memory.
+fn answer(alloc: Global, text: &[u8]) -> (u16, u32) {
+    match read_certificate(alloc, text) {
+        Ok(_) => (0, 0),
+        Err(CertificateError::OutOfMemory) => (1, 0),
+        Err(CertificateError::Refused(fault)) => (fault.code.number(), fault.line),
     }
-    text.extend_from_slice(b"end\n")?;
-    Ok(text)
-}
-
-#[test]
-fn limits(rt: HostRuntime) -> Result<(), Fail> {
-    let alloc = rt.alloc();
-    let exits = many_lines(alloc, 16, b"exit T=* H=", b" K=-\n")?;
-    assert_eq!(rt; answer(alloc, exits.as_slice()), (0, 0));
-    let exits = many_lines(alloc, 17, b"exit T=* H=", b" K=-\n")?;
-    assert_eq!(rt; answer(alloc, exits.as_slice()), (605, 23));
-    let cases = many_lines(alloc, 16, b"at 3.1 T=* H=", b" O=- K=- S=-\n")?;
-    assert_eq!(rt; answer(alloc, cases.as_slice()), (0, 0));
-    let cases = many_lines(alloc, 17, b"at 3.1 T=* H=", b" O=- K=- S=-\n")?;
-    assert_eq!(rt; answer(alloc, cases.as_slice()), (605, 23));
-    for (count, number, line) in [(15, 0, 0), (16, 605, 7)] {
-        let mut text: Vec<u8> = Vec::new(alloc);
-        text.extend_from_slice(
-            b"mlock-cert 1\nentry A^B\nneed -\nlow -\ndrops 0\nmods -\nexit T=* H=A",
-        )?;
-        for _ in 0..count {
-            text.extend_from_slice(b";A")?;
-        }
-        text.extend_from_slice(b" K=-\nend\n")?;
-        assert_eq!(rt; answer(alloc, text.as_slice()), (number, line));
-    }
-    Ok(())
 }
 
 #[test]

@@ -9,7 +9,7 @@ returns-then-ne-clause-refused c =
     refused_map c.refusal.result _ _
     (is_twice c.args.directory.now c.loop-i.i c.routine-item.result (rw v at c.loop-i-test.true) (rw v at c.routine-item.is)
     c.loop-i.invariant (λ k. no_place c.routine.result c.loop-i.i c.if-ne.ensures (found ∙ k)))
-    (rw c.new.ensures at c.refusal.ensures)
+    (rw c.new-then-ne.ensures at rw c.new.ensures at c.refusal.ensures)
 
 pub loop-i-preserved : goal.loop-i-preserved
 loop-i-preserved c =

@@ -10,7 +10,7 @@ returns-then-i-ge-MOST_ROUTINES-clause-refused c =
     (past_limit c.args.routines.now c.loop-i.i c.index-routines-i.result c.loop-i-test.true c.index-routines-i.is
     c.loop-i.entries c.saturating_add-entries.result c.loop-i.invariant (rw entries at c.saturating_add-entries.ensures)
     (⊎_elim inl (λ h. inr h.1) c.then-i-ge-MOST_ROUTINES.either))
-    (rw c.new.ensures at c.refusal.ensures)
+    (rw c.new-then-i-ge-MOST_ROUTINES.ensures at rw c.new.ensures at c.refusal.ensures)
 
 pub loop-i-preserved : goal.loop-i-preserved
 loop-i-preserved c =
