@@ -60,7 +60,7 @@ pub(crate) fn are_earlier_in_order(points: &[Point], line: LineNumber) -> bool
 fn is_before(point: &Point, line: LineNumber, round: usize) -> bool
     ensures { result ≡ is_before line round point.now }
 {
-    point.line < line || (point.line == line && (point.round as usize) < round)
+    line > point.line || (point.line == line && (point.round as usize) < round)
 }
 
 fn is_at(point: &Point, line: LineNumber, round: usize) -> bool
