@@ -43,21 +43,21 @@ own-equal a b = search (rules, slice_eq-Decides)
 set-equal : (a b : NameSet) → Decides (set_eq.eq-value.it a b) (a ≡ b)
 set-equal a b = search (rules, slice_eq-Decides)
 
-case-parts-equal : (a b : Case) → (a.test ≡ b.test) × ((a.held ≡ b.held) × ((a.own ≡ b.own) × ((a.kept ≡ b.kept) × (a.saved ≡ b.saved)))) → a ≡ b
-case-parts-equal a b (t, (h, (o, (k, s)))) =
+case-parts-equal : (a b : Case) → (a.test ≡ b.test) × ((a.saved ≡ b.saved) × ((a.held ≡ b.held) × ((a.own ≡ b.own) × (a.kept ≡ b.kept)))) → a ≡ b
+case-parts-equal a b (t, (s, (h, (o, k)))) =
     ap (λ z. case_of z a.held a.own a.kept a.saved) t
-    ∙ ap (λ z. case_of b.test z a.own a.kept a.saved) h
-    ∙ ap (λ z. case_of b.test b.held z a.kept a.saved) o
-    ∙ ap (λ z. case_of b.test b.held b.own z a.saved) k
-    ∙ ap (λ z. case_of b.test b.held b.own b.kept z) s
+    ∙ ap (λ z. case_of b.test a.held a.own a.kept z) s
+    ∙ ap (λ z. case_of b.test z a.own a.kept b.saved) h
+    ∙ ap (λ z. case_of b.test b.held z a.kept b.saved) o
+    ∙ ap (λ z. case_of b.test b.held b.own z b.saved) k
 
 pub case-equal : (a b : Case) → Decides (case_eq.eq-value.it a b) (a ≡ b)
 case-equal a b =
-    Decides-like _ (case-parts-equal a b) (λ e. (ap (λ z. z.test) e, (ap (λ z. z.held) e, (ap (λ z. z.own) e, (ap (λ z. z.kept) e, ap (λ z. z.saved) e)))))
+    Decides-like _ (case-parts-equal a b) (λ e. (ap (λ z. z.test) e, (ap (λ z. z.saved) e, (ap (λ z. z.held) e, (ap (λ z. z.own) e, ap (λ z. z.kept) e)))))
     (Decides-and _ _ (test-equal a.test b.test)
+    (Decides-and _ _ (lists-equal test-equal a.saved b.saved)
     (Decides-and _ _ (lists-equal term-equal a.held b.held)
-    (Decides-and _ _ (lists-equal own-equal a.own b.own)
-    (Decides-and _ _ (lists-equal bytes_eq-Decides a.kept b.kept) (lists-equal test-equal a.saved b.saved)))))
+    (Decides-and _ _ (lists-equal own-equal a.own b.own) (lists-equal bytes_eq-Decides a.kept b.kept)))))
 
 exit-parts-equal : (a b : ExitCase) → (a.test ≡ b.test) × ((a.held ≡ b.held) × (a.kept ≡ b.kept)) → a ≡ b
 exit-parts-equal a b (t, (h, k)) = ap (λ z. exit_of z a.held a.kept) t ∙ ap (λ z. exit_of b.test z a.kept) h ∙ ap (λ z. exit_of b.test b.held z) k

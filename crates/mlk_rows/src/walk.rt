@@ -240,7 +240,7 @@ impl Walk {
         if !too_many(self.going.as_slice()) {
             return Ok(());
         }
-        let _ = self.take_going(alloc);
+        self.going = List::new(alloc);
         self.over = true;
         self.refuse(line, word, Code::TooManyCases, Mend::Nothing)
     }
