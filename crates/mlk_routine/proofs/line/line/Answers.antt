@@ -1,5 +1,6 @@
-use Rattle.std.proofs.Common.{◌<◌, ◌≤◌, ◌+◌, length, sym, ap, subst, refl, add-one, arith}
+use Rattle.std.proofs.Common.{◌<◌, ◌≤◌, ◌∙◌, length, sym, ap, subst, refl, add-one, arith}
 use Rattle.std.specs.Prelude.{is_some}
+use Rattle.mlk_text.specs.Places.{column_at}
 use Rattle.mlk_tree.specs.declared.routine.Line.{Line}
 use Rattle.mlk_tree.specs.declared.routine.Line.TheOpen.{Line-F}
 use Rattle.std.proofs.lemmas.Result.{err_from_is_err_and}
@@ -35,8 +36,8 @@ pub returns-clause-line : goal.returns-clause-line
 returns-clause-line c =
     let f = c.in_ok-front.front in
     let text = c.args.text.now in
-    let x : Line-F Line = record { number = c.args.number; level = c.unwrap_or-level.result; end = length text + 1; label = f.label; formals = f.formals; commands = c.in_ok-commands.commands; block = c.new.result } in
-    let made = head_made x c.args.number text f (commands_of c.in_ok-commands.commands) refl c.unwrap_or-level.ensures (add-one (length text)) refl refl refl in
+    let x : Line-F Line = record { number = c.args.number; level = c.unwrap_or-level.result; end = c.at.result; label = f.label; formals = f.formals; commands = c.in_ok-commands.commands; block = c.new.result } in
+    let made = head_made x c.args.number text f (commands_of c.in_ok-commands.commands) refl c.unwrap_or-level.ensures (c.at.ensures ∙ ap column_at (add-one (length text))) refl refl refl in
     subst (IsLineOnly c.args.number text) (sym made)
     (line_only text f c.in_ok-front.start c.in_ok-front.ensures (commands_of c.in_ok-commands.commands) c.in_ok-commands.ensures c.args.number (c.in_default.ensures.none refl))
 
