@@ -89,7 +89,7 @@ fn is_reached_at(
     };
     for case in draft.lists.cases(at) {
         if are_kept(ground, draft, case, probe.names)
-            && is_reached(ground, maker, draft, probe, at, case)?
+            && is_reached(ground, maker, draft, probe, round, case)?
         {
             return Ok(true);
         }

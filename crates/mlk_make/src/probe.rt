@@ -7,7 +7,7 @@ use crate::walk::{Site, Target, walk_site};
 use mlk_calls::{copy_case, is_among};
 use mlk_cert::limit::MOST_CASES;
 use mlk_cert::{Case, EntryCert, NameSet, Own, Point, Shared};
-use mlk_drafts::{At, Draft, copy_cases, copy_summed, round_number};
+use mlk_drafts::{Draft, copy_cases, copy_summed, round_number};
 use mlk_lines::LineFault;
 use mlk_rows::{Fault, Mend};
 use mlk_text::{LineNumber, List, Name, copy_of};
@@ -106,14 +106,14 @@ fn take_faults(
 fn points_of(
     alloc: Global,
     line: &Line,
-    at: At,
+    round: usize,
     case: &Case,
     entering: &List<Case>,
 ) -> Result<List<Point>, AllocError> {
     let mut points = List::new(alloc);
     points.push(Point {
-        line: at.line,
-        round: round_number(at.round)?,
+        line: line.number,
+        round: round_number(round)?,
         cases: copy_cases(alloc, slice::from_ref(case))?,
     })?;
     if let Some(first) = line.block.as_slice().first() {
@@ -154,7 +154,7 @@ fn is_reached_from(
     maker: &Maker,
     draft: &Draft,
     probe: &Probe<'_>,
-    at: At,
+    round: usize,
     case: &Case,
 ) -> Result<bool, AllocError> {
     let alloc = ground.alloc;
@@ -162,7 +162,7 @@ fn is_reached_from(
     let mut entering = List::new(alloc);
     for _ in 0..MOST_CASES {
         let before = entering.as_slice().len();
-        block.points = points_of(alloc, probe.site.line, at, case, &entering)?;
+        block.points = points_of(alloc, probe.site.line, round, case, &entering)?;
         if is_found(ground, maker, draft, probe, &block, &mut entering)? {
             return Ok(true);
         }
@@ -179,9 +179,9 @@ pub(crate) fn is_reached(
     maker: &Maker,
     draft: &Draft,
     probe: &Probe<'_>,
-    at: At,
+    round: usize,
     case: &Case,
 ) -> Result<bool, AllocError> {
     let case = without(ground.alloc, case, probe.names)?;
-    is_reached_from(ground, maker, draft, probe, at, &case)
+    is_reached_from(ground, maker, draft, probe, round, &case)
 }
