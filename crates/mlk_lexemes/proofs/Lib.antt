@@ -4,3 +4,4 @@ pub mod NameFormats
 pub mod TermFormats
 pub mod EntryFormats
 pub mod Room
+pub mod Words

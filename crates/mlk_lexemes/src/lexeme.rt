@@ -1,7 +1,6 @@
 // The smallest parts of lines.
 
-ghost use Rattle.std.specs.Prelude.{◌≡◌, ◌≤◌, ◌-◌, ◌++◌, suc, length, option_map, take, IfSome};
-ghost use Rattle.std.specs.Int.{w64, to_le_bytes};
+ghost use Rattle.std.specs.Prelude.{◌≡◌, ◌≤◌, ◌-◌, suc, length, option_map, take};
 ghost use Rattle.mlk_text.specs.Reading.{many};
 ghost use Rattle.mlk_text.specs.Failures.{Reads};
 ghost use Rattle.mlk_lexemes.specs.Lists.{upto, below};
@@ -13,47 +12,10 @@ use mlk_text::spelling::{label_text, name};
 use mlk_text::{Failure, NotThere, Value};
 use std::alloc::Global;
 
-// What is left after a word, where it stands at the front, byte by byte.
-fn after_bytes<'a>(word: &[u8], bytes: &'a [u8]) -> Option<&'a [u8]>
-    ensures { option_map (λ x. x.now) result ≡ strip word.now bytes.now }
-{
-    let mut left = word;
-    let mut rest = bytes;
-    while let Some((wanted, others)) = left.split_first() {
-        let Some((first, after)) = rest.split_first() else {
-            return None;
-        };
-        if *first != *wanted {
-            return None;
-        }
-        left = others;
-        rest = after;
-    }
-    Some(rest)
-}
-
-// The eight bytes at the front as one number, and what is after them.
-fn eight(bytes: &[u8]) -> Option<(u64, &[u8])>
-    ensures { IfSome result (λ x. bytes.now ≡ to_le_bytes w64 x.0 ++ x.1.now) }
-{
-    let (front, rest) = bytes.split_first_chunk()?;
-    Some((u64::from_le_bytes(*front), rest))
-}
-
-// The same, eight bytes at a time as long as there are so many.
 fn stripped<'a>(word: &[u8], bytes: &'a [u8]) -> Option<&'a [u8]>
     ensures { option_map (λ x. x.now) result ≡ strip word.now bytes.now }
 {
-    let mut left = word;
-    let mut rest = bytes;
-    while let (Some((wanted, others)), Some((first, after))) = (eight(left), eight(rest)) {
-        if first != wanted {
-            return None;
-        }
-        left = others;
-        rest = after;
-    }
-    after_bytes(left, rest)
+    bytes.strip_prefix(word)
 }
 
 /// What is left after this word, where it stands at the front.

@@ -93,23 +93,11 @@ impl<T> List<T> {
     }
 }
 
-/// Whether two lists have the same elements in the same order. Most that are compared have few elements.
+/// Whether two lists have the same elements in the same order.
 pub fn are_equal<T: PartialEq>(items: &[T], others: &[T]) -> bool
     ensures { result ≡ pointwise T.eq items.now others.now }
 {
-    let mut left = items;
-    let mut left_others = others;
-    while let Some((item, rest)) = left.split_first() {
-        let Some((other, rest_others)) = left_others.split_first() else {
-            return false;
-        };
-        if *item != *other {
-            return false;
-        }
-        left = rest;
-        left_others = rest_others;
-    }
-    left_others.is_empty()
+    items == others
 }
 
 /// Adds an item at the end. Room is made for one item first, and then for as many as there are, since most lists of a

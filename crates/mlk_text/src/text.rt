@@ -1,6 +1,6 @@
 // The bytes of names and values. Most are short, and then stand in the struct itself.
 
-ghost use Rattle.std.specs.Prelude.{◌≡◌, ◌≤◌, IfOk, IfSome, IsTrue, length, take, bytes_eq};
+ghost use Rattle.std.specs.Prelude.{◌≡◌, ◌≤◌, IfOk, length, take, bytes_eq};
 ghost use Rattle.std.specs.Int.{w64, to_le_bytes};
 ghost use Rattle.mlk_text.specs.Texts.{bytes_of, name_bytes_of};
 
@@ -13,44 +13,26 @@ const MOST_SHORT: usize = 23;
 // How many bytes of a name do: most are shorter, and a tree of a routine has very many of them.
 const MOST_SHORT_NAME: usize = 14;
 
-// Whether the bytes are the same. Most of those that are compared are few, or differ early.
+// Whether the bytes are the same.
 fn are_same(bytes: &[u8], others: &[u8]) -> bool
     ensures { result ≡ bytes_eq bytes.now others.now }
 {
-    let mut left = bytes;
-    let mut left_others = others;
-    while let Some((byte, rest)) = left.split_first() {
-        let Some((other, rest_others)) = left_others.split_first() else {
-            return false;
-        };
-        if *byte != *other {
-            return false;
-        }
-        left = rest;
-        left_others = rest_others;
-    }
-    left_others.is_empty()
+    bytes == others
 }
 
-// The first eight bytes as one number, where there are so many.
-fn first_word(bytes: &[u8]) -> Option<u64>
-    ensures { IfSome result (λ n. to_le_bytes w64 n ≡ take 8 bytes.now) }
+// The first eight bytes as one number.
+#[inline(always)]
+fn first_word(bytes: &[u8]) -> u64
+    requires { 8 ≤ length bytes.now }
+    ensures { to_le_bytes w64 result ≡ take 8 bytes.now }
 {
-    let (word, _) = bytes.split_first_chunk()?;
-    Some(u64::from_le_bytes(*word))
-}
-
-// Whether the first eight bytes are the same, where there are so many: they are compared as one number.
-fn have_same_word(bytes: &[u8], others: &[u8]) -> bool
-    ensures { IsTrue result → take 8 bytes.now ≡ take 8 others.now }
-{
-    match (first_word(bytes), first_word(others)) {
-        (Some(word), Some(other)) => word == other,
-        _ => false,
+    match bytes.split_first_chunk() {
+        Some((word, _)) => u64::from_le_bytes(*word),
+        None => 0,
     }
 }
 
-/// Up to N bytes.
+/// Up to N bytes, eight at least. What stands after them is zero, so that few of them can be compared as one number.
 #[derive(Debug, Drop)]
 pub(crate) struct Short<const N: usize> {
     bytes: [u8; N],
@@ -58,19 +40,20 @@ pub(crate) struct Short<const N: usize> {
 }
 
 impl<const N: usize> Model for Short<N> {
-    ghost use Rattle.std.specs.Prelude.{List, ℕ, take, ◌≤◌};
+    ghost use Rattle.std.specs.Prelude.{List, ℕ, take, drop, replicate, ◌≡◌, ◌≤◌, ◌-◌};
 
     ghost Value = { List ℕ };
 
     ghost view = { λ s. take s.length s.bytes };
 
-    ghost invariant = { λ s. s.length ≤ N };
+    ghost invariant = { λ s. (8 ≤ N) × (s.length ≤ N) × (drop s.length s.bytes ≡ replicate (N - s.length) 0) };
 }
 
 impl<const N: usize> Short<N> {
     fn new(bytes: &[u8]) -> Short<N>
         requires fits { length bytes.now ≤ N }
-        requires few { N ≤ 255 }
+        requires least { 8 ≤ N }
+        requires most { N ≤ 255 }
         ensures { result ≡ bytes.now }
     {
         let mut kept = [0; N];
@@ -89,15 +72,15 @@ impl<const N: usize> Short<N> {
         front
     }
 
-    // Whether the bytes are the same. Most are eight at most, which are the same where the eight that stand here are.
+    // Whether the bytes are the same. Most are eight at most, with what stands after them.
     fn is_same(&self, other: &Short<N>) -> bool
         ensures { result ≡ bytes_eq self.now other.now }
     {
         if self.length != other.length {
             return false;
         }
-        if self.length <= 8 && have_same_word(&self.bytes, &other.bytes) {
-            return true;
+        if self.length <= 8 {
+            return first_word(&self.bytes) == first_word(&other.bytes);
         }
         are_same(self.as_bytes(), other.as_bytes())
     }
