@@ -73,7 +73,7 @@ pub(crate) fn listed<T: Item>(
 {
     let (first, mut next) = T::read(alloc, line, at)?;
     let mut items = Vec::with_capacity(alloc, 1)?;
-    items.push(first)?;
+    items.push_reserved(first);
     while has(line, next, b',') {
         let (item, end) = T::read(alloc, line, next + 1)?;
         push_sparing(&mut items, item)?;
@@ -135,6 +135,6 @@ pub(crate) fn one_or_enclosed<T: Item>(
     }
     let (item, next) = T::read(alloc, line, at)?;
     let mut items = Vec::with_capacity(alloc, 1)?;
-    items.push(item)?;
+    items.push_reserved(item);
     Ok((items, next))
 }

@@ -269,6 +269,7 @@ impl Item for Target {
 
     ghost begin = { target_begins };
 
+    #[inline(always)]
     fn read(alloc: Global, line: &[u8], at: usize) -> Result<(Target, usize), Failure<Fault>> {
         target(alloc, line, at)
     }
@@ -287,6 +288,7 @@ impl Item for SetArgument {
 
     ghost begin = { set_begins };
 
+    #[inline(always)]
     fn read(alloc: Global, line: &[u8], at: usize) -> Result<(SetArgument, usize), Failure<Fault>> {
         set(alloc, line, at)
     }

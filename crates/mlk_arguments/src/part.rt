@@ -42,6 +42,7 @@ pub(crate) fn stops(line: &[u8], at: usize) -> bool
 }
 
 /// The expression here, and the byte after it.
+#[inline(always)]
 pub fn expression(
     alloc: Global,
     allows: Allows,
@@ -59,6 +60,7 @@ pub fn expression(
 }
 
 /// An expression after this byte, where it stands here.
+#[inline(always)]
 pub fn after(
     alloc: Global,
     first: u8,
@@ -77,6 +79,7 @@ pub fn after(
 }
 
 /// The local or global here, with its subscripts, and the byte after it.
+#[inline(always)]
 pub(crate) fn variable(
     alloc: Global,
     allows: Allows,

@@ -132,6 +132,7 @@ fn part_target(alloc: Global, line: &[u8], at: usize) -> Result<(Target, usize),
 }
 
 /// The target here, and the byte after it.
+#[inline(always)]
 pub(crate) fn target(
     alloc: Global,
     line: &[u8],
@@ -148,6 +149,7 @@ pub(crate) fn target(
 }
 
 /// The argument of SET here, and the byte after it.
+#[inline(always)]
 pub(crate) fn set(
     alloc: Global,
     line: &[u8],

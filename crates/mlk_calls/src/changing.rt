@@ -40,6 +40,7 @@ pub(crate) fn mark_all(
 }
 
 /// The case after a change of names: they lose the values of the call's begin.
+#[inline(always)]
 pub(crate) fn changed_case(alloc: Global, names: &[NameSet], case: Case) -> Result<Case, AllocError>
     ensures { IfOk result (λ c. c ≡ without_kept names.now case) }
 {

@@ -123,7 +123,13 @@ fn routines_of<W: Watch>(
     while let Some(source) = left.next() {
         watch.see(Stage::Reading, routines.len(), count);
         let Source { stem, text } = source;
-        routines.push(read_routine(alloc, stem, text.as_slice())?)?;
+        match read_routine(alloc, stem, text.as_slice()) {
+            Ok(routine) => routines.push(routine)?,
+            Err(failure) => {
+                watch.discard(routines);
+                return Err(failure);
+            }
+        }
     }
     Ok(routines)
 }
@@ -321,6 +327,11 @@ pub(crate) fn check_texts<W: Watch>(
         routines: files,
     } = sources;
     let routines = routines_of(alloc, files, watch)?;
-    let outcome = outcome_of(alloc, routines.as_slice(), rules.as_slice(), &work, watch)?;
-    Ok(Checked { routines, outcome })
+    match outcome_of(alloc, routines.as_slice(), rules.as_slice(), &work, watch) {
+        Ok(outcome) => Ok(Checked { routines, outcome }),
+        Err(refusal) => {
+            watch.discard(routines);
+            Err(refusal)
+        }
+    }
 }

@@ -23,6 +23,7 @@ use mlk_values::canonical;
 use std::alloc::{AllocError, Global};
 
 /// The name at the front, and what is after it.
+#[inline(always)]
 pub(crate) fn name(alloc: Global, bytes: &[u8]) -> Result<(Name, &[u8]), Failure<Offence>>
     ensures { Reads (λ x. (x.0, x.1.now)) result (name_at bytes.now) }
 {
@@ -46,6 +47,7 @@ fn no_text(bytes: &[u8]) -> Failure<Offence>
 }
 
 /// The value up to the closing quote, and what is after it.
+#[inline(always)]
 pub(crate) fn quoted(alloc: Global, bytes: &[u8]) -> Result<(Value, &[u8]), Failure<Offence>>
     ensures { Reads (λ x. (x.0, x.1.now)) result (inside bytes.now) }
 {
@@ -57,6 +59,7 @@ pub(crate) fn quoted(alloc: Global, bytes: &[u8]) -> Result<(Value, &[u8]), Fail
 }
 
 /// The text up to the closing quote, and what is after it.
+#[inline(always)]
 pub(crate) fn text(alloc: Global, bytes: &[u8]) -> Result<(Expr, &[u8]), Failure<Offence>>
     ensures { Reads (λ x. (tree_of x.0, x.1.now)) result (with Lit (inside bytes.now)) }
 {
@@ -65,6 +68,7 @@ pub(crate) fn text(alloc: Global, bytes: &[u8]) -> Result<(Expr, &[u8]), Failure
 }
 
 // The tree of a numeric literal.
+#[inline(always)]
 fn number_of(alloc: Global, text: &[u8]) -> Result<Expr, AllocError>
     ensures { IfOk result (λ e. tree_of e ≡ number_of text.now) }
 {
@@ -75,6 +79,7 @@ fn number_of(alloc: Global, text: &[u8]) -> Result<Expr, AllocError>
 }
 
 /// The numeric literal at the front, and what is after it.
+#[inline(always)]
 pub(crate) fn number(alloc: Global, bytes: &[u8]) -> Result<(Expr, &[u8]), Failure<Offence>>
     ensures { Reads (λ x. (tree_of x.0, x.1.now)) result (with number_of (numeral_at bytes.now)) }
 {
@@ -148,6 +153,7 @@ pub(crate) fn callee(alloc: Global, bytes: &[u8]) -> Result<(Callee, &[u8]), Fai
 }
 
 /// The name of a global after its caret, at which the whole begins, and what is after it.
+#[inline(always)]
 pub(crate) fn global_name<'a>(
     alloc: Global,
     allows: Allows,

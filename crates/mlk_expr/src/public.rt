@@ -25,6 +25,7 @@ use std::alloc::Global;
 const DEEPEST: u8 = 64;
 
 #[tactic(auto, unfolding(crate::specs::Reading::expr_in))]
+#[inline(always)]
 fn expr(alloc: Global, scope: Scope, bytes: &[u8]) -> Result<(Expr, &[u8]), Failure<Offence>>
     ensures { Reads (λ x. (tree_of x.0, x.1.now)) result (expr_in scope bytes.now) }
 {
@@ -36,6 +37,7 @@ fn expr(alloc: Global, scope: Scope, bytes: &[u8]) -> Result<(Expr, &[u8]), Fail
 }
 
 #[tactic(auto, unfolding(crate::specs::Reading::reference_in))]
+#[inline(always)]
 fn reference(alloc: Global, scope: Scope, bytes: &[u8]) -> Result<(Expr, &[u8]), Failure<Offence>>
     ensures { Reads (λ x. (tree_of x.0, x.1.now)) result (reference_in scope bytes.now) }
 {
@@ -77,6 +79,7 @@ pub fn read_expr(alloc: Global, line: &[u8], at: usize) -> Result<(Expr, usize),
 }
 
 /// The same where not everything may stand.
+#[inline(always)]
 pub fn read_expr_where(
     alloc: Global,
     allows: Allows,
@@ -113,6 +116,7 @@ pub fn read_ref(alloc: Global, line: &[u8], at: usize) -> Result<(Expr, usize), 
 }
 
 /// The same where not everything may stand in its subscripts.
+#[inline(always)]
 pub fn read_ref_where(
     alloc: Global,
     allows: Allows,

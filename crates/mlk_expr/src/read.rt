@@ -105,6 +105,7 @@ fn prefixed(
 }
 
 #[cycle(reading)]
+#[inline(always)]
 fn operand(alloc: Global, scope: Scope, bytes: &[u8]) -> Result<(Expr, &[u8]), Failure<Offence>>
     ensures { Reads (λ x. (tree_of x.0, x.1.now)) result (operand_in scope bytes.now) }
 {
@@ -125,6 +126,7 @@ fn operand(alloc: Global, scope: Scope, bytes: &[u8]) -> Result<(Expr, &[u8]), F
 
 /// The operand at the front that nests so deep at most, and what is after it.
 #[cycle(reading)]
+#[inline(always)]
 pub(crate) fn atom(
     alloc: Global,
     scope: Scope,

@@ -5,6 +5,7 @@ ghost use Rattle.mlk_routine.specs.RoutineGrammar.{level_of};
 ghost use Rattle.mlk_tree.specs.Views.{line_of, lines_from};
 ghost use Rattle.mlk_routine.specs.Lines.{head_of, Upto, IsBlock, IsNotDeeper};
 
+use mlk_text::push_sparing;
 use mlk_tree::Line;
 use std::alloc::{AllocError, Global};
 use std::collections::VecDeque;
@@ -34,7 +35,7 @@ pub(crate) fn block(
     let mut found = Vec::new(alloc);
     while let Some(mut line) = deeper(level, lines) {
         line.block = block(alloc, line.level, lines)?;
-        found.push(line)?;
+        push_sparing(&mut found, line)?;
     }
     found.shrink_to_fit();
     Ok(found)

@@ -141,6 +141,7 @@ macro_rules! turned {
 }
 
 /// What a command of this word does, from the byte after its postconditional, and the byte after it.
+#[inline(always)]
 fn action(
     alloc: Global,
     word: Word,

@@ -1,6 +1,6 @@
 // The commands of a line.
 
-ghost use Rattle.std.specs.Prelude.{◌≡◌, ◌≤◌, ◌==◌, ◌&&◌, length, drop, option_map, map, is_some, IfOk, true};
+ghost use Rattle.std.specs.Prelude.{◌≡◌, ◌≤◌, ◌==◌, ◌&&◌, ◌++◌, ◌∷◌, [], length, drop, option_map, map, is_some, IfOk, OnOk, true};
 ghost use Rattle.mlk_text.specs.Lexemes.{word_at};
 ghost use Rattle.mlk_arguments.specs.Told.{Told};
 ghost use Rattle.mlk_arguments.specs.CommandWords.{is_for};
@@ -47,6 +47,16 @@ fn is_for_here(line: &[u8], at: usize) -> bool
     is_for(letters)
 }
 
+// Adds a command. Most lines have one or two, so there is room for two where the first is not the last.
+fn add(before: &mut Vec<Command>, read: Command, is_last: bool) -> Result<(), AllocError>
+    ensures { OnOk result (before.new.items ≡ before.old.items ++ read ∷ []) }
+{
+    if before.is_empty() && !is_last {
+        before.reserve_exact(2)?;
+    }
+    push_sparing(before, read)
+}
+
 // The commands from here on before the next FOR, or all, and the byte after them and the spaces there.
 fn before_for(
     alloc: Global,
@@ -61,8 +71,8 @@ fn before_for(
     let mut next = at;
     while !is_commands_end(line, next) && !is_for_here(line, next) {
         let (read, end) = command(alloc, inside.returns(), line, next)?;
-        push_sparing(&mut before, read)?;
         next = past_spaces(line, end);
+        add(&mut before, read, is_commands_end(line, next))?;
     }
     Ok((before, next))
 }

@@ -61,6 +61,7 @@ fn all_but_last(subs: &[Sym]) -> &[Sym]
     before
 }
 
+#[inline(always)]
 fn reference_to(
     alloc: Global,
     extent: Extent,
@@ -137,6 +138,7 @@ impl<'a> Touch<'a> {
 }
 
 /// What becomes of a state of which a fault was found, or none.
+#[inline(always)]
 pub fn covered_or(
     spot: &Spot,
     column: Column,

@@ -19,6 +19,7 @@ pub trait Row {
 }
 
 /// The row, for each state that goes on. Mostly there is one, whose place another can take.
+#[inline(always)]
 pub fn each<R: Row>(alloc: Global, row: &R, walk: &mut Walk) -> Result<(), AllocError>
     ensures { OnOk result (walk.new ≡ each (R.outcomes row.now) walk.old) }
 {

@@ -127,6 +127,7 @@ fn is_among(states: &[State], state: &State) -> bool
 }
 
 /// One more state, where it isn't there yet.
+#[inline(always)]
 pub fn put(states: &mut List<State>, state: State) -> Result<(), AllocError>
     ensures { OnOk result (states.new ≡ put state states.old) }
 {
@@ -169,6 +170,7 @@ pub fn too_many(states: &[State]) -> bool
 
 impl Walk {
     /// A state goes on.
+    #[inline(always)]
     pub fn go(&mut self, state: State) -> Result<(), AllocError>
         ensures { OnOk result (self.new ≡ add (Goes state) self.old) }
     {
@@ -213,6 +215,7 @@ impl Walk {
     }
 
     /// The state that goes on, where there is just one: it is taken out, and its room stays.
+    #[inline(always)]
     pub fn take_only(&mut self) -> Option<State>
         ensures { MatchOption result (self.new ≡ self.old)
             (λ s. (self.old.going ≡ s ∷ []) × (self.new ≡ with_states [] self.old)) }

@@ -8,3 +8,4 @@ pub mod PointOrder
 pub mod CaseTests
 pub mod HeldTerms
 pub mod NameLaws
+pub mod ChainSymbols

@@ -24,6 +24,7 @@ pub struct Refusal {
 }
 
 /// A case that is equal to this one, and shares its lists.
+#[inline(always)]
 pub fn copy_case(case: &Case) -> Result<Case, AllocError>
     ensures { IfOk result (λ c. c ≡ case.now) }
 {
@@ -64,6 +65,7 @@ impl State {
     }
 
     /// The state without the last so many captured symbols.
+    #[inline(always)]
     pub fn without_last(self, count: usize) -> State
         ensures { result ≡ without_last count self }
     {
@@ -77,6 +79,7 @@ impl State {
     }
 
     /// An equal state, which shares its lists.
+    #[inline(always)]
     pub fn copy(&self) -> Result<State, AllocError>
         ensures { IfOk result (λ s. s ≡ self.now) }
     {

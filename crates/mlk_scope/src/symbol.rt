@@ -75,7 +75,7 @@ fn local_symbol(shared: bool, name: &Name, subscripts: &[Subscript]) -> Result<S
     }
 }
 
-// Operands after the first, each applied to what stands before it.
+// Operands after the first, each applied to what stands before it. Once that is no constant, the whole is unknown.
 #[cycle(symbols)]
 fn chain_symbol(
     alloc: Global,
@@ -88,6 +88,9 @@ fn chain_symbol(
 {
     let mut symbol = first;
     for (op, operand) in rest {
+        let Sym::Const(_) = &symbol else {
+            return Ok(Sym::Unknown);
+        };
         let right = symbol_of(alloc, scope, state, operand)?;
         symbol = between_symbols(alloc, *op, symbol, right)?;
     }

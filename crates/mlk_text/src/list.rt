@@ -64,13 +64,15 @@ impl<T> List<T> {
     }
 
     /// One more element, at the end.
+    #[inline(always)]
     pub fn push(&mut self, item: T) -> Result<(), AllocError>
     where
         T: Drop,
         ensures ok { OnOk result (self.new ≡ self.old ++ item ∷ []) }
         ensures err { OnErr result (self.new ≡ self.old) }
     {
-        self.items.push(item)?;
+        self.items.reserve(1)?;
+        self.items.push_reserved(item);
         Ok(())
     }
 }
@@ -102,13 +104,14 @@ pub fn are_equal<T: PartialEq>(items: &[T], others: &[T]) -> bool
 
 /// Adds an item at the end. Room is made for one item first, and then for as many as there are, since most lists of a
 /// routine have one item or two.
+#[inline(always)]
 pub fn push_sparing<T: Drop>(items: &mut Vec<T>, item: T) -> Result<(), AllocError>
     ensures { OnOk result (items.new.items ≡ items.old.items ++ item ∷ []) }
 {
     if items.len() == items.capacity() {
         items.reserve_exact(items.len().max(1))?;
     }
-    items.push(item)?;
+    items.push_reserved(item);
     Ok(())
 }
 

@@ -25,6 +25,7 @@ impl Model for Name {
 
 impl Name {
     /// The name with these bytes. Up to 14 of them take no memory beside the name itself.
+    #[inline(always)]
     pub fn of(alloc: Global, bytes: &[u8]) -> Result<Name, AllocError>
         ensures { IfOk result (λ name. name ≡ bytes.now) }
     {
@@ -51,6 +52,7 @@ impl Name {
 impl Clone for Name {
     ghost is_clone = { λ source clone. clone ≡ source };
 
+    #[inline(always)]
     fn clone(&self) -> Result<Name, AllocError> {
         Ok(Name {
             text: self.text.copy()?,

@@ -50,6 +50,7 @@ impl<const N: usize> Model for Short<N> {
 }
 
 impl<const N: usize> Short<N> {
+    #[inline(always)]
     fn new(bytes: &[u8]) -> Short<N>
         requires fits { length bytes.now ≤ N }
         requires least { 8 ≤ N }
@@ -153,6 +154,7 @@ pub(crate) enum NameText {
 
 impl NameText {
     /// The text with these bytes.
+    #[inline(always)]
     pub(crate) fn new(alloc: Global, bytes: &[u8]) -> Result<NameText, AllocError>
         ensures { IfOk result (λ t. name_bytes_of t ≡ bytes.now) }
     {

@@ -66,6 +66,7 @@ impl MadeWith<Global> for Value {
 impl Clone for Value {
     ghost is_clone = { λ source clone. clone ≡ source };
 
+    #[inline(always)]
     fn clone(&self) -> Result<Value, AllocError> {
         Ok(Value {
             text: self.text.copy()?,

@@ -45,6 +45,7 @@ fn arithmetic_of(b: u8) -> Option<Op>
 }
 
 #[tactic(auto, unfolding(crate::specs::Lexemes::relation_of))]
+#[inline(always)]
 fn relation_of(b: u8) -> Option<Relation>
     ensures { result ≡ relation_of b }
 {
@@ -63,6 +64,7 @@ fn relation_of(b: u8) -> Option<Relation>
 
 // The relation at the front, and what is after it.
 #[tactic(auto, unfolding(crate::specs::Lexemes::relation_at))]
+#[inline(always)]
 fn relation_at(bytes: &[u8]) -> Option<(Relation, &[u8])>
     ensures { option_map (λ x. (x.0, x.1.now)) result ≡ relation_at bytes.now }
 {
@@ -139,6 +141,7 @@ pub fn unary_of(b: u8) -> Option<UnaryOp>
 
 /// What this byte begins.
 #[tactic(auto, unfolding(crate::specs::Lexemes::kind_of))]
+#[inline(always)]
 pub fn kind_of(b: u8) -> Kind
     ensures { result ≡ kind_of b }
 {

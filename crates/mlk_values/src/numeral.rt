@@ -81,6 +81,9 @@ fn is_exact(before: &[u8], after: &[u8]) -> bool
     if before.len() > MOST_DIGITS || after.len() > MOST_DIGITS {
         return false;
     }
+    if before.len() + after.len() <= MOST_SIGNIFICANT {
+        return true;
+    }
     up_to_last(before, after) <= leading_zeros(before, after) + MOST_SIGNIFICANT
 }
 

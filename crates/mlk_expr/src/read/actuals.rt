@@ -14,7 +14,7 @@ use crate::read::chain;
 use crate::refusal::{Offence, Wrong, no_actual, no_actuals_end, no_call, refused};
 use crate::scope::{Passing, Scope};
 use mlk_text::lexeme::byte_of;
-use mlk_text::{Failure, likely_length};
+use mlk_text::{Failure, likely_length, push_sparing};
 use mlk_tokens::lexeme::{column_of, is_missing};
 use mlk_tree::{Actual, Expr};
 use std::alloc::Global;
@@ -101,11 +101,11 @@ fn actuals_rest(
         (suc (length bytes.now)) bytes.now)) }
 {
     let mut found = Vec::with_capacity(alloc, likely_length(b',', b')', bytes))?;
-    found.push(first)?;
+    push_sparing(&mut found, first)?;
     let mut rest = bytes;
     while let Some(after) = byte_of(b',', rest) {
         let (item, after) = actual(alloc, scope, passing, after)?;
-        found.push(item)?;
+        push_sparing(&mut found, item)?;
         rest = after;
     }
     Ok((found, rest))

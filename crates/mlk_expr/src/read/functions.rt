@@ -18,7 +18,7 @@ use crate::refusal::{
 };
 use crate::scope::{Allows, Scope};
 use mlk_text::lexeme::{byte_of, word_at};
-use mlk_text::{Failure, likely_length};
+use mlk_text::{Failure, likely_length, push_sparing};
 use mlk_tokens::lexeme::starts_reference;
 use mlk_tokens::words::{function_of, is_select, special_of};
 use mlk_tree::{Expr, Function};
@@ -49,11 +49,11 @@ fn exprs_rest(
         (put (tree_of first ∷ []) (many (byte_at 44) (next (nested_in scope)) (suc (length bytes.now)) bytes.now)) }
 {
     let mut found = Vec::with_capacity(alloc, likely_length(b',', b')', bytes))?;
-    found.push(first)?;
+    push_sparing(&mut found, first)?;
     let mut rest = bytes;
     while let Some(after) = byte_of(b',', rest) {
         let (item, after) = chain(alloc, scope, after)?;
-        found.push(item)?;
+        push_sparing(&mut found, item)?;
         rest = after;
     }
     Ok((found, rest))
@@ -73,14 +73,14 @@ fn others(
         (many (byte_at 44) (next (nested_in scope)) (suc (length bytes.now)) bytes.now))) }
 {
     let mut found = Vec::with_capacity(alloc, likely_length(b',', b')', bytes))?;
-    found.push(first)?;
+    push_sparing(&mut found, first)?;
     let mut rest = bytes;
     while let Some(after) = byte_of(b',', rest) {
         if found.len() > most {
             return Err(refused(Wrong::Form, rest));
         }
         let (item, after) = chain(alloc, scope, after)?;
-        found.push(item)?;
+        push_sparing(&mut found, item)?;
         rest = after;
     }
     Ok((found, rest))
@@ -166,11 +166,11 @@ fn choices_rest(
         (many (byte_at 44) (next (choice_with (nested_in scope))) (suc (length bytes.now)) bytes.now)) }
 {
     let mut found = Vec::with_capacity(alloc, likely_length(b',', b')', bytes))?;
-    found.push(first)?;
+    push_sparing(&mut found, first)?;
     let mut rest = bytes;
     while let Some(after) = byte_of(b',', rest) {
         let (item, after) = choice(alloc, scope, after)?;
-        found.push(item)?;
+        push_sparing(&mut found, item)?;
         rest = after;
     }
     Ok((found, rest))

@@ -15,7 +15,7 @@ use crate::refusal::{Offence, Wrong, no_end, refused};
 use crate::scope::Scope;
 use mlk_text::lexeme::byte_of;
 use mlk_text::limit::MOST_SUBSCRIPTS;
-use mlk_text::{Failure, likely_length};
+use mlk_text::{Failure, likely_length, push_sparing};
 use mlk_tokens::lexeme::column_of;
 use mlk_tree::{Expr, Subscript};
 use std::alloc::Global;
@@ -64,14 +64,14 @@ fn subs_rest(
         (many (byte_at 44) (next (placed scope.end (nested_in scope))) (suc (length bytes.now)) bytes.now))) }
 {
     let mut found = Vec::with_capacity(alloc, likely_length(b',', b')', bytes))?;
-    found.push(first)?;
+    push_sparing(&mut found, first)?;
     let mut rest = bytes;
     while let Some(after) = byte_of(b',', rest) {
         if found.len() == MOST_SUBSCRIPTS {
             return Err(refused(Wrong::Form, rest));
         }
         let (item, after) = subscript(alloc, scope, after)?;
-        found.push(item)?;
+        push_sparing(&mut found, item)?;
         rest = after;
     }
     Ok((found, rest))
@@ -80,6 +80,7 @@ fn subs_rest(
 /// The subscripts at the front, which may be none, and what is after them.
 #[tactic(auto, unfolding(crate::specs::Reading::subs_with))]
 #[cycle(reading)]
+#[inline(always)]
 pub(crate) fn subscripts(
     alloc: Global,
     scope: Scope,
@@ -95,6 +96,7 @@ pub(crate) fn subscripts(
 
 /// A local with its subscripts.
 #[cycle(reading)]
+#[inline(always)]
 pub(crate) fn local(
     alloc: Global,
     scope: Scope,
@@ -109,6 +111,7 @@ pub(crate) fn local(
 
 /// A global with its subscripts after its caret, at which the whole begins.
 #[cycle(reading)]
+#[inline(always)]
 pub(crate) fn global<'a>(
     alloc: Global,
     scope: Scope,

@@ -16,7 +16,7 @@ returns-in_err-first t c =
 
 pub loop-alloc-init : goal.loop-alloc-init
 loop-alloc-init t c =
-    let e : c.push.new.self.items ≡ c.in_ok-first.first ∷ [] = c.in_ok-push.ensures.items ∙ ap (λ l. l ++ c.in_ok-first.first ∷ []) c.in_ok-items.ensures.items in
+    let e : c.push_reserved.new.self.items ≡ c.in_ok-first.first ∷ [] = c.push_reserved.ensures.items ∙ ap (λ l. l ++ c.in_ok-first.first ∷ []) c.in_ok-items.ensures.items in
     subst (λ l. SoFar t.T.Item.is t.T.Item.ends t.T.Item.stop c.args.line.now c.args.at (map t.T.Item.seen l) c.in_ok-first.next) (sym e)
     (begun t.T.Item.is t.T.Item.ends t.T.Item.stop c.args.line.now c.args.at c.requires (t.T.Item.seen c.in_ok-first.first) c.in_ok-first.next c.in_ok-first.ensures)
 

@@ -20,6 +20,6 @@ loop-line-preserved t c =
     let more = map head_of c.deeper.new.lines.items in
     let left = map head_of c.block.new.lines.items in
     let is : IsBlock (level_of (head_of l)) (lines_from (map line_of inside.items)) more left = subst (λ n. IsBlock n (lines_from (map line_of inside.items)) more left) (sym (level_out l)) c.in_ok-line.ensures in
-    let items = ap (map line_of) c.in_ok-push.ensures.items ∙ map-append line_of c.loop-line.found.items (roll-Line x ∷ []) ∙ ap (λ p. map line_of c.loop-line.found.items ++ p ∷ []) made in
+    let items = ap (map line_of) c.in_ok-push_sparing.ensures ∙ map-append line_of c.loop-line.found.items (roll-Line x ∷ []) ∙ ap (λ p. map line_of c.loop-line.found.items ++ p ∷ []) made in
     subst (λ k. BlocksSoFar c.args.level start k left) (sym items)
     (one_block c.args.level start (map line_of c.loop-line.found.items) (map head_of c.loop-line.lines.items) c.loop-line.invariant (head_of l) more (ap (map head_of) c.in-Some.ensures.0) c.in-Some.ensures.1 (lines_from (map line_of inside.items)) left is)
