@@ -1,22 +1,22 @@
 -- What is refused on the way from texts to a report.
-use Rattle.std.proofs.Common.{◌≡◌, ℕ, ◌++◌, List, [], ◌∷◌, Result, Ok, Err, Option, Some, None, sym, ap, ◌∙◌, subst, inl, inr}
+use Rattle.std.proofs.Common.{◌≡◌, ℕ, ◌++◌, List, [], ◌∷◌, Result, Ok, Err, Some, None, sym, ap, ◌∙◌, inl, inr}
 use Rattle.std.specs.Prelude.{IfOk, IfErr, find}
 use Rattle.mlk_text.specs.declared.failure.Failure.{Failure}
 use Rattle.mlk_text.specs.declared.failure.Failure.TheVariants as failure
 use Rattle.mlk_text.specs.declared.fault.Fault.{Fault}
 use Rattle.mlk_tree.specs.Trees.{RoutineTree}
-use Rattle.mlk_routine.specs.Refusals.{NoRoutine, Places}
-use Rattle.mlk_program.specs.Program.{IsProgram, IsLinkFault}
+use Rattle.mlk_program.specs.Program.{IsLinkFault}
 use Rattle.mlk_program.specs.Linking.{IfRefused}
 use Rattle.mlk_coverage.specs.declared.rules.RuleLists.{RuleLists}
-use Rattle.mlk_rules.specs.RuleSections.{SaysRules, RefusesRules}
+use Rattle.mlk_rules.specs.RuleSections.{RefusesRules}
 use Rattle.mlk_rules.specs.declared.read.fault.RulesFault.{RulesFault}
 use Rattle.mlk_cert.specs.declared.read.fault.CertFault.{CertFault}
 use Rattle.mlk_blocks.specs.declared.block.EntryCert.{EntryCert}
 use Rattle.mlk_cert.specs.Theorem.{Spells, IsReading}
 use Rattle.mlk_cert.specs.Refusals.{IsPlaced}
 use Rattle.mlk_make.specs.Missing.{is_missing}
-use Rattle.mlk_command.specs.declared.source.Source.{Source}
+use Rattle.mlk_readers.specs.declared.source.Source.{Source}
+use Rattle.mlk_readers.specs.Reading.{RefusesFirst}
 use Rattle.mlk_command.specs.declared.source.Work.{Work}
 use Rattle.mlk_command.specs.declared.source.Work.TheVariants as work
 use Rattle.mlk_command.specs.declared.checked.Refusal.{Refusal}
@@ -26,29 +26,7 @@ use Rattle.mlk_program.specs.declared.entry.EntryId.{EntryId}
 use Rattle.mlk_replay.specs.declared.fault.EventsFault.{EventsFault}
 use Rattle.mlk_replay.specs.Files.{ReplayedFile}
 use Rattle.mlk_command.specs.Replayed.{IsUndeclared, IsStopped}
-use Rattle.mlk_command.specs.Checked.{IsRead, AreRead, IsFirst, IsStuck, IsUnmade, IsMade, IsRefusalOfWork, IsRefusalBy, IsRefusalWith, IsRefusalUnder, IsRefusalOf, refusal_of_routine, refusal_of_rules, refusal_of_certificate, refusal_of_events, RefusesFirst, TellsEntry}
-
--- one routine more is read
-pub read-one-more : (sources : List Source) (trees : List RoutineTree) (source : Source) (tree : RoutineTree) → AreRead sources trees → IsRead source tree → AreRead (sources ++ source ∷ []) (trees ++ tree ∷ [])
-read-one-more [] [] source tree read here = (here, record {})
-read-one-more [] (t ∷ trees) source tree read here = absurd read
-read-one-more (s ∷ sources) [] source tree read here = absurd read
-read-one-more (s ∷ sources) (t ∷ trees) source tree read here = (read.0, read-one-more sources trees source tree read.1 here)
-
-pub first-refused : (sources front after : List Source) (source : Source) (trees : List RoutineTree) (e : Failure Fault)
-    → sources ≡ front ++ source ∷ after → AreRead front trees → NoRoutine source.stem.now source.text.items e → Places source.stem.now source.text.items e
-    → RefusesFirst sources e
-first-refused sources front after source trees failure.OutOfMemory cut read none place = record {}
-first-refused sources front after source trees (failure.Refused fault) cut read none place = record {
-  front = front;
-  source = source;
-  after = after;
-  cut = cut;
-  trees = trees;
-  read = read;
-  none = none;
-  place = place;
-}
+use Rattle.mlk_command.specs.Checked.{IsFirst, IsStuck, IsUnmade, IsMade, IsRefusalOfWork, IsRefusalBy, IsRefusalWith, IsRefusalUnder, IsRefusalOf, refusal_of_routine, refusal_of_rules, refusal_of_certificate, refusal_of_events, TellsEntry}
 
 -- what is refused, as a refusal of the texts
 pub by-routine : (sources : List Source) (e : Failure Fault) → RefusesFirst sources e → IsFirst sources (refusal_of_routine e)

@@ -4,3 +4,4 @@ pub mod Checks
 pub mod Saying
 pub mod Printing
 pub mod ReadSpelling
+pub mod Chunks

@@ -1,11 +1,11 @@
 -- What the check of texts answers. This project's own choice.
-use Rattle.std.specs.Prelude.{◌≡◌, ◌⊎◌, ℕ, List, [], ◌∷◌, ◌++◌, Some, None, find}
+use Rattle.std.specs.Prelude.{◌≡◌, ◌⊎◌, ℕ, List, [], Some, None, find}
 use Rattle.mlk_text.specs.declared.fault.Fault.{Fault}
 use Rattle.mlk_text.specs.declared.failure.Failure.{Failure}
 use Rattle.mlk_text.specs.declared.failure.Failure.TheVariants as failure
 use Rattle.mlk_tree.specs.Trees.{RoutineTree}
-use Rattle.mlk_routine.specs.RoutineGrammar.{IsRoutine}
-use Rattle.mlk_routine.specs.Refusals.{NoRoutine, Places}
+use Rattle.mlk_readers.specs.declared.source.Source.{Source}
+use Rattle.mlk_readers.specs.Reading.{AreRead, IsFirstRefused}
 use Rattle.mlk_program.specs.Program.{IsProgram, IsLinkFault}
 use Rattle.mlk_coverage.specs.declared.rules.RuleLists.{RuleLists}
 use Rattle.mlk_rules.specs.RuleSections.{SaysRules, RefusesRules}
@@ -21,7 +21,6 @@ use Rattle.mlk_verdicts.specs.Reports.{report, missing}
 use Rattle.mlk_straight.specs.Kept.{IsKept, HasFaults}
 use Rattle.mlk_replay.specs.declared.fault.EventsFault.{EventsFault}
 use Rattle.mlk_command.specs.Replayed.{IsReplayed, IsUnreplayed}
-use Rattle.mlk_command.specs.declared.source.Source.{Source}
 use Rattle.mlk_command.specs.declared.source.Sources.{Sources}
 use Rattle.mlk_command.specs.declared.source.Work.{Work}
 use Rattle.mlk_command.specs.declared.source.Work.TheVariants as work
@@ -29,17 +28,6 @@ use Rattle.mlk_command.specs.declared.checked.Outcome.{Outcome}
 use Rattle.mlk_command.specs.declared.checked.Outcome.TheVariants as outcome
 use Rattle.mlk_command.specs.declared.checked.Refusal.{Refusal}
 use Rattle.mlk_command.specs.declared.checked.Refusal.TheVariants as refusal
-
--- the tree is written by the file's stem and its text
-abbrev pub IsRead : Source → RoutineTree → Type 0
-IsRead source tree = IsRoutine source.stem.now tree source.text.items
-
--- each tree is written by its file, and there are no others
-abbrev pub AreRead : List Source → List RoutineTree → Type 0
-AreRead [] [] = Unit {0}
-AreRead [] (tree ∷ trees) = ⊥
-AreRead (source ∷ sources) [] = ⊥
-AreRead (source ∷ sources) (tree ∷ trees) = IsRead source tree × AreRead sources trees
 
 -- The report of a program by rules and a certificate's blocks, whose entries it has. Where it has no row, and all is of
 -- straight lines, each run keeps the rules.
@@ -80,17 +68,6 @@ IsOutcomeOf trees rules_text w o = IsProgram trees × IsOutcomeUnder trees rules
 
 abbrev pub IsChecked : Sources → List RoutineTree → Outcome → Type 0
 IsChecked sources trees o = AreRead sources.routines.items trees × IsOutcomeOf trees sources.rules.items sources.work o
-
--- the first routine that is refused: those before it are read
-pub record IsFirstRefused (sources : List Source) (fault : Fault) : Type 0 where
-  pub front : List Source
-  pub source : Source
-  pub after : List Source
-  pub cut : sources ≡ front ++ source ∷ after
-  pub trees : List RoutineTree
-  pub read : AreRead front trees
-  pub none : NoRoutine source.stem.now source.text.items (failure.Refused fault)
-  pub place : Places source.stem.now source.text.items (failure.Refused fault)
 
 -- No certificate has the text.
 abbrev pub NoCertificate : List ℕ → CertFault → Type 0
@@ -202,11 +179,6 @@ refusal_of_certificate (failure.Refused fault) = refusal.Certificate fault
 abbrev pub refusal_of_events : Failure EventsFault → Refusal
 refusal_of_events failure.OutOfMemory = refusal.OutOfMemory
 refusal_of_events (failure.Refused fault) = refusal.Events fault
-
--- the same of the reading of routines
-abbrev pub RefusesFirst : List Source → Failure Fault → Type 0
-RefusesFirst sources failure.OutOfMemory = Unit {0}
-RefusesFirst sources (failure.Refused fault) = IsFirstRefused sources fault
 
 -- what is told of an entry that is lacking, and where straight lines are walked again
 abbrev pub TellsEntry : List ℕ → Refusal → Type 0

@@ -2,26 +2,28 @@
 
 ghost use Rattle.std.specs.Prelude.{◌≡◌, [], map, IfOk, IfErr};
 ghost use Rattle.mlk_tree.specs.Views.{routine_of};
-ghost use Rattle.mlk_command.specs.Checked.{refusal_of_routine, refusal_of_rules, refusal_of_certificate, refusal_of_events, AreRead, RefusesFirst, TellsEntry, IsDoubt, IsReportBy, IsReportWith, IsStuck, IsMade, IsUnmade, IsOutcomeWith, IsOutcomeUnder, IsOutcomeOf, IsRefusalBy, IsRefusalWith, IsRefusalOfWork, IsRefusalUnder, IsRefusalOf, IsChecked, IsRefusedBy};
+ghost use Rattle.mlk_readers.specs.Reading.{AreRead, RefusesFirst};
+ghost use Rattle.mlk_command.specs.Checked.{refusal_of_routine, refusal_of_rules, refusal_of_certificate, refusal_of_events, TellsEntry, IsDoubt, IsReportBy, IsReportWith, IsStuck, IsMade, IsUnmade, IsOutcomeWith, IsOutcomeUnder, IsOutcomeOf, IsRefusalBy, IsRefusalWith, IsRefusalOfWork, IsRefusalUnder, IsRefusalOf, IsChecked, IsRefusedBy};
 ghost use Rattle.mlk_cert.specs.Theorem.{Spells};
 ghost use Rattle.mlk_straight.specs.Kept.{IsKept};
 ghost use Rattle.mlk_command.specs.Ran.{trees_of};
 ghost use Rattle.mlk_command.specs.declared.checked.Refusal.TheVariants as refusal;
 
 use crate::replayed::jobs_text;
-use crate::source::{Source, Sources, Work};
+use crate::source::{Sources, Work};
 use mlk_cert::{CertFault, Certificate, Spelled, read_cert};
 use mlk_coverage::Rules;
 use mlk_make::{GaveUp, MakeError, Stage, Watch, make_watched};
 use mlk_program::{Program, link};
+use mlk_readers::{Source, read_all};
 use mlk_replay::EventsFault;
-use mlk_routine::read_routine;
 use mlk_rules::{RulesFault, read_rules};
 use mlk_straight::is_kept;
 use mlk_text::{Failure, Fault, Value};
 use mlk_tree::Routine;
 use mlk_verdicts::{Report, check_all, missing_entry};
 use std::alloc::{AllocError, Global};
+use std::thread::Threads;
 
 /// Why there is no report.
 #[derive(Drop, Debug)]
@@ -108,8 +110,12 @@ pub(crate) struct Checked {
     pub outcome: Outcome,
 }
 
-// The routines of these texts, each of which is given back once it is read.
-fn routines_of<W: Watch>(
+// How many texts are read at once, so that it is seen how far the reading has come, and that it ends where one is refused.
+const AT_ONCE: usize = 256;
+
+// The routines of these texts, which are given back once all are read.
+fn routines_of<R: Threads + Sync, W: Watch>(
+    rt: &R,
     alloc: Global,
     sources: Vec<Source<'_>>,
     watch: &W,
@@ -119,17 +125,19 @@ fn routines_of<W: Watch>(
 {
     let count = sources.len();
     let mut routines = Vec::new(alloc);
-    let mut left = sources.into_iter();
-    while let Some(source) = left.next() {
-        watch.see(Stage::Reading, routines.len(), count);
-        let Source { stem, text } = source;
-        match read_routine(alloc, stem, text.as_slice()) {
-            Ok(routine) => routines.push(routine)?,
+    let mut done = 0;
+    while done < count {
+        watch.see(Stage::Reading, done, count);
+        let (_, left) = sources.as_slice().split_at(done);
+        let (next, _) = left.split_at(left.len().min(AT_ONCE));
+        match read_all(rt, alloc, next) {
+            Ok(mut read) => routines.append(&mut read)?,
             Err(failure) => {
                 watch.discard(routines);
                 return Err(failure);
             }
         }
+        done += next.len();
     }
     Ok(routines)
 }
@@ -313,7 +321,8 @@ fn outcome_of<W: Watch>(
 
 /// What texts come to, or the first refusal: of the routines in order, of their linking, of the rules, of the
 /// certificate, or of its making, and of an entry that the routines lack; of events after that entry.
-pub(crate) fn check_texts<W: Watch>(
+pub(crate) fn check_texts<R: Threads + Sync, W: Watch>(
+    rt: &R,
     alloc: Global,
     sources: Sources<'_>,
     watch: &W,
@@ -326,7 +335,7 @@ pub(crate) fn check_texts<W: Watch>(
         rules,
         routines: files,
     } = sources;
-    let routines = routines_of(alloc, files, watch)?;
+    let routines = routines_of(rt, alloc, files, watch)?;
     match outcome_of(alloc, routines.as_slice(), rules.as_slice(), &work, watch) {
         Ok(outcome) => Ok(Checked { routines, outcome }),
         Err(refusal) => {

@@ -19,6 +19,7 @@ use mlk_verdicts::Report;
 use mlk_words::{Request, UsageError, read_request};
 use std::alloc::{AllocError, Global};
 use std::io::{self, ErrorKind, Write};
+use std::thread::Threads;
 
 const YES: u8 = 0;
 
@@ -120,7 +121,8 @@ fn unread_answer(alloc: Global, path: &str) -> Answer
 }
 
 // What is answered to a request, from the texts of the files.
-fn answer_request<F: Files, W: Watch>(
+fn answer_request<R: Threads + Sync, F: Files, W: Watch>(
+    rt: &R,
     alloc: Global,
     request: &Request<'_>,
     files: &F,
@@ -129,7 +131,7 @@ fn answer_request<F: Files, W: Watch>(
     ensures { Answers (F.holds files.now) (F.lacks files.now) request.now result }
 {
     match read_files(alloc, files, request) {
-        Ok(sources) => match check_texts(alloc, sources, watch) {
+        Ok(sources) => match check_texts(rt, alloc, sources, watch) {
             Ok(checked) => answer_of(alloc, checked, watch),
             Err(refusal) => refusal_answer(alloc, &refusal),
         },
@@ -138,11 +140,17 @@ fn answer_request<F: Files, W: Watch>(
     }
 }
 
-fn answer_words<F: Files, W: Watch>(alloc: Global, words: &[String], files: &F, watch: &W) -> Answer
+fn answer_words<R: Threads + Sync, F: Files, W: Watch>(
+    rt: &R,
+    alloc: Global,
+    words: &[String],
+    files: &F,
+    watch: &W,
+) -> Answer
     ensures { AnswersWords (F.holds files.now) (F.lacks files.now) words.now result }
 {
     match read_request(alloc, words) {
-        Ok(request) => answer_request(alloc, &request, files, watch),
+        Ok(request) => answer_request(rt, alloc, &request, files, watch),
         Err(UsageError::OutOfMemory) => Answer::OutOfMemory,
         Err(UsageError::Usage(text)) => Answer::Usage(text),
     }
@@ -217,8 +225,10 @@ pub fn wrong_words<E: Write>(error: &io::Error, err: &mut E) -> u8
 /// Does what the words ask for, of which the first is the program's name, and answers the status: 0 for `yes`,
 /// a certificate or jobs, 1 for `no`, 2 for refused input, 3 for want of memory or a file that can't be read or written.
 ///
-/// Reports go to `out`, all else to `err`; a fault of `err` changes nothing.
-pub fn run<F: Files, O: Write, E: Write>(
+/// The texts of routines are read side by side, by these threads. Reports go to `out`, all else to `err`; a fault of `err`
+/// changes nothing.
+pub fn run<R: Threads + Sync, F: Files, O: Write, E: Write>(
+    rt: &R,
     alloc: Global,
     words: &[String],
     files: &F,
@@ -227,12 +237,13 @@ pub fn run<F: Files, O: Write, E: Write>(
 ) -> u8
     ensures { Ran (F.holds files.now) (F.lacks files.now) words.now (O.contents out.old) (O.contents out.new) result }
 {
-    run_watched(alloc, words, files, &Unwatched, out, err)
+    run_watched(rt, alloc, words, files, &Unwatched, out, err)
 }
 
 /// Does what `run` does, and tells how far it has come as it goes. Before anything is written, it tells that it is at its
 /// end.
-pub fn run_watched<F: Files, W: Watch, O: Write, E: Write>(
+pub fn run_watched<R: Threads + Sync, F: Files, W: Watch, O: Write, E: Write>(
+    rt: &R,
     alloc: Global,
     words: &[String],
     files: &F,
@@ -242,7 +253,7 @@ pub fn run_watched<F: Files, W: Watch, O: Write, E: Write>(
 ) -> u8
     ensures { Ran (F.holds files.now) (F.lacks files.now) words.now (O.contents out.old) (O.contents out.new) result }
 {
-    let answer = answer_words(alloc, words, files, watch);
+    let answer = answer_words(rt, alloc, words, files, watch);
     watch.end();
     say(&answer, out, err)
 }

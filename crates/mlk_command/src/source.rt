@@ -5,6 +5,7 @@ ghost use Rattle.std.specs.IoError.{error_kind};
 ghost use Rattle.mlk_command.specs.Files.{IsFileName, IsNameStem, IsPathStem, IsSource, AreSources, IsWork, AreTexts, work_path, paths_of, Loses, LosesFirst};
 ghost use Rattle.mlk_words.specs.CommandLine.{bytes_of};
 
+use mlk_readers::Source;
 use mlk_words::{Asked, Request};
 use std::alloc::Global;
 use std::io::{self, ErrorKind};
@@ -29,13 +30,6 @@ pub(crate) enum FileError<'a> {
     OutOfMemory,
     /// The path of the file.
     Unread(&'a str),
-}
-
-/// A routine's file: the stem of its name, and its bytes.
-#[derive(Drop, Debug)]
-pub(crate) struct Source<'a> {
-    pub stem: &'a [u8],
-    pub text: Vec<u8>,
 }
 
 /// What is to be done with the texts.

@@ -36,6 +36,7 @@ fn main(rt: HostRuntime) -> ExitCode {
             let disk = Disk { rt: &rt };
             let progress = Progress::new(&rt);
             run_watched(
+                &rt,
                 rt.alloc(),
                 words.as_slice(),
                 &disk,

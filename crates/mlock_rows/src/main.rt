@@ -10,6 +10,7 @@ use bstr::ByteSlice;
 use mlk_command::{Files, run};
 use std::alloc::Global;
 use std::io::{self, ErrorKind, Read, Write};
+use std::thread::Threads;
 
 // What stands before the words of a command line.
 const WORDS: &[u8] = b"\n== ";
@@ -63,13 +64,18 @@ impl Case<'_> {
     }
 
     // Adds what it answers.
-    fn answer(&self, alloc: Global, out: &mut Vec<u8>) -> io::Result<()> {
+    fn answer<R: Threads + Sync>(
+        &self,
+        rt: &R,
+        alloc: Global,
+        out: &mut Vec<u8>,
+    ) -> io::Result<()> {
         let mut told: Vec<u8> = Vec::new(alloc);
         let words = self.words(alloc)?;
         out.extend_from_slice(b"== ")?;
         out.extend_from_slice(self.line())?;
         out.push(b'\n')?;
-        let status = run(alloc, words.as_slice(), self, out, &mut told);
+        let status = run(rt, alloc, words.as_slice(), self, out, &mut told);
         out.extend_from_slice(told.as_slice())?;
         writeln!(out, "= {status}")
     }
@@ -81,7 +87,7 @@ fn main(rt: HostRuntime) -> io::Result<()> {
     let mut out: Vec<u8> = Vec::new(alloc);
     rt.stdin().read_to_end(&mut text)?;
     for case in text.as_slice().split_str(WORDS).skip(1) {
-        Case { text: case }.answer(alloc, &mut out)?;
+        Case { text: case }.answer(&rt, alloc, &mut out)?;
     }
     rt.stdout().write_all(out.as_slice())
 }

@@ -5,6 +5,7 @@ use mlk_command::{Files, run};
 use std::alloc::{AllocError, Global};
 use std::io::{self, ErrorKind, Write};
 use std::test::Fail;
+use std::thread::Threads;
 
 // A writer that takes so many bytes and then fails.
 #[derive(Drop)]
@@ -44,14 +45,14 @@ impl Files for Broken<'_> {
 }
 
 // Whether the words are refused with a text that tells why, and nothing is printed.
-fn is_usage(alloc: Global, words: &[&str]) -> Result<bool, AllocError> {
+fn is_usage<R: Threads + Sync>(rt: &R, alloc: Global, words: &[&str]) -> Result<bool, AllocError> {
     let words = texts(alloc, words)?;
     let mut out: Vec<u8> = Vec::new(alloc);
     let mut err: Vec<u8> = Vec::new(alloc);
     let files = Memory {
         files: &[("rules.toml", RULES), ("cert", CERT), ("ONE.m", TAKE)],
     };
-    let status = run(alloc, words.as_slice(), &files, &mut out, &mut err);
+    let status = run(rt, alloc, words.as_slice(), &files, &mut out, &mut err);
     Ok(status == 2 && out.is_empty() && !err.is_empty())
 }
 
@@ -73,7 +74,7 @@ fn wrong_words(rt: HostRuntime) -> Result<(), Fail> {
         ]
         .as_slice(),
     ] {
-        assert!(&rt; is_usage(rt.alloc(), words)?);
+        assert!(&rt; is_usage(&rt, rt.alloc(), words)?);
     }
     Ok(())
 }
@@ -85,7 +86,10 @@ fn version(rt: HostRuntime) -> Result<(), Fail> {
     let mut out: Vec<u8> = Vec::new(alloc);
     let mut err: Vec<u8> = Vec::new(alloc);
     let files = Memory { files: &[] };
-    assert_eq!(&rt; run(alloc, words.as_slice(), &files, &mut out, &mut err), 2);
+    assert_eq!(&rt;
+        run(&rt, alloc, words.as_slice(), &files, &mut out, &mut err),
+        2
+    );
     assert!(&rt; out.is_empty());
     let told = String::from_utf8_lossy(alloc, err.as_slice())?;
     assert!(&rt; told.starts_with("mlock 0.1.0"), "{told}");
@@ -110,7 +114,10 @@ fn files_that_fail(rt: HostRuntime) -> Result<(), Fail> {
             let mut out: Vec<u8> = Vec::new(alloc);
             let mut err: Vec<u8> = Vec::new(alloc);
             let files = Broken { path, kind };
-            assert_eq!(&rt; run(alloc, words.as_slice(), &files, &mut out, &mut err), 3);
+            assert_eq!(&rt;
+                run(&rt, alloc, words.as_slice(), &files, &mut out, &mut err),
+                3
+            );
             assert!(&rt; out.is_empty());
             assert!(&rt; err.as_slice() == told.as_bytes(), "told, not {told}");
         }
@@ -128,7 +135,10 @@ fn want_of_memory(rt: HostRuntime) -> Result<(), Fail> {
         path: "cert",
         kind: ErrorKind::OutOfMemory,
     };
-    assert_eq!(&rt; run(alloc, words.as_slice(), &files, &mut out, &mut err), 3);
+    assert_eq!(&rt;
+        run(&rt, alloc, words.as_slice(), &files, &mut out, &mut err),
+        3
+    );
     assert!(&rt; out.is_empty());
     assert!(&rt; err.as_slice() == b"error memory\n".as_slice());
     Ok(())
@@ -146,7 +156,7 @@ fn output_that_fails(rt: HostRuntime) -> Result<(), Fail> {
         for room in 0..length {
             let mut out = Short { room };
             let mut err: Vec<u8> = Vec::new(alloc);
-            let status = run(alloc, words.as_slice(), &files, &mut out, &mut err);
+            let status = run(&rt, alloc, words.as_slice(), &files, &mut out, &mut err);
             assert_eq!(&rt; status, 3);
             assert!(&rt; err.as_slice() == b"error file -\n".as_slice());
         }
@@ -165,7 +175,7 @@ fn errors_that_fail(rt: HostRuntime) -> Result<(), Fail> {
         let words = texts(alloc, &["mlock", "check", "rules.toml", "cert", path])?;
         let mut out: Vec<u8> = Vec::new(alloc);
         let mut err = Short { room: 3 };
-        let status = run(alloc, words.as_slice(), &files, &mut out, &mut err);
+        let status = run(&rt, alloc, words.as_slice(), &files, &mut out, &mut err);
         assert_eq!(&rt; status, wanted);
         assert!(&rt; out.is_empty());
     }

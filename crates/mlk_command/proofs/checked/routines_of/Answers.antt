@@ -1,32 +1,36 @@
-use Rattle.std.proofs.Common.{◌≡◌, ◌∙◌, ap, sym, subst, append_assoc, rules, [], ◌∷◌, ◌++◌}
-use Rattle.std.proofs.lemmas.List.{map-append}
-use Rattle.std.specs.Prelude.{map}
-use Rattle.mlk_routine.specs.RoutineGrammar.{IsRoutine}
-use Rattle.mlk_routine.specs.Refusals.{NoRoutine, Places}
+use Rattle.std.proofs.Common.{◌≡◌, ◌∙◌, ◌++◌, take, drop, ap, sym, subst, rules, map}
+use Rattle.std.proofs.lemmas.List.{map-append, take-append-drop}
 use Rattle.mlk_tree.specs.Views.{routine_of}
-use Rattle.mlk_command.specs.Checked.{AreRead}
-use Rattle.mlk_command.proofs.Checks.{read-one-more, first-refused}
+use Rattle.mlk_readers.specs.Reading.{RefusesFirst}
+use Rattle.mlk_readers.proofs.Firsts.{many-more, later-refused}
+use Rattle.mlk_command.proofs.Chunks.{cut, longer, still_within}
 use Rattle.mlk_command.proofs.checked.routines_of.Goals as goal
 
 pub returns-in-Err-clause-refused : goal.returns-in-Err-clause-refused
 returns-in-Err-clause-refused g c =
-    let front = c.loop-source.invariant.0 in
-    let source = c.in-Some.source in
-    let e = c.in-Err.failure in
-    let cut : c.args.sources.items ≡ front ++ source ∷ c.next.new.self.rest.items = c.loop-source.invariant.1 ∙ ap (λ l. front ++ l) c.in-Some.ensures.items in
-    let none = subst (λ text. NoRoutine source.stem.now text e) c.as_slice.ensures.value c.in-Err.ensures.refused in
-    let place = subst (λ text. Places source.stem.now text e) c.as_slice.ensures.value c.in-Err.ensures.place in
-    let refused = first-refused c.args.sources.items front c.next.new.self.rest.items source (map routine_of c.loop-source.routines.items) e cut c.loop-source.invariant.2 none place in
-    grind rules
+    let sources = c.args.sources.items in
+    let done = c.loop-done.done in
+    let next = c.split_at-in-loop-done.result.0.now in
+    let after = c.split_at-in-loop-done.result.1.now in
+    let left : next ++ after ≡ drop done sources =
+    ap (λ l. l ++ after) c.split_at-in-loop-done.ensures.front ∙ ap (λ l. take c.min.result c.split_at.result.1.now ++ l) c.split_at-in-loop-done.ensures.back
+    ∙ take-append-drop c.min.result c.split_at.result.1.now ∙ c.split_at.ensures.back ∙ ap (drop done) c.as_slice.ensures.value in
+    subst (λ l. RefusesFirst l c.in-Err.failure) (sym (cut sources next after done c.loop-done.invariant.0 left))
+    (later-refused (take done sources) next after (map routine_of c.loop-done.routines.items) c.in-Err.failure c.loop-done.invariant.1 c.in-Err.ensures.refused)
 
-pub loop-source-preserved : goal.loop-source-preserved
-loop-source-preserved g c =
-    let front = c.loop-source.invariant.0 in
-    let source = c.in-Some.source in
-    let tree = routine_of c.in-Ok.routine in
-    let read = subst (λ text. IsRoutine source.stem.now tree text) c.as_slice.ensures.value c.in-Ok.ensures.found in
-    let longer : map routine_of c.push.new.self.items ≡ map routine_of c.loop-source.routines.items ++ tree ∷ [] = ap (map routine_of) (grind rules) ∙ map-append routine_of c.loop-source.routines.items (c.in-Ok.routine ∷ []) in (
-      front ++ source ∷ [],
-      c.loop-source.invariant.1 ∙ ap (λ l. front ++ l) c.in-Some.ensures.items ∙ sym (append_assoc front (source ∷ []) c.next.new.self.rest.items),
-      subst (AreRead (front ++ source ∷ [])) (sym longer) (read-one-more front (map routine_of c.loop-source.routines.items) source tree c.loop-source.invariant.2 read),
+pub loop-done-preserved : goal.loop-done-preserved
+loop-done-preserved g c =
+    let sources = c.args.sources.items in
+    let done = c.loop-done.done in
+    let next = c.split_at-in-loop-done.result.0.now in
+    let after = c.split_at-in-loop-done.result.1.now in
+    let left : next ++ after ≡ drop done sources =
+    ap (λ l. l ++ after) c.split_at-in-loop-done.ensures.front ∙ ap (λ l. take c.min.result c.split_at.result.1.now ++ l) c.split_at-in-loop-done.ensures.back
+    ∙ take-append-drop c.min.result c.split_at.result.1.now ∙ c.split_at.ensures.back ∙ ap (drop done) c.as_slice.ensures.value in
+    let routines = c.loop-done.routines.items in
+    let read = c.in-Ok.read.items in
+    let more : map routine_of c.append.new.self.items ≡ map routine_of routines ++ map routine_of read = ap (map routine_of) (grind rules) ∙ map-append routine_of routines read in (
+      still_within sources next after done c.loop-done.invariant.0 left,
+      rw (longer sources next after done c.loop-done.invariant.0 left, more)
+          (many-more (take done sources) next (map routine_of routines) (map routine_of read) c.loop-done.invariant.1 c.in-Ok.ensures.ok),
     )

@@ -1,0 +1,101 @@
+-- Trees may go from one thread to another.
+use denote.Param.Send.{IsSend, recorded_send, struct_send, enum_send, sendable}
+use denote.Enum.Declared as enums
+use denote.Struct.Declared as structs
+use Rattle.std.proofs.Crossing.{crosses}
+use Rattle.mlk_tree.proofs.expr.Actual.TheLaws.TheKnot as ExprKnot
+use Rattle.mlk_tree.proofs.command.Commands.TheLaws.TheKnot as CommandsKnot
+use Rattle.mlk_tree.proofs.routine.Line.TheLaws.TheKnot as LineKnot
+use Rattle.std.proofs.option.Option.TheSendSync as OptionSends
+use Rattle.mlk_text.proofs.value.Value.TheSendSync as ValueSends
+use Rattle.mlk_tree.proofs.expr.Callee.TheSendSync as CalleeSends
+use Rattle.mlk_tree.proofs.command.Part.TheSendSync as PartSends
+use Rattle.mlk_tree.specs.contracts.expr.Actual as Actual
+use Rattle.mlk_tree.specs.contracts.command.Variable as Variable
+use Rattle.mlk_tree.specs.contracts.command.Call as Call
+use Rattle.mlk_tree.specs.contracts.command.DoArgument as DoArgument
+use Rattle.mlk_tree.specs.contracts.command.KillArgument as KillArgument
+use Rattle.mlk_tree.specs.contracts.command.NewArgument as NewArgument
+use Rattle.mlk_tree.specs.contracts.command.LockArgument as LockArgument
+use Rattle.mlk_tree.specs.contracts.command.MergeArgument as MergeArgument
+use Rattle.mlk_tree.specs.contracts.command.ReadArgument as ReadArgument
+use Rattle.mlk_tree.specs.contracts.command.Target as Target
+use Rattle.mlk_tree.specs.contracts.command.SetArgument as SetArgument
+use Rattle.mlk_tree.specs.contracts.command.WriteArgument as WriteArgument
+use Rattle.mlk_tree.specs.contracts.command.Action as Action
+use Rattle.mlk_tree.specs.contracts.command.Command as Command
+use Rattle.mlk_text.proofs.list.List.TheSendSync as ListSends
+use Rattle.mlk_tree.specs.contracts.command.Parameter as Parameter
+use Rattle.mlk_tree.specs.contracts.command.Control as Control
+use Rattle.mlk_tree.specs.contracts.command.Commands as Commands
+use Rattle.mlk_tree.specs.contracts.routine.Line as Line
+use Rattle.mlk_tree.specs.contracts.routine.Routine as Routine
+
+variable : IsSend Variable.the_row
+variable = search (crosses, ExprKnot.crosses, sendable) depth 60 fits 20000
+
+actual_field : IsSend (Actual.the_field).row
+actual_field = ExprKnot.send-Actual (search (crosses, sendable, OptionSends.the_send, CalleeSends.the_send) depth 60 fits 20000) (search (crosses, sendable, OptionSends.the_send, CalleeSends.the_send) depth 60 fits 20000) (search (crosses, sendable, OptionSends.the_send, CalleeSends.the_send) depth 60 fits 20000) (λ h s. search (crosses, sendable, OptionSends.the_send) depth 60 fits 20000) (search (crosses, sendable, OptionSends.the_send, CalleeSends.the_send) depth 60 fits 20000) (search (crosses, sendable, OptionSends.the_send, CalleeSends.the_send) depth 60 fits 20000) (λ h s. search (crosses, sendable, OptionSends.the_send) depth 60 fits 20000) (λ h s. search (crosses, sendable, OptionSends.the_send) depth 60 fits 20000) (search (crosses, sendable, OptionSends.the_send, CalleeSends.the_send) depth 60 fits 20000) (λ h s. search (crosses, sendable, OptionSends.the_send) depth 60 fits 20000) (search (crosses, sendable, OptionSends.the_send, CalleeSends.the_send) depth 60 fits 20000) (λ h s. search (crosses, sendable, OptionSends.the_send) depth 60 fits 20000)
+
+actual : IsSend Actual.the_row
+actual = recorded_send (Actual.the_field).row _ _ (Actual.the_type).to_one actual_field
+
+call_field : IsSend (Call.the_field).row
+call_field = struct_send (structs.shape Call.the_type) (search (crosses, ExprKnot.crosses, sendable, OptionSends.the_field_send, OptionSends.the_send) depth 60 fits 20000, (search (crosses, ExprKnot.crosses, sendable, OptionSends.the_field_send, OptionSends.the_send, CalleeSends.the_send) depth 60 fits 20000, (search (crosses, ExprKnot.crosses, sendable, OptionSends.the_field_send, OptionSends.the_send, actual, actual_field) depth 60 fits 20000, tt)))
+
+call : IsSend Call.the_row
+call = recorded_send (Call.the_field).row _ _ (Call.the_type).to_one call_field
+
+do_argument : IsSend DoArgument.the_row
+do_argument = recorded_send (DoArgument.the_field).row _ _ (DoArgument.the_type).to_one (struct_send (structs.shape DoArgument.the_type) (call_field, (search (crosses, ExprKnot.crosses, sendable, OptionSends.the_field_send, OptionSends.the_send) depth 60 fits 20000, tt)))
+
+kill_argument : IsSend KillArgument.the_row
+kill_argument = search (crosses, ExprKnot.crosses, sendable, variable) depth 60 fits 20000
+
+new_argument : IsSend NewArgument.the_row
+new_argument = search (crosses, sendable) depth 60 fits 20000
+
+lock_argument : IsSend LockArgument.the_row
+lock_argument = search (crosses, ExprKnot.crosses, sendable, variable) depth 60 fits 20000
+
+merge_argument : IsSend MergeArgument.the_row
+merge_argument = search (crosses, ExprKnot.crosses, sendable, variable) depth 60 fits 20000
+
+read_argument : IsSend ReadArgument.the_row
+read_argument = recorded_send (ReadArgument.the_field).row _ _ (ReadArgument.the_type).to_one (enum_send (enums.shape ReadArgument.the_type) ((search (crosses, ExprKnot.crosses, sendable, OptionSends.the_field_send, OptionSends.the_send, ValueSends.the_send) depth 60 fits 20000, tt), ((search (crosses, ExprKnot.crosses, sendable, OptionSends.the_field_send, OptionSends.the_send) depth 60 fits 20000, tt), ((search (crosses, ExprKnot.crosses, sendable, OptionSends.the_field_send, OptionSends.the_send, variable) depth 60 fits 20000, (search (crosses, ExprKnot.crosses, sendable, OptionSends.the_field_send, OptionSends.the_send) depth 60 fits 20000, (search (crosses, ExprKnot.crosses, sendable, OptionSends.the_field_send, OptionSends.the_send) depth 60 fits 20000, tt))), ((search (crosses, ExprKnot.crosses, sendable, OptionSends.the_field_send, OptionSends.the_send, variable) depth 60 fits 20000, (search (crosses, ExprKnot.crosses, sendable, OptionSends.the_field_send, OptionSends.the_send) depth 60 fits 20000, tt)), tt)))))
+
+target : IsSend Target.the_row
+target = recorded_send (Target.the_field).row _ _ (Target.the_type).to_one (enum_send (enums.shape Target.the_type) ((search (crosses, ExprKnot.crosses, sendable, OptionSends.the_field_send, OptionSends.the_send, variable) depth 60 fits 20000, tt), ((search (crosses, ExprKnot.crosses, sendable, OptionSends.the_field_send, OptionSends.the_send, PartSends.the_send) depth 60 fits 20000, (search (crosses, ExprKnot.crosses, sendable, OptionSends.the_field_send, OptionSends.the_send, variable) depth 60 fits 20000, (search (crosses, ExprKnot.crosses, sendable, OptionSends.the_field_send, OptionSends.the_send) depth 60 fits 20000, tt))), tt)))
+
+set_argument : IsSend SetArgument.the_row
+set_argument = search (crosses, ExprKnot.crosses, sendable, target) depth 60 fits 20000
+
+write_argument : IsSend WriteArgument.the_row
+write_argument = recorded_send (WriteArgument.the_field).row _ _ (WriteArgument.the_type).to_one (enum_send (enums.shape WriteArgument.the_type) ((search (crosses, ExprKnot.crosses, sendable, OptionSends.the_field_send, OptionSends.the_send) depth 60 fits 20000, tt), ((search (crosses, ExprKnot.crosses, sendable, OptionSends.the_field_send, OptionSends.the_send) depth 60 fits 20000, tt), ((search (crosses, ExprKnot.crosses, sendable, OptionSends.the_field_send, OptionSends.the_send) depth 60 fits 20000, tt), tt))))
+
+action_field : IsSend (Action.the_field).row
+action_field = enum_send (enums.shape Action.the_type) ((search (crosses, sendable, do_argument) depth 60 fits 20000, tt), (tt, (tt, ((search (crosses, ExprKnot.crosses, sendable, OptionSends.the_field_send, OptionSends.the_send) depth 60 fits 20000, tt), ((search (crosses, ExprKnot.crosses, sendable, OptionSends.the_field_send, OptionSends.the_send) depth 60 fits 20000, tt), ((search (crosses, sendable, call) depth 60 fits 20000, tt), ((search (crosses, sendable, kill_argument) depth 60 fits 20000, tt), ((search (crosses, sendable, lock_argument) depth 60 fits 20000, tt), ((search (crosses, sendable, merge_argument) depth 60 fits 20000, tt), ((search (crosses, sendable, new_argument) depth 60 fits 20000, tt), ((search (crosses, ExprKnot.crosses, sendable, OptionSends.the_field_send, OptionSends.the_send) depth 60 fits 20000, tt), ((search (crosses, sendable, read_argument) depth 60 fits 20000, tt), ((search (crosses, sendable, set_argument) depth 60 fits 20000, tt), ((search (crosses, sendable, write_argument) depth 60 fits 20000, tt), tt))))))))))))))
+
+action : IsSend Action.the_row
+action = recorded_send (Action.the_field).row _ _ (Action.the_type).to_one action_field
+
+command : IsSend Command.the_row
+command = recorded_send (Command.the_field).row _ _ (Command.the_type).to_one (struct_send (structs.shape Command.the_type) (search (crosses, ExprKnot.crosses, sendable, OptionSends.the_field_send, OptionSends.the_send) depth 60 fits 20000, (search (crosses, ExprKnot.crosses, sendable, OptionSends.the_field_send, OptionSends.the_send) depth 60 fits 20000, (action_field, tt))))
+
+parameter : IsSend Parameter.the_row
+parameter = recorded_send (Parameter.the_field).row _ _ (Parameter.the_type).to_one (enum_send (enums.shape Parameter.the_type) (((search (crosses, ExprKnot.crosses, sendable, OptionSends.the_field_send, OptionSends.the_send) depth 60 fits 20000), tt), (((search (crosses, ExprKnot.crosses, sendable, OptionSends.the_field_send, OptionSends.the_send) depth 60 fits 20000), ((search (crosses, ExprKnot.crosses, sendable, OptionSends.the_field_send, OptionSends.the_send) depth 60 fits 20000), tt)), (((search (crosses, ExprKnot.crosses, sendable, OptionSends.the_field_send, OptionSends.the_send) depth 60 fits 20000), ((search (crosses, ExprKnot.crosses, sendable, OptionSends.the_field_send, OptionSends.the_send) depth 60 fits 20000), ((search (crosses, ExprKnot.crosses, sendable, OptionSends.the_field_send, OptionSends.the_send) depth 60 fits 20000), tt))), tt))))
+
+control : IsSend Control.the_row
+control = recorded_send (Control.the_field).row _ _ (Control.the_type).to_one (struct_send (structs.shape Control.the_type) ((search (crosses, sendable, OptionSends.the_field_send, OptionSends.the_send) depth 60 fits 20000), ((search (crosses, sendable, OptionSends.the_field_send, OptionSends.the_send) depth 60 fits 20000), ((search (crosses, sendable, OptionSends.the_field_send, OptionSends.the_send, parameter) depth 60 fits 20000), tt))))
+
+commands_field : IsSend (Commands.the_field).row
+commands_field = CommandsKnot.send-Commands (search (crosses, sendable, OptionSends.the_field_send, OptionSends.the_send, command) depth 60 fits 20000) (λ h s. search (crosses, sendable, OptionSends.the_send) depth 60 fits 20000) (search (crosses, sendable, OptionSends.the_field_send, OptionSends.the_send) depth 60 fits 20000) (search (crosses, sendable, OptionSends.the_field_send, OptionSends.the_send) depth 60 fits 20000) (search (crosses, sendable, OptionSends.the_field_send, OptionSends.the_send, control) depth 60 fits 20000)
+
+line_field : IsSend (Line.the_field).row
+line_field = LineKnot.send-Line (search (crosses, sendable, OptionSends.the_field_send, OptionSends.the_send) depth 60 fits 20000) (search (crosses, sendable, OptionSends.the_field_send, OptionSends.the_send) depth 60 fits 20000) (search (crosses, sendable, OptionSends.the_field_send, OptionSends.the_send) depth 60 fits 20000) (search (crosses, sendable, OptionSends.the_field_send, OptionSends.the_send) depth 60 fits 20000) (search (crosses, sendable, OptionSends.the_field_send, OptionSends.the_send, ListSends.the_send) depth 60 fits 20000) commands_field (λ h s. search (crosses, sendable, OptionSends.the_send) depth 60 fits 20000)
+
+line : IsSend Line.the_row
+line = recorded_send (Line.the_field).row _ _ (Line.the_type).to_one line_field
+
+pub routine : IsSend Routine.the_row
+routine = recorded_send (Routine.the_field).row _ _ (Routine.the_type).to_one (struct_send (structs.shape Routine.the_type) ((search (crosses, sendable, OptionSends.the_field_send, OptionSends.the_send) depth 60 fits 20000), ((search (crosses, sendable, OptionSends.the_field_send, OptionSends.the_send, line) depth 60 fits 20000), tt)))
