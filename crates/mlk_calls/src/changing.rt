@@ -63,6 +63,7 @@ pub(crate) fn changed_case(alloc: Global, names: &[NameSet], case: Case) -> Resu
 
 /// The state after a change of names: they lose the values of the call's begin, and captured symbols that mention them
 /// are unknown. It asks nothing: [`change`] does.
+#[inline(always)]
 pub fn changed(alloc: Global, names: &[NameSet], state: State) -> Result<State, AllocError>
     ensures { IfOk result (λ s. s ≡ changed_state names.now state) }
 {

@@ -29,6 +29,7 @@ fn capture_value(spot: &Spot, expression: &Expr, state: &mut State) -> Result<()
 }
 
 /// The symbol of an expression that was evaluated is captured, in each state.
+#[inline(always)]
 pub fn capture(spot: &Spot, expression: &Expr, walk: &mut Walk) -> Result<(), AllocError>
     ensures { OnOk result (walk.new ≡ capture (spot_of spot.now).scope (tree_of expression.now) walk.old) }
 {

@@ -83,6 +83,7 @@ fn reference_to(
     Ok(reference)
 }
 
+#[inline(always)]
 fn fault_of(rules: &Rules, held: &[LockTerm], reference: &Reference) -> Option<Code>
     ensures { result ≡ answer rules.now held.now reference.now }
 {
@@ -116,6 +117,7 @@ pub struct Touch<'a> {
 
 impl<'a> Touch<'a> {
     /// What is wrong with a touch of the node with these subscripts, and what would mend it.
+    #[inline(always)]
     pub fn fault(
         &self,
         spot: &Spot,

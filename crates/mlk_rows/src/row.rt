@@ -34,6 +34,7 @@ pub fn each<R: Row>(alloc: Global, row: &R, walk: &mut Walk) -> Result<(), Alloc
 }
 
 /// The last so many captured symbols of each state are forgotten.
+#[inline(always)]
 pub fn forget(alloc: Global, count: usize, walk: &mut Walk) -> Result<(), AllocError>
     ensures { OnOk result (walk.new ≡ each_changed (without_last count) walk.old) }
 {

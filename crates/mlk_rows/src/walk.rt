@@ -237,6 +237,7 @@ impl Walk {
 
     /// Whether there are too many states is asked, for a command's word in this line: if so, the line is over.
     #[tactic(auto, unfolding(crate::specs::Walks::few))]
+    #[inline(always)]
     pub fn few(&mut self, alloc: Global, line: LineNumber, word: Column) -> Result<(), AllocError>
         ensures { OnOk result (self.new ≡ few line word self.old) }
     {

@@ -69,6 +69,7 @@ impl PartialEq for Name {
 
     ghost laws = { Prim.search (comparing, rules) };
 
+    #[inline(always)]
     fn eq(&self, other: &Name) -> bool {
         self.text.is_same(&other.text)
     }

@@ -74,6 +74,7 @@ impl<const N: usize> Short<N> {
     }
 
     // Whether the bytes are the same. Most are eight at most, with what stands after them.
+    #[inline(always)]
     fn is_same(&self, other: &Short<N>) -> bool
         ensures { result ≡ bytes_eq self.now other.now }
     {
@@ -175,6 +176,7 @@ impl NameText {
     }
 
     /// Whether the bytes are the same.
+    #[inline(always)]
     pub(crate) fn is_same(&self, other: &NameText) -> bool
         ensures { result ≡ bytes_eq (name_bytes_of self.now) (name_bytes_of other.now) }
     {

@@ -66,6 +66,7 @@ fn lacks_exponent(bytes: &[u8]) -> bool
 
 /// The numeric literal at the front, as it is written, and what is after it.
 #[tactic(auto, unfolding(crate::specs::Lexemes::numeral_at))]
+#[inline(always)]
 pub fn numeral_at(bytes: &[u8]) -> Option<(&[u8], &[u8])>
     ensures { option_map (λ x. (x.0.now, x.1.now)) result ≡ numeral_at bytes.now }
 {
