@@ -72,7 +72,8 @@ pub(crate) fn listed<T: Item>(
     ensures { Told (λ v. map T.seen v.items) (IsList T.is) (AreEnded T.ends) line.now at result }
 {
     let (first, mut next) = T::read(alloc, line, at)?;
-    let mut items = Vec::with_capacity(alloc, 1)?;
+    let room = if has(line, next, b',') { 2 } else { 1 };
+    let mut items = Vec::with_capacity(alloc, room)?;
     items.push_reserved(first);
     while has(line, next, b',') {
         let (item, end) = T::read(alloc, line, next + 1)?;

@@ -9,18 +9,18 @@ ghost use Rattle.mlk_arguments.specs.Told.{Told, IsRefusal, byte_at};
 ghost use Rattle.mlk_arguments.specs.Faults.{IsFaulty};
 ghost use Rattle.mlk_arguments.specs.Stops.{expr_stop};
 ghost use Rattle.mlk_arguments.specs.Begins.{expr_begins};
-ghost use Rattle.mlk_arguments.specs.Ends.{AnyEnds, NextEnds, part_of, IsPartOpening, TargetEnds, SetEnds};
+ghost use Rattle.mlk_arguments.specs.Ends.{AnyEnds, NextEnds, part_of, IsPartOpening, OneEnds, TargetEnds, SetEnds};
 ghost use Rattle.mlk_tree.specs.Views.{target_of, set_of};
-ghost use Rattle.mlk_arguments.specs.CommandGrammar.{is_part_word, IsTarget, IsSet};
+ghost use Rattle.mlk_arguments.specs.CommandGrammar.{is_part_word, IsOneOrEnclosed, IsTarget, IsSet};
 
 use crate::fault::{leaves_out, refused};
-use crate::item::{Item, listed, one_or_enclosed};
+use crate::item::{Item, enclosed, listed};
 use crate::part::{expression, has, variable};
 use mlk_expr::Allows;
 use mlk_text::lexeme::word_at;
 use mlk_text::{Code, Failure, Fault, LeftOut};
 use mlk_tokens::words::{function_of, is_either, is_select};
-use mlk_tree::{Expr, Part, SetArgument, Target};
+use mlk_tree::{Expr, Part, SetArgument, Several, Target};
 use std::alloc::{AllocError, Global};
 
 /// The function of a target by its word.
@@ -128,6 +128,7 @@ fn part_target(alloc: Global, line: &[u8], at: usize) -> Result<(Target, usize),
     if !has(line, next, b')') {
         return Err(refused(alloc, Code::ArgumentForm, next));
     }
+    let variable = Box::new(alloc, variable)?;
     Ok((Target::Part(part, variable, arguments), next + 1))
 }
 
@@ -148,6 +149,25 @@ pub(crate) fn target(
     Ok((Target::Whole(whole), next))
 }
 
+// The target here, or the targets in parentheses, and the byte after them.
+#[inline(always)]
+fn targets(
+    alloc: Global,
+    line: &[u8],
+    at: usize,
+) -> Result<(Several<Target>, usize), Failure<Fault>>
+    requires { at ≤ length line.now }
+    ensures { Told (λ targets. map target_of targets) (IsOneOrEnclosed IsTarget)
+        (OneEnds TargetEnds (byte_at line.now at)) line.now at result }
+{
+    if has(line, at, b'(') {
+        let (targets, end) = enclosed(alloc, line, at)?;
+        return Ok((Several::of(targets), end));
+    }
+    let (only, next) = target(alloc, line, at)?;
+    Ok((Several::one(only), next))
+}
+
 /// The argument of SET here, and the byte after it.
 #[inline(always)]
 pub(crate) fn set(
@@ -158,7 +178,7 @@ pub(crate) fn set(
     requires { at ≤ length line.now }
     ensures { Told set_of IsSet SetEnds line.now at result }
 {
-    let (targets, next) = one_or_enclosed(alloc, line, at)?;
+    let (targets, next) = targets(alloc, line, at)?;
     if !has(line, next, b'=') {
         return Err(refused(alloc, Code::ArgumentForm, next));
     }

@@ -46,7 +46,7 @@ fn formals_of<'a>(line: Option<&'a Line>) -> &'a [Name]
 {
     match line {
         None => &[],
-        Some(line) => match &line.formals {
+        Some(line) => match line.formals.as_ref() {
             None => &[],
             Some(formals) => formals.as_slice(),
         },

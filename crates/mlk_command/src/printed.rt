@@ -170,7 +170,7 @@ pub(crate) fn file_line(alloc: Global, path: &str) -> Result<Text, AllocError>
 fn push_entry_of(text: &mut Text, routine: &Routine, line: &Line) -> Result<(), AllocError>
     ensures { OnOk result (text.new ≡ text.old ++ text_with (label_of (line_of line.now).0) routine.now.name) }
 {
-    if let Some(label) = &line.label {
+    if let Some(label) = line.label.as_ref() {
         text.push(label.as_bytes())?;
     }
     text.push(b"^")?;

@@ -218,8 +218,8 @@ pub fn set_argument<'a>(
 ) -> Result<(), AllocError>
     ensures { OnOk result (walk.new ≡ set_argument (spot_of spot.now) (set_of argument.now) walk.old) }
 {
-    capture_targets(spot, &argument.targets, walk)?;
+    capture_targets(spot, argument.targets.as_slice(), walk)?;
     value(spot, &argument.value, walk)?;
-    let count = assign_all(spot, &argument.targets, walk)?;
+    let count = assign_all(spot, argument.targets.as_slice(), walk)?;
     forget(spot.alloc, count, walk)
 }

@@ -9,7 +9,7 @@ use crate::call::{CallSite, add_call};
 use crate::expr;
 use mlk_tree::{
     Action, Actual, Call, Command, Commands, Control, DoArgument, Expr, KillArgument, LockArgument,
-    MergeArgument, Parameter, ReadArgument, SetArgument, Target, Variable, WriteArgument,
+    MergeArgument, Parameter, ReadArgument, SetArgument, Several, Target, Variable, WriteArgument,
 };
 use std::alloc::{AllocError, Global};
 
@@ -77,6 +77,16 @@ impl<T: HasCalls> HasCalls for Vec<T> {
 
     fn find<'a>(&'a self, found: &mut Vec<CallSite<'a>>) -> Result<(), AllocError> {
         find_all(found, self)
+    }
+}
+
+impl<T: HasCalls> HasCalls for Several<T> {
+    ghost use Rattle.std.specs.Prelude.{flat_map};
+
+    ghost calls = { λ items. flat_map T.calls items };
+
+    fn find<'a>(&'a self, found: &mut Vec<CallSite<'a>>) -> Result<(), AllocError> {
+        find_all(found, self.as_slice())
     }
 }
 

@@ -42,7 +42,7 @@ fn has(set: &NameSet, name: &Name) -> bool {
 pub(crate) fn formals_of<'a>(ground: &Ground<'a>, draft: &Draft) -> &'a [Name] {
     match ground.program.line(draft.entry) {
         None => &[],
-        Some(line) => match &line.formals {
+        Some(line) => match line.formals.as_ref() {
             None => &[],
             Some(formals) => formals.as_slice(),
         },

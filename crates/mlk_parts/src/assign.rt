@@ -185,7 +185,8 @@ fn count_subs(target: &Target) -> usize
     ensures { result ≡ subs_of_target (target_of target.now) }
 {
     match target {
-        Target::Whole(variable) | Target::Part(_, variable, _) => count_in(variable),
+        Target::Whole(variable) => count_in(variable),
+        Target::Part(_, variable, _) => count_in(variable),
     }
 }
 

@@ -106,7 +106,7 @@ pub fn has_formals(line: &Line) -> bool
 pub fn formals_in(line: &Line) -> &[Name]
     ensures { result.now ≡ formals_in (line_of line.now).0 }
 {
-    match &line.formals {
+    match line.formals.as_ref() {
         None => &[],
         Some(formals) => formals.as_slice(),
     }

@@ -155,7 +155,7 @@ pub(crate) fn set_parts<'a>(
 ) -> Result<(), AllocError>
     ensures { OnOk result (Adds (set_parts (set_of argument.now)) parts.old.items parts.new.items) }
 {
-    in_targets(parts, &argument.targets)?;
+    in_targets(parts, argument.targets.as_slice())?;
     add(parts, Task::Value(ValueTask::Evaluate(&argument.value)))?;
     add(
         parts,

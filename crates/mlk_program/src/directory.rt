@@ -82,7 +82,7 @@ fn lines_after(lines: &[Line], count: usize) -> &[Line]
 fn lacks_formals(line: &Line) -> bool
     ensures { result ≡ lacks_formals (line_of line.now) }
 {
-    line.formals.is_none()
+    !line.formals.is_some()
 }
 
 // Of each line, how many there are after it before the next with a formal list.
@@ -131,7 +131,7 @@ fn entry_text(alloc: Global, line: &Line, routine: &Name) -> Result<Vec<u8>, All
     ensures { IfOk result (λ v. v.items ≡ text_with (label_of (line_of line.now).0) routine.now) }
 {
     let mut text = Vec::new(alloc);
-    if let Some(label) = &line.label {
+    if let Some(label) = line.label.as_ref() {
         text.extend_from_slice(label.as_bytes())?;
     }
     text.push(b'^')?;

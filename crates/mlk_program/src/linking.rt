@@ -16,7 +16,7 @@ use crate::program::Program;
 use crate::shared::Shared;
 use mlk_found::{CallSite, in_commands};
 use mlk_text::{Code, Column, Failure, Fault, LineNumber, List, Name};
-use mlk_tree::{Actual, Callee, Line, Routine};
+use mlk_tree::{Actual, Callee, Line, Rare, Routine};
 use std::alloc::{AllocError, Global};
 
 // How many routines a program may have.
@@ -76,10 +76,10 @@ fn check_limits(alloc: Global, routines: &[Routine]) -> Result<(), Failure<Fault
 }
 
 // Whether a line with these formals takes an actual list.
-fn takes(formals: &Option<List<Name>>, actuals: &Option<Vec<Actual>>) -> bool
+fn takes(formals: &Rare<List<Name>>, actuals: &Option<Vec<Actual>>) -> bool
     ensures { result ≡ takes formals.now (given_of actuals.now) }
 {
-    match (formals, actuals) {
+    match (formals.as_ref(), actuals) {
         (None, None) => true,
         (Some(formals), None) => formals.as_slice().is_empty(),
         (Some(formals), Some(given)) => given.len() <= formals.as_slice().len(),
@@ -112,7 +112,7 @@ fn fitting_formals<'a>(
     directory: &Directory<'a>,
     at: &At<'a>,
     site: &CallSite<'a>,
-) -> Result<&'a Option<List<Name>>, Failure<Fault>>
+) -> Result<&'a Rare<List<Name>>, Failure<Fault>>
     requires { name_at (trees directory.now) at.now.routine ≡ at.now.name.now }
     ensures ok { IfOk result (λ f. (called_formals (trees directory.now) at.now.routine site.now.callee.now ≡ Some f.now)
         × (takes f.now (given_of site.now.actuals.now) ≡ true)) }
@@ -131,7 +131,7 @@ fn fitting_formals<'a>(
 // Adds the names that an actual list shares with these formals.
 fn share<'a>(
     shared: &mut Shared<'a>,
-    formals: &'a Option<List<Name>>,
+    formals: &'a Rare<List<Name>>,
     actuals: &'a Option<Vec<Actual>>,
 ) -> Result<(), AllocError>
     ensures { OnOk result (Gains (shared_with (given_of actuals.now) (Some formals.now)) shared.old shared.new) }
@@ -140,7 +140,7 @@ fn share<'a>(
         return Ok(());
     };
     shared.add_lent(given.as_slice())?;
-    if let Some(formals) = formals {
+    if let Some(formals) = formals.as_ref() {
         shared.add_received(formals.as_slice(), given.as_slice())?;
     }
     Ok(())

@@ -35,7 +35,7 @@ impl Labelled for Line {
     ghost label = { λ l. label_of (line_of l).0 };
 
     fn label(&self) -> Option<&[u8]> {
-        match &self.label {
+        match self.label.as_ref() {
             None => None,
             Some(label) => Some(label.as_bytes()),
         }

@@ -25,6 +25,8 @@ use Rattle.mlk_tree.specs.contracts.command.WriteArgument as WriteArgument
 use Rattle.mlk_tree.specs.contracts.command.Action as Action
 use Rattle.mlk_tree.specs.contracts.command.Command as Command
 use Rattle.mlk_text.proofs.list.List.TheSendSync as ListSends
+use Rattle.mlk_tree.proofs.rare.Rare.TheSendSync as RareSends
+use Rattle.mlk_tree.proofs.several.Several.TheSendSync as SeveralSends
 use Rattle.mlk_tree.specs.contracts.command.Parameter as Parameter
 use Rattle.mlk_tree.specs.contracts.command.Control as Control
 use Rattle.mlk_tree.specs.contracts.command.Commands as Commands
@@ -32,7 +34,7 @@ use Rattle.mlk_tree.specs.contracts.routine.Line as Line
 use Rattle.mlk_tree.specs.contracts.routine.Routine as Routine
 
 -- what is plain, and lists, boxes and options of what goes to another thread
-ruleset crossing = (crosses, sendable, OptionSends.the_field_send, OptionSends.the_send, CalleeSends.the_send, PartSends.the_send, ValueSends.the_send, ListSends.the_send)
+ruleset crossing = (crosses, sendable, OptionSends.the_field_send, OptionSends.the_send, CalleeSends.the_send, PartSends.the_send, ValueSends.the_send, ListSends.the_send, RareSends.the_send, SeveralSends.the_send)
 
 ruleset with_exprs = (crossing, ExprKnot.crosses)
 
@@ -73,7 +75,7 @@ read_argument : IsSend ReadArgument.the_row
 read_argument = recorded_send (ReadArgument.the_field).row _ _ (ReadArgument.the_type).to_one (enum_send (enums.shape ReadArgument.the_type) ((search crossing depth 60 fits 20000, tt), ((search with_exprs depth 60 fits 20000, tt), ((variable_field, (search with_exprs depth 60 fits 20000, (search with_exprs depth 60 fits 20000, tt))), ((variable_field, (search with_exprs depth 60 fits 20000, tt)), tt)))))
 
 target : IsSend Target.the_row
-target = recorded_send (Target.the_field).row _ _ (Target.the_type).to_one (enum_send (enums.shape Target.the_type) ((variable_field, tt), ((search crossing depth 60 fits 20000, (variable_field, (search with_exprs depth 60 fits 20000, tt))), tt)))
+target = recorded_send (Target.the_field).row _ _ (Target.the_type).to_one (enum_send (enums.shape Target.the_type) ((variable_field, tt), ((search crossing depth 60 fits 20000, (search (crossing, variable) depth 60 fits 20000, (search with_exprs depth 60 fits 20000, tt))), tt)))
 
 set_argument : IsSend SetArgument.the_row
 set_argument = recorded_send (SetArgument.the_field).row _ _ (SetArgument.the_type).to_one (struct_send (structs.shape SetArgument.the_type) (search (crossing, target) depth 60 fits 20000, (search with_exprs depth 60 fits 20000, tt)))

@@ -10,9 +10,30 @@ use crate::source::Source;
 use mlk_routine::read_routine;
 use mlk_text::{Failure, Fault};
 use mlk_tree::Routine;
+use rayon::current_num_threads;
 use rayon::prelude::*;
 use std::alloc::{AllocError, Global};
 use std::thread::Threads;
+
+// Fewer bytes are read before a second reader would have begun.
+const FEW_BYTES: usize = 65536;
+
+// How many bytes the texts have.
+fn bytes_of(sources: &[Source<'_>]) -> usize {
+    sources
+        .iter()
+        .map(|source| source.text.len())
+        .fold(0, |sum: usize, size| sum.saturating_add(size))
+}
+
+// How many texts a reader is given at least. With one processor, or where there is little to read, it is given all, since
+// a second thread would make all memory that is taken later dearer, and bring nothing.
+fn least_share<R: Threads>(rt: &R, sources: &[Source<'_>]) -> usize {
+    if bytes_of(sources) < FEW_BYTES || current_num_threads(rt) == 1 {
+        return sources.len();
+    }
+    1
+}
 
 // What a reader answers to each of these texts.
 fn answers<R: Threads + Sync>(
@@ -24,7 +45,7 @@ fn answers<R: Threads + Sync>(
 {
     sources
         .par_iter()
-        .with_min_len(1)
+        .with_min_len(least_share(rt, sources))
         .map(
             move |source: &Source<'_>| -> Result<Routine, Failure<Fault>>
                 ensures { IsAnswer source.now result }

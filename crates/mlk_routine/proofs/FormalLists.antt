@@ -1,17 +1,14 @@
 -- Formal lists, read name by name.
-use Rattle.std.proofs.Common.{◌≡◌, ◌<◌, ◌≤◌, ◌+◌, ◌-◌, ℕ, zero, suc, List, [], ◌∷◌, ◌++◌, length, take, drop, Some, Bool, true, false, not, inl, inr, refl, sym, ap, ◌∙◌, arith, subst, append_assoc, bytes_eq, add-one}
+use Rattle.std.proofs.Common.{◌≡◌, ◌<◌, ◌≤◌, ◌+◌, ◌-◌, ℕ, suc, List, [], ◌∷◌, ◌++◌, length, take, drop, Some, Bool, true, false, not, inl, inr, refl, sym, ap, ◌∙◌, arith, subst, append_assoc, bytes_eq, add-one}
 use Rattle.std.specs.Prelude.{◌⊎◌, Contains, ◌||◌}
-use Rattle.std.specs.List.{list_any}
 use Rattle.std.specs.Borrow.{Bor}
 use Rattle.std.proofs.Math.Seq.{take-append_seam}
 use Rattle.std.proofs.lemmas.Bool.{cases_Bool}
 use Rattle.std.proofs.lemmas.Option.{same_Some}
-use Rattle.std.proofs.lemmas.Slice.Eq.{bytes_eq-Decides}
 use Rattle.std.proofs.lemmas.List.Elements.{Contains-append_left, Contains-append_right, Contains-append_cases}
-use Rattle.std.proofs.lemmas.Map.Views.{Contains-from_any}
 use Rattle.mlk_expr.specs.Grammar.{AreNext, IsNameText}
 use Rattle.mlk_expr.specs.Theorem.{Stands, LabelEnds}
-use Rattle.mlk_tree.proofs.Distinct.{among, bytes_same, in_one, here, not_in_none, among_is, is_among, not_among}
+use Rattle.mlk_tree.proofs.Distinct.{among, in_one, here, not_in_none, is_among, not_among}
 use Rattle.mlk_arguments.specs.Told.{Found, Nowhere, first_of, byte_at}
 use Rattle.mlk_arguments.specs.Ends.{AnyEnds}
 use Rattle.mlk_arguments.specs.CommandGrammar.{After}

@@ -22,6 +22,12 @@ fn deeper(level: usize, lines: &mut VecDeque<Line>) -> Option<Line>
     }
 }
 
+// How many lines at the front are deeper than this level: as many as its block has, or more, where some have blocks of
+// their own.
+fn room(level: usize, lines: &VecDeque<Line>) -> usize {
+    lines.iter().take_while(|line| line.level > level).count()
+}
+
 /// The lines at the front that are deeper than this level, each with its block. They are taken away.
 pub(crate) fn block(
     alloc: Global,
@@ -32,7 +38,7 @@ pub(crate) fn block(
     ensures { IfOk result (λ v. IsBlock level (lines_from (map line_of v.items))
         (map head_of lines.old.items) (map head_of lines.new.items)) }
 {
-    let mut found = Vec::new(alloc);
+    let mut found = Vec::with_capacity(alloc, room(level, lines))?;
     while let Some(mut line) = deeper(level, lines) {
         line.block = block(alloc, line.level, lines)?;
         push_sparing(&mut found, line)?;

@@ -17,7 +17,7 @@ use crate::tail::tail;
 use bstr::ByteSlice;
 use mlk_arguments::refused;
 use mlk_text::{Code, Column, Failure, Fault, LineNumber, Name};
-use mlk_tree::Line;
+use mlk_tree::{Line, Rare};
 use std::alloc::{AllocError, Global};
 
 const MOST_LEVELS: usize = 15;
@@ -169,12 +169,14 @@ pub(crate) fn line<'a>(
         level,
     } = front;
     let level = level.unwrap_or(1);
+    let label = Rare::of(alloc, label)?;
+    let formals = Rare::of(alloc, formals)?;
     before.level = level;
     before.reaches = reaches_block(&commands);
     Ok(Line {
         number,
-        level,
         end: Column::at(text.len() + 1),
+        level,
         label,
         formals,
         commands,

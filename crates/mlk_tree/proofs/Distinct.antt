@@ -1,6 +1,6 @@
 -- Whether a name is among others.
 use Rattle.std.proofs.Common.{◌≡◌, ℕ, zero, suc, List, [], ◌∷◌, Bool, true, false, inl, inr, refl, sym, ◌∙◌, arith, bytes_eq}
-use Rattle.std.specs.Prelude.{◌⊎◌, Contains, ◌||◌}
+use Rattle.std.specs.Prelude.{Contains, ◌||◌}
 use Rattle.std.specs.List.{list_any}
 use Rattle.std.proofs.lemmas.Slice.Eq.{bytes_eq-Decides}
 use Rattle.std.proofs.lemmas.List.Elements.{Contains-append_cases}

@@ -68,10 +68,10 @@ read_of (read.Character v timeout) = ReadCharacter (variable_of v) (option_map t
 
 abbrev pub target_of : Target → TargetTree
 target_of (target.Whole v) = SetWhole (variable_of v)
-target_of (target.Part part v arguments) = SetPart part (variable_of v) (trees arguments.items)
+target_of (target.Part part v arguments) = SetPart part (variable_of v.value) (trees arguments.items)
 
 abbrev pub set_of : SetArgument → SetTree
-set_of s = SetTo (map target_of s.targets.items) (tree_of s.value)
+set_of s = SetTo (map target_of s.targets) (tree_of s.value)
 
 abbrev pub write_of : WriteArgument → WriteTree
 write_of (write.Value t) = WriteValue (tree_of t)

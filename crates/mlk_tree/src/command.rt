@@ -1,6 +1,7 @@
 // Syntax trees of commands.
 
 use crate::expr::{Actual, Callee, Expr};
+use crate::several::Several;
 use mlk_text::{Column, List, Name, Value};
 
 /// A local or a global with its subscripts, as a command names it, and the column where it begins.
@@ -91,13 +92,13 @@ pub enum Part {
 pub enum Target {
     Whole(Variable),
     /// part of a variable's value, with the arguments after its name
-    Part(Part, Variable, Vec<Expr>),
+    Part(Part, Box<Variable>, Vec<Expr>),
 }
 
 /// The targets of SET and their value. Parentheses round one target leave no node.
 #[derive(Drop)]
 pub struct SetArgument {
-    pub targets: Vec<Target>,
+    pub targets: Several<Target>,
     pub value: Expr,
 }
 

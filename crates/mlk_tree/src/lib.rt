@@ -3,7 +3,9 @@
 
 mod command;
 mod expr;
+mod rare;
 mod routine;
+mod several;
 
 pub use command::{
     Action, Call, Command, Commands, Control, DoArgument, For, KillArgument, LockArgument,
@@ -11,4 +13,6 @@ pub use command::{
     WriteArgument,
 };
 pub use expr::{Actual, Callee, Expr, Function, Special, Subscript};
+pub use rare::Rare;
 pub use routine::{Line, Routine};
+pub use several::Several;

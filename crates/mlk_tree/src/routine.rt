@@ -1,6 +1,7 @@
 // Routines: lines, and blocks under the lines that head them.
 
 use crate::command::Commands;
+use crate::rare::Rare;
 use mlk_text::{Column, LineNumber, List, Name};
 
 /// A line, with the block of deeper lines that follows it.
@@ -8,13 +9,13 @@ use mlk_text::{Column, LineNumber, List, Name};
 #[cycle(lines)]
 pub struct Line {
     pub number: LineNumber,
-    /// one more than the number of its periods
-    pub level: usize,
     /// the column after its last byte
     pub end: Column,
-    pub label: Option<Name>,
+    /// one more than the number of its periods
+    pub level: usize,
+    pub label: Rare<Name>,
     /// none without a formal list; `()` is an empty one
-    pub formals: Option<List<Name>>,
+    pub formals: Rare<List<Name>>,
     pub commands: Commands,
     pub block: Vec<Line>,
 }

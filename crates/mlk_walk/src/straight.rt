@@ -13,8 +13,8 @@ use mlk_text::{
     Code, Column, Failure, Fault, LeftOut, LineNumber, List, Name, NotThere, Place, Value,
 };
 use mlk_tree::{
-    Action, Command, Commands, Expr, Line, LockArgument, Routine, SetArgument, Sign, Subscript,
-    Target,
+    Action, Command, Commands, Expr, Line, LockArgument, Rare, Routine, SetArgument, Sign,
+    Subscript, Target,
 };
 use std::alloc::{AllocError, Global};
 
@@ -266,10 +266,10 @@ fn commands(
     Ok(plain::Commands::of(commands))
 }
 
-fn label_of(label: &Option<Name>) -> Result<Option<Name>, AllocError>
+fn label_of(label: &Rare<Name>) -> Result<Option<Name>, AllocError>
     ensures { IfOk result (λ l. l ≡ label.now) }
 {
-    match label {
+    match label.as_ref() {
         None => Ok(None),
         Some(label) => Ok(Some(label.copy()?)),
     }

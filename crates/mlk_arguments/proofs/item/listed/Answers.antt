@@ -21,7 +21,7 @@ loop-alloc-init t c =
     (begun t.T.Item.is t.T.Item.ends t.T.Item.stop c.args.line.now c.args.at c.requires (t.T.Item.seen c.in_ok-first.first) c.in_ok-first.next c.in_ok-first.ensures)
 
 pub has-requires : goal.has-requires
-has-requires t c = c.loop-alloc.invariant.within
+has-requires t c = c.in_ok-first.ensures.0.within
 
 pub returns-in_err-item : goal.returns-in_err-item
 returns-in_err-item t c =

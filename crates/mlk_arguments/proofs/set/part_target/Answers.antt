@@ -1,7 +1,8 @@
-use Rattle.std.proofs.Common.{◌≤◌, ◌+◌, List, length, refl, arith}
+use Rattle.std.proofs.Common.{◌≤◌, ◌+◌, List, length, refl, sym, ap, subst, arith}
 use Rattle.std.proofs.lemmas.Result.{err_from_is_err_and}
 use Rattle.mlk_tree.specs.ExprTrees.{Tree, trees}
-use Rattle.mlk_tree.specs.Trees.{VariableTree}
+use Rattle.mlk_tree.specs.Trees.{VariableTree, SetPart}
+use Rattle.mlk_arguments.specs.Told.{Found}
 use Rattle.mlk_arguments.specs.Ends.{TargetEnds}
 use Rattle.mlk_tree.specs.Views.{variable_of}
 use Rattle.mlk_arguments.specs.CommandGrammar.{IsTarget}
@@ -62,5 +63,7 @@ returns c =
     let a = c.in_ok-arguments in
     let both : VariableTree × List Tree = (variable_of v.variable, trees a.arguments.items) in
     let inner = both_found (inner_parts c.args.line.now open'.next) open'.ensures.0.within (variable_of v.variable) (trees a.arguments.items) v.next a.next v.ensures a.ensures in
-    both_found (target_parts c.args.line.now c.args.at c.requires) within open'.part both open'.next (a.next + 1) open'.ensures
-    (both_found (closing_parts c.args.line.now open'.next) open'.ensures.0.within both tt a.next (a.next + 1) inner (byte_found c.args.line.now a.next 41 (c.if-not-has.ensures.yes refl)))
+    let boxed = ap variable_of c.in_ok-variable-2.ensures.ok in
+    subst (λ v. Found IsTarget TargetEnds c.args.line.now c.args.at (SetPart open'.part v (trees a.arguments.items)) (a.next + 1)) (sym boxed)
+    (both_found (target_parts c.args.line.now c.args.at c.requires) within open'.part both open'.next (a.next + 1) open'.ensures
+    (both_found (closing_parts c.args.line.now open'.next) open'.ensures.0.within both tt a.next (a.next + 1) inner (byte_found c.args.line.now a.next 41 (c.if-not-has.ensures.yes refl))))

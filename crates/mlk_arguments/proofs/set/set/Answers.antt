@@ -8,11 +8,8 @@ use Rattle.mlk_arguments.specs.CommandGrammar.{IsValue, IsSet}
 use Rattle.mlk_arguments.proofs.Outcomes.{denies}
 use Rattle.mlk_arguments.proofs.Sequences.{both_found, denied_first, denied_second, second_nowhere}
 use Rattle.mlk_arguments.proofs.Bytes.{after_found, after_denied, after_missing}
-use Rattle.mlk_arguments.proofs.Targets.{target_shut, set_parts}
+use Rattle.mlk_arguments.proofs.Targets.{set_parts}
 use Rattle.mlk_arguments.proofs.set.set.Goals as goal
-
-pub one_or_enclosed-requires-clause-shut : goal.one_or_enclosed-requires-clause-shut
-one_or_enclosed-requires-clause-shut c = target_shut
 
 pub returns-in_err-targets : goal.returns-in_err-targets
 returns-in_err-targets c =
@@ -23,18 +20,18 @@ pub returns-then-not-has : goal.returns-then-not-has
 returns-then-not-has c =
     let t = c.in_ok-targets in
     denies IsSet SetEnds c.args.line.now c.args.at c.refused.result (c.refused.ensures.fault c.args.line.now c.in_ok-targets.ensures.0.within refl refl)
-    (second_nowhere (set_parts c.args.line.now c.args.at) c.requires (map target_of t.targets.items) t.next t.ensures
+    (second_nowhere (set_parts c.args.line.now c.args.at) c.requires (map target_of t.targets) t.next t.ensures
     (after_missing IsValue ExprEnds c.args.line.now t.next 61 (c.if-not-has.ensures.no refl)))
 
 pub returns-in_err-value : goal.returns-in_err-value
 returns-in_err-value c =
     let p = err_from_is_err_and c.from_residual-in_err-value.result c.from_residual-in_err-value.ensures.1 in
     let t = c.in_ok-targets in
-    rw (p.1, p.2) (denied_second (set_parts c.args.line.now c.args.at) c.requires (map target_of t.targets.items) t.next t.ensures c.in_err-value.field-0.0
+    rw (p.1, p.2) (denied_second (set_parts c.args.line.now c.args.at) c.requires (map target_of t.targets) t.next t.ensures c.in_err-value.field-0.0
     (after_denied IsValue ExprEnds c.args.line.now t.next 61 c.in_err-value.field-0.0 c.in_err-value.ensures))
 
 pub returns : goal.returns
 returns c =
     let t = c.in_ok-targets in
-    both_found (set_parts c.args.line.now c.args.at) c.requires (map target_of t.targets.items) (tree_of c.in_ok-value.value) t.next c.in_ok-value.next t.ensures
+    both_found (set_parts c.args.line.now c.args.at) c.requires (map target_of t.targets) (tree_of c.in_ok-value.value) t.next c.in_ok-value.next t.ensures
     (after_found IsValue ExprEnds c.args.line.now t.next 61 (c.if-not-has.ensures.yes refl) (tree_of c.in_ok-value.value) c.in_ok-value.next c.in_ok-value.ensures)

@@ -36,8 +36,8 @@ pub returns-clause-line : goal.returns-clause-line
 returns-clause-line c =
     let f = c.in_ok-front.front in
     let text = c.args.text.now in
-    let x : Line-F Line = record { number = c.args.number; level = c.unwrap_or-level.result; end = c.at.result; label = f.label; formals = f.formals; commands = c.in_ok-commands.commands; block = c.new.result } in
-    let made = head_made x c.args.number text f (commands_of c.in_ok-commands.commands) refl c.unwrap_or-level.ensures (c.at.ensures ∙ ap column_at (add-one (length text))) refl refl refl in
+    let x : Line-F Line = record { number = c.args.number; level = c.unwrap_or-level.result; end = c.at.result; label = c.in_ok-label.label; formals = c.in_ok-formals.formals; commands = c.in_ok-commands.commands; block = c.new.result } in
+    let made = head_made x c.args.number text f (commands_of c.in_ok-commands.commands) refl c.unwrap_or-level.ensures (c.at.ensures ∙ ap column_at (add-one (length text))) c.in_ok-label.ensures c.in_ok-formals.ensures refl in
     subst (IsLineOnly c.args.number text) (sym made)
     (line_only text f c.in_ok-front.start c.in_ok-front.ensures (commands_of c.in_ok-commands.commands) c.in_ok-commands.ensures c.args.number (c.in_default.ensures.none refl))
 
