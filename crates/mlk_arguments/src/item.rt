@@ -14,7 +14,7 @@ ghost use Rattle.mlk_expr.specs.declared.scope.Allows.TheVariants.{Everything};
 use crate::fault::refused;
 use crate::part::{expression, has, name};
 use mlk_expr::Allows;
-use mlk_text::{Code, Failure, Fault, Name, push_sparing};
+use mlk_text::{Code, Failure, Fault, Name, giving_up, make_room};
 use mlk_tree::Expr;
 use std::alloc::Global;
 
@@ -73,17 +73,21 @@ pub(crate) fn listed<T: Item>(
 {
     let (first, mut next) = T::read(alloc, line, at)?;
     let room = if has(line, next, b',') { 2 } else { 1 };
-    let mut items = Vec::with_capacity(alloc, room)?;
+    let Ok(mut items) = Vec::with_capacity(alloc, room) else {
+        return Err(giving_up(first, Failure::OutOfMemory));
+    };
     items.push_reserved(first);
     while has(line, next, b',') {
+        make_room(&mut items)?;
         let (item, end) = T::read(alloc, line, next + 1)?;
-        push_sparing(&mut items, item)?;
+        items.push_reserved(item);
         next = end;
     }
     Ok((items, next))
 }
 
 /// Items in parentheses, the first of which stands here, and the byte after the second.
+#[inline(always)]
 pub(crate) fn enclosed<T: Item>(
     alloc: Global,
     line: &[u8],

@@ -118,6 +118,7 @@ fn arguments(alloc: Global, line: &[u8], at: usize) -> Result<(Vec<Expr>, usize)
 }
 
 /// The target that is part of a value here, at its `$`, and the byte after it.
+#[inline(always)]
 fn part_target(alloc: Global, line: &[u8], at: usize) -> Result<(Target, usize), Failure<Fault>>
     requires { byte_at line.now at ≡ Some 36 }
     ensures { Told target_of IsTarget TargetEnds line.now at result }

@@ -64,6 +64,7 @@ pub fn first_argument(alloc: Global, line: &[u8], at: usize) -> Result<usize, Fa
 }
 
 /// A list of arguments after one space, and the byte after them.
+#[inline(always)]
 pub fn some<T: Item>(
     alloc: Global,
     line: &[u8],
@@ -81,6 +82,7 @@ pub fn some<T: Item>(
 }
 
 /// The same, or no arguments.
+#[inline(always)]
 pub fn perhaps<T: Item>(
     alloc: Global,
     line: &[u8],

@@ -80,7 +80,7 @@ unfoldable pub pattern_at : ℕ → Reader (List ℕ)
 pattern_at zero xs = None
 pattern_at (suc k) xs = many count_at (matcher_by (pattern_at k)) (suc (length xs)) xs >>= some_atoms xs
 
--- chains
+-- chains: what stands after an operator, and an expression that goes on after its first operand
 abbrev pub right_by : Reader Tree → Reader (List ℕ) → Bool → Reader Tree
 right_by atom pattern false xs = atom xs
 right_by atom pattern true xs = with PatternText (pattern xs)
@@ -88,11 +88,12 @@ right_by atom pattern true xs = with PatternText (pattern xs)
 abbrev pub linked : Reader Tree → Reader (List ℕ) → Op → Reader (Op × Tree)
 linked atom pattern op xs = with (λ t. (op, t)) (right_by atom pattern (is_match op) xs)
 
+abbrev pub going_on : Reader Tree → Reader (List ℕ) → Tree → Reader Tree
+going_on atom pattern first xs =
+    many op_at (linked atom pattern) (suc (length xs)) xs >>= λ rest. Some (chained first rest.0, rest.1)
+
 unfoldable pub chain_with : Reader Tree → Reader (List ℕ) → Reader Tree
-chain_with atom pattern xs =
-    atom xs >>= λ first.
-    many op_at (linked atom pattern) (suc (length first.1)) first.1 >>= λ rest.
-    Some (chained first.0 rest.0, rest.1)
+chain_with atom pattern xs = atom xs >>= λ first. going_on atom pattern first.0 first.1
 
 -- subscripts
 abbrev pub placed : ℕ → Reader Tree → Reader (ℕ × Tree)

@@ -1,6 +1,6 @@
 // The readers of the parts that hold no expression.
 
-ghost use Rattle.std.specs.Prelude.{◌≡◌, IfOk};
+ghost use Rattle.std.specs.Prelude.{◌≡◌, ◌<◌, [], vec_len, vec_capacity, IfOk};
 ghost use Rattle.mlk_text.specs.Failures.{Reads, IsRefused};
 ghost use Rattle.mlk_text.specs.Lexemes.{name_at, label_at, inside};
 ghost use Rattle.mlk_text.specs.Reading.{with};
@@ -16,11 +16,22 @@ use crate::refusal::{
 use crate::scope::Allows;
 use mlk_text::lexeme::{byte_of, is_text_byte};
 use mlk_text::spelling::{label_text, name_text};
-use mlk_text::{Failure, Name, Value, literal};
+use mlk_text::{Failure, Name, Value, likely_length, literal, make_room};
 use mlk_tokens::numeral::numeral_at;
 use mlk_tree::{Callee, Expr, Function};
 use mlk_values::canonical;
 use std::alloc::{AllocError, Global};
+
+/// An empty list, with room for as many items as the list seems to have that begins with these bytes.
+#[inline(always)]
+pub(crate) fn list_room<T: Drop>(alloc: Global, bytes: &[u8]) -> Result<Vec<T>, AllocError>
+    ensures empty { IfOk result (λ v. v.items ≡ []) }
+    ensures spare { IfOk result (λ v. vec_len v < vec_capacity v) }
+{
+    let mut room = Vec::with_capacity(alloc, likely_length(b',', b')', bytes))?;
+    make_room(&mut room)?;
+    Ok(room)
+}
 
 /// The name at the front, and what is after it.
 #[inline(always)]

@@ -4,7 +4,7 @@ ghost use Rattle.std.specs.Prelude.{suc, length};
 ghost use Rattle.mlk_text.specs.Reading.{with, many};
 ghost use Rattle.mlk_tokens.specs.Lexemes.{op_at, is_match};
 ghost use Rattle.mlk_tree.specs.ExprTrees.{Prefixed, tree_of, links};
-ghost use Rattle.mlk_expr.specs.Reading.{nested_in, pattern_at, right_by, linked, enclosed_with, operand_in, atom_in};
+ghost use Rattle.mlk_expr.specs.Reading.{going_on, nested_in, pattern_at, right_by, linked, enclosed_with, operand_in, atom_in};
 ghost use Rattle.mlk_text.specs.Failures.{Reads};
 
 pub mod actuals;
@@ -18,13 +18,13 @@ use crate::read::names::{global, local};
 use crate::refusal::{Offence, Wrong, no_end, no_operand, refused, too_deep};
 use crate::scope::Scope;
 use mlk_text::lexeme::byte_of;
-use mlk_text::{Failure, Op, UnaryOp, Value, push_sparing};
-use mlk_tokens::lexeme::{Kind, is_match, kind_of, op_at};
+use mlk_text::{Failure, Op, UnaryOp, Value, giving_up, make_room};
+use mlk_tokens::lexeme::{Kind, is_match, kind_of, may_go_on, op_at};
 use mlk_tree::Expr;
 use std::alloc::Global;
 
 /// The expression at the front that nests so deep at most, and what is after it.
-#[tactic(auto, unfolding(crate::specs::Reading::chain_with))]
+#[tactic(auto, unfolding(crate::specs::Reading::chain_with, mlk_text::specs::Reading::many))]
 #[cycle(reading)]
 pub(crate) fn chain(
     alloc: Global,
@@ -34,7 +34,42 @@ pub(crate) fn chain(
     ensures { Reads (λ x. (tree_of x.0, x.1.now)) result (nested_in scope bytes.now) }
 {
     let (first, rest) = atom(alloc, scope, bytes)?;
-    let (links, rest) = chain_rest(alloc, scope, rest)?;
+    if !may_go_on(rest) {
+        return Ok((first, rest));
+    }
+    going_on(alloc, scope, first, rest)
+}
+
+// The same in a function of its own, so that the place of its result is cleared only where it is called.
+#[cycle(reading)]
+#[inline(always)]
+fn going_on(
+    alloc: Global,
+    scope: Scope,
+    first: Expr,
+    bytes: &[u8],
+) -> Result<(Expr, &[u8]), Failure<Offence>>
+    ensures { Reads (λ x. (tree_of x.0, x.1.now)) result
+        (going_on (atom_in scope) (pattern_at scope.left) (tree_of first) bytes.now) }
+{
+    chain_after(alloc, scope, first, bytes)
+}
+
+// The expression that goes on after its first operand.
+#[cycle(reading)]
+fn chain_after(
+    alloc: Global,
+    scope: Scope,
+    first: Expr,
+    bytes: &[u8],
+) -> Result<(Expr, &[u8]), Failure<Offence>>
+    ensures { Reads (λ x. (tree_of x.0, x.1.now)) result
+        (going_on (atom_in scope) (pattern_at scope.left) (tree_of first) bytes.now) }
+{
+    let (links, rest) = match chain_rest(alloc, scope, bytes) {
+        Ok(read) => read,
+        Err(failure) => return Err(giving_up(first, failure)),
+    };
     if links.is_empty() {
         return Ok((first, rest));
     }
@@ -53,8 +88,9 @@ fn chain_rest(
     let mut found = Vec::new(alloc);
     let mut rest = bytes;
     while let Some((op, after)) = op_at(rest) {
+        make_room(&mut found)?;
         let (item, after) = right(alloc, scope, op, after)?;
-        push_sparing(&mut found, (op, item))?;
+        found.push_reserved((op, item));
         rest = after;
     }
     Ok((found, rest))
@@ -80,6 +116,7 @@ fn right(
 
 // An expression and a closing parenthesis.
 #[cycle(reading)]
+#[inline(always)]
 fn enclosed(alloc: Global, scope: Scope, bytes: &[u8]) -> Result<(Expr, &[u8]), Failure<Offence>>
     ensures { Reads (λ x. (tree_of x.0, x.1.now)) result (enclosed_with (nested_in scope) bytes.now) }
 {
@@ -104,6 +141,20 @@ fn prefixed(
     Ok((Expr::Unary(op, Box::new(alloc, operand)?), rest))
 }
 
+// The same in a function of its own, so that the place of its result is cleared only where it is called.
+#[cycle(reading)]
+#[inline(always)]
+fn signed(
+    alloc: Global,
+    scope: Scope,
+    op: UnaryOp,
+    bytes: &[u8],
+) -> Result<(Expr, &[u8]), Failure<Offence>>
+    ensures { Reads (λ x. (tree_of x.0, x.1.now)) result (with (Prefixed op) (atom_in scope bytes.now)) }
+{
+    prefixed(alloc, scope, op, bytes)
+}
+
 #[cycle(reading)]
 #[inline(always)]
 fn operand(alloc: Global, scope: Scope, bytes: &[u8]) -> Result<(Expr, &[u8]), Failure<Offence>>
@@ -119,7 +170,7 @@ fn operand(alloc: Global, scope: Scope, bytes: &[u8]) -> Result<(Expr, &[u8]), F
         Kind::Caret => global(alloc, scope, bytes, after),
         Kind::Dollar => dollar(alloc, scope, bytes, after),
         Kind::Open => enclosed(alloc, scope, after),
-        Kind::Prefix(op) => prefixed(alloc, scope, op, after),
+        Kind::Prefix(op) => signed(alloc, scope, op, after),
         Kind::Other => Err(no_operand(bytes)),
     }
 }

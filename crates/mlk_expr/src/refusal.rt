@@ -68,6 +68,7 @@ fn after_sign(bytes: &[u8]) -> &[u8] {
 }
 
 /// Why no number stands here, at the byte that should be a digit.
+#[inline(always)]
 pub(crate) fn no_number(bytes: &[u8]) -> Failure<Offence>
     ensures { IsRefused result }
 {
@@ -229,6 +230,7 @@ fn is_left_out(after: &[u8]) -> bool {
 }
 
 /// Why an operand here would be too deep; another fault of its first byte comes before that.
+#[inline(always)]
 pub(crate) fn too_deep(allows: Allows, bytes: &[u8]) -> Failure<Offence>
     ensures { IsRefused result }
 {

@@ -5,7 +5,7 @@ ghost use Rattle.mlk_routine.specs.RoutineGrammar.{level_of};
 ghost use Rattle.mlk_tree.specs.Views.{line_of, lines_from};
 ghost use Rattle.mlk_routine.specs.Lines.{head_of, Upto, IsBlock, IsNotDeeper};
 
-use mlk_text::push_sparing;
+use mlk_text::{giving_up, make_room};
 use mlk_tree::Line;
 use std::alloc::{AllocError, Global};
 use std::collections::VecDeque;
@@ -40,8 +40,14 @@ pub(crate) fn block(
 {
     let mut found = Vec::with_capacity(alloc, room(level, lines))?;
     while let Some(mut line) = deeper(level, lines) {
-        line.block = block(alloc, line.level, lines)?;
-        push_sparing(&mut found, line)?;
+        let Ok(inner) = block(alloc, line.level, lines) else {
+            return Err(giving_up(line, AllocError));
+        };
+        line.block = inner;
+        let Ok(()) = make_room(&mut found) else {
+            return Err(giving_up(line, AllocError));
+        };
+        found.push_reserved(line);
     }
     found.shrink_to_fit();
     Ok(found)

@@ -192,9 +192,9 @@ pub(crate) fn command(
 {
     let (word, next) = command_word(alloc, line, at)?;
     let (condition, next) = condition(alloc, word, line, next)?;
+    let condition = boxed_if(alloc, condition)?;
     let (action, next) = action(alloc, word, returns, line, next)?;
     let column = Column::at(at + 1);
-    let condition = boxed_if(alloc, condition)?;
     Ok((
         Command {
             column,

@@ -1,6 +1,6 @@
 // The commands of a line.
 
-ghost use Rattle.std.specs.Prelude.{◌≡◌, ◌≤◌, ◌==◌, ◌&&◌, ◌++◌, ◌∷◌, [], length, drop, option_map, map, is_some, IfOk, OnOk, true};
+ghost use Rattle.std.specs.Prelude.{◌≡◌, ◌<◌, ◌≤◌, ◌==◌, ◌&&◌, ℕ, length, vec_len, vec_capacity, drop, option_map, map, is_some, IfOk, OnOk, true};
 ghost use Rattle.mlk_text.specs.Lexemes.{word_at};
 ghost use Rattle.mlk_arguments.specs.Told.{Told};
 ghost use Rattle.mlk_arguments.specs.CommandWords.{is_for};
@@ -8,14 +8,14 @@ ghost use Rattle.mlk_arguments.specs.CommandGrammar.{AreCommands};
 ghost use Rattle.mlk_arguments.specs.Ends.{StopEnds, CommandsEnd};
 ghost use Rattle.mlk_tree.specs.Views.{command_of, control_of, commands_of, commands_from};
 ghost use Rattle.mlk_tree.specs.Trees.{then_for};
-ghost use Rattle.mlk_routine.specs.Leading.{Leads, IsPerhapsControl, IsLoop, LoopEnds};
+ghost use Rattle.mlk_routine.specs.Leading.{Leads, LeadsTo, IsPerhapsControl, IsLoop, LoopEnds};
 
 use crate::command::command;
 use mlk_arguments::{
     control, first_argument, is_bare, is_command_end, is_commands_end, is_for, past_spaces, refused,
 };
 use mlk_text::lexeme::word_at;
-use mlk_text::{Code, Column, Failure, Fault, push_sparing};
+use mlk_text::{Code, Column, Failure, Fault, giving_up, make_room};
 use mlk_tree::{Command, Commands, Control, For};
 use std::alloc::{AllocError, Global};
 
@@ -47,17 +47,19 @@ fn is_for_here(line: &[u8], at: usize) -> bool
     is_for(letters)
 }
 
-// Adds a command. Most lines have one or two, so there is room for two where the first is not the last.
-fn add(before: &mut Vec<Command>, read: Command, is_last: bool) -> Result<(), AllocError>
-    ensures { OnOk result (before.new.items ≡ before.old.items ++ read ∷ []) }
+// Makes room for a command. Most lines have one or two, so there is room for two where the first is not the last.
+fn make_room_for(before: &mut Vec<Command>, is_last: bool) -> Result<(), AllocError>
+    ensures same { OnOk result (before.new.items ≡ before.old.items) }
+    ensures room { OnOk result (vec_len before.new < vec_capacity before.new) }
 {
     if before.is_empty() && !is_last {
         before.reserve_exact(2)?;
     }
-    push_sparing(before, read)
+    make_room(before)
 }
 
 // The commands from here on before the next FOR, or all, and the byte after them and the spaces there.
+#[inline(always)]
 fn before_for(
     alloc: Global,
     inside: Inside,
@@ -72,7 +74,10 @@ fn before_for(
     while !is_commands_end(line, next) && !is_for_here(line, next) {
         let (read, end) = command(alloc, inside.returns(), line, next)?;
         next = past_spaces(line, end);
-        add(&mut before, read, is_commands_end(line, next))?;
+        let Ok(()) = make_room_for(&mut before, is_commands_end(line, next)) else {
+            return Err(giving_up(read, Failure::OutOfMemory));
+        };
+        before.push_reserved(read);
     }
     Ok((before, next))
 }
@@ -138,7 +143,32 @@ fn with_for(
     Ok(Commands { before, last })
 }
 
+// The FOR here with what it holds, after the commands before it, and the byte after that.
+#[cycle(commanding)]
+fn with_loop(
+    alloc: Global,
+    inside: Inside,
+    line: &[u8],
+    before: Vec<Command>,
+    at: usize,
+) -> Result<(Commands, usize), Failure<Fault>>
+    requires within { at ≤ length line.now }
+    requires here { is_for (word_at (drop at line.now)).0 ≡ true }
+    ensures { (begin : ℕ) → LeadsTo inside.level inside.loops line.now begin (map command_of before.items) at
+        → Told commands_of (AreCommands inside.level inside.loops) CommandsEnd line.now begin result }
+{
+    let (control, end) = for_head(alloc, inside.loops, line, at)?;
+    let inner = Inside {
+        loops: inside.loops + 1,
+        ..inside
+    };
+    let (rest, end) = commands(alloc, inner, line, past_spaces(line, end))?;
+    let place = (Column::at(at + 1), inner.loops);
+    Ok((with_for(alloc, before, place, control, rest)?, end))
+}
+
 /// All commands from here on, and the byte after them: the line's end, or a comment.
+#[cycle(commanding)]
 pub(crate) fn commands(
     alloc: Global,
     inside: Inside,
@@ -152,12 +182,5 @@ pub(crate) fn commands(
     if is_commands_end(line, next) {
         return Ok((Commands { before, last: None }, next));
     }
-    let (control, end) = for_head(alloc, inside.loops, line, next)?;
-    let inner = Inside {
-        loops: inside.loops + 1,
-        ..inside
-    };
-    let (rest, end) = commands(alloc, inner, line, past_spaces(line, end))?;
-    let place = (Column::at(next + 1), inner.loops);
-    Ok((with_for(alloc, before, place, control, rest)?, end))
+    with_loop(alloc, inside, line, before, next)
 }

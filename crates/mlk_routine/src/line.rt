@@ -16,7 +16,7 @@ use crate::seen::Seen;
 use crate::tail::tail;
 use bstr::ByteSlice;
 use mlk_arguments::refused;
-use mlk_text::{Code, Column, Failure, Fault, LineNumber, Name};
+use mlk_text::{Code, Column, Failure, Fault, LineNumber, Name, giving_up};
 use mlk_tree::{Line, Rare};
 use std::alloc::{AllocError, Global};
 
@@ -47,6 +47,7 @@ impl<'a> Before<'a> {
     }
 
     // Whether a line before has the label.
+    #[inline(always)]
     fn has_label(&self, label: &Option<Name>) -> bool
         ensures { result ≡ is_in label.now self.now.labels.texts.keys }
     {
@@ -157,20 +158,20 @@ pub(crate) fn line<'a>(
     if let Some(code) = before.misplaced(&front) {
         return Err(refused(alloc, code, 0));
     }
-    let commands = tail(alloc, front.level, text, start)?;
-    let plain = line_bytes(text);
-    if plain < text.len() {
-        return Err(refused(alloc, Code::Byte, plain));
-    }
     before.add(&front, text)?;
     let Front {
         label,
         formals,
         level,
     } = front;
-    let level = level.unwrap_or(1);
     let label = Rare::of(alloc, label)?;
     let formals = Rare::of(alloc, formals)?;
+    let commands = tail(alloc, level, text, start)?;
+    let plain = line_bytes(text);
+    if plain < text.len() {
+        return Err(giving_up(commands, refused(alloc, Code::Byte, plain)));
+    }
+    let level = level.unwrap_or(1);
     before.level = level;
     before.reaches = reaches_block(&commands);
     Ok(Line {

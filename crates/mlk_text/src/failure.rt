@@ -34,6 +34,15 @@ impl<T: Drop, E> From<AllocFailed<T>> for Failure<E> {
     }
 }
 
+/// The same failure, where what was read before it is given up. It is given back here, and not in what reads: a function
+/// clears all its places when it begins, those for giving back too.
+#[inline(always)]
+pub fn giving_up<T: Drop, E: Drop>(_read: T, failure: E) -> E
+    ensures { result ≡ failure }
+{
+    failure
+}
+
 impl<E> Failure<E> {
     /// The failure with another reason in place of its own, such as one that has a place.
     pub fn map<F, M: FnOnce(E) -> F>(self, turn: M) -> Failure<F>

@@ -23,10 +23,10 @@ mod value;
 
 pub use code::Code;
 pub use copy::copy_of;
-pub use failure::Failure;
+pub use failure::{Failure, giving_up};
 pub use fault::{Fault, LeftOut};
 pub use law::{entries_written, one_code};
-pub use list::{List, are_equal, likely_length, push_sparing};
+pub use list::{List, are_equal, likely_length, make_room, push_sparing};
 pub use name::Name;
 pub use operator::{Op, Relation, UnaryOp};
 pub use place::{Column, LineNumber, Place};

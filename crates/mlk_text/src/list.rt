@@ -1,6 +1,6 @@
 // Lists of any elements.
 
-ghost use Rattle.std.specs.Prelude.{◌≡◌, ◌↔◌, ◌<◌, ◌∷◌, ◌++◌, [], IsSome, OnOk, OnErr, length, option_to_list};
+ghost use Rattle.std.specs.Prelude.{◌≡◌, ◌↔◌, ◌<◌, ◌∷◌, ◌++◌, [], IsSome, OnOk, OnErr, length, option_to_list, vec_len, vec_capacity};
 ghost use Rattle.std.specs.Cmp.Lexicographic.{pointwise};
 
 use std::alloc::{AllocError, Global};
@@ -102,15 +102,26 @@ pub fn are_equal<T: PartialEq>(items: &[T], others: &[T]) -> bool
     items == others
 }
 
-/// Adds an item at the end. Room is made for one item first, and then for as many as there are, since most lists of a
-/// routine have one item or two.
+/// Makes room for one more item at the end: for one first, and then for as many as there are, since most lists of a routine
+/// have one item or two.
 #[inline(always)]
-pub fn push_sparing<T: Drop>(items: &mut Vec<T>, item: T) -> Result<(), AllocError>
-    ensures { OnOk result (items.new.items ≡ items.old.items ++ item ∷ []) }
+pub fn make_room<T: Drop>(items: &mut Vec<T>) -> Result<(), AllocError>
+    ensures same { OnOk result (items.new.items ≡ items.old.items) }
+    ensures room { OnOk result (vec_len items.new < vec_capacity items.new) }
 {
     if items.len() == items.capacity() {
         items.reserve_exact(items.len().max(1))?;
     }
+    Ok(())
+}
+
+/// Adds an item at the end, with room as `make_room` makes it. What reads an item makes room before it does, so that nothing
+/// that was read has to be given back where there is no memory.
+#[inline(always)]
+pub fn push_sparing<T: Drop>(items: &mut Vec<T>, item: T) -> Result<(), AllocError>
+    ensures { OnOk result (items.new.items ≡ items.old.items ++ item ∷ []) }
+{
+    make_room(items)?;
     items.push_reserved(item);
     Ok(())
 }

@@ -103,6 +103,7 @@ fn quoted_after<'a>(
 
 /// The value up to the closing quote, and what is after it.
 #[tactic(auto, using(crate::proofs::Quoted::inside_once, crate::proofs::Quoted::inside_plain))]
+#[inline(always)]
 pub fn quoted(alloc: Global, bytes: &[u8]) -> Result<(Value, &[u8]), Failure<NotThere>>
     ensures { Reads (λ x. (x.0, x.1.now)) result (inside bytes.now) }
 {

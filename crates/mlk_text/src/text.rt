@@ -106,6 +106,7 @@ pub(crate) enum Text {
 
 impl Text {
     /// The text with these bytes.
+    #[inline(always)]
     pub(crate) fn new(alloc: Global, bytes: &[u8]) -> Result<Text, AllocError>
         ensures { IfOk result (λ t. bytes_of t ≡ bytes.now) }
     {

@@ -1,6 +1,6 @@
 // The smallest parts of expressions: operators, counts and codes of patterns, and what a byte begins.
 
-ghost use Rattle.std.specs.Prelude.{◌≡◌, ◌≤◌, length, option_map};
+ghost use Rattle.std.specs.Prelude.{◌≡◌, ◌≤◌, length, option_map, None, false};
 ghost use Rattle.mlk_tokens.specs.Lexemes.{column_of, arithmetic_of, relation_of, relation_at, arithmetic_at, op_at};
 ghost use Rattle.mlk_tokens.specs.Lexemes.{is_match, unary_of, kind_of, count_at, is_pattern_code, pattern_codes};
 ghost use Rattle.mlk_tokens.specs.Lexemes.{pattern_codes_at, starts_reference, is_missing, ends};
@@ -112,6 +112,23 @@ pub fn op_at(bytes: &[u8]) -> Option<(Op, &[u8])>
     match relation_at(bytes) {
         Some((relation, rest)) => Some((Op::Is(relation), rest)),
         None => arithmetic_at(bytes),
+    }
+}
+
+/// Whether an operator may stand at the front: not at the end of a text, nor before a byte that stands after most operands.
+#[tactic(auto, unfolding(crate::specs::Lexemes::op_at, crate::specs::Lexemes::relation_at, crate::specs::Lexemes::arithmetic_at, crate::specs::Lexemes::relation_of, crate::specs::Lexemes::arithmetic_of))]
+#[inline(always)]
+pub fn may_go_on(bytes: &[u8]) -> bool
+    ensures { result ≡ false → op_at bytes.now ≡ None }
+{
+    let Some((first, _)) = bytes.split_first() else {
+        return false;
+    };
+    match *first {
+        b' ' => false,
+        b',' => false,
+        b')' => false,
+        _ => true,
     }
 }
 

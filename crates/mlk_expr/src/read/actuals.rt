@@ -1,6 +1,6 @@
 // Calls, and the actuals that they are given.
 
-ghost use Rattle.std.specs.Prelude.{◌∷◌, [], suc, length};
+ghost use Rattle.std.specs.Prelude.{◌≡◌, ◌<◌, vec_len, vec_capacity, ◌∷◌, [], suc, length};
 ghost use Rattle.mlk_text.specs.Lexemes.{byte_at};
 ghost use Rattle.mlk_text.specs.Reading.{many, put};
 ghost use Rattle.mlk_tokens.specs.Lexemes.{column_of};
@@ -9,12 +9,12 @@ ghost use Rattle.mlk_expr.specs.Reading.{next, nested_in, list_with, actual_with
 ghost use Rattle.mlk_expr.specs.Touches.{calls_may};
 ghost use Rattle.mlk_text.specs.Failures.{Reads};
 
-use crate::part::{callee, name};
+use crate::part::{callee, list_room, name};
 use crate::read::chain;
 use crate::refusal::{Offence, Wrong, no_actual, no_actuals_end, no_call, refused};
 use crate::scope::{Passing, Scope};
 use mlk_text::lexeme::byte_of;
-use mlk_text::{Failure, likely_length, push_sparing};
+use mlk_text::{Failure, make_room};
 use mlk_tokens::lexeme::{column_of, is_missing};
 use mlk_tree::{Actual, Expr};
 use std::alloc::Global;
@@ -61,8 +61,9 @@ fn some_actuals(
     ensures { Reads (λ x. (actual_trees x.0.items, x.1.now)) result
         (list_with (actual_with passing scope.end (nested_in scope)) bytes.now) }
 {
+    let room = list_room(alloc, bytes)?;
     let (first, rest) = actual(alloc, scope, passing, bytes)?;
-    let (found, rest) = actuals_rest(alloc, scope, passing, first, rest)?;
+    let (found, rest) = actuals_rest(alloc, scope, passing, room, first, rest)?;
     let Some(rest) = byte_of(b')', rest) else {
         return Err(no_actuals_end(&found, rest));
     };
@@ -92,20 +93,24 @@ fn actuals_rest(
     alloc: Global,
     scope: Scope,
     passing: Passing,
+    room: Vec<Actual>,
     first: Actual,
     bytes: &[u8],
 ) -> Result<(Vec<Actual>, &[u8]), Failure<Offence>>
+    requires empty { room.items ≡ [] }
+    requires spare { vec_len room < vec_capacity room }
     ensures { Reads (λ x. (actual_trees x.0.items, x.1.now)) result
         (put (actual_of first ∷ [])
         (many (byte_at 44) (next (actual_with passing scope.end (nested_in scope)))
         (suc (length bytes.now)) bytes.now)) }
 {
-    let mut found = Vec::with_capacity(alloc, likely_length(b',', b')', bytes))?;
-    push_sparing(&mut found, first)?;
+    let mut found = room;
+    found.push_reserved(first);
     let mut rest = bytes;
     while let Some(after) = byte_of(b',', rest) {
+        make_room(&mut found)?;
         let (item, after) = actual(alloc, scope, passing, after)?;
-        push_sparing(&mut found, item)?;
+        found.push_reserved(item);
         rest = after;
     }
     Ok((found, rest))

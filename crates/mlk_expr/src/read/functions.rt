@@ -1,6 +1,6 @@
 // What a `$` begins: functions and special variables.
 
-ghost use Rattle.std.specs.Prelude.{◌∷◌, [], suc, length};
+ghost use Rattle.std.specs.Prelude.{◌≡◌, ◌<◌, vec_len, vec_capacity, ◌∷◌, [], suc, length};
 ghost use Rattle.mlk_text.specs.Lexemes.{byte_at};
 ghost use Rattle.mlk_text.specs.Reading.{many, put};
 ghost use Rattle.mlk_tokens.specs.Lexemes.{column_of};
@@ -10,7 +10,7 @@ ghost use Rattle.mlk_expr.specs.Reading.{dollar_with, atom_in, quiet};
 ghost use Rattle.mlk_expr.specs.Touches.{calls_may};
 ghost use Rattle.mlk_text.specs.Failures.{Reads};
 
-use crate::part::{asks_subscript, has_subscript, named};
+use crate::part::{asks_subscript, has_subscript, list_room, named};
 use crate::read::actuals::call;
 use crate::read::{atom, chain};
 use crate::refusal::{
@@ -18,7 +18,7 @@ use crate::refusal::{
 };
 use crate::scope::{Allows, Scope};
 use mlk_text::lexeme::{byte_of, word_at};
-use mlk_text::{Failure, likely_length, push_sparing};
+use mlk_text::{Failure, giving_up, make_room};
 use mlk_tokens::lexeme::starts_reference;
 use mlk_tokens::words::{function_of, is_select, special_of};
 use mlk_tree::{Expr, Function};
@@ -30,8 +30,9 @@ use std::alloc::Global;
 fn exprs(alloc: Global, scope: Scope, bytes: &[u8]) -> Result<(Vec<Expr>, &[u8]), Failure<Offence>>
     ensures { Reads (λ x. (trees x.0.items, x.1.now)) result (list_with (nested_in scope) bytes.now) }
 {
+    let room = list_room(alloc, bytes)?;
     let (first, rest) = chain(alloc, scope, bytes)?;
-    let (found, rest) = exprs_rest(alloc, scope, first, rest)?;
+    let (found, rest) = exprs_rest(alloc, scope, room, first, rest)?;
     let Some(rest) = byte_of(b')', rest) else {
         return Err(no_end(rest));
     };
@@ -42,18 +43,22 @@ fn exprs(alloc: Global, scope: Scope, bytes: &[u8]) -> Result<(Vec<Expr>, &[u8])
 fn exprs_rest(
     alloc: Global,
     scope: Scope,
+    room: Vec<Expr>,
     first: Expr,
     bytes: &[u8],
 ) -> Result<(Vec<Expr>, &[u8]), Failure<Offence>>
+    requires empty { room.items ≡ [] }
+    requires spare { vec_len room < vec_capacity room }
     ensures { Reads (λ x. (trees x.0.items, x.1.now)) result
         (put (tree_of first ∷ []) (many (byte_at 44) (next (nested_in scope)) (suc (length bytes.now)) bytes.now)) }
 {
-    let mut found = Vec::with_capacity(alloc, likely_length(b',', b')', bytes))?;
-    push_sparing(&mut found, first)?;
+    let mut found = room;
+    found.push_reserved(first);
     let mut rest = bytes;
     while let Some(after) = byte_of(b',', rest) {
+        make_room(&mut found)?;
         let (item, after) = chain(alloc, scope, after)?;
-        push_sparing(&mut found, item)?;
+        found.push_reserved(item);
         rest = after;
     }
     Ok((found, rest))
@@ -65,22 +70,26 @@ fn others(
     alloc: Global,
     scope: Scope,
     most: usize,
+    room: Vec<Expr>,
     first: Expr,
     bytes: &[u8],
 ) -> Result<(Vec<Expr>, &[u8]), Failure<Offence>>
+    requires empty { room.items ≡ [] }
+    requires spare { vec_len room < vec_capacity room }
     ensures { Reads (λ x. (trees x.0.items, x.1.now)) result
         (few (suc most) (put (tree_of first ∷ [])
         (many (byte_at 44) (next (nested_in scope)) (suc (length bytes.now)) bytes.now))) }
 {
-    let mut found = Vec::with_capacity(alloc, likely_length(b',', b')', bytes))?;
-    push_sparing(&mut found, first)?;
+    let mut found = room;
+    found.push_reserved(first);
     let mut rest = bytes;
     while let Some(after) = byte_of(b',', rest) {
         if found.len() > most {
             return Err(refused(Wrong::Form, rest));
         }
+        make_room(&mut found)?;
         let (item, after) = chain(alloc, scope, after)?;
-        push_sparing(&mut found, item)?;
+        found.push_reserved(item);
         rest = after;
     }
     Ok((found, rest))
@@ -104,15 +113,16 @@ fn arguments(
     if !starts_reference(bytes) {
         return Err(no_operand(bytes));
     }
+    let room = list_room(alloc, bytes)?;
     let (first, rest) = atom(alloc, scope, bytes)?;
     if asks_subscript(function) && !has_subscript(&first) {
-        return Err(refused(Wrong::Form, rest));
+        return Err(giving_up(first, refused(Wrong::Form, rest)));
     }
     let quiet = Scope {
         allows: Allows::NoTouches,
         ..scope
     };
-    let (args, rest) = others(alloc, quiet, most, first, rest)?;
+    let (args, rest) = others(alloc, quiet, most, room, first, rest)?;
     let Some(rest) = byte_of(b')', rest) else {
         return Err(no_arguments_end(&args, rest));
     };
@@ -130,10 +140,12 @@ fn choice(
 {
     let (condition, rest) = chain(alloc, scope, bytes)?;
     let Some(rest) = byte_of(b':', rest) else {
-        return Err(no_end(rest));
+        return Err(giving_up(condition, no_end(rest)));
     };
-    let (value, rest) = chain(alloc, scope, rest)?;
-    Ok(((condition, value), rest))
+    match chain(alloc, scope, rest) {
+        Ok((value, rest)) => Ok(((condition, value), rest)),
+        Err(failure) => Err(giving_up(condition, failure)),
+    }
 }
 
 // Choices to the closing parenthesis.
@@ -146,8 +158,9 @@ fn choices(
 ) -> Result<(Vec<(Expr, Expr)>, &[u8]), Failure<Offence>>
     ensures { Reads (λ x. (choices x.0.items, x.1.now)) result (list_with (choice_with (nested_in scope)) bytes.now) }
 {
+    let room = list_room(alloc, bytes)?;
     let (first, rest) = choice(alloc, scope, bytes)?;
-    let (found, rest) = choices_rest(alloc, scope, first, rest)?;
+    let (found, rest) = choices_rest(alloc, scope, room, first, rest)?;
     let Some(rest) = byte_of(b')', rest) else {
         return Err(no_end(rest));
     };
@@ -158,19 +171,23 @@ fn choices(
 fn choices_rest(
     alloc: Global,
     scope: Scope,
+    room: Vec<(Expr, Expr)>,
     first: (Expr, Expr),
     bytes: &[u8],
 ) -> Result<(Vec<(Expr, Expr)>, &[u8]), Failure<Offence>>
+    requires empty { room.items ≡ [] }
+    requires spare { vec_len room < vec_capacity room }
     ensures { Reads (λ x. (choices x.0.items, x.1.now)) result
         (put (choice_of first ∷ [])
         (many (byte_at 44) (next (choice_with (nested_in scope))) (suc (length bytes.now)) bytes.now)) }
 {
-    let mut found = Vec::with_capacity(alloc, likely_length(b',', b')', bytes))?;
-    push_sparing(&mut found, first)?;
+    let mut found = room;
+    found.push_reserved(first);
     let mut rest = bytes;
     while let Some(after) = byte_of(b',', rest) {
+        make_room(&mut found)?;
         let (item, after) = choice(alloc, scope, after)?;
-        push_sparing(&mut found, item)?;
+        found.push_reserved(item);
         rest = after;
     }
     Ok((found, rest))
@@ -203,6 +220,7 @@ fn function<'a>(
 /// What a `$` begins, at which the whole begins.
 #[tactic(auto, unfolding(crate::specs::Reading::dollar_with))]
 #[cycle(reading)]
+#[inline(always)]
 pub(crate) fn dollar<'a>(
     alloc: Global,
     scope: Scope,

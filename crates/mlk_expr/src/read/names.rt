@@ -1,6 +1,6 @@
 // Locals and globals with their subscripts.
 
-ghost use Rattle.std.specs.Prelude.{◌∷◌, [], suc, length};
+ghost use Rattle.std.specs.Prelude.{◌≡◌, ◌<◌, vec_len, vec_capacity, ◌∷◌, [], suc, length};
 ghost use Rattle.mlk_text.specs.Lexemes.{byte_at};
 ghost use Rattle.mlk_text.specs.Reading.{many, put};
 ghost use Rattle.mlk_tokens.specs.Lexemes.{column_of};
@@ -9,13 +9,13 @@ ghost use Rattle.mlk_expr.specs.Reading.{few, next, nested_in, list_with, placed
 ghost use Rattle.mlk_expr.specs.Touches.{globals_may};
 ghost use Rattle.mlk_text.specs.Failures.{Reads};
 
-use crate::part::{global_name, name};
+use crate::part::{global_name, list_room, name};
 use crate::read::chain;
 use crate::refusal::{Offence, Wrong, no_end, refused};
 use crate::scope::Scope;
 use mlk_text::lexeme::byte_of;
 use mlk_text::limit::MOST_SUBSCRIPTS;
-use mlk_text::{Failure, likely_length, push_sparing};
+use mlk_text::{Failure, make_room};
 use mlk_tokens::lexeme::column_of;
 use mlk_tree::{Expr, Subscript};
 use std::alloc::Global;
@@ -44,8 +44,9 @@ fn subs(
     ensures { Reads (λ x. (sub_trees x.0.items, x.1.now)) result
         (few 32 (list_with (placed scope.end (nested_in scope)) bytes.now)) }
 {
+    let room = list_room(alloc, bytes)?;
     let (first, rest) = subscript(alloc, scope, bytes)?;
-    let (found, rest) = subs_rest(alloc, scope, first, rest)?;
+    let (found, rest) = subs_rest(alloc, scope, room, first, rest)?;
     let Some(rest) = byte_of(b')', rest) else {
         return Err(no_end(rest));
     };
@@ -56,25 +57,43 @@ fn subs(
 fn subs_rest(
     alloc: Global,
     scope: Scope,
+    room: Vec<Subscript>,
     first: Subscript,
     bytes: &[u8],
 ) -> Result<(Vec<Subscript>, &[u8]), Failure<Offence>>
+    requires empty { room.items ≡ [] }
+    requires spare { vec_len room < vec_capacity room }
     ensures { Reads (λ x. (sub_trees x.0.items, x.1.now)) result
         (few 32 (put (sub_of first ∷ [])
         (many (byte_at 44) (next (placed scope.end (nested_in scope))) (suc (length bytes.now)) bytes.now))) }
 {
-    let mut found = Vec::with_capacity(alloc, likely_length(b',', b')', bytes))?;
-    push_sparing(&mut found, first)?;
+    let mut found = room;
+    found.push_reserved(first);
     let mut rest = bytes;
     while let Some(after) = byte_of(b',', rest) {
         if found.len() == MOST_SUBSCRIPTS {
             return Err(refused(Wrong::Form, rest));
         }
+        make_room(&mut found)?;
         let (item, after) = subscript(alloc, scope, after)?;
-        push_sparing(&mut found, item)?;
+        found.push_reserved(item);
         rest = after;
     }
     Ok((found, rest))
+}
+
+// The same in a function of its own, so that the place of its result is cleared only where it is called.
+#[cycle(reading)]
+#[inline(always)]
+fn some_subs(
+    alloc: Global,
+    scope: Scope,
+    bytes: &[u8],
+) -> Result<(Vec<Subscript>, &[u8]), Failure<Offence>>
+    ensures { Reads (λ x. (sub_trees x.0.items, x.1.now)) result
+        (few 32 (list_with (placed scope.end (nested_in scope)) bytes.now)) }
+{
+    subs(alloc, scope, bytes)
 }
 
 /// The subscripts at the front, which may be none, and what is after them.
@@ -91,7 +110,7 @@ pub(crate) fn subscripts(
     let Some(rest) = byte_of(b'(', bytes) else {
         return Ok((Vec::new(alloc), bytes));
     };
-    subs(alloc, scope, rest)
+    some_subs(alloc, scope, rest)
 }
 
 /// A local with its subscripts.

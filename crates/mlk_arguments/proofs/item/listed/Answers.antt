@@ -16,7 +16,7 @@ returns-in_err-first t c =
 
 pub loop-alloc-init : goal.loop-alloc-init
 loop-alloc-init t c =
-    let e : c.push_reserved.new.self.items ≡ c.in_ok-first.first ∷ [] = c.push_reserved.ensures.items ∙ ap (λ l. l ++ c.in_ok-first.first ∷ []) c.in_ok-items.ensures.items in
+    let e : c.push_reserved.new.self.items ≡ c.in_ok-first.first ∷ [] = c.push_reserved.ensures.items ∙ ap (λ l. l ++ c.in_ok-first.first ∷ []) c.in-Ok.ensures.items in
     subst (λ l. SoFar t.T.Item.is t.T.Item.ends t.T.Item.stop c.args.line.now c.args.at (map t.T.Item.seen l) c.in_ok-first.next) (sym e)
     (begun t.T.Item.is t.T.Item.ends t.T.Item.stop c.args.line.now c.args.at c.requires (t.T.Item.seen c.in_ok-first.first) c.in_ok-first.next c.in_ok-first.ensures)
 
@@ -36,7 +36,7 @@ loop-alloc-smaller t c = goes_on t.T.Item.is t.T.Item.ends t.T.Item.stop c.args.
 
 pub loop-alloc-preserved : goal.loop-alloc-preserved
 loop-alloc-preserved t c =
-    let e = ap (map t.T.Item.seen) c.in_ok-push_sparing.ensures ∙ map-append t.T.Item.seen c.loop-alloc.items.items (c.in_ok-item.item ∷ []) in
+    let e = ap (map t.T.Item.seen) (c.push_reserved-in-loop-alloc.ensures.items ∙ ap (λ l. l ++ c.in_ok-item.item ∷ []) c.in_ok-make_room.ensures.same) ∙ map-append t.T.Item.seen c.loop-alloc.items.items (c.in_ok-item.item ∷ []) in
     subst (λ l. SoFar t.T.Item.is t.T.Item.ends t.T.Item.stop c.args.line.now c.args.at l c.in_ok-item.end) (sym e)
     (one_more t.T.Item.is t.T.Item.ends t.T.Item.stop c.args.line.now c.args.at (map t.T.Item.seen c.loop-alloc.items.items) c.loop-alloc.next c.loop-alloc.invariant (c.loop-alloc-test.ensures.yes refl) (t.T.Item.seen c.in_ok-item.item) c.in_ok-item.end c.in_ok-item.ensures)
 

@@ -29,7 +29,7 @@ atom-returns t c = rw (atom_in-above c.args.scope c.args.bytes.now (omega (arith
 
 pub chain_rest-returns-in_err-item : goal.chain_rest-returns-in_err-item
 chain_rest-returns-in_err-item t c =
-    let p = err_from_is_err_and c.from_residual.result c.from_residual.ensures.1 in
+    let p = err_from_is_err_and c.from_residual-in_err-item.result c.from_residual-in_err-item.ensures.1 in
     rw (p.1, p.2) (loop_fails op_at (linked (atom_in c.args.scope) (pattern_at c.args.scope.left)) _ c.loop-op.invariant.0 c.loop-op.rest.now _ c.in-Some.op c.in-Some.after.now c.in_err-item.field-0.0
     (sym c.in-Some.ensures) (with_fails _ _ _ c.in_err-item.ensures) c.loop-op.invariant.1 c.loop-op.invariant.2)
 
@@ -41,7 +41,7 @@ chain_rest-loop-op-preserved t c =
     let less = link-shorter c.args.scope c.in-Some.op (tree_of c.in_ok-item.item) c.loop-op.rest.now c.in-Some.after.now c.in_ok-item.after.now (sym c.in-Some.ensures) c.in_ok-item.ensures in
     let more = many_goes op_at (linked (atom_in c.args.scope) (pattern_at c.args.scope.left)) (links c.loop-op.found.items) c.loop-op.invariant.0 c.loop-op.rest.now _ c.in-Some.op c.in-Some.after.now
     (c.in-Some.op, tree_of c.in_ok-item.item) c.in_ok-item.after.now (sym c.in-Some.ensures) (ap (with (λ u. (c.in-Some.op, u))) c.in_ok-item.ensures) less c.loop-op.invariant.1 c.loop-op.invariant.2 in
-    rw (c.in_ok-push_sparing.ensures, map-append) more
+    rw (c.push_reserved.ensures.items, c.in_ok-make_room.ensures.same, map-append) more
 
 pub chain_rest-returns : goal.chain_rest-returns
 chain_rest-returns t c = many_stops op_at (linked (atom_in c.args.scope) (pattern_at c.args.scope.left)) (links c.loop-op.found.items) c.loop-op.invariant.0 c.loop-op.rest.now _ (sym c.in_default.ensures) c.loop-op.invariant.1 c.loop-op.invariant.2
@@ -60,7 +60,7 @@ functions::exprs_rest-loop-after-preserved t c =
     let less = item-shorter (nested_in c.args.scope) (IsNestedIn c.args.scope) (nested_in-exact c.args.scope) (tree_of c.in_ok-item.item) c.loop-after.rest.now c.in-Some.after.now c.in_ok-item.after.now (sym c.in-Some.ensures) c.in_ok-item.ensures in
     let more = many_goes (byte_at 44) (next (nested_in c.args.scope)) (trees c.loop-after.found.items) c.loop-after.invariant.0 c.loop-after.rest.now _ 44 c.in-Some.after.now
     (tree_of c.in_ok-item.item) c.in_ok-item.after.now (sym c.in-Some.ensures) c.in_ok-item.ensures less c.loop-after.invariant.1 c.loop-after.invariant.2 in
-    rw (c.in_ok-push_sparing-2.ensures, map-append) more
+    rw (c.push_reserved-in-Some.ensures.items, c.in_ok-make_room.ensures.same, map-append) more
 
 pub functions::exprs_rest-returns : goal.functions::exprs_rest-returns
 functions::exprs_rest-returns t c = many_stops (byte_at 44) (next (nested_in c.args.scope)) (trees c.loop-after.found.items) c.loop-after.invariant.0 c.loop-after.rest.now _ (sym c.in_default.ensures) c.loop-after.invariant.1 c.loop-after.invariant.2
@@ -90,7 +90,7 @@ names::subs_rest-loop-after-preserved t c =
     (sub_of c.in_ok-item.item) c.in_ok-item.after.now (sym c.in-Some.ensures) c.in_ok-item.ensures less c.loop-after.invariant.1 c.loop-after.invariant.2 in
     let room : length (c.loop-after.found.items ++ c.in_ok-item.item ∷ []) ≤ 32 =
     (let same = c.if-len-eq-MOST_SUBSCRIPTS.false in let counted = c.len.ensures in let few = c.loop-after.invariant.3 in let grown = length-append c.loop-after.found.items (c.in_ok-item.item ∷ []) in omega (arith, c.loop-after.found.ok)) in
-    rw (c.in_ok-push_sparing-2.ensures, map-append) (more.0, more.1, more.2, room)
+    rw (c.push_reserved-in-Some.ensures.items, c.in_ok-make_room.ensures.same, map-append) (more.0, more.1, more.2, room)
 
 pub names::subs_rest-returns : goal.names::subs_rest-returns
 names::subs_rest-returns t c =
@@ -110,7 +110,7 @@ names::subs-returns-in_default t c =
 
 pub names::subs-returns-in_err-first : goal.names::subs-returns-in_err-first
 names::subs-returns-in_err-first t c =
-    let p = err_from_is_err_and c.from_residual.result c.from_residual.ensures.1 in
+    let p = err_from_is_err_and c.from_residual-in_err-first.result c.from_residual-in_err-first.ensures.1 in
     rw (p.1, p.2) (list-fails (placed c.args.scope.end (nested_in c.args.scope)) 32 c.args.bytes.now c.in_err-first.field-0.0 c.in_err-first.ensures)
 
 pub names::subs-returns-in_err-found : goal.names::subs-returns-in_err-found
@@ -144,7 +144,7 @@ functions::others-loop-after-preserved t c =
     (tree_of c.in_ok-item.item) c.in_ok-item.after.now (sym c.in-Some.ensures) c.in_ok-item.ensures less c.loop-after.invariant.1 c.loop-after.invariant.2 in
     let room : length (c.loop-after.found.items ++ c.in_ok-item.item ∷ []) ≤ (suc c.args.most) =
     (let same = c.if-len-most.false in let counted = c.len.ensures in let grown = length-append c.loop-after.found.items (c.in_ok-item.item ∷ []) in omega (arith, c.loop-after.found.ok)) in
-    rw (c.in_ok-push_sparing-2.ensures, map-append) (more.0, more.1, more.2, room)
+    rw (c.push_reserved-in-Some.ensures.items, c.in_ok-make_room.ensures.same, map-append) (more.0, more.1, more.2, room)
 
 pub functions::others-returns : goal.functions::others-returns
 functions::others-returns t c =
@@ -167,7 +167,7 @@ functions::choices_rest-loop-after-preserved t c =
     let less = item-shorter (choice_with (nested_in c.args.scope)) (IsChoice (IsNestedIn c.args.scope)) (choice-exact (nested_in c.args.scope) (IsNestedIn c.args.scope) (nested_in-exact c.args.scope)) (choice_of c.in_ok-item.item) c.loop-after.rest.now c.in-Some.after.now c.in_ok-item.after.now (sym c.in-Some.ensures) c.in_ok-item.ensures in
     let more = many_goes (byte_at 44) (next (choice_with (nested_in c.args.scope))) (choices c.loop-after.found.items) c.loop-after.invariant.0 c.loop-after.rest.now _ 44 c.in-Some.after.now
     (choice_of c.in_ok-item.item) c.in_ok-item.after.now (sym c.in-Some.ensures) c.in_ok-item.ensures less c.loop-after.invariant.1 c.loop-after.invariant.2 in
-    rw (c.in_ok-push_sparing-2.ensures, map-append) more
+    rw (c.push_reserved-in-Some.ensures.items, c.in_ok-make_room.ensures.same, map-append) more
 
 pub functions::choices_rest-returns : goal.functions::choices_rest-returns
 functions::choices_rest-returns t c = many_stops (byte_at 44) (next (choice_with (nested_in c.args.scope))) (choices c.loop-after.found.items) c.loop-after.invariant.0 c.loop-after.rest.now _ (sym c.in_default.ensures) c.loop-after.invariant.1 c.loop-after.invariant.2
@@ -186,7 +186,7 @@ actuals::actuals_rest-loop-after-preserved t c =
     let less = actual-shorter c.args.passing c.args.scope (actual_of c.in_ok-item.item) c.loop-after.rest.now c.in-Some.after.now c.in_ok-item.after.now (sym c.in-Some.ensures) c.in_ok-item.ensures in
     let more = many_goes (byte_at 44) (next (actual_with c.args.passing c.args.scope.end (nested_in c.args.scope))) (actual_trees c.loop-after.found.items) c.loop-after.invariant.0 c.loop-after.rest.now _ 44 c.in-Some.after.now
     (actual_of c.in_ok-item.item) c.in_ok-item.after.now (sym c.in-Some.ensures) c.in_ok-item.ensures less c.loop-after.invariant.1 c.loop-after.invariant.2 in
-    rw (c.in_ok-push_sparing-2.ensures, map-append) more
+    rw (c.push_reserved-in-Some.ensures.items, c.in_ok-make_room.ensures.same, map-append) more
 
 pub actuals::actuals_rest-returns : goal.actuals::actuals_rest-returns
 actuals::actuals_rest-returns t c = many_stops (byte_at 44) (next (actual_with c.args.passing c.args.scope.end (nested_in c.args.scope))) (actual_trees c.loop-after.found.items) c.loop-after.invariant.0 c.loop-after.rest.now _ (sym c.in_default.ensures) c.loop-after.invariant.1 c.loop-after.invariant.2

@@ -13,13 +13,13 @@ pub loop-line-preserved : goal.loop-line-preserved
 loop-line-preserved t c =
     let l = c.in-Some.line in
     let o = out-Line l in
-    let inside = c.in_ok-line.field-0 in
+    let inside = c.in-Ok.inner in
     let x : Line-F Line = record { number = o.number; level = o.level; end = o.end; label = o.label; formals = o.formals; commands = o.commands; block = inside } in
     let made = line_roll x ∙ ap (λ h. (h, lines_from (map line_of inside.items))) (sym (head_out l)) in
     let start = map head_of c.args.lines.now.items in
     let more = map head_of c.deeper.new.lines.items in
     let left = map head_of c.block.new.lines.items in
-    let is : IsBlock (level_of (head_of l)) (lines_from (map line_of inside.items)) more left = subst (λ n. IsBlock n (lines_from (map line_of inside.items)) more left) (sym (level_out l)) c.in_ok-line.ensures in
-    let items = ap (map line_of) c.in_ok-push_sparing.ensures ∙ map-append line_of c.loop-line.found.items (roll-Line x ∷ []) ∙ ap (λ p. map line_of c.loop-line.found.items ++ p ∷ []) made in
+    let is : IsBlock (level_of (head_of l)) (lines_from (map line_of inside.items)) more left = subst (λ n. IsBlock n (lines_from (map line_of inside.items)) more left) (sym (level_out l)) c.in-Ok.ensures in
+    let items = ap (map line_of) (c.push_reserved.ensures.items ∙ ap (λ l. l ++ roll-Line x ∷ []) c.in-Ok-make_room.ensures.same) ∙ map-append line_of c.loop-line.found.items (roll-Line x ∷ []) ∙ ap (λ p. map line_of c.loop-line.found.items ++ p ∷ []) made in
     subst (λ k. BlocksSoFar c.args.level start k left) (sym items)
     (one_block c.args.level start (map line_of c.loop-line.found.items) (map head_of c.loop-line.lines.items) c.loop-line.invariant (head_of l) more (ap (map head_of) c.in-Some.ensures.0) c.in-Some.ensures.1 (lines_from (map line_of inside.items)) left is)

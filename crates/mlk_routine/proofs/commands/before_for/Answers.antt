@@ -1,4 +1,4 @@
-use Rattle.std.proofs.Common.{map, ◌∙◌, ◌∷◌, [], sym, ap, subst}
+use Rattle.std.proofs.Common.{map, ◌∙◌, ◌++◌, ◌∷◌, [], sym, ap, subst}
 use Rattle.std.proofs.lemmas.List.{map-append}
 use Rattle.std.proofs.lemmas.Result.{err_from_is_err_and}
 use Rattle.mlk_arguments.specs.Told.{Found, Denied}
@@ -23,7 +23,7 @@ loop-alloc-smaller c =
 
 pub loop-alloc-preserved : goal.loop-alloc-preserved
 loop-alloc-preserved c =
-    let e = ap (map command_of) c.in_ok-add.ensures ∙ map-append command_of c.loop-alloc.before.items (c.in_ok-read.read ∷ []) in
+    let e = ap (map command_of) (c.push_reserved.ensures.items ∙ ap (λ l. l ++ c.in_ok-read.read ∷ []) c.in-Ok.ensures.same) ∙ map-append command_of c.loop-alloc.before.items (c.in_ok-read.read ∷ []) in
     subst (λ l. LeadsTo c.args.inside.level c.args.inside.loops c.args.line.now c.args.at l c.past_spaces-next.result) (sym e)
     (leads_more c.args.inside.level c.args.inside.loops c.args.line.now c.args.at c.loop-alloc.next (map command_of c.loop-alloc.before.items) c.loop-alloc.invariant (sym c.is_commands_end.ensures ∙ c.loop-alloc-test.true) (sym c.is_for_here.ensures ∙ c.if-not-is_for_here.true)
     (command_of c.in_ok-read.read) c.in_ok-read.end c.past_spaces-next.result (subst (λ b. Found (IsCommand b) CommandEnd c.args.line.now c.loop-alloc.next (command_of c.in_ok-read.read) c.in_ok-read.end) c.returns.ensures c.in_ok-read.ensures) c.past_spaces-next.ensures)

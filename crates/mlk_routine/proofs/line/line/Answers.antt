@@ -29,8 +29,9 @@ returns-in_err-commands-clause-refused c =
 pub returns-then-plain-text-clause-refused : goal.returns-then-plain-text-clause-refused
 returns-then-plain-text-clause-refused c =
     let bytes = c.args.text.now in
-    refused_byte c.args.before.now c.args.number bytes c.refused-then-plain-text.result (c.refused-then-plain-text.ensures.fault bytes c.line_bytes-plain.ensures.within refl refl)
-    (one_bad is_line_byte bytes (subst (λ n. n < length bytes) c.line_bytes-plain.ensures.value c.if-plain-text.true))
+    rw c.giving_up.ensures
+    (refused_byte c.args.before.now c.args.number bytes c.refused-then-plain-text.result (c.refused-then-plain-text.ensures.fault bytes c.line_bytes-plain.ensures.within refl refl)
+    (one_bad is_line_byte bytes (subst (λ n. n < length bytes) c.line_bytes-plain.ensures.value c.if-plain-text.true)))
 
 pub returns-clause-line : goal.returns-clause-line
 returns-clause-line c =
