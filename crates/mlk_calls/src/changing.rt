@@ -1,6 +1,6 @@
 // Changes of names.
 
-ghost use Rattle.std.specs.Prelude.{◌≡◌, IfOk, map};
+ghost use Rattle.std.specs.Prelude.{◌≡◌, IfOk, OnOk, is_none, map};
 ghost use Rattle.std.specs.List.{list_all};
 ghost use Rattle.mlk_scope.specs.Names.{may_change};
 ghost use Rattle.mlk_scope.specs.Scope.{scope_of};
@@ -9,7 +9,7 @@ ghost use Rattle.mlk_scope.specs.Refusals.{AnswersOf};
 
 use mlk_cert::{Case, NameSet};
 use mlk_names::Sym;
-use mlk_scope::{Refusal, Scope, State, have, may_change, mention, without};
+use mlk_scope::{Refusal, Scope, State, have, may_change, mention, take_out};
 use mlk_text::{Code, Failure, List, copy_of};
 use std::alloc::{AllocError, Global};
 
@@ -41,24 +41,15 @@ pub(crate) fn mark_all(
 
 /// The case after a change of names: they lose the values of the call's begin.
 #[inline(always)]
-pub(crate) fn changed_case(alloc: Global, names: &[NameSet], case: Case) -> Result<Case, AllocError>
+pub(crate) fn changed_case(
+    alloc: Global,
+    names: &[NameSet],
+    mut case: Case,
+) -> Result<Case, AllocError>
     ensures { IfOk result (λ c. c ≡ without_kept names.now case) }
 {
-    let Case {
-        test,
-        held,
-        own,
-        kept,
-        saved,
-    } = case;
-    let kept = without(alloc, names, kept)?;
-    Ok(Case {
-        test,
-        held,
-        own,
-        kept,
-        saved,
-    })
+    take_out(alloc, names, &mut case.kept)?;
+    Ok(case)
 }
 
 /// The state after a change of names: they lose the values of the call's begin, and captured symbols that mention them
@@ -93,6 +84,30 @@ pub(crate) fn change_fault(scope: &Scope, names: &[NameSet], state: &State) -> O
         return Some(Code::SummaryShort);
     }
     None
+}
+
+/// Whether names may change in a state, so that [`change`] is not refused. It takes no memory.
+pub fn is_allowed(scope: &Scope, names: &[NameSet], state: &State) -> bool
+    ensures { result ≡ is_none (change_fault (scope_of scope.now) names.now state.now) }
+{
+    change_fault(scope, names, state).is_none()
+}
+
+/// The same as [`changed`], in place.
+pub fn change_in_place(
+    alloc: Global,
+    names: &[NameSet],
+    state: &mut State,
+) -> Result<(), AllocError>
+    ensures { OnOk result (state.new ≡ changed_state names.now state.old) }
+{
+    take_out(alloc, names, &mut state.case.kept)?;
+    let Some(_) = state.captured.as_slice().split_first() else {
+        return Ok(());
+    };
+    let symbols = mark_all(alloc, names, state.captured.as_slice())?;
+    state.captured = List::of(symbols);
+    Ok(())
 }
 
 /// What a change of names makes of a state. It is refused by the first of: a held term mentions one of them (705); one is

@@ -7,7 +7,7 @@ mod claim;
 mod mend;
 
 pub use call::{Calling, at_call, at_job};
-pub use changing::{change, changed, short_names};
+pub use changing::{change, change_in_place, changed, is_allowed, short_names};
 pub use claim::{claimed, may_take, release_all, release_one};
 pub use mend::{call_changes, callee_summary, missing_need};
 pub use mlk_scope::{

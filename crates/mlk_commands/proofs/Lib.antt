@@ -9,3 +9,4 @@ pub mod Worked
 pub mod VariableExamples
 pub mod LockExamples
 pub mod CallExamples
+pub mod Written

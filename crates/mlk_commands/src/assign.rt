@@ -1,16 +1,17 @@
 // SET.
 
-ghost use Rattle.std.specs.Prelude.{◌≡◌, IfOk, OnOk, map};
+ghost use Rattle.std.specs.Prelude.{◌≡◌, IfOk, OnOk, is_none, map};
+ghost use Rattle.std.specs.List.{list_all};
 ghost use Rattle.mlk_tree.specs.ExprTrees.{trees};
 ghost use Rattle.mlk_tree.specs.Views.{variable_of, target_of, set_of};
 ghost use Rattle.mlk_names.specs.declared.reference.Extent.TheVariants as extent;
 ghost use Rattle.mlk_scope.specs.declared.state.State.{State};
 ghost use Rattle.mlk_rows.specs.Spots.{spot_of};
-ghost use Rattle.mlk_rows.specs.Walks.{Outcome};
-ghost use Rattle.mlk_rows.specs.References.{touch};
+ghost use Rattle.mlk_rows.specs.Walks.{Outcome, each};
+ghost use Rattle.mlk_rows.specs.References.{checked, touch};
 ghost use Rattle.mlk_commands.specs.Arguments.{variable_in, arguments_in, capture_targets, symbols_at, read_part, read_target, write_variable, assign, assign_all, count_targets, set_argument};
 
-use crate::variable::{capture_variable, change_local, count_of};
+use crate::variable::{capture_variable, change_local, change_locals, count_of};
 use mlk_calls::State;
 use mlk_names::{Access, Extent, Sym};
 use mlk_rows::{Row, Spot, Touch, Walk, covered_or, each, forget, value, values};
@@ -67,6 +68,36 @@ struct TouchAt<'a> {
     touch: Touch<'a>,
     from: usize,
     count: usize,
+}
+
+impl<'a> TouchAt<'a> {
+    // Whether it is covered. It takes no memory.
+    fn is_covered(&self, state: &State) -> bool
+        ensures { result ≡ is_none (checked (spot_of self.now.spot.now) self.now.touch.extent self.now.touch.access
+            self.now.touch.name.now (symbols_at self.now.from self.now.count state.now) state.now) }
+    {
+        let symbols = symbols_at(state, self.from, self.count);
+        self.touch.is_covered(self.spot, symbols, state)
+    }
+
+    fn are_covered(&self, states: &[State]) -> bool
+        ensures { result ≡ list_all (λ s. is_none (checked (spot_of self.now.spot.now) self.now.touch.extent
+            self.now.touch.access self.now.touch.name.now (symbols_at self.now.from self.now.count s) s)) states.now }
+    {
+        states.iter().all(|state| self.is_covered(state))
+    }
+
+    // It, in each state that goes on: mostly it is covered in all of them, and then no state is moved.
+    fn make_in_each(&self, walk: &mut Walk) -> Result<(), AllocError>
+        ensures { OnOk result (walk.new ≡ each (λ s. touch (spot_of self.now.spot.now) self.now.touch.extent
+            self.now.touch.access self.now.touch.column self.now.touch.name.now
+            (symbols_at self.now.from self.now.count s) s) walk.old) }
+    {
+        if self.are_covered(walk.going.as_slice()) {
+            return walk.once(self.spot.alloc);
+        }
+        each(self.spot.alloc, self, walk)
+    }
 }
 
 impl<'a> Row for TouchAt<'a> {
@@ -173,6 +204,47 @@ impl<'a> Row for Write<'a> {
     }
 }
 
+// It, in each state that goes on: a node that all may write, and a local that all may change, move no state.
+#[tactic(auto, using(crate::proofs::Written::local_written))]
+fn write_in_each<'a>(
+    spot: &'a Spot<'a>,
+    from: usize,
+    variable: &'a Variable,
+    walk: &mut Walk,
+) -> Result<(), AllocError>
+    ensures { OnOk result (walk.new
+        ≡ each (write_variable (spot_of spot.now) from (variable_of variable.now)) walk.old) }
+{
+    match &variable.name {
+        Expr::Global(column, name, subscripts) => {
+            let touch = Touch {
+                extent: Extent::Node,
+                access: Access::Writes,
+                column: *column,
+                name,
+            };
+            let row = TouchAt {
+                spot,
+                touch,
+                from,
+                count: subscripts.len(),
+            };
+            row.make_in_each(walk)
+        }
+        Expr::Local(name, subscripts) => {
+            change_locals(spot, variable.column, name, subscripts, walk)
+        }
+        _ => {
+            let row = Write {
+                spot,
+                from,
+                variable,
+            };
+            each(spot.alloc, &row, walk)
+        }
+    }
+}
+
 fn assign<'a>(
     spot: &'a Spot<'a>,
     from: usize,
@@ -182,12 +254,7 @@ fn assign<'a>(
     ensures { OnOk result (walk.new ≡ assign (spot_of spot.now) from (target_of target.now) walk.old) }
 {
     read_target(spot, from, target, walk)?;
-    let row = Write {
-        spot,
-        from,
-        variable: variable_in(target),
-    };
-    each(spot.alloc, &row, walk)
+    write_in_each(spot, from, variable_in(target), walk)
 }
 
 // Each target is assigned to in turn; and how many symbols were captured for them, which memory bounds.

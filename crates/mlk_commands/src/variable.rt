@@ -1,16 +1,17 @@
 // Variables as commands name them, and changes of locals.
 
-ghost use Rattle.std.specs.Prelude.{◌≡◌, ◌∷◌, [], OnOk};
+ghost use Rattle.std.specs.Prelude.{◌≡◌, ◌∷◌, [], OnOk, is_none};
+ghost use Rattle.std.specs.List.{list_all};
 ghost use Rattle.mlk_tree.specs.ExprTrees.{sub_trees, subs_from};
 ghost use Rattle.mlk_tree.specs.Views.{variable_of};
 ghost use Rattle.mlk_scope.specs.declared.state.State.{State};
-ghost use Rattle.mlk_calls.specs.Changes.{change};
+ghost use Rattle.mlk_calls.specs.Changes.{change, change_fault, changed_state};
 ghost use Rattle.mlk_scope.specs.Refusals.{AnswersOf};
 ghost use Rattle.mlk_rows.specs.Spots.{spot_of};
-ghost use Rattle.mlk_rows.specs.Walks.{Outcome, add_all, each};
+ghost use Rattle.mlk_rows.specs.Walks.{Outcome, add_all, each, each_changed};
 ghost use Rattle.mlk_commands.specs.Variables.{subs_of, name_in, count_in, capture_variable, change_at, change_local};
 
-use mlk_calls::{Refusal, State, change, short_names};
+use mlk_calls::{Refusal, State, change, change_in_place, is_allowed, short_names};
 use mlk_cert::NameSet;
 use mlk_rows::{Mend, Row, Spot, Walk, capture_subs, each};
 use mlk_text::{Code, Column, Failure, Name};
@@ -78,6 +79,41 @@ impl<'a> Change<'a> {
         let names = slice::from_ref(self.names);
         change(self.spot.alloc, self.spot.scope, names, state)
     }
+
+    // Whether it is allowed in each of these states.
+    fn is_allowed(&self, states: &[State]) -> bool
+        ensures { result ≡ list_all (λ s. is_none (change_fault (spot_of self.now.spot.now).scope
+            (self.now.names.now ∷ []) s)) states.now }
+    {
+        let names = slice::from_ref(self.names);
+        states
+            .iter()
+            .all(|state| is_allowed(self.spot.scope, names, state))
+    }
+
+    // It, in each state that goes on, which all allow it.
+    fn make_in_place(&self, walk: &mut Walk) -> Result<(), AllocError>
+        ensures { OnOk result (walk.new ≡ each_changed (changed_state (self.now.names.now ∷ [])) walk.old) }
+    {
+        let alloc = self.spot.alloc;
+        let names = slice::from_ref(self.names);
+        let mut states = walk.take_going(alloc).into_vec();
+        for state in states.iter_mut() {
+            change_in_place(alloc, names, state)?;
+        }
+        walk.resume(alloc, states)
+    }
+
+    /// It, in each state that goes on: mostly all allow it, and then no state is moved.
+    pub fn make_in_each(&self, walk: &mut Walk) -> Result<(), AllocError>
+        ensures { OnOk result (walk.new
+            ≡ each (change_at (spot_of self.now.spot.now) self.now.column self.now.names.now) walk.old) }
+    {
+        if self.is_allowed(walk.going.as_slice()) {
+            return self.make_in_place(walk);
+        }
+        each(self.spot.alloc, self, walk)
+    }
 }
 
 impl<'a> Row for Change<'a> {
@@ -104,12 +140,35 @@ pub(crate) fn change_all<'a>(
 ) -> Result<(), AllocError>
     ensures { OnOk result (walk.new ≡ each (change_at (spot_of spot.now) column names.now) walk.old) }
 {
-    let row = Change {
+    let change = Change {
         spot,
         column,
         names,
     };
-    each(spot.alloc, &row, walk)
+    change.make_in_each(walk)
+}
+
+/// A change of a local in each state that goes on; with subscripts nothing that is known changes.
+pub(crate) fn change_locals<'a>(
+    spot: &'a Spot<'a>,
+    column: Column,
+    name: &Name,
+    subscripts: &[Subscript],
+    walk: &mut Walk,
+) -> Result<(), AllocError>
+    ensures { OnOk result (walk.new ≡ each (change_local (spot_of spot.now) column name.now
+        (subs_from (sub_trees subscripts.now))) walk.old) }
+{
+    if let Some(_) = subscripts.split_first() {
+        return walk.once(spot.alloc);
+    }
+    let names = NameSet::Only(name.copy()?);
+    let change = Change {
+        spot,
+        column,
+        names: &names,
+    };
+    change.make_in_each(walk)
 }
 
 /// A change of a local, at a column; with subscripts nothing that is known changes.

@@ -1,5 +1,5 @@
 -- What the lists of rules have to keep. This project's own choice.
-use Rattle.std.specs.Prelude.{◌≡◌, ◌==◌, ◌&&◌, nat_le, ℕ, Bool, true, false, List, length}
+use Rattle.std.specs.Prelude.{◌≡◌, ◌==◌, ◌&&◌, nat_le, ℕ, Bool, true, false}
 use Rattle.std.specs.List.{list_all, count_by}
 use Rattle.mlk_text.specs.Spellings.{is_name}
 use Rattle.mlk_text.specs.declared.root.Root.{Root}

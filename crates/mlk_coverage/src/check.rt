@@ -9,15 +9,16 @@ ghost use Rattle.mlk_coverage.specs.Fronts.{OwnSubs};
 
 use crate::cover::Cover;
 use crate::held::holds_lock;
+use crate::lent::Lent;
 use crate::lies::is_ruled_by;
-use crate::meet::may_meet;
+use crate::meet::meets;
 use crate::pattern::{Element, Pattern};
 use crate::rules::{RuleLists, Rules};
 use mlk_names::{Access, LockTerm, Reference, Sym};
 use mlk_text::Code;
 
 // Whether the pattern of some of the rules is a rule for all of the reference.
-fn some_cover_rules(covers: &[Cover], reference: &Reference) -> bool
+fn some_cover_rules(covers: &[Cover], reference: &Lent<'_>) -> bool
     ensures { IsTrue result ↔ ((c : cover_rule) × Contains covers.now c × IsFor reference.now c.pattern) }
 {
     for cover in covers {
@@ -28,7 +29,7 @@ fn some_cover_rules(covers: &[Cover], reference: &Reference) -> bool
     false
 }
 
-fn some_pattern_rules(patterns: &[Pattern], reference: &Reference) -> bool
+fn some_pattern_rules(patterns: &[Pattern], reference: &Lent<'_>) -> bool
     ensures { IsTrue result ↔ ((p : pattern) × Contains patterns.now p × IsFor reference.now p) }
 {
     for pattern in patterns {
@@ -39,7 +40,7 @@ fn some_pattern_rules(patterns: &[Pattern], reference: &Reference) -> bool
     false
 }
 
-fn is_ruled(rules: &RuleLists, reference: &Reference) -> bool
+fn is_ruled(rules: &RuleLists, reference: &Lent<'_>) -> bool
     ensures { IsTrue result ↔ IsRuled rules.now reference.now }
 {
     some_cover_rules(rules.covers.as_slice(), reference)
@@ -47,21 +48,21 @@ fn is_ruled(rules: &RuleLists, reference: &Reference) -> bool
         || some_pattern_rules(rules.readonly.as_slice(), reference)
 }
 
-fn some_may_be_met(patterns: &[Pattern], reference: &Reference) -> bool
+fn some_may_be_met(patterns: &[Pattern], reference: &Lent<'_>) -> bool
     ensures { IsTrue result ↔ ((p : pattern) × Contains patterns.now p × MayMeet p reference.now) }
 {
     for pattern in patterns {
-        if may_meet(pattern, reference) {
+        if meets(pattern, reference) {
             return true;
         }
     }
     false
 }
 
-fn keeps_readonly(rules: &RuleLists, reference: &Reference) -> bool
+fn keeps_readonly(rules: &RuleLists, reference: &Lent<'_>) -> bool
     ensures { IsTrue result ↔ KeepsReadonly rules.now reference.now }
 {
-    match reference.access {
+    match reference.access() {
         Access::Reads => true,
         Access::Writes => !some_may_be_met(rules.readonly.as_slice(), reference),
     }
@@ -79,12 +80,12 @@ fn has_own_subs(elements: &[Element], symbols: &[Sym]) -> bool
     true
 }
 
-fn each_is_own(patterns: &[Pattern], reference: &Reference) -> bool
+fn each_is_own(patterns: &[Pattern], reference: &Lent<'_>) -> bool
     ensures { IsTrue result ↔ EachIsOwn patterns.now reference.now }
 {
     for pattern in patterns {
-        if may_meet(pattern, reference)
-            && !has_own_subs(pattern.elements.as_slice(), reference.subs.as_slice())
+        if meets(pattern, reference)
+            && !has_own_subs(pattern.elements.as_slice(), reference.subs())
         {
             return false;
         }
@@ -92,18 +93,18 @@ fn each_is_own(patterns: &[Pattern], reference: &Reference) -> bool
     true
 }
 
-fn each_is_held(covers: &[Cover], reference: &Reference, held: &[LockTerm]) -> bool
+fn each_is_held(covers: &[Cover], reference: &Lent<'_>, held: &[LockTerm]) -> bool
     ensures { IsTrue result ↔ EachIsHeld covers.now held.now reference.now }
 {
     for cover in covers {
-        if may_meet(&cover.pattern, reference) && !holds_lock(held, &cover.lock, reference) {
+        if meets(&cover.pattern, reference) && !holds_lock(held, &cover.lock, reference) {
             return false;
         }
     }
     true
 }
 
-fn covered_by(rules: &RuleLists, reference: &Reference, held: &[LockTerm]) -> Result<(), Code>
+fn covered_by(rules: &RuleLists, reference: &Lent<'_>, held: &[LockTerm]) -> Result<(), Code>
     ensures ok { OnOk result (IsAnswer rules.now held.now reference.now None) }
     ensures err { IfErr result (λ code. IsAnswer rules.now held.now reference.now (Some code)) }
 {
@@ -122,14 +123,22 @@ fn covered_by(rules: &RuleLists, reference: &Reference, held: &[LockTerm]) -> Re
     Ok(())
 }
 
+/// The same as `covered`, of a reference whose parts are lent.
+pub fn covered_lent(rules: &Rules, reference: &Lent<'_>, held: &[LockTerm]) -> Result<(), Code>
+    ensures ok { OnOk result (IsAnswer rules.now held.now reference.now None) }
+    ensures err { IfErr result (λ code. IsAnswer rules.now held.now reference.now (Some code)) }
+{
+    match rules.group(reference.root()) {
+        Some(group) => covered_by(group, reference, held),
+        None => Err(Code::Unruled),
+    }
+}
+
 /// Whether each rule that the reference may meet is satisfied by what is held, and some rule is for all of it; else
 /// the first code of what is wrong. It takes no memory, and asks the rules of the reference's global alone.
 pub fn covered(rules: &Rules, reference: &Reference, held: &[LockTerm]) -> Result<(), Code>
     ensures ok { OnOk result (IsAnswer rules.now held.now reference.now None) }
     ensures err { IfErr result (λ code. IsAnswer rules.now held.now reference.now (Some code)) }
 {
-    match rules.group(&reference.root) {
-        Some(group) => covered_by(group, reference, held),
-        None => Err(Code::Unruled),
-    }
+    covered_lent(rules, &Lent::of(reference), held)
 }

@@ -6,8 +6,9 @@ ghost use Rattle.mlk_names.specs.Terms.{IsPrefix};
 ghost use Rattle.mlk_coverage.specs.Coverage.{symbol_at, cut_template, HoldsLock};
 ghost use Rattle.mlk_coverage.specs.Fronts.{BeginsCut};
 
+use crate::lent::Lent;
 use crate::template::{Part, Template};
-use mlk_names::{KnownSym, LockTerm, Reference, Sym};
+use mlk_names::{KnownSym, LockTerm, Sym};
 
 // Whether the symbol is this known one.
 fn is_known_as(symbol: &Sym, known: &KnownSym) -> bool
@@ -54,19 +55,19 @@ fn begins_cut(known: &[KnownSym], parts: &[Part], symbols: &[Sym]) -> bool
 }
 
 // Whether the term is the rule's lock, or above it.
-fn is_lock(term: &LockTerm, lock: &Template, reference: &Reference) -> bool
+fn is_lock(term: &LockTerm, lock: &Template, reference: &Lent<'_>) -> bool
     ensures { IsTrue result ↔ IsPrefix term.now (cut_template lock.now reference.now) }
 {
     term.root == lock.root
         && begins_cut(
             term.subs.as_slice(),
             lock.parts.as_slice(),
-            reference.subs.as_slice(),
+            reference.subs(),
         )
 }
 
 // Whether some held term is the rule's lock, or above it.
-pub(crate) fn holds_lock(held: &[LockTerm], lock: &Template, reference: &Reference) -> bool
+pub(crate) fn holds_lock(held: &[LockTerm], lock: &Template, reference: &Lent<'_>) -> bool
     ensures { IsTrue result ↔ HoldsLock held.now lock.now reference.now }
 {
     for term in held {

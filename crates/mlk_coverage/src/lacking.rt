@@ -5,6 +5,7 @@ ghost use Rattle.mlk_coverage.specs.Coverage.{before_missing, symbol_at, cut_tem
 
 use crate::cover::Cover;
 use crate::held::holds_lock;
+use crate::lent::Lent;
 use crate::meet::may_meet;
 use crate::rules::Rules;
 use crate::template::{Part, Template};
@@ -52,7 +53,7 @@ fn cut(alloc: Global, lock: &Template, reference: &Reference) -> Result<LockTerm
 fn lacks(cover: &Cover, reference: &Reference, held: &[LockTerm]) -> bool
     ensures { IsTrue result ↔ Lacks held.now reference.now cover.now }
 {
-    may_meet(&cover.pattern, reference) && !holds_lock(held, &cover.lock, reference)
+    may_meet(&cover.pattern, reference) && !holds_lock(held, &cover.lock, &Lent::of(reference))
 }
 
 fn lacking(

@@ -8,6 +8,7 @@ mod groups;
 mod held;
 mod lacking;
 mod law;
+mod lent;
 mod lies;
 mod meet;
 mod pattern;
@@ -16,7 +17,7 @@ mod rules;
 mod sound;
 mod template;
 
-pub use check::covered;
+pub use check::{covered, covered_lent};
 pub use cover::Cover;
 pub use family::Family;
 pub use lacking::templates;
@@ -24,6 +25,7 @@ pub use law::{
     computed_answers, covered_apart, lock_of_node, marked_alike, one_rank, share_pattern,
     surely_lies,
 };
+pub use lent::Lent;
 pub use meet::may_meet;
 pub use pattern::{Element, Pattern};
 pub use rank::rank_of;

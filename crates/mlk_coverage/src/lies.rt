@@ -4,8 +4,9 @@ ghost use Rattle.std.specs.Prelude.{◌≡◌, ◌⊎◌, ◌↔◌, IsTrue};
 ghost use Rattle.mlk_coverage.specs.Patterns.{Suits, StaysIn, SurelyLies, SurelyAbove};
 ghost use Rattle.mlk_coverage.specs.Fronts.{SubsLie, SubsAbove};
 
+use crate::lent::Lent;
 use crate::pattern::{Element, Pattern};
-use mlk_names::{Extent, Reference, Sym};
+use mlk_names::{Extent, Sym};
 
 // Whether the symbol surely is what the element asks for.
 fn suits(element: &Element, symbol: &Sym) -> bool
@@ -66,29 +67,29 @@ fn subs_above(elements: &[Element], symbols: &[Sym]) -> bool
 }
 
 // Whether all that the reference may reach lies in the pattern.
-fn surely_lies(pattern: &Pattern, reference: &Reference) -> bool
+fn surely_lies(pattern: &Pattern, reference: &Lent<'_>) -> bool
     ensures { IsTrue result ↔ SurelyLies pattern.now reference.now }
 {
-    reference.root == pattern.global
+    *reference.root() == pattern.global
         && subs_lie(
             pattern.elements.as_slice(),
             pattern.extent,
-            reference.subs.as_slice(),
-            reference.extent,
+            reference.subs(),
+            reference.extent(),
         )
 }
 
 // Whether the reference is a tree that surely has nodes of the pattern.
-fn surely_above(pattern: &Pattern, reference: &Reference) -> bool
+fn surely_above(pattern: &Pattern, reference: &Lent<'_>) -> bool
     ensures { IsTrue result ↔ SurelyAbove pattern.now reference.now }
 {
-    matches!(reference.extent, Extent::Tree)
-        && reference.root == pattern.global
-        && subs_above(pattern.elements.as_slice(), reference.subs.as_slice())
+    matches!(reference.extent(), Extent::Tree)
+        && *reference.root() == pattern.global
+        && subs_above(pattern.elements.as_slice(), reference.subs())
 }
 
 // Whether the pattern is a rule for all of the reference.
-pub(crate) fn is_ruled_by(pattern: &Pattern, reference: &Reference) -> bool
+pub(crate) fn is_ruled_by(pattern: &Pattern, reference: &Lent<'_>) -> bool
     ensures { IsTrue result ↔ SurelyLies pattern.now reference.now ⊎ SurelyAbove pattern.now reference.now }
 {
     surely_lies(pattern, reference) || surely_above(pattern, reference)

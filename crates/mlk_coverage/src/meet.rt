@@ -5,6 +5,7 @@ ghost use Rattle.mlk_names.specs.References.{SymsMayMeet, SubsMayMeet};
 ghost use Rattle.mlk_coverage.specs.Patterns.{MayMeet};
 ghost use Rattle.mlk_coverage.specs.Fronts.{symbol_of};
 
+use crate::lent::Lent;
 use crate::pattern::{Element, Pattern};
 use mlk_names::{Extent, Reference, Sym};
 
@@ -40,16 +41,23 @@ fn elements_may_meet(elements: &[Element], wide: Extent, symbols: &[Sym], far: E
     symbols.is_empty() || matches!(wide, Extent::Tree)
 }
 
+// The same as `may_meet`, of a reference whose parts are lent.
+pub(crate) fn meets(pattern: &Pattern, reference: &Lent<'_>) -> bool
+    ensures { IsTrue result ↔ MayMeet pattern.now reference.now }
+{
+    pattern.global == *reference.root()
+        && elements_may_meet(
+            pattern.elements.as_slice(),
+            pattern.extent,
+            reference.subs(),
+            reference.extent(),
+        )
+}
+
 /// Whether some node of the pattern may be one that the reference reaches, each subscript that is no constant being
 /// any value. It takes no memory.
 pub fn may_meet(pattern: &Pattern, reference: &Reference) -> bool
     ensures { IsTrue result ↔ MayMeet pattern.now reference.now }
 {
-    pattern.global == reference.root
-        && elements_may_meet(
-            pattern.elements.as_slice(),
-            pattern.extent,
-            reference.subs.as_slice(),
-            reference.extent,
-        )
+    meets(pattern, &Lent::of(reference))
 }

@@ -121,6 +121,14 @@ go_on (Some head) e c = into_line e.scope head c
 abbrev pub case_end : LineEnd → Case → Ending
 case_end e c = go_on e.next e c
 
+-- the cases that are listed in the next line, for private clauses alone
+abbrev pub listed_in : Scope → Option HeadTree → List Case
+listed_in sc None = []
+listed_in sc (Some head) = listed sc (number_of head) 0
+
+abbrev pub listed_ahead : LineEnd → List Case
+listed_ahead e = listed_in e.scope e.next
+
 -- What becomes of a line's cases at its end: of those that go on or skipped, and of those that quit.
 abbrev pub state_end : LineEnd → State → Ending
 state_end e s = case_end e s.case

@@ -223,10 +223,11 @@ fn before<'a>(spot: &'a Spot<'a>, given: &'a [Command], walk: &mut Walk) -> Resu
 }
 
 /// The walk of a line or of a round at its begin, from the cases that are listed for it.
+#[inline(always)]
 pub(crate) fn begin(alloc: Global, cases: &[Case]) -> Result<Walk, AllocError>
     ensures { IfOk result (λ w. w ≡ begin cases.now) }
 {
-    let mut going = List::new(alloc);
+    let mut going = List::of(Vec::with_capacity(alloc, cases.len())?);
     for case in cases {
         going.push(State::at_rest(alloc, case)?)?;
     }

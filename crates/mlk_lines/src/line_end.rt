@@ -1,11 +1,11 @@
 // The end of a line: a case goes on to the next line of its level, or its block ends, or its frame.
 
-ghost use Rattle.std.specs.Prelude.{◌≡◌, [], ◌∷◌, IfOk, IfSome, OnOk, filter, map, option_map, option_copied};
+ghost use Rattle.std.specs.Prelude.{◌≡◌, [], ◌∷◌, IfOk, IfSome, OnOk, Some, filter, map, option_map, option_copied};
 ghost use Rattle.std.specs.List.{list_any};
 ghost use Rattle.mlk_scope.specs.Terms.{is_such, mention_such};
 ghost use Rattle.mlk_scope.specs.Cases.{holds_some, last_saved, before_last};
 ghost use Rattle.mlk_scope.specs.Scope.{scope_of};
-ghost use Rattle.mlk_lines.specs.Endings.{end_of, around_of, head_of, into_line, is_at_level, escapes_block, is_left, restored, block_end, escapes, frame_end, level_end, quit_end, go_on, case_end, state_end, add_ending, add_endings, at_end};
+ghost use Rattle.mlk_lines.specs.Endings.{end_of, around_of, head_of, into_line, listed_in, listed_ahead, is_at_level, escapes_block, is_left, restored, block_end, escapes, frame_end, level_end, quit_end, go_on, case_end, state_end, add_ending, add_endings, at_end};
 
 use crate::action::holds_some;
 use crate::ending::Ends;
@@ -144,8 +144,25 @@ fn exit_of(case: Case) -> ExitCase {
 }
 
 impl<'a> LineEnd<'a> {
-    // A case goes on in a line.
-    fn into_line(&self, head: &Line, case: Case, ends: &mut Ends) -> Result<(), AllocError>
+    // The cases that are listed in the next line. They are looked up once for all that goes on there.
+    fn listed_ahead(&self) -> &'a [Case]
+        ensures { result.now ≡ listed_ahead (end_of self.now) }
+    {
+        match self.next {
+            None => &[],
+            Some(head) => self.scope.listed(head.number, 0),
+        }
+    }
+
+    // A case goes on in a line, which lists these.
+    fn into_line(
+        &self,
+        head: &Line,
+        listed: &[Case],
+        case: Case,
+        ends: &mut Ends,
+    ) -> Result<(), AllocError>
+        requires { listed.now ≡ listed_in (scope_of self.now.scope.now) (Some (head_of head.now)) }
         ensures { OnOk result (ends.new
             ≡ add_ending ends.old (into_line (scope_of self.now.scope.now) (head_of head.now) case)) }
     {
@@ -157,7 +174,7 @@ impl<'a> LineEnd<'a> {
                 Mend::Nothing,
             );
         }
-        if is_listed(self.scope.listed(head.number, 0), &case) {
+        if is_listed(listed, &case) {
             return Ok(());
         }
         let mend = Mend::Listed(head.number, 0, case);
@@ -206,32 +223,45 @@ impl<'a> LineEnd<'a> {
         }
     }
 
-    // The line ends for a case.
-    fn case_end(&self, case: Case, ends: &mut Ends) -> Result<(), AllocError>
+    // The line ends for a case, where the next one lists these.
+    fn case_end(&self, listed: &[Case], case: Case, ends: &mut Ends) -> Result<(), AllocError>
+        requires { listed.now ≡ listed_ahead (end_of self.now) }
         ensures { OnOk result (ends.new ≡ add_ending ends.old (case_end (end_of self.now) case)) }
     {
         match self.next {
             None => self.level_end(self.column, case, ends),
-            Some(head) => self.into_line(head, case, ends),
+            Some(head) => self.into_line(head, listed, case, ends),
         }
     }
 
-    fn end_states(&self, states: Vec<State>, ends: &mut Ends) -> Result<(), AllocError>
+    fn end_states(
+        &self,
+        listed: &[Case],
+        states: Vec<State>,
+        ends: &mut Ends,
+    ) -> Result<(), AllocError>
+        requires { listed.now ≡ listed_ahead (end_of self.now) }
         ensures { OnOk result (ends.new
             ≡ add_endings (map (state_end (end_of self.now)) states.items) ends.old) }
     {
         for state in states {
-            self.case_end(state.case, ends)?;
+            self.case_end(listed, state.case, ends)?;
         }
         Ok(())
     }
 
-    fn end_cases(&self, cases: Vec<Case>, ends: &mut Ends) -> Result<(), AllocError>
+    fn end_cases(
+        &self,
+        listed: &[Case],
+        cases: Vec<Case>,
+        ends: &mut Ends,
+    ) -> Result<(), AllocError>
+        requires { listed.now ≡ listed_ahead (end_of self.now) }
         ensures { OnOk result (ends.new
             ≡ add_endings (map (case_end (end_of self.now)) cases.items) ends.old) }
     {
         for case in cases {
-            self.case_end(case, ends)?;
+            self.case_end(listed, case, ends)?;
         }
         Ok(())
     }
@@ -261,8 +291,9 @@ impl<'a> LineEnd<'a> {
         if over {
             return Ok(ends);
         }
-        self.end_states(going.into_vec(), &mut ends)?;
-        self.end_cases(skips.into_vec(), &mut ends)?;
+        let listed = self.listed_ahead();
+        self.end_states(listed, going.into_vec(), &mut ends)?;
+        self.end_cases(listed, skips.into_vec(), &mut ends)?;
         self.end_quits(quits.into_vec(), &mut ends)?;
         Ok(ends)
     }

@@ -101,12 +101,12 @@ fn step_variable<'a>(
 ) -> Result<(), AllocError>
     ensures { OnOk result (walk.new ≡ step_variable (spot_of spot.now) (rounds_of rounds.now) walk.old) }
 {
-    let row = Change {
+    let change = Change {
         spot,
         column: rounds.column,
         names: rounds.variable,
     };
-    each(spot.alloc, &row, walk)
+    change.make_in_each(walk)
 }
 
 /// Each state begins a round.

@@ -48,7 +48,7 @@ all_are_there s (t ∷ new) ss h =
     (λ (e : same_state s t ≡ false). all_are_there s new (put t ss) (sym (ap (λ b. b || list_any (same_state s) new) e) ∙ h))
     (cases_Bool (same_state s t))
 
-one_after : (s : State) (new ss : List State) → put_all (new ++ s ∷ []) ss ≡ put s (put_all new ss)
+pub one_after : (s : State) (new ss : List State) → put_all (new ++ s ∷ []) ss ≡ put s (put_all new ss)
 one_after s [] ss = refl
 one_after s (t ∷ new) ss = one_after s new (put t ss)
 

@@ -4,3 +4,5 @@ pub mod Gathering
 pub mod InPlace
 pub mod StateTests
 pub mod Examples
+pub mod Passing
+pub mod Distinct

@@ -79,7 +79,7 @@ fn read<'a>(
         name,
         count,
     };
-    each(spot.alloc, &row, walk)
+    row.make_in_each(walk)
 }
 
 fn extrinsic<'a>(

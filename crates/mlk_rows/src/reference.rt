@@ -1,18 +1,20 @@
 // What touches of globals ask of the rules.
 
-ghost use Rattle.std.specs.Prelude.{◌≡◌, ◌-◌, ℕ, IfOk, OnOk, Option, length, take, option_map};
+ghost use Rattle.std.specs.Prelude.{◌≡◌, ◌-◌, ℕ, IfOk, OnOk, Option, is_none, length, take, option_map};
+ghost use Rattle.std.specs.List.{list_all};
+ghost use Rattle.mlk_names.specs.declared.reference.Access.TheVariants.{Reads};
 ghost use Rattle.mlk_coverage.specs.Computed.{answer};
 ghost use Rattle.mlk_scope.specs.declared.state.State.{State};
 ghost use Rattle.mlk_scope.specs.States.{last_captured, without_last};
-ghost use Rattle.mlk_rows.specs.Walks.{Outcome, add_all};
+ghost use Rattle.mlk_rows.specs.Walks.{Outcome, add_all, each};
 ghost use Rattle.mlk_rows.specs.References.{use_of, reference, checked, covered_or, touch_last, read_fault, read_last, all_but_last};
 ghost use Rattle.mlk_rows.specs.Spots.{spot_of};
 
-use crate::row::Row;
+use crate::row::{Row, each, forget};
 use crate::spot::Spot;
 use crate::walk::{Mend, Walk};
 use mlk_calls::State;
-use mlk_coverage::{Rules, covered, templates};
+use mlk_coverage::{Lent, Rules, covered_lent, templates};
 use mlk_names::{Access, Extent, LockTerm, Reference, Sym};
 use mlk_text::{Code, Column, Name, Subscripts, copy_of};
 use mlk_tree::Function;
@@ -61,7 +63,6 @@ fn all_but_last(subs: &[Sym]) -> &[Sym]
     before
 }
 
-#[inline(always)]
 fn reference_to(
     alloc: Global,
     extent: Extent,
@@ -84,10 +85,10 @@ fn reference_to(
 }
 
 #[inline(always)]
-fn fault_of(rules: &Rules, held: &[LockTerm], reference: &Reference) -> Option<Code>
+fn fault_of(rules: &Rules, held: &[LockTerm], reference: &Lent<'_>) -> Option<Code>
     ensures { result ≡ answer rules.now held.now reference.now }
 {
-    match covered(rules, reference, held) {
+    match covered_lent(rules, reference, held) {
         Ok(()) => None,
         Err(code) => Some(code),
     }
@@ -116,8 +117,35 @@ pub struct Touch<'a> {
 }
 
 impl<'a> Touch<'a> {
-    /// What is wrong with a touch of the node with these subscripts, and what would mend it.
+    // What is wrong with a touch of the node with these subscripts. It takes no memory.
     #[inline(always)]
+    fn code(&self, spot: &Spot, symbols: &[Sym], state: &State) -> Option<Code>
+        ensures { result ≡ checked (spot_of spot.now) self.now.extent self.now.access self.now.name.now symbols.now state.now }
+    {
+        let lent = Lent::new(self.name, symbols, self.extent, self.access);
+        fault_of(spot.scope.rules(), state.case.held.as_slice(), &lent)
+    }
+
+    /// Whether a touch of the node with these subscripts is covered. It takes no memory.
+    pub fn is_covered(&self, spot: &Spot, symbols: &[Sym], state: &State) -> bool
+        ensures { result ≡ is_none (checked (spot_of spot.now) self.now.extent self.now.access self.now.name.now symbols.now state.now) }
+    {
+        self.code(spot, symbols, state).is_none()
+    }
+
+    // What would mend what is wrong with it.
+    fn mend(
+        &self,
+        spot: &Spot,
+        code: Code,
+        symbols: &[Sym],
+        state: &State,
+    ) -> Result<Mend, AllocError> {
+        let reference = reference_to(spot.alloc, self.extent, self.access, self.name, symbols)?;
+        mend_of(spot, code, state.case.held.as_slice(), &reference)
+    }
+
+    /// What is wrong with a touch of the node with these subscripts, and what would mend it.
     pub fn fault(
         &self,
         spot: &Spot,
@@ -127,12 +155,10 @@ impl<'a> Touch<'a> {
         ensures { IfOk result (λ f. option_map (λ x. x.0) f
             ≡ checked (spot_of spot.now) self.now.extent self.now.access self.now.name.now symbols.now state.now) }
     {
-        let reference = reference_to(spot.alloc, self.extent, self.access, self.name, symbols)?;
-        let held = state.case.held.as_slice();
-        match fault_of(spot.scope.rules(), held, &reference) {
+        match self.code(spot, symbols, state) {
             None => Ok(None),
             Some(code) => {
-                let mend = mend_of(spot, code, held, &reference)?;
+                let mend = self.mend(spot, code, symbols, state)?;
                 Ok(Some((code, mend)))
             }
         }
@@ -194,32 +220,69 @@ pub struct ReadLast<'a> {
 }
 
 impl<'a> ReadLast<'a> {
+    fn touch(&self, extent: Extent) -> Touch<'a>
+        ensures extent { result.extent ≡ extent }
+        ensures access { result.access ≡ Reads }
+        ensures name { result.name.now ≡ self.now.name.now }
+    {
+        Touch {
+            extent,
+            access: Access::Reads,
+            column: self.column,
+            name: self.name,
+        }
+    }
+
+    // Whether nothing is wrong with it. It takes no memory.
+    fn is_covered(&self, state: &State) -> bool
+        ensures { result ≡ is_none (read_fault (spot_of self.now.spot.now) self.now.how self.now.name.now
+            (last_captured self.now.count state.now) state.now) }
+    {
+        let subs = last_of(state, self.count);
+        let node = self.touch(Extent::Node);
+        let tree = self.touch(Extent::Tree);
+        match self.how {
+            Use::ItsValue => node.is_covered(self.spot, subs, state),
+            Use::Below => tree.is_covered(self.spot, subs, state),
+            Use::Beside => tree.is_covered(self.spot, all_but_last(subs), state),
+            Use::AllOfIt => tree.is_covered(self.spot, &[], state),
+            Use::Spelled => true,
+        }
+    }
+
     fn fault(&self, state: &State) -> Result<Option<(Code, Mend)>, AllocError>
         ensures { IfOk result (λ f. option_map (λ x. x.0) f ≡ read_fault (spot_of self.now.spot.now) self.now.how
             self.now.name.now (last_captured self.now.count state.now) state.now) }
     {
         let subs = last_of(state, self.count);
-        let touch = Touch {
-            extent: Extent::Tree,
-            access: Access::Reads,
-            column: self.column,
-            name: self.name,
-        };
+        let node = self.touch(Extent::Node);
+        let tree = self.touch(Extent::Tree);
         match self.how {
-            Use::ItsValue => {
-                let touch = Touch {
-                    extent: Extent::Node,
-                    access: Access::Reads,
-                    column: self.column,
-                    name: self.name,
-                };
-                touch.fault(self.spot, subs, state)
-            }
-            Use::Below => touch.fault(self.spot, subs, state),
-            Use::Beside => touch.fault(self.spot, all_but_last(subs), state),
-            Use::AllOfIt => touch.fault(self.spot, &[], state),
+            Use::ItsValue => node.fault(self.spot, subs, state),
+            Use::Below => tree.fault(self.spot, subs, state),
+            Use::Beside => tree.fault(self.spot, all_but_last(subs), state),
+            Use::AllOfIt => tree.fault(self.spot, &[], state),
             Use::Spelled => Ok(None),
         }
+    }
+
+    // Whether nothing is wrong with it in any of these states.
+    fn are_covered(&self, states: &[State]) -> bool
+        ensures { result ≡ list_all (λ s. is_none (read_fault (spot_of self.now.spot.now) self.now.how self.now.name.now
+            (last_captured self.now.count s) s)) states.now }
+    {
+        states.iter().all(|state| self.is_covered(state))
+    }
+
+    /// It, in each state that goes on: mostly it is covered in all of them, and then no state is moved.
+    pub fn make_in_each(&self, walk: &mut Walk) -> Result<(), AllocError>
+        ensures { OnOk result (walk.new ≡ each (read_last (spot_of self.now.spot.now) self.now.how self.now.column
+            self.now.name.now self.now.count) walk.old) }
+    {
+        if self.are_covered(walk.going.as_slice()) {
+            return forget(self.spot.alloc, self.count, walk);
+        }
+        each(self.spot.alloc, self, walk)
     }
 }
 

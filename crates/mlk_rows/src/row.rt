@@ -5,7 +5,7 @@ ghost use Rattle.mlk_scope.specs.declared.state.State.{State};
 ghost use Rattle.mlk_scope.specs.States.{without_last};
 ghost use Rattle.mlk_rows.specs.Walks.{Outcome, add_all, each, each_changed};
 
-use crate::walk::{Walk, put};
+use crate::walk::Walk;
 use mlk_calls::State;
 use std::alloc::{AllocError, Global};
 
@@ -34,16 +34,12 @@ pub fn each<R: Row>(alloc: Global, row: &R, walk: &mut Walk) -> Result<(), Alloc
 }
 
 /// The last so many captured symbols of each state are forgotten.
-#[inline(always)]
 pub fn forget(alloc: Global, count: usize, walk: &mut Walk) -> Result<(), AllocError>
     ensures { OnOk result (walk.new ≡ each_changed (without_last count) walk.old) }
 {
-    if let Some(state) = walk.take_only() {
-        return walk.going.push(state.without_last(count));
+    let mut states = walk.take_going(alloc).into_vec();
+    for state in states.iter_mut() {
+        state.forget_last(alloc, count);
     }
-    let going = walk.take_going(alloc);
-    for state in going.into_vec() {
-        put(&mut walk.going, state.without_last(count))?;
-    }
-    Ok(())
+    walk.resume(alloc, states)
 }

@@ -137,6 +137,20 @@ pub fn put(states: &mut List<State>, state: State) -> Result<(), AllocError>
     states.push(state)
 }
 
+// Whether none of the states is there twice.
+fn are_distinct(states: &[State]) -> bool
+    ensures { IsTrue result → put_all states.now [] ≡ states.now }
+{
+    let mut left = states;
+    while let Some((last, before)) = left.split_last() {
+        if is_among(before, last) {
+            return false;
+        }
+        left = before;
+    }
+    true
+}
+
 /// These states, each once, after those.
 pub fn put_all(states: List<State>, new: Vec<State>) -> Result<List<State>, AllocError>
     ensures { IfOk result (λ all. all ≡ put_all new.items states) }
@@ -185,6 +199,26 @@ impl Walk {
             self.go(state)?;
         }
         Ok(())
+    }
+
+    /// These states go on, each once, where none does: those that went on, changed in place.
+    pub fn resume(&mut self, alloc: Global, states: Vec<State>) -> Result<(), AllocError>
+        ensures { OnOk result (self.new ≡ with_states (put_all states.items []) self.old) }
+    {
+        self.going = if are_distinct(states.as_slice()) {
+            List::of(states)
+        } else {
+            put_all(List::new(alloc), states)?
+        };
+        Ok(())
+    }
+
+    /// The states that go on, each once.
+    pub fn once(&mut self, alloc: Global) -> Result<(), AllocError>
+        ensures { OnOk result (self.new ≡ with_states (put_all self.old.going []) self.old) }
+    {
+        let states = self.take_going(alloc);
+        self.resume(alloc, states.into_vec())
     }
 
     /// A case skips the rest of its line or round.

@@ -1,6 +1,6 @@
 // Names that may change.
 
-ghost use Rattle.std.specs.Prelude.{◌≡◌, IfOk};
+ghost use Rattle.std.specs.Prelude.{◌≡◌, IfOk, OnOk};
 ghost use Rattle.std.specs.List.{list_any, list_all};
 ghost use Rattle.mlk_blocks.specs.declared.names.Own.{Own as item};
 ghost use Rattle.mlk_scope.specs.Names.{is_among, has, have, is_own, spares, may_change, without};
@@ -102,17 +102,18 @@ fn left_without(alloc: Global, changed: &[NameSet], names: &[Name]) -> Result<Ve
     Ok(left)
 }
 
-/// The names that are left without these; the very list where all are left.
+/// The names of a list that these sets have are taken out of it; where there are none it stays the very list.
 #[tactic(auto, using(crate::proofs::ListSteps::none_filtered))]
-pub fn without(
+pub fn take_out(
     alloc: Global,
     changed: &[NameSet],
-    names: Shared<Name>,
-) -> Result<Shared<Name>, AllocError>
-    ensures { IfOk result (λ l. l ≡ without changed.now names) }
+    names: &mut Shared<Name>,
+) -> Result<(), AllocError>
+    ensures { OnOk result (names.new ≡ without changed.now names.old) }
 {
-    if !has_some(changed, names.as_slice()) {
-        return Ok(names);
+    if has_some(changed, names.as_slice()) {
+        let left = left_without(alloc, changed, names.as_slice())?;
+        *names = Shared::new(alloc, left)?;
     }
-    Shared::new(alloc, left_without(alloc, changed, names.as_slice())?)
+    Ok(())
 }

@@ -55,6 +55,7 @@ pub fn before_last(captured: &[Sym], count: usize) -> &[Sym]
 
 impl State {
     /// The state of a case at the begin of a command, with nothing captured yet. It shares the case's lists.
+    #[inline(always)]
     pub fn at_rest(alloc: Global, case: &Case) -> Result<State, AllocError>
         ensures { IfOk result (λ s. s ≡ at_rest case.now) }
     {
@@ -76,6 +77,16 @@ impl State {
             case,
             captured: List::of(symbols),
         }
+    }
+
+    /// The last so many captured symbols are forgotten.
+    #[inline(always)]
+    pub fn forget_last(&mut self, alloc: Global, count: usize)
+        ensures { self.new ≡ without_last count self.old }
+    {
+        let mut symbols = std::mem::replace(&mut self.captured, List::new(alloc)).into_vec();
+        symbols.truncate(symbols.len().saturating_sub(count));
+        self.captured = List::of(symbols);
     }
 
     /// An equal state, which shares its lists.

@@ -1,13 +1,8 @@
-use Rattle.mlk_coverage.proofs.Grouping.{answer_ok, answer_err, unruled}
+use Rattle.std.proofs.Common.{Some, subst}
+use Rattle.std.specs.Prelude.{IfErr}
+use Rattle.mlk_coverage.specs.Coverage.{IsAnswer}
 use Rattle.mlk_coverage.proofs.check.covered.Goals as goal
 
-pub returns-in-Some-clause-ok : goal.returns-in-Some-clause-ok
-returns-in-Some-clause-ok c =
-    answer_ok c.args.rules.now c.args.held.now c.args.reference.now c.in-Some.group.now c.covered_by.result c.in-Some.ensures c.covered_by.ensures.ok
-
-pub returns-in-Some-clause-err : goal.returns-in-Some-clause-err
-returns-in-Some-clause-err c =
-    answer_err c.args.rules.now c.args.held.now c.args.reference.now c.in-Some.group.now c.covered_by.result c.in-Some.ensures c.covered_by.ensures.err
-
-pub returns-in-None-clause-err : goal.returns-in-None-clause-err
-returns-in-None-clause-err c = unruled c.args.rules.now c.args.reference.now c.in-None.ensures
+pub returns-clause-err : goal.returns-clause-err
+returns-clause-err c =
+    subst (λ r. IfErr c.covered_lent.result (λ code. IsAnswer c.args.rules.now c.args.held.now r (Some code))) c.of.ensures c.covered_lent.ensures.err

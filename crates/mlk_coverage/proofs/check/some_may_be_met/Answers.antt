@@ -7,7 +7,7 @@ use Rattle.mlk_coverage.proofs.check.some_may_be_met.Goals as goal
 pub loop-pattern-preserved : goal.loop-pattern-preserved
 loop-pattern-preserved c =
     let P : Pattern → Type 0 = λ p. MayMeet p c.args.reference.now → ⊥ in
-    all_more P c.args.patterns.now c.loop-pattern.pattern-index c.pattern-item.result c.loop-pattern-test.true c.pattern-item.is c.loop-pattern.invariant (λ m. let is = c.may_meet.ensures.1 m in absurd (cc (is, c.if-may_meet.false)))
+    all_more P c.args.patterns.now c.loop-pattern.pattern-index c.pattern-item.result c.loop-pattern-test.true c.pattern-item.is c.loop-pattern.invariant (λ m. let is = c.meets.ensures.1 m in absurd (cc (is, c.if-meets.false)))
 
 pub returns : goal.returns
 returns c =

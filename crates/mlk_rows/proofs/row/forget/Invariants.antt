@@ -1,7 +1,9 @@
-use Rattle.std.proofs.Common.{◌≡◌, [], map}
+use Rattle.std.proofs.Common.{◌≡◌, []}
 use Rattle.mlk_scope.specs.States.{without_last}
-use Rattle.mlk_rows.specs.Walks.{put_all, with_states}
+use Rattle.mlk_rows.specs.Walks.{with_states}
+use Rattle.mlk_rows.proofs.InPlace.{changed_to}
 use Rattle.mlk_rows.proofs.row.forget.Given as goal
 
 abbrev pub invariant-loop-state : goal.invariant-loop-state
-invariant-loop-state l = l.walk ≡ with_states (put_all (map (without_last l.count) l.yielded) []) l.fn.walk
+invariant-loop-state l = (l.walk ≡ with_states [] l.fn.walk)
+    × (l.state-items ≡ changed_to (without_last l.count) l.state-index l.fn.walk.going)
