@@ -163,7 +163,8 @@ pub fn walk_lines<'a>(
         if scope.is_past(line.number) && line.block.as_slice().is_empty() {
             continue;
         }
-        let mut ends = walk_line(alloc, scope, line, around, next_of(around, later), found)?;
+        let here = scope.advanced(line.number);
+        let mut ends = walk_line(alloc, &here, line, around, next_of(around, later), found)?;
         all.append(&mut ends)?;
     }
     Ok(all)

@@ -9,3 +9,4 @@ pub mod CaseTests
 pub mod HeldTerms
 pub mod NameLaws
 pub mod ChainSymbols
+pub mod PointEnds

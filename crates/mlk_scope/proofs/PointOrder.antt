@@ -9,7 +9,7 @@ use Rattle.mlk_blocks.specs.declared.block.Point.{Point}
 use Rattle.mlk_blocks.specs.Limits.{points_below}
 use Rattle.mlk_lexemes.specs.Lists.{ascends}
 use Rattle.mlk_scope.specs.Scope.{is_at, cases_of, listed_at, is_earlier}
-use Rattle.mlk_scope.specs.Points.{is_before, cases_there}
+use Rattle.mlk_scope.specs.Points.{is_before, is_upto, cases_there}
 
 -- what stands before a point that is before a line and round
 below_before : (n r : ℕ) (p q : Point) → points_below p q ≡ true → is_before n r q ≡ true → is_before n r p ≡ true
@@ -69,6 +69,42 @@ found_there n r (p ∷ ps) (suc i) h point =
       (λ k d l u. point.0 (suc k) d (omega arith) (omega arith)),
       (λ k d l u. point.1 (suc k) d (omega arith) (omega arith)),
     ))
+
+-- nor is it further on
+pub none_further : (n r : ℕ) (p : Point) (ps : List Point) → ascends points_below (p ∷ ps) ≡ true
+    → is_at n r p ≡ false → is_before n r p ≡ false → listed_at (p ∷ ps) n r ≡ []
+none_further n r p ps h a b = rw a (ap cases_of (none_there n r p ps h b))
+
+pub one_passed : (n r : ℕ) (p : Point) (ps : List Point) → is_at n r p ≡ false → listed_at (p ∷ ps) n r ≡ listed_at ps n r
+one_passed n r p ps a = rw a refl
+
+pub one_found : (n r : ℕ) (p : Point) (ps : List Point) → is_at n r p ≡ true → listed_at (p ∷ ps) n r ≡ p.cases
+one_found n r p ps a = rw a refl
+
+pub later_ascend : (p : Point) (ps : List Point) → ascends points_below (p ∷ ps) ≡ true → ascends points_below ps ≡ true
+later_ascend = rest
+
+-- what stands before a point that is at a line and round, or before it, is before these
+upto_before : (n r : ℕ) (p q : Point) → points_below p q ≡ true → is_upto n r q ≡ true → is_before n r p ≡ true
+upto_before n r p q h g = grind (arith, nat_tests)
+
+front_before : (n r : ℕ) (p : Point) (ps : List Point) (q : Point) (qs : List Point) → ascends points_below (p ∷ (ps ++ q ∷ qs)) ≡ true
+    → is_upto n r q ≡ true → is_before n r p ≡ true
+front_before n r p [] q qs h u = let e = (two p q qs h).0 in upto_before n r p q e u
+front_before n r p (o ∷ ps) q qs h u =
+    let t = two p o (ps ++ q ∷ qs) h in
+    below_before n r p o t.0 (front_before n r o ps q qs t.1 u)
+
+pub front_passed : (n r : ℕ) (ps : List Point) (q : Point) (qs : List Point) → ascends points_below (ps ++ q ∷ qs) ≡ true
+    → is_upto n r q ≡ true → listed_at (ps ++ q ∷ qs) n r ≡ listed_at (q ∷ qs) n r
+front_passed n r [] q qs h u = refl
+front_passed n r (p ∷ ps) q qs h u =
+    let e = before_at n r p (front_before n r p ps q qs h u) in
+    rw e (front_passed n r ps q qs (rest p (ps ++ q ∷ qs) h) u)
+
+pub end_ascends : (ps qs : List Point) → ascends points_below (ps ++ qs) ≡ true → ascends points_below qs ≡ true
+end_ascends [] qs h = h
+end_ascends (p ∷ ps) qs h = end_ascends ps qs (rest p (ps ++ qs) h)
 
 -- the last of points in order is of the greatest line
 below_upto : (p q : Point) → points_below p q ≡ true → p.line ≤ q.line

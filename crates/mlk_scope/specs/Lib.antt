@@ -10,3 +10,4 @@ pub mod Entries
 pub mod Points
 pub mod Symbols
 pub mod Laws
+pub mod Ends

@@ -1,5 +1,5 @@
 -- Points that stand in order. For private clauses alone. This project's own.
-use Rattle.std.specs.Prelude.{ℕ, Bool, ◌&&◌, ◌||◌, ◌==◌, nat_lt, if◌then◌else◌, List, [], Option, Some, None}
+use Rattle.std.specs.Prelude.{ℕ, Bool, ◌&&◌, ◌||◌, ◌==◌, nat_lt, nat_le, if◌then◌else◌, List, [], Option, Some, None}
 use Rattle.mlk_blocks.specs.declared.block.Point.{Point}
 use Rattle.mlk_blocks.specs.declared.case.Case.{Case}
 use Rattle.mlk_scope.specs.Scope.{is_at}
@@ -12,3 +12,7 @@ is_before number round p = nat_lt p.line number || ((p.line == number) && nat_lt
 abbrev pub cases_there : ℕ → ℕ → Option Point → List Case
 cases_there number round None = []
 cases_there number round (Some p) = if is_at number round p then p.cases else []
+
+-- that the point stands before a line and round, or there
+abbrev pub is_upto : ℕ → ℕ → Point → Bool
+is_upto number round p = nat_lt p.line number || ((p.line == number) && nat_le p.round round)

@@ -4,7 +4,8 @@ ghost use Rattle.std.specs.Prelude.{◌≡◌, true, slice_get};
 ghost use Rattle.std.specs.List.{list_all};
 ghost use Rattle.mlk_blocks.specs.Limits.{points_below};
 ghost use Rattle.mlk_lexemes.specs.Lists.{ascends};
-ghost use Rattle.mlk_scope.specs.Points.{is_before, cases_there};
+ghost use Rattle.mlk_scope.specs.Ends.{IsEnd};
+ghost use Rattle.mlk_scope.specs.Points.{is_before, is_upto, cases_there};
 ghost use Rattle.mlk_scope.specs.Scope.{is_at, is_earlier, listed_at};
 
 use mlk_cert::{Case, Point};
@@ -90,6 +91,66 @@ pub(crate) fn cases_in_order(points: &[Point], line: LineNumber, round: usize) -
         Some(point) if is_at(point, line, round) => point.cases.as_slice(),
         Some(_) | None => &[],
     }
+}
+
+// Whether the point stands at a line and round, or before it.
+fn is_upto(point: &Point, line: LineNumber, round: usize) -> bool
+    ensures { result ≡ is_upto line round point.now }
+{
+    point.line < line || (point.line == line && point.round as usize <= round)
+}
+
+/// The points without those that stand before a line, as far as they are the first ones.
+pub(crate) fn from_line(points: &[Point], line: LineNumber) -> &[Point]
+    ensures { IsEnd points.now result.now }
+{
+    let mut left = points;
+    while let Some((point, others)) = left.split_first() {
+        if !is_earlier(point, line) {
+            return left;
+        }
+        left = others;
+    }
+    left
+}
+
+// The cases of the point at a line and round, among points that stand in order, one after the other.
+fn cases_next(points: &[Point], line: LineNumber, round: usize) -> &[Case]
+    requires { ascends points_below points.now ≡ true }
+    ensures { result.now ≡ listed_at points.now line round }
+{
+    let mut left = points;
+    while let Some((point, others)) = left.split_first() {
+        if is_at(point, line, round) {
+            return point.cases.as_slice();
+        }
+        if !is_before(point, line, round) {
+            return &[];
+        }
+        left = others;
+    }
+    &[]
+}
+
+/// The cases of the point at a line and round, among points that stand in order, of which these are the last. It is looked
+/// for among these, where it can't stand before them: a walk that goes on line by line finds it there at once.
+pub(crate) fn cases_ahead<'a>(
+    points: &'a [Point],
+    ahead: &'a [Point],
+    line: LineNumber,
+    round: usize,
+) -> &'a [Case]
+    requires order { ascends points_below points.now ≡ true }
+    requires end { IsEnd points.now ahead.now }
+    ensures { result.now ≡ listed_at points.now line round }
+{
+    let Some((point, _)) = ahead.split_first() else {
+        return cases_in_order(points, line, round);
+    };
+    if is_upto(point, line, round) {
+        return cases_next(ahead, line, round);
+    }
+    cases_in_order(points, line, round)
 }
 
 /// The cases of the first point at a line and round.

@@ -5,10 +5,13 @@ ghost use Rattle.mlk_tree.specs.Views.{routine_of};
 ghost use Rattle.mlk_program.specs.Entries.{entry_by};
 ghost use Rattle.mlk_blocks.specs.Limits.{points_below};
 ghost use Rattle.mlk_lexemes.specs.Lists.{ascends};
+ghost use Rattle.mlk_scope.specs.Ends.{IsEnd};
 
-use crate::points::{are_earlier, are_earlier_in_order, are_in_order, cases_at, cases_in_order};
+use crate::points::{
+    are_earlier, are_earlier_in_order, are_in_order, cases_ahead, cases_at, from_line,
+};
 use indexmap::{IndexMap, IndexSet};
-use mlk_cert::{Case, EntryCert, Own, Summary};
+use mlk_cert::{Case, EntryCert, Own, Point, Summary};
 use mlk_coverage::{Rules, entries};
 use mlk_program::{EntryId, Program};
 use mlk_text::{LineNumber, Name, Value};
@@ -168,7 +171,10 @@ pub struct Scope<'a> {
     pub block: &'a EntryCert,
     // whether the block's points stand in order, as those of a certificate do
     in_order: bool,
+    // the last of the points, from a line on to which the walk has come
+    ahead: &'a [Point],
     ghost order: { in_order ≡ ascends points_below block.now.points },
+    ghost end: { IsEnd block.now.points ahead.now },
 }
 
 impl<'a> Scope<'a> {
@@ -186,14 +192,31 @@ impl<'a> Scope<'a> {
         ensures { scope_of result
             ≡ scope_with (map routine_of program.now) rules.now entries.now entry block.now }
     {
-        let in_order = are_in_order(block.points.as_slice());
+        let points = block.points.as_slice();
         Scope {
             program,
             rules,
             entries,
             entry,
             block,
-            in_order,
+            in_order: are_in_order(points),
+            ahead: points,
+        }
+    }
+
+    /// The same, for a walk that has come to a line and goes on from there: what is listed from this line on is found
+    /// sooner. It takes no memory.
+    pub fn advanced(&self, line: LineNumber) -> Scope<'a>
+        ensures { scope_of result ≡ scope_of self.now }
+    {
+        Scope {
+            program: self.program,
+            rules: self.rules,
+            entries: self.entries,
+            entry: self.entry,
+            block: self.block,
+            in_order: self.in_order,
+            ahead: from_line(self.ahead, line),
         }
     }
 
@@ -219,13 +242,13 @@ impl<'a> Scope<'a> {
     }
 
     /// The cases that are listed at a line, or at one of its rounds. It takes no memory. Where the block's points stand in
-    /// order, they are searched by halves, else one by one.
+    /// order, they are searched by halves, or from the line on to which the walk has come, else one by one.
     pub fn listed(&self, line: LineNumber, round: usize) -> &'a [Case]
         ensures { result.now ≡ listed (scope_of self.now) line round }
     {
         let points = self.block.points.as_slice();
         if self.in_order {
-            cases_in_order(points, line, round)
+            cases_ahead(points, self.ahead, line, round)
         } else {
             cases_at(points, line, round)
         }
