@@ -1,3 +1,4 @@
 pub mod Examples
 pub mod CaseFormats
+pub mod Among
 pub mod Room

@@ -1,6 +1,7 @@
 // When one case says no more than another.
 
-ghost use Rattle.std.specs.Prelude.{◌≡◌, ◌↔◌, IsTrue, Contains, Decides};
+ghost use Rattle.std.specs.Prelude.{◌≡◌, ◌↔◌, IsTrue, Contains, Decides, bytes_eq};
+ghost use Rattle.std.specs.Cmp.Lexicographic.{pointwise};
 ghost use Rattle.mlk_lexemes.specs.Lists.{Each, EachPair};
 ghost use Rattle.mlk_blocks.specs.Inclusion.{Covers, Included};
 
@@ -32,8 +33,8 @@ fn cover_all(first: &[Test], second: &[Test]) -> bool
     firsts.is_empty() && seconds.is_empty()
 }
 
-// Whether each of these names is among those.
-fn are_among(names: &[Name], all: &[Name]) -> bool
+// Whether each of these names is among those, whatever their order.
+fn each_is_among(names: &[Name], all: &[Name]) -> bool
     ensures { IsTrue result ↔ Each (Contains all.now) names.now }
 {
     let mut left = names;
@@ -44,6 +45,33 @@ fn are_among(names: &[Name], all: &[Name]) -> bool
         left = others;
     }
     true
+}
+
+// Whether the names are the same, in the same order.
+#[inline(always)]
+fn are_same(names: &[Name], others: &[Name]) -> bool
+    ensures { result ≡ pointwise bytes_eq names.now others.now }
+{
+    let mut left = names;
+    let mut left_others = others;
+    while let Some((name, rest)) = left.split_first() {
+        let Some((other, rest_others)) = left_others.split_first() else {
+            return false;
+        };
+        if *name != *other {
+            return false;
+        }
+        left = rest;
+        left_others = rest_others;
+    }
+    left_others.is_empty()
+}
+
+// Whether each of these names is among those. Mostly the lists are the same.
+fn are_among(names: &[Name], all: &[Name]) -> bool
+    ensures { IsTrue result ↔ Each (Contains all.now) names.now }
+{
+    are_same(names, all) || each_is_among(names, all)
 }
 
 /// Whether the lists are equal.

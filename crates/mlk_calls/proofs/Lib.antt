@@ -1,3 +1,4 @@
 pub mod CallSteps
 pub mod Examples
 pub mod Copies
+pub mod BareExits

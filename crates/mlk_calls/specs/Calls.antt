@@ -1,7 +1,7 @@
 -- What a call makes of a state: the callee's summary, with the actuals put in, stands for all that it does. Standard:
 -- DO, extrinsic functions, parameter passing, `$TEST`; summaries are this project's own choice.
-use Rattle.std.specs.Prelude.{ℕ, Bool, true, false, not, ◌&&◌, nat_lt, if◌then◌else◌, List, [], ◌∷◌, ◌++◌, length, map, flat_map, Option, Some, None}
-use Rattle.std.specs.Prelude.{option_map, option_and_then, Result, Ok, Err}
+use Rattle.std.specs.Prelude.{◌≡◌, ℕ, Bool, true, false, not, ◌&&◌, nat_lt, if◌then◌else◌, List, [], ◌∷◌, ◌++◌, length, map, flat_map, Option, Some, None}
+use Rattle.std.specs.Prelude.{◌≡◌, option_map, option_and_then, Result, Ok, Err}
 use Rattle.std.specs.List.{list_all}
 use Rattle.mlk_text.specs.declared.code.Code.{Code}
 use Rattle.mlk_text.specs.declared.code.Code.TheVariants.{RankOrder, NeedMissing, SummaryShort, NoCertificate, UnknownSubscript, DropsFrame}
@@ -82,6 +82,11 @@ abbrev pub leave : Calling → List (List ℕ) → List (Option Sym) → List Lo
 leave how formals given aside s x = option_map
     (λ terms. record s { case = record s.case { test = test_after how s.case.test x.test; held = put_all terms aside } })
     (put_terms formals given x.held)
+
+-- With these actuals or those, the exits leave the same states. For private clauses alone.
+abbrev pub SameEnds : List (Option Sym) → List (Option Sym) → List ExitCase → Type 0
+SameEnds given others exits = (how : Calling) (formals : List (List ℕ)) (aside : List LockTerm) (s : State)
+    → all_some (leave how formals given aside s) exits ≡ all_some (leave how formals others aside s) exits
 
 abbrev pub or_unknown : {A : Type 0} → Option A → Result A Code
 or_unknown None = Err UnknownSubscript

@@ -4,6 +4,9 @@ ghost use Rattle.std.specs.Prelude.{◌≡◌, ◌++◌, ◌-◌, IfOk, OnOk, So
 ghost use Rattle.mlk_text.specs.Failures.{Answers};
 ghost use Rattle.mlk_tree.specs.ExprTrees.{actual_of, actual_trees};
 ghost use Rattle.mlk_tree.specs.Views.{line_of};
+ghost use Rattle.std.specs.List.{list_any};
+ghost use Rattle.mlk_blocks.specs.declared.case.ExitCase.{ExitCase as exit_case};
+ghost use Rattle.mlk_scope.specs.Cases.{holds_some};
 ghost use Rattle.mlk_scope.specs.Lists.{all_some};
 ghost use Rattle.mlk_scope.specs.Refusals.{AnswersOf};
 ghost use Rattle.mlk_scope.specs.Terms.{put_term, put_terms, put_all};
@@ -11,7 +14,7 @@ ghost use Rattle.mlk_calls.specs.Changes.{marked};
 ghost use Rattle.mlk_scope.specs.Scope.{scope_of};
 ghost use Rattle.mlk_scope.specs.States.{last_captured, without_last};
 ghost use Rattle.mlk_calls.specs.Changes.{changed_state};
-ghost use Rattle.mlk_calls.specs.Calls.{Called, formals_in, called, lent_set, changes, callee_summary, changes_by, missing_need, ranks_below, all_below, leave, after_call, ranks_fault, call_fault, set_aside, call_changing, at_call, at_job, test_after, called_of};
+ghost use Rattle.mlk_calls.specs.Calls.{Called, formals_in, called, lent_set, changes, callee_summary, changes_by, missing_need, ranks_below, all_below, leave, SameEnds, after_call, ranks_fault, call_fault, set_aside, call_changing, at_call, at_job, test_after, called_of};
 
 use crate::changing::{change_fault, changed_case, mark_all};
 use crate::claim::is_low_enough;
@@ -307,6 +310,34 @@ fn changed_before(
     })
 }
 
+fn holds_some(exit: &ExitCase) -> bool
+    ensures { result ≡ holds_some exit.now.held }
+{
+    exit.held.as_slice().len() > 0
+}
+
+fn some_hold(exits: &[ExitCase]) -> bool
+    ensures { result ≡ list_any (λ (e : exit_case). holds_some e.held) exits.now }
+{
+    exits.iter().any(|exit| holds_some(exit))
+}
+
+// The actuals as they are at the call's end, for the terms of these exits. Mostly there are no terms, and then none is needed.
+fn given_at_end(
+    alloc: Global,
+    names: &[NameSet],
+    actuals: &[Sym],
+    exits: &[ExitCase],
+) -> Result<Vec<Option<Sym>>, AllocError>
+    ensures { IfOk result (λ v. SameEnds v.items (map Some (map (marked names.now) actuals.now)) exits.now) }
+{
+    if !some_hold(exits) {
+        return Ok(Vec::new(alloc));
+    }
+    let marked = mark_all(alloc, names, actuals)?;
+    passed(alloc, marked.as_slice())
+}
+
 fn after_call(
     alloc: Global,
     how: Calling,
@@ -319,10 +350,10 @@ fn after_call(
     ensures { Answers (λ v. v.items) result (after_call how (called_of target.now)
         (last_captured count state.now) names.now aside.now (without_last count state.now)) }
 {
-    let actuals = mark_all(alloc, names, last_of(state.captured.as_slice(), count))?;
-    let given = passed(alloc, actuals.as_slice())?;
-    let after = changed_before(alloc, names, count, state)?;
     let exits = target.summary.exits.as_slice();
+    let actuals = last_of(state.captured.as_slice(), count);
+    let given = given_at_end(alloc, names, actuals, exits)?;
+    let after = changed_before(alloc, names, count, state)?;
     let Some(states) = leave_all(
         alloc,
         how,

@@ -115,25 +115,26 @@ fn own_below(alloc: Global, first: &Own, second: &Own) -> Result<bool, AllocErro
 fn before(alloc: Global, own: &[Own], item: &Own) -> Result<Vec<Own>, AllocError>
     ensures { IfOk result (λ v. v.items ≡ filter (λ p. own_below p item.now) own.now) }
 {
-    let mut found = Vec::with_capacity(alloc, own.len().saturating_add(1))?;
+    let room = Vec::with_capacity(alloc, own.len().saturating_add(1))?;
+    let mut found = List::of(room);
     for other in own {
         if own_below(alloc, other, item)? {
             found.push(copy_of(other)?)?;
         }
     }
-    Ok(found)
+    Ok(found.into_vec())
 }
 
 fn after(alloc: Global, own: &[Own], item: &Own) -> Result<Vec<Own>, AllocError>
     ensures { IfOk result (λ v. v.items ≡ filter (own_below item.now) own.now) }
 {
-    let mut found = Vec::new(alloc);
+    let mut found = List::new(alloc);
     for other in own {
         if own_below(alloc, item, other)? {
             found.push(copy_of(other)?)?;
         }
     }
-    Ok(found)
+    Ok(found.into_vec())
 }
 
 /// New names with these too, at their place.

@@ -1,5 +1,5 @@
 -- Tables of groups: what they find, and how they grow.
-use Rattle.std.proofs.Common.{◌≡◌, ℕ, true, false, List, [], ◌∷◌, ◌++◌, map, Option, Some, None, refl, sym, ap, ◌∙◌, subst, ⊎_elim, is_some}
+use Rattle.std.proofs.Common.{◌≡◌, ℕ, true, false, List, [], ◌∷◌, ◌++◌, Option, Some, None, refl, sym, ap, ◌∙◌, subst, ⊎_elim, is_some}
 use Rattle.std.specs.Prelude.{bytes_eq}
 use Rattle.std.specs.Map.{lookup}
 use Rattle.std.proofs.lemmas.Bool.{cases_Bool}
@@ -7,21 +7,13 @@ use Rattle.std.proofs.lemmas.Slice.Eq.{bytes_eq-Decides}
 use Rattle.mlk_coverage.specs.declared.rules.RuleLists.{RuleLists}
 use Rattle.mlk_coverage.specs.Groups.{Table, of_global, group_of, AreGroups, HasGroup, Gains, AreKept, IsGroup}
 
-module _ {K : Type 0} (f : K → List ℕ) where
-  abbrev pub shown : List (K × RuleLists) → Table
-  shown es = map (λ p. (f p.0, p.1)) es
-
-  pub lookup-shown : (t : List ℕ) (es : List (K × RuleLists)) → lookup (λ k. bytes_eq t (f k)) es ≡ group_of t (shown es)
-  lookup-shown t [] = refl
-  lookup-shown t (p ∷ ps) =
-      ⊎_elim
-      (λ e. rw e refl)
-      (λ e. rw e (lookup-shown t ps))
-      (cases_Bool (bytes_eq t (f p.0)))
-
-  pub shown-append : (es : List (K × RuleLists)) (k : K) (g : RuleLists) → shown (es ++ (k, g) ∷ []) ≡ shown es ++ (f k, g) ∷ []
-  shown-append [] k g = refl
-  shown-append (p ∷ ps) k g = ap (λ l. (f p.0, p.1) ∷ l) (shown-append ps k g)
+pub found_in : (t : List ℕ) (es : Table) → lookup (λ k. bytes_eq t k) es ≡ group_of t es
+found_in t [] = refl
+found_in t (p ∷ ps) =
+    ⊎_elim
+    (λ e. rw e refl)
+    (λ e. rw e (found_in t ps))
+    (cases_Bool (bytes_eq t p.0))
 
 pub none_from : {A : Type 0} (o : Option A) → is_some o ≡ false → o ≡ None
 none_from None h = refl
@@ -83,6 +75,14 @@ module _ (rules : RuleLists) (name : List ℕ) (old : Table) where
     has = ap is_some (group_both name old last) ∙ some_either (group_of name old) (group_of name last) is_last;
     keeps = λ n h. ap is_some (group_both n old last) ∙ some_first (group_of n old) (group_of n last) h;
   }
+
+pub gains_put : (rules : RuleLists) (name n : List ℕ) (g : RuleLists) (old new : Table) → n ≡ name → g ≡ of_global rules name
+    → new ≡ old ++ (n, g) ∷ [] → Gains rules name old new
+gains_put rules name n g old new is group put =
+    let P : Table → Type 0 = λ t. Gains rules name old t in
+    let Q : List ℕ → Type 0 = λ m. Gains rules name old (old ++ (m, g) ∷ []) in
+    let R : RuleLists → Type 0 = λ r. Gains rules name old (old ++ (name, r) ∷ []) in
+    subst P (sym put) (subst Q (sym is) (subst R (sym group) (gains_new rules name old)))
 
 -- what is found is the group, or there is none
 pub is_group : (rules : RuleLists) (groups : Table) (name : List ℕ) → AreKept rules groups → (o : Option RuleLists) → group_of name groups ≡ o → IsGroup rules name o

@@ -1,6 +1,6 @@
 // Rules by the global that their patterns name.
 
-ghost use Rattle.std.specs.Prelude.{◌≡◌, [], IfOk, OnOk, option_copied};
+ghost use Rattle.std.specs.Prelude.{◌≡◌, ◌∷◌, ◌++◌, [], IfOk, OnOk, None, option_copied};
 ghost use Rattle.mlk_coverage.specs.Groups.{covers_of, patterns_of, of_global, group_of, AreGroups, AreComplete, Gains, GainsAll, NamedByCovers, NamedByPatterns};
 
 use crate::cover::Cover;
@@ -54,16 +54,16 @@ fn of_global(alloc: Global, rules: &RuleLists, name: &Name) -> Result<RuleLists,
 /// The rules of each global that a pattern names.
 #[derive(Drop, Debug)]
 pub(crate) struct Groups {
-    by_global: IndexMap<Vec<u8>, RuleLists>,
+    by_global: IndexMap<Name, RuleLists>,
 }
 
 impl Model for Groups {
-    ghost use Rattle.std.specs.Prelude.{List, ℕ, map};
+    ghost use Rattle.std.specs.Prelude.{List, ℕ};
     ghost use Rattle.mlk_coverage.specs.declared.rules.RuleLists.{RuleLists};
 
     ghost Value = { List (List ℕ × RuleLists) };
 
-    ghost view = { λ g. map (λ p. (p.0.items, p.1)) g.by_global.entries };
+    ghost view = { λ g. g.by_global.entries };
 }
 
 impl Groups {
@@ -76,21 +76,31 @@ impl Groups {
     }
 
     /// The rules of a global, where a pattern names it.
+    #[inline(always)]
     pub fn group(&self, name: &Name) -> Option<&RuleLists>
         ensures { option_copied result ≡ group_of name.now self.now }
     {
-        self.by_global.get(name.as_bytes())
+        self.by_global.get(name)
+    }
+
+    // Adds the rules of a global that has none yet.
+    fn put(&mut self, name: Name, rules: RuleLists) -> Result<(), AllocError>
+        requires { group_of name self.old ≡ None }
+        ensures { OnOk result (self.new ≡ self.old ++ (name, rules) ∷ []) }
+    {
+        self.by_global.insert(name, rules)?;
+        Ok(())
     }
 
     // Adds the rules of a global, where they are not there.
     fn add(&mut self, alloc: Global, rules: &RuleLists, name: &Name) -> Result<(), AllocError>
         ensures { OnOk result (Gains rules.now name.now self.old self.new) }
     {
-        let key = Vec::from_slice(alloc, name.as_bytes())?;
-        if self.by_global.contains_key(&key) {
+        if self.by_global.contains_key(name) {
             return Ok(());
         }
-        self.by_global.insert(key, of_global(alloc, rules, name)?)?;
+        let group = of_global(alloc, rules, name)?;
+        self.put(name.copy()?, group)?;
         Ok(())
     }
 }

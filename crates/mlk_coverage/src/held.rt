@@ -11,12 +11,13 @@ use crate::template::{Part, Template};
 use mlk_names::{KnownSym, LockTerm, Sym};
 
 // Whether the symbol is this known one.
+#[inline(always)]
 fn is_known_as(symbol: &Sym, known: &KnownSym) -> bool
     ensures { IsTrue result ↔ (known_of symbol.now ≡ Some known.now) }
 {
     match (symbol, known) {
-        (Sym::Const(a), KnownSym::Const(b)) => a == b,
-        (Sym::Local(a), KnownSym::Local(b)) => a == b,
+        (Sym::Const(a), KnownSym::Const(b)) => *a == *b,
+        (Sym::Local(a), KnownSym::Local(b)) => *a == *b,
         (Sym::Job, KnownSym::Job) => true,
         _ => false,
     }

@@ -9,6 +9,7 @@ use crate::pattern::{Element, Pattern};
 use mlk_names::{Extent, Sym};
 
 // Whether the symbol surely is what the element asks for.
+#[inline(always)]
 fn suits(element: &Element, symbol: &Sym) -> bool
     ensures { IsTrue result ↔ Suits element.now symbol.now }
 {

@@ -10,6 +10,7 @@ use crate::pattern::{Element, Pattern};
 use mlk_names::{Extent, Reference, Sym};
 
 // Whether some value may be that of both.
+#[inline(always)]
 fn element_may_meet(element: &Element, symbol: &Sym) -> bool
     ensures { IsTrue result ↔ SymsMayMeet (symbol_of element.now) symbol.now }
 {

@@ -77,6 +77,7 @@ impl Rules {
     }
 
     // The rules of a global, in order, where a pattern names it.
+    #[inline(always)]
     pub(crate) fn group(&self, global: &Name) -> Option<&RuleLists>
         ensures { IsGroup self.now global.now (option_copied result) }
     {

@@ -158,12 +158,13 @@ pub fn walk_lines<'a>(
 {
     let mut all = Vec::new(alloc);
     let mut later = lines;
+    let mut here = *scope;
     for line in lines {
         later = without_first(later);
-        if scope.is_past(line.number) && line.block.as_slice().is_empty() {
+        if here.is_past(line.number) && line.block.as_slice().is_empty() {
             continue;
         }
-        let here = scope.advanced(line.number);
+        here = here.advanced(line.number);
         let mut ends = walk_line(alloc, &here, line, around, next_of(around, later), found)?;
         all.append(&mut ends)?;
     }

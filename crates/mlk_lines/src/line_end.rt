@@ -63,7 +63,8 @@ fn some_escape(level: usize, case: &Case) -> bool
 fn left_own(alloc: Global, level: usize, own: &[Own]) -> Result<Vec<Own>, AllocError>
     ensures { IfOk result (λ v. v.items ≡ filter (is_left level) own.now) }
 {
-    let mut left = Vec::with_capacity(alloc, own.len())?;
+    let count = own.iter().filter(|item| !is_at_level(level, item)).count();
+    let mut left = Vec::with_capacity(alloc, count)?;
     for item in own {
         if !is_at_level(level, item) {
             left.push(copy_of(item)?)?;

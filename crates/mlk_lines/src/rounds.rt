@@ -76,7 +76,7 @@ impl<'a> Row for RoundOrAfter<'a> {
 fn copies(alloc: Global, states: &[State]) -> Result<List<State>, AllocError>
     ensures { IfOk result (λ l. l ≡ states.now) }
 {
-    let mut all = List::new(alloc);
+    let mut all = List::of(Vec::with_capacity(alloc, states.len())?);
     for state in states {
         all.push(state.copy()?)?;
     }

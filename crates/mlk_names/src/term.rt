@@ -32,7 +32,7 @@ pub fn prefix(first: &LockTerm, second: &LockTerm) -> bool
 fn has_local(symbols: &[KnownSym], name: &Name) -> bool
     ensures { IsTrue result ↔ Contains symbols.now (Local name.now) }
 {
-    symbols.iter().any(|symbol| matches!(symbol, KnownSym::Local(local) if local == name))
+    symbols.iter().any(|symbol| matches!(symbol, KnownSym::Local(local) if *local == *name))
 }
 
 /// Whether a subscript of the term is this local; the term's own root is no mention. It takes no memory.

@@ -1,9 +1,10 @@
 -- Rows that let every state go on.
-use Rattle.std.proofs.Common.{◌≡◌, Bool, true, ℕ, List, [], ◌∷◌, ◌++◌, map, refl, ap, ◌∙◌, Option, None, Some}
+use Rattle.std.proofs.Common.{◌≡◌, ◌-◌, arith, length, take, Bool, true, ℕ, List, [], ◌∷◌, ◌++◌, map, refl, ap, ◌∙◌, Option, None, Some}
 use Rattle.std.specs.Prelude.{flat_map, is_none}
 use Rattle.std.specs.List.{list_all}
 use Rattle.std.proofs.lemmas.Bool.{and_parts}
 use Rattle.std.proofs.lemmas.List.{map-id}
+use Rattle.std.proofs.Math.Seq.{take-length}
 use Rattle.mlk_names.specs.declared.symbol.Sym.{Sym}
 use Rattle.mlk_names.specs.declared.reference.Access.{Access}
 use Rattle.mlk_names.specs.declared.reference.Extent.{Extent}
@@ -42,6 +43,22 @@ all_same w = ap (λ ss. with_states (put_all ss []) w) (map-id w.going)
 -- a row that does nothing
 pub all_stay : (w : Walk) → each (λ s. Goes s ∷ []) w ≡ with_states (put_all w.going []) w
 all_stay w = all_change (λ s. true) (λ s. Goes s ∷ []) (λ s. s) (λ s h. refl) w (all_true w.going) ∙ all_same w
+
+none_less : (n : ℕ) → n - 0 ≡ n
+none_less n = omega arith
+
+kept_all : (xs : List Sym) → take (length xs - 0) xs ≡ xs
+kept_all xs = ap (λ (n : ℕ). take n xs) (none_less (length xs)) ∙ take-length xs
+
+all_kept : (ss : List State) → map (without_last 0) ss ≡ ss
+all_kept [] = refl
+all_kept (s ∷ ss) =
+    ap (λ (c : List Sym). record s { captured = c } ∷ map (without_last 0) ss) (kept_all s.captured)
+    ∙ ap (λ (ts : List State). s ∷ ts) (all_kept ss)
+
+-- no captured symbol is forgotten
+pub none_forgotten : (w : Walk) → each_changed (without_last 0) w ≡ with_states (put_all w.going []) w
+none_forgotten w = ap (λ (ss : List State). with_states (put_all ss []) w) (all_kept w.going)
 
 -- a use with the subscripts that were captured last, which is covered in all
 pub all_read : (p : Spot) (how : Use) (column : ℕ) (name : List ℕ) (count : ℕ) (w : Walk)

@@ -21,6 +21,7 @@ use mlk_tree::{Actual, Callee, Expr, Subscript};
 use std::alloc::AllocError;
 
 // The symbol of an expression that was evaluated is captured.
+#[inline(always)]
 fn capture_value(spot: &Spot, expression: &Expr, state: &mut State) -> Result<(), AllocError>
     ensures { OnOk result (state.new ≡ with_value (scope_of spot.now.scope.now) (tree_of expression.now) state.old) }
 {

@@ -37,9 +37,12 @@ pub fn each<R: Row>(alloc: Global, row: &R, walk: &mut Walk) -> Result<(), Alloc
 pub fn forget(alloc: Global, count: usize, walk: &mut Walk) -> Result<(), AllocError>
     ensures { OnOk result (walk.new ≡ each_changed (without_last count) walk.old) }
 {
+    if count == 0 {
+        return walk.once(alloc);
+    }
     let mut states = walk.take_going(alloc).into_vec();
     for state in states.iter_mut() {
-        state.forget_last(alloc, count);
+        state.forget_last(count);
     }
     walk.resume(alloc, states)
 }

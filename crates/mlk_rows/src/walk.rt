@@ -138,6 +138,7 @@ pub fn put(states: &mut List<State>, state: State) -> Result<(), AllocError>
 }
 
 // Whether none of the states is there twice.
+#[inline(always)]
 fn are_distinct(states: &[State]) -> bool
     ensures { IsTrue result → put_all states.now [] ≡ states.now }
 {
@@ -202,6 +203,7 @@ impl Walk {
     }
 
     /// These states go on, each once, where none does: those that went on, changed in place.
+    #[inline(always)]
     pub fn resume(&mut self, alloc: Global, states: Vec<State>) -> Result<(), AllocError>
         ensures { OnOk result (self.new ≡ with_states (put_all states.items []) self.old) }
     {
@@ -222,6 +224,7 @@ impl Walk {
     }
 
     /// A case skips the rest of its line or round.
+    #[inline(always)]
     pub fn skip(&mut self, case: Case) -> Result<(), AllocError>
         ensures { OnOk result (self.new ≡ add (Skips case) self.old) }
     {

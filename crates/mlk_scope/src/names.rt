@@ -18,11 +18,12 @@ pub fn is_among(names: &[Name], name: &Name) -> bool
 }
 
 // Whether the name is this one, or is not among those that the set leaves out.
+#[inline(always)]
 fn has(set: &NameSet, name: &Name) -> bool
     ensures { result ≡ has set.now name.now }
 {
     match set {
-        NameSet::Only(only) => only == name,
+        NameSet::Only(only) => *only == *name,
         NameSet::AllBut(others) => !is_among(others.as_slice(), name),
     }
 }
@@ -36,6 +37,7 @@ pub fn have(sets: &[NameSet], name: &Name) -> bool
 }
 
 /// Whether a name is own: one of the items has it, at any level. It takes no memory.
+#[inline(always)]
 pub fn is_own(own: &[Own], name: &Name) -> bool
     ensures { result ≡ is_own own.now name.now }
 {
@@ -72,6 +74,7 @@ fn one_spares(names: &[Name], sets: &[NameSet]) -> bool
 }
 
 /// Whether names may change: they are own, or a summary lists them.
+#[inline(always)]
 pub fn may_change(own: &[Own], mods: &[NameSet], set: &NameSet) -> bool
     ensures { result ≡ may_change own.now mods.now set.now }
 {

@@ -268,6 +268,7 @@ impl<'a> Scope<'a> {
 
     /// Whether the name is shared in a frame with these names of its own: some call of the program passes it by
     /// reference, or a formal of this name receives one that is passed so, whatever names are own. It takes no memory.
+    #[inline(always)]
     pub fn is_shared_in(&self, _own: &[Own], name: &Name) -> bool
         ensures { result ≡ (scope_of self.now).is_shared _own.now name.now }
     {

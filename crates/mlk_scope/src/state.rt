@@ -81,12 +81,11 @@ impl State {
 
     /// The last so many captured symbols are forgotten.
     #[inline(always)]
-    pub fn forget_last(&mut self, alloc: Global, count: usize)
+    pub fn forget_last(&mut self, count: usize)
         ensures { self.new ≡ without_last count self.old }
     {
-        let mut symbols = std::mem::replace(&mut self.captured, List::new(alloc)).into_vec();
-        symbols.truncate(symbols.len().saturating_sub(count));
-        self.captured = List::of(symbols);
+        let left = self.captured.len().saturating_sub(count);
+        self.captured.truncate(left);
     }
 
     /// An equal state, which shares its lists.

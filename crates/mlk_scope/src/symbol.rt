@@ -63,6 +63,7 @@ fn between_symbols(alloc: Global, op: Op, left: Sym, right: Sym) -> Result<Sym, 
 }
 
 // The symbol of a local, with these subscripts.
+#[inline(always)]
 fn local_symbol(shared: bool, name: &Name, subscripts: &[Subscript]) -> Result<Sym, AllocError>
     ensures { IfOk result (λ s. s ≡ local_symbol shared name.now (subs_from (sub_trees subscripts.now))) }
 {

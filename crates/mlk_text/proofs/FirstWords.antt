@@ -1,5 +1,5 @@
 -- What is known of bytes by their first eight, where what stands after them is zero.
-use Rattle.std.proofs.Common.{◌≡◌, ◌≤◌, ◌<◌, ◌-◌, ◌^◌, ◌∙◌, ◌∷◌, ◌++◌, ◌==◌, [], ℕ, List, Bool, true, false, zero, suc, take, drop, replicate, get_or, bytes_eq, sym, ap, subst, refl, arith, ⊎_elim}
+use Rattle.std.proofs.Common.{◌≡◌, ◌≤◌, ◌<◌, ◌-◌, ◌^◌, ◌∙◌, ◌∷◌, ◌++◌, ◌==◌, [], ℕ, List, true, false, zero, suc, take, drop, replicate, get_or, bytes_eq, sym, ap, subst, arith, ⊎_elim}
 use Rattle.std.specs.Int.{w64, to_le_bytes, from_le_bytes}
 use Rattle.std.proofs.lemmas.Bool.{cases_Bool}
 use Rattle.std.proofs.lemmas.Bool.Decides.{nat_tests}

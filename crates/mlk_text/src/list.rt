@@ -1,6 +1,6 @@
 // Lists of any elements.
 
-ghost use Rattle.std.specs.Prelude.{◌≡◌, ◌↔◌, ◌<◌, ◌∷◌, ◌++◌, [], IsSome, OnOk, OnErr, length, option_to_list, vec_len, vec_capacity};
+ghost use Rattle.std.specs.Prelude.{◌≡◌, ◌↔◌, ◌<◌, ◌∷◌, ◌++◌, [], IsSome, OnOk, OnErr, length, take, option_to_list, vec_len, vec_capacity};
 ghost use Rattle.std.specs.Cmp.Lexicographic.{pointwise};
 
 use std::alloc::{AllocError, Global};
@@ -55,6 +55,15 @@ impl<T> List<T> {
         self.items.pop()
     }
 
+    /// The first so many elements stay, or all where there are fewer. The room of the others stays too.
+    pub fn truncate(&mut self, count: usize)
+    where
+        T: Drop,
+        ensures { self.new ≡ take count self.old }
+    {
+        self.items.truncate(count);
+    }
+
     /// The elements as a vector.
     pub fn into_vec(self) -> Vec<T>
         ensures { result.items ≡ self }
@@ -99,7 +108,19 @@ impl<T> List<T> {
 pub fn are_equal<T: PartialEq>(items: &[T], others: &[T]) -> bool
     ensures { result ≡ pointwise T.eq items.now others.now }
 {
-    items == others
+    let mut left = items;
+    let mut left_others = others;
+    while let Some((item, rest)) = left.split_first() {
+        let Some((other, rest_others)) = left_others.split_first() else {
+            return false;
+        };
+        if *item != *other {
+            return false;
+        }
+        left = rest;
+        left_others = rest_others;
+    }
+    left_others.is_empty()
 }
 
 /// Makes room for one more item at the end: for one first, and then for as many as there are, since most lists of a routine

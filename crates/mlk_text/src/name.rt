@@ -4,6 +4,7 @@ ghost use Rattle.std.specs.Prelude.{◌≡◌, IfOk};
 
 use crate::text::NameText;
 use std::alloc::{AllocError, Global};
+use std::hash::{Hash, Hasher};
 use std::marker::Model;
 
 /// A name of M, without the `^` of a global: `%` or a letter, then letters and digits; case matters.
@@ -42,6 +43,7 @@ impl Name {
     }
 
     /// An equal name, on the same allocator.
+    #[inline(always)]
     pub fn copy(&self) -> Result<Name, AllocError>
         ensures { IfOk result (λ copy. copy ≡ self.now) }
     {
@@ -72,6 +74,22 @@ impl PartialEq for Name {
     #[inline(always)]
     fn eq(&self, other: &Name) -> bool {
         self.text.is_same(&other.text)
+    }
+}
+
+// A name is written whole, so it is hashed at once.
+impl Hash for Name {
+    ghost use Rattle.std.specs.Prelude.{[], ◌∷◌};
+    ghost use Rattle.std.specs.Cmp.Rules.{comparing};
+    ghost use Rattle.std.proofs.Common.{rules};
+
+    ghost hash_input = { λ n. n ∷ [] };
+
+    ghost respects_eq = { Prim.search (comparing, rules) };
+
+    #[inline(always)]
+    fn hash<H: Hasher>(&self, state: &mut H) {
+        state.write(self.as_bytes());
     }
 }
 

@@ -87,6 +87,7 @@ impl<const N: usize> Short<N> {
         are_same(self.as_bytes(), other.as_bytes())
     }
 
+    #[inline(always)]
     fn copy(&self) -> Short<N>
         ensures { result ≡ self.now }
     {
@@ -137,6 +138,7 @@ impl Text {
     }
 
     /// An equal text, on the same allocator.
+    #[inline(always)]
     pub(crate) fn copy(&self) -> Result<Text, AllocError>
         ensures { IfOk result (λ t. bytes_of t ≡ bytes_of self.now) }
     {
@@ -188,6 +190,7 @@ impl NameText {
     }
 
     /// An equal text, on the same allocator.
+    #[inline(always)]
     pub(crate) fn copy(&self) -> Result<NameText, AllocError>
         ensures { IfOk result (λ t. name_bytes_of t ≡ name_bytes_of self.now) }
     {

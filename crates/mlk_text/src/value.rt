@@ -50,6 +50,7 @@ impl Value {
     }
 
     /// An equal value, on the same allocator.
+    #[inline(always)]
     pub fn copy(&self) -> Result<Value, AllocError>
         ensures { IfOk result (λ copy. copy ≡ self.now) }
     {

@@ -1,8 +1,8 @@
-use Rattle.std.proofs.Common.{◌≡◌, ◌∙◌, ◌++◌, ap, sym, drop, length, true, eqb-true, rules}
+use Rattle.std.proofs.Common.{◌≡◌, ◌∙◌, ◌++◌, ap, sym, subst, drop, length, true, eqb-true, rules}
 use Rattle.std.specs.Prelude.{◌==◌}
 use Rattle.mlk_coverage.proofs.CheckLemmas.{drop_step}
 use Rattle.mlk_tree.specs.declared.routine.Line.TheViews.{out-Line}
-use Rattle.mlk_scope.specs.Scope.{scope_of, is_past}
+use Rattle.mlk_scope.specs.Scope.{Scope, scope_of, is_past}
 use Rattle.mlk_lines.specs.Endings.{around_of}
 use Rattle.mlk_lines.specs.Lines.{Walked}
 use Rattle.mlk_lines.proofs.Idle.{past_turn}
@@ -11,15 +11,20 @@ use Rattle.mlk_lines.proofs.level.+level.Goals as goal
 pub walk_lines-loop-line-preserved-then-is_empty : goal.walk_lines-loop-line-preserved-then-is_empty
 walk_lines-loop-line-preserved-then-is_empty t c =
     let line = out-Line c.line-item.result in
-    let past : is_past (scope_of c.args.scope.now) line.number ≡ true = search rules in
+    let kept = c.loop-line.invariant.1 in
+    let passed : is_past (scope_of c.loop-line.here) line.number ≡ true = search rules in
+    let past = subst (λ (s : Scope). is_past s line.number ≡ true) c.loop-line.invariant.0 passed in
     let none : (length line.block.items == 0) ≡ true = search rules in
     let turn = past_turn (scope_of c.args.scope.now) (around_of c.args.around) c.args.lines.now c.loop-line.line-index c.line-item.result
     c.loop-line-test.true c.line-item.is past (eqb-true _ _ none) in (
-      c.without_first-later.ensures
-          ∙ ap (drop 1) (c.loop-line.invariant.0
-          ∙ drop_step c.args.lines.now c.loop-line.line-index c.line-item.result c.loop-line-test.true c.line-item.is),
+      c.loop-line.invariant.0,
       (
-        ap (λ (z : Walked). c.loop-line.found ++ z.faults) (sym turn) ∙ c.loop-line.invariant.1.0,
-        ap (λ (z : Walked). c.loop-line.all.items ++ z.ends) (sym turn) ∙ c.loop-line.invariant.1.1,
+        c.without_first-later.ensures
+            ∙ ap (drop 1) (kept.0
+            ∙ drop_step c.args.lines.now c.loop-line.line-index c.line-item.result c.loop-line-test.true c.line-item.is),
+        (
+          ap (λ (z : Walked). c.loop-line.found ++ z.faults) (sym turn) ∙ kept.1.0,
+          ap (λ (z : Walked). c.loop-line.all.items ++ z.ends) (sym turn) ∙ kept.1.1,
+        ),
       ),
     )

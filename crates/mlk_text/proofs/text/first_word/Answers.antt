@@ -1,4 +1,4 @@
-use Rattle.std.proofs.Common.{◌≡◌, ◌∙◌, ◌<◌, ℕ, get_or, sym, subst, rules}
+use Rattle.std.proofs.Common.{◌∙◌, ◌<◌, ℕ, get_or, sym, subst, rules}
 use Rattle.std.proofs.lemmas.Nat.{le_bytes_8}
 use Rattle.mlk_text.proofs.FirstWords.{small_taken}
 use Rattle.mlk_text.proofs.text.first_word.Goals as goal

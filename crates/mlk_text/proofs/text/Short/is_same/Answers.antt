@@ -1,4 +1,4 @@
-use Rattle.std.proofs.Common.{rules, ◌∙◌, sym}
+use Rattle.std.proofs.Common.{rules}
 use Rattle.mlk_text.proofs.FirstWords.{words_decide}
 use Rattle.mlk_text.proofs.text.Short.is_same.Goals as goal
 

@@ -1,4 +1,4 @@
-use Rattle.std.proofs.Common.{rules, ◌≡◌, ◌∙◌, ◌++◌, ◌-◌, length, drop, replicate, refl}
+use Rattle.std.proofs.Common.{◌∙◌, length, refl}
 use Rattle.std.proofs.lemmas.List.{drop_at}
 use Rattle.mlk_text.proofs.FirstWords.{zeros_left}
 use Rattle.mlk_text.proofs.text.Short.new.Goals as goal
