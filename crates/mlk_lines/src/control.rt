@@ -14,7 +14,7 @@ use crate::rounds::{Rounds, after_round, begin_rounds, parameter};
 use mlk_calls::State;
 use mlk_cert::{Case, NameSet};
 use mlk_rows::{Faults, Quit, Spot, Walk, put, put_all};
-use mlk_text::{Column, List};
+use mlk_text::{Column, List, copy_of};
 use mlk_tree::{Command, Commands, Control, Parameter};
 use std::alloc::{AllocError, Global};
 
@@ -229,7 +229,20 @@ pub(crate) fn begin(alloc: Global, cases: &[Case]) -> Result<Walk, AllocError>
 {
     let mut going = List::of(Vec::with_capacity(alloc, cases.len())?);
     for case in cases {
-        going.push(State::at_rest(alloc, case)?)?;
+        let held = case.held.clone()?;
+        let own = case.own.clone()?;
+        let kept = case.kept.clone()?;
+        let saved = copy_of(&case.saved)?;
+        going.push(State {
+            case: Case {
+                test: case.test,
+                saved,
+                held,
+                own,
+                kept,
+            },
+            captured: List::new(alloc),
+        })?;
     }
     Ok(Walk {
         going,

@@ -114,6 +114,26 @@ pub fn walk_alone<'a>(
     Ok(ends.cases.into_vec())
 }
 
+// The walk of a line's block. Most lines have none.
+#[cycle(level)]
+#[inline(always)]
+fn walk_block<'a>(
+    alloc: Global,
+    scope: &'a Scope<'a>,
+    lines: &'a [Line],
+    found: &mut LineFaults,
+) -> Result<Vec<Case>, AllocError>
+    ensures faults { OnOk result (found.new ≡ found.old
+        ++ (walk_lines (scope_of scope.now) OfBlock (lines_from (map line_of lines.now))).faults) }
+    ensures ends { IfOk result (λ v. v.items
+        ≡ (walk_lines (scope_of scope.now) OfBlock (lines_from (map line_of lines.now))).ends) }
+{
+    if lines.is_empty() {
+        return Ok(Vec::new(alloc));
+    }
+    walk_lines(alloc, &*scope, lines, Around::Block, found)
+}
+
 // The walk of a line, after that of its block.
 #[cycle(level)]
 fn walk_line<'a>(
@@ -134,7 +154,7 @@ fn walk_line<'a>(
         (walk_lines (scope_of scope.now) OfBlock (line_of line.now).1)).cases) }
 {
     let block = line.block.as_slice();
-    let inner = walk_lines(alloc, &*scope, block, Around::Block, found)?;
+    let inner = walk_block(alloc, &*scope, block, found)?;
     let block = block_of(block, List::of(inner));
     let ends = walk_head(alloc, &*scope, around, next, &block, &*line)?;
     found.add(line.number, ends.faults)?;

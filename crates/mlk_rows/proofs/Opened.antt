@@ -1,6 +1,6 @@
 -- How the walk of each kind of expression opens.
 use Rattle.std.specs.Prelude.{OnOk}
-use Rattle.std.proofs.Common.{◌≡◌, ◌∙◌, ap, sym, subst, false, nat_eq, Result, refl, suc, length, ℕ, List, [], ◌∷◌, None, Some, Vec, Box, Global}
+use Rattle.std.proofs.Common.{◌≡◌, ◌∙◌, ap, sym, subst, arith, eqb-true, true, false, nat_eq, Result, refl, suc, length, ℕ, List, [], ◌∷◌, None, Some, Vec, Box, Global}
 use Rattle.mlk_text.specs.declared.operator.Op.{Op}
 use Rattle.mlk_text.specs.declared.operator.UnaryOp.{UnaryOp}
 use Rattle.mlk_tree.specs.declared.expr.Callee.{Callee}
@@ -11,17 +11,20 @@ use Rattle.mlk_tree.specs.declared.expr.Subscript.{Subscript}
 use Rattle.mlk_tree.specs.declared.expr.Actual.TheOpen as open'
 use Rattle.mlk_tree.specs.declared.expr.Expr.TheVariants as rust
 use Rattle.mlk_tree.specs.declared.expr.Expr.TheVariants.{rolls-Unary, rolls-Binary, rolls-Select, rolls-Call}
-use Rattle.mlk_tree.specs.ExprTrees.{Tree, ActualTree, Prefixed, Chain, Selected, BareCall, tree_of, sub_trees, subs_from, trees, trees_from, links, links_from, choices, choices_from, actual_trees, actuals_from, actual_step, expr_step, subscript_step}
+use Rattle.mlk_tree.specs.ExprTrees.{Tree, ActualTree, Prefixed, Chain, Selected, BareCall, tree_of, sub_trees, subs_from, trees, trees_from, no_subs, links, links_from, choices, choices_from, actual_trees, actuals_from, actual_step, expr_step, subscript_step}
 use Rattle.mlk_tree.proofs.Variants.{tree_local, tree_global, tree_func, tree_call}
 use Rattle.mlk_found.proofs.FoundCalls.{as_list_same}
 use Rattle.mlk_rows.specs.declared.walk.Walk.{Walk}
 use Rattle.mlk_rows.specs.declared.reference.Use.{Use}
 use Rattle.mlk_rows.specs.declared.reference.Use.TheVariants.{ItsValue}
-use Rattle.mlk_scope.specs.States.{without_last}
+use Rattle.mlk_scope.specs.declared.state.State.{State}
+use Rattle.mlk_scope.specs.Scope.{Scope}
+use Rattle.mlk_scope.specs.Symbols.{local_symbol}
+use Rattle.mlk_scope.specs.States.{without_last, with_symbol}
 use Rattle.mlk_rows.specs.Walks.{each, each_changed}
 use Rattle.mlk_rows.specs.Spots.{Spot}
 use Rattle.mlk_rows.specs.References.{use_of, read_last}
-use Rattle.mlk_rows.specs.Expressions.{count_subs, forget_subs, extrinsic, evaluate, evaluate_all, capture_subs, evaluate_links, evaluate_choices, capture_actuals}
+use Rattle.mlk_rows.specs.Expressions.{with_value, count_subs, forget_subs, extrinsic, evaluate, evaluate_all, capture_subs, evaluate_links, evaluate_choices, capture_actuals}
 
 tree_unary : (op : UnaryOp) (b : Box Expr Global) → tree_of (rust.Unary op b) ≡ Prefixed op (tree_of b.value)
 tree_unary op b = ap tree_of (sym (rolls-Unary op b))
@@ -49,6 +52,17 @@ pub forgets : (ss : List Subscript) (w : Walk) → nat_eq (length ss) 0 ≡ fals
     → forget_subs (subs_from (sub_trees ss)) w ≡ each_changed (without_last (length ss)) w
 forgets [] w h = absurd (cc)
 forgets (s ∷ ss) w h = ap (λ n. each_changed (without_last n) w) (counted (s ∷ ss))
+
+module _ (sc : Scope) (name : List ℕ) (s : State) where
+  no_subscripts : (ss : List Subscript) → nat_eq (length ss) 0 ≡ true
+      → with_symbol (local_symbol (sc.is_shared s.case.own name) name (subs_from (sub_trees ss))) s
+      ≡ with_symbol (local_symbol (sc.is_shared s.case.own name) name no_subs) s
+  no_subscripts [] h = refl
+  no_subscripts (x ∷ xs) h = absurd (omega (arith, eqb-true (length (x ∷ xs)) 0 h))
+
+  pub local_captured : (v : Vec Subscript Global) → nat_eq (length v.items) 0 ≡ true
+      → with_value sc (tree_of (rust.Local name v)) s ≡ with_symbol (local_symbol (sc.is_shared s.case.own name) name no_subs) s
+  local_captured v h = ap (λ (t : Tree). with_value sc t s) (tree_local name v) ∙ no_subscripts v.items h
 
 module _ (p : Spot) (how : Use) (w : Walk) where
   pub local_opens : (name : List ℕ) (v : Vec Subscript Global) → evaluate p how (tree_of (rust.Local name v)) w

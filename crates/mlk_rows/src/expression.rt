@@ -1,8 +1,10 @@
 // Expressions: what their references and calls make of the states of a walk.
 
 ghost use Rattle.std.specs.Prelude.{◌≡◌, IfOk, OnOk, option_map, option_copied};
-ghost use Rattle.mlk_tree.specs.ExprTrees.{tree_of, trees, trees_from, sub_trees, subs_from, links, links_from, choices, choices_from, actual_of, actual_trees, actuals_from};
+ghost use Rattle.mlk_tree.specs.ExprTrees.{tree_of, trees, trees_from, sub_trees, subs_from, no_subs, links, links_from, choices, choices_from, actual_of, actual_trees, actuals_from};
 ghost use Rattle.mlk_scope.specs.Scope.{scope_of};
+ghost use Rattle.mlk_scope.specs.States.{with_symbol};
+ghost use Rattle.mlk_scope.specs.Symbols.{local_symbol};
 ghost use Rattle.mlk_rows.specs.Walks.{each};
 ghost use Rattle.mlk_rows.specs.References.{read_last};
 ghost use Rattle.mlk_rows.specs.Spots.{spot_of};
@@ -20,13 +22,34 @@ use mlk_text::{Column, List, Name, Op};
 use mlk_tree::{Actual, Callee, Expr, Subscript};
 use std::alloc::AllocError;
 
-// The symbol of an expression that was evaluated is captured.
+// The symbol of a local without subscripts is captured.
+#[inline(always)]
+fn capture_local(spot: &Spot, name: &Name, state: &mut State) -> Result<(), AllocError>
+    ensures { OnOk result (state.new ≡ with_symbol
+        (local_symbol ((scope_of spot.now.scope.now).is_shared state.old.case.own name.now) name.now no_subs) state.old) }
+{
+    if spot.scope.is_shared_in(state.case.own.as_slice(), name) {
+        return state.captured.push(Sym::Unknown);
+    }
+    state.captured.push(Sym::Local(name.copy()?))
+}
+
+// The symbol of an expression that was evaluated is captured. Most are constants or locals, whose symbols are made where
+// they stay.
 #[inline(always)]
 fn capture_value(spot: &Spot, expression: &Expr, state: &mut State) -> Result<(), AllocError>
     ensures { OnOk result (state.new ≡ with_value (scope_of spot.now.scope.now) (tree_of expression.now) state.old) }
 {
-    let symbol = symbol_of(spot.alloc, spot.scope, state, expression)?;
-    state.captured.push(symbol)
+    match expression {
+        Expr::Lit(value) => state.captured.push(Sym::Const(value.copy()?)),
+        Expr::Local(name, subscripts) if subscripts.as_slice().is_empty() => capture_local(
+            spot, name, state,
+        ),
+        _ => {
+            let symbol = symbol_of(spot.alloc, spot.scope, state, expression)?;
+            state.captured.push(symbol)
+        }
+    }
 }
 
 /// The symbol of an expression that was evaluated is captured, in each state.

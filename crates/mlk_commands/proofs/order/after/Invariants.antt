@@ -4,4 +4,4 @@ use Rattle.mlk_blocks.specs.Limits.{own_below}
 use Rattle.mlk_commands.proofs.order.after.Given as goal
 
 abbrev pub invariant-loop-other : goal.invariant-loop-other
-invariant-loop-other l = l.found.items ≡ filter (own_below l.item) (take l.other-index l.own)
+invariant-loop-other l = l.found ≡ filter (own_below l.item) (take l.other-index l.own)
