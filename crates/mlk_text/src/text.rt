@@ -8,7 +8,7 @@ use std::alloc::{AllocError, Global};
 use std::marker::Model;
 
 // How many bytes of a value stand in the struct itself.
-const MOST_SHORT: usize = 23;
+const MOST_SHORT: usize = 16;
 
 // How many bytes of a name do: most are shorter, and a tree of a routine has very many of them.
 const MOST_SHORT_NAME: usize = 14;
@@ -98,10 +98,75 @@ impl<const N: usize> Short<N> {
     }
 }
 
+/// Up to 16 bytes of a value. What stands after them is zero. Their number has a word of its own, so that all is handed on
+/// in whole words: what was written in other pieces than it is read waits until it has reached the memory.
+#[derive(Debug, Drop)]
+pub(crate) struct ShortValue {
+    length: usize,
+    bytes: [u8; MOST_SHORT],
+}
+
+impl Model for ShortValue {
+    ghost use Rattle.std.specs.Prelude.{List, ℕ, take, drop, replicate, ◌≡◌, ◌≤◌, ◌-◌};
+
+    ghost Value = { List ℕ };
+
+    ghost view = { λ s. take s.length s.bytes };
+
+    ghost invariant = { λ s. (s.length ≤ 16) × (drop s.length s.bytes ≡ replicate (16 - s.length) 0) };
+}
+
+impl ShortValue {
+    #[inline(always)]
+    fn new(bytes: &[u8]) -> ShortValue
+        requires { length bytes.now ≤ 16 }
+        ensures { result ≡ bytes.now }
+    {
+        let mut kept = [0; MOST_SHORT];
+        let (front, _) = kept.split_at_mut(bytes.len());
+        front.copy_from_slice(bytes);
+        ShortValue {
+            length: bytes.len(),
+            bytes: kept,
+        }
+    }
+
+    fn as_bytes(&self) -> &[u8]
+        ensures { result.now ≡ self.now }
+    {
+        let (front, _) = self.bytes.split_at(self.length);
+        front
+    }
+
+    // Whether the bytes are the same. Most are eight at most, with what stands after them.
+    #[inline(always)]
+    fn is_same(&self, other: &ShortValue) -> bool
+        ensures { result ≡ bytes_eq self.now other.now }
+    {
+        if self.length != other.length {
+            return false;
+        }
+        if self.length <= 8 {
+            return first_word(&self.bytes) == first_word(&other.bytes);
+        }
+        are_same(self.as_bytes(), other.as_bytes())
+    }
+
+    #[inline(always)]
+    fn copy(&self) -> ShortValue
+        ensures { result ≡ self.now }
+    {
+        ShortValue {
+            length: self.length,
+            bytes: self.bytes,
+        }
+    }
+}
+
 /// The bytes of a value: any.
 #[derive(Debug, Drop)]
 pub(crate) enum Text {
-    Short(Short<MOST_SHORT>),
+    Short(ShortValue),
     Long(Vec<u8>),
 }
 
@@ -112,7 +177,7 @@ impl Text {
         ensures { IfOk result (λ t. bytes_of t ≡ bytes.now) }
     {
         if bytes.len() <= MOST_SHORT {
-            Ok(Text::Short(Short::new(bytes)))
+            Ok(Text::Short(ShortValue::new(bytes)))
         } else {
             Ok(Text::Long(Vec::from_slice(alloc, bytes)?))
         }

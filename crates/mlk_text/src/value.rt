@@ -32,7 +32,7 @@ impl Value {
         }
     }
 
-    /// The value with these bytes. Up to 23 of them take no memory beside the value itself.
+    /// The value with these bytes. Up to 16 of them take no memory beside the value itself.
     #[inline(always)]
     pub fn of(alloc: Global, bytes: &[u8]) -> Result<Value, AllocError>
         ensures { IfOk result (λ value. value ≡ bytes.now) }
