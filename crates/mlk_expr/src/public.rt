@@ -26,8 +26,12 @@ const DEEPEST: u8 = 64;
 
 #[tactic(auto, unfolding(crate::specs::Reading::expr_in))]
 #[inline(always)]
-fn expr(alloc: Global, scope: Scope, bytes: &[u8]) -> Result<(Expr, &[u8]), Failure<Offence>>
-    ensures { Reads (λ x. (tree_of x.0, x.1.now)) result (expr_in scope bytes.now) }
+fn expr<'a>(
+    alloc: Global,
+    scope: &Scope,
+    bytes: &'a [u8],
+) -> Result<(Expr, &'a [u8]), Failure<Offence>>
+    ensures { Reads (λ x. (tree_of x.0, x.1.now)) result (expr_in scope.now bytes.now) }
 {
     let (tree, rest) = chain(alloc, scope, bytes)?;
     if !may_end(rest) {
@@ -38,8 +42,12 @@ fn expr(alloc: Global, scope: Scope, bytes: &[u8]) -> Result<(Expr, &[u8]), Fail
 
 #[tactic(auto, unfolding(crate::specs::Reading::reference_in))]
 #[inline(always)]
-fn reference(alloc: Global, scope: Scope, bytes: &[u8]) -> Result<(Expr, &[u8]), Failure<Offence>>
-    ensures { Reads (λ x. (tree_of x.0, x.1.now)) result (reference_in scope bytes.now) }
+fn reference<'a>(
+    alloc: Global,
+    scope: &Scope,
+    bytes: &'a [u8],
+) -> Result<(Expr, &'a [u8]), Failure<Offence>>
+    ensures { Reads (λ x. (tree_of x.0, x.1.now)) result (reference_in scope.now bytes.now) }
 {
     if let Some(after) = byte_of(b'^', bytes) {
         let (name, rest) = global_name(alloc, Allows::Everything, bytes, after)?;
@@ -53,13 +61,13 @@ fn reference(alloc: Global, scope: Scope, bytes: &[u8]) -> Result<(Expr, &[u8]),
 }
 
 #[tactic(auto, unfolding(crate::specs::Reading::actual_list_in))]
-fn actual_list(
+fn actual_list<'a>(
     alloc: Global,
-    scope: Scope,
+    scope: &Scope,
     passing: Passing,
-    bytes: &[u8],
-) -> Result<(Vec<Actual>, &[u8]), Failure<Offence>>
-    ensures { Reads (λ x. (actual_trees x.0.items, x.1.now)) result (actual_list_in passing scope bytes.now) }
+    bytes: &'a [u8],
+) -> Result<(Vec<Actual>, &'a [u8]), Failure<Offence>>
+    ensures { Reads (λ x. (actual_trees x.0.items, x.1.now)) result (actual_list_in passing scope.now bytes.now) }
 {
     let Some(after) = byte_of(b'(', bytes) else {
         return Err(refused(Wrong::Form, bytes));
@@ -98,7 +106,7 @@ pub fn read_expr_where(
         left: DEEPEST,
         allows,
     };
-    match expr(alloc, scope, bytes) {
+    match expr(alloc, &scope, bytes) {
         Ok((tree, rest)) => Ok((tree, line.len() - rest.len())),
         Err(refusal) => Err(located(alloc, Passing::ByReference, line, at, refusal)),
     }
@@ -135,7 +143,7 @@ pub fn read_ref_where(
         left: DEEPEST - 1,
         allows,
     };
-    match reference(alloc, scope, bytes) {
+    match reference(alloc, &scope, bytes) {
         Ok((tree, rest)) => Ok((tree, line.len() - rest.len())),
         Err(refusal) => Err(located(alloc, Passing::ByReference, line, at, refusal)),
     }
@@ -178,7 +186,7 @@ pub fn read_actuals_where(
         left: DEEPEST - 1,
         allows,
     };
-    match actual_list(alloc, scope, passing, bytes) {
+    match actual_list(alloc, &scope, passing, bytes) {
         Ok((given, rest)) => Ok((given, line.len() - rest.len())),
         Err(refusal) => Err(located(alloc, passing, line, at, refusal)),
     }

@@ -26,12 +26,12 @@ use std::alloc::Global;
 /// The expression at the front that nests so deep at most, and what is after it.
 #[tactic(auto, unfolding(crate::specs::Reading::chain_with, mlk_text::specs::Reading::many))]
 #[cycle(reading)]
-pub(crate) fn chain(
+pub(crate) fn chain<'a>(
     alloc: Global,
-    scope: Scope,
-    bytes: &[u8],
-) -> Result<(Expr, &[u8]), Failure<Offence>>
-    ensures { Reads (λ x. (tree_of x.0, x.1.now)) result (nested_in scope bytes.now) }
+    scope: &Scope,
+    bytes: &'a [u8],
+) -> Result<(Expr, &'a [u8]), Failure<Offence>>
+    ensures { Reads (λ x. (tree_of x.0, x.1.now)) result (nested_in scope.now bytes.now) }
 {
     let (first, rest) = atom(alloc, scope, bytes)?;
     if !may_go_on(rest) {
@@ -43,28 +43,28 @@ pub(crate) fn chain(
 // The same in a function of its own, so that the place of its result is cleared only where it is called.
 #[cycle(reading)]
 #[inline(always)]
-fn going_on(
+fn going_on<'a>(
     alloc: Global,
-    scope: Scope,
+    scope: &Scope,
     first: Expr,
-    bytes: &[u8],
-) -> Result<(Expr, &[u8]), Failure<Offence>>
+    bytes: &'a [u8],
+) -> Result<(Expr, &'a [u8]), Failure<Offence>>
     ensures { Reads (λ x. (tree_of x.0, x.1.now)) result
-        (going_on (atom_in scope) (pattern_at scope.left) (tree_of first) bytes.now) }
+        (going_on (atom_in scope.now) (pattern_at scope.now.left) (tree_of first) bytes.now) }
 {
     chain_after(alloc, scope, first, bytes)
 }
 
 // The expression that goes on after its first operand.
 #[cycle(reading)]
-fn chain_after(
+fn chain_after<'a>(
     alloc: Global,
-    scope: Scope,
+    scope: &Scope,
     first: Expr,
-    bytes: &[u8],
-) -> Result<(Expr, &[u8]), Failure<Offence>>
+    bytes: &'a [u8],
+) -> Result<(Expr, &'a [u8]), Failure<Offence>>
     ensures { Reads (λ x. (tree_of x.0, x.1.now)) result
-        (going_on (atom_in scope) (pattern_at scope.left) (tree_of first) bytes.now) }
+        (going_on (atom_in scope.now) (pattern_at scope.now.left) (tree_of first) bytes.now) }
 {
     let (links, rest) = match chain_rest(alloc, scope, bytes) {
         Ok(read) => read,
@@ -77,13 +77,13 @@ fn chain_after(
 }
 
 #[cycle(reading)]
-fn chain_rest(
+fn chain_rest<'a>(
     alloc: Global,
-    scope: Scope,
-    bytes: &[u8],
-) -> Result<(Vec<(Op, Expr)>, &[u8]), Failure<Offence>>
+    scope: &Scope,
+    bytes: &'a [u8],
+) -> Result<(Vec<(Op, Expr)>, &'a [u8]), Failure<Offence>>
     ensures { Reads (λ x. (links x.0.items, x.1.now)) result
-        (many op_at (linked (atom_in scope) (pattern_at scope.left)) (suc (length bytes.now)) bytes.now) }
+        (many op_at (linked (atom_in scope.now) (pattern_at scope.now.left)) (suc (length bytes.now)) bytes.now) }
 {
     let mut found = Vec::new(alloc);
     let mut rest = bytes;
@@ -98,14 +98,14 @@ fn chain_rest(
 
 // What stands after an operator.
 #[cycle(reading)]
-fn right(
+fn right<'a>(
     alloc: Global,
-    scope: Scope,
+    scope: &Scope,
     op: Op,
-    after: &[u8],
-) -> Result<(Expr, &[u8]), Failure<Offence>>
+    after: &'a [u8],
+) -> Result<(Expr, &'a [u8]), Failure<Offence>>
     ensures { Reads (λ x. (tree_of x.0, x.1.now)) result
-        (right_by (atom_in scope) (pattern_at scope.left) (is_match op) after.now) }
+        (right_by (atom_in scope.now) (pattern_at scope.now.left) (is_match op) after.now) }
 {
     if is_match(op) {
         let (text, rest) = pattern(alloc, scope.left, after)?;
@@ -117,8 +117,12 @@ fn right(
 // An expression and a closing parenthesis.
 #[cycle(reading)]
 #[inline(always)]
-fn enclosed(alloc: Global, scope: Scope, bytes: &[u8]) -> Result<(Expr, &[u8]), Failure<Offence>>
-    ensures { Reads (λ x. (tree_of x.0, x.1.now)) result (enclosed_with (nested_in scope) bytes.now) }
+fn enclosed<'a>(
+    alloc: Global,
+    scope: &Scope,
+    bytes: &'a [u8],
+) -> Result<(Expr, &'a [u8]), Failure<Offence>>
+    ensures { Reads (λ x. (tree_of x.0, x.1.now)) result (enclosed_with (nested_in scope.now) bytes.now) }
 {
     let (inner, rest) = chain(alloc, scope, bytes)?;
     let Some(rest) = byte_of(b')', rest) else {
@@ -129,13 +133,13 @@ fn enclosed(alloc: Global, scope: Scope, bytes: &[u8]) -> Result<(Expr, &[u8]), 
 
 // What stands after a sign.
 #[cycle(reading)]
-fn prefixed(
+fn prefixed<'a>(
     alloc: Global,
-    scope: Scope,
+    scope: &Scope,
     op: UnaryOp,
-    bytes: &[u8],
-) -> Result<(Expr, &[u8]), Failure<Offence>>
-    ensures { Reads (λ x. (tree_of x.0, x.1.now)) result (with (Prefixed op) (atom_in scope bytes.now)) }
+    bytes: &'a [u8],
+) -> Result<(Expr, &'a [u8]), Failure<Offence>>
+    ensures { Reads (λ x. (tree_of x.0, x.1.now)) result (with (Prefixed op) (atom_in scope.now bytes.now)) }
 {
     let (operand, rest) = atom(alloc, scope, bytes)?;
     Ok((Expr::Unary(op, Box::new(alloc, operand)?), rest))
@@ -144,21 +148,25 @@ fn prefixed(
 // The same in a function of its own, so that the place of its result is cleared only where it is called.
 #[cycle(reading)]
 #[inline(always)]
-fn signed(
+fn signed<'a>(
     alloc: Global,
-    scope: Scope,
+    scope: &Scope,
     op: UnaryOp,
-    bytes: &[u8],
-) -> Result<(Expr, &[u8]), Failure<Offence>>
-    ensures { Reads (λ x. (tree_of x.0, x.1.now)) result (with (Prefixed op) (atom_in scope bytes.now)) }
+    bytes: &'a [u8],
+) -> Result<(Expr, &'a [u8]), Failure<Offence>>
+    ensures { Reads (λ x. (tree_of x.0, x.1.now)) result (with (Prefixed op) (atom_in scope.now bytes.now)) }
 {
     prefixed(alloc, scope, op, bytes)
 }
 
 #[cycle(reading)]
 #[inline(always)]
-fn operand(alloc: Global, scope: Scope, bytes: &[u8]) -> Result<(Expr, &[u8]), Failure<Offence>>
-    ensures { Reads (λ x. (tree_of x.0, x.1.now)) result (operand_in scope bytes.now) }
+fn operand<'a>(
+    alloc: Global,
+    scope: &Scope,
+    bytes: &'a [u8],
+) -> Result<(Expr, &'a [u8]), Failure<Offence>>
+    ensures { Reads (λ x. (tree_of x.0, x.1.now)) result (operand_in scope.now bytes.now) }
 {
     let Some((first, after)) = bytes.split_first() else {
         return Err(refused(Wrong::Form, bytes));
@@ -178,19 +186,19 @@ fn operand(alloc: Global, scope: Scope, bytes: &[u8]) -> Result<(Expr, &[u8]), F
 /// The operand at the front that nests so deep at most, and what is after it.
 #[cycle(reading)]
 #[inline(always)]
-pub(crate) fn atom(
+pub(crate) fn atom<'a>(
     alloc: Global,
-    scope: Scope,
-    bytes: &[u8],
-) -> Result<(Expr, &[u8]), Failure<Offence>>
-    ensures { Reads (λ x. (tree_of x.0, x.1.now)) result (atom_in scope bytes.now) }
+    scope: &Scope,
+    bytes: &'a [u8],
+) -> Result<(Expr, &'a [u8]), Failure<Offence>>
+    ensures { Reads (λ x. (tree_of x.0, x.1.now)) result (atom_in scope.now bytes.now) }
 {
     if scope.left == 0 {
         return Err(too_deep(scope.allows, bytes));
     }
     let deeper = Scope {
         left: scope.left - 1,
-        ..scope
+        ..*scope
     };
-    operand(alloc, deeper, bytes)
+    operand(alloc, &deeper, bytes)
 }

@@ -16,6 +16,7 @@ pub(crate) fn in_expr<'a>(found: &mut Vec<CallSite<'a>>, e: &'a Expr) -> Result<
 {
     match e {
         Expr::Lit(_) | Expr::Free | Expr::Special(_) | Expr::Pattern(_) => Ok(()),
+        Expr::Local(_, subscripts) if subscripts.is_empty() => Ok(()),
         _ => in_parts(found, e),
     }
 }

@@ -1,9 +1,11 @@
 -- The commands of a line, one after the other, and FOR.
 use Rattle.mlk_text.specs.Places.{column_at}
 use Rattle.std.proofs.Common.{◌≡◌, ◌<◌, ◌≤◌, ◌+◌, ◌-◌, ℕ, suc, List, [], ◌∷◌, ◌++◌, length, drop, Some, None, Bool, true, false, inl, inr, refl, sym, ap, ◌∙◌, subst, add-one, arith, ◌==◌, append_assoc, append-nil}
-use Rattle.std.specs.Prelude.{Option, Result, Ok, Err, ◌⊎◌, ◌&&◌, is_some}
+use Rattle.std.specs.Prelude.{Option, Result, Ok, Err, ◌⊎◌, ◌&&◌, is_some, not, nat_eq, slice_get}
 use Rattle.std.specs.List.{list_all}
-use Rattle.std.proofs.lemmas.Bool.{and_parts, eqb-true}
+use Rattle.std.specs.Char.{to_ascii_lowercase}
+use Rattle.std.specs.Option.{option_eq}
+use Rattle.std.proofs.lemmas.Bool.{and_parts, cases_Bool, eqb-true}
 use Rattle.std.proofs.lemmas.Bool.Decides.{nat_tests}
 use Rattle.mlk_text.specs.Lexemes.{is_letter, word_at, letters}
 use Rattle.mlk_text.specs.Spellings.{IsWord}
@@ -186,6 +188,18 @@ no_word_end : (rest : List ℕ) → is_commands_end rest ≡ true → false ≡ 
 unfolding is_for
 no_word_end [] h = refl
 no_word_end (b ∷ rest) h = let no : is_letter b ≡ false = grind (arith, nat_tests) in rw no refl
+
+-- nor one that begins with another letter
+pub other_letter : (s : List ℕ) → true ≡ not (option_eq nat_eq (slice_get s 0) (Some 70)) → true ≡ not (option_eq nat_eq (slice_get s 0) (Some 102)) → false ≡ is_for (word_at s).0
+unfolding is_for
+other_letter [] h k = refl
+other_letter (b ∷ s) h k =
+    let other : (to_ascii_lowercase b == 102) ≡ false = grind (arith, nat_tests, h, k) in
+    let one : (1 + letters s) ≡ suc (letters s) = omega arith in
+    elim (cases_Bool (is_letter b)) [
+      | inl letter ↦ rw (letter, one, other) refl
+      | inr none ↦ rw none refl
+    ]
 
 module _ (level loops : ℕ) (line : List ℕ) where
   abbrev pub Returns : Bool

@@ -1,6 +1,6 @@
 // Blocks under the lines that head them.
 
-ghost use Rattle.std.specs.Prelude.{◌≡◌, ◌<◌, ◌∷◌, suc, map, IfOk, MatchOption};
+ghost use Rattle.std.specs.Prelude.{◌≡◌, ◌<◌, ◌∷◌, suc, map, false, IfOk, MatchOption};
 ghost use Rattle.mlk_routine.specs.RoutineGrammar.{level_of};
 ghost use Rattle.mlk_tree.specs.Views.{line_of, lines_from};
 ghost use Rattle.mlk_routine.specs.Lines.{head_of, Upto, IsBlock, IsNotDeeper};
@@ -28,7 +28,32 @@ fn room(level: usize, lines: &VecDeque<Line>) -> usize {
     lines.iter().take_while(|line| line.level > level).count()
 }
 
+// Whether the next line is deeper than this level.
+fn is_deeper(level: usize, lines: &VecDeque<Line>) -> bool
+    ensures { result ≡ false → IsNotDeeper level lines.now.items }
+{
+    match lines.front() {
+        Some(next) => next.level > level,
+        None => false,
+    }
+}
+
+// The block under a line of this level, as `block` gives it. Most lines head none, and then it is not called.
+#[cycle(blocks)]
+#[inline(always)]
+fn under(alloc: Global, level: usize, lines: &mut VecDeque<Line>) -> Result<Vec<Line>, AllocError>
+    requires { Upto (suc level) (map head_of lines.old.items) }
+    ensures { IfOk result (λ v. IsBlock level (lines_from (map line_of v.items))
+        (map head_of lines.old.items) (map head_of lines.new.items)) }
+{
+    if is_deeper(level, lines) {
+        return block(alloc, level, lines);
+    }
+    Ok(Vec::new(alloc))
+}
+
 /// The lines at the front that are deeper than this level, each with its block. They are taken away.
+#[cycle(blocks)]
 pub(crate) fn block(
     alloc: Global,
     level: usize,
@@ -40,7 +65,7 @@ pub(crate) fn block(
 {
     let mut found = Vec::with_capacity(alloc, room(level, lines))?;
     while let Some(mut line) = deeper(level, lines) {
-        let Ok(inner) = block(alloc, line.level, lines) else {
+        let Ok(inner) = under(alloc, line.level, lines) else {
             return Err(giving_up(line, AllocError));
         };
         line.block = inner;

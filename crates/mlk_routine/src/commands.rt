@@ -15,7 +15,7 @@ use mlk_arguments::{
     control, first_argument, is_bare, is_command_end, is_commands_end, is_for, past_spaces, refused,
 };
 use mlk_text::lexeme::word_at;
-use mlk_text::{Code, Column, Failure, Fault, giving_up, make_room};
+use mlk_text::{Code, Column, Failure, Fault, giving_up};
 use mlk_tree::{Command, Commands, Control, For};
 use std::alloc::{AllocError, Global};
 
@@ -37,25 +37,42 @@ impl Inside {
     }
 }
 
+// Whether the word that stands first is that of a FOR. Most begin with another letter, and are not looked through.
+fn begins_for(bytes: &[u8]) -> bool
+    ensures { result ≡ is_for (word_at bytes.now).0 }
+{
+    let first = bytes.first().copied();
+    if first != Some(b'F') && first != Some(b'f') {
+        return false;
+    }
+    let (letters, _) = word_at(bytes);
+    is_for(letters)
+}
+
 // Whether the word of a FOR stands here.
 fn is_for_here(line: &[u8], at: usize) -> bool
     requires { at ≤ length line.now }
     ensures { result ≡ is_for (word_at (drop at line.now)).0 }
 {
     let (_, bytes) = line.split_at(at);
-    let (letters, _) = word_at(bytes);
-    is_for(letters)
+    begins_for(bytes)
 }
 
-// Makes room for a command. Most lines have one or two, so there is room for two where the first is not the last.
+// Makes room for a command. Most lines have one or two, so there is room for two where the first is not the last; then it
+// grows by half, so that little of it stays empty.
 fn make_room_for(before: &mut Vec<Command>, is_last: bool) -> Result<(), AllocError>
     ensures same { OnOk result (before.new.items ≡ before.old.items) }
     ensures room { OnOk result (vec_len before.new < vec_capacity before.new) }
 {
-    if before.is_empty() && !is_last {
-        before.reserve_exact(2)?;
+    if before.len() < before.capacity() {
+        return Ok(());
     }
-    make_room(before)
+    let more = if before.is_empty() && !is_last {
+        2
+    } else {
+        (before.len() / 2).max(1)
+    };
+    before.reserve_exact(more)
 }
 
 // The commands from here on before the next FOR, or all, and the byte after them and the spaces there.

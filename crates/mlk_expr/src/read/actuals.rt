@@ -21,14 +21,14 @@ use std::alloc::Global;
 
 #[tactic(auto, unfolding(crate::specs::Reading::actual_with, mlk_tokens::specs::Lexemes::lent_at))]
 #[cycle(reading)]
-fn actual(
+fn actual<'a>(
     alloc: Global,
-    scope: Scope,
+    scope: &Scope,
     passing: Passing,
-    bytes: &[u8],
-) -> Result<(Actual, &[u8]), Failure<Offence>>
+    bytes: &'a [u8],
+) -> Result<(Actual, &'a [u8]), Failure<Offence>>
     ensures { Reads (λ x. (actual_of x.0, x.1.now)) result
-        (actual_with passing scope.end (nested_in scope) bytes.now) }
+        (actual_with passing scope.now.end (nested_in scope.now) bytes.now) }
 {
     if let Some(after) = byte_of(b'.', bytes) {
         match name(alloc, after) {
@@ -52,17 +52,17 @@ fn actual(
 // One or more actuals to the closing parenthesis.
 #[tactic(auto, unfolding(crate::specs::Reading::list_with))]
 #[cycle(reading)]
-fn some_actuals(
+fn some_actuals<'a>(
     alloc: Global,
-    scope: Scope,
+    scope: &Scope,
     passing: Passing,
-    bytes: &[u8],
-) -> Result<(Vec<Actual>, &[u8]), Failure<Offence>>
+    bytes: &'a [u8],
+) -> Result<(Vec<Actual>, &'a [u8]), Failure<Offence>>
     ensures { Reads (λ x. (actual_trees x.0.items, x.1.now)) result
-        (list_with (actual_with passing scope.end (nested_in scope)) bytes.now) }
+        (list_with (actual_with passing scope.now.end (nested_in scope.now)) bytes.now) }
 {
-    let room = list_room(alloc, bytes)?;
     let (first, rest) = actual(alloc, scope, passing, bytes)?;
+    let room = list_room(alloc, rest)?;
     let (found, rest) = actuals_rest(alloc, scope, passing, room, first, rest)?;
     let Some(rest) = byte_of(b')', rest) else {
         return Err(no_actuals_end(&found, rest));
@@ -73,14 +73,14 @@ fn some_actuals(
 /// The actuals after an opening parenthesis, and what is after the closing one.
 #[tactic(auto, unfolding(crate::specs::Reading::actuals_with))]
 #[cycle(reading)]
-pub(crate) fn actuals(
+pub(crate) fn actuals<'a>(
     alloc: Global,
-    scope: Scope,
+    scope: &Scope,
     passing: Passing,
-    bytes: &[u8],
-) -> Result<(Vec<Actual>, &[u8]), Failure<Offence>>
+    bytes: &'a [u8],
+) -> Result<(Vec<Actual>, &'a [u8]), Failure<Offence>>
     ensures { Reads (λ x. (actual_trees x.0.items, x.1.now)) result
-        (actuals_with passing scope.end (nested_in scope) bytes.now) }
+        (actuals_with passing scope.now.end (nested_in scope.now) bytes.now) }
 {
     if let Some(rest) = byte_of(b')', bytes) {
         return Ok((Vec::new(alloc), rest));
@@ -89,19 +89,19 @@ pub(crate) fn actuals(
 }
 
 #[cycle(reading)]
-fn actuals_rest(
+fn actuals_rest<'a>(
     alloc: Global,
-    scope: Scope,
+    scope: &Scope,
     passing: Passing,
     room: Vec<Actual>,
     first: Actual,
-    bytes: &[u8],
-) -> Result<(Vec<Actual>, &[u8]), Failure<Offence>>
+    bytes: &'a [u8],
+) -> Result<(Vec<Actual>, &'a [u8]), Failure<Offence>>
     requires empty { room.items ≡ [] }
     requires spare { vec_len room < vec_capacity room }
     ensures { Reads (λ x. (actual_trees x.0.items, x.1.now)) result
         (put (actual_of first ∷ [])
-        (many (byte_at 44) (next (actual_with passing scope.end (nested_in scope)))
+        (many (byte_at 44) (next (actual_with passing scope.now.end (nested_in scope.now)))
         (suc (length bytes.now)) bytes.now)) }
 {
     let mut found = room;
@@ -121,12 +121,12 @@ fn actuals_rest(
 #[cycle(reading)]
 pub(crate) fn call<'a>(
     alloc: Global,
-    scope: Scope,
+    scope: &Scope,
     whole: &[u8],
     bytes: &'a [u8],
 ) -> Result<(Expr, &'a [u8]), Failure<Offence>>
     ensures { Reads (λ x. (tree_of x.0, x.1.now)) result
-        (call_with (calls_may scope.allows) scope.end (nested_in scope) (column_of scope.end whole.now) bytes.now) }
+        (call_with (calls_may scope.now.allows) scope.now.end (nested_in scope.now) (column_of scope.now.end whole.now) bytes.now) }
 {
     if !scope.allows.calls() {
         return Err(no_call(whole));

@@ -27,11 +27,15 @@ use std::alloc::Global;
 // Expressions to the closing parenthesis.
 #[tactic(auto, unfolding(crate::specs::Reading::list_with))]
 #[cycle(reading)]
-fn exprs(alloc: Global, scope: Scope, bytes: &[u8]) -> Result<(Vec<Expr>, &[u8]), Failure<Offence>>
-    ensures { Reads (λ x. (trees x.0.items, x.1.now)) result (list_with (nested_in scope) bytes.now) }
+fn exprs<'a>(
+    alloc: Global,
+    scope: &Scope,
+    bytes: &'a [u8],
+) -> Result<(Vec<Expr>, &'a [u8]), Failure<Offence>>
+    ensures { Reads (λ x. (trees x.0.items, x.1.now)) result (list_with (nested_in scope.now) bytes.now) }
 {
-    let room = list_room(alloc, bytes)?;
     let (first, rest) = chain(alloc, scope, bytes)?;
+    let room = list_room(alloc, rest)?;
     let (found, rest) = exprs_rest(alloc, scope, room, first, rest)?;
     let Some(rest) = byte_of(b')', rest) else {
         return Err(no_end(rest));
@@ -40,17 +44,17 @@ fn exprs(alloc: Global, scope: Scope, bytes: &[u8]) -> Result<(Vec<Expr>, &[u8])
 }
 
 #[cycle(reading)]
-fn exprs_rest(
+fn exprs_rest<'a>(
     alloc: Global,
-    scope: Scope,
+    scope: &Scope,
     room: Vec<Expr>,
     first: Expr,
-    bytes: &[u8],
-) -> Result<(Vec<Expr>, &[u8]), Failure<Offence>>
+    bytes: &'a [u8],
+) -> Result<(Vec<Expr>, &'a [u8]), Failure<Offence>>
     requires empty { room.items ≡ [] }
     requires spare { vec_len room < vec_capacity room }
     ensures { Reads (λ x. (trees x.0.items, x.1.now)) result
-        (put (tree_of first ∷ []) (many (byte_at 44) (next (nested_in scope)) (suc (length bytes.now)) bytes.now)) }
+        (put (tree_of first ∷ []) (many (byte_at 44) (next (nested_in scope.now)) (suc (length bytes.now)) bytes.now)) }
 {
     let mut found = room;
     found.push_reserved(first);
@@ -66,19 +70,19 @@ fn exprs_rest(
 
 // An argument that is a name, and at most so many after it.
 #[cycle(reading)]
-fn others(
+fn others<'a>(
     alloc: Global,
-    scope: Scope,
+    scope: &Scope,
     most: usize,
     room: Vec<Expr>,
     first: Expr,
-    bytes: &[u8],
-) -> Result<(Vec<Expr>, &[u8]), Failure<Offence>>
+    bytes: &'a [u8],
+) -> Result<(Vec<Expr>, &'a [u8]), Failure<Offence>>
     requires empty { room.items ≡ [] }
     requires spare { vec_len room < vec_capacity room }
     ensures { Reads (λ x. (trees x.0.items, x.1.now)) result
         (few (suc most) (put (tree_of first ∷ [])
-        (many (byte_at 44) (next (nested_in scope)) (suc (length bytes.now)) bytes.now))) }
+        (many (byte_at 44) (next (nested_in scope.now)) (suc (length bytes.now)) bytes.now))) }
 {
     let mut found = room;
     found.push_reserved(first);
@@ -98,14 +102,14 @@ fn others(
 // The arguments of a function but `$SELECT`, to the closing parenthesis.
 #[tactic(auto, unfolding(crate::specs::Reading::arguments_with))]
 #[cycle(reading)]
-fn arguments(
+fn arguments<'a>(
     alloc: Global,
-    scope: Scope,
+    scope: &Scope,
     function: Function,
-    bytes: &[u8],
-) -> Result<(Vec<Expr>, &[u8]), Failure<Offence>>
+    bytes: &'a [u8],
+) -> Result<(Vec<Expr>, &'a [u8]), Failure<Offence>>
     ensures { Reads (λ x. (trees x.0.items, x.1.now)) result
-        (arguments_with (atom_in scope) (nested_in scope) (nested_in (quiet scope)) function bytes.now) }
+        (arguments_with (atom_in scope.now) (nested_in scope.now) (nested_in (quiet scope.now)) function bytes.now) }
 {
     let Some(most) = named(function) else {
         return exprs(alloc, scope, bytes);
@@ -113,16 +117,16 @@ fn arguments(
     if !starts_reference(bytes) {
         return Err(no_operand(bytes));
     }
-    let room = list_room(alloc, bytes)?;
     let (first, rest) = atom(alloc, scope, bytes)?;
     if asks_subscript(function) && !has_subscript(&first) {
         return Err(giving_up(first, refused(Wrong::Form, rest)));
     }
+    let room = list_room(alloc, rest)?;
     let quiet = Scope {
         allows: Allows::NoTouches,
-        ..scope
+        ..*scope
     };
-    let (args, rest) = others(alloc, quiet, most, room, first, rest)?;
+    let (args, rest) = others(alloc, &quiet, most, room, first, rest)?;
     let Some(rest) = byte_of(b')', rest) else {
         return Err(no_arguments_end(&args, rest));
     };
@@ -131,12 +135,12 @@ fn arguments(
 
 // A condition and its value.
 #[cycle(reading)]
-fn choice(
+fn choice<'a>(
     alloc: Global,
-    scope: Scope,
-    bytes: &[u8],
-) -> Result<((Expr, Expr), &[u8]), Failure<Offence>>
-    ensures { Reads (λ x. (choice_of x.0, x.1.now)) result (choice_with (nested_in scope) bytes.now) }
+    scope: &Scope,
+    bytes: &'a [u8],
+) -> Result<((Expr, Expr), &'a [u8]), Failure<Offence>>
+    ensures { Reads (λ x. (choice_of x.0, x.1.now)) result (choice_with (nested_in scope.now) bytes.now) }
 {
     let (condition, rest) = chain(alloc, scope, bytes)?;
     let Some(rest) = byte_of(b':', rest) else {
@@ -151,15 +155,15 @@ fn choice(
 // Choices to the closing parenthesis.
 #[tactic(auto, unfolding(crate::specs::Reading::list_with))]
 #[cycle(reading)]
-fn choices(
+fn choices<'a>(
     alloc: Global,
-    scope: Scope,
-    bytes: &[u8],
-) -> Result<(Vec<(Expr, Expr)>, &[u8]), Failure<Offence>>
-    ensures { Reads (λ x. (choices x.0.items, x.1.now)) result (list_with (choice_with (nested_in scope)) bytes.now) }
+    scope: &Scope,
+    bytes: &'a [u8],
+) -> Result<(Vec<(Expr, Expr)>, &'a [u8]), Failure<Offence>>
+    ensures { Reads (λ x. (choices x.0.items, x.1.now)) result (list_with (choice_with (nested_in scope.now)) bytes.now) }
 {
-    let room = list_room(alloc, bytes)?;
     let (first, rest) = choice(alloc, scope, bytes)?;
+    let room = list_room(alloc, rest)?;
     let (found, rest) = choices_rest(alloc, scope, room, first, rest)?;
     let Some(rest) = byte_of(b')', rest) else {
         return Err(no_end(rest));
@@ -168,18 +172,18 @@ fn choices(
 }
 
 #[cycle(reading)]
-fn choices_rest(
+fn choices_rest<'a>(
     alloc: Global,
-    scope: Scope,
+    scope: &Scope,
     room: Vec<(Expr, Expr)>,
     first: (Expr, Expr),
-    bytes: &[u8],
-) -> Result<(Vec<(Expr, Expr)>, &[u8]), Failure<Offence>>
+    bytes: &'a [u8],
+) -> Result<(Vec<(Expr, Expr)>, &'a [u8]), Failure<Offence>>
     requires empty { room.items ≡ [] }
     requires spare { vec_len room < vec_capacity room }
     ensures { Reads (λ x. (choices x.0.items, x.1.now)) result
         (put (choice_of first ∷ [])
-        (many (byte_at 44) (next (choice_with (nested_in scope))) (suc (length bytes.now)) bytes.now)) }
+        (many (byte_at 44) (next (choice_with (nested_in scope.now))) (suc (length bytes.now)) bytes.now)) }
 {
     let mut found = room;
     found.push_reserved(first);
@@ -198,13 +202,13 @@ fn choices_rest(
 #[cycle(reading)]
 fn function<'a>(
     alloc: Global,
-    scope: Scope,
+    scope: &Scope,
     whole: &[u8],
     word: &[u8],
     bytes: &'a [u8],
 ) -> Result<(Expr, &'a [u8]), Failure<Offence>>
     ensures { Reads (λ x. (tree_of x.0, x.1.now)) result
-        (function_with (atom_in scope) (nested_in scope) (nested_in (quiet scope)) word.now bytes.now) }
+        (function_with (atom_in scope.now) (nested_in scope.now) (nested_in (quiet scope.now)) word.now bytes.now) }
 {
     if is_select(word) {
         let (choices, rest) = choices(alloc, scope, bytes)?;
@@ -223,13 +227,13 @@ fn function<'a>(
 #[inline(always)]
 pub(crate) fn dollar<'a>(
     alloc: Global,
-    scope: Scope,
+    scope: &Scope,
     whole: &[u8],
     bytes: &'a [u8],
 ) -> Result<(Expr, &'a [u8]), Failure<Offence>>
     ensures { Reads (λ x. (tree_of x.0, x.1.now)) result
-        (dollar_with (calls_may scope.allows) scope.end (atom_in scope) (nested_in scope)
-        (nested_in (quiet scope)) (column_of scope.end whole.now) bytes.now) }
+        (dollar_with (calls_may scope.now.allows) scope.now.end (atom_in scope.now) (nested_in scope.now)
+        (nested_in (quiet scope.now)) (column_of scope.now.end whole.now) bytes.now) }
 {
     if let Some(rest) = byte_of(b'$', bytes) {
         return call(alloc, scope, whole, rest);

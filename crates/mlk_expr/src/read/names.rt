@@ -21,12 +21,12 @@ use mlk_tree::{Expr, Subscript};
 use std::alloc::Global;
 
 #[cycle(reading)]
-fn subscript(
+fn subscript<'a>(
     alloc: Global,
-    scope: Scope,
-    bytes: &[u8],
-) -> Result<(Subscript, &[u8]), Failure<Offence>>
-    ensures { Reads (λ x. (sub_of x.0, x.1.now)) result (placed scope.end (nested_in scope) bytes.now) }
+    scope: &Scope,
+    bytes: &'a [u8],
+) -> Result<(Subscript, &'a [u8]), Failure<Offence>>
+    ensures { Reads (λ x. (sub_of x.0, x.1.now)) result (placed scope.now.end (nested_in scope.now) bytes.now) }
 {
     let column = column_of(scope.end, bytes);
     let (value, rest) = chain(alloc, scope, bytes)?;
@@ -36,16 +36,16 @@ fn subscript(
 // Subscripts to the closing parenthesis, at most 32.
 #[tactic(auto, unfolding(crate::specs::Reading::list_with))]
 #[cycle(reading)]
-fn subs(
+fn subs<'a>(
     alloc: Global,
-    scope: Scope,
-    bytes: &[u8],
-) -> Result<(Vec<Subscript>, &[u8]), Failure<Offence>>
+    scope: &Scope,
+    bytes: &'a [u8],
+) -> Result<(Vec<Subscript>, &'a [u8]), Failure<Offence>>
     ensures { Reads (λ x. (sub_trees x.0.items, x.1.now)) result
-        (few 32 (list_with (placed scope.end (nested_in scope)) bytes.now)) }
+        (few 32 (list_with (placed scope.now.end (nested_in scope.now)) bytes.now)) }
 {
-    let room = list_room(alloc, bytes)?;
     let (first, rest) = subscript(alloc, scope, bytes)?;
+    let room = list_room(alloc, rest)?;
     let (found, rest) = subs_rest(alloc, scope, room, first, rest)?;
     let Some(rest) = byte_of(b')', rest) else {
         return Err(no_end(rest));
@@ -54,18 +54,18 @@ fn subs(
 }
 
 #[cycle(reading)]
-fn subs_rest(
+fn subs_rest<'a>(
     alloc: Global,
-    scope: Scope,
+    scope: &Scope,
     room: Vec<Subscript>,
     first: Subscript,
-    bytes: &[u8],
-) -> Result<(Vec<Subscript>, &[u8]), Failure<Offence>>
+    bytes: &'a [u8],
+) -> Result<(Vec<Subscript>, &'a [u8]), Failure<Offence>>
     requires empty { room.items ≡ [] }
     requires spare { vec_len room < vec_capacity room }
     ensures { Reads (λ x. (sub_trees x.0.items, x.1.now)) result
         (few 32 (put (sub_of first ∷ [])
-        (many (byte_at 44) (next (placed scope.end (nested_in scope))) (suc (length bytes.now)) bytes.now))) }
+        (many (byte_at 44) (next (placed scope.now.end (nested_in scope.now))) (suc (length bytes.now)) bytes.now))) }
 {
     let mut found = room;
     found.push_reserved(first);
@@ -85,13 +85,13 @@ fn subs_rest(
 // The same in a function of its own, so that the place of its result is cleared only where it is called.
 #[cycle(reading)]
 #[inline(always)]
-fn some_subs(
+fn some_subs<'a>(
     alloc: Global,
-    scope: Scope,
-    bytes: &[u8],
-) -> Result<(Vec<Subscript>, &[u8]), Failure<Offence>>
+    scope: &Scope,
+    bytes: &'a [u8],
+) -> Result<(Vec<Subscript>, &'a [u8]), Failure<Offence>>
     ensures { Reads (λ x. (sub_trees x.0.items, x.1.now)) result
-        (few 32 (list_with (placed scope.end (nested_in scope)) bytes.now)) }
+        (few 32 (list_with (placed scope.now.end (nested_in scope.now)) bytes.now)) }
 {
     subs(alloc, scope, bytes)
 }
@@ -100,12 +100,12 @@ fn some_subs(
 #[tactic(auto, unfolding(crate::specs::Reading::subs_with))]
 #[cycle(reading)]
 #[inline(always)]
-pub(crate) fn subscripts(
+pub(crate) fn subscripts<'a>(
     alloc: Global,
-    scope: Scope,
-    bytes: &[u8],
-) -> Result<(Vec<Subscript>, &[u8]), Failure<Offence>>
-    ensures { Reads (λ x. (sub_trees x.0.items, x.1.now)) result (subs_with scope.end (nested_in scope) bytes.now) }
+    scope: &Scope,
+    bytes: &'a [u8],
+) -> Result<(Vec<Subscript>, &'a [u8]), Failure<Offence>>
+    ensures { Reads (λ x. (sub_trees x.0.items, x.1.now)) result (subs_with scope.now.end (nested_in scope.now) bytes.now) }
 {
     let Some(rest) = byte_of(b'(', bytes) else {
         return Ok((Vec::new(alloc), bytes));
@@ -116,12 +116,12 @@ pub(crate) fn subscripts(
 /// A local with its subscripts.
 #[cycle(reading)]
 #[inline(always)]
-pub(crate) fn local(
+pub(crate) fn local<'a>(
     alloc: Global,
-    scope: Scope,
-    bytes: &[u8],
-) -> Result<(Expr, &[u8]), Failure<Offence>>
-    ensures { Reads (λ x. (tree_of x.0, x.1.now)) result (local_with scope.end (nested_in scope) bytes.now) }
+    scope: &Scope,
+    bytes: &'a [u8],
+) -> Result<(Expr, &'a [u8]), Failure<Offence>>
+    ensures { Reads (λ x. (tree_of x.0, x.1.now)) result (local_with scope.now.end (nested_in scope.now) bytes.now) }
 {
     let (name, rest) = name(alloc, bytes)?;
     let (subs, rest) = subscripts(alloc, scope, rest)?;
@@ -133,12 +133,12 @@ pub(crate) fn local(
 #[inline(always)]
 pub(crate) fn global<'a>(
     alloc: Global,
-    scope: Scope,
+    scope: &Scope,
     whole: &[u8],
     bytes: &'a [u8],
 ) -> Result<(Expr, &'a [u8]), Failure<Offence>>
     ensures { Reads (λ x. (tree_of x.0, x.1.now)) result
-        (global_with (globals_may scope.allows) scope.end (column_of scope.end whole.now) (nested_in scope) bytes.now) }
+        (global_with (globals_may scope.now.allows) scope.now.end (column_of scope.now.end whole.now) (nested_in scope.now) bytes.now) }
 {
     let (name, rest) = global_name(alloc, scope.allows, whole, bytes)?;
     let (subs, rest) = subscripts(alloc, scope, rest)?;
