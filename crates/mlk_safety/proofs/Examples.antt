@@ -1,18 +1,20 @@
 -- Worked examples, found by hand: runs that the laws speak of.
 use Rattle.std.proofs.Common.{◌≡◌, refl, sym, subst, ℕ, zero, suc, ◌<◌, Bool, true, false, List, [], ◌∷◌, ◌++◌, None, arith}
-use Rattle.std.specs.Prelude.{◌&&◌, nat_lt, codes, Ok, Err}
+use Rattle.std.specs.Prelude.{◌&&◌, not, nat_lt, codes, Ok, Err}
 use Rattle.std.proofs.lemmas.Bool.{and_parts}
 use Rattle.mlk_locks.specs.Systems.{Machine, Act, Go, and_then, alone, lone_run}
 use Rattle.mlk_tree.specs.Trees.{New, NewOne, Do, Quit, no_lines, RoutineTree}
 use Rattle.mlk_program.specs.declared.entry.EntryId.{EntryId}
 use Rattle.mlk_jobs.specs.declared.choice.Choice.{Choice}
 use Rattle.mlk_jobs.specs.declared.choice.Choice.TheVariants as choice
-use Rattle.mlk_jobs.specs.Bindings.{Only, Fresh}
-use Rattle.mlk_jobs.specs.Tasks.{Job}
+use Rattle.mlk_jobs.specs.Bindings.{Only, AllBut, Fresh}
+use Rattle.mlk_jobs.specs.Tasks.{Job, Store, KillNames}
 use Rattle.mlk_jobs.specs.Choices.{Stepped}
 use Rattle.mlk_jobs.specs.Runs.{blank, begun, machine}
 use Rattle.mlk_jobs.proofs.Trees.{at_label, unlabelled, commands, lines, routine, first_entry}
+use Rattle.mlk_safety.specs.Outside.{changes}
 use Rattle.mlk_safety.specs.Scopes.{count_open, GoesThrough}
+use Rattle.mlk_safety.specs.Sharing.{binds}
 
 -- whether more are open than so many, at each moment of these acts
 abbrev more_open : Machine Job Choice EntryId → ℕ → List (Act Choice EntryId) → Stepped → Bool
@@ -93,3 +95,17 @@ bound_inside = refl
 
 bound_as_before : (after_steps 8).bindings ≡ []
 bound_as_before = refl
+
+-- A name that is bound in front is another variable, and is not changed; one that is not is.
+changes_the_new_one : (changes (Store (codes "X") (codes "5") ∷ []) (codes "X") && not (binds (Fresh 2 (Only (codes "X")) ∷ []) (codes "X"))) ≡ false
+changes_the_new_one = refl
+
+changes_the_old_one : (changes (Store (codes "X") (codes "5") ∷ []) (codes "X") && not (binds (Fresh 2 (Only (codes "Y")) ∷ []) (codes "X"))) ≡ true
+changes_the_old_one = refl
+
+-- KILL (Y)
+kills_all_others : changes (KillNames (AllBut (codes "Y" ∷ [])) ∷ []) (codes "X") ≡ true
+kills_all_others = refl
+
+kills_not_the_listed : changes (KillNames (AllBut (codes "Y" ∷ [])) ∷ []) (codes "Y") ≡ false
+kills_not_the_listed = refl

@@ -13,12 +13,13 @@ use Rattle.mlk_tree.specs.Trees.{RoutineTree, HeadTree, LineHead, LineTrees}
 use Rattle.mlk_program.specs.declared.entry.EntryId.{EntryId}
 use Rattle.mlk_jobs.specs.declared.choice.Choice.{Choice}
 use Rattle.mlk_jobs.specs.declared.choice.Choice.TheVariants as choice
-use Rattle.mlk_jobs.specs.Bindings.{Names, Bindings, Fresh, look, put, killed, forgotten}
+use Rattle.mlk_jobs.specs.Bindings.{Names, covers, Bindings, Fresh, look, put, killed, forgotten}
 use Rattle.mlk_jobs.specs.Tasks.{Task, Job, LineTree, Frame, NoValue, AwaitsValue, HasValue, Mark, BlockMark, FrameMark, marks}
 use Rattle.mlk_jobs.specs.Choices.{Stepped, last_values, without_choice, with_value, with_truth, with_last, truth_of, by_truth, is_one, is_zero, given_or_asked, fetched, touched, dropped, doing}
 use Rattle.mlk_jobs.specs.Locking.{claimed, timed_claim, if_free}
 use Rattle.mlk_jobs.specs.Lines.{selected, chosen, next_line}
 use Rattle.mlk_jobs.specs.Calling.{binders, with_actuals, count_given, formals_in, lines_after, entered, called, called_if}
+use Rattle.mlk_safety.specs.Outside.{changes}
 
 -- what an open block or frame puts back
 pub record Kept : Type 0 where
@@ -42,10 +43,10 @@ kept ts = map kept_by (marks ts)
 -- leaves cells of names without a value; it makes names new.
 pub data Bound (j i : Job) : Type 0 where
   untouched : i.bindings ≡ j.bindings → i.next ≡ j.next → i.cells ≡ j.cells → Bound j i
-  stores : (name value : List ℕ) → i.bindings ≡ j.bindings → i.next ≡ j.next
+  stores : (name value : List ℕ) → changes j.tasks name ≡ true → i.bindings ≡ j.bindings → i.next ≡ j.next
       → i.cells ≡ put (look j.bindings name) value j.cells → Bound j i
-  kills : (names : Names) → i.bindings ≡ j.bindings → i.next ≡ j.next → i.cells ≡ killed j.bindings names j.cells
-      → Bound j i
+  kills : (names : Names) → ((n : List ℕ) → changes j.tasks n ≡ covers names n) → i.bindings ≡ j.bindings → i.next ≡ j.next
+      → i.cells ≡ killed j.bindings names j.cells → Bound j i
   news : (names : Names) → i.bindings ≡ Fresh j.next names ∷ j.bindings → i.next ≡ suc j.next → i.cells ≡ j.cells
       → Bound j i
 

@@ -105,7 +105,7 @@ kept_spared : (bs : Bindings) (names : Names) (cells : Cells) (c : Cell) → is_
 kept_spared bs names cells c s =
     ⊎_elim (λ (u : is_named bs names c ≡ true). rw (u, s) refl) (λ (u : is_named bs names c ≡ false). rw u refl) (cases_Bool (is_named bs names c))
 
-kept_other : (bs : Bindings) (names : Names) (cells : Cells) (c : Cell) → is_named bs names c ≡ false → killed bs names cells c ≡ cells c
+pub kept_other : (bs : Bindings) (names : Names) (cells : Cells) (c : Cell) → is_named bs names c ≡ false → killed bs names cells c ≡ cells c
 kept_other bs names cells c n = rw n refl
 
 are_killed : (names : Names) (j : Job) (ts : List Task) → AreKilled names j (doing ts (record j { cells = killed j.bindings names j.cells }))

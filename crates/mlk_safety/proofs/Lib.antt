@@ -9,3 +9,4 @@ pub mod KeptExample
 pub mod Tidy
 pub mod Killing
 pub mod Sharing
+pub mod Outside

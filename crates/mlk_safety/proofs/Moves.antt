@@ -1,7 +1,8 @@
 -- What each step does to the open blocks and frames of a job.
 use Rattle.std.proofs.Common.{◌≡◌, ◌∙◌, inl, inr, ℕ, Bool, true, false, List, [], ◌∷◌, ◌++◌, map, append_assoc, take, Some, refl, sym, ap, arith, drop}
-use Rattle.std.specs.Prelude.{◌||◌, if◌then◌else◌, Ok}
+use Rattle.std.specs.Prelude.{◌||◌, if◌then◌else◌, bytes_eq, Ok}
 use Rattle.std.proofs.lemmas.Bool.{cases_Bool}
+use Rattle.std.proofs.lemmas.Slice.Eq.{bytes_eq-Decides}
 use Rattle.mlk_names.specs.declared.lock_name.LockName.{LockName}
 use Rattle.mlk_locks.specs.declared.refusal.Refusal.TheVariants.{NotEnabled}
 use Rattle.mlk_tree.specs.Trees.{RoutineTree, VariableTree}
@@ -19,6 +20,7 @@ use Rattle.mlk_jobs.specs.Lines.{tasks_if, chosen, answered, is_end, is_round, i
 use Rattle.mlk_jobs.specs.Calling.{frame_of, back_to, called_if, frame_end}
 use Rattle.mlk_jobs.specs.Advance.{advance}
 use Rattle.mlk_jobs.specs.Runs.{aborted}
+use Rattle.mlk_safety.specs.Outside.{changes}
 use Rattle.mlk_safety.proofs.Plain.{Plain, expressions, actions, assigns, merged_source, merged_target, signed, rounds_of, round_first, round_later, next_commands}
 use Rattle.mlk_safety.proofs.Kept.{test_in, kept_by, kept, Bound, untouched, stores, kills, news, as_block, stays, opens, ends, halts, Moves, done, refused, same, unasked, of_value, of_truth, of_last, of_condition, of_result, of_fetch, of_touch, of_select, of_choice, of_line, of_claim, of_call, of_call_if}
 
@@ -224,6 +226,9 @@ of_frame_end routines j c (AwaitsValue test) back next routine ts e =
 of_frame_end routines j c (HasValue test) back next routine ts e =
     unasked routines j c _ (done routines j _ (ends (kept_by (FrameMark (HasValue test) back next routine)) (ap kept e) refl refl refl (λ t h. cc)))
 
+own_name : (name : List ℕ) → bytes_eq name name ≡ true
+own_name name = (bytes_eq-Decides name name).1 refl
+
 pub moves : (routines : List RoutineTree) (free : LockName → Bool) (c : Choice) (j : Job) (ts : List Task) → j.tasks ≡ ts
     → Moves routines j (advance routines free c j ts)
 moves routines free c j [] e = refused routines j NotEnabled
@@ -240,10 +245,10 @@ moves routines free c j (task.Select cs ∷ ts) e = unasked routines j c _ (of_s
 moves routines free c j (task.Selected value others ∷ ts) e = of_condition routines j c j (chosen value others ts) (λ t. of_choice routines j value others ts (sym (ap marks e)) t)
 moves routines free c j (task.FormReference name n x a ∷ ts) e = unasked routines j c _ (same routines j _ (sym (ap marks e)) refl refl refl)
 moves routines free c j (task.DoTouch touch ∷ ts) e = of_touch routines j c touch.access ts (sym (ap marks e))
-moves routines free c j (task.Store name value ∷ ts) e = unasked routines j c _ (done routines j _ (stays (sym (ap kept e)) (stores name value refl refl refl)))
-moves routines free c j (task.StoreAny name ∷ ts) e = of_value routines j c _ (λ v. done routines j _ (stays (sym (ap kept e)) (stores name v refl refl refl)))
-moves routines free c j (task.StoreLast name ∷ ts) e = unasked routines j c _ (of_last routines j j.values _ (λ v. done routines j _ (stays (sym (ap kept e)) (stores name v refl refl refl))))
-moves routines free c j (task.KillNames names ∷ ts) e = unasked routines j c _ (done routines j _ (stays (sym (ap kept e)) (kills names refl refl refl)))
+moves routines free c j (task.Store name value ∷ ts) e = unasked routines j c _ (done routines j _ (stays (sym (ap kept e)) (stores name value (rw e (own_name name)) refl refl refl)))
+moves routines free c j (task.StoreAny name ∷ ts) e = of_value routines j c _ (λ v. done routines j _ (stays (sym (ap kept e)) (stores name v (rw e (own_name name)) refl refl refl)))
+moves routines free c j (task.StoreLast name ∷ ts) e = unasked routines j c _ (of_last routines j j.values _ (λ v. done routines j _ (stays (sym (ap kept e)) (stores name v (rw e (own_name name)) refl refl refl))))
+moves routines free c j (task.KillNames names ∷ ts) e = unasked routines j c _ (done routines j _ (stays (sym (ap kept e)) (kills names (λ n. ap (λ l. changes l n) e) refl refl refl)))
 moves routines free c j (task.NewNames names ∷ ts) e = unasked routines j c _ (done routines j _ (stays (sym (ap kept e)) (news names refl refl refl)))
 moves routines free c j (task.Assign targets ∷ ts) e = unasked routines j c _ (of_last routines j j.values _ (λ v. same routines j _ (assigns v targets _ ts ∙ sym (ap marks e)) refl refl refl))
 moves routines free c j (task.Merge target source ∷ ts) e = unasked routines j c _ (same routines j _ (merged _ target source ts ∙ sym (ap marks e)) refl refl refl)

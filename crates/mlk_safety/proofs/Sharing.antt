@@ -31,7 +31,7 @@ Clear g n (Fresh h names ∷ bs) = (covers names n ≡ true → h < g) × Clear 
 Clear g n (ByReference formal cell ∷ bs) = (cell.generation < g) × Clear g n bs
 
 -- what is made new is given by nothing behind it
-abbrev Ordered : Bindings → Type 0
+abbrev pub Ordered : Bindings → Type 0
 Ordered [] = Unit {0}
 Ordered (Fresh g names ∷ bs) = ((n : List ℕ) → covers names n ≡ true → Clear g n bs) × Ordered bs
 Ordered (ByReference formal cell ∷ bs) = Ordered bs
@@ -97,7 +97,7 @@ bound_anew (ByReference f c ∷ front) bs n o h k t =
     (λ u. let h1 : binds front n ≡ true = rw u at h in bound_anew front bs n o h1 (rw u at k) p.1)
     (cases_Bool (bytes_eq f n))
 
-shares : (bs : Bindings) → Ordered bs → (front back : Bindings) → bs ≡ front ++ back → (n m : List ℕ) → look bs n ≡ look back m
+pub shares : (bs : Bindings) → Ordered bs → (front back : Bindings) → bs ≡ front ++ back → (n m : List ℕ) → look bs n ≡ look back m
     → is_lent bs (look back m) ≡ false → (n ≡ m) × (binds front n ≡ false)
 shares bs o front back e n m k t =
     let o' : Ordered (front ++ back) = subst Ordered e o in
@@ -166,8 +166,8 @@ line_differs routines d e l lines is = on (slice_get routines e.routine) refl
 ordered_after : (routines : List RoutineTree) → FormalsDiffer routines → (j i : Job) → Tidied j → Ordered j.bindings → Move routines j i
     → Ordered i.bindings
 ordered_after routines d j i t o (stays e (untouched b n x)) = rw b o
-ordered_after routines d j i t o (stays e (stores name value b n x)) = rw b o
-ordered_after routines d j i t o (stays e (kills names b n x)) = rw b o
+ordered_after routines d j i t o (stays e (stores name value h b n x)) = rw b o
+ordered_after routines d j i t o (stays e (kills names h b n x)) = rw b o
 ordered_after routines d j i t o (stays e (news names b n x)) = rw b (λ m u. below_clear j.next m j.bindings t.older, o)
 ordered_after routines d j i t o (opens test e h (as_block b n x)) = rw b o
 ordered_after routines d j i t o (opens test m h (as_frame e head body lines is given values b n x)) =
@@ -191,7 +191,7 @@ module _ (routines : List RoutineTree) (declared : EntryId → Bool) (d : Formal
           let m : Move routines j k = act_moves routines declared x j k e in
           rest k i (tidy_after routines j k t m) (ordered_after routines d j k t o m) (rw e at h)
 
-  at_moment : (e : EntryId) (test : Bool) (values : List (List ℕ)) (k : ℕ) (first j : Job) (acts : List (Act Choice EntryId))
+  pub at_moment : (e : EntryId) (test : Bool) (values : List (List ℕ)) (k : ℕ) (first j : Job) (acts : List (Act Choice EntryId))
       → (machine routines declared).begin e test values k ≡ Ok first → lone_run (machine routines declared) acts first ≡ Ok j → Ordered j.bindings
   at_moment e test values k first j acts b r =
       let blank_tidy : Tidied (blank k test values) = record { nested = tt; older = omega arith; unset = λ c l. refl } in

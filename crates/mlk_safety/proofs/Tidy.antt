@@ -92,10 +92,10 @@ given_by bs n cells ks i b m x e nested older unset =
 
 stay_tidy : (j i : Job) → Tidied j → kept i.tasks ≡ kept j.tasks → Bound j i → Tidied i
 stay_tidy j i t e (untouched b n x) = given_by j.bindings j.next j.cells (kept j.tasks) i b n x e t.nested t.older t.unset
-stay_tidy j i t e (stores name value b n x) =
+stay_tidy j i t e (stores name value h b n x) =
     given_by j.bindings j.next (put (look j.bindings name) value j.cells) (kept j.tasks) i b n x e t.nested t.older
     (λ c l. put_other (look j.bindings name) c value j.cells (let y = below_look j.next j.bindings name t.older in omega (arith, y, l)) ∙ t.unset c l)
-stay_tidy j i t e (kills names b n x) =
+stay_tidy j i t e (kills names h b n x) =
     given_by j.bindings j.next (killed j.bindings names j.cells) (kept j.tasks) i b n x e t.nested t.older
     (λ c l. killed_unset j.bindings names j.cells c (t.unset c l))
 stay_tidy j i t e (news names b n x) =

@@ -14,6 +14,7 @@ use Rattle.mlk_jobs.specs.Seen.{Clash}
 use Rattle.mlk_jobs.specs.Runs.{machine, seen}
 use Rattle.mlk_safety.specs.Scopes.{GoesThrough, IsPutBack}
 use Rattle.mlk_safety.specs.Sharing.{FormalsDiffer, SharesByReference}
+use Rattle.mlk_safety.specs.Outside.{KeepsOutside}
 use Rattle.mlk_safety.specs.Tidy.{IsTidy, MakesNew, Kills}
 use Rattle.mlk_safety.specs.Moments.{StandsCovered, StandsInOrder, EndsEmpty, AtEachMoment}
 
@@ -76,3 +77,10 @@ abbrev pub SharedByReference : Type 0
 SharedByReference =
     (routines : List RoutineTree) (declared : EntryId → Bool) → FormalsDiffer routines
     → AtEachMoment routines declared SharesByReference
+
+-- Where no formal list has a name twice, a step changes names outside of a block or frame under those names alone, where
+-- nothing in there has bound them, or by reference.
+abbrev pub OutsideIsKept : Type 0
+OutsideIsKept =
+    (routines : List RoutineTree) (declared : EntryId → Bool) → FormalsDiffer routines
+    → AtEachMoment routines declared (KeepsOutside routines)

@@ -3,4 +3,5 @@ pub mod Moments
 pub mod Scopes
 pub mod Tidy
 pub mod Sharing
+pub mod Outside
 pub mod Laws

@@ -1,6 +1,6 @@
 // What runs of many jobs keep to where each job by itself keeps to the rules.
 
-ghost use Rattle.mlk_safety.specs.Laws.{NoClash, NoRing, AllEndEmpty, EndsPutBack, EachIsTidy, NewIsNew, KillIsExact, SharedByReference};
+ghost use Rattle.mlk_safety.specs.Laws.{NoClash, NoRing, AllEndEmpty, EndsPutBack, EachIsTidy, NewIsNew, KillIsExact, SharedByReference, OutsideIsKept};
 
 /// Where a job by itself always holds what covers the reference at which it stands ready, no two jobs of a run ever stand
 /// ready at overlapping references of which one writes.
@@ -46,4 +46,10 @@ pub fn kill_is_exact()
 /// between has bound it.
 pub fn shared_by_reference()
     ensures { SharedByReference }
+{}
+
+/// A name outside of a block or a frame keeps its value in each step, but where the step changes that very name and nothing
+/// in there has bound it, or where a formal is that variable by reference.
+pub fn outside_is_kept()
+    ensures { OutsideIsKept }
 {}

@@ -6,5 +6,5 @@ mod law;
 
 pub use law::{
     all_end_empty, each_is_tidy, ends_put_back, kill_is_exact, new_is_new, no_clash, no_ring,
-    shared_by_reference,
+    outside_is_kept, shared_by_reference,
 };
