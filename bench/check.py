@@ -18,11 +18,11 @@ PROGRAM = """//! Checks a program, and prints how long each part of it took.
 #![tactic(auto)]
 
 use mlk_cert::read_cert;
-use mlk_coverage::Rules;
+use mlk_rules::Rules;
 use mlk_program::{Program, link};
 use mlk_routine::{Routine, read_routine};
-use mlk_rules::read_rules;
-use mlk_verdicts::check_all;
+use mlk_rules_file::read_rules;
+use mlk_walk::check_all;
 use std::alloc::Global;
 use std::fs;
 use std::io;
@@ -133,7 +133,7 @@ def main():
     parser = argparse.ArgumentParser(description=__doc__, formatter_class=argparse.RawDescriptionHelpFormatter)
     parser.add_argument("folder", metavar="DIR", type=pathlib.Path)
     words = parser.parse_args()
-    libraries = "mlk_verdicts mlk_lines mlk_commands mlk_rows mlk_calls mlk_cert mlk_rules mlk_coverage mlk_names mlk_program"
+    libraries = "mlk_walk mlk_walk_lines mlk_walk_commands mlk_walk_exprs mlk_calls mlk_cert mlk_rules_file mlk_rules mlk_names mlk_program"
     lay(words.folder, "check_speed", f"{libraries} mlk_routine mlk_expr mlk_text", PROGRAM)
 
 

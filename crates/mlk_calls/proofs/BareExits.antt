@@ -5,11 +5,11 @@ use Rattle.std.specs.List.{list_any}
 use Rattle.std.proofs.lemmas.Bool.{or_parts}
 use Rattle.mlk_names.specs.declared.symbol.Sym.{Sym}
 use Rattle.mlk_names.specs.declared.term.LockTerm.{LockTerm}
-use Rattle.mlk_blocks.specs.declared.case.ExitCase.{ExitCase}
-use Rattle.mlk_scope.specs.declared.state.State.{State}
-use Rattle.mlk_scope.specs.Lists.{all_some}
-use Rattle.mlk_scope.specs.Terms.{put_all, put_terms}
-use Rattle.mlk_scope.specs.Cases.{holds_some}
+use Rattle.mlk_cert_parts.specs.declared.case.ExitCase.{ExitCase}
+use Rattle.mlk_walk_state.specs.declared.state.State.{State}
+use Rattle.mlk_walk_state.specs.Lists.{all_some}
+use Rattle.mlk_walk_state.specs.Terms.{put_all, put_terms}
+use Rattle.mlk_walk_state.specs.Cases.{holds_some}
 use Rattle.mlk_calls.specs.declared.call.Calling.{Calling}
 use Rattle.mlk_calls.specs.Calls.{test_after, leave, SameEnds}
 

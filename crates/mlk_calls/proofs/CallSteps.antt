@@ -5,12 +5,12 @@ use Rattle.mlk_text.specs.declared.failure.Failure.{Failure}
 use Rattle.mlk_text.specs.declared.failure.Failure.TheVariants.{Refused}
 use Rattle.mlk_text.specs.Failures.{FailsAs}
 use Rattle.mlk_text.specs.declared.code.Code.{Code}
-use Rattle.mlk_tree.specs.declared.expr.Callee.{Callee}
-use Rattle.mlk_tree.specs.ExprTrees.{ActualTree}
-use Rattle.mlk_scope.specs.declared.state.State.{State}
+use Rattle.mlk_syntax.specs.declared.expr.Callee.{Callee}
+use Rattle.mlk_syntax.specs.ExprTrees.{ActualTree}
+use Rattle.mlk_walk_state.specs.declared.state.State.{State}
 use Rattle.mlk_calls.specs.declared.call.Calling.{Calling}
-use Rattle.mlk_scope.specs.States.{last_captured, without_last}
-use Rattle.mlk_scope.specs.Scope.{Scope}
+use Rattle.mlk_walk_state.specs.States.{last_captured, without_last}
+use Rattle.mlk_walk_state.specs.Scope.{Scope}
 use Rattle.mlk_calls.specs.Calls.{Called, called, changes, call_changing, call_known, at_call}
 
 -- what is wrong with it

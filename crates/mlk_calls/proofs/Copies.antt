@@ -1,9 +1,9 @@
 -- Copies of sets of names are equal to them.
 use Rattle.std.proofs.Common.{◌≡◌, ap}
 use Rattle.std.specs.List.{each_same}
-use Rattle.mlk_blocks.specs.declared.names.NameSet.{NameSet}
-use Rattle.mlk_blocks.specs.declared.names.NameSet.TheVariants as set
-use Rattle.mlk_blocks.specs.contracts.names.NameSetClone.TheImpl as clone
+use Rattle.mlk_cert_parts.specs.declared.names.NameSet.{NameSet}
+use Rattle.mlk_cert_parts.specs.declared.names.NameSet.TheVariants as set
+use Rattle.mlk_cert_parts.specs.contracts.names.NameSetClone.TheImpl as clone
 
 pub copied : (x y : NameSet) → clone.by_variants x y → y ≡ x
 copied (set.Only a) (set.Only b) h = let e : b ≡ a = h in ap set.Only e

@@ -10,19 +10,19 @@ use Rattle.mlk_names.specs.declared.symbol.Sym.TheVariants.{Local, Job, Unknown}
 use Rattle.mlk_names.specs.declared.known_symbol.KnownSym.{KnownSym}
 use Rattle.mlk_names.specs.declared.known_symbol.KnownSym.TheVariants as known
 use Rattle.mlk_names.specs.declared.term.LockTerm.{LockTerm}
-use Rattle.mlk_coverage.specs.declared.family.Family.{Family}
-use Rattle.mlk_blocks.specs.declared.case.Test.TheVariants.{Any}
-use Rattle.mlk_blocks.specs.declared.case.ExitCase.{ExitCase}
-use Rattle.mlk_blocks.specs.declared.names.NameSet.{NameSet}
-use Rattle.mlk_blocks.specs.declared.names.NameSet.TheVariants.{Only, AllBut}
-use Rattle.mlk_blocks.specs.declared.names.Own.{Own}
-use Rattle.mlk_blocks.specs.declared.block.Summary.{Summary}
-use Rattle.mlk_lexemes.specs.Texts.{byte_text}
-use Rattle.mlk_scope.specs.declared.state.State.{State}
+use Rattle.mlk_rules.specs.declared.family.Family.{Family}
+use Rattle.mlk_cert_parts.specs.declared.case.Test.TheVariants.{Any}
+use Rattle.mlk_cert_parts.specs.declared.case.ExitCase.{ExitCase}
+use Rattle.mlk_cert_parts.specs.declared.names.NameSet.{NameSet}
+use Rattle.mlk_cert_parts.specs.declared.names.NameSet.TheVariants.{Only, AllBut}
+use Rattle.mlk_cert_parts.specs.declared.names.Own.{Own}
+use Rattle.mlk_cert_parts.specs.declared.block.Summary.{Summary}
+use Rattle.mlk_cert_lexemes.specs.Texts.{byte_text}
+use Rattle.mlk_walk_state.specs.declared.state.State.{State}
 use Rattle.mlk_calls.specs.declared.call.Calling.TheVariants.{ByDo}
-use Rattle.mlk_scope.specs.Names.{have, is_among, spares}
-use Rattle.mlk_scope.specs.Terms.{same_term}
-use Rattle.mlk_scope.specs.Scope.{Scope}
+use Rattle.mlk_walk_state.specs.Names.{have, is_among, spares}
+use Rattle.mlk_walk_state.specs.Terms.{same_term}
+use Rattle.mlk_walk_state.specs.Scope.{Scope}
 use Rattle.mlk_calls.specs.Changes.{change}
 use Rattle.mlk_calls.specs.Claims.{claim_refused, release_all, release_one}
 use Rattle.mlk_calls.specs.Calls.{Called, call_changing}

@@ -5,29 +5,29 @@ use Rattle.std.specs.Prelude.{◌≡◌, option_map, option_and_then, Result, Ok
 use Rattle.std.specs.List.{list_all}
 use Rattle.mlk_text.specs.declared.code.Code.{Code}
 use Rattle.mlk_text.specs.declared.code.Code.TheVariants.{RankOrder, NeedMissing, SummaryShort, NoCertificate, UnknownSubscript, DropsFrame}
-use Rattle.mlk_tree.specs.declared.expr.Callee.{Callee}
-use Rattle.mlk_tree.specs.ExprTrees.{ActualTree, Given, ByRef, Missing}
-use Rattle.mlk_tree.specs.Trees.{HeadTree, LineTrees}
+use Rattle.mlk_syntax.specs.declared.expr.Callee.{Callee}
+use Rattle.mlk_syntax.specs.ExprTrees.{ActualTree, Given, ByRef, Missing}
+use Rattle.mlk_syntax.specs.Trees.{HeadTree, LineTrees}
 use Rattle.mlk_program.specs.declared.entry.EntryId.{EntryId}
 use Rattle.mlk_program.specs.Entries.{formals_of, target_of, line_of_entry}
 use Rattle.mlk_names.specs.declared.symbol.Sym.{Sym}
 use Rattle.mlk_names.specs.declared.term.LockTerm.{LockTerm}
-use Rattle.mlk_coverage.specs.declared.family.Family.{Family}
-use Rattle.mlk_blocks.specs.declared.case.Test.{Test}
-use Rattle.mlk_blocks.specs.declared.case.ExitCase.{ExitCase}
-use Rattle.mlk_blocks.specs.declared.names.NameSet.{NameSet}
-use Rattle.mlk_blocks.specs.declared.names.NameSet.TheVariants.{Only}
-use Rattle.mlk_blocks.specs.declared.block.Summary.{Summary}
-use Rattle.mlk_scope.specs.Lists.{all_some}
-use Rattle.mlk_scope.specs.Terms.{put_all, all_taken, first_missing, rank_of, put_terms}
-use Rattle.mlk_scope.specs.Cases.{holds_some}
-use Rattle.mlk_scope.specs.declared.state.State.{State}
+use Rattle.mlk_rules.specs.declared.family.Family.{Family}
+use Rattle.mlk_cert_parts.specs.declared.case.Test.{Test}
+use Rattle.mlk_cert_parts.specs.declared.case.ExitCase.{ExitCase}
+use Rattle.mlk_cert_parts.specs.declared.names.NameSet.{NameSet}
+use Rattle.mlk_cert_parts.specs.declared.names.NameSet.TheVariants.{Only}
+use Rattle.mlk_cert_parts.specs.declared.block.Summary.{Summary}
+use Rattle.mlk_walk_state.specs.Lists.{all_some}
+use Rattle.mlk_walk_state.specs.Terms.{put_all, all_taken, first_missing, rank_of, put_terms}
+use Rattle.mlk_walk_state.specs.Cases.{holds_some}
+use Rattle.mlk_walk_state.specs.declared.state.State.{State}
 use Rattle.mlk_calls.specs.declared.call.Target.{Target}
 use Rattle.mlk_calls.specs.declared.call.Calling.{Calling}
 use Rattle.mlk_calls.specs.declared.call.Calling.TheVariants.{ByDo, Extrinsic}
-use Rattle.mlk_scope.specs.States.{last_captured, without_last}
+use Rattle.mlk_walk_state.specs.States.{last_captured, without_last}
 use Rattle.mlk_calls.specs.Claims.{is_low_enough}
-use Rattle.mlk_scope.specs.Scope.{Scope, summary_for, begins_jobs}
+use Rattle.mlk_walk_state.specs.Scope.{Scope, summary_for, begins_jobs}
 use Rattle.mlk_calls.specs.Changes.{marked, changed_state, change_fault, unless}
 
 -- DO of a label leaves `$TEST` as the callee does, an extrinsic function keeps it

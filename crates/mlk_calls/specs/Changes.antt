@@ -6,12 +6,12 @@ use Rattle.mlk_text.specs.declared.code.Code.{Code}
 use Rattle.mlk_text.specs.declared.code.Code.TheVariants.{Pinned, SummaryShort}
 use Rattle.mlk_names.specs.declared.symbol.Sym.{Sym}
 use Rattle.mlk_names.specs.declared.symbol.Sym.TheVariants.{Const, Local, Job, Unknown}
-use Rattle.mlk_blocks.specs.declared.case.Case.{Case}
-use Rattle.mlk_blocks.specs.declared.names.NameSet.{NameSet}
-use Rattle.mlk_scope.specs.declared.state.State.{State}
-use Rattle.mlk_scope.specs.Names.{have, may_change, without}
-use Rattle.mlk_scope.specs.Terms.{mention}
-use Rattle.mlk_scope.specs.Scope.{Scope}
+use Rattle.mlk_cert_parts.specs.declared.case.Case.{Case}
+use Rattle.mlk_cert_parts.specs.declared.names.NameSet.{NameSet}
+use Rattle.mlk_walk_state.specs.declared.state.State.{State}
+use Rattle.mlk_walk_state.specs.Names.{have, may_change, without}
+use Rattle.mlk_walk_state.specs.Terms.{mention}
+use Rattle.mlk_walk_state.specs.Scope.{Scope}
 
 -- a captured symbol that mentions a changed name is unknown from then on
 abbrev pub marked : List NameSet → Sym → Sym

@@ -5,12 +5,12 @@ use Rattle.std.specs.List.{list_all}
 use Rattle.mlk_text.specs.declared.code.Code.{Code}
 use Rattle.mlk_text.specs.declared.code.Code.TheVariants.{NotHeld, Unranked, RankOrder, SummaryShort}
 use Rattle.mlk_names.specs.declared.term.LockTerm.{LockTerm}
-use Rattle.mlk_coverage.specs.declared.family.Family.{Family}
-use Rattle.mlk_blocks.specs.declared.case.Test.TheVariants.{Zero, One}
-use Rattle.mlk_scope.specs.declared.state.State.{State}
-use Rattle.mlk_scope.specs.Terms.{put_all, taken, is_within, rank_of}
-use Rattle.mlk_scope.specs.States.{holding, tested}
-use Rattle.mlk_scope.specs.Scope.{Scope}
+use Rattle.mlk_rules.specs.declared.family.Family.{Family}
+use Rattle.mlk_cert_parts.specs.declared.case.Test.TheVariants.{Zero, One}
+use Rattle.mlk_walk_state.specs.declared.state.State.{State}
+use Rattle.mlk_walk_state.specs.Terms.{put_all, taken, is_within, rank_of}
+use Rattle.mlk_walk_state.specs.States.{holding, tested}
+use Rattle.mlk_walk_state.specs.Scope.{Scope}
 
 -- `-` is above every rank
 abbrev pub is_low_enough : Option ℕ → Option ℕ → Bool

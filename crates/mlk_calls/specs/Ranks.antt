@@ -1,7 +1,7 @@
 -- What the ranks of held terms come to. For private clauses alone. This project's own.
 use Rattle.std.specs.Prelude.{◌≡◌, ℕ, Bool, true, false, nat_lt, List}
 use Rattle.mlk_names.specs.declared.term.LockTerm.{LockTerm}
-use Rattle.mlk_coverage.specs.declared.family.Family.{Family}
+use Rattle.mlk_rules.specs.declared.family.Family.{Family}
 use Rattle.mlk_calls.specs.declared.claim.Highest.{Highest}
 use Rattle.mlk_calls.specs.declared.claim.Highest.TheVariants.{Nothing, Ranked, Unranked}
 use Rattle.mlk_calls.specs.Claims.{all_ranked_below}

@@ -2,30 +2,30 @@
 
 ghost use Rattle.std.specs.Prelude.{◌≡◌, ◌++◌, ◌-◌, IfOk, OnOk, Some, map, flat_map, length, take, option_map, option_copied};
 ghost use Rattle.mlk_text.specs.Failures.{Answers};
-ghost use Rattle.mlk_tree.specs.ExprTrees.{actual_of, actual_trees};
-ghost use Rattle.mlk_tree.specs.Views.{line_of};
+ghost use Rattle.mlk_syntax.specs.ExprTrees.{actual_of, actual_trees};
+ghost use Rattle.mlk_syntax.specs.Views.{line_of};
 ghost use Rattle.std.specs.List.{list_any};
-ghost use Rattle.mlk_blocks.specs.declared.case.ExitCase.{ExitCase as exit_case};
-ghost use Rattle.mlk_scope.specs.Cases.{holds_some};
-ghost use Rattle.mlk_scope.specs.Lists.{all_some};
-ghost use Rattle.mlk_scope.specs.Refusals.{AnswersOf};
-ghost use Rattle.mlk_scope.specs.Terms.{put_term, put_terms, put_all};
+ghost use Rattle.mlk_cert_parts.specs.declared.case.ExitCase.{ExitCase as exit_case};
+ghost use Rattle.mlk_walk_state.specs.Cases.{holds_some};
+ghost use Rattle.mlk_walk_state.specs.Lists.{all_some};
+ghost use Rattle.mlk_walk_state.specs.Refusals.{AnswersOf};
+ghost use Rattle.mlk_walk_state.specs.Terms.{put_term, put_terms, put_all};
 ghost use Rattle.mlk_calls.specs.Changes.{marked};
-ghost use Rattle.mlk_scope.specs.Scope.{scope_of};
-ghost use Rattle.mlk_scope.specs.States.{last_captured, without_last};
+ghost use Rattle.mlk_walk_state.specs.Scope.{scope_of};
+ghost use Rattle.mlk_walk_state.specs.States.{last_captured, without_last};
 ghost use Rattle.mlk_calls.specs.Changes.{changed_state};
 ghost use Rattle.mlk_calls.specs.Calls.{Called, formals_in, called, lent_set, changes, callee_summary, changes_by, missing_need, ranks_below, all_below, leave, SameEnds, after_call, ranks_fault, call_fault, set_aside, call_changing, at_call, at_job, test_after, called_of};
 
 use crate::changing::{change_fault, changed_case, mark_all};
 use crate::claim::is_low_enough;
 use mlk_cert::{Case, ExitCase, NameSet, Shared, Summary, Test};
-use mlk_coverage::Rules;
 use mlk_names::{LockTerm, Sym, substitute};
-use mlk_scope::{
+use mlk_rules::Rules;
+use mlk_syntax::{Actual, Callee, Line};
+use mlk_text::{Code, Failure, List, Name, copy_of};
+use mlk_walk_state::{
     Refusal, Scope, State, before_last, copies, copy_case, last_of, put_all, rank, take_all,
 };
-use mlk_text::{Code, Failure, List, Name, copy_of};
-use mlk_tree::{Actual, Callee, Line};
 use std::alloc::{AllocError, Global};
 
 /// How a callee is called.

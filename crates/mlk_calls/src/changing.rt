@@ -2,15 +2,15 @@
 
 ghost use Rattle.std.specs.Prelude.{◌≡◌, IfOk, OnOk, is_none, map};
 ghost use Rattle.std.specs.List.{list_all};
-ghost use Rattle.mlk_scope.specs.Names.{may_change};
-ghost use Rattle.mlk_scope.specs.Scope.{scope_of};
+ghost use Rattle.mlk_walk_state.specs.Names.{may_change};
+ghost use Rattle.mlk_walk_state.specs.Scope.{scope_of};
 ghost use Rattle.mlk_calls.specs.Changes.{marked, without_kept, changed_state, change_fault, change, short_names};
-ghost use Rattle.mlk_scope.specs.Refusals.{AnswersOf};
+ghost use Rattle.mlk_walk_state.specs.Refusals.{AnswersOf};
 
 use mlk_cert::{Case, NameSet};
 use mlk_names::Sym;
-use mlk_scope::{Refusal, Scope, State, have, may_change, mention, take_out};
 use mlk_text::{Code, Failure, List, copy_of};
+use mlk_walk_state::{Refusal, Scope, State, have, may_change, mention, take_out};
 use std::alloc::{AllocError, Global};
 
 fn mark(changed: &[NameSet], symbol: &Sym) -> Result<Sym, AllocError>

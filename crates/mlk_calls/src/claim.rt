@@ -2,15 +2,15 @@
 
 ghost use Rattle.std.specs.Prelude.{◌≡◌, ◌&&◌, ℕ, IfOk, IfErr, OnOk, Some, None};
 ghost use Rattle.mlk_calls.specs.Ranks.{is_above, IsHighest};
-ghost use Rattle.mlk_scope.specs.Refusals.{AnswersOf};
-ghost use Rattle.mlk_scope.specs.Scope.{scope_of};
+ghost use Rattle.mlk_walk_state.specs.Refusals.{AnswersOf};
+ghost use Rattle.mlk_walk_state.specs.Scope.{scope_of};
 ghost use Rattle.mlk_calls.specs.Claims.{is_low_enough, is_below, order_fault, claim_fault, claim_refused, held_too, release_all, release_one};
 
 use mlk_cert::Shared;
-use mlk_coverage::Rules;
 use mlk_names::LockTerm;
-use mlk_scope::{Refusal, Scope, State, copies, is_within, put_all, rank, take_one};
+use mlk_rules::Rules;
 use mlk_text::{Code, Failure};
+use mlk_walk_state::{Refusal, Scope, State, copies, is_within, put_all, rank, take_one};
 use std::alloc::{AllocError, Global};
 
 /// Whether the second of two least ranks is not below the first; none is above every rank.

@@ -1,15 +1,15 @@
 // What would mend a refused call.
 
 ghost use Rattle.std.specs.Prelude.{◌≡◌, IfOk, Some, option_copied};
-ghost use Rattle.mlk_tree.specs.ExprTrees.{actual_trees};
-ghost use Rattle.mlk_scope.specs.Scope.{scope_of};
+ghost use Rattle.mlk_syntax.specs.ExprTrees.{actual_trees};
+ghost use Rattle.mlk_walk_state.specs.Scope.{scope_of};
 ghost use Rattle.mlk_calls.specs.Calls.{called_of, callee_summary, changes_by, missing_by, missing_need};
 
 use crate::call::{Target, called, changes, lent, passed, put_terms};
 use mlk_cert::{NameSet, Summary};
 use mlk_names::{LockTerm, Sym};
-use mlk_scope::{Scope, State, copies, first_missing, last_of};
-use mlk_tree::{Actual, Callee};
+use mlk_syntax::{Actual, Callee};
+use mlk_walk_state::{Scope, State, copies, first_missing, last_of};
 use std::alloc::{AllocError, Global};
 
 /// The summary of what is called, where it has a certificate: its least rank, and whether it may release all locks, are

@@ -5,26 +5,26 @@ use Rattle.std.specs.Fmt.{decimal}
 use Rattle.mlk_text.specs.Reading.{◌>>=◌, with}
 use Rattle.mlk_text.specs.Lexemes.{byte_at, digits}
 use Rattle.mlk_text.proofs.Readers.{then_some, with_some}
-use Rattle.mlk_blocks.specs.declared.case.Case.{Case}
-use Rattle.mlk_blocks.specs.declared.case.ExitCase.{ExitCase}
-use Rattle.mlk_blocks.specs.declared.block.Point.{Point}
-use Rattle.mlk_blocks.specs.declared.block.Summary.{Summary}
-use Rattle.mlk_blocks.specs.declared.block.EntryCert.{EntryCert}
-use Rattle.mlk_lexemes.specs.Lists.{Each, flat, ascends}
-use Rattle.mlk_lexemes.specs.Texts.{listed, term_text}
-use Rattle.mlk_blocks.specs.Texts.{names_text, case_text, exit_text, exit_line, place_text, case_line, point_text, low_text, drops_text, summary_text}
-use Rattle.mlk_lexemes.specs.Kinds.{IsTerm, IsEntry}
-use Rattle.mlk_blocks.specs.Limits.{IsLow, IsSummary, IsPoint, IsBlock, points_below}
-use Rattle.mlk_blocks.specs.Checks.{fit_terms, fit_mods, fits_exit, fit_exits, fit_points, fits}
-use Rattle.mlk_lexemes.specs.Reading.{word_at, number_at, positive, listed_at, term_at, part_at, entry_at}
-use Rattle.mlk_blocks.specs.Reading.{names_at, exit_at, case_at}
+use Rattle.mlk_cert_parts.specs.declared.case.Case.{Case}
+use Rattle.mlk_cert_parts.specs.declared.case.ExitCase.{ExitCase}
+use Rattle.mlk_cert_parts.specs.declared.block.Point.{Point}
+use Rattle.mlk_cert_parts.specs.declared.block.Summary.{Summary}
+use Rattle.mlk_cert_parts.specs.declared.block.EntryCert.{EntryCert}
+use Rattle.mlk_cert_lexemes.specs.Lists.{Each, flat, ascends}
+use Rattle.mlk_cert_lexemes.specs.Texts.{listed, term_text}
+use Rattle.mlk_cert_parts.specs.Texts.{names_text, case_text, exit_text, exit_line, place_text, case_line, point_text, low_text, drops_text, summary_text}
+use Rattle.mlk_cert_lexemes.specs.Kinds.{IsTerm, IsEntry}
+use Rattle.mlk_cert_parts.specs.Limits.{IsLow, IsSummary, IsPoint, IsBlock, points_below}
+use Rattle.mlk_cert_parts.specs.Checks.{fit_terms, fit_mods, fits_exit, fit_exits, fit_points, fits}
+use Rattle.mlk_cert_lexemes.specs.Reading.{word_at, number_at, positive, listed_at, term_at, part_at, entry_at}
+use Rattle.mlk_cert_parts.specs.Reading.{names_at, exit_at, case_at}
 use Rattle.mlk_cert.specs.Blocks.{fit, rest_at, worded_at, low_at, drops_at, exits_at, summary_of, summary_at, Listed, place_at, listed_of, listed_case_at, fits_listed, grouped, points_at, block_of, block_at}
-use Rattle.mlk_lexemes.proofs.Formats.{Format, Anything, byte-is, part-is, part-back, both_true, both_back}
-use Rattle.mlk_lexemes.proofs.NumberFormats.{number-format, positive-is, not-zero}
-use Rattle.mlk_lexemes.proofs.NameFormats.{NoName}
-use Rattle.mlk_lexemes.proofs.TermFormats.{EndsTerms, EndsNames, terms-format}
-use Rattle.mlk_lexemes.proofs.EntryFormats.{entry_text, entry-format}
-use Rattle.mlk_blocks.proofs.CaseFormats.{HasNames, HasCase, HasExit, NoSign, mods-format, exit-format, case-format}
+use Rattle.mlk_cert_lexemes.proofs.Formats.{Format, Anything, byte-is, part-is, part-back, both_true, both_back}
+use Rattle.mlk_cert_lexemes.proofs.NumberFormats.{number-format, positive-is, not-zero}
+use Rattle.mlk_cert_lexemes.proofs.NameFormats.{NoName}
+use Rattle.mlk_cert_lexemes.proofs.TermFormats.{EndsTerms, EndsNames, terms-format}
+use Rattle.mlk_cert_lexemes.proofs.EntryFormats.{entry_text, entry-format}
+use Rattle.mlk_cert_parts.proofs.CaseFormats.{HasNames, HasCase, HasExit, NoSign, mods-format, exit-format, case-format}
 use Rattle.mlk_cert.proofs.LineFormats.{fit-is, rest-format, worded-is, worded-back, low-format, drops-format, IsDrops, EndsLow}
 use Rattle.mlk_cert.proofs.Grouping.{listed_text, listed_line, lines_of, points-text, HasCases, grouped-lines, grouped-cases, grouped-back}
 use Rattle.mlk_cert.proofs.Goods.{terms-good, terms-fit, mods-good, mods-has, GoodExit, exits-good, exits-has, few-exits, exits-fit, GoodListed, points-good, points-has}

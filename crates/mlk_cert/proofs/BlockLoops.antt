@@ -11,12 +11,12 @@ use Rattle.mlk_text.specs.declared.failure.Failure.TheVariants.{OutOfMemory, Ref
 use Rattle.mlk_text.specs.Failures.{FailsOn}
 use Rattle.mlk_text.specs.Reading.{◌>>=◌, with, put, many}
 use Rattle.mlk_text.proofs.Readers.{then_some, with_some, many_goes, many_fails}
-use Rattle.mlk_blocks.specs.declared.block.EntryCert.{EntryCert}
-use Rattle.mlk_blocks.specs.Limits.{IsBlock}
-use Rattle.mlk_blocks.specs.Checks.{has_text, are_distinct, entries, fit_blocks, fits}
-use Rattle.mlk_lexemes.specs.Reading.{word_at, entry_at}
+use Rattle.mlk_cert_parts.specs.declared.block.EntryCert.{EntryCert}
+use Rattle.mlk_cert_parts.specs.Limits.{IsBlock}
+use Rattle.mlk_cert_parts.specs.Checks.{has_text, are_distinct, entries, fit_blocks, fits}
+use Rattle.mlk_cert_lexemes.specs.Reading.{word_at, entry_at}
 use Rattle.mlk_cert.specs.Blocks.{fit, rest_at, summary_at, points_at, block_of, block_at, new_entry_at, new_block_at}
-use Rattle.mlk_lexemes.proofs.Formats.{both_true, both_back}
+use Rattle.mlk_cert_lexemes.proofs.Formats.{both_true, both_back}
 use Rattle.mlk_cert.proofs.Loops.{put-nil, line-shorter}
 use Rattle.mlk_cert.proofs.BlockFormats.{body_text, EndsBlock, block-format}
 use Rattle.mlk_cert.proofs.LineFormats.{fit-is}

@@ -8,24 +8,24 @@ use Rattle.std.proofs.lemmas.Option.{same_Some}
 use Rattle.std.proofs.lemmas.Bool.Decides.{Decides-and, Decides-like, Decides-eqb}
 use Rattle.std.proofs.lemmas.Slice.Eq.{slice_eq-Decides, bytes_eq-Decides}
 use Rattle.mlk_names.specs.declared.term.LockTerm.{LockTerm}
-use Rattle.mlk_blocks.specs.declared.case.Test.{Test}
-use Rattle.mlk_blocks.specs.declared.case.Case.{Case}
-use Rattle.mlk_blocks.specs.declared.case.ExitCase.{ExitCase}
-use Rattle.mlk_blocks.specs.declared.names.NameSet.{NameSet}
-use Rattle.mlk_blocks.specs.declared.names.Own.{Own}
-use Rattle.mlk_blocks.specs.declared.block.Point.{Point}
-use Rattle.mlk_blocks.specs.declared.block.Summary.{Summary}
-use Rattle.mlk_blocks.specs.declared.block.EntryCert.{EntryCert}
+use Rattle.mlk_cert_parts.specs.declared.case.Test.{Test}
+use Rattle.mlk_cert_parts.specs.declared.case.Case.{Case}
+use Rattle.mlk_cert_parts.specs.declared.case.ExitCase.{ExitCase}
+use Rattle.mlk_cert_parts.specs.declared.names.NameSet.{NameSet}
+use Rattle.mlk_cert_parts.specs.declared.names.Own.{Own}
+use Rattle.mlk_cert_parts.specs.declared.block.Point.{Point}
+use Rattle.mlk_cert_parts.specs.declared.block.Summary.{Summary}
+use Rattle.mlk_cert_parts.specs.declared.block.EntryCert.{EntryCert}
 use Rattle.mlk_names.specs.contracts.term.LockTermPartialEq.TheImpl as term_eq
-use Rattle.mlk_blocks.specs.contracts.names.OwnPartialEq.TheImpl as own_eq
-use Rattle.mlk_blocks.specs.contracts.names.NameSetPartialEq.TheImpl as set_eq
-use Rattle.mlk_blocks.specs.contracts.case.TestPartialEq.TheImpl as test_eq
-use Rattle.mlk_blocks.specs.contracts.case.CasePartialEq.TheImpl as case_eq
-use Rattle.mlk_blocks.specs.contracts.case.ExitCasePartialEq.TheImpl as exit_eq
-use Rattle.mlk_blocks.specs.contracts.block.PointPartialEq.TheImpl as point_eq
-use Rattle.mlk_blocks.specs.contracts.block.SummaryPartialEq.TheImpl as summary_eq
-use Rattle.mlk_blocks.specs.contracts.block.EntryCertPartialEq.TheImpl as block_eq
-use Rattle.mlk_blocks.specs.Reading.{case_of, exit_of}
+use Rattle.mlk_cert_parts.specs.contracts.names.OwnPartialEq.TheImpl as own_eq
+use Rattle.mlk_cert_parts.specs.contracts.names.NameSetPartialEq.TheImpl as set_eq
+use Rattle.mlk_cert_parts.specs.contracts.case.TestPartialEq.TheImpl as test_eq
+use Rattle.mlk_cert_parts.specs.contracts.case.CasePartialEq.TheImpl as case_eq
+use Rattle.mlk_cert_parts.specs.contracts.case.ExitCasePartialEq.TheImpl as exit_eq
+use Rattle.mlk_cert_parts.specs.contracts.block.PointPartialEq.TheImpl as point_eq
+use Rattle.mlk_cert_parts.specs.contracts.block.SummaryPartialEq.TheImpl as summary_eq
+use Rattle.mlk_cert_parts.specs.contracts.block.EntryCertPartialEq.TheImpl as block_eq
+use Rattle.mlk_cert_parts.specs.Reading.{case_of, exit_of}
 use Rattle.mlk_cert.specs.Blocks.{summary_of, block_of}
 
 lists-equal : {A : Type 0} {E : A → A → Bool} → ((a b : A) → Decides (E a b) (a ≡ b)) → (xs ys : List A) → Decides (pointwise E xs ys) (xs ≡ ys)

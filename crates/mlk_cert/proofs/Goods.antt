@@ -4,19 +4,19 @@ use Rattle.std.specs.Prelude.{◌&&◌, ◌||◌, nat_le, bytes_eq}
 use Rattle.std.proofs.lemmas.Bool.{leb-true, le-leb}
 use Rattle.std.proofs.lemmas.Slice.Eq.{bytes_eq-Decides}
 use Rattle.mlk_names.specs.declared.term.LockTerm.{LockTerm}
-use Rattle.mlk_blocks.specs.declared.case.Case.{Case}
-use Rattle.mlk_blocks.specs.declared.case.ExitCase.{ExitCase}
-use Rattle.mlk_blocks.specs.declared.names.NameSet.{NameSet}
-use Rattle.mlk_blocks.specs.declared.names.NameSet.TheVariants.{Only, AllBut}
-use Rattle.mlk_blocks.specs.declared.names.Own.{Own}
-use Rattle.mlk_blocks.specs.declared.block.Point.{Point}
-use Rattle.mlk_lexemes.specs.Lists.{Each, ascends, below}
-use Rattle.mlk_lexemes.specs.Kinds.{IsName, IsTerm, terms_upto}
-use Rattle.mlk_blocks.specs.Limits.{IsNameSet, IsOwn, AreTerms, AreMods, AreOwn, AreKept, IsCase, IsExit, IsPoint, AreDistinct, names_below, own_below, exits_below, cases_below}
-use Rattle.mlk_blocks.specs.Checks.{ascends_inside, ascend_inside, ascend_inside_own, fit_terms, fit_mods, fit_own, fit_kept, fits_case, fits_exit, fit_exits, fit_cases, each_fits, has_text, are_distinct}
+use Rattle.mlk_cert_parts.specs.declared.case.Case.{Case}
+use Rattle.mlk_cert_parts.specs.declared.case.ExitCase.{ExitCase}
+use Rattle.mlk_cert_parts.specs.declared.names.NameSet.{NameSet}
+use Rattle.mlk_cert_parts.specs.declared.names.NameSet.TheVariants.{Only, AllBut}
+use Rattle.mlk_cert_parts.specs.declared.names.Own.{Own}
+use Rattle.mlk_cert_parts.specs.declared.block.Point.{Point}
+use Rattle.mlk_cert_lexemes.specs.Lists.{Each, ascends, below}
+use Rattle.mlk_cert_lexemes.specs.Kinds.{IsName, IsTerm, terms_upto}
+use Rattle.mlk_cert_parts.specs.Limits.{IsNameSet, IsOwn, AreTerms, AreMods, AreOwn, AreKept, IsCase, IsExit, IsPoint, AreDistinct, names_below, own_below, exits_below, cases_below}
+use Rattle.mlk_cert_parts.specs.Checks.{ascends_inside, ascend_inside, ascend_inside_own, fit_terms, fit_mods, fit_own, fit_kept, fits_case, fits_exit, fit_exits, fit_cases, each_fits, has_text, are_distinct}
 use Rattle.mlk_cert.specs.Blocks.{Listed}
-use Rattle.mlk_blocks.proofs.CaseFormats.{HasNames, HasOwn, HasCase, HasExit}
-use Rattle.mlk_lexemes.proofs.Formats.{both_true, both_back}
+use Rattle.mlk_cert_parts.proofs.CaseFormats.{HasNames, HasOwn, HasCase, HasExit}
+use Rattle.mlk_cert_lexemes.proofs.Formats.{both_true, both_back}
 use Rattle.mlk_cert.proofs.Grouping.{listed_at_place, cases_of, lines_of, HasCases}
 
 pub terms-good : (ts : List LockTerm) → Each IsTerm ts → fit_terms ts ≡ true → AreTerms ts

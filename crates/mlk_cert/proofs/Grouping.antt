@@ -4,13 +4,13 @@ use Rattle.std.specs.Prelude.{◌==◌, ◌&&◌, ◌||◌, nat_lt, nat_le, code
 use Rattle.std.proofs.lemmas.Bool.{cases_Bool, eqb-true, leb-true, le-leb}
 use Rattle.std.proofs.lemmas.Bool.Decides.{nat_tests}
 use Rattle.std.proofs.lemmas.List.{map-append}
-use Rattle.mlk_blocks.specs.declared.case.Case.{Case}
-use Rattle.mlk_blocks.specs.declared.block.Point.{Point}
-use Rattle.mlk_lexemes.specs.Lists.{Each, flat, ascends}
-use Rattle.mlk_lexemes.proofs.Formats.{both_back, both_true}
-use Rattle.mlk_blocks.specs.Texts.{place_text, case_text, case_line, point_text}
-use Rattle.mlk_blocks.specs.Limits.{cases_below, points_below}
-use Rattle.mlk_blocks.specs.Checks.{fit_cases, each_fits, fit_points}
+use Rattle.mlk_cert_parts.specs.declared.case.Case.{Case}
+use Rattle.mlk_cert_parts.specs.declared.block.Point.{Point}
+use Rattle.mlk_cert_lexemes.specs.Lists.{Each, flat, ascends}
+use Rattle.mlk_cert_lexemes.proofs.Formats.{both_back, both_true}
+use Rattle.mlk_cert_parts.specs.Texts.{place_text, case_text, case_line, point_text}
+use Rattle.mlk_cert_parts.specs.Limits.{cases_below, points_below}
+use Rattle.mlk_cert_parts.specs.Checks.{fit_cases, each_fits, fit_points}
 use Rattle.mlk_cert.specs.Blocks.{Listed, point_of, with_case, add_case, grouped}
 
 -- a list that ascends has fronts that ascend

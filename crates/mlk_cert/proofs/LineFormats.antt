@@ -6,13 +6,13 @@ use Rattle.std.proofs.lemmas.Option.{same_Some}
 use Rattle.mlk_text.specs.Reading.{many, many_by}
 use Rattle.mlk_text.specs.Lexemes.{byte_at, digits}
 use Rattle.mlk_text.proofs.Readers.{then_some, pair_parts, with_some}
-use Rattle.mlk_lexemes.specs.Lists.{Each, flat}
-use Rattle.mlk_blocks.specs.Texts.{low_text, drops_text}
-use Rattle.mlk_blocks.specs.Limits.{IsLow}
-use Rattle.mlk_lexemes.specs.Reading.{word_at, number_at}
+use Rattle.mlk_cert_lexemes.specs.Lists.{Each, flat}
+use Rattle.mlk_cert_parts.specs.Texts.{low_text, drops_text}
+use Rattle.mlk_cert_parts.specs.Limits.{IsLow}
+use Rattle.mlk_cert_lexemes.specs.Reading.{word_at, number_at}
 use Rattle.mlk_cert.specs.Blocks.{fit, rest_at, worded_at, low_by, low_at, drops_by, drops_at}
-use Rattle.mlk_lexemes.proofs.Formats.{Format, Anything, byte-is, word-is, word-back}
-use Rattle.mlk_lexemes.proofs.NumberFormats.{number-format, decimal-no-dash}
+use Rattle.mlk_cert_lexemes.proofs.Formats.{Format, Anything, byte-is, word-is, word-back}
+use Rattle.mlk_cert_lexemes.proofs.NumberFormats.{number-format, decimal-no-dash}
 
 pub fit-is : {A : Type 0} (test : A → Bool) (r s : A × List ℕ) → fit test r ≡ Some s → (r ≡ s) × (test s.0 ≡ true)
 fit-is {A} test r s h = elim (cases_Bool (test r.0)) [

@@ -10,16 +10,16 @@ use Rattle.mlk_text.specs.Failures.{FailsOn}
 use Rattle.mlk_text.specs.Reading.{◌>>=◌, put, many}
 use Rattle.mlk_text.specs.Lexemes.{byte_at}
 use Rattle.mlk_text.proofs.Readers.{then_some, many_stops, many_goes, many_fails}
-use Rattle.mlk_blocks.specs.declared.case.ExitCase.{ExitCase}
-use Rattle.mlk_lexemes.specs.Lists.{last_of, ascends, below}
-use Rattle.mlk_blocks.specs.Texts.{exit_text}
-use Rattle.mlk_blocks.specs.Limits.{exits_below}
-use Rattle.mlk_blocks.specs.Checks.{fit_exits}
+use Rattle.mlk_cert_parts.specs.declared.case.ExitCase.{ExitCase}
+use Rattle.mlk_cert_lexemes.specs.Lists.{last_of, ascends, below}
+use Rattle.mlk_cert_parts.specs.Texts.{exit_text}
+use Rattle.mlk_cert_parts.specs.Limits.{exits_below}
+use Rattle.mlk_cert_parts.specs.Checks.{fit_exits}
 use Rattle.mlk_cert.specs.Blocks.{fit, ended, rest_at, after_at, above_last, next_exit_fits}
-use Rattle.mlk_lexemes.proofs.Formats.{both_true, both_back, Format, word-is}
+use Rattle.mlk_cert_lexemes.proofs.Formats.{both_true, both_back, Format, word-is}
 use Rattle.mlk_cert.proofs.Grouping.{ascends-front, short-front}
-use Rattle.mlk_lexemes.specs.Reading.{word_at}
-use Rattle.mlk_lexemes.proofs.Room.{ascends-push, no-longer}
+use Rattle.mlk_cert_lexemes.specs.Reading.{word_at}
+use Rattle.mlk_cert_lexemes.proofs.Room.{ascends-push, no-longer}
 
 pub put-nil : {A : Type 0} (o : Option (List A × List ℕ)) → put [] o ≡ o
 put-nil None = refl

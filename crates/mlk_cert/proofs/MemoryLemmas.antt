@@ -2,10 +2,10 @@
 use Rattle.std.proofs.Common.{◌≡◌, ◌-◌, ℕ, ◌++◌, List, ◌∷◌, length, take, Some, Bool, true, sym, ap, ◌∙◌}
 use Rattle.std.specs.Prelude.{Option}
 use Rattle.mlk_text.specs.Lexemes.{byte_at}
-use Rattle.mlk_lexemes.specs.Reading.{word_at, listed_at}
+use Rattle.mlk_cert_lexemes.specs.Reading.{word_at, listed_at}
 use Rattle.mlk_cert.specs.Memories.{Remembers, Recalls}
-use Rattle.mlk_lexemes.proofs.Formats.{Format, byte-is, word-is}
-use Rattle.mlk_lexemes.proofs.Room.{front-is}
+use Rattle.mlk_cert_lexemes.proofs.Formats.{Format, byte-is, word-is}
+use Rattle.mlk_cert_lexemes.proofs.Room.{front-is}
 
 pub remembered : {A : Type 0} (text : List A → List ℕ) (Is : List A → Type 0) (Stops : List ℕ → Type 0) (reads : List ℕ → Option (A × List ℕ)) (fits : List A → Bool) → Format text Is Stops (listed_at reads)
     → ((n : List ℕ) → Stops (32 ∷ n)) → (list : List A) (xs ys front : List ℕ) → listed_at reads xs ≡ Some (list, ys) → front ≡ take (length xs - length ys) xs → fits list ≡ true → Remembers reads fits list front

@@ -6,18 +6,18 @@ use Rattle.mlk_text.specs.declared.failure.Failure.{Failure}
 use Rattle.mlk_text.specs.declared.failure.Failure.TheVariants.{OutOfMemory, Refused}
 use Rattle.mlk_text.specs.Failures.{FailsOn}
 use Rattle.mlk_text.specs.Reading.{◌>>=◌, with}
-use Rattle.mlk_blocks.specs.declared.case.Case.{Case}
-use Rattle.mlk_blocks.specs.declared.block.Point.{Point}
-use Rattle.mlk_lexemes.specs.Lists.{last_of, ascends}
-use Rattle.mlk_blocks.specs.Texts.{case_text}
-use Rattle.mlk_blocks.specs.Limits.{cases_below, points_below}
-use Rattle.mlk_blocks.specs.Checks.{fit_cases, each_fits, fit_points}
+use Rattle.mlk_cert_parts.specs.declared.case.Case.{Case}
+use Rattle.mlk_cert_parts.specs.declared.block.Point.{Point}
+use Rattle.mlk_cert_lexemes.specs.Lists.{last_of, ascends}
+use Rattle.mlk_cert_parts.specs.Texts.{case_text}
+use Rattle.mlk_cert_parts.specs.Limits.{cases_below, points_below}
+use Rattle.mlk_cert_parts.specs.Checks.{fit_cases, each_fits, fit_points}
 use Rattle.mlk_cert.specs.Blocks.{fit, Listed, point_of, with_case, add_case, grouped, above_last, next_case_fits, last_case_text, place_at, listed_case_at}
-use Rattle.mlk_blocks.specs.Reading.{case_at}
+use Rattle.mlk_cert_parts.specs.Reading.{case_at}
 use Rattle.mlk_text.specs.Lexemes.{byte_at}
-use Rattle.mlk_lexemes.proofs.Formats.{both_true, both_back}
+use Rattle.mlk_cert_lexemes.proofs.Formats.{both_true, both_back}
 use Rattle.mlk_cert.proofs.Grouping.{add-last, grouped-fit}
-use Rattle.mlk_lexemes.proofs.Room.{ascends-push}
+use Rattle.mlk_cert_lexemes.proofs.Room.{ascends-push}
 use Rattle.mlk_cert.proofs.Loops.{ends, last-push, room-same, ascends-next}
 
 -- the lines of points, as a test

@@ -2,18 +2,18 @@
 use Rattle.std.proofs.Common.{◌≡◌, ◌↔◌, ◌++◌, ℕ, List, [], ◌∷◌, Some, None, Bool, false, IsTrue, refl, sym, ap, ◌∙◌, subst, append-nil}
 use Rattle.std.specs.Prelude.{Option, ◌&&◌}
 use Rattle.std.proofs.lemmas.Option.{same_Some}
-use Rattle.mlk_blocks.specs.declared.case.Case.{Case}
-use Rattle.mlk_blocks.specs.declared.block.Point.{Point}
-use Rattle.mlk_blocks.specs.declared.block.EntryCert.{EntryCert}
-use Rattle.mlk_lexemes.specs.Lists.{flat}
-use Rattle.mlk_blocks.specs.Texts.{case_text, point_text, block_text, end_line}
-use Rattle.mlk_blocks.specs.Limits.{IsCase, IsPoint, IsBlock, IsCertificate}
-use Rattle.mlk_blocks.specs.Checks.{fits_case}
-use Rattle.mlk_lexemes.specs.Reading.{word_at}
-use Rattle.mlk_blocks.specs.Reading.{case_at}
+use Rattle.mlk_cert_parts.specs.declared.case.Case.{Case}
+use Rattle.mlk_cert_parts.specs.declared.block.Point.{Point}
+use Rattle.mlk_cert_parts.specs.declared.block.EntryCert.{EntryCert}
+use Rattle.mlk_cert_lexemes.specs.Lists.{flat}
+use Rattle.mlk_cert_parts.specs.Texts.{case_text, point_text, block_text, end_line}
+use Rattle.mlk_cert_parts.specs.Limits.{IsCase, IsPoint, IsBlock, IsCertificate}
+use Rattle.mlk_cert_parts.specs.Checks.{fits_case}
+use Rattle.mlk_cert_lexemes.specs.Reading.{word_at}
+use Rattle.mlk_cert_parts.specs.Reading.{case_at}
 use Rattle.mlk_cert.specs.Blocks.{points_at, body_at}
-use Rattle.mlk_blocks.proofs.CaseFormats.{case-format}
-use Rattle.mlk_lexemes.proofs.Formats.{both_true, both_back}
+use Rattle.mlk_cert_parts.proofs.CaseFormats.{case-format}
+use Rattle.mlk_cert_lexemes.proofs.Formats.{both_true, both_back}
 use Rattle.mlk_cert.proofs.Goods.{case-good, case-has}
 use Rattle.mlk_cert.proofs.BlockFormats.{ArePoints, points-format}
 use Rattle.mlk_cert.proofs.Whole.{body-is, body-back}

@@ -4,12 +4,12 @@ use Rattle.std.specs.Prelude.{Option, ◌==◌, if◌then◌else◌, codes, nat_
 use Rattle.std.proofs.lemmas.Bool.Decides.{nat_tests}
 use Rattle.std.proofs.lemmas.Option.{same_Some}
 use Rattle.mlk_text.proofs.Readers.{then_some, pair_parts}
-use Rattle.mlk_blocks.specs.declared.block.EntryCert.{EntryCert}
-use Rattle.mlk_lexemes.specs.Lists.{flat}
-use Rattle.mlk_blocks.specs.Texts.{head_line, end_line, summary_text, point_text, block_text, certificate_text}
-use Rattle.mlk_blocks.specs.Limits.{IsBlock, IsCertificate, longest}
-use Rattle.mlk_blocks.specs.Checks.{fit_blocks, entries}
-use Rattle.mlk_lexemes.specs.Reading.{word_at}
+use Rattle.mlk_cert_parts.specs.declared.block.EntryCert.{EntryCert}
+use Rattle.mlk_cert_lexemes.specs.Lists.{flat}
+use Rattle.mlk_cert_parts.specs.Texts.{head_line, end_line, summary_text, point_text, block_text, certificate_text}
+use Rattle.mlk_cert_parts.specs.Limits.{IsBlock, IsCertificate, longest}
+use Rattle.mlk_cert_parts.specs.Checks.{fit_blocks, entries}
+use Rattle.mlk_cert_lexemes.specs.Reading.{word_at}
 use Rattle.mlk_cert.specs.Blocks.{fit, worded_at, block_at, blocks_at, finished, body_at}
 use Rattle.mlk_text.specs.Codes.{number_of}
 use Rattle.mlk_text.specs.declared.code.Code.{Code}
@@ -18,7 +18,7 @@ use Rattle.mlk_cert.specs.declared.read.fault.CertFault.{CertFault}
 use Rattle.mlk_cert.specs.Refusals.{lines_in, is_refusal, HasHead, IsRefusal}
 use Rattle.mlk_cert.specs.Faults.{is_later, at_first, IsLater}
 use Rattle.mlk_cert.specs.Theorem.{Spells, OneCertificate, ReadBack}
-use Rattle.mlk_lexemes.proofs.Formats.{word-is, word-back}
+use Rattle.mlk_cert_lexemes.proofs.Formats.{word-is, word-back}
 use Rattle.mlk_cert.proofs.LineFormats.{fit-is, worded-is, worded-back}
 use Rattle.mlk_cert.proofs.Goods.{distinct-good, distinct-back}
 use Rattle.mlk_cert.proofs.BlockFormats.{body_text, EndsBlock, block-format}

@@ -3,17 +3,17 @@ use Rattle.std.specs.Prelude.{ℕ, suc, ◌==◌, ◌&&◌, ◌||◌, not, nat_l
 use Rattle.mlk_text.specs.Reading.{◌>>=◌, with, many}
 use Rattle.mlk_text.specs.Lexemes.{byte_at}
 use Rattle.mlk_names.specs.declared.term.LockTerm.{LockTerm}
-use Rattle.mlk_blocks.specs.declared.case.Case.{Case}
-use Rattle.mlk_blocks.specs.declared.case.ExitCase.{ExitCase}
-use Rattle.mlk_blocks.specs.declared.names.NameSet.{NameSet}
-use Rattle.mlk_blocks.specs.declared.block.Point.{Point}
-use Rattle.mlk_blocks.specs.declared.block.Summary.{Summary}
-use Rattle.mlk_blocks.specs.declared.block.EntryCert.{EntryCert}
-use Rattle.mlk_lexemes.specs.Lists.{last_of, below}
-use Rattle.mlk_blocks.specs.Texts.{end_line, exit_text, case_text}
-use Rattle.mlk_blocks.specs.Checks.{fit_terms, fit_mods, fits_case, fits_exit, fit_exits, fit_points, fit_blocks, fits, has_text}
-use Rattle.mlk_lexemes.specs.Reading.{word_at, number_at, counted_at, listed_at, term_at, part_at, entry_at}
-use Rattle.mlk_blocks.specs.Reading.{names_at, exit_at, case_at}
+use Rattle.mlk_cert_parts.specs.declared.case.Case.{Case}
+use Rattle.mlk_cert_parts.specs.declared.case.ExitCase.{ExitCase}
+use Rattle.mlk_cert_parts.specs.declared.names.NameSet.{NameSet}
+use Rattle.mlk_cert_parts.specs.declared.block.Point.{Point}
+use Rattle.mlk_cert_parts.specs.declared.block.Summary.{Summary}
+use Rattle.mlk_cert_parts.specs.declared.block.EntryCert.{EntryCert}
+use Rattle.mlk_cert_lexemes.specs.Lists.{last_of, below}
+use Rattle.mlk_cert_parts.specs.Texts.{end_line, exit_text, case_text}
+use Rattle.mlk_cert_parts.specs.Checks.{fit_terms, fit_mods, fits_case, fits_exit, fit_exits, fit_points, fit_blocks, fits, has_text}
+use Rattle.mlk_cert_lexemes.specs.Reading.{word_at, number_at, counted_at, listed_at, term_at, part_at, entry_at}
+use Rattle.mlk_cert_parts.specs.Reading.{names_at, exit_at, case_at}
 
 -- what was read, where it passes a test
 abbrev pub fit : {A : Type 0} → (A → Bool) → A × List ℕ → Option (A × List ℕ)

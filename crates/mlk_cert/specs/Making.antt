@@ -4,11 +4,11 @@ use Rattle.std.specs.List.{prefix_len}
 use Rattle.mlk_text.specs.declared.failure.Failure.{Failure}
 use Rattle.mlk_text.specs.declared.failure.Failure.TheVariants.{OutOfMemory, Refused}
 use Rattle.mlk_names.specs.declared.term.LockTerm.{LockTerm}
-use Rattle.mlk_blocks.specs.declared.case.Case.{Case}
-use Rattle.mlk_blocks.specs.declared.block.Point.{Point}
-use Rattle.mlk_lexemes.specs.Lists.{below}
-use Rattle.mlk_lexemes.specs.Texts.{term_text}
-use Rattle.mlk_blocks.specs.Texts.{case_text}
+use Rattle.mlk_cert_parts.specs.declared.case.Case.{Case}
+use Rattle.mlk_cert_parts.specs.declared.block.Point.{Point}
+use Rattle.mlk_cert_lexemes.specs.Lists.{below}
+use Rattle.mlk_cert_lexemes.specs.Texts.{term_text}
+use Rattle.mlk_cert_parts.specs.Texts.{case_text}
 
 -- it is what was given, which is such
 abbrev pub Made : {A : Type 0} → (A → Type 0) → A → A → Type 0

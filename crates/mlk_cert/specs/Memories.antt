@@ -1,6 +1,6 @@
 -- Lists that were read, and are not read again where their texts stand again. For private clauses alone.
 use Rattle.std.specs.Prelude.{ℕ, ◌≡◌, Bool, true, List, ◌∷◌, ◌++◌, Option, Some}
-use Rattle.mlk_lexemes.specs.Reading.{listed_at}
+use Rattle.mlk_cert_lexemes.specs.Reading.{listed_at}
 
 -- before a space, the text is read as this list, which keeps to its limits
 pub record Remembers {A : Type 0} (reads : List ℕ → Option (A × List ℕ)) (fits : List A → Bool) (list : List A) (text : List ℕ) : Type 0 where

@@ -6,8 +6,8 @@ use Rattle.mlk_text.specs.declared.code.Code.TheVariants.{Head, CertLimit, NoEnd
 use Rattle.mlk_text.specs.declared.failure.Failure.{Failure}
 use Rattle.mlk_text.specs.declared.failure.Failure.TheVariants.{OutOfMemory, Refused}
 use Rattle.mlk_cert.specs.declared.read.fault.CertFault.{CertFault}
-use Rattle.mlk_blocks.specs.Texts.{head_line}
-use Rattle.mlk_blocks.specs.Limits.{longest}
+use Rattle.mlk_cert_parts.specs.Texts.{head_line}
+use Rattle.mlk_cert_parts.specs.Limits.{longest}
 
 -- the codes of certificates
 abbrev pub is_refusal : Code → Bool

@@ -2,10 +2,10 @@
 use Rattle.std.specs.Prelude.{ℕ, ◌≡◌, ◌≤◌, List, Result, Ok, Err, length}
 use Rattle.mlk_text.specs.declared.failure.Failure.{Failure}
 use Rattle.mlk_text.specs.declared.failure.Failure.TheVariants.{OutOfMemory, Refused}
-use Rattle.mlk_blocks.specs.declared.block.EntryCert.{EntryCert}
-use Rattle.mlk_blocks.specs.Texts.{certificate_text}
+use Rattle.mlk_cert_parts.specs.declared.block.EntryCert.{EntryCert}
+use Rattle.mlk_cert_parts.specs.Texts.{certificate_text}
 use Rattle.mlk_cert.specs.declared.read.fault.CertFault.{CertFault}
-use Rattle.mlk_blocks.specs.Limits.{IsCertificate, longest}
+use Rattle.mlk_cert_parts.specs.Limits.{IsCertificate, longest}
 
 -- The text is that of these blocks, which are a certificate; it has at most 64 MiB.
 pub record Spells (blocks : List EntryCert) (bytes : List ℕ) : Type 0 where

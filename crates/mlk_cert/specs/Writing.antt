@@ -3,11 +3,11 @@ use Rattle.std.specs.Prelude.{◌<◌, ◌≤◌, ◌≡◌, List, length}
 use Rattle.mlk_text.specs.declared.code.Code.TheVariants.{CertLimit}
 use Rattle.mlk_text.specs.declared.failure.Failure.{Failure}
 use Rattle.mlk_text.specs.declared.failure.Failure.TheVariants.{OutOfMemory, Refused}
-use Rattle.mlk_blocks.specs.declared.block.EntryCert.{EntryCert}
+use Rattle.mlk_cert_parts.specs.declared.block.EntryCert.{EntryCert}
 use Rattle.mlk_cert.specs.declared.write.WriteFault.{WriteFault}
 use Rattle.mlk_cert.specs.declared.write.WriteFault.TheVariants.{TooLong, Io}
-use Rattle.mlk_blocks.specs.Limits.{longest}
-use Rattle.mlk_blocks.specs.Texts.{certificate_text}
+use Rattle.mlk_cert_parts.specs.Limits.{longest}
+use Rattle.mlk_cert_parts.specs.Texts.{certificate_text}
 use Rattle.mlk_cert.specs.Theorem.{Spells}
 use Rattle.mlk_cert.specs.Refusals.{IsRefusal}
 use Rattle.mlk_cert.specs.declared.read.fault.CertFault.{CertFault}

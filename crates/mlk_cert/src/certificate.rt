@@ -1,9 +1,9 @@
 // Certificates.
 
 ghost use Rattle.std.specs.Prelude.{◌≡◌};
-ghost use Rattle.mlk_blocks.specs.Limits.{IsCertificate};
+ghost use Rattle.mlk_cert_parts.specs.Limits.{IsCertificate};
 
-use mlk_blocks::EntryCert;
+use mlk_cert_parts::EntryCert;
 use mlk_text::List;
 use std::marker::Model;
 
@@ -16,11 +16,11 @@ pub struct Certificate {
 
 impl Model for Certificate {
     ghost use Rattle.std.specs.Prelude.{List as Elements};
-    ghost use Rattle.mlk_blocks.specs.declared.block.EntryCert.{EntryCert};
+    ghost use Rattle.mlk_cert_parts.specs.declared.block.EntryCert.{EntryCert};
 
     ghost Value = { Elements EntryCert };
 
-    ghost use Rattle.mlk_blocks.specs.Limits.{IsCertificate};
+    ghost use Rattle.mlk_cert_parts.specs.Limits.{IsCertificate};
 
     ghost view = { λ c. c.blocks };
 

@@ -2,8 +2,8 @@
 // from their texts.
 
 ghost use Rattle.std.specs.Prelude.{◌≡◌, ◌↔◌, ◌≤◌, IsTrue, IfOk, IfErr, length};
-ghost use Rattle.mlk_blocks.specs.Limits.{IsCase, IsPoint, IsBlock, IsCertificate};
-ghost use Rattle.mlk_blocks.specs.Texts.{case_text};
+ghost use Rattle.mlk_cert_parts.specs.Limits.{IsCase, IsPoint, IsBlock, IsCertificate};
+ghost use Rattle.mlk_cert_parts.specs.Texts.{case_text};
 ghost use Rattle.mlk_cert.specs.Making.{Made, GivesBack, before, with_more};
 
 use crate::certificate::Certificate;
@@ -11,8 +11,8 @@ use crate::read::case::case;
 use crate::read::memory::Memories;
 use crate::read::points::points;
 use crate::read::whole::body;
-use mlk_blocks::{Case, EntryCert, Point, push_case, same};
-use mlk_lexemes::{Text, both, is_below, push_flat};
+use mlk_cert_lexemes::{Text, both, is_below, push_flat};
+use mlk_cert_parts::{Case, EntryCert, Point, push_case, same};
 use mlk_text::{Failure, List};
 use std::alloc::{AllocError, Global};
 use std::slice;

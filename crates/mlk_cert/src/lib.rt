@@ -12,7 +12,7 @@ mod write;
 pub use certificate::Certificate;
 pub use checked::{block_of, case_of, certificate_of, point_of, with_case};
 pub use law::{one_certificate, read_back};
-pub use mlk_blocks::{
+pub use mlk_cert_parts::{
     Case, EntryCert, ExitCase, NameSet, Own, Point, Shared, Summary, Test, included, limit,
 };
 pub use order::place_of_term;

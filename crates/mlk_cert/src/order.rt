@@ -1,10 +1,10 @@
 // The order of terms in a list.
 
 ghost use Rattle.std.specs.Prelude.{◌≡◌, ◌≤◌, IfOk, length};
-ghost use Rattle.mlk_lexemes.specs.Texts.{term_text};
+ghost use Rattle.mlk_cert_lexemes.specs.Texts.{term_text};
 ghost use Rattle.mlk_cert.specs.Making.{terms_before};
 
-use mlk_lexemes::{Text, Written, is_below};
+use mlk_cert_lexemes::{Text, Written, is_below};
 use mlk_names::LockTerm;
 use std::alloc::{AllocError, Global};
 

@@ -1,14 +1,14 @@
 // Certificates with their texts.
 
 ghost use Rattle.std.specs.Prelude.{◌≡◌, IfOk, IfErr};
-ghost use Rattle.mlk_blocks.specs.Texts.{certificate_text};
+ghost use Rattle.mlk_cert_parts.specs.Texts.{certificate_text};
 ghost use Rattle.mlk_cert.specs.Theorem.{Spells};
 ghost use Rattle.mlk_cert.specs.Writing.{IsUnspelled};
 
 use crate::certificate::Certificate;
 use crate::read::{CertFault, read_cert};
 use crate::write::certificate_text;
-use mlk_blocks::EntryCert;
+use mlk_cert_parts::EntryCert;
 use mlk_text::Failure;
 use std::alloc::Global;
 

@@ -2,16 +2,16 @@
 
 ghost use Rattle.std.specs.Prelude.{◌≡◌, ◌++◌, ◌≤◌, OnOk, IfOk, IfErr, length};
 ghost use Rattle.std.specs.Io.KnownBytes.{Appends};
-ghost use Rattle.mlk_blocks.specs.Limits.{longest};
-ghost use Rattle.mlk_blocks.specs.Texts.{certificate_text};
+ghost use Rattle.mlk_cert_parts.specs.Limits.{longest};
+ghost use Rattle.mlk_cert_parts.specs.Texts.{certificate_text};
 ghost use Rattle.mlk_cert.specs.Writing.{IsUnwritten};
 
 use crate::certificate::Certificate;
 use crate::read::CertFault;
 use crate::read::whole::at_first;
-use mlk_blocks::EntryCert;
-use mlk_blocks::limit::LONGEST_TEXT;
-use mlk_lexemes::{Text, push_flat};
+use mlk_cert_lexemes::{Text, push_flat};
+use mlk_cert_parts::EntryCert;
+use mlk_cert_parts::limit::LONGEST_TEXT;
 use mlk_text::{Code, Failure};
 use std::alloc::{AllocError, Global};
 use std::io;

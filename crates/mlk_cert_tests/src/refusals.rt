@@ -1,4 +1,4 @@
-// The longest text of a certificate; what is refused for another cause stands in the rows of `mlk_reader_rows`.
+// The longest text of a certificate; what is refused for another cause stands in the rows of `mlk_reader_cases`.
 
 use mlk_cert::{CertFault, read_cert};
 use mlk_text::Failure;

@@ -6,13 +6,13 @@ use Rattle.mlk_text.specs.Reading.{many, Many}
 use Rattle.mlk_text.specs.Lexemes.{byte_at, name_at, label_at}
 use Rattle.mlk_text.proofs.Lexemes.{byte-is, byte-takes, name-after}
 use Rattle.mlk_text.proofs.Readers.{then_some, pair_parts, with_some, After, after-self, after-one, after_then, Exact, many_sound, many_after, many_complete}
-use Rattle.mlk_tree.specs.ExprTrees.{Tree, ActualTree, Given, ByRef, Missing}
-use Rattle.mlk_tree.specs.declared.expr.Callee.{Callee}
-use Rattle.mlk_tree.specs.declared.expr.Function.{Function}
+use Rattle.mlk_syntax.specs.ExprTrees.{Tree, ActualTree, Given, ByRef, Missing}
+use Rattle.mlk_syntax.specs.declared.expr.Callee.{Callee}
+use Rattle.mlk_syntax.specs.declared.expr.Function.{Function}
 use Rattle.mlk_expr.specs.declared.scope.Allows.TheVariants.{NoTouches}
 use Rattle.mlk_expr.specs.declared.scope.Passing.TheVariants.{ByReference}
 use Rattle.mlk_expr.specs.Touches.{may_stand}
-use Rattle.mlk_tokens.specs.Lexemes.{column_of, lent_at, is_missing, starts_reference}
+use Rattle.mlk_expr_tokens.specs.Lexemes.{column_of, lent_at, is_missing, starts_reference}
 use Rattle.mlk_expr.specs.Grammar.{has_subscript, asks_subscript}
 use Rattle.mlk_expr.proofs.Followed.{Quiet, Next, IsList, IsActual, IsActuals, IsArguments, IsChoice, IsCallee}
 use Rattle.mlk_expr.specs.Reading.{quietly, next, list_with, actual_by, actual_with, actuals_by, actuals_with, label_alone, label_in, routine_alone, routine_by, callee_by, callee_at, choice_with, others_by, name_and, arguments_by}

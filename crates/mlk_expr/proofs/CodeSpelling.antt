@@ -3,7 +3,7 @@ use Rattle.std.proofs.Common.{◌≡◌, ℕ, ◌++◌, List, [], ◌∷◌, Som
 use Rattle.std.proofs.lemmas.Bool.{cases_Bool, not_from_false}
 use Rattle.std.proofs.lemmas.Bool.Decides.{nat_tests}
 use Rattle.mlk_text.specs.Lexemes.{is_letter}
-use Rattle.mlk_tokens.specs.Lexemes.{is_pattern_code, pattern_codes, pattern_codes_at}
+use Rattle.mlk_expr_tokens.specs.Lexemes.{is_pattern_code, pattern_codes, pattern_codes_at}
 use Rattle.mlk_expr.specs.Spellings.{IsCodes}
 use Rattle.mlk_text.proofs.Runs.{stops, run-length, run-is, cut-reads, cut-spelled}
 use Rattle.mlk_expr.proofs.Runs.{after_word}

@@ -3,15 +3,15 @@ use Rattle.std.proofs.Common.{◌≡◌, ℕ, suc, List, [], ◌∷◌, length, 
 use Rattle.mlk_text.specs.declared.operator.Op.TheVariants.{Add, Multiply, Is, IsNot}
 use Rattle.mlk_text.specs.declared.operator.Relation.TheVariants.{SortsAfter, Matches}
 use Rattle.mlk_text.specs.declared.operator.UnaryOp.TheVariants.{Minus}
-use Rattle.mlk_values.specs.Canonical.{canonical_text}
+use Rattle.mlk_numbers.specs.Canonical.{canonical_text}
 use Rattle.mlk_text.specs.Reading.{many}
 use Rattle.mlk_text.proofs.Readers.{pair_parts}
 use Rattle.mlk_text.specs.Lexemes.{name_at, digits_at, inside, label_at}
-use Rattle.mlk_tree.specs.declared.expr.Special.TheVariants.{Test}
-use Rattle.mlk_tree.specs.declared.expr.Function.TheVariants.{Get, Order}
-use Rattle.mlk_tree.specs.ExprTrees.{Tree, Lit, Free, LocalName, GlobalName, SpecialName, Prefixed, Chain, PatternText, Func, Selected, BareCall, CallOf, no_links, link, no_subs, sub, no_trees, tree, no_choices, choice, no_actuals, actual, Given, ByRef, Missing}
-use Rattle.mlk_tokens.specs.Words.{special_of, special_to_principal, special_from_quit, function_of, function_to_fnumber, function_to_piece, function_from_qlength, is_select}
-use Rattle.mlk_tokens.specs.Lexemes.{relation_of, relation_at, arithmetic_of, arithmetic_at, op_at, unary_of, kind_of, mantissa_len, numeral_at, count_at, pattern_codes_at, lent_at, ends}
+use Rattle.mlk_syntax.specs.declared.expr.Special.TheVariants.{Test}
+use Rattle.mlk_syntax.specs.declared.expr.Function.TheVariants.{Get, Order}
+use Rattle.mlk_syntax.specs.ExprTrees.{Tree, Lit, Free, LocalName, GlobalName, SpecialName, Prefixed, Chain, PatternText, Func, Selected, BareCall, CallOf, no_links, link, no_subs, sub, no_trees, tree, no_choices, choice, no_actuals, actual, Given, ByRef, Missing}
+use Rattle.mlk_expr_tokens.specs.Words.{special_of, special_to_principal, special_from_quit, function_of, function_to_fnumber, function_to_piece, function_from_qlength, is_select}
+use Rattle.mlk_expr_tokens.specs.Lexemes.{relation_of, relation_at, arithmetic_of, arithmetic_at, op_at, unary_of, kind_of, mantissa_len, numeral_at, count_at, pattern_codes_at, lent_at, ends}
 use Rattle.mlk_expr.specs.Grammar.{IsExpr, IsReference}
 use Rattle.mlk_expr.proofs.Followed as followed
 use Rattle.mlk_expr.specs.Reading.{list_with, pattern_at, chain_with, subs_with, actual_with, actuals_with, callee_at, call_with, arguments_with, function_with, dollar_with, atom_at, reference_at}

@@ -4,15 +4,15 @@
 use Rattle.std.specs.Prelude.{ℕ, zero, suc, ◌≡◌, ◌<◌, ◌≤◌, ◌⊎◌, Bool, true, false, List, [], ◌∷◌, ◌++◌, length, Option, Some, None}
 use Rattle.mlk_text.specs.Reading.{Many}
 use Rattle.mlk_text.specs.Lexemes.{byte_at, name_at, IsQuoted, label_at, word_at}
-use Rattle.mlk_values.specs.Numbers.{IsCanonical}
+use Rattle.mlk_numbers.specs.Numbers.{IsCanonical}
 use Rattle.mlk_text.specs.declared.operator.Op.{Op}
-use Rattle.mlk_tree.specs.declared.expr.Function.{Function}
-use Rattle.mlk_tree.specs.ExprTrees.{Tree, Lit, Free, LocalName, GlobalName, SpecialName, Prefixed, Chain, PatternText, Func, Selected, BareCall, CallOf, ActualTree, Given, ByRef, Missing, trees_from, subs_from, choices_from, actuals_from}
+use Rattle.mlk_syntax.specs.declared.expr.Function.{Function}
+use Rattle.mlk_syntax.specs.ExprTrees.{Tree, Lit, Free, LocalName, GlobalName, SpecialName, Prefixed, Chain, PatternText, Func, Selected, BareCall, CallOf, ActualTree, Given, ByRef, Missing, trees_from, subs_from, choices_from, actuals_from}
 use Rattle.mlk_expr.specs.declared.scope.Allows.TheVariants.{NoTouches}
 use Rattle.mlk_expr.specs.Touches.{may_stand}
 use Rattle.mlk_expr.specs.Grammar.{chained, named, has_subscript, asks_subscript}
-use Rattle.mlk_tokens.specs.Words.{special_of, function_of, is_select}
-use Rattle.mlk_tokens.specs.Lexemes.{column_of, op_at, is_match, unary_of, numeral_at, count_at, pattern_codes_at, lent_at, starts_reference, is_missing, ends}
+use Rattle.mlk_expr_tokens.specs.Words.{special_of, function_of, is_select}
+use Rattle.mlk_expr_tokens.specs.Lexemes.{column_of, op_at, is_match, unary_of, numeral_at, count_at, pattern_codes_at, lent_at, starts_reference, is_missing, ends}
 
 -- after a comma
 abbrev pub Next : {A : Type 0} → (A → List ℕ → List ℕ → Type 0) → ℕ → A → List ℕ → List ℕ → Type 0

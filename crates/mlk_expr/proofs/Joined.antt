@@ -7,8 +7,8 @@ use Rattle.mlk_text.specs.declared.operator.UnaryOp.{UnaryOp}
 use Rattle.mlk_text.specs.declared.operator.UnaryOp.TheVariants as unary
 use Rattle.mlk_text.specs.Lexemes.{is_digit, is_letter, byte_at, are_digits}
 use Rattle.mlk_text.proofs.Readers.{Exact, one_reading}
-use Rattle.mlk_tree.specs.ExprTrees.{Tree, Lit, Free, LocalName, GlobalName, SpecialName, Prefixed, Chain, PatternText, Func, Selected, BareCall, CallOf, subs_from}
-use Rattle.mlk_tokens.specs.Lexemes.{numeral_at, starts_reference, ends}
+use Rattle.mlk_syntax.specs.ExprTrees.{Tree, Lit, Free, LocalName, GlobalName, SpecialName, Prefixed, Chain, PatternText, Func, Selected, BareCall, CallOf, subs_from}
+use Rattle.mlk_expr_tokens.specs.Lexemes.{numeral_at, starts_reference, ends}
 use Rattle.mlk_expr.specs.Spellings.{IsNumber, unary_text}
 use Rattle.mlk_expr.specs.Grammar.{IsChain, IsPlain, IsOperand, IsPattern, IsAtom, IsExpr, IsReference, IsActualList}
 use Rattle.mlk_expr.specs.Theorem.{ExprEnds, goes_on, ReferenceEnds, ListEnds, One}

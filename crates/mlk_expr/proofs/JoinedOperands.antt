@@ -6,9 +6,9 @@ use Rattle.std.proofs.lemmas.Bool.Decides.{nat_tests}
 use Rattle.mlk_text.specs.declared.operator.UnaryOp.{UnaryOp}
 use Rattle.mlk_text.specs.declared.operator.UnaryOp.TheVariants as unary
 use Rattle.mlk_text.specs.Lexemes.{is_digit, is_letter, byte_at, name_at, doubled, are_digits}
-use Rattle.mlk_values.specs.Numbers.{IsNumeral, IsCanonical}
-use Rattle.mlk_tree.specs.ExprTrees.{Tree, Lit, Free, LocalName, GlobalName, SpecialName, Prefixed, Chain, PatternText, Func, Selected, BareCall, CallOf}
-use Rattle.mlk_tokens.specs.Lexemes.{ends}
+use Rattle.mlk_numbers.specs.Numbers.{IsNumeral, IsCanonical}
+use Rattle.mlk_syntax.specs.ExprTrees.{Tree, Lit, Free, LocalName, GlobalName, SpecialName, Prefixed, Chain, PatternText, Func, Selected, BareCall, CallOf}
+use Rattle.mlk_expr_tokens.specs.Lexemes.{ends}
 use Rattle.mlk_text.specs.Spellings.{IsName}
 use Rattle.mlk_expr.specs.Spellings.{IsNumber, unary_text}
 use Rattle.mlk_expr.specs.Grammar.{IsSubs, IsChoice, IsChain, IsPlain, IsOperand, IsPattern, IsAtom, named}

@@ -7,8 +7,8 @@ use Rattle.mlk_text.specs.declared.operator.Op.{Op}
 use Rattle.mlk_text.specs.Lexemes.{is_digit, is_letter, byte_at, doubled}
 use Rattle.mlk_text.specs.Reading.{Many}
 use Rattle.mlk_text.proofs.Lexemes.{byte-is}
-use Rattle.mlk_tree.specs.ExprTrees.{Tree}
-use Rattle.mlk_tokens.specs.Lexemes.{relation_of, relation_at, arithmetic_of, arithmetic_at, op_at, is_match, is_missing, ends}
+use Rattle.mlk_syntax.specs.ExprTrees.{Tree}
+use Rattle.mlk_expr_tokens.specs.Lexemes.{relation_of, relation_at, arithmetic_of, arithmetic_at, op_at, is_match, is_missing, ends}
 use Rattle.mlk_expr.specs.Spellings.{op_text}
 use Rattle.mlk_expr.specs.Grammar.{AreNext, IsList, IsRight, AreLinks, IsChain}
 use Rattle.mlk_expr.proofs.Followed as followed

@@ -8,7 +8,7 @@ use Rattle.std.proofs.lemmas.Bool.{and_parts}
 use Rattle.std.proofs.lemmas.Bool.Decides.{nat_tests}
 use Rattle.mlk_text.specs.Reading.{Many}
 use Rattle.mlk_text.specs.Lexemes.{is_digit, is_letter, byte_at, doubled, are_digits}
-use Rattle.mlk_tokens.specs.Lexemes.{count_at, is_pattern_code, is_missing}
+use Rattle.mlk_expr_tokens.specs.Lexemes.{count_at, is_pattern_code, is_missing}
 use Rattle.mlk_expr.specs.Spellings.{IsCount}
 use Rattle.mlk_expr.specs.Grammar.{IsMatcher, AreAtoms, IsPattern}
 use Rattle.mlk_expr.proofs.Followed as followed

@@ -6,19 +6,19 @@ use Rattle.std.proofs.lemmas.Bool.{cases_Bool}
 use Rattle.mlk_text.specs.declared.operator.Op.{Op}
 use Rattle.mlk_text.specs.Reading.{◌>>=◌, with, put, many_by, many}
 use Rattle.mlk_text.specs.Lexemes.{byte_at, name_at, inside, word_at}
-use Rattle.mlk_tree.specs.declared.expr.Callee.{Callee}
-use Rattle.mlk_tree.specs.declared.expr.Function.{Function}
-use Rattle.mlk_tree.specs.declared.expr.Special.{Special}
-use Rattle.mlk_tokens.specs.declared.lexeme.Kind.{Kind}
-use Rattle.mlk_tokens.specs.declared.lexeme.Kind.TheVariants as kind
+use Rattle.mlk_syntax.specs.declared.expr.Callee.{Callee}
+use Rattle.mlk_syntax.specs.declared.expr.Function.{Function}
+use Rattle.mlk_syntax.specs.declared.expr.Special.{Special}
+use Rattle.mlk_expr_tokens.specs.declared.lexeme.Kind.{Kind}
+use Rattle.mlk_expr_tokens.specs.declared.lexeme.Kind.TheVariants as kind
 use Rattle.mlk_expr.specs.declared.scope.Allows.{Allows}
 use Rattle.mlk_expr.specs.declared.scope.Allows.TheVariants.{Everything}
 use Rattle.mlk_expr.specs.declared.scope.Passing.{Passing}
 use Rattle.mlk_expr.specs.declared.scope.Passing.TheVariants.{ByReference, ByValue}
-use Rattle.mlk_tree.specs.ExprTrees.{Tree, Lit, LocalName, GlobalName, Prefixed, PatternText, Func, Selected, CallOf, ActualTree, Given, ByRef, Missing, trees_from, subs_from, links_from, choices_from, actuals_from}
+use Rattle.mlk_syntax.specs.ExprTrees.{Tree, Lit, LocalName, GlobalName, Prefixed, PatternText, Func, Selected, CallOf, ActualTree, Given, ByRef, Missing, trees_from, subs_from, links_from, choices_from, actuals_from}
 use Rattle.mlk_expr.specs.Touches.{globals_may, calls_may, may_stand, trees_may, subs_may, links_may, choices_may, actual_may, actuals_may, passes, given_stand}
-use Rattle.mlk_tokens.specs.Words.{special_of, function_of, is_select}
-use Rattle.mlk_tokens.specs.Lexemes.{column_of, kind_of, op_at, is_match, numeral_at, lent_at, starts_reference, is_missing}
+use Rattle.mlk_expr_tokens.specs.Words.{special_of, function_of, is_select}
+use Rattle.mlk_expr_tokens.specs.Lexemes.{column_of, kind_of, op_at, is_match, numeral_at, lent_at, starts_reference, is_missing}
 use Rattle.mlk_expr.specs.Grammar.{chained, named, has_subscript, asks_subscript}
 use Rattle.mlk_expr.specs.Reading.{kept, where_may, number_by, number_of, next, list_with, at_most, right_by, linked, chain_with, placed, subs_by, subs_with, actual_by, actual_with, actuals_by, actuals_with, callee_at, call_by, call_with, choice_with, others_by, name_and, arguments_by, arguments_with, function_with, special_by, word_by, dollar_by, dollar_with, local_with, global_with, enclosed_with, atom_by, operand_with}
 

@@ -13,11 +13,11 @@ use Rattle.mlk_text.specs.Reading.{with}
 use Rattle.mlk_text.specs.Lexemes.{is_digit, is_letter, digits, byte_at, name_at, digits_at, label_at, letters, or_else, word_at}
 use Rattle.mlk_text.proofs.Lexemes.{byte-is, name-after, digits-after}
 use Rattle.mlk_text.proofs.Readers.{pair_parts, with_some, After, after-one, after_then, Takes}
-use Rattle.mlk_tree.specs.declared.expr.Function.{Function}
-use Rattle.mlk_tokens.specs.declared.lexeme.Kind.{Kind}
-use Rattle.mlk_tokens.specs.declared.lexeme.Kind.TheVariants as kind
-use Rattle.mlk_tokens.specs.Words.{special_of, special_to_principal, special_from_quit, function_of, function_to_fnumber, function_to_piece, function_from_qlength, is_select, is_either}
-use Rattle.mlk_tokens.specs.Lexemes.{one_byte, twice_or, relation_of, relation_at, arithmetic_of, arithmetic_at, op_by, op_at, unary_of, kind_by, kind_of, mantissa_len, exponent_len, lacks_exponent, numeral_at, count_len, count_at, pattern_codes, pattern_codes_at, lent_by, lent_at, starts_reference}
+use Rattle.mlk_syntax.specs.declared.expr.Function.{Function}
+use Rattle.mlk_expr_tokens.specs.declared.lexeme.Kind.{Kind}
+use Rattle.mlk_expr_tokens.specs.declared.lexeme.Kind.TheVariants as kind
+use Rattle.mlk_expr_tokens.specs.Words.{special_of, special_to_principal, special_from_quit, function_of, function_to_fnumber, function_to_piece, function_from_qlength, is_select, is_either}
+use Rattle.mlk_expr_tokens.specs.Lexemes.{one_byte, twice_or, relation_of, relation_at, arithmetic_of, arithmetic_at, op_by, op_at, unary_of, kind_by, kind_of, mantissa_len, exponent_len, lacks_exponent, numeral_at, count_len, count_at, pattern_codes, pattern_codes_at, lent_by, lent_at, starts_reference}
 
 -- one byte and what is after it
 abbrev Shorter : List ℕ → List ℕ → Type 0

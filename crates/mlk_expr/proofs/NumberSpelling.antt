@@ -5,9 +5,9 @@ use Rattle.std.proofs.lemmas.Bool.{cases_Bool, eqb-true, eqb-false, and_parts, o
 use Rattle.std.proofs.Math.Seq.{drop-append_seam}
 use Rattle.std.proofs.lemmas.Bool.Decides.{nat_tests}
 use Rattle.mlk_text.specs.Lexemes.{is_digit, digits, byte_at, are_digits}
-use Rattle.mlk_values.specs.Numbers.{IsNumeral}
+use Rattle.mlk_numbers.specs.Numbers.{IsNumeral}
 use Rattle.mlk_text.proofs.Lexemes.{byte-is}
-use Rattle.mlk_tokens.specs.Lexemes.{point_len, signed_len, exponent_len, lacks_exponent, mantissa_len, numeral_at, count_len, count_at}
+use Rattle.mlk_expr_tokens.specs.Lexemes.{point_len, signed_len, exponent_len, lacks_exponent, mantissa_len, numeral_at, count_len, count_at}
 use Rattle.mlk_expr.specs.Spellings.{IsSign, IsExponent, IsNumber, IsCount}
 use Rattle.mlk_text.proofs.Runs.{stops, parted, cut-reads, cut-spelled}
 use Rattle.mlk_expr.proofs.Runs.{digits-length, digits-are, after_count, tame, tame-count, count-digits}

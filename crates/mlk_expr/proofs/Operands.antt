@@ -3,22 +3,22 @@ use Rattle.std.proofs.Common.{◌≡◌, ℕ, zero, suc, List, [], ◌∷◌, So
 use Rattle.std.specs.Prelude.{Option}
 use Rattle.std.proofs.lemmas.Bool.{cases_Bool}
 use Rattle.mlk_text.specs.Lexemes.{byte_at, name_at, inside, IsQuoted, word_at}
-use Rattle.mlk_values.specs.Canonical.{canonical_text}
+use Rattle.mlk_numbers.specs.Canonical.{canonical_text}
 use Rattle.mlk_text.proofs.Lexemes.{byte-is, name-after, quoted-sound, quoted-complete, quoted-after}
 use Rattle.mlk_text.proofs.Readers.{then_some, pair_parts, with_some, After, after-one, after_then, Exact}
-use Rattle.mlk_tree.specs.declared.expr.Callee.{Callee}
-use Rattle.mlk_tree.specs.declared.expr.Special.{Special}
-use Rattle.mlk_tokens.specs.declared.lexeme.Kind.{Kind}
-use Rattle.mlk_tokens.specs.declared.lexeme.Kind.TheVariants as kind
-use Rattle.mlk_tree.specs.ExprTrees.{Tree, Lit, Free, LocalName, GlobalName, SpecialName, Prefixed, Chain, PatternText, Func, Selected, BareCall, CallOf}
+use Rattle.mlk_syntax.specs.declared.expr.Callee.{Callee}
+use Rattle.mlk_syntax.specs.declared.expr.Special.{Special}
+use Rattle.mlk_expr_tokens.specs.declared.lexeme.Kind.{Kind}
+use Rattle.mlk_expr_tokens.specs.declared.lexeme.Kind.TheVariants as kind
+use Rattle.mlk_syntax.specs.ExprTrees.{Tree, Lit, Free, LocalName, GlobalName, SpecialName, Prefixed, Chain, PatternText, Func, Selected, BareCall, CallOf}
 use Rattle.mlk_expr.specs.declared.scope.Allows.TheVariants.{Everything}
 use Rattle.mlk_expr.specs.declared.scope.Passing.TheVariants.{ByReference}
-use Rattle.mlk_tokens.specs.Words.{special_of, function_of, is_select}
-use Rattle.mlk_tokens.specs.Lexemes.{column_of, kind_of, numeral_at}
+use Rattle.mlk_expr_tokens.specs.Words.{special_of, function_of, is_select}
+use Rattle.mlk_expr_tokens.specs.Lexemes.{column_of, kind_of, numeral_at}
 use Rattle.mlk_expr.specs.Grammar.{named}
 use Rattle.mlk_expr.proofs.Followed.{IsPattern, IsChain, IsPlain, IsOperand, IsAtom, IsChoice}
 use Rattle.mlk_expr.specs.Reading.{quietly, number_by, number_of, pattern_at, chain_with, subs_with, actuals_with, callee_at, call_by, call_with, arguments_by, arguments_with, choice_with, list_with, function_with, special_by, word_by, dollar_by, dollar_with, atom_by, operand_with, atom_at}
-use Rattle.mlk_values.proofs.CanonicalReading.{canonical-sound, canonical-complete, canonical-none}
+use Rattle.mlk_numbers.proofs.CanonicalReading.{canonical-sound, canonical-complete, canonical-none}
 use Rattle.mlk_expr.proofs.LexemeLemmas.{numeral-after, word-after, kind-open, kind-quote, kind-caret, kind-dollar, prefix-is, prefix-from, is-open, is-quote, is-caret, is-dollar, name-first, numeral-first, word-none, no-special, no-function, no-select, function-no-select}
 use Rattle.mlk_expr.proofs.Parts.{list-exact, chain-exact, subs-exact, pattern-exact}
 use Rattle.mlk_expr.proofs.Arguments.{CalleeIs, actuals-exact, callee-exact, choice-exact, arguments-exact}

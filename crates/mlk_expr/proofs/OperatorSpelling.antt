@@ -14,7 +14,7 @@ use Rattle.mlk_text.specs.Reading.{with}
 use Rattle.mlk_text.specs.Lexemes.{byte_at, or_else}
 use Rattle.mlk_text.proofs.Lexemes.{byte-is}
 use Rattle.mlk_text.proofs.Readers.{pair_parts, with_some}
-use Rattle.mlk_tokens.specs.Lexemes.{one_byte, twice_or, relation_of, relation_at, arithmetic_of, arithmetic_at, op_by, op_at, unary_of}
+use Rattle.mlk_expr_tokens.specs.Lexemes.{one_byte, twice_or, relation_of, relation_at, arithmetic_of, arithmetic_at, op_by, op_at, unary_of}
 use Rattle.mlk_expr.specs.Spellings.{relation_text, op_text, unary_text}
 use Rattle.mlk_expr.proofs.Runs.{tame, starts}
 

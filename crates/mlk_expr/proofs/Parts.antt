@@ -8,8 +8,8 @@ use Rattle.mlk_text.specs.Reading.{◌>>=◌, with, many, Many}
 use Rattle.mlk_text.specs.Lexemes.{byte_at, inside, IsQuoted}
 use Rattle.mlk_text.proofs.Lexemes.{byte-is, byte-takes, quoted-sound, quoted-complete, quoted-after}
 use Rattle.mlk_text.proofs.Readers.{then_some, pair_parts, with_some, After, after-self, after-one, after_then, Exact, many_sound, many_after, many_complete}
-use Rattle.mlk_tree.specs.ExprTrees.{Tree, PatternText}
-use Rattle.mlk_tokens.specs.Lexemes.{op_at, is_match, count_at, pattern_codes_at}
+use Rattle.mlk_syntax.specs.ExprTrees.{Tree, PatternText}
+use Rattle.mlk_expr_tokens.specs.Lexemes.{op_at, is_match, count_at, pattern_codes_at}
 use Rattle.mlk_expr.specs.Grammar.{chained}
 use Rattle.mlk_expr.proofs.Followed.{Next, IsList, IsMatcher, IsPattern, IsRight, IsLink, IsChain, IsPlaced, IsSubs}
 use Rattle.mlk_expr.specs.Reading.{kept, next, list_with, matcher_by, some_atoms, pattern_at, right_by, linked, chain_with, at_most, placed, subs_by, subs_with}

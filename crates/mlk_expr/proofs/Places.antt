@@ -8,7 +8,7 @@ use Rattle.mlk_text.specs.declared.failure.Failure.{Failure}
 use Rattle.mlk_expr.specs.declared.refusal.Offence.{Offence}
 use Rattle.mlk_text.specs.declared.failure.Failure.TheVariants.{OutOfMemory, Refused}
 use Rattle.mlk_text.specs.declared.fault.Fault.{Fault}
-use Rattle.mlk_tokens.specs.Lexemes.{ends}
+use Rattle.mlk_expr_tokens.specs.Lexemes.{ends}
 use Rattle.mlk_expr.proofs.Followed.{IsExpr}
 use Rattle.mlk_expr.specs.Reading.{chain_with, atom_at, pattern_at, ended, expr_at}
 use Rattle.mlk_text.specs.Failures.{FailsOn, IsLike}

@@ -9,15 +9,15 @@ use Rattle.mlk_text.specs.Lexemes.{is_digit, is_letter, byte_at, name_at}
 use Rattle.mlk_text.specs.declared.operator.Op.{Op}
 use Rattle.mlk_text.proofs.Lexemes.{byte-takes}
 use Rattle.mlk_text.proofs.Readers.{pair_parts, with_some, after_length, Exact}
-use Rattle.mlk_tokens.specs.declared.lexeme.Kind.TheVariants as kind
+use Rattle.mlk_expr_tokens.specs.declared.lexeme.Kind.TheVariants as kind
 use Rattle.mlk_expr.specs.declared.scope.Allows.{Allows}
 use Rattle.mlk_expr.specs.declared.scope.Allows.TheVariants.{Everything, NoTouches}
 use Rattle.mlk_expr.specs.declared.scope.Scope.{Scope}
 use Rattle.mlk_expr.specs.declared.scope.Passing.{Passing}
 use Rattle.mlk_expr.specs.declared.scope.Passing.TheVariants.{ByReference, ByValue}
-use Rattle.mlk_tree.specs.ExprTrees.{Tree, Lit, Free, LocalName, GlobalName, SpecialName, Prefixed, Chain, PatternText, Func, Selected, BareCall, CallOf, Trees, no_trees, tree, Subs, no_subs, sub, Links, no_links, link, Choices, no_choices, choice, ActualTree, Given, ByRef, Missing, Actuals, no_actuals, actual, subs_from}
+use Rattle.mlk_syntax.specs.ExprTrees.{Tree, Lit, Free, LocalName, GlobalName, SpecialName, Prefixed, Chain, PatternText, Func, Selected, BareCall, CallOf, Trees, no_trees, tree, Subs, no_subs, sub, Links, no_links, link, Choices, no_choices, choice, ActualTree, Given, ByRef, Missing, Actuals, no_actuals, actual, subs_from}
 use Rattle.mlk_expr.specs.Touches.{Standing, may_stand, trees_may, subs_may, links_may, choices_may, actual_may, actuals_may, subs_stand, given_stand}
-use Rattle.mlk_tokens.specs.Lexemes.{column_of, kind_of, op_at, is_match, lent_at, is_missing, starts_reference, ends}
+use Rattle.mlk_expr_tokens.specs.Lexemes.{column_of, kind_of, op_at, is_match, lent_at, is_missing, starts_reference, ends}
 use Rattle.mlk_expr.specs.Reading.{kept, quietly, chain_with, subs_with, local_with, global_with, right_by, actual_by, actual_with, pattern_at, operand_with, atom_at, atom_in, nested_at, nested_in, quiet, operand_in, ended, expr_at, expr_in, reference_at, reference_in, after_open, list_by, actual_list_at, actual_list_in}
 use Rattle.mlk_text.specs.declared.failure.Failure.{Failure}
 use Rattle.mlk_text.specs.declared.fault.Fault.{Fault}

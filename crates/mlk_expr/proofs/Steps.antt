@@ -5,19 +5,19 @@ use Rattle.std.proofs.lemmas.Bool.{cases_Bool, ne_eqb, ltb-false}
 use Rattle.mlk_text.specs.Reading.{◌>>=◌, with, put, many}
 use Rattle.mlk_text.specs.Lexemes.{byte_at, name_at}
 use Rattle.mlk_text.proofs.Readers.{pair_parts, with_some, after_length}
-use Rattle.mlk_tree.specs.declared.expr.Callee.{Callee}
-use Rattle.mlk_tree.specs.declared.expr.Function.{Function}
-use Rattle.mlk_tree.specs.declared.expr.Subscript.{Subscript}
-use Rattle.mlk_tokens.specs.declared.lexeme.Kind.TheVariants as kind
+use Rattle.mlk_syntax.specs.declared.expr.Callee.{Callee}
+use Rattle.mlk_syntax.specs.declared.expr.Function.{Function}
+use Rattle.mlk_syntax.specs.declared.expr.Subscript.{Subscript}
+use Rattle.mlk_expr_tokens.specs.declared.lexeme.Kind.TheVariants as kind
 use Rattle.mlk_text.specs.declared.failure.Failure.{Failure}
 use Rattle.mlk_expr.specs.declared.refusal.Offence.{Offence}
 use Rattle.mlk_text.specs.declared.failure.Failure.TheVariants.{OutOfMemory, Refused}
-use Rattle.mlk_tree.specs.ExprTrees.{Tree, LocalName, GlobalName, CallOf, Func, ActualTree, subs_from, trees_from, actuals_from, sub_of}
+use Rattle.mlk_syntax.specs.ExprTrees.{Tree, LocalName, GlobalName, CallOf, Func, ActualTree, subs_from, trees_from, actuals_from, sub_of}
 use Rattle.mlk_expr.specs.declared.scope.Allows.{Allows}
 use Rattle.mlk_expr.specs.declared.scope.Passing.TheVariants.{ByReference}
 use Rattle.mlk_expr.specs.Touches.{globals_may}
-use Rattle.mlk_tokens.specs.Words.{is_select, function_of}
-use Rattle.mlk_tokens.specs.Lexemes.{column_of, kind_of, count_at, starts_reference}
+use Rattle.mlk_expr_tokens.specs.Words.{is_select, function_of}
+use Rattle.mlk_expr_tokens.specs.Lexemes.{column_of, kind_of, count_at, starts_reference}
 use Rattle.mlk_expr.specs.Grammar.{named, has_subscript, asks_subscript}
 use Rattle.mlk_expr.specs.Reading.{where_may, at_most, next, list_with, matcher_by, some_atoms, pattern_at, subs_with, local_with, global_with, chain_with, operand_with, others_by, callee_at, actuals_with, call_with, function_with, arguments_with}
 use Rattle.mlk_text.specs.Failures.{FailsOn}

@@ -6,8 +6,8 @@ use Rattle.mlk_text.specs.Lexemes.{byte_at}
 use Rattle.mlk_text.proofs.Lexemes.{byte-is}
 use Rattle.mlk_text.proofs.Readers.{After, after-one, after_then, Exact}
 use Rattle.mlk_expr.specs.declared.scope.Passing.TheVariants.{ByReference}
-use Rattle.mlk_tree.specs.ExprTrees.{ActualTree}
-use Rattle.mlk_tokens.specs.Lexemes.{starts_reference}
+use Rattle.mlk_syntax.specs.ExprTrees.{ActualTree}
+use Rattle.mlk_expr_tokens.specs.Lexemes.{starts_reference}
 use Rattle.mlk_expr.proofs.Followed.{IsPattern, IsChain, IsActuals, IsAtom, IsReference, IsActualList}
 use Rattle.mlk_expr.specs.Reading.{pattern_at, chain_with, actuals_with, atom_at, reference_at, after_open, actual_list_at}
 use Rattle.mlk_expr.proofs.Arguments.{actuals-exact}

@@ -2,20 +2,20 @@
 -- column `at`; a tree keeps the columns of some of its parts. What follows each other is joined by `++`.
 use Rattle.std.specs.Prelude.{ℕ, zero, suc, ◌≡◌, ◌≢◌, ◌<◌, ◌≤◌, ◌+◌, ◌⊎◌, Bool, true, false, List, [], ◌∷◌, ◌++◌}
 use Rattle.std.specs.Prelude.{length, Option, Some, None}
-use Rattle.mlk_values.specs.Numbers.{IsCanonical}
+use Rattle.mlk_numbers.specs.Numbers.{IsCanonical}
 use Rattle.mlk_text.specs.declared.operator.Op.{Op}
-use Rattle.mlk_tree.specs.declared.expr.Callee.{Callee}
-use Rattle.mlk_tree.specs.declared.expr.Function.{Function}
-use Rattle.mlk_tree.specs.declared.expr.Function.TheVariants as function
-use Rattle.mlk_tree.specs.ExprTrees.{Tree, Lit, Free, LocalName, GlobalName, SpecialName, Prefixed, Chain, PatternText}
-use Rattle.mlk_tree.specs.ExprTrees.{Func, Selected, BareCall, CallOf, sub, ActualTree, Given, ByRef, Missing, trees_from}
-use Rattle.mlk_tree.specs.ExprTrees.{subs_from, links_from, choices_from, actuals_from}
+use Rattle.mlk_syntax.specs.declared.expr.Callee.{Callee}
+use Rattle.mlk_syntax.specs.declared.expr.Function.{Function}
+use Rattle.mlk_syntax.specs.declared.expr.Function.TheVariants as function
+use Rattle.mlk_syntax.specs.ExprTrees.{Tree, Lit, Free, LocalName, GlobalName, SpecialName, Prefixed, Chain, PatternText}
+use Rattle.mlk_syntax.specs.ExprTrees.{Func, Selected, BareCall, CallOf, sub, ActualTree, Given, ByRef, Missing, trees_from}
+use Rattle.mlk_syntax.specs.ExprTrees.{subs_from, links_from, choices_from, actuals_from}
 use Rattle.mlk_expr.specs.declared.scope.Allows.{Allows}
 use Rattle.mlk_expr.specs.declared.scope.Allows.TheVariants.{NoTouches}
 use Rattle.mlk_expr.specs.declared.scope.Passing.{Passing}
 use Rattle.mlk_expr.specs.Touches.{may_stand, subs_stand, given_stand, Standing}
-use Rattle.mlk_tokens.specs.Words.{special_of, function_of, is_select}
-use Rattle.mlk_tokens.specs.Lexemes.{is_match, starts_reference}
+use Rattle.mlk_expr_tokens.specs.Words.{special_of, function_of, is_select}
+use Rattle.mlk_expr_tokens.specs.Lexemes.{is_match, starts_reference}
 use Rattle.mlk_text.specs.Places.{column_at}
 use Rattle.mlk_text.specs.Spellings.{IsName, IsLabel, IsWord}
 use Rattle.mlk_expr.specs.Spellings.{IsNumber, IsQuoted, IsCount, IsCodes, op_text, unary_text}

@@ -4,25 +4,25 @@ use Rattle.std.specs.Prelude.{ℕ, zero, suc, ◌-◌, ◌==◌, ◌&&◌, nat_l
 use Rattle.std.specs.Prelude.{◌∷◌, length, Option, Some, None, take}
 use Rattle.mlk_text.specs.Reading.{◌>>=◌, with, many}
 use Rattle.mlk_text.specs.Lexemes.{byte_at, word_at, name_at, label_at, inside}
-use Rattle.mlk_values.specs.Canonical.{canonical_text}
+use Rattle.mlk_numbers.specs.Canonical.{canonical_text}
 use Rattle.mlk_text.specs.declared.operator.Op.{Op}
-use Rattle.mlk_tree.specs.declared.expr.Callee.{Callee}
-use Rattle.mlk_tree.specs.declared.expr.Function.{Function}
-use Rattle.mlk_tree.specs.declared.expr.Special.{Special}
-use Rattle.mlk_tokens.specs.declared.lexeme.Kind.{Kind}
-use Rattle.mlk_tokens.specs.declared.lexeme.Kind.TheVariants as kind
-use Rattle.mlk_tree.specs.ExprTrees.{Tree, Lit, Free, LocalName, GlobalName, SpecialName, Prefixed, PatternText, Func}
-use Rattle.mlk_tree.specs.ExprTrees.{Selected, BareCall, CallOf, ActualTree, Given, ByRef, Missing, trees_from, subs_from}
-use Rattle.mlk_tree.specs.ExprTrees.{choices_from, actuals_from}
+use Rattle.mlk_syntax.specs.declared.expr.Callee.{Callee}
+use Rattle.mlk_syntax.specs.declared.expr.Function.{Function}
+use Rattle.mlk_syntax.specs.declared.expr.Special.{Special}
+use Rattle.mlk_expr_tokens.specs.declared.lexeme.Kind.{Kind}
+use Rattle.mlk_expr_tokens.specs.declared.lexeme.Kind.TheVariants as kind
+use Rattle.mlk_syntax.specs.ExprTrees.{Tree, Lit, Free, LocalName, GlobalName, SpecialName, Prefixed, PatternText, Func}
+use Rattle.mlk_syntax.specs.ExprTrees.{Selected, BareCall, CallOf, ActualTree, Given, ByRef, Missing, trees_from, subs_from}
+use Rattle.mlk_syntax.specs.ExprTrees.{choices_from, actuals_from}
 use Rattle.mlk_expr.specs.declared.scope.Allows.{Allows}
 use Rattle.mlk_expr.specs.declared.scope.Allows.TheVariants.{Everything, NoTouches}
 use Rattle.mlk_expr.specs.declared.scope.Scope.{Scope}
 use Rattle.mlk_expr.specs.declared.scope.Passing.{Passing}
 use Rattle.mlk_expr.specs.declared.scope.Passing.TheVariants.{ByReference}
 use Rattle.mlk_expr.specs.Touches.{globals_may, calls_may, may_stand, lends}
-use Rattle.mlk_tokens.specs.Words.{special_of, function_of, is_select}
-use Rattle.mlk_tokens.specs.Lexemes.{column_of, kind_of, op_at, is_match, numeral_at, count_at, pattern_codes_at}
-use Rattle.mlk_tokens.specs.Lexemes.{lent_at, starts_reference, is_missing, ends}
+use Rattle.mlk_expr_tokens.specs.Words.{special_of, function_of, is_select}
+use Rattle.mlk_expr_tokens.specs.Lexemes.{column_of, kind_of, op_at, is_match, numeral_at, count_at, pattern_codes_at}
+use Rattle.mlk_expr_tokens.specs.Lexemes.{lent_at, starts_reference, is_missing, ends}
 use Rattle.mlk_expr.specs.Grammar.{chained, named, has_subscript, asks_subscript}
 
 -- what reads something gives it with what is after it, or nothing

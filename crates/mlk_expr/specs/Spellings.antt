@@ -8,8 +8,8 @@ use Rattle.mlk_text.specs.declared.operator.Relation.TheVariants as relation
 use Rattle.mlk_text.specs.declared.operator.UnaryOp.{UnaryOp}
 use Rattle.mlk_text.specs.declared.operator.UnaryOp.TheVariants as unary
 use Rattle.mlk_text.specs.Lexemes.{is_text, doubled, are_digits}
-use Rattle.mlk_values.specs.Numbers.{IsNumeral}
-use Rattle.mlk_tokens.specs.Lexemes.{is_pattern_code}
+use Rattle.mlk_numbers.specs.Numbers.{IsNumeral}
+use Rattle.mlk_expr_tokens.specs.Lexemes.{is_pattern_code}
 
 -- nothing, or a sign
 abbrev pub IsSign : List ℕ → Type 0

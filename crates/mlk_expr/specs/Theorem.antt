@@ -6,12 +6,12 @@ use Rattle.mlk_text.specs.Places.{column_at}
 use Rattle.mlk_text.specs.Codes.{number_of}
 use Rattle.mlk_text.specs.declared.fault.Fault.{Fault}
 use Rattle.mlk_expr.specs.declared.scope.Passing.{Passing}
-use Rattle.mlk_tree.specs.declared.expr.Callee.{Callee}
+use Rattle.mlk_syntax.specs.declared.expr.Callee.{Callee}
 use Rattle.mlk_expr.specs.Touches.{lends}
 use Rattle.mlk_text.specs.declared.failure.Failure.{Failure}
 use Rattle.mlk_text.specs.declared.failure.Failure.TheVariants.{OutOfMemory, Refused}
-use Rattle.mlk_tree.specs.ExprTrees.{Tree, ActualTree}
-use Rattle.mlk_tokens.specs.Lexemes.{ends}
+use Rattle.mlk_syntax.specs.ExprTrees.{Tree, ActualTree}
+use Rattle.mlk_expr_tokens.specs.Lexemes.{ends}
 use Rattle.mlk_expr.specs.Grammar.{has_subscript, IsExpr, IsReference, IsActualList}
 
 -- What may stand after an expression: the line's end, or one of the bytes that end one;

@@ -12,8 +12,8 @@ mod refusal;
 mod scope;
 
 pub use law::one_tree;
+pub use mlk_syntax::{Actual, Callee, Expr, Function, Special, Subscript};
 pub use mlk_text::{Op, Relation, UnaryOp};
-pub use mlk_tree::{Actual, Callee, Expr, Function, Special, Subscript};
 pub use named::{read_callee, read_label, read_name};
 pub use public::{
     read_actuals, read_actuals_where, read_expr, read_expr_where, read_ref, read_ref_where,

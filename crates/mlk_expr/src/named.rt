@@ -8,8 +8,8 @@ ghost use Rattle.mlk_expr.specs.Theorem.{LabelEnds, CalleeEnds, Stands, Only, Re
 use crate::fault::located;
 use crate::part::{callee, label, plain_name};
 use crate::scope::Passing;
+use mlk_syntax::Callee;
 use mlk_text::{Failure, Fault, Name};
-use mlk_tree::Callee;
 use std::alloc::Global;
 
 /// The name that begins at this byte of a line, and the byte after it.

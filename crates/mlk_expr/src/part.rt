@@ -4,8 +4,8 @@ ghost use Rattle.std.specs.Prelude.{◌≡◌, ◌<◌, [], vec_len, vec_capacit
 ghost use Rattle.mlk_text.specs.Failures.{Reads, IsRefused};
 ghost use Rattle.mlk_text.specs.Lexemes.{name_at, label_at, inside};
 ghost use Rattle.mlk_text.specs.Reading.{with};
-ghost use Rattle.mlk_tokens.specs.Lexemes.{numeral_at, lent_at};
-ghost use Rattle.mlk_tree.specs.ExprTrees.{Lit, tree_of};
+ghost use Rattle.mlk_expr_tokens.specs.Lexemes.{numeral_at, lent_at};
+ghost use Rattle.mlk_syntax.specs.ExprTrees.{Lit, tree_of};
 ghost use Rattle.mlk_expr.specs.Grammar.{named, has_subscript, asks_subscript};
 ghost use Rattle.mlk_expr.specs.Reading.{where_may, number_of, callee_at};
 ghost use Rattle.mlk_expr.specs.Touches.{globals_may};
@@ -14,12 +14,12 @@ use crate::refusal::{
     Offence, Wrong, no_global, no_label, no_name, no_number, no_routine, refused,
 };
 use crate::scope::Allows;
+use mlk_expr_tokens::numeral::numeral_at;
+use mlk_numbers::canonical;
+use mlk_syntax::{Callee, Expr, Function};
 use mlk_text::lexeme::{byte_of, is_text_byte};
 use mlk_text::spelling::{label_text, name_text};
 use mlk_text::{Failure, Name, Value, likely_length, literal, make_room};
-use mlk_tokens::numeral::numeral_at;
-use mlk_tree::{Callee, Expr, Function};
-use mlk_values::canonical;
 use std::alloc::{AllocError, Global};
 
 /// An empty list, with room for as many items as the list seems to have that begins with these bytes.

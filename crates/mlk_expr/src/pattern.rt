@@ -3,15 +3,15 @@
 ghost use Rattle.std.specs.Prelude.{◌≡◌, ◌<◌, suc, length, nat_lt};
 ghost use Rattle.mlk_text.specs.Lexemes.{byte_at};
 ghost use Rattle.mlk_text.specs.Reading.{with, many, put};
-ghost use Rattle.mlk_tokens.specs.Lexemes.{count_at};
+ghost use Rattle.mlk_expr_tokens.specs.Lexemes.{count_at};
 ghost use Rattle.mlk_expr.specs.Reading.{next, list_with, matcher_by, some_atoms, pattern_at, rest_of};
 ghost use Rattle.mlk_text.specs.Failures.{Reads};
 
 use crate::part::quoted;
 use crate::refusal::{Offence, Wrong, no_operand, refused, too_deep_pattern};
+use mlk_expr_tokens::lexeme::{count_at, pattern_codes_at};
 use mlk_text::Failure;
 use mlk_text::lexeme::byte_of;
-use mlk_tokens::lexeme::{count_at, pattern_codes_at};
 use std::alloc::Global;
 
 /// The pattern at the front, as it is written, and what is after it; its alternatives nest so deep at most.

@@ -1,7 +1,7 @@
 // The readers that callers use.
 
 ghost use Rattle.std.specs.Prelude.{◌≡◌, ◌≤◌, length, IfOk, IfErr};
-ghost use Rattle.mlk_tree.specs.ExprTrees.{tree_of, actual_trees};
+ghost use Rattle.mlk_syntax.specs.ExprTrees.{tree_of, actual_trees};
 ghost use Rattle.mlk_expr.specs.Grammar.{IsExpr, IsReference, IsActualList};
 ghost use Rattle.mlk_expr.specs.Grammar.{IsExprWhere, IsReferenceWhere, IsActualListWhere};
 ghost use Rattle.mlk_expr.specs.Reading.{expr_in, reference_in, actual_list_in};
@@ -16,10 +16,10 @@ use crate::read::chain;
 use crate::read::names::{local, subscripts};
 use crate::refusal::{Offence, Wrong, no_end, no_operand, refused};
 use crate::scope::{Allows, Passing, Scope};
+use mlk_expr_tokens::lexeme::{column_of, may_end, starts_reference};
+use mlk_syntax::{Actual, Expr};
 use mlk_text::lexeme::byte_of;
 use mlk_text::{Failure, Fault};
-use mlk_tokens::lexeme::{column_of, may_end, starts_reference};
-use mlk_tree::{Actual, Expr};
 use std::alloc::Global;
 
 const DEEPEST: u8 = 64;

@@ -2,8 +2,8 @@
 
 ghost use Rattle.std.specs.Prelude.{suc, length};
 ghost use Rattle.mlk_text.specs.Reading.{with, many};
-ghost use Rattle.mlk_tokens.specs.Lexemes.{op_at, is_match};
-ghost use Rattle.mlk_tree.specs.ExprTrees.{Prefixed, tree_of, links};
+ghost use Rattle.mlk_expr_tokens.specs.Lexemes.{op_at, is_match};
+ghost use Rattle.mlk_syntax.specs.ExprTrees.{Prefixed, tree_of, links};
 ghost use Rattle.mlk_expr.specs.Reading.{going_on, nested_in, pattern_at, right_by, linked, enclosed_with, operand_in, atom_in};
 ghost use Rattle.mlk_text.specs.Failures.{Reads};
 
@@ -17,10 +17,10 @@ use crate::read::functions::dollar;
 use crate::read::names::{global, local};
 use crate::refusal::{Offence, Wrong, no_end, no_operand, refused, too_deep};
 use crate::scope::Scope;
+use mlk_expr_tokens::lexeme::{Kind, is_match, kind_of, may_go_on, op_at};
+use mlk_syntax::Expr;
 use mlk_text::lexeme::byte_of;
 use mlk_text::{Failure, Op, UnaryOp, Value, giving_up, make_room};
-use mlk_tokens::lexeme::{Kind, is_match, kind_of, may_go_on, op_at};
-use mlk_tree::Expr;
 use std::alloc::Global;
 
 /// The expression at the front that nests so deep at most, and what is after it.

@@ -4,12 +4,12 @@ ghost use Rattle.std.specs.Prelude.{◌≡◌};
 ghost use Rattle.mlk_text.specs.Failures.{IsRefused, IsLike};
 
 use crate::scope::Allows;
+use mlk_expr_tokens::lexeme::{Kind, count_at, kind_of};
+use mlk_expr_tokens::numeral::mantissa_len;
+use mlk_expr_tokens::words::{function_of, is_select, special_of};
+use mlk_syntax::{Actual, Expr};
 use mlk_text::lexeme::{byte_of, is_digit, word_at};
 use mlk_text::{Failure, LeftOut};
-use mlk_tokens::lexeme::{Kind, count_at, kind_of};
-use mlk_tokens::numeral::mantissa_len;
-use mlk_tokens::words::{function_of, is_select, special_of};
-use mlk_tree::{Actual, Expr};
 
 /// What is wrong.
 #[derive(Drop, Debug)]

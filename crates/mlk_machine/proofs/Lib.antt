@@ -1,7 +1,9 @@
-pub mod NameLemmas
-pub mod Counting
-pub mod EntryLemmas
-pub mod Tables
-pub mod ByOne
-pub mod Runs
-pub mod Apart
+pub mod RingLemmas
+pub mod SettleLemmas
+pub mod NumberLemmas
+pub mod CopyLemmas
+pub mod EventFormats
+pub mod LineLemmas
+pub mod ReplayLemmas
+pub mod FileLemmas
+pub mod FollowLemmas

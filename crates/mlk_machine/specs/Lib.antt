@@ -1,5 +1,11 @@
-pub mod Lists
-pub mod LockNames
-pub mod Entries
-pub mod Plain
-pub mod Laws
+pub mod Running
+pub mod Jobs
+pub mod Numbers
+pub mod Events
+pub mod Systems
+pub mod Copies
+pub mod EventTexts
+pub mod EventReading
+pub mod Replays
+pub mod Files
+pub mod InstructionViews

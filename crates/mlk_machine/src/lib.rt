@@ -1,4 +1,27 @@
-//! The machine of jobs: what any number of jobs may do when they run routines of M.
+//! Systems: the jobs of a program, what is asked of them, and what becomes of them by events, also by those of a file.
 #![tactic(auto)]
 
-pub mod plain;
+mod beginning;
+mod copying;
+mod event;
+mod fault;
+mod following;
+mod instruction;
+mod line;
+mod number;
+mod order;
+mod reading;
+mod replaying;
+mod ring;
+mod settling;
+mod stepping;
+mod system;
+
+pub use event::{Act, Event};
+pub use fault::{EventsFault, EventsRefusal};
+pub use following::replay_events;
+pub use line::read_line;
+pub use order::{Beginning, Order};
+pub use replaying::{Refused, replay};
+pub use settling::MOST_SILENT_STEPS;
+pub use system::System;

@@ -2,7 +2,7 @@
 use Rattle.std.specs.Prelude.{ℕ, Bool, List, is_none, find, Some, None, ◌≡◌}
 use Rattle.mlk_text.specs.declared.failure.Failure.{Failure}
 use Rattle.mlk_text.specs.declared.failure.Failure.TheVariants as failure
-use Rattle.mlk_tree.specs.Trees.{RoutineTree}
+use Rattle.mlk_syntax.specs.Trees.{RoutineTree}
 use Rattle.mlk_program.specs.Entries.{entry_by}
 use Rattle.mlk_text.specs.declared.code.Code.TheVariants.{CertLimit}
 use Rattle.mlk_make.specs.declared.stop.MakeError.{MakeError}

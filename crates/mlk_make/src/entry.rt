@@ -6,13 +6,13 @@ use crate::need::formals_of;
 use crate::settle::settle_lines;
 use crate::stop::{GaveUp, Stop, gave_up};
 use mlk_cert::{Case, NameSet, Own, Shared, Test};
-use mlk_commands::in_order;
-use mlk_drafts::{At, Draft};
-use mlk_lines::Around;
+use mlk_make_drafts::{At, Draft};
 use mlk_program::{EntryId, Program};
-use mlk_rows::Fault;
+use mlk_syntax::Line;
 use mlk_text::{Code, Column, Failure, List, Name};
-use mlk_tree::Line;
+use mlk_walk_commands::in_order;
+use mlk_walk_exprs::Fault;
+use mlk_walk_lines::Around;
 use std::alloc::{AllocError, Global};
 
 /// How often an entry is walked at most in a round. Each time its needs or its summary have grown.

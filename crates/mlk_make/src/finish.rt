@@ -8,8 +8,8 @@ use crate::maker::Maker;
 use crate::stop::{GaveUp, MakeError};
 use mlk_cert::{CertFault, EntryCert, Spelled, spell};
 use mlk_program::EntryId;
-use mlk_rows::Fault;
 use mlk_text::{Code, Column, Failure, LineNumber};
+use mlk_walk_exprs::Fault;
 use std::alloc::{AllocError, Global};
 
 fn blocks(alloc: Global, maker: Maker) -> Result<Vec<EntryCert>, AllocError> {

@@ -2,11 +2,11 @@
 
 use crate::stop::Stop;
 use mlk_calls::Entries;
-use mlk_coverage::Rules;
-use mlk_drafts::Draft;
+use mlk_make_drafts::Draft;
 use mlk_program::{EntryId, Program};
-use mlk_rows::Fault;
+use mlk_rules::Rules;
 use mlk_text::{Failure, LineNumber, Value};
+use mlk_walk_exprs::Fault;
 use std::alloc::{AllocError, Global};
 use std::collections::BTreeMap;
 

@@ -5,13 +5,13 @@ use crate::need::is_needed;
 use crate::stop::Stop;
 use crate::walk::{Site, Target};
 use mlk_cert::{Case, ExitCase, NameSet};
-use mlk_drafts::{At, Draft, Listing, add_exit, add_mods, drop_all, lower, widen};
-use mlk_lines::LineFault;
+use mlk_make_drafts::{At, Draft, Listing, add_exit, add_mods, drop_all, lower, widen};
 use mlk_names::LockTerm;
 use mlk_program::EntryId;
-use mlk_rows::{Fault, Mend};
+use mlk_syntax::Line;
 use mlk_text::{Code, Column, Failure, LineNumber};
-use mlk_tree::Line;
+use mlk_walk_exprs::{Fault, Mend};
+use mlk_walk_lines::LineFault;
 
 /// What is done of what would mend a fault: whether something changes.
 pub(crate) fn done(

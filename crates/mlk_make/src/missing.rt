@@ -1,7 +1,7 @@
 // Declared entries that a program lacks.
 
 ghost use Rattle.std.specs.Prelude.{◌≡◌, option_map, find, map};
-ghost use Rattle.mlk_tree.specs.Views.{routine_of};
+ghost use Rattle.mlk_syntax.specs.Views.{routine_of};
 ghost use Rattle.mlk_make.specs.Missing.{is_missing};
 
 use mlk_program::Program;

@@ -6,11 +6,11 @@ use crate::probe::{Probe, is_reached};
 use crate::walk::{Site, Target};
 use mlk_calls::{is_among, is_own};
 use mlk_cert::{Case, NameSet};
-use mlk_commands::in_order;
-use mlk_drafts::{At, Draft, rounds_in};
+use mlk_make_drafts::{At, Draft, rounds_in};
 use mlk_names::{KnownSym, LockTerm};
-use mlk_rows::Fault;
 use mlk_text::{List, Name};
+use mlk_walk_commands::in_order;
+use mlk_walk_exprs::Fault;
 use std::alloc::{AllocError, Global};
 
 fn add_names(names: &mut Vec<Name>, term: &LockTerm) -> Result<(), AllocError> {

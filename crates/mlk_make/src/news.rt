@@ -1,9 +1,9 @@
 // What NEW makes new before a column of a line.
 
 use mlk_calls::is_among;
-use mlk_drafts::round_at;
+use mlk_make_drafts::round_at;
+use mlk_syntax::{Action, Command, Commands, Line, NewArgument};
 use mlk_text::{Column, Name};
-use mlk_tree::{Action, Command, Commands, Line, NewArgument};
 
 fn is_made_new(argument: &NewArgument, names: &[Name]) -> bool {
     match argument {

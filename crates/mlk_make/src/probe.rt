@@ -7,11 +7,11 @@ use crate::walk::{Site, Target, walk_site};
 use mlk_calls::{copy_case, is_among};
 use mlk_cert::limit::MOST_CASES;
 use mlk_cert::{Case, EntryCert, NameSet, Own, Point, Shared};
-use mlk_drafts::{Draft, copy_cases, copy_summed, round_number};
-use mlk_lines::LineFault;
-use mlk_rows::{Fault, Mend};
+use mlk_make_drafts::{Draft, copy_cases, copy_summed, round_number};
+use mlk_syntax::Line;
 use mlk_text::{LineNumber, List, Name, copy_of};
-use mlk_tree::Line;
+use mlk_walk_exprs::{Fault, Mend};
+use mlk_walk_lines::LineFault;
 use std::alloc::{AllocError, Global};
 use std::slice;
 

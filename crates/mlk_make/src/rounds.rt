@@ -1,7 +1,7 @@
 // The maker's rounds.
 
 ghost use Rattle.std.specs.Prelude.{◌≡◌, IfOk, IfErr, None, find, map};
-ghost use Rattle.mlk_tree.specs.Views.{routine_of};
+ghost use Rattle.mlk_syntax.specs.Views.{routine_of};
 ghost use Rattle.mlk_cert.specs.Theorem.{Spells};
 ghost use Rattle.mlk_make.specs.Missing.{is_missing, IsUnmade, IsUnspelled, IfRefused};
 
@@ -13,10 +13,10 @@ use crate::stop::{GaveUp, MakeError};
 use crate::watch::{Stage, Unwatched, Watch};
 use mlk_calls::Entries;
 use mlk_cert::Spelled;
-use mlk_coverage::{Rules, entries};
 use mlk_program::{EntryId, Program};
+use mlk_rules::{Rules, entries};
+use mlk_syntax::Line;
 use mlk_text::{Failure, Value};
-use mlk_tree::Line;
 use std::alloc::{AllocError, Global};
 
 /// How many rounds are made.

@@ -4,11 +4,11 @@ use crate::maker::{Ground, Maker, has_changed};
 use crate::mend::mend_all;
 use crate::stop::Stop;
 use crate::walk::{Site, Target, Walked, targets_of, walk_site};
-use mlk_drafts::Draft;
-use mlk_lines::Around;
-use mlk_rows::Fault;
+use mlk_make_drafts::Draft;
+use mlk_syntax::Line;
 use mlk_text::{Code, Column, Failure};
-use mlk_tree::Line;
+use mlk_walk_exprs::Fault;
+use mlk_walk_lines::Around;
 use std::alloc::AllocError;
 
 /// How often one line is walked at most before the maker gives up. Each time something has grown that has a limit.

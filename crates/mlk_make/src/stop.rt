@@ -2,8 +2,8 @@
 
 use mlk_cert::CertFault;
 use mlk_program::EntryId;
-use mlk_rows::Fault;
 use mlk_text::{Failure, Value};
+use mlk_walk_exprs::Fault;
 
 /// Why no certificate was made.
 #[derive(Drop, Debug)]

@@ -3,13 +3,13 @@
 use crate::maker::{Ground, Maker};
 use mlk_calls::{Entries, Scope};
 use mlk_cert::{Case, EntryCert};
-use mlk_coverage::{RuleLists, Rules};
-use mlk_drafts::{Draft, copy_summed};
-use mlk_lines::{Around, LineFault, LineFaults, walk_alone};
+use mlk_make_drafts::{Draft, copy_summed};
 use mlk_program::{EntryId, calls_of};
-use mlk_rows::Mend;
+use mlk_rules::{RuleLists, Rules};
+use mlk_syntax::{Action, Command, Commands, Line};
 use mlk_text::{Column, List, Value};
-use mlk_tree::{Action, Command, Commands, Line};
+use mlk_walk_exprs::Mend;
+use mlk_walk_lines::{Around, LineFault, LineFaults, walk_alone};
 use std::alloc::{AllocError, Global};
 use std::collections::BTreeSet;
 

@@ -2,10 +2,10 @@
 use Rattle.std.proofs.Common.{◌≡◌, ◌<◌, refl, sym, ap, ◌∙◌, ℕ, zero, suc, List, [], ◌∷◌, ◌++◌, map, take, length, get_or, Option, Some, None, Bool, add-one, Bor, ◌+◌, true}
 use Rattle.std.specs.Prelude.{position, option_map, option_and_then, slice_get, option_copied, if◌then◌else◌}
 use Rattle.std.proofs.Math.Seq.{take-suc}
-use Rattle.mlk_tree.specs.declared.routine.Line.{Line}
-use Rattle.mlk_tree.specs.declared.routine.Routine.{Routine}
-use Rattle.mlk_tree.specs.Trees.{HeadTree, LineTrees}
-use Rattle.mlk_tree.specs.Views.{line_of, routine_of, lines_from}
+use Rattle.mlk_syntax.specs.declared.routine.Line.{Line}
+use Rattle.mlk_syntax.specs.declared.routine.Routine.{Routine}
+use Rattle.mlk_syntax.specs.Trees.{HeadTree, LineTrees}
+use Rattle.mlk_syntax.specs.Views.{line_of, routine_of, lines_from}
 use Rattle.mlk_program.specs.Entries.{as_lines, lines_in, line_named, routine_named, is_label, label_of, line_of_entry, text_with, text_in, text_of_entry}
 use Rattle.mlk_program.specs.Tables.{first_with, IsTableOf, AreTables, line_label, trees, first_of}
 use Rattle.mlk_program.specs.declared.entry.EntryId.{EntryId}

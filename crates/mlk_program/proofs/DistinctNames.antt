@@ -14,10 +14,10 @@ use Rattle.std.proofs.lemmas.Slice.Eq.{bytes_eq-Decides}
 use Rattle.std.proofs.lemmas.List.Elements.{Contains-append_right, Contains-append_cases}
 use Rattle.mlk_text.specs.declared.code.Code.TheVariants.{RoutineTwice}
 use Rattle.mlk_text.specs.declared.fault.Fault.{Fault}
-use Rattle.mlk_tree.specs.declared.routine.Routine.{Routine}
-use Rattle.mlk_tree.specs.Views.{routine_of}
-use Rattle.mlk_tree.specs.Distinct.{AreDistinct}
-use Rattle.mlk_tree.proofs.Distinct.{is_among, not_among}
+use Rattle.mlk_syntax.specs.declared.routine.Routine.{Routine}
+use Rattle.mlk_syntax.specs.Views.{routine_of}
+use Rattle.mlk_syntax.specs.Distinct.{AreDistinct}
+use Rattle.mlk_syntax.proofs.Distinct.{is_among, not_among}
 use Rattle.mlk_program.specs.Entries.{name_of, routine_named}
 use Rattle.mlk_program.specs.Program.{IsTwice, IsFaultAt}
 use Rattle.mlk_program.specs.Tables.{trees}

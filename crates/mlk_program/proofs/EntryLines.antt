@@ -3,9 +3,9 @@ use Rattle.std.proofs.Common.{min, Vec, Global, ◌≡◌, ◌+◌, length, refl
 use Rattle.std.specs.Prelude.{slice_get, cond, option_and_then}
 use Rattle.std.specs.List.{prefix_len}
 use Rattle.std.proofs.lemmas.List.{take-map}
-use Rattle.mlk_tree.specs.declared.routine.Line.{Line}
-use Rattle.mlk_tree.specs.declared.routine.Routine.{Routine}
-use Rattle.mlk_tree.specs.Views.{line_of, routine_of}
+use Rattle.mlk_syntax.specs.declared.routine.Line.{Line}
+use Rattle.mlk_syntax.specs.declared.routine.Routine.{Routine}
+use Rattle.mlk_syntax.specs.Views.{line_of, routine_of}
 use Rattle.mlk_program.specs.Entries.{lines_from, lines_of, up_to_formals, lacks_formals}
 use Rattle.mlk_program.specs.Tables.{trees, line_lacks, later_lines, later_of, AreLater}
 use Rattle.mlk_program.specs.declared.entry.EntryId.{EntryId}

@@ -6,9 +6,9 @@ use Rattle.std.proofs.lemmas.Slice.Eq.{bytes_eq-Decides}
 use Rattle.mlk_text.specs.Lexemes.{entry_of}
 use Rattle.mlk_text.specs.Spellings.{IsName, IsLabel}
 use Rattle.mlk_text.proofs.Entries.{entries-written}
-use Rattle.mlk_tree.specs.declared.expr.Callee.{Callee}
-use Rattle.mlk_tree.specs.Trees.{RoutineTree, HeadTree, LineTrees}
-use Rattle.mlk_tree.specs.Distinct.{AreDistinct}
+use Rattle.mlk_syntax.specs.declared.expr.Callee.{Callee}
+use Rattle.mlk_syntax.specs.Trees.{RoutineTree, HeadTree, LineTrees}
+use Rattle.mlk_syntax.specs.Distinct.{AreDistinct}
 use Rattle.mlk_program.specs.Entries.{name_of, lines_in, label_of, is_label, line_named, routine_named, routine_called, entry_in, target_of, asked, entry_by, line_of_entry, text_with, text_in, text_of_entry}
 use Rattle.mlk_program.specs.Program.{IsProgram}
 use Rattle.mlk_program.specs.Laws.{IsEntryOf, EntriesNamed, EntriesHaveLines, TextsName}

@@ -1,9 +1,9 @@
 -- The calls of a program fit.
 use Rattle.std.proofs.Common.{◌≡◌, refl, sym, ap, ◌∙◌, ℕ, List, Option, Some, None, Bool, true, false}
 use Rattle.std.specs.Prelude.{option_map, option_and_then}
-use Rattle.mlk_tree.specs.declared.expr.Callee.{Callee}
-use Rattle.mlk_tree.specs.ExprTrees.{ActualTree}
-use Rattle.mlk_tree.specs.Trees.{RoutineTree, HeadTree, LineTrees, CallTree, Called}
+use Rattle.mlk_syntax.specs.declared.expr.Callee.{Callee}
+use Rattle.mlk_syntax.specs.ExprTrees.{ActualTree}
+use Rattle.mlk_syntax.specs.Trees.{RoutineTree, HeadTree, LineTrees, CallTree, Called}
 use Rattle.mlk_program.specs.Entries.{formals_of, target_of, line_of_entry}
 use Rattle.mlk_program.specs.Program.{calls_of, takes, arity_fault, fault_with, call_fault, AreResolved, IsProgram}
 use Rattle.mlk_program.specs.Laws.{IsFitting, CallsFit}

@@ -1,3 +1,6 @@
+pub mod FoundCalls
+pub mod FoundCommands
+pub mod NewLists
 pub mod NameTables
 pub mod Directories
 pub mod SharedNames

@@ -3,9 +3,9 @@ use Rattle.std.proofs.Common.{◌≡◌, ◌<◌, ◌≤◌, ◌+◌, ◌⊎◌,
 use Rattle.std.proofs.lemmas.List.{length-map, length-append}
 use Rattle.mlk_text.specs.declared.code.Code.TheVariants.{TooMany}
 use Rattle.mlk_text.specs.declared.fault.Fault.{Fault}
-use Rattle.mlk_tree.specs.declared.routine.Routine.{Routine}
-use Rattle.mlk_tree.specs.Trees.{RoutineTree}
-use Rattle.mlk_tree.specs.Views.{line_of, routine_of}
+use Rattle.mlk_syntax.specs.declared.routine.Routine.{Routine}
+use Rattle.mlk_syntax.specs.Trees.{RoutineTree}
+use Rattle.mlk_syntax.specs.Views.{line_of, routine_of}
 use Rattle.mlk_program.specs.Entries.{entries_among, entry_count}
 use Rattle.mlk_program.specs.Program.{AreTooMany, IsPastLimit, IsFaultAt}
 use Rattle.mlk_program.specs.Tables.{trees}

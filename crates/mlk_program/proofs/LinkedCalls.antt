@@ -5,11 +5,11 @@ use Rattle.std.proofs.Math.Seq.{take-suc}
 use Rattle.std.proofs.lemmas.Grind.{flat_map-append}
 use Rattle.std.proofs.lemmas.List.Elements.{Contains-append_cases}
 use Rattle.mlk_text.specs.declared.fault.Fault.{Fault}
-use Rattle.mlk_tree.specs.Trees.{RoutineTree}
+use Rattle.mlk_syntax.specs.Trees.{RoutineTree}
 use Rattle.mlk_program.specs.Program.{PlacedCall, call_fault, AreResolved, IsFirstFault, IsCallFault, shared_by}
 use Rattle.mlk_program.specs.Program.{called_formals, takes, shared_with, fault_with, arity_fault}
-use Rattle.mlk_found.specs.Found.{site_of, given_of}
-use Rattle.mlk_found.specs.declared.call.CallSite.{CallSite}
+use Rattle.mlk_program.specs.Found.{site_of, given_of}
+use Rattle.mlk_program.specs.declared.call.CallSite.{CallSite}
 use Rattle.mlk_program.specs.Linking.{Gains, Links, placed_at}
 use Rattle.mlk_program.proofs.NameTables.{drop_at}
 use Rattle.mlk_program.proofs.SharedNames.{gains_both, gains_none}

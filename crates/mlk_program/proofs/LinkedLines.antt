@@ -1,14 +1,14 @@
 -- The calls of lines.
 use Rattle.std.proofs.Common.{◌≡◌, refl, sym, ap, ◌∙◌, ℕ, List, [], ◌∷◌, ◌++◌, map, append_assoc}
 use Rattle.std.specs.Prelude.{flat_map}
-use Rattle.mlk_tree.specs.declared.routine.Line.{Line}
-use Rattle.mlk_tree.specs.declared.routine.Line.TheViews.{out-Line}
-use Rattle.mlk_tree.specs.declared.routine.Line.TheFolds.{fold_out-Line}
-use Rattle.mlk_tree.specs.Trees.{HeadTree, LineTrees}
-use Rattle.mlk_tree.specs.Views.{line_of, line_step, lines_from, commands_of}
-use Rattle.mlk_found.specs.declared.call.CallSite.{CallSite}
-use Rattle.mlk_found.specs.Calls.{in_commands}
-use Rattle.mlk_found.specs.Found.{Finds, site_of}
+use Rattle.mlk_syntax.specs.declared.routine.Line.{Line}
+use Rattle.mlk_syntax.specs.declared.routine.Line.TheViews.{out-Line}
+use Rattle.mlk_syntax.specs.declared.routine.Line.TheFolds.{fold_out-Line}
+use Rattle.mlk_syntax.specs.Trees.{HeadTree, LineTrees}
+use Rattle.mlk_syntax.specs.Views.{line_of, line_step, lines_from, commands_of}
+use Rattle.mlk_program.specs.declared.call.CallSite.{CallSite}
+use Rattle.mlk_program.specs.Calls.{in_commands}
+use Rattle.mlk_program.specs.Found.{Finds, site_of}
 use Rattle.mlk_program.specs.Program.{placed, calls_in}
 use Rattle.mlk_program.specs.Linking.{placed_at, placed_in}
 

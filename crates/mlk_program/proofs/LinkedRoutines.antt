@@ -2,12 +2,12 @@
 use Rattle.std.proofs.Common.{◌≡◌, ◌<◌, ◌≤◌, ◌+◌, refl, sym, ap, ◌∙◌, subst, arith, take_all, ℕ, suc, List, [], ◌∷◌, ◌++◌, map, take, drop, length, get_or, append_assoc, append-nil, length-take-le, le_of_lt}
 use Rattle.std.specs.Prelude.{flat_map, bytes_eq}
 use Rattle.std.specs.List.{list_any}
-use Rattle.mlk_tree.specs.Distinct.{AreDistinct}
+use Rattle.mlk_syntax.specs.Distinct.{AreDistinct}
 use Rattle.std.proofs.lemmas.List.{length-map}
 use Rattle.mlk_text.specs.declared.fault.Fault.{Fault}
-use Rattle.mlk_tree.specs.declared.routine.Routine.{Routine}
-use Rattle.mlk_tree.specs.Trees.{RoutineTree, Named_routine}
-use Rattle.mlk_tree.specs.Views.{routine_of}
+use Rattle.mlk_syntax.specs.declared.routine.Routine.{Routine}
+use Rattle.mlk_syntax.specs.Trees.{RoutineTree, Named_routine}
+use Rattle.mlk_syntax.specs.Views.{routine_of}
 use Rattle.mlk_program.specs.Entries.{name_of}
 use Rattle.mlk_program.specs.Program.{calls_in, calls_from, calls_of, name_at, IsFirstFault, AreTooMany, IsProgram, is_shared}
 use Rattle.mlk_program.specs.Tables.{trees}

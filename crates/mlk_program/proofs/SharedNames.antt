@@ -2,8 +2,8 @@
 use Rattle.std.proofs.Common.{◌≡◌, ℕ, List, [], ◌∷◌, ◌++◌, map, Bool, true, false, refl, sym, ap, ◌∙◌, subst, Bor, ⊎_elim, ◌<◌, ◌+◌, suc, length, take, get_or, append_assoc, append-nil, add-one, length-take-le, le_of_lt}
 use Rattle.std.proofs.Math.Seq.{take-suc}
 use Rattle.std.specs.Prelude.{◌||◌, bytes_eq, flat_map, zip, slice_get}
-use Rattle.mlk_tree.specs.declared.expr.Actual.{Actual}
-use Rattle.mlk_tree.specs.ExprTrees.{ActualTree, actual_of, actual_trees}
+use Rattle.mlk_syntax.specs.declared.expr.Actual.{Actual}
+use Rattle.mlk_syntax.specs.ExprTrees.{ActualTree, actual_of, actual_trees}
 use Rattle.mlk_program.specs.Program.{received_by, received_at}
 use Rattle.std.specs.List.{list_any}
 use Rattle.std.proofs.lemmas.Bool.{cases_Bool}

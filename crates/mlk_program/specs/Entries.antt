@@ -2,8 +2,8 @@
 use Rattle.std.specs.Prelude.{ℕ, suc, List, [], ◌∷◌, ◌++◌, Bool, true, false, Option, Some, None, option_map}
 use Rattle.std.specs.Prelude.{option_and_then, position, slice_get, bytes_eq, is_some, is_none, take_while, count_by, ◌+◌, drop}
 use Rattle.mlk_text.specs.Lexemes.{entry_of}
-use Rattle.mlk_tree.specs.declared.expr.Callee.{Callee}
-use Rattle.mlk_tree.specs.Trees.{RoutineTree, Named_routine, LineTrees, no_lines, line, HeadTree, LineHead}
+use Rattle.mlk_syntax.specs.declared.expr.Callee.{Callee}
+use Rattle.mlk_syntax.specs.Trees.{RoutineTree, Named_routine, LineTrees, no_lines, line, HeadTree, LineHead}
 use Rattle.mlk_program.specs.declared.entry.EntryId.{EntryId}
 
 abbrev pub name_of : RoutineTree → List ℕ

@@ -2,8 +2,8 @@
 -- its actuals.
 use Rattle.std.specs.Prelude.{ℕ, ◌≡◌, List, Contains, Option, Some, true}
 use Rattle.mlk_text.specs.Spellings.{IsName, IsLabel}
-use Rattle.mlk_tree.specs.declared.expr.Callee.{Callee}
-use Rattle.mlk_tree.specs.Trees.{RoutineTree, HeadTree, LineTrees, CallTree, Called}
+use Rattle.mlk_syntax.specs.declared.expr.Callee.{Callee}
+use Rattle.mlk_syntax.specs.Trees.{RoutineTree, HeadTree, LineTrees, CallTree, Called}
 use Rattle.mlk_program.specs.Entries.{name_of, lines_in, label_of, formals_of, entry_in, entry_by, target_of}
 use Rattle.mlk_program.specs.Entries.{line_of_entry, text_of_entry}
 use Rattle.mlk_program.specs.Program.{PlacedCall, calls_of, takes, IsProgram}

@@ -1,3 +1,6 @@
+pub mod Calls
+pub mod Found
+pub mod News
 pub mod Entries
 pub mod Tables
 pub mod Program

@@ -4,11 +4,11 @@ use Rattle.std.specs.List.{list_any}
 use Rattle.mlk_text.specs.declared.failure.Failure.{Failure}
 use Rattle.mlk_text.specs.declared.failure.Failure.TheVariants.{OutOfMemory, Refused}
 use Rattle.mlk_text.specs.declared.fault.Fault.{Fault}
-use Rattle.mlk_tree.specs.declared.routine.Line.{Line}
-use Rattle.mlk_tree.specs.Views.{line_of}
-use Rattle.mlk_tree.specs.Trees.{RoutineTree}
-use Rattle.mlk_found.specs.declared.call.CallSite.{CallSite}
-use Rattle.mlk_found.specs.Found.{site_of}
+use Rattle.mlk_syntax.specs.declared.routine.Line.{Line}
+use Rattle.mlk_syntax.specs.Views.{line_of}
+use Rattle.mlk_syntax.specs.Trees.{RoutineTree}
+use Rattle.mlk_program.specs.declared.call.CallSite.{CallSite}
+use Rattle.mlk_program.specs.Found.{site_of}
 use Rattle.mlk_program.specs.Program.{PlacedCall, AreResolved, shared_by, placed, calls_in}
 
 -- what holds of a refusal, unless memory ran out

@@ -6,12 +6,12 @@ use Rattle.std.specs.List.{list_any}
 use Rattle.mlk_text.specs.declared.code.Code.{Code}
 use Rattle.mlk_text.specs.declared.code.Code.TheVariants.{RoutineTwice, TooMany, UnknownLabel, Arity}
 use Rattle.mlk_text.specs.declared.fault.Fault.{Fault}
-use Rattle.mlk_tree.specs.declared.expr.Callee.{Callee}
-use Rattle.mlk_tree.specs.ExprTrees.{ActualTree, Given, ByRef, Missing}
-use Rattle.mlk_tree.specs.Trees.{RoutineTree, Named_routine, LineTrees, no_lines, line, HeadTree, LineHead}
-use Rattle.mlk_tree.specs.Trees.{CallTree, Called}
-use Rattle.mlk_tree.specs.Distinct.{AreDistinct}
-use Rattle.mlk_found.specs.Calls.{in_commands}
+use Rattle.mlk_syntax.specs.declared.expr.Callee.{Callee}
+use Rattle.mlk_syntax.specs.ExprTrees.{ActualTree, Given, ByRef, Missing}
+use Rattle.mlk_syntax.specs.Trees.{RoutineTree, Named_routine, LineTrees, no_lines, line, HeadTree, LineHead}
+use Rattle.mlk_syntax.specs.Trees.{CallTree, Called}
+use Rattle.mlk_syntax.specs.Distinct.{AreDistinct}
+use Rattle.mlk_program.specs.Calls.{in_commands}
 use Rattle.mlk_program.specs.Entries.{name_of, formals_of, target_of, line_of_entry, entry_count}
 
 -- a call, with the routine in which it stands, counted from 0, and its line

@@ -4,10 +4,10 @@ use Rattle.std.specs.Prelude.{ℕ, ◌≡◌, List, [], ◌∷◌, Option, Some,
 use Rattle.std.specs.Prelude.{Bool, option_and_then, slice_get}
 use Rattle.std.specs.List.{prefix_len}
 use Rattle.std.specs.declared.alloc.Global.{Global}
-use Rattle.mlk_tree.specs.declared.routine.Line.{Line}
-use Rattle.mlk_tree.specs.declared.routine.Routine.{Routine}
-use Rattle.mlk_tree.specs.Trees.{RoutineTree}
-use Rattle.mlk_tree.specs.Views.{line_of, routine_of}
+use Rattle.mlk_syntax.specs.declared.routine.Line.{Line}
+use Rattle.mlk_syntax.specs.declared.routine.Routine.{Routine}
+use Rattle.mlk_syntax.specs.Trees.{RoutineTree}
+use Rattle.mlk_syntax.specs.Views.{line_of, routine_of}
 use Rattle.mlk_program.specs.Entries.{is_label, label_of, lacks_formals}
 use Rattle.mlk_program.specs.declared.entry.EntryId.{EntryId}
 

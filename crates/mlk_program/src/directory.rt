@@ -1,14 +1,14 @@
 // Routines with tables of their names and labels.
 
 ghost use Rattle.std.specs.Prelude.{◌≡◌, IfOk, Some, None, option_map, option_and_then, option_copied, slice_get, map, take, drop, suc};
-ghost use Rattle.mlk_tree.specs.Views.{line_of};
+ghost use Rattle.mlk_syntax.specs.Views.{line_of};
 ghost use Rattle.mlk_program.specs.Entries.{entry_in, routine_named, target_of, entry_by, line_of_entry, lines_of, line_named, lines_in, lacks_formals, label_of, text_with, text_of_entry};
 ghost use Rattle.mlk_program.specs.Tables.{trees, AreTables, AreLater, first_of, later_lines, later_of};
 
 use crate::entry::EntryId;
 use crate::table::Table;
+use mlk_syntax::{Callee, Line, Routine};
 use mlk_text::{Name, spelling};
-use mlk_tree::{Callee, Line, Routine};
 use std::alloc::{AllocError, Global};
 use std::marker::Model;
 
@@ -24,9 +24,9 @@ pub(crate) struct Directory<'a> {
 
 impl<'a> Model for Directory<'a> {
     ghost use Rattle.std.specs.Prelude.{List, Some};
-    ghost use Rattle.mlk_tree.specs.declared.routine.Routine.{Routine};
+    ghost use Rattle.mlk_syntax.specs.declared.routine.Routine.{Routine};
     ghost use Rattle.mlk_program.specs.Tables.{IsTableOf, AreTables, AreLater};
-    ghost use Rattle.mlk_tree.specs.contracts.routine.Line as line;
+    ghost use Rattle.mlk_syntax.specs.contracts.routine.Line as line;
     ghost use Rattle.std.specs.Coded.{codes};
 
     ghost Value = { List Routine };

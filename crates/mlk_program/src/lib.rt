@@ -1,17 +1,23 @@
-//! Programs: routines, each of whose calls has a line that takes its actuals.
+//! Programs: routines, each of whose calls has a line that takes its actuals; the calls and the names made new that stand in lines.
 #![tactic(auto)]
 
+mod call;
 mod directory;
 mod entry;
+mod expr;
 mod fault;
+mod found;
 mod law;
 mod linking;
+mod news;
 mod program;
 mod shared;
 mod table;
 
+pub use call::CallSite;
 pub use entry::EntryId;
+pub use found::{calls_of, in_commands};
 pub use law::{calls_fit, entries_have_lines, entries_named, texts_name};
 pub use linking::link;
-pub use mlk_found::{CallSite, NewNames, calls_of, new_names};
+pub use news::{NewNames, new_names};
 pub use program::Program;

@@ -1,22 +1,23 @@
 // Linking.
 
 ghost use Rattle.std.specs.Prelude.{◌≡◌, flat_map, IfOk, OnOk, IfErr, Some, None, true, map, not, option_map};
-ghost use Rattle.mlk_tree.specs.ExprTrees.{actual_trees};
-ghost use Rattle.mlk_tree.specs.Views.{line_of, routine_of};
-ghost use Rattle.mlk_tree.specs.Distinct.{AreDistinct};
+ghost use Rattle.mlk_syntax.specs.ExprTrees.{actual_trees};
+ghost use Rattle.mlk_syntax.specs.Views.{line_of, routine_of};
+ghost use Rattle.mlk_syntax.specs.Distinct.{AreDistinct};
 ghost use Rattle.mlk_program.specs.Entries.{name_of, entries_among, formals_of};
 ghost use Rattle.mlk_program.specs.Program.{takes, called_formals, call_fault, shared_by, AreTooMany, IsTwice, IsPastLimit, IsCallFault, IsFirstFault, calls_of, shared_with, name_at, IsProgram, IsLinkFault};
-ghost use Rattle.mlk_found.specs.Found.{site_of, given_of};
+ghost use Rattle.mlk_program.specs.Found.{site_of, given_of};
 ghost use Rattle.mlk_program.specs.Tables.{trees};
 ghost use Rattle.mlk_program.specs.Linking.{IfRefused, Gains, Links, placed_at, placed_in};
 
+use crate::call::CallSite;
 use crate::directory::Directory;
 use crate::fault::refusal;
+use crate::found::in_commands;
 use crate::program::Program;
 use crate::shared::Shared;
-use mlk_found::{CallSite, in_commands};
+use mlk_syntax::{Actual, Callee, Line, Rare, Routine};
 use mlk_text::{Code, Column, Failure, Fault, LineNumber, List, Name};
-use mlk_tree::{Actual, Callee, Line, Rare, Routine};
 use std::alloc::{AllocError, Global};
 
 // How many routines a program may have.

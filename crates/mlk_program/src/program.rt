@@ -1,15 +1,15 @@
 // Programs.
 
 ghost use Rattle.std.specs.Prelude.{◌≡◌, IfOk, map, option_map, option_copied, slice_get};
-ghost use Rattle.mlk_tree.specs.Views.{line_of, routine_of};
+ghost use Rattle.mlk_syntax.specs.Views.{line_of, routine_of};
 ghost use Rattle.mlk_program.specs.Entries.{target_of, entry_by, line_of_entry, lines_of, text_of_entry};
 ghost use Rattle.mlk_program.specs.Program.{is_shared};
 
 use crate::directory::Directory;
 use crate::entry::EntryId;
 use crate::shared::Shared;
+use mlk_syntax::{Callee, Line, Routine};
 use mlk_text::Name;
-use mlk_tree::{Callee, Line, Routine};
 use std::alloc::{AllocError, Global};
 use std::marker::Model;
 
@@ -24,9 +24,9 @@ impl<'a> Model for Program<'a> {
     ghost use Rattle.std.specs.Prelude.{List, ℕ, ◌≡◌, map, bytes_eq};
     ghost use Rattle.std.specs.List.{list_any};
     ghost use Rattle.std.specs.Coded.{codes};
-    ghost use Rattle.mlk_tree.specs.contracts.routine.Line as line;
-    ghost use Rattle.mlk_tree.specs.declared.routine.Routine.{Routine};
-    ghost use Rattle.mlk_tree.specs.Views.{routine_of};
+    ghost use Rattle.mlk_syntax.specs.contracts.routine.Line as line;
+    ghost use Rattle.mlk_syntax.specs.declared.routine.Routine.{Routine};
+    ghost use Rattle.mlk_syntax.specs.Views.{routine_of};
     ghost use Rattle.mlk_program.specs.Program.{IsProgram, is_shared};
 
     ghost Value = { List Routine };

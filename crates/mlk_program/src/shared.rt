@@ -2,14 +2,14 @@
 
 ghost use Rattle.std.specs.Prelude.{◌≡◌, ◌∷◌, [], OnOk, bytes_eq, flat_map, zip, option_copied};
 ghost use Rattle.std.specs.List.{list_any};
-ghost use Rattle.mlk_tree.specs.ExprTrees.{actual_of, actual_trees};
+ghost use Rattle.mlk_syntax.specs.ExprTrees.{actual_of, actual_trees};
 ghost use Rattle.mlk_program.specs.Program.{lent_by, received_by, received_at};
 ghost use Rattle.mlk_program.specs.Linking.{Gains};
 
 use crate::directory::item;
 use indexmap::IndexSet;
+use mlk_syntax::Actual;
 use mlk_text::Name;
-use mlk_tree::Actual;
 use std::alloc::{AllocError, Global};
 use std::marker::Model;
 

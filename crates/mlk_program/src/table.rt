@@ -4,7 +4,7 @@ ghost use Rattle.std.specs.Prelude.{◌≡◌, ◌∷◌, ◌++◌, [], OnOk, If
 ghost use Rattle.mlk_program.specs.Tables.{first_with, SameFirst, one_at, IsTableOf};
 
 use indexmap::IndexMap;
-use mlk_tree::{Line, Routine};
+use mlk_syntax::{Line, Routine};
 use std::alloc::{AllocError, Global};
 use std::marker::Model;
 
@@ -29,7 +29,7 @@ impl Labelled for Routine {
 }
 
 impl Labelled for Line {
-    ghost use Rattle.mlk_tree.specs.Views.{line_of};
+    ghost use Rattle.mlk_syntax.specs.Views.{line_of};
     ghost use Rattle.mlk_program.specs.Entries.{label_of};
 
     ghost label = { λ l. label_of (line_of l).0 };

@@ -11,9 +11,9 @@ mod refusals;
 use mlk_program::link;
 #[cfg(test)]
 use mlk_routine::read_routine;
+use mlk_syntax::Routine;
 #[cfg(test)]
 use mlk_text::{Failure, Fault};
-use mlk_tree::Routine;
 #[cfg(test)]
 use std::alloc::{AllocError, Global};
 

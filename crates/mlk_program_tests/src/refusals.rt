@@ -1,10 +1,10 @@
-// Routines that make no program. A routine that makes none by itself stands in the rows of `mlk_reader_rows`.
+// Routines that make no program. A routine that makes none by itself stands in the rows of `mlk_reader_cases`.
 
 use crate::routines;
 use mlk_program::link;
 use mlk_routine::read_routine;
+use mlk_syntax::Routine;
 use mlk_text::{Failure, Fault};
-use mlk_tree::Routine;
 use std::alloc::Global;
 
 // The code of a refusal, with its routine, line and column.

@@ -2,12 +2,12 @@
 use Rattle.std.proofs.Common.{◌≡◌, ◌++◌, ◌∷◌, [], List, Result, Ok, Err, refl, ap, ◌∙◌, append_assoc, subst}
 use Rattle.std.specs.Prelude.{map, IfErr}
 use Rattle.std.specs.List.{AllZip}
-use Rattle.mlk_tree.specs.declared.routine.Routine.{Routine}
-use Rattle.mlk_tree.specs.Views.{routine_of}
+use Rattle.mlk_syntax.specs.declared.routine.Routine.{Routine}
+use Rattle.mlk_syntax.specs.Views.{routine_of}
 use Rattle.mlk_text.specs.declared.fault.Fault.{Fault}
 use Rattle.mlk_text.specs.declared.failure.Failure.{Failure}
 use Rattle.mlk_text.specs.declared.failure.Failure.TheVariants as failure
-use Rattle.mlk_tree.specs.Trees.{RoutineTree}
+use Rattle.mlk_syntax.specs.Trees.{RoutineTree}
 use Rattle.mlk_routine.specs.Refusals.{NoRoutine, Places}
 use Rattle.mlk_readers.specs.declared.source.Source.{Source}
 use Rattle.mlk_readers.specs.Reading.{IsRead, AreRead, RefusesFirst}

@@ -3,8 +3,8 @@ use Rattle.std.specs.Prelude.{◌≡◌, List, ◌∷◌, ◌++◌, Result, Ok, 
 use Rattle.mlk_text.specs.declared.fault.Fault.{Fault}
 use Rattle.mlk_text.specs.declared.failure.Failure.{Failure}
 use Rattle.mlk_text.specs.declared.failure.Failure.TheVariants as failure
-use Rattle.mlk_tree.specs.declared.routine.Routine.{Routine}
-use Rattle.mlk_tree.specs.Views.{routine_of}
+use Rattle.mlk_syntax.specs.declared.routine.Routine.{Routine}
+use Rattle.mlk_syntax.specs.Views.{routine_of}
 use Rattle.mlk_routine.specs.Refusals.{NoRoutine, Places}
 use Rattle.mlk_readers.specs.declared.source.Source.{Source}
 use Rattle.mlk_readers.specs.Reading.{IsRead}

@@ -4,7 +4,7 @@ use Rattle.std.specs.Prelude.{◌≡◌, List, [], ◌∷◌, ◌++◌}
 use Rattle.mlk_text.specs.declared.fault.Fault.{Fault}
 use Rattle.mlk_text.specs.declared.failure.Failure.{Failure}
 use Rattle.mlk_text.specs.declared.failure.Failure.TheVariants as failure
-use Rattle.mlk_tree.specs.Trees.{RoutineTree}
+use Rattle.mlk_syntax.specs.Trees.{RoutineTree}
 use Rattle.mlk_routine.specs.RoutineGrammar.{IsRoutine}
 use Rattle.mlk_routine.specs.Refusals.{NoRoutine, Places}
 use Rattle.mlk_readers.specs.declared.source.Source.{Source}

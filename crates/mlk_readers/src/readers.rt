@@ -2,14 +2,14 @@
 
 ghost use Rattle.std.specs.Prelude.{◌≡◌, ◌++◌, ◌∷◌, List, Ok, Err, IfOk, IfErr, map};
 ghost use Rattle.std.specs.List.{AllZip};
-ghost use Rattle.mlk_tree.specs.Views.{routine_of};
+ghost use Rattle.mlk_syntax.specs.Views.{routine_of};
 ghost use Rattle.mlk_readers.specs.Reading.{AreRead, RefusesFirst};
 ghost use Rattle.mlk_readers.specs.Answers.{IsAnswer, IsFirstError};
 
 use crate::source::Source;
 use mlk_routine::read_routine;
+use mlk_syntax::Routine;
 use mlk_text::{Failure, Fault};
-use mlk_tree::Routine;
 use rayon::current_num_threads;
 use rayon::prelude::*;
 use std::alloc::{AllocError, Global};

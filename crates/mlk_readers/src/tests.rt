@@ -2,8 +2,8 @@
 
 use crate::readers::read_all;
 use crate::source::Source;
+use mlk_syntax::Routine;
 use mlk_text::{Code, Failure, Fault};
-use mlk_tree::Routine;
 use std::alloc::{AllocError, Global};
 use std::test::Fail;
 

@@ -5,18 +5,18 @@ use Rattle.std.specs.Prelude.{Option, ◌⊎◌}
 use Rattle.std.proofs.lemmas.Bool.{cases_Bool}
 use Rattle.std.proofs.lemmas.Bool.Decides.{nat_tests}
 use Rattle.mlk_text.specs.Lexemes.{is_letter}
-use Rattle.mlk_tree.specs.ExprTrees.{Tree}
+use Rattle.mlk_syntax.specs.ExprTrees.{Tree}
 use Rattle.mlk_expr.specs.Grammar.{Spelled}
-use Rattle.mlk_tokens.specs.Lexemes.{ends}
+use Rattle.mlk_expr_tokens.specs.Lexemes.{ends}
 use Rattle.mlk_expr.specs.Theorem.{ExprEnds}
-use Rattle.mlk_arguments.specs.declared.word.Word.{Word}
-use Rattle.mlk_tree.specs.Trees.{ActionTree, Do, Else, Halt, Hang, If, Job, Kill, Lock, Merge, New, Quit, Read, Set, Write, CommandTree, Does}
-use Rattle.mlk_arguments.specs.Ends.{Lacks, starts, is_command_end, StopEnds, CommandEnd}
-use Rattle.mlk_arguments.specs.CommandWords.{may_have_condition, has_arguments}
-use Rattle.mlk_arguments.specs.CommandGrammar.{Both, IsValue, IsDo, IsJob, IsKill, IsLock, IsMerge, IsNew, IsRead, IsSet, IsWrite, IsCondition, AreSome, ArePerhaps, AreArgumentsOf, IsQuit, IsCommand}
-use Rattle.mlk_arguments.specs.Kinds.{kind, halts_or_hangs, Means, IsNamed, WordEnds, has_condition, IsConditionOf, ConditionEnds, IsActionOf, ActionEnds}
-use Rattle.mlk_arguments.proofs.Sequences.{Parts}
-use Rattle.mlk_arguments.proofs.Words.{means_written, written_means}
+use Rattle.mlk_routine_arguments.specs.declared.word.Word.{Word}
+use Rattle.mlk_syntax.specs.Trees.{ActionTree, Do, Else, Halt, Hang, If, Job, Kill, Lock, Merge, New, Quit, Read, Set, Write, CommandTree, Does}
+use Rattle.mlk_routine_arguments.specs.Ends.{Lacks, starts, is_command_end, StopEnds, CommandEnd}
+use Rattle.mlk_routine_arguments.specs.CommandWords.{may_have_condition, has_arguments}
+use Rattle.mlk_routine_arguments.specs.CommandGrammar.{Both, IsValue, IsDo, IsJob, IsKill, IsLock, IsMerge, IsNew, IsRead, IsSet, IsWrite, IsCondition, AreSome, ArePerhaps, AreArgumentsOf, IsQuit, IsCommand}
+use Rattle.mlk_routine_arguments.specs.Kinds.{kind, halts_or_hangs, Means, IsNamed, WordEnds, has_condition, IsConditionOf, ConditionEnds, IsActionOf, ActionEnds}
+use Rattle.mlk_routine_arguments.proofs.Sequences.{Parts}
+use Rattle.mlk_routine_arguments.proofs.Words.{means_written, written_means}
 
 -- a postconditional and what the command does, after the word
 abbrev pub IsTail : Word → Bool → ℕ → Option Tree × ActionTree → List ℕ → Type 0

@@ -1,26 +1,26 @@
 -- What a command does, by its word.
 use Rattle.std.proofs.Common.{◌≡◌, ◌≤◌, ℕ, suc, List, [], ◌∷◌, ◌++◌, length, drop, Some, None, Bool, true, false, inl, inr, refl, sym, ap, ◌∙◌, subst}
 use Rattle.std.specs.Prelude.{Option, ◌⊎◌}
-use Rattle.mlk_tree.specs.ExprTrees.{Tree}
+use Rattle.mlk_syntax.specs.ExprTrees.{Tree}
 use Rattle.mlk_expr.specs.Theorem.{Stands}
 use Rattle.mlk_text.specs.declared.failure.Failure.{Failure}
 use Rattle.mlk_text.specs.declared.failure.Failure.TheVariants.{OutOfMemory, Refused}
 use Rattle.mlk_text.specs.declared.fault.Fault.{Fault}
-use Rattle.mlk_arguments.specs.declared.word.Word.{Word}
-use Rattle.mlk_arguments.specs.declared.word.Word.TheVariants as word
-use Rattle.mlk_tree.specs.Trees.{DoTree, CallTree, KillTree, LockTree, MergeTree, NewTree, ReadTree, SetTree, WriteTree}
-use Rattle.mlk_tree.specs.Trees.{ActionTree, Do, Else, Halt, Hang, If, Job, Kill, Lock, Merge, New, Quit, Read, Set, Write}
-use Rattle.mlk_arguments.specs.Told.{Found, Nowhere, Denied}
-use Rattle.mlk_arguments.specs.Faults.{IsFaulty}
-use Rattle.mlk_arguments.specs.Ends.{is_stop, is_bare_end, StopEnds}
-use Rattle.mlk_arguments.specs.CommandWords.{has_any}
-use Rattle.mlk_arguments.specs.CommandGrammar.{IsValue, ArePerhaps, IsQuit, AreArgumentsOf}
-use Rattle.mlk_arguments.specs.Begins.{front_begins, expr_begins}
+use Rattle.mlk_routine_arguments.specs.declared.word.Word.{Word}
+use Rattle.mlk_routine_arguments.specs.declared.word.Word.TheVariants as word
+use Rattle.mlk_syntax.specs.Trees.{DoTree, CallTree, KillTree, LockTree, MergeTree, NewTree, ReadTree, SetTree, WriteTree}
+use Rattle.mlk_syntax.specs.Trees.{ActionTree, Do, Else, Halt, Hang, If, Job, Kill, Lock, Merge, New, Quit, Read, Set, Write}
+use Rattle.mlk_routine_arguments.specs.Told.{Found, Nowhere, Denied}
+use Rattle.mlk_routine_arguments.specs.Faults.{IsFaulty}
+use Rattle.mlk_routine_arguments.specs.Ends.{is_stop, is_bare_end, StopEnds}
+use Rattle.mlk_routine_arguments.specs.CommandWords.{has_any}
+use Rattle.mlk_routine_arguments.specs.CommandGrammar.{IsValue, ArePerhaps, IsQuit, AreArgumentsOf}
+use Rattle.mlk_routine_arguments.specs.Begins.{front_begins, expr_begins}
 use Rattle.mlk_expr.specs.declared.scope.Allows.TheVariants.{Everything}
-use Rattle.mlk_arguments.specs.Kinds.{kind, halts_or_hangs, Means, IsActionOf, ActionEnds, halting}
-use Rattle.mlk_arguments.proofs.Bytes.{AfterByte}
-use Rattle.mlk_arguments.proofs.Sequences.{Turned}
-use Rattle.mlk_arguments.proofs.Stopping.{command_stop}
+use Rattle.mlk_routine_arguments.specs.Kinds.{kind, halts_or_hangs, Means, IsActionOf, ActionEnds, halting}
+use Rattle.mlk_routine_arguments.proofs.Bytes.{AfterByte}
+use Rattle.mlk_routine_arguments.proofs.Sequences.{Turned}
+use Rattle.mlk_routine_arguments.proofs.Stopping.{command_stop}
 
 -- the arguments of a word's commands; `H` is not the word of one
 abbrev pub Content : Word → Type 0

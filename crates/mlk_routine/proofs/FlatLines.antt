@@ -7,15 +7,15 @@ use Rattle.mlk_text.specs.declared.failure.Failure.{Failure}
 use Rattle.mlk_text.specs.declared.failure.Failure.TheVariants.{OutOfMemory, Refused}
 use Rattle.mlk_text.specs.declared.fault.Fault.{Fault}
 use Rattle.mlk_routine.specs.declared.line.Before.{Before}
-use Rattle.mlk_tree.specs.Trees.{HeadTree, LineHead}
-use Rattle.mlk_arguments.specs.Told.{IsRefusal}
-use Rattle.mlk_arguments.specs.Faults.{IsLineFault}
+use Rattle.mlk_syntax.specs.Trees.{HeadTree, LineHead}
+use Rattle.mlk_routine_arguments.specs.Told.{IsRefusal}
+use Rattle.mlk_routine_arguments.specs.Faults.{IsLineFault}
 use Rattle.mlk_routine.specs.Refusals.{IfRefused, IsOfLine}
 use Rattle.mlk_routine.specs.RoutineGrammar.{AreLines, IsLine, labels_of, level_of, reaches, is_line_byte}
-use Rattle.mlk_tree.specs.Distinct.{AreDistinct}
+use Rattle.mlk_syntax.specs.Distinct.{AreDistinct}
 use Rattle.mlk_routine.specs.Lines.{has_name, label_of, is_in, is_labelled, FitsAfter, IsLineOnly, IsWithLine, NoLine, Follow, AllPlain, AreHeads, AreHeadsOnly, NoHeads, texts_of}
 use Rattle.mlk_routine.proofs.FormalLists.{AreSeen, AllFresh, fresh_distinct, distinct_fresh, more_seen}
-use Rattle.mlk_tree.proofs.Distinct.{among}
+use Rattle.mlk_syntax.proofs.Distinct.{among}
 
 -- names, of which the last is new
 fresh_more : (seen names : List (List ℕ)) (n : List ℕ) → AllFresh seen names → among n (seen ++ names) ≡ false → AllFresh seen (names ++ n ∷ [])

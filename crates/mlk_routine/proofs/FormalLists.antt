@@ -8,16 +8,16 @@ use Rattle.std.proofs.lemmas.Option.{same_Some}
 use Rattle.std.proofs.lemmas.List.Elements.{Contains-append_left, Contains-append_right, Contains-append_cases}
 use Rattle.mlk_expr.specs.Grammar.{AreNext, IsNameText}
 use Rattle.mlk_expr.specs.Theorem.{Stands, LabelEnds}
-use Rattle.mlk_tree.proofs.Distinct.{among, in_one, here, not_in_none, is_among, not_among}
-use Rattle.mlk_arguments.specs.Told.{Found, Nowhere, first_of, byte_at}
-use Rattle.mlk_arguments.specs.Ends.{AnyEnds}
-use Rattle.mlk_arguments.specs.CommandGrammar.{After}
-use Rattle.mlk_arguments.specs.Stops.{name_stop}
+use Rattle.mlk_syntax.proofs.Distinct.{among, in_one, here, not_in_none, is_among, not_among}
+use Rattle.mlk_routine_arguments.specs.Told.{Found, Nowhere, first_of, byte_at}
+use Rattle.mlk_routine_arguments.specs.Ends.{AnyEnds}
+use Rattle.mlk_routine_arguments.specs.CommandGrammar.{After}
+use Rattle.mlk_routine_arguments.specs.Stops.{name_stop}
 use Rattle.mlk_routine.specs.RoutineGrammar.{IsFormals}
-use Rattle.mlk_tree.specs.Distinct.{AreDistinct}
+use Rattle.mlk_syntax.specs.Distinct.{AreDistinct}
 use Rattle.mlk_routine.specs.Lines.{has_name, IsUnseen, IsFormalList}
-use Rattle.mlk_arguments.proofs.Sequences.{Parts, Turned, next_is, not_after, both_found, first_nowhere, second_nowhere, turned_found, turned_nowhere}
-use Rattle.mlk_arguments.proofs.Bytes.{AfterByte, after_found, after_nowhere, byte_there, byte_before, drop_next}
+use Rattle.mlk_routine_arguments.proofs.Sequences.{Parts, Turned, next_is, not_after, both_found, first_nowhere, second_nowhere, turned_found, turned_nowhere}
+use Rattle.mlk_routine_arguments.proofs.Bytes.{AfterByte, after_found, after_nowhere, byte_there, byte_before, drop_next}
 
 -- the bytes of a name that stands at a place
 pub text_of : (line : List ℕ) (at : ℕ) (name : List ℕ) (next : ℕ) → at ≤ length line → Stands IsNameText LabelEnds line at name next → take (next - at) (drop at line) ≡ name

@@ -8,12 +8,12 @@ use Rattle.std.specs.List.{list_all}
 use Rattle.mlk_text.specs.Lexemes.{is_digit}
 use Rattle.mlk_expr.specs.Theorem.{Stands, LabelEnds}
 use Rattle.mlk_routine.specs.declared.front.Front.{Front}
-use Rattle.mlk_arguments.specs.Told.{Found, Nowhere, first_of, byte_at}
-use Rattle.mlk_arguments.specs.Ends.{AnyEnds, Lacks, starts, is_commands_end}
+use Rattle.mlk_routine_arguments.specs.Told.{Found, Nowhere, first_of, byte_at}
+use Rattle.mlk_routine_arguments.specs.Ends.{AnyEnds, Lacks, starts, is_commands_end}
 use Rattle.mlk_routine.specs.RoutineGrammar.{is_blank, AreBlanks, IsFormals}
 use Rattle.mlk_routine.specs.Lines.{is_label_byte, IsLabelPart, LabelPartEnds, IsFormalList, IsFormalsPart, FormalsPartEnds, IsOpening, OpeningEnds, IsFront, FrontEnds}
-use Rattle.mlk_arguments.specs.CommandGrammar.{Both}
-use Rattle.mlk_arguments.proofs.Sequences.{Parts, Turned, both_found, first_nowhere, second_nowhere}
+use Rattle.mlk_routine_arguments.specs.CommandGrammar.{Both}
+use Rattle.mlk_routine_arguments.proofs.Sequences.{Parts, Turned, both_found, first_nowhere, second_nowhere}
 
 -- a formal list begins with its parenthesis
 formals_open : (formals : List (List ℕ)) (s rest : List ℕ) → IsFormals formals s → first_of (s ++ rest) ≡ Some 40

@@ -9,17 +9,17 @@ use Rattle.mlk_text.specs.declared.failure.Failure.TheVariants.{OutOfMemory, Ref
 use Rattle.mlk_text.specs.declared.fault.Fault.{Fault}
 use Rattle.mlk_routine.specs.declared.front.Front.{Front}
 use Rattle.mlk_routine.specs.declared.line.Before.{Before}
-use Rattle.mlk_tree.specs.Trees.{CommandTrees, HeadTree, LineHead, LineTrees}
-use Rattle.mlk_tree.specs.Views.{commands_of, line_step}
-use Rattle.mlk_tree.specs.declared.routine.Line.{Line}
-use Rattle.mlk_tree.specs.declared.routine.Line.TheOpen.{Line-F}
-use Rattle.mlk_tree.specs.declared.routine.Line.TheViews.{roll-Line}
-use Rattle.mlk_tree.specs.declared.routine.Line.TheFolds.{fold-roll-Line}
-use Rattle.mlk_arguments.specs.Told.{Found, Nowhere, Denied}
-use Rattle.mlk_arguments.specs.Faults.{IsFaulty}
+use Rattle.mlk_syntax.specs.Trees.{CommandTrees, HeadTree, LineHead, LineTrees}
+use Rattle.mlk_syntax.specs.Views.{commands_of, line_step}
+use Rattle.mlk_syntax.specs.declared.routine.Line.{Line}
+use Rattle.mlk_syntax.specs.declared.routine.Line.TheOpen.{Line-F}
+use Rattle.mlk_syntax.specs.declared.routine.Line.TheViews.{roll-Line}
+use Rattle.mlk_syntax.specs.declared.routine.Line.TheFolds.{fold-roll-Line}
+use Rattle.mlk_routine_arguments.specs.Told.{Found, Nowhere, Denied}
+use Rattle.mlk_routine_arguments.specs.Faults.{IsFaulty}
 use Rattle.mlk_routine.specs.RoutineGrammar.{IsLabelled, IsComment, IsBody, IsLine, is_line_byte}
 use Rattle.mlk_routine.specs.Lines.{IsLabelPart, IsFormalsPart, IsOpening, OpeningEnds, IsFront, FrontEnds, AtEnd, IsTailOf, level_in, IsKept, Fits, FitsAfter, IsLineOnly, NoLine, head_of}
-use Rattle.mlk_arguments.proofs.Sequences.{next_is}
+use Rattle.mlk_routine_arguments.proofs.Sequences.{next_is}
 use Rattle.mlk_routine.proofs.Tails.{comment_ends, tail_no_lead}
 
 -- a label with its formals, in two parts

@@ -15,24 +15,24 @@ use Rattle.mlk_text.specs.declared.fault.Fault.{Fault}
 use Rattle.mlk_text.proofs.Runs.{Run, run-is, parted}
 use Rattle.mlk_text.proofs.Spelled.{word-reads}
 use Rattle.mlk_expr.specs.Theorem.{Stands}
-use Rattle.mlk_arguments.specs.declared.word.Word.{Word}
-use Rattle.mlk_arguments.specs.declared.word.Word.TheVariants as word
-use Rattle.mlk_tree.specs.Trees.{CommandTree, Does, ControlTree, Runs, CommandTrees, finished, then_command, then_for}
-use Rattle.mlk_arguments.specs.Told.{Found, Nowhere, Denied, Told}
-use Rattle.mlk_arguments.specs.Faults.{IsFaulty}
-use Rattle.mlk_arguments.specs.Ends.{is_stop, starts, ControlEnds, ParameterEnds, IsRun, RunEnds, is_command_end, is_commands_end, is_bare_end, StopEnds, CommandEnd, CommandsEnd}
-use Rattle.mlk_arguments.specs.CommandWords.{is_for, has_arguments, least_after}
-use Rattle.mlk_arguments.specs.CommandGrammar.{is_space, IsGap, IsCommand, least_of, IsParameter, IsControl, IsForHead, AreCommands}
-use Rattle.mlk_arguments.specs.Stops.{parameter_stop}
-use Rattle.mlk_arguments.specs.Begins.{front_begins, parameter_begins, control_begins}
-use Rattle.mlk_arguments.specs.Kinds.{word_of, is_written, WordEnds}
-use Rattle.mlk_tree.specs.Views.{commands_from}
+use Rattle.mlk_routine_arguments.specs.declared.word.Word.{Word}
+use Rattle.mlk_routine_arguments.specs.declared.word.Word.TheVariants as word
+use Rattle.mlk_syntax.specs.Trees.{CommandTree, Does, ControlTree, Runs, CommandTrees, finished, then_command, then_for}
+use Rattle.mlk_routine_arguments.specs.Told.{Found, Nowhere, Denied, Told}
+use Rattle.mlk_routine_arguments.specs.Faults.{IsFaulty}
+use Rattle.mlk_routine_arguments.specs.Ends.{is_stop, starts, ControlEnds, ParameterEnds, IsRun, RunEnds, is_command_end, is_commands_end, is_bare_end, StopEnds, CommandEnd, CommandsEnd}
+use Rattle.mlk_routine_arguments.specs.CommandWords.{is_for, has_arguments, least_after}
+use Rattle.mlk_routine_arguments.specs.CommandGrammar.{is_space, IsGap, IsCommand, least_of, IsParameter, IsControl, IsForHead, AreCommands}
+use Rattle.mlk_routine_arguments.specs.Stops.{parameter_stop}
+use Rattle.mlk_routine_arguments.specs.Begins.{front_begins, parameter_begins, control_begins}
+use Rattle.mlk_routine_arguments.specs.Kinds.{word_of, is_written, WordEnds}
+use Rattle.mlk_syntax.specs.Views.{commands_from}
 use Rattle.mlk_routine.specs.Leading.{LeadsTo, IsPerhapsControl, IsLoop, LoopEnds}
-use Rattle.mlk_arguments.proofs.Sequences.{Parts, Turned, stands_at, both_found, first_nowhere, second_nowhere, denied_second, not_after, next_is}
-use Rattle.mlk_arguments.proofs.Bytes.{AfterByte}
-use Rattle.mlk_arguments.proofs.Stopping.{command_stop, list_ended}
+use Rattle.mlk_routine_arguments.proofs.Sequences.{Parts, Turned, stands_at, both_found, first_nowhere, second_nowhere, denied_second, not_after, next_is}
+use Rattle.mlk_routine_arguments.proofs.Bytes.{AfterByte}
+use Rattle.mlk_routine_arguments.proofs.Stopping.{command_stop, list_ended}
 use Rattle.mlk_routine.proofs.Commanding.{stop_lacks, no_letter, command_parts}
-use Rattle.mlk_arguments.proofs.Words.{written_means, either_for, stops_not, ends_stop}
+use Rattle.mlk_routine_arguments.proofs.Words.{written_means, either_for, stops_not, ends_stop}
 
 -- Words begin with letters, and nothing else does.
 word_letter : (s : List ℕ) (w : Word) → IsWord s → word_of s ≡ Some w → starts is_letter s ≡ true

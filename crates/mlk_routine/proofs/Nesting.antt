@@ -1,6 +1,6 @@
 -- Blocks under the lines that head them.
 use Rattle.std.proofs.Common.{◌≡◌, ◌<◌, ℕ, suc, List, [], ◌∷◌, ◌++◌, refl, sym, ap, ◌∙◌, arith, subst, append_assoc, append-nil}
-use Rattle.mlk_tree.specs.Trees.{HeadTree, LineTrees, no_lines, line}
+use Rattle.mlk_syntax.specs.Trees.{HeadTree, LineTrees, no_lines, line}
 use Rattle.mlk_routine.specs.RoutineGrammar.{heads_of, level_of, AreNested}
 
 -- what follows a block: nothing, or a line of a lower level

@@ -2,14 +2,14 @@
 use Rattle.std.proofs.Common.{◌≡◌, List, [], ◌∷◌, map, Bool, true, false, refl, ap, ◌∙◌, Box, Global}
 use Rattle.std.specs.Prelude.{◌||◌, Option, Some, None}
 use Rattle.std.specs.List.{list_any}
-use Rattle.mlk_tree.specs.declared.command.Command.{Command}
-use Rattle.mlk_tree.specs.declared.command.Commands.{Commands}
-use Rattle.mlk_tree.specs.declared.command.For.{For}
-use Rattle.mlk_tree.specs.declared.command.Commands.TheViews.{out-Commands, out-For}
-use Rattle.mlk_tree.specs.declared.command.Commands.TheFolds.{fold-For, fold_out-Commands, fold_out-For}
-use Rattle.mlk_tree.specs.Trees.{Do, Else, Halt, Hang, If, Job, Kill, Lock, Merge, New, Quit, Read, Set, Write, CommandTree, Does, CommandTrees, finished, then_command}
-use Rattle.mlk_arguments.specs.CommandWords.{reaches_block}
-use Rattle.mlk_tree.specs.Views.{commands_of, command_of, commands_from, commands_step, for_step}
+use Rattle.mlk_syntax.specs.declared.command.Command.{Command}
+use Rattle.mlk_syntax.specs.declared.command.Commands.{Commands}
+use Rattle.mlk_syntax.specs.declared.command.For.{For}
+use Rattle.mlk_syntax.specs.declared.command.Commands.TheViews.{out-Commands, out-For}
+use Rattle.mlk_syntax.specs.declared.command.Commands.TheFolds.{fold-For, fold_out-Commands, fold_out-For}
+use Rattle.mlk_syntax.specs.Trees.{Do, Else, Halt, Hang, If, Job, Kill, Lock, Merge, New, Quit, Read, Set, Write, CommandTree, Does, CommandTrees, finished, then_command}
+use Rattle.mlk_routine_arguments.specs.CommandWords.{reaches_block}
+use Rattle.mlk_syntax.specs.Views.{commands_of, command_of, commands_from, commands_step, for_step}
 use Rattle.mlk_routine.specs.Lines.{is_block}
 
 pub reaches_from : (cs : List Command) (last : CommandTrees) → reaches_block (commands_from (map command_of cs) last) ≡ (list_any (λ c. is_block (command_of c)) cs || reaches_block last)

@@ -6,30 +6,30 @@ use Rattle.std.proofs.lemmas.List.{append_cancel_right}
 use Rattle.std.proofs.lemmas.Option.{same_Some}
 use Rattle.mlk_text.specs.Lexemes.{is_letter, word_at}
 use Rattle.mlk_expr.specs.declared.scope.Allows.TheVariants.{Everything}
-use Rattle.mlk_tree.specs.ExprTrees.{Tree}
+use Rattle.mlk_syntax.specs.ExprTrees.{Tree}
 use Rattle.mlk_expr.specs.Grammar.{Spelled, IsList}
 use Rattle.mlk_expr.specs.Theorem.{ExprEnds}
-use Rattle.mlk_arguments.specs.declared.word.Word.{Word}
-use Rattle.mlk_arguments.specs.declared.word.Word.TheVariants as word
-use Rattle.mlk_tree.specs.Trees.{Quit, finished}
-use Rattle.mlk_arguments.specs.Ends.{is_stop, AreEnded, DoEnds, JobEnds, KillEnds, NewEnds, MergeEnds, LockEnds, ReadEnds, WriteEnds, SetEnds, starts, is_bare_end, is_commands_end, StopEnds, CommandEnd, CommandsEnd}
-use Rattle.mlk_arguments.specs.Stops.{expr_stop, do_stop, job_stop, kill_stop, merge_stop, new_stop, lock_stop, read_stop, write_stop, set_stop}
-use Rattle.mlk_arguments.specs.Begins.{expr_begins, do_begins, job_begins, kill_begins, merge_begins, new_begins, lock_begins, read_begins, write_begins, set_begins}
-use Rattle.mlk_arguments.specs.Kinds.{IsNamed, WordEnds, has_condition, IsConditionOf, ConditionEnds, IsActionOf, ActionEnds, word_of}
+use Rattle.mlk_routine_arguments.specs.declared.word.Word.{Word}
+use Rattle.mlk_routine_arguments.specs.declared.word.Word.TheVariants as word
+use Rattle.mlk_syntax.specs.Trees.{Quit, finished}
+use Rattle.mlk_routine_arguments.specs.Ends.{is_stop, AreEnded, DoEnds, JobEnds, KillEnds, NewEnds, MergeEnds, LockEnds, ReadEnds, WriteEnds, SetEnds, starts, is_bare_end, is_commands_end, StopEnds, CommandEnd, CommandsEnd}
+use Rattle.mlk_routine_arguments.specs.Stops.{expr_stop, do_stop, job_stop, kill_stop, merge_stop, new_stop, lock_stop, read_stop, write_stop, set_stop}
+use Rattle.mlk_routine_arguments.specs.Begins.{expr_begins, do_begins, job_begins, kill_begins, merge_begins, new_begins, lock_begins, read_begins, write_begins, set_begins}
+use Rattle.mlk_routine_arguments.specs.Kinds.{IsNamed, WordEnds, has_condition, IsConditionOf, ConditionEnds, IsActionOf, ActionEnds, word_of}
 use Rattle.mlk_routine.specs.Leading.{IsPerhapsControl, IsLoop, LoopEnds}
-use Rattle.mlk_arguments.specs.CommandWords.{has_any, is_for}
-use Rattle.mlk_arguments.specs.CommandGrammar.{IsValue, IsDo, IsJob, IsKill, IsNew, IsLock, IsMerge, IsRead, IsWrite, IsSet, AreSome, ArePerhaps, IsQuit, is_space, IsCommand, AreCommands}
-use Rattle.mlk_arguments.proofs.Sequences.{next_is}
-use Rattle.mlk_arguments.proofs.Bytes.{AfterByte}
-use Rattle.mlk_arguments.proofs.Stretches.{one_run}
-use Rattle.mlk_arguments.proofs.Stopping.{bare_found, list_end, value_end}
-use Rattle.mlk_arguments.proofs.Words.{either_for}
+use Rattle.mlk_routine_arguments.specs.CommandWords.{has_any, is_for}
+use Rattle.mlk_routine_arguments.specs.CommandGrammar.{IsValue, IsDo, IsJob, IsKill, IsNew, IsLock, IsMerge, IsRead, IsWrite, IsSet, AreSome, ArePerhaps, IsQuit, is_space, IsCommand, AreCommands}
+use Rattle.mlk_routine_arguments.proofs.Sequences.{next_is}
+use Rattle.mlk_routine_arguments.proofs.Bytes.{AfterByte}
+use Rattle.mlk_routine_arguments.proofs.Stretches.{one_run}
+use Rattle.mlk_routine_arguments.proofs.Stopping.{bare_found, list_end, value_end}
+use Rattle.mlk_routine_arguments.proofs.Words.{either_for}
 use Rattle.mlk_routine.proofs.Doing.{opened, halting_turned, no_value_found}
 use Rattle.mlk_routine.proofs.Commanding.{IsTail, TailEnds, tail_parts, command_parts}
 use Rattle.mlk_routine.proofs.Looping.{command_letter, head_letter, spaced_parts, GapThen, forget, has_own, Returns, then_parts, ended_found, no_control_found, control_turned, control_end, IsForWord, ForWordEnds, head_parts, loop_parts}
-use Rattle.mlk_arguments.proofs.Sole.{Sole, Alone, sole_only, sole_found, sole_within, alone_after, sole_both, sole_as, sole_turned}
-use Rattle.mlk_arguments.proofs.SoleArguments.{expr_alone, optional_alone, run_alone, list_alone, do_alone, job_alone, kill_alone, new_alone, merge_alone, lock_alone}
-use Rattle.mlk_arguments.proofs.SoleFormats.{write_alone, read_alone, set_alone, control_alone}
+use Rattle.mlk_routine_arguments.proofs.Sole.{Sole, Alone, sole_only, sole_found, sole_within, alone_after, sole_both, sole_as, sole_turned}
+use Rattle.mlk_routine_arguments.proofs.SoleArguments.{expr_alone, optional_alone, run_alone, list_alone, do_alone, job_alone, kill_alone, new_alone, merge_alone, lock_alone}
+use Rattle.mlk_routine_arguments.proofs.SoleFormats.{write_alone, read_alone, set_alone, control_alone}
 
 -- arguments after one space, or none
 module _ {A : Type 0} (Is : Spelled A) (Ends : A → List ℕ → Type 0) (stop : (a : A) (rest : List ℕ) → is_stop rest ≡ true → Ends a rest) (begin : (k : ℕ) (a : A) (s : List ℕ) → Is k a s → is_stop s ≡ false) (alone : Alone Is Ends) where

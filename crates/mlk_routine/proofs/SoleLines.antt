@@ -6,15 +6,15 @@ use Rattle.std.proofs.lemmas.Bool.{cases_Bool}
 use Rattle.std.proofs.lemmas.Bool.Decides.{nat_tests}
 use Rattle.mlk_expr.specs.Grammar.{IsNameText, IsList, AreNext}
 use Rattle.mlk_routine.specs.declared.front.Front.{Front}
-use Rattle.mlk_tree.specs.Trees.{HeadTree, RoutineTree, Named_routine}
-use Rattle.mlk_arguments.specs.Told.{Found, first_of, byte_at}
-use Rattle.mlk_arguments.specs.Ends.{AnyEnds, RunEnds, IsRun, starts, is_commands_end}
-use Rattle.mlk_arguments.specs.CommandGrammar.{AreEnclosed}
+use Rattle.mlk_syntax.specs.Trees.{HeadTree, RoutineTree, Named_routine}
+use Rattle.mlk_routine_arguments.specs.Told.{Found, first_of, byte_at}
+use Rattle.mlk_routine_arguments.specs.Ends.{AnyEnds, RunEnds, IsRun, starts, is_commands_end}
+use Rattle.mlk_routine_arguments.specs.CommandGrammar.{AreEnclosed}
 use Rattle.mlk_routine.specs.RoutineGrammar.{is_blank, IsFormals, ArePeriods, IsLine, AreLines, IsRoutine, heads_of}
 use Rattle.mlk_routine.specs.Lines.{is_label_byte, IsLabelPart, LabelPartEnds, IsFormalList, IsFormalsPart, FormalsPartEnds, ArePeriodsHere, PeriodsEnd, IsOpening, OpeningEnds, IsFront, FrontEnds, AtEnd, IsTailOf}
-use Rattle.mlk_arguments.proofs.Sequences.{next_is, stands_at}
-use Rattle.mlk_arguments.proofs.Bytes.{drop_next, byte_before}
-use Rattle.mlk_arguments.proofs.Stretches.{run_found}
+use Rattle.mlk_routine_arguments.proofs.Sequences.{next_is, stands_at}
+use Rattle.mlk_routine_arguments.proofs.Bytes.{drop_next, byte_before}
+use Rattle.mlk_routine_arguments.proofs.Stretches.{run_found}
 use Rattle.mlk_routine.proofs.Labels.{a_label, no_label}
 use Rattle.mlk_routine.proofs.FormalLists.{no_names}
 use Rattle.mlk_routine.proofs.Fronts.{formals_turned, no_formals, FormalsThen, ThenEnds, then_parts, front_parts}
@@ -24,8 +24,8 @@ use Rattle.mlk_routine.proofs.Heads.{head_tree, line_apart, line_front}
 use Rattle.mlk_routine.specs.Refusals.{lines_in}
 use Rattle.mlk_routine.proofs.Nesting.{nested_once}
 use Rattle.mlk_routine.proofs.WholeRoutines.{routine_parts}
-use Rattle.mlk_arguments.proofs.Sole.{Sole, Alone, byte_or_not, sole_only, sole_found, sole_none, sole_within, alone_after, sole_both, sole_as, sole_turned}
-use Rattle.mlk_arguments.proofs.SoleArguments.{label_alone, names_alone, run_alone}
+use Rattle.mlk_routine_arguments.proofs.Sole.{Sole, Alone, byte_or_not, sole_only, sole_found, sole_none, sole_within, alone_after, sole_both, sole_as, sole_turned}
+use Rattle.mlk_routine_arguments.proofs.SoleArguments.{label_alone, names_alone, run_alone}
 use Rattle.mlk_routine.proofs.SoleCommands.{commands_alone}
 
 -- the formals after a label

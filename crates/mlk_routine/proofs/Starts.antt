@@ -6,12 +6,12 @@ use Rattle.std.specs.List.{list_all}
 use Rattle.std.proofs.lemmas.Bool.{cases_Bool, and_parts}
 use Rattle.std.proofs.lemmas.Option.{same_Some}
 use Rattle.mlk_expr.specs.Theorem.{Stands}
-use Rattle.mlk_arguments.specs.Told.{Found, Nowhere, first_of, byte_at}
-use Rattle.mlk_arguments.specs.Ends.{IsRun, RunEnds, starts, is_commands_end}
+use Rattle.mlk_routine_arguments.specs.Told.{Found, Nowhere, first_of, byte_at}
+use Rattle.mlk_routine_arguments.specs.Ends.{IsRun, RunEnds, starts, is_commands_end}
 use Rattle.mlk_routine.specs.RoutineGrammar.{is_blank, AreBlanks, ArePeriods, IsStart}
 use Rattle.mlk_routine.specs.Lines.{is_lead, ArePeriodsHere, PeriodsEnd, IsOpening, OpeningEnds}
-use Rattle.mlk_arguments.proofs.Sequences.{Parts, Turned, next_is, not_after, both_found, turned_found}
-use Rattle.mlk_arguments.proofs.Bytes.{AfterByte, after_found, byte_before}
+use Rattle.mlk_routine_arguments.proofs.Sequences.{Parts, Turned, next_is, not_after, both_found, turned_found}
+use Rattle.mlk_routine_arguments.proofs.Bytes.{AfterByte, after_found, byte_before}
 
 no_lead : (b : ℕ) → is_lead b ≡ false → is_blank b ≡ false
 no_lead b h = go (is_blank b) h

@@ -9,16 +9,16 @@ use Rattle.std.proofs.lemmas.Bool.Decides.{nat_tests}
 use Rattle.std.proofs.lemmas.Slice.Eq.{bytes_eq-Decides}
 use Rattle.std.proofs.lemmas.Str.Ascii.{lowercase_is}
 use Rattle.mlk_text.specs.Lexemes.{is_text_byte, is_text}
-use Rattle.mlk_tokens.specs.Words.{is_either}
+use Rattle.mlk_expr_tokens.specs.Words.{is_either}
 use Rattle.mlk_expr.specs.Theorem.{Stands}
-use Rattle.mlk_tree.specs.Trees.{ActionTree, Do, Else, Halt, Hang, If, Job, Kill, Lock, Merge, New, Quit, Read, Set, Write, CommandTree, Does, ControlTree, CommandTrees, finished, then_command, then_for}
-use Rattle.mlk_arguments.specs.Told.{Found, Nowhere}
-use Rattle.mlk_arguments.specs.Ends.{is_commands_end, CommandsEnd, starts}
-use Rattle.mlk_arguments.specs.CommandWords.{is_word_of, is_for}
-use Rattle.mlk_arguments.specs.CommandGrammar.{IsCommand, IsForHead, AreCommands}
+use Rattle.mlk_syntax.specs.Trees.{ActionTree, Do, Else, Halt, Hang, If, Job, Kill, Lock, Merge, New, Quit, Read, Set, Write, CommandTree, Does, ControlTree, CommandTrees, finished, then_command, then_for}
+use Rattle.mlk_routine_arguments.specs.Told.{Found, Nowhere}
+use Rattle.mlk_routine_arguments.specs.Ends.{is_commands_end, CommandsEnd, starts}
+use Rattle.mlk_routine_arguments.specs.CommandWords.{is_word_of, is_for}
+use Rattle.mlk_routine_arguments.specs.CommandGrammar.{IsCommand, IsForHead, AreCommands}
 use Rattle.mlk_routine.specs.RoutineGrammar.{IsComment}
 use Rattle.mlk_routine.specs.Lines.{OpeningEnds, AtEnd, IsTail, IsTailOf, is_lead, level_in}
-use Rattle.mlk_arguments.proofs.Sequences.{Parts, both_found, first_nowhere, second_nowhere}
+use Rattle.mlk_routine_arguments.proofs.Sequences.{Parts, both_found, first_nowhere, second_nowhere}
 
 -- a text that begins with a letter, or with what is above all that may stand before commands or after them
 abbrev pub Lettered : List ℕ → Type 0

@@ -2,12 +2,12 @@
 use Rattle.std.proofs.Common.{◌≡◌, ◌<◌, ◌≤◌, ℕ, suc, List, [], ◌∷◌, ◌++◌, length, map, Bool, true, false, inl, inr, refl, sym, ap, ◌∙◌, arith, subst, append_assoc, append-nil, length-append}
 use Rattle.std.specs.Prelude.{◌⊎◌}
 use Rattle.std.proofs.lemmas.Bool.{cases_Bool}
-use Rattle.mlk_tree.specs.declared.routine.Line.{Line}
-use Rattle.mlk_tree.specs.declared.routine.Line.TheOpen.{Line-F}
-use Rattle.mlk_tree.specs.declared.routine.Line.TheViews.{out-Line, roll-Line}
-use Rattle.mlk_tree.specs.declared.routine.Line.TheFolds.{fold_out-Line, fold-roll-Line}
-use Rattle.mlk_tree.specs.Trees.{HeadTree, LineHead, LineTrees, no_lines, line}
-use Rattle.mlk_tree.specs.Views.{line_of, lines_from, line_step, commands_of}
+use Rattle.mlk_syntax.specs.declared.routine.Line.{Line}
+use Rattle.mlk_syntax.specs.declared.routine.Line.TheOpen.{Line-F}
+use Rattle.mlk_syntax.specs.declared.routine.Line.TheViews.{out-Line, roll-Line}
+use Rattle.mlk_syntax.specs.declared.routine.Line.TheFolds.{fold_out-Line, fold-roll-Line}
+use Rattle.mlk_syntax.specs.Trees.{HeadTree, LineHead, LineTrees, no_lines, line}
+use Rattle.mlk_syntax.specs.Views.{line_of, lines_from, line_step, commands_of}
 use Rattle.mlk_routine.specs.RoutineGrammar.{heads_of, level_of, reaches, AreNested}
 use Rattle.mlk_routine.specs.Lines.{head_of, Follow, Upto, IsBlock, IsNotDeeper}
 

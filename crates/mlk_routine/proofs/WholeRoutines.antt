@@ -8,7 +8,7 @@ use Rattle.mlk_text.specs.Spellings.{IsName}
 use Rattle.mlk_text.specs.declared.failure.Failure.{Failure}
 use Rattle.mlk_text.specs.declared.failure.Failure.TheVariants.{OutOfMemory, Refused}
 use Rattle.mlk_text.specs.declared.fault.Fault.{Fault}
-use Rattle.mlk_tree.specs.Trees.{HeadTree, LineHead, LineTrees, no_lines, line, RoutineTree, Named_routine, CommandTrees}
+use Rattle.mlk_syntax.specs.Trees.{HeadTree, LineHead, LineTrees, no_lines, line, RoutineTree, Named_routine, CommandTrees}
 use Rattle.mlk_routine.specs.RoutineGrammar.{IsRoutine, AreLines, IsLine, IsBody, heads_of, level_of, reaches, AreNested, percent}
 use Rattle.mlk_routine.specs.Lines.{Follow, Upto, AllPlain, AreHeads, AreHeadsOnly, NoHeads, IsBlock, texts_of}
 use Rattle.mlk_routine.specs.Refusals.{NoRoutine, lines_in}

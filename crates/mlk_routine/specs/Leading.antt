@@ -7,13 +7,13 @@ use Rattle.mlk_text.specs.Lexemes.{word_at}
 use Rattle.mlk_text.specs.Places.{column_at}
 use Rattle.mlk_text.specs.declared.failure.Failure.{Failure}
 use Rattle.mlk_text.specs.declared.fault.Fault.{Fault}
-use Rattle.mlk_tree.specs.declared.command.Command.{Command}
-use Rattle.mlk_tree.specs.Trees.{CommandTree, CommandTrees, ControlTree}
-use Rattle.mlk_arguments.specs.Told.{Found, Nowhere, Denied}
-use Rattle.mlk_arguments.specs.CommandWords.{is_for}
-use Rattle.mlk_arguments.specs.CommandGrammar.{After, IsControl, IsForHead, AreCommands}
-use Rattle.mlk_arguments.specs.Ends.{is_commands_end, StopEnds, CommandsEnd}
-use Rattle.mlk_tree.specs.Views.{command_of, commands_from}
+use Rattle.mlk_syntax.specs.declared.command.Command.{Command}
+use Rattle.mlk_syntax.specs.Trees.{CommandTree, CommandTrees, ControlTree}
+use Rattle.mlk_routine_arguments.specs.Told.{Found, Nowhere, Denied}
+use Rattle.mlk_routine_arguments.specs.CommandWords.{is_for}
+use Rattle.mlk_routine_arguments.specs.CommandGrammar.{After, IsControl, IsForHead, AreCommands}
+use Rattle.mlk_routine_arguments.specs.Ends.{is_commands_end, StopEnds, CommandsEnd}
+use Rattle.mlk_syntax.specs.Views.{command_of, commands_from}
 
 -- whatever follows these commands from `next` on, the whole from `at` on is found or denied with it
 abbrev pub LeadsTo : ℕ → ℕ → List ℕ → ℕ → List CommandTree → ℕ → Type 0

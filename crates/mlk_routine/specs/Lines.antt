@@ -7,23 +7,23 @@ use Rattle.std.specs.Borrow.{Bor}
 use Rattle.mlk_text.specs.Lexemes.{is_letter, is_digit}
 use Rattle.mlk_expr.specs.Grammar.{IsNameText, IsLabelText}
 use Rattle.mlk_expr.specs.Theorem.{LabelEnds}
-use Rattle.mlk_arguments.specs.Ends.{Lacks, starts, is_commands_end}
+use Rattle.mlk_routine_arguments.specs.Ends.{Lacks, starts, is_commands_end}
 use Rattle.mlk_routine.specs.RoutineGrammar.{IsFormals, is_blank, ArePeriods, IsStart}
 use Rattle.mlk_routine.specs.RoutineGrammar.{IsComment, IsLine, level_of, reaches, is_line_byte}
 use Rattle.mlk_routine.specs.RoutineGrammar.{AreLines, labels_of, AreNested, heads_of, percent}
-use Rattle.mlk_tree.specs.Distinct.{AreDistinct}
+use Rattle.mlk_syntax.specs.Distinct.{AreDistinct}
 use Rattle.mlk_text.specs.Spellings.{IsName}
-use Rattle.mlk_arguments.specs.CommandGrammar.{Both, AreCommands}
-use Rattle.mlk_tree.specs.Trees.{CommandTree, Does, Do, CommandTrees}
-use Rattle.mlk_tree.specs.Trees.{finished, HeadTree, LineHead, LineTrees}
+use Rattle.mlk_routine_arguments.specs.CommandGrammar.{Both, AreCommands}
+use Rattle.mlk_syntax.specs.Trees.{CommandTree, Does, Do, CommandTrees}
+use Rattle.mlk_syntax.specs.Trees.{finished, HeadTree, LineHead, LineTrees}
 use Rattle.mlk_routine.specs.declared.line.Before.{Before}
-use Rattle.mlk_tree.specs.declared.routine.Line.{Line}
-use Rattle.mlk_tree.specs.Views.{line_of}
+use Rattle.mlk_syntax.specs.declared.routine.Line.{Line}
+use Rattle.mlk_syntax.specs.Views.{line_of}
 use Rattle.mlk_routine.specs.declared.front.Front.{Front}
-use Rattle.mlk_arguments.specs.Told.{Found, Denied}
+use Rattle.mlk_routine_arguments.specs.Told.{Found, Denied}
 use Rattle.mlk_text.specs.Codes.{number_of}
 use Rattle.mlk_text.specs.declared.code.Code.{Code}
-use Rattle.mlk_arguments.specs.Faults.{may_tell, has_word, IsLineFault}
+use Rattle.mlk_routine_arguments.specs.Faults.{may_tell, has_word, IsLineFault}
 use Rattle.mlk_text.specs.declared.failure.Failure.{Failure}
 use Rattle.mlk_text.specs.declared.failure.Failure.TheVariants.{OutOfMemory, Refused}
 use Rattle.mlk_text.specs.declared.fault.Fault.{Fault}

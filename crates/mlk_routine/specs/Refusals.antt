@@ -7,8 +7,8 @@ use Rattle.mlk_text.specs.declared.code.Code.TheVariants.{RoutineName, TooLarge}
 use Rattle.mlk_text.specs.declared.failure.Failure.{Failure}
 use Rattle.mlk_text.specs.declared.failure.Failure.TheVariants.{OutOfMemory, Refused}
 use Rattle.mlk_text.specs.declared.fault.Fault.{Fault}
-use Rattle.mlk_arguments.specs.Faults.{IsLineFault}
-use Rattle.mlk_tree.specs.Trees.{RoutineTree}
+use Rattle.mlk_routine_arguments.specs.Faults.{IsLineFault}
+use Rattle.mlk_syntax.specs.Trees.{RoutineTree}
 use Rattle.mlk_routine.specs.RoutineGrammar.{percent, IsRoutine}
 
 -- what is refused, unless memory ran out, is no routine

@@ -6,11 +6,11 @@ use Rattle.mlk_text.specs.Lexemes.{is_text}
 use Rattle.mlk_text.specs.Spellings.{IsName, IsLabel}
 use Rattle.mlk_text.specs.Places.{column_at}
 use Rattle.mlk_expr.specs.Grammar.{IsList, IsEnclosed, IsNameText}
-use Rattle.mlk_tree.specs.Distinct.{AreDistinct}
-use Rattle.mlk_tree.specs.Trees.{CommandTrees, finished, HeadTree, LineHead, LineTrees, no_lines, line}
-use Rattle.mlk_tree.specs.Trees.{RoutineTree, Named_routine}
-use Rattle.mlk_arguments.specs.CommandWords.{reaches_block}
-use Rattle.mlk_arguments.specs.CommandGrammar.{AreCommands}
+use Rattle.mlk_syntax.specs.Distinct.{AreDistinct}
+use Rattle.mlk_syntax.specs.Trees.{CommandTrees, finished, HeadTree, LineHead, LineTrees, no_lines, line}
+use Rattle.mlk_syntax.specs.Trees.{RoutineTree, Named_routine}
+use Rattle.mlk_routine_arguments.specs.CommandWords.{reaches_block}
+use Rattle.mlk_routine_arguments.specs.CommandGrammar.{AreCommands}
 
 -- A formal list: names in parentheses, with commas between them, no two the same; `()` has none. Standard: formallist.
 abbrev pub IsFormals : List (List ℕ) → List ℕ → Type 0

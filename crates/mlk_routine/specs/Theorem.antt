@@ -1,6 +1,6 @@
 -- What the grammar of routines keeps to.
 use Rattle.std.specs.Prelude.{ℕ, ◌≡◌, List}
-use Rattle.mlk_tree.specs.Trees.{LineTrees, RoutineTree}
+use Rattle.mlk_syntax.specs.Trees.{LineTrees, RoutineTree}
 use Rattle.mlk_routine.specs.RoutineGrammar.{AreCut, heads_of, AreNested, IsRoutine}
 
 -- A text has one list of lines.

@@ -2,8 +2,8 @@
 
 ghost use Rattle.std.specs.Prelude.{◌≡◌, ◌≤◌, length};
 ghost use Rattle.std.specs.List.{prefix_len};
-ghost use Rattle.mlk_arguments.specs.Told.{Found};
-ghost use Rattle.mlk_arguments.specs.Ends.{IsRun, RunEnds};
+ghost use Rattle.mlk_routine_arguments.specs.Told.{Found};
+ghost use Rattle.mlk_routine_arguments.specs.Ends.{IsRun, RunEnds};
 ghost use Rattle.mlk_routine.specs.RoutineGrammar.{is_blank};
 
 // How many of them stand at the front.

@@ -2,11 +2,11 @@
 
 ghost use Rattle.std.specs.Prelude.{◌≡◌, ◌<◌, ◌∷◌, suc, map, false, IfOk, MatchOption};
 ghost use Rattle.mlk_routine.specs.RoutineGrammar.{level_of};
-ghost use Rattle.mlk_tree.specs.Views.{line_of, lines_from};
+ghost use Rattle.mlk_syntax.specs.Views.{line_of, lines_from};
 ghost use Rattle.mlk_routine.specs.Lines.{head_of, Upto, IsBlock, IsNotDeeper};
 
+use mlk_syntax::Line;
 use mlk_text::{giving_up, make_room};
-use mlk_tree::Line;
 use std::alloc::{AllocError, Global};
 use std::collections::VecDeque;
 

@@ -1,22 +1,22 @@
 // Commands but FOR: postconditionals and arguments.
 
 ghost use Rattle.std.specs.Prelude.{◌≡◌, ◌≤◌, ℕ, List, IfOk, length, option_map, true};
-ghost use Rattle.mlk_tree.specs.ExprTrees.{tree_of, trees};
-ghost use Rattle.mlk_arguments.specs.Told.{Told};
-ghost use Rattle.mlk_arguments.specs.Faults.{IsFaulty};
-ghost use Rattle.mlk_arguments.specs.Ends.{StopEnds, CommandEnd};
-ghost use Rattle.mlk_tree.specs.Views.{action_of, command_of};
-ghost use Rattle.mlk_arguments.specs.CommandGrammar.{After, IsValue, IsQuit, IsCommand};
-ghost use Rattle.mlk_arguments.specs.Kinds.{IsConditionOf, ConditionEnds, IsActionOf, ActionEnds, IsNothing, halting};
-ghost use Rattle.mlk_tree.specs.Trees.{Quit};
+ghost use Rattle.mlk_syntax.specs.ExprTrees.{tree_of, trees};
+ghost use Rattle.mlk_routine_arguments.specs.Told.{Told};
+ghost use Rattle.mlk_routine_arguments.specs.Faults.{IsFaulty};
+ghost use Rattle.mlk_routine_arguments.specs.Ends.{StopEnds, CommandEnd};
+ghost use Rattle.mlk_syntax.specs.Views.{action_of, command_of};
+ghost use Rattle.mlk_routine_arguments.specs.CommandGrammar.{After, IsValue, IsQuit, IsCommand};
+ghost use Rattle.mlk_routine_arguments.specs.Kinds.{IsConditionOf, ConditionEnds, IsActionOf, ActionEnds, IsNothing, halting};
+ghost use Rattle.mlk_syntax.specs.Trees.{Quit};
 
-use mlk_arguments::{
+use mlk_expr::Allows;
+use mlk_routine_arguments::{
     Word, after, command_word, expression, first_argument, has, is_bare, is_command_end,
     leaves_out, perhaps, refused, some,
 };
-use mlk_expr::Allows;
+use mlk_syntax::{Action, Command, Expr};
 use mlk_text::{Code, Column, Failure, Fault, LeftOut};
-use mlk_tree::{Action, Command, Expr};
 use std::alloc::{AllocError, Global};
 
 /// The postconditional here, where the word may have one, and the byte after it.

@@ -2,21 +2,21 @@
 
 ghost use Rattle.std.specs.Prelude.{◌≡◌, ◌<◌, ◌≤◌, ◌==◌, ◌&&◌, ℕ, length, vec_len, vec_capacity, drop, option_map, map, is_some, IfOk, OnOk, true};
 ghost use Rattle.mlk_text.specs.Lexemes.{word_at};
-ghost use Rattle.mlk_arguments.specs.Told.{Told};
-ghost use Rattle.mlk_arguments.specs.CommandWords.{is_for};
-ghost use Rattle.mlk_arguments.specs.CommandGrammar.{AreCommands};
-ghost use Rattle.mlk_arguments.specs.Ends.{StopEnds, CommandsEnd};
-ghost use Rattle.mlk_tree.specs.Views.{command_of, control_of, commands_of, commands_from};
-ghost use Rattle.mlk_tree.specs.Trees.{then_for};
+ghost use Rattle.mlk_routine_arguments.specs.Told.{Told};
+ghost use Rattle.mlk_routine_arguments.specs.CommandWords.{is_for};
+ghost use Rattle.mlk_routine_arguments.specs.CommandGrammar.{AreCommands};
+ghost use Rattle.mlk_routine_arguments.specs.Ends.{StopEnds, CommandsEnd};
+ghost use Rattle.mlk_syntax.specs.Views.{command_of, control_of, commands_of, commands_from};
+ghost use Rattle.mlk_syntax.specs.Trees.{then_for};
 ghost use Rattle.mlk_routine.specs.Leading.{Leads, LeadsTo, IsPerhapsControl, IsLoop, LoopEnds};
 
 use crate::command::command;
-use mlk_arguments::{
+use mlk_routine_arguments::{
     control, first_argument, is_bare, is_command_end, is_commands_end, is_for, past_spaces, refused,
 };
+use mlk_syntax::{Command, Commands, Control, For};
 use mlk_text::lexeme::word_at;
 use mlk_text::{Code, Column, Failure, Fault, giving_up};
-use mlk_tree::{Command, Commands, Control, For};
 use std::alloc::{AllocError, Global};
 
 const MOST_LOOPS: usize = 255;

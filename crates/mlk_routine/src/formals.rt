@@ -3,14 +3,14 @@
 ghost use Rattle.std.specs.Prelude.{◌≡◌, ◌≤◌, ◌||◌, length, ℕ, List, IfOk, Some, bytes_eq};
 ghost use Rattle.mlk_expr.specs.Grammar.{IsNameText};
 ghost use Rattle.mlk_expr.specs.Theorem.{LabelEnds};
-ghost use Rattle.mlk_arguments.specs.Told.{Told, byte_at};
-ghost use Rattle.mlk_arguments.specs.Faults.{IsLineFault, IsFaulty};
-ghost use Rattle.mlk_arguments.specs.Ends.{AnyEnds};
+ghost use Rattle.mlk_routine_arguments.specs.Told.{Told, byte_at};
+ghost use Rattle.mlk_routine_arguments.specs.Faults.{IsLineFault, IsFaulty};
+ghost use Rattle.mlk_routine_arguments.specs.Ends.{AnyEnds};
 ghost use Rattle.mlk_routine.specs.Lines.{has_name, IsUnseen, IsFormalList};
 
 use crate::seen::Seen;
-use mlk_arguments::{has, other_form, refused};
 use mlk_expr::read_name;
+use mlk_routine_arguments::{has, other_form, refused};
 use mlk_text::{Code, Failure, Fault, List, Name};
 use std::alloc::Global;
 

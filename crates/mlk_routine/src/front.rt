@@ -1,13 +1,13 @@
 // What stands before a line's commands.
 
 ghost use Rattle.std.specs.Prelude.{◌≡◌, ◌≤◌, length};
-ghost use Rattle.mlk_arguments.specs.Told.{Told, Found};
+ghost use Rattle.mlk_routine_arguments.specs.Told.{Told, Found};
 ghost use Rattle.mlk_routine.specs.Lines.{IsLabelPart, LabelPartEnds, IsFormalsPart, FormalsPartEnds};
 ghost use Rattle.mlk_routine.specs.Lines.{IsFront, FrontEnds};
 
 use crate::formals::formals;
 use crate::start::opening;
-use mlk_arguments::has;
+use mlk_routine_arguments::has;
 use mlk_text::{Failure, Fault, List, Name};
 use std::alloc::Global;
 

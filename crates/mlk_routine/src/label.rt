@@ -1,12 +1,12 @@
 // The label at the front of a line.
 
 ghost use Rattle.std.specs.Prelude.{◌≡◌};
-ghost use Rattle.mlk_arguments.specs.Told.{Told};
-ghost use Rattle.mlk_arguments.specs.Ends.{starts};
+ghost use Rattle.mlk_routine_arguments.specs.Told.{Told};
+ghost use Rattle.mlk_routine_arguments.specs.Ends.{starts};
 ghost use Rattle.mlk_routine.specs.Lines.{is_label_byte, IsLabelPart, LabelPartEnds};
 
-use mlk_arguments::other_form;
 use mlk_expr::read_label;
+use mlk_routine_arguments::other_form;
 use mlk_text::lexeme::{is_digit, is_letter};
 use mlk_text::{Code, Failure, Fault, Name};
 use std::alloc::Global;

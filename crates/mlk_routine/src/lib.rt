@@ -20,7 +20,7 @@ mod stem;
 mod tail;
 
 pub use law::{one_cut, one_nesting, one_tree};
-pub use mlk_tree::{
+pub use mlk_syntax::{
     Action, Call, Command, Commands, Control, DoArgument, For, KillArgument, Line, LockArgument,
     MergeArgument, NewArgument, Parameter, Part, ReadArgument, Routine, SetArgument, Sign, Target,
     Variable, WriteArgument,

@@ -4,7 +4,7 @@ ghost use Rattle.std.specs.Prelude.{◌≡◌, ◌<◌, ◌≤◌, ◌+◌, ◌|
 ghost use Rattle.std.specs.Prelude.{true, false, Some, None};
 ghost use Rattle.std.specs.Prelude.{IfOk, IfErr, OnOk};
 ghost use Rattle.std.specs.List.{prefix_len, list_all};
-ghost use Rattle.mlk_arguments.specs.Told.{Told};
+ghost use Rattle.mlk_routine_arguments.specs.Told.{Told};
 ghost use Rattle.mlk_routine.specs.RoutineGrammar.{is_line_byte};
 ghost use Rattle.mlk_routine.specs.Lines.{has_name, is_in, is_labelled, level_in, IsFront, FrontEnds, IsKept, Fits};
 ghost use Rattle.mlk_routine.specs.Lines.{FitsAfter, head_of, IsLineOnly, IsWithLine, NoLine, IsMisplaced};
@@ -15,9 +15,9 @@ use crate::reach::reaches_block;
 use crate::seen::Seen;
 use crate::tail::tail;
 use bstr::ByteSlice;
-use mlk_arguments::refused;
+use mlk_routine_arguments::refused;
+use mlk_syntax::{Line, Rare};
 use mlk_text::{Code, Column, Failure, Fault, LineNumber, Name, giving_up};
-use mlk_tree::{Line, Rare};
 use std::alloc::{AllocError, Global};
 
 const MOST_LEVELS: usize = 15;

@@ -1,14 +1,14 @@
 // The lines of a text, as they follow each other.
 
 ghost use Rattle.std.specs.Prelude.{◌≤◌, map, length, IfOk, IfErr};
-ghost use Rattle.mlk_arguments.specs.Told.{IsRefusal};
+ghost use Rattle.mlk_routine_arguments.specs.Told.{IsRefusal};
 ghost use Rattle.mlk_routine.specs.Lines.{head_of, AreHeadsOnly, NoHeads, texts_of};
 ghost use Rattle.mlk_routine.specs.Refusals.{IfRefused, IsOfLine};
 
 use crate::line::{Before, line};
 use crate::place::in_line;
+use mlk_syntax::Line;
 use mlk_text::{Failure, Fault, LineNumber};
-use mlk_tree::Line;
 use std::alloc::Global;
 use std::collections::VecDeque;
 

@@ -1,8 +1,8 @@
 // Why a routine was not read, and where.
 
 ghost use Rattle.std.specs.Prelude.{◌≡◌};
-ghost use Rattle.mlk_arguments.specs.Told.{IsRefusal};
-ghost use Rattle.mlk_arguments.specs.Faults.{IsLineFault, IsFaulty};
+ghost use Rattle.mlk_routine_arguments.specs.Told.{IsRefusal};
+ghost use Rattle.mlk_routine_arguments.specs.Faults.{IsLineFault, IsFaulty};
 ghost use Rattle.mlk_routine.specs.Refusals.{IfRefused, IsOfWhole};
 
 use mlk_text::{Code, Column, Failure, Fault, LeftOut, LineNumber, Place, Value};

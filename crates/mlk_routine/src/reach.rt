@@ -2,11 +2,11 @@
 
 ghost use Rattle.std.specs.Prelude.{◌≡◌, ◌||◌};
 ghost use Rattle.std.specs.List.{list_any};
-ghost use Rattle.mlk_arguments.specs.CommandWords.{reaches_block};
-ghost use Rattle.mlk_tree.specs.Views.{commands_of, command_of};
+ghost use Rattle.mlk_routine_arguments.specs.CommandWords.{reaches_block};
+ghost use Rattle.mlk_syntax.specs.Views.{commands_of, command_of};
 ghost use Rattle.mlk_routine.specs.Lines.{is_block};
 
-use mlk_tree::{Action, Command, Commands};
+use mlk_syntax::{Action, Command, Commands};
 
 // Whether this is a DO without arguments.
 fn is_block(command: &Command) -> bool

@@ -2,8 +2,8 @@
 
 ghost use Rattle.std.specs.Prelude.{◌≡◌, IfOk, IfErr, map};
 ghost use Rattle.bstr.specs.Text.{lines_of, without_terminator};
-ghost use Rattle.mlk_tree.specs.Trees.{RoutineTree};
-ghost use Rattle.mlk_tree.specs.Views.{routine_of};
+ghost use Rattle.mlk_syntax.specs.Trees.{RoutineTree};
+ghost use Rattle.mlk_syntax.specs.Views.{routine_of};
 ghost use Rattle.mlk_routine.specs.RoutineGrammar.{IsRoutine};
 ghost use Rattle.mlk_routine.specs.Lines.{texts_of};
 ghost use Rattle.mlk_routine.specs.Refusals.{NoRoutine, Places};
@@ -13,8 +13,8 @@ use crate::lines::lines;
 use crate::place::whole;
 use crate::stem::stem_name;
 use bstr::ByteSlice;
+use mlk_syntax::Routine;
 use mlk_text::{Code, Failure, Fault};
-use mlk_tree::Routine;
 use std::alloc::{AllocError, Global};
 
 const MOST_BYTES: usize = 1048576;

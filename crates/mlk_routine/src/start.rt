@@ -1,13 +1,13 @@
 // The start of a line: blanks, and periods with blanks after each.
 
 ghost use Rattle.std.specs.Prelude.{◌≡◌, ◌≤◌, length, drop, false};
-ghost use Rattle.mlk_arguments.specs.Told.{Told, Found};
-ghost use Rattle.mlk_arguments.specs.Ends.{starts};
+ghost use Rattle.mlk_routine_arguments.specs.Told.{Told, Found};
+ghost use Rattle.mlk_routine_arguments.specs.Ends.{starts};
 ghost use Rattle.mlk_routine.specs.RoutineGrammar.{is_blank};
 ghost use Rattle.mlk_routine.specs.Lines.{ArePeriodsHere, PeriodsEnd, IsOpening, OpeningEnds};
 
 use crate::blank::past_blanks;
-use mlk_arguments::{has, is_commands_end, refused};
+use mlk_routine_arguments::{has, is_commands_end, refused};
 use mlk_text::{Code, Failure, Fault};
 use std::alloc::Global;
 

@@ -1,16 +1,16 @@
 // What stands after a line's start.
 
 ghost use Rattle.std.specs.Prelude.{◌≡◌, ◌≤◌, length, drop, true, OnOk, OnErr, IfErr};
-ghost use Rattle.mlk_arguments.specs.Faults.{IsFaulty};
-ghost use Rattle.mlk_arguments.specs.Ends.{is_commands_end};
+ghost use Rattle.mlk_routine_arguments.specs.Faults.{IsFaulty};
+ghost use Rattle.mlk_routine_arguments.specs.Ends.{is_commands_end};
 ghost use Rattle.mlk_routine.specs.RoutineGrammar.{IsComment};
-ghost use Rattle.mlk_tree.specs.Views.{commands_of};
+ghost use Rattle.mlk_syntax.specs.Views.{commands_of};
 ghost use Rattle.mlk_routine.specs.Lines.{OpeningEnds, IsTailOf, ToldToEnd};
 
 use crate::commands::{Inside, commands};
-use mlk_arguments::{refused, text_bytes};
+use mlk_routine_arguments::{refused, text_bytes};
+use mlk_syntax::Commands;
 use mlk_text::{Code, Failure, Fault};
-use mlk_tree::Commands;
 use std::alloc::Global;
 
 // Tells where a comment that begins here, if one does, has a byte that may not stand in it.

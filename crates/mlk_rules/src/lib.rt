@@ -1,14 +1,34 @@
-//! Rules: which locks are to be held where a global is touched, and in which order they are claimed. The reader of rule
-//! files stands here; what rules mean, and what is asked of them, is `mlk_coverage`.
+//! What rules mean: which locks are to be held where a global is touched, and in which order they are claimed.
 #![tactic(auto)]
 
+mod check;
+mod cover;
+mod family;
+mod groups;
+mod held;
+mod lacking;
 mod law;
-mod read;
+mod lent;
+mod lies;
+mod meet;
+mod pattern;
+mod rank;
+mod rules;
+mod sound;
+mod template;
 
-pub use law::{are_written, one_answer};
-pub use mlk_coverage::{
-    Cover, Element, Family, Part, Pattern, RuleLists, Rules, Template, computed_answers, covered,
-    covered_apart, entries, first_meeting, lock_of_node, marked_alike, may_meet, one_rank, rank_of,
-    share_pattern, surely_lies, templates,
+pub use check::{covered, covered_lent};
+pub use cover::Cover;
+pub use family::Family;
+pub use lacking::templates;
+pub use law::{
+    computed_answers, covered_apart, lock_of_node, marked_alike, one_rank, share_pattern,
+    surely_lies,
 };
-pub use read::{RulesFault, Section, read_rules};
+pub use lent::Lent;
+pub use meet::may_meet;
+pub use pattern::{Element, Pattern};
+pub use rank::rank_of;
+pub use rules::{RuleLists, Rules, entries};
+pub use sound::first_meeting;
+pub use template::{Part, Template};

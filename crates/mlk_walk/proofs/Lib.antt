@@ -1,10 +1,4 @@
-pub mod SetLemmas
-pub mod CaseLemmas
-pub mod PointLemmas
-pub mod StraightLemmas
-pub mod Steps
-pub mod Covering
-pub mod Alone
-pub mod Together
-pub mod PlaceLemmas
-pub mod ReportLemmas
+pub mod Ascending
+pub mod CodeOrder
+pub mod Examples
+pub mod Ordered

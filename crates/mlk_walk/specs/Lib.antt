@@ -1,11 +1,4 @@
-pub mod Points
-pub mod Sets
-pub mod Rules
-pub mod Walk
-pub mod ByPoint
-pub mod Places
-pub mod Rows
-pub mod Report
-pub mod Theorem
-pub mod Straight
-pub mod StraightAnswers
+pub mod Faults
+pub mod Verdicts
+pub mod Reports
+pub mod Laws

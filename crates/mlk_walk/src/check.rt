@@ -1,71 +1,186 @@
-// The check of one entry.
+// The check of an entry, and of a whole program.
 
-ghost use Rattle.std.specs.Prelude.{◌≡◌, IfOk, OnOk, option_copied};
-ghost use Rattle.std.specs.List.{list_any};
-ghost use Rattle.mlk_machine.specs.Entries.{names};
-ghost use Rattle.mlk_walk.specs.Sets.{SameSet, IsAscending};
-ghost use Rattle.mlk_walk.specs.Walk.{is_declared, first_block, block_of, verdict};
+ghost use Rattle.std.specs.Prelude.{◌≡◌, ◌∷◌, ◌++◌, [], IfOk, OnOk, map, flat_map, filter};
+ghost use Rattle.mlk_syntax.specs.Views.{line_of, routine_of};
+ghost use Rattle.mlk_walk_state.specs.Scope.{scope_with};
+ghost use Rattle.mlk_walk.specs.Faults.{ascending};
+ghost use Rattle.mlk_text.specs.declared.code.Code.TheVariants.{NoCertificate};
+ghost use Rattle.mlk_program.specs.Entries.{line_of_entry, lines_in};
+ghost use Rattle.mlk_walk.specs.Verdicts.{known, fault_at, entry_number, all_faults, verdict};
+ghost use Rattle.mlk_walk.specs.Reports.{is_checked, rows_of, line_entries, entries_from, report};
 
-use crate::cert::{Certificate, EntryCert};
-use crate::entry::check_lines;
+use crate::entry::{number_of, walk_entry};
+use crate::report::Report;
 use crate::verdict::Verdict;
-use mlk_coverage::{Rules, entries};
-use mlk_machine::plain::{EntryId, Plain};
-use mlk_text::Value;
+use mlk_calls::{Entries, Scope};
+use mlk_cert::{Certificate, EntryCert};
+use mlk_program::{EntryId, Program};
+use mlk_rules::Rules;
+use mlk_syntax::{Line, Routine};
+use mlk_text::{Code, Column};
+use mlk_walk_exprs::Fault;
 use std::alloc::{AllocError, Global};
 
-// Whether a text names the entry.
-#[tactic(auto, unfolding(mlk_machine::specs::Entries::names))]
-pub(crate) fn is_named(plain: &Plain, entry: EntryId, text: &[u8]) -> bool
-    ensures { result ≡ names plain.now entry text.now }
+/// What a check looks into: a program, its rules, and what is known of its entries.
+#[derive(Clone, Copy, Drop)]
+pub(crate) struct Checks<'a> {
+    pub(crate) program: &'a Program<'a>,
+    pub(crate) rules: &'a Rules,
+    pub(crate) entries: &'a Entries<'a>,
+}
+
+// The verdict of an entry that is certified by a block.
+fn verdict_by(
+    alloc: Global,
+    checks: &Checks<'_>,
+    entry: EntryId,
+    block: &EntryCert,
+) -> Result<Verdict, AllocError>
+    ensures { IfOk result (λ v. v ≡ ascending (all_faults (map routine_of checks.now.program.now) entry
+        (scope_with (map routine_of checks.now.program.now) checks.now.rules.now checks.now.entries.now entry block.now))) }
 {
-    match plain.entry(text) {
-        None => false,
-        Some(found) => entry.routine == found.routine && entry.line == found.line,
+    let scope = Scope::of(checks.program, checks.rules, checks.entries, entry, block);
+    let walk = walk_entry(alloc, checks.program, &scope, entry)?;
+    let mut verdict = Verdict::new(alloc);
+    verdict.put_found(walk.lines)?;
+    verdict.put_own(walk.own)?;
+    Ok(verdict)
+}
+
+// The fault of an entry that no block certifies.
+fn uncertified(program: &Program, entry: EntryId) -> Fault
+    ensures { result ≡ fault_at (entry_number (line_of_entry (map routine_of program.now) entry)) 1 NoCertificate }
+{
+    Fault {
+        line: number_of(program.line(entry)),
+        column: Column::new(1),
+        code: Code::NoCertificate,
     }
 }
 
-fn some_name(plain: &Plain, entry: EntryId, texts: &[Value]) -> bool
-    ensures { result ≡ list_any (names plain.now entry) texts.now }
+#[tactic(auto, unfolding(crate::specs::Verdicts::entry_faults))]
+fn verdict_of(alloc: Global, checks: &Checks<'_>, entry: EntryId) -> Result<Verdict, AllocError>
+    ensures { IfOk result (λ v. v ≡ verdict (map routine_of checks.now.program.now) checks.now.rules.now
+        checks.now.entries.now entry) }
 {
-    for text in texts {
-        if is_named(plain, entry, text.as_bytes()) {
-            return true;
-        }
+    if let Some(block) = checks.entries.block(entry) {
+        return verdict_by(alloc, checks, entry, block);
     }
-    false
+    let mut verdict = Verdict::new(alloc);
+    verdict.put(uncertified(checks.program, entry))?;
+    Ok(verdict)
 }
 
-fn first_named<'a>(plain: &Plain, entry: EntryId, blocks: &'a [EntryCert]) -> Option<&'a EntryCert>
-    ensures { option_copied result ≡ first_block plain.now entry blocks.now }
-{
-    for block in blocks {
-        if is_named(plain, entry, block.entry.as_bytes()) {
-            return Some(block);
-        }
-    }
-    None
-}
-
-/// The faults of an entry: those of the lines that it runs, walked from the cases of the first block that names it.
+/// The faults of an entry: those of its begin and its exits, and those of the lines that it runs, walked from the cases
+/// of the first block that names it.
 ///
-/// Without a block it has the one fault `Code::NoCertificate` at its line, column 1. The look-up of the block is linear
-/// in the certificate; `check_all` looks up all entries at once.
-#[tactic(auto, unfolding(crate::specs::Walk::verdict, crate::specs::Walk::is_declared, crate::specs::Walk::block_of))]
+/// Without a block it has the one fault `Code::NoCertificate` at its line, column 1. It looks into the whole
+/// certificate first; `check_all` does so once for all entries.
 pub fn check_entry(
     alloc: Global,
-    plain: &Plain,
+    program: &Program<'_>,
     rules: &Rules,
     certificate: &Certificate,
     entry: EntryId,
 ) -> Result<Verdict, AllocError>
-    ensures faults { IfOk result (λ v. SameSet v (verdict plain.now rules.now certificate.now entry)) }
-    ensures order { IfOk result (λ v. IsAscending v) }
+    ensures { IfOk result (λ v. v ≡ verdict (map routine_of program.now) rules.now
+        (known (map routine_of program.now) rules.now certificate.now) entry) }
 {
-    let declared = some_name(plain, entry, entries(rules));
-    let block = first_named(plain, entry, certificate.blocks.as_slice());
-    let lines = plain.lines_of(entry);
-    let found = check_lines(alloc, rules, declared, entry.line, lines, block)?;
-    let _ = found.as_slice();
-    Ok(found)
+    let entries = Entries::of(alloc, program, rules, certificate.blocks())?;
+    let checks = Checks {
+        program,
+        rules,
+        entries: &entries,
+    };
+    verdict_of(alloc, &checks, entry)
+}
+
+fn is_checked(entries: &Entries<'_>, entry: EntryId) -> bool
+    ensures { result ≡ is_checked entries.now entry }
+{
+    entries.block(entry).is_some() || entries.is_declared(entry)
+}
+
+// Checks an entry, where it is certified or declared.
+fn check_one(
+    alloc: Global,
+    checks: &Checks<'_>,
+    entry: EntryId,
+    report: &mut Report,
+) -> Result<(), AllocError>
+    ensures { OnOk result (report.new ≡ report.old ++ rows_of (map routine_of checks.now.program.now)
+        checks.now.rules.now checks.now.entries.now entry) }
+{
+    if !is_checked(checks.entries, entry) {
+        return Ok(());
+    }
+    let verdict = verdict_of(alloc, checks, entry)?;
+    report.add(entry, &verdict)
+}
+
+// Checks the entries of a routine.
+fn check_lines(
+    alloc: Global,
+    checks: &Checks<'_>,
+    routine: usize,
+    lines: &[Line],
+    report: &mut Report,
+) -> Result<(), AllocError>
+    ensures { OnOk result (report.new ≡ report.old ++ flat_map
+        (rows_of (map routine_of checks.now.program.now) checks.now.rules.now checks.now.entries.now)
+        (line_entries routine 0 (map line_of lines.now))) }
+{
+    for (number, line) in lines.iter().enumerate() {
+        if number == 0 || line.label.is_some() {
+            check_one(alloc, checks, EntryId::new(routine, number), report)?;
+        }
+    }
+    Ok(())
+}
+
+#[tactic(auto, using(mlk_program::proofs::Directories::lines_same))]
+fn check_routine(
+    alloc: Global,
+    checks: &Checks<'_>,
+    number: usize,
+    routine: &Routine,
+    report: &mut Report,
+) -> Result<(), AllocError>
+    ensures { OnOk result (report.new ≡ report.old ++ flat_map
+        (rows_of (map routine_of checks.now.program.now) checks.now.rules.now checks.now.entries.now)
+        (line_entries number 0 (lines_in (routine_of routine.now)))) }
+{
+    check_lines(alloc, checks, number, routine.lines.as_slice(), report)
+}
+
+fn check_routines(alloc: Global, checks: &Checks<'_>) -> Result<Report, AllocError>
+    ensures { IfOk result (λ r. r ≡ flat_map
+        (rows_of (map routine_of checks.now.program.now) checks.now.rules.now checks.now.entries.now)
+        (entries_from 0 (map routine_of checks.now.program.now))) }
+{
+    let mut report = Report::new(alloc);
+    for (number, routine) in checks.program.routines().iter().enumerate() {
+        check_routine(alloc, checks, number, routine, &mut report)?;
+    }
+    Ok(report)
+}
+
+/// The faults of a program: for each entry that is declared or certified, in the program's order, those of
+/// `check_entry`.
+#[tactic(auto, unfolding(crate::specs::Reports::report))]
+pub fn check_all(
+    alloc: Global,
+    program: &Program<'_>,
+    rules: &Rules,
+    certificate: &Certificate,
+) -> Result<Report, AllocError>
+    ensures { IfOk result (λ r. r ≡ report (map routine_of program.now) rules.now certificate.now) }
+{
+    let entries = Entries::of(alloc, program, rules, certificate.blocks())?;
+    let checks = Checks {
+        program,
+        rules,
+        entries: &entries,
+    };
+    check_routines(alloc, &checks)
 }

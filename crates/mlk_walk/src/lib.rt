@@ -1,22 +1,18 @@
-//! The walk: what every run of a routine may do, followed over the cases that a certificate lists.
+//! Verdicts of entries, and reports of programs.
 #![tactic(auto)]
 
-mod case;
-mod cert;
+mod begin;
 mod check;
 mod entry;
-mod held;
-mod places;
-mod program;
+mod law;
+mod line;
+mod missing;
 mod report;
-mod straight;
-mod term;
 mod verdict;
-mod walk;
 
-pub use cert::{Blocks, Case, Cases, Certificate, EntryCert, Point, Points};
-pub use check::check_entry;
-pub use program::{check_all, missing_entry};
+pub use check::{check_all, check_entry};
+pub use law::faults_in_order;
+pub use line::{check_line, walk_line};
+pub use missing::missing_entry;
 pub use report::{Report, Row};
-pub use straight::plain_of;
-pub use verdict::{Verdict, WalkFault};
+pub use verdict::Verdict;

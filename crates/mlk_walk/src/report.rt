@@ -1,9 +1,11 @@
 // The report of a program.
 
 ghost use Rattle.std.specs.Prelude.{◌≡◌, ◌↔◌, ◌++◌, [], OnOk, IsTrue, map};
+ghost use Rattle.mlk_walk.specs.Reports.{row_of};
 
-use crate::verdict::{Verdict, WalkFault};
-use mlk_machine::plain::EntryId;
+use crate::verdict::Verdict;
+use mlk_program::EntryId;
+use mlk_walk_exprs::Fault;
 use std::alloc::{AllocError, Global};
 use std::marker::Model;
 
@@ -11,10 +13,10 @@ use std::marker::Model;
 #[derive(Clone, Copy, Debug, Drop, PartialEq, Eq)]
 pub struct Row {
     pub entry: EntryId,
-    pub fault: WalkFault,
+    pub fault: Fault,
 }
 
-/// The faults of a program: for each entry, in the program's order, those of its verdict.
+/// The faults of a program's entries. A contract sees the rows.
 #[derive(Drop, Debug)]
 pub struct Report {
     rows: Vec<Row>,
@@ -30,8 +32,6 @@ impl Model for Report {
 }
 
 impl Report {
-    ghost use Rattle.mlk_walk.specs.Rows.{row};
-
     /// A report without rows.
     pub(crate) fn new(alloc: Global) -> Report
         ensures { result ≡ [] }
@@ -55,11 +55,11 @@ impl Report {
         self.rows.is_empty()
     }
 
-    /// Puts the faults of an entry after the others.
+    /// The faults of an entry, after the others.
     pub(crate) fn add(&mut self, entry: EntryId, verdict: &Verdict) -> Result<(), AllocError>
-        ensures { OnOk result (self.new ≡ self.old ++ map (row entry) verdict.now) }
+        ensures { OnOk result (self.new ≡ self.old ++ map (row_of entry) verdict.now) }
     {
-        for fault in verdict.as_slice() {
+        for fault in verdict.iter() {
             self.rows.push(Row {
                 entry,
                 fault: *fault,

@@ -1,91 +1,89 @@
-// The faults of an entry's walk.
+// The verdict of an entry.
 
-ghost use Rattle.std.specs.Prelude.{◌≡◌, ◌∷◌, ◌≤◌, [], OnOk, MatchOption, insert, length};
-ghost use Rattle.mlk_walk.specs.Sets.{fault_cmp, put_in, Adds, IsAscending};
+ghost use Rattle.std.specs.Prelude.{◌≡◌, [], OnOk, map};
+ghost use Rattle.mlk_walk.specs.Faults.{put_fault, put_faults};
+ghost use Rattle.mlk_walk.specs.Verdicts.{fault_in};
 
-use mlk_text::Code;
+use mlk_walk_exprs::{Fault, Faults, Found, Mend};
+use mlk_walk_lines::{LineFault, LineFaults};
 use std::alloc::{AllocError, Global};
-use std::cmp::Ordering;
+use std::collections::BTreeSet;
+use std::collections::btree_set::Iter;
 use std::marker::Model;
 
-/// A fault of the walk: its place in the entry's routine, and its code. Lines and columns count from 1.
-#[derive(Clone, Copy, Debug, Drop, PartialEq, Eq)]
-pub struct WalkFault {
-    pub line: usize,
-    pub column: u32,
-    pub code: Code,
-}
-
 /// The faults of an entry, each once, ascending by line, column and number.
-#[derive(Drop, Debug)]
+#[derive(Drop)]
 pub struct Verdict {
-    faults: Vec<WalkFault>,
+    faults: BTreeSet<Fault>,
 }
 
 impl Model for Verdict {
     ghost use Rattle.std.specs.Prelude.{List};
-    ghost use Rattle.mlk_walk.specs.declared.verdict.WalkFault.{WalkFault};
-    ghost use Rattle.mlk_walk.specs.Sets.{IsAscending};
+    ghost use Rattle.mlk_walk_exprs.specs.declared.walk.Fault.{Fault};
 
-    ghost Value = { List WalkFault };
+    ghost Value = { List Fault };
 
-    ghost view = { λ v. v.faults.items };
-
-    ghost invariant = { λ v. IsAscending v.faults.items };
+    ghost view = { λ v. v.faults.keys };
 }
 
-#[tactic(auto, unfolding(crate::specs::Sets::fault_cmp))]
-fn order_of(f: &WalkFault, g: &WalkFault) -> Ordering
-    ensures { result ≡ fault_cmp f.now g.now }
+fn fault_of(found: Found) -> Fault
+    ensures { result ≡ found.fault }
 {
-    f.line
-        .cmp(&g.line)
-        .then(f.column.cmp(&g.column))
-        .then(f.code.number().cmp(&g.code.number()))
+    found.fault
 }
 
-// Where the fault goes in a list that ascends, or nothing where it stands there. Most faults come in order, so it
-// looks from the end.
-fn place_of(faults: &[WalkFault], f: &WalkFault) -> Option<usize>
-    requires { IsAscending faults.now }
-    ensures { MatchOption result (put_in f.now faults.now ≡ faults.now) (λ i. (i ≤ length faults.now) × (put_in f.now faults.now ≡ insert faults.now i f.now)) }
+fn fault_found(found: (LineFault, Mend)) -> Fault
+    ensures { result ≡ fault_in found.0 }
 {
-    let mut i = faults.len();
-    while i > 0 {
-        match order_of(f, &faults[i - 1]) {
-            Ordering::Greater => return Some(i),
-            Ordering::Equal => return None,
-            Ordering::Less => i -= 1,
-        }
-    }
-    Some(0)
+    found.0.fault
 }
 
 impl Verdict {
     /// No faults.
-    pub fn new(alloc: Global) -> Verdict
+    pub(crate) fn new(alloc: Global) -> Verdict
         ensures { result ≡ [] }
     {
         Verdict {
-            faults: Vec::new(alloc),
+            faults: BTreeSet::new(alloc),
         }
     }
 
-    /// The faults as a slice.
-    pub fn as_slice(&self) -> &[WalkFault]
-        ensures faults { result.now ≡ self.now }
-        ensures order { IsAscending self.now }
+    /// One more fault.
+    pub(crate) fn put(&mut self, fault: Fault) -> Result<(), AllocError>
+        ensures { OnOk result (self.new ≡ put_fault fault self.old) }
     {
-        self.faults.as_slice()
+        self.faults.insert(fault)?;
+        Ok(())
     }
 
-    /// Puts a fault in its place, where it does not stand there.
-    pub fn add(&mut self, f: WalkFault) -> Result<(), AllocError>
-        ensures { OnOk result (Adds self.old self.new (f ∷ [])) }
+    /// The faults of an entry's line too.
+    #[tactic(auto, using(crate::proofs::Ascending::put_last_of))]
+    pub(crate) fn put_own(&mut self, faults: Faults) -> Result<(), AllocError>
+        ensures { OnOk result (self.new ≡ put_faults faults self.old) }
     {
-        if let Some(i) = place_of(self.faults.as_slice(), &f) {
-            self.faults.insert(i, f)?;
+        let mut left = faults.into_vec();
+        while let Some(found) = left.pop() {
+            self.put(fault_of(found))?;
         }
         Ok(())
+    }
+
+    /// The faults that the walks of lines found too.
+    #[tactic(auto, using(crate::proofs::Ascending::put_last_of))]
+    pub(crate) fn put_found(&mut self, faults: LineFaults) -> Result<(), AllocError>
+        ensures { OnOk result (self.new ≡ put_faults (map fault_in faults) self.old) }
+    {
+        let mut left = faults.into_vec();
+        while let Some(found) = left.pop() {
+            self.put(fault_found(found))?;
+        }
+        Ok(())
+    }
+
+    /// The faults, in order.
+    pub fn iter(&self) -> Iter<'_, Fault>
+        ensures { result ≡ self.now }
+    {
+        self.faults.iter()
     }
 }

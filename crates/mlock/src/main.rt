@@ -4,7 +4,7 @@
 mod progress;
 
 use crate::progress::Progress;
-use mlk_command::{Files, read_whole, run_watched, wrong_words};
+use mlk_app::{Files, read_whole, run_watched, wrong_words};
 use std::alloc::Global;
 use std::fs::File;
 use std::io;

@@ -1,6 +1,6 @@
 // How far long work has come, shown on a terminal.
 
-use mlk_command::{Stage, Watch};
+use mlk_app::{Stage, Watch};
 use std::cell::Cell;
 use std::io::IsTerminal;
 use std::mem::forget;

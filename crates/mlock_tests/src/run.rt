@@ -1,9 +1,9 @@
-// Tests on `run` of what no row of `mlock_rows` can say: readers, writers and words that fail.
+// Tests on `run` of what no row of `mlock_cases` can say: readers, writers and words that fail.
 
 mod faults;
 mod reading;
 
-use mlk_command::Files;
+use mlk_app::Files;
 use std::alloc::{AllocError, Global};
 use std::io;
 

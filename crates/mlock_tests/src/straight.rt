@@ -1,11 +1,11 @@
 // Of routines that are more than straight lines, the first thing in their order is told.
 
-use mlk_machine::plain::Plain;
 use mlk_program::link;
 use mlk_routine::read_routine;
+use mlk_straight_machine::plain::Plain;
+use mlk_straight_walk::plain_of;
+use mlk_syntax::Routine;
 use mlk_text::{Failure, Fault};
-use mlk_tree::Routine;
-use mlk_walk::plain_of;
 use std::alloc::Global;
 
 // The straight lines of routines, or why there are none.

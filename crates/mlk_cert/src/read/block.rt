@@ -2,8 +2,8 @@
 
 ghost use Rattle.std.specs.Prelude.{◌≡◌, ◌++◌, ◌∷◌, [], List, ℕ, IfOk, OnOk, map, codes, not, true};
 ghost use Rattle.mlk_text.specs.Failures.{Reads};
-ghost use Rattle.mlk_blocks.specs.Checks.{has_text, fits};
-ghost use Rattle.mlk_lexemes.specs.Reading.{entry_at};
+ghost use Rattle.mlk_cert_parts.specs.Checks.{has_text, fits};
+ghost use Rattle.mlk_cert_lexemes.specs.Reading.{entry_at};
 ghost use Rattle.mlk_cert.specs.Blocks.{rest_at, summary_at, points_at, block_at, new_entry_at, new_block_at, blocks_at};
 
 use crate::read::fault::{Refusal, other_form};
@@ -11,8 +11,8 @@ use crate::read::fit::Fit;
 use crate::read::line::{drops_line, exits, line_end, low_line, mods_line, need_line};
 use crate::read::points::points;
 use indexmap::IndexSet;
-use mlk_blocks::{EntryCert, Summary};
-use mlk_lexemes::{entry, word_of};
+use mlk_cert_lexemes::{entry, word_of};
+use mlk_cert_parts::{EntryCert, Summary};
 use mlk_text::{Code, Failure, Value};
 use std::alloc::{AllocError, Global};
 

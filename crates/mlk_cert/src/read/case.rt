@@ -4,16 +4,18 @@ ghost use Rattle.std.specs.Prelude.{◌≡◌, ◌∷◌, [], suc, length, optio
 ghost use Rattle.mlk_text.specs.Reading.{many, put};
 ghost use Rattle.mlk_text.specs.Lexemes.{name_at};
 ghost use Rattle.mlk_text.specs.Failures.{Reads};
-ghost use Rattle.mlk_blocks.specs.Checks.{fit_terms, fit_own, fit_kept, fit_mods, fits_case, fits_exit};
+ghost use Rattle.mlk_cert_parts.specs.Checks.{fit_terms, fit_own, fit_kept, fit_mods, fits_case, fits_exit};
 ghost use Rattle.mlk_cert.specs.Fitting.{passes};
-ghost use Rattle.mlk_lexemes.specs.Reading.{keep, part_at, listed_at, term_at};
-ghost use Rattle.mlk_blocks.specs.Reading.{sign_at, saved_at, own_at, names_at, exit_at, case_at};
+ghost use Rattle.mlk_cert_lexemes.specs.Reading.{keep, part_at, listed_at, term_at};
+ghost use Rattle.mlk_cert_parts.specs.Reading.{sign_at, saved_at, own_at, names_at, exit_at, case_at};
 
 use crate::read::fit::{Fit, fit_both, fit_of};
 use crate::read::memory::{Memories, Memory};
-use mlk_blocks::limit::{MOST_KEPT, MOST_MODS, MOST_OWN, MOST_TERMS};
-use mlk_blocks::{Case, ExitCase, NameSet, Own, Shared, Test, ascend_inside, ascend_inside_own};
-use mlk_lexemes::{front_of, listed, word_of};
+use mlk_cert_lexemes::{front_of, listed, word_of};
+use mlk_cert_parts::limit::{MOST_KEPT, MOST_MODS, MOST_OWN, MOST_TERMS};
+use mlk_cert_parts::{
+    Case, ExitCase, NameSet, Own, Shared, Test, ascend_inside, ascend_inside_own,
+};
 use mlk_names::LockTerm;
 use mlk_text::lexeme::byte_of;
 use mlk_text::{Failure, List, Name, NotThere};
@@ -51,7 +53,7 @@ fn more_signs(
     Ok((found, rest))
 }
 
-#[tactic(auto, unfolding(mlk_blocks::specs::Reading::saved_at))]
+#[tactic(auto, unfolding(mlk_cert_parts::specs::Reading::saved_at))]
 fn saved(alloc: Global, bytes: &[u8]) -> Result<(List<Test>, &[u8]), Failure<NotThere>>
     ensures { Reads (λ x. (x.0, x.1.now)) result (saved_at bytes.now) }
 {
@@ -111,7 +113,7 @@ fn kept_names(alloc: Global, bytes: &[u8]) -> Result<(Vec<Name>, Fit, &[u8]), Fa
     Ok((found, fit, rest))
 }
 
-#[tactic(auto, unfolding(mlk_lexemes::specs::Reading::part_at))]
+#[tactic(auto, unfolding(mlk_cert_lexemes::specs::Reading::part_at))]
 fn test_part(bytes: &[u8]) -> Option<(Test, &[u8])>
     ensures { option_map (λ x. (x.0, x.1.now)) result ≡ part_at (codes "T=") sign_at bytes.now }
 {
@@ -121,7 +123,7 @@ fn test_part(bytes: &[u8]) -> Option<(Test, &[u8])>
     sign(rest)
 }
 
-#[tactic(auto, unfolding(mlk_lexemes::specs::Reading::part_at))]
+#[tactic(auto, unfolding(mlk_cert_lexemes::specs::Reading::part_at))]
 fn held_part<'a>(
     alloc: Global,
     memory: &mut Memory<'a, LockTerm>,
@@ -144,7 +146,7 @@ fn held_part<'a>(
     Ok((list, fit, after))
 }
 
-#[tactic(auto, unfolding(mlk_lexemes::specs::Reading::part_at))]
+#[tactic(auto, unfolding(mlk_cert_lexemes::specs::Reading::part_at))]
 fn own_part<'a>(
     alloc: Global,
     memory: &mut Memory<'a, Own>,
@@ -167,7 +169,7 @@ fn own_part<'a>(
     Ok((list, fit, after))
 }
 
-#[tactic(auto, unfolding(mlk_lexemes::specs::Reading::part_at))]
+#[tactic(auto, unfolding(mlk_cert_lexemes::specs::Reading::part_at))]
 fn kept_part<'a>(
     alloc: Global,
     memory: &mut Memory<'a, Name>,
@@ -190,7 +192,7 @@ fn kept_part<'a>(
     Ok((list, fit, after))
 }
 
-#[tactic(auto, unfolding(mlk_lexemes::specs::Reading::part_at))]
+#[tactic(auto, unfolding(mlk_cert_lexemes::specs::Reading::part_at))]
 fn saved_part(alloc: Global, bytes: &[u8]) -> Result<(List<Test>, &[u8]), Failure<NotThere>>
     ensures { Reads (λ x. (x.0, x.1.now)) result (part_at (codes " S=") saved_at bytes.now) }
 {
@@ -202,7 +204,7 @@ fn saved_part(alloc: Global, bytes: &[u8]) -> Result<(List<Test>, &[u8]), Failur
 }
 
 /// The case of an exit, whether it keeps to its limits, and what is left after it.
-#[tactic(auto, unfolding(mlk_blocks::specs::Reading::exit_at))]
+#[tactic(auto, unfolding(mlk_cert_parts::specs::Reading::exit_at))]
 pub(crate) fn exit<'a>(
     alloc: Global,
     memories: &mut Memories<'a>,
@@ -220,7 +222,7 @@ pub(crate) fn exit<'a>(
 }
 
 /// A case, whether it keeps to its limits, and what is left after it.
-#[tactic(auto, unfolding(mlk_blocks::specs::Reading::case_at))]
+#[tactic(auto, unfolding(mlk_cert_parts::specs::Reading::case_at))]
 pub(crate) fn case<'a>(
     alloc: Global,
     memories: &mut Memories<'a>,

@@ -2,20 +2,20 @@
 
 ghost use Rattle.std.specs.Prelude.{◌≡◌, ◌&&◌, [], suc, length, option_map, IfOk, codes};
 ghost use Rattle.mlk_text.specs.Failures.{Reads};
-ghost use Rattle.mlk_blocks.specs.Checks.{fit_terms, fit_mods, fits_exit, fits};
+ghost use Rattle.mlk_cert_parts.specs.Checks.{fit_terms, fit_mods, fits_exit, fits};
 ghost use Rattle.mlk_cert.specs.Fitting.{passes};
-ghost use Rattle.mlk_blocks.specs.Texts.{exit_text};
-ghost use Rattle.mlk_lexemes.specs.Reading.{part_at, listed_at, term_at};
-ghost use Rattle.mlk_blocks.specs.Reading.{names_at, exit_at};
+ghost use Rattle.mlk_cert_parts.specs.Texts.{exit_text};
+ghost use Rattle.mlk_cert_lexemes.specs.Reading.{part_at, listed_at, term_at};
+ghost use Rattle.mlk_cert_parts.specs.Reading.{names_at, exit_at};
 ghost use Rattle.mlk_cert.specs.Blocks.{ended, rest_at, low_at, drops_at, after_at, above_last, next_exit_fits, exits_at};
 
 use crate::read::case::{exit, mods, terms};
 use crate::read::fault::{Refusal, other_form};
 use crate::read::fit::{Fit, fit_both, fit_of};
 use crate::read::memory::Memories;
-use mlk_blocks::limit::MOST_EXITS;
-use mlk_blocks::{ExitCase, NameSet};
-use mlk_lexemes::{front_of, is_below, number, word_of};
+use mlk_cert_lexemes::{front_of, is_below, number, word_of};
+use mlk_cert_parts::limit::MOST_EXITS;
+use mlk_cert_parts::{ExitCase, NameSet};
 use mlk_names::LockTerm;
 use mlk_text::lexeme::byte_of;
 use mlk_text::limit::GREATEST_RANK;
@@ -49,7 +49,7 @@ pub(crate) fn line_end<'a, T: Drop>(
 }
 
 /// The line of the locks that a caller must hold.
-#[tactic(auto, unfolding(mlk_lexemes::specs::Reading::part_at, crate::specs::Blocks::rest_at))]
+#[tactic(auto, unfolding(mlk_cert_lexemes::specs::Reading::part_at, crate::specs::Blocks::rest_at))]
 pub(crate) fn need_line(
     alloc: Global,
     bytes: &[u8],
@@ -81,7 +81,7 @@ fn low(bytes: &[u8]) -> Option<(Option<u32>, &[u8])>
 }
 
 /// The line of the least rank.
-#[tactic(auto, unfolding(mlk_lexemes::specs::Reading::part_at, crate::specs::Blocks::rest_at))]
+#[tactic(auto, unfolding(mlk_cert_lexemes::specs::Reading::part_at, crate::specs::Blocks::rest_at))]
 pub(crate) fn low_line(bytes: &[u8]) -> Result<(Option<u32>, &[u8]), Failure<Refusal>>
     ensures { Reads (λ x. (x.0, x.1.now)) result (part_at (codes "low ") (rest_at low_at fits) bytes.now) }
 {
@@ -108,7 +108,7 @@ fn drops(bytes: &[u8]) -> Option<(bool, &[u8])>
 }
 
 /// The line that says whether all locks may be released.
-#[tactic(auto, unfolding(mlk_lexemes::specs::Reading::part_at, crate::specs::Blocks::rest_at))]
+#[tactic(auto, unfolding(mlk_cert_lexemes::specs::Reading::part_at, crate::specs::Blocks::rest_at))]
 pub(crate) fn drops_line(bytes: &[u8]) -> Result<(bool, &[u8]), Failure<Refusal>>
     ensures { Reads (λ x. (x.0, x.1.now)) result (part_at (codes "drops ") (rest_at drops_at fits) bytes.now) }
 {
@@ -122,7 +122,7 @@ pub(crate) fn drops_line(bytes: &[u8]) -> Result<(bool, &[u8]), Failure<Refusal>
 }
 
 /// The line of the names that may change.
-#[tactic(auto, unfolding(mlk_lexemes::specs::Reading::part_at, crate::specs::Blocks::rest_at))]
+#[tactic(auto, unfolding(mlk_cert_lexemes::specs::Reading::part_at, crate::specs::Blocks::rest_at))]
 pub(crate) fn mods_line(
     alloc: Global,
     bytes: &[u8],

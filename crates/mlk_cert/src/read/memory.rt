@@ -3,8 +3,8 @@
 ghost use Rattle.std.specs.Prelude.{◌≡◌, ◌++◌, ◌∷◌, IfOk, IfSome, List, Bool};
 ghost use Rattle.mlk_cert.specs.Memories.{Remembers, Recalls};
 
-use mlk_blocks::{Own, Shared};
-use mlk_lexemes::{Item, word_of};
+use mlk_cert_lexemes::{Item, word_of};
+use mlk_cert_parts::{Own, Shared};
 use mlk_names::LockTerm;
 use mlk_text::Name;
 use mlk_text::lexeme::byte_of;
@@ -17,19 +17,19 @@ pub(crate) trait Limited: Item {
 }
 
 impl Limited for LockTerm {
-    ghost use Rattle.mlk_blocks.specs.Checks.{fit_terms};
+    ghost use Rattle.mlk_cert_parts.specs.Checks.{fit_terms};
 
     ghost fits = { fit_terms };
 }
 
 impl Limited for Own {
-    ghost use Rattle.mlk_blocks.specs.Checks.{fit_own};
+    ghost use Rattle.mlk_cert_parts.specs.Checks.{fit_own};
 
     ghost fits = { fit_own };
 }
 
 impl Limited for Name {
-    ghost use Rattle.mlk_blocks.specs.Checks.{fit_kept};
+    ghost use Rattle.mlk_cert_parts.specs.Checks.{fit_kept};
 
     ghost fits = { fit_kept };
 }

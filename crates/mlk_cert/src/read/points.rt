@@ -2,10 +2,10 @@
 
 ghost use Rattle.std.specs.Prelude.{◌≡◌, ◌==◌, ◌&&◌, OnOk, IfOk, option_map, option_copied, List, ℕ};
 ghost use Rattle.mlk_text.specs.Failures.{Reads};
-ghost use Rattle.mlk_blocks.specs.Checks.{fits_case};
+ghost use Rattle.mlk_cert_parts.specs.Checks.{fits_case};
 ghost use Rattle.mlk_cert.specs.Fitting.{passes};
-ghost use Rattle.mlk_lexemes.specs.Lists.{last_of};
-ghost use Rattle.mlk_blocks.specs.Texts.{case_text};
+ghost use Rattle.mlk_cert_lexemes.specs.Lists.{last_of};
+ghost use Rattle.mlk_cert_parts.specs.Texts.{case_text};
 ghost use Rattle.mlk_cert.specs.Blocks.{place_at, listed_case_at, fits_listed, after_at, add_case, point_of, with_case, next_case_fits, points_at};
 
 use crate::read::case::case;
@@ -13,9 +13,9 @@ use crate::read::fault::{Refusal, other_form};
 use crate::read::fit::{Fit, fit_both, fit_of};
 use crate::read::line::{is_above, line_end};
 use crate::read::memory::Memories;
-use mlk_blocks::limit::{GREATEST_LINE, GREATEST_ROUND, MOST_CASES};
-use mlk_blocks::{Case, Point};
-use mlk_lexemes::{counted, front_of, number, word_of};
+use mlk_cert_lexemes::{counted, front_of, number, word_of};
+use mlk_cert_parts::limit::{GREATEST_LINE, GREATEST_ROUND, MOST_CASES};
+use mlk_cert_parts::{Case, Point};
 use mlk_text::lexeme::byte_of;
 use mlk_text::{Failure, LineNumber, List};
 use std::alloc::{AllocError, Global};

@@ -2,7 +2,7 @@
 
 ghost use Rattle.std.specs.Prelude.{◌≡◌, ◌≤◌, ◌+◌, length, IfOk, IfErr, List};
 ghost use Rattle.mlk_text.specs.Failures.{Reads};
-ghost use Rattle.mlk_blocks.specs.Limits.{longest};
+ghost use Rattle.mlk_cert_parts.specs.Limits.{longest};
 ghost use Rattle.mlk_cert.specs.Faults.{IsLater, at_first};
 ghost use Rattle.mlk_cert.specs.Blocks.{blocks_at, finished, body_at};
 ghost use Rattle.mlk_cert.specs.Theorem.{Spells, IsReading};
@@ -11,9 +11,9 @@ ghost use Rattle.mlk_cert.specs.Refusals.{IsPlaced, lines_in};
 use crate::certificate::Certificate;
 use crate::read::block::blocks;
 use crate::read::fault::{CertFault, Refusal, other_form};
-use mlk_blocks::EntryCert;
-use mlk_blocks::limit::LONGEST_TEXT;
-use mlk_lexemes::word_of;
+use mlk_cert_lexemes::word_of;
+use mlk_cert_parts::EntryCert;
+use mlk_cert_parts::limit::LONGEST_TEXT;
 use mlk_text::{Code, Failure, LineNumber};
 use std::alloc::Global;
 

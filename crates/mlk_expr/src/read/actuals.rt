@@ -3,8 +3,8 @@
 ghost use Rattle.std.specs.Prelude.{◌≡◌, ◌<◌, vec_len, vec_capacity, ◌∷◌, [], suc, length};
 ghost use Rattle.mlk_text.specs.Lexemes.{byte_at};
 ghost use Rattle.mlk_text.specs.Reading.{many, put};
-ghost use Rattle.mlk_tokens.specs.Lexemes.{column_of};
-ghost use Rattle.mlk_tree.specs.ExprTrees.{tree_of, actual_of, actual_trees};
+ghost use Rattle.mlk_expr_tokens.specs.Lexemes.{column_of};
+ghost use Rattle.mlk_syntax.specs.ExprTrees.{tree_of, actual_of, actual_trees};
 ghost use Rattle.mlk_expr.specs.Reading.{next, nested_in, list_with, actual_with, actuals_with, call_with};
 ghost use Rattle.mlk_expr.specs.Touches.{calls_may};
 ghost use Rattle.mlk_text.specs.Failures.{Reads};
@@ -13,13 +13,13 @@ use crate::part::{callee, list_room, name};
 use crate::read::chain;
 use crate::refusal::{Offence, Wrong, no_actual, no_actuals_end, no_call, refused};
 use crate::scope::{Passing, Scope};
+use mlk_expr_tokens::lexeme::{column_of, is_missing};
+use mlk_syntax::{Actual, Expr};
 use mlk_text::lexeme::byte_of;
 use mlk_text::{Failure, make_room};
-use mlk_tokens::lexeme::{column_of, is_missing};
-use mlk_tree::{Actual, Expr};
 use std::alloc::Global;
 
-#[tactic(auto, unfolding(crate::specs::Reading::actual_with, mlk_tokens::specs::Lexemes::lent_at))]
+#[tactic(auto, unfolding(crate::specs::Reading::actual_with, mlk_expr_tokens::specs::Lexemes::lent_at))]
 #[cycle(reading)]
 fn actual<'a>(
     alloc: Global,

@@ -3,8 +3,8 @@
 ghost use Rattle.std.specs.Prelude.{◌≡◌, ◌<◌, vec_len, vec_capacity, ◌∷◌, [], suc, length};
 ghost use Rattle.mlk_text.specs.Lexemes.{byte_at};
 ghost use Rattle.mlk_text.specs.Reading.{many, put};
-ghost use Rattle.mlk_tokens.specs.Lexemes.{column_of};
-ghost use Rattle.mlk_tree.specs.ExprTrees.{tree_of, trees, choice_of, choices};
+ghost use Rattle.mlk_expr_tokens.specs.Lexemes.{column_of};
+ghost use Rattle.mlk_syntax.specs.ExprTrees.{tree_of, trees, choice_of, choices};
 ghost use Rattle.mlk_expr.specs.Reading.{few, next, nested_in, list_with, choice_with, arguments_with, function_with};
 ghost use Rattle.mlk_expr.specs.Reading.{dollar_with, atom_in, quiet};
 ghost use Rattle.mlk_expr.specs.Touches.{calls_may};
@@ -17,11 +17,11 @@ use crate::refusal::{
     Offence, Wrong, no_arguments_end, no_end, no_function, no_operand, no_word, refused,
 };
 use crate::scope::{Allows, Scope};
+use mlk_expr_tokens::lexeme::starts_reference;
+use mlk_expr_tokens::words::{function_of, is_select, special_of};
+use mlk_syntax::{Expr, Function};
 use mlk_text::lexeme::{byte_of, word_at};
 use mlk_text::{Failure, giving_up, make_room};
-use mlk_tokens::lexeme::starts_reference;
-use mlk_tokens::words::{function_of, is_select, special_of};
-use mlk_tree::{Expr, Function};
 use std::alloc::Global;
 
 // Expressions to the closing parenthesis.

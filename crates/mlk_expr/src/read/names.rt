@@ -3,8 +3,8 @@
 ghost use Rattle.std.specs.Prelude.{◌≡◌, ◌<◌, vec_len, vec_capacity, ◌∷◌, [], suc, length};
 ghost use Rattle.mlk_text.specs.Lexemes.{byte_at};
 ghost use Rattle.mlk_text.specs.Reading.{many, put};
-ghost use Rattle.mlk_tokens.specs.Lexemes.{column_of};
-ghost use Rattle.mlk_tree.specs.ExprTrees.{tree_of, sub_of, sub_trees};
+ghost use Rattle.mlk_expr_tokens.specs.Lexemes.{column_of};
+ghost use Rattle.mlk_syntax.specs.ExprTrees.{tree_of, sub_of, sub_trees};
 ghost use Rattle.mlk_expr.specs.Reading.{few, next, nested_in, list_with, placed, subs_with, local_with, global_with};
 ghost use Rattle.mlk_expr.specs.Touches.{globals_may};
 ghost use Rattle.mlk_text.specs.Failures.{Reads};
@@ -13,11 +13,11 @@ use crate::part::{global_name, list_room, name};
 use crate::read::chain;
 use crate::refusal::{Offence, Wrong, no_end, refused};
 use crate::scope::Scope;
+use mlk_expr_tokens::lexeme::column_of;
+use mlk_syntax::{Expr, Subscript};
 use mlk_text::lexeme::byte_of;
 use mlk_text::limit::MOST_SUBSCRIPTS;
 use mlk_text::{Failure, make_room};
-use mlk_tokens::lexeme::column_of;
-use mlk_tree::{Expr, Subscript};
 use std::alloc::Global;
 
 #[cycle(reading)]

@@ -1,6 +1,6 @@
 // Long texts.
 
-use mlk_straight::{CertificateError, read_certificate};
+use mlk_straight_check::{CertificateError, read_certificate};
 use std::alloc::Global;
 use std::test::Fail;
 

@@ -1,7 +1,7 @@
 // What is read of a text, part by part.
 
-use mlk_machine::plain::Root;
-use mlk_straight::read_certificate;
+use mlk_straight_check::read_certificate;
+use mlk_straight_machine::plain::Root;
 use std::test::Fail;
 
 #[test]

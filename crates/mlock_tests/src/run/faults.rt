@@ -1,7 +1,7 @@
 // Faults of the command line, of files, of streams and of memory.
 
 use super::{CERT, CHECK, Memory, RULES, TAKE, texts};
-use mlk_command::{Files, run};
+use mlk_app::{Files, run};
 use std::alloc::{AllocError, Global};
 use std::io::{self, ErrorKind, Write};
 use std::test::Fail;

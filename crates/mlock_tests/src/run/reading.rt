@@ -1,6 +1,6 @@
 // Files that are read whole, however few bytes a read gives.
 
-use mlk_command::read_whole;
+use mlk_app::read_whole;
 use std::io::{self, ErrorKind, Read};
 use std::test::Fail;
 

@@ -1,6 +1,6 @@
 use Rattle.std.proofs.Common.{rules, sym, refl}
-use Rattle.mlk_tree.specs.ExprTrees.{actual_trees}
-use Rattle.mlk_scope.specs.Scope.{scope_of}
+use Rattle.mlk_syntax.specs.ExprTrees.{actual_trees}
+use Rattle.mlk_walk_state.specs.Scope.{scope_of}
 use Rattle.mlk_calls.specs.Calls.{called_of}
 use Rattle.mlk_calls.proofs.CallSteps.{at_refused}
 use Rattle.mlk_calls.proofs.call.at_call.Goals as goal

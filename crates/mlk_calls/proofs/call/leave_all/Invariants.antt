@@ -1,6 +1,6 @@
 use Rattle.std.proofs.Common.{◌≡◌, ◌++◌, length}
 use Rattle.std.specs.Prelude.{option_map}
-use Rattle.mlk_scope.specs.Lists.{all_some}
+use Rattle.mlk_walk_state.specs.Lists.{all_some}
 use Rattle.mlk_calls.specs.Calls.{leave}
 use Rattle.mlk_calls.proofs.call.leave_all.Given as goal
 

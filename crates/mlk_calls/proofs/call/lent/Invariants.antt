@@ -1,6 +1,6 @@
 use Rattle.std.proofs.Common.{◌≡◌, take}
 use Rattle.std.specs.Prelude.{flat_map}
-use Rattle.mlk_tree.specs.ExprTrees.{actual_trees}
+use Rattle.mlk_syntax.specs.ExprTrees.{actual_trees}
 use Rattle.mlk_calls.specs.Calls.{lent_set}
 use Rattle.mlk_calls.proofs.call.lent.Given as goal
 

@@ -1,4 +1,4 @@
-use Rattle.mlk_scope.proofs.Passing.{put_term_is}
+use Rattle.mlk_walk_state.proofs.Passing.{put_term_is}
 use Rattle.mlk_calls.proofs.call.put_term.Goals as goal
 
 pub returns : goal.returns

@@ -1,7 +1,7 @@
 use Rattle.std.proofs.Common.{◌≡◌, ◌++◌, length}
 use Rattle.std.specs.Prelude.{option_map}
-use Rattle.mlk_scope.specs.Lists.{all_some}
-use Rattle.mlk_scope.specs.Terms.{put_term}
+use Rattle.mlk_walk_state.specs.Lists.{all_some}
+use Rattle.mlk_walk_state.specs.Terms.{put_term}
 use Rattle.mlk_calls.proofs.call.put_terms.Given as goal
 
 abbrev pub invariant-loop-term : goal.invariant-loop-term

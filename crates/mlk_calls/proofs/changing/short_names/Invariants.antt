@@ -1,5 +1,5 @@
 use Rattle.std.proofs.Common.{◌≡◌, take}
-use Rattle.mlk_scope.specs.Scope.{scope_of}
+use Rattle.mlk_walk_state.specs.Scope.{scope_of}
 use Rattle.mlk_calls.specs.Changes.{short_names}
 use Rattle.mlk_calls.proofs.changing.short_names.Given as goal
 

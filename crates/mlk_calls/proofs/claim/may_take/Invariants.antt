@@ -1,5 +1,5 @@
 use Rattle.std.proofs.Common.{◌≡◌, ◌+◌, length}
-use Rattle.mlk_scope.specs.Scope.{scope_of}
+use Rattle.mlk_walk_state.specs.Scope.{scope_of}
 use Rattle.mlk_calls.specs.Claims.{claim_fault, claim_refused, first_refused}
 use Rattle.mlk_calls.proofs.claim.may_take.Given as goal
 

@@ -1,6 +1,6 @@
 use Rattle.std.proofs.Common.{◌++◌, ap, ◌∙◌}
-use Rattle.mlk_lexemes.specs.Lists.{flat}
-use Rattle.mlk_blocks.specs.Texts.{block_text, end_line}
+use Rattle.mlk_cert_lexemes.specs.Lists.{flat}
+use Rattle.mlk_cert_parts.specs.Texts.{block_text, end_line}
 use Rattle.mlk_cert.proofs.Equal.{block-equal}
 use Rattle.mlk_cert.proofs.ReadAgain.{blocks-kept, blocks-refused}
 use Rattle.mlk_cert.proofs.checked.are_certificate.Goals as goal

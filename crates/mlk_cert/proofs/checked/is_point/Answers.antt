@@ -1,6 +1,6 @@
 use Rattle.std.proofs.Common.{◌∙◌, ◌++◌}
-use Rattle.mlk_lexemes.specs.Lists.{flat}
-use Rattle.mlk_blocks.specs.Texts.{point_text}
+use Rattle.mlk_cert_lexemes.specs.Lists.{flat}
+use Rattle.mlk_cert_parts.specs.Texts.{point_text}
 use Rattle.std.proofs.Common.{ap}
 use Rattle.mlk_cert.proofs.Equal.{point-equal}
 use Rattle.mlk_cert.proofs.ReadAgain.{point-kept, point-refused}

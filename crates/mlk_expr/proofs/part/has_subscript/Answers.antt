@@ -1,8 +1,8 @@
 use Rattle.std.proofs.Common.{◌≡◌, length, vec_len, arith, sym, ap, ◌∙◌}
 use Rattle.std.specs.Prelude.{not}
 use Rattle.mlk_expr.specs.Grammar.{has_subscript}
-use Rattle.mlk_tree.specs.ExprTrees.{tree_of, LocalName, GlobalName, subs_from, sub_trees}
-use Rattle.mlk_tree.proofs.Variants.{tree_local, tree_global}
+use Rattle.mlk_syntax.specs.ExprTrees.{tree_of, LocalName, GlobalName, subs_from, sub_trees}
+use Rattle.mlk_syntax.proofs.Variants.{tree_local, tree_global}
 use Rattle.mlk_expr.proofs.Steps.{local-subs, global-subs}
 use Rattle.mlk_expr.proofs.part.has_subscript.Goals as goal
 

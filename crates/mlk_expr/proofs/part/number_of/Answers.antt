@@ -1,5 +1,5 @@
 use Rattle.std.proofs.Common.{sym}
-use Rattle.mlk_tree.proofs.Variants.{tree_lit, tree_free}
+use Rattle.mlk_syntax.proofs.Variants.{tree_lit, tree_free}
 use Rattle.mlk_expr.proofs.part.number_of.Goals as goal
 
 pub returns-in-Some : goal.returns-in-Some

@@ -3,7 +3,7 @@ use Rattle.std.proofs.lemmas.Result.{err_from_is_err_and}
 use Rattle.mlk_text.specs.Lexemes.{byte_at}
 use Rattle.mlk_text.specs.Reading.{many, with}
 use Rattle.mlk_text.proofs.Readers.{many_stops, many_goes}
-use Rattle.mlk_tokens.specs.Lexemes.{count_at}
+use Rattle.mlk_expr_tokens.specs.Lexemes.{count_at}
 use Rattle.mlk_expr.proofs.Followed.{IsPattern}
 use Rattle.mlk_expr.specs.Reading.{next, matcher_by, pattern_at, rest_of}
 use Rattle.mlk_expr.proofs.Parts.{pattern-exact}

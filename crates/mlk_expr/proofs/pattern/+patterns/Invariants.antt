@@ -2,7 +2,7 @@ use Rattle.std.proofs.Common.{◌≡◌, ◌<◌, ℕ, suc, length, List, ◌+�
 use Rattle.std.specs.Prelude.{nat_lt}
 use Rattle.mlk_text.specs.Lexemes.{byte_at}
 use Rattle.mlk_text.specs.Reading.{many, put}
-use Rattle.mlk_tokens.specs.Lexemes.{count_at}
+use Rattle.mlk_expr_tokens.specs.Lexemes.{count_at}
 use Rattle.mlk_expr.specs.Reading.{next, matcher_by, pattern_at}
 use Rattle.mlk_expr.proofs.pattern.+patterns.Given as goal
 

@@ -1,6 +1,6 @@
 use Rattle.mlk_expr.specs.declared.scope.Allows.TheVariants.{Everything}
 use Rattle.mlk_expr.specs.declared.scope.Passing.TheVariants.{ByReference}
-use Rattle.mlk_tree.specs.ExprTrees.{actual_trees}
+use Rattle.mlk_syntax.specs.ExprTrees.{actual_trees}
 use Rattle.mlk_expr.specs.Touches.{given_stand}
 use Rattle.mlk_expr.specs.Grammar.{IsActualList}
 use Rattle.mlk_expr.specs.Theorem.{ListEnds}

@@ -1,5 +1,5 @@
 use Rattle.std.proofs.Common.{◌≡◌, ◌+◌, length, drop, Some, true, subst, add-one}
-use Rattle.mlk_tree.specs.ExprTrees.{actual_trees}
+use Rattle.mlk_syntax.specs.ExprTrees.{actual_trees}
 use Rattle.mlk_expr.specs.Touches.{given_stand, Standing}
 use Rattle.mlk_expr.specs.Grammar.{IsActualList}
 use Rattle.mlk_expr.specs.Theorem.{ListEnds}

@@ -1,5 +1,5 @@
 use Rattle.mlk_expr.specs.declared.scope.Allows.TheVariants.{Everything}
-use Rattle.mlk_tree.specs.ExprTrees.{tree_of}
+use Rattle.mlk_syntax.specs.ExprTrees.{tree_of}
 use Rattle.mlk_expr.specs.Touches.{may_stand}
 use Rattle.mlk_expr.specs.Grammar.{IsExpr}
 use Rattle.mlk_expr.specs.Theorem.{ExprEnds}

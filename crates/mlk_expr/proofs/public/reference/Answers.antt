@@ -1,6 +1,6 @@
 use Rattle.std.proofs.Common.{sym, ap, ◌∙◌, Some}
-use Rattle.mlk_tree.specs.ExprTrees.{GlobalName, subs_from, sub_trees}
-use Rattle.mlk_tree.proofs.Variants.{tree_global}
+use Rattle.mlk_syntax.specs.ExprTrees.{GlobalName, subs_from, sub_trees}
+use Rattle.mlk_syntax.proofs.Variants.{tree_global}
 use Rattle.mlk_expr.proofs.Scopes.{reference-gives}
 use Rattle.mlk_expr.proofs.public.reference.Goals as goal
 

@@ -4,9 +4,9 @@ use Rattle.std.proofs.lemmas.Result.{err_from_is_err_and}
 use Rattle.mlk_text.specs.Lexemes.{byte_at}
 use Rattle.mlk_text.specs.Reading.{◌>>=◌, with}
 use Rattle.mlk_text.proofs.Readers.{many_stops, many_goes}
-use Rattle.mlk_tokens.specs.Lexemes.{column_of, op_at}
-use Rattle.mlk_tree.specs.ExprTrees.{CallOf, actuals_from, tree_of, trees, sub_of, sub_trees, links, choice_of, choices, actual_of, actual_trees}
-use Rattle.mlk_tree.proofs.Variants.{tree_local, tree_global, tree_call, tree_func}
+use Rattle.mlk_expr_tokens.specs.Lexemes.{column_of, op_at}
+use Rattle.mlk_syntax.specs.ExprTrees.{CallOf, actuals_from, tree_of, trees, sub_of, sub_trees, links, choice_of, choices, actual_of, actual_trees}
+use Rattle.mlk_syntax.proofs.Variants.{tree_local, tree_global, tree_call, tree_func}
 use Rattle.mlk_expr.proofs.Followed.{IsPlaced, IsChoice}
 use Rattle.mlk_expr.specs.Touches.{globals_may, calls_may}
 use Rattle.mlk_expr.specs.Reading.{at_most, next, nested_in, atom_in, quiet, pattern_at, linked, placed, choice_with, actual_with}

@@ -1,8 +1,8 @@
 use Rattle.std.proofs.Common.{◌≡◌, ◌∷◌, [], ◌<◌, ◌≤◌, ℕ, suc, length, ◌+◌, ◌*◌}
 use Rattle.mlk_text.specs.Lexemes.{byte_at}
 use Rattle.mlk_text.specs.Reading.{many, put}
-use Rattle.mlk_tokens.specs.Lexemes.{op_at}
-use Rattle.mlk_tree.specs.ExprTrees.{tree_of, trees, sub_of, sub_trees, links, choice_of, choices, actual_of, actual_trees}
+use Rattle.mlk_expr_tokens.specs.Lexemes.{op_at}
+use Rattle.mlk_syntax.specs.ExprTrees.{tree_of, trees, sub_of, sub_trees, links, choice_of, choices, actual_of, actual_trees}
 use Rattle.mlk_expr.specs.Reading.{next, nested_in, atom_in, pattern_at, linked, placed, choice_with, actual_with}
 use Rattle.mlk_expr.proofs.read.+reading.Given as goal
 

@@ -1,6 +1,6 @@
 use Rattle.std.proofs.Common.{◌≡◌, length, map}
 use Rattle.std.specs.Prelude.{find}
-use Rattle.mlk_tree.specs.Views.{routine_of}
+use Rattle.mlk_syntax.specs.Views.{routine_of}
 use Rattle.mlk_make.specs.Missing.{is_missing}
 use Rattle.mlk_make.proofs.missing.first_missing.Given as goal
 

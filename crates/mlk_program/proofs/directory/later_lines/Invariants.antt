@@ -1,6 +1,6 @@
 use Rattle.std.proofs.Common.{◌≡◌, ◌+◌, ◌++◌, List, length, reverse}
 use Rattle.std.specs.List.{prefix_len}
-use Rattle.mlk_tree.specs.declared.routine.Line.{Line}
+use Rattle.mlk_syntax.specs.declared.routine.Line.{Line}
 use Rattle.mlk_program.specs.Tables.{line_lacks, later_lines}
 use Rattle.mlk_program.proofs.directory.later_lines.Given as goal
 

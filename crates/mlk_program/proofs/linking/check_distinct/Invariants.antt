@@ -1,5 +1,5 @@
 use Rattle.std.proofs.Common.{take}
-use Rattle.mlk_tree.specs.Distinct.{AreDistinct}
+use Rattle.mlk_syntax.specs.Distinct.{AreDistinct}
 use Rattle.mlk_program.proofs.DistinctNames.{names}
 use Rattle.mlk_program.proofs.linking.check_distinct.Given as goal
 

@@ -1,7 +1,7 @@
 use Rattle.std.proofs.Common.{◌≡◌, subst}
 use Rattle.std.specs.List.{prefix_len}
 use Rattle.mlk_routine.specs.RoutineGrammar.{is_blank}
-use Rattle.mlk_arguments.proofs.Stretches.{run_found}
+use Rattle.mlk_routine_arguments.proofs.Stretches.{run_found}
 use Rattle.mlk_routine.proofs.blank.past_blanks.Goals as goal
 
 pub returns : goal.returns

@@ -1,9 +1,9 @@
 use Rattle.std.proofs.Common.{◌++◌, ◌∷◌, [], map, refl, sym, ap, ◌∙◌, subst}
 use Rattle.std.proofs.lemmas.List.{map-append}
-use Rattle.mlk_tree.specs.declared.routine.Line.{Line}
-use Rattle.mlk_tree.specs.declared.routine.Line.TheOpen.{Line-F}
-use Rattle.mlk_tree.specs.declared.routine.Line.TheViews.{out-Line, roll-Line}
-use Rattle.mlk_tree.specs.Views.{line_of, lines_from}
+use Rattle.mlk_syntax.specs.declared.routine.Line.{Line}
+use Rattle.mlk_syntax.specs.declared.routine.Line.TheOpen.{Line-F}
+use Rattle.mlk_syntax.specs.declared.routine.Line.TheViews.{out-Line, roll-Line}
+use Rattle.mlk_syntax.specs.Views.{line_of, lines_from}
 use Rattle.mlk_routine.specs.RoutineGrammar.{level_of}
 use Rattle.mlk_routine.specs.Lines.{head_of, IsBlock}
 use Rattle.mlk_routine.proofs.UnderHeads.{BlocksSoFar, blocks_begin, blocks_end, one_block, head_out, level_out, line_roll}

@@ -1,5 +1,5 @@
 use Rattle.std.proofs.Common.{map, length, ◌*◌, ◌+◌}
-use Rattle.mlk_tree.specs.Views.{line_of}
+use Rattle.mlk_syntax.specs.Views.{line_of}
 use Rattle.mlk_routine.specs.Lines.{head_of}
 use Rattle.mlk_routine.proofs.UnderHeads.{BlocksSoFar}
 use Rattle.mlk_routine.proofs.blocks.+blocks.Given as goal

@@ -1,9 +1,9 @@
 use Rattle.std.proofs.Common.{map, option_map}
 use Rattle.std.proofs.lemmas.Result.{err_from_is_err_and}
-use Rattle.mlk_tree.specs.ExprTrees.{tree_of, trees}
-use Rattle.mlk_arguments.specs.declared.word.Word.TheVariants as word
-use Rattle.mlk_tree.specs.Views.{do_of, call_of, kill_of, lock_of, merge_of, new_of, read_of, set_of, write_of}
-use Rattle.mlk_arguments.proofs.Sequences.{turned_found, turned_denied}
+use Rattle.mlk_syntax.specs.ExprTrees.{tree_of, trees}
+use Rattle.mlk_routine_arguments.specs.declared.word.Word.TheVariants as word
+use Rattle.mlk_syntax.specs.Views.{do_of, call_of, kill_of, lock_of, merge_of, new_of, read_of, set_of, write_of}
+use Rattle.mlk_routine_arguments.proofs.Sequences.{turned_found, turned_denied}
 use Rattle.mlk_routine.proofs.Doing.{opened, halting_turned}
 use Rattle.mlk_routine.proofs.command.action.Goals as goal
 

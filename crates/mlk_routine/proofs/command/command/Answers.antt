@@ -1,8 +1,8 @@
 use Rattle.std.proofs.Common.{option_map}
 use Rattle.std.proofs.lemmas.Result.{err_from_is_err_and}
-use Rattle.mlk_tree.specs.ExprTrees.{tree_of}
-use Rattle.mlk_tree.specs.Views.{action_of}
-use Rattle.mlk_arguments.proofs.Sequences.{both_found, denied_first, denied_second}
+use Rattle.mlk_syntax.specs.ExprTrees.{tree_of}
+use Rattle.mlk_syntax.specs.Views.{action_of}
+use Rattle.mlk_routine_arguments.proofs.Sequences.{both_found, denied_first, denied_second}
 use Rattle.mlk_routine.proofs.Commanding.{tail_parts, command_parts}
 use Rattle.mlk_routine.proofs.command.command.Goals as goal
 

@@ -1,11 +1,11 @@
 use Rattle.std.proofs.Common.{sym, ◌∙◌}
 use Rattle.std.proofs.lemmas.Result.{err_from_is_err_and}
-use Rattle.mlk_tree.specs.ExprTrees.{tree_of}
-use Rattle.mlk_tree.specs.Trees.{Quit}
-use Rattle.mlk_arguments.specs.CommandGrammar.{IsQuit}
-use Rattle.mlk_arguments.specs.Kinds.{ActionEnds}
-use Rattle.mlk_arguments.proofs.Outcomes.{denies}
-use Rattle.mlk_arguments.proofs.Sequences.{turned_found, turned_denied}
+use Rattle.mlk_syntax.specs.ExprTrees.{tree_of}
+use Rattle.mlk_syntax.specs.Trees.{Quit}
+use Rattle.mlk_routine_arguments.specs.CommandGrammar.{IsQuit}
+use Rattle.mlk_routine_arguments.specs.Kinds.{ActionEnds}
+use Rattle.mlk_routine_arguments.proofs.Outcomes.{denies}
+use Rattle.mlk_routine_arguments.proofs.Sequences.{turned_found, turned_denied}
 use Rattle.mlk_routine.proofs.Doing.{no_value_found, value_turned, no_quit}
 use Rattle.mlk_routine.proofs.command.quit_value.Goals as goal
 

@@ -1,14 +1,14 @@
 use Rattle.std.proofs.Common.{sym, ◌∙◌, true, refl}
 use Rattle.std.proofs.lemmas.Result.{err_from_is_err_and}
 use Rattle.mlk_expr.specs.declared.scope.Allows.TheVariants.{Everything}
-use Rattle.mlk_tree.specs.ExprTrees.{tree_of}
+use Rattle.mlk_syntax.specs.ExprTrees.{tree_of}
 use Rattle.mlk_expr.specs.Theorem.{ExprEnds}
-use Rattle.mlk_arguments.specs.Ends.{StopEnds}
-use Rattle.mlk_arguments.specs.Begins.{expr_begins}
-use Rattle.mlk_arguments.specs.CommandGrammar.{IsValue}
-use Rattle.mlk_arguments.proofs.Outcomes.{denies}
-use Rattle.mlk_arguments.proofs.Bytes.{AfterByte, after_found, after_denied}
-use Rattle.mlk_arguments.proofs.Stopping.{narrowed_found, narrowed_nowhere, narrowed_denied, value_end, unspaced}
+use Rattle.mlk_routine_arguments.specs.Ends.{StopEnds}
+use Rattle.mlk_routine_arguments.specs.Begins.{expr_begins}
+use Rattle.mlk_routine_arguments.specs.CommandGrammar.{IsValue}
+use Rattle.mlk_routine_arguments.proofs.Outcomes.{denies}
+use Rattle.mlk_routine_arguments.proofs.Bytes.{AfterByte, after_found, after_denied}
+use Rattle.mlk_routine_arguments.proofs.Stopping.{narrowed_found, narrowed_nowhere, narrowed_denied, value_end, unspaced}
 use Rattle.mlk_routine.proofs.command.returned.Goals as goal
 
 pub returns-in_err-first : goal.returns-in_err-first

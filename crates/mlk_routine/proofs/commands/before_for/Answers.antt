@@ -1,10 +1,10 @@
 use Rattle.std.proofs.Common.{map, ◌∙◌, ◌++◌, ◌∷◌, [], sym, ap, subst}
 use Rattle.std.proofs.lemmas.List.{map-append}
 use Rattle.std.proofs.lemmas.Result.{err_from_is_err_and}
-use Rattle.mlk_arguments.specs.Told.{Found, Denied}
-use Rattle.mlk_arguments.specs.Ends.{CommandEnd}
-use Rattle.mlk_tree.specs.Views.{command_of}
-use Rattle.mlk_arguments.specs.CommandGrammar.{IsCommand}
+use Rattle.mlk_routine_arguments.specs.Told.{Found, Denied}
+use Rattle.mlk_routine_arguments.specs.Ends.{CommandEnd}
+use Rattle.mlk_syntax.specs.Views.{command_of}
+use Rattle.mlk_routine_arguments.specs.CommandGrammar.{IsCommand}
 use Rattle.mlk_routine.specs.Leading.{LeadsTo}
 use Rattle.mlk_routine.proofs.Looping.{leads_more, leads_denied, leads_on}
 use Rattle.mlk_routine.proofs.commands.before_for.Goals as goal

@@ -1,5 +1,5 @@
 use Rattle.std.proofs.Common.{map, length, ◌-◌}
-use Rattle.mlk_tree.specs.Views.{command_of}
+use Rattle.mlk_syntax.specs.Views.{command_of}
 use Rattle.mlk_routine.specs.Leading.{LeadsTo}
 use Rattle.mlk_routine.proofs.commands.before_for.Given as goal
 

@@ -1,6 +1,6 @@
 use Rattle.std.proofs.Common.{ap, option_map, ◌∙◌, ◌+◌, ◌≤◌, suc, length, arith}
 use Rattle.mlk_text.specs.Lexemes.{word_at}
-use Rattle.mlk_tree.specs.Views.{control_of}
+use Rattle.mlk_syntax.specs.Views.{control_of}
 use Rattle.mlk_routine.proofs.Looping.{for_found, head_told}
 use Rattle.mlk_routine.proofs.commands.for_head.Goals as goal
 

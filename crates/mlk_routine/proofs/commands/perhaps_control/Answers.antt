@@ -1,15 +1,15 @@
 use Rattle.std.proofs.Common.{sym, ◌∙◌, true, refl}
 use Rattle.std.specs.Prelude.{is_some}
 use Rattle.std.proofs.lemmas.Result.{err_from_is_err_and}
-use Rattle.mlk_arguments.specs.Ends.{ControlEnds, StopEnds}
-use Rattle.mlk_arguments.specs.Begins.{control_begins}
-use Rattle.mlk_tree.specs.Views.{control_of}
+use Rattle.mlk_routine_arguments.specs.Ends.{ControlEnds, StopEnds}
+use Rattle.mlk_routine_arguments.specs.Begins.{control_begins}
+use Rattle.mlk_syntax.specs.Views.{control_of}
 use Rattle.mlk_routine.specs.Leading.{IsPerhapsControl}
-use Rattle.mlk_arguments.specs.CommandGrammar.{IsControl}
-use Rattle.mlk_arguments.proofs.Outcomes.{denies}
-use Rattle.mlk_arguments.proofs.Bytes.{AfterByte, after_found, after_denied}
-use Rattle.mlk_arguments.proofs.Sequences.{turned_found, turned_nowhere, turned_denied}
-use Rattle.mlk_arguments.proofs.Stopping.{narrowed_found, narrowed_nowhere, narrowed_denied, unspaced}
+use Rattle.mlk_routine_arguments.specs.CommandGrammar.{IsControl}
+use Rattle.mlk_routine_arguments.proofs.Outcomes.{denies}
+use Rattle.mlk_routine_arguments.proofs.Bytes.{AfterByte, after_found, after_denied}
+use Rattle.mlk_routine_arguments.proofs.Sequences.{turned_found, turned_nowhere, turned_denied}
+use Rattle.mlk_routine_arguments.proofs.Stopping.{narrowed_found, narrowed_nowhere, narrowed_denied, unspaced}
 use Rattle.mlk_routine.proofs.Looping.{no_control_found, control_turned, control_end}
 use Rattle.mlk_routine.proofs.commands.perhaps_control.Goals as goal
 

@@ -1,7 +1,7 @@
 use Rattle.std.proofs.Common.{◌||◌, bytes_eq, ◌-◌, ◌∙◌, sym, ap, take, refl}
 use Rattle.mlk_expr.specs.Theorem.{LabelEnds}
 use Rattle.mlk_routine.specs.Lines.{has_name, IsUnseen}
-use Rattle.mlk_arguments.proofs.Outcomes.{denies}
+use Rattle.mlk_routine_arguments.proofs.Outcomes.{denies}
 use Rattle.mlk_routine.proofs.FormalLists.{text_of, unseen, seen_before, same_seen, same_new}
 use Rattle.mlk_routine.proofs.formals.formal.Goals as goal
 

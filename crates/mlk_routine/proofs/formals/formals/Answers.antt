@@ -1,12 +1,12 @@
 use Rattle.std.proofs.Common.{◌+◌, refl, sym, ap, ◌∙◌, subst}
 use Rattle.std.proofs.lemmas.Result.{err_from_is_err_and}
 use Rattle.mlk_expr.specs.Theorem.{LabelEnds}
-use Rattle.mlk_arguments.specs.Told.{Found}
-use Rattle.mlk_arguments.specs.Ends.{AnyEnds}
+use Rattle.mlk_routine_arguments.specs.Told.{Found}
+use Rattle.mlk_routine_arguments.specs.Ends.{AnyEnds}
 use Rattle.mlk_routine.specs.Lines.{IsUnseen, IsFormalList}
-use Rattle.mlk_arguments.proofs.Outcomes.{denies, hands_on}
+use Rattle.mlk_routine_arguments.proofs.Outcomes.{denies, hands_on}
 use Rattle.mlk_routine.proofs.FormalLists.{NamesSoFar, AreSeen, no_names, names_begin, no_name_here, names_close, names_break, names_go_on, names_nearer, fresh_found, fresh_nowhere, more_seen}
-use Rattle.mlk_tree.proofs.Distinct.{among}
+use Rattle.mlk_syntax.proofs.Distinct.{among}
 use Rattle.mlk_routine.proofs.formals.formals.Goals as goal
 
 pub returns-then-has : goal.returns-then-has

@@ -2,9 +2,9 @@ use Rattle.std.proofs.Common.{sym, ◌∙◌, subst, refl}
 use Rattle.mlk_expr.specs.Grammar.{IsLabelText}
 use Rattle.mlk_expr.specs.Theorem.{LabelEnds, Refuses, Faults}
 use Rattle.mlk_routine.specs.Lines.{IsLabelPart, LabelPartEnds}
-use Rattle.mlk_arguments.proofs.Sequences.{turned_found, turned_nowhere}
-use Rattle.mlk_arguments.proofs.Outcomes.{denies}
-use Rattle.mlk_arguments.proofs.LineFaults.{expr_fault}
+use Rattle.mlk_routine_arguments.proofs.Sequences.{turned_found, turned_nowhere}
+use Rattle.mlk_routine_arguments.proofs.Outcomes.{denies}
+use Rattle.mlk_routine_arguments.proofs.LineFaults.{expr_fault}
 use Rattle.mlk_expr.specs.declared.scope.Passing.TheVariants.{ByReference}
 use Rattle.mlk_routine.proofs.Labels.{a_label}
 use Rattle.mlk_routine.proofs.label.label.Goals as goal

@@ -1,6 +1,6 @@
 use Rattle.std.proofs.lemmas.Result.{err_from_is_err_and}
 use Rattle.mlk_routine.specs.Lines.{IsLabelPart, LabelPartEnds, IsFront, FrontEnds}
-use Rattle.mlk_arguments.proofs.Outcomes.{hands_on}
+use Rattle.mlk_routine_arguments.proofs.Outcomes.{hands_on}
 use Rattle.mlk_routine.proofs.Fronts.{no_label_front}
 use Rattle.mlk_routine.proofs.line.front.Goals as goal
 

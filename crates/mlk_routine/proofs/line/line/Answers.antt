@@ -1,11 +1,11 @@
 use Rattle.std.proofs.Common.{◌<◌, ◌≤◌, ◌∙◌, length, sym, ap, subst, refl, add-one, arith}
 use Rattle.std.specs.Prelude.{is_some}
 use Rattle.mlk_text.specs.Places.{column_at}
-use Rattle.mlk_tree.specs.declared.routine.Line.{Line}
-use Rattle.mlk_tree.specs.declared.routine.Line.TheOpen.{Line-F}
+use Rattle.mlk_syntax.specs.declared.routine.Line.{Line}
+use Rattle.mlk_syntax.specs.declared.routine.Line.TheOpen.{Line-F}
 use Rattle.std.proofs.lemmas.Result.{err_from_is_err_and}
 use Rattle.mlk_routine.specs.RoutineGrammar.{is_line_byte}
-use Rattle.mlk_tree.specs.Views.{commands_of}
+use Rattle.mlk_syntax.specs.Views.{commands_of}
 use Rattle.mlk_routine.specs.Lines.{IsLineOnly, IsMisplaced}
 use Rattle.mlk_routine.proofs.Tails.{all_good, one_bad}
 use Rattle.mlk_routine.proofs.Heads.{head_made, line_only, refused_front, refused_tail, refused_place, refused_byte}

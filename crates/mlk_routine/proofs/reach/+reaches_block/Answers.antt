@@ -1,8 +1,8 @@
 use Rattle.std.proofs.Common.{◌≡◌, true, false, sym, ap, ◌∙◌, refl}
 use Rattle.std.specs.List.{list_any}
-use Rattle.mlk_tree.specs.declared.command.Commands.TheViews.{out-For}
-use Rattle.mlk_arguments.specs.CommandWords.{reaches_block}
-use Rattle.mlk_tree.specs.Views.{commands_of, command_of}
+use Rattle.mlk_syntax.specs.declared.command.Commands.TheViews.{out-For}
+use Rattle.mlk_routine_arguments.specs.CommandWords.{reaches_block}
+use Rattle.mlk_syntax.specs.Views.{commands_of, command_of}
 use Rattle.mlk_routine.specs.Lines.{is_block}
 use Rattle.mlk_routine.proofs.Reaching.{has_block, reaches_here, reaches_none, reaches_some}
 use Rattle.mlk_routine.proofs.reach.+reaches_block.Goals as goal

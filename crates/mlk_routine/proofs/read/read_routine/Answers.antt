@@ -1,6 +1,6 @@
 use Rattle.std.proofs.Common.{length, map, ap, ◌∙◌, subst, arith}
 use Rattle.std.proofs.lemmas.Result.{err_from_is_err_and}
-use Rattle.mlk_tree.specs.Views.{line_of, lines_from}
+use Rattle.mlk_syntax.specs.Views.{line_of, lines_from}
 use Rattle.mlk_routine.specs.Lines.{head_of, texts_of, IsStemName, AreHeadsOnly, NoHeads}
 use Rattle.mlk_routine.proofs.WholeRoutines.{routine_found, routine_only, no_name_routine, long_routine, many_routine, no_heads_routine, texts_size}
 use Rattle.mlk_routine.proofs.read.read_routine.Goals as goal

@@ -1,6 +1,6 @@
 use Rattle.std.proofs.Common.{sym, ◌∙◌, refl}
 use Rattle.mlk_routine.specs.Lines.{IsOpening, OpeningEnds}
-use Rattle.mlk_arguments.proofs.Outcomes.{denies}
+use Rattle.mlk_routine_arguments.proofs.Outcomes.{denies}
 use Rattle.mlk_routine.proofs.Starts.{start_found, no_opening, opening_nowhere}
 use Rattle.mlk_routine.proofs.start.opening.Goals as goal
 

@@ -1,11 +1,11 @@
 use Rattle.std.proofs.Common.{subst}
 use Rattle.std.proofs.lemmas.Result.{err_from_is_err_and}
-use Rattle.mlk_arguments.specs.Told.{Found, Denied}
-use Rattle.mlk_arguments.specs.Ends.{CommandsEnd}
-use Rattle.mlk_arguments.specs.CommandGrammar.{AreCommands}
-use Rattle.mlk_tree.specs.Views.{commands_of}
+use Rattle.mlk_routine_arguments.specs.Told.{Found, Denied}
+use Rattle.mlk_routine_arguments.specs.Ends.{CommandsEnd}
+use Rattle.mlk_routine_arguments.specs.CommandGrammar.{AreCommands}
+use Rattle.mlk_syntax.specs.Views.{commands_of}
 use Rattle.mlk_routine.specs.Lines.{AtEnd, IsTailOf, level_in}
-use Rattle.mlk_arguments.proofs.Outcomes.{hands_on, denies}
+use Rattle.mlk_routine_arguments.proofs.Outcomes.{hands_on, denies}
 use Rattle.mlk_routine.proofs.Tails.{tail_found, no_comment_tail, no_commands_tail}
 use Rattle.mlk_routine.proofs.tail.tail.Goals as goal
 

@@ -2,8 +2,8 @@ use Rattle.std.proofs.Common.{◌≡◌, ◌++◌, ◌∷◌, [], codes, Some, s
 use Rattle.std.proofs.lemmas.Result.{err_from_is_err_and}
 use Rattle.mlk_text.specs.Failures.{FailsOn}
 use Rattle.mlk_text.proofs.Readers.{many_goes}
-use Rattle.mlk_blocks.specs.Checks.{entries}
-use Rattle.mlk_lexemes.specs.Reading.{word_at}
+use Rattle.mlk_cert_parts.specs.Checks.{entries}
+use Rattle.mlk_cert_lexemes.specs.Reading.{word_at}
 use Rattle.mlk_cert.specs.Blocks.{worded_at, block_at, new_block_at, blocks_at}
 use Rattle.mlk_cert.proofs.Loops.{checked_stops}
 use Rattle.mlk_cert.proofs.BlockLoops.{blocks_refused, blocks-step, entries-push, block-shorter, new-some}

@@ -1,7 +1,7 @@
 use Rattle.std.proofs.Common.{◌≡◌, ◌<◌, ℕ, [], suc, length, codes, true, map}
 use Rattle.mlk_text.specs.Reading.{many, put}
-use Rattle.mlk_blocks.specs.Checks.{fit_blocks, entries}
-use Rattle.mlk_lexemes.specs.Reading.{word_at}
+use Rattle.mlk_cert_parts.specs.Checks.{fit_blocks, entries}
+use Rattle.mlk_cert_lexemes.specs.Reading.{word_at}
 use Rattle.mlk_cert.specs.Blocks.{block_at}
 use Rattle.mlk_cert.proofs.read.block.blocks.Given as goal
 

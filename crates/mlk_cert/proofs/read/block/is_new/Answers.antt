@@ -1,5 +1,5 @@
 use Rattle.std.proofs.Common.{◌∙◌, ap, map, not}
-use Rattle.mlk_blocks.specs.Checks.{has_text}
+use Rattle.mlk_cert_parts.specs.Checks.{has_text}
 use Rattle.mlk_cert.proofs.BlockLoops.{seen-text}
 use Rattle.mlk_cert.proofs.read.block.is_new.Goals as goal
 

@@ -1,10 +1,10 @@
 use Rattle.std.proofs.Common.{◌≡◌, ◌∙◌, sym, ap, true, Some, refl}
-use Rattle.mlk_lexemes.specs.Lists.{Each}
-use Rattle.mlk_blocks.specs.Checks.{fit_terms}
-use Rattle.mlk_lexemes.specs.Texts.{listed, term_text}
-use Rattle.mlk_lexemes.specs.Kinds.{IsTerm}
-use Rattle.mlk_lexemes.specs.Reading.{listed_at, term_at}
-use Rattle.mlk_lexemes.proofs.TermFormats.{EndsTerms, terms-format}
+use Rattle.mlk_cert_lexemes.specs.Lists.{Each}
+use Rattle.mlk_cert_parts.specs.Checks.{fit_terms}
+use Rattle.mlk_cert_lexemes.specs.Texts.{listed, term_text}
+use Rattle.mlk_cert_lexemes.specs.Kinds.{IsTerm}
+use Rattle.mlk_cert_lexemes.specs.Reading.{listed_at, term_at}
+use Rattle.mlk_cert_lexemes.proofs.TermFormats.{EndsTerms, terms-format}
 use Rattle.mlk_cert.proofs.MemoryLemmas.{remembered}
 use Rattle.mlk_cert.proofs.read.case.held_part.Goals as goal
 

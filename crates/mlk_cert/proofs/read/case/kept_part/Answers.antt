@@ -1,11 +1,11 @@
 use Rattle.std.proofs.Common.{◌≡◌, ◌∙◌, sym, ap, true, Some, refl}
-use Rattle.mlk_lexemes.specs.Lists.{Each}
-use Rattle.mlk_blocks.specs.Checks.{fit_kept}
+use Rattle.mlk_cert_lexemes.specs.Lists.{Each}
+use Rattle.mlk_cert_parts.specs.Checks.{fit_kept}
 use Rattle.mlk_text.specs.Lexemes.{name_at}
-use Rattle.mlk_lexemes.specs.Texts.{listed, name_text}
-use Rattle.mlk_lexemes.specs.Kinds.{IsName}
-use Rattle.mlk_lexemes.specs.Reading.{listed_at}
-use Rattle.mlk_lexemes.proofs.TermFormats.{EndsNames, kept-format}
+use Rattle.mlk_cert_lexemes.specs.Texts.{listed, name_text}
+use Rattle.mlk_cert_lexemes.specs.Kinds.{IsName}
+use Rattle.mlk_cert_lexemes.specs.Reading.{listed_at}
+use Rattle.mlk_cert_lexemes.proofs.TermFormats.{EndsNames, kept-format}
 use Rattle.mlk_cert.proofs.MemoryLemmas.{remembered}
 use Rattle.mlk_cert.proofs.read.case.kept_part.Goals as goal
 

@@ -1,8 +1,8 @@
 use Rattle.std.proofs.Common.{refl, sym}
 use Rattle.mlk_text.proofs.Readers.{many_stops, many_goes}
-use Rattle.mlk_lexemes.specs.Reading.{keep}
-use Rattle.mlk_blocks.specs.Reading.{sign_at}
-use Rattle.mlk_blocks.proofs.Room.{sign-shorter}
+use Rattle.mlk_cert_lexemes.specs.Reading.{keep}
+use Rattle.mlk_cert_parts.specs.Reading.{sign_at}
+use Rattle.mlk_cert_parts.proofs.Room.{sign-shorter}
 use Rattle.mlk_cert.proofs.read.case.more_signs.Goals as goal
 
 pub loop-test-smaller : goal.loop-test-smaller

@@ -1,7 +1,7 @@
 use Rattle.std.proofs.Common.{◌≡◌, ◌<◌, ◌∷◌, [], ℕ, suc, length}
 use Rattle.mlk_text.specs.Reading.{many, put}
-use Rattle.mlk_lexemes.specs.Reading.{keep}
-use Rattle.mlk_blocks.specs.Reading.{sign_at}
+use Rattle.mlk_cert_lexemes.specs.Reading.{keep}
+use Rattle.mlk_cert_parts.specs.Reading.{sign_at}
 use Rattle.mlk_cert.proofs.read.case.more_signs.Given as goal
 
 abbrev pub invariant-loop-test : goal.invariant-loop-test

@@ -1,12 +1,12 @@
 use Rattle.std.proofs.Common.{◌≡◌, ◌∙◌, sym, ap, true, Some, refl}
-use Rattle.mlk_lexemes.specs.Lists.{Each}
-use Rattle.mlk_blocks.specs.Checks.{fit_own}
-use Rattle.mlk_lexemes.specs.Texts.{listed}
-use Rattle.mlk_blocks.specs.Texts.{own_text}
-use Rattle.mlk_lexemes.specs.Reading.{listed_at}
-use Rattle.mlk_blocks.specs.Reading.{own_at}
-use Rattle.mlk_lexemes.proofs.TermFormats.{EndsNames}
-use Rattle.mlk_blocks.proofs.CaseFormats.{HasOwn, owns-format}
+use Rattle.mlk_cert_lexemes.specs.Lists.{Each}
+use Rattle.mlk_cert_parts.specs.Checks.{fit_own}
+use Rattle.mlk_cert_lexemes.specs.Texts.{listed}
+use Rattle.mlk_cert_parts.specs.Texts.{own_text}
+use Rattle.mlk_cert_lexemes.specs.Reading.{listed_at}
+use Rattle.mlk_cert_parts.specs.Reading.{own_at}
+use Rattle.mlk_cert_lexemes.proofs.TermFormats.{EndsNames}
+use Rattle.mlk_cert_parts.proofs.CaseFormats.{HasOwn, owns-format}
 use Rattle.mlk_cert.proofs.MemoryLemmas.{remembered}
 use Rattle.mlk_cert.proofs.read.case.own_part.Goals as goal
 

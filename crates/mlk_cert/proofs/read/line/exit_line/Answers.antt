@@ -2,15 +2,15 @@ use Rattle.std.proofs.Common.{◌≡◌, ◌∙◌, ap, sym, subst, ◌&&◌}
 use Rattle.std.specs.Prelude.{option_map, nat_lt, Option, List, ℕ}
 use Rattle.std.proofs.lemmas.Result.{err_from_is_err_and}
 use Rattle.mlk_text.specs.Failures.{FailsOn}
-use Rattle.mlk_blocks.specs.declared.case.ExitCase.{ExitCase}
-use Rattle.mlk_blocks.specs.Texts.{exit_text}
-use Rattle.mlk_blocks.specs.Checks.{fits_exit}
+use Rattle.mlk_cert_parts.specs.declared.case.ExitCase.{ExitCase}
+use Rattle.mlk_cert_parts.specs.Texts.{exit_text}
+use Rattle.mlk_cert_parts.specs.Checks.{fits_exit}
 use Rattle.mlk_cert.specs.Fitting.{passes}
-use Rattle.mlk_blocks.specs.Reading.{exit_at}
+use Rattle.mlk_cert_parts.specs.Reading.{exit_at}
 use Rattle.mlk_cert.specs.Blocks.{above_last, next_exit_fits}
-use Rattle.mlk_blocks.proofs.CaseFormats.{exit-format}
+use Rattle.mlk_cert_parts.proofs.CaseFormats.{exit-format}
 use Rattle.mlk_cert.proofs.Loops.{after-is, ended-value}
-use Rattle.mlk_lexemes.proofs.Room.{front-is}
+use Rattle.mlk_cert_lexemes.proofs.Room.{front-is}
 use Rattle.mlk_cert.proofs.read.line.exit_line.Goals as goal
 
 pub returns-in_err-found-in-Ok-clause-read : goal.returns-in_err-found-in-Ok-clause-read

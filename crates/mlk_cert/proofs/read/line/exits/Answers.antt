@@ -3,13 +3,13 @@ use Rattle.std.specs.Prelude.{option_map}
 use Rattle.std.proofs.lemmas.Result.{err_from_is_err_and}
 use Rattle.mlk_text.specs.Failures.{FailsOn}
 use Rattle.mlk_text.proofs.Readers.{many_goes}
-use Rattle.mlk_lexemes.specs.Lists.{last_of}
-use Rattle.mlk_blocks.specs.Texts.{exit_text}
-use Rattle.mlk_blocks.specs.Checks.{fits_exit, fit_exits}
-use Rattle.mlk_lexemes.specs.Reading.{word_at}
-use Rattle.mlk_blocks.specs.Reading.{exit_at}
+use Rattle.mlk_cert_lexemes.specs.Lists.{last_of}
+use Rattle.mlk_cert_parts.specs.Texts.{exit_text}
+use Rattle.mlk_cert_parts.specs.Checks.{fits_exit, fit_exits}
+use Rattle.mlk_cert_lexemes.specs.Reading.{word_at}
+use Rattle.mlk_cert_parts.specs.Reading.{exit_at}
 use Rattle.mlk_cert.specs.Blocks.{rest_at, worded_at, after_at, next_exit_fits, exits_at}
-use Rattle.mlk_lexemes.proofs.Formats.{Anything}
+use Rattle.mlk_cert_lexemes.proofs.Formats.{Anything}
 use Rattle.mlk_cert.proofs.BlockFormats.{exit-rest}
 use Rattle.mlk_cert.proofs.Goods.{GoodExit}
 use Rattle.mlk_cert.proofs.Loops.{checked_stops, checked_refused, exits-closed, exits-step, after-some, line-shorter, last-push}

@@ -1,11 +1,11 @@
 use Rattle.std.proofs.Common.{◌≡◌, ◌<◌, ℕ, [], suc, length, codes, true}
 use Rattle.std.specs.Prelude.{option_map}
 use Rattle.mlk_text.specs.Reading.{many, put}
-use Rattle.mlk_lexemes.specs.Lists.{last_of}
-use Rattle.mlk_blocks.specs.Texts.{exit_text}
-use Rattle.mlk_blocks.specs.Checks.{fits_exit, fit_exits}
-use Rattle.mlk_lexemes.specs.Reading.{word_at}
-use Rattle.mlk_blocks.specs.Reading.{exit_at}
+use Rattle.mlk_cert_lexemes.specs.Lists.{last_of}
+use Rattle.mlk_cert_parts.specs.Texts.{exit_text}
+use Rattle.mlk_cert_parts.specs.Checks.{fits_exit, fit_exits}
+use Rattle.mlk_cert_lexemes.specs.Reading.{word_at}
+use Rattle.mlk_cert_parts.specs.Reading.{exit_at}
 use Rattle.mlk_cert.specs.Blocks.{rest_at}
 use Rattle.mlk_cert.proofs.read.line.exits.Given as goal
 

@@ -2,13 +2,13 @@ use Rattle.std.proofs.Common.{◌≡◌, ◌∙◌, ap, sym, subst, ℕ}
 use Rattle.std.specs.Prelude.{option_map, option_copied, Option, List}
 use Rattle.std.proofs.lemmas.Result.{err_from_is_err_and}
 use Rattle.mlk_text.specs.Failures.{FailsOn}
-use Rattle.mlk_blocks.specs.Texts.{case_text}
+use Rattle.mlk_cert_parts.specs.Texts.{case_text}
 use Rattle.mlk_cert.specs.Fitting.{passes}
 use Rattle.mlk_cert.specs.Blocks.{Listed, listed_case_at, fits_listed, next_case_fits}
-use Rattle.mlk_blocks.proofs.CaseFormats.{case-format}
+use Rattle.mlk_cert_parts.proofs.CaseFormats.{case-format}
 use Rattle.mlk_cert.proofs.Loops.{after-is, ended-value}
 use Rattle.mlk_cert.proofs.PointLoops.{listed-read}
-use Rattle.mlk_lexemes.proofs.Room.{front-is}
+use Rattle.mlk_cert_lexemes.proofs.Room.{front-is}
 use Rattle.mlk_cert.proofs.read.points.at_line.Goals as goal
 
 pub returns-in_err-listed-in-Ok-clause-read : goal.returns-in_err-listed-in-Ok-clause-read

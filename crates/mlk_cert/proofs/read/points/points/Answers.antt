@@ -3,12 +3,12 @@ use Rattle.std.specs.Prelude.{option_copied, slice_get, ◌-◌}
 use Rattle.std.proofs.lemmas.Result.{err_from_is_err_and}
 use Rattle.mlk_text.specs.Failures.{FailsOn}
 use Rattle.mlk_text.proofs.Readers.{many_goes}
-use Rattle.mlk_blocks.specs.declared.block.Point.{Point}
-use Rattle.mlk_lexemes.specs.Lists.{last_of}
-use Rattle.mlk_blocks.specs.Texts.{case_text}
-use Rattle.mlk_lexemes.specs.Reading.{word_at}
+use Rattle.mlk_cert_parts.specs.declared.block.Point.{Point}
+use Rattle.mlk_cert_lexemes.specs.Lists.{last_of}
+use Rattle.mlk_cert_parts.specs.Texts.{case_text}
+use Rattle.mlk_cert_lexemes.specs.Reading.{word_at}
 use Rattle.mlk_cert.specs.Blocks.{rest_at, worded_at, after_at, listed_case_at, fits_listed, next_case_fits, last_case_text, points_at}
-use Rattle.mlk_lexemes.proofs.Formats.{Anything}
+use Rattle.mlk_cert_lexemes.proofs.Formats.{Anything}
 use Rattle.mlk_cert.proofs.Grouping.{listed_text}
 use Rattle.mlk_cert.proofs.Goods.{GoodListed}
 use Rattle.mlk_cert.proofs.BlockFormats.{listed-rest}

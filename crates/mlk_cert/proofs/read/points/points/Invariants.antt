@@ -1,8 +1,8 @@
 use Rattle.std.proofs.Common.{◌≡◌, ◌<◌, ℕ, List, [], suc, length, codes, true}
 use Rattle.std.specs.Prelude.{option_map}
 use Rattle.mlk_text.specs.Reading.{many, put}
-use Rattle.mlk_blocks.specs.Checks.{fit_points}
-use Rattle.mlk_lexemes.specs.Reading.{word_at}
+use Rattle.mlk_cert_parts.specs.Checks.{fit_points}
+use Rattle.mlk_cert_lexemes.specs.Reading.{word_at}
 use Rattle.mlk_cert.specs.Blocks.{Listed, rest_at, listed_case_at, fits_listed, grouped, last_case_text}
 use Rattle.mlk_cert.proofs.read.points.points.Given as goal
 

@@ -1,6 +1,6 @@
 use Rattle.std.proofs.Common.{◌≤◌, length, List, sym, ◌∙◌, arith, subst}
-use Rattle.mlk_blocks.specs.declared.block.EntryCert.{EntryCert}
-use Rattle.mlk_blocks.specs.Limits.{longest}
+use Rattle.mlk_cert_parts.specs.declared.block.EntryCert.{EntryCert}
+use Rattle.mlk_cert_parts.specs.Limits.{longest}
 use Rattle.mlk_cert.specs.Refusals.{IsRefusal}
 use Rattle.mlk_cert.specs.declared.read.fault.CertFault.{CertFault}
 use Rattle.mlk_cert.specs.Theorem.{Spells}

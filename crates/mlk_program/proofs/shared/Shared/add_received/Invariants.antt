@@ -1,6 +1,6 @@
 use Rattle.std.proofs.Common.{take}
 use Rattle.std.specs.Prelude.{flat_map, zip}
-use Rattle.mlk_tree.specs.ExprTrees.{actual_trees}
+use Rattle.mlk_syntax.specs.ExprTrees.{actual_trees}
 use Rattle.mlk_program.specs.Program.{received_by}
 use Rattle.mlk_program.specs.Linking.{Gains}
 use Rattle.mlk_program.proofs.shared.Shared.add_received.Given as goal

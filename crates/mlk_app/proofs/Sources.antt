@@ -1,0 +1,93 @@
+-- Reading files in the order of their paths.
+use Rattle.std.proofs.Common.{◌≡◌, ℕ, ◌<◌, ◌≤◌, ◌+◌, ◌++◌, List, [], ◌∷◌, length, take, drop, slice_index_or, sym, ap, ◌∙◌, subst, Bor, take-append-drop, append_assoc, append-nil}
+use Rattle.std.proofs.lemmas.List.{drop_all, drop_more, take_more, map-append}
+use Rattle.mlk_app.specs.declared.source.FileError.{FileError}
+use Rattle.mlk_app.specs.declared.source.FileError.TheVariants as error
+use Rattle.mlk_readers.specs.declared.source.Source.{Source}
+use Rattle.mlk_app.specs.declared.source.Work.{Work}
+use Rattle.mlk_app.specs.declared.source.Work.TheVariants as work
+use Rattle.mlk_cli.specs.declared.words.Asked.{Asked}
+use Rattle.mlk_cli.specs.declared.words.Asked.TheVariants as asked
+use Rattle.mlk_app.specs.Files.{Texts, IsSource, AreSources, AreHeld, IsWork, Loses, LosesFirst, work_path}
+use Rattle.mlk_cli.specs.CommandLine.{bytes_of}
+
+-- what stands before a path, the path, and what stands after it
+cut-at : (paths : List (Bor (List ℕ))) (i : ℕ) (d : Bor (List ℕ)) → i < length paths → bytes_of paths ≡ bytes_of (take i paths) ++ (slice_index_or paths i d).now ∷ bytes_of (drop (i + 1) paths)
+cut-at paths i d less =
+    ap bytes_of (sym (take-append-drop i paths)) ∙ map-append (λ p. p.now) (take i paths) (drop i paths) ∙ ap (λ l. bytes_of (take i paths) ++ bytes_of l) (drop_more paths i d less)
+
+pub loses-first : (holds : Texts) (lacks : List ℕ → Type 0) (paths : List (Bor (List ℕ))) (i : ℕ) (d : Bor (List ℕ)) (e : FileError) → i < length paths → AreHeld holds (bytes_of (take i paths))
+    → Loses lacks (slice_index_or paths i d).now e → LosesFirst holds lacks (bytes_of paths) e
+loses-first holds lacks paths i d error.OutOfMemory less held lost = record {}
+loses-first holds lacks paths i d (error.Unread path) less held (same, lost) = record {
+  front = bytes_of (take i paths);
+  after = bytes_of (drop (i + 1) paths);
+  cut = cut-at paths i d less ∙ ap (λ p. bytes_of (take i paths) ++ p ∷ bytes_of (drop (i + 1) paths)) (sym same);
+  held = held;
+  lost = subst lacks (sym same) lost;
+}
+
+held-one-more : (holds : Texts) (paths : List (List ℕ)) (path text : List ℕ) → AreHeld holds paths → holds path text → AreHeld holds (paths ++ path ∷ [])
+held-one-more holds [] path text held here = ((text, here), record {})
+held-one-more holds (p ∷ paths) path text held here = (held.0, held-one-more holds paths path text held.1 here)
+
+pub held-more : (holds : Texts) (paths : List (Bor (List ℕ))) (i : ℕ) (d : Bor (List ℕ)) (text : List ℕ) → i < length paths → AreHeld holds (bytes_of (take i paths)) → holds (slice_index_or paths i d).now text
+    → AreHeld holds (bytes_of (take (i + 1) paths))
+held-more holds paths i d text less held here =
+    let longer : bytes_of (take (i + 1) paths) ≡ bytes_of (take i paths) ++ (slice_index_or paths i d).now ∷ [] = ap bytes_of (take_more paths i d less) ∙ map-append (λ p. p.now) (take i paths) (slice_index_or paths i d ∷ []) in
+    subst (AreHeld holds) (sym longer) (held-one-more holds (bytes_of (take i paths)) (slice_index_or paths i d).now text held here)
+
+pub read-more : (holds : Texts) (paths : List (Bor (List ℕ))) (i : ℕ) (d : Bor (List ℕ)) (source : Source) (done longer : List Source) → i < length paths → longer ≡ done ++ source ∷ []
+    → IsSource holds (slice_index_or paths i d).now source → ((more : List Source) → AreSources holds (drop i paths) more → AreSources holds paths (done ++ more))
+    → (more : List Source) → AreSources holds (drop (i + 1) paths) more → AreSources holds paths (longer ++ more)
+read-more holds paths i d source done longer less is here before more h =
+    let this : AreSources holds (drop i paths) (source ∷ more) = subst (λ l. AreSources holds l (source ∷ more)) (sym (drop_more paths i d less)) (here, h) in
+    subst (AreSources holds paths) (sym (append_assoc done (source ∷ []) more) ∙ ap (λ l. l ++ more) (sym is)) (before (source ∷ more) this)
+
+pub read-all : (holds : Texts) (paths : List (Bor (List ℕ))) (i : ℕ) (done : List Source) → length paths ≤ i → ((more : List Source) → AreSources holds (drop i paths) more → AreSources holds paths (done ++ more)) → AreSources holds paths done
+read-all holds paths i done past before = subst (AreSources holds paths) (append-nil done) (before [] (subst (λ l. AreSources holds l []) (sym (drop_all i paths past)) (record {})))
+
+pub loses-front : (holds : Texts) (lacks : List ℕ → Type 0) (path : List ℕ) (paths : List (List ℕ)) (e : FileError) → Loses lacks path e → LosesFirst holds lacks (path ∷ paths) e
+loses-front holds lacks path paths error.OutOfMemory lost = record {}
+loses-front holds lacks path paths (error.Unread other) (same, lost) = record {
+  front = [];
+  after = paths;
+  cut = ap (λ p. p ∷ paths) (sym same);
+  held = record {};
+  lost = subst lacks (sym same) lost;
+}
+
+pub loses-after : (holds : Texts) (lacks : List ℕ → Type 0) (path text : List ℕ) (paths : List (List ℕ)) (e : FileError) → holds path text → LosesFirst holds lacks paths e → LosesFirst holds lacks (path ∷ paths) e
+loses-after holds lacks path text paths error.OutOfMemory held lost = record {}
+loses-after holds lacks path text paths (error.Unread other) held lost = record {
+  front = path ∷ lost.front;
+  after = lost.after;
+  cut = ap (λ l. path ∷ l) lost.cut;
+  held = ((text, held), lost.held);
+  lost = lost.lost;
+}
+
+-- what is lost among the first paths is lost among all
+pub loses-within : (holds : Texts) (lacks : List ℕ → Type 0) (paths more : List (List ℕ)) (e : FileError) → LosesFirst holds lacks paths e → LosesFirst holds lacks (paths ++ more) e
+loses-within holds lacks paths more error.OutOfMemory lost = record {}
+loses-within holds lacks paths more (error.Unread path) lost = record {
+  front = lost.front;
+  after = lost.after ++ more;
+  cut = ap (λ l. l ++ more) lost.cut ∙ append_assoc lost.front (path.now ∷ lost.after) more;
+  held = lost.held;
+  lost = lost.lost;
+}
+
+-- what is lost after the text of the certificate, or of the events, was had
+pub loses-past : (holds : Texts) (lacks : List ℕ → Type 0) (a : Asked) (w : Work) (paths : List (List ℕ)) (e : FileError) → IsWork holds a w → LosesFirst holds lacks paths e
+    → LosesFirst holds lacks (work_path a ++ paths) e
+loses-past holds lacks (asked.Check path) (work.Check text) paths e held lost = loses-after holds lacks path.now text.items paths e held lost
+loses-past holds lacks (asked.Check path) work.Make paths e held lost = absurd held
+loses-past holds lacks (asked.Check path) work.Verify paths e held lost = absurd held
+loses-past holds lacks (asked.Check path) (work.Replay text) paths e held lost = absurd held
+loses-past holds lacks asked.Make w paths e held lost = lost
+loses-past holds lacks asked.Verify w paths e held lost = lost
+loses-past holds lacks (asked.Replay path) (work.Check text) paths e held lost = absurd held
+loses-past holds lacks (asked.Replay path) work.Make paths e held lost = absurd held
+loses-past holds lacks (asked.Replay path) work.Verify paths e held lost = absurd held
+loses-past holds lacks (asked.Replay path) (work.Replay text) paths e held lost = loses-after holds lacks path.now text.items paths e held lost

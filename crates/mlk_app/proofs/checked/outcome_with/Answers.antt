@@ -1,0 +1,14 @@
+use Rattle.std.proofs.Common.{map, rules}
+use Rattle.mlk_syntax.specs.Views.{routine_of}
+use Rattle.mlk_app.specs.declared.source.Work.TheVariants as work
+use Rattle.mlk_app.specs.Checked.{IsRefusalOfWork}
+use Rattle.mlk_app.proofs.Checks.{verify-refused}
+use Rattle.mlk_app.proofs.checked.outcome_with.Goals as goal
+
+pub returns-in_err-report-in-Verify-clause-refused : goal.returns-in_err-report-in-Verify-clause-refused
+returns-in_err-report-in-Verify-clause-refused g c =
+    let trees = map routine_of c.args.program.now in
+    let made = c.in_ok-made-in-Verify.made in
+    let r = c.in_err-report-in-Verify.field-0.0 in
+    let refused : IsRefusalOfWork trees c.args.rules.now work.Verify r = verify-refused trees c.args.rules.now made.text.items r c.in_ok-made-in-Verify.ensures.ok c.in_err-report-in-Verify.ensures.refused in
+    grind rules

@@ -1,0 +1,213 @@
+-- What the check of texts answers. This project's own choice.
+use Rattle.std.specs.Prelude.{◌≡◌, ◌⊎◌, ℕ, List, [], Some, None, find}
+use Rattle.mlk_text.specs.declared.fault.Fault.{Fault}
+use Rattle.mlk_text.specs.declared.failure.Failure.{Failure}
+use Rattle.mlk_text.specs.declared.failure.Failure.TheVariants as failure
+use Rattle.mlk_syntax.specs.Trees.{RoutineTree}
+use Rattle.mlk_readers.specs.declared.source.Source.{Source}
+use Rattle.mlk_readers.specs.Reading.{AreRead, IsFirstRefused}
+use Rattle.mlk_program.specs.Program.{IsProgram, IsLinkFault}
+use Rattle.mlk_rules.specs.declared.rules.RuleLists.{RuleLists}
+use Rattle.mlk_rules_file.specs.RuleSections.{SaysRules, RefusesRules}
+use Rattle.mlk_rules_file.specs.declared.read.fault.RulesFault.{RulesFault}
+use Rattle.mlk_cert_parts.specs.declared.block.EntryCert.{EntryCert}
+use Rattle.mlk_cert.specs.declared.read.fault.CertFault.{CertFault}
+use Rattle.mlk_cert.specs.Theorem.{Spells}
+use Rattle.mlk_cert.specs.Refusals.{IsRefusal}
+use Rattle.mlk_text.specs.declared.code.Code.TheVariants.{CertLimit}
+use Rattle.mlk_make.specs.Missing.{is_missing}
+use Rattle.mlk_walk.specs.declared.report.Row.{Row}
+use Rattle.mlk_walk.specs.Reports.{report, missing}
+use Rattle.mlk_straight_check.specs.Kept.{IsKept, HasFaults}
+use Rattle.mlk_machine.specs.declared.fault.EventsFault.{EventsFault}
+use Rattle.mlk_app.specs.Replayed.{IsReplayed, IsUnreplayed}
+use Rattle.mlk_app.specs.declared.source.Sources.{Sources}
+use Rattle.mlk_app.specs.declared.source.Work.{Work}
+use Rattle.mlk_app.specs.declared.source.Work.TheVariants as work
+use Rattle.mlk_app.specs.declared.checked.Outcome.{Outcome}
+use Rattle.mlk_app.specs.declared.checked.Outcome.TheVariants as outcome
+use Rattle.mlk_app.specs.declared.checked.Refusal.{Refusal}
+use Rattle.mlk_app.specs.declared.checked.Refusal.TheVariants as refusal
+
+-- The report of a program by rules and a certificate's blocks, whose entries it has. Where it has no row, and all is of
+-- straight lines, each run keeps the rules.
+pub record IsReportBy (trees : List RoutineTree) (rules : RuleLists) (blocks : List EntryCert) (text : List ℕ) (rows : List Row) : Type 0 where
+  pub named : missing trees rules blocks ≡ None
+  pub are : rows ≡ report trees rules blocks
+  pub kept : rows ≡ [] → IsKept trees rules text
+
+-- the same by the certificate that a text spells, by the rules that a text says, and of trees that make a program
+abbrev pub IsReportWith : List RoutineTree → RuleLists → List ℕ → List Row → Type 0
+IsReportWith trees rules text rows = (blocks : List EntryCert) × Spells blocks text × IsReportBy trees rules blocks text rows
+
+-- A text is the one of a certificate, made of a program that has all declared entries. Nothing else is promised of it.
+abbrev pub IsMade : List RoutineTree → RuleLists → List ℕ → Type 0
+IsMade trees rules text = (find (is_missing trees) rules.entries ≡ None) × (blocks : List EntryCert) × Spells blocks text
+
+-- What the texts of rules and of routines come to: the report by the certificate that is given, or by one that is made, or
+-- the text of one that is made, or what is shown of jobs after events.
+abbrev pub IsOutcomeWith : List RoutineTree → RuleLists → Work → Outcome → Type 0
+IsOutcomeWith trees rules (work.Check text) (outcome.Report rows) = IsReportWith trees rules text.items rows
+IsOutcomeWith trees rules (work.Check text) (outcome.Made made) = ⊥
+IsOutcomeWith trees rules (work.Check text) (outcome.Replayed shown) = ⊥
+IsOutcomeWith trees rules work.Make (outcome.Report rows) = ⊥
+IsOutcomeWith trees rules work.Make (outcome.Made made) = IsMade trees rules made.items
+IsOutcomeWith trees rules work.Make (outcome.Replayed shown) = ⊥
+IsOutcomeWith trees rules work.Verify (outcome.Report rows) = (text : List ℕ) × IsMade trees rules text × IsReportWith trees rules text rows
+IsOutcomeWith trees rules work.Verify (outcome.Made made) = ⊥
+IsOutcomeWith trees rules work.Verify (outcome.Replayed shown) = ⊥
+IsOutcomeWith trees rules (work.Replay events) (outcome.Report rows) = ⊥
+IsOutcomeWith trees rules (work.Replay events) (outcome.Made made) = ⊥
+IsOutcomeWith trees rules (work.Replay events) (outcome.Replayed shown) = IsReplayed trees rules events.items shown
+
+abbrev pub IsOutcomeUnder : List RoutineTree → List ℕ → Work → Outcome → Type 0
+IsOutcomeUnder trees rules_text w o = (rules : RuleLists) × SaysRules rules_text rules × IsOutcomeWith trees rules w o
+
+abbrev pub IsOutcomeOf : List RoutineTree → List ℕ → Work → Outcome → Type 0
+IsOutcomeOf trees rules_text w o = IsProgram trees × IsOutcomeUnder trees rules_text w o
+
+abbrev pub IsChecked : Sources → List RoutineTree → Outcome → Type 0
+IsChecked sources trees o = AreRead sources.routines.items trees × IsOutcomeOf trees sources.rules.items sources.work o
+
+-- No certificate has the text.
+abbrev pub NoCertificate : List ℕ → CertFault → Type 0
+NoCertificate text fault = ((blocks : List EntryCert) → Spells blocks text → ⊥) × IsRefusal text fault
+
+-- the refusal of rules, and of the linking of trees. Want of memory says nothing.
+abbrev pub RefusedRules : List ℕ → Refusal → Type 0
+RefusedRules rules_text refusal.OutOfMemory = Unit {0}
+RefusedRules rules_text (refusal.Routine fault) = ⊥
+RefusedRules rules_text (refusal.Rules fault) = RefusesRules rules_text (failure.Refused fault)
+RefusedRules rules_text (refusal.Certificate fault) = ⊥
+RefusedRules rules_text (refusal.Entry entry) = ⊥
+RefusedRules rules_text refusal.Disagreement = ⊥
+RefusedRules rules_text (refusal.GaveUp entry fault) = ⊥
+RefusedRules rules_text (refusal.Events fault) = ⊥
+
+abbrev pub RefusedLink : List RoutineTree → Refusal → Type 0
+RefusedLink trees refusal.OutOfMemory = Unit {0}
+RefusedLink trees (refusal.Routine fault) = IsLinkFault trees fault
+RefusedLink trees (refusal.Rules fault) = ⊥
+RefusedLink trees (refusal.Certificate fault) = ⊥
+RefusedLink trees (refusal.Entry entry) = ⊥
+RefusedLink trees refusal.Disagreement = ⊥
+RefusedLink trees (refusal.GaveUp entry fault) = ⊥
+RefusedLink trees (refusal.Events fault) = ⊥
+
+-- Why a program has no report: an entry that it lacks, or that the walk of straight lines finds faults where the walk of
+-- all of M finds none; no such texts are known. Want of memory says nothing.
+abbrev pub IsRefusalBy : List RoutineTree → RuleLists → List EntryCert → List ℕ → Refusal → Type 0
+IsRefusalBy trees rules blocks text refusal.OutOfMemory = Unit {0}
+IsRefusalBy trees rules blocks text (refusal.Routine fault) = ⊥
+IsRefusalBy trees rules blocks text (refusal.Rules fault) = ⊥
+IsRefusalBy trees rules blocks text (refusal.Certificate fault) = ⊥
+IsRefusalBy trees rules blocks text (refusal.Entry entry) = missing trees rules blocks ≡ Some entry
+IsRefusalBy trees rules blocks text refusal.Disagreement = (report trees rules blocks ≡ []) × HasFaults trees rules text
+IsRefusalBy trees rules blocks text (refusal.GaveUp entry fault) = ⊥
+IsRefusalBy trees rules blocks text (refusal.Events fault) = ⊥
+
+-- It is told of the certificate's text first,
+abbrev pub IsRefusalWith : List RoutineTree → RuleLists → List ℕ → Refusal → Type 0
+IsRefusalWith trees rules text refusal.OutOfMemory = Unit {0}
+IsRefusalWith trees rules text (refusal.Routine fault) = ⊥
+IsRefusalWith trees rules text (refusal.Rules fault) = ⊥
+IsRefusalWith trees rules text (refusal.Certificate fault) = NoCertificate text fault
+IsRefusalWith trees rules text (refusal.Entry entry) =
+    (blocks : List EntryCert) × Spells blocks text × (missing trees rules blocks ≡ Some entry)
+IsRefusalWith trees rules text refusal.Disagreement = (blocks : List EntryCert) × Spells blocks text
+    × (report trees rules blocks ≡ []) × HasFaults trees rules text
+IsRefusalWith trees rules text (refusal.GaveUp entry fault) = ⊥
+IsRefusalWith trees rules text (refusal.Events fault) = ⊥
+
+-- Why no certificate is made: it has a text that is too long, the program lacks a declared entry, or the maker gave up.
+abbrev pub IsUnmade : List RoutineTree → RuleLists → Refusal → Type 0
+IsUnmade trees rules refusal.OutOfMemory = Unit {0}
+IsUnmade trees rules (refusal.Routine fault) = ⊥
+IsUnmade trees rules (refusal.Rules fault) = ⊥
+IsUnmade trees rules (refusal.Certificate fault) = (fault.code ≡ CertLimit) × (fault.line ≡ 1)
+IsUnmade trees rules (refusal.Entry entry) = find (is_missing trees) rules.entries ≡ Some entry
+IsUnmade trees rules refusal.Disagreement = ⊥
+IsUnmade trees rules (refusal.GaveUp entry fault) = find (is_missing trees) rules.entries ≡ None
+IsUnmade trees rules (refusal.Events fault) = ⊥
+
+-- It is told of the certificate's text, or of its making, or of the events, first,
+abbrev pub IsRefusalOfWork : List RoutineTree → RuleLists → Work → Refusal → Type 0
+IsRefusalOfWork trees rules (work.Check text) r = IsRefusalWith trees rules text.items r
+IsRefusalOfWork trees rules work.Make r = IsUnmade trees rules r
+IsRefusalOfWork trees rules work.Verify r =
+    IsUnmade trees rules r ⊎ ((text : List ℕ) × IsMade trees rules text × IsRefusalWith trees rules text r)
+IsRefusalOfWork trees rules (work.Replay events) r = IsUnreplayed trees rules events.items r
+
+-- of the rules' text before it,
+abbrev pub IsRefusalUnder : List RoutineTree → List ℕ → Work → Refusal → Type 0
+IsRefusalUnder trees rules_text w r =
+    RefusedRules rules_text r ⊎ ((rules : RuleLists) × SaysRules rules_text rules × IsRefusalOfWork trees rules w r)
+
+-- and of the linking of the trees before both.
+abbrev pub IsRefusalOf : List RoutineTree → List ℕ → Work → Refusal → Type 0
+IsRefusalOf trees rules_text w r = RefusedLink trees r ⊎ (IsProgram trees × IsRefusalUnder trees rules_text w r)
+
+-- the refusal of a routine's reading
+abbrev pub IsFirst : List Source → Refusal → Type 0
+IsFirst sources refusal.OutOfMemory = Unit {0}
+IsFirst sources (refusal.Routine fault) = IsFirstRefused sources fault
+IsFirst sources (refusal.Rules fault) = ⊥
+IsFirst sources (refusal.Certificate fault) = ⊥
+IsFirst sources (refusal.Entry entry) = ⊥
+IsFirst sources refusal.Disagreement = ⊥
+IsFirst sources (refusal.GaveUp entry fault) = ⊥
+IsFirst sources (refusal.Events fault) = ⊥
+
+-- Why texts have no report: it is told of a routine that is not read, else of what all routines make.
+abbrev pub IsRefusedBy : Sources → Refusal → Type 0
+IsRefusedBy sources r = IsFirst sources.routines.items r ⊎ ((trees : List RoutineTree)
+    × AreRead sources.routines.items trees × IsRefusalOf trees sources.rules.items sources.work r)
+
+-- the same of what a reader refuses
+abbrev pub refusal_of_routine : Failure Fault → Refusal
+refusal_of_routine failure.OutOfMemory = refusal.OutOfMemory
+refusal_of_routine (failure.Refused fault) = refusal.Routine fault
+
+abbrev pub refusal_of_rules : Failure RulesFault → Refusal
+refusal_of_rules failure.OutOfMemory = refusal.OutOfMemory
+refusal_of_rules (failure.Refused fault) = refusal.Rules fault
+
+abbrev pub refusal_of_certificate : Failure CertFault → Refusal
+refusal_of_certificate failure.OutOfMemory = refusal.OutOfMemory
+refusal_of_certificate (failure.Refused fault) = refusal.Certificate fault
+
+abbrev pub refusal_of_events : Failure EventsFault → Refusal
+refusal_of_events failure.OutOfMemory = refusal.OutOfMemory
+refusal_of_events (failure.Refused fault) = refusal.Events fault
+
+-- what is told of an entry that is lacking, and where straight lines are walked again
+abbrev pub TellsEntry : List ℕ → Refusal → Type 0
+TellsEntry text refusal.OutOfMemory = Unit {0}
+TellsEntry text (refusal.Routine fault) = ⊥
+TellsEntry text (refusal.Rules fault) = ⊥
+TellsEntry text (refusal.Certificate fault) = ⊥
+TellsEntry text (refusal.Entry entry) = entry ≡ text
+TellsEntry text refusal.Disagreement = ⊥
+TellsEntry text (refusal.GaveUp entry fault) = ⊥
+TellsEntry text (refusal.Events fault) = ⊥
+
+abbrev pub IsDoubt : List RoutineTree → RuleLists → List ℕ → List Row → Refusal → Type 0
+IsDoubt trees rules text rows refusal.OutOfMemory = Unit {0}
+IsDoubt trees rules text rows (refusal.Routine fault) = ⊥
+IsDoubt trees rules text rows (refusal.Rules fault) = ⊥
+IsDoubt trees rules text rows (refusal.Certificate fault) = ⊥
+IsDoubt trees rules text rows (refusal.Entry entry) = ⊥
+IsDoubt trees rules text rows refusal.Disagreement = (rows ≡ []) × HasFaults trees rules text
+IsDoubt trees rules text rows (refusal.GaveUp entry fault) = ⊥
+IsDoubt trees rules text rows (refusal.Events fault) = ⊥
+
+-- what is told where the maker gave up: nothing else
+abbrev pub IsStuck : List RoutineTree → Refusal → Type 0
+IsStuck trees refusal.OutOfMemory = Unit {0}
+IsStuck trees (refusal.Routine fault) = ⊥
+IsStuck trees (refusal.Rules fault) = ⊥
+IsStuck trees (refusal.Certificate fault) = ⊥
+IsStuck trees (refusal.Entry entry) = ⊥
+IsStuck trees refusal.Disagreement = ⊥
+IsStuck trees (refusal.GaveUp entry fault) = Unit {0}
+IsStuck trees (refusal.Events fault) = ⊥

@@ -1,0 +1,96 @@
+-- The texts that a command reads: those of the files that it names, and a routine's name from its file's. This
+-- project's own choice.
+use Rattle.std.specs.Prelude.{ℕ, ◌≡◌, ◌<◌, ◌⊎◌, List, [], ◌∷◌, ◌++◌, length, slice_index}
+use Rattle.std.specs.Borrow.{Bor}
+use Rattle.mlk_app.specs.declared.source.FileError.{FileError}
+use Rattle.mlk_app.specs.declared.source.FileError.TheVariants as error
+use Rattle.mlk_readers.specs.declared.source.Source.{Source}
+use Rattle.mlk_app.specs.declared.source.Sources.{Sources}
+use Rattle.mlk_app.specs.declared.source.Work.{Work}
+use Rattle.mlk_app.specs.declared.source.Work.TheVariants as work
+use Rattle.mlk_cli.specs.CommandLine.{bytes_of}
+use Rattle.mlk_cli.specs.declared.words.Asked.{Asked}
+use Rattle.mlk_cli.specs.declared.words.Asked.TheVariants as asked
+use Rattle.mlk_cli.specs.declared.words.Request.{Request}
+
+-- no byte is this one
+abbrev pub Lacks : ℕ → List ℕ → Type 0
+Lacks b text = (i : ℕ) → i < length text → slice_index text i ≡ b → ⊥
+
+-- a file's name: what stands after the last slash of its path, or the whole path
+abbrev pub IsFileName : List ℕ → List ℕ → Type 0
+IsFileName path name = Lacks 47 name × ((path ≡ name) ⊎ ((folder : List ℕ) × (path ≡ folder ++ 47 ∷ name)))
+
+-- the stem of a name: what stands before its last dot, or the whole name where it has none
+abbrev pub IsNameStem : List ℕ → List ℕ → Type 0
+IsNameStem name stem = ((name ≡ stem) × Lacks 46 name) ⊎ ((ending : List ℕ) × (name ≡ stem ++ 46 ∷ ending) × Lacks 46 ending)
+
+abbrev pub IsPathStem : List ℕ → List ℕ → Type 0
+IsPathStem path stem = (name : List ℕ) × IsFileName path name × IsNameStem name stem
+
+-- what is known of the files: which text a path may have
+abbrev pub Texts : Type 1
+Texts = List ℕ → List ℕ → Type 0
+
+-- a routine is the text at its path, under the stem of its file's name
+abbrev pub IsSource : Texts → List ℕ → Source → Type 0
+IsSource holds path source = IsPathStem path source.stem.now × holds path source.text.items
+
+-- the routines are those of these paths, in order, and no others
+abbrev pub AreSources : Texts → List (Bor (List ℕ)) → List Source → Type 0
+AreSources holds [] [] = Unit {0}
+AreSources holds [] (source ∷ sources) = ⊥
+AreSources holds (path ∷ paths) [] = ⊥
+AreSources holds (path ∷ paths) (source ∷ sources) = IsSource holds path.now source × AreSources holds paths sources
+
+-- the text of the certificate, or of the events, where one is named
+abbrev pub IsWork : Texts → Asked → Work → Type 0
+IsWork holds (asked.Check path) (work.Check text) = holds path.now text.items
+IsWork holds (asked.Check path) work.Make = ⊥
+IsWork holds (asked.Check path) work.Verify = ⊥
+IsWork holds (asked.Check path) (work.Replay text) = ⊥
+IsWork holds asked.Make w = w ≡ work.Make
+IsWork holds asked.Verify w = w ≡ work.Verify
+IsWork holds (asked.Replay path) (work.Check text) = ⊥
+IsWork holds (asked.Replay path) work.Make = ⊥
+IsWork holds (asked.Replay path) work.Verify = ⊥
+IsWork holds (asked.Replay path) (work.Replay text) = holds path.now text.items
+
+-- the texts are those of the files that a command names
+pub record AreTexts (holds : Texts) (request : Request) (sources : Sources) : Type 0 where
+  pub rules : holds request.rules.now sources.rules.items
+  pub work : IsWork holds request.asked sources.work
+  pub routines : AreSources holds request.routines.items sources.routines.items
+
+abbrev pub work_path : Asked → List (List ℕ)
+work_path (asked.Check path) = path.now ∷ []
+work_path asked.Make = []
+work_path asked.Verify = []
+work_path (asked.Replay path) = path.now ∷ []
+
+-- the paths that a command names, in the order of its words
+abbrev pub paths_of : Request → List (List ℕ)
+paths_of request = request.rules.now ∷ (work_path request.asked ++ bytes_of request.routines.items)
+
+-- each of these paths has a text
+abbrev pub AreHeld : Texts → List (List ℕ) → Type 0
+AreHeld holds [] = Unit {0}
+AreHeld holds (path ∷ paths) = ((text : List ℕ) × holds path text) × AreHeld holds paths
+
+-- the first path of a list that can't be read
+pub record IsFirstLost (holds : Texts) (lacks : List ℕ → Type 0) (paths : List (List ℕ)) (path : List ℕ) : Type 0 where
+  pub front : List (List ℕ)
+  pub after : List (List ℕ)
+  pub cut : paths ≡ front ++ path ∷ after
+  pub held : AreHeld holds front
+  pub lost : lacks path
+
+-- why a file was not read. Want of memory says nothing.
+abbrev pub Loses : (List ℕ → Type 0) → List ℕ → FileError → Type 0
+Loses lacks path error.OutOfMemory = Unit {0}
+Loses lacks path (error.Unread other) = (other.now ≡ path) × lacks path
+
+-- the same of the first of a list
+abbrev pub LosesFirst : Texts → (List ℕ → Type 0) → List (List ℕ) → FileError → Type 0
+LosesFirst holds lacks paths error.OutOfMemory = Unit {0}
+LosesFirst holds lacks paths (error.Unread path) = IsFirstLost holds lacks paths path.now

@@ -1,0 +1,107 @@
+-- The lines that the program prints. This project's own choice.
+use Rattle.std.specs.Prelude.{ℕ, List, [], ◌∷◌, ◌++◌, Option, Some, None, codes, length}
+use Rattle.std.specs.Fmt.{decimal}
+use Rattle.mlk_text.specs.declared.code.Code.{Code}
+use Rattle.mlk_text.specs.declared.code.Code.TheVariants.{EntryMissing, GaveUp, EventForm, NotEnabled, BadChoice, UnknownJob}
+use Rattle.mlk_text.specs.declared.fault.Fault.{Fault}
+use Rattle.mlk_text.specs.declared.fault.LeftOut.{LeftOut}
+use Rattle.mlk_text.specs.Codes.{number_of, word_of}
+use Rattle.mlk_text.specs.Words.{left_out_word}
+use Rattle.mlk_syntax.specs.Trees.{RoutineTree}
+use Rattle.mlk_program.specs.declared.entry.EntryId.{EntryId}
+use Rattle.mlk_program.specs.Entries.{text_of_entry}
+use Rattle.mlk_walk.specs.declared.report.Row.{Row}
+use Rattle.mlk_rules_file.specs.declared.read.fault.RulesFault.{RulesFault}
+use Rattle.mlk_cert.specs.declared.read.fault.CertFault.{CertFault}
+use Rattle.mlk_machine_locks.specs.declared.refusal.Refusal.TheVariants as cant
+use Rattle.mlk_machine.specs.declared.fault.EventsFault.{EventsFault}
+use Rattle.mlk_machine.specs.declared.fault.EventsRefusal.{EventsRefusal}
+use Rattle.mlk_machine.specs.declared.fault.EventsRefusal.TheVariants as why
+use Rattle.mlk_rules_file.specs.RuleAnswers.{section_word}
+use Rattle.mlk_walk_exprs.specs.declared.walk.Fault.{Fault as WalkFault}
+
+abbrev pub space : List ℕ
+space = 32 ∷ []
+
+abbrev pub line_end : List ℕ
+line_end = 10 ∷ []
+
+-- `CODE NAME`
+abbrev pub code_text : Code → List ℕ
+code_text code = decimal (number_of code) ++ space ++ word_of code
+
+-- `line:column`
+abbrev pub place_text : ℕ → ℕ → List ℕ
+place_text line column = decimal line ++ codes ":" ++ decimal column
+
+-- the word after a code that leaves something out
+abbrev pub left_out_text : Option LeftOut → List ℕ
+left_out_text None = []
+left_out_text (Some what) = space ++ left_out_word what
+
+-- `refused ROUTINE line:column CODE NAME`, with the word of what is left out
+abbrev pub fault_line : Fault → List ℕ
+fault_line f =
+    codes "refused " ++ f.place.routine ++ space ++ place_text f.place.line f.place.column ++ space ++ code_text f.code ++ left_out_text f.left_out ++ line_end
+
+-- `refused entry TEXT 901 EntryMissing`
+abbrev pub missing_line : List ℕ → List ℕ
+missing_line text = codes "refused entry " ++ text ++ space ++ code_text EntryMissing ++ line_end
+
+-- `refused LABEL^ROUTINE line:column 801 GaveUp`
+abbrev pub stuck_line : List ℕ → WalkFault → List ℕ
+stuck_line entry f = codes "refused " ++ entry ++ space ++ place_text f.line f.column ++ space ++ code_text GaveUp ++ line_end
+
+-- `refused rules SECTION INDEX CODE NAME`
+abbrev pub rules_line : RulesFault → List ℕ
+rules_line f = codes "refused rules " ++ section_word f.section ++ space ++ decimal f.index ++ space ++ code_text f.code ++ line_end
+
+-- `refused cert LINE CODE NAME`
+abbrev pub certificate_line : CertFault → List ℕ
+certificate_line f = codes "refused cert " ++ decimal f.line ++ space ++ code_text f.code ++ line_end
+
+-- why events are not replayed
+abbrev pub events_code : EventsRefusal → Code
+events_code why.Form = EventForm
+events_code (why.Refused cant.NotEnabled) = NotEnabled
+events_code (why.Refused cant.BadChoice) = BadChoice
+events_code (why.Refused cant.UnknownJob) = UnknownJob
+
+-- `refused line LINE CODE NAME`
+abbrev pub events_line : EventsFault → List ℕ
+events_line f = codes "refused line " ++ decimal f.line ++ space ++ code_text (events_code f.why) ++ line_end
+
+-- what is told where the two walks of straight lines disagree
+abbrev pub disagreement_line : List ℕ
+disagreement_line = codes "error the walk of straight lines finds faults that the walk of all of M does not" ++ line_end
+
+-- `error file PATH`
+abbrev pub file_line : List ℕ → List ℕ
+file_line path = codes "error file " ++ path ++ line_end
+
+-- an entry: `LABEL^ROUTINE`, or `^ROUTINE` where its line has no label
+abbrev pub or_nothing : Option (List ℕ) → List ℕ
+or_nothing None = []
+or_nothing (Some text) = text
+
+abbrev pub entry_text : List RoutineTree → EntryId → List ℕ
+entry_text routines e = or_nothing (text_of_entry routines e)
+
+-- `LABEL^ROUTINE line:column CODE NAME`
+abbrev pub fault_text : WalkFault → List ℕ
+fault_text f = space ++ place_text f.line f.column ++ space ++ code_text f.code ++ line_end
+
+abbrev pub row_line : List RoutineTree → Row → List ℕ
+row_line routines r = entry_text routines r.entry ++ fault_text r.fault
+
+abbrev pub row_lines : List RoutineTree → List Row → List ℕ
+row_lines routines [] = []
+row_lines routines (r ∷ rows) = row_line routines r ++ row_lines routines rows
+
+-- the last line: `yes`, or `no N` with the number of rows
+abbrev pub last_line : List Row → List ℕ
+last_line [] = codes "yes" ++ line_end
+last_line (r ∷ rows) = codes "no " ++ decimal (length (r ∷ rows)) ++ line_end
+
+abbrev pub report_text : List RoutineTree → List Row → List ℕ
+report_text routines rows = row_lines routines rows ++ last_line rows

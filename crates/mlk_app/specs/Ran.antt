@@ -1,0 +1,141 @@
+-- What the program says: what it prints on standard output, what it tells on the error stream, and the status that
+-- it ends with. This project's own choice.
+use Rattle.std.specs.Prelude.{◌≡◌, ◌⊎◌, ℕ, List, [], ◌∷◌, map, Option, String}
+use Rattle.std.specs.Io.KnownBytes.{Keeps, Appends}
+use Rattle.mlk_syntax.specs.Trees.{RoutineTree}
+use Rattle.mlk_syntax.specs.Views.{routine_of}
+use Rattle.mlk_walk.specs.declared.report.Row.{Row}
+use Rattle.mlk_app.specs.declared.source.Sources.{Sources}
+use Rattle.mlk_cli.specs.declared.words.Request.{Request}
+use Rattle.mlk_app.specs.declared.checked.Checked.{Checked}
+use Rattle.mlk_app.specs.declared.checked.Outcome.{Outcome}
+use Rattle.mlk_app.specs.declared.checked.Outcome.TheVariants as outcome
+use Rattle.mlk_app.specs.declared.checked.Refusal.{Refusal}
+use Rattle.mlk_app.specs.declared.checked.Refusal.TheVariants as refusal
+use Rattle.mlk_app.specs.declared.program.Answer.{Answer}
+use Rattle.mlk_app.specs.declared.program.Answer.TheVariants as answer
+use Rattle.mlk_app.specs.Printed.{report_text, fault_line, rules_line, certificate_line, missing_line, disagreement_line, stuck_line, events_line, file_line}
+use Rattle.mlk_app.specs.Files.{Texts, AreTexts, IsFirstLost, paths_of}
+use Rattle.mlk_cli.specs.CommandLine.{IsRequest, AsksNothing}
+use Rattle.mlk_app.specs.Checked.{IsChecked, IsRefusedBy}
+
+-- 0 for `yes`, 1 for `no`
+abbrev pub status_of : List Row → ℕ
+status_of [] = 0
+status_of (r ∷ rows) = 1
+
+-- the line of a refusal
+abbrev pub IsRefusalLine : Refusal → List ℕ → Type 0
+IsRefusalLine refusal.OutOfMemory line = ⊥
+IsRefusalLine (refusal.Routine fault) line = line ≡ fault_line fault
+IsRefusalLine (refusal.Rules fault) line = line ≡ rules_line fault
+IsRefusalLine (refusal.Certificate fault) line = line ≡ certificate_line fault
+IsRefusalLine (refusal.Entry entry) line = line ≡ missing_line entry
+IsRefusalLine refusal.Disagreement line = line ≡ disagreement_line
+IsRefusalLine (refusal.GaveUp entry fault) line = line ≡ stuck_line entry fault
+IsRefusalLine (refusal.Events fault) line = line ≡ events_line fault
+
+-- the trees of what was read
+abbrev pub trees_of : Checked → List RoutineTree
+trees_of checked = map routine_of checked.routines.items
+
+-- the text and the status of a report, where memory doesn't run out
+abbrev pub PrintsReport : List RoutineTree → List Row → Answer → Type 0
+PrintsReport trees rows (answer.Report text status) = (text ≡ report_text trees rows) × (status ≡ status_of rows)
+PrintsReport trees rows (answer.Refused line) = ⊥
+PrintsReport trees rows (answer.Unread line) = ⊥
+PrintsReport trees rows (answer.Usage text) = ⊥
+PrintsReport trees rows answer.OutOfMemory = Unit {0}
+
+-- a text, where memory doesn't run out
+abbrev pub PrintsText : List ℕ → Answer → Type 0
+PrintsText shown (answer.Report text status) = (text ≡ shown) × (status ≡ 0)
+PrintsText shown (answer.Refused line) = ⊥
+PrintsText shown (answer.Unread line) = ⊥
+PrintsText shown (answer.Usage text) = ⊥
+PrintsText shown answer.OutOfMemory = Unit {0}
+
+-- what is printed of an outcome, and the status: a certificate is printed as it is, and so is what is shown of jobs
+abbrev pub IsPrinted : List RoutineTree → Outcome → List ℕ → ℕ → Type 0
+IsPrinted trees (outcome.Report rows) text status = (text ≡ report_text trees rows) × (status ≡ status_of rows)
+IsPrinted trees (outcome.Made made) text status = (text ≡ made.items) × (status ≡ 0)
+IsPrinted trees (outcome.Replayed shown) text status = (text ≡ shown) × (status ≡ 0)
+
+abbrev pub PrintsOutcome : List RoutineTree → Outcome → Answer → Type 0
+PrintsOutcome trees o (answer.Report text status) = IsPrinted trees o text status
+PrintsOutcome trees o (answer.Refused line) = ⊥
+PrintsOutcome trees o (answer.Unread line) = ⊥
+PrintsOutcome trees o (answer.Usage text) = ⊥
+PrintsOutcome trees o answer.OutOfMemory = Unit {0}
+
+abbrev pub Prints : Checked → Answer → Type 0
+Prints checked a = PrintsOutcome (trees_of checked) checked.outcome a
+
+-- the line of a refusal, where memory doesn't run out
+abbrev pub TellsRefusal : Refusal → Answer → Type 0
+TellsRefusal r (answer.Report text status) = ⊥
+TellsRefusal r (answer.Refused line) = IsRefusalLine r line
+TellsRefusal r (answer.Unread line) = ⊥
+TellsRefusal r (answer.Usage text) = ⊥
+TellsRefusal r answer.OutOfMemory = Unit {0}
+
+-- the line of a path that can't be read, where memory doesn't run out
+abbrev pub TellsUnread : List ℕ → Answer → Type 0
+TellsUnread path (answer.Report text status) = ⊥
+TellsUnread path (answer.Refused line) = ⊥
+TellsUnread path (answer.Unread line) = line ≡ file_line path
+TellsUnread path (answer.Usage text) = ⊥
+TellsUnread path answer.OutOfMemory = Unit {0}
+
+-- what the texts at the paths come to
+pub record IsReported (holds : Texts) (request : Request) (text : List ℕ) (status : ℕ) : Type 0 where
+  pub sources : Sources
+  pub texts : AreTexts holds request sources
+  pub trees : List RoutineTree
+  pub outcome : Outcome
+  pub answered : IsChecked sources trees outcome
+  pub printed : IsPrinted trees outcome text status
+
+-- the refusal of the texts at the paths
+pub record IsRefusedThere (holds : Texts) (request : Request) (line : List ℕ) : Type 0 where
+  pub sources : Sources
+  pub texts : AreTexts holds request sources
+  pub refusal : Refusal
+  pub refused : IsRefusedBy sources refusal
+  pub told : IsRefusalLine refusal line
+
+-- the first path that can't be read
+pub record IsUnread (holds : Texts) (lacks : List ℕ → Type 0) (request : Request) (line : List ℕ) : Type 0 where
+  pub path : List ℕ
+  pub lost : IsFirstLost holds lacks (paths_of request) path
+  pub told : line ≡ file_line path
+
+-- What the program answers to a request. Want of memory says nothing.
+abbrev pub Answers : Texts → (List ℕ → Type 0) → Request → Answer → Type 0
+Answers holds lacks request (answer.Report text status) = IsReported holds request text status
+Answers holds lacks request (answer.Refused line) = IsRefusedThere holds request line
+Answers holds lacks request (answer.Unread line) = IsUnread holds lacks request line
+Answers holds lacks request (answer.Usage text) = ⊥
+Answers holds lacks request answer.OutOfMemory = Unit {0}
+
+-- how it is said: 3 where standard output takes no more
+abbrev pub IsSaid : Answer → Option (List ℕ) → Option (List ℕ) → ℕ → Type 0
+IsSaid (answer.Report text ended) old new status = (status ≡ 3) ⊎ ((status ≡ ended) × Appends old new text)
+IsSaid (answer.Refused line) old new status = (status ≡ 2) × Keeps old new
+IsSaid (answer.Unread line) old new status = (status ≡ 3) × Keeps old new
+IsSaid (answer.Usage text) old new status = (status ≡ 2) × Keeps old new
+IsSaid answer.OutOfMemory old new status = (status ≡ 3) × Keeps old new
+
+-- What the program answers to its words: the answer to their request, or that they ask for nothing.
+abbrev pub AnswersWords : {A : Type 0} → Texts → (List ℕ → Type 0) → List (String A) → Answer → Type 0
+AnswersWords holds lacks words (answer.Report text status) = (request : Request) × IsRequest words request × IsReported holds request text status
+AnswersWords holds lacks words (answer.Refused line) = (request : Request) × IsRequest words request × IsRefusedThere holds request line
+AnswersWords holds lacks words (answer.Unread line) = (request : Request) × IsRequest words request × IsUnread holds lacks request line
+AnswersWords holds lacks words (answer.Usage text) = AsksNothing words
+AnswersWords holds lacks words answer.OutOfMemory = Unit {0}
+
+-- What is answered is said.
+pub record Ran {A : Type 0} (holds : Texts) (lacks : List ℕ → Type 0) (words : List (String A)) (old new : Option (List ℕ)) (status : ℕ) : Type 0 where
+  pub answer : Answer
+  pub answered : AnswersWords holds lacks words answer
+  pub said : IsSaid answer old new status

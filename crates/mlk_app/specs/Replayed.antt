@@ -1,0 +1,67 @@
+-- What the replay of a text of events answers. This project's own choice.
+use Rattle.std.specs.Prelude.{◌≡◌, ◌⊎◌, ℕ, List, map, Some, Ok, Err, find}
+use Rattle.mlk_text.specs.declared.failure.Failure.TheVariants as failure
+use Rattle.mlk_syntax.specs.declared.routine.Routine.{Routine}
+use Rattle.mlk_syntax.specs.Trees.{RoutineTree}
+use Rattle.mlk_syntax.specs.Views.{routine_of}
+use Rattle.mlk_program.specs.declared.entry.EntryId.{EntryId}
+use Rattle.mlk_program.specs.Entries.{entry_by}
+use Rattle.mlk_rules.specs.declared.rules.RuleLists.{RuleLists}
+use Rattle.mlk_make.specs.Missing.{is_missing}
+use Rattle.mlk_machine.specs.Running.{Running}
+use Rattle.mlk_machine.specs.Systems.{jobs_in, routines_in}
+use Rattle.mlk_machine.specs.Files.{ReplayedFile}
+use Rattle.mlk_machine_view.specs.Printed.{system_text}
+use Rattle.mlk_app.specs.declared.checked.Refusal.{Refusal}
+use Rattle.mlk_app.specs.declared.checked.Refusal.TheVariants as refusal
+
+-- each text names an entry: these
+abbrev pub AreDeclared : List RoutineTree → List (List ℕ) → List EntryId → Type 0
+AreDeclared trees texts entries = map Some entries ≡ map (entry_by trees) texts
+
+-- the first text that names none. Want of memory says nothing.
+abbrev pub IsUndeclared : List RoutineTree → List (List ℕ) → Refusal → Type 0
+IsUndeclared trees texts refusal.OutOfMemory = Unit {0}
+IsUndeclared trees texts (refusal.Routine fault) = ⊥
+IsUndeclared trees texts (refusal.Rules fault) = ⊥
+IsUndeclared trees texts (refusal.Certificate fault) = ⊥
+IsUndeclared trees texts (refusal.Entry entry) = find (is_missing trees) texts ≡ Some entry
+IsUndeclared trees texts refusal.Disagreement = ⊥
+IsUndeclared trees texts (refusal.GaveUp entry fault) = ⊥
+IsUndeclared trees texts (refusal.Events fault) = ⊥
+
+-- There is a system after all lines of a file of events, and the text is what is shown of it.
+abbrev pub IsShown : List Routine → List EntryId → List ℕ → List ℕ → Type 0
+IsShown routines entries events text =
+    (s : Running) × ReplayedFile routines entries events (Ok s) × (text ≡ system_text (routines_in s) (jobs_in s))
+
+-- There is none: this is the line at which that stops, and why.
+abbrev pub IsStopped : List Routine → List EntryId → List ℕ → Refusal → Type 0
+IsStopped routines entries events refusal.OutOfMemory = Unit {0}
+IsStopped routines entries events (refusal.Routine fault) = ⊥
+IsStopped routines entries events (refusal.Rules fault) = ⊥
+IsStopped routines entries events (refusal.Certificate fault) = ⊥
+IsStopped routines entries events (refusal.Entry entry) = ⊥
+IsStopped routines entries events refusal.Disagreement = ⊥
+IsStopped routines entries events (refusal.GaveUp entry fault) = ⊥
+IsStopped routines entries events (refusal.Events fault) =
+    ReplayedFile routines entries events (Err (failure.Refused fault))
+
+-- the jobs run these routines, from the declared entries
+pub record IsReplayed (trees : List RoutineTree) (rules : RuleLists) (events text : List ℕ) : Type 0 where
+  pub routines : List Routine
+  pub are : map routine_of routines ≡ trees
+  pub entries : List EntryId
+  pub declared : AreDeclared trees rules.entries entries
+  pub shown : IsShown routines entries events text
+
+pub record IsStoppedThere (trees : List RoutineTree) (rules : RuleLists) (events : List ℕ) (r : Refusal) : Type 0 where
+  pub routines : List Routine
+  pub are : map routine_of routines ≡ trees
+  pub entries : List EntryId
+  pub declared : AreDeclared trees rules.entries entries
+  pub stopped : IsStopped routines entries events r
+
+-- Why nothing is shown: the first declared entry that the routines lack, before what is wrong with the events.
+abbrev pub IsUnreplayed : List RoutineTree → RuleLists → List ℕ → Refusal → Type 0
+IsUnreplayed trees rules events r = IsUndeclared trees rules.entries r ⊎ IsStoppedThere trees rules events r

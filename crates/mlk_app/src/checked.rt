@@ -1,0 +1,346 @@
+// From the texts of files to a report.
+
+ghost use Rattle.std.specs.Prelude.{◌≡◌, [], map, IfOk, IfErr};
+ghost use Rattle.mlk_syntax.specs.Views.{routine_of};
+ghost use Rattle.mlk_readers.specs.Reading.{AreRead, RefusesFirst};
+ghost use Rattle.mlk_app.specs.Checked.{refusal_of_routine, refusal_of_rules, refusal_of_certificate, refusal_of_events, TellsEntry, IsDoubt, IsReportBy, IsReportWith, IsStuck, IsMade, IsUnmade, IsOutcomeWith, IsOutcomeUnder, IsOutcomeOf, IsRefusalBy, IsRefusalWith, IsRefusalOfWork, IsRefusalUnder, IsRefusalOf, IsChecked, IsRefusedBy};
+ghost use Rattle.mlk_cert.specs.Theorem.{Spells};
+ghost use Rattle.mlk_straight_check.specs.Kept.{IsKept};
+ghost use Rattle.mlk_app.specs.Ran.{trees_of};
+ghost use Rattle.mlk_app.specs.declared.checked.Refusal.TheVariants as refusal;
+
+use crate::replayed::jobs_text;
+use crate::source::{Sources, Work};
+use mlk_cert::{CertFault, Certificate, Spelled, read_cert};
+use mlk_machine::EventsFault;
+use mlk_make::{GaveUp, MakeError, Stage, Watch, make_watched};
+use mlk_program::{Program, link};
+use mlk_readers::{Source, read_all};
+use mlk_rules::Rules;
+use mlk_rules_file::{RulesFault, read_rules};
+use mlk_straight_check::is_kept;
+use mlk_syntax::Routine;
+use mlk_text::{Failure, Fault, Value};
+use mlk_walk::{Report, check_all, missing_entry};
+use std::alloc::{AllocError, Global};
+use std::thread::Threads;
+
+/// Why there is no report.
+#[derive(Drop, Debug)]
+pub(crate) enum Refusal {
+    OutOfMemory,
+    Routine(Fault),
+    Rules(RulesFault),
+    Certificate(CertFault),
+    /// An entry text of the rules or the certificate that the routines lack.
+    Entry(Value),
+    /// The walk of straight lines finds faults, and that of all of M finds none. No such texts are known.
+    Disagreement,
+    /// No certificate was made: the text of the entry, and the fault at which the maker gave up.
+    GaveUp(Value, mlk_walk_exprs::Fault),
+    Events(EventsFault),
+}
+
+impl From<AllocError> for Refusal {
+    ghost from_gives = { λ _ r. r ≡ refusal.OutOfMemory };
+
+    fn from(_e: AllocError) -> Refusal {
+        Refusal::OutOfMemory
+    }
+}
+
+impl From<Failure<Fault>> for Refusal {
+    ghost from_gives = { λ e r. r ≡ refusal_of_routine e };
+
+    fn from(error: Failure<Fault>) -> Refusal {
+        match error {
+            Failure::OutOfMemory => Refusal::OutOfMemory,
+            Failure::Refused(fault) => Refusal::Routine(fault),
+        }
+    }
+}
+
+impl From<Failure<RulesFault>> for Refusal {
+    ghost from_gives = { λ e r. r ≡ refusal_of_rules e };
+
+    fn from(error: Failure<RulesFault>) -> Refusal {
+        match error {
+            Failure::OutOfMemory => Refusal::OutOfMemory,
+            Failure::Refused(fault) => Refusal::Rules(fault),
+        }
+    }
+}
+
+impl From<Failure<CertFault>> for Refusal {
+    ghost from_gives = { λ e r. r ≡ refusal_of_certificate e };
+
+    fn from(error: Failure<CertFault>) -> Refusal {
+        match error {
+            Failure::OutOfMemory => Refusal::OutOfMemory,
+            Failure::Refused(fault) => Refusal::Certificate(fault),
+        }
+    }
+}
+
+impl From<Failure<EventsFault>> for Refusal {
+    ghost from_gives = { λ e r. r ≡ refusal_of_events e };
+
+    fn from(error: Failure<EventsFault>) -> Refusal {
+        match error {
+            Failure::OutOfMemory => Refusal::OutOfMemory,
+            Failure::Refused(fault) => Refusal::Events(fault),
+        }
+    }
+}
+
+/// What texts come to.
+#[derive(Drop)]
+pub(crate) enum Outcome {
+    Report(Report),
+    /// the text of the certificate that was made
+    Made(Vec<u8>),
+    /// what is shown of the jobs
+    Replayed(mlk_cert_lexemes::Text),
+}
+
+/// The routines of a program, and what is made of it.
+#[derive(Drop)]
+pub(crate) struct Checked {
+    pub routines: Vec<Routine>,
+    pub outcome: Outcome,
+}
+
+// How many texts are read at once, so that it is seen how far the reading has come, and that it ends where one is refused.
+const AT_ONCE: usize = 256;
+
+// The routines of these texts, which are given back once all are read.
+fn routines_of<R: Threads + Sync, W: Watch>(
+    rt: &R,
+    alloc: Global,
+    sources: Vec<Source<'_>>,
+    watch: &W,
+) -> Result<Vec<Routine>, Failure<Fault>>
+    ensures ok { IfOk result (λ r. AreRead sources.entry.items (map routine_of r.items)) }
+    ensures refused { IfErr result (RefusesFirst sources.entry.items) }
+{
+    let count = sources.len();
+    let mut routines = Vec::new(alloc);
+    let mut done = 0;
+    while done < count {
+        watch.see(Stage::Reading, done, count);
+        let (_, left) = sources.as_slice().split_at(done);
+        let (next, _) = left.split_at(left.len().min(AT_ONCE));
+        match read_all(rt, alloc, next) {
+            Ok(mut read) => routines.append(&mut read)?,
+            Err(failure) => {
+                watch.discard(routines);
+                return Err(failure);
+            }
+        }
+        done += next.len();
+    }
+    Ok(routines)
+}
+
+/// What is told of an entry that the routines lack.
+pub(crate) fn lacks(alloc: Global, entry: &[u8]) -> Refusal
+    ensures { TellsEntry entry.now result }
+{
+    match Vec::from_slice(alloc, entry) {
+        Ok(text) => Refusal::Entry(Value::new(text)),
+        Err(_) => Refusal::OutOfMemory,
+    }
+}
+
+// The report, unless the walk of straight lines finds faults where it has none.
+fn confirmed(
+    alloc: Global,
+    program: &Program<'_>,
+    rules: &Rules,
+    certificate: &[u8],
+    report: Report,
+) -> Result<Report, Refusal>
+    ensures ok { IfOk result (λ r. (r ≡ report) × (r ≡ [] → IsKept (map routine_of program.now) rules.now certificate.now)) }
+    ensures refused { IfErr result (IsDoubt (map routine_of program.now) rules.now certificate.now report) }
+{
+    if report.is_yes() && !is_kept(alloc, program, rules, certificate)? {
+        return Err(Refusal::Disagreement);
+    }
+    Ok(report)
+}
+
+fn report_by<W: Watch>(
+    alloc: Global,
+    program: &Program<'_>,
+    rules: &Rules,
+    certificate: &Certificate,
+    text: &[u8],
+    watch: &W,
+) -> Result<Report, Refusal>
+    ensures ok { IfOk result (IsReportBy (map routine_of program.now) rules.now certificate.now text.now) }
+    ensures refused { IfErr result (IsRefusalBy (map routine_of program.now) rules.now certificate.now text.now) }
+{
+    if let Some(entry) = missing_entry(program, rules, certificate) {
+        return Err(lacks(alloc, entry));
+    }
+    watch.see(Stage::Checking, 0, 0);
+    let report = check_all(alloc, program, rules, certificate)?;
+    confirmed(alloc, program, rules, text, report)
+}
+
+fn report_with<W: Watch>(
+    alloc: Global,
+    program: &Program<'_>,
+    rules: &Rules,
+    text: &[u8],
+    watch: &W,
+) -> Result<Report, Refusal>
+    ensures ok { IfOk result (IsReportWith (map routine_of program.now) rules.now text.now) }
+    ensures refused { IfErr result (IsRefusalWith (map routine_of program.now) rules.now text.now) }
+{
+    let certificate = read_cert(alloc, text)?;
+    let report = report_by(alloc, program, rules, &certificate, text, watch);
+    watch.discard(certificate);
+    report
+}
+
+// The report by a certificate that was made, and its text.
+fn report_of<W: Watch>(
+    alloc: Global,
+    program: &Program<'_>,
+    rules: &Rules,
+    made: &Spelled,
+    watch: &W,
+) -> Result<Report, Refusal>
+    requires { Spells made.now.certificate made.now.text.items }
+    ensures ok { IfOk result (IsReportWith (map routine_of program.now) rules.now made.now.text.items) }
+    ensures refused { IfErr result (IsRefusalWith (map routine_of program.now) rules.now made.now.text.items) }
+{
+    report_by(
+        alloc,
+        program,
+        rules,
+        &made.certificate,
+        made.text.as_slice(),
+        watch,
+    )
+}
+
+// What is told where the maker gave up.
+fn stuck(alloc: Global, program: &Program<'_>, place: GaveUp) -> Refusal
+    ensures { IsStuck (map routine_of program.now) result }
+{
+    match program.text_of(alloc, place.entry) {
+        Ok(text) => Refusal::GaveUp(Value::new(text.unwrap_or(Vec::new(alloc))), place.fault),
+        Err(AllocError) => Refusal::OutOfMemory,
+    }
+}
+
+// The certificate that is made, and its text.
+fn made<W: Watch>(
+    alloc: Global,
+    program: &Program<'_>,
+    rules: &Rules,
+    watch: &W,
+) -> Result<Spelled, Refusal>
+    ensures ok { IfOk result (λ s. IsMade (map routine_of program.now) rules.now s.text.items) }
+    ensures spells { IfOk result (λ s. Spells s.certificate s.text.items) }
+    ensures refused { IfErr result (IsUnmade (map routine_of program.now) rules.now) }
+{
+    match make_watched(alloc, program, rules, watch) {
+        Ok(made) => Ok(made),
+        Err(Failure::OutOfMemory) => Err(Refusal::OutOfMemory),
+        Err(Failure::Refused(MakeError::EntryMissing(text))) => Err(Refusal::Entry(text)),
+        Err(Failure::Refused(MakeError::TooLong(fault))) => Err(Refusal::Certificate(fault)),
+        Err(Failure::Refused(MakeError::GaveUp(place))) => Err(stuck(alloc, program, place)),
+    }
+}
+
+fn outcome_with<W: Watch>(
+    alloc: Global,
+    program: &Program<'_>,
+    rules: &Rules,
+    work: &Work,
+    watch: &W,
+) -> Result<Outcome, Refusal>
+    ensures ok { IfOk result (IsOutcomeWith (map routine_of program.now) rules.now work.now) }
+    ensures refused { IfErr result (IsRefusalOfWork (map routine_of program.now) rules.now work.now) }
+{
+    match work {
+        Work::Check(text) => {
+            let report = report_with(alloc, program, rules, text.as_slice(), watch)?;
+            Ok(Outcome::Report(report))
+        }
+        Work::Make => {
+            let Spelled { text, .. } = made(alloc, program, rules, watch)?;
+            Ok(Outcome::Made(text))
+        }
+        Work::Verify => {
+            let made = made(alloc, program, rules, watch)?;
+            let report = report_of(alloc, program, rules, &made, watch)?;
+            watch.discard(made);
+            Ok(Outcome::Report(report))
+        }
+        Work::Replay(events) => {
+            let text = jobs_text(alloc, program, rules, events.as_slice())?;
+            Ok(Outcome::Replayed(text))
+        }
+    }
+}
+
+fn outcome_under<W: Watch>(
+    alloc: Global,
+    program: &Program<'_>,
+    rules_text: &[u8],
+    work: &Work,
+    watch: &W,
+) -> Result<Outcome, Refusal>
+    ensures ok { IfOk result (IsOutcomeUnder (map routine_of program.now) rules_text.now work.now) }
+    ensures refused { IfErr result (IsRefusalUnder (map routine_of program.now) rules_text.now work.now) }
+{
+    let rules = read_rules(alloc, rules_text)?;
+    outcome_with(alloc, program, &rules, work, watch)
+}
+
+// What routines come to by the text of rules.
+fn outcome_of<W: Watch>(
+    alloc: Global,
+    routines: &[Routine],
+    rules_text: &[u8],
+    work: &Work,
+    watch: &W,
+) -> Result<Outcome, Refusal>
+    ensures ok { IfOk result (IsOutcomeOf (map routine_of routines.now) rules_text.now work.now) }
+    ensures refused { IfErr result (IsRefusalOf (map routine_of routines.now) rules_text.now work.now) }
+{
+    let program = link(alloc, routines)?;
+    let outcome = outcome_under(alloc, &program, rules_text, work, watch);
+    watch.discard(program);
+    outcome
+}
+
+/// What texts come to, or the first refusal: of the routines in order, of their linking, of the rules, of the
+/// certificate, or of its making, and of an entry that the routines lack; of events after that entry.
+pub(crate) fn check_texts<R: Threads + Sync, W: Watch>(
+    rt: &R,
+    alloc: Global,
+    sources: Sources<'_>,
+    watch: &W,
+) -> Result<Checked, Refusal>
+    ensures ok { IfOk result (λ c. IsChecked sources.entry (trees_of c) c.outcome) }
+    ensures refused { IfErr result (IsRefusedBy sources.entry) }
+{
+    let Sources {
+        work,
+        rules,
+        routines: files,
+    } = sources;
+    let routines = routines_of(rt, alloc, files, watch)?;
+    match outcome_of(alloc, routines.as_slice(), rules.as_slice(), &work, watch) {
+        Ok(outcome) => Ok(Checked { routines, outcome }),
+        Err(refusal) => {
+            watch.discard(routines);
+            Err(refusal)
+        }
+    }
+}

@@ -1,0 +1,29 @@
+// Reading a file whole.
+
+ghost use Rattle.std.specs.Prelude.{◌≡◌, ◌≤◌, IfOk, IfSome, length};
+ghost use Rattle.mlk_app.specs.declared.file.TheConstants.{LONGEST_FILE};
+
+use std::alloc::Global;
+use std::io::{self, ErrorKind, Read};
+
+/// The longest file that is read, in bytes: 128 MiB.
+pub const LONGEST_FILE: usize = 128 << 20;
+
+// One byte more, which tells a longer file.
+const TOO_LONG: u64 = (128 << 20) + 1;
+
+/// All bytes that a reader has, where there are at most `LONGEST_FILE`; else a fault of the kind `FileTooLarge`.
+///
+/// However few bytes a single read gives, nothing is left out.
+pub fn read_whole<R: Read + Drop>(alloc: Global, reader: R) -> io::Result<Vec<u8>>
+    ensures whole { IfOk result (λ bytes. IfSome (R.remaining reader) (λ all. bytes.items ≡ all)) }
+    ensures bound { IfOk result (λ bytes. length bytes.items ≤ LONGEST_FILE) }
+{
+    let mut bytes = Vec::new(alloc);
+    let mut limited = reader.take(TOO_LONG);
+    io::copy(&mut limited, &mut bytes)?;
+    if bytes.len() > LONGEST_FILE {
+        return Err(io::Error::from(ErrorKind::FileTooLarge));
+    }
+    Ok(bytes)
+}

@@ -1,0 +1,259 @@
+// The program, from its words to its status.
+
+ghost use Rattle.std.specs.Prelude.{◌≡◌, ◌≢◌, ◌⊎◌, IfOk, OnOk, map};
+ghost use Rattle.mlk_syntax.specs.Views.{routine_of};
+ghost use Rattle.std.specs.IoError.{error_kind};
+ghost use Rattle.std.specs.Io.KnownBytes.{Appends};
+ghost use Rattle.mlk_app.specs.Ran.{status_of, PrintsReport, PrintsText, PrintsOutcome, Prints, IsRefusalLine, TellsRefusal, TellsUnread, Answers, AnswersWords, IsSaid, Ran};
+
+use crate::checked::{Checked, Outcome, Refusal, check_texts};
+use crate::printed::{
+    certificate_line, disagreement_line, events_line, fault_line, file_line, missing_line,
+    report_text, rules_line, stuck_line,
+};
+use crate::source::{FileError, Files, read_files};
+use crate::text::Text;
+use mlk_cli::{Request, UsageError, read_request};
+use mlk_make::{Unwatched, Watch};
+use mlk_syntax::Routine;
+use mlk_walk::Report;
+use std::alloc::{AllocError, Global};
+use std::io::{self, ErrorKind, Write};
+use std::thread::Threads;
+
+const YES: u8 = 0;
+
+const NO: u8 = 1;
+
+const REFUSED: u8 = 2;
+
+const FAILED: u8 = 3;
+
+// What the program says, before it is said.
+#[derive(Drop, Debug)]
+enum Answer {
+    /// The text of a report, of a certificate or of jobs, and the status that it ends with.
+    Report(Text, u8),
+    /// The line that tells why the input is refused.
+    Refused(Text),
+    /// The line that tells which file can't be read.
+    Unread(Text),
+    /// `clap`'s text, where the words ask for nothing.
+    Usage(String),
+    OutOfMemory,
+}
+
+fn status_of(report: &Report) -> u8
+    ensures { result ≡ status_of report.now }
+{
+    if report.is_yes() { YES } else { NO }
+}
+
+fn report_answer(alloc: Global, routines: &[Routine], report: &Report) -> Answer
+    ensures { PrintsReport (map routine_of routines.now) report.now result }
+{
+    match report_text(alloc, routines, report) {
+        Ok(text) => Answer::Report(text, status_of(report)),
+        Err(AllocError) => Answer::OutOfMemory,
+    }
+}
+
+fn text_answer(alloc: Global, bytes: &[u8]) -> Answer
+    ensures { PrintsText bytes.now result }
+{
+    let mut text = Text::new(alloc);
+    match text.push(bytes) {
+        Ok(()) => Answer::Report(text, YES),
+        Err(AllocError) => Answer::OutOfMemory,
+    }
+}
+
+fn outcome_answer(alloc: Global, routines: &[Routine], outcome: Outcome) -> Answer
+    ensures { PrintsOutcome (map routine_of routines.now) outcome result }
+{
+    match outcome {
+        Outcome::Report(report) => report_answer(alloc, routines, &report),
+        Outcome::Made(text) => Answer::Report(Text::of(text), YES),
+        Outcome::Replayed(text) => text_answer(alloc, text.as_bytes()),
+    }
+}
+
+fn answer_of<W: Watch>(alloc: Global, checked: Checked, watch: &W) -> Answer
+    ensures { Prints checked result }
+{
+    let Checked { routines, outcome } = checked;
+    let answer = outcome_answer(alloc, routines.as_slice(), outcome);
+    watch.discard(routines);
+    answer
+}
+
+fn refusal_line(alloc: Global, refusal: &Refusal) -> Result<Text, AllocError>
+    ensures { IfOk result (IsRefusalLine refusal.now) }
+{
+    match refusal {
+        Refusal::OutOfMemory => Err(AllocError),
+        Refusal::Routine(fault) => fault_line(alloc, fault),
+        Refusal::Rules(fault) => rules_line(alloc, fault),
+        Refusal::Certificate(fault) => certificate_line(alloc, fault),
+        Refusal::Entry(entry) => missing_line(alloc, entry),
+        Refusal::Disagreement => disagreement_line(alloc),
+        Refusal::GaveUp(entry, fault) => stuck_line(alloc, entry, fault),
+        Refusal::Events(fault) => events_line(alloc, fault),
+    }
+}
+
+fn refusal_answer(alloc: Global, refusal: &Refusal) -> Answer
+    ensures { TellsRefusal refusal.now result }
+{
+    match refusal_line(alloc, refusal) {
+        Ok(line) => Answer::Refused(line),
+        Err(AllocError) => Answer::OutOfMemory,
+    }
+}
+
+fn unread_answer(alloc: Global, path: &str) -> Answer
+    ensures { TellsUnread path.now result }
+{
+    match file_line(alloc, path) {
+        Ok(line) => Answer::Unread(line),
+        Err(AllocError) => Answer::OutOfMemory,
+    }
+}
+
+// What is answered to a request, from the texts of the files.
+fn answer_request<R: Threads + Sync, F: Files, W: Watch>(
+    rt: &R,
+    alloc: Global,
+    request: &Request<'_>,
+    files: &F,
+    watch: &W,
+) -> Answer
+    ensures { Answers (F.holds files.now) (F.lacks files.now) request.now result }
+{
+    match read_files(alloc, files, request) {
+        Ok(sources) => match check_texts(rt, alloc, sources, watch) {
+            Ok(checked) => answer_of(alloc, checked, watch),
+            Err(refusal) => refusal_answer(alloc, &refusal),
+        },
+        Err(FileError::OutOfMemory) => Answer::OutOfMemory,
+        Err(FileError::Unread(path)) => unread_answer(alloc, path),
+    }
+}
+
+fn answer_words<R: Threads + Sync, F: Files, W: Watch>(
+    rt: &R,
+    alloc: Global,
+    words: &[String],
+    files: &F,
+    watch: &W,
+) -> Answer
+    ensures { AnswersWords (F.holds files.now) (F.lacks files.now) words.now result }
+{
+    match read_request(alloc, words) {
+        Ok(request) => answer_request(rt, alloc, &request, files, watch),
+        Err(UsageError::OutOfMemory) => Answer::OutOfMemory,
+        Err(UsageError::Usage(text)) => Answer::Usage(text),
+    }
+}
+
+// Says one thing on the error stream, whose faults change nothing.
+fn tell<E: Write>(err: &mut E, line: &[u8]) {
+    let _ = err.write_all(line);
+    let _ = err.flush();
+}
+
+fn write<O: Write>(out: &mut O, text: &Text) -> io::Result<()>
+    ensures { OnOk result (Appends (O.contents out.old) (O.contents out.new) text.now) }
+{
+    out.write_all(text.as_bytes())?;
+    out.flush()
+}
+
+fn print<O: Write, E: Write>(out: &mut O, err: &mut E, text: &Text, status: u8) -> u8
+    ensures { (result ≡ 3) ⊎ ((result ≡ status) × Appends (O.contents out.old) (O.contents out.new) text.now) }
+{
+    match write(out, text) {
+        Ok(()) => status,
+        Err(_) => {
+            tell(err, b"error file -\n");
+            FAILED
+        }
+    }
+}
+
+fn tell_memory<E: Write>(err: &mut E) -> u8
+    ensures { result ≡ 3 }
+{
+    tell(err, b"error memory\n");
+    FAILED
+}
+
+// Says an answer, and answers the status.
+fn say<O: Write, E: Write>(answer: &Answer, out: &mut O, err: &mut E) -> u8
+    ensures { IsSaid answer.now (O.contents out.old) (O.contents out.new) result }
+{
+    match answer {
+        Answer::Report(text, status) => print(out, err, text, *status),
+        Answer::Refused(line) => {
+            tell(err, line.as_bytes());
+            REFUSED
+        }
+        Answer::Unread(line) => {
+            tell(err, line.as_bytes());
+            FAILED
+        }
+        Answer::Usage(text) => {
+            tell(err, text.as_bytes());
+            REFUSED
+        }
+        Answer::OutOfMemory => tell_memory(err),
+    }
+}
+
+/// Says that the words could not be had, and answers the status: 3 for want of memory, 2 for a word that is no UTF-8.
+pub fn wrong_words<E: Write>(error: &io::Error, err: &mut E) -> u8
+    ensures memory { error_kind error.now ≡ ErrorKind.OutOfMemory → result ≡ 3 }
+    ensures word { error_kind error.now ≢ ErrorKind.OutOfMemory → result ≡ 2 }
+{
+    if error.kind() == ErrorKind::OutOfMemory {
+        return tell_memory(err);
+    }
+    tell(err, b"error: a word of the command line is no UTF-8 text\n");
+    REFUSED
+}
+
+/// Does what the words ask for, of which the first is the program's name, and answers the status: 0 for `yes`,
+/// a certificate or jobs, 1 for `no`, 2 for refused input, 3 for want of memory or a file that can't be read or written.
+///
+/// The texts of routines are read side by side, by these threads. Reports go to `out`, all else to `err`; a fault of `err`
+/// changes nothing.
+pub fn run<R: Threads + Sync, F: Files, O: Write, E: Write>(
+    rt: &R,
+    alloc: Global,
+    words: &[String],
+    files: &F,
+    out: &mut O,
+    err: &mut E,
+) -> u8
+    ensures { Ran (F.holds files.now) (F.lacks files.now) words.now (O.contents out.old) (O.contents out.new) result }
+{
+    run_watched(rt, alloc, words, files, &Unwatched, out, err)
+}
+
+/// Does what `run` does, and tells how far it has come as it goes. Before anything is written, it tells that it is at its
+/// end.
+pub fn run_watched<R: Threads + Sync, F: Files, W: Watch, O: Write, E: Write>(
+    rt: &R,
+    alloc: Global,
+    words: &[String],
+    files: &F,
+    watch: &W,
+    out: &mut O,
+    err: &mut E,
+) -> u8
+    ensures { Ran (F.holds files.now) (F.lacks files.now) words.now (O.contents out.old) (O.contents out.new) result }
+{
+    let answer = answer_words(rt, alloc, words, files, watch);
+    watch.end();
+    say(&answer, out, err)
+}

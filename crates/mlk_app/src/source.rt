@@ -1,0 +1,166 @@
+// The files that a command names.
+
+ghost use Rattle.std.specs.Prelude.{◌≡◌, ◌≢◌, List, ℕ, IfOk, IfErr, length};
+ghost use Rattle.std.specs.IoError.{error_kind};
+ghost use Rattle.mlk_app.specs.Files.{IsFileName, IsNameStem, IsPathStem, IsSource, AreSources, IsWork, AreTexts, work_path, paths_of, Loses, LosesFirst};
+ghost use Rattle.mlk_cli.specs.CommandLine.{bytes_of};
+
+use mlk_cli::{Asked, Request};
+use mlk_readers::Source;
+use std::alloc::Global;
+use std::io::{self, ErrorKind};
+
+/// Where the texts of files come from.
+pub trait Files {
+    // Which text a path may have, as far as is known.
+    ghost holds: { Self → List ℕ → List ℕ → Type 0 } = { λ _ _ _. Unit {0} };
+
+    // Which paths may have none that can be read.
+    ghost lacks: { Self → List ℕ → Type 0 } = { λ _ _. Unit {0} };
+
+    /// The bytes of the file at a path. An error of the kind `OutOfMemory` says nothing of the file.
+    fn read(&self, alloc: Global, path: &str) -> io::Result<Vec<u8>>
+        ensures ok { IfOk result (λ text. holds self.now path.now text.items) }
+        ensures err { IfErr result (λ e. error_kind e ≢ ErrorKind.OutOfMemory → lacks self.now path.now) };
+}
+
+/// Why a file was not read.
+#[derive(Drop, Debug)]
+pub(crate) enum FileError<'a> {
+    OutOfMemory,
+    /// The path of the file.
+    Unread(&'a str),
+}
+
+/// What is to be done with the texts.
+#[derive(Drop, Debug)]
+pub(crate) enum Work {
+    /// the check by this text of a certificate
+    Check(Vec<u8>),
+    /// a certificate is made
+    Make,
+    /// the check by the certificate that is made
+    Verify,
+    /// the events of this text are replayed
+    Replay(Vec<u8>),
+}
+
+/// The texts that were read.
+#[derive(Drop, Debug)]
+pub(crate) struct Sources<'a> {
+    pub work: Work,
+    pub rules: Vec<u8>,
+    pub routines: Vec<Source<'a>>,
+}
+
+fn file_name(path: &str) -> &str
+    ensures { IsFileName path.now result.now }
+{
+    match path.rsplit_once('/') {
+        None => path,
+        Some((_, name)) => name,
+    }
+}
+
+fn name_stem(name: &str) -> &str
+    ensures { IsNameStem name.now result.now }
+{
+    match name.rsplit_once('.') {
+        None => name,
+        Some((stem, _)) => stem,
+    }
+}
+
+// The last part of a path, up to its last dot; all of it where it has none.
+fn stem_of(path: &str) -> &str
+    ensures { IsPathStem path.now result.now }
+{
+    name_stem(file_name(path))
+}
+
+fn read_file<'a, F: Files>(
+    alloc: Global,
+    files: &F,
+    path: &'a str,
+) -> Result<Vec<u8>, FileError<'a>>
+    ensures ok { IfOk result (λ text. F.holds files.now path.now text.items) }
+    ensures lost { IfErr result (Loses (F.lacks files.now) path.now) }
+{
+    match files.read(alloc, path) {
+        Ok(text) => Ok(text),
+        Err(error) => {
+            if error.kind() == ErrorKind::OutOfMemory {
+                Err(FileError::OutOfMemory)
+            } else {
+                Err(FileError::Unread(path))
+            }
+        }
+    }
+}
+
+fn read_source<'a, F: Files>(
+    alloc: Global,
+    files: &F,
+    path: &'a str,
+) -> Result<Source<'a>, FileError<'a>>
+    ensures ok { IfOk result (IsSource (F.holds files.now) path.now) }
+    ensures lost { IfErr result (Loses (F.lacks files.now) path.now) }
+{
+    let text = read_file(alloc, files, path)?;
+    let stem = stem_of(path).as_bytes();
+    Ok(Source { stem, text })
+}
+
+fn read_sources<'a, F: Files>(
+    alloc: Global,
+    files: &F,
+    paths: &[&'a str],
+) -> Result<Vec<Source<'a>>, FileError<'a>>
+    ensures ok { IfOk result (λ sources. AreSources (F.holds files.now) paths.now sources.items) }
+    ensures lost { IfErr result (LosesFirst (F.holds files.now) (F.lacks files.now) (bytes_of paths.now)) }
+{
+    let mut sources = Vec::new(alloc);
+    for path in paths {
+        let source = read_source(alloc, files, *path)?;
+        if sources.push(source).is_err() {
+            return Err(FileError::OutOfMemory);
+        }
+    }
+    Ok(sources)
+}
+
+// The text of the certificate, or of the events, where one is named.
+fn read_work<'a, F: Files>(
+    alloc: Global,
+    files: &F,
+    asked: &Asked<'a>,
+) -> Result<Work, FileError<'a>>
+    ensures ok { IfOk result (IsWork (F.holds files.now) asked.now) }
+    ensures lost { IfErr result (LosesFirst (F.holds files.now) (F.lacks files.now) (work_path asked.now)) }
+{
+    match asked {
+        Asked::Check(path) => Ok(Work::Check(read_file(alloc, files, *path)?)),
+        Asked::Make => Ok(Work::Make),
+        Asked::Verify => Ok(Work::Verify),
+        Asked::Replay(path) => Ok(Work::Replay(read_file(alloc, files, *path)?)),
+    }
+}
+
+/// Reads all files, in the order of the words.
+pub(crate) fn read_files<'a, F: Files>(
+    alloc: Global,
+    files: &F,
+    request: &Request<'a>,
+) -> Result<Sources<'a>, FileError<'a>>
+    ensures ok { IfOk result (AreTexts (F.holds files.now) request.now) }
+    ensures lost { IfErr result (LosesFirst (F.holds files.now) (F.lacks files.now) (paths_of request.now)) }
+{
+    let rules = read_file(alloc, files, request.rules)?;
+    let work = read_work(alloc, files, &request.asked)?;
+    let routines = read_sources(alloc, files, request.routines.as_slice())?;
+    Ok(Sources {
+        work,
+        rules,
+        routines,
+    })
+}

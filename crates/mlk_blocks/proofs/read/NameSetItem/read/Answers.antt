@@ -1,9 +1,0 @@
-use Rattle.mlk_blocks.specs.Reading.{names_at}
-use Rattle.mlk_blocks.specs.Texts.{names_text}
-use Rattle.mlk_lexemes.proofs.NameFormats.{NoName}
-use Rattle.mlk_blocks.proofs.CaseFormats.{HasNames, names-format}
-use Rattle.mlk_lexemes.proofs.Room.{gives-text}
-use Rattle.mlk_blocks.proofs.read.NameSetItem.read.Goals as goal
-
-pub returns-clause-text : goal.returns-clause-text
-returns-clause-text c = gives-text names_text HasNames NoName names_at names-format c.args.bytes.now c.name_set.result c.name_set.ensures

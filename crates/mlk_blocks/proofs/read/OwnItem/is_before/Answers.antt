@@ -1,7 +1,0 @@
-use Rattle.std.proofs.Common.{◌∙◌}
-use Rattle.mlk_blocks.proofs.Room.{own-same}
-use Rattle.mlk_blocks.proofs.read.OwnItem.is_before.Goals as goal
-
-pub returns-then-self-next : goal.returns-then-self-next
-returns-then-self-next c = c.is_below.ensures
-    ∙ own-same c.args.self.now c.args.next.now c.args.text.now c.args.next_text.now c.requires.text c.requires.next_text c.if-self-next.true

@@ -1,6 +1,0 @@
-use Rattle.std.proofs.Common.{◌≡◌, drop}
-use Rattle.mlk_blocks.specs.Checks.{ascend_inside}
-use Rattle.mlk_blocks.proofs.read.ascend_inside.Given as goal
-
-abbrev pub invariant-loop-names : goal.invariant-loop-names
-invariant-loop-names l = ascend_inside (drop l.names-index l.sets) ≡ ascend_inside l.sets

@@ -1,6 +1,0 @@
-use Rattle.std.proofs.Common.{◌≡◌, drop}
-use Rattle.mlk_blocks.specs.Checks.{ascend_inside_own}
-use Rattle.mlk_blocks.proofs.read.ascend_inside_own.Given as goal
-
-abbrev pub invariant-loop-item : goal.invariant-loop-item
-invariant-loop-item l = ascend_inside_own (drop l.item-index l.own) ≡ ascend_inside_own l.own

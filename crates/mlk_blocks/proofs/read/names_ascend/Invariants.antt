@@ -1,6 +1,0 @@
-use Rattle.std.proofs.Common.{◌≡◌, ◌∷◌, drop}
-use Rattle.mlk_lexemes.specs.Lists.{ascends, below}
-use Rattle.mlk_blocks.proofs.read.names_ascend.Given as goal
-
-abbrev pub invariant-loop-name : goal.invariant-loop-name
-invariant-loop-name l = ascends below (l.last ∷ drop l.name-index l.others) ≡ ascends below l.names

@@ -1,0 +1,107 @@
+// Lists of items, read.
+
+ghost use Rattle.std.specs.Prelude.{◌≡◌, ◌++◌, ◌∷◌, [], ℕ, List, Option, Bool, suc, length, IfOk, ◌&&◌};
+ghost use Rattle.mlk_text.specs.Reading.{many, put};
+ghost use Rattle.mlk_text.specs.Lexemes.{byte_at};
+ghost use Rattle.mlk_text.specs.Failures.{Reads};
+ghost use Rattle.mlk_cert_lexemes.specs.Lists.{ascends};
+ghost use Rattle.mlk_cert_lexemes.specs.Reading.{next, list_at, listed_at};
+
+use crate::lexeme::front_of;
+use crate::written::Written;
+use mlk_text::lexeme::byte_of;
+use mlk_text::{Failure, NotThere, likely_length};
+use std::alloc::Global;
+
+/// What can be an item of a list.
+pub trait Item: Written + Drop + Sized {
+    ghost reads: { List ℕ → Option (Self × List ℕ) };
+
+    ghost before: { Self → Self → Bool };
+
+    /// The item at the front, and what is left after it.
+    fn read(alloc: Global, bytes: &[u8]) -> Result<(Self, &[u8]), Failure<NotThere>>
+        ensures read { Reads (λ x. (x.0, x.1.now)) result (reads bytes.now) }
+        ensures text { IfOk result (λ x. bytes.now ≡ Self.written x.0 ++ x.1.now) };
+
+    /// Whether the next item may stand after this one, both with their texts.
+    fn is_before(&self, text: &[u8], next: &Self, next_text: &[u8]) -> bool
+        requires text { text.now ≡ Self.written self.now }
+        requires next_text { next_text.now ≡ Self.written next.now }
+        ensures { result ≡ before self.now next.now };
+}
+
+/// Whether both are true.
+pub fn both(first: bool, second: bool) -> bool
+    ensures { result ≡ (first && second) }
+{
+    first && second
+}
+
+// The byte after the last item of a list.
+fn end_of(between: u8) -> u8 {
+    if between == b';' { b' ' } else { b')' }
+}
+
+// The items after the first, and whether all stand in order.
+fn more_items<'a, T: Item>(
+    alloc: Global,
+    between: u8,
+    first: T,
+    first_text: &'a [u8],
+    bytes: &'a [u8],
+) -> Result<(Vec<T>, bool, &'a [u8]), Failure<NotThere>>
+    requires { first_text.now ≡ T.written first }
+    ensures read { Reads (λ x. (x.0.items, x.2.now)) result (put (first ∷ []) (many (byte_at between)
+        (next T.reads) (suc (length bytes.now)) bytes.now)) }
+    ensures order { IfOk result (λ x. x.1 ≡ ascends T.before x.0.items) }
+{
+    let mut found = Vec::with_capacity(alloc, likely_length(between, end_of(between), bytes))?;
+    let mut last = first;
+    let mut text = first_text;
+    let mut ordered = true;
+    let mut rest = bytes;
+    while let Some(next) = byte_of(between, rest) {
+        let (item, after) = T::read(alloc, next)?;
+        let item_text = front_of(next, after);
+        ordered = both(ordered, last.is_before(text, &item, item_text));
+        found.push(last)?;
+        last = item;
+        text = item_text;
+        rest = after;
+    }
+    found.push(last)?;
+    Ok((found, ordered, rest))
+}
+
+/// One or more items with this byte between them, whether they stand in order, and what is left after them.
+#[tactic(auto, unfolding(crate::specs::Reading::list_at))]
+pub fn items<T: Item>(
+    alloc: Global,
+    between: u8,
+    bytes: &[u8],
+) -> Result<(Vec<T>, bool, &[u8]), Failure<NotThere>>
+    ensures read { Reads (λ x. (x.0.items, x.2.now)) result (list_at T.reads between bytes.now) }
+    ensures order { IfOk result (λ x. x.1 ≡ ascends T.before x.0.items) }
+{
+    let (first, rest) = T::read(alloc, bytes)?;
+    let text = front_of(bytes, rest);
+    let (found, ordered, rest) = more_items(alloc, between, first, text, rest)?;
+    Ok((found, ordered, rest))
+}
+
+/// None for a dash, else one or more items with `;` between them.
+#[tactic(auto, unfolding(crate::specs::Reading::listed_at))]
+pub fn listed<T: Item>(
+    alloc: Global,
+    bytes: &[u8],
+) -> Result<(Vec<T>, bool, &[u8]), Failure<NotThere>>
+    ensures read { Reads (λ x. (x.0.items, x.2.now)) result (listed_at T.reads bytes.now) }
+    ensures order { IfOk result (λ x. x.1 ≡ ascends T.before x.0.items) }
+{
+    if let Some(rest) = byte_of(b'-', bytes) {
+        return Ok((Vec::new(alloc), true, rest));
+    }
+    let (found, ordered, rest) = items(alloc, b';', bytes)?;
+    Ok((found, ordered, rest))
+}

@@ -1,3 +1,0 @@
-pub mod OverlapLemmas
-pub mod ClashLemmas
-pub mod PairLemmas

@@ -1,8 +1,0 @@
-use Rattle.std.proofs.Common.{◌≡◌, ◌++◌, map, drop}
-use Rattle.mlk_jobs.specs.JobViews.{job_of}
-use Rattle.mlk_clashes.specs.Clashes.{waits_of}
-use Rattle.mlk_clashes.proofs.wait.add_waits.Given as goal
-
-abbrev pub invariant-loop-other : goal.invariant-loop-other
-invariant-loop-other l = l.pairs.items ++ waits_of (job_of l.job) (map job_of (drop l.other-index l.others))
-    ≡ l.fn.pairs.items ++ waits_of (job_of l.job) (map job_of l.others)

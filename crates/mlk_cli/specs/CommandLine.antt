@@ -1,0 +1,100 @@
+-- The command line, by what `clap` makes of its words. This project's own choice.
+use Rattle.std.specs.Borrow.{Bor}
+use Rattle.std.specs.Prelude.{ℕ, ◌≡◌, List, Option, Some, None, codes, true, map, string_bytes, String}
+use Rattle.clap.specs.Lexer.{usize_max}
+use Rattle.clap.specs.Words.{App, Row, Rule, Text, all_of, first_of, new_app, new_rule, subcommand_of, with_rule, with_subcommand}
+use Rattle.clap.specs.Simple.{on_top}
+use Rattle.clap.specs.Takes.{takes}
+use Rattle.clap.specs.declared.builder.action.ArgAction.TheVariants.{Set, Append}
+use Rattle.mlk_cli.specs.declared.words.Asked.{Asked}
+use Rattle.mlk_cli.specs.declared.words.Asked.TheVariants as asked
+use Rattle.mlk_cli.specs.declared.words.Request.{Request}
+use Rattle.mlk_cli.specs.declared.words.UsageError.{UsageError}
+use Rattle.mlk_cli.specs.declared.words.UsageError.TheVariants as usage
+
+-- a path that must be given, once
+abbrev pub path_rule : Text → Rule
+path_rule id = record (new_rule id) { required = true; action = Some Set }
+
+-- the paths of the routines, one or more
+abbrev pub routines_rule : Rule
+routines_rule = record (new_rule (codes "ROUTINE")) { required = true; action = Some Append; range = Some (record { start_inclusive = 1; end_inclusive = usize_max }) }
+
+-- `check RULES CERT ROUTINE..`
+abbrev pub check_app : App
+check_app = with_rule (with_rule (with_rule (new_app (codes "check")) (path_rule (codes "RULES"))) (path_rule (codes "CERT"))) routines_rule
+
+-- `make RULES ROUTINE..`
+abbrev pub make_app : App
+make_app = with_rule (with_rule (new_app (codes "make")) (path_rule (codes "RULES"))) routines_rule
+
+-- `verify RULES ROUTINE..`
+abbrev pub verify_app : App
+verify_app = with_rule (with_rule (new_app (codes "verify")) (path_rule (codes "RULES"))) routines_rule
+
+-- `replay RULES EVENTS ROUTINE..`
+abbrev pub replay_app : App
+replay_app = with_rule (with_rule (with_rule (new_app (codes "replay")) (path_rule (codes "RULES"))) (path_rule (codes "EVENTS"))) routines_rule
+
+-- `mlock` before it has a command
+abbrev pub no_command_app : App
+no_command_app = on_top (λ s. record s { subcommand_required = true; has_version = true }) (new_app (codes "mlock"))
+
+-- `mlock` and one of its commands
+abbrev pub mlock_app : App
+mlock_app = with_subcommand (with_subcommand (with_subcommand (with_subcommand no_command_app check_app.top) make_app.top) verify_app.top) replay_app.top
+
+-- what the command of a name is to do, by what it was given
+abbrev pub IsAsked : Text → List Row → Asked → Type 0
+IsAsked name rows (asked.Check path) = (name ≡ codes "check") × (first_of (codes "CERT") rows ≡ Some path.now)
+IsAsked name rows asked.Make = name ≡ codes "make"
+IsAsked name rows asked.Verify = name ≡ codes "verify"
+IsAsked name rows (asked.Replay path) = (name ≡ codes "replay") × (first_of (codes "EVENTS") rows ≡ Some path.now)
+
+abbrev pub GivesAsked : Text → List Row → Option Asked → Type 0
+GivesAsked name rows None = (a : Asked) → IsAsked name rows a → ⊥
+GivesAsked name rows (Some a) = IsAsked name rows a
+
+-- the bytes of paths
+abbrev pub bytes_of : List (Bor (List ℕ)) → List Text
+bytes_of paths = map (λ path. path.now) paths
+
+-- the request has the paths that the command of a name was given
+pub record IsGiven (name : Text) (rows : List Row) (request : Request) : Type 0 where
+  pub asked : IsAsked name rows request.asked
+  pub rules : first_of (codes "RULES") rows ≡ Some request.rules.now
+  pub routines : all_of (codes "ROUTINE") rows ≡ Some (bytes_of request.routines.items)
+
+-- what a command's own matches give: nothing where no request has these paths
+abbrev pub GivesPaths : Text → List Row → Option Request → Type 0
+GivesPaths name rows None = (request : Request) → IsGiven name rows request → ⊥
+GivesPaths name rows (Some request) = IsGiven name rows request
+
+-- the command that was met was given the paths of the request
+abbrev pub IsMet : Option (Text × List Row) → Request → Type 0
+IsMet met request = (name : Text) × (rows : List Row) × (met ≡ Some (name, rows)) × IsGiven name rows request
+
+-- what the command that was met gives: nothing where it was given those of no request
+abbrev pub GivesRequest : Option (Text × List Row) → Option Request → Type 0
+GivesRequest met None = (request : Request) → IsMet met request → ⊥
+GivesRequest met (Some request) = IsMet met request
+
+abbrev pub texts_of : {A : Type 0} → List (String A) → List Text
+texts_of words = map string_bytes words
+
+-- what the words ask for, if anything
+abbrev pub Asks : {A : Type 0} → List (String A) → Option Request → Type 0
+Asks words asked = GivesRequest (subcommand_of mlock_app (texts_of words)) asked
+
+-- The words name a command and give it the paths of the request, as `clap` reads them.
+abbrev pub IsRequest : {A : Type 0} → List (String A) → Request → Type 0
+IsRequest words request = IsMet (subcommand_of mlock_app (texts_of words)) request
+
+-- `clap` does not take the words, or they are those of no request.
+abbrev pub AsksNothing : {A : Type 0} → List (String A) → Type 0
+AsksNothing words = takes mlock_app (texts_of words) ≡ true → (request : Request) → IsRequest words request → ⊥
+
+-- Why there is no request. Want of memory says nothing.
+abbrev pub LacksRequest : {A : Type 0} → List (String A) → UsageError → Type 0
+LacksRequest words usage.OutOfMemory = Unit {0}
+LacksRequest words (usage.Usage text) = AsksNothing words

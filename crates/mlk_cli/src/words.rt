@@ -1,0 +1,271 @@
+// The command line, as `clap` reads it.
+
+ghost use Rattle.std.specs.Prelude.{◌≡◌, IfOk, IfErr, true, false};
+ghost use Rattle.clap.specs.Words.{app_of, rule_of, found_of, rows_of, kind_of, with_subcommand};
+ghost use Rattle.clap.specs.Takes.{takes};
+ghost use Rattle.clap.specs.declared.error.kind.ErrorKind.TheVariants.{OutOfMemory};
+ghost use Rattle.clap.specs.Simple.{subcommand_rows_of};
+ghost use Rattle.mlk_cli.specs.CommandLine.{path_rule, routines_rule, check_app, make_app, verify_app, replay_app, no_command_app, mlock_app, GivesAsked, GivesPaths, GivesRequest, texts_of, Asks, IsRequest, LacksRequest};
+
+use clap::error::ErrorKind;
+use clap::{Arg, ArgAction, ArgMatches, Command, Error};
+use std::alloc::{AllocError, Global};
+
+/// What is to be done with routines and rules.
+#[derive(Drop, Debug)]
+pub enum Asked<'a> {
+    /// the check by the certificate at this path
+    Check(&'a str),
+    /// a certificate is made
+    Make,
+    /// the check by the certificate that is made
+    Verify,
+    /// the events at this path are replayed
+    Replay(&'a str),
+}
+
+/// What `mlock` is asked for, with the paths of the rules and the routines.
+#[derive(Drop, Debug)]
+pub struct Request<'a> {
+    pub asked: Asked<'a>,
+    pub rules: &'a str,
+    pub routines: Vec<&'a str>,
+}
+
+/// Why the words ask for nothing.
+#[derive(Drop, Debug)]
+pub enum UsageError {
+    OutOfMemory,
+    /// `clap`'s text, help that was asked for too.
+    Usage(String),
+}
+
+const RULES_HELP: &str = "The rule file: which lock covers which global (TOML)";
+
+const CERT_HELP: &str = "The certificate: for each line, the locks that are held there";
+
+const ROUTINE_HELP: &str =
+    "Routine texts, one routine a file; the file's name up to its last dot is the routine's";
+
+const CHECK_HELP: &str = "Checks routines against a rule file and a certificate";
+
+const CHECK_MORE: &str = "Checks routines against a rule file and a certificate.
+
+Prints `yes` where every run of the declared entries, by any number of jobs, keeps the rules; else a line for each
+fault, as `LABEL^ROUTINE line:column CODE NAME`, and `no N`.
+
+Status: 0 yes, 1 no, 2 refused input, 3 want of memory or a file that can't be read or written.";
+
+const MAKE_HELP: &str = "Makes a certificate of routines";
+
+const MAKE_MORE: &str = "Makes a certificate of routines
+
+Prints the certificate of the declared entries and of all that they call, by which `mlock check` finds as few faults as
+the maker could reach. It is a text to read, to keep beside the routines, and to mend by hand.
+
+Status: 0 made, 2 refused input or given up, 3 want of memory or a file that can't be read or written.";
+
+const VERIFY_HELP: &str = "Makes a certificate of routines and checks them by it";
+
+const VERIFY_MORE: &str = "Makes a certificate of routines and checks them by it
+
+Prints what `mlock check` prints for the certificate that `mlock make` prints: `yes`, or a line for each fault and `no N`.
+
+Status: 0 yes, 1 no, 2 refused input or given up, 3 want of memory or a file that can't be read or written.";
+
+const EVENTS_HELP: &str = "The events, a line each: which job begins, goes on or is aborted";
+
+const REPLAY_HELP: &str = "Replays events of jobs and shows where each job stands";
+
+const REPLAY_MORE: &str = "Replays events of jobs and shows where each job stands
+
+The jobs run the routines from the declared entries, by the events of the file in turn, such as these: `begin 1 DEP^BANK
+0 \"A\" \"5\"`, `run 1`, `go 1`, `abort 1`. Prints a line for each job, with what it does next and what it holds, as `job
+1 claims ^LOG holds ^ACCT(\"A\")*1`; a line for each two that stand ready to touch one node that one of them writes, and
+for each that waits for another; and `ring yes` where jobs wait for each other in a ring, else `ring no`.
+
+Status: 0 replayed, 2 refused input or an event that can't happen, 3 want of memory or a file that can't be read or
+written.";
+
+// The program's version, and the kit that it is proved with.
+const VERSION: &str = "0.1.0, proved with rattle-kit-13f logic dac8208d650f15bf";
+
+const ABOUT: &str = "Checks that M routines touch shared data only under their locks";
+
+fn path<'a>(alloc: Global, id: &'a str, help: &'a str) -> Arg<'a>
+    ensures rule { rule_of result ≡ path_rule id.entry.now }
+    ensures local { result.global ≡ false }
+{
+    Arg::new(alloc, id)
+        .required(true)
+        .action(ArgAction::Set)
+        .help(help)
+}
+
+fn routines<'a>(alloc: Global) -> Arg<'a>
+    ensures rule { rule_of result ≡ routines_rule }
+    ensures local { result.global ≡ false }
+{
+    path(alloc, "ROUTINE", ROUTINE_HELP)
+        .action(ArgAction::Append)
+        .num_args(1..)
+}
+
+fn check_command<'a>(alloc: Global) -> Result<Command<'a>, AllocError>
+    ensures { IfOk result (λ c. app_of c ≡ check_app) }
+{
+    Command::new(alloc, "check")
+        .about(CHECK_HELP)
+        .long_about(CHECK_MORE)
+        .arg(path(alloc, "RULES", RULES_HELP))?
+        .arg(path(alloc, "CERT", CERT_HELP))?
+        .arg(routines(alloc))
+}
+
+fn make_command<'a>(alloc: Global) -> Result<Command<'a>, AllocError>
+    ensures { IfOk result (λ c. app_of c ≡ make_app) }
+{
+    Command::new(alloc, "make")
+        .about(MAKE_HELP)
+        .long_about(MAKE_MORE)
+        .arg(path(alloc, "RULES", RULES_HELP))?
+        .arg(routines(alloc))
+}
+
+fn verify_command<'a>(alloc: Global) -> Result<Command<'a>, AllocError>
+    ensures { IfOk result (λ c. app_of c ≡ verify_app) }
+{
+    Command::new(alloc, "verify")
+        .about(VERIFY_HELP)
+        .long_about(VERIFY_MORE)
+        .arg(path(alloc, "RULES", RULES_HELP))?
+        .arg(routines(alloc))
+}
+
+fn replay_command<'a>(alloc: Global) -> Result<Command<'a>, AllocError>
+    ensures { IfOk result (λ c. app_of c ≡ replay_app) }
+{
+    Command::new(alloc, "replay")
+        .about(REPLAY_HELP)
+        .long_about(REPLAY_MORE)
+        .arg(path(alloc, "RULES", RULES_HELP))?
+        .arg(path(alloc, "EVENTS", EVENTS_HELP))?
+        .arg(routines(alloc))
+}
+
+// `mlock` before it has a command.
+fn without_commands<'a>(alloc: Global) -> Command<'a>
+    ensures { app_of result ≡ no_command_app }
+{
+    Command::new(alloc, "mlock")
+        .about(ABOUT)
+        .version(VERSION)
+        .subcommand_required(true)
+}
+
+// One command more, which is none of all commands.
+fn with_command<'a>(app: Command<'a>, command: Command<'a>) -> Result<Command<'a>, AllocError>
+    requires { (app_of command).top.is_plain ≡ true }
+    ensures { IfOk result (λ c. app_of c ≡ with_subcommand (app_of app.entry) (app_of command.entry).top) }
+{
+    app.subcommand(command)
+}
+
+fn grammar<'a>(alloc: Global) -> Result<Command<'a>, AllocError>
+    ensures { IfOk result (λ c. app_of c ≡ mlock_app) }
+{
+    let app = with_command(without_commands(alloc), check_command(alloc)?)?;
+    let app = with_command(app, make_command(alloc)?)?;
+    let app = with_command(app, verify_command(alloc)?)?;
+    with_command(app, replay_command(alloc)?)
+}
+
+// What the command of this name is to do.
+fn asked_by<'a>(name: &str, matches: &ArgMatches<'a>) -> Option<Asked<'a>>
+    ensures { GivesAsked name.now (rows_of (found_of matches.now)) result }
+{
+    if name == "make" {
+        return Some(Asked::Make);
+    }
+    if name == "verify" {
+        return Some(Asked::Verify);
+    }
+    if name == "replay" {
+        let Some(path) = matches.get_str("EVENTS") else {
+            return None;
+        };
+        return Some(Asked::Replay(path));
+    }
+    if name != "check" {
+        return None;
+    }
+    let Some(path) = matches.get_str("CERT") else {
+        return None;
+    };
+    Some(Asked::Check(path))
+}
+
+// What the command of this name, with the paths that it was given, asks for.
+fn given<'a>(
+    alloc: Global,
+    name: &str,
+    matches: &ArgMatches<'a>,
+) -> Result<Option<Request<'a>>, AllocError>
+    ensures { IfOk result (GivesPaths name.now (rows_of (found_of matches.now))) }
+{
+    let Some(asked) = asked_by(name, matches) else {
+        return Ok(None);
+    };
+    let Some(rules) = matches.get_str("RULES") else {
+        return Ok(None);
+    };
+    let Some(paths) = matches.get_strs("ROUTINE") else {
+        return Ok(None);
+    };
+    let routines = Vec::from_slice(alloc, paths)?;
+    Ok(Some(Request {
+        asked,
+        rules,
+        routines,
+    }))
+}
+
+fn request_of<'a>(
+    alloc: Global,
+    matches: &ArgMatches<'a>,
+) -> Result<Option<Request<'a>>, AllocError>
+    ensures { IfOk result (GivesRequest (subcommand_rows_of matches.now)) }
+{
+    match matches.subcommand() {
+        None => Ok(None),
+        Some((name, inner)) => given(alloc, name, inner),
+    }
+}
+
+fn read_words<'a>(alloc: Global, words: &'a [String]) -> Result<Option<Request<'a>>, Error>
+    ensures asks { IfOk result (Asks words.now) }
+    ensures passes { IfErr result (λ e. takes mlock_app (texts_of words.now) ≡ true → kind_of e ≡ OutOfMemory) }
+{
+    let matches = grammar(alloc)?.try_get_matches_from(words)?;
+    Ok(request_of(alloc, &matches)?)
+}
+
+/// What the words ask for, of which the first is the program's name.
+pub fn read_request<'a>(alloc: Global, words: &'a [String]) -> Result<Request<'a>, UsageError>
+    ensures asks { IfOk result (IsRequest words.now) }
+    ensures refused { IfErr result (LacksRequest words.now) }
+{
+    match read_words(alloc, words) {
+        Ok(Some(request)) => Ok(request),
+        Ok(None) => Err(UsageError::Usage(String::new(alloc))),
+        Err(error) => {
+            if error.kind() == ErrorKind::OutOfMemory {
+                return Err(UsageError::OutOfMemory);
+            }
+            match error.to_string(alloc) {
+                Ok(text) => Err(UsageError::Usage(text)),
+                Err(AllocError) => Err(UsageError::OutOfMemory),
+            }
+        }
+    }
+}

@@ -1,5 +1,0 @@
-use Rattle.mlk_coverage.proofs.Instances.{lock_of_node}
-use Rattle.mlk_coverage.proofs.law.lock_of_node.Goals as goal
-
-pub returns : goal.returns
-returns c = lock_of_node

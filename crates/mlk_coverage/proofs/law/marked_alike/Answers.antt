@@ -1,5 +1,0 @@
-use Rattle.mlk_coverage.proofs.Marked.{marked_alike}
-use Rattle.mlk_coverage.proofs.law.marked_alike.Goals as goal
-
-pub returns : goal.returns
-returns c = marked_alike

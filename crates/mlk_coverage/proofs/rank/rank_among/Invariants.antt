@@ -1,9 +1,0 @@
-use Rattle.std.proofs.Common.{ℕ, ◌<◌}
-use Rattle.std.specs.Prelude.{slice_index_or}
-use Rattle.mlk_names.specs.Terms.{IsPrefix}
-use Rattle.mlk_coverage.specs.Ranks.{constant_term}
-use Rattle.mlk_coverage.specs.declared.family.Family.{Family}
-use Rattle.mlk_coverage.proofs.rank.rank_among.Given as goal
-
-abbrev pub invariant-loop-family : goal.invariant-loop-family
-invariant-loop-family l = (k : ℕ) (d : Family) → k < l.family-index → IsPrefix (constant_term (slice_index_or l.families k d).name) l.term → ⊥

@@ -1,6 +1,0 @@
-use Rattle.std.proofs.Common.{take}
-use Rattle.mlk_coverage.specs.Ranks.{FamiliesApart}
-use Rattle.mlk_coverage.proofs.sound.first_meeting.Given as goal
-
-abbrev pub invariant-loop-i : goal.invariant-loop-i
-invariant-loop-i l = FamiliesApart (take l.i l.families)

@@ -1,3 +1,0 @@
-pub mod ExprParts
-pub mod TreeParts
-pub mod PartCounts

@@ -1,3 +1,0 @@
-pub mod FoundCalls
-pub mod FoundCommands
-pub mod NewLists

@@ -1,9 +1,0 @@
-use Rattle.std.proofs.Common.{List, ap}
-use Rattle.mlk_jobs.specs.Tasks.{Task}
-use Rattle.mlk_jobs.specs.Choices.{doing}
-use Rattle.mlk_jobs.specs.JobViews.{job_of}
-use Rattle.mlk_jobs.proofs.job.Job.do_first.Goals as goal
-
-pub returns-clause-ok : goal.returns-clause-ok
-returns-clause-ok c =
-    ap (λ (ts : List Task). doing ts (job_of c.args.self.now)) (c.in_ok-do_first.ensures.ok c.args.self.now.binders.items)

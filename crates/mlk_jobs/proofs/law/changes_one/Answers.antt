@@ -1,5 +1,0 @@
-use Rattle.mlk_jobs.proofs.MachineLemmas.{changes_one}
-use Rattle.mlk_jobs.proofs.law.changes_one.Goals as goal
-
-pub returns : goal.returns
-returns c = changes_one

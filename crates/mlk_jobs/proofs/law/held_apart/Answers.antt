@@ -1,5 +1,0 @@
-use Rattle.mlk_jobs.proofs.MachineLemmas.{held_apart}
-use Rattle.mlk_jobs.proofs.law.held_apart.Goals as goal
-
-pub returns : goal.returns
-returns c = held_apart

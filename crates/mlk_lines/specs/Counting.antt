@@ -1,8 +1,0 @@
--- How many states of a walk are counted. For private clauses alone. This project's own.
-use Rattle.std.specs.Prelude.{take}
-use Rattle.mlk_rows.specs.declared.walk.Walk.{Walk}
-use Rattle.mlk_rows.specs.Walks.{with_states}
-
--- the walk with its first 17 states alone: of no more than these does it depend whether there are too many
-unfoldable pub counted : Walk → Walk
-counted w = with_states (take 17 w.going) w

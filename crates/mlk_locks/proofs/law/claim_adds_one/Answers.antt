@@ -1,5 +1,0 @@
-use Rattle.mlk_locks.proofs.Counting.{claim_adds_one}
-use Rattle.mlk_locks.proofs.law.claim_adds_one.Goals as goal
-
-pub returns : goal.returns
-returns c = claim_adds_one

@@ -1,5 +1,0 @@
-use Rattle.mlk_locks.proofs.NameLemmas.{excludes_held}
-use Rattle.mlk_locks.proofs.law.excludes_held.Goals as goal
-
-pub returns : goal.returns
-returns c = excludes_held

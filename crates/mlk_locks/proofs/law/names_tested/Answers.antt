@@ -1,5 +1,0 @@
-use Rattle.mlk_locks.proofs.NameLemmas.{names_tested}
-use Rattle.mlk_locks.proofs.law.names_tested.Goals as goal
-
-pub returns : goal.returns
-returns c = names_tested

@@ -1,5 +1,0 @@
-use Rattle.mlk_locks.proofs.Counting.{release_takes_one}
-use Rattle.mlk_locks.proofs.law.release_takes_one.Goals as goal
-
-pub returns : goal.returns
-returns c = release_takes_one

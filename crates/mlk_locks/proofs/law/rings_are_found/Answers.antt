@@ -1,5 +1,0 @@
-use Rattle.mlk_locks.proofs.WaitLemmas.{rings_are_found}
-use Rattle.mlk_locks.proofs.law.rings_are_found.Goals as goal
-
-pub returns : goal.returns
-returns c = rings_are_found (λ j. j)

@@ -1,0 +1,24 @@
+-- What a copy of a job keeps: of a task what the definition sees of it, of an end all, of a table its values. It serves
+-- clauses of calls that are not public. This project's own.
+use Rattle.std.specs.Prelude.{ℕ, Bool, List, Option}
+use Rattle.mlk_machine_jobs.specs.declared.cell.Table.{Table}
+use Rattle.mlk_machine_jobs.specs.declared.pending.Back.{Back}
+use Rattle.mlk_machine_jobs.specs.declared.pending.Frame.{Frame}
+use Rattle.mlk_machine_jobs.specs.declared.pending.Pending.{Pending}
+use Rattle.mlk_machine_jobs.specs.declared.pending.Pending.TheVariants as pending
+use Rattle.mlk_machine_jobs.specs.Tasks.{Task}
+use Rattle.mlk_machine_jobs.specs.TaskViews.{task_of}
+use Rattle.mlk_machine_jobs.specs.Views.{in_table}
+
+pub data Shown : Type 0 where
+  ToDo : (task : Task) → Shown
+  BlockEnd : (back : Back) → (test : Bool) → Shown
+  FrameEnd : (frame : Frame) → (back : Back) → (routine : ℕ) → Shown
+
+abbrev pub shown_of : Pending → Shown
+shown_of (pending.Task t) = ToDo (task_of t)
+shown_of (pending.EndBlock back test) = BlockEnd back test
+shown_of (pending.EndFrame frame back routine) = FrameEnd frame back routine
+
+abbrev pub values_in : Table → List ℕ → Option (List ℕ)
+values_in t n = in_table t n

@@ -1,0 +1,21 @@
+-- The definition's words of the code's, for clauses of calls that are not public. This project's own.
+use Rattle.std.specs.Prelude.{ℕ, List, Option, Some, None, option_map}
+use Rattle.mlk_syntax.specs.Trees.{RoutineTree}
+use Rattle.mlk_machine.specs.declared.order.Order.{Order}
+use Rattle.mlk_machine.specs.EventReading.{line_at}
+use Rattle.mlk_machine.specs.declared.instruction.Instruction.{Instruction}
+use Rattle.mlk_machine.specs.declared.instruction.Instruction.TheVariants as instruction
+use Rattle.mlk_machine.specs.Files.{Asked, Happens, GoesOn, asked}
+use Rattle.mlk_machine.specs.Replays.{event_of}
+
+abbrev pub asked_of : Instruction → Asked
+asked_of (instruction.Happens e) = Happens (event_of e)
+asked_of (instruction.GoesOn k) = GoesOn k
+
+-- what a reader finds at the front of a file
+abbrev pub asked_by : List RoutineTree → Option (Order × List ℕ) → Option (Asked × List ℕ)
+asked_by routines None = None
+asked_by routines (Some read) = option_map (λ a. (a, read.1)) (asked routines read.0)
+
+unfoldable pub asked_at : List RoutineTree → List ℕ → Option (Asked × List ℕ)
+asked_at routines xs = asked_by routines (line_at xs)

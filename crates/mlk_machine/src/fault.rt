@@ -1,0 +1,22 @@
+// Why a file of events can't be replayed.
+
+use mlk_machine_locks::Refusal;
+use mlk_text::LineNumber;
+use thiserror::Error;
+
+/// What is wrong with a line.
+#[derive(Clone, Copy, Debug, Drop, PartialEq, Eq)]
+pub enum EventsRefusal {
+    /// It is no event, or lets a job begin at an entry that the program lacks.
+    Form,
+    /// It can't happen then.
+    Refused(Refusal),
+}
+
+/// The line at which a replay stops, and why.
+#[derive(Debug, Drop, PartialEq, Eq, Error)]
+#[error("no replay past line {line}")]
+pub struct EventsFault {
+    pub line: LineNumber,
+    pub why: EventsRefusal,
+}

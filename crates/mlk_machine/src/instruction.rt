@@ -1,0 +1,57 @@
+// What the lines of a file of events ask for.
+
+ghost use Rattle.std.specs.Prelude.{◌≡◌, map, option_map};
+ghost use Rattle.mlk_syntax.specs.Views.{routine_of};
+ghost use Rattle.mlk_machine.specs.declared.order.Order.TheVariants.{Begin};
+ghost use Rattle.mlk_machine.specs.Events.{act_of};
+ghost use Rattle.mlk_machine.specs.Files.{asked, Happens};
+ghost use Rattle.mlk_machine.specs.InstructionViews.{asked_of};
+
+use crate::event::{Act, Event};
+use crate::order::{Beginning, Order};
+use mlk_machine_jobs::Choice;
+use mlk_program::Program;
+
+/// What a line asks for.
+#[derive(Drop, Debug)]
+pub(crate) enum Instruction {
+    /// that an event happens
+    Happens(Event),
+    /// that the job of this number goes on by itself
+    GoesOn(u32),
+}
+
+// An event.
+fn happens(job: u32, act: Act) -> Instruction
+    ensures { asked_of result ≡ Happens (record { job = job; act = act_of act }) }
+{
+    Instruction::Happens(Event { job, act })
+}
+
+// A job that begins, where the program has the entry.
+fn beginning(program: &Program, order: Beginning) -> Option<Instruction>
+    ensures { option_map asked_of result ≡ asked (map routine_of program.now) (Begin order) }
+{
+    let Beginning {
+        job,
+        entry,
+        test,
+        values,
+    } = order;
+    let entry = program.entry(entry.as_bytes())?;
+    Some(happens(job, Act::Begin(entry, test, values)))
+}
+
+/// What a line asks for, where the program has the entry at which a job is to begin.
+pub(crate) fn instruction_of(program: &Program, order: Order) -> Option<Instruction>
+    ensures { option_map asked_of result ≡ asked (map routine_of program.now) order }
+{
+    match order {
+        Order::Begin(order) => beginning(program, order),
+        Order::Go(job) => Some(happens(job, Act::Go(Choice::None))),
+        Order::GoValue(job, value) => Some(happens(job, Act::Go(Choice::Value(value)))),
+        Order::GoTruth(job, truth) => Some(happens(job, Act::Go(Choice::Truth(truth)))),
+        Order::Run(job) => Some(Instruction::GoesOn(job)),
+        Order::Abort(job) => Some(happens(job, Act::Abort)),
+    }
+}

@@ -1,0 +1,151 @@
+// Lines of a file of events, read.
+
+ghost use Rattle.std.specs.Prelude.{◌≡◌, suc, length, option_map};
+ghost use Rattle.mlk_text.specs.Reading.{many};
+ghost use Rattle.mlk_text.specs.Lexemes.{byte_at};
+ghost use Rattle.mlk_text.specs.Failures.{Reads};
+ghost use Rattle.mlk_cert_lexemes.specs.Reading.{constant_at, next};
+ghost use Rattle.mlk_machine.specs.EventReading.{job_at, test_at, head_at, begin_at, chosen_at, go_at, order_at, line_at};
+
+use crate::order::{Beginning, Order};
+use mlk_cert_lexemes::{constant, counted, entry, word_of};
+use mlk_text::lexeme::byte_of;
+use mlk_text::{Failure, List, NotThere, Value};
+use std::alloc::Global;
+
+const GREATEST_JOB: u32 = 4_294_967_295;
+
+// The number of a job at the front, and what is left after it.
+fn job(bytes: &[u8]) -> Option<(u32, &[u8])>
+    ensures { option_map (λ x. (x.0, x.1.now)) result ≡ job_at bytes.now }
+{
+    counted(GREATEST_JOB, bytes)
+}
+
+// `$TEST`, and what is left after it.
+fn test(bytes: &[u8]) -> Option<(bool, &[u8])>
+    ensures { option_map (λ x. (x.0, x.1.now)) result ≡ test_at bytes.now }
+{
+    let Some((first, rest)) = bytes.split_first() else {
+        return None;
+    };
+    match *first {
+        b'0' => Some((false, rest)),
+        b'1' => Some((true, rest)),
+        _ => None,
+    }
+}
+
+// Values, each after a space, as far as they go.
+fn values(alloc: Global, bytes: &[u8]) -> Result<(Vec<Value>, &[u8]), Failure<NotThere>>
+    ensures { Reads (λ x. (x.0.items, x.1.now)) result (many (byte_at 32) (next constant_at) (suc (length bytes.now)) bytes.now) }
+{
+    let mut found = Vec::new(alloc);
+    let mut rest = bytes;
+    while let Some(after) = byte_of(b' ', rest) {
+        let (value, after) = constant(alloc, after)?;
+        found.push(value)?;
+        rest = after;
+    }
+    Ok((found, rest))
+}
+
+// What stands before the values of a job that begins.
+#[tactic(auto, unfolding(crate::specs::EventReading::head_at))]
+fn begin_head(alloc: Global, bytes: &[u8]) -> Result<(u32, Value, bool, &[u8]), Failure<NotThere>>
+    ensures { Reads (λ x. ((x.0, x.1, x.2), x.3.now)) result (head_at bytes.now) }
+{
+    let Some((job, rest)) = job(bytes) else {
+        return Err(Failure::Refused(NotThere));
+    };
+    let Some(rest) = byte_of(b' ', rest) else {
+        return Err(Failure::Refused(NotThere));
+    };
+    let (entry, rest) = entry(alloc, rest)?;
+    let Some(rest) = byte_of(b' ', rest) else {
+        return Err(Failure::Refused(NotThere));
+    };
+    let Some((test, rest)) = test(rest) else {
+        return Err(Failure::Refused(NotThere));
+    };
+    Ok((job, entry, test, rest))
+}
+
+// A job that begins, after its word.
+#[tactic(auto, unfolding(crate::specs::EventReading::begin_at))]
+fn begin(alloc: Global, bytes: &[u8]) -> Result<(Order, &[u8]), Failure<NotThere>>
+    ensures { Reads (λ x. (x.0, x.1.now)) result (begin_at bytes.now) }
+{
+    let (job, entry, test, rest) = begin_head(alloc, bytes)?;
+    let (values, rest) = values(alloc, rest)?;
+    let beginning = Beginning {
+        job,
+        entry,
+        test,
+        values: List::of(values),
+    };
+    Ok((Order::Begin(beginning), rest))
+}
+
+// What is chosen at a step, after its space.
+#[tactic(auto, unfolding(crate::specs::EventReading::chosen_at))]
+fn chosen(alloc: Global, job: u32, bytes: &[u8]) -> Result<(Order, &[u8]), Failure<NotThere>>
+    ensures { Reads (λ x. (x.0, x.1.now)) result (chosen_at job bytes.now) }
+{
+    if let Some(rest) = word_of(b"yes", bytes) {
+        return Ok((Order::GoTruth(job, true), rest));
+    }
+    if let Some(rest) = word_of(b"no", bytes) {
+        return Ok((Order::GoTruth(job, false), rest));
+    }
+    let (value, rest) = constant(alloc, bytes)?;
+    Ok((Order::GoValue(job, value), rest))
+}
+
+// A step, after its word.
+#[tactic(auto, unfolding(crate::specs::EventReading::go_at))]
+fn go(alloc: Global, bytes: &[u8]) -> Result<(Order, &[u8]), Failure<NotThere>>
+    ensures { Reads (λ x. (x.0, x.1.now)) result (go_at bytes.now) }
+{
+    let Some((job, rest)) = job(bytes) else {
+        return Err(Failure::Refused(NotThere));
+    };
+    match byte_of(b' ', rest) {
+        Some(rest) => chosen(alloc, job, rest),
+        None => Ok((Order::Go(job), rest)),
+    }
+}
+
+// What a line says.
+#[tactic(auto, unfolding(crate::specs::EventReading::order_at))]
+fn order(alloc: Global, bytes: &[u8]) -> Result<(Order, &[u8]), Failure<NotThere>>
+    ensures { Reads (λ x. (x.0, x.1.now)) result (order_at bytes.now) }
+{
+    if let Some(rest) = word_of(b"begin ", bytes) {
+        return begin(alloc, rest);
+    }
+    if let Some(rest) = word_of(b"go ", bytes) {
+        return go(alloc, rest);
+    }
+    if let Some(rest) = word_of(b"run ", bytes) {
+        let (job, rest) = job(rest).ok_or(Failure::Refused(NotThere))?;
+        return Ok((Order::Run(job), rest));
+    }
+    if let Some(rest) = word_of(b"abort ", bytes) {
+        let (job, rest) = job(rest).ok_or(Failure::Refused(NotThere))?;
+        return Ok((Order::Abort(job), rest));
+    }
+    Err(Failure::Refused(NotThere))
+}
+
+/// What the line at the front of a file says, and what is left after the line's end; or that no event stands there.
+#[tactic(auto, unfolding(crate::specs::EventReading::line_at))]
+pub fn read_line(alloc: Global, bytes: &[u8]) -> Result<(Order, &[u8]), Failure<NotThere>>
+    ensures { Reads (λ x. (x.0, x.1.now)) result (line_at bytes.now) }
+{
+    let (order, rest) = order(alloc, bytes)?;
+    let Some(rest) = byte_of(b'\n', rest) else {
+        return Err(Failure::Refused(NotThere));
+    };
+    Ok((order, rest))
+}

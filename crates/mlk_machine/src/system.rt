@@ -1,0 +1,239 @@
+// Systems.
+
+ghost use Rattle.std.specs.Prelude.{◌≡◌, [], IfOk, OnErr, map, option_map, option_and_then};
+ghost use Rattle.mlk_text.specs.Failures.{Answers};
+ghost use Rattle.mlk_machine_locks.specs.Laws.{has_ring_of};
+ghost use Rattle.mlk_machine_locks.specs.Systems.{Begin, Go, Abort, and_then, happens};
+ghost use Rattle.mlk_machine_jobs.specs.JobViews.{job_of};
+ghost use Rattle.mlk_machine_jobs.specs.Runs.{seen};
+ghost use Rattle.mlk_machine_jobs.specs.Seen.{ready, settled_in};
+ghost use Rattle.mlk_machine_jobs.specs.TaskViews.{touch_of};
+ghost use Rattle.mlk_machine.specs.Events.{act_of};
+ghost use Rattle.mlk_machine.specs.Jobs.{job_numbered, one_waits, count_held};
+ghost use Rattle.mlk_machine.specs.Systems.{jobs_in, routines_in, machine_of, IsSame, Stays};
+
+use crate::beginning::begin;
+use crate::event::{Act, Event, copy_of_choice};
+use crate::number::job_numbered;
+use crate::ring::has_ring;
+use crate::settling::settle_numbered;
+use crate::stepping::{abort_numbered, go_numbered};
+use indexmap::IndexSet;
+use mlk_machine_jobs::{Choice, Job};
+use mlk_machine_locks::{LockTable, Refusal, waits_for};
+use mlk_names::{LockName, Reference};
+use mlk_program::{EntryId, Program};
+use mlk_text::{Failure, Value};
+use std::alloc::{AllocError, Global};
+use std::marker::Model;
+
+/// The jobs of a program, which begin at these entries and share locks. The program and the entries are borrowed.
+#[derive(Drop)]
+pub struct System<'a> {
+    alloc: Global,
+    program: &'a Program<'a>,
+    entries: &'a [EntryId],
+    // of the jobs, in their order
+    numbers: IndexSet<u32>,
+    jobs: Vec<Job<'a>>,
+    // finds the jobs by the names that they hold
+    table: LockTable,
+}
+
+impl<'a> Model for System<'a> {
+    ghost use Rattle.std.specs.Coded.{codes};
+    ghost use Rattle.indexmap.specs.Layout.{hash_map_code};
+    ghost use Rattle.mlk_syntax.specs.contracts.expr.Expr as expr;
+    ghost use Rattle.mlk_syntax.specs.contracts.expr.Actual as actual;
+    ghost use Rattle.mlk_syntax.specs.contracts.command.Commands as commands;
+    ghost use Rattle.mlk_syntax.specs.contracts.command.For as loop_of;
+    ghost use Rattle.mlk_syntax.specs.contracts.routine.Line as line;
+    ghost use Rattle.mlk_machine_locks.specs.Tables.{Covers};
+    ghost use Rattle.mlk_machine_run.specs.Jobs.{AreSound, seen_in};
+    ghost use Rattle.mlk_machine.specs.Numbers.{AreNumbers};
+    ghost use Rattle.mlk_machine.specs.Running.{Running};
+
+    ghost Value = { Running };
+
+    ghost coded = { Prim.hlevel (
+      codes,
+      hash_map_code,
+      expr.the_row.coded,
+      actual.the_row.coded,
+      commands.the_row.coded,
+      loop_of.the_row.coded,
+      line.the_row.coded,
+    ) };
+
+    ghost view = { λ s. record { program = s.program.now; entries = s.entries.now; jobs = s.jobs.items } };
+
+    ghost invariant = { λ s. AreSound s.jobs.items × AreNumbers s.numbers.keys s.jobs.items
+        × Covers seen_in s.table s.jobs.items };
+}
+
+impl<'a> System<'a> {
+    /// No jobs yet. It takes no memory.
+    pub fn start(alloc: Global, program: &'a Program<'a>, entries: &'a [EntryId]) -> System<'a>
+        ensures { result ≡ record { program = program.now; entries = entries.now; jobs = [] } }
+    {
+        System {
+            alloc,
+            program,
+            entries,
+            numbers: IndexSet::new(alloc),
+            jobs: Vec::new(alloc),
+            table: LockTable::new(alloc),
+        }
+    }
+
+    // A job begins.
+    fn begin(
+        &mut self,
+        number: u32,
+        entry: EntryId,
+        test: bool,
+        values: &[Value],
+    ) -> Result<(), Failure<Refusal>>
+        ensures answer { Answers (λ _. jobs_in self.new) result
+            (happens (machine_of self.old) (jobs_in self.old) number (Begin entry test values.now)) }
+        ensures same { IsSame self.old self.new }
+        ensures stays { OnErr result (Stays self.old self.new) }
+    {
+        begin(
+            self.alloc,
+            self.program,
+            self.entries,
+            &mut self.numbers,
+            &mut self.jobs,
+            entry,
+            number,
+            test,
+            values,
+        )
+    }
+
+    // A job makes a step.
+    fn go(&mut self, number: u32, choice: &Choice) -> Result<(), Failure<Refusal>>
+        ensures answer { Answers (λ _. jobs_in self.new) result
+            (happens (machine_of self.old) (jobs_in self.old) number (Go choice.now)) }
+        ensures same { IsSame self.old self.new }
+        ensures stays { OnErr result (Stays self.old self.new) }
+    {
+        let choice = copy_of_choice(choice)?;
+        go_numbered(
+            self.alloc,
+            self.program,
+            &self.numbers,
+            &mut self.table,
+            &mut self.jobs,
+            number,
+            choice,
+        )
+    }
+
+    // A job is aborted.
+    fn abort(&mut self, number: u32) -> Result<(), Failure<Refusal>>
+        ensures answer { Answers (λ _. jobs_in self.new) result
+            (happens (machine_of self.old) (jobs_in self.old) number Abort) }
+        ensures same { IsSame self.old self.new }
+        ensures stays { OnErr result (Stays self.old self.new) }
+    {
+        abort_numbered(self.alloc, &self.numbers, &mut self.jobs, number)
+    }
+
+    /// What an event makes of the jobs. Where it can't happen, or there is no memory, all jobs are as they were.
+    pub fn step(&mut self, event: &Event) -> Result<(), Failure<Refusal>>
+        ensures answer { Answers (λ _. jobs_in self.new) result
+            (happens (machine_of self.old) (jobs_in self.old) event.now.job (act_of event.now.act)) }
+        ensures same { IsSame self.old self.new }
+        ensures stays { OnErr result (Stays self.old self.new) }
+    {
+        match &event.act {
+            Act::Begin(entry, test, values) => {
+                self.begin(event.job, *entry, *test, values.as_slice())
+            }
+            Act::Go(choice) => self.go(event.job, choice),
+            Act::Abort => self.abort(event.job),
+        }
+    }
+
+    /// The job of this number goes on by itself while its next task is silent, up to the greatest number of steps: how
+    /// many it made. Where there is no memory all jobs are as they were.
+    pub fn settle(&mut self, number: u32) -> Result<u32, Failure<Refusal>>
+        ensures answer { Answers (λ count. (jobs_in self.new, count)) result
+            (settled_in (routines_in self.old) number (jobs_in self.old)) }
+        ensures same { IsSame self.old self.new }
+        ensures stays { OnErr result (Stays self.old self.new) }
+    {
+        settle_numbered(
+            self.alloc,
+            self.program,
+            &self.numbers,
+            &mut self.jobs,
+            number,
+        )
+    }
+
+    /// The jobs, in the order in which they began. It takes no memory.
+    pub fn jobs(&self) -> &[Job<'a>]
+        ensures { result.now ≡ self.now.jobs }
+    {
+        self.jobs.as_slice()
+    }
+
+    /// The program that the jobs run. It takes no memory.
+    pub fn program(&self) -> &'a Program<'a>
+        ensures { result.now ≡ self.now.program }
+    {
+        self.program
+    }
+
+    /// The job of this number. It takes no memory.
+    pub fn job(&self, number: u32) -> Option<&Job<'a>>
+        ensures { option_map (λ j. job_of j.now) result ≡ job_numbered number (jobs_in self.now) }
+    {
+        job_numbered(&self.numbers, self.jobs.as_slice(), number)
+    }
+
+    /// The reference that the job of this number stands ready at. It takes no memory.
+    pub fn ready(&self, number: u32) -> Option<&Reference>
+        ensures { option_map (λ r. touch_of r.now) result
+            ≡ option_and_then ready (job_numbered number (jobs_in self.now)) }
+    {
+        self.job(number)?.ready()
+    }
+
+    /// Whether the first of these jobs waits for the second. It takes no memory.
+    pub fn waits_for(&self, number: u32, other: u32) -> bool
+        ensures { result ≡ one_waits (job_numbered number (jobs_in self.now)) (job_numbered other (jobs_in self.now)) }
+    {
+        match (self.job(number), self.job(other)) {
+            (Some(job), Some(other)) => waits_for(job, other),
+            _ => false,
+        }
+    }
+
+    /// How often the job of this number holds the name; not at all where there is no such job. It takes no memory.
+    pub fn holds(&self, number: u32, name: &LockName) -> u32
+        ensures { result ≡ count_held name.now (job_numbered number (jobs_in self.now)) }
+    {
+        match self.job(number) {
+            Some(job) => job.held.count(name),
+            None => 0,
+        }
+    }
+
+    /// The names that the job of this number holds, each with its count. It takes no memory.
+    pub fn held(&self, number: u32) -> Option<&[(LockName, u32)]>
+        ensures { option_map (λ h. h.now) result ≡ option_map (λ j. j.held) (job_numbered number (jobs_in self.now)) }
+    {
+        Some(self.job(number)?.held.entries())
+    }
+
+    /// Whether some of the jobs wait in a ring: each for one of them.
+    pub fn has_ring(&self) -> Result<bool, AllocError>
+        ensures { IfOk result (λ found. found ≡ has_ring_of seen (jobs_in self.now)) }
+    {
+        has_ring(self.alloc, self.jobs.as_slice())
+    }
+}

@@ -1,0 +1,19 @@
+-- The frame that QUIT with a value gives it to. This project's own.
+use Rattle.std.specs.Prelude.{Bool, true, false, List, [], ◌∷◌}
+use Rattle.mlk_machine_jobs.specs.Tasks.{Task, EndFrame, AwaitsValue, HasValue}
+
+abbrev pub awaits : Task → Bool
+awaits (EndFrame (AwaitsValue test) back next routine) = true
+awaits t = false
+
+abbrev pub with_value : Task → Task
+with_value (EndFrame (AwaitsValue test) back next routine) = EndFrame (HasValue test) back next routine
+with_value t = t
+
+abbrev pub keeps_value : List Task → Bool
+keeps_value [] = false
+keeps_value (t ∷ ts) = awaits t
+
+abbrev pub value_kept : List Task → List Task
+value_kept [] = []
+value_kept (t ∷ ts) = with_value t ∷ ts

@@ -1,0 +1,100 @@
+-- Calls: what formals are bound to, and what the end of a block or of a frame puts back. Restates ISO/IEC 11756,
+-- parameter passing, DO, extrinsic functions, QUIT.
+use Rattle.std.specs.Prelude.{ℕ, suc, Bool, true, false, List, [], ◌∷◌, ◌++◌, drop, Option, Some, None, Ok, Err, slice_get}
+use Rattle.mlk_machine_locks.specs.declared.refusal.Refusal.TheVariants.{NotEnabled}
+use Rattle.mlk_syntax.specs.ExprTrees.{ActualTree, Given, ByRef, Missing}
+use Rattle.mlk_syntax.specs.Trees.{HeadTree, LineHead, CommandTrees, RoutineTree}
+use Rattle.mlk_program.specs.declared.entry.EntryId.{EntryId}
+use Rattle.mlk_program.specs.Entries.{lines_in}
+use Rattle.mlk_machine_jobs.specs.declared.choice.Choice.{Choice}
+use Rattle.mlk_machine_jobs.specs.Bindings.{Only, Binder, Fresh, ByReference, Bindings, Cells, look, put, forgotten}
+use Rattle.mlk_machine_jobs.specs.Tasks.{Task, Job, LineTree, Frame, NoValue, AwaitsValue, HasValue, RunLines, RunCommands, EndFrame}
+use Rattle.mlk_machine_jobs.specs.Choices.{Stepped, without_choice, with_value, last_values, pushed, dropped, doing}
+use Rattle.mlk_machine_jobs.specs.Locking.{tested}
+
+-- the actual of the next formal: past the end of the list it is missing
+abbrev pub next_actual : List ActualTree → ActualTree
+next_actual [] = Missing
+next_actual (a ∷ given) = a
+
+abbrev pub later_actuals : List ActualTree → List ActualTree
+later_actuals [] = []
+later_actuals (a ∷ given) = given
+
+-- A formal is bound to the cell of a name that is given by reference, and else to a new one.
+abbrev pub binder : Bindings → ℕ → List ℕ → ActualTree → Binder
+binder caller g f (ByRef column name) = ByReference f (look caller name)
+binder caller g f (Given t) = Fresh g (Only f)
+binder caller g f Missing = Fresh g (Only f)
+
+abbrev pub binders : Bindings → ℕ → List (List ℕ) → List ActualTree → List Binder
+binders caller g [] given = []
+binders caller g (f ∷ formals) given =
+    binder caller g f (next_actual given) ∷ binders caller g formals (later_actuals given)
+
+-- The cell of a formal that is given a value has that value.
+abbrev pub with_actuals : ℕ → List (List ℕ) → List ActualTree → List (List ℕ) → Cells → Cells
+with_actuals g (f ∷ formals) (Given t ∷ given) (v ∷ values) cells =
+    with_actuals g formals given values (put (record { generation = g; name = f }) v cells)
+with_actuals g (f ∷ formals) (ByRef column name ∷ given) values cells = with_actuals g formals given values cells
+with_actuals g (f ∷ formals) (Missing ∷ given) values cells = with_actuals g formals given values cells
+with_actuals g formals given values cells = cells
+
+-- how many actuals are values
+abbrev pub count_given : List ActualTree → ℕ
+count_given [] = 0
+count_given (Given t ∷ given) = suc (count_given given)
+count_given (ByRef column name ∷ given) = count_given given
+count_given (Missing ∷ given) = count_given given
+
+abbrev pub formals_in : HeadTree → List (List ℕ)
+formals_in (LineHead n level end label None commands) = []
+formals_in (LineHead n level end label (Some formals) commands) = formals
+
+abbrev pub commands_in : HeadTree → CommandTrees
+commands_in (LineHead n level end label formals commands) = commands
+
+-- the lines from an entry's own to the routine's end
+abbrev pub lines_after : List RoutineTree → EntryId → List LineTree
+lines_after routines e = from_its_own (slice_get routines e.routine)
+  where
+    from_its_own : Option RoutineTree → List LineTree
+    from_its_own None = []
+    from_its_own (Some tree) = drop e.line (lines_in tree)
+
+abbrev pub frame_of : Bool → Job → Frame
+frame_of true j = AwaitsValue j.test
+frame_of false j = NoValue
+
+-- A call: the formals are bound, the lines run, and at the frame's end all is as it was.
+abbrev pub entered : Frame → ℕ → List ActualTree → List LineTree → List Task → Job → Stepped
+entered frame r given [] ts j = Err NotEnabled
+entered frame r given ((head, block) ∷ lines) ts j =
+    let values = last_values (count_given given) j in
+    Ok (record j {
+      routine = r;
+      bindings = binders j.bindings j.next (formals_in head) given ++ j.bindings;
+      next = suc j.next;
+      cells = with_actuals j.next (formals_in head) given values j.cells;
+      values = drop (count_given given) j.values;
+      tasks = RunCommands (commands_in head) block ∷ RunLines lines ∷ EndFrame frame j.bindings j.next j.routine ∷ ts;
+    })
+
+abbrev pub called : List RoutineTree → Frame → Option EntryId → List ActualTree → List Task → Job → Stepped
+called routines frame None given ts j = Err NotEnabled
+called routines frame (Some e) given ts j = entered frame e.routine given (lines_after routines e) ts j
+
+-- DO of a label with a postconditional: where that is false, the actuals were computed for nothing
+abbrev pub called_if : Bool → List RoutineTree → Option EntryId → List ActualTree → List Task → Job → Stepped
+called_if true routines entry given ts j = called routines NoValue entry given ts j
+called_if false routines entry given ts j = Ok (doing ts (dropped (count_given given) j))
+
+-- the bindings as they were, and the cells made since then forgotten
+abbrev pub back_to : Bindings → ℕ → Job → Job
+back_to back next j = record j { bindings = back; next = next; cells = forgotten next j.cells }
+
+-- The end of a frame: one of `$$` puts `$TEST` back, and gives any value where QUIT gave none.
+abbrev pub frame_end : Choice → Frame → Job → Stepped
+frame_end c NoValue j = without_choice c (Ok j)
+frame_end c (AwaitsValue test) j = with_value c (λ v. Ok (pushed v (tested test j)))
+frame_end c (HasValue test) j = without_choice c (Ok (tested test j))

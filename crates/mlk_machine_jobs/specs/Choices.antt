@@ -1,0 +1,102 @@
+-- What a step makes of a job, and which choice it asks. Which values and truths are known is this project's own choice:
+-- any other is asked for.
+use Rattle.std.specs.Prelude.{ℕ, Bool, true, false, if◌then◌else◌, List, [], ◌∷◌, take, drop, reverse, bytes_eq, codes}
+use Rattle.std.specs.Prelude.{Option, Some, None, Result, Ok, Err}
+use Rattle.mlk_machine_locks.specs.declared.refusal.Refusal.{Refusal}
+use Rattle.mlk_machine_locks.specs.declared.refusal.Refusal.TheVariants.{NotEnabled, BadChoice}
+use Rattle.mlk_names.specs.References.{Touch}
+use Rattle.mlk_names.specs.declared.reference.Extent.{Extent}
+use Rattle.mlk_names.specs.declared.reference.Access.{Access}
+use Rattle.mlk_names.specs.declared.reference.Access.TheVariants.{Reads, Writes}
+use Rattle.mlk_machine_jobs.specs.declared.choice.Choice.{Choice}
+use Rattle.mlk_machine_jobs.specs.declared.choice.Choice.TheVariants as choice
+use Rattle.mlk_machine_jobs.specs.Bindings.{look, put}
+use Rattle.mlk_machine_jobs.specs.Tasks.{Task, Job}
+
+-- what a step makes of a job, or why it can't be
+abbrev pub Stepped : Type 0
+Stepped = Result Job Refusal
+
+-- A step that asks nothing. What is not enabled is so whatever is chosen.
+abbrev pub without_choice : Choice → Stepped → Stepped
+without_choice choice.None step = step
+without_choice c (Err why) = Err why
+without_choice c (Ok j) = Err BadChoice
+
+-- a step that asks for a value, and one that asks for a truth
+abbrev pub with_value : Choice → (List ℕ → Stepped) → Stepped
+with_value choice.None f = Err BadChoice
+with_value (choice.Value value) f = f value
+with_value (choice.Truth truth) f = Err BadChoice
+
+abbrev pub with_truth : Choice → (Bool → Stepped) → Stepped
+with_truth choice.None f = Err BadChoice
+with_truth (choice.Value value) f = Err BadChoice
+with_truth (choice.Truth truth) f = f truth
+
+-- one more value, and the values without the last ones
+abbrev pub pushed : List ℕ → Job → Job
+pushed value j = record j { values = value ∷ j.values }
+
+abbrev pub dropped : ℕ → Job → Job
+dropped n j = record j { values = drop n j.values }
+
+-- the last so many values, in the order in which they were computed
+abbrev pub last_values : ℕ → Job → List (List ℕ)
+last_values n j = reverse (take n j.values)
+
+abbrev pub doing : List Task → Job → Job
+doing ts j = record j { tasks = ts }
+
+-- what is made of the last of these values; there is always one where it is asked for
+abbrev pub with_last : List (List ℕ) → (List ℕ → Stepped) → Stepped
+with_last [] f = Err NotEnabled
+with_last (v ∷ vs) f = f v
+
+-- Truth: `0` and `1` are known, any other value is asked for.
+abbrev pub is_zero : List ℕ → Bool
+is_zero v = bytes_eq v (codes "0")
+
+abbrev pub is_one : List ℕ → Bool
+is_one v = bytes_eq v (codes "1")
+
+abbrev pub truth_of : Choice → List ℕ → (Bool → Stepped) → Stepped
+truth_of c v f =
+    if is_one v then without_choice c (f true)
+    else if is_zero v then without_choice c (f false)
+    else with_truth c f
+
+-- the truth of the last value, which is used up
+abbrev pub by_truth : Choice → Job → (Bool → Job → Stepped) → Stepped
+by_truth c j f = with_last j.values (λ v. truth_of c v (λ t. f t (dropped 1 j)))
+
+abbrev pub same_truth : Bool → Bool → Bool
+same_truth true b = b
+same_truth false true = false
+same_truth false false = true
+
+abbrev pub test_text : Bool → List ℕ
+test_text true = codes "1"
+test_text false = codes "0"
+
+-- a known result, or any value
+abbrev pub given_or_asked : Choice → Option (List ℕ) → (List ℕ → Stepped) → Stepped
+given_or_asked c (Some value) f = without_choice c (f value)
+given_or_asked c None f = with_value c f
+
+abbrev pub fetched : Job → List Task → Option (List ℕ) → Stepped
+fetched j ts None = Err NotEnabled
+fetched j ts (Some value) = Ok (doing ts (pushed value j))
+
+abbrev pub stored : List ℕ → List ℕ → Job → Job
+stored name value j = record j { cells = put (look j.bindings name) value j.cells }
+
+-- A concrete reference, of subscripts that were computed.
+abbrev pub touch_of : List ℕ → List (List ℕ) → Extent → Access → Touch
+touch_of name subs e a =
+    record { region = record { node = record { root = name; subs = subs }; extent = e }; access = a }
+
+-- a touch that reads gives any value
+abbrev pub touched : Choice → Access → Job → List Task → Stepped
+touched c Reads j ts = with_value c (λ v. Ok (doing ts (pushed v j)))
+touched c Writes j ts = without_choice c (Ok (doing ts j))

@@ -1,0 +1,36 @@
+-- What a job of the code keeps to: the cell that a name is bound to has a table, now and at the end of each block and
+-- frame that the job is in. This project's own.
+use Rattle.std.specs.Prelude.{ℕ, ◌<◌, ◌≤◌, List, [], ◌∷◌, length, take, reverse}
+use Rattle.mlk_machine_jobs.specs.declared.binding.Binder.{Binder as BinderIn}
+use Rattle.mlk_machine_jobs.specs.declared.job.Job.{Job as JobIn}
+use Rattle.mlk_machine_jobs.specs.declared.pending.Back.{Back}
+use Rattle.mlk_machine_jobs.specs.declared.pending.Pending.{Pending}
+use Rattle.mlk_machine_jobs.specs.declared.pending.Pending.TheVariants as pending
+use Rattle.mlk_machine_jobs.specs.Bindings.{look}
+use Rattle.mlk_machine_jobs.specs.Views.{bindings_of}
+
+abbrev pub HaveTables : ℕ → List BinderIn → Type 0
+HaveTables n bs = (name : List ℕ) → (look (bindings_of bs) name).generation < n
+
+-- how things were at a begin, where there are at most so many binders and so many tables inside
+pub record IsWithin (bs : List BinderIn) (count n : ℕ) (back : Back) : Type 0 where
+  pub binders : back.binders ≤ count
+  pub next : back.next ≤ n
+  pub tables : HaveTables back.next (take back.binders bs)
+
+-- the ends, the innermost first
+abbrev pub AreNested : List BinderIn → ℕ → ℕ → List Pending → Type 0
+AreNested bs count n [] = Unit {0}
+AreNested bs count n (pending.Task t ∷ ps) = AreNested bs count n ps
+AreNested bs count n (pending.EndBlock back test ∷ ps) =
+    IsWithin bs count n back × AreNested bs back.binders back.next ps
+AreNested bs count n (pending.EndFrame frame back routine ∷ ps) =
+    IsWithin bs count n back × AreNested bs back.binders back.next ps
+
+-- of the binders, the number of tables, and what is still to be done
+pub record Stands (bs : List BinderIn) (n : ℕ) (ps : List Pending) : Type 0 where
+  pub tables : HaveTables n bs
+  pub nested : AreNested bs (length bs) n (reverse ps)
+
+abbrev pub Sound : JobIn → Type 0
+Sound j = Stands j.binders.items (length j.tables.items) j.pending.items

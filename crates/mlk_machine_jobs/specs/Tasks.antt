@@ -1,0 +1,119 @@
+-- What a job is, and what it has to do. Restates ISO/IEC 11756, the process and its stack; the tasks are this project's
+-- own. A job does its first task, which is replaced by its parts until it is one step.
+use Rattle.std.specs.Prelude.{ℕ, Bool, List, [], ◌∷◌}
+use Rattle.mlk_text.specs.declared.operator.Op.{Op}
+use Rattle.mlk_text.specs.declared.operator.UnaryOp.{UnaryOp}
+use Rattle.mlk_names.specs.declared.lock_name.LockName.{LockName}
+use Rattle.mlk_names.specs.References.{Touch}
+use Rattle.mlk_names.specs.declared.reference.Extent.{Extent}
+use Rattle.mlk_names.specs.declared.reference.Access.{Access}
+use Rattle.mlk_syntax.specs.declared.expr.Callee.{Callee}
+use Rattle.mlk_syntax.specs.ExprTrees.{Tree, Choices, ActualTree}
+use Rattle.mlk_syntax.specs.declared.command.Sign.{Sign}
+use Rattle.mlk_syntax.specs.Trees.{VariableTree, TargetTree, ActionTree, CommandTrees, ParameterTree, HeadTree, LineTrees}
+use Rattle.mlk_machine_jobs.specs.Bindings.{Names, Bindings, Cells}
+use Rattle.mlk_machine_locks.specs.Counts.{Counts}
+
+-- What a frame owes: one that a job or DO begins gives no value; one of `$$` gives a value and puts `$TEST` back, and
+-- has its value already where QUIT had an argument.
+pub data Frame : Type 0 where
+  NoValue : Frame
+  AwaitsValue : (test : Bool) → Frame
+  HasValue : (test : Bool) → Frame
+
+-- a line of a level, with its block
+abbrev pub LineTree : Type 0
+LineTree = HeadTree × LineTrees
+
+pub data Task : Type 0 where
+  -- Expressions. Each leaves one more value.
+  Evaluate : (t : Tree) → Task
+  Push : (value : List ℕ) → Task
+  Fetch : (name : List ℕ) → Task
+  PushJob : Task
+  PushTest : Task
+  ApplyUnary : (op : UnaryOp) → Task
+  ApplyBinary : (op : Op) → Task
+  -- so many values are used up, and any value is given
+  AskValue : (count : ℕ) → Task
+  -- so many values are not used
+  Drop : (count : ℕ) → Task
+  -- `$SELECT`: its conditions from here on; the value beside a condition that was evaluated, and the conditions after
+  -- it
+  Select : (choices : Choices) → Task
+  Selected : (value : Tree) → (others : Choices) → Task
+  -- a global whose subscripts, so many, were evaluated; and the reference itself, which is touched in one step
+  FormReference : (name : List ℕ) → (count : ℕ) → (extent : Extent) → (access : Access) → Task
+  DoTouch : (touch : Touch) → Task
+  -- Locals. A value is stored, any value, or the last one.
+  Store : (name value : List ℕ) → Task
+  StoreAny : (name : List ℕ) → Task
+  StoreLast : (name : List ℕ) → Task
+  KillNames : (names : Names) → Task
+  NewNames : (names : Names) → Task
+  -- SET: the targets, whose subscripts and arguments were evaluated before the value; MERGE: both sides
+  Assign : (targets : List TargetTree) → Task
+  Merge : (target source : VariableTree) → Task
+  -- Conditions. `$TEST` is set by the last value, or by a choice; the rest of the line is skipped where `$TEST` is
+  -- this.
+  SetTest : Task
+  AskTest : Task
+  SkipIf : (test : Bool) → Task
+  -- a command whose postconditional was evaluated, on a line with this block
+  Conditionally : (action : ActionTree) → (block : LineTrees) → Task
+  -- Locks. The names of an argument, whose subscripts were evaluated, and then the names themselves.
+  LockNamed : (sign : Sign) → (names : List VariableTree) → (timed : Bool) → Task
+  Claim : (names : List LockName) → (timed : Bool) → Task
+  Release : (names : List LockName) → Task
+  ReleaseAll : Task
+  -- Calls. The actuals were evaluated, and the postconditional of the argument where it has one.
+  Call : (extrinsic : Bool) → (callee : Callee) → (actuals : List ActualTree) → Task
+  CallIf : (callee : Callee) → (actuals : List ActualTree) → Task
+  Block : (lines : LineTrees) → Task
+  -- Lines and commands; the commands of a line have its block.
+  RunLines : (lines : List LineTree) → Task
+  RunCommands : (commands : CommandTrees) → (block : LineTrees) → Task
+  -- FOR: the parameters that are left; each round of one without an argument; the next value of one without a limit;
+  -- whether a first round, or a later one, is run where there is a limit
+  Parameters : (variable : List ℕ) → (parameters : List ParameterTree) → (rest : CommandTrees) → (block : LineTrees)
+      → Task
+  Forever : (rest : CommandTrees) → (block : LineTrees) → Task
+  NextValue : (variable : List ℕ) → (rest : CommandTrees) → (block : LineTrees) → Task
+  FirstRound : (variable : List ℕ) → (parameters : List ParameterTree) → (rest : CommandTrees) → (block : LineTrees)
+      → Task
+  LaterRound : (variable : List ℕ) → (parameters : List ParameterTree) → (rest : CommandTrees) → (block : LineTrees)
+      → Task
+  -- The ends of what a job is in. QUIT and HALT cut the tasks.
+  QuitHere : Task
+  QuitWithValue : Task
+  HaltJob : Task
+  -- The end of a block, and of a frame: the bindings, the first unused generation, `$TEST` and the routine, counted
+  -- from 0, as they were at its begin.
+  EndBlock : (back : Bindings) → (next : ℕ) → (test : Bool) → Task
+  EndFrame : (frame : Frame) → (back : Bindings) → (next routine : ℕ) → Task
+
+pub record Job : Type 0 where
+  pub number : ℕ
+  pub test : Bool
+  -- the routine that runs, counted from 0
+  pub routine : ℕ
+  pub bindings : Bindings
+  -- the first generation that no binder has
+  pub next : ℕ
+  pub cells : Cells
+  -- values that were computed and not used yet, the last one first
+  pub values : List (List ℕ)
+  pub held : Counts
+  pub tasks : List Task
+  pub stopped : Bool
+
+-- The open blocks and frames of a job, the innermost first: what each puts back at its end.
+pub data Mark : Type 0 where
+  BlockMark : (back : Bindings) → (next : ℕ) → (test : Bool) → Mark
+  FrameMark : (frame : Frame) → (back : Bindings) → (next routine : ℕ) → Mark
+
+abbrev pub marks : List Task → List Mark
+marks [] = []
+marks (EndBlock back next test ∷ ts) = BlockMark back next test ∷ marks ts
+marks (EndFrame frame back next routine ∷ ts) = FrameMark frame back next routine ∷ marks ts
+marks (t ∷ ts) = marks ts

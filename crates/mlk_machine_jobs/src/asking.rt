@@ -1,0 +1,51 @@
+// What a step asks for, and what it is given.
+
+ghost use Rattle.std.specs.Prelude.{◌≡◌, List, ℕ, Bool, true, false, Some, None, Ok, if◌then◌else◌};
+ghost use Rattle.mlk_machine_locks.specs.Systems.{and_then};
+ghost use Rattle.mlk_machine_jobs.specs.Tasks.{Job};
+ghost use Rattle.mlk_machine_jobs.specs.Choices.{Stepped, without_choice, with_value, with_truth, is_one, is_zero};
+
+use crate::choice::Choice;
+use mlk_machine_locks::Refusal;
+use mlk_text::Value;
+
+/// Nothing may be chosen at a step that asks nothing.
+pub fn not_asked(choice: &Choice) -> Result<(), Refusal>
+    ensures { (j : Job) → without_choice choice.now (Ok j) ≡ and_then (λ _. Ok j) result }
+{
+    match choice {
+        Choice::None => Ok(()),
+        Choice::Value(_) | Choice::Truth(_) => Err(Refusal::BadChoice),
+    }
+}
+
+/// The value that is chosen.
+pub fn asked_value(choice: Choice) -> Result<Value, Refusal>
+    ensures { (f : List ℕ → Stepped) → with_value choice f ≡ and_then f result }
+{
+    match choice {
+        Choice::Value(value) => Ok(value),
+        Choice::None | Choice::Truth(_) => Err(Refusal::BadChoice),
+    }
+}
+
+/// The truth that is chosen.
+pub fn asked_truth(choice: &Choice) -> Result<bool, Refusal>
+    ensures { (f : Bool → Stepped) → with_truth choice.now f ≡ and_then f result }
+{
+    match choice {
+        Choice::Truth(truth) => Ok(*truth),
+        Choice::None | Choice::Value(_) => Err(Refusal::BadChoice),
+    }
+}
+
+/// The truth of a value, where that is known.
+pub fn known_truth(value: &Value) -> Option<bool>
+    ensures { result ≡ (if is_one value.now then Some true else if is_zero value.now then Some false else None) }
+{
+    match value.as_bytes() {
+        b"1" => Some(true),
+        b"0" => Some(false),
+        _ => None,
+    }
+}

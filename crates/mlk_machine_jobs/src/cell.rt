@@ -1,0 +1,176 @@
+// What cells hold.
+
+ghost use Rattle.std.specs.Prelude.{◌≡◌, ◌<◌, ℕ, suc, List, length, Some, None, option_copied, slice_get, IfOk, OnOk, OnErr, min, map, not, if◌then◌else◌};
+ghost use Rattle.mlk_machine_jobs.specs.Bindings.{put, forgotten};
+ghost use Rattle.mlk_machine_jobs.specs.Killing.{is_taken, without_taken};
+ghost use Rattle.mlk_machine_jobs.specs.Views.{names_of, bindings_of, cell_of, in_table, value_at, Puts, without};
+
+use crate::binding::{Binder, Cell, Names};
+use crate::kill::is_taken;
+use indexmap::IndexMap;
+use mlk_text::Value;
+use std::alloc::{AllocError, Global};
+
+/// The values of the cells of one generation, each by its name.
+#[derive(Drop)]
+pub struct Table<'a> {
+    values: IndexMap<&'a [u8], Value>,
+}
+
+impl<'a> Table<'a> {
+    /// A table without values.
+    pub fn new(alloc: Global) -> Table<'a>
+        ensures { (n : List ℕ) → in_table result n ≡ None }
+    {
+        Table {
+            values: IndexMap::new(alloc),
+        }
+    }
+
+    /// A table with the same values.
+    #[tactic(auto, using(crate::proofs::CellLemmas::same_entries))]
+    pub fn copy(&self) -> Result<Table<'a>, AllocError>
+        ensures { IfOk result (λ copy. (n : List ℕ) → in_table copy n ≡ in_table self.now n) }
+    {
+        Ok(Table {
+            values: self.values.clone()?,
+        })
+    }
+
+    // The value of a name. It takes no memory.
+    fn value(&self, name: &[u8]) -> Option<&Value>
+        ensures { option_copied result ≡ in_table self.now name.now }
+    {
+        self.values.get(name)
+    }
+
+    /// Gives a name a value.
+    pub fn put(&mut self, name: &'a [u8], value: Value) -> Result<(), AllocError>
+        ensures ok { OnOk result (Puts name.now (Some value) self.old self.new) }
+        ensures err { OnErr result ((n : List ℕ) → in_table self.new n ≡ in_table self.old n) }
+    {
+        let Ok(_) = self.values.insert(name, value) else {
+            return Err(AllocError);
+        };
+        Ok(())
+    }
+
+    // Takes the value of a name away. It takes no memory.
+    fn remove(&mut self, name: &[u8])
+        ensures { Puts name.now None self.old self.new }
+    {
+        let _ = self.values.swap_remove(name);
+    }
+
+    // Takes the values of the cells of this generation away that KILL takes. It takes no memory.
+    fn leave_out(
+        &mut self,
+        generation: usize,
+        binders: &[Binder],
+        names: Names,
+        shared: &[Cell],
+        spared: &[Cell],
+    )
+        ensures { (n : List ℕ) → in_table self.new n
+            ≡ (if is_taken (bindings_of binders.now) (names_of names.entry) (map cell_of shared.now)
+            (map cell_of spared.now) (record { generation = generation; name = n }) then None else in_table self.old n) }
+    {
+        self.values.retain(
+            |name: &&[u8], value: &mut Value| -> bool
+                ensures result { result ≡ not (is_taken (bindings_of binders.entry.now) (names_of names.entry)
+                    (map cell_of shared.entry.now) (map cell_of spared.entry.now)
+                    (record { generation = generation; name = name.now.now })) }
+                ensures value { value.new ≡ value.old }
+            {
+                let cell = Cell {
+                    generation,
+                    name: *name,
+                };
+                !is_taken(binders, names, shared, spared, cell)
+            },
+        );
+    }
+}
+
+fn table_at<'t, 'a>(tables: &'t [Table<'a>], generation: usize) -> Option<&'t Table<'a>>
+    ensures { option_copied result ≡ slice_get tables.now generation }
+{
+    tables.get(generation)
+}
+
+/// What a cell holds, if it has a value: the tables are of one generation each, from 0. It takes no memory.
+pub fn value_of<'t>(tables: &'t [Table], cell: Cell) -> Option<&'t Value>
+    ensures { option_copied result ≡ value_at tables.now (cell_of cell.entry) }
+{
+    let Some(table) = table_at(tables, cell.generation) else {
+        return None;
+    };
+    table.value(cell.name)
+}
+
+/// Gives a cell a value.
+#[tactic(auto, using(crate::proofs::CellLemmas::values_put, crate::proofs::CellLemmas::values_same))]
+pub fn store<'a>(
+    tables: &mut Vec<Table<'a>>,
+    cell: Cell<'a>,
+    value: Value,
+) -> Result<(), AllocError>
+    requires { cell.generation < length tables.old.items }
+    ensures values { OnOk result (value_at tables.new.items
+        ≡ put (cell_of cell.entry) value (value_at tables.old.items)) }
+    ensures err { OnErr result (value_at tables.new.items ≡ value_at tables.old.items) }
+    ensures len { length tables.new.items ≡ length tables.old.items }
+{
+    tables[cell.generation].put(cell.name, value)
+}
+
+/// Leaves a cell without a value. It takes no memory.
+#[tactic(auto, using(crate::proofs::CellLemmas::values_cleared))]
+pub fn clear(tables: &mut Vec<Table>, cell: Cell)
+    requires { cell.generation < length tables.old.items }
+    ensures values { value_at tables.new.items ≡ without (cell_of cell.entry) (value_at tables.old.items) }
+    ensures len { length tables.new.items ≡ length tables.old.items }
+{
+    tables[cell.generation].remove(cell.name);
+}
+
+/// Takes the values of the cells away that KILL takes. It takes no memory.
+pub(crate) fn leave_out(
+    tables: &mut Vec<Table>,
+    binders: &[Binder],
+    names: Names,
+    shared: &[Cell],
+    spared: &[Cell],
+)
+    ensures values { value_at tables.new.items ≡ without_taken (bindings_of binders.now) (names_of names.entry)
+        (map cell_of shared.now) (map cell_of spared.now) (value_at tables.old.items) }
+    ensures len { length tables.new.items ≡ length tables.old.items }
+{
+    let mut generation = 0;
+    while generation < tables.len() {
+        tables[generation].leave_out(generation, binders, names, shared, spared);
+        generation += 1;
+    }
+}
+
+/// Forgets the cells of this generation and of later ones.
+#[tactic(auto, using(crate::proofs::CellLemmas::values_forgotten))]
+pub fn forget(tables: &mut Vec<Table>, next: usize)
+    ensures values { value_at tables.new.items ≡ forgotten next (value_at tables.old.items) }
+    ensures len { length tables.new.items ≡ min next (length tables.old.items) }
+{
+    tables.truncate(next);
+}
+
+/// One more generation, whose cells have no values.
+#[tactic(auto, using(crate::proofs::CellLemmas::values_added))]
+pub fn add_generation(alloc: Global, tables: &mut Vec<Table>) -> Result<(), AllocError>
+    ensures values { value_at tables.new.items ≡ value_at tables.old.items }
+    ensures len { OnOk result (length tables.new.items ≡ suc (length tables.old.items)) }
+    ensures err { OnErr result (length tables.new.items ≡ length tables.old.items) }
+{
+    let Ok(()) = tables.push(Table::new(alloc)) else {
+        return Err(AllocError);
+    };
+    Ok(())
+}

@@ -1,0 +1,186 @@
+// What steps change of a job, each change by itself.
+
+ghost use Rattle.std.specs.Prelude.{◌≡◌, ◌<◌, ◌++◌, map, OnOk, OnErr, [], option_copied};
+ghost use Rattle.mlk_machine_jobs.specs.Bindings.{look};
+ghost use Rattle.mlk_machine_jobs.specs.Choices.{pushed, dropped, last_values, doing, stored};
+ghost use Rattle.mlk_machine_jobs.specs.Lines.{skipped, to_end, quit, answered};
+ghost use Rattle.mlk_machine_jobs.specs.Locking.{tested};
+ghost use Rattle.mlk_machine_jobs.specs.Sound.{Sound};
+ghost use Rattle.mlk_machine_jobs.specs.TaskViews.{task_of};
+ghost use Rattle.mlk_machine_jobs.specs.Views.{names_of};
+ghost use Rattle.mlk_machine_jobs.specs.JobViews.{job_of, cleared, killing, releasing, holding_nothing, KeepsPending};
+
+use crate::binding::{Names, look};
+use crate::cell::{clear, leave_out, store, value_of};
+use crate::job::Job;
+use crate::kill::{cells_of_formals, cells_spared};
+use crate::pending;
+use crate::task::Task;
+use mlk_machine_locks::Held;
+use mlk_names::LockName;
+use mlk_text::Value;
+use std::alloc::{AllocError, Global};
+
+impl<'a> Job<'a> {
+    /// One more value was computed.
+    pub fn push(&mut self, value: Value) -> Result<(), AllocError>
+        ensures ok { OnOk result (job_of self.new ≡ pushed value (job_of self.old)) }
+        ensures err { OnErr result (job_of self.new ≡ job_of self.old) }
+        ensures room { OnErr result (KeepsPending self.old self.new) }
+        ensures sound { Sound self.old → Sound self.new }
+    {
+        self.values.push(value)
+    }
+
+    /// The last so many values, in the order in which they were computed. It takes no memory.
+    pub fn last_values(&self, count: usize) -> &[Value]
+        ensures { result.now ≡ last_values count (job_of self.now) }
+    {
+        self.values.last(count)
+    }
+
+    /// The last so many values are used up. It takes no memory.
+    pub fn use_up(&mut self, count: usize)
+        ensures changed { job_of self.new ≡ dropped count (job_of self.old) }
+        ensures sound { Sound self.old → Sound self.new }
+    {
+        self.values.use_up(count);
+    }
+
+    /// The last so many values are used up for another one.
+    pub fn replace_last(&mut self, count: usize, value: Value) -> Result<(), AllocError>
+        ensures ok { OnOk result (job_of self.new ≡ pushed value (dropped count (job_of self.old))) }
+        ensures err { OnErr result (job_of self.new ≡ job_of self.old) }
+        ensures room { OnErr result (KeepsPending self.old self.new) }
+        ensures sound { Sound self.old → Sound self.new }
+    {
+        self.values.replace_last(count, value)
+    }
+
+    /// A name is given a value: its cell has one of the tables.
+    pub fn store(&mut self, name: &'a [u8], value: Value) -> Result<(), AllocError>
+        requires { (look (job_of self.old).bindings name.now).generation < (job_of self.old).next }
+        ensures ok { OnOk result (job_of self.new ≡ stored name.now value (job_of self.old)) }
+        ensures err { OnErr result (job_of self.new ≡ job_of self.old) }
+        ensures room { OnErr result (KeepsPending self.old self.new) }
+        ensures sound { Sound self.old → Sound self.new }
+    {
+        let cell = look(self.binders.as_slice(), name);
+        store(&mut self.tables, cell, value)
+    }
+
+    /// A name is left without a value, as is each that shares its cell. It takes no memory.
+    pub fn clear(&mut self, name: &'a [u8])
+        requires { (look (job_of self.old).bindings name.now).generation < (job_of self.old).next }
+        ensures changed { job_of self.new ≡ cleared name.now (job_of self.old) }
+        ensures sound { Sound self.old → Sound self.new }
+    {
+        let cell = look(self.binders.as_slice(), name);
+        clear(&mut self.tables, cell);
+    }
+
+    /// Each cell of these names is left without a value, unless a name that is spared shares it.
+    pub fn kill(&mut self, alloc: Global, names: Names<'a>) -> Result<(), AllocError>
+        ensures ok { OnOk result (job_of self.new ≡ killing (names_of names.entry) (job_of self.old)) }
+        ensures err { OnErr result (job_of self.new ≡ job_of self.old) }
+        ensures room { OnErr result (KeepsPending self.old self.new) }
+        ensures sound { Sound self.old → Sound self.new }
+    {
+        let shared = cells_of_formals(alloc, self.binders.as_slice(), names)?;
+        let spared = cells_spared(alloc, self.binders.as_slice(), names)?;
+        leave_out(
+            &mut self.tables,
+            self.binders.as_slice(),
+            names,
+            shared.as_slice(),
+            spared.as_slice(),
+        );
+        Ok(())
+    }
+
+    /// `$TEST` is set. It takes no memory.
+    pub fn set_test(&mut self, truth: bool)
+        ensures changed { job_of self.new ≡ tested truth (job_of self.old) }
+        ensures sound { Sound self.old → Sound self.new }
+    {
+        self.test = truth;
+    }
+
+    /// What the cell holds that a name is bound to. It takes no memory.
+    pub fn value_of(&self, name: &[u8]) -> Option<&Value>
+        ensures { option_copied result ≡ (job_of self.now).cells (look (job_of self.now).bindings name.now) }
+    {
+        value_of(self.tables.as_slice(), look(self.binders.as_slice(), name))
+    }
+
+    /// Each of these names is held once less, where it is held. It takes no memory.
+    pub fn release(&mut self, names: &[LockName])
+        ensures changed { job_of self.new ≡ releasing names.now (job_of self.old) }
+        ensures sound { Sound self.old → Sound self.new }
+    {
+        self.held.release(names);
+    }
+
+    /// Nothing is held any more. It takes no memory.
+    pub fn release_all(&mut self, alloc: Global)
+        ensures changed { job_of self.new ≡ holding_nothing (job_of self.old) }
+        ensures sound { Sound self.old → Sound self.new }
+    {
+        self.held = Held::new(alloc);
+    }
+
+    /// These tasks are done first, the first of them before all.
+    pub fn do_first(&mut self, tasks: Vec<Task<'a>>) -> Result<(), AllocError>
+        ensures ok { OnOk result (job_of self.new
+            ≡ doing (map task_of tasks.entry.items ++ (job_of self.old).tasks) (job_of self.old)) }
+        ensures err { OnErr result (job_of self.new ≡ job_of self.old) }
+        ensures room { OnErr result (KeepsPending self.old self.new) }
+        ensures sound { Sound self.old → Sound self.new }
+    {
+        pending::do_first(&mut self.pending, tasks)?;
+        Ok(())
+    }
+
+    /// The rest of the line is skipped, up to the next round of its innermost FOR. It takes no memory.
+    pub fn skip(&mut self)
+        ensures changed { job_of self.new ≡ doing (skipped (job_of self.old).tasks) (job_of self.old) }
+        ensures sound { Sound self.old → Sound self.new }
+    {
+        pending::skip(&mut self.pending);
+    }
+
+    /// The block, or else the frame, is quit, up to its end. It takes no memory.
+    pub fn go_to_end(&mut self)
+        ensures changed { job_of self.new ≡ doing (to_end (job_of self.old).tasks) (job_of self.old) }
+        ensures sound { Sound self.old → Sound self.new }
+    {
+        pending::go_to_end(&mut self.pending);
+    }
+
+    /// The innermost FOR of the line is quit, else the block, else the frame. It takes no memory.
+    pub fn quit(&mut self)
+        ensures changed { job_of self.new ≡ doing (quit (job_of self.old).tasks) (job_of self.old) }
+        ensures sound { Sound self.old → Sound self.new }
+    {
+        pending::quit(&mut self.pending);
+    }
+
+    /// The frame at whose end the job is keeps the last value, if it awaits one; else the value is not used. It takes no
+    /// memory.
+    pub fn answer(&mut self)
+        ensures changed { job_of self.new ≡ answered (job_of self.old) (job_of self.old).tasks }
+        ensures sound { Sound self.old → Sound self.new }
+    {
+        if !pending::keep_value(&mut self.pending) {
+            self.values.use_up(1);
+        }
+    }
+
+    /// Nothing is left to do. It takes no memory.
+    pub fn halt(&mut self)
+        ensures changed { job_of self.new ≡ doing [] (job_of self.old) }
+        ensures sound { Sound self.old → Sound self.new }
+    {
+        self.pending.clear();
+    }
+}

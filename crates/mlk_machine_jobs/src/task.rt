@@ -1,0 +1,113 @@
+// What a job has to do.
+
+use crate::binding::Names;
+use mlk_names::{Access, Extent, LockName, Reference};
+use mlk_syntax::{
+    Action, Actual, Callee, Command, Expr, For, Line, Parameter, Sign, Target, Variable,
+};
+use mlk_text::{Name, Op, UnaryOp, Value};
+
+/// What a call is made by.
+#[derive(Clone, Copy, Drop)]
+pub enum Calling {
+    ByDo,
+    Extrinsic,
+}
+
+/// What is left of a line: its commands, the FOR after them, and the line's block.
+#[derive(Clone, Copy, Drop)]
+pub struct Rest<'a> {
+    pub commands: &'a [Command],
+    pub last: Option<&'a For>,
+    pub block: &'a [Line],
+}
+
+/// What expressions are made of: each leaves one more value.
+#[derive(Clone, Drop)]
+pub enum ValueTask<'a> {
+    Evaluate(&'a Expr),
+    Push(&'a Value),
+    Fetch(&'a Name),
+    PushJob,
+    PushTest,
+    ApplyUnary(UnaryOp),
+    ApplyBinary(Op),
+    /// so many values are used up, and any value is given
+    AskValue(usize),
+    /// so many values are not used
+    DropValues(usize),
+    Select(&'a [(Expr, Expr)]),
+    /// the value beside a condition that was evaluated, and the conditions after it
+    Selected(&'a Expr, &'a [(Expr, Expr)]),
+    /// a global whose subscripts, so many, were evaluated
+    FormReference(&'a Name, usize, Extent, Access),
+    /// its subscripts are constants
+    DoTouch(Reference),
+}
+
+/// What is done to locals, and the assignments of SET and MERGE.
+#[derive(Clone, Drop)]
+pub enum LocalTask<'a> {
+    Store(&'a Name, Value),
+    StoreAny(&'a Name),
+    StoreLast(&'a Name),
+    KillNames(Names<'a>),
+    NewNames(Names<'a>),
+    Assign(&'a [Target]),
+    /// the target, then the source
+    Merge(&'a Variable, &'a Variable),
+}
+
+/// What is done by a truth.
+#[derive(Clone, Drop)]
+pub enum TestTask<'a> {
+    SetTest,
+    AskTest,
+    SkipIf(bool),
+    /// a command whose postconditional was evaluated, and the block of its line
+    Conditionally(&'a Action, &'a [Line]),
+}
+
+/// What is done to locks.
+#[derive(Drop)]
+pub enum LockTask<'a> {
+    /// names whose subscripts were evaluated, and whether there is a timeout
+    LockNamed(Sign, &'a [Variable], bool),
+    Claim(Vec<LockName>, bool),
+    Release(Vec<LockName>),
+    ReleaseAll,
+}
+
+/// What begins a frame or a block.
+#[derive(Clone, Drop)]
+pub enum ScopeTask<'a> {
+    Call(Calling, &'a Callee, &'a [Actual]),
+    CallIf(&'a Callee, &'a [Actual]),
+    Block(&'a [Line]),
+}
+
+/// What is done of lines: their commands, the rounds of FOR, and QUIT and HALT.
+#[derive(Clone, Drop)]
+pub enum LineTask<'a> {
+    RunLines(&'a [Line]),
+    RunCommands(Rest<'a>),
+    Parameters(&'a Name, &'a [Parameter], Rest<'a>),
+    Forever(Rest<'a>),
+    NextValue(&'a Name, Rest<'a>),
+    FirstRound(&'a Name, &'a [Parameter], Rest<'a>),
+    LaterRound(&'a Name, &'a [Parameter], Rest<'a>),
+    QuitHere,
+    QuitWithValue,
+    HaltJob,
+}
+
+/// A task: a job does its first one, which is replaced by its parts until it is one step.
+#[derive(Drop)]
+pub enum Task<'a> {
+    Value(ValueTask<'a>),
+    Local(LocalTask<'a>),
+    Test(TestTask<'a>),
+    Lock(LockTask<'a>),
+    Scope(ScopeTask<'a>),
+    Line(LineTask<'a>),
+}

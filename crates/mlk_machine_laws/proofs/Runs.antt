@@ -1,0 +1,52 @@
+-- Each job of a run is what its own acts make of it, and what two jobs hold is apart: so what each keeps to by itself tells
+-- of all.
+use Rattle.std.proofs.Common.{◌≡◌, Bool, true, List, [], Ok, sym, ◌∙◌, ⊎_elim}
+use Rattle.std.proofs.lemmas.Bool.{false_from_ne_true}
+use Rattle.std.proofs.lemmas.Fmt.{decimal_injective}
+use Rattle.mlk_rules.proofs.Apart.{covered_apart}
+use Rattle.mlk_rules.proofs.SoundLemmas.{by_job}
+use Rattle.mlk_machine_locks.specs.Lists.{Among}
+use Rattle.mlk_machine_locks.specs.Systems.{Event, after}
+use Rattle.mlk_machine_locks.specs.Laws.{has_ring_of}
+use Rattle.mlk_syntax.specs.Trees.{RoutineTree}
+use Rattle.mlk_program.specs.declared.entry.EntryId.{EntryId}
+use Rattle.mlk_machine_jobs.specs.declared.choice.Choice.{Choice}
+use Rattle.mlk_machine_jobs.specs.Tasks.{Job}
+use Rattle.mlk_machine_jobs.specs.Runs.{machine, seen}
+use Rattle.mlk_machine_jobs.proofs.MachineLemmas.{held_apart, one_run_of_many, rings_found}
+use Rattle.mlk_machine_laws.specs.Moments.{StandsCovered, StandsInOrder, EndsEmpty, AtEachMoment}
+use Rattle.mlk_machine_laws.specs.Laws.{NoClash, NoRing, AllEndEmpty}
+use Rattle.mlk_machine_laws.proofs.RisingRanks.{no_set}
+
+-- what a job keeps to at each moment by itself, it keeps to in a run of many
+module _ (routines : List RoutineTree) (declared : EntryId → Bool) (Keeps : Job → Type 0) (each : AtEachMoment routines declared Keeps) where
+  in_run : (events : List (Event Choice EntryId)) (jobs : List Job) → after (machine routines declared) events [] ≡ Ok jobs → (j : Job) → Among j jobs → Keeps j
+  in_run events jobs h j a =
+      let s = (one_run_of_many routines declared events jobs h j a).lone in
+      each s.entry s.test s.values j.number s.first j (one_run_of_many routines declared events jobs h j a).acts s.is_first s.runs
+
+pub no_clash : NoClash
+no_clash routines declared rules sound each events jobs h i j a b m n clash =
+    let p = in_run routines declared (StandsCovered rules) each events jobs h i a clash.one clash.is_one in
+    let q = in_run routines declared (StandsCovered rules) each events jobs h j b clash.other clash.is_other in
+    ⊎_elim
+    (λ e. clash.different (decimal_injective i.number j.number m n (sym p.own ∙ e ∙ q.own)))
+    (λ c.
+    let x = p.each_held c.first c.is_held in
+    let y = q.each_held c.second c.is_kept in
+    held_apart routines declared events jobs h i j a b clash.different x.name y.name x.holds y.holds (c.conflict x.name y.name x.names y.names))
+    (covered_apart rules p.values q.values p.held q.held p.reference q.reference clash.one clash.other (by_job rules sound) p.covered q.covered p.touches q.touches clash.overlap clash.writes)
+
+pub no_ring : NoRing
+no_ring routines declared rules sound each events jobs h =
+    let apart = held_apart routines declared events jobs h in
+    let order = in_run routines declared (StandsInOrder rules.families) each events jobs h in
+    record {
+      tested = false_from_ne_true (has_ring_of seen jobs) (λ found.
+          let r = (rings_found jobs).0 found in no_set seen rules.families jobs sound.apart apart order (λ x. Among x r.0) r.1);
+      listed = λ r. no_set seen rules.families jobs sound.apart apart order (λ x. Among x r.0) r.1;
+      any = λ In ring. no_set seen rules.families jobs sound.apart apart order (λ x. In x ≡ true) ring;
+    }
+
+pub all_end_empty : AllEndEmpty
+all_end_empty routines declared each = in_run routines declared EndsEmpty each

@@ -1,0 +1,28 @@
+-- What a step leaves of the values of names outside of a block or frame. Restates ISO/IEC 11756, local variables, NEW and
+-- parameter passing: what a name is bound to there is changed under that name where no NEW and no formal hides it, or by
+-- reference.
+use Rattle.std.specs.Prelude.{◌≡◌, ℕ, Bool, false, ◌&&◌, not, List, ◌∷◌, ◌++◌, bytes_eq, Ok}
+use Rattle.mlk_names.specs.declared.lock_name.LockName.{LockName}
+use Rattle.mlk_syntax.specs.Trees.{RoutineTree}
+use Rattle.mlk_machine_jobs.specs.declared.choice.Choice.{Choice}
+use Rattle.mlk_machine_jobs.specs.Bindings.{covers, Bindings, look}
+use Rattle.mlk_machine_jobs.specs.Tasks.{Task, Job, Store, StoreAny, StoreLast, KillNames}
+use Rattle.mlk_machine_jobs.specs.Runs.{go}
+use Rattle.mlk_machine_laws.specs.Sharing.{binds, is_lent}
+
+-- the next step stores a value in the name, or takes its value away
+abbrev pub changes : List Task → List ℕ → Bool
+changes (Store name value ∷ ts) n = bytes_eq name n
+changes (StoreAny name ∷ ts) n = bytes_eq name n
+changes (StoreLast name ∷ ts) n = bytes_eq name n
+changes (KillNames names ∷ ts) n = covers names n
+changes ts n = false
+
+-- Of the binders that a step leaves as they were, each name keeps its value in that step, but where some formal is bound
+-- to its cell by reference, or where the step changes that very name and nothing in front binds it.
+abbrev pub KeepsOutside : List RoutineTree → Job → Type 0
+KeepsOutside routines j =
+    (front after back : Bindings) (n : List ℕ) (free : LockName → Bool) (c : Choice) (i : Job)
+    → go routines free c j ≡ Ok i → j.bindings ≡ front ++ back → i.bindings ≡ after ++ back
+    → is_lent j.bindings (look back n) ≡ false → (changes j.tasks n && not (binds front n)) ≡ false
+    → i.cells (look back n) ≡ j.cells (look back n)

@@ -1,0 +1,114 @@
+// Jobs that run a program and share its locks.
+
+ghost use Rattle.std.specs.Prelude.{◌≡◌, OnErr, Ok, Bool, List, map};
+ghost use Rattle.mlk_text.specs.Failures.{Answers};
+ghost use Rattle.mlk_machine_locks.specs.Systems as systems;
+ghost use Rattle.mlk_machine_locks.specs.Waiting.{is_numbered};
+ghost use Rattle.mlk_machine_locks.specs.Systems.{and_then, happens};
+ghost use Rattle.mlk_program.specs.declared.entry.EntryId.{EntryId as EntryOf};
+ghost use Rattle.mlk_syntax.specs.Trees.{RoutineTree};
+ghost use Rattle.mlk_syntax.specs.Views.{routine_of};
+ghost use Rattle.mlk_machine_jobs.specs.Runs.{machine, seen};
+ghost use Rattle.mlk_machine_jobs.specs.JobViews.{job_of};
+ghost use Rattle.mlk_machine_locks.specs.Tables.{Covers};
+ghost use Rattle.mlk_machine_run.specs.Jobs.{AreSound, IsPlaceOf, StayCovered, seen_in};
+
+use crate::beginning::begin;
+use crate::stepping::{claimed_names, step};
+use mlk_machine_jobs::{Choice, Job};
+use mlk_machine_locks::{LockTable, Refusal};
+use mlk_program::{EntryId, Program};
+use mlk_text::{Failure, Value};
+use std::alloc::Global;
+
+/// One step of the job of this number, which stands at this place, if there is one, with this choice. Which names others
+/// hold is asked of a table that finds them. Where there is no memory, or the step is refused, all jobs are as they were.
+pub fn go<'a>(
+    alloc: Global,
+    program: &Program<'a>,
+    table: &mut LockTable,
+    jobs: &mut Vec<Job<'a>>,
+    place: Option<usize>,
+    number: u32,
+    choice: Choice,
+) -> Result<(), Failure<Refusal>>
+    requires sound { AreSound jobs.old.items }
+    requires place { IsPlaceOf number jobs.old.items place }
+    requires covers { Covers seen_in table.old jobs.old.items }
+    ensures answer { (declared : EntryOf → Bool) → Answers (λ _. map job_of jobs.new.items) result
+        (happens (machine (map routine_of program.now) declared) (map job_of jobs.old.items) number (systems.Go choice)) }
+    ensures stays { OnErr result (map job_of jobs.new.items ≡ map job_of jobs.old.items) }
+    ensures sound { AreSound jobs.new.items }
+    ensures covers { Covers seen_in table.new jobs.new.items }
+{
+    let Some(place) = place else {
+        return Err(Failure::Refused(Refusal::UnknownJob));
+    };
+    let names = claimed_names(&jobs[place]);
+    let are_free = table.are_free(jobs.as_slice(), number, names);
+    table.list(place, names)?;
+    step(alloc, program, &mut jobs[place], choice, are_free)
+}
+
+/// The job of this number, which stands at this place, if there is one, is aborted: it holds no lock then, and does nothing
+/// more.
+pub fn abort(
+    alloc: Global,
+    jobs: &mut Vec<Job>,
+    place: Option<usize>,
+    number: u32,
+) -> Result<(), Refusal>
+    requires sound { AreSound jobs.old.items }
+    requires place { IsPlaceOf number jobs.old.items place }
+    ensures answer { (routines : List RoutineTree) (declared : EntryOf → Bool)
+        → happens (machine routines declared) (map job_of jobs.old.items) number systems.Abort
+        ≡ and_then (λ _. Ok (map job_of jobs.new.items)) result }
+    ensures stays { OnErr result (map job_of jobs.new.items ≡ map job_of jobs.old.items) }
+    ensures sound { AreSound jobs.new.items }
+    ensures covered { StayCovered jobs.old.items jobs.new.items }
+{
+    let Some(place) = place else {
+        return Err(Refusal::UnknownJob);
+    };
+    jobs[place].abort(alloc)
+}
+
+/// A new job begins at an entry, after the others; `is_declared` says whether the entry may be begun at, `is_used` whether
+/// a job has its number.
+pub fn join<'a>(
+    alloc: Global,
+    program: &Program<'a>,
+    jobs: &mut Vec<Job<'a>>,
+    entry: EntryId,
+    is_declared: bool,
+    is_used: bool,
+    number: u32,
+    test: bool,
+    values: &[Value],
+) -> Result<(), Failure<Refusal>>
+    requires sound { AreSound jobs.old.items }
+    requires used { is_used ≡ is_numbered seen (map job_of jobs.old.items) number }
+    ensures answer { (declared : EntryOf → Bool) → declared entry ≡ is_declared
+        → Answers (λ _. map job_of jobs.new.items) result
+        (happens (machine (map routine_of program.now) declared) (map job_of jobs.old.items) number
+        (systems.Begin entry test values.now)) }
+    ensures stays { OnErr result (map job_of jobs.new.items ≡ map job_of jobs.old.items) }
+    ensures sound { AreSound jobs.new.items }
+    ensures covered { StayCovered jobs.old.items jobs.new.items }
+{
+    if is_used {
+        return Err(Failure::Refused(Refusal::NotEnabled));
+    }
+    if !is_declared {
+        return Err(Failure::Refused(Refusal::NotEnabled));
+    }
+    match begin(alloc, program, entry, number, test, values) {
+        Ok(job) => {
+            let Ok(()) = jobs.push(job) else {
+                return Err(Failure::OutOfMemory);
+            };
+            Ok(())
+        }
+        Err(why) => Err(why),
+    }
+}

@@ -1,0 +1,60 @@
+// References to globals: they are formed, and then touched in one step each.
+
+ghost use Rattle.std.specs.Prelude.{◌≡◌, ◌∷◌, OnErr, Ok};
+ghost use Rattle.mlk_text.specs.Failures.{Answers};
+ghost use Rattle.mlk_machine_jobs.specs.Tasks.{DoTouch};
+ghost use Rattle.mlk_machine_jobs.specs.Choices.{without_choice, touched, touch_of, last_values, dropped, doing};
+ghost use Rattle.mlk_machine_jobs.specs.JobViews.{job_of, KeepsPending};
+ghost use Rattle.mlk_machine_jobs.specs.Sound.{Sound};
+
+use crate::ask::{nothing_asked, or_refused};
+use mlk_machine_jobs::{Choice, Job, Task, ValueTask, asked_value};
+use mlk_machine_locks::Refusal;
+use mlk_machine_tasks::{add, concrete};
+use mlk_names::{Access, Extent};
+use mlk_text::{Failure, Name};
+use std::alloc::Global;
+
+/// A reference, whose subscripts, so many, are the last values.
+pub fn form_reference<'a>(
+    alloc: Global,
+    job: &mut Job<'a>,
+    choice: &Choice,
+    name: &'a Name,
+    count: usize,
+    extent: Extent,
+    access: Access,
+) -> Result<(), Failure<Refusal>>
+    ensures answer { Answers (λ _. job_of job.new) result (without_choice choice.now
+        (Ok (doing (DoTouch (touch_of name.now (last_values count (job_of job.old)) extent access)
+        ∷ (job_of job.old).tasks) (dropped count (job_of job.old))))) }
+    ensures stays { OnErr result (job_of job.new ≡ job_of job.old) }
+    ensures room { OnErr result (KeepsPending job.old job.new) }
+    ensures sound { Sound job.old → Sound job.new }
+{
+    nothing_asked(choice)?;
+    let reference = concrete(alloc, name, job.last_values(count), extent, access)?;
+    let mut parts = Vec::new(alloc);
+    add(&mut parts, Task::Value(ValueTask::DoTouch(reference)))?;
+    job.do_first(parts)?;
+    job.use_up(count);
+    Ok(())
+}
+
+/// A reference is touched: a read gives any value.
+pub fn touch(job: &mut Job, choice: Choice, access: Access) -> Result<(), Failure<Refusal>>
+    ensures answer { Answers (λ _. job_of job.new) result
+        (touched choice access (job_of job.old) (job_of job.old).tasks) }
+    ensures stays { OnErr result (job_of job.new ≡ job_of job.old) }
+    ensures room { OnErr result (KeepsPending job.old job.new) }
+    ensures sound { Sound job.old → Sound job.new }
+{
+    match access {
+        Access::Reads => {
+            let value = or_refused(asked_value(choice))?;
+            job.push(value)?;
+            Ok(())
+        }
+        Access::Writes => nothing_asked(&choice),
+    }
+}

@@ -1,0 +1,53 @@
+-- What assignments are replaced by, by the names of what is assigned. This project's own.
+use Rattle.std.specs.Prelude.{ℕ, Bool, true, false, List, [], ◌∷◌, ◌++◌, Option, Some, None}
+use Rattle.mlk_names.specs.declared.reference.Extent.TheVariants as extent
+use Rattle.mlk_names.specs.declared.reference.Access.TheVariants.{Reads, Writes}
+use Rattle.mlk_syntax.specs.ExprTrees.{GlobalName}
+use Rattle.mlk_syntax.specs.Trees.{VariableTree, Named}
+use Rattle.mlk_machine_jobs.specs.Tasks.{Task, Drop, Store, StoreAny, StoreLast, DoTouch}
+use Rattle.mlk_machine_jobs.specs.Choices.{touch_of}
+
+-- the name of a global
+abbrev pub global_name : VariableTree → Option (List ℕ)
+global_name (Named column (GlobalName caret name subs)) = Some name
+global_name v = None
+
+-- a node is read, and then written
+abbrev pub read_and_written : List ℕ → List (List ℕ) → List Task
+read_and_written name subs =
+    DoTouch (touch_of name subs extent.Node Reads) ∷ Drop 1 ∷ DoTouch (touch_of name subs extent.Node Writes) ∷ []
+
+-- of the name of a local without subscripts, and of a global, where there are any
+abbrev pub whole_assigned : List ℕ → List (List ℕ) → Option (List ℕ) → Option (List ℕ) → List Task
+whole_assigned value subs (Some name) global = Store name value ∷ []
+whole_assigned value subs None (Some name) = DoTouch (touch_of name subs extent.Node Writes) ∷ []
+whole_assigned value subs None None = []
+
+abbrev pub part_assigned : List (List ℕ) → Option (List ℕ) → Option (List ℕ) → List Task
+part_assigned subs (Some name) global = StoreAny name ∷ []
+part_assigned subs None (Some name) = read_and_written name subs
+part_assigned subs None None = []
+
+-- the tree of a global is read
+abbrev pub source_read : List (List ℕ) → Option (List ℕ) → List Task
+source_read subs None = []
+source_read subs (Some name) = DoTouch (touch_of name subs extent.Tree Reads) ∷ []
+
+-- what a local is merged with: the tree that was read, or any value
+abbrev pub into_local : List ℕ → Bool → List Task
+into_local name true = StoreLast name ∷ []
+into_local name false = StoreAny name ∷ []
+
+-- what was read is not used
+abbrev pub unread : Bool → List Task
+unread true = Drop 1 ∷ []
+unread false = []
+
+abbrev pub tree_written : List (List ℕ) → Option (List ℕ) → List Task
+tree_written subs None = []
+tree_written subs (Some name) = DoTouch (touch_of name subs extent.Tree Writes) ∷ []
+
+-- MERGE into a local without subscripts, or else into a global, where a tree was read or not
+abbrev pub merged_into : List (List ℕ) → Option (List ℕ) → Option (List ℕ) → Bool → List Task
+merged_into subs (Some name) global is_read = into_local name is_read
+merged_into subs None global is_read = unread is_read ++ tree_written subs global

@@ -1,0 +1,3 @@
+pub mod PartViews
+pub mod ArgumentViews
+pub mod AssignViews

@@ -1,0 +1,205 @@
+// What commands are replaced by.
+
+ghost use Rattle.std.specs.Prelude.{OnOk, flat_map, map, option_map};
+ghost use Rattle.mlk_syntax.specs.ExprTrees.{tree_of, trees};
+ghost use Rattle.mlk_syntax.specs.Views.{call_of, do_of, kill_of, lock_of, merge_of, new_of, read_of, set_of, write_of, action_of, command_of};
+ghost use Rattle.mlk_machine_jobs.specs.Commands.{evaluated, job_parts, merge_parts, read_parts, set_parts, write_parts, action_parts};
+ghost use Rattle.mlk_machine_jobs.specs.Lines.{command_parts};
+ghost use Rattle.mlk_machine_jobs.specs.TaskViews.{Adds, block_of};
+ghost use Rattle.mlk_machine_tasks.specs.ArgumentViews.{do_all, if_all, kill_all, lock_all, new_all, quit_parts};
+
+use crate::adding::add;
+use crate::command::{block_parts, evaluated, if_parts};
+use crate::part::add_all;
+use mlk_machine_jobs::{LineTask, LocalTask, LockTask, Names, Task, TestTask, ValueTask};
+use mlk_syntax::{
+    Action, Call, Command, DoArgument, Expr, KillArgument, Line, LockArgument, MergeArgument,
+    NewArgument, ReadArgument, SetArgument, WriteArgument,
+};
+use std::alloc::AllocError;
+
+// Expressions whose values are not used.
+fn each_evaluated<'a>(parts: &mut Vec<Task<'a>>, times: &'a [Expr]) -> Result<(), AllocError>
+    ensures { OnOk result (Adds (flat_map evaluated (trees times.now)) parts.old.items parts.new.items) }
+{
+    let mut left = times;
+    while let Some((time, others)) = left.split_first() {
+        evaluated(parts, time)?;
+        left = others;
+    }
+    Ok(())
+}
+
+// The conditions of IF; without one `$TEST` is asked.
+fn if_all<'a>(parts: &mut Vec<Task<'a>>, conditions: &'a [Expr]) -> Result<(), AllocError>
+    ensures { OnOk result (Adds (if_all (trees conditions.now)) parts.old.items parts.new.items) }
+{
+    let Some((first, others)) = conditions.split_first() else {
+        return add(parts, Task::Test(TestTask::SkipIf(false)));
+    };
+    if_parts(parts, first)?;
+    let mut left = others;
+    while let Some((condition, later)) = left.split_first() {
+        if_parts(parts, condition)?;
+        left = later;
+    }
+    Ok(())
+}
+
+// The calls of DO; without one the block is run.
+#[tactic(auto, using(crate::proofs::ActionParts::do_none, crate::proofs::ActionParts::do_some))]
+fn do_all<'a>(
+    parts: &mut Vec<Task<'a>>,
+    block: &'a [Line],
+    calls: &'a [DoArgument],
+) -> Result<(), AllocError>
+    ensures { OnOk result (Adds (do_all (block_of block.now) (map do_of calls.now)) parts.old.items parts.new.items) }
+{
+    match calls.split_first() {
+        None => block_parts(parts, block),
+        Some(_) => add_all(parts, calls),
+    }
+}
+
+// What KILL removes; without an argument all locals.
+#[tactic(auto, using(crate::proofs::ActionParts::kill_none, crate::proofs::ActionParts::kill_some))]
+fn kill_all<'a>(parts: &mut Vec<Task<'a>>, kills: &'a [KillArgument]) -> Result<(), AllocError>
+    ensures { OnOk result (Adds (kill_all (map kill_of kills.now)) parts.old.items parts.new.items) }
+{
+    match kills.split_first() {
+        None => add(parts, Task::Local(LocalTask::KillNames(Names::AllBut(&[])))),
+        Some(_) => add_all(parts, kills),
+    }
+}
+
+// What LOCK claims or releases; without an argument all is released.
+#[tactic(auto, using(crate::proofs::ActionParts::lock_none, crate::proofs::ActionParts::lock_some))]
+fn lock_all<'a>(parts: &mut Vec<Task<'a>>, locks: &'a [LockArgument]) -> Result<(), AllocError>
+    ensures { OnOk result (Adds (lock_all (map lock_of locks.now)) parts.old.items parts.new.items) }
+{
+    match locks.split_first() {
+        None => add(parts, Task::Lock(LockTask::ReleaseAll)),
+        Some(_) => add_all(parts, locks),
+    }
+}
+
+// What NEW makes new; without an argument all locals.
+#[tactic(auto, using(crate::proofs::ActionParts::new_none, crate::proofs::ActionParts::new_some))]
+fn new_all<'a>(parts: &mut Vec<Task<'a>>, news: &'a [NewArgument]) -> Result<(), AllocError>
+    ensures { OnOk result (Adds (new_all (map new_of news.now)) parts.old.items parts.new.items) }
+{
+    match news.split_first() {
+        None => add(parts, Task::Local(LocalTask::NewNames(Names::AllBut(&[])))),
+        Some(_) => add_all(parts, news),
+    }
+}
+
+// Calls of JOB.
+#[tactic(auto, using(crate::proofs::ActionParts::job_mapped))]
+fn job_all<'a>(parts: &mut Vec<Task<'a>>, calls: &'a [Call]) -> Result<(), AllocError>
+    ensures { OnOk result (Adds (flat_map job_parts (map call_of calls.now)) parts.old.items parts.new.items) }
+{
+    add_all(parts, calls)?;
+    Ok(())
+}
+
+// The arguments of MERGE.
+#[tactic(auto, using(crate::proofs::ActionParts::merge_mapped))]
+fn merge_all<'a>(parts: &mut Vec<Task<'a>>, merges: &'a [MergeArgument]) -> Result<(), AllocError>
+    ensures { OnOk result (Adds (flat_map merge_parts (map merge_of merges.now)) parts.old.items parts.new.items) }
+{
+    add_all(parts, merges)?;
+    Ok(())
+}
+
+// The arguments of READ.
+#[tactic(auto, using(crate::proofs::ActionParts::read_mapped))]
+fn read_all<'a>(parts: &mut Vec<Task<'a>>, reads: &'a [ReadArgument]) -> Result<(), AllocError>
+    ensures { OnOk result (Adds (flat_map read_parts (map read_of reads.now)) parts.old.items parts.new.items) }
+{
+    add_all(parts, reads)?;
+    Ok(())
+}
+
+// The arguments of SET.
+#[tactic(auto, using(crate::proofs::ActionParts::set_mapped))]
+fn set_all<'a>(parts: &mut Vec<Task<'a>>, sets: &'a [SetArgument]) -> Result<(), AllocError>
+    ensures { OnOk result (Adds (flat_map set_parts (map set_of sets.now)) parts.old.items parts.new.items) }
+{
+    add_all(parts, sets)?;
+    Ok(())
+}
+
+// The arguments of WRITE.
+#[tactic(auto, using(crate::proofs::ActionParts::write_mapped))]
+fn write_all<'a>(parts: &mut Vec<Task<'a>>, writes: &'a [WriteArgument]) -> Result<(), AllocError>
+    ensures { OnOk result (Adds (flat_map write_parts (map write_of writes.now)) parts.old.items parts.new.items) }
+{
+    add_all(parts, writes)?;
+    Ok(())
+}
+
+// QUIT, with or without a value.
+fn quit_parts<'a>(parts: &mut Vec<Task<'a>>, value: &'a Option<Box<Expr>>) -> Result<(), AllocError>
+    ensures { OnOk result (Adds (quit_parts (option_map (λ b. tree_of b.value) value.now)) parts.old.items parts.new.items) }
+{
+    match value {
+        None => {
+            add(parts, Task::Line(LineTask::QuitHere))?;
+            Ok(())
+        }
+        Some(value) => {
+            add(parts, Task::Value(ValueTask::Evaluate(value)))?;
+            add(parts, Task::Line(LineTask::QuitWithValue))?;
+            Ok(())
+        }
+    }
+}
+
+/// What a command does, on a line with this block.
+#[tactic(auto, using(crate::proofs::ActionParts::does_do, crate::proofs::ActionParts::does_if, crate::proofs::ActionParts::does_kill, crate::proofs::ActionParts::does_lock, crate::proofs::ActionParts::does_new, crate::proofs::ActionParts::does_quit))]
+pub fn action_parts<'a>(
+    parts: &mut Vec<Task<'a>>,
+    block: &'a [Line],
+    action: &'a Action,
+) -> Result<(), AllocError>
+    ensures { OnOk result (Adds (action_parts (block_of block.now) (action_of action.now)) parts.old.items parts.new.items) }
+{
+    match action {
+        Action::Do(calls) => do_all(parts, block, calls),
+        Action::Else => add(parts, Task::Test(TestTask::SkipIf(true))),
+        Action::Halt => add(parts, Task::Line(LineTask::HaltJob)),
+        Action::Hang(times) => each_evaluated(parts, times),
+        Action::If(conditions) => if_all(parts, conditions),
+        Action::Job(calls) => job_all(parts, calls),
+        Action::Kill(kills) => kill_all(parts, kills),
+        Action::Lock(locks) => lock_all(parts, locks),
+        Action::Merge(merges) => merge_all(parts, merges),
+        Action::New(news) => new_all(parts, news),
+        Action::Quit(value) => quit_parts(parts, value),
+        Action::Read(reads) => read_all(parts, reads),
+        Action::Set(sets) => set_all(parts, sets),
+        Action::Write(writes) => write_all(parts, writes),
+    }
+}
+
+/// A command, after its postconditional if it has one.
+pub(crate) fn command_parts<'a>(
+    parts: &mut Vec<Task<'a>>,
+    block: &'a [Line],
+    command: &'a Command,
+) -> Result<(), AllocError>
+    ensures { OnOk result (Adds (command_parts (block_of block.now) (command_of command.now)) parts.old.items parts.new.items) }
+{
+    match &command.condition {
+        None => action_parts(parts, block, &command.action),
+        Some(condition) => {
+            add(parts, Task::Value(ValueTask::Evaluate(condition)))?;
+            add(
+                parts,
+                Task::Test(TestTask::Conditionally(&command.action, block)),
+            )?;
+            Ok(())
+        }
+    }
+}

@@ -1,0 +1,164 @@
+// What the arguments of commands are replaced by.
+
+ghost use Rattle.std.specs.Prelude.{◌≡◌, OnOk, option_map};
+ghost use Rattle.mlk_syntax.specs.ExprTrees.{tree_of};
+ghost use Rattle.mlk_syntax.specs.Views.{variable_of, do_of, new_of, merge_of, read_of, write_of};
+ghost use Rattle.mlk_machine_jobs.specs.Commands.{do_parts, new_parts, merge_parts, store_last, read_parts, write_parts};
+ghost use Rattle.mlk_machine_jobs.specs.TaskViews.{Adds};
+ghost use Rattle.mlk_machine_tasks.specs.ArgumentViews.{bare_name, read_after};
+
+use crate::adding::add;
+use crate::command::{evaluated, evaluated_if, given_in, in_time, in_variable};
+use crate::evaluate::each_actual;
+use mlk_machine_jobs::{Calling, LocalTask, Names, ScopeTask, Task, ValueTask, count_in};
+use mlk_syntax::{
+    DoArgument, Expr, MergeArgument, NewArgument, ReadArgument, Variable, WriteArgument,
+};
+use mlk_text::Name;
+use std::alloc::AllocError;
+
+// The name of a local without subscripts.
+#[tactic(auto, using(crate::proofs::CommandParts::bare_local, crate::proofs::CommandParts::no_bare_local))]
+pub(crate) fn bare_name(variable: &Variable) -> Option<&Name>
+    ensures { option_map (λ n. n.now) result ≡ bare_name (variable_of variable.now) }
+{
+    match &variable.name {
+        Expr::Local(name, subscripts) => match subscripts.split_first() {
+            None => Some(name),
+            Some(_) => None,
+        },
+        Expr::Global(_, _, _)
+        | Expr::Lit(_)
+        | Expr::Free
+        | Expr::Special(_)
+        | Expr::Unary(_, _)
+        | Expr::Binary(_, _)
+        | Expr::Pattern(_)
+        | Expr::Func(_, _)
+        | Expr::Select(_)
+        | Expr::Call(_, _, None)
+        | Expr::Call(_, _, Some(_)) => None,
+    }
+}
+
+// The last value is stored in a local without subscripts.
+#[tactic(auto, using(crate::proofs::CommandParts::last_stored))]
+fn store_last<'a>(parts: &mut Vec<Task<'a>>, variable: &'a Variable) -> Result<(), AllocError>
+    ensures { OnOk result (Adds (store_last (variable_of variable.now)) parts.old.items parts.new.items) }
+{
+    match bare_name(variable) {
+        Some(name) => add(parts, Task::Local(LocalTask::StoreLast(name))),
+        None => add(parts, Task::Value(ValueTask::DropValues(1))),
+    }
+}
+
+pub(crate) fn do_parts<'a>(
+    parts: &mut Vec<Task<'a>>,
+    argument: &'a DoArgument,
+) -> Result<(), AllocError>
+    ensures { OnOk result (Adds (do_parts (do_of argument.now)) parts.old.items parts.new.items) }
+{
+    let given = given_in(&argument.call.actuals);
+    each_actual(parts, given)?;
+    match &argument.condition {
+        None => {
+            add(
+                parts,
+                Task::Scope(ScopeTask::Call(Calling::ByDo, &argument.call.callee, given)),
+            )?;
+            Ok(())
+        }
+        Some(condition) => {
+            add(parts, Task::Value(ValueTask::Evaluate(condition)))?;
+            add(
+                parts,
+                Task::Scope(ScopeTask::CallIf(&argument.call.callee, given)),
+            )?;
+            Ok(())
+        }
+    }
+}
+
+pub(crate) fn new_parts<'a>(
+    parts: &mut Vec<Task<'a>>,
+    argument: &'a NewArgument,
+) -> Result<(), AllocError>
+    ensures { OnOk result (Adds (new_parts (new_of argument.now)) parts.old.items parts.new.items) }
+{
+    match argument {
+        NewArgument::One(_, name) => add(
+            parts,
+            Task::Local(LocalTask::NewNames(Names::Only(name))),
+        ),
+        NewArgument::AllBut(names) => add(
+            parts,
+            Task::Local(LocalTask::NewNames(Names::AllBut(names.as_slice()))),
+        ),
+    }
+}
+
+pub(crate) fn merge_parts<'a>(
+    parts: &mut Vec<Task<'a>>,
+    argument: &'a MergeArgument,
+) -> Result<(), AllocError>
+    ensures { OnOk result (Adds (merge_parts (merge_of argument.now)) parts.old.items parts.new.items) }
+{
+    in_variable(parts, &argument.target)?;
+    in_variable(parts, &argument.source)?;
+    add(
+        parts,
+        Task::Local(LocalTask::Merge(&argument.target, &argument.source)),
+    )?;
+    Ok(())
+}
+
+// What READ does once its length was evaluated.
+fn read_after<'a>(
+    parts: &mut Vec<Task<'a>>,
+    variable: &'a Variable,
+    timeout: &'a Option<Expr>,
+) -> Result<(), AllocError>
+    ensures { OnOk result (Adds (read_after (variable_of variable.now) (option_map tree_of timeout.now)) parts.old.items parts.new.items) }
+{
+    evaluated_if(parts, timeout)?;
+    add(parts, Task::Value(ValueTask::AskValue(count_in(variable))))?;
+    store_last(parts, variable)?;
+    in_time(parts, timeout)?;
+    Ok(())
+}
+
+#[tactic(auto, using(crate::proofs::PartLemmas::adds_none))]
+pub(crate) fn read_parts<'a>(
+    parts: &mut Vec<Task<'a>>,
+    argument: &'a ReadArgument,
+) -> Result<(), AllocError>
+    ensures { OnOk result (Adds (read_parts (read_of argument.now)) parts.old.items parts.new.items) }
+{
+    match argument {
+        ReadArgument::Text(_) => Ok(()),
+        ReadArgument::Format(tab) => evaluated_if(parts, tab),
+        ReadArgument::Line(variable, most, timeout) => {
+            in_variable(parts, variable)?;
+            evaluated_if(parts, most)?;
+            read_after(parts, variable, timeout)?;
+            Ok(())
+        }
+        ReadArgument::Character(variable, timeout) => {
+            in_variable(parts, variable)?;
+            read_after(parts, variable, timeout)?;
+            Ok(())
+        }
+    }
+}
+
+pub(crate) fn write_parts<'a>(
+    parts: &mut Vec<Task<'a>>,
+    argument: &'a WriteArgument,
+) -> Result<(), AllocError>
+    ensures { OnOk result (Adds (write_parts (write_of argument.now)) parts.old.items parts.new.items) }
+{
+    match argument {
+        WriteArgument::Value(value) | WriteArgument::Character(value) => evaluated(parts, value),
+        WriteArgument::Format(tab) => evaluated_if(parts, tab),
+    }
+}

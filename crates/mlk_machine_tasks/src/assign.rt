@@ -1,0 +1,260 @@
+// What SET, MERGE and LOCK do once all that they need was computed.
+
+ghost use Rattle.std.specs.Prelude.{◌≡◌, ◌∷◌, [], IfOk, OnOk, map, min, ◌^◌, ◌-◌, is_some, option_map};
+ghost use Rattle.mlk_syntax.specs.Views.{variable_of, target_of};
+ghost use Rattle.mlk_machine_jobs.specs.Tasks.{DoTouch};
+ghost use Rattle.mlk_machine_jobs.specs.Choices.{touch_of};
+ghost use Rattle.mlk_machine_jobs.specs.Assigning.{subs_of_target, parts_in, count_parts, assigned, assignments};
+ghost use Rattle.mlk_machine_jobs.specs.Locking.{by_sign};
+ghost use Rattle.mlk_machine_jobs.specs.TaskViews.{Adds};
+ghost use Rattle.mlk_machine_jobs.specs.TaskViews as view;
+ghost use Rattle.mlk_machine_tasks.specs.AssignViews.{global_name, read_and_written, whole_assigned, part_assigned};
+
+use crate::adding::add;
+use crate::argument::bare_name;
+use crate::command::subscripts_of;
+use crate::expr::count_subscripts;
+use mlk_machine_jobs::{LocalTask, LockTask, Task, ValueTask, count_in, cut_after};
+use mlk_names::{Access, Extent, LockName, Reference, Sym};
+use mlk_syntax::{Expr, Sign, Target, Variable};
+use mlk_text::{Name, Subscripts, Value};
+use std::alloc::{AllocError, Global};
+
+/// A concrete reference, of subscripts that were computed.
+pub fn concrete(
+    alloc: Global,
+    name: &Name,
+    values: &[Value],
+    extent: Extent,
+    access: Access,
+) -> Result<Reference, AllocError>
+    ensures { IfOk result (λ r. view.touch_of r ≡ touch_of name.now values.now extent access) }
+{
+    let mut subs = Subscripts::new(alloc);
+    let mut left = values;
+    while let Some((value, others)) = left.split_first() {
+        subs.push(Sym::Const(value.copy()?))?;
+        left = others;
+    }
+    Ok(Reference {
+        root: name.copy()?,
+        subs,
+        extent,
+        access,
+    })
+}
+
+/// A node or a tree is touched.
+pub(crate) fn touch<'a>(
+    alloc: Global,
+    parts: &mut Vec<Task<'a>>,
+    name: &Name,
+    subs: &[Value],
+    extent: Extent,
+    access: Access,
+) -> Result<(), AllocError>
+    ensures { OnOk result (Adds (DoTouch (touch_of name.now subs.now extent access) ∷ []) parts.old.items parts.new.items) }
+{
+    let reference = concrete(alloc, name, subs, extent, access)?;
+    add(parts, Task::Value(ValueTask::DoTouch(reference)))?;
+    Ok(())
+}
+
+// A node that is assigned a part of its value is read, and then written.
+fn read_and_written<'a>(
+    alloc: Global,
+    parts: &mut Vec<Task<'a>>,
+    name: &Name,
+    subs: &[Value],
+) -> Result<(), AllocError>
+    ensures { OnOk result (Adds (read_and_written name.now subs.now) parts.old.items parts.new.items) }
+{
+    touch(alloc, parts, name, subs, Extent::Node, Access::Reads)?;
+    add(parts, Task::Value(ValueTask::DropValues(1)))?;
+    touch(alloc, parts, name, subs, Extent::Node, Access::Writes)?;
+    Ok(())
+}
+
+/// The name of a global.
+#[tactic(auto, using(crate::proofs::AssignParts::name_of_global, crate::proofs::AssignParts::no_global))]
+pub(crate) fn global_name(variable: &Variable) -> Option<&Name>
+    ensures { option_map (λ n. n.now) result ≡ global_name (variable_of variable.now) }
+{
+    match &variable.name {
+        Expr::Global(_, name, _) => Some(name),
+        Expr::Local(_, _)
+        | Expr::Lit(_)
+        | Expr::Free
+        | Expr::Special(_)
+        | Expr::Unary(_, _)
+        | Expr::Binary(_, _)
+        | Expr::Pattern(_)
+        | Expr::Func(_, _)
+        | Expr::Select(_)
+        | Expr::Call(_, _, None)
+        | Expr::Call(_, _, Some(_)) => None,
+    }
+}
+
+/// Whether a variable is a global.
+pub(crate) fn is_global(variable: &Variable) -> bool
+    ensures { result ≡ is_some (global_name (variable_of variable.now)) }
+{
+    match global_name(variable) {
+        Some(_) => true,
+        None => false,
+    }
+}
+
+// A local of this name, or else a global of that one, is assigned a value.
+#[tactic(auto, using(crate::proofs::PartLemmas::adds_none))]
+fn assign_whole<'a>(
+    alloc: Global,
+    parts: &mut Vec<Task<'a>>,
+    value: &Value,
+    subs: &[Value],
+    local: Option<&'a Name>,
+    global: Option<&'a Name>,
+) -> Result<(), AllocError>
+    ensures { OnOk result (Adds (whole_assigned value.now subs.now (option_map (λ n. n.now) local.entry)
+        (option_map (λ n. n.now) global.entry)) parts.old.items parts.new.items) }
+{
+    if let Some(name) = local {
+        add(parts, Task::Local(LocalTask::Store(name, value.copy()?)))?;
+        return Ok(());
+    }
+    match global {
+        Some(name) => touch(alloc, parts, name, subs, Extent::Node, Access::Writes),
+        None => Ok(()),
+    }
+}
+
+// A local of this name, or else a global of that one, is assigned a part of its value.
+#[tactic(auto, using(crate::proofs::PartLemmas::adds_none))]
+fn assign_part<'a>(
+    alloc: Global,
+    parts: &mut Vec<Task<'a>>,
+    subs: &[Value],
+    local: Option<&'a Name>,
+    global: Option<&'a Name>,
+) -> Result<(), AllocError>
+    ensures { OnOk result (Adds (part_assigned subs.now (option_map (λ n. n.now) local.entry)
+        (option_map (λ n. n.now) global.entry)) parts.old.items parts.new.items) }
+{
+    if let Some(name) = local {
+        add(parts, Task::Local(LocalTask::StoreAny(name)))?;
+        return Ok(());
+    }
+    match global {
+        Some(name) => read_and_written(alloc, parts, name, subs),
+        None => Ok(()),
+    }
+}
+
+// One target, of the value and of the target's own subscripts.
+#[tactic(auto, using(crate::proofs::AssignParts::assigned_whole, crate::proofs::AssignParts::assigned_part))]
+fn assigned<'a>(
+    alloc: Global,
+    parts: &mut Vec<Task<'a>>,
+    value: &Value,
+    subs: &[Value],
+    target: &'a Target,
+) -> Result<(), AllocError>
+    ensures { OnOk result (Adds (assigned value.now subs.now (target_of target.now)) parts.old.items parts.new.items) }
+{
+    match target {
+        Target::Whole(variable) => assign_whole(
+            alloc,
+            parts,
+            value,
+            subs,
+            bare_name(variable),
+            global_name(variable),
+        ),
+        Target::Part(_, variable, _) => assign_part(
+            alloc,
+            parts,
+            subs,
+            bare_name(variable),
+            global_name(variable),
+        ),
+    }
+}
+
+// How many values a target needs for its subscripts.
+fn count_subs(target: &Target) -> usize
+    ensures { result ≡ subs_of_target (target_of target.now) }
+{
+    match target {
+        Target::Whole(variable) => count_in(variable),
+        Target::Part(_, variable, _) => count_in(variable),
+    }
+}
+
+// How many values a target needs in all.
+#[tactic(auto, using(crate::proofs::AssignParts::arguments_counted))]
+fn count_needs(target: &Target) -> usize
+    ensures { result ≡ parts_in (target_of target.now) }
+{
+    match target {
+        Target::Whole(variable) => count_in(variable),
+        Target::Part(_, variable, arguments) => {
+            count_subscripts(subscripts_of(variable)) + arguments.len()
+        }
+    }
+}
+
+/// How many values the targets of SET need in all; no more than the greatest number that a count has.
+pub fn count_parts(targets: &[Target]) -> usize
+    ensures { result ≡ min (count_parts (map target_of targets.now)) (2 ^ 64 - 1) }
+{
+    let mut count = 0;
+    let mut left = targets;
+    while let Some((target, others)) = left.split_first() {
+        count = count_needs(target).saturating_add(count);
+        left = others;
+    }
+    count
+}
+
+/// The assignments of SET, from left to right, of a value and the values that the targets need.
+pub fn assignments<'a>(
+    alloc: Global,
+    parts: &mut Vec<Task<'a>>,
+    value: &Value,
+    needs: &[Value],
+    targets: &'a [Target],
+) -> Result<(), AllocError>
+    ensures { OnOk result (Adds (assignments value.now needs.now (map target_of targets.now)) parts.old.items parts.new.items) }
+{
+    let mut rest = needs;
+    let mut left = targets;
+    while let Some((target, others)) = left.split_first() {
+        let (subs, _) = cut_after(rest, count_subs(target));
+        assigned(alloc, parts, value, subs, target)?;
+        let (_, later) = cut_after(rest, count_needs(target));
+        rest = later;
+        left = others;
+    }
+    Ok(())
+}
+
+/// What LOCK does with its names: without a sign all is released before the claim.
+pub fn by_sign<'a>(
+    parts: &mut Vec<Task<'a>>,
+    sign: Sign,
+    names: Vec<LockName>,
+    timed: bool,
+) -> Result<(), AllocError>
+    ensures { OnOk result (Adds (by_sign sign names.items timed) parts.old.items parts.new.items) }
+{
+    match sign {
+        Sign::None => {
+            add(parts, Task::Lock(LockTask::ReleaseAll))?;
+            add(parts, Task::Lock(LockTask::Claim(names, timed)))?;
+            Ok(())
+        }
+        Sign::Plus => add(parts, Task::Lock(LockTask::Claim(names, timed))),
+        Sign::Minus => add(parts, Task::Lock(LockTask::Release(names))),
+    }
+}

@@ -1,0 +1,116 @@
+// What the arguments of commands are replaced by.
+
+ghost use Rattle.std.specs.Prelude.{◌≡◌, OnOk, option_map};
+ghost use Rattle.mlk_syntax.specs.ExprTrees.{tree_of, actual_trees};
+ghost use Rattle.mlk_syntax.specs.Views.{variable_of};
+ghost use Rattle.mlk_machine_jobs.specs.Commands.{subs_in, in_variable, evaluated, evaluated_if, given_in, block_parts, if_parts, in_time};
+ghost use Rattle.mlk_machine_jobs.specs.TaskViews.{Adds, block_of};
+ghost use Rattle.mlk_machine_tasks.specs.PartViews.{subs_of};
+
+use crate::adding::add;
+use crate::expr::each_subscript;
+use mlk_machine_jobs::{ScopeTask, Task, TestTask, ValueTask};
+use mlk_syntax::{Actual, Expr, Line, Subscript, Variable};
+use std::alloc::AllocError;
+
+/// The subscripts of a variable.
+#[tactic(auto, using(crate::proofs::CommandParts::local_subs, crate::proofs::CommandParts::global_subs, crate::proofs::CommandParts::other_subs))]
+pub(crate) fn subscripts_of(variable: &Variable) -> &[Subscript]
+    ensures { subs_of result.now ≡ subs_in (variable_of variable.now) }
+{
+    match &variable.name {
+        Expr::Local(_, subscripts) | Expr::Global(_, _, subscripts) => subscripts,
+        Expr::Lit(_)
+        | Expr::Free
+        | Expr::Special(_)
+        | Expr::Unary(_, _)
+        | Expr::Binary(_, _)
+        | Expr::Pattern(_)
+        | Expr::Func(_, _)
+        | Expr::Select(_)
+        | Expr::Call(_, _, None)
+        | Expr::Call(_, _, Some(_)) => &[],
+    }
+}
+
+pub(crate) fn in_variable<'a>(
+    parts: &mut Vec<Task<'a>>,
+    variable: &'a Variable,
+) -> Result<(), AllocError>
+    ensures { OnOk result (Adds (in_variable (variable_of variable.now)) parts.old.items parts.new.items) }
+{
+    each_subscript(parts, subscripts_of(variable))
+}
+
+/// An expression whose value is not used.
+pub(crate) fn evaluated<'a>(
+    parts: &mut Vec<Task<'a>>,
+    expression: &'a Expr,
+) -> Result<(), AllocError>
+    ensures { OnOk result (Adds (evaluated (tree_of expression.now)) parts.old.items parts.new.items) }
+{
+    add(parts, Task::Value(ValueTask::Evaluate(expression)))?;
+    add(parts, Task::Value(ValueTask::DropValues(1)))?;
+    Ok(())
+}
+
+#[tactic(auto, using(crate::proofs::PartLemmas::adds_none))]
+pub(crate) fn evaluated_if<'a>(
+    parts: &mut Vec<Task<'a>>,
+    expression: &'a Option<Expr>,
+) -> Result<(), AllocError>
+    ensures { OnOk result (Adds (evaluated_if (option_map tree_of expression.now)) parts.old.items parts.new.items) }
+{
+    match expression {
+        None => Ok(()),
+        Some(expression) => evaluated(parts, expression),
+    }
+}
+
+/// The actuals of a call, none where there is no list.
+pub(crate) fn given_in(actuals: &Option<Vec<Actual>>) -> &[Actual]
+    ensures { actual_trees result.now ≡ given_in (option_map (λ v. actual_trees v.items) actuals.now) }
+{
+    match actuals {
+        None => &[],
+        Some(given) => given.as_slice(),
+    }
+}
+
+/// DO without arguments runs the block, if there is one.
+#[tactic(auto, using(crate::proofs::PartLemmas::adds_none))]
+pub(crate) fn block_parts<'a>(
+    parts: &mut Vec<Task<'a>>,
+    block: &'a [Line],
+) -> Result<(), AllocError>
+    ensures { OnOk result (Adds (block_parts (block_of block.now)) parts.old.items parts.new.items) }
+{
+    match block.split_first() {
+        None => Ok(()),
+        Some(_) => add(parts, Task::Scope(ScopeTask::Block(block))),
+    }
+}
+
+/// A condition of IF.
+pub(crate) fn if_parts<'a>(parts: &mut Vec<Task<'a>>, condition: &'a Expr) -> Result<(), AllocError>
+    ensures { OnOk result (Adds (if_parts (tree_of condition.now)) parts.old.items parts.new.items) }
+{
+    add(parts, Task::Value(ValueTask::Evaluate(condition)))?;
+    add(parts, Task::Test(TestTask::SetTest))?;
+    add(parts, Task::Test(TestTask::SkipIf(false)))?;
+    Ok(())
+}
+
+/// READ's timeout sets `$TEST`.
+#[tactic(auto, using(crate::proofs::PartLemmas::adds_none))]
+pub(crate) fn in_time<'a>(
+    parts: &mut Vec<Task<'a>>,
+    timeout: &'a Option<Expr>,
+) -> Result<(), AllocError>
+    ensures { OnOk result (Adds (in_time (option_map tree_of timeout.now)) parts.old.items parts.new.items) }
+{
+    match timeout {
+        None => Ok(()),
+        Some(_) => add(parts, Task::Test(TestTask::AskTest)),
+    }
+}

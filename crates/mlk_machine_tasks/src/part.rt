@@ -1,0 +1,130 @@
+// Parts of commands, each replaced by tasks, and lists of them.
+
+ghost use Rattle.std.specs.Prelude.{OnOk, flat_map};
+ghost use Rattle.mlk_syntax.specs.Views.{variable_of, call_of, do_of, kill_of, new_of, lock_of, merge_of, read_of, target_of, set_of, write_of};
+ghost use Rattle.mlk_machine_jobs.specs.Commands.{in_variable, job_parts, do_parts, kill_parts, new_parts, lock_parts, merge_parts, read_parts, target_parts, set_parts, write_parts};
+ghost use Rattle.mlk_machine_jobs.specs.TaskViews.{Adds};
+
+use crate::command::in_variable;
+use crate::{argument, target};
+use mlk_machine_jobs::Task;
+use mlk_syntax::{
+    Call, DoArgument, KillArgument, LockArgument, MergeArgument, NewArgument, ReadArgument,
+    SetArgument, Target, Variable, WriteArgument,
+};
+use std::alloc::AllocError;
+
+/// What is replaced by tasks.
+pub(crate) trait Part {
+    ghost use Rattle.std.specs.Prelude.{List, OnOk};
+    ghost use Rattle.mlk_machine_jobs.specs.Tasks.{Task};
+    ghost use Rattle.mlk_machine_jobs.specs.TaskViews.{Adds};
+
+    /// The tasks, in order.
+    ghost tasks: { Self → List Task };
+
+    /// Adds the tasks.
+    fn add_to<'a>(&'a self, parts: &mut Vec<Task<'a>>) -> Result<(), AllocError>
+        ensures { OnOk result (Adds (tasks self.now) parts.old.items parts.new.items) };
+}
+
+/// Adds the tasks of each of these.
+pub(crate) fn add_all<'a, P: Part>(
+    parts: &mut Vec<Task<'a>>,
+    items: &'a [P],
+) -> Result<(), AllocError>
+    ensures { OnOk result (Adds (flat_map P.tasks items.now) parts.old.items parts.new.items) }
+{
+    for item in items {
+        item.add_to(parts)?;
+    }
+    Ok(())
+}
+
+impl Part for Variable {
+    ghost tasks = { λ v. in_variable (variable_of v) };
+
+    fn add_to<'a>(&'a self, parts: &mut Vec<Task<'a>>) -> Result<(), AllocError> {
+        in_variable(parts, self)
+    }
+}
+
+impl Part for Call {
+    ghost tasks = { λ c. job_parts (call_of c) };
+
+    fn add_to<'a>(&'a self, parts: &mut Vec<Task<'a>>) -> Result<(), AllocError> {
+        target::job_parts(parts, self)
+    }
+}
+
+impl Part for DoArgument {
+    ghost tasks = { λ d. do_parts (do_of d) };
+
+    fn add_to<'a>(&'a self, parts: &mut Vec<Task<'a>>) -> Result<(), AllocError> {
+        argument::do_parts(parts, self)
+    }
+}
+
+impl Part for KillArgument {
+    ghost tasks = { λ k. kill_parts (kill_of k) };
+
+    fn add_to<'a>(&'a self, parts: &mut Vec<Task<'a>>) -> Result<(), AllocError> {
+        target::kill_parts(parts, self)
+    }
+}
+
+impl Part for NewArgument {
+    ghost tasks = { λ n. new_parts (new_of n) };
+
+    fn add_to<'a>(&'a self, parts: &mut Vec<Task<'a>>) -> Result<(), AllocError> {
+        argument::new_parts(parts, self)
+    }
+}
+
+impl Part for LockArgument {
+    ghost tasks = { λ l. lock_parts (lock_of l) };
+
+    fn add_to<'a>(&'a self, parts: &mut Vec<Task<'a>>) -> Result<(), AllocError> {
+        target::lock_parts(parts, self)
+    }
+}
+
+impl Part for MergeArgument {
+    ghost tasks = { λ m. merge_parts (merge_of m) };
+
+    fn add_to<'a>(&'a self, parts: &mut Vec<Task<'a>>) -> Result<(), AllocError> {
+        argument::merge_parts(parts, self)
+    }
+}
+
+impl Part for ReadArgument {
+    ghost tasks = { λ r. read_parts (read_of r) };
+
+    fn add_to<'a>(&'a self, parts: &mut Vec<Task<'a>>) -> Result<(), AllocError> {
+        argument::read_parts(parts, self)
+    }
+}
+
+impl Part for Target {
+    ghost tasks = { λ t. target_parts (target_of t) };
+
+    fn add_to<'a>(&'a self, parts: &mut Vec<Task<'a>>) -> Result<(), AllocError> {
+        target::target_parts(parts, self)
+    }
+}
+
+impl Part for SetArgument {
+    ghost tasks = { λ s. set_parts (set_of s) };
+
+    fn add_to<'a>(&'a self, parts: &mut Vec<Task<'a>>) -> Result<(), AllocError> {
+        target::set_parts(parts, self)
+    }
+}
+
+impl Part for WriteArgument {
+    ghost tasks = { λ w. write_parts (write_of w) };
+
+    fn add_to<'a>(&'a self, parts: &mut Vec<Task<'a>>) -> Result<(), AllocError> {
+        argument::write_parts(parts, self)
+    }
+}

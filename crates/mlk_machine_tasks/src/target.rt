@@ -1,0 +1,167 @@
+// What the arguments of JOB, KILL, LOCK and SET are replaced by.
+
+ghost use Rattle.std.specs.Prelude.{◌≡◌, OnOk, length, flat_map, map};
+ghost use Rattle.mlk_syntax.specs.ExprTrees.{tree_of, trees, actual_trees};
+ghost use Rattle.mlk_syntax.specs.Views.{variable_of, call_of, kill_of, lock_of, target_of, set_of};
+ghost use Rattle.mlk_machine_jobs.specs.Expressions.{each_actual};
+ghost use Rattle.mlk_machine_jobs.specs.Commands.{in_variable, job_parts, kill_variable, kill_parts, lock_parts, target_parts, set_parts};
+ghost use Rattle.mlk_machine_jobs.specs.TaskViews.{Adds};
+ghost use Rattle.mlk_machine_tasks.specs.ArgumentViews.{actuals_used, each_value};
+
+use crate::adding::add;
+use crate::command::{evaluated_if, given_in, in_variable};
+use crate::evaluate::each_actual;
+use crate::expr::{count_subscripts, each_argument};
+use crate::part::add_all;
+use mlk_machine_jobs::{LocalTask, LockTask, Names, Task, ValueTask};
+use mlk_names::{Access, Extent};
+use mlk_syntax::{Actual, Call, Expr, KillArgument, LockArgument, SetArgument, Target, Variable};
+use std::alloc::AllocError;
+
+// Actuals by value, whose values are not used.
+#[tactic(auto, using(crate::proofs::PartLemmas::added_count))]
+fn actuals_used<'a>(parts: &mut Vec<Task<'a>>, given: &'a [Actual]) -> Result<(), AllocError>
+    ensures { OnOk result (Adds (actuals_used (actual_trees given.now)) parts.old.items parts.new.items) }
+{
+    let before = parts.len();
+    each_actual(parts, given)?;
+    let count = parts.len().saturating_sub(before);
+    add(parts, Task::Value(ValueTask::DropValues(count)))?;
+    Ok(())
+}
+
+/// JOB evaluates its actuals: the job that it starts is another one.
+pub(crate) fn job_parts<'a>(parts: &mut Vec<Task<'a>>, call: &'a Call) -> Result<(), AllocError>
+    ensures { OnOk result (Adds (job_parts (call_of call.now)) parts.old.items parts.new.items) }
+{
+    actuals_used(parts, given_in(&call.actuals))
+}
+
+// What KILL does to a name whose subscripts were evaluated.
+#[tactic(auto, using(crate::proofs::CommandParts::kill_bare, crate::proofs::CommandParts::kill_with_subs, crate::proofs::CommandParts::kill_global, crate::proofs::CommandParts::kill_other))]
+fn kill_variable<'a>(parts: &mut Vec<Task<'a>>, variable: &'a Variable) -> Result<(), AllocError>
+    ensures { OnOk result (Adds (kill_variable (variable_of variable.now)) parts.old.items parts.new.items) }
+{
+    match &variable.name {
+        Expr::Local(name, subscripts) => match subscripts.split_first() {
+            None => add(parts, Task::Local(LocalTask::KillNames(Names::Only(name)))),
+            Some(_) => add(
+                parts,
+                Task::Value(ValueTask::DropValues(count_subscripts(subscripts))),
+            ),
+        },
+        Expr::Global(_, name, subscripts) => {
+            let count = count_subscripts(subscripts);
+            add(
+                parts,
+                Task::Value(ValueTask::FormReference(name, count, Extent::Tree, Access::Writes)),
+            )
+        }
+        Expr::Lit(_)
+        | Expr::Free
+        | Expr::Special(_)
+        | Expr::Unary(_, _)
+        | Expr::Binary(_, _)
+        | Expr::Pattern(_)
+        | Expr::Func(_, _)
+        | Expr::Select(_)
+        | Expr::Call(_, _, None)
+        | Expr::Call(_, _, Some(_)) => add(parts, Task::Value(ValueTask::DropValues(0))),
+    }
+}
+
+pub(crate) fn kill_parts<'a>(
+    parts: &mut Vec<Task<'a>>,
+    argument: &'a KillArgument,
+) -> Result<(), AllocError>
+    ensures { OnOk result (Adds (kill_parts (kill_of argument.now)) parts.old.items parts.new.items) }
+{
+    match argument {
+        KillArgument::One(variable) => {
+            in_variable(parts, variable)?;
+            kill_variable(parts, variable)?;
+            Ok(())
+        }
+        KillArgument::AllBut(names) => add(
+            parts,
+            Task::Local(LocalTask::KillNames(Names::AllBut(names.as_slice()))),
+        ),
+    }
+}
+
+// The names of LOCK.
+#[tactic(auto, using(crate::proofs::PartLemmas::variables_mapped))]
+fn in_variables<'a>(parts: &mut Vec<Task<'a>>, names: &'a [Variable]) -> Result<(), AllocError>
+    ensures { OnOk result (Adds (flat_map in_variable (map variable_of names.now)) parts.old.items parts.new.items) }
+{
+    add_all(parts, names)?;
+    Ok(())
+}
+
+/// LOCK: the names, then the timeout, then what the sign says.
+#[tactic(auto, using(crate::proofs::PartLemmas::is_there))]
+pub(crate) fn lock_parts<'a>(
+    parts: &mut Vec<Task<'a>>,
+    argument: &'a LockArgument,
+) -> Result<(), AllocError>
+    ensures { OnOk result (Adds (lock_parts (lock_of argument.now)) parts.old.items parts.new.items) }
+{
+    in_variables(parts, &argument.names)?;
+    evaluated_if(parts, &argument.timeout)?;
+    let timed = argument.timeout.is_some();
+    add(
+        parts,
+        Task::Lock(LockTask::LockNamed(argument.sign, argument.names.as_slice(), timed)),
+    )?;
+    Ok(())
+}
+
+// Further arguments of a function, each for its value.
+#[tactic(auto, using(crate::proofs::PartLemmas::values_each))]
+fn each_value<'a>(parts: &mut Vec<Task<'a>>, arguments: &'a [Expr]) -> Result<(), AllocError>
+    ensures { OnOk result (Adds (each_value (trees arguments.now)) parts.old.items parts.new.items) }
+{
+    each_argument(parts, arguments)?;
+    Ok(())
+}
+
+pub(crate) fn target_parts<'a>(
+    parts: &mut Vec<Task<'a>>,
+    target: &'a Target,
+) -> Result<(), AllocError>
+    ensures { OnOk result (Adds (target_parts (target_of target.now)) parts.old.items parts.new.items) }
+{
+    match target {
+        Target::Whole(variable) => in_variable(parts, variable),
+        Target::Part(_, variable, arguments) => {
+            in_variable(parts, variable)?;
+            each_value(parts, arguments)?;
+            Ok(())
+        }
+    }
+}
+
+// The targets of SET.
+#[tactic(auto, using(crate::proofs::PartLemmas::targets_mapped))]
+fn in_targets<'a>(parts: &mut Vec<Task<'a>>, targets: &'a [Target]) -> Result<(), AllocError>
+    ensures { OnOk result (Adds (flat_map target_parts (map target_of targets.now)) parts.old.items parts.new.items) }
+{
+    add_all(parts, targets)?;
+    Ok(())
+}
+
+/// SET: what its targets need, from left to right, then the value, then the assignments.
+pub(crate) fn set_parts<'a>(
+    parts: &mut Vec<Task<'a>>,
+    argument: &'a SetArgument,
+) -> Result<(), AllocError>
+    ensures { OnOk result (Adds (set_parts (set_of argument.now)) parts.old.items parts.new.items) }
+{
+    in_targets(parts, argument.targets.as_slice())?;
+    add(parts, Task::Value(ValueTask::Evaluate(&argument.value)))?;
+    add(
+        parts,
+        Task::Local(LocalTask::Assign(argument.targets.as_slice())),
+    )?;
+    Ok(())
+}

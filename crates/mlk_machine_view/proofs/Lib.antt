@@ -1,0 +1,13 @@
+pub mod OverlapLemmas
+pub mod ClashLemmas
+pub mod PairLemmas
+pub mod AskedLemmas
+pub mod CallLemmas
+pub mod Examples
+pub mod HeldLemmas
+pub mod KnownLemmas
+pub mod NextLemmas
+pub mod OrderLemmas
+pub mod PrintedLemmas
+pub mod SpellingLemmas
+pub mod TouchLemmas

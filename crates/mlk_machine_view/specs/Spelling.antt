@@ -1,0 +1,30 @@
+-- The parts of what is printed, as the code puts them together. For private clauses alone. This project's own.
+use Rattle.std.specs.Prelude.{ℕ, Bool, List, [], ◌∷◌, ◌++◌}
+use Rattle.std.specs.Fmt.{decimal}
+use Rattle.mlk_names.specs.declared.lock_name.LockName.{LockName}
+use Rattle.mlk_names.specs.declared.symbol.Sym.{Sym}
+use Rattle.mlk_cert_lexemes.specs.Lists.{more}
+use Rattle.mlk_cert_lexemes.specs.Texts.{constant_text, listed}
+use Rattle.mlk_machine_jobs.specs.TaskViews.{constant_of}
+use Rattle.mlk_machine_view.specs.declared.holding.Holding.{Holding}
+use Rattle.mlk_machine_view.specs.StateTexts.{name_text, timed_text}
+
+-- a subscript that is a constant
+abbrev pub constant_in : Sym → List ℕ
+constant_in s = constant_text (constant_of s)
+
+-- subscripts: none, or in parentheses with commas between them
+abbrev pub constants_in : {A : Type 0} → (A → List ℕ) → List A → List ℕ
+constants_in text [] = []
+constants_in text (a ∷ items) = 40 ∷ (text a ++ (more 44 text items ++ 41 ∷ []))
+
+-- the names of a claim
+abbrev pub claim_text : List LockName → Bool → List ℕ
+claim_text names timed = listed name_text names ++ timed_text timed
+
+-- a name that is held, as text, and how often
+abbrev pub holding_of : LockName × ℕ → Holding
+holding_of h = record { name = name_text h.0; count = h.1 }
+
+abbrev pub holding_text : Holding → List ℕ
+holding_text h = h.name ++ 42 ∷ decimal h.count

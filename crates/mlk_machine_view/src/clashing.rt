@@ -1,0 +1,80 @@
+// Which jobs clash.
+
+ghost use Rattle.std.specs.Prelude.{◌≡◌, ◌↔◌, ◌∷◌, ◌++◌, [], IsTrue, IfOk, OnOk, map};
+ghost use Rattle.mlk_machine_jobs.specs.JobViews.{job_of};
+ghost use Rattle.mlk_machine_jobs.specs.Seen.{Clash};
+ghost use Rattle.mlk_machine_jobs.specs.TaskViews.{touch_of};
+ghost use Rattle.mlk_machine_view.specs.Clashes as tests;
+
+use crate::region::overlap;
+use mlk_machine_jobs::Job;
+use mlk_names::{Access, Reference};
+use std::alloc::{AllocError, Global};
+
+// Whether a reference writes.
+fn writes(reference: &Reference) -> bool
+    ensures { result ≡ tests.writes (touch_of reference.now) }
+{
+    matches!(reference.access, Access::Writes)
+}
+
+// Whether two jobs clash, as a test.
+#[tactic(auto, unfolding(crate::specs::Clashes::clash))]
+fn tested(job: &Job, other: &Job) -> bool
+    ensures { result ≡ tests.clash (job_of job.now) (job_of other.now) }
+{
+    match (job.ready(), other.ready()) {
+        (Some(first), Some(second)) => {
+            job.number != other.number
+                && (writes(first) || writes(second))
+                && overlap(first, second)
+        }
+        _ => false,
+    }
+}
+
+/// Whether two jobs clash: both stand ready at references that overlap, one of which writes. It takes no memory.
+pub fn clash(job: &Job, other: &Job) -> bool
+    ensures test { result ≡ tests.clash (job_of job.now) (job_of other.now) }
+    ensures exact { IsTrue result ↔ Clash (job_of job.now) (job_of other.now) }
+{
+    tested(job, other)
+}
+
+// The numbers of two jobs are added, if they clash.
+fn add_clash(pairs: &mut Vec<(u32, u32)>, job: &Job, other: &Job) -> Result<(), AllocError>
+    ensures { OnOk result (pairs.new.items ≡ pairs.old.items ++ tests.clashes_with (job_of job.now) (job_of other.now ∷ [])) }
+{
+    if tested(job, other) {
+        pairs.push((job.number, other.number))?;
+    }
+    Ok(())
+}
+
+// The numbers of a job and of those that it clashes with are added.
+fn add_clashes<'a>(
+    pairs: &mut Vec<(u32, u32)>,
+    job: &Job<'a>,
+    others: &[Job<'a>],
+) -> Result<(), AllocError>
+    ensures { OnOk result (pairs.new.items ≡ pairs.old.items ++ tests.clashes_with (job_of job.now) (map job_of others.now)) }
+{
+    for other in others {
+        add_clash(pairs, job, other)?;
+    }
+    Ok(())
+}
+
+/// The numbers of jobs that clash, each two once, in the order of the jobs.
+pub fn clashes<'a>(alloc: Global, jobs: &[Job<'a>]) -> Result<Vec<(u32, u32)>, AllocError>
+    ensures { IfOk result (λ pairs. pairs.items ≡ tests.clashes (map job_of jobs.now)) }
+{
+    let mut pairs = Vec::new(alloc);
+    let mut place = 0;
+    while place < jobs.len() {
+        let (_, others) = jobs.split_at(place + 1);
+        add_clashes(&mut pairs, &jobs[place], others)?;
+        place += 1;
+    }
+    Ok(pairs)
+}

@@ -1,0 +1,68 @@
+// Lock names, spelled as in certificates.
+
+ghost use Rattle.std.specs.Prelude.{◌≡◌, ◌++◌, IfOk, OnOk};
+ghost use Rattle.mlk_cert_lexemes.specs.Lists.{more};
+ghost use Rattle.mlk_cert_lexemes.specs.Texts.{constant_text, listed};
+ghost use Rattle.mlk_machine_view.specs.StateTexts.{name_text};
+ghost use Rattle.mlk_machine_view.specs.Spelling.{constants_in};
+
+use mlk_cert_lexemes::{Text, Written, push_more};
+use mlk_names::LockName;
+use mlk_text::Value;
+use std::alloc::{AllocError, Global};
+
+// Values: none, or in parentheses with commas between them.
+fn push_values(text: &mut Text, values: &[Value]) -> Result<(), AllocError>
+    ensures { OnOk result (text.new ≡ text.old ++ constants_in constant_text values.now) }
+{
+    let Some((first, others)) = values.split_first() else {
+        return Ok(());
+    };
+    text.push_byte(b'(')?;
+    first.push_to(text)?;
+    push_more(text, b',', others)?;
+    text.push_byte(b')')?;
+    Ok(())
+}
+
+// A lock name.
+fn push_name(text: &mut Text, name: &LockName) -> Result<(), AllocError>
+    ensures { OnOk result (text.new ≡ text.old ++ name_text name.now) }
+{
+    name.root.push_to(text)?;
+    push_values(text, name.subs.as_slice())?;
+    Ok(())
+}
+
+/// A lock name's text.
+pub(crate) fn text_of(alloc: Global, name: &LockName) -> Result<Text, AllocError>
+    ensures { IfOk result (λ text. text ≡ name_text name.now) }
+{
+    let mut text = Text::new(alloc);
+    push_name(&mut text, name)?;
+    Ok(text)
+}
+
+// Lock names, each after a semicolon.
+fn push_more_names(text: &mut Text, names: &[LockName]) -> Result<(), AllocError>
+    ensures { OnOk result (text.new ≡ text.old ++ more 59 name_text names.now) }
+{
+    for name in names {
+        text.push_byte(b';')?;
+        push_name(text, name)?;
+    }
+    Ok(())
+}
+
+/// Lock names with semicolons between them, or `-` where there are none.
+pub(crate) fn push_names(text: &mut Text, names: &[LockName]) -> Result<(), AllocError>
+    ensures { OnOk result (text.new ≡ text.old ++ listed name_text names.now) }
+{
+    let Some((first, others)) = names.split_first() else {
+        text.push(b"-")?;
+        return Ok(());
+    };
+    push_name(text, first)?;
+    push_more_names(text, others)?;
+    Ok(())
+}

@@ -1,0 +1,128 @@
+// What is known so far of an entry.
+
+use crate::hand::rounds_in;
+use crate::lists::{At, Listing, Lists};
+use crate::summary::{add_needs, empty_summary};
+use mlk_cert::{EntryCert, Point};
+use mlk_names::LockTerm;
+use mlk_program::EntryId;
+use mlk_syntax::Line;
+use mlk_text::{LineNumber, List, Value};
+use std::alloc::{AllocError, Global};
+use std::collections::BTreeSet;
+use std::mem;
+
+/// What is known so far of an entry.
+#[derive(Drop)]
+pub struct Draft {
+    pub entry: EntryId,
+    /// whether the rules declare it
+    pub declared: bool,
+    /// its text, its summary, and while a line is walked the points that are in hand: those of the line, and of the begin
+    /// of its block
+    pub block: EntryCert,
+    /// its points but those in hand
+    pub lists: Lists,
+    /// whose summaries were asked
+    pub callees: BTreeSet<EntryId>,
+    /// how many changes there were when its summary changed last
+    pub changed: usize,
+    /// how many there were when it was walked last; none before
+    pub walked: Option<usize>,
+}
+
+impl Draft {
+    /// Nothing is known of an entry with this text, whose line has this number, after so many changes.
+    pub fn new(
+        alloc: Global,
+        entry: EntryId,
+        line: LineNumber,
+        text: Value,
+        declared: bool,
+        changed: usize,
+    ) -> Draft {
+        Draft {
+            entry,
+            declared,
+            block: EntryCert {
+                entry: text,
+                summary: empty_summary(alloc),
+                points: List::new(alloc),
+            },
+            lists: Lists::new(alloc, line),
+            callees: BTreeSet::new(alloc),
+            changed,
+            walked: None,
+        }
+    }
+
+    /// The points and the exits start anew.
+    pub fn clear(&mut self, alloc: Global) {
+        self.lists.clear();
+        self.block.summary.exits = List::new(alloc);
+    }
+
+    /// More locks are needed.
+    pub fn need(&mut self, alloc: Global, terms: Vec<LockTerm>) -> Result<Listing, AllocError> {
+        add_needs(alloc, &mut self.block.summary, terms)
+    }
+
+    // Takes the cases of a point in hand, where it has some.
+    fn take_point(
+        &mut self,
+        alloc: Global,
+        at: At,
+        points: &mut List<Point>,
+    ) -> Result<(), AllocError> {
+        let Some(cases) = self.lists.take(alloc, at) else {
+            return Ok(());
+        };
+        points.push(Point {
+            line: at.line,
+            round: round_number(at.round)?,
+            cases,
+        })
+    }
+
+    /// Takes the points of a line and of its block's begin in hand.
+    pub fn take(&mut self, alloc: Global, line: &Line) -> Result<(), AllocError> {
+        self.lists.walk(line.number);
+        let mut points = List::new(alloc);
+        for round in 0..rounds_in(&line.commands).saturating_add(1) {
+            let at = At {
+                line: line.number,
+                round,
+            };
+            self.take_point(alloc, at, &mut points)?;
+        }
+        if let Some(first) = line.block.as_slice().first() {
+            let at = At {
+                line: first.number,
+                round: 0,
+            };
+            self.take_point(alloc, at, &mut points)?;
+        }
+        self.block.points = points;
+        Ok(())
+    }
+
+    /// Puts the points in hand back.
+    pub fn put_back(&mut self, alloc: Global) {
+        let points = mem::replace(&mut self.block.points, List::new(alloc));
+        for point in points.into_vec() {
+            let at = At {
+                line: point.line,
+                round: point.round as usize,
+            };
+            self.lists.put(at, point.cases);
+        }
+    }
+}
+
+/// The number of a FOR, as a certificate has it.
+pub fn round_number(round: usize) -> Result<u32, AllocError> {
+    match u32::try_from(round) {
+        Ok(number) => Ok(number),
+        Err(_) => Err(AllocError),
+    }
+}

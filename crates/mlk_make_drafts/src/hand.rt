@@ -1,0 +1,20 @@
+// The FORs of a line.
+
+use mlk_syntax::{Commands, For};
+
+/// How many FORs a line has.
+pub fn rounds_in(commands: &Commands) -> usize {
+    match &commands.last {
+        None => 0,
+        Some(last) => last.index.max(rounds_in(&last.rest)),
+    }
+}
+
+/// The FOR of a line that is this one, counted from 1.
+pub fn round_at(commands: &Commands, round: usize) -> Option<&For> {
+    let last = commands.last.as_ref()?;
+    if last.index == round {
+        return Some(last);
+    }
+    round_at(&last.rest, round)
+}

@@ -1,0 +1,166 @@
+// What operators give where the result is exact.
+
+ghost use Rattle.std.specs.Prelude.{◌≡◌, ◌<◌, ◌≤◌, ◌^◌, ℕ, true, length, ℤ, List, pos, neg_ℤ, unsigned_abs, decimal, Decides, IfOk, MatchOption};
+ghost use Rattle.std.specs.Fmt.{signed_decimal};
+ghost use Rattle.mlk_numbers.specs.Numbers.{number_of_digits};
+ghost use Rattle.mlk_text.specs.Lexemes.{are_digits};
+ghost use Rattle.mlk_numbers.specs.Outcome.{Finds};
+ghost use Rattle.mlk_numbers.specs.Folding.{IsPlain, IsWhole, IsFold, IsUnaryFold, is_short, folded};
+
+use crate::numeral::are_digits;
+use mlk_text::lexeme::byte_of;
+use mlk_text::limit::{LONGEST_JOIN, MOST_SIGNIFICANT};
+use mlk_text::{Op, UnaryOp, Value};
+use std::alloc::{AllocError, Global};
+
+const LIMIT: i64 = 1_000_000_000_000_000;
+
+// The number that digits denote.
+fn number_of(digits: &[u8]) -> u64
+    requires shape { are_digits digits.now ≡ true }
+    requires short { length digits.now ≤ 15 }
+    ensures { result ≡ number_of_digits digits.now }
+{
+    let mut number = 0;
+    for digit in digits {
+        number = 10 * number + (*digit - b'0') as u64;
+    }
+    number
+}
+
+// Whether these are at most 15 digits without a leading zero.
+fn is_plain(digits: &[u8]) -> bool
+    ensures { Decides result (IsPlain digits.now) }
+{
+    if !are_digits(digits) || digits.is_empty() || digits.len() > MOST_SIGNIFICANT {
+        return false;
+    }
+    digits[0] != b'0' || digits.len() == 1
+}
+
+// The number of digits without a leading zero.
+fn magnitude(digits: &[u8]) -> Option<u64>
+    ensures { Finds (λ n. (n < 10 ^ 15) × (digits.now ≡ decimal n)) result }
+{
+    if is_plain(digits) {
+        Some(number_of(digits))
+    } else {
+        None
+    }
+}
+
+/// The number of a canonical whole-number text of at most 15 digits.
+pub fn whole(text: &[u8]) -> Option<i64>
+    ensures { Finds (λ z. IsWhole z text.now) result }
+{
+    let Some(digits) = byte_of(b'-', text) else {
+        let number = magnitude(text)?;
+        return Some(number as i64);
+    };
+    let number = magnitude(digits)?;
+    if number == 0 {
+        return None;
+    }
+    Some(-(number as i64))
+}
+
+fn is_short(number: i64) -> bool
+    ensures { result ≡ is_short number }
+{
+    -LIMIT < number && number < LIMIT
+}
+
+/// The exact sum, difference or product, where operands and result have at most 15 digits.
+pub fn fold_number(op: Op, a: i64, b: i64) -> Option<i64>
+    ensures { result ≡ folded op a b }
+{
+    if !is_short(a) || !is_short(b) {
+        return None;
+    }
+    let answer = match op {
+        Op::Add => a + b,
+        Op::Subtract => a - b,
+        Op::Multiply => a.checked_mul(b)?,
+        _ => return None,
+    };
+    if is_short(answer) { Some(answer) } else { None }
+}
+
+// The text of a whole number.
+fn text_of(alloc: Global, number: i64) -> Result<Value, AllocError>
+    ensures { IfOk result (λ v. v ≡ signed_decimal number) }
+{
+    let text = format!(in alloc; "{number}")?;
+    Ok(Value::new(text.into_bytes()))
+}
+
+fn joined(alloc: Global, a: &Value, b: &Value) -> Result<Option<Value>, AllocError>
+    ensures { IfOk result (Finds (IsFold Op.Concatenate a.now b.now)) }
+{
+    let (a, b) = (a.as_bytes(), b.as_bytes());
+    if a.len() > LONGEST_JOIN || a.len() + b.len() > LONGEST_JOIN {
+        return Ok(None);
+    }
+    let mut text = Vec::from_slice(alloc, a)?;
+    text.extend_from_slice(b)?;
+    Ok(Some(Value::new(text)))
+}
+
+// The exact result of an operator between two texts of whole numbers.
+fn fold_texts(op: Op, a: &Value, b: &Value) -> Option<i64>
+    ensures { Finds (λ z. (x y : ℤ) × IsWhole x a.now × IsWhole y b.now × (folded op x y ≡ Some z)) result }
+{
+    let x = whole(a.as_bytes())?;
+    let y = whole(b.as_bytes())?;
+    fold_number(op, x, y)
+}
+
+/// What an operator gives of two values, where that is exact: sums, differences and products of whole numbers of at
+/// most 15 digits, and joined texts of at most 255 bytes.
+pub fn fold(alloc: Global, op: Op, a: &Value, b: &Value) -> Result<Option<Value>, AllocError>
+    ensures { IfOk result (Finds (IsFold op a.now b.now)) }
+{
+    if let Op::Concatenate = op {
+        return joined(alloc, a, b);
+    }
+    let Some(answer) = fold_texts(op, a, b) else {
+        return Ok(None);
+    };
+    Ok(Some(text_of(alloc, answer)?))
+}
+
+fn negated(alloc: Global, a: &Value) -> Result<Option<Value>, AllocError>
+    ensures { IfOk result (Finds (IsUnaryFold UnaryOp.Minus a.now)) }
+{
+    let Some(number) = whole(a.as_bytes()) else {
+        return Ok(None);
+    };
+    Ok(Some(text_of(alloc, -number)?))
+}
+
+// `0` becomes `1`, and `1` becomes `0`.
+fn opposite(alloc: Global, a: &Value) -> Result<Option<Value>, AllocError>
+    ensures { IfOk result (Finds (IsUnaryFold UnaryOp.Not a.now)) }
+{
+    let opposite: &[u8] = match a.as_bytes() {
+        b"0" => b"1",
+        b"1" => b"0",
+        _ => return Ok(None),
+    };
+    Ok(Some(Value::of(alloc, opposite)?))
+}
+
+/// What an operator gives of one value, where that is exact: `+` and `-` of a whole number of at most 15 digits, `'` of
+/// `0` and `1`.
+pub fn fold_unary(alloc: Global, op: UnaryOp, a: &Value) -> Result<Option<Value>, AllocError>
+    ensures { IfOk result (Finds (IsUnaryFold op a.now)) }
+{
+    match op {
+        UnaryOp::Plus => match whole(a.as_bytes()) {
+            Some(_) => Ok(Some(Value::of(alloc, a.as_bytes())?)),
+            None => Ok(None),
+        },
+        UnaryOp::Minus => negated(alloc, a),
+        UnaryOp::Not => opposite(alloc, a),
+    }
+}

@@ -1,2 +1,0 @@
-pub mod ArgumentViews
-pub mod AssignViews

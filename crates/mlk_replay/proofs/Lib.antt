@@ -1,3 +1,0 @@
-pub mod ReplayLemmas
-pub mod FileLemmas
-pub mod FollowLemmas

@@ -1,0 +1,175 @@
+-- The words of commands, from texts and to them.
+use Rattle.std.proofs.Common.{◌≡◌, ◌≤◌, ◌+◌, ℕ, suc, List, [], ◌∷◌, ◌++◌, length, drop, Some, None, true, inl, inr, refl, sym, ap, ◌∙◌, arith, subst, codes}
+use Rattle.std.specs.Prelude.{Option}
+use Rattle.std.specs.List.{list_all}
+use Rattle.std.specs.Str.{str_to_ascii_lowercase, str_eq_ignore_ascii_case}
+use Rattle.std.proofs.lemmas.Bool.{cases_Bool, or_cases, or_right, not_from_false}
+use Rattle.std.proofs.lemmas.Bool.Decides.{nat_tests}
+use Rattle.std.proofs.lemmas.Slice.Eq.{bytes_eq-Decides}
+use Rattle.std.specs.Char.{to_ascii_lowercase}
+use Rattle.mlk_text.specs.Lexemes.{is_letter, word_at, letters}
+use Rattle.mlk_text.specs.Spellings.{IsWord}
+use Rattle.mlk_text.proofs.Runs.{stops, run-is, parted}
+use Rattle.mlk_text.proofs.Spelled.{word-reads}
+use Rattle.mlk_expr_tokens.specs.Words.{is_either}
+use Rattle.mlk_routine_arguments.specs.declared.word.Word.{Word}
+use Rattle.mlk_routine_arguments.specs.declared.word.Word.TheVariants as word
+use Rattle.mlk_syntax.specs.Trees.{ActionTree, Do, Else, Halt, Hang, If, Job, Kill, Lock, Merge, New, Quit, Read, Set, Write}
+use Rattle.mlk_routine_arguments.specs.Told.{Found, Nowhere}
+use Rattle.mlk_routine_arguments.specs.CommandWords.{is_word_of, is_for}
+use Rattle.mlk_routine_arguments.specs.Kinds.{kind, halts_or_hangs, Means, is_written, first_word, all_words, word_of, IsNamed, WordEnds}
+use Rattle.mlk_routine_arguments.proofs.Sequences.{stands_at}
+
+-- what stands at the front of a text, as far as letters go
+pub stops_not : (rest : List ℕ) → stops is_letter rest ≡ true → WordEnds word.Do rest
+stops_not [] h = refl
+stops_not (b ∷ rest) h = elim (cases_Bool (is_letter b)) [
+  | inl e ↦ cc (rw e at h)
+  | inr e ↦ e
+]
+
+pub ends_stop : (w : Word) (rest : List ℕ) → WordEnds w rest → stops is_letter rest ≡ true
+ends_stop w [] h = refl
+ends_stop w (b ∷ rest) h = not_from_false (is_letter b) h
+
+pub named_found : (line : List ℕ) (at : ℕ) (w : Word) (ls ys : List ℕ) → at ≤ length line → (ls, ys) ≡ word_at (drop at line) → word_of ls ≡ Some w → Found IsNamed WordEnds line at w (at + length ls)
+named_found line at w ls ys less h of =
+    let (front, rest, is, all, stop, size) = run-is is_letter (drop at line) in
+    let p = parted (letters (drop at line)) front rest (drop at line) is size in
+    let same : ls ≡ front = ap (λ r. r.0) h ∙ p.0 in
+    let whole : drop at line ≡ ls ++ rest = is ∙ ap (λ l. l ++ rest) (sym same) in
+    let letters_all : IsWord ls = subst IsWord (sym same) all in
+    let s = stands_at IsNamed WordEnds line at w ls rest less whole (letters_all, of) (stops_not rest stop) in
+    (s.0, λ c u others g is e. go c u others g is e rest letters_all stop whole s.1)
+  where
+    go : (c : Word) (u others : List ℕ) → drop at line ≡ u ++ others → IsNamed (suc at) c u → WordEnds c others → (rest : List ℕ) → IsWord ls → stops is_letter rest ≡ true → drop at line ≡ ls ++ rest → rest ≡ drop (at + length ls) line → (c ≡ w) × (others ≡ drop (at + length ls) line)
+    go c u others g (good, is) e rest letters_all stop whole back =
+        let a = word-reads u others good (ends_stop c others e) in
+        let b = word-reads ls rest letters_all stop in
+        let r : ◌≡◌ {A = List ℕ × List ℕ} (u, others) (ls, rest) = sym a ∙ ap word_at (sym g ∙ whole) ∙ b in
+        let same : ◌≡◌ {A = Option Word} (Some c) (Some w) = sym is ∙ ap (λ (p : List ℕ × List ℕ). word_of p.0) r ∙ of in
+        (cc same, ap (λ p. p.1) r ∙ back)
+
+pub none_named : (line : List ℕ) (at : ℕ) (ls ys : List ℕ) → (ls, ys) ≡ word_at (drop at line) → word_of ls ≡ None → Nowhere IsNamed WordEnds line at
+none_named line at ls ys h of c u others g (good, is) e =
+    let a = word-reads u others good (ends_stop c others e) in
+    let r : ◌≡◌ {A = List ℕ × List ℕ} (u, others) (ls, ys) = sym a ∙ ap word_at (sym g) ∙ sym h in
+    let bad : ◌≡◌ {A = Option Word} (Some c) None = sym is ∙ ap (λ (p : List ℕ × List ℕ). word_of p.0) r ∙ of in
+    cc bad
+
+-- a word that is found is written so
+first_written : (words : List Word) (s : List ℕ) (w : Word) → first_word words s ≡ Some w → is_written w s ≡ true
+first_written [] s w h = cc h
+first_written (v ∷ words) s w h = elim (cases_Bool (is_written v s)) [
+  | inl e ↦ let same : v ≡ w = let k : Some v ≡ Some w = rw e at h in cc k in subst (λ x. is_written x s ≡ true) same e
+  | inr e ↦ first_written words s w (rw e at h)
+]
+
+pub named_written : (s : List ℕ) (w : Word) → word_of s ≡ Some w → is_written w s ≡ true
+unfolding word_of
+named_written s w h = first_written all_words s w h
+
+-- what a command's own word is, it is written as
+kind_written : (a : ActionTree) (s : List ℕ) → is_written (kind a) s ≡ true → is_word_of a s ≡ true
+unfolding is_written is_word_of
+kind_written (Do calls) s h = h
+kind_written Else s h = h
+kind_written Halt s h = elim (or_cases (str_eq_ignore_ascii_case s (codes "HALT")) (str_eq_ignore_ascii_case s (codes "HALT")) h) [
+  | inl e ↦ or_right (str_eq_ignore_ascii_case s (codes "H")) (str_eq_ignore_ascii_case s (codes "HALT")) e
+  | inr e ↦ or_right (str_eq_ignore_ascii_case s (codes "H")) (str_eq_ignore_ascii_case s (codes "HALT")) e
+]
+kind_written (Hang times) s h = elim (or_cases (str_eq_ignore_ascii_case s (codes "HANG")) (str_eq_ignore_ascii_case s (codes "HANG")) h) [
+  | inl e ↦ or_right (str_eq_ignore_ascii_case s (codes "H")) (str_eq_ignore_ascii_case s (codes "HANG")) e
+  | inr e ↦ or_right (str_eq_ignore_ascii_case s (codes "H")) (str_eq_ignore_ascii_case s (codes "HANG")) e
+]
+kind_written (If conditions) s h = h
+kind_written (Job calls) s h = h
+kind_written (Kill kills) s h = h
+kind_written (Lock locks) s h = h
+kind_written (Merge merges) s h = h
+kind_written (New news) s h = h
+kind_written (Quit value) s h = h
+kind_written (Read reads) s h = h
+kind_written (Set sets) s h = h
+kind_written (Write writes) s h = h
+
+short_h : (s : List ℕ) → is_written word.HaltOrHang s ≡ true → str_eq_ignore_ascii_case s (codes "H") ≡ true
+unfolding is_written
+short_h s h = elim (or_cases (str_eq_ignore_ascii_case s (codes "H")) (str_eq_ignore_ascii_case s (codes "H")) h) [ inl e ↦ e | inr e ↦ e ]
+
+h_written : (a : ActionTree) (s : List ℕ) → halts_or_hangs a ≡ true → str_eq_ignore_ascii_case s (codes "H") ≡ true → is_word_of a s ≡ true
+unfolding is_word_of
+h_written Halt s m h = rw h refl
+h_written (Hang times) s m h = rw h refl
+h_written (Do calls) s m h = cc m
+h_written Else s m h = cc m
+h_written (If conditions) s m h = cc m
+h_written (Job calls) s m h = cc m
+h_written (Kill kills) s m h = cc m
+h_written (Lock locks) s m h = cc m
+h_written (Merge merges) s m h = cc m
+h_written (New news) s m h = cc m
+h_written (Quit value) s m h = cc m
+h_written (Read reads) s m h = cc m
+h_written (Set sets) s m h = cc m
+h_written (Write writes) s m h = cc m
+
+pub means_written : (w : Word) (a : ActionTree) (s : List ℕ) → Means w a → word_of s ≡ Some w → is_word_of a s ≡ true
+means_written w a s (inl same) h = kind_written a s (subst (λ x. is_written x s ≡ true) (sym same) (named_written s w h))
+means_written w a s (inr (same, m)) h = h_written a s m (short_h s (subst (λ x. is_written x s ≡ true) same (named_written s w h)))
+
+-- The other way. A text is one of two texts but for the case of its letters.
+pub same_case : (s t : List ℕ) → str_eq_ignore_ascii_case s t ≡ true → str_to_ascii_lowercase s ≡ str_to_ascii_lowercase t
+same_case s t e = (bytes_eq-Decides (str_to_ascii_lowercase s) (str_to_ascii_lowercase t)).0 e
+
+case_named : (s t : List ℕ) → str_to_ascii_lowercase s ≡ str_to_ascii_lowercase t → word_of s ≡ word_of t
+unfolding word_of is_written
+case_named s t same = rw same refl
+
+lower_letter : (b : ℕ) → is_letter (to_ascii_lowercase b) ≡ is_letter b
+lower_letter b = grind (arith, nat_tests)
+
+pub lower_word : (s : List ℕ) → list_all is_letter (str_to_ascii_lowercase s) ≡ list_all is_letter s
+lower_word [] = refl
+lower_word (b ∷ s) = rw (lower_letter b, lower_word s) refl
+
+-- what is found of a text that is one of these is found of it
+either_named : (x y s : List ℕ) (w : Word) → is_either x y s ≡ true → (IsWord x × (word_of x ≡ Some w)) → (IsWord y × (word_of y ≡ Some w)) → IsWord s × (word_of s ≡ Some w)
+either_named x y s w h one two = elim (or_cases (str_eq_ignore_ascii_case s x) (str_eq_ignore_ascii_case s y) h) [
+  | inl e ↦ as_named x s w (same_case s x e) one
+  | inr e ↦ as_named y s w (same_case s y e) two
+]
+  where
+    as_named : (t s : List ℕ) (w : Word) → str_to_ascii_lowercase s ≡ str_to_ascii_lowercase t → (IsWord t × (word_of t ≡ Some w)) → IsWord s × (word_of s ≡ Some w)
+    as_named t s w same one = (sym (lower_word s) ∙ ap (list_all is_letter) same ∙ lower_word t ∙ one.0, case_named s t same ∙ one.1)
+
+pub written_means : (a : ActionTree) (s : List ℕ) → is_word_of a s ≡ true → (w : Word) × IsWord s × (word_of s ≡ Some w) × Means w a
+unfolding is_word_of word_of is_written
+written_means (Do calls) s h = let r = either_named (codes "D") (codes "DO") s word.Do h (refl, refl) (refl, refl) in (word.Do, r.0, r.1, inl refl)
+written_means Else s h = let r = either_named (codes "E") (codes "ELSE") s word.Else h (refl, refl) (refl, refl) in (word.Else, r.0, r.1, inl refl)
+written_means Halt s h = elim (or_cases (str_eq_ignore_ascii_case s (codes "H")) (str_eq_ignore_ascii_case s (codes "HALT")) h) [
+  | inl e ↦ let r = either_named (codes "H") (codes "H") s word.HaltOrHang (rw e refl) (refl, refl) (refl, refl) in (word.HaltOrHang, r.0, r.1, inr (refl, refl))
+  | inr e ↦ let r = either_named (codes "HALT") (codes "HALT") s word.Halt (rw e refl) (refl, refl) (refl, refl) in (word.Halt, r.0, r.1, inl refl)
+]
+written_means (Hang times) s h = elim (or_cases (str_eq_ignore_ascii_case s (codes "H")) (str_eq_ignore_ascii_case s (codes "HANG")) h) [
+  | inl e ↦ let r = either_named (codes "H") (codes "H") s word.HaltOrHang (rw e refl) (refl, refl) (refl, refl) in (word.HaltOrHang, r.0, r.1, inr (refl, refl))
+  | inr e ↦ let r = either_named (codes "HANG") (codes "HANG") s word.Hang (rw e refl) (refl, refl) (refl, refl) in (word.Hang, r.0, r.1, inl refl)
+]
+written_means (If conditions) s h = let r = either_named (codes "I") (codes "IF") s word.If h (refl, refl) (refl, refl) in (word.If, r.0, r.1, inl refl)
+written_means (Job calls) s h = let r = either_named (codes "J") (codes "JOB") s word.Job h (refl, refl) (refl, refl) in (word.Job, r.0, r.1, inl refl)
+written_means (Kill kills) s h = let r = either_named (codes "K") (codes "KILL") s word.Kill h (refl, refl) (refl, refl) in (word.Kill, r.0, r.1, inl refl)
+written_means (Lock locks) s h = let r = either_named (codes "L") (codes "LOCK") s word.Lock h (refl, refl) (refl, refl) in (word.Lock, r.0, r.1, inl refl)
+written_means (Merge merges) s h = let r = either_named (codes "M") (codes "MERGE") s word.Merge h (refl, refl) (refl, refl) in (word.Merge, r.0, r.1, inl refl)
+written_means (New news) s h = let r = either_named (codes "N") (codes "NEW") s word.New h (refl, refl) (refl, refl) in (word.New, r.0, r.1, inl refl)
+written_means (Quit value) s h = let r = either_named (codes "Q") (codes "QUIT") s word.Quit h (refl, refl) (refl, refl) in (word.Quit, r.0, r.1, inl refl)
+written_means (Read reads) s h = let r = either_named (codes "R") (codes "READ") s word.Read h (refl, refl) (refl, refl) in (word.Read, r.0, r.1, inl refl)
+written_means (Set sets) s h = let r = either_named (codes "S") (codes "SET") s word.Set h (refl, refl) (refl, refl) in (word.Set, r.0, r.1, inl refl)
+written_means (Write writes) s h = let r = either_named (codes "W") (codes "WRITE") s word.Write h (refl, refl) (refl, refl) in (word.Write, r.0, r.1, inl refl)
+
+-- FOR's word is a word, and that of nothing else
+pub either_for : (s : List ℕ) → is_for s ≡ true → IsWord s × (word_of s ≡ None)
+unfolding is_for word_of is_written
+either_for s h = elim (or_cases (str_eq_ignore_ascii_case s (codes "F")) (str_eq_ignore_ascii_case s (codes "FOR")) h) [
+  | inl e ↦ let same = same_case s (codes "F") e in (sym (lower_word s) ∙ ap (list_all is_letter) same, case_named s (codes "F") same)
+  | inr e ↦ let same = same_case s (codes "FOR") e in (sym (lower_word s) ∙ ap (list_all is_letter) same, case_named s (codes "FOR") same)
+]

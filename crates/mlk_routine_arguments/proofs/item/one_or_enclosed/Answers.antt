@@ -1,0 +1,7 @@
+use Rattle.std.proofs.Common.{map, refl}
+use Rattle.mlk_routine_arguments.proofs.Sequences.{turned_told}
+use Rattle.mlk_routine_arguments.proofs.Singles.{enclosed_one}
+use Rattle.mlk_routine_arguments.proofs.item.one_or_enclosed.Goals as goal
+
+pub returns-then-has : goal.returns-then-has
+returns-then-has g c = turned_told (enclosed_one g.T.Item.is g.T.Item.ends c.requires.shut c.args.line.now c.args.at (c.if-has.ensures.yes refl)) c.enclosed.result (λ v. map g.T.Item.seen v.items) c.enclosed.ensures

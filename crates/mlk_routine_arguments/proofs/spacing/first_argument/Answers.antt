@@ -1,0 +1,10 @@
+use Rattle.std.proofs.Common.{refl, ◌+◌, arith}
+use Rattle.mlk_routine_arguments.proofs.Bytes.{byte_before}
+use Rattle.mlk_routine_arguments.proofs.Stopping.{space_stops}
+use Rattle.mlk_routine_arguments.proofs.spacing.first_argument.Goals as goal
+
+pub returns-then-has : goal.returns-then-has
+returns-then-has c =
+    let here = c.if-has.ensures.yes refl in
+    let size = byte_before c.args.line.now (c.args.at + 1) 32 here in
+    (λ h. space_stops c.args.line.now (c.args.at + 1) here, c.refused-then-has.ensures.fault c.args.line.now (omega (arith, size)) refl refl)

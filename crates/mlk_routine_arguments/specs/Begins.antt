@@ -1,0 +1,163 @@
+-- Where an argument may stop, none begins. For private clauses alone. This project's own.
+use Rattle.std.specs.Prelude.{ℕ, ◌≡◌, ◌<◌, ◌+◌, true, false, ◌==◌, ◌++◌, length, List, [], ◌∷◌, Option, Some, None}
+use Rattle.std.specs.List.{list_all}
+use Rattle.std.proofs.Common.{arith, refl, ap, ◌∙◌, inl, inr}
+use Rattle.std.proofs.lemmas.Bool.{cases_Bool}
+use Rattle.std.proofs.lemmas.Bool.Decides.{nat_tests}
+use Rattle.mlk_text.specs.Lexemes.{is_digit}
+use Rattle.mlk_text.specs.Spellings.{IsName, IsLabel}
+use Rattle.mlk_expr.specs.declared.scope.Allows.{Allows}
+use Rattle.mlk_expr.specs.declared.scope.Allows.TheVariants.{Everything, NoCalls, NoTouches}
+use Rattle.mlk_expr.specs.declared.scope.Passing.{Passing}
+use Rattle.mlk_expr.specs.declared.scope.Passing.TheVariants.{ByReference, ByValue}
+use Rattle.mlk_syntax.specs.ExprTrees.{Tree}
+use Rattle.mlk_expr_tokens.specs.Lexemes.{starts_reference}
+use Rattle.mlk_expr.specs.Grammar.{Spelled, IsExpr, IsReference, IsExprWhere, IsNameText, IsCallee}
+use Rattle.mlk_expr.proofs.JoinedOperands.{nested-opens}
+use Rattle.mlk_expr.proofs.JoinedParts.{opens}
+use Rattle.mlk_syntax.specs.Trees.{VariableTree, Named, CallTree, Called, DoTree, DoCall, KillTree, KillOne}
+use Rattle.mlk_syntax.specs.Trees.{KillAllBut, NewTree, NewOne, NewAllBut, MergeTree, MergeInto}
+use Rattle.mlk_syntax.specs.Trees.{ParameterTree, Once, Endless, Limited, ControlTree, Runs, LockTree, LockNames}
+use Rattle.mlk_syntax.specs.Trees.{ReadTree, ReadText, ReadFormat, ReadLine, ReadCharacter, WriteTree, WriteValue}
+use Rattle.mlk_syntax.specs.Trees.{WriteCharacter, WriteFormat, TargetTree, SetWhole, SetPart, SetTree, SetTo}
+use Rattle.mlk_syntax.specs.declared.command.Sign.{Sign}
+use Rattle.mlk_syntax.specs.declared.command.Sign.TheVariants as sign
+use Rattle.mlk_routine_arguments.specs.Ends.{is_stop}
+use Rattle.mlk_routine_arguments.specs.CommandGrammar.{IsVariable, IsCall, IsDo, IsJob, IsKill, IsNew, IsMerge, IsParameter}
+use Rattle.mlk_routine_arguments.specs.CommandGrammar.{IsControl, before_condition, IsOneOrEnclosed, sign_text, in_names, IsLock}
+use Rattle.mlk_routine_arguments.specs.CommandGrammar.{is_mark, IsFormat, IsRead, IsWrite, IsTarget, IsSet}
+
+opens_apart : (s : List ℕ) → opens s ≡ true → is_stop s ≡ false
+opens_apart [] h = cc h
+opens_apart (b ∷ s) h = elim (cases_Bool (b == 46)) [
+  | inl e ↦ grind (arith, nat_tests)
+  | inr e ↦ let rest = rw e at h in grind (arith, nat_tests)
+]
+
+-- what begins with a text begins as it does
+pub front_begins : (front rest : List ℕ) → is_stop front ≡ false → is_stop (front ++ rest) ≡ false
+front_begins [] rest h = cc h
+front_begins (b ∷ front) rest h = h
+
+pub joined_begins : (s front rest : List ℕ) → s ≡ front ++ rest → is_stop front ≡ false → is_stop s ≡ false
+joined_begins s front rest is h = ap is_stop is ∙ front_begins front rest h
+
+pub expr_begins : (a : Allows) (at : ℕ) (t : Tree) (s : List ℕ) → IsExprWhere a at t s → is_stop s ≡ false
+unfolding IsExpr
+expr_begins a at t s is = opens_apart s (nested-opens 0 64 at t s is.0)
+
+name_apart : (name : List ℕ) → IsName name → is_stop name ≡ false
+name_apart [] h = cc h
+name_apart (b ∷ name) h = grind (arith, nat_tests)
+
+digits_apart : (ds : List ℕ) → list_all is_digit ds ≡ true → 0 < length ds → is_stop ds ≡ false
+digits_apart [] h some = let bad : ⊥ = omega (arith, some) in absurd bad
+digits_apart (d ∷ ds) h some = grind (arith, nat_tests)
+
+label_apart : (label : List ℕ) → IsLabel label → is_stop label ≡ false
+label_apart label (inl name) = name_apart label name
+label_apart label (inr digits) = digits_apart label digits.0 digits.1
+
+pub name_begins : (at : ℕ) (name s : List ℕ) → IsNameText at name s → is_stop s ≡ false
+name_begins at name s is = ap is_stop is.0 ∙ name_apart name is.1
+
+reference_apart : (s : List ℕ) → starts_reference s ≡ true → is_stop s ≡ false
+reference_apart [] h = cc h
+reference_apart (b ∷ s) h = grind (arith, nat_tests)
+
+pub variable_begins : (a : Allows) (at : ℕ) (v : VariableTree) (s : List ℕ) → IsVariable a at v s → is_stop s ≡ false
+unfolding IsReference
+variable_begins a at (Named column name) s is = reference_apart s is.1.0.1
+
+callee_begins : (label routine : Option (List ℕ)) (s : List ℕ) → IsCallee label routine s → is_stop s ≡ false
+callee_begins None None s is = absurd is
+callee_begins None (Some routine) s is = ap is_stop is.0
+callee_begins (Some label) None s (is, good) = ap is_stop is ∙ label_apart label good
+callee_begins (Some label) (Some routine) s (is, good, also) =
+    joined_begins s label (94 ∷ routine) is (label_apart label good)
+
+call_begins : (a : Allows) (p : Passing) (at : ℕ) (c : CallTree) (s : List ℕ) → IsCall a p at c s → is_stop s ≡ false
+call_begins a p at (Called column callee actuals) s (place, (front, rest, is, one, two)) =
+    joined_begins s front rest is (callee_begins callee.label callee.routine front one)
+
+pub do_begins : (at : ℕ) (d : DoTree) (s : List ℕ) → IsDo at d s → is_stop s ≡ false
+do_begins at (DoCall call condition) s (front, rest, is, one, two) =
+    joined_begins s front rest is (call_begins (before_condition condition) ByReference at call front one)
+
+pub job_begins : (at : ℕ) (c : CallTree) (s : List ℕ) → IsJob at c s → is_stop s ≡ false
+job_begins = call_begins Everything ByValue
+
+pub kill_begins : (at : ℕ) (k : KillTree) (s : List ℕ) → IsKill at k s → is_stop s ≡ false
+kill_begins at (KillOne v) s is = variable_begins Everything at v s is
+kill_begins at (KillAllBut names) s (inner, is, list) = ap is_stop is
+
+pub new_begins : (at : ℕ) (x : NewTree) (s : List ℕ) → IsNew at x s → is_stop s ≡ false
+new_begins at (NewOne column name) s is = name_begins at name s is.1
+new_begins at (NewAllBut names) s (inner, is, list) = ap is_stop is
+
+pub merge_begins : (at : ℕ) (m : MergeTree) (s : List ℕ) → IsMerge at m s → is_stop s ≡ false
+merge_begins at (MergeInto target source) s (front, rest, is, one, two) =
+    joined_begins s front rest is (variable_begins NoCalls at target front one)
+
+pub parameter_begins : (at : ℕ) (p : ParameterTree) (s : List ℕ) → IsParameter at p s → is_stop s ≡ false
+parameter_begins at (Once value) s is = expr_begins Everything at value s is
+parameter_begins at (Endless start step) s (front, rest, is, one, two) =
+    joined_begins s front rest is (expr_begins Everything at start front one)
+parameter_begins at (Limited start step limit) s (front, rest, is, one, two) =
+    joined_begins s front rest is (expr_begins Everything at start front one)
+
+pub control_begins : (at : ℕ) (c : ControlTree) (s : List ℕ) → IsControl at c s → is_stop s ≡ false
+control_begins at (Runs column name parameters) s (place, (front, rest, is, one, two)) =
+    joined_begins s front rest is (name_begins at name front one)
+
+one_begins : {A : Type 0} (Is : Spelled A) → ((k : ℕ) (a : A) (s : List ℕ) → Is k a s → is_stop s ≡ false) → (at : ℕ)
+    (items : List A) (s : List ℕ) → IsOneOrEnclosed Is at items s → is_stop s ≡ false
+one_begins Is begins at items s (inl (item, same, one)) = begins at item s one
+one_begins Is begins at items s (inr (inner, is, list)) = ap is_stop is
+
+pub lock_begins : (at : ℕ) (l : LockTree) (s : List ℕ) → IsLock at l s → is_stop s ≡ false
+lock_begins at (LockNames before names timeout) s (front, rest, is, signed, (text, more, also, one, two)) =
+    go before signed one
+  where
+    go : (before : Sign) → front ≡ sign_text before
+        → IsOneOrEnclosed (IsVariable (in_names before)) (at + length front) names text → is_stop s ≡ false
+    go sign.None h named =
+        ap is_stop (is ∙ ap (λ l. l ++ rest) h ∙ also)
+        ∙ front_begins text more
+        (one_begins (IsVariable NoTouches) (variable_begins NoTouches) (at + length front) names text named)
+    go sign.Plus h named = ap is_stop (is ∙ ap (λ l. l ++ rest) h)
+    go sign.Minus h named = ap is_stop (is ∙ ap (λ l. l ++ rest) h)
+
+marks_apart : (s : List ℕ) → list_all is_mark s ≡ true → 0 < length s → is_stop s ≡ false
+marks_apart [] h some = let bad : ⊥ = omega (arith, some) in absurd bad
+marks_apart (b ∷ s) h some = grind (arith, nat_tests)
+
+-- marks, and a question mark after them
+column_apart : (front rest : List ℕ) → list_all is_mark front ≡ true → is_stop (front ++ 63 ∷ rest) ≡ false
+column_apart [] rest h = refl
+column_apart (b ∷ front) rest h = grind (arith, nat_tests)
+
+format_begins : (at : ℕ) (tab : Option Tree) (s : List ℕ) → IsFormat at tab s → is_stop s ≡ false
+format_begins at None s is = marks_apart s is.0 is.1
+format_begins at (Some t) s (front, rest, is, marks, (r, column, value)) =
+    ap is_stop (is ∙ ap (λ l. front ++ l) column) ∙ column_apart front r marks
+
+pub read_begins : (at : ℕ) (r : ReadTree) (s : List ℕ) → IsRead at r s → is_stop s ≡ false
+read_begins at (ReadText prompt) s is = ap is_stop is.0
+read_begins at (ReadFormat tab) s is = format_begins at tab s is
+read_begins at (ReadLine v most timeout) s (front, rest, is, one, two) =
+    joined_begins s front rest is (variable_begins Everything at v front one.0)
+read_begins at (ReadCharacter v timeout) s (rest, is, one) = ap is_stop is
+
+pub write_begins : (at : ℕ) (w : WriteTree) (s : List ℕ) → IsWrite at w s → is_stop s ≡ false
+write_begins at (WriteValue t) s is = expr_begins Everything at t s is
+write_begins at (WriteCharacter t) s (rest, is, one) = ap is_stop is
+write_begins at (WriteFormat tab) s is = format_begins at tab s is
+
+pub target_begins : (at : ℕ) (t : TargetTree) (s : List ℕ) → IsTarget at t s → is_stop s ≡ false
+target_begins at (SetWhole v) s is = variable_begins Everything at v s is
+target_begins at (SetPart part v arguments) s is = ap is_stop is.3
+
+pub set_begins : (at : ℕ) (x : SetTree) (s : List ℕ) → IsSet at x s → is_stop s ≡ false
+set_begins at (SetTo targets value) s (front, rest, is, one, two) =
+    joined_begins s front rest is (one_begins IsTarget target_begins at targets front one)

@@ -1,0 +1,258 @@
+-- Commands and their arguments, from trees to texts. `Is.. at t s` says that t is written as the text s, where s begins
+-- in the column `at`. What follows each other is joined by `++`; a list has commas between its items.
+use Rattle.mlk_text.specs.Places.{column_at}
+use Rattle.std.specs.Prelude.{ℕ, suc, ◌≡◌, ◌<◌, ◌≤◌, ◌+◌, ◌⊎◌, ◌==◌, ◌&&◌, ◌||◌, is_some, Bool, true, false, List, []}
+use Rattle.std.specs.Prelude.{◌∷◌, ◌++◌, length, Option, Some, None, codes}
+use Rattle.std.specs.List.{list_all}
+use Rattle.mlk_expr.specs.declared.scope.Allows.{Allows}
+use Rattle.mlk_expr.specs.declared.scope.Allows.TheVariants.{Everything, NoCalls, NoTouches}
+use Rattle.mlk_expr.specs.declared.scope.Passing.{Passing}
+use Rattle.mlk_expr.specs.declared.scope.Passing.TheVariants.{ByReference, ByValue}
+use Rattle.mlk_syntax.specs.ExprTrees.{Tree, LocalName, ActualTree}
+use Rattle.mlk_expr_tokens.specs.Words.{is_either}
+use Rattle.mlk_expr.specs.Spellings.{IsQuoted}
+use Rattle.mlk_expr.specs.Grammar.{Spelled, IsList, AreNext, IsEnclosed, IsExprWhere, IsReferenceWhere}
+use Rattle.mlk_expr.specs.Grammar.{IsActualListWhere, IsCalleeText, IsNameText}
+use Rattle.mlk_syntax.specs.declared.command.Sign.{Sign}
+use Rattle.mlk_syntax.specs.declared.command.Sign.TheVariants as sign
+use Rattle.mlk_syntax.specs.declared.command.Part.{Part}
+use Rattle.mlk_syntax.specs.declared.command.Part.TheVariants as part
+use Rattle.mlk_syntax.specs.Trees.{VariableTree, Named, CallTree, Called, DoTree, DoCall, KillTree, KillOne}
+use Rattle.mlk_syntax.specs.Trees.{KillAllBut, NewTree, NewOne, NewAllBut, LockTree, LockNames, MergeTree, MergeInto}
+use Rattle.mlk_syntax.specs.Trees.{ReadTree, ReadText, ReadFormat, ReadLine, ReadCharacter, TargetTree, SetWhole}
+use Rattle.mlk_syntax.specs.Trees.{SetPart, SetTree, SetTo, WriteTree, WriteValue, WriteCharacter, WriteFormat}
+use Rattle.mlk_syntax.specs.Trees.{ActionTree, Do, Else, Halt, Hang, If, Job, Kill, Lock, Merge, New, Quit, Read, Set}
+use Rattle.mlk_syntax.specs.Trees.{Write, CommandTree, Does, ParameterTree, Once, Endless, Limited, ControlTree, Runs}
+use Rattle.mlk_syntax.specs.Trees.{CommandTrees, finished, then_command, then_for}
+use Rattle.mlk_routine_arguments.specs.CommandWords.{is_word_of, is_for, may_have_condition, has_arguments, least_after}
+
+-- a thing in two parts, the second of which begins where the first ends
+abbrev pub Both : (ℕ → List ℕ → Type 0) → (ℕ → List ℕ → Type 0) → ℕ → List ℕ → Type 0
+Both First Second at s = (front rest : List ℕ) × (s ≡ front ++ rest) × First at front × Second (at + length front) rest
+
+-- a thing after this byte
+abbrev pub After : ℕ → (ℕ → List ℕ → Type 0) → ℕ → List ℕ → Type 0
+After b Next at s = (rest : List ℕ) × (s ≡ b ∷ rest) × Next (suc at) rest
+
+-- an expression in which everything may stand
+abbrev pub IsValue : ℕ → Tree → List ℕ → Type 0
+IsValue = IsExprWhere Everything
+
+-- nothing, or an expression after this byte
+abbrev pub IsAfter : ℕ → Allows → ℕ → Option Tree → List ℕ → Type 0
+IsAfter b allows at None s = s ≡ []
+IsAfter b allows at (Some t) s = After b (λ n r. IsExprWhere allows n t r) at s
+
+-- A postconditional. Standard: postcond.
+abbrev pub IsCondition : ℕ → Option Tree → List ℕ → Type 0
+IsCondition = IsAfter 58 Everything
+
+-- A timeout, or none. Standard: timeout. No call stands in any, since it is not certain what is evaluated first; LOCK
+-- without a sign asks more.
+abbrev pub IsTimeout : Allows → ℕ → Option Tree → List ℕ → Type 0
+IsTimeout = IsAfter 58
+
+-- items in parentheses, with commas between them
+abbrev pub AreEnclosed : {A : Type 0} → Spelled A → ℕ → List A → List ℕ → Type 0
+AreEnclosed Item at items s = (inner : List ℕ) × IsEnclosed inner s × IsList Item (suc at) items inner
+
+-- one item, or several in parentheses
+abbrev pub IsOneOrEnclosed : {A : Type 0} → Spelled A → ℕ → List A → List ℕ → Type 0
+IsOneOrEnclosed {A = A} Item at items s = ((item : A) × (items ≡ item ∷ []) × Item at item s)
+    ⊎ AreEnclosed Item at items s
+
+-- a local or a global; what may stand there is asked of its subscripts alone
+abbrev pub IsVariable : Allows → ℕ → VariableTree → List ℕ → Type 0
+IsVariable allows at (Named column name) s = (column ≡ column_at at) × IsReferenceWhere allows at name s
+
+abbrev pub is_local_name : Tree → Bool
+is_local_name (LocalName name subs) = true
+is_local_name t = false
+
+abbrev pub is_local : VariableTree → Bool
+is_local (Named column name) = is_local_name name
+
+abbrev pub IsLocal : ℕ → VariableTree → List ℕ → Type 0
+IsLocal at v s = IsVariable Everything at v s × (is_local v ≡ true)
+
+-- What DO and JOB call: a label, a routine, or both, and perhaps actuals. Standard: DO, JOB, entryref, labelref.
+-- Left out: an offset after a label, an environment, external routines.
+abbrev pub IsGiven : Allows → Passing → ℕ → Option (List ActualTree) → List ℕ → Type 0
+IsGiven allows passing at None s = s ≡ []
+IsGiven allows passing at (Some given) s = IsActualListWhere allows passing at given s
+
+abbrev pub IsCall : Allows → Passing → ℕ → CallTree → List ℕ → Type 0
+IsCall allows passing at (Called column callee actuals) s = (column ≡ column_at at)
+    × Both (λ n r. IsCalleeText n callee r) (λ n r. IsGiven allows passing n actuals r) at s
+
+-- In actuals before a postconditional stand no globals and no calls: it is not certain what is evaluated first.
+abbrev pub before_condition : Option Tree → Allows
+before_condition None = Everything
+before_condition (Some t) = NoTouches
+
+abbrev pub IsDo : ℕ → DoTree → List ℕ → Type 0
+IsDo at (DoCall call condition) s =
+    Both (λ n r. IsCall (before_condition condition) ByReference n call r) (λ n r. IsCondition n condition r) at s
+
+-- JOB passes values alone. Left out: its process parameters and its timeout.
+abbrev pub IsJob : ℕ → CallTree → List ℕ → Type 0
+IsJob = IsCall Everything ByValue
+
+-- names in parentheses: all locals but these. Standard: exclusive KILL and NEW.
+abbrev pub IsAllBut : ℕ → List (List ℕ) → List ℕ → Type 0
+IsAllBut = AreEnclosed IsNameText
+
+-- Standard: KILL
+abbrev pub IsKill : ℕ → KillTree → List ℕ → Type 0
+IsKill at (KillOne v) s = IsVariable Everything at v s
+IsKill at (KillAllBut names) s = IsAllBut at names s
+
+-- Standard: NEW. Left out: NEW of a special variable.
+abbrev pub IsNew : ℕ → NewTree → List ℕ → Type 0
+IsNew at (NewOne column name) s = (column ≡ column_at at) × IsNameText at name s
+IsNew at (NewAllBut names) s = IsAllBut at names s
+
+-- Standard: LOCK. Without a sign what is held is released too, so neither globals nor calls stand in the subscripts of
+-- its names or in its timeout, since it is not certain what is evaluated first. The timeout of `-` is left out.
+abbrev pub sign_text : Sign → List ℕ
+sign_text sign.None = []
+sign_text sign.Plus = codes "+"
+sign_text sign.Minus = codes "-"
+
+abbrev pub in_names : Sign → Allows
+in_names sign.None = NoTouches
+in_names sign.Plus = Everything
+in_names sign.Minus = Everything
+
+abbrev pub IsLockTimeout : Sign → ℕ → Option Tree → List ℕ → Type 0
+IsLockTimeout sign.None at timeout s = IsTimeout NoTouches at timeout s
+IsLockTimeout sign.Plus at timeout s = IsTimeout NoCalls at timeout s
+IsLockTimeout sign.Minus at timeout s = (timeout ≡ None) × (s ≡ [])
+
+abbrev pub IsLock : ℕ → LockTree → List ℕ → Type 0
+IsLock at (LockNames sign names timeout) s = Both (λ n r. r ≡ sign_text sign)
+    (Both (λ n r. IsOneOrEnclosed (IsVariable (in_names sign)) n names r) (λ n r. IsLockTimeout sign n timeout r)) at s
+
+-- Standard: MERGE. No calls stand in the subscripts of its variables, since it is not certain what is evaluated first.
+abbrev pub IsMerge : ℕ → MergeTree → List ℕ → Type 0
+IsMerge at (MergeInto target source) s =
+    Both (λ n r. IsVariable NoCalls n target r) (After 61 (λ n r. IsVariable NoCalls n source r)) at s
+
+-- A format: `!` and `#`, then perhaps a column after `?`; not empty. Standard: READ, WRITE, format.
+abbrev pub is_mark : ℕ → Bool
+is_mark b = (b == 33) || (b == 35)
+
+abbrev pub IsFormat : ℕ → Option Tree → List ℕ → Type 0
+IsFormat at None s = (list_all is_mark s ≡ true) × (0 < length s)
+IsFormat at (Some t) s = Both (λ n r. list_all is_mark r ≡ true) (After 63 (λ n r. IsValue n t r)) at s
+
+-- Standard: READ. Left out: READ into a global.
+abbrev pub IsRead : ℕ → ReadTree → List ℕ → Type 0
+IsRead at (ReadText prompt) s = IsQuoted prompt s
+IsRead at (ReadFormat tab) s = IsFormat at tab s
+IsRead at (ReadLine v most timeout) s = Both (λ n r. IsLocal n v r)
+    (Both (λ n r. IsAfter 35 Everything n most r) (λ n r. IsTimeout NoCalls n timeout r)) at s
+IsRead at (ReadCharacter v timeout) s =
+    After 42 (Both (λ n r. IsLocal n v r) (λ n r. IsTimeout NoCalls n timeout r)) at s
+
+-- Standard: SET, setleft. In a target that is part of a value no calls stand in the subscripts of its variable or in its
+-- arguments, since it is not certain what is evaluated first. Left out: SET of a special variable.
+abbrev pub is_part_word : Part → List ℕ → Bool
+is_part_word part.Piece = is_either (codes "P") (codes "PIECE")
+is_part_word part.Extract = is_either (codes "E") (codes "EXTRACT")
+
+abbrev pub IsTarget : ℕ → TargetTree → List ℕ → Type 0
+IsTarget at (SetWhole v) s = IsVariable Everything at v s
+IsTarget at (SetPart part v arguments) s = (word inner part_text : List ℕ) × (s ≡ 36 ∷ (word ++ part_text))
+    × (is_part_word part word ≡ true) × IsEnclosed inner part_text
+    × Both (λ n r. IsVariable NoCalls n v r) (λ n r. AreNext (IsExprWhere NoCalls) n arguments r)
+    (2 + (at + length word)) inner
+
+abbrev pub IsSet : ℕ → SetTree → List ℕ → Type 0
+IsSet at (SetTo targets value) s =
+    Both (λ n r. IsOneOrEnclosed IsTarget n targets r) (After 61 (λ n r. IsValue n value r)) at s
+
+-- Standard: WRITE
+abbrev pub IsWrite : ℕ → WriteTree → List ℕ → Type 0
+IsWrite at (WriteValue t) s = IsValue at t s
+IsWrite at (WriteCharacter t) s = After 42 (λ n r. IsValue n t r) at s
+IsWrite at (WriteFormat tab) s = IsFormat at tab s
+
+-- FOR's parameters: a value; a start and a step; these and a limit. Standard: FOR, forparameter. Left out: a variable
+-- with subscripts.
+abbrev pub IsParameter : ℕ → ParameterTree → List ℕ → Type 0
+IsParameter at (Once value) s = IsValue at value s
+IsParameter at (Endless start step) s = Both (λ n r. IsValue n start r) (After 58 (λ n r. IsValue n step r)) at s
+IsParameter at (Limited start step limit) s = Both (λ n r. IsValue n start r)
+    (After 58 (Both (λ n r. IsValue n step r) (After 58 (λ n r. IsValue n limit r)))) at s
+
+abbrev pub IsControl : ℕ → ControlTree → List ℕ → Type 0
+IsControl at (Runs column variable parameters) s = (column ≡ column_at at)
+    × Both (λ n r. IsNameText n variable r) (After 61 (λ n r. IsList IsParameter n parameters r)) at s
+
+-- Arguments: one space and a list; some words may stand without. Standard: commands, argument.
+abbrev pub AreSome : {A : Type 0} → Spelled A → ℕ → List A → List ℕ → Type 0
+AreSome Item at items s = After 32 (λ n r. IsList Item n items r) at s
+
+abbrev pub ArePerhaps : {A : Type 0} → Spelled A → ℕ → List A → List ℕ → Type 0
+ArePerhaps Item at [] s = s ≡ []
+ArePerhaps Item at (a ∷ items) s = AreSome Item at (a ∷ items) s
+
+-- QUIT has a value only where it ends a call: inside no FOR, and in no block. Standard: QUIT; that the others are left
+-- out is this project's own choice.
+abbrev pub IsQuit : Bool → ℕ → Option Tree → List ℕ → Type 0
+IsQuit returns at None s = s ≡ []
+IsQuit returns at (Some t) s = (returns ≡ true) × After 32 (λ n r. IsValue n t r) at s
+
+abbrev pub AreArgumentsOf : Bool → ℕ → ActionTree → List ℕ → Type 0
+AreArgumentsOf returns at (Do calls) s = ArePerhaps IsDo at calls s
+AreArgumentsOf returns at Else s = s ≡ []
+AreArgumentsOf returns at Halt s = s ≡ []
+AreArgumentsOf returns at (Hang times) s = AreSome IsValue at times s
+AreArgumentsOf returns at (If conditions) s = ArePerhaps IsValue at conditions s
+AreArgumentsOf returns at (Job calls) s = AreSome IsJob at calls s
+AreArgumentsOf returns at (Kill kills) s = ArePerhaps IsKill at kills s
+AreArgumentsOf returns at (Lock locks) s = ArePerhaps IsLock at locks s
+AreArgumentsOf returns at (Merge merges) s = AreSome IsMerge at merges s
+AreArgumentsOf returns at (New news) s = ArePerhaps IsNew at news s
+AreArgumentsOf returns at (Quit value) s = IsQuit returns at value s
+AreArgumentsOf returns at (Read reads) s = AreSome IsRead at reads s
+AreArgumentsOf returns at (Set sets) s = AreSome IsSet at sets s
+AreArgumentsOf returns at (Write writes) s = AreSome IsWrite at writes s
+
+-- A command but FOR: its word, perhaps a postconditional, its arguments. Standard: commands.
+abbrev pub IsCommand : Bool → ℕ → CommandTree → List ℕ → Type 0
+IsCommand returns at (Does column condition action) s = (column ≡ column_at at)
+    × ((condition ≡ None) ⊎ (may_have_condition action ≡ true))
+    × Both (λ n r. is_word_of action r ≡ true)
+    (Both (λ n r. IsCondition n condition r) (λ n r. AreArgumentsOf returns n action r)) at s
+
+abbrev pub least_of : CommandTree → ℕ
+least_of (Does column condition action) = least_after (has_arguments action)
+
+-- FOR before what it holds: its word, and perhaps its variable and parameters
+abbrev pub IsForHead : ℕ → ℕ → Option ControlTree → List ℕ → Type 0
+IsForHead column at None s = (column ≡ column_at at) × (is_for s ≡ true)
+IsForHead column at (Some control) s = (column ≡ column_at at)
+    × Both (λ n r. is_for r ≡ true) (After 32 (λ n r. IsControl n control r)) at s
+
+abbrev pub is_space : ℕ → Bool
+is_space b = b == 32
+
+-- The spaces after a command: so many at least, unless no command follows. Standard: commands, cs.
+abbrev pub IsGap : ℕ → List ℕ → List ℕ → Type 0
+IsGap least gap following = (list_all is_space gap ≡ true) × ((following ≡ []) ⊎ (least ≤ length gap))
+
+-- Commands with the spaces after each. The index of a FOR counts those of its line from 1: it is one more than the number
+-- of FORs that it stands in, which hold all that follows them. It is 255 at most, which is this project's own choice.
+-- Standard: line body, FOR.
+abbrev pub AreCommands : ℕ → ℕ → ℕ → CommandTrees → List ℕ → Type 0
+AreCommands level loops at finished s = s ≡ []
+AreCommands level loops at (then_command first rest) s = (text gap following : List ℕ)
+    × (s ≡ text ++ (gap ++ following))
+    × IsCommand ((level == 1) && (loops == 0)) at first text × IsGap (least_of first) gap following
+    × AreCommands level loops (at + length text + length gap) rest following
+AreCommands level loops at (then_for column index control rest) s = (text gap following : List ℕ)
+    × (s ≡ text ++ (gap ++ following)) × IsForHead column at control text × (index ≡ suc loops) × (index ≤ 255)
+    × IsGap (least_after (is_some control)) gap following
+    × AreCommands level (suc loops) (at + length text + length gap) rest following

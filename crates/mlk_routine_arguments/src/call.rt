@@ -1,0 +1,156 @@
+// Calls, as DO and JOB have them.
+
+ghost use Rattle.std.specs.Prelude.{◌≡◌, ◌≤◌, length, option_map, Some, true, false};
+ghost use Rattle.mlk_syntax.specs.ExprTrees.{actual_trees};
+ghost use Rattle.mlk_expr.specs.Grammar.{IsCalleeText};
+ghost use Rattle.mlk_expr.specs.Theorem.{CalleeEnds};
+ghost use Rattle.mlk_expr.specs.declared.scope.Allows.TheVariants.{Everything, NoTouches};
+ghost use Rattle.mlk_expr.specs.declared.scope.Passing.TheVariants.{ByReference};
+ghost use Rattle.mlk_routine_arguments.specs.Told.{Found, Told, byte_at};
+ghost use Rattle.mlk_routine_arguments.specs.Ends.{GivenEnds, CalledEnds, CallEnds, DoEnds, JobEnds};
+ghost use Rattle.mlk_syntax.specs.Views.{call_of, do_of};
+ghost use Rattle.mlk_routine_arguments.specs.CommandGrammar.{IsGiven, IsCall, IsDo, IsJob};
+
+use crate::fault::{leaves_out, other_form, refused};
+use crate::part::{expression, has};
+use mlk_expr::{Allows, Passing, read_actuals_where, read_callee};
+use mlk_syntax::{Actual, Call, Callee, DoArgument};
+use mlk_text::{Code, Column, Failure, Fault, LeftOut};
+use std::alloc::Global;
+
+// The label and the routine here, and the byte after them.
+fn called(alloc: Global, line: &[u8], at: usize) -> Result<(Callee, usize), Failure<Fault>>
+    requires { at ≤ length line.now }
+    ensures { Told (λ c. c) IsCalleeText CalleeEnds line.now at result }
+{
+    match read_callee(alloc, line, at) {
+        Ok(read) => Ok(read),
+        Err(Failure::OutOfMemory) => Err(Failure::OutOfMemory),
+        Err(Failure::Refused(fault)) => Err(other_form(Code::ArgumentForm, fault)),
+    }
+}
+
+/// What is called here, and the byte after it. An offset after a label is left out.
+fn callee(alloc: Global, line: &[u8], at: usize) -> Result<(Callee, usize), Failure<Fault>>
+    requires { at ≤ length line.now }
+    ensures { Told (λ c. c) IsCalleeText CalledEnds line.now at result }
+{
+    let (called, next) = called(alloc, line, at)?;
+    if !has(line, next, b'+') {
+        return Ok((called, next));
+    }
+    if called.routine.is_none() {
+        Err(leaves_out(alloc, LeftOut::Offset, next))
+    } else {
+        Err(refused(alloc, Code::Spacing, next))
+    }
+}
+
+/// The actual list here, if one stands here, and the byte after it.
+fn actuals(
+    alloc: Global,
+    allows: Allows,
+    passing: Passing,
+    line: &[u8],
+    at: usize,
+) -> Result<(Option<Vec<Actual>>, usize), Failure<Fault>>
+    requires { at ≤ length line.now }
+    ensures { Told (option_map (λ v. actual_trees v.items)) (IsGiven allows passing) GivenEnds line.now at result }
+{
+    if !has(line, at, b'(') {
+        return Ok((None, at));
+    }
+    match read_actuals_where(alloc, allows, passing, line, at) {
+        Ok((given, next)) => Ok((Some(given), next)),
+        Err(Failure::OutOfMemory) => Err(Failure::OutOfMemory),
+        Err(Failure::Refused(fault)) => Err(Failure::Refused(fault)),
+    }
+}
+
+/// The call here, and the byte after it.
+pub(crate) fn call(
+    alloc: Global,
+    allows: Allows,
+    passing: Passing,
+    line: &[u8],
+    at: usize,
+) -> Result<(Call, usize), Failure<Fault>>
+    requires { at ≤ length line.now }
+    ensures { Told call_of (IsCall allows passing) CallEnds line.now at result }
+{
+    let (callee, next) = callee(alloc, line, at)?;
+    let (actuals, next) = actuals(alloc, allows, passing, line, next)?;
+    let column = Column::at(at + 1);
+    Ok((
+        Call {
+            column,
+            callee,
+            actuals,
+        },
+        next,
+    ))
+}
+
+/// The call here before a postconditional, where less may stand in the actuals: if it has any, it is read again.
+fn quiet_call(
+    alloc: Global,
+    any: Call,
+    line: &[u8],
+    at: usize,
+    next: usize,
+) -> Result<(Call, usize), Failure<Fault>>
+    requires within { at ≤ length line.now }
+    requires read { Found (IsCall Everything ByReference) CallEnds line.now at (call_of any) next }
+    ensures { Told call_of (IsCall NoTouches ByReference) CallEnds line.now at result }
+{
+    if any.actuals.is_none() {
+        return Ok((any, next));
+    }
+    call(alloc, Allows::NoTouches, Passing::ByReference, line, at)
+}
+
+/// The argument of DO here, and the byte after it.
+pub(crate) fn do_argument(
+    alloc: Global,
+    line: &[u8],
+    at: usize,
+) -> Result<(DoArgument, usize), Failure<Fault>>
+    requires { at ≤ length line.now }
+    ensures { Told do_of IsDo DoEnds line.now at result }
+{
+    let (any, next) = call(alloc, Allows::Everything, Passing::ByReference, line, at)?;
+    if !has(line, next, b':') {
+        return Ok((
+            DoArgument {
+                call: any,
+                condition: None,
+            },
+            next,
+        ));
+    }
+    let (less, next) = quiet_call(alloc, any, line, at, next)?;
+    let (condition, next) = expression(alloc, Allows::Everything, line, next + 1)?;
+    Ok((
+        DoArgument {
+            call: less,
+            condition: Some(condition),
+        },
+        next,
+    ))
+}
+
+/// The argument of JOB here, and the byte after it.
+pub(crate) fn job_argument(
+    alloc: Global,
+    line: &[u8],
+    at: usize,
+) -> Result<(Call, usize), Failure<Fault>>
+    requires { at ≤ length line.now }
+    ensures { Told call_of IsJob JobEnds line.now at result }
+{
+    let (called, next) = call(alloc, Allows::Everything, Passing::ByValue, line, at)?;
+    if has(line, next, b':') {
+        return Err(leaves_out(alloc, LeftOut::Timeout, next));
+    }
+    Ok((called, next))
+}

@@ -1,0 +1,83 @@
+// The arguments of KILL, NEW and MERGE.
+
+ghost use Rattle.std.specs.Prelude.{◌≡◌, ◌≤◌, length, Some, true, false};
+ghost use Rattle.mlk_routine_arguments.specs.Told.{Told, byte_at};
+ghost use Rattle.mlk_routine_arguments.specs.Ends.{KillEnds, MergeEnds, NewEnds};
+ghost use Rattle.mlk_syntax.specs.Views.{kill_of, merge_of, new_of};
+ghost use Rattle.mlk_routine_arguments.specs.CommandGrammar.{IsKill, IsMerge, IsNew};
+
+use crate::fault::{leaves_out, refused};
+use crate::item::enclosed;
+use crate::part::{has, name, variable};
+use mlk_expr::Allows;
+use mlk_syntax::{KillArgument, MergeArgument, NewArgument};
+use mlk_text::lexeme::word_at;
+use mlk_text::{Code, Column, Failure, Fault, LeftOut, List};
+use std::alloc::Global;
+
+/// The argument of KILL here, and the byte after it.
+pub(crate) fn kill(
+    alloc: Global,
+    line: &[u8],
+    at: usize,
+) -> Result<(KillArgument, usize), Failure<Fault>>
+    requires { at ≤ length line.now }
+    ensures { Told kill_of IsKill KillEnds line.now at result }
+{
+    if has(line, at, b'(') {
+        let (names, next) = enclosed(alloc, line, at)?;
+        return Ok((KillArgument::AllBut(List::from(names)), next));
+    }
+    let (one, next) = variable(alloc, Allows::Everything, line, at)?;
+    Ok((KillArgument::One(one), next))
+}
+
+/// The argument of MERGE here, and the byte after it.
+pub(crate) fn merge(
+    alloc: Global,
+    line: &[u8],
+    at: usize,
+) -> Result<(MergeArgument, usize), Failure<Fault>>
+    requires { at ≤ length line.now }
+    ensures { Told merge_of IsMerge MergeEnds line.now at result }
+{
+    let (target, next) = variable(alloc, Allows::NoCalls, line, at)?;
+    if !has(line, next, b'=') {
+        return Err(refused(alloc, Code::ArgumentForm, next));
+    }
+    let (source, next) = variable(alloc, Allows::NoCalls, line, next + 1)?;
+    Ok((MergeArgument { target, source }, next))
+}
+
+// Whether a special variable stands here: a word after `$`, without a parenthesis.
+fn is_special(line: &[u8], at: usize) -> bool
+    requires { at ≤ length line.now }
+    ensures { result ≡ true → byte_at line.now at ≡ Some 36 }
+{
+    if !has(line, at, b'$') {
+        return false;
+    }
+    let (_, after) = line.split_at(at + 1);
+    let (word, rest) = word_at(after);
+    !word.is_empty() && !has(rest, 0, b'(')
+}
+
+/// The argument of NEW here, and the byte after it. A special variable is left out.
+pub(crate) fn new(
+    alloc: Global,
+    line: &[u8],
+    at: usize,
+) -> Result<(NewArgument, usize), Failure<Fault>>
+    requires { at ≤ length line.now }
+    ensures { Told new_of IsNew NewEnds line.now at result }
+{
+    if has(line, at, b'(') {
+        let (names, next) = enclosed(alloc, line, at)?;
+        return Ok((NewArgument::AllBut(List::from(names)), next));
+    }
+    if is_special(line, at) {
+        return Err(leaves_out(alloc, LeftOut::Special, at));
+    }
+    let (one, next) = name(alloc, line, at)?;
+    Ok((NewArgument::One(Column::at(at + 1), one), next))
+}

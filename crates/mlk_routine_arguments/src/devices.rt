@@ -1,0 +1,116 @@
+// The arguments of READ and WRITE.
+
+ghost use Rattle.std.specs.Prelude.{◌≡◌, ◌≤◌, length, drop, option_map, Some, true};
+ghost use Rattle.mlk_syntax.specs.ExprTrees.{tree_of};
+ghost use Rattle.mlk_routine_arguments.specs.Told.{Told, byte_at};
+ghost use Rattle.mlk_routine_arguments.specs.Ends.{starts_format, IsPrompt, PromptEnds, FormatEnds, VariableEnds};
+ghost use Rattle.mlk_routine_arguments.specs.Ends.{ReadEnds, WriteEnds};
+ghost use Rattle.mlk_syntax.specs.Views.{variable_of, read_of, write_of};
+ghost use Rattle.mlk_routine_arguments.specs.CommandGrammar.{IsFormat, IsLocal, IsRead, IsWrite};
+
+use crate::fault::{leaves_out, refused};
+use crate::part::{after, expression, has, variable};
+use crate::run::{past_marks, text_bytes};
+use mlk_expr::Allows;
+use mlk_syntax::{Expr, ReadArgument, Variable, WriteArgument};
+use mlk_text::literal::quoted;
+use mlk_text::{Code, Failure, Fault, LeftOut, Value};
+use std::alloc::Global;
+
+/// The text in quotes here, at the first of them, and the byte after it.
+fn prompt(alloc: Global, line: &[u8], at: usize) -> Result<(Value, usize), Failure<Fault>>
+    requires { byte_at line.now at ≡ Some 34 }
+    ensures { Told (λ value. value) IsPrompt PromptEnds line.now at result }
+{
+    let (_, inside) = line.split_at(at + 1);
+    match quoted(alloc, inside) {
+        Ok((value, rest)) => Ok((value, line.len() - rest.len())),
+        Err(Failure::OutOfMemory) => Err(Failure::OutOfMemory),
+        Err(Failure::Refused(_)) => {
+            let plain = text_bytes(inside);
+            Err(refused(alloc, Code::ExprForm, at + 1 + plain))
+        }
+    }
+}
+
+/// Whether a format begins here.
+fn starts_format(line: &[u8], at: usize) -> bool
+    requires { at ≤ length line.now }
+    ensures { result ≡ starts_format (drop at line.now) }
+{
+    let (_, bytes) = line.split_at(at);
+    match bytes.first().copied() {
+        Some(b) => matches!(b, b'!' | b'#' | b'?'),
+        None => false,
+    }
+}
+
+/// The column of the format that begins here, and the byte after the whole.
+fn format(alloc: Global, line: &[u8], at: usize) -> Result<(Option<Expr>, usize), Failure<Fault>>
+    requires within { at ≤ length line.now }
+    requires starts { starts_format (drop at line.now) ≡ true }
+    ensures { Told (option_map tree_of) IsFormat FormatEnds line.now at result }
+{
+    let next = past_marks(line, at);
+    after(alloc, b'?', Allows::Everything, line, next)
+}
+
+/// The argument of WRITE here, and the byte after it.
+pub(crate) fn write_argument(
+    alloc: Global,
+    line: &[u8],
+    at: usize,
+) -> Result<(WriteArgument, usize), Failure<Fault>>
+    requires { at ≤ length line.now }
+    ensures { Told write_of IsWrite WriteEnds line.now at result }
+{
+    if starts_format(line, at) {
+        let (tab, next) = format(alloc, line, at)?;
+        return Ok((WriteArgument::Format(tab), next));
+    }
+    if has(line, at, b'*') {
+        let (value, next) = expression(alloc, Allows::Everything, line, at + 1)?;
+        return Ok((WriteArgument::Character(value), next));
+    }
+    let (value, next) = expression(alloc, Allows::Everything, line, at)?;
+    Ok((WriteArgument::Value(value), next))
+}
+
+/// The local here, with its subscripts, and the byte after it. A global is left out.
+fn local(alloc: Global, line: &[u8], at: usize) -> Result<(Variable, usize), Failure<Fault>>
+    requires { at ≤ length line.now }
+    ensures { Told variable_of IsLocal VariableEnds line.now at result }
+{
+    if has(line, at, b'^') {
+        return Err(leaves_out(alloc, LeftOut::GlobalRead, at));
+    }
+    variable(alloc, Allows::Everything, line, at)
+}
+
+/// The argument of READ here, and the byte after it.
+pub(crate) fn read_argument(
+    alloc: Global,
+    line: &[u8],
+    at: usize,
+) -> Result<(ReadArgument, usize), Failure<Fault>>
+    requires { at ≤ length line.now }
+    ensures { Told read_of IsRead ReadEnds line.now at result }
+{
+    if has(line, at, b'"') {
+        let (prompt, next) = prompt(alloc, line, at)?;
+        return Ok((ReadArgument::Text(prompt), next));
+    }
+    if starts_format(line, at) {
+        let (tab, next) = format(alloc, line, at)?;
+        return Ok((ReadArgument::Format(tab), next));
+    }
+    if has(line, at, b'*') {
+        let (variable, next) = local(alloc, line, at + 1)?;
+        let (timeout, next) = after(alloc, b':', Allows::NoCalls, line, next)?;
+        return Ok((ReadArgument::Character(variable, timeout), next));
+    }
+    let (variable, next) = local(alloc, line, at)?;
+    let (most, next) = after(alloc, b'#', Allows::Everything, line, next)?;
+    let (timeout, next) = after(alloc, b':', Allows::NoCalls, line, next)?;
+    Ok((ReadArgument::Line(variable, most, timeout), next))
+}

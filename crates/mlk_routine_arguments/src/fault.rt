@@ -1,0 +1,80 @@
+// Why a part of a line was not read.
+
+ghost use Rattle.std.specs.Prelude.{◌≡◌, ◌<◌, ◌≤◌, ◌^◌, ℕ, List, length, Some, None, true, false};
+ghost use Rattle.mlk_text.specs.declared.code.Code.TheVariants.{ExprLeftOut, CommandLeftOut};
+ghost use Rattle.mlk_text.specs.declared.fault.LeftOut.TheVariants.{Command};
+ghost use Rattle.mlk_routine_arguments.specs.Told.{IsRefusal};
+ghost use Rattle.mlk_text.specs.Codes.{number_of};
+ghost use Rattle.mlk_routine_arguments.specs.Faults.{Tells, may_tell, has_word, IsLineFault, IsFaulty};
+
+use mlk_text::{Code, Column, Failure, Fault, LeftOut, LineNumber, Place, Value};
+use std::alloc::Global;
+
+fn fault(alloc: Global, code: Code, left_out: Option<LeftOut>, at: usize) -> Failure<Fault>
+    ensures { Tells code left_out at result }
+{
+    Failure::Refused(Fault {
+        code,
+        place: Place {
+            routine: Value::new(Vec::new(alloc)),
+            line: LineNumber::new(1),
+            column: Column::at(at.saturating_add(1)),
+        },
+        left_out,
+    })
+}
+
+/// The refusal of what stands at this byte of a line.
+#[tactic(auto, using(crate::proofs::LineFaults::made_fault))]
+pub fn refused(alloc: Global, code: Code, at: usize) -> Failure<Fault>
+    ensures tells { Tells code None at result }
+    ensures fault { (line : List ℕ) → at ≤ length line → may_tell (number_of code) ≡ true
+        → has_word (number_of code) ≡ false → IsFaulty line result }
+{
+    fault(alloc, code, None, at)
+}
+
+/// The refusal of what is left out.
+#[tactic(auto, using(crate::proofs::LineFaults::made_fault))]
+pub fn leaves_out(alloc: Global, what: LeftOut, at: usize) -> Failure<Fault>
+    ensures tells { Tells ExprLeftOut (Some what) at result }
+    ensures fault { (line : List ℕ) → at ≤ length line → IsFaulty line result }
+{
+    fault(alloc, Code::ExprLeftOut, Some(what), at)
+}
+
+/// A refusal where no expression is expected: what can't begin here has another form.
+pub fn other_form(form: Code, fault: Fault) -> Failure<Fault>
+    ensures refusal { IsRefusal result }
+    ensures fault { (line : List ℕ) → may_tell (number_of form) ≡ true → has_word (number_of form) ≡ false
+        → IsLineFault line fault → IsFaulty line result }
+{
+    let Fault {
+        code,
+        place,
+        left_out,
+    } = fault;
+    let code = match code {
+        Code::ExprForm => form,
+        known => known,
+    };
+    Failure::Refused(Fault {
+        code,
+        place,
+        left_out,
+    })
+}
+
+/// The refusal of a command that is left out, by its full word.
+#[tactic(auto, using(crate::proofs::LineFaults::made_fault))]
+pub(crate) fn no_command(alloc: Global, word: Value, at: usize) -> Failure<Fault>
+    ensures tells { Tells CommandLeftOut (Some (Command word)) at result }
+    ensures fault { (line : List ℕ) → at ≤ length line → IsFaulty line result }
+{
+    fault(
+        alloc,
+        Code::CommandLeftOut,
+        Some(LeftOut::Command(word)),
+        at,
+    )
+}

@@ -1,0 +1,145 @@
+// What stands between commas, and lists of it.
+
+ghost use Rattle.std.specs.Prelude.{◌≡◌, ◌≤◌, ℕ, List, length, map, Some, true, false};
+ghost use Rattle.mlk_routine_arguments.specs.Told.{Told, byte_at};
+ghost use Rattle.mlk_routine_arguments.specs.Stops.{expr_stop, name_stop};
+ghost use Rattle.mlk_routine_arguments.specs.Begins.{expr_begins, name_begins};
+ghost use Rattle.mlk_routine_arguments.specs.Ends.{AreEnded, AnyEnds, Begins, OneEnds};
+ghost use Rattle.mlk_routine_arguments.specs.CommandGrammar.{AreEnclosed, IsOneOrEnclosed};
+ghost use Rattle.mlk_expr.specs.Grammar.{IsList, IsExprWhere, IsNameText};
+ghost use Rattle.mlk_syntax.specs.ExprTrees.{Tree, tree_of};
+ghost use Rattle.mlk_expr.specs.Theorem.{ExprEnds, LabelEnds};
+ghost use Rattle.mlk_expr.specs.declared.scope.Allows.TheVariants.{Everything};
+
+use crate::fault::refused;
+use crate::part::{expression, has, name};
+use mlk_expr::Allows;
+use mlk_syntax::Expr;
+use mlk_text::{Code, Failure, Fault, Name, giving_up, make_room};
+use std::alloc::Global;
+
+/// What stands between the commas of a list.
+pub trait Item: Drop {
+    ghost use Rattle.std.specs.Prelude.{ℕ, List, ◌≡◌, true, false};
+    ghost use Rattle.mlk_expr.specs.Grammar.{Spelled};
+    ghost use Rattle.mlk_routine_arguments.specs.Ends.{is_stop};
+
+    /// What contracts see of it, how it is written, and what may stand after it.
+    ghost Seen: { Type 0 };
+
+    ghost seen: { Self → Seen };
+
+    ghost is: { ℕ → Seen → List ℕ → Type 0 };
+
+    ghost ends: { Seen → List ℕ → Type 0 };
+
+    /// The line's end may, a space, a comma, a closing parenthesis and a comment.
+    ghost stop: { (a : Seen) (rest : List ℕ) → is_stop rest ≡ true → ends a rest };
+
+    /// None begins with one of these.
+    ghost begin: { (k : ℕ) (a : Seen) (s : List ℕ) → is k a s → is_stop s ≡ false };
+
+    fn read(alloc: Global, line: &[u8], at: usize) -> Result<(Self, usize), Failure<Fault>>
+        requires { at ≤ length line.now }
+        ensures { Told seen is ends line.now at result };
+}
+
+impl Item for Expr {
+    ghost Seen = { Tree };
+
+    ghost seen = { tree_of };
+
+    ghost is = { IsExprWhere Everything };
+
+    ghost ends = { ExprEnds };
+
+    ghost stop = { expr_stop };
+
+    ghost begin = { expr_begins Everything };
+
+    fn read(alloc: Global, line: &[u8], at: usize) -> Result<(Expr, usize), Failure<Fault>> {
+        expression(alloc, Allows::Everything, line, at)
+    }
+}
+
+/// One or more items with commas between them, and the byte after them.
+pub(crate) fn listed<T: Item>(
+    alloc: Global,
+    line: &[u8],
+    at: usize,
+) -> Result<(Vec<T>, usize), Failure<Fault>>
+    requires { at ≤ length line.now }
+    ensures { Told (λ v. map T.seen v.items) (IsList T.is) (AreEnded T.ends) line.now at result }
+{
+    let (first, mut next) = T::read(alloc, line, at)?;
+    let room = if has(line, next, b',') { 2 } else { 1 };
+    let Ok(mut items) = Vec::with_capacity(alloc, room) else {
+        return Err(giving_up(first, Failure::OutOfMemory));
+    };
+    items.push_reserved(first);
+    while has(line, next, b',') {
+        make_room(&mut items)?;
+        let (item, end) = T::read(alloc, line, next + 1)?;
+        items.push_reserved(item);
+        next = end;
+    }
+    Ok((items, next))
+}
+
+/// Items in parentheses, the first of which stands here, and the byte after the second.
+#[inline(always)]
+pub(crate) fn enclosed<T: Item>(
+    alloc: Global,
+    line: &[u8],
+    at: usize,
+) -> Result<(Vec<T>, usize), Failure<Fault>>
+    requires within { at ≤ length line.now }
+    requires open { byte_at line.now at ≡ Some 40 }
+    ensures { Told (λ v. map T.seen v.items) (AreEnclosed T.is) AnyEnds line.now at result }
+{
+    let (items, end) = listed(alloc, line, at + 1)?;
+    if !has(line, end, b')') {
+        return Err(refused(alloc, Code::ArgumentForm, end));
+    }
+    Ok((items, end + 1))
+}
+
+impl Item for Name {
+    ghost use Rattle.std.specs.Prelude.{ℕ, List};
+
+    ghost Seen = { List ℕ };
+
+    ghost seen = { λ n. n };
+
+    ghost is = { IsNameText };
+
+    ghost ends = { LabelEnds };
+
+    ghost stop = { name_stop };
+
+    ghost begin = { name_begins };
+
+    fn read(alloc: Global, line: &[u8], at: usize) -> Result<(Name, usize), Failure<Fault>> {
+        name(alloc, line, at)
+    }
+}
+
+/// One item, or several in parentheses, and the byte after them. No item begins with a parenthesis.
+pub(crate) fn one_or_enclosed<T: Item>(
+    alloc: Global,
+    line: &[u8],
+    at: usize,
+) -> Result<(Vec<T>, usize), Failure<Fault>>
+    requires within { at ≤ length line.now }
+    requires shut { (k : ℕ) (a : T.Seen) (s : List ℕ) → T.is k a s → Begins s }
+    ensures { Told (λ v. map T.seen v.items) (IsOneOrEnclosed T.is)
+        (OneEnds T.ends (byte_at line.now at)) line.now at result }
+{
+    if has(line, at, b'(') {
+        return enclosed(alloc, line, at);
+    }
+    let (item, next) = T::read(alloc, line, at)?;
+    let mut items = Vec::with_capacity(alloc, 1)?;
+    items.push_reserved(item);
+    Ok((items, next))
+}

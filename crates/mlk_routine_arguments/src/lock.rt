@@ -1,0 +1,115 @@
+// The arguments of LOCK.
+
+ghost use Rattle.std.specs.Prelude.{◌≡◌, ◌≤◌, length, map, option_map, IfOk};
+ghost use Rattle.mlk_syntax.specs.ExprTrees.{tree_of};
+ghost use Rattle.mlk_expr.specs.declared.scope.Allows.TheVariants.{NoTouches};
+ghost use Rattle.mlk_routine_arguments.specs.Told.{Found, Told, byte_at};
+ghost use Rattle.mlk_routine_arguments.specs.Ends.{IsSign, SignEnds, OneEnds, VariableEnds, TimeoutEnds, LockEnds};
+ghost use Rattle.mlk_syntax.specs.Views.{variable_of, lock_of};
+ghost use Rattle.mlk_routine_arguments.specs.CommandGrammar.{IsVariable, IsOneOrEnclosed, IsLockTimeout, IsLock, in_names};
+
+use crate::fault::{leaves_out, refused};
+use crate::item::one_or_enclosed;
+use crate::items::Unsigned;
+use crate::part::{expression, has, stops};
+use mlk_expr::Allows;
+use mlk_syntax::{Expr, LockArgument, Sign, Variable};
+use mlk_text::{Code, Failure, Fault, LeftOut};
+use std::alloc::{AllocError, Global};
+
+/// The sign here, and the byte after it.
+fn sign(line: &[u8], at: usize) -> (Sign, usize)
+    requires { at ≤ length line.now }
+    ensures { Found IsSign SignEnds line.now at result.0 result.1 }
+{
+    if has(line, at, b'+') {
+        return (Sign::Plus, at + 1);
+    }
+    if has(line, at, b'-') {
+        return (Sign::Minus, at + 1);
+    }
+    (Sign::None, at)
+}
+
+// The names as they stand in the tree.
+fn variables(alloc: Global, names: Vec<Unsigned>) -> Result<Vec<Variable>, AllocError>
+    ensures { IfOk result (λ v. v.items ≡ map (λ name. name.variable) names.items) }
+{
+    names.into_iter().map(|name| name.variable).collect(alloc)
+}
+
+/// The names of LOCK without a sign, and the byte after them.
+fn unsigned(alloc: Global, line: &[u8], at: usize) -> Result<(Vec<Variable>, usize), Failure<Fault>>
+    requires { at ≤ length line.now }
+    ensures { Told (λ v. map variable_of v.items) (IsOneOrEnclosed (IsVariable NoTouches))
+        (OneEnds VariableEnds (byte_at line.now at)) line.now at result }
+{
+    let (names, next) = one_or_enclosed(alloc, line, at)?;
+    let names = variables(alloc, names)?;
+    Ok((names, next))
+}
+
+/// The names here, and the byte after them. Without a sign less may stand in them.
+fn names(
+    alloc: Global,
+    sign: Sign,
+    line: &[u8],
+    at: usize,
+) -> Result<(Vec<Variable>, usize), Failure<Fault>>
+    requires { at ≤ length line.now }
+    ensures { Told (λ v. map variable_of v.items) (IsOneOrEnclosed (IsVariable (in_names sign)))
+        (OneEnds VariableEnds (byte_at line.now at)) line.now at result }
+{
+    match sign {
+        Sign::None => unsigned(alloc, line, at),
+        Sign::Plus | Sign::Minus => one_or_enclosed(alloc, line, at),
+    }
+}
+
+/// The timeout here, if one stands here, and the byte after it. After `-` it is left out. Without one an argument
+/// stops here.
+fn timeout(
+    alloc: Global,
+    sign: Sign,
+    line: &[u8],
+    at: usize,
+) -> Result<(Option<Expr>, usize), Failure<Fault>>
+    requires { at ≤ length line.now }
+    ensures { Told (option_map tree_of) (IsLockTimeout sign) TimeoutEnds line.now at result }
+{
+    if stops(line, at) {
+        return Ok((None, at));
+    }
+    if !has(line, at, b':') {
+        return Err(refused(alloc, Code::Spacing, at));
+    }
+    let allows = match sign {
+        Sign::None => Allows::NoTouches,
+        Sign::Plus => Allows::NoCalls,
+        Sign::Minus => return Err(leaves_out(alloc, LeftOut::Timeout, at)),
+    };
+    let (timeout, next) = expression(alloc, allows, line, at + 1)?;
+    Ok((Some(timeout), next))
+}
+
+/// The argument of LOCK here, and the byte after it.
+pub(crate) fn lock(
+    alloc: Global,
+    line: &[u8],
+    at: usize,
+) -> Result<(LockArgument, usize), Failure<Fault>>
+    requires { at ≤ length line.now }
+    ensures { Told lock_of IsLock LockEnds line.now at result }
+{
+    let (sign, next) = sign(line, at);
+    let (names, next) = names(alloc, sign, line, next)?;
+    let (timeout, next) = timeout(alloc, sign, line, next)?;
+    Ok((
+        LockArgument {
+            sign,
+            names,
+            timeout,
+        },
+        next,
+    ))
+}

@@ -1,0 +1,61 @@
+// FOR's variable and what it runs through.
+
+ghost use Rattle.std.specs.Prelude.{◌≡◌, ◌≤◌, length, Some, true, false};
+ghost use Rattle.mlk_syntax.specs.ExprTrees.{tree_of};
+ghost use Rattle.mlk_routine_arguments.specs.Told.{Told, byte_at};
+ghost use Rattle.mlk_routine_arguments.specs.Ends.{ParameterEnds, ControlEnds};
+ghost use Rattle.mlk_syntax.specs.Views.{parameter_of, control_of};
+ghost use Rattle.mlk_routine_arguments.specs.CommandGrammar.{IsParameter, IsControl};
+
+use crate::fault::{leaves_out, refused};
+use crate::item::listed;
+use crate::part::{after, expression, has, name};
+use mlk_expr::Allows;
+use mlk_syntax::{Control, Parameter};
+use mlk_text::{Code, Column, Failure, Fault, LeftOut};
+use std::alloc::Global;
+
+/// A parameter of FOR here, and the byte after it.
+pub(crate) fn parameter(
+    alloc: Global,
+    line: &[u8],
+    at: usize,
+) -> Result<(Parameter, usize), Failure<Fault>>
+    requires { at ≤ length line.now }
+    ensures { Told parameter_of IsParameter ParameterEnds line.now at result }
+{
+    let (start, next) = expression(alloc, Allows::Everything, line, at)?;
+    let (step, next) = after(alloc, b':', Allows::Everything, line, next)?;
+    let Some(step) = step else {
+        return Ok((Parameter::Once(start), next));
+    };
+    let (limit, next) = after(alloc, b':', Allows::Everything, line, next)?;
+    match limit {
+        Some(limit) => Ok((Parameter::Limited(start, step, limit), next)),
+        None => Ok((Parameter::Endless(start, step), next)),
+    }
+}
+
+/// FOR's variable and what it runs through, and the byte after it. A variable with subscripts is left out.
+pub fn control(alloc: Global, line: &[u8], at: usize) -> Result<(Control, usize), Failure<Fault>>
+    requires { at ≤ length line.now }
+    ensures { Told control_of IsControl ControlEnds line.now at result }
+{
+    let (variable, next) = name(alloc, line, at)?;
+    if has(line, next, b'(') {
+        return Err(leaves_out(alloc, LeftOut::ForVariable, at));
+    }
+    if !has(line, next, b'=') {
+        return Err(refused(alloc, Code::ArgumentForm, next));
+    }
+    let (parameters, next) = listed(alloc, line, next + 1)?;
+    let column = Column::at(at + 1);
+    Ok((
+        Control {
+            column,
+            variable,
+            parameters,
+        },
+        next,
+    ))
+}

@@ -1,0 +1,188 @@
+// The arguments of SET.
+
+ghost use Rattle.std.specs.Prelude.{◌≡◌, ◌<◌, ◌≤◌, ℕ, List, length, map, Some, IfOk};
+ghost use Rattle.mlk_expr.specs.declared.scope.Allows.TheVariants.{NoCalls};
+ghost use Rattle.mlk_syntax.specs.ExprTrees.{Tree, tree_of, trees};
+ghost use Rattle.mlk_expr.specs.Grammar.{AreNext, IsExprWhere};
+ghost use Rattle.mlk_expr.specs.Theorem.{ExprEnds};
+ghost use Rattle.mlk_routine_arguments.specs.Told.{Told, IsRefusal, byte_at};
+ghost use Rattle.mlk_routine_arguments.specs.Faults.{IsFaulty};
+ghost use Rattle.mlk_routine_arguments.specs.Stops.{expr_stop};
+ghost use Rattle.mlk_routine_arguments.specs.Begins.{expr_begins};
+ghost use Rattle.mlk_routine_arguments.specs.Ends.{AnyEnds, NextEnds, part_of, IsPartOpening, OneEnds, TargetEnds, SetEnds};
+ghost use Rattle.mlk_syntax.specs.Views.{target_of, set_of};
+ghost use Rattle.mlk_routine_arguments.specs.CommandGrammar.{is_part_word, IsOneOrEnclosed, IsTarget, IsSet};
+
+use crate::fault::{leaves_out, refused};
+use crate::item::{Item, enclosed, listed};
+use crate::part::{expression, has, variable};
+use mlk_expr::Allows;
+use mlk_expr_tokens::words::{function_of, is_either, is_select};
+use mlk_syntax::{Expr, Part, SetArgument, Several, Target};
+use mlk_text::lexeme::word_at;
+use mlk_text::{Code, Failure, Fault, LeftOut};
+use std::alloc::{AllocError, Global};
+
+/// The function of a target by its word.
+#[tactic(auto, unfolding(crate::specs::Ends::part_of))]
+fn part_of(word: &[u8]) -> Option<Part>
+    ensures { result ≡ part_of word.now }
+{
+    if is_either(b"P", b"PIECE", word) {
+        Some(Part::Piece)
+    } else if is_either(b"E", b"EXTRACT", word) {
+        Some(Part::Extract)
+    } else {
+        None
+    }
+}
+
+// Why no target stands here, at a `$`, with the word after it and what is after that.
+fn no_part(alloc: Global, word: &[u8], after: &[u8], at: usize) -> Failure<Fault>
+    ensures refusal { IsRefusal result }
+    ensures fault { (line : List ℕ) → at < length line → IsFaulty line result }
+{
+    let first = after.first().copied();
+    if word.is_empty() {
+        return match first {
+            Some(b'&') => leaves_out(alloc, LeftOut::External, at),
+            Some(b'$') => refused(alloc, Code::ArgumentForm, at),
+            _ => refused(alloc, Code::ArgumentForm, at.saturating_add(1)),
+        };
+    }
+    if first != Some(b'(') {
+        return leaves_out(alloc, LeftOut::Special, at);
+    }
+    if function_of(word).is_none() && !is_select(word) {
+        return leaves_out(alloc, LeftOut::Function, at);
+    }
+    refused(alloc, Code::ArgumentForm, at)
+}
+
+/// The function of the target here, at its `$`, and the byte after its parenthesis.
+fn opening(alloc: Global, line: &[u8], at: usize) -> Result<(Part, usize), Failure<Fault>>
+    requires { byte_at line.now at ≡ Some 36 }
+    ensures { Told (λ part. part) IsPartOpening AnyEnds line.now at result }
+{
+    let (_, bytes) = line.split_at(at + 1);
+    let (word, after) = word_at(bytes);
+    match part_of(word) {
+        Some(part) if has(after, 0, b'(') => Ok((part, line.len() - after.len() + 1)),
+        _ => Err(no_part(alloc, word, after, at)),
+    }
+}
+
+/// An expression in which no call stands.
+#[derive(Drop)]
+struct CallFree {
+    value: Expr,
+}
+
+impl Item for CallFree {
+    ghost Seen = { Tree };
+
+    ghost seen = { λ item. tree_of item.value };
+
+    ghost is = { IsExprWhere NoCalls };
+
+    ghost ends = { ExprEnds };
+
+    ghost stop = { expr_stop };
+
+    ghost begin = { expr_begins NoCalls };
+
+    fn read(alloc: Global, line: &[u8], at: usize) -> Result<(CallFree, usize), Failure<Fault>> {
+        let (value, next) = expression(alloc, Allows::NoCalls, line, at)?;
+        Ok((CallFree { value }, next))
+    }
+}
+
+// The expressions as they stand in the tree.
+fn expressions(alloc: Global, items: Vec<CallFree>) -> Result<Vec<Expr>, AllocError>
+    ensures { IfOk result (λ v. v.items ≡ map (λ item. item.value) items.items) }
+{
+    items.into_iter().map(|item| item.value).collect(alloc)
+}
+
+/// The arguments after the variable of a target, each after a comma, and the byte after them.
+fn arguments(alloc: Global, line: &[u8], at: usize) -> Result<(Vec<Expr>, usize), Failure<Fault>>
+    requires { at ≤ length line.now }
+    ensures { Told (λ v. trees v.items) (AreNext (IsExprWhere NoCalls)) NextEnds line.now at result }
+{
+    if !has(line, at, b',') {
+        return Ok((Vec::new(alloc), at));
+    }
+    let (items, next) = listed(alloc, line, at + 1)?;
+    let arguments = expressions(alloc, items)?;
+    Ok((arguments, next))
+}
+
+/// The target that is part of a value here, at its `$`, and the byte after it.
+#[inline(always)]
+fn part_target(alloc: Global, line: &[u8], at: usize) -> Result<(Target, usize), Failure<Fault>>
+    requires { byte_at line.now at ≡ Some 36 }
+    ensures { Told target_of IsTarget TargetEnds line.now at result }
+{
+    let (part, next) = opening(alloc, line, at)?;
+    let (variable, next) = variable(alloc, Allows::NoCalls, line, next)?;
+    let (arguments, next) = arguments(alloc, line, next)?;
+    if !has(line, next, b')') {
+        return Err(refused(alloc, Code::ArgumentForm, next));
+    }
+    let variable = Box::new(alloc, variable)?;
+    Ok((Target::Part(part, variable, arguments), next + 1))
+}
+
+/// The target here, and the byte after it.
+#[inline(always)]
+pub(crate) fn target(
+    alloc: Global,
+    line: &[u8],
+    at: usize,
+) -> Result<(Target, usize), Failure<Fault>>
+    requires { at ≤ length line.now }
+    ensures { Told target_of IsTarget TargetEnds line.now at result }
+{
+    if has(line, at, b'$') {
+        return part_target(alloc, line, at);
+    }
+    let (whole, next) = variable(alloc, Allows::Everything, line, at)?;
+    Ok((Target::Whole(whole), next))
+}
+
+// The target here, or the targets in parentheses, and the byte after them.
+#[inline(always)]
+fn targets(
+    alloc: Global,
+    line: &[u8],
+    at: usize,
+) -> Result<(Several<Target>, usize), Failure<Fault>>
+    requires { at ≤ length line.now }
+    ensures { Told (λ targets. map target_of targets) (IsOneOrEnclosed IsTarget)
+        (OneEnds TargetEnds (byte_at line.now at)) line.now at result }
+{
+    if has(line, at, b'(') {
+        let (targets, end) = enclosed(alloc, line, at)?;
+        return Ok((Several::of(targets), end));
+    }
+    let (only, next) = target(alloc, line, at)?;
+    Ok((Several::one(only), next))
+}
+
+/// The argument of SET here, and the byte after it.
+#[inline(always)]
+pub(crate) fn set(
+    alloc: Global,
+    line: &[u8],
+    at: usize,
+) -> Result<(SetArgument, usize), Failure<Fault>>
+    requires { at ≤ length line.now }
+    ensures { Told set_of IsSet SetEnds line.now at result }
+{
+    let (targets, next) = targets(alloc, line, at)?;
+    if !has(line, next, b'=') {
+        return Err(refused(alloc, Code::ArgumentForm, next));
+    }
+    let (value, next) = expression(alloc, Allows::Everything, line, next + 1)?;
+    Ok((SetArgument { targets, value }, next))
+}

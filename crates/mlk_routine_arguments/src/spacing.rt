@@ -1,0 +1,98 @@
+// Arguments as commands have them: a list after one space, or none.
+
+ghost use Rattle.std.specs.Prelude.{◌≡◌, ◌≤◌, length, map, drop, true};
+ghost use Rattle.mlk_routine_arguments.specs.Told.{Told};
+ghost use Rattle.mlk_routine_arguments.specs.Ends.{is_commands_end, is_command_end, is_bare_end, StopEnds};
+ghost use Rattle.mlk_routine_arguments.specs.CommandWords.{has_any};
+ghost use Rattle.mlk_routine_arguments.specs.Kinds.{IsSpaced};
+ghost use Rattle.mlk_routine_arguments.specs.CommandGrammar.{AreSome, ArePerhaps};
+
+use crate::fault::refused;
+use crate::item::{Item, listed};
+use crate::part::has;
+use mlk_text::{Code, Failure, Fault};
+use std::alloc::Global;
+
+/// Whether the commands of a line end here: at its end, or before a comment.
+pub fn is_commands_end(line: &[u8], at: usize) -> bool
+    requires { at ≤ length line.now }
+    ensures { result ≡ is_commands_end (drop at line.now) }
+{
+    let (_, bytes) = line.split_at(at);
+    match bytes.first().copied() {
+        Some(b) => b == b';',
+        None => true,
+    }
+}
+
+/// Whether a command may end here: where the commands end, or before a space.
+pub fn is_command_end(line: &[u8], at: usize) -> bool
+    requires { at ≤ length line.now }
+    ensures { result ≡ is_command_end (drop at line.now) }
+{
+    let (_, bytes) = line.split_at(at);
+    match bytes.first().copied() {
+        Some(b) => b == b' ' || b == b';',
+        None => true,
+    }
+}
+
+/// Whether no arguments follow: other than one space, or the end of the commands after it.
+pub fn is_bare(line: &[u8], at: usize) -> bool
+    requires { at ≤ length line.now }
+    ensures { result ≡ is_bare_end (drop at line.now) }
+{
+    if has(line, at, b' ') {
+        is_command_end(line, at + 1)
+    } else {
+        is_commands_end(line, at)
+    }
+}
+
+/// The byte after the one space that stands before arguments.
+pub fn first_argument(alloc: Global, line: &[u8], at: usize) -> Result<usize, Failure<Fault>>
+    requires { at ≤ length line.now }
+    ensures { IsSpaced line.now at result }
+{
+    if !has(line, at, b' ') {
+        return Err(refused(alloc, Code::Spacing, at));
+    }
+    if has(line, at + 1, b' ') {
+        return Err(refused(alloc, Code::Spacing, at + 1));
+    }
+    Ok(at + 1)
+}
+
+/// A list of arguments after one space, and the byte after them.
+#[inline(always)]
+pub fn some<T: Item>(
+    alloc: Global,
+    line: &[u8],
+    at: usize,
+) -> Result<(Vec<T>, usize), Failure<Fault>>
+    requires { at ≤ length line.now }
+    ensures { Told (λ v. map T.seen v.items) (AreSome T.is) (λ items. StopEnds true) line.now at result }
+{
+    let first = first_argument(alloc, line, at)?;
+    let (items, next) = listed(alloc, line, first)?;
+    if !is_command_end(line, next) {
+        return Err(refused(alloc, Code::Spacing, next));
+    }
+    Ok((items, next))
+}
+
+/// The same, or no arguments.
+#[inline(always)]
+pub fn perhaps<T: Item>(
+    alloc: Global,
+    line: &[u8],
+    at: usize,
+) -> Result<(Vec<T>, usize), Failure<Fault>>
+    requires { at ≤ length line.now }
+    ensures { Told (λ v. map T.seen v.items) (ArePerhaps T.is) (λ items. StopEnds (has_any items)) line.now at result }
+{
+    if is_bare(line, at) {
+        return Ok((Vec::new(alloc), at));
+    }
+    some(alloc, line, at)
+}

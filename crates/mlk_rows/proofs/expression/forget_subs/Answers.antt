@@ -1,7 +1,0 @@
-use Rattle.std.proofs.Common.{◌∙◌, sym}
-use Rattle.mlk_rows.proofs.Opened.{carried, forgets}
-use Rattle.mlk_rows.proofs.expression.forget_subs.Goals as goal
-
-pub returns : goal.returns
-returns c = carried c.forget.result c.forget.new.walk _ _ c.forget.ensures
-    (forgets c.args.subscripts.now c.args.walk.now (sym c.is_empty.ensures ∙ c.if-is_empty.false))

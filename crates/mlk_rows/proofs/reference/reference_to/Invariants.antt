@@ -1,6 +1,0 @@
-use Rattle.std.proofs.Common.{◌≡◌, take}
-use Rattle.mlk_rows.specs.References.{reference}
-use Rattle.mlk_rows.proofs.reference.reference_to.Given as goal
-
-abbrev pub invariant-loop-symbol : goal.invariant-loop-symbol
-invariant-loop-symbol l = l.reference ≡ reference l.fn.extent l.fn.access l.name (take l.symbol-index l.symbols)

@@ -1,9 +1,0 @@
-use Rattle.std.proofs.Common.{◌≡◌, [], length}
-use Rattle.mlk_rows.specs.Walks.{put_all}
-use Rattle.mlk_rows.proofs.walk.are_distinct.Given as goal
-
-abbrev pub invariant-loop-last : goal.invariant-loop-last
-invariant-loop-last l = put_all l.left [] ≡ l.left → put_all l.states [] ≡ l.states
-
-abbrev pub decreases-loop-last : goal.decreases-loop-last
-decreases-loop-last l = length l.left

@@ -1,6 +1,0 @@
-use Rattle.std.proofs.Common.{rules}
-use Rattle.mlk_rows.proofs.StateTests.{state_equal}
-use Rattle.mlk_rows.proofs.walk.is_equal.Goals as goal
-
-pub returns : goal.returns
-returns c = search (rules, state_equal)

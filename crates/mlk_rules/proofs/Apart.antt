@@ -1,0 +1,62 @@
+-- Covered references one of which writes overlap only where their jobs hold names that conflict, or are one.
+use Rattle.std.proofs.Common.{◌≡◌, ◌⊎◌, inl, inr, ℕ, List, Some, sym, ap, ◌∙◌, subst}
+use Rattle.std.specs.Prelude.{Contains, slice_get}
+use Rattle.std.proofs.lemmas.Option.{slice_get-get_or}
+use Rattle.mlk_names.specs.declared.symbol.Sym.TheVariants.{Job}
+use Rattle.mlk_names.specs.declared.term.LockTerm.{LockTerm}
+use Rattle.mlk_names.specs.declared.reference.Access.TheVariants.{Reads, Writes}
+use Rattle.mlk_names.specs.declared.reference.Reference.{Reference}
+use Rattle.mlk_names.specs.Symbols.{Assignment, StandsFor}
+use Rattle.mlk_names.specs.References.{GlobalNode, Touch, Touches, InRegion}
+use Rattle.mlk_rules.specs.declared.pattern.Element.TheVariants as element
+use Rattle.mlk_rules.specs.declared.pattern.Pattern.{Pattern}
+use Rattle.mlk_rules.specs.declared.cover.Cover.{Cover}
+use Rattle.mlk_rules.specs.declared.rules.RuleLists.{RuleLists}
+use Rattle.mlk_rules.specs.Patterns.{MayMeet}
+use Rattle.mlk_rules.specs.Coverage.{IsPattern, OfCover, OfPrivate, OfReadonly, IsCovered, IsOwn, HoldsLock}
+use Rattle.mlk_rules.specs.Laws.{HoldConflict, PrivateByJob, CoveredApart}
+use Rattle.mlk_rules.proofs.Places.{zip_at, begins_at}
+use Rattle.mlk_rules.proofs.Instances.{lock_of_node, reach_begins}
+use Rattle.mlk_rules.proofs.Meetings.{share_pattern}
+
+-- where `$JOB` stands at a place of a reference, each node that it reaches has the job's number there
+own_number : (a : Assignment) (r : Reference) (t : Touch) (n : GlobalNode) (k : ℕ) → Touches a r t → InRegion t.region n → slice_get r.subs k ≡ Some Job → slice_get n.subs k ≡ Some a.job
+own_number a r t n k h i e =
+    let w = zip_at (StandsFor a) r.subs t.region.node.subs k Job h.subs e in
+    let at = begins_at t.region.node.subs n.subs k w.0 (reach_begins t.region.extent t.region.node.subs n.subs i.subs) w.1 in
+    let v = w.2 in cc
+
+module _ (rules : RuleLists) (a b : Assignment) (held kept : List LockTerm) (r s : Reference) (t u : Touch) (first : Touches a r t) (second : Touches b s u) where
+  by_number : (p : Pattern) (n : GlobalNode) → Contains p.elements element.Job → IsOwn p r → IsOwn p s → InRegion t.region n → InRegion u.region n → a.job ≡ b.job
+  by_number p n (k, l, e) own own' i j =
+      let at : slice_get p.elements k ≡ Some element.Job =
+      slice_get-get_or p.elements k element.Job l ∙ ap Some e in
+      let x = own_number a r t n k first i (own k at) in
+      let y = own_number b s u n k second j (own' k at) in cc
+
+  by_lock : (c : Cover) (n : GlobalNode) → HoldsLock held c.lock r → HoldsLock kept c.lock s → InRegion t.region n → InRegion u.region n → HoldConflict a held b kept
+  by_lock c n (h, in_held, p) (k, in_kept, q) i j = record {
+    first = h;
+    second = k;
+    is_held = in_held;
+    is_kept = in_kept;
+    conflict = λ x y d e. (lock_of_node c.lock n).conflict a b r s t u h k x y first i p d second j q e;
+  }
+
+  apart : PrivateByJob rules → IsCovered rules held r → IsCovered rules kept s → (r.access ≡ Writes) ⊎ (s.access ≡ Writes) → (p : Pattern) (n : GlobalNode) → IsPattern rules p → InRegion t.region n → InRegion u.region n → MayMeet p r → MayMeet p s → (a.job ≡ b.job) ⊎ HoldConflict a held b kept
+  apart by_job x y w p n (OfCover c is e) i j m m' =
+      let P : Pattern → Type 0 = λ q. MayMeet q r in
+      let Q : Pattern → Type 0 = λ q. MayMeet q s in
+      inr (by_lock c n (x.covers c is (subst P (sym e) m)) (y.covers c is (subst Q (sym e) m')) i j)
+  apart by_job x y w p n (OfPrivate is) i j m m' =
+      inl (by_number p n (by_job p is) (x.private p is m) (y.private p is m') i j)
+  apart by_job x y w p n (OfReadonly is) i j m m' =
+      let d = x.readonly p is m in
+      let e = y.readonly p is m' in
+      elim w [ inl h ↦ absurd (let c : Reads ≡ Writes = sym d ∙ h in cc) | inr h ↦ absurd (let c : Reads ≡ Writes = sym e ∙ h in cc) ]
+
+pub covered_apart : CoveredApart
+covered_apart rules a b held kept r s t u by_job x y h k o w =
+    let m = share_pattern rules a b r s t u x.ruled y.ruled h k o in
+    let writes : (r.access ≡ Writes) ⊎ (s.access ≡ Writes) = elim w [ inl e ↦ inl (sym h.access ∙ e) | inr e ↦ inr (sym k.access ∙ e) ] in
+    apart rules a b held kept r s t u h k by_job x y writes m.pattern m.node m.is_rule m.first m.second m.meets_first m.meets_second

@@ -1,5 +1,0 @@
-use Rattle.mlk_rules.proofs.Written.{are_written}
-use Rattle.mlk_rules.proofs.law.are_written.Goals as goal
-
-pub returns : goal.returns
-returns c = are_written

@@ -1,5 +1,0 @@
-use Rattle.mlk_rules.proofs.RuleOne.{one_answer}
-use Rattle.mlk_rules.proofs.law.one_answer.Goals as goal
-
-pub returns : goal.returns
-returns c = one_answer

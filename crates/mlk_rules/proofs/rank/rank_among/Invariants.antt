@@ -1,0 +1,9 @@
+use Rattle.std.proofs.Common.{ℕ, ◌<◌}
+use Rattle.std.specs.Prelude.{slice_index_or}
+use Rattle.mlk_names.specs.Terms.{IsPrefix}
+use Rattle.mlk_rules.specs.Ranks.{constant_term}
+use Rattle.mlk_rules.specs.declared.family.Family.{Family}
+use Rattle.mlk_rules.proofs.rank.rank_among.Given as goal
+
+abbrev pub invariant-loop-family : goal.invariant-loop-family
+invariant-loop-family l = (k : ℕ) (d : Family) → k < l.family-index → IsPrefix (constant_term (slice_index_or l.families k d).name) l.term → ⊥

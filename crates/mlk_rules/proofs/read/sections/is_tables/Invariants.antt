@@ -1,7 +1,0 @@
-use Rattle.std.proofs.Common.{◌≡◌, drop}
-use Rattle.toml.specs.View.{items_view}
-use Rattle.mlk_rules.specs.RuleSections.{is_tables}
-use Rattle.mlk_rules.proofs.read.sections.is_tables.Given as goal
-
-abbrev pub invariant-loop-value : goal.invariant-loop-value
-invariant-loop-value l = is_tables (items_view (drop l.value-index l.values)) ≡ is_tables (items_view l.values)

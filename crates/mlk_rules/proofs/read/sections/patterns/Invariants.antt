@@ -1,7 +1,0 @@
-use Rattle.std.proofs.Common.{◌≡◌, ◌+◌, drop}
-use Rattle.toml.specs.View.{items_view}
-use Rattle.mlk_rules.specs.RuleSections.{put, each, rule_pattern_of}
-use Rattle.mlk_rules.proofs.read.sections.patterns.Given as goal
-
-abbrev pub invariant-loop-i : goal.invariant-loop-i
-invariant-loop-i l = put l.found.items (each (rule_pattern_of l.section) (l.i + 1) (items_view (drop l.i l.values))) ≡ each (rule_pattern_of l.section) 1 (items_view l.values)

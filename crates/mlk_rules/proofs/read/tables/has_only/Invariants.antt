@@ -1,8 +1,0 @@
-use Rattle.std.proofs.Common.{◌≡◌}
-use Rattle.toml.specs.View.{table_view}
-use Rattle.mlk_rules.specs.RuleSections.{has_only}
-use Rattle.mlk_rules.proofs.RuleTables.{only_keys}
-use Rattle.mlk_rules.proofs.read.tables.has_only.Given as goal
-
-abbrev pub invariant-loop-key : goal.invariant-loop-key
-invariant-loop-key l = only_keys l.section l.key-iterator ≡ has_only l.section (table_view l.table)

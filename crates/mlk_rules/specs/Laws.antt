@@ -1,0 +1,119 @@
+-- What rules are good for: two jobs never touch one node, of which one writes, and claims have an order.
+use Rattle.std.specs.Prelude.{◌≡◌, ◌⊎◌, ◌↔◌, if◌then◌else◌, ℕ, List, Option, Contains, bytes_eq, map}
+use Rattle.mlk_text.specs.declared.code.Code.{Code}
+use Rattle.mlk_names.specs.declared.lock_name.LockName.{LockName}
+use Rattle.mlk_names.specs.declared.symbol.Sym.{Sym}
+use Rattle.mlk_names.specs.declared.symbol.Sym.TheVariants.{Const, Local, Job, Unknown}
+use Rattle.mlk_names.specs.declared.term.LockTerm.{LockTerm}
+use Rattle.mlk_names.specs.declared.reference.Reference.{Reference}
+use Rattle.mlk_names.specs.declared.reference.Access.TheVariants.{Writes}
+use Rattle.mlk_names.specs.LockNames.{IsAbove, Conflict}
+use Rattle.mlk_names.specs.Symbols.{Assignment}
+use Rattle.mlk_names.specs.Terms.{Names, IsPrefix, Mentions}
+use Rattle.mlk_names.specs.References.{GlobalNode, Region, Touch, Touches, InRegion, MayReach, Overlap}
+use Rattle.mlk_rules.specs.declared.pattern.Element.TheVariants as element
+use Rattle.mlk_rules.specs.declared.pattern.Pattern.{Pattern}
+use Rattle.mlk_rules.specs.declared.template.Template.{Template}
+use Rattle.mlk_rules.specs.declared.family.Family.{Family}
+use Rattle.mlk_rules.specs.declared.rules.RuleLists.{RuleLists}
+use Rattle.mlk_rules.specs.Patterns.{LiesIn, MayMeet, SurelyLies}
+use Rattle.mlk_rules.specs.Coverage.{lock_at, cut_template, IsPattern, IsRuled, IsCovered, IsAnswer}
+use Rattle.mlk_rules.specs.Computed.{answer}
+use Rattle.mlk_rules.specs.Ranks.{HasRank, NameHasRank, FamiliesApart}
+
+-- some node that both reach lies in the pattern of a rule, which both may meet
+pub record SharesPattern (rules : RuleLists) (r s : Reference) (g h : Region) : Type 0 where
+  pub pattern : Pattern
+  pub is_rule : IsPattern rules pattern
+  pub node : GlobalNode
+  pub first : InRegion g node
+  pub second : InRegion h node
+  pub lies : LiesIn pattern node
+  pub meets_first : MayMeet pattern r
+  pub meets_second : MayMeet pattern s
+
+-- Two ruled references that overlap, each as it stands in a job of its own, share a node of a rule's pattern, which
+-- both may meet.
+abbrev pub SharePattern : Type 0
+SharePattern =
+    (rules : RuleLists) (a b : Assignment) (r s : Reference) (t u : Touch)
+    → IsRuled rules r → IsRuled rules s → Touches a r t → Touches b s u → Overlap t.region u.region
+    → SharesPattern rules r s t.region u.region
+
+-- All that a reference may reach lies in each pattern in which it surely lies.
+abbrev pub SurelyLiesWhole : Type 0
+SurelyLiesWhole =
+    (p : Pattern) (r : Reference) (g : Region) (n : GlobalNode)
+    → SurelyLies p r → MayReach r g → InRegion g n → LiesIn p n
+
+-- A term that begins a rule's lock as a reference has it stands for a name at or above the rule's lock at each node
+-- that the reference reaches; so two such terms, each of a job of its own, stand for names that conflict where both
+-- references reach one node.
+pub record LockOfNode (lock : Template) (n : GlobalNode) : Type 0 where
+  pub above : (a : Assignment) (r : Reference) (t : Touch) (h : LockTerm) (x : LockName)
+      → Touches a r t → InRegion t.region n → IsPrefix h (cut_template lock r) → Names a h x → IsAbove x (lock_at lock n)
+  pub conflict : (a b : Assignment) (r s : Reference) (t u : Touch) (h k : LockTerm) (x y : LockName)
+      → Touches a r t → InRegion t.region n → IsPrefix h (cut_template lock r) → Names a h x
+      → Touches b s u → InRegion u.region n → IsPrefix k (cut_template lock s) → Names b k y → Conflict x y
+
+abbrev pub LocksOfNodes : Type 0
+LocksOfNodes = (lock : Template) (n : GlobalNode) → LockOfNode lock n
+
+-- the pattern of each private rule has `$J`
+abbrev pub PrivateByJob : RuleLists → Type 0
+PrivateByJob rules = (p : Pattern) → Contains rules.private p → Contains p.elements element.Job
+
+-- both lists have a term each that stand for names that conflict
+pub record HoldConflict (a : Assignment) (held : List LockTerm) (b : Assignment) (kept : List LockTerm) : Type 0 where
+  pub first : LockTerm
+  pub second : LockTerm
+  pub is_held : Contains held first
+  pub is_kept : Contains kept second
+  pub conflict : (x y : LockName) → Names a first x → Names b second y → Conflict x y
+
+-- Two covered references that overlap, each as it stands in a job of its own and one of which writes, have jobs of one
+-- number, or jobs that hold names that conflict.
+abbrev pub CoveredApart : Type 0
+CoveredApart =
+    (rules : RuleLists) (a b : Assignment) (held kept : List LockTerm) (r s : Reference) (t u : Touch)
+    → PrivateByJob rules
+    → IsCovered rules held r → IsCovered rules kept s → Touches a r t → Touches b s u → Overlap t.region u.region
+    → (t.access ≡ Writes) ⊎ (u.access ≡ Writes) → (a.job ≡ b.job) ⊎ HoldConflict a held b kept
+
+-- Where no two families meet: a term has one rank at most, the names that it stands for have it, and names that
+-- conflict have one rank.
+pub record RankedOnce (families : List Family) : Type 0 where
+  pub once : (t : LockTerm) (j k : ℕ) → HasRank families t j → HasRank families t k → j ≡ k
+  pub names : (a : Assignment) (t : LockTerm) (n : LockName) (k : ℕ)
+      → HasRank families t k → Names a t n → NameHasRank families n k
+  pub alike : (m n : LockName) (j k : ℕ) → NameHasRank families m j → NameHasRank families n k → Conflict m n → j ≡ k
+
+abbrev pub OneRank : Type 0
+OneRank = (families : List Family) → FamiliesApart families → RankedOnce families
+
+-- Of each reference, whatever is held, there is one answer: the computed one.
+pub record HasOneAnswer (rules : RuleLists) (held : List LockTerm) (r : Reference) : Type 0 where
+  pub is : IsAnswer rules held r (answer rules held r)
+  pub only : (found : Option Code) → IsAnswer rules held r found → found ≡ answer rules held r
+
+abbrev pub ComputedAnswers : Type 0
+ComputedAnswers = (rules : RuleLists) (held : List LockTerm) (r : Reference) → HasOneAnswer rules held r
+
+-- unknown in place of this local
+abbrev pub mark : List ℕ → Sym → Sym
+mark name (Const value) = Const value
+mark name (Local other) = if bytes_eq name other then Unknown else Local other
+mark name Job = Job
+mark name Unknown = Unknown
+
+-- a reference whose subscripts that are this local are unknown
+abbrev pub marked : List ℕ → Reference → Reference
+marked name r = record { root = r.root; subs = map (mark name) r.subs; extent = r.extent; access = r.access }
+
+-- Where no held term mentions a local, the answer of a reference is the same when its subscripts that are this local
+-- become unknown: what was wrong stays wrong, and what was covered stays covered.
+abbrev pub MarkedAlike : Type 0
+MarkedAlike =
+    (rules : RuleLists) (held : List LockTerm) (r : Reference) (name : List ℕ)
+    → ((h : LockTerm) → Contains held h → ¬ Mentions h name)
+    → (found : Option Code) → IsAnswer rules held r found ↔ IsAnswer rules held (marked name r) found

@@ -1,0 +1,46 @@
+-- What the lists of rules have to keep. This project's own choice.
+use Rattle.std.specs.Prelude.{◌≡◌, ◌==◌, ◌&&◌, nat_le, ℕ, Bool, true, false}
+use Rattle.std.specs.List.{list_all, count_by}
+use Rattle.mlk_text.specs.Spellings.{is_name}
+use Rattle.mlk_text.specs.declared.root.Root.{Root}
+use Rattle.mlk_text.specs.declared.root.Root.TheVariants as root
+use Rattle.mlk_rules.specs.declared.pattern.Element.{Element}
+use Rattle.mlk_rules.specs.declared.pattern.Element.TheVariants as element
+use Rattle.mlk_rules.specs.declared.pattern.Pattern.{Pattern}
+use Rattle.mlk_rules.specs.declared.family.Family.{Family}
+use Rattle.mlk_rules.specs.declared.cover.Cover.{Cover}
+use Rattle.mlk_rules.specs.declared.rules.RuleLists.{RuleLists}
+use Rattle.mlk_rules.specs.Ranks.{FamiliesApart}
+
+abbrev pub is_root : Root → Bool
+is_root (root.Global name) = is_name name
+is_root (root.Local name) = is_name name
+
+abbrev pub is_job : Element → Bool
+is_job (element.Literal value) = false
+is_job element.Variable = false
+is_job element.Job = true
+
+-- a name, and a rank from 0 to 999,999
+abbrev pub is_family : Family → Bool
+is_family f = is_root f.name.root && nat_le f.rank 999999
+
+-- a name, and `$J` so often
+abbrev pub is_pattern : ℕ → Pattern → Bool
+is_pattern jobs p = is_name p.global && (count_by is_job p.elements == jobs)
+
+-- no `$J`, and a lock of a name
+abbrev pub is_cover : Cover → Bool
+is_cover c = is_pattern 0 c.pattern && is_root c.lock.root
+
+-- `$J` stands once in each private pattern, and in no other
+abbrev pub are_formed : RuleLists → Bool
+are_formed rules =
+    list_all is_family rules.families
+    && (list_all is_cover rules.covers
+    && (list_all (is_pattern 1) rules.private && list_all (is_pattern 0) rules.readonly))
+
+-- Each rule is well formed, and no two families meet.
+pub record IsSound (rules : RuleLists) : Type 0 where
+  pub formed : are_formed rules ≡ true
+  pub apart : FamiliesApart rules.families

@@ -1,0 +1,144 @@
+// Whether a reference is covered by what is held.
+
+ghost use Rattle.std.specs.Prelude.{◌≡◌, ◌↔◌, IsTrue, OnOk, IfErr, None, Some, Contains};
+ghost use Rattle.mlk_rules.specs.declared.cover.Cover.{Cover as cover_rule};
+ghost use Rattle.mlk_rules.specs.declared.pattern.Pattern.{Pattern as pattern};
+ghost use Rattle.mlk_rules.specs.Patterns.{MayMeet};
+ghost use Rattle.mlk_rules.specs.Coverage.{IsFor, IsRuled, KeepsReadonly, EachIsOwn, EachIsHeld, IsAnswer};
+ghost use Rattle.mlk_rules.specs.Fronts.{OwnSubs};
+
+use crate::cover::Cover;
+use crate::held::holds_lock;
+use crate::lent::Lent;
+use crate::lies::is_ruled_by;
+use crate::meet::meets;
+use crate::pattern::{Element, Pattern};
+use crate::rules::{RuleLists, Rules};
+use mlk_names::{Access, LockTerm, Reference, Sym};
+use mlk_text::Code;
+
+// Whether the pattern of some of the rules is a rule for all of the reference.
+fn some_cover_rules(covers: &[Cover], reference: &Lent<'_>) -> bool
+    ensures { IsTrue result ↔ ((c : cover_rule) × Contains covers.now c × IsFor reference.now c.pattern) }
+{
+    for cover in covers {
+        if is_ruled_by(&cover.pattern, reference) {
+            return true;
+        }
+    }
+    false
+}
+
+fn some_pattern_rules(patterns: &[Pattern], reference: &Lent<'_>) -> bool
+    ensures { IsTrue result ↔ ((p : pattern) × Contains patterns.now p × IsFor reference.now p) }
+{
+    for pattern in patterns {
+        if is_ruled_by(pattern, reference) {
+            return true;
+        }
+    }
+    false
+}
+
+fn is_ruled(rules: &RuleLists, reference: &Lent<'_>) -> bool
+    ensures { IsTrue result ↔ IsRuled rules.now reference.now }
+{
+    some_cover_rules(rules.covers.as_slice(), reference)
+        || some_pattern_rules(rules.private.as_slice(), reference)
+        || some_pattern_rules(rules.readonly.as_slice(), reference)
+}
+
+fn some_may_be_met(patterns: &[Pattern], reference: &Lent<'_>) -> bool
+    ensures { IsTrue result ↔ ((p : pattern) × Contains patterns.now p × MayMeet p reference.now) }
+{
+    for pattern in patterns {
+        if meets(pattern, reference) {
+            return true;
+        }
+    }
+    false
+}
+
+fn keeps_readonly(rules: &RuleLists, reference: &Lent<'_>) -> bool
+    ensures { IsTrue result ↔ KeepsReadonly rules.now reference.now }
+{
+    match reference.access() {
+        Access::Reads => true,
+        Access::Writes => !some_may_be_met(rules.readonly.as_slice(), reference),
+    }
+}
+
+// Whether `$JOB` stands at each place of `$J`.
+fn has_own_subs(elements: &[Element], symbols: &[Sym]) -> bool
+    ensures { IsTrue result ↔ OwnSubs elements.now symbols.now }
+{
+    for (i, element) in elements.iter().enumerate() {
+        if matches!(element, Element::Job) && !matches!(symbols.get(i), Some(Sym::Job)) {
+            return false;
+        }
+    }
+    true
+}
+
+fn each_is_own(patterns: &[Pattern], reference: &Lent<'_>) -> bool
+    ensures { IsTrue result ↔ EachIsOwn patterns.now reference.now }
+{
+    for pattern in patterns {
+        if meets(pattern, reference)
+            && !has_own_subs(pattern.elements.as_slice(), reference.subs())
+        {
+            return false;
+        }
+    }
+    true
+}
+
+fn each_is_held(covers: &[Cover], reference: &Lent<'_>, held: &[LockTerm]) -> bool
+    ensures { IsTrue result ↔ EachIsHeld covers.now held.now reference.now }
+{
+    for cover in covers {
+        if meets(&cover.pattern, reference) && !holds_lock(held, &cover.lock, reference) {
+            return false;
+        }
+    }
+    true
+}
+
+fn covered_by(rules: &RuleLists, reference: &Lent<'_>, held: &[LockTerm]) -> Result<(), Code>
+    ensures ok { OnOk result (IsAnswer rules.now held.now reference.now None) }
+    ensures err { IfErr result (λ code. IsAnswer rules.now held.now reference.now (Some code)) }
+{
+    if !is_ruled(rules, reference) {
+        return Err(Code::Unruled);
+    }
+    if !keeps_readonly(rules, reference) {
+        return Err(Code::ReadOnly);
+    }
+    if !each_is_own(rules.private.as_slice(), reference) {
+        return Err(Code::NotPrivate);
+    }
+    if !each_is_held(rules.covers.as_slice(), reference, held) {
+        return Err(Code::Uncovered);
+    }
+    Ok(())
+}
+
+/// The same as `covered`, of a reference whose parts are lent.
+pub fn covered_lent(rules: &Rules, reference: &Lent<'_>, held: &[LockTerm]) -> Result<(), Code>
+    ensures ok { OnOk result (IsAnswer rules.now held.now reference.now None) }
+    ensures err { IfErr result (λ code. IsAnswer rules.now held.now reference.now (Some code)) }
+{
+    match rules.group(reference.root()) {
+        Some(group) => covered_by(group, reference, held),
+        None => Err(Code::Unruled),
+    }
+}
+
+/// Whether each rule that the reference may meet is satisfied by what is held, and some rule is for all of it; else
+/// the first code of what is wrong. It takes no memory, and asks the rules of the reference's global alone.
+pub fn covered(rules: &Rules, reference: &Reference, held: &[LockTerm]) -> Result<(), Code>
+    ensures ok { OnOk result (IsAnswer rules.now held.now reference.now None) }
+    ensures err { IfErr result (λ code. IsAnswer rules.now held.now reference.now (Some code)) }
+{
+    covered_lent(rules, &Lent::of(reference), held)
+}

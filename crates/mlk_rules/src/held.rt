@@ -1,0 +1,80 @@
+// Whether a rule's lock is held where a reference touches.
+
+ghost use Rattle.std.specs.Prelude.{◌≡◌, ◌↔◌, IsTrue, Some};
+ghost use Rattle.mlk_names.specs.Symbols.{known_of};
+ghost use Rattle.mlk_names.specs.Terms.{IsPrefix};
+ghost use Rattle.mlk_rules.specs.Coverage.{symbol_at, cut_template, HoldsLock};
+ghost use Rattle.mlk_rules.specs.Fronts.{BeginsCut};
+
+use crate::lent::Lent;
+use crate::template::{Part, Template};
+use mlk_names::{KnownSym, LockTerm, Sym};
+
+// Whether the symbol is this known one.
+#[inline(always)]
+fn is_known_as(symbol: &Sym, known: &KnownSym) -> bool
+    ensures { IsTrue result ↔ (known_of symbol.now ≡ Some known.now) }
+{
+    match (symbol, known) {
+        (Sym::Const(a), KnownSym::Const(b)) => *a == *b,
+        (Sym::Local(a), KnownSym::Local(b)) => *a == *b,
+        (Sym::Job, KnownSym::Job) => true,
+        _ => false,
+    }
+}
+
+// Whether the part of a rule's lock at the subscripts is this symbol.
+fn stands_at(known: &KnownSym, part: &Part, symbols: &[Sym]) -> bool
+    ensures { IsTrue result ↔ (symbol_at symbols.now part.now ≡ Some known.now) }
+{
+    match part {
+        Part::Literal(value) => { matches!(known, KnownSym::Const(constant) if constant == value) }
+        Part::Place(place) => match symbols.get(*place) {
+            Some(symbol) => is_known_as(symbol, known),
+            None => false,
+        },
+    }
+}
+
+// Whether the symbols begin the subscripts of a rule's lock, up to the first that is absent or unknown.
+fn begins_cut(known: &[KnownSym], parts: &[Part], symbols: &[Sym]) -> bool
+    ensures { IsTrue result ↔ BeginsCut known.now parts.now symbols.now }
+{
+    let mut known = known;
+    let mut parts = parts;
+    while let Some((symbol, other_symbols)) = known.split_first() {
+        let Some((part, other_parts)) = parts.split_first() else {
+            return false;
+        };
+        if !stands_at(symbol, part, symbols) {
+            return false;
+        }
+        known = other_symbols;
+        parts = other_parts;
+    }
+    true
+}
+
+// Whether the term is the rule's lock, or above it.
+fn is_lock(term: &LockTerm, lock: &Template, reference: &Lent<'_>) -> bool
+    ensures { IsTrue result ↔ IsPrefix term.now (cut_template lock.now reference.now) }
+{
+    term.root == lock.root
+        && begins_cut(
+            term.subs.as_slice(),
+            lock.parts.as_slice(),
+            reference.subs(),
+        )
+}
+
+// Whether some held term is the rule's lock, or above it.
+pub(crate) fn holds_lock(held: &[LockTerm], lock: &Template, reference: &Lent<'_>) -> bool
+    ensures { IsTrue result ↔ HoldsLock held.now lock.now reference.now }
+{
+    for term in held {
+        if is_lock(term, lock, reference) {
+            return true;
+        }
+    }
+    false
+}

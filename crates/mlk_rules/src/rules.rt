@@ -1,0 +1,101 @@
+// The rules that routines keep.
+
+ghost use Rattle.std.specs.Prelude.{◌≡◌, IfOk, MatchOption, option_copied};
+ghost use Rattle.mlk_rules.specs.Groups.{IsGroup};
+ghost use Rattle.mlk_rules.specs.Ranks.{FamiliesApart};
+ghost use Rattle.mlk_rules.specs.Sound.{IsSound};
+
+use crate::cover::Cover;
+use crate::family::Family;
+use crate::groups::{Groups, groups_of};
+use crate::pattern::Pattern;
+use crate::sound::is_sound;
+use mlk_text::{List, Name, Value};
+use std::alloc::{AllocError, Global};
+use std::marker::Model;
+
+/// The rules of a file, list by list.
+#[derive(Drop, Debug)]
+pub struct RuleLists {
+    pub families: List<Family>,
+    pub covers: List<Cover>,
+    /// Patterns of which each job has its own part, by its number at the place of `$J`.
+    pub private: List<Pattern>,
+    /// Patterns that are never written.
+    pub readonly: List<Pattern>,
+    /// The entries at which jobs begin, as `LABEL^ROUTINE` or `^ROUTINE`.
+    pub entries: List<Value>,
+}
+
+/// What routines keep to: lists of rules in which no two families meet, ranks are from 0 to 999,999, each root is a
+/// name, and `$J` stands once in each private pattern and nowhere else.
+///
+/// Beside the lists stand the rules of each global, so that a reference asks no others; they take as much memory again.
+#[derive(Drop, Debug)]
+pub struct Rules {
+    lists: RuleLists,
+    groups: Groups,
+}
+
+impl Model for Rules {
+    ghost use Rattle.mlk_rules.specs.declared.rules.RuleLists.{RuleLists};
+    ghost use Rattle.mlk_rules.specs.Groups.{AreKept};
+
+    ghost Value = { RuleLists };
+
+    ghost view = { λ r. r.lists };
+
+    ghost invariant = { λ r. AreKept r.lists r.groups };
+}
+
+impl Rules {
+    /// The rules of these lists; none where they lack what rules keep.
+    pub fn new(alloc: Global, lists: RuleLists) -> Result<Option<Rules>, AllocError>
+        ensures { IfOk result (λ found. MatchOption found (¬ IsSound lists) (λ r. (r ≡ lists) × IsSound lists)) }
+    {
+        if !is_sound(&lists) {
+            return Ok(None);
+        }
+        Ok(Some(Rules::sound(alloc, lists)?))
+    }
+
+    /// The rules of lists that are known to be sound.
+    pub fn sound(alloc: Global, lists: RuleLists) -> Result<Rules, AllocError>
+        requires { IsSound lists }
+        ensures { IfOk result (λ r. r ≡ lists) }
+    {
+        let groups = groups_of(alloc, &lists)?;
+        Ok(Rules { lists, groups })
+    }
+
+    /// The lists of these rules.
+    pub fn lists(&self) -> &RuleLists
+        ensures value { result.now ≡ self.now }
+        ensures sound { IsSound self.now }
+    {
+        &self.lists
+    }
+
+    // The rules of a global, in order, where a pattern names it.
+    #[inline(always)]
+    pub(crate) fn group(&self, global: &Name) -> Option<&RuleLists>
+        ensures { IsGroup self.now global.now (option_copied result) }
+    {
+        self.groups.group(global)
+    }
+
+    /// The families, in order, of which no two meet.
+    pub fn families(&self) -> &[Family]
+        ensures value { result.now ≡ self.now.families }
+        ensures apart { FamiliesApart result.now }
+    {
+        self.lists.families.as_slice()
+    }
+}
+
+/// The entries at which jobs begin, in order.
+pub fn entries(rules: &Rules) -> &[Value]
+    ensures { result.now ≡ rules.now.entries }
+{
+    rules.lists.entries.as_slice()
+}

@@ -1,0 +1,95 @@
+-- Worked examples of the definition of a rule file, with answers from outside the program.
+use Rattle.std.proofs.Common.{◌≡◌, ℕ, List, [], ◌∷◌, Some, None, true, false, refl}
+use Rattle.std.specs.Prelude.{codes, pos, Ok}
+use Rattle.toml.specs.Data.{array, table, string, integer, Members, no_members, member, no_items, item}
+use Rattle.mlk_text.specs.Reading.{many}
+use Rattle.mlk_text.specs.Lexemes.{name_at, label_at, digits_at, root_at, entry_of as parts_of_entry}
+use Rattle.mlk_text.specs.declared.code.Code.TheVariants as code
+use Rattle.mlk_text.specs.declared.root.Root.TheVariants as root
+use Rattle.mlk_names.specs.declared.reference.Extent.TheVariants.{Tree}
+use Rattle.mlk_rules_file.specs.declared.read.fault.Section.TheVariants.{File, Lock, Private, Readonly, Entry}
+use Rattle.mlk_rules_file.specs.declared.read.kinds.Item.TheVariants.{Literal, Variable, Job}
+use Rattle.mlk_rules_file.specs.RuleAnswers.{refused}
+use Rattle.mlk_numbers.specs.Canonical.{canonical_text}
+use Rattle.mlk_rules_file.specs.RuleNumbers.{numeral_len, number_at}
+use Rattle.mlk_rules_file.specs.RuleTexts.{item_at, list_of, parts_of, spelling_of, pattern_of, is_entry}
+use Rattle.mlk_rules_file.specs.RuleKinds.{is_pattern}
+use Rattle.mlk_rules_file.specs.RuleSections.{section_of, family_of, rule_pattern_of, entry_of, lists_of}
+
+-- numbers
+half : number_at (codes "00.50,x") ≡ Some (codes ".5", codes ",x")
+unfolding number_at numeral_len canonical_text
+half = refl
+
+no_number : number_at (codes "...)") ≡ None
+unfolding number_at numeral_len canonical_text
+no_number = refl
+
+-- patterns: two that are spelled well, and three that are not
+a_pattern : pattern_of (codes "^ACCT(id,-05,$J,...)") ≡ Some (record { root = root.Global (codes "ACCT"); items = Variable (codes "id") ∷ Literal (codes "-5") ∷ Job ∷ []; extent = Tree })
+unfolding item_at number_at numeral_len canonical_text list_of parts_of root_at spelling_of many name_at
+a_pattern = refl
+
+a_pattern_of_dots : pattern_of (codes "^G(...)") ≡ Some (record { root = root.Global (codes "G"); items = []; extent = Tree })
+unfolding list_of parts_of root_at spelling_of name_at
+a_pattern_of_dots = refl
+
+no_pattern_of_nothing : pattern_of (codes "^G()") ≡ None
+unfolding item_at list_of parts_of root_at spelling_of name_at
+no_pattern_of_nothing = refl
+
+no_local_pattern : pattern_of (codes "G(x)") ≡ None
+no_local_pattern = refl
+
+no_dots_before : pattern_of (codes "^G(...,x)") ≡ None
+unfolding item_at number_at numeral_len canonical_text list_of parts_of root_at spelling_of name_at
+no_dots_before = refl
+
+-- entries
+an_entry : is_entry (codes "DEP^BANK") ≡ true
+unfolding parts_of_entry label_at name_at digits_at
+an_entry = refl
+
+an_entry_without_label : is_entry (codes "^BANK") ≡ true
+unfolding parts_of_entry label_at name_at digits_at
+an_entry_without_label = refl
+
+no_entry : is_entry (codes "DEP") ≡ false
+unfolding parts_of_entry label_at name_at digits_at
+no_entry = refl
+
+-- files: the key of a section, the order of refusals
+section_with : List ℕ → List ℕ → List ℕ → Members
+section_with section key text = member section (array (item (table (member key (string text) no_members)) no_items)) no_members
+
+no_section : lists_of no_members ≡ Ok (record { families = []; covers = []; private = []; readonly = []; entries = [] })
+unfolding lists_of section_of
+no_section = refl
+
+an_unknown_section : lists_of (member (codes "locks") (array no_items) no_members) ≡ refused code.Key File 0
+unfolding lists_of
+an_unknown_section = refl
+
+no_array : lists_of (member (codes "lock") (table no_members) no_members) ≡ refused code.Key Lock 0
+unfolding lists_of section_of
+no_array = refl
+
+one_entry : lists_of (section_with (codes "entry") (codes "label") (codes "^BANK")) ≡ Ok (record { families = []; covers = []; private = []; readonly = []; entries = codes "^BANK" ∷ [] })
+unfolding lists_of section_of entry_of parts_of_entry label_at name_at digits_at section_with
+one_entry = refl
+
+a_wrong_key : lists_of (section_with (codes "entry") (codes "name") (codes "^BANK")) ≡ refused code.Key Entry 1
+unfolding lists_of section_of entry_of section_with
+a_wrong_key = refl
+
+no_job_in_private : lists_of (section_with (codes "private") (codes "global") (codes "^TMP")) ≡ refused code.Pattern Private 1
+unfolding lists_of section_of rule_pattern_of is_pattern spelling_of root_at parts_of name_at section_with
+no_job_in_private = refl
+
+job_in_readonly : lists_of (section_with (codes "readonly") (codes "global") (codes "^CONF($J)")) ≡ refused code.Pattern Readonly 1
+unfolding lists_of section_of rule_pattern_of is_pattern spelling_of root_at parts_of list_of item_at many name_at section_with
+job_in_readonly = refl
+
+a_large_rank : family_of 3 (table (member (codes "name") (string (codes "(")) (member (codes "rank") (integer (pos 1000000)) no_members))) ≡ refused code.RulesLimit Lock 3
+unfolding family_of spelling_of root_at name_at
+a_large_rank = refl

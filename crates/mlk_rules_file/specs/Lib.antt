@@ -1,0 +1,12 @@
+pub use Rattle.mlk_rules.specs.Patterns
+pub use Rattle.mlk_rules.specs.Coverage
+pub use Rattle.mlk_rules.specs.Computed
+pub use Rattle.mlk_rules.specs.Ranks
+pub use Rattle.mlk_rules.specs.Sound
+pub use Rattle.mlk_rules.specs.Laws
+pub mod RuleAnswers
+pub mod RuleNumbers
+pub mod RuleTexts
+pub mod RuleGrammar
+pub mod RuleKinds
+pub mod RuleSections

@@ -1,0 +1,149 @@
+-- Which items may stand where in a rule file, and what is made of them. This project's own choice.
+use Rattle.std.specs.Prelude.{ℕ, ◌&&◌, ◌==◌, not, nat_lt, Bool, true, false, List, [], ◌∷◌, ◌++◌, length, Option, Some, None, bytes_eq}
+use Rattle.std.specs.List.{list_all, list_any, count_by, position}
+use Rattle.mlk_names.specs.declared.lock_name.LockName.{LockName}
+use Rattle.mlk_text.specs.declared.root.Root.{Root}
+use Rattle.mlk_text.specs.declared.root.Root.TheVariants as root
+use Rattle.mlk_names.specs.declared.reference.Extent.{Extent}
+use Rattle.mlk_names.specs.declared.reference.Extent.TheVariants.{Node, Tree}
+use Rattle.mlk_rules.specs.declared.pattern.Element.{Element}
+use Rattle.mlk_rules.specs.declared.pattern.Element.TheVariants as element
+use Rattle.mlk_rules.specs.declared.pattern.Pattern.{Pattern}
+use Rattle.mlk_rules.specs.declared.template.Part.{Part}
+use Rattle.mlk_rules.specs.declared.template.Part.TheVariants as part
+use Rattle.mlk_rules.specs.declared.template.Template.{Template}
+use Rattle.mlk_rules_file.specs.declared.read.fault.Section.{Section}
+use Rattle.mlk_rules_file.specs.declared.read.fault.Section.TheVariants.{File, Lock, Cover, Private, Readonly, Entry}
+use Rattle.mlk_rules_file.specs.declared.read.kinds.Item.{Item}
+use Rattle.mlk_rules_file.specs.declared.read.kinds.Item.TheVariants.{Literal, Variable, Job}
+use Rattle.mlk_rules_file.specs.declared.read.kinds.Spelling.{Spelling}
+
+-- more than 8 items; `...` is none
+abbrev pub is_long : Option Spelling → Bool
+is_long None = false
+is_long (Some s) = nat_lt 8 (length s.items)
+
+-- just the node, and not all below it
+abbrev pub is_node : Extent → Bool
+is_node Node = true
+is_node Tree = false
+
+-- literals alone
+abbrev pub is_literal : Item → Bool
+is_literal (Literal v) = true
+is_literal (Variable n) = false
+is_literal Job = false
+
+abbrev pub is_literals : List Item → Bool
+is_literals items = list_all is_literal items
+
+-- their values
+abbrev pub values_of : List Item → List (List ℕ)
+values_of [] = []
+values_of (Literal v ∷ items) = v ∷ values_of items
+values_of (Variable n ∷ items) = values_of items
+values_of (Job ∷ items) = values_of items
+
+-- a family's name: literals, and no `...`
+unfoldable pub is_family_name : Spelling → Bool
+is_family_name s = is_literals s.items && is_node s.extent
+
+abbrev pub family_name : Spelling → LockName
+family_name s = record { root = s.root; subs = values_of s.items }
+
+-- `$J`
+abbrev pub is_own : Item → Bool
+is_own (Literal v) = false
+is_own (Variable n) = false
+is_own Job = true
+
+-- no `$J`
+abbrev pub is_jobless : List Item → Bool
+is_jobless items = list_all (λ i. not (is_own i)) items
+
+-- `$J` once
+abbrev pub has_one_job : List Item → Bool
+has_one_job items = count_by is_own items == 1
+
+-- the variable of this name is among the items
+abbrev pub is_item : List ℕ → Item → Bool
+is_item name (Literal v) = false
+is_item name (Variable n) = bytes_eq name n
+is_item name Job = false
+
+abbrev pub has_variable : List ℕ → List Item → Bool
+has_variable name items = list_any (is_item name) items
+
+-- the item is no variable of the others
+abbrev pub is_new : Item → List Item → Bool
+is_new (Literal v) items = true
+is_new (Variable n) items = not (has_variable n items)
+is_new Job items = true
+
+-- no variable stands twice
+abbrev pub is_distinct : List Item → Bool
+is_distinct [] = true
+is_distinct (i ∷ items) = is_new i items && is_distinct items
+
+-- `$J` stands once in a private pattern, and in no other
+abbrev pub has_its_job : Section → List Item → Bool
+has_its_job Private items = has_one_job items
+has_its_job File items = is_jobless items
+has_its_job Lock items = is_jobless items
+has_its_job Cover items = is_jobless items
+has_its_job Readonly items = is_jobless items
+has_its_job Entry items = is_jobless items
+
+-- a pattern of a section: its `$J`, and each variable once
+unfoldable pub is_pattern : Section → Spelling → Bool
+is_pattern section s = has_its_job section s.items && is_distinct s.items
+
+-- its elements
+abbrev pub elements_of : List Item → List Element
+elements_of [] = []
+elements_of (Literal v ∷ items) = element.Literal v ∷ elements_of items
+elements_of (Variable n ∷ items) = element.Variable ∷ elements_of items
+elements_of (Job ∷ items) = element.Job ∷ elements_of items
+
+-- the name of a root
+abbrev pub name_of : Root → List ℕ
+name_of (root.Global n) = n
+name_of (root.Local n) = n
+
+abbrev pub pattern : Spelling → Pattern
+pattern s = record { global = name_of s.root; elements = elements_of s.items; extent = s.extent }
+
+-- a cover's lock: no `$J`, and no `...`
+unfoldable pub is_template : Spelling → Bool
+is_template s = is_jobless s.items && is_node s.extent
+
+-- the place of a variable in a pattern, counted from 0
+abbrev pub place_of : List ℕ → List Item → Option ℕ
+place_of name items = position (is_item name) items
+
+-- the part that an item of a lock is, beside a pattern
+abbrev pub placed : Option ℕ → Option Part
+placed None = None
+placed (Some k) = Some (part.Place k)
+
+abbrev pub part_of : List Item → Item → Option Part
+part_of items (Literal v) = Some (part.Literal v)
+part_of items (Variable n) = placed (place_of n items)
+part_of items Job = None
+
+-- parts before those that were found
+abbrev pub before : List Part → Option (List Part) → Option (List Part)
+before front None = None
+before front (Some parts) = Some (front ++ parts)
+
+abbrev pub part_before : Option Part → Option (List Part) → Option (List Part)
+part_before None parts = None
+part_before (Some p) parts = before (p ∷ []) parts
+
+-- the parts of a lock, where the pattern has all its variables
+abbrev pub parts_of : List Item → List Item → Option (List Part)
+parts_of items [] = Some []
+parts_of items (i ∷ others) = part_before (part_of items i) (parts_of items others)
+
+abbrev pub template : Spelling → List Part → Template
+template s parts = record { root = s.root; parts = parts }

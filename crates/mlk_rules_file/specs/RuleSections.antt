@@ -1,0 +1,242 @@
+-- What a rule file says, or why it is refused: a text that is written as `RuleGrammar` says is read so, and one that is
+-- not is refused with 403. This project's own choice.
+use Rattle.std.specs.Prelude.{ℕ, suc, ℤ, pos, negsuc, ◌≡◌, ◌&&◌, ◌||◌, ◌⊎◌, if◌then◌else◌, nat_lt, nat_le, Bool, true, List, [], ◌∷◌, ◌++◌, Option, Some, None, option_and_then, codes, bytes_eq, is_some, IsUtf8, Ok, Err}
+use Rattle.toml.specs.Data.{Data, array, Items, no_items, item, Members, no_members, member, as_str, as_integer, as_table, get_member}
+use Rattle.toml.specs.Parse.{parse_document}
+use Rattle.mlk_text.specs.declared.code.Code.TheVariants as code
+use Rattle.mlk_rules.specs.declared.family.Family.{Family}
+use Rattle.mlk_rules.specs.declared.cover.Cover.{Cover}
+use Rattle.mlk_rules.specs.declared.pattern.Pattern.{Pattern}
+use Rattle.mlk_rules.specs.declared.template.Part.{Part}
+use Rattle.mlk_rules.specs.declared.rules.RuleLists.{RuleLists}
+use Rattle.mlk_rules_file.specs.declared.read.fault.Section.{Section}
+use Rattle.mlk_rules_file.specs.declared.read.fault.Section.TheVariants.{File, Lock, Cover as CoverSection, Private, Readonly, Entry}
+use Rattle.mlk_rules_file.specs.declared.read.fault.RulesFault.{RulesFault}
+use Rattle.mlk_text.specs.declared.failure.Failure.{Failure}
+use Rattle.mlk_text.specs.declared.failure.Failure.TheVariants.{OutOfMemory, Refused}
+use Rattle.mlk_rules_file.specs.declared.read.kinds.Spelling.{Spelling}
+use Rattle.mlk_rules.specs.Ranks.{FamiliesApart, IsFirstMeeting}
+use Rattle.mlk_rules_file.specs.RuleAnswers.{section_word, Answer, refused, next, answer_map}
+use Rattle.mlk_rules_file.specs.RuleTexts.{spelling_of, pattern_of, is_entry}
+use Rattle.mlk_rules_file.specs.RuleKinds.{is_long, is_family_name, family_name, is_pattern, pattern, is_template, parts_of, template}
+
+-- the keys at the top, and those of the elements of each section
+abbrev pub is_key : Section → List ℕ → Bool
+is_key File key =
+    bytes_eq key (codes "lock") || bytes_eq key (codes "cover")
+    || bytes_eq key (codes "private") || bytes_eq key (codes "readonly") || bytes_eq key (codes "entry")
+is_key Lock key = bytes_eq key (codes "name") || bytes_eq key (codes "rank")
+is_key CoverSection key = bytes_eq key (codes "global") || bytes_eq key (codes "lock")
+is_key Private key = bytes_eq key (codes "global")
+is_key Readonly key = bytes_eq key (codes "global")
+is_key Entry key = bytes_eq key (codes "label")
+
+-- no key but these
+abbrev pub has_only : Section → Members → Bool
+has_only s no_members = true
+has_only s (member key d ms) = is_key s key && has_only s ms
+
+-- the text at a key, and the integer
+abbrev pub text_at : List ℕ → Members → Option (List ℕ)
+text_at key ms = option_and_then as_str (get_member key ms)
+
+abbrev pub integer_at : List ℕ → Members → Option ℤ
+integer_at key ms = option_and_then as_integer (get_member key ms)
+
+-- both, or nothing
+abbrev pub both : {A B : Type 0} → Option A → Option B → Option (A × B)
+both None b = None
+both (Some a) None = None
+both (Some a) (Some b) = Some (a, b)
+
+-- the name and the rank of a family
+abbrev pub family_keys : Option Members → Option (List ℕ × ℤ)
+family_keys None = None
+family_keys (Some ms) =
+    if has_only Lock ms then both (text_at (codes "name") ms) (integer_at (codes "rank") ms) else None
+
+-- the pattern and the lock of a cover
+abbrev pub cover_keys : Option Members → Option (List ℕ × List ℕ)
+cover_keys None = None
+cover_keys (Some ms) =
+    if has_only CoverSection ms then both (text_at (codes "global") ms) (text_at (codes "lock") ms) else None
+
+-- the one text of an element with one key
+abbrev pub text_key : Section → List ℕ → Option Members → Option (List ℕ)
+text_key s key None = None
+text_key s key (Some ms) = if has_only s ms then text_at key ms else None
+
+-- a rank is from 0 to 999,999
+abbrev pub rank_of : ℤ → Option ℕ
+rank_of (pos n) = if nat_le n 999999 then Some n else None
+rank_of (negsuc n) = None
+
+-- a family of its parts
+abbrev pub family_with : ℕ → Option Spelling → ℕ → Answer Family
+family_with k None r = refused code.Pattern Lock k
+family_with k (Some s) r =
+    if is_family_name s then Ok (record { name = family_name s; rank = r }) else refused code.Pattern Lock k
+
+abbrev pub family_ranked : ℕ → Option Spelling → Option ℕ → Answer Family
+family_ranked k s None = refused code.RulesLimit Lock k
+family_ranked k s (Some r) = family_with k s r
+
+abbrev pub family_by : ℕ → Option Spelling → ℤ → Answer Family
+family_by k s z = if is_long s then refused code.RulesLimit Lock k else family_ranked k s (rank_of z)
+
+abbrev pub family_at : ℕ → Option (List ℕ × ℤ) → Answer Family
+family_at k None = refused code.Key Lock k
+family_at k (Some keys) = family_by k (spelling_of keys.0) keys.1
+
+-- the family of the element with this index
+unfoldable pub family_of : ℕ → Data → Answer Family
+family_of k d = family_at k (family_keys (as_table d))
+
+-- a cover of its parts
+abbrev pub cover_of_parts : ℕ → Spelling → Spelling → Option (List Part) → Answer Cover
+cover_of_parts k p l None = refused code.TemplateVariable CoverSection k
+cover_of_parts k p l (Some parts) = Ok (record { pattern = pattern p; lock = template l parts })
+
+abbrev pub cover_placed : ℕ → Spelling → Spelling → Answer Cover
+cover_placed k p l = cover_of_parts k p l (parts_of p.items l.items)
+
+abbrev pub cover_with : ℕ → Option Spelling → Option Spelling → Answer Cover
+cover_with k None l = refused code.Pattern CoverSection k
+cover_with k (Some p) None = refused code.Pattern CoverSection k
+cover_with k (Some p) (Some l) =
+    if is_pattern CoverSection p && is_template l then cover_placed k p l else refused code.Pattern CoverSection k
+
+abbrev pub cover_by : ℕ → Option Spelling → Option Spelling → Answer Cover
+cover_by k p l = if is_long p || is_long l then refused code.RulesLimit CoverSection k else cover_with k p l
+
+abbrev pub cover_at : ℕ → Option (List ℕ × List ℕ) → Answer Cover
+cover_at k None = refused code.Key CoverSection k
+cover_at k (Some keys) = cover_by k (pattern_of keys.0) (spelling_of keys.1)
+
+-- the cover of the element with this index
+unfoldable pub cover_of : ℕ → Data → Answer Cover
+cover_of k d = cover_at k (cover_keys (as_table d))
+
+-- a pattern of a section by itself
+abbrev pub pattern_with : Section → ℕ → Option Spelling → Answer Pattern
+pattern_with s k None = refused code.Pattern s k
+pattern_with s k (Some p) = if is_pattern s p then Ok (pattern p) else refused code.Pattern s k
+
+abbrev pub pattern_by : Section → ℕ → Option Spelling → Answer Pattern
+pattern_by s k p = if is_long p then refused code.RulesLimit s k else pattern_with s k p
+
+abbrev pub pattern_at : Section → ℕ → Option (List ℕ) → Answer Pattern
+pattern_at s k None = refused code.Key s k
+pattern_at s k (Some text) = pattern_by s k (pattern_of text)
+
+-- the private or readonly pattern of the element with this index
+unfoldable pub rule_pattern_of : Section → ℕ → Data → Answer Pattern
+rule_pattern_of s k d = pattern_at s k (text_key s (codes "global") (as_table d))
+
+abbrev pub entry_at : ℕ → Option (List ℕ) → Answer (List ℕ)
+entry_at k None = refused code.Key Entry k
+entry_at k (Some label) = if is_entry label then Ok label else refused code.Pattern Entry k
+
+-- the entry of the element with this index
+unfoldable pub entry_of : ℕ → Data → Answer (List ℕ)
+entry_of k d = entry_at k (text_key Entry (codes "label") (as_table d))
+
+-- what stands before others
+abbrev pub put : {A : Type 0} → List A → Answer (List A) → Answer (List A)
+put front others = answer_map (λ xs. front ++ xs) others
+
+-- what each element is, of which the first has this index
+abbrev pub each : {A : Type 0} → (ℕ → Data → Answer A) → ℕ → Items → Answer (List A)
+each read k no_items = Ok []
+each read k (item d ds) = next (read k d) (λ x. put (x ∷ []) (each read (suc k) ds))
+
+-- how many
+abbrev pub count : Items → ℕ
+count no_items = 0
+count (item d ds) = suc (count ds)
+
+-- tables alone
+abbrev pub is_tables : Items → Bool
+is_tables no_items = true
+is_tables (item d ds) = is_some (as_table d) && is_tables ds
+
+-- the elements of a section, which is an array of tables or missing
+abbrev pub tables_in : Data → Option Items
+tables_in (array ds) = if is_tables ds then Some ds else None
+tables_in _ = None
+
+abbrev pub elements_in : Option Data → Option Items
+elements_in None = Some no_items
+elements_in (Some d) = tables_in d
+
+-- at most 1,024 of them
+abbrev pub limited : Section → Option Items → Answer Items
+limited s None = refused code.Key s 0
+limited s (Some ds) = if nat_lt 1024 (count ds) then refused code.RulesLimit s 0 else Ok ds
+
+unfoldable pub section_of : Section → Members → Answer Items
+section_of s ms = limited s (elements_in (get_member (section_word s) ms))
+
+-- what the elements of a section are
+abbrev pub all_of : {A : Type 0} → (ℕ → Data → Answer A) → Section → Members → Answer (List A)
+all_of read s ms = next (section_of s ms) (each read 1)
+
+abbrev pub lists : List Family → List Cover → List Pattern → List Pattern → List (List ℕ) → Answer RuleLists
+lists families covers private readonly entries =
+    Ok (record { families = families; covers = covers; private = private; readonly = readonly; entries = entries })
+
+-- What the sections of a top table say: the first refusal counts, in the order of the sections.
+unfoldable pub lists_of : Members → Answer RuleLists
+lists_of ms =
+    if has_only File ms then
+    (next (all_of family_of Lock ms) (λ families.
+    next (all_of cover_of CoverSection ms) (λ covers.
+    next (all_of (rule_pattern_of Private) Private ms) (λ private.
+    next (all_of (rule_pattern_of Readonly) Readonly ms) (λ readonly.
+    next (all_of entry_of Entry ms) (λ entries.
+    lists families covers private readonly entries))))))
+    else refused code.Key File 0
+
+-- 405: what the sections say is well, but for two families that meet
+pub record SomeMeet (ms : Members) (f : RulesFault) : Type 0 where
+  pub rules : RuleLists
+  pub index : ℕ
+  pub said : lists_of ms ≡ Ok rules
+  pub first : IsFirstMeeting rules.families index
+  pub fault : f ≡ record { code = code.FamiliesMeet; section = Lock; index = index }
+
+-- What a top table says: the rules of its sections, if no two families meet.
+abbrev pub TableSays : Members → Answer RuleLists → Type 0
+TableSays ms (Ok r) = (lists_of ms ≡ Ok r) × FamiliesApart r.families
+TableSays ms (Err f) = (lists_of ms ≡ Err f) ⊎ SomeMeet ms f
+
+-- the bytes are text, and this is their top table
+abbrev pub IsDocument : List ℕ → Members → Type 0
+IsDocument bytes ms = IsUtf8 bytes × (parse_document bytes ≡ Some ms)
+
+-- The bytes are text that TOML reads, and their top table says this.
+abbrev pub Says : List ℕ → Answer RuleLists → Type 0
+Says bytes answer = (ms : Members) × IsDocument bytes ms × TableSays ms answer
+
+-- 401: the bytes are no text, or TOML does not read them
+abbrev pub IsNoToml : List ℕ → RulesFault → Type 0
+IsNoToml bytes f =
+    (f ≡ record { code = code.Toml; section = File; index = 0 }) × (IsUtf8 bytes → parse_document bytes ≡ None)
+
+-- the same without a table, as far as memory goes
+abbrev pub NoTable : List ℕ → Failure RulesFault → Type 0
+NoTable bytes OutOfMemory = Unit {0}
+NoTable bytes (Refused f) = IsNoToml bytes f
+
+-- The bytes say these rules.
+abbrev pub SaysRules : List ℕ → RuleLists → Type 0
+SaysRules bytes r = Says bytes (Ok r)
+
+-- Why the bytes are refused. Want of memory says nothing.
+abbrev pub RefusesRules : List ℕ → Failure RulesFault → Type 0
+RefusesRules bytes OutOfMemory = Unit {0}
+RefusesRules bytes (Refused f) = IsNoToml bytes f ⊎ Says bytes (Err f)
+
+-- Bytes say one thing at most.
+abbrev pub OneAnswer : Type 0
+OneAnswer = (bytes : List ℕ) (a b : Answer RuleLists) → Says bytes a → Says bytes b → a ≡ b

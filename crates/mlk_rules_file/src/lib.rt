@@ -1,0 +1,14 @@
+//! Rules: which locks are to be held where a global is touched, and in which order they are claimed. The reader of rule
+//! files stands here; what rules mean, and what is asked of them, is `mlk_rules`.
+#![tactic(auto)]
+
+mod law;
+mod read;
+
+pub use law::{are_written, one_answer};
+pub use mlk_rules::{
+    Cover, Element, Family, Part, Pattern, RuleLists, Rules, Template, computed_answers, covered,
+    covered_apart, entries, first_meeting, lock_of_node, marked_alike, may_meet, one_rank, rank_of,
+    share_pattern, surely_lies, templates,
+};
+pub use read::{RulesFault, Section, read_rules};

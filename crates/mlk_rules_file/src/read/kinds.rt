@@ -1,0 +1,141 @@
+// The items of names and patterns as they are spelled, and what may stand where.
+
+ghost use Rattle.std.specs.Prelude.{◌≡◌};
+ghost use Rattle.mlk_rules_file.specs.RuleKinds.{is_long, is_node, is_literals, is_jobless, has_one_job, is_item, has_variable, is_new, is_distinct, has_its_job, is_family_name, is_pattern, is_template};
+
+use crate::read::fault::Section;
+use mlk_names::{Extent, Root};
+use mlk_text::{List, Name, Value};
+
+/// The most items of a name or a pattern.
+pub const MOST_ITEMS: usize = 8;
+
+/// What stands between the parentheses of a name or a pattern.
+#[derive(Drop, Debug)]
+pub enum Item {
+    Literal(Value),
+    Variable(Name),
+    Job,
+}
+
+/// A name or a pattern as it is spelled: a tree where `...` stands last.
+#[derive(Drop, Debug)]
+pub struct Spelling {
+    pub root: Root,
+    pub items: List<Item>,
+    pub extent: Extent,
+}
+
+/// Whether a name or a pattern has more than 8 items.
+pub fn is_long(spelling: &Option<Spelling>) -> bool
+    ensures { result ≡ is_long spelling.now }
+{
+    match spelling {
+        None => false,
+        Some(s) => s.items.as_slice().len() > MOST_ITEMS,
+    }
+}
+
+fn is_node(extent: Extent) -> bool
+    ensures { result ≡ is_node extent }
+{
+    match extent {
+        Extent::Node => true,
+        Extent::Tree => false,
+    }
+}
+
+fn is_literals(items: &[Item]) -> bool
+    ensures { result ≡ is_literals items.now }
+{
+    items.iter().all(|item| matches!(item, Item::Literal(_)))
+}
+
+fn is_jobless(items: &[Item]) -> bool
+    ensures { result ≡ is_jobless items.now }
+{
+    items.iter().all(|item| !matches!(item, Item::Job))
+}
+
+fn has_one_job(items: &[Item]) -> bool
+    ensures { result ≡ has_one_job items.now }
+{
+    items
+        .iter()
+        .filter(|item| matches!(*item, Item::Job))
+        .count()
+        == 1
+}
+
+/// Whether the item is the variable of this name.
+pub fn is_item(name: &Name, item: &Item) -> bool
+    ensures { result ≡ is_item name.now item.now }
+{
+    match item {
+        Item::Literal(_) => false,
+        Item::Variable(n) => name == n,
+        Item::Job => false,
+    }
+}
+
+fn has_variable(name: &Name, items: &[Item]) -> bool
+    ensures { result ≡ has_variable name.now items.now }
+{
+    items.iter().any(|item| is_item(name, item))
+}
+
+fn is_new(item: &Item, others: &[Item]) -> bool
+    ensures { result ≡ is_new item.now others.now }
+{
+    match item {
+        Item::Literal(_) => true,
+        Item::Variable(n) => !has_variable(n, others),
+        Item::Job => true,
+    }
+}
+
+fn is_distinct(items: &[Item]) -> bool
+    ensures { result ≡ is_distinct items.now }
+{
+    let mut left = items;
+    while let Some((first, others)) = left.split_first() {
+        if !is_new(first, others) {
+            return false;
+        }
+        left = others;
+    }
+    true
+}
+
+fn has_its_job(section: Section, items: &[Item]) -> bool
+    ensures { result ≡ has_its_job section items.now }
+{
+    match section {
+        Section::Private => has_one_job(items),
+        _ => is_jobless(items),
+    }
+}
+
+/// Whether a family may have this name.
+#[tactic(auto, unfolding(crate::specs::RuleKinds::is_family_name))]
+pub fn is_family_name(s: &Spelling) -> bool
+    ensures { result ≡ is_family_name s.now }
+{
+    is_literals(s.items.as_slice()) && is_node(s.extent)
+}
+
+/// Whether this may be a pattern of the section.
+#[tactic(auto, unfolding(crate::specs::RuleKinds::is_pattern))]
+pub fn is_pattern(section: Section, s: &Spelling) -> bool
+    ensures { result ≡ is_pattern section s.now }
+{
+    has_its_job(section, s.items.as_slice()) && is_distinct(s.items.as_slice())
+}
+
+/// Whether this may be a cover's lock.
+#[tactic(auto, unfolding(crate::specs::RuleKinds::is_template))]
+pub fn is_template(s: &Spelling) -> bool
+    ensures { result ≡ is_template s.now }
+{
+    is_jobless(s.items.as_slice()) && is_node(s.extent)
+}

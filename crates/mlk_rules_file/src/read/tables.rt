@@ -1,0 +1,109 @@
+// The keys of tables in rule files.
+
+ghost use Rattle.std.specs.Prelude.{◌≡◌, option_map};
+ghost use Rattle.toml.specs.Data.{as_table};
+ghost use Rattle.toml.specs.View.{view, table_view};
+ghost use Rattle.mlk_rules_file.specs.RuleSections.{is_key, has_only, text_at, integer_at, family_keys, cover_keys, text_key};
+
+use crate::read::fault::Section;
+use toml::{Table, Value};
+
+fn is_key(section: Section, key: &str) -> bool
+    ensures { result ≡ is_key section key.now }
+{
+    match section {
+        Section::File => {
+            key == "lock"
+                || key == "cover"
+                || key == "private"
+                || key == "readonly"
+                || key == "entry"
+        }
+        Section::Lock => key == "name" || key == "rank",
+        Section::Cover => key == "global" || key == "lock",
+        Section::Private => key == "global",
+        Section::Readonly => key == "global",
+        Section::Entry => key == "label",
+    }
+}
+
+/// Whether the table has no keys but those of elements of the section, or of the file.
+pub fn has_only(section: Section, table: &Table) -> bool
+    ensures { result ≡ has_only section (table_view table.now) }
+{
+    for key in table.keys() {
+        if !is_key(section, key.as_str()) {
+            return false;
+        }
+    }
+    true
+}
+
+fn text_at<'a>(table: &'a Table, key: &str) -> Option<&'a str>
+    ensures { option_map (λ s. s.now) result ≡ text_at key.now (table_view table.now) }
+{
+    match table.get(key) {
+        Some(value) => value.as_str(),
+        None => None,
+    }
+}
+
+fn integer_at(table: &Table, key: &str) -> Option<i64>
+    ensures { result ≡ integer_at key.now (table_view table.now) }
+{
+    match table.get(key) {
+        Some(value) => value.as_integer(),
+        None => None,
+    }
+}
+
+/// The name and the rank of a family.
+pub fn family_keys(element: &Value) -> Option<(&str, i64)>
+    ensures { option_map (λ x. (x.0.now, x.1)) result ≡ family_keys (as_table (view element.now)) }
+{
+    let Some(table) = element.as_table() else {
+        return None;
+    };
+    if !has_only(Section::Lock, table) {
+        return None;
+    }
+    let Some(name) = text_at(table, "name") else {
+        return None;
+    };
+    let Some(rank) = integer_at(table, "rank") else {
+        return None;
+    };
+    Some((name, rank))
+}
+
+/// The pattern and the lock of a cover.
+pub fn cover_keys(element: &Value) -> Option<(&str, &str)>
+    ensures { option_map (λ x. (x.0.now, x.1.now)) result ≡ cover_keys (as_table (view element.now)) }
+{
+    let Some(table) = element.as_table() else {
+        return None;
+    };
+    if !has_only(Section::Cover, table) {
+        return None;
+    }
+    let Some(global) = text_at(table, "global") else {
+        return None;
+    };
+    let Some(lock) = text_at(table, "lock") else {
+        return None;
+    };
+    Some((global, lock))
+}
+
+/// The one text of an element with this one key.
+pub fn text_key<'a>(section: Section, key: &str, element: &'a Value) -> Option<&'a str>
+    ensures { option_map (λ x. x.now) result ≡ text_key section key.now (as_table (view element.now)) }
+{
+    let Some(table) = element.as_table() else {
+        return None;
+    };
+    if !has_only(section, table) {
+        return None;
+    }
+    text_at(table, key)
+}

@@ -1,5 +1,0 @@
-use Rattle.mlk_safety.proofs.Scopes.{ends_put_back}
-use Rattle.mlk_safety.proofs.law.ends_put_back.Goals as goal
-
-pub returns : goal.returns
-returns c = ends_put_back

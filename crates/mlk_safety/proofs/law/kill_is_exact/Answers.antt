@@ -1,5 +1,0 @@
-use Rattle.mlk_safety.proofs.Killing.{kill_is_exact}
-use Rattle.mlk_safety.proofs.law.kill_is_exact.Goals as goal
-
-pub returns : goal.returns
-returns c = kill_is_exact

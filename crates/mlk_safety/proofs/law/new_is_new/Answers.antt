@@ -1,5 +1,0 @@
-use Rattle.mlk_safety.proofs.Tidy.{new_is_new}
-use Rattle.mlk_safety.proofs.law.new_is_new.Goals as goal
-
-pub returns : goal.returns
-returns c = new_is_new

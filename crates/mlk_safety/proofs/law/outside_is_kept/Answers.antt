@@ -1,5 +1,0 @@
-use Rattle.mlk_safety.proofs.Outside.{outside_is_kept}
-use Rattle.mlk_safety.proofs.law.outside_is_kept.Goals as goal
-
-pub returns : goal.returns
-returns c = outside_is_kept

@@ -1,5 +1,0 @@
-use Rattle.mlk_safety.proofs.Sharing.{shared_by_reference}
-use Rattle.mlk_safety.proofs.law.shared_by_reference.Goals as goal
-
-pub returns : goal.returns
-returns c = shared_by_reference

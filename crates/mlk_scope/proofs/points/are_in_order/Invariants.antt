@@ -1,7 +1,0 @@
-use Rattle.std.proofs.Common.{◌≡◌, ◌∷◌, drop}
-use Rattle.mlk_lexemes.specs.Lists.{ascends}
-use Rattle.mlk_blocks.specs.Limits.{points_below}
-use Rattle.mlk_scope.proofs.points.are_in_order.Given as goal
-
-abbrev pub invariant-loop-point : goal.invariant-loop-point
-invariant-loop-point l = ascends points_below (l.last ∷ drop l.point-index l.others) ≡ ascends points_below l.points

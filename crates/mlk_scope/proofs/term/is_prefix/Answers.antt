@@ -1,7 +1,0 @@
-use Rattle.mlk_coverage.specs.Computed.{is_prefix}
-use Rattle.mlk_coverage.proofs.Computing.{prefix_decides}
-use Rattle.mlk_scope.proofs.TermTests.{one_test}
-use Rattle.mlk_scope.proofs.term.is_prefix.Goals as goal
-
-pub returns : goal.returns
-returns c = one_test c.prefix.result (is_prefix c.args.first.now c.args.second.now) c.prefix.ensures.exact (prefix_decides c.args.first.now c.args.second.now)

@@ -1,6 +1,0 @@
--- The last of some points. For private clauses alone. This project's own.
-use Rattle.std.specs.Prelude.{◌≡◌, ◌-◌, List, length, drop}
-use Rattle.mlk_blocks.specs.declared.block.Point.{Point}
-
-abbrev pub IsEnd : List Point → List Point → Type 0
-IsEnd points ahead = drop (length points - length ahead) points ≡ ahead

@@ -1,5 +1,0 @@
-use Rattle.mlk_states.proofs.HeldLemmas.{held_is_sorted}
-use Rattle.mlk_states.proofs.law.held_is_sorted.Goals as goal
-
-pub returns : goal.returns
-returns c = held_is_sorted

@@ -1,0 +1,7 @@
+pub mod NameLemmas
+pub mod Counting
+pub mod EntryLemmas
+pub mod Tables
+pub mod ByOne
+pub mod Runs
+pub mod Apart

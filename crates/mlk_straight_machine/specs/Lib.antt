@@ -1,0 +1,5 @@
+pub mod Lists
+pub mod LockNames
+pub mod Entries
+pub mod Plain
+pub mod Laws

@@ -1,0 +1,10 @@
+pub mod SetLemmas
+pub mod CaseLemmas
+pub mod PointLemmas
+pub mod StraightLemmas
+pub mod Steps
+pub mod Covering
+pub mod Alone
+pub mod Together
+pub mod PlaceLemmas
+pub mod ReportLemmas

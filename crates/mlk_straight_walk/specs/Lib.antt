@@ -1,0 +1,11 @@
+pub mod Points
+pub mod Sets
+pub mod Rules
+pub mod Walk
+pub mod ByPoint
+pub mod Places
+pub mod Rows
+pub mod Report
+pub mod Theorem
+pub mod Straight
+pub mod StraightAnswers

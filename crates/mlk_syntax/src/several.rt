@@ -1,0 +1,60 @@
+// One or more items.
+
+ghost use Rattle.std.specs.Prelude.{◌≡◌, ◌∷◌, []};
+
+use std::marker::Model;
+
+// Where the items stand: a single one in place.
+#[derive(Drop)]
+pub(crate) enum Items<T> {
+    One([T; 1]),
+    More(Vec<T>),
+}
+
+/// One or more items. A single one, as there mostly is, takes no memory beside the list itself. A contract sees the list of them.
+#[derive(Drop)]
+pub struct Several<T> {
+    items: Items<T>,
+}
+
+impl<T> Model for Several<T> {
+    ghost use Rattle.std.specs.Prelude.{List};
+    ghost use Rattle.std.specs.Coded.{coded_list};
+    ghost use Rattle.mlk_syntax.specs.Several.{items_of};
+
+    ghost Value = { List T };
+
+    ghost coded = { coded_list T.code };
+
+    ghost view = { λ s. items_of s.items };
+}
+
+impl<T> Several<T> {
+    /// A single item.
+    pub fn one(item: T) -> Several<T>
+        ensures { result ≡ item ∷ [] }
+    {
+        Several {
+            items: Items::One([item]),
+        }
+    }
+
+    /// The items of a vector.
+    pub fn of(items: Vec<T>) -> Several<T>
+        ensures { result ≡ items.items }
+    {
+        Several {
+            items: Items::More(items),
+        }
+    }
+
+    /// The items as a slice.
+    pub fn as_slice(&self) -> &[T]
+        ensures { result.now ≡ self.now }
+    {
+        match &self.items {
+            Items::One(item) => item.as_slice(),
+            Items::More(items) => items.as_slice(),
+        }
+    }
+}

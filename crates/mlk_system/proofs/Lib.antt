@@ -1,4 +1,0 @@
-pub mod RingLemmas
-pub mod SettleLemmas
-pub mod NumberLemmas
-pub mod CopyLemmas

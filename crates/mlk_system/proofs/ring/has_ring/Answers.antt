@@ -1,6 +1,0 @@
-use Rattle.std.proofs.Common.{◌∙◌}
-use Rattle.mlk_system.proofs.RingLemmas.{ring_of_jobs}
-use Rattle.mlk_system.proofs.ring.has_ring.Goals as goal
-
-pub returns : goal.returns
-returns c = c.in_ok-found.ensures ∙ ring_of_jobs c.args.jobs.now

@@ -1,6 +1,0 @@
-use Rattle.std.proofs.Common.{◌≡◌, take}
-use Rattle.mlk_values.specs.Numbers.{number_of_digits}
-use Rattle.mlk_values.proofs.folding.number_of.Given as goal
-
-abbrev pub invariant-loop-digit : goal.invariant-loop-digit
-invariant-loop-digit l = l.number ≡ number_of_digits (take l.digit-index l.digits)

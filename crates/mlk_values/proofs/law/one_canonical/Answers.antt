@@ -1,5 +1,0 @@
-use Rattle.mlk_values.proofs.NumberLaws.{one_canonical}
-use Rattle.mlk_values.proofs.law.one_canonical.Goals as goal
-
-pub returns : goal.returns
-returns c = one_canonical

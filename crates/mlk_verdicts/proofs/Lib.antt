@@ -1,4 +1,0 @@
-pub mod Ascending
-pub mod CodeOrder
-pub mod Examples
-pub mod Ordered

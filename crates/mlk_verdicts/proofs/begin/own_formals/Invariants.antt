@@ -1,6 +1,0 @@
-use Rattle.std.proofs.Common.{◌≡◌, take, map}
-use Rattle.mlk_verdicts.specs.Verdicts.{own_formal}
-use Rattle.mlk_verdicts.proofs.begin.own_formals.Given as goal
-
-abbrev pub invariant-loop-name : goal.invariant-loop-name
-invariant-loop-name l = l.own.items ≡ map own_formal (take l.name-index l.names)

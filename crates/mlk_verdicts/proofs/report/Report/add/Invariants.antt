@@ -1,8 +1,0 @@
-use Rattle.std.proofs.Common.{◌≡◌, ◌++◌, map}
-use Rattle.mlk_verdicts.specs.Reports.{row_of}
-use Rattle.mlk_verdicts.proofs.report.Report.add.Given as goal
-
-abbrev pub invariant-loop-fault : goal.invariant-loop-fault
-invariant-loop-fault l =
-    l.self-inside.rows.items ++ map (row_of (record { routine = l.fn.entry.routine; line = l.fn.entry.line })) l.fault-iterator
-    ≡ l.fn.self ++ map (row_of (record { routine = l.fn.entry.routine; line = l.fn.entry.line })) l.verdict

@@ -1,4 +1,0 @@
-pub mod Faults
-pub mod Verdicts
-pub mod Reports
-pub mod Laws

@@ -1,0 +1,34 @@
+-- Faults in order: what the code's set of faults is, and faults that are put one after another.
+use Rattle.std.proofs.Common.{◌≡◌, List, [], ◌∷◌, ◌++◌, map, refl, ap, ◌∙◌}
+use Rattle.std.specs.Ordering.{match_ordering, nat_cmp, ordering_then}
+use Rattle.std.specs.BTreeSet.{insert_key}
+use Rattle.mlk_walk_exprs.specs.contracts.walk.FaultOrd.TheImpl.{ghosts}
+use Rattle.mlk_walk_exprs.specs.declared.walk.Fault.{Fault}
+use Rattle.mlk_walk.specs.Faults.{fault_cmp, put_fault, put_faults}
+use Rattle.mlk_walk.proofs.CodeOrder.{by_number}
+
+-- The order of faults as it is derived is by line, column and number,
+compared : (f g : Fault) → ghosts.cmp f g ≡ fault_cmp f g
+unfolding fault_cmp
+compared f g = ap (λ o. ordering_then (nat_cmp f.line g.line) (ordering_then (nat_cmp f.column g.column) o)) (by_number f.code g.code)
+
+-- so a fault is inserted where it belongs.
+pub inserted : (f : Fault) (faults : List Fault) → insert_key ghosts.cmp faults f ≡ put_fault f faults
+inserted f [] = refl
+inserted f (g ∷ faults) =
+    ap (λ o. match_ordering o (f ∷ g ∷ faults) (g ∷ faults) (g ∷ insert_key ghosts.cmp faults f)) (compared f g)
+    ∙ ap (λ rest. match_ordering (fault_cmp f g) (f ∷ g ∷ faults) (g ∷ faults) (g ∷ rest)) (inserted f faults)
+
+pub put_both : (faults more others : List Fault) → put_faults (faults ++ more) others ≡ put_faults faults (put_faults more others)
+put_both [] more others = refl
+put_both (f ∷ faults) more others = ap (put_fault f) (put_both faults more others)
+
+-- the last of items whose faults are put
+pub put_last_of : {A : Type 0} (fault : A → Fault) (items : List A) (a : A) (others : List Fault)
+    → put_faults (map fault (items ++ a ∷ [])) others ≡ put_faults (map fault items) (put_fault (fault a) others)
+put_last_of fault [] a others = refl
+put_last_of fault (b ∷ items) a others = ap (put_fault (fault b)) (put_last_of fault items a others)
+
+pub map_both : {A B C : Type 0} (f : A → B) (g : B → C) (items : List A) → map (λ a. g (f a)) items ≡ map g (map f items)
+map_both f g [] = refl
+map_both f g (a ∷ items) = ap (λ l. g (f a) ∷ l) (map_both f g items)

@@ -1,0 +1,15 @@
+use Rattle.std.proofs.Common.{◌∙◌, ap}
+use Rattle.mlk_cert_parts.specs.declared.names.NameSet.TheVariants.{AllBut}
+use Rattle.mlk_walk_exprs.specs.Walks.{each}
+use Rattle.mlk_walk_exprs.specs.Spots.{spot_of}
+use Rattle.mlk_walk_commands.specs.News.{in_order, renew}
+use Rattle.mlk_walk_commands.specs.Arguments.{new_all_but}
+use Rattle.mlk_walk_commands.proofs.Steps.{carried}
+use Rattle.mlk_walk_commands.proofs.news.new_all_but.Goals as goal
+
+pub returns : goal.returns
+returns c =
+    let p = spot_of c.args.spot.now in
+    carried c.renew.result c.renew.new.walk (each (renew p p.word (AllBut c.in_ok-in_order.field-0)) c.args.walk.now)
+    (new_all_but p c.args.names.now c.args.walk.now) c.renew.ensures
+    (ap (λ z. each (renew p p.word (AllBut z)) c.args.walk.now) (c.in_ok-in_order.ensures ∙ ap in_order c.as_slice.ensures))

@@ -1,0 +1,139 @@
+// DO of a label, and JOB.
+
+ghost use Rattle.std.specs.Prelude.{◌≡◌, OnOk};
+ghost use Rattle.mlk_syntax.specs.ExprTrees.{tree_of, actual_trees};
+ghost use Rattle.mlk_syntax.specs.Views.{call_of, do_of};
+ghost use Rattle.mlk_walk_state.specs.declared.state.State.{State};
+ghost use Rattle.mlk_walk_exprs.specs.Spots.{spot_of};
+ghost use Rattle.mlk_walk_exprs.specs.Walks.{Outcome, each};
+ghost use Rattle.mlk_walk_exprs.specs.Expressions.{by_condition};
+ghost use Rattle.mlk_walk_commands.specs.Arguments.{given_in, capture_given, forget_given, do_row, do_argument, job_row, job_argument};
+
+use mlk_calls::{Calling, State, at_job};
+use mlk_syntax::{Actual, Call, DoArgument, Expr};
+use mlk_text::Failure;
+use mlk_walk_exprs::{
+    CallRow, Mend, Row, Spot, Walk, capture_actuals, each, forget, value, where_it_holds,
+};
+use std::alloc::AllocError;
+
+// The actuals of a call; none without a list.
+fn given_of(call: &Call) -> &[Actual]
+    ensures { actual_trees result.now ≡ given_in (call_of call.now) }
+{
+    match &call.actuals {
+        None => &[],
+        Some(given) => given.as_slice(),
+    }
+}
+
+fn capture_given<'a>(spot: &'a Spot<'a>, call: &'a Call, walk: &mut Walk) -> Result<(), AllocError>
+    ensures { OnOk result (walk.new ≡ capture_given (spot_of spot.now) (call_of call.now) walk.old) }
+{
+    capture_actuals(spot, given_of(call), walk)
+}
+
+fn forget_given(spot: &Spot, call: &Call, walk: &mut Walk) -> Result<(), AllocError>
+    ensures { OnOk result (walk.new ≡ forget_given (call_of call.now) walk.old) }
+{
+    forget(spot.alloc, given_of(call).len(), walk)
+}
+
+// A call whose actuals were captured last.
+#[derive(Clone, Copy, Drop)]
+struct Calls<'a> {
+    spot: &'a Spot<'a>,
+    call: &'a Call,
+}
+
+impl<'a> Row for Calls<'a> {
+    ghost outcomes = { λ r s. do_row (spot_of r.spot.now) (call_of r.call.now) s };
+
+    fn make(&self, state: State, walk: &mut Walk) -> Result<(), AllocError> {
+        let row = CallRow {
+            spot: self.spot,
+            how: Calling::ByDo,
+            column: self.call.column,
+            callee: &self.call.callee,
+            given: given_of(self.call),
+        };
+        row.make(state, walk)
+    }
+}
+
+// A call where a condition that was evaluated may be true; where it may be false, its actuals are forgotten.
+fn call_where<'a>(
+    spot: &'a Spot<'a>,
+    call: &'a Call,
+    condition: &'a Expr,
+    walk: &mut Walk,
+) -> Result<(), AllocError>
+    ensures { OnOk result (walk.new ≡ by_condition (spot_of spot.now).scope (tree_of condition.now)
+        (each (do_row (spot_of spot.now) (call_of call.now))) (forget_given (call_of call.now)) walk.old) }
+{
+    let failed = where_it_holds(spot, condition, walk)?;
+    each(spot.alloc, &Calls { spot, call }, walk)?;
+    if walk.over {
+        return Ok(());
+    }
+    let waiting = std::mem::replace(&mut walk.going, failed);
+    forget_given(spot, call, walk)?;
+    walk.join(spot.alloc, waiting)
+}
+
+/// DO of a label: the actuals, the argument's own postconditional, the call.
+pub fn do_argument<'a>(
+    spot: &'a Spot<'a>,
+    argument: &'a DoArgument,
+    walk: &mut Walk,
+) -> Result<(), AllocError>
+    ensures { OnOk result (walk.new ≡ do_argument (spot_of spot.now) (do_of argument.now) walk.old) }
+{
+    let call = &argument.call;
+    capture_given(spot, call, walk)?;
+    match &argument.condition {
+        None => each(spot.alloc, &Calls { spot, call }, walk),
+        Some(condition) => {
+            value(spot, condition, walk)?;
+            call_where(spot, call, condition, walk)
+        }
+    }
+}
+
+// A job is begun at a callee, with actuals that were captured last.
+#[derive(Clone, Copy, Drop)]
+struct Begins<'a> {
+    spot: &'a Spot<'a>,
+    call: &'a Call,
+}
+
+impl<'a> Row for Begins<'a> {
+    ghost outcomes = { λ r s. job_row (spot_of r.spot.now) (call_of r.call.now) s };
+
+    fn make(&self, state: State, walk: &mut Walk) -> Result<(), AllocError> {
+        let spot = self.spot;
+        match at_job(spot.scope, &self.call.callee, given_of(self.call), state) {
+            Ok(state) => walk.go(state),
+            Err(Failure::OutOfMemory) => Err(AllocError),
+            Err(Failure::Refused(refusal)) => {
+                walk.refuse(spot.line, self.call.column, refusal.code, Mend::Nothing)
+            }
+        }
+    }
+}
+
+/// JOB: the actuals, then the entry has to be declared.
+pub fn job_argument<'a>(
+    spot: &'a Spot<'a>,
+    argument: &'a Call,
+    walk: &mut Walk,
+) -> Result<(), AllocError>
+    ensures { OnOk result (walk.new ≡ job_argument (spot_of spot.now) (call_of argument.now) walk.old) }
+{
+    capture_given(spot, argument, walk)?;
+    let row = Begins {
+        spot,
+        call: argument,
+    };
+    each(spot.alloc, &row, walk)
+}

@@ -1,0 +1,56 @@
+// IF.
+
+ghost use Rattle.std.specs.Prelude.{◌≡◌, OnOk};
+ghost use Rattle.mlk_syntax.specs.ExprTrees.{tree_of};
+ghost use Rattle.mlk_walk_state.specs.declared.state.State.{State};
+ghost use Rattle.mlk_walk_state.specs.Symbols.{truth_in};
+ghost use Rattle.mlk_walk_exprs.specs.Spots.{spot_of};
+ghost use Rattle.mlk_walk_exprs.specs.Walks.{Outcome};
+ghost use Rattle.mlk_walk_commands.specs.Arguments.{by_truth, if_argument};
+
+use mlk_calls::{State, truth_of};
+use mlk_cert::Test;
+use mlk_syntax::Expr;
+use mlk_walk_exprs::{Row, Spot, Walk, each, value};
+use std::alloc::AllocError;
+
+// `$TEST` is the condition's truth; where it may be false, the rest of the line is skipped.
+#[derive(Clone, Copy, Drop)]
+struct ByTruth<'a> {
+    spot: &'a Spot<'a>,
+    condition: &'a Expr,
+}
+
+impl<'a> Row for ByTruth<'a> {
+    ghost outcomes = { λ r s.
+        by_truth (truth_in (spot_of r.spot.now).scope (tree_of r.condition.now) s) s };
+
+    fn make(&self, state: State, walk: &mut Walk) -> Result<(), AllocError> {
+        match truth_of(self.spot.alloc, self.spot.scope, &state, self.condition)? {
+            Some(true) => walk.go(state.tested(Test::One)),
+            Some(false) => walk.skip(state.tested(Test::Zero).case),
+            None => {
+                let other = state.copy()?;
+                walk.go(other.tested(Test::One))?;
+                walk.skip(state.tested(Test::Zero).case)
+            }
+        }
+    }
+}
+
+/// IF: where its argument may be true `$TEST` is 1; where it may be false, `$TEST` is 0 and the rest of the line is
+/// skipped.
+pub fn if_argument<'a>(
+    spot: &'a Spot<'a>,
+    argument: &'a Expr,
+    walk: &mut Walk,
+) -> Result<(), AllocError>
+    ensures { OnOk result (walk.new ≡ if_argument (spot_of spot.now) (tree_of argument.now) walk.old) }
+{
+    value(spot, argument, walk)?;
+    let row = ByTruth {
+        spot,
+        condition: argument,
+    };
+    each(spot.alloc, &row, walk)
+}

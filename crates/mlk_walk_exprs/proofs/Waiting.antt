@@ -1,0 +1,49 @@
+-- Lists of states that wait.
+use Rattle.std.proofs.Common.{◌≡◌, ◌<◌, ◌+◌, ℕ, true, false, List, [], ◌∷◌, ◌++◌, length, drop, slice_index_or, refl, ap, sym, ◌∙◌}
+use Rattle.mlk_walk_state.specs.declared.state.State.{State}
+use Rattle.mlk_walk_exprs.specs.declared.walk.Walk.{Walk}
+use Rattle.mlk_syntax.specs.declared.expr.Expr.{Expr}
+use Rattle.mlk_syntax.specs.ExprTrees.{Tree, Choices, choice, tree_of, choices, choices_from}
+use Rattle.mlk_rules.proofs.CheckLemmas.{drop_step}
+use Rattle.mlk_walk_exprs.specs.Walks.{joined, joins, with_states}
+use Rattle.mlk_walk_exprs.specs.Spots.{Spot}
+use Rattle.mlk_walk_exprs.specs.declared.reference.Use.TheVariants.{ItsValue}
+use Rattle.mlk_walk_exprs.specs.Expressions.{evaluate, evaluate_choices, where_chosen, passed_over}
+
+-- the list that came last is joined first
+pub joins_last : (waiting : List (List State)) (states : List State) (w : Walk)
+    → joins (waiting ++ states ∷ []) w ≡ joins waiting (joined states w)
+joins_last [] states w = refl
+joins_last (first ∷ waiting) states w = ap (joined first) (joins_last waiting states w)
+
+-- where the line is over nothing is joined
+pub joins_over : (waiting : List (List State)) (w : Walk) → w.over ≡ true → joins waiting w ≡ w
+joins_over [] w e = refl
+joins_over (first ∷ waiting) w e = ap (joined first) (joins_over waiting w e) ∙ rw e refl
+
+-- one choice of `$SELECT` is done: the states of its value wait, and the further ones are walked from where it may fail
+choice_done : (p : Spot) (waiting : List (List State)) (condition value : Tree) (rest : Choices) (w found : Walk)
+    → found ≡ evaluate p ItsValue value (where_chosen p condition w) → found.over ≡ false
+    → joins (waiting ++ found.going ∷ []) (evaluate_choices p rest (with_states (passed_over p condition w) found))
+    ≡ joins waiting (evaluate_choices p (choice condition value rest) w)
+choice_done p waiting condition value rest w found is e =
+    let f : (evaluate p ItsValue value (where_chosen p condition w)).over ≡ false = rw is at e in
+    joins_last waiting found.going (evaluate_choices p rest (with_states (passed_over p condition w) found))
+    ∙ ap (joins waiting) (rw (is, f) refl)
+
+-- so is one turn of the loop over them
+pub choice_turn : (p : Spot) (cs : List (Expr × Expr)) (i : ℕ) (c : Expr × Expr) (waiting more : List (List State))
+    (w held found : Walk) (failed going : List State) (whole : Walk)
+    → i < length cs → c ≡ slice_index_or cs i c
+    → held ≡ where_chosen p (tree_of c.0) w → failed ≡ passed_over p (tree_of c.0) w
+    → found ≡ evaluate p ItsValue (tree_of c.1) held → found.over ≡ false
+    → going ≡ found.going → more ≡ waiting ++ going ∷ []
+    → joins waiting (evaluate_choices p (choices_from (choices (drop i cs))) w) ≡ whole
+    → joins more (evaluate_choices p (choices_from (choices (drop (i + 1) cs))) (with_states failed found)) ≡ whole
+choice_turn p cs i c waiting more w held found failed going whole low at h f e o g m before =
+    let later : Choices = choices_from (choices (drop (i + 1) cs)) in
+    ap (λ z. joins z (evaluate_choices p later (with_states failed found))) (m ∙ ap (λ z. waiting ++ z ∷ []) g)
+    ∙ ap (λ z. joins (waiting ++ found.going ∷ []) (evaluate_choices p later (with_states z found))) f
+    ∙ choice_done p waiting (tree_of c.0) (tree_of c.1) later w found (e ∙ ap (evaluate p ItsValue (tree_of c.1)) h) o
+    ∙ ap (λ z. joins waiting (evaluate_choices p (choices_from (choices z)) w)) (sym (drop_step cs i c low at))
+    ∙ before

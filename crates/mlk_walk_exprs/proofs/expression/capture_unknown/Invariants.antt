@@ -1,0 +1,10 @@
+use Rattle.std.proofs.Common.{◌≡◌, []}
+use Rattle.mlk_names.specs.declared.symbol.Sym.TheVariants.{Unknown}
+use Rattle.mlk_walk_state.specs.States.{with_symbol}
+use Rattle.mlk_walk_exprs.specs.Walks.{with_states}
+use Rattle.mlk_walk_exprs.proofs.InPlace.{changed_to}
+use Rattle.mlk_walk_exprs.proofs.expression.capture_unknown.Given as goal
+
+abbrev pub invariant-loop-state : goal.invariant-loop-state
+invariant-loop-state l = (l.walk ≡ with_states [] l.fn.walk)
+    × (l.state-items ≡ changed_to (with_symbol Unknown) l.state-index l.fn.walk.going)

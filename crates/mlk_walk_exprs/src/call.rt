@@ -1,0 +1,87 @@
+// Extrinsic calls.
+
+ghost use Rattle.std.specs.Prelude.{◌≡◌, length};
+ghost use Rattle.mlk_syntax.specs.ExprTrees.{actual_trees};
+ghost use Rattle.mlk_walk_state.specs.declared.state.State.{State};
+ghost use Rattle.mlk_calls.specs.Calls.{at_call};
+ghost use Rattle.mlk_walk_exprs.specs.Walks.{Outcome, add_all, all_placed};
+ghost use Rattle.mlk_walk_exprs.specs.Spots.{spot_of};
+
+use crate::row::Row;
+use crate::spot::Spot;
+use crate::walk::{Mend, Walk};
+use mlk_calls::{
+    Calling, Refusal, State, at_call, call_changes, callee_summary, missing_need, short_names,
+};
+use mlk_syntax::{Actual, Callee};
+use mlk_text::{Code, Column, Failure};
+use std::alloc::AllocError;
+
+/// A call of a callee, at a column, with these actuals, whose symbols were captured last.
+#[derive(Clone, Copy, Drop)]
+pub struct CallRow<'a> {
+    pub spot: &'a Spot<'a>,
+    pub how: Calling,
+    pub column: Column,
+    pub callee: &'a Callee,
+    pub given: &'a [Actual],
+}
+
+impl<'a> CallRow<'a> {
+    // What would mend a call that the walked entry's summary does not allow.
+    fn wider_summary(&self, state: &State) -> Result<Mend, AllocError> {
+        let spot = self.spot;
+        let names = call_changes(spot.alloc, spot.scope, self.callee, self.given)?;
+        let short = short_names(spot.alloc, spot.scope, names.as_slice(), state)?;
+        if !short.is_empty() {
+            return Ok(Mend::Changes(short));
+        }
+        match callee_summary(spot.scope, self.callee) {
+            None => Ok(Mend::Nothing),
+            Some(summary) => Ok(Mend::Callee(summary.low, summary.drops)),
+        }
+    }
+
+    fn missing_lock(&self, state: &State) -> Result<Mend, AllocError> {
+        let spot = self.spot;
+        let Some(term) = missing_need(spot.alloc, spot.scope, self.callee, self.given, state)?
+        else {
+            return Ok(Mend::Nothing);
+        };
+        let mut locks = Vec::new(spot.alloc);
+        locks.push(term)?;
+        Ok(Mend::Locks(locks))
+    }
+
+    fn mend(&self, refusal: &Refusal) -> Result<Mend, AllocError> {
+        match refusal.code {
+            Code::NeedMissing => self.missing_lock(&refusal.state),
+            Code::SummaryShort => self.wider_summary(&refusal.state),
+            _ => Ok(Mend::Nothing),
+        }
+    }
+}
+
+impl<'a> Row for CallRow<'a> {
+    ghost outcomes = { λ r s. all_placed r.spot.now.line r.column
+        (at_call (spot_of r.spot.now).scope r.how r.callee.now (actual_trees r.given.now) s) };
+
+    fn make(&self, state: State, walk: &mut Walk) -> Result<(), AllocError> {
+        let spot = self.spot;
+        match at_call(
+            spot.alloc,
+            spot.scope,
+            self.how,
+            self.callee,
+            self.given,
+            state,
+        ) {
+            Ok(states) => walk.go_all(states),
+            Err(Failure::OutOfMemory) => Err(AllocError),
+            Err(Failure::Refused(refusal)) => {
+                let mend = self.mend(&refusal)?;
+                walk.refuse(spot.line, self.column, refusal.code, mend)
+            }
+        }
+    }
+}

@@ -1,0 +1,54 @@
+-- Walks of fewer cases. That a walk finds nothing wrong is said of all cases that are listed at a line; a job is in one
+-- of them. This project's own.
+use Rattle.std.specs.Prelude.{◌≡◌, ◌⊎◌, ℕ, false, List, [], ◌∷◌, map}
+use Rattle.mlk_cert_parts.specs.declared.case.Case.{Case}
+use Rattle.mlk_syntax.specs.Trees.{CommandTrees}
+use Rattle.mlk_walk_state.specs.declared.state.State.{State}
+use Rattle.mlk_walk_state.specs.States.{at_rest}
+use Rattle.mlk_walk_state.specs.Scope.{Scope, listed}
+use Rattle.mlk_walk_exprs.specs.declared.walk.Walk.{Walk}
+use Rattle.mlk_walk_exprs.specs.declared.walk.Quit.{Quit}
+use Rattle.mlk_walk_exprs.specs.Walks.{begin}
+use Rattle.mlk_walk_exprs.specs.Spots.{Spot}
+use Rattle.mlk_walk_lines.specs.Loops.{commands}
+
+abbrev pub Among : {A : Type 0} → A → List A → Type 0
+Among a [] = ⊥
+Among a (b ∷ bs) = (a ≡ b) ⊎ Among a bs
+
+-- none of the states twice
+abbrev pub AreDistinct : List State → Type 0
+AreDistinct [] = Unit {0}
+AreDistinct (s ∷ ss) = (Among s ss → ⊥) × AreDistinct ss
+
+-- nothing wrong was found, and the line is not over
+pub record IsClean (w : Walk) : Type 0 where
+  pub faultless : w.faults ≡ []
+  pub goes_on : w.over ≡ false
+
+-- A walk in which nothing wrong was found, of states that are told apart, and that came to nothing but what another one
+-- came to: states that go on, cases that skipped, cases that quit.
+pub record IsPart (v w : Walk) : Type 0 where
+  pub clean : IsClean v
+  pub going : (s : State) → Among s v.going → Among s w.going
+  pub skips : (c : Case) → Among c v.skips → Among c w.skips
+  pub quits : (q : Quit) → Among q v.quits → Among q w.quits
+  pub distinct : AreDistinct v.going
+
+-- no case is listed twice at one place, as in each certificate
+abbrev pub ListsEachOnce : Scope → Type 0
+ListsEachOnce sc = (number round : ℕ) → AreDistinct (map at_rest (listed sc number round))
+
+-- Where the walk of commands from some states finds nothing wrong, the walk from fewer of them finds nothing wrong, and
+-- comes to nothing else.
+abbrev pub FewerCases : Type 0
+FewerCases =
+    (p : Spot) (cs : CommandTrees) → ListsEachOnce p.scope
+    → (v w : Walk) → IsPart v w → IsClean (commands p cs w) → IsPart (commands p cs v) (commands p cs w)
+
+-- So does the walk from each of them alone.
+abbrev pub EachAlone : Type 0
+EachAlone =
+    (p : Spot) (cs : CommandTrees) → ListsEachOnce p.scope
+    → (cases : List Case) (c : Case) → Among c cases → IsClean (commands p cs (begin cases))
+    → IsPart (commands p cs (begin (c ∷ []))) (commands p cs (begin cases))

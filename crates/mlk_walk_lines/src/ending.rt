@@ -1,0 +1,49 @@
+// What is found where a line ends.
+
+ghost use Rattle.std.specs.Prelude.{◌≡◌, [], OnOk};
+ghost use Rattle.mlk_walk_lines.specs.Endings.{Faulty, Leaves, add_ending};
+
+use mlk_cert::Case;
+use mlk_text::{Code, Column, LineNumber, List};
+use mlk_walk_exprs::{Fault, Faults, Mend};
+use std::alloc::{AllocError, Global};
+
+/// The faults of a line, and the cases in which its block may end there.
+#[derive(Drop)]
+pub(crate) struct Ends {
+    pub(crate) faults: Faults,
+    pub(crate) cases: List<Case>,
+}
+
+impl Ends {
+    /// These faults, and no case.
+    pub(crate) fn new(alloc: Global, faults: Faults) -> Ends
+        ensures faults { result.faults ≡ faults }
+        ensures cases { result.cases ≡ [] }
+    {
+        Ends {
+            faults,
+            cases: List::new(alloc),
+        }
+    }
+
+    /// A case is refused at a place.
+    pub(crate) fn refuse(
+        &mut self,
+        line: LineNumber,
+        column: Column,
+        code: Code,
+        mend: Mend,
+    ) -> Result<(), AllocError>
+        ensures { OnOk result (self.new ≡ add_ending self.old (Faulty line column code)) }
+    {
+        self.faults.push(Fault { line, column, code }, mend)
+    }
+
+    /// The block may end in a case.
+    pub(crate) fn leave(&mut self, case: Case) -> Result<(), AllocError>
+        ensures { OnOk result (self.new ≡ add_ending self.old (Leaves case)) }
+    {
+        self.cases.push(case)
+    }
+}

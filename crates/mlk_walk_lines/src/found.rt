@@ -1,0 +1,70 @@
+// The faults of lines.
+
+ghost use Rattle.std.specs.Prelude.{◌≡◌, [], ◌∷◌, ◌++◌, OnOk, map};
+ghost use Rattle.mlk_walk_lines.specs.Lines.{found_in};
+
+use mlk_text::LineNumber;
+use mlk_walk_exprs::{Fault, Faults, Mend};
+use std::alloc::{AllocError, Global};
+use std::marker::Model;
+
+/// A fault, and the number of the line whose walk found it, counted from 1.
+#[derive(Drop)]
+pub struct LineFault {
+    pub walked: LineNumber,
+    pub fault: Fault,
+}
+
+/// Faults of lines in the order in which they were found, each with what would mend it. A contract sees the faults.
+#[derive(Drop)]
+pub struct LineFaults {
+    items: Vec<(LineFault, Mend)>,
+}
+
+impl Model for LineFaults {
+    ghost use Rattle.std.specs.Prelude.{List as Elements, map};
+    ghost use Rattle.mlk_walk_lines.specs.declared.found.LineFault.{LineFault};
+
+    ghost Value = { Elements LineFault };
+
+    ghost view = { λ l. map (λ f. f.0) l.items.items };
+}
+
+impl LineFaults {
+    /// No faults.
+    pub fn new(alloc: Global) -> LineFaults
+        ensures { result ≡ [] }
+    {
+        LineFaults {
+            items: Vec::new(alloc),
+        }
+    }
+
+    fn push(&mut self, fault: LineFault, mend: Mend) -> Result<(), AllocError>
+        ensures { OnOk result (self.new ≡ self.old ++ fault ∷ []) }
+    {
+        self.items.push((fault, mend))?;
+        Ok(())
+    }
+
+    /// These faults too, which the walk of a line found.
+    pub(crate) fn add(&mut self, walked: LineNumber, faults: Faults) -> Result<(), AllocError>
+        ensures { OnOk result (self.new ≡ self.old ++ map (found_in walked) faults) }
+    {
+        for found in faults.into_vec() {
+            let fault = LineFault {
+                walked,
+                fault: found.fault,
+            };
+            self.push(fault, found.mend)?;
+        }
+        Ok(())
+    }
+
+    /// The faults, each with what would mend it.
+    pub fn into_vec(self) -> Vec<(LineFault, Mend)>
+        ensures { map (λ f. f.0) result.items ≡ self }
+    {
+        self.items
+    }
+}

@@ -1,0 +1,192 @@
+// Lines of one level, and their blocks.
+
+ghost use Rattle.std.specs.Prelude.{◌≡◌, ◌++◌, IfOk, OnOk, Option, drop, map, option_map, option_copied};
+ghost use Rattle.mlk_syntax.specs.Views.{line_of, lines_from};
+ghost use Rattle.mlk_walk_exprs.specs.declared.spot.Block.{Block};
+ghost use Rattle.mlk_walk_state.specs.Scope.{scope_of};
+ghost use Rattle.mlk_walk_lines.specs.Endings.{OfBlock, around_of, head_of, number_of};
+ghost use Rattle.mlk_walk_lines.specs.Lines.{next_head, block_with, head_walk, line_walk, found_in, walk_lines};
+
+use crate::control::{begin, commands};
+use crate::ending::Ends;
+use crate::found::LineFaults;
+use crate::line_end::{Around, LineEnd};
+use mlk_calls::Scope;
+use mlk_cert::Case;
+use mlk_syntax::Line;
+use mlk_text::{Column, List};
+use mlk_walk_exprs::{Block, Spot};
+use std::alloc::{AllocError, Global};
+
+// The line to which a job goes on, where there is one.
+fn next_of<'a>(around: Around<'a>, later: &'a [Line]) -> Option<&'a Line>
+    ensures { option_map head_of (option_copied result)
+        ≡ next_head (around_of around.entry) (lines_from (map line_of later.now)) }
+{
+    match later.first() {
+        Some(line) => Some(line),
+        None => match around {
+            Around::Block => None,
+            Around::Frame(after) => after,
+        },
+    }
+}
+
+// A line's block, given the cases in which it may end.
+fn block_of(lines: &[Line], ends: List<Case>) -> Option<Block>
+    ensures { result ≡ block_with (lines_from (map line_of lines.now)) ends }
+{
+    let first = lines.first()?;
+    Some(Block {
+        first: first.number,
+        ends,
+    })
+}
+
+// The walk of a line to its end.
+fn walk_head<'a>(
+    alloc: Global,
+    scope: &'a Scope<'a>,
+    around: Around<'a>,
+    next: Option<&'a Line>,
+    block: &'a Option<Block>,
+    line: &'a Line,
+) -> Result<Ends, AllocError>
+    ensures { IfOk result (λ e. e ≡ head_walk (scope_of scope.now) (around_of around.entry) (option_map head_of (option_copied next.entry))
+        block.now (head_of line.now)) }
+{
+    let Ok(level) = u32::try_from(line.level) else {
+        return Err(AllocError);
+    };
+    let spot = Spot {
+        alloc,
+        scope,
+        line: line.number,
+        level,
+        block: block.as_ref(),
+        word: Column::new(1),
+    };
+    let mut walk = begin(alloc, scope.listed(line.number, 0))?;
+    commands(&spot, &line.commands, &mut walk)?;
+    let end = LineEnd {
+        alloc,
+        scope,
+        around,
+        next,
+        line: line.number,
+        level: line.level,
+        column: line.end,
+    };
+    end.close(walk)
+}
+
+fn without_first(lines: &[Line]) -> &[Line]
+    ensures { result.now ≡ drop 1 lines.now }
+{
+    match lines.split_first() {
+        None => lines,
+        Some((_, later)) => later,
+    }
+}
+
+/// The walk of one line alone, where its block may end in these cases: what is found is added, and the cases are answered
+/// in which the line's own block may end. The next line is the one to which a job goes on.
+pub fn walk_alone<'a>(
+    alloc: Global,
+    scope: &'a Scope<'a>,
+    line: &'a Line,
+    around: Around<'a>,
+    next: Option<&'a Line>,
+    inner: List<Case>,
+    found: &mut LineFaults,
+) -> Result<Vec<Case>, AllocError>
+    ensures faults { OnOk result (found.new ≡ found.old
+        ++ map (found_in (number_of (head_of line.now))) (head_walk (scope_of scope.now) (around_of around.entry)
+        (option_map head_of (option_copied next.entry)) (block_with (line_of line.now).1 inner)
+        (head_of line.now)).faults) }
+    ensures ends { IfOk result (λ v. v.items ≡ (head_walk (scope_of scope.now) (around_of around.entry)
+        (option_map head_of (option_copied next.entry)) (block_with (line_of line.now).1 inner)
+        (head_of line.now)).cases) }
+{
+    let block = block_of(line.block.as_slice(), inner);
+    let ends = walk_head(alloc, scope, around, next, &block, line)?;
+    found.add(line.number, ends.faults)?;
+    Ok(ends.cases.into_vec())
+}
+
+// The walk of a line's block. Most lines have none.
+#[cycle(level)]
+#[inline(always)]
+fn walk_block<'a>(
+    alloc: Global,
+    scope: &'a Scope<'a>,
+    lines: &'a [Line],
+    found: &mut LineFaults,
+) -> Result<Vec<Case>, AllocError>
+    ensures faults { OnOk result (found.new ≡ found.old
+        ++ (walk_lines (scope_of scope.now) OfBlock (lines_from (map line_of lines.now))).faults) }
+    ensures ends { IfOk result (λ v. v.items
+        ≡ (walk_lines (scope_of scope.now) OfBlock (lines_from (map line_of lines.now))).ends) }
+{
+    if lines.is_empty() {
+        return Ok(Vec::new(alloc));
+    }
+    walk_lines(alloc, &*scope, lines, Around::Block, found)
+}
+
+// The walk of a line, after that of its block.
+#[cycle(level)]
+fn walk_line<'a>(
+    alloc: Global,
+    scope: &'a Scope<'a>,
+    line: &'a Line,
+    around: Around<'a>,
+    next: Option<&'a Line>,
+    found: &mut LineFaults,
+) -> Result<Vec<Case>, AllocError>
+    ensures faults { OnOk result (found.new ≡ found.old
+        ++ ((walk_lines (scope_of scope.now) OfBlock (line_of line.now).1).faults
+        ++ map (found_in (number_of (head_of line.now))) (line_walk (scope_of scope.now) (around_of around.entry)
+        (option_map head_of (option_copied next.entry)) (head_of line.now) (line_of line.now).1
+        (walk_lines (scope_of scope.now) OfBlock (line_of line.now).1)).faults)) }
+    ensures ends { IfOk result (λ v. v.items ≡ (line_walk (scope_of scope.now) (around_of around.entry)
+        (option_map head_of (option_copied next.entry)) (head_of line.now) (line_of line.now).1
+        (walk_lines (scope_of scope.now) OfBlock (line_of line.now).1)).cases) }
+{
+    let block = line.block.as_slice();
+    let inner = walk_block(alloc, &*scope, block, found)?;
+    let block = block_of(block, List::of(inner));
+    let ends = walk_head(alloc, &*scope, around, next, &block, &*line)?;
+    found.add(line.number, ends.faults)?;
+    Ok(ends.cases.into_vec())
+}
+
+/// The walk of lines of one level and of their blocks: what is found is added, and the cases are answered in which the
+/// lines' own block may end. A line past all points of the scope costs no more than that it is looked at.
+#[cycle(level)]
+pub fn walk_lines<'a>(
+    alloc: Global,
+    scope: &'a Scope<'a>,
+    lines: &'a [Line],
+    around: Around<'a>,
+    found: &mut LineFaults,
+) -> Result<Vec<Case>, AllocError>
+    ensures faults { OnOk result (found.new ≡ found.old
+        ++ (walk_lines (scope_of scope.now) (around_of around.entry) (lines_from (map line_of lines.now))).faults) }
+    ensures ends { IfOk result (λ v. v.items
+        ≡ (walk_lines (scope_of scope.now) (around_of around.entry) (lines_from (map line_of lines.now))).ends) }
+{
+    let mut all = Vec::new(alloc);
+    let mut later = lines;
+    let mut here = *scope;
+    for line in lines {
+        later = without_first(later);
+        if here.is_past(line.number) && line.block.as_slice().is_empty() {
+            continue;
+        }
+        here = here.advanced(line.number);
+        let mut ends = walk_line(alloc, &here, line, around, next_of(around, later), found)?;
+        all.append(&mut ends)?;
+    }
+    Ok(all)
+}

@@ -1,0 +1,6 @@
+-- The last of some points. For private clauses alone. This project's own.
+use Rattle.std.specs.Prelude.{◌≡◌, ◌-◌, List, length, drop}
+use Rattle.mlk_cert_parts.specs.declared.block.Point.{Point}
+
+abbrev pub IsEnd : List Point → List Point → Type 0
+IsEnd points ahead = drop (length points - length ahead) points ≡ ahead

@@ -1,0 +1,69 @@
+-- That the tests of this crate are the relations of the crates below.
+use Rattle.std.specs.Prelude.{◌≡◌, ◌↔◌, ℕ, ◌+◌, Bool, true, if◌then◌else◌, List, [], ◌∷◌, length, Some, None, Decides}
+use Rattle.mlk_text.specs.declared.operator.Op.{Op}
+use Rattle.mlk_text.specs.declared.operator.UnaryOp.{UnaryOp}
+use Rattle.mlk_numbers.specs.Folding.{IsFold, IsUnaryFold}
+use Rattle.mlk_names.specs.declared.term.LockTerm.{LockTerm}
+use Rattle.mlk_syntax.specs.Trees.{RoutineTree}
+use Rattle.mlk_cert_parts.specs.declared.block.EntryCert.{EntryCert}
+use Rattle.mlk_rules.specs.declared.family.Family.{Family}
+use Rattle.mlk_rules.specs.Ranks.{HasRank, FamiliesApart}
+use Rattle.mlk_cert_parts.specs.declared.case.Case.{Case}
+use Rattle.mlk_cert_parts.specs.Inclusion.{Included}
+use Rattle.mlk_cert_lexemes.specs.Lists.{ascends}
+use Rattle.mlk_cert_lexemes.specs.Kinds.{terms_upto}
+use Rattle.mlk_cert_parts.specs.declared.names.Own.{Own}
+use Rattle.mlk_cert_parts.specs.declared.names.NameSet.{NameSet}
+use Rattle.mlk_cert_parts.specs.declared.names.NameSet.TheVariants.{Only, AllBut}
+use Rattle.mlk_walk_state.specs.declared.state.State.{State}
+use Rattle.mlk_walk_state.specs.Values.{fold_between, fold_before}
+use Rattle.mlk_walk_state.specs.Terms.{same_term, rank_of, put, put_all, taken}
+use Rattle.mlk_walk_state.specs.Names.{has, may_change}
+use Rattle.mlk_walk_state.specs.Cases.{same_case, includes}
+use Rattle.mlk_walk_state.specs.States.{same_state}
+use Rattle.mlk_walk_state.specs.Scope.{AreEntries, certified, declared}
+
+-- A case includes another where the relation says so.
+abbrev pub IncludesDecides : Type 0
+IncludesDecides = (c d : Case) → Decides (includes c d) (Included c d)
+
+-- Terms, cases and states are the same where they are equal.
+pub record SameDecides : Type 0 where
+  pub terms : (t u : LockTerm) → Decides (same_term t u) (t ≡ u)
+  pub cases : (c d : Case) → Decides (same_case c d) (c ≡ d)
+  pub states : (s t : State) → Decides (same_state s t) (s ≡ t)
+
+-- Where no two families meet, a term's rank is that of the relation.
+abbrev pub RankIs : Type 0
+RankIs = (families : List Family) (t : LockTerm) (k : ℕ) → FamiliesApart families → (rank_of families t ≡ Some k) ↔ HasRank families t k
+
+-- What operators make of texts is the one exact result of the relations.
+pub record FoldsAre : Type 0 where
+  pub between : (op : Op) (a b text : List ℕ) → (fold_between op a b ≡ Some text) ↔ IsFold op a b text
+  pub before : (op : UnaryOp) (a text : List ℕ) → (fold_before op a ≡ Some text) ↔ IsUnaryFold op a text
+
+-- The tables of entries say of each entry what its first block and the rules say.
+abbrev pub TablesAre : Type 0
+TablesAre = (routines : List RoutineTree) (blocks : List EntryCert) (texts : List (List ℕ))
+    → AreEntries routines blocks texts (certified routines blocks, declared routines texts)
+
+-- A term that is put is held once more, every other as often as before, and the order stays; one that is taken is held
+-- once less, and where none can be taken it is not held.
+abbrev pub one_if : Bool → ℕ
+one_if test = if test then 1 else 0
+
+abbrev pub count_of : LockTerm → List LockTerm → ℕ
+count_of t [] = 0
+count_of t (h ∷ held) = one_if (same_term t h) + count_of t held
+
+pub record HeldAre : Type 0 where
+  pub of_put : (t u : LockTerm) (held : List LockTerm) → count_of u (put t held) ≡ count_of u held + one_if (same_term u t)
+  pub of_taken : (t u : LockTerm) (held rest : List LockTerm) → taken t held ≡ Some rest → count_of u held ≡ count_of u rest + one_if (same_term u t)
+  pub of_none : (t : LockTerm) (held : List LockTerm) → taken t held ≡ None → count_of t held ≡ 0
+  pub of_all : (terms held : List LockTerm) → length (put_all terms held) ≡ length terms + length held
+  pub ordered : (t : LockTerm) (held : List LockTerm) → ascends terms_upto held ≡ true → ascends terms_upto (put t held) ≡ true
+
+-- Where all names but some may change, each of them may.
+abbrev pub AllButAllows : Type 0
+AllButAllows = (own : List Own) (mods : List NameSet) (names : List (List ℕ)) (name : List ℕ)
+    → may_change own mods (AllBut names) ≡ true → has (AllBut names) name ≡ true → may_change own mods (Only name) ≡ true

@@ -1,0 +1,122 @@
+// Names that may change.
+
+ghost use Rattle.std.specs.Prelude.{◌≡◌, IfOk, OnOk};
+ghost use Rattle.std.specs.List.{list_any, list_all};
+ghost use Rattle.mlk_cert_parts.specs.declared.names.Own.{Own as item};
+ghost use Rattle.mlk_walk_state.specs.Names.{is_among, has, have, is_own, spares, may_change, without};
+
+use mlk_cert::{NameSet, Own, Shared};
+use mlk_text::Name;
+use std::alloc::{AllocError, Global};
+
+/// Whether the name is among these. It takes no memory.
+#[tactic(auto, unfolding(crate::specs::Names::is_among))]
+pub fn is_among(names: &[Name], name: &Name) -> bool
+    ensures { result ≡ is_among names.now name.now }
+{
+    names.iter().any(|other| *name == *other)
+}
+
+// Whether the name is this one, or is not among those that the set leaves out.
+#[inline(always)]
+fn has(set: &NameSet, name: &Name) -> bool
+    ensures { result ≡ has set.now name.now }
+{
+    match set {
+        NameSet::Only(only) => *only == *name,
+        NameSet::AllBut(others) => !is_among(others.as_slice(), name),
+    }
+}
+
+/// Whether one of the sets has the name.
+#[tactic(auto, unfolding(crate::specs::Names::have))]
+pub fn have(sets: &[NameSet], name: &Name) -> bool
+    ensures { result ≡ have sets.now name.now }
+{
+    sets.iter().any(|set| has(set, name))
+}
+
+/// Whether a name is own: one of the items has it, at any level. It takes no memory.
+#[inline(always)]
+pub fn is_own(own: &[Own], name: &Name) -> bool
+    ensures { result ≡ is_own own.now name.now }
+{
+    own.iter().any(|item| has(&item.names, name))
+}
+
+pub(crate) fn are_among(names: &[Name], others: &[Name]) -> bool
+    ensures { result ≡ list_all (is_among names.now) others.now }
+{
+    others.iter().all(|name| is_among(names, name))
+}
+
+// Whether the set is of all names but some, each of which is among these.
+#[tactic(auto, unfolding(crate::specs::Names::spares))]
+fn spares(names: &[Name], set: &NameSet) -> bool
+    ensures { result ≡ spares names.now set.now }
+{
+    match set {
+        NameSet::Only(_) => false,
+        NameSet::AllBut(others) => are_among(names, others.as_slice()),
+    }
+}
+
+fn own_spares(names: &[Name], own: &[Own]) -> bool
+    ensures { result ≡ list_any (λ (o : item). spares names.now o.names) own.now }
+{
+    own.iter().any(|item| spares(names, &item.names))
+}
+
+fn one_spares(names: &[Name], sets: &[NameSet]) -> bool
+    ensures { result ≡ list_any (spares names.now) sets.now }
+{
+    sets.iter().any(|set| spares(names, set))
+}
+
+/// Whether names may change: they are own, or a summary lists them.
+#[inline(always)]
+pub fn may_change(own: &[Own], mods: &[NameSet], set: &NameSet) -> bool
+    ensures { result ≡ may_change own.now mods.now set.now }
+{
+    match set {
+        NameSet::Only(name) => is_own(own, name) || have(mods, name),
+        NameSet::AllBut(names) => {
+            let names = names.as_slice();
+            own_spares(names, own) || one_spares(names, mods)
+        }
+    }
+}
+
+fn has_some(changed: &[NameSet], names: &[Name]) -> bool
+    ensures { result ≡ list_any (have changed.now) names.now }
+{
+    names.iter().any(|name| have(changed, name))
+}
+
+fn left_without(alloc: Global, changed: &[NameSet], names: &[Name]) -> Result<Vec<Name>, AllocError>
+    ensures { IfOk result (λ v. v.items ≡ without changed.now names.now) }
+{
+    let mut left = Vec::new(alloc);
+    for name in names {
+        if !have(changed, name) {
+            left.push(name.copy()?)?;
+        }
+    }
+    Ok(left)
+}
+
+/// The names of a list that these sets have are taken out of it; where there are none it stays the very list.
+#[tactic(auto, using(crate::proofs::ListSteps::none_filtered))]
+pub fn take_out(
+    alloc: Global,
+    changed: &[NameSet],
+    names: &mut Shared<Name>,
+) -> Result<(), AllocError>
+    ensures { OnOk result (names.new ≡ without changed.now names.old) }
+{
+    if has_some(changed, names.as_slice()) {
+        let left = left_without(alloc, changed, names.as_slice())?;
+        *names = Shared::new(alloc, left)?;
+    }
+    Ok(())
+}
