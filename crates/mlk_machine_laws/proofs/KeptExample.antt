@@ -14,8 +14,7 @@ use Rattle.mlk_names.specs.References.{Touch}
 use Rattle.mlk_rules.specs.declared.rules.RuleLists.{RuleLists}
 use Rattle.mlk_rules.specs.declared.cover.Cover.{Cover}
 use Rattle.mlk_rules.specs.declared.family.Family.{Family}
-use Rattle.mlk_rules.specs.Coverage.{IsCovered, OfCover, cut_template}
-use Rattle.mlk_names.specs.Terms.{IsPrefix}
+use Rattle.mlk_rules.specs.Coverage.{IsCovered, OfCover, HoldsLock, Satisfies}
 use Rattle.mlk_rules.specs.Sound.{IsSound}
 use Rattle.mlk_machine_locks.specs.NameTests.{is_above, same_name}
 use Rattle.mlk_machine_locks.specs.Lists.{Among}
@@ -61,7 +60,7 @@ a = record { root = root.Global (codes "A"); subs = [] }
 
 -- ^A is written under the lock ^A, which has a rank
 abbrev cover : Cover
-cover = record { pattern = record { global = codes "A"; elements = []; extent = Tree }; lock = record { root = root.Global (codes "A"); parts = [] } }
+cover = record { pattern = record { global = codes "A"; elements = []; extent = Tree }; lock = record { root = root.Global (codes "A"); parts = [] }; also = None }
 
 abbrev family : Family
 family = record { name = a; rank = 10 }
@@ -143,13 +142,15 @@ covers = record {
   ruled = (cover.pattern, OfCover cover (0, omega arith, refl) refl, inl (record { root = refl; front = []; rest = []; subs = refl; suits = tt; stays = tt }));
   readonly = λ p c. let l = c.1 in absurd (omega (arith, l));
   private = λ p c. let l = c.1 in absurd (omega (arith, l));
-  covers = λ c there m. (
-    term,
-    (0, omega arith, refl),
-    subst (λ (d : Cover). IsPrefix term (cut_template d.lock reference)) (sym (only cover c there))
-        (record { root = refl; subs = record { tail = []; is = refl } }),
-  );
+  covers = λ c there m. subst (λ (d : Cover). Satisfies (term ∷ []) reference d) (sym (only cover c there)) its_lock;
 }
+  where
+    its_lock : Satisfies (term ∷ []) reference cover
+    its_lock lock there = subst (λ l. HoldsLock (term ∷ []) l reference) (sym (only cover.lock lock there)) (
+      term,
+      (0, omega arith, refl),
+      record { root = refl; subs = record { tail = []; is = refl } },
+    )
 
 module _ (test : Bool) (k : ℕ) where
   abbrev after_steps : Stepped → ℕ → Job

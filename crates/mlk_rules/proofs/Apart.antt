@@ -4,17 +4,20 @@ use Rattle.std.specs.Prelude.{Contains, slice_get}
 use Rattle.std.proofs.lemmas.Option.{slice_get-get_or}
 use Rattle.mlk_names.specs.declared.symbol.Sym.TheVariants.{Job}
 use Rattle.mlk_names.specs.declared.term.LockTerm.{LockTerm}
+use Rattle.mlk_names.specs.declared.reference.Access.{Access}
 use Rattle.mlk_names.specs.declared.reference.Access.TheVariants.{Reads, Writes}
 use Rattle.mlk_names.specs.declared.reference.Reference.{Reference}
 use Rattle.mlk_names.specs.Symbols.{Assignment, StandsFor}
 use Rattle.mlk_names.specs.References.{GlobalNode, Touch, Touches, InRegion}
 use Rattle.mlk_rules.specs.declared.pattern.Element.TheVariants as element
 use Rattle.mlk_rules.specs.declared.pattern.Pattern.{Pattern}
+use Rattle.mlk_rules.specs.declared.template.Template.{Template}
 use Rattle.mlk_rules.specs.declared.cover.Cover.{Cover}
 use Rattle.mlk_rules.specs.declared.rules.RuleLists.{RuleLists}
 use Rattle.mlk_rules.specs.Patterns.{MayMeet}
-use Rattle.mlk_rules.specs.Coverage.{IsPattern, OfCover, OfPrivate, OfReadonly, IsCovered, IsOwn, HoldsLock}
+use Rattle.mlk_rules.specs.Coverage.{IsPattern, OfCover, OfPrivate, OfReadonly, IsCovered, IsOwn, HoldsLock, HoldLocks, second_of, locks_of}
 use Rattle.mlk_rules.specs.Laws.{HoldConflict, PrivateByJob, CoveredApart}
+use Rattle.mlk_rules.proofs.Computing.{in_front}
 use Rattle.mlk_rules.proofs.Places.{zip_at, begins_at}
 use Rattle.mlk_rules.proofs.Instances.{lock_of_node, reach_begins}
 use Rattle.mlk_rules.proofs.Meetings.{share_pattern}
@@ -34,20 +37,27 @@ module _ (rules : RuleLists) (a b : Assignment) (held kept : List LockTerm) (r s
       let x = own_number a r t n k first i (own k at) in
       let y = own_number b s u n k second j (own' k at) in cc
 
-  by_lock : (c : Cover) (n : GlobalNode) → HoldsLock held c.lock r → HoldsLock kept c.lock s → InRegion t.region n → InRegion u.region n → HoldConflict a held b kept
-  by_lock c n (h, in_held, p) (k, in_kept, q) i j = record {
+  by_lock : (lock : Template) (n : GlobalNode) → HoldsLock held lock r → HoldsLock kept lock s → InRegion t.region n → InRegion u.region n → HoldConflict a held b kept
+  by_lock lock n (h, in_held, p) (k, in_kept, q) i j = record {
     first = h;
     second = k;
     is_held = in_held;
     is_kept = in_kept;
-    conflict = λ x y d e. (lock_of_node c.lock n).conflict a b r s t u h k x y first i p d second j q e;
+    conflict = λ x y d e. (lock_of_node lock n).conflict a b r s t u h k x y first i p d second j q e;
   }
+
+  -- a write holds each lock of the rule, whatever else is done holds one of them
+  by_locks : (c : Cover) (n : GlobalNode) (x y : Access) → (x ≡ Writes) ⊎ (y ≡ Writes) → HoldLocks x held r (locks_of c) → HoldLocks y kept s (locks_of c) → InRegion t.region n → InRegion u.region n → HoldConflict a held b kept
+  by_locks c n Writes Writes w h k i j = let at = in_front c.lock (second_of c.also) in by_lock c.lock n (h c.lock at) (k c.lock at) i j
+  by_locks c n Writes Reads w h (lock, is, k) i j = by_lock lock n (h lock is) k i j
+  by_locks c n Reads Writes w (lock, is, h) k i j = by_lock lock n h (k lock is) i j
+  by_locks c n Reads Reads w h k i j = absurd (elim w [ inl e ↦ let d : Reads ≡ Writes = e in cc | inr e ↦ let d : Reads ≡ Writes = e in cc ])
 
   apart : PrivateByJob rules → IsCovered rules held r → IsCovered rules kept s → (r.access ≡ Writes) ⊎ (s.access ≡ Writes) → (p : Pattern) (n : GlobalNode) → IsPattern rules p → InRegion t.region n → InRegion u.region n → MayMeet p r → MayMeet p s → (a.job ≡ b.job) ⊎ HoldConflict a held b kept
   apart by_job x y w p n (OfCover c is e) i j m m' =
       let P : Pattern → Type 0 = λ q. MayMeet q r in
       let Q : Pattern → Type 0 = λ q. MayMeet q s in
-      inr (by_lock c n (x.covers c is (subst P (sym e) m)) (y.covers c is (subst Q (sym e) m')) i j)
+      inr (by_locks c n r.access s.access w (x.covers c is (subst P (sym e) m)) (y.covers c is (subst Q (sym e) m')) i j)
   apart by_job x y w p n (OfPrivate is) i j m m' =
       inl (by_number p n (by_job p is) (x.private p is m) (y.private p is m') i j)
   apart by_job x y w p n (OfReadonly is) i j m m' =

@@ -1,17 +1,21 @@
 -- What loops over rules have seen, and what follows of it.
-use Rattle.std.proofs.Common.{◌≡◌, ◌↔◌, ◌⊎◌, inl, inr, ℕ, zero, suc, add-one, ◌+◌, ◌<◌, ◌≤◌, Bool, true, false, not, List, [], ◌∷◌, ◌++◌, length, drop, arith, refl, sym, ap, ◌∙◌, subst, append_assoc}
-use Rattle.std.specs.Prelude.{Contains, IsTrue, slice_index_or}
+use Rattle.std.proofs.Common.{◌≡◌, ◌↔◌, ◌⊎◌, inl, inr, ℕ, zero, suc, add-one, ◌+◌, ◌<◌, ◌≤◌, Bool, true, false, not, List, [], ◌∷◌, ◌++◌, Some, None, Result, Ok, Err, length, drop, arith, refl, sym, ap, ◌∙◌, subst, append_assoc}
+use Rattle.std.specs.Prelude.{Contains, IsTrue, OnOk, slice_index_or}
 use Rattle.std.proofs.lemmas.Bool.{cases_order}
 use Rattle.std.proofs.Math.Seq.{drop-cons}
 use Rattle.std.proofs.lemmas.List.{get_or_default, append-nil}
 use Rattle.mlk_names.specs.declared.term.LockTerm.{LockTerm}
+use Rattle.mlk_names.specs.declared.reference.Access.{Access}
 use Rattle.mlk_names.specs.declared.reference.Access.TheVariants.{Reads, Writes}
 use Rattle.mlk_names.specs.declared.reference.Reference.{Reference}
 use Rattle.mlk_rules.specs.declared.pattern.Pattern.{Pattern}
+use Rattle.mlk_rules.specs.declared.template.Template.{Template}
 use Rattle.mlk_rules.specs.declared.cover.Cover.{Cover}
 use Rattle.mlk_rules.specs.declared.rules.RuleLists.{RuleLists}
 use Rattle.mlk_rules.specs.Patterns.{MayMeet, SurelyLies, SurelyAbove}
-use Rattle.mlk_rules.specs.Coverage.{OfCover, OfPrivate, IsRuled, KeepsReadonly, cut_template, Lacks, AreLacking}
+use Rattle.mlk_rules.specs.Coverage.{OfCover, OfPrivate, IsRuled, KeepsReadonly, cut_template, HoldsLock, second_of, HoldLocks, Satisfies, Lacks, asked, AreMissing, AreLackingOf, AreLacking}
+use Rattle.mlk_rules.specs.Fronts.{Gained}
+use Rattle.mlk_rules.proofs.Computing.{in_front, in_rest, in_list}
 
 -- P of each element before a place
 abbrev pub AllBefore : {X : Type 0} → (X → Type 0) → List X → ℕ → Type 0
@@ -55,16 +59,106 @@ module _ (rules : RuleLists) (r : Reference) where
   )
   keeps_readonly false w h = (λ e p is m. absurd (let e : false ≡ true = h.1 (p, is, m) in cc), λ k. refl)
 
--- along the rules: a rule whose lock is lacking gives its cut template, and any other none
-pub lacking_more : (held : List LockTerm) (r : Reference) (all rest : List Cover) (c : Cover) (after : List Cover) (found : List LockTerm) → rest ≡ c ∷ after → Lacks held r c → ((ts : List LockTerm) → AreLacking held r rest ts → AreLacking held r all (found ++ ts)) → (ts : List LockTerm) → AreLacking held r after ts → AreLacking held r all ((found ++ cut_template c.lock r ∷ []) ++ ts)
-lacking_more held r all rest c after found e is f ts h =
-    let P : List Cover → Type 0 = λ cs. AreLacking held r cs (cut_template c.lock r ∷ ts) in
-    let Q : List LockTerm → Type 0 = λ us. AreLacking held r all us in
-    subst Q (sym (append_assoc found (cut_template c.lock r ∷ []) ts)) (f (cut_template c.lock r ∷ ts) (subst P (sym e) (inl (is, (ts, refl, h)))))
+-- locks in a list of one and of two
+module _ (held : List LockTerm) (r : Reference) where
+  at_one : (lock k : Template) → Contains (lock ∷ []) k → lock ≡ k
+  at_one lock k is = elim (in_list lock k [] is) [ inl e ↦ e | inr none ↦ let l = none.1 in absurd (omega (arith, l)) ]
 
-pub lacking_less : (held : List LockTerm) (r : Reference) (all rest : List Cover) (c : Cover) (after : List Cover) (found : List LockTerm) → rest ≡ c ∷ after → (Lacks held r c → ⊥) → ((ts : List LockTerm) → AreLacking held r rest ts → AreLacking held r all (found ++ ts)) → (ts : List LockTerm) → AreLacking held r after ts → AreLacking held r all (found ++ ts)
-lacking_less held r all rest c after found e other f ts h =
-    let P : List Cover → Type 0 = λ cs. AreLacking held r cs ts in f ts (subst P (sym e) (inr (other, h)))
+  one_lock : (a : Access) (lock : Template) → HoldsLock held lock r ↔ HoldLocks a held r (lock ∷ [])
+  one_lock Writes lock = (λ h k is. subst (λ l. HoldsLock held l r) (at_one lock k is) h, λ f. f lock (in_front lock []))
+  one_lock Reads lock = (
+    λ h. (lock, in_front lock [], h),
+    λ w. subst (λ l. HoldsLock held l r) (sym (at_one lock w.0 w.1)) w.2,
+  )
+
+  two_written : (a b : Template) → (HoldsLock held a r × HoldsLock held b r) ↔ HoldLocks Writes held r (a ∷ b ∷ [])
+  two_written a b = (
+    λ h k is. elim (in_list a k (b ∷ []) is) [
+      | inl e ↦ subst (λ l. HoldsLock held l r) e h.0
+      | inr there ↦ subst (λ l. HoldsLock held l r) (at_one b k there) h.1
+    ],
+    λ f. (f a (in_front a (b ∷ [])), f b (in_rest a b (b ∷ []) (in_front b []))),
+  )
+
+  two_read : (a b : Template) → (HoldsLock held a r ⊎ HoldsLock held b r) ↔ HoldLocks Reads held r (a ∷ b ∷ [])
+  two_read a b = (
+    λ h. elim h [
+      | inl x ↦ (a, in_front a (b ∷ []), x)
+      | inr y ↦ (b, in_rest a b (b ∷ []) (in_front b []), y)
+    ],
+    λ w. elim (in_list a w.0 (b ∷ []) w.1) [
+      | inl e ↦ inl (subst (λ l. HoldsLock held l r) (sym e) w.2)
+      | inr there ↦ inr (subst (λ l. HoldsLock held l r) (sym (at_one b w.0 there)) w.2)
+    ],
+  )
+
+  -- what is held satisfies a rule with one lock, and one with two
+  module _ (c : Cover) where
+    pub by_one : c.also ≡ None → HoldsLock held c.lock r ↔ Satisfies held r c
+    by_one e =
+        subst (λ o. HoldsLock held c.lock r ↔ HoldLocks r.access held r (c.lock ∷ second_of o)) (sym e) (one_lock r.access c.lock)
+
+    pub by_two_written : (also : Template) → c.also ≡ Some also → r.access ≡ Writes → (HoldsLock held c.lock r × HoldsLock held also r) ↔ Satisfies held r c
+    by_two_written also e w =
+        let P : Access → Type 0 = λ a. (HoldsLock held c.lock r × HoldsLock held also r) ↔ HoldLocks a held r (c.lock ∷ also ∷ []) in
+        subst (λ o. (HoldsLock held c.lock r × HoldsLock held also r) ↔ HoldLocks r.access held r (c.lock ∷ second_of o)) (sym e)
+        (subst P (sym w) (two_written c.lock also))
+
+    pub by_two_read : (also : Template) → c.also ≡ Some also → r.access ≡ Reads → (HoldsLock held c.lock r ⊎ HoldsLock held also r) ↔ Satisfies held r c
+    by_two_read also e w =
+        let P : Access → Type 0 = λ a. (HoldsLock held c.lock r ⊎ HoldsLock held also r) ↔ HoldLocks a held r (c.lock ∷ also ∷ []) in
+        subst (λ o. (HoldsLock held c.lock r ⊎ HoldsLock held also r) ↔ HoldLocks r.access held r (c.lock ∷ second_of o)) (sym e)
+        (subst P (sym w) (two_read c.lock also))
+
+    -- what is asked of a rule with one lock, and with two
+    pub asks_one : c.also ≡ None → asked r.access c ≡ c.lock ∷ []
+    asks_one e = by r.access
+      where
+        by : (a : Access) → asked a c ≡ c.lock ∷ []
+        by Writes = ap (λ o. c.lock ∷ second_of o) e
+        by Reads = refl
+
+    pub asks_two : (also : Template) → c.also ≡ Some also → r.access ≡ Writes → asked r.access c ≡ c.lock ∷ also ∷ []
+    asks_two also e w = ap (λ a. asked a c) w ∙ ap (λ o. c.lock ∷ second_of o) e
+
+    pub asks_first : r.access ≡ Reads → asked r.access c ≡ c.lock ∷ []
+    asks_first w = ap (λ a. asked a c) w
+
+  -- what is missing of one lock, and of two
+  pub missing_one : (lock : Template) (t : LockTerm) (old new : List LockTerm) → (HoldsLock held lock r → ⊥) → t ≡ cut_template lock r → new ≡ old ++ t ∷ []
+      → Gained (AreMissing held r (lock ∷ [])) old new
+  missing_one lock t old new lacks is e = (t ∷ [], e, inr (lacks, ([], ap (λ u. u ∷ []) is, refl)))
+
+  pub missing_none : (lock : Template) (old : List LockTerm) → HoldsLock held lock r → Gained (AreMissing held r (lock ∷ [])) old old
+  missing_none lock old h = ([], sym (append-nil old), inl (h, refl))
+
+  missing_two : (a b : Template) (xs ys : List LockTerm) → AreMissing held r (a ∷ []) xs → AreMissing held r (b ∷ []) ys → AreMissing held r (a ∷ b ∷ []) (xs ++ ys)
+  missing_two a b xs ys (inl (h, e)) m = inl (h, subst (λ zs. AreMissing held r (b ∷ []) (zs ++ ys)) (sym e) m)
+  missing_two a b xs ys (inr (n, (rest, e, none))) m =
+      inr (n, (ys, ap (λ zs. zs ++ ys) e ∙ ap (λ zs. cut_template a r ∷ (zs ++ ys)) none, m))
+
+  pub gained_two : (a b : Template) (old between new : List LockTerm) → Gained (AreMissing held r (a ∷ [])) old between → Gained (AreMissing held r (b ∷ [])) between new
+      → Gained (AreMissing held r (a ∷ b ∷ [])) old new
+  gained_two a b old between new (xs, e, m) (ys, d, n) =
+      (xs ++ ys, d ∙ ap (λ zs. zs ++ ys) e ∙ append_assoc old xs ys, missing_two a b xs ys m n)
+
+  pub lacking_one : (c : Cover) (old new : List LockTerm) → Lacks held r c → Gained (AreMissing held r (asked r.access c)) old new → Gained (AreLackingOf held r c) old new
+  lacking_one c old new l (ts, e, m) = (ts, e, inl (l, m))
+
+  pub lacking_none : (c : Cover) (old : List LockTerm) → (Lacks held r c → ⊥) → Gained (AreLackingOf held r c) old old
+  lacking_none c old n = ([], sym (append-nil old), inr (n, refl))
+
+-- what follows where something was answered
+pub where_ok : {A E P Q : Type 0} (o : Result A E) → (P → Q) → OnOk o P → OnOk o Q
+where_ok (Ok x) f h = f h
+where_ok (Err e) f h = tt
+
+-- along the rules: what is lacking of one more is put after what was found
+pub lacking_more : (held : List LockTerm) (r : Reference) (all rest : List Cover) (c : Cover) (after : List Cover) (found front : List LockTerm) → rest ≡ c ∷ after → AreLackingOf held r c front → ((ts : List LockTerm) → AreLacking held r rest ts → AreLacking held r all (found ++ ts)) → (ts : List LockTerm) → AreLacking held r after ts → AreLacking held r all ((found ++ front) ++ ts)
+lacking_more held r all rest c after found front e is f ts h =
+    let P : List Cover → Type 0 = λ cs. AreLacking held r cs (front ++ ts) in
+    let Q : List LockTerm → Type 0 = λ us. AreLacking held r all us in
+    subst Q (sym (append_assoc found front ts)) (f (front ++ ts) (subst P (sym e) (front, ts, refl, is, h)))
 
 pub lacking_all : (held : List LockTerm) (r : Reference) (all rest : List Cover) (found : List LockTerm) → rest ≡ [] → ((ts : List LockTerm) → AreLacking held r rest ts → AreLacking held r all (found ++ ts)) → AreLacking held r all found
 lacking_all held r all rest found e f =

@@ -30,9 +30,9 @@ use Rattle.mlk_rules.specs.declared.template.Template.{Template}
 use Rattle.mlk_rules.specs.declared.cover.Cover.{Cover}
 use Rattle.mlk_rules.specs.declared.rules.RuleLists.{RuleLists}
 use Rattle.mlk_rules.specs.Patterns.{MayMeet, Suits, StaysIn, SurelyLies, SurelyAbove}
-use Rattle.mlk_rules.specs.Coverage.{cut_template, HoldsLock, IsOwn, OfCover, OfPrivate, OfReadonly, IsRuled, KeepsReadonly, KeepsPrivate, KeepsCovers, IsAnswer}
+use Rattle.mlk_rules.specs.Coverage.{cut_template, HoldsLock, HoldLocks, locks_of, Satisfies, IsOwn, OfCover, OfPrivate, OfReadonly, IsRuled, KeepsReadonly, KeepsPrivate, KeepsCovers, IsAnswer}
 use Rattle.mlk_rules.specs.Fronts.{symbol_of, SubsLie, SubsAbove, OwnSubs}
-use Rattle.mlk_rules.specs.Computed.{goes_on, may_be_same, subs_may_meet, may_meet, suits, stays_in, subs_lie, subs_above, surely_lies, surely_above, is_ruled_by, is_ruled, only_reads, keeps_readonly, is_job, first_of, after_first, own_subs, keeps_private, same_root, same_symbol, begins, is_prefix, holds_lock, keeps_covers, answer}
+use Rattle.mlk_rules.specs.Computed.{goes_on, may_be_same, subs_may_meet, may_meet, suits, stays_in, subs_lie, subs_above, surely_lies, surely_above, is_ruled_by, is_ruled, only_reads, keeps_readonly, is_job, first_of, after_first, own_subs, keeps_private, same_root, same_symbol, begins, is_prefix, holds_lock, hold_locks, satisfies, keeps_covers, answer}
 use Rattle.mlk_rules.specs.Laws.{ComputedAnswers}
 use Rattle.mlk_rules.proofs.FrontLemmas.{element_meets, lie_none, lie_no_subs, lie_suits, lie_cons, above_none, above_no_elements, above_suits, above_cons}
 use Rattle.mlk_rules.proofs.MeetLemmas.{meet_from, meet_root, meet_fronts}
@@ -282,10 +282,14 @@ holds_decides : (held : List LockTerm) (r : Reference) (lock : Template) → Dec
 holds_decides held r lock =
     any_decides (λ h. is_prefix h (cut_template lock r)) (λ h. IsPrefix h (cut_template lock r)) (λ h. prefix_decides h (cut_template lock r)) held
 
+locks_decide : (a : Access) (held : List LockTerm) (r : Reference) (locks : List Template) → Decides (hold_locks a held r locks) (HoldLocks a held r locks)
+locks_decide Writes held r locks = all_decides (holds_lock held r) (λ lock. HoldsLock held lock r) (holds_decides held r) locks
+locks_decide Reads held r locks = any_decides (holds_lock held r) (λ lock. HoldsLock held lock r) (holds_decides held r) locks
+
 covers_decide : (rules : RuleLists) (held : List LockTerm) (r : Reference) → Decides (keeps_covers rules held r) (KeepsCovers rules held r)
 covers_decide rules held r =
-    all_decides (λ (c : Cover). not (may_meet c.pattern r) || holds_lock held r c.lock) (λ (c : Cover). MayMeet c.pattern r → HoldsLock held c.lock r)
-    (λ (c : Cover). if_decides (may_meet c.pattern r) (holds_lock held r c.lock) (meet_decides r c.pattern) (holds_decides held r c.lock)) rules.covers
+    all_decides (λ (c : Cover). not (may_meet c.pattern r) || satisfies held r c) (λ (c : Cover). MayMeet c.pattern r → Satisfies held r c)
+    (λ (c : Cover). if_decides (may_meet c.pattern r) (satisfies held r c) (meet_decides r c.pattern) (locks_decide r.access held r (locks_of c))) rules.covers
 
 -- the answer that four tests give
 abbrev pub by_tests : Bool → Bool → Bool → Bool → Option Code

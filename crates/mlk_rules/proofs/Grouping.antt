@@ -122,20 +122,19 @@ module _ (rules : RuleLists) (r : Reference) where
   lacking_out held (c ∷ cs) ts h =
       ⊎_elim
       (λ e. more (λ us k. lacking_out held cs us k) (rw e at h))
-      (λ e. inr (λ l. absurd (clash e (meet_named c.pattern r l.0)), lacking_out held cs ts (rw e at h)))
+      (λ e. ([], ts, refl, inr (λ l. clash e (meet_named c.pattern r l.0), refl), lacking_out held cs ts (rw e at h)))
       (cases_Bool (cover_test c))
     where
       clash : cover_test c ≡ false → cover_test c ≡ true → ⊥
       clash e d = cc
 
       more : ((us : List LockTerm) → AreLacking held r (covers_of r.root cs) us → AreLacking held r cs us) → AreLacking held r (c ∷ covers_of r.root cs) ts → AreLacking held r (c ∷ cs) ts
-      more rec (inl (l, (rest, e, k))) = inl (l, (rest, e, rec rest k))
-      more rec (inr (n, k)) = inr (n, rec ts k)
+      more rec (front, rest, e, l, k) = (front, rest, e, l, rec rest k)
 
   pub none_lacking : (held : List LockTerm) (covers : List Cover) → ((c : Cover) → Contains covers c → c.pattern.global ≢ r.root) → AreLacking held r covers []
   none_lacking held [] none = refl
   none_lacking held (c ∷ cs) none =
-      inr (λ l. none c (in_front c cs) (meet_root c.pattern r l.0), none_lacking held cs (λ d is. none d (in_rest c d cs is)))
+      ([], [], refl, inr (λ l. none c (in_front c cs) (meet_root c.pattern r l.0), refl), none_lacking held cs (λ d is. none d (in_rest c d cs is)))
 
 -- what is answered, in the words of all rules
 pub answer_ok : (rules : RuleLists) (held : List LockTerm) (r : Reference) (g : RuleLists) (found : Result (Unit {0}) Code) → g ≡ of_global rules r.root → OnOk found (IsAnswer g held r None) → OnOk found (IsAnswer rules held r None)

@@ -10,6 +10,8 @@ use Rattle.mlk_names.specs.declared.symbol.Sym.TheVariants.{Const, Local, Job, U
 use Rattle.mlk_names.specs.declared.known_symbol.KnownSym.{KnownSym}
 use Rattle.mlk_names.specs.declared.known_symbol.KnownSym.TheVariants as known
 use Rattle.mlk_names.specs.declared.term.LockTerm.{LockTerm}
+use Rattle.mlk_names.specs.declared.reference.Access.{Access}
+use Rattle.mlk_names.specs.declared.reference.Access.TheVariants.{Reads, Writes}
 use Rattle.mlk_names.specs.declared.reference.Extent.{Extent}
 use Rattle.mlk_names.specs.declared.reference.Extent.TheVariants.{Node, Tree}
 use Rattle.mlk_names.specs.declared.reference.Reference.{Reference}
@@ -23,8 +25,8 @@ use Rattle.mlk_rules.specs.declared.template.Part.TheVariants.{Literal, Place}
 use Rattle.mlk_rules.specs.declared.template.Template.{Template}
 use Rattle.mlk_rules.specs.declared.cover.Cover.{Cover}
 use Rattle.mlk_rules.specs.declared.rules.RuleLists.{RuleLists}
-use Rattle.mlk_rules.specs.Coverage.{before_missing, symbol_at, cut_template, IsAnswer}
-use Rattle.mlk_rules.specs.Computed.{may_be_same, subs_may_meet, may_meet, suits, stays_in, subs_lie, subs_above, goes_on, is_ruled_by, is_ruled, only_reads, keeps_readonly, is_job, first_of, after_first, own_subs, keeps_private, same_root, same_symbol, begins, is_prefix, holds_lock, keeps_covers, answer}
+use Rattle.mlk_rules.specs.Coverage.{before_missing, symbol_at, cut_template, locks_of, IsAnswer}
+use Rattle.mlk_rules.specs.Computed.{may_be_same, subs_may_meet, may_meet, suits, stays_in, subs_lie, subs_above, goes_on, is_ruled_by, is_ruled, only_reads, keeps_readonly, is_job, first_of, after_first, own_subs, keeps_private, same_root, same_symbol, begins, is_prefix, holds_lock, hold_locks, satisfies, keeps_covers, answer}
 use Rattle.mlk_rules.specs.Laws.{mark, marked, MarkedAlike}
 use Rattle.mlk_rules.proofs.Computing.{in_front, in_rest, computed_answers}
 
@@ -173,10 +175,14 @@ module _ (n : List ℕ) where
         any_same (λ h. is_prefix h (cut_template lock (marked n r))) (λ h. is_prefix h (cut_template lock r)) held
         (λ h is. ap (λ b. same_root h.root lock.root && b) (cut_same h.subs lock.parts r.subs (free h is)))
 
+    locks_same : (a : Access) (locks : List Template) → hold_locks a held (marked n r) locks ≡ hold_locks a held r locks
+    locks_same Writes locks = all_same (holds_lock held (marked n r)) (holds_lock held r) locks lock_same
+    locks_same Reads locks = any_same (holds_lock held (marked n r)) (holds_lock held r) locks (λ lock is. lock_same lock)
+
     covers_same : keeps_covers rules held (marked n r) ≡ keeps_covers rules held r
     covers_same =
         all_same _ _ rules.covers
-        (λ c. ap (λ b. not b || holds_lock held (marked n r) c.lock) (pattern_meets c.pattern) ∙ ap (λ b. not (may_meet c.pattern r) || b) (lock_same c.lock))
+        (λ c. ap (λ b. not b || satisfies held (marked n r) c) (pattern_meets c.pattern) ∙ ap (λ b. not (may_meet c.pattern r) || b) (locks_same r.access (locks_of c)))
 
     answer_same : answer rules held (marked n r) ≡ answer rules held r
     unfolding answer

@@ -22,7 +22,7 @@ use Rattle.mlk_rules.specs.declared.pattern.Pattern.{Pattern}
 use Rattle.mlk_rules.specs.declared.template.Template.{Template}
 use Rattle.mlk_rules.specs.declared.cover.Cover.{Cover}
 use Rattle.mlk_rules.specs.declared.rules.RuleLists.{RuleLists}
-use Rattle.mlk_rules.specs.Coverage.{cut_template}
+use Rattle.mlk_rules.specs.Coverage.{cut_template, locks_of}
 
 -- a tree goes on below its node
 abbrev pub goes_on : Extent → Bool
@@ -149,9 +149,17 @@ is_prefix t u = same_root t.root u.root && begins t.subs u.subs
 abbrev pub holds_lock : List LockTerm → Reference → Template → Bool
 holds_lock held r lock = list_any (λ h. is_prefix h (cut_template lock r)) held
 
+-- a write holds each of these locks, a read one of them
+abbrev pub hold_locks : Access → List LockTerm → Reference → List Template → Bool
+hold_locks Writes held r locks = list_all (holds_lock held r) locks
+hold_locks Reads held r locks = list_any (holds_lock held r) locks
+
+abbrev pub satisfies : List LockTerm → Reference → Cover → Bool
+satisfies held r c = hold_locks r.access held r (locks_of c)
+
 abbrev pub keeps_covers : RuleLists → List LockTerm → Reference → Bool
 keeps_covers rules held r =
-    list_all (λ (c : Cover). not (may_meet c.pattern r) || holds_lock held r c.lock) rules.covers
+    list_all (λ (c : Cover). not (may_meet c.pattern r) || satisfies held r c) rules.covers
 
 -- what is wrong with a reference while these terms are held, or nothing
 unfoldable pub answer : RuleLists → List LockTerm → Reference → Option Code

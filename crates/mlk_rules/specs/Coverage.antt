@@ -1,5 +1,5 @@
 -- Which locks cover a reference. This project's own choice.
-use Rattle.std.specs.Prelude.{◌≡◌, ◌⊎◌, ℕ, List, [], ◌∷◌, Option, Some, None, map, Contains, slice_get}
+use Rattle.std.specs.Prelude.{◌≡◌, ◌⊎◌, ℕ, List, [], ◌∷◌, ◌++◌, Option, Some, None, map, Contains, slice_get}
 use Rattle.std.specs.Option.{option_and_then}
 use Rattle.mlk_text.specs.declared.code.Code.{Code}
 use Rattle.mlk_text.specs.declared.code.Code.TheVariants.{Unruled, Uncovered, ReadOnly, NotPrivate}
@@ -9,8 +9,9 @@ use Rattle.mlk_names.specs.declared.symbol.Sym.TheVariants.{Job}
 use Rattle.mlk_names.specs.declared.known_symbol.KnownSym.{KnownSym}
 use Rattle.mlk_names.specs.declared.known_symbol.KnownSym.TheVariants as known
 use Rattle.mlk_names.specs.declared.term.LockTerm.{LockTerm}
+use Rattle.mlk_names.specs.declared.reference.Access.{Access}
+use Rattle.mlk_names.specs.declared.reference.Access.TheVariants.{Reads, Writes}
 use Rattle.mlk_names.specs.declared.reference.Reference.{Reference}
-use Rattle.mlk_names.specs.declared.reference.Access.TheVariants.{Reads}
 use Rattle.mlk_names.specs.Symbols.{known_of}
 use Rattle.mlk_names.specs.Terms.{IsPrefix}
 use Rattle.mlk_names.specs.References.{GlobalNode}
@@ -51,6 +52,24 @@ cut_template lock r = record { root = lock.root; subs = before_missing (map (sym
 abbrev pub HoldsLock : List LockTerm → Template → Reference → Type 0
 HoldsLock held lock r = (h : LockTerm) × Contains held h × IsPrefix h (cut_template lock r)
 
+-- the second lock of a rule, where it has two
+abbrev pub second_of : Option Template → List Template
+second_of None = []
+second_of (Some lock) = lock ∷ []
+
+-- the locks of a rule: one or two
+abbrev pub locks_of : Cover → List Template
+locks_of c = c.lock ∷ second_of c.also
+
+-- a write holds each of these locks, a read one of them
+abbrev pub HoldLocks : Access → List LockTerm → Reference → List Template → Type 0
+HoldLocks Writes held r locks = (lock : Template) → Contains locks lock → HoldsLock held lock r
+HoldLocks Reads held r locks = (lock : Template) × Contains locks lock × HoldsLock held lock r
+
+-- a rule that the reference may meet is satisfied by what is held
+abbrev pub Satisfies : List LockTerm → Reference → Cover → Type 0
+Satisfies held r c = HoldLocks r.access held r (locks_of c)
+
 -- the job's own number stands at each place of `$J`
 abbrev pub IsOwn : Pattern → Reference → Type 0
 IsOwn p r = (k : ℕ) → slice_get p.elements k ≡ Some element.Job → slice_get r.subs k ≡ Some Job
@@ -81,13 +100,13 @@ EachIsOwn patterns r = (p : Pattern) → Contains patterns p → MayMeet p r →
 abbrev pub KeepsPrivate : RuleLists → Reference → Type 0
 KeepsPrivate rules r = EachIsOwn rules.private r
 
--- of each of the covers that it may meet, the lock is held
-abbrev pub EachIsHeld : List Cover → List LockTerm → Reference → Type 0
-EachIsHeld covers held r = (c : Cover) → Contains covers c → MayMeet c.pattern r → HoldsLock held c.lock r
+-- each of the covers that it may meet is satisfied
+abbrev pub EachIsSatisfied : List Cover → List LockTerm → Reference → Type 0
+EachIsSatisfied covers held r = (c : Cover) → Contains covers c → MayMeet c.pattern r → Satisfies held r c
 
--- of each cover rule that it may meet, the lock is held
+-- each cover rule that it may meet is satisfied
 abbrev pub KeepsCovers : RuleLists → List LockTerm → Reference → Type 0
-KeepsCovers rules held r = EachIsHeld rules.covers held r
+KeepsCovers rules held r = EachIsSatisfied rules.covers held r
 
 -- each rule that it may meet is satisfied, and there is a rule for all of it
 pub record IsCovered (rules : RuleLists) (held : List LockTerm) (r : Reference) : Type 0 where
@@ -107,13 +126,30 @@ IsAnswer rules held r (Some Uncovered) =
     IsRuled rules r × KeepsReadonly rules r × KeepsPrivate rules r × ¬ KeepsCovers rules held r
 IsAnswer rules held r (Some _) = ⊥
 
--- the rule may be met, and its lock is not held
+-- the rule may be met, and is not satisfied
 abbrev pub Lacks : List LockTerm → Reference → Cover → Type 0
-Lacks held r c = MayMeet c.pattern r × ¬ HoldsLock held c.lock r
+Lacks held r c = MayMeet c.pattern r × ¬ Satisfies held r c
 
--- in the order of the rules, the cut template of each whose lock is lacking
+-- the locks that would satisfy a rule: of a write all of them, of a read the first
+abbrev pub asked : Access → Cover → List Template
+asked Writes c = locks_of c
+asked Reads c = c.lock ∷ []
+
+-- the cut template of each of these locks that is not held
+abbrev pub AreMissing : List LockTerm → Reference → List Template → List LockTerm → Type 0
+AreMissing held r [] ts = ts ≡ []
+AreMissing held r (lock ∷ locks) ts =
+    (HoldsLock held lock r × AreMissing held r locks ts)
+    ⊎ (¬ HoldsLock held lock r
+    × ((rest : List LockTerm) × (ts ≡ cut_template lock r ∷ rest) × AreMissing held r locks rest))
+
+-- what is lacking of a rule
+abbrev pub AreLackingOf : List LockTerm → Reference → Cover → List LockTerm → Type 0
+AreLackingOf held r c ts =
+    (Lacks held r c × AreMissing held r (asked r.access c) ts) ⊎ (¬ Lacks held r c × (ts ≡ []))
+
+-- what is lacking of each rule, in their order
 abbrev pub AreLacking : List LockTerm → Reference → List Cover → List LockTerm → Type 0
 AreLacking held r [] ts = ts ≡ []
 AreLacking held r (c ∷ cs) ts =
-    (Lacks held r c × ((rest : List LockTerm) × (ts ≡ cut_template c.lock r ∷ rest) × AreLacking held r cs rest))
-    ⊎ (¬ Lacks held r c × AreLacking held r cs ts)
+    (front rest : List LockTerm) × (ts ≡ front ++ rest) × AreLackingOf held r c front × AreLacking held r cs rest

@@ -5,6 +5,7 @@ use Rattle.std.specs.List.{AllZip}
 use Rattle.mlk_names.specs.declared.symbol.Sym.{Sym}
 use Rattle.mlk_names.specs.declared.symbol.Sym.TheVariants.{Const, Job, Unknown}
 use Rattle.mlk_names.specs.declared.known_symbol.KnownSym.{KnownSym}
+use Rattle.mlk_names.specs.declared.term.LockTerm.{LockTerm}
 use Rattle.mlk_names.specs.declared.reference.Extent.{Extent}
 use Rattle.mlk_names.specs.Lists.{Begins}
 use Rattle.mlk_rules.specs.declared.pattern.Element.{Element}
@@ -37,6 +38,10 @@ pub record SubsAbove (es : List Element) (subs : List Sym) : Type 0 where
 -- `$JOB` stands at each place of `$J`
 abbrev pub OwnSubs : List Element → List Sym → Type 0
 OwnSubs es subs = (k : ℕ) → slice_get es k ≡ Some element.Job → slice_get subs k ≡ Some Job
+
+-- to these terms some were added, of which this holds
+abbrev pub Gained : (List LockTerm → Type 0) → List LockTerm → List LockTerm → Type 0
+Gained P old new = (ts : List LockTerm) × (new ≡ old ++ ts) × P ts
 
 -- the symbols begin the subscripts of a rule's lock at a reference with these subscripts
 abbrev pub BeginsCut : List KnownSym → List Part → List Sym → Type 0

@@ -1,5 +1,5 @@
 -- What the lists of rules have to keep. This project's own choice.
-use Rattle.std.specs.Prelude.{◌≡◌, ◌==◌, ◌&&◌, nat_le, ℕ, Bool, true, false}
+use Rattle.std.specs.Prelude.{◌≡◌, ◌==◌, ◌&&◌, nat_le, ℕ, Bool, true, false, Option, Some, None}
 use Rattle.std.specs.List.{list_all, count_by}
 use Rattle.mlk_text.specs.Spellings.{is_name}
 use Rattle.mlk_text.specs.declared.root.Root.{Root}
@@ -8,6 +8,7 @@ use Rattle.mlk_rules.specs.declared.pattern.Element.{Element}
 use Rattle.mlk_rules.specs.declared.pattern.Element.TheVariants as element
 use Rattle.mlk_rules.specs.declared.pattern.Pattern.{Pattern}
 use Rattle.mlk_rules.specs.declared.family.Family.{Family}
+use Rattle.mlk_rules.specs.declared.template.Template.{Template}
 use Rattle.mlk_rules.specs.declared.cover.Cover.{Cover}
 use Rattle.mlk_rules.specs.declared.rules.RuleLists.{RuleLists}
 use Rattle.mlk_rules.specs.Ranks.{FamiliesApart}
@@ -29,9 +30,14 @@ is_family f = is_root f.name.root && nat_le f.rank 999999
 abbrev pub is_pattern : ℕ → Pattern → Bool
 is_pattern jobs p = is_name p.global && (count_by is_job p.elements == jobs)
 
--- no `$J`, and a lock of a name
+-- a second lock, where there is one, of a name
+abbrev pub has_root : Option Template → Bool
+has_root None = true
+has_root (Some lock) = is_root lock.root
+
+-- no `$J`, and locks of names
 abbrev pub is_cover : Cover → Bool
-is_cover c = is_pattern 0 c.pattern && is_root c.lock.root
+is_cover c = is_pattern 0 c.pattern && (is_root c.lock.root && has_root c.also)
 
 -- `$J` stands once in each private pattern, and in no other
 abbrev pub are_formed : RuleLists → Bool

@@ -4,11 +4,11 @@ ghost use Rattle.std.specs.Prelude.{◌≡◌, ◌↔◌, IsTrue, OnOk, IfErr, N
 ghost use Rattle.mlk_rules.specs.declared.cover.Cover.{Cover as cover_rule};
 ghost use Rattle.mlk_rules.specs.declared.pattern.Pattern.{Pattern as pattern};
 ghost use Rattle.mlk_rules.specs.Patterns.{MayMeet};
-ghost use Rattle.mlk_rules.specs.Coverage.{IsFor, IsRuled, KeepsReadonly, EachIsOwn, EachIsHeld, IsAnswer};
+ghost use Rattle.mlk_rules.specs.Coverage.{IsFor, IsRuled, KeepsReadonly, EachIsOwn, EachIsSatisfied, IsAnswer};
 ghost use Rattle.mlk_rules.specs.Fronts.{OwnSubs};
 
 use crate::cover::Cover;
-use crate::held::holds_lock;
+use crate::held::is_satisfied;
 use crate::lent::Lent;
 use crate::lies::is_ruled_by;
 use crate::meet::meets;
@@ -93,11 +93,11 @@ fn each_is_own(patterns: &[Pattern], reference: &Lent<'_>) -> bool
     true
 }
 
-fn each_is_held(covers: &[Cover], reference: &Lent<'_>, held: &[LockTerm]) -> bool
-    ensures { IsTrue result ↔ EachIsHeld covers.now held.now reference.now }
+fn each_is_satisfied(covers: &[Cover], reference: &Lent<'_>, held: &[LockTerm]) -> bool
+    ensures { IsTrue result ↔ EachIsSatisfied covers.now held.now reference.now }
 {
     for cover in covers {
-        if meets(&cover.pattern, reference) && !holds_lock(held, &cover.lock, reference) {
+        if meets(&cover.pattern, reference) && !is_satisfied(cover, reference, held) {
             return false;
         }
     }
@@ -117,7 +117,7 @@ fn covered_by(rules: &RuleLists, reference: &Lent<'_>, held: &[LockTerm]) -> Res
     if !each_is_own(rules.private.as_slice(), reference) {
         return Err(Code::NotPrivate);
     }
-    if !each_is_held(rules.covers.as_slice(), reference, held) {
+    if !each_is_satisfied(rules.covers.as_slice(), reference, held) {
         return Err(Code::Uncovered);
     }
     Ok(())

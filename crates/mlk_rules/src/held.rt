@@ -3,12 +3,13 @@
 ghost use Rattle.std.specs.Prelude.{◌≡◌, ◌↔◌, IsTrue, Some};
 ghost use Rattle.mlk_names.specs.Symbols.{known_of};
 ghost use Rattle.mlk_names.specs.Terms.{IsPrefix};
-ghost use Rattle.mlk_rules.specs.Coverage.{symbol_at, cut_template, HoldsLock};
+ghost use Rattle.mlk_rules.specs.Coverage.{symbol_at, cut_template, HoldsLock, Satisfies};
 ghost use Rattle.mlk_rules.specs.Fronts.{BeginsCut};
 
+use crate::cover::Cover;
 use crate::lent::Lent;
 use crate::template::{Part, Template};
-use mlk_names::{KnownSym, LockTerm, Sym};
+use mlk_names::{Access, KnownSym, LockTerm, Sym};
 
 // Whether the symbol is this known one.
 #[inline(always)]
@@ -77,4 +78,18 @@ pub(crate) fn holds_lock(held: &[LockTerm], lock: &Template, reference: &Lent<'_
         }
     }
     false
+}
+
+/// Whether what is held satisfies the rule: a write needs each of its locks, a read one of them.
+pub(crate) fn is_satisfied(cover: &Cover, reference: &Lent<'_>, held: &[LockTerm]) -> bool
+    ensures { IsTrue result ↔ Satisfies held.now reference.now cover.now }
+{
+    let first = holds_lock(held, &cover.lock, reference);
+    let Some(also) = cover.also.as_ref() else {
+        return first;
+    };
+    match reference.access() {
+        Access::Writes => first && holds_lock(held, also, reference),
+        Access::Reads => first || holds_lock(held, also, reference),
+    }
 }

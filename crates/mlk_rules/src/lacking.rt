@@ -1,15 +1,16 @@
 // The locks that a reference lacks.
 
-ghost use Rattle.std.specs.Prelude.{◌≡◌, ◌↔◌, IsTrue, IfOk, map};
-ghost use Rattle.mlk_rules.specs.Coverage.{before_missing, symbol_at, cut_template, Lacks, AreLacking};
+ghost use Rattle.std.specs.Prelude.{◌≡◌, ◌↔◌, ◌∷◌, [], IsTrue, IfOk, OnOk, map};
+ghost use Rattle.mlk_rules.specs.Coverage.{before_missing, symbol_at, cut_template, asked, Lacks, AreMissing, AreLackingOf, AreLacking};
+ghost use Rattle.mlk_rules.specs.Fronts.{Gained};
 
 use crate::cover::Cover;
-use crate::held::holds_lock;
+use crate::held::{holds_lock, is_satisfied};
 use crate::lent::Lent;
 use crate::meet::may_meet;
 use crate::rules::Rules;
 use crate::template::{Part, Template};
-use mlk_names::{KnownSym, LockTerm, Reference, Sym, TermSubs};
+use mlk_names::{Access, KnownSym, LockTerm, Reference, Sym, TermSubs};
 use mlk_text::{Subscripts, copy_of};
 use std::alloc::{AllocError, Global};
 
@@ -49,11 +50,64 @@ fn cut(alloc: Global, lock: &Template, reference: &Reference) -> Result<LockTerm
     })
 }
 
-// Whether the rule may be met while its lock is not held.
+// Whether the rule may be met while what is held does not satisfy it.
 fn lacks(cover: &Cover, reference: &Reference, held: &[LockTerm]) -> bool
     ensures { IsTrue result ↔ Lacks held.now reference.now cover.now }
 {
-    may_meet(&cover.pattern, reference) && !holds_lock(held, &cover.lock, &Lent::of(reference))
+    may_meet(&cover.pattern, reference) && !is_satisfied(cover, &Lent::of(reference), held)
+}
+
+// Adds the rule's lock at the reference, where it is not held.
+fn add_missing(
+    alloc: Global,
+    found: &mut Vec<LockTerm>,
+    lock: &Template,
+    reference: &Reference,
+    held: &[LockTerm],
+) -> Result<(), AllocError>
+    ensures { OnOk result (Gained (AreMissing held.now reference.now (lock.now ∷ [])) found.old.items found.new.items) }
+{
+    if !holds_lock(held, lock, &Lent::of(reference)) {
+        found.push(cut(alloc, lock, reference)?)?;
+    }
+    Ok(())
+}
+
+// Adds the locks that would satisfy the rule, as far as they are not held.
+fn add_asked(
+    alloc: Global,
+    found: &mut Vec<LockTerm>,
+    cover: &Cover,
+    reference: &Reference,
+    held: &[LockTerm],
+) -> Result<(), AllocError>
+    ensures { OnOk result (Gained (AreMissing held.now reference.now (asked reference.now.access cover.now))
+        found.old.items found.new.items) }
+{
+    add_missing(alloc, found, &cover.lock, reference, held)?;
+    let Some(also) = cover.also.as_ref() else {
+        return Ok(());
+    };
+    match reference.access {
+        Access::Writes => add_missing(alloc, found, also, reference, held),
+        Access::Reads => Ok(()),
+    }
+}
+
+// Adds what is lacking of the rule.
+fn add_lacking(
+    alloc: Global,
+    found: &mut Vec<LockTerm>,
+    cover: &Cover,
+    reference: &Reference,
+    held: &[LockTerm],
+) -> Result<(), AllocError>
+    ensures { OnOk result (Gained (AreLackingOf held.now reference.now cover.now) found.old.items found.new.items) }
+{
+    if !lacks(cover, reference, held) {
+        return Ok(());
+    }
+    add_asked(alloc, found, cover, reference, held)
 }
 
 fn lacking(
@@ -66,15 +120,13 @@ fn lacking(
 {
     let mut found = Vec::new(alloc);
     for cover in covers {
-        if lacks(cover, reference, held) {
-            found.push(cut(alloc, &cover.lock, reference)?)?;
-        }
+        add_lacking(alloc, &mut found, cover, reference, held)?;
     }
     Ok(found)
 }
 
-/// The locks that the reference lacks: in the order of the rules, the cut templates of the cover rules that it may
-/// meet and whose lock is not held.
+/// The locks that the reference lacks: in the order of the rules, of each cover rule that it may meet and that what is
+/// held does not satisfy, the cut template of each lock that a write misses, and of the first lock for a read.
 pub fn templates(
     alloc: Global,
     rules: &Rules,

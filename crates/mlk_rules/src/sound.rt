@@ -6,12 +6,13 @@ ghost use Rattle.mlk_text.specs.Spellings.{is_name};
 ghost use Rattle.mlk_names.specs.LockNames.{Conflict};
 ghost use Rattle.mlk_rules.specs.declared.family.Family.{Family as family};
 ghost use Rattle.mlk_rules.specs.Ranks.{FamiliesApart, IsFirstMeeting};
-ghost use Rattle.mlk_rules.specs.Sound.{is_root, is_job, is_family, is_pattern, is_cover, are_formed, IsSound};
+ghost use Rattle.mlk_rules.specs.Sound.{is_root, is_job, is_family, is_pattern, has_root, is_cover, are_formed, IsSound};
 
 use crate::cover::Cover;
 use crate::family::Family;
 use crate::pattern::{Element, Pattern};
 use crate::rules::RuleLists;
+use crate::template::Template;
 use mlk_names::{LockName, Root, conflict};
 use mlk_text::limit::GREATEST_RANK;
 use mlk_text::spelling::is_name;
@@ -47,10 +48,20 @@ fn is_pattern(jobs: usize, pattern: &Pattern) -> bool
     is_name(pattern.global.as_bytes()) && jobs_in(pattern.elements.as_slice()) == jobs
 }
 
+// Whether a second lock, where there is one, is of a name.
+fn has_root(second: &Option<Template>) -> bool
+    ensures { result ≡ has_root second.now }
+{
+    match second {
+        None => true,
+        Some(lock) => is_root(&lock.root),
+    }
+}
+
 fn is_cover(cover: &Cover) -> bool
     ensures { result ≡ is_cover cover.now }
 {
-    is_pattern(0, &cover.pattern) && is_root(&cover.lock.root)
+    is_pattern(0, &cover.pattern) && (is_root(&cover.lock.root) && has_root(&cover.also))
 }
 
 fn are_families(families: &[Family]) -> bool

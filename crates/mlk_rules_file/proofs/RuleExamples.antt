@@ -1,20 +1,22 @@
 -- Worked examples of the definition of a rule file, with answers from outside the program.
 use Rattle.std.proofs.Common.{◌≡◌, ℕ, List, [], ◌∷◌, Some, None, true, false, refl}
 use Rattle.std.specs.Prelude.{codes, pos, Ok}
-use Rattle.toml.specs.Data.{array, table, string, integer, Members, no_members, member, no_items, item}
+use Rattle.toml.specs.Data.{Data, array, table, string, integer, Members, no_members, member, no_items, item}
 use Rattle.mlk_text.specs.Reading.{many}
 use Rattle.mlk_text.specs.Lexemes.{name_at, label_at, digits_at, root_at, entry_of as parts_of_entry}
 use Rattle.mlk_text.specs.declared.code.Code.TheVariants as code
 use Rattle.mlk_text.specs.declared.root.Root.TheVariants as root
-use Rattle.mlk_names.specs.declared.reference.Extent.TheVariants.{Tree}
-use Rattle.mlk_rules_file.specs.declared.read.fault.Section.TheVariants.{File, Lock, Private, Readonly, Entry}
+use Rattle.mlk_names.specs.declared.reference.Extent.TheVariants.{Node, Tree}
+use Rattle.mlk_rules.specs.declared.pattern.Element.TheVariants as element
+use Rattle.mlk_rules.specs.declared.template.Part.TheVariants.{Place}
+use Rattle.mlk_rules_file.specs.declared.read.fault.Section.TheVariants.{File, Lock, Cover, Private, Readonly, Entry}
 use Rattle.mlk_rules_file.specs.declared.read.kinds.Item.TheVariants.{Literal, Variable, Job}
 use Rattle.mlk_rules_file.specs.RuleAnswers.{refused}
 use Rattle.mlk_numbers.specs.Canonical.{canonical_text}
 use Rattle.mlk_rules_file.specs.RuleNumbers.{numeral_len, number_at}
 use Rattle.mlk_rules_file.specs.RuleTexts.{item_at, list_of, parts_of, spelling_of, pattern_of, is_entry}
-use Rattle.mlk_rules_file.specs.RuleKinds.{is_pattern}
-use Rattle.mlk_rules_file.specs.RuleSections.{section_of, family_of, rule_pattern_of, entry_of, lists_of}
+use Rattle.mlk_rules_file.specs.RuleKinds.{is_pattern, is_template}
+use Rattle.mlk_rules_file.specs.RuleSections.{section_of, family_of, cover_of, rule_pattern_of, entry_of, lists_of}
 
 -- numbers
 half : number_at (codes "00.50,x") ≡ Some (codes ".5", codes ",x")
@@ -89,6 +91,26 @@ no_job_in_private = refl
 job_in_readonly : lists_of (section_with (codes "readonly") (codes "global") (codes "^CONF($J)")) ≡ refused code.Pattern Readonly 1
 unfolding lists_of section_of rule_pattern_of is_pattern spelling_of root_at parts_of list_of item_at many name_at section_with
 job_in_readonly = refl
+
+-- covers: a second lock, one with a variable that the pattern lacks, and one that is no text
+cover_with : Members → Data
+cover_with more = table (member (codes "global") (string (codes "^G(i)")) (member (codes "lock") (string (codes "^A")) more))
+
+two_locks : cover_of 1 (cover_with (member (codes "also") (string (codes "^B(i)")) no_members)) ≡ Ok (record {
+  pattern = record { global = codes "G"; elements = element.Variable ∷ []; extent = Node };
+  lock = record { root = root.Global (codes "A"); parts = [] };
+  also = Some (record { root = root.Global (codes "B"); parts = Place 0 ∷ [] });
+})
+unfolding cover_of cover_with spelling_of root_at parts_of list_of item_at many name_at is_pattern is_template
+two_locks = refl
+
+a_variable_of_no_pattern : cover_of 1 (cover_with (member (codes "also") (string (codes "^B(z)")) no_members)) ≡ refused code.TemplateVariable Cover 1
+unfolding cover_of cover_with spelling_of root_at parts_of list_of item_at many name_at is_pattern is_template
+a_variable_of_no_pattern = refl
+
+a_second_lock_of_another_type : cover_of 1 (cover_with (member (codes "also") (integer (pos 1)) no_members)) ≡ refused code.Key Cover 1
+unfolding cover_of cover_with
+a_second_lock_of_another_type = refl
 
 a_large_rank : family_of 3 (table (member (codes "name") (string (codes "(")) (member (codes "rank") (integer (pos 1000000)) no_members))) ≡ refused code.RulesLimit Lock 3
 unfolding family_of spelling_of root_at name_at

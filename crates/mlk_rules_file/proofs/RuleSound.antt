@@ -1,6 +1,6 @@
 -- The lists of a rule file are sound: ranks are in range, roots are names, `$J` stands where it has to.
 use Rattle.std.proofs.Common.{◌≡◌, ℕ, ℤ, ◌+◌, Bool, cond, List, [], ◌∷◌, Some, None, true, inl, inr, refl, sym, ◌∙◌, ap, subst}
-use Rattle.std.specs.Prelude.{Option, ◌==◌, ◌&&◌, ◌||◌, nat_le, codes, pos, negsuc, Ok, Err}
+use Rattle.std.specs.Prelude.{Option, option_map, ◌==◌, ◌&&◌, ◌||◌, nat_le, codes, pos, negsuc, Ok, Err}
 use Rattle.std.specs.List.{list_all, count_by}
 use Rattle.std.proofs.lemmas.Bool.{cases_Bool, and_parts}
 use Rattle.std.proofs.lemmas.List.Sums.{sum_by-cons}
@@ -16,6 +16,7 @@ use Rattle.mlk_rules.specs.declared.pattern.Element.{Element}
 use Rattle.mlk_rules.specs.declared.pattern.Element.TheVariants as element
 use Rattle.mlk_rules.specs.declared.pattern.Pattern.{Pattern}
 use Rattle.mlk_rules.specs.declared.template.Part.{Part}
+use Rattle.mlk_rules.specs.declared.template.Template.{Template}
 use Rattle.mlk_rules.specs.declared.family.Family.{Family}
 use Rattle.mlk_rules.specs.declared.cover.Cover.{Cover}
 use Rattle.mlk_rules.specs.declared.rules.RuleLists.{RuleLists}
@@ -29,8 +30,8 @@ use Rattle.mlk_rules_file.specs.declared.read.kinds.Item.TheVariants.{Literal, V
 use Rattle.mlk_rules_file.specs.declared.read.kinds.Spelling.{Spelling}
 use Rattle.mlk_rules_file.specs.RuleAnswers.{Answer, next}
 use Rattle.mlk_rules_file.specs.RuleTexts.{parts_of, spelling, spelling_of, pattern_of}
-use Rattle.mlk_rules_file.specs.RuleKinds.{is_long, is_own, is_jobless, has_one_job, is_distinct, has_its_job, is_family_name, is_pattern, is_template, elements_of, name_of, pattern, parts_of as places_of}
-use Rattle.mlk_rules_file.specs.RuleSections.{has_only, text_key, rank_of, family_keys, family_with, family_ranked, family_at, cover_keys, cover_of_parts, cover_with, cover_at, pattern_with, pattern_at, family_of, cover_of, rule_pattern_of, entry_of, section_of, each, all_of, lists_of, lists}
+use Rattle.mlk_rules_file.specs.RuleKinds.{is_long, is_long_second, is_own, is_jobless, has_one_job, is_distinct, has_its_job, is_family_name, is_pattern, is_template, is_second_template, elements_of, name_of, pattern, parts_of as places_of, template, template_of, second_template}
+use Rattle.mlk_rules_file.specs.RuleSections.{has_only, text_key, rank_of, family_keys, family_with, family_ranked, family_at, cover_keys, cover_of_locks, cover_kinds, cover_with, cover_at, pattern_with, pattern_at, family_of, cover_of, rule_pattern_of, entry_of, section_of, each, all_of, lists_of, lists}
 use Rattle.mlk_rules_file.proofs.RuleEach.{next_read, same_Ok, each_have}
 
 root_is : (r : Root) (text : List ℕ) → IsRoot r text → sound.is_root r ≡ true
@@ -114,33 +115,71 @@ family_formed k d f h = at (family_keys (as_table d)) h
       | inr e ↦ ranked keys.0 (spelling_of keys.0) keys.1 (rank_of keys.1) refl refl (rw e at i)
     ]
 
+-- the root of a lock is that of its spelling
+rooted : (s : Spelling) (t : Template) (o : Option (List Part)) → sound.is_root s.root ≡ true → option_map (template s) o ≡ Some t → sound.is_root t.root ≡ true
+rooted s t None root h = cc h
+rooted s t (Some parts) root h =
+    let is : template s parts ≡ t = same_Some (template s parts) t h in
+    subst (λ (u : Template). sound.is_root u.root ≡ true) is root
+
+-- the same of a second lock
+second_rooted : (items : List Item) (a : Option Spelling) → ((s : Spelling) → a ≡ Some s → sound.is_root s.root ≡ true)
+    → (t : Template) → second_template items a ≡ Some (Some t) → sound.is_root t.root ≡ true
+second_rooted items None roots t h = cc h
+second_rooted items (Some s) roots t h = by (template_of items s) refl h
+  where
+    by : (o : Option Template) → template_of items s ≡ o → option_map Some o ≡ Some (Some t) → sound.is_root t.root ≡ true
+    by None e i = cc i
+    by (Some u) e i =
+        let is : u ≡ t = cc i in
+        subst (λ (v : Template). sound.is_root v.root ≡ true) is (rooted s u (places_of items s.items) (roots s refl) e)
+
+-- the second lock as it is spelled
+second_root : (text : Option (List ℕ)) (s : Spelling) → option_map spelling_of text ≡ Some (Some s) → sound.is_root s.root ≡ true
+second_root None s h = cc h
+second_root (Some text) s h = spelled_root text s (same_Some (spelling_of text) (Some s) h)
+
 -- covers
 cover_formed : (k : ℕ) (d : Data) (c : Cover) → cover_of k d ≡ Ok c → sound.is_cover c ≡ true
 unfolding cover_of is_pattern
 cover_formed k d c h = at (cover_keys (as_table d)) h
   where
-    placed : (p l : Spelling) (o : Option (List Part)) → sound.is_pattern 0 (pattern p) ≡ true → sound.is_root l.root ≡ true → cover_of_parts k p l o ≡ Ok c → sound.is_cover c ≡ true
-    placed p l None one two i = cc i
-    placed p l (Some parts) one two i =
+    placed : (p : Spelling) (o : Option Template) (q : Option (Option Template)) → sound.is_pattern 0 (pattern p) ≡ true
+        → ((t : Template) → o ≡ Some t → sound.is_root t.root ≡ true) → ((t : Template) → q ≡ Some (Some t) → sound.is_root t.root ≡ true)
+        → cover_of_locks k p o q ≡ Ok c → sound.is_cover c ≡ true
+    placed p None q one first second i = cc i
+    placed p (Some l) None one first second i = cc i
+    placed p (Some l) (Some None) one first second i =
         let is = same_Ok _ c i in
-        subst (λ q. sound.is_cover q ≡ true) is (rw (one, two) refl)
+        subst (λ r. sound.is_cover r ≡ true) is (rw (one, first l refl) refl)
+    placed p (Some l) (Some (Some m)) one first second i =
+        let is = same_Ok _ c i in
+        subst (λ r. sound.is_cover r ≡ true) is (rw (one, first l refl, second m refl) refl)
 
-    both : (ps ls : List ℕ) (o q : Option Spelling) → pattern_of ps ≡ o → spelling_of ls ≡ q → cover_with k o q ≡ Ok c → sound.is_cover c ≡ true
-    both ps ls None q one two i = cc i
-    both ps ls (Some p) None one two i = cc i
-    both ps ls (Some p) (Some l) one two i = elim (cases_Bool (is_pattern CoverSection p && is_template l)) [
+    kinds : (ps ls : List ℕ) (p l : Spelling) (a : Option Spelling) → pattern_of ps ≡ Some p → spelling_of ls ≡ Some l
+        → ((s : Spelling) → a ≡ Some s → sound.is_root s.root ≡ true) → cover_kinds k p l a ≡ Ok c → sound.is_cover c ≡ true
+    kinds ps ls p l a one two roots i = elim (cases_Bool (is_pattern CoverSection p && (is_template l && is_second_template a))) [
       | inr e ↦ cc (rw e at i)
       | inl e ↦
-          let kinds = (and_parts (is_pattern CoverSection p) (is_template l) e).0 in
-          let jobless = (and_parts (is_jobless p.items) (is_distinct p.items) kinds).0 in
-          placed p l (places_of p.items l.items) (formed_pattern 0 p (patterned_root ps p one) (never p.items jobless)) (spelled_root ls l two) (rw e at i)
+          let kind = (and_parts (is_pattern CoverSection p) (is_template l && is_second_template a) e).0 in
+          let jobless = (and_parts (is_jobless p.items) (is_distinct p.items) kind).0 in
+          placed p (template_of p.items l) (second_template p.items a) (formed_pattern 0 p (patterned_root ps p one) (never p.items jobless))
+          (λ t is. rooted l t (places_of p.items l.items) (spelled_root ls l two) is) (second_rooted p.items a roots) (rw e at i)
     ]
 
-    at : (o : Option (List ℕ × List ℕ)) → cover_at k o ≡ Ok c → sound.is_cover c ≡ true
+    all : (ps ls : List ℕ) (o q : Option Spelling) (a : Option (Option Spelling)) → pattern_of ps ≡ o → spelling_of ls ≡ q
+        → ((s : Spelling) → a ≡ Some (Some s) → sound.is_root s.root ≡ true) → cover_with k o q a ≡ Ok c → sound.is_cover c ≡ true
+    all ps ls None q a one two roots i = cc i
+    all ps ls (Some p) None a one two roots i = cc i
+    all ps ls (Some p) (Some l) None one two roots i = kinds ps ls p l None one two (λ s e. cc e) i
+    all ps ls (Some p) (Some l) (Some None) one two roots i = cc i
+    all ps ls (Some p) (Some l) (Some (Some b)) one two roots i = kinds ps ls p l (Some b) one two (λ s e. roots s (ap Some e)) i
+
+    at : (o : Option (List ℕ × List ℕ × Option (List ℕ))) → cover_at k o ≡ Ok c → sound.is_cover c ≡ true
     at None i = cc i
-    at (Some keys) i = elim (cases_Bool (is_long (pattern_of keys.0) || is_long (spelling_of keys.1))) [
+    at (Some keys) i = elim (cases_Bool (is_long (pattern_of keys.0) || (is_long (spelling_of keys.1) || is_long_second (option_map spelling_of keys.2)))) [
       | inl e ↦ cc (rw e at i)
-      | inr e ↦ both keys.0 keys.1 (pattern_of keys.0) (spelling_of keys.1) refl refl (rw e at i)
+      | inr e ↦ all keys.0 keys.1 (pattern_of keys.0) (spelling_of keys.1) (option_map spelling_of keys.2) refl refl (second_root keys.2) (rw e at i)
     ]
 
 -- patterns by themselves, whose section asks for `$J` so often

@@ -1,5 +1,5 @@
 -- Which items may stand where in a rule file, and what is made of them. This project's own choice.
-use Rattle.std.specs.Prelude.{ℕ, ◌&&◌, ◌==◌, not, nat_lt, Bool, true, false, List, [], ◌∷◌, ◌++◌, length, Option, Some, None, bytes_eq}
+use Rattle.std.specs.Prelude.{ℕ, ◌&&◌, ◌==◌, not, nat_lt, Bool, true, false, List, [], ◌∷◌, ◌++◌, length, Option, Some, None, option_map, bytes_eq}
 use Rattle.std.specs.List.{list_all, list_any, count_by, position}
 use Rattle.mlk_names.specs.declared.lock_name.LockName.{LockName}
 use Rattle.mlk_text.specs.declared.root.Root.{Root}
@@ -147,3 +147,20 @@ parts_of items (i ∷ others) = part_before (part_of items i) (parts_of items ot
 
 abbrev pub template : Spelling → List Part → Template
 template s parts = record { root = s.root; parts = parts }
+
+-- a lock beside a pattern of these items
+abbrev pub template_of : List Item → Spelling → Option Template
+template_of items s = option_map (template s) (parts_of items s.items)
+
+-- the same of a second lock, which a cover may lack
+abbrev pub is_second_template : Option Spelling → Bool
+is_second_template None = true
+is_second_template (Some s) = is_template s
+
+abbrev pub is_long_second : Option (Option Spelling) → Bool
+is_long_second None = false
+is_long_second (Some s) = is_long s
+
+abbrev pub second_template : List Item → Option Spelling → Option (Option Template)
+second_template items None = Some None
+second_template items (Some s) = option_map Some (template_of items s)

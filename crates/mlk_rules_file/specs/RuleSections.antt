@@ -1,13 +1,13 @@
 -- What a rule file says, or why it is refused: a text that is written as `RuleGrammar` says is read so, and one that is
 -- not is refused with 403. This project's own choice.
-use Rattle.std.specs.Prelude.{ℕ, suc, ℤ, pos, negsuc, ◌≡◌, ◌&&◌, ◌||◌, ◌⊎◌, if◌then◌else◌, nat_lt, nat_le, Bool, true, List, [], ◌∷◌, ◌++◌, Option, Some, None, option_and_then, codes, bytes_eq, is_some, IsUtf8, Ok, Err}
+use Rattle.std.specs.Prelude.{ℕ, suc, ℤ, pos, negsuc, ◌≡◌, ◌&&◌, ◌||◌, ◌⊎◌, if◌then◌else◌, nat_lt, nat_le, Bool, true, List, [], ◌∷◌, ◌++◌, Option, Some, None, option_and_then, option_map, codes, bytes_eq, is_some, IsUtf8, Ok, Err}
 use Rattle.toml.specs.Data.{Data, array, Items, no_items, item, Members, no_members, member, as_str, as_integer, as_table, get_member}
 use Rattle.toml.specs.Parse.{parse_document}
 use Rattle.mlk_text.specs.declared.code.Code.TheVariants as code
 use Rattle.mlk_rules.specs.declared.family.Family.{Family}
 use Rattle.mlk_rules.specs.declared.cover.Cover.{Cover}
 use Rattle.mlk_rules.specs.declared.pattern.Pattern.{Pattern}
-use Rattle.mlk_rules.specs.declared.template.Part.{Part}
+use Rattle.mlk_rules.specs.declared.template.Template.{Template}
 use Rattle.mlk_rules.specs.declared.rules.RuleLists.{RuleLists}
 use Rattle.mlk_rules_file.specs.declared.read.fault.Section.{Section}
 use Rattle.mlk_rules_file.specs.declared.read.fault.Section.TheVariants.{File, Lock, Cover as CoverSection, Private, Readonly, Entry}
@@ -18,7 +18,7 @@ use Rattle.mlk_rules_file.specs.declared.read.kinds.Spelling.{Spelling}
 use Rattle.mlk_rules.specs.Ranks.{FamiliesApart, IsFirstMeeting}
 use Rattle.mlk_rules_file.specs.RuleAnswers.{section_word, Answer, refused, next, answer_map}
 use Rattle.mlk_rules_file.specs.RuleTexts.{spelling_of, pattern_of, is_entry}
-use Rattle.mlk_rules_file.specs.RuleKinds.{is_long, is_family_name, family_name, is_pattern, pattern, is_template, parts_of, template}
+use Rattle.mlk_rules_file.specs.RuleKinds.{is_long, is_family_name, family_name, is_pattern, pattern, is_template, is_second_template, is_long_second, template_of, second_template}
 
 -- the keys at the top, and those of the elements of each section
 abbrev pub is_key : Section → List ℕ → Bool
@@ -26,7 +26,8 @@ is_key File key =
     bytes_eq key (codes "lock") || bytes_eq key (codes "cover")
     || bytes_eq key (codes "private") || bytes_eq key (codes "readonly") || bytes_eq key (codes "entry")
 is_key Lock key = bytes_eq key (codes "name") || bytes_eq key (codes "rank")
-is_key CoverSection key = bytes_eq key (codes "global") || bytes_eq key (codes "lock")
+is_key CoverSection key =
+    bytes_eq key (codes "global") || bytes_eq key (codes "lock") || bytes_eq key (codes "also")
 is_key Private key = bytes_eq key (codes "global")
 is_key Readonly key = bytes_eq key (codes "global")
 is_key Entry key = bytes_eq key (codes "label")
@@ -43,6 +44,14 @@ text_at key ms = option_and_then as_str (get_member key ms)
 abbrev pub integer_at : List ℕ → Members → Option ℤ
 integer_at key ms = option_and_then as_integer (get_member key ms)
 
+-- the text at a key that may be missing
+abbrev pub as_text : Option Data → Option (Option (List ℕ))
+as_text None = Some None
+as_text (Some d) = option_map Some (as_str d)
+
+abbrev pub text_if : List ℕ → Members → Option (Option (List ℕ))
+text_if key ms = as_text (get_member key ms)
+
 -- both, or nothing
 abbrev pub both : {A B : Type 0} → Option A → Option B → Option (A × B)
 both None b = None
@@ -55,11 +64,20 @@ family_keys None = None
 family_keys (Some ms) =
     if has_only Lock ms then both (text_at (codes "name") ms) (integer_at (codes "rank") ms) else None
 
--- the pattern and the lock of a cover
-abbrev pub cover_keys : Option Members → Option (List ℕ × List ℕ)
+-- all three, or nothing
+abbrev pub all_three : {A B C : Type 0} → Option A → Option B → Option C → Option (A × B × C)
+all_three None b c = None
+all_three (Some x) None c = None
+all_three (Some x) (Some y) None = None
+all_three (Some x) (Some y) (Some z) = Some (x, y, z)
+
+-- the pattern, the lock and the second lock of a cover, which may be missing
+abbrev pub cover_keys : Option Members → Option (List ℕ × List ℕ × Option (List ℕ))
 cover_keys None = None
 cover_keys (Some ms) =
-    if has_only CoverSection ms then both (text_at (codes "global") ms) (text_at (codes "lock") ms) else None
+    if has_only CoverSection ms then
+    all_three (text_at (codes "global") ms) (text_at (codes "lock") ms) (text_if (codes "also") ms)
+    else None
 
 -- the one text of an element with one key
 abbrev pub text_key : Section → List ℕ → Option Members → Option (List ℕ)
@@ -92,26 +110,36 @@ family_at k (Some keys) = family_by k (spelling_of keys.0) keys.1
 unfoldable pub family_of : ℕ → Data → Answer Family
 family_of k d = family_at k (family_keys (as_table d))
 
--- a cover of its parts
-abbrev pub cover_of_parts : ℕ → Spelling → Spelling → Option (List Part) → Answer Cover
-cover_of_parts k p l None = refused code.TemplateVariable CoverSection k
-cover_of_parts k p l (Some parts) = Ok (record { pattern = pattern p; lock = template l parts })
+-- a cover of its locks, each of which may have a variable that the pattern lacks
+abbrev pub cover_of_locks : ℕ → Spelling → Option Template → Option (Option Template) → Answer Cover
+cover_of_locks k p None also = refused code.TemplateVariable CoverSection k
+cover_of_locks k p (Some lock) None = refused code.TemplateVariable CoverSection k
+cover_of_locks k p (Some lock) (Some also) = Ok (record { pattern = pattern p; lock = lock; also = also })
 
-abbrev pub cover_placed : ℕ → Spelling → Spelling → Answer Cover
-cover_placed k p l = cover_of_parts k p l (parts_of p.items l.items)
+abbrev pub cover_placed : ℕ → Spelling → Spelling → Option Spelling → Answer Cover
+cover_placed k p l a = cover_of_locks k p (template_of p.items l) (second_template p.items a)
 
-abbrev pub cover_with : ℕ → Option Spelling → Option Spelling → Answer Cover
-cover_with k None l = refused code.Pattern CoverSection k
-cover_with k (Some p) None = refused code.Pattern CoverSection k
-cover_with k (Some p) (Some l) =
-    if is_pattern CoverSection p && is_template l then cover_placed k p l else refused code.Pattern CoverSection k
+-- a cover of what is spelled well
+abbrev pub cover_kinds : ℕ → Spelling → Spelling → Option Spelling → Answer Cover
+cover_kinds k p l a =
+    if is_pattern CoverSection p && (is_template l && is_second_template a) then cover_placed k p l a
+    else refused code.Pattern CoverSection k
 
-abbrev pub cover_by : ℕ → Option Spelling → Option Spelling → Answer Cover
-cover_by k p l = if is_long p || is_long l then refused code.RulesLimit CoverSection k else cover_with k p l
+abbrev pub cover_with : ℕ → Option Spelling → Option Spelling → Option (Option Spelling) → Answer Cover
+cover_with k None l a = refused code.Pattern CoverSection k
+cover_with k (Some p) None a = refused code.Pattern CoverSection k
+cover_with k (Some p) (Some l) None = cover_kinds k p l None
+cover_with k (Some p) (Some l) (Some None) = refused code.Pattern CoverSection k
+cover_with k (Some p) (Some l) (Some (Some a)) = cover_kinds k p l (Some a)
 
-abbrev pub cover_at : ℕ → Option (List ℕ × List ℕ) → Answer Cover
+abbrev pub cover_by : ℕ → Option Spelling → Option Spelling → Option (Option Spelling) → Answer Cover
+cover_by k p l a =
+    if is_long p || (is_long l || is_long_second a) then refused code.RulesLimit CoverSection k
+    else cover_with k p l a
+
+abbrev pub cover_at : ℕ → Option (List ℕ × List ℕ × Option (List ℕ)) → Answer Cover
 cover_at k None = refused code.Key CoverSection k
-cover_at k (Some keys) = cover_by k (pattern_of keys.0) (spelling_of keys.1)
+cover_at k (Some keys) = cover_by k (pattern_of keys.0) (spelling_of keys.1) (option_map spelling_of keys.2)
 
 -- the cover of the element with this index
 unfoldable pub cover_of : ℕ → Data → Answer Cover

@@ -92,7 +92,7 @@ abbrev family : LockName → ℕ → Family
 family name rank = record { name = name; rank = rank }
 
 abbrev cover : Pattern → Template → Cover
-cover pattern lock = record { pattern = pattern; lock = lock }
+cover pattern lock = record { pattern = pattern; lock = lock; also = None }
 
 abbrev rules_of : List Family → List Cover → List Pattern → List Pattern → List (List ℕ) → RuleLists
 rules_of families covers private readonly entries =

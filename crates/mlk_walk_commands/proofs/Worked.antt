@@ -72,6 +72,7 @@ scope mods low drops = record {
     covers = record {
       pattern = record { global = codes "ACCT"; elements = Variable ∷ []; extent = extent.Tree };
       lock = record { root = root.Global (codes "ACCT"); parts = Place 0 ∷ [] };
+      also = None;
     } ∷ [];
     private = [];
     readonly = record { global = codes "CODE"; elements = []; extent = extent.Tree } ∷ [];

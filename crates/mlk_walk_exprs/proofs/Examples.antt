@@ -39,6 +39,7 @@ scope = record {
     covers = record {
       pattern = record { global = codes "ACCT"; elements = Variable ∷ []; extent = extent.Tree };
       lock = record { root = root.Global (codes "ACCT"); parts = Place 0 ∷ [] };
+      also = None;
     } ∷ [];
     private = [];
     readonly = [];

@@ -1,13 +1,16 @@
 // Covers of rule files.
 
-ghost use Rattle.std.specs.Prelude.{◌≡◌, IfOk};
+ghost use Rattle.std.specs.Prelude.{◌≡◌, IfOk, option_map};
 ghost use Rattle.toml.specs.View.{view};
 ghost use Rattle.mlk_text.specs.Failures.{Answers};
-ghost use Rattle.mlk_rules_file.specs.RuleKinds.{place_of, part_of, parts_of};
-ghost use Rattle.mlk_rules_file.specs.RuleSections.{cover_placed, cover_by, cover_of};
+ghost use Rattle.mlk_rules_file.specs.RuleTexts.{spelling_of};
+ghost use Rattle.mlk_rules_file.specs.RuleKinds.{place_of, part_of, parts_of, template_of, second_template};
+ghost use Rattle.mlk_rules_file.specs.RuleSections.{cover_placed, cover_kinds, cover_by, cover_of};
 
 use crate::read::fault::{RulesFault, Section, refused};
-use crate::read::kinds::{Item, Spelling, is_item, is_long, is_pattern, is_template};
+use crate::read::kinds::{
+    Item, Spelling, is_item, is_long, is_long_second, is_pattern, is_second_template, is_template,
+};
 use crate::read::pattern::pattern;
 use crate::read::spelling::{spelled_name, spelled_pattern};
 use crate::read::tables::cover_keys;
@@ -47,35 +50,84 @@ fn parts_of(alloc: Global, items: &[Item], lock: &[Item]) -> Result<Option<List<
     Ok(Some(List::of(found)))
 }
 
+// The lock of a spelling, where the pattern has its variables.
+fn template_of(alloc: Global, items: &[Item], s: &Spelling) -> Result<Option<Template>, AllocError>
+    ensures { IfOk result (λ t. t ≡ template_of items.now s.now) }
+{
+    let Some(parts) = parts_of(alloc, items, s.items.as_slice())? else {
+        return Ok(None);
+    };
+    Ok(Some(Template {
+        root: copy_of(&s.root)?,
+        parts,
+    }))
+}
+
+// The same of a second lock, which a cover may lack.
+fn second_template(
+    alloc: Global,
+    items: &[Item],
+    second: &Option<Spelling>,
+) -> Result<Option<Option<Template>>, AllocError>
+    ensures { IfOk result (λ t. t ≡ second_template items.now second.now) }
+{
+    let Some(s) = second else {
+        return Ok(Some(None));
+    };
+    let Some(template) = template_of(alloc, items, s)? else {
+        return Ok(None);
+    };
+    Ok(Some(Some(template)))
+}
+
 fn cover_placed(
     alloc: Global,
     index: usize,
     p: &Spelling,
     l: &Spelling,
+    second: &Option<Spelling>,
 ) -> Result<Cover, Failure<RulesFault>>
-    ensures { Answers (λ x. x) result (cover_placed index p.now l.now) }
+    ensures { Answers (λ x. x) result (cover_placed index p.now l.now second.now) }
 {
-    let Some(parts) = parts_of(alloc, p.items.as_slice(), l.items.as_slice())? else {
+    let Some(lock) = template_of(alloc, p.items.as_slice(), l)? else {
+        return Err(refused(Code::TemplateVariable, Section::Cover, index));
+    };
+    let Some(also) = second_template(alloc, p.items.as_slice(), second)? else {
         return Err(refused(Code::TemplateVariable, Section::Cover, index));
     };
     Ok(Cover {
         pattern: pattern(alloc, p)?,
-        lock: Template {
-            root: copy_of(&l.root)?,
-            parts,
-        },
+        lock,
+        also,
     })
 }
 
+fn cover_kinds(
+    alloc: Global,
+    index: usize,
+    p: &Spelling,
+    l: &Spelling,
+    second: &Option<Spelling>,
+) -> Result<Cover, Failure<RulesFault>>
+    ensures { Answers (λ x. x) result (cover_kinds index p.now l.now second.now) }
+{
+    if !is_pattern(Section::Cover, p) || !is_template(l) || !is_second_template(second) {
+        return Err(refused(Code::Pattern, Section::Cover, index));
+    }
+    cover_placed(alloc, index, p, l, second)
+}
+
+// A cover of its pattern, its lock and, where it is named, its second lock, each as it is spelled, if it is spelled well.
 fn cover_by(
     alloc: Global,
     index: usize,
     pattern: Option<Spelling>,
     lock: Option<Spelling>,
+    also: Option<Option<Spelling>>,
 ) -> Result<Cover, Failure<RulesFault>>
-    ensures { Answers (λ x. x) result (cover_by index pattern lock) }
+    ensures { Answers (λ x. x) result (cover_by index pattern lock also) }
 {
-    if is_long(&pattern) || is_long(&lock) {
+    if is_long(&pattern) || is_long(&lock) || is_long_second(&also) {
         return Err(refused(Code::RulesLimit, Section::Cover, index));
     }
     let Some(p) = pattern else {
@@ -84,10 +136,21 @@ fn cover_by(
     let Some(l) = lock else {
         return Err(refused(Code::Pattern, Section::Cover, index));
     };
-    if !is_pattern(Section::Cover, &p) || !is_template(&l) {
-        return Err(refused(Code::Pattern, Section::Cover, index));
+    match also {
+        None => cover_kinds(alloc, index, &p, &l, &None),
+        Some(None) => Err(refused(Code::Pattern, Section::Cover, index)),
+        Some(second) => cover_kinds(alloc, index, &p, &l, &second),
     }
-    cover_placed(alloc, index, &p, &l)
+}
+
+// The second lock as it is spelled, where it is named.
+fn spelled_second(alloc: Global, also: Option<&str>) -> Result<Option<Option<Spelling>>, AllocError>
+    ensures { IfOk result (λ s. s ≡ option_map spelling_of (option_map (λ t. t.now) also.entry)) }
+{
+    match also {
+        None => Ok(None),
+        Some(text) => Ok(Some(spelled_name(alloc, text.as_bytes())?)),
+    }
 }
 
 /// The cover of an element, which has this index.
@@ -99,10 +162,11 @@ pub fn cover(
 ) -> Result<Cover, Failure<RulesFault>>
     ensures { Answers (λ x. x) result (cover_of index (view element.now)) }
 {
-    let Some((global, lock)) = cover_keys(element) else {
+    let Some((global, lock, also)) = cover_keys(element) else {
         return Err(refused(Code::Key, Section::Cover, index));
     };
     let pattern = spelled_pattern(alloc, global.as_bytes())?;
     let lock = spelled_name(alloc, lock.as_bytes())?;
-    cover_by(alloc, index, pattern, lock)
+    let also = spelled_second(alloc, also)?;
+    cover_by(alloc, index, pattern, lock, also)
 }

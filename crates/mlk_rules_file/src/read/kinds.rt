@@ -1,7 +1,7 @@
 // The items of names and patterns as they are spelled, and what may stand where.
 
 ghost use Rattle.std.specs.Prelude.{◌≡◌};
-ghost use Rattle.mlk_rules_file.specs.RuleKinds.{is_long, is_node, is_literals, is_jobless, has_one_job, is_item, has_variable, is_new, is_distinct, has_its_job, is_family_name, is_pattern, is_template};
+ghost use Rattle.mlk_rules_file.specs.RuleKinds.{is_long, is_long_second, is_node, is_literals, is_jobless, has_one_job, is_item, has_variable, is_new, is_distinct, has_its_job, is_family_name, is_pattern, is_template, is_second_template};
 
 use crate::read::fault::Section;
 use mlk_names::{Extent, Root};
@@ -33,6 +33,16 @@ pub fn is_long(spelling: &Option<Spelling>) -> bool
     match spelling {
         None => false,
         Some(s) => s.items.as_slice().len() > MOST_ITEMS,
+    }
+}
+
+/// The same of a second lock, which a cover may lack.
+pub fn is_long_second(spelling: &Option<Option<Spelling>>) -> bool
+    ensures { result ≡ is_long_second spelling.now }
+{
+    match spelling {
+        None => false,
+        Some(s) => is_long(s),
     }
 }
 
@@ -138,4 +148,14 @@ pub fn is_template(s: &Spelling) -> bool
     ensures { result ≡ is_template s.now }
 {
     is_jobless(s.items.as_slice()) && is_node(s.extent)
+}
+
+/// The same of a second lock, which a cover may lack.
+pub fn is_second_template(spelling: &Option<Spelling>) -> bool
+    ensures { result ≡ is_second_template spelling.now }
+{
+    match spelling {
+        None => true,
+        Some(s) => is_template(s),
+    }
 }

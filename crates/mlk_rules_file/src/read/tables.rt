@@ -1,9 +1,9 @@
 // The keys of tables in rule files.
 
-ghost use Rattle.std.specs.Prelude.{◌≡◌, option_map};
+ghost use Rattle.std.specs.Prelude.{◌≡◌, option_map, Some};
 ghost use Rattle.toml.specs.Data.{as_table};
 ghost use Rattle.toml.specs.View.{view, table_view};
-ghost use Rattle.mlk_rules_file.specs.RuleSections.{is_key, has_only, text_at, integer_at, family_keys, cover_keys, text_key};
+ghost use Rattle.mlk_rules_file.specs.RuleSections.{is_key, has_only, text_at, as_text, text_if, integer_at, family_keys, cover_keys, text_key};
 
 use crate::read::fault::Section;
 use toml::{Table, Value};
@@ -20,7 +20,7 @@ fn is_key(section: Section, key: &str) -> bool
                 || key == "entry"
         }
         Section::Lock => key == "name" || key == "rank",
-        Section::Cover => key == "global" || key == "lock",
+        Section::Cover => key == "global" || key == "lock" || key == "also",
         Section::Private => key == "global",
         Section::Readonly => key == "global",
         Section::Entry => key == "label",
@@ -76,9 +76,30 @@ pub fn family_keys(element: &Value) -> Option<(&str, i64)>
     Some((name, rank))
 }
 
-/// The pattern and the lock of a cover.
-pub fn cover_keys(element: &Value) -> Option<(&str, &str)>
-    ensures { option_map (λ x. (x.0.now, x.1.now)) result ≡ cover_keys (as_table (view element.now)) }
+// The text that a key has.
+fn its_text(value: &Value) -> Option<Option<&str>>
+    ensures { option_map (λ o. option_map (λ s. s.now) o) result ≡ as_text (Some (view value.now)) }
+{
+    match value.as_str() {
+        Some(text) => Some(Some(text)),
+        None => None,
+    }
+}
+
+// The text at a key that may be missing.
+fn text_if<'a>(table: &'a Table, key: &str) -> Option<Option<&'a str>>
+    ensures { option_map (λ o. option_map (λ s. s.now) o) result ≡ text_if key.now (table_view table.now) }
+{
+    match table.get(key) {
+        Some(value) => its_text(value),
+        None => Some(None),
+    }
+}
+
+/// The pattern, the lock and the second lock of a cover, which may be missing.
+pub fn cover_keys(element: &Value) -> Option<(&str, &str, Option<&str>)>
+    ensures { option_map (λ x. (x.0.now, x.1.now, option_map (λ s. s.now) x.2)) result
+        ≡ cover_keys (as_table (view element.now)) }
 {
     let Some(table) = element.as_table() else {
         return None;
@@ -92,7 +113,10 @@ pub fn cover_keys(element: &Value) -> Option<(&str, &str)>
     let Some(lock) = text_at(table, "lock") else {
         return None;
     };
-    Some((global, lock))
+    let Some(also) = text_if(table, "also") else {
+        return None;
+    };
+    Some((global, lock, also))
 }
 
 /// The one text of an element with this one key.

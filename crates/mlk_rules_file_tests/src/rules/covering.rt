@@ -126,6 +126,42 @@ fn both_rules_that_may_be_met_are_asked(rt: HostRuntime) -> Result<(), Fail> {
     Ok(())
 }
 
+const BOTH_LOCKS: &[u8] =
+    b"cover = [{global = \"^G(x,...)\", lock = \"^A(x)\", also = \"^B(1,x)\"}]";
+
+#[test]
+fn a_write_needs_both_locks_of_a_rule(rt: HostRuntime) -> Result<(), Fail> {
+    let rows: &[(&[Spelled], u16)] = &[
+        (&[], 702),
+        (&[(b"A", b"ID")], 702),
+        (&[(b"B", b"1")], 702),
+        (&[(b"A", b"ID"), (b"B", b"2")], 702),
+        (&[(b"A", b"ID"), (b"B", b"1")], 0),
+        (&[(b"A", b"ID"), (b"B", b"")], 0),
+    ];
+    for row in rows {
+        let found = answer(rt.alloc(), BOTH_LOCKS, row.0, (b"G", b"ID"), WRITE_NODE)?;
+        assert_eq!(rt; found, row.1);
+    }
+    Ok(())
+}
+
+#[test]
+fn a_read_needs_one_lock_of_a_rule(rt: HostRuntime) -> Result<(), Fail> {
+    let rows: &[(&[Spelled], u16)] = &[
+        (&[], 702),
+        (&[(b"A", b"ID")], 0),
+        (&[(b"A", b"1")], 702),
+        (&[(b"B", b"")], 0),
+        (&[(b"A", b"1"), (b"B", b"")], 0),
+    ];
+    for row in rows {
+        let found = answer(rt.alloc(), BOTH_LOCKS, row.0, (b"G", b"ID"), READ_NODE)?;
+        assert_eq!(rt; found, row.1);
+    }
+    Ok(())
+}
+
 #[test]
 fn a_rule_that_is_not_met_is_not_asked(rt: HostRuntime) -> Result<(), Fail> {
     let found = answer(
@@ -175,20 +211,20 @@ fn lacks_by(
     alloc: Global,
     rules: &Rules,
     held: &[LockTerm],
-    at: Spelled,
+    at: (Spelled, (Extent, Access)),
     wanted: &[LockTerm],
 ) -> Result<bool, AllocError> {
-    let reference = reference(alloc, at, WRITE_NODE)?;
+    let reference = reference(alloc, at.0, at.1)?;
     let found = templates(alloc, rules, &reference, held)?;
     Ok(are_same(found.as_slice(), wanted))
 }
 
-// Whether a write lacks just these terms where others are held.
+// Whether a reference lacks just these terms where others are held.
 fn lacks(
     alloc: Global,
     file: &[u8],
     held: &[Spelled],
-    at: Spelled,
+    at: (Spelled, (Extent, Access)),
     wanted: &[Spelled],
 ) -> Result<bool, AllocError> {
     let Ok(rules) = read_rules(alloc, file) else {
@@ -202,15 +238,40 @@ fn lacks(
 #[test]
 fn what_an_unknown_account_lacks(rt: HostRuntime) -> Result<(), Fail> {
     let held: &[Spelled] = &[(b"ACCT", b"1")];
-    assert!(rt; lacks(rt.alloc(), BASE, held, (b"ACCT", b"?"), &[(b"ACCT", b"")])?);
+    let at: (Spelled, (Extent, Access)) = ((b"ACCT", b"?"), WRITE_NODE);
+    assert!(rt; lacks(rt.alloc(), BASE, held, at, &[(b"ACCT", b"")])?);
     Ok(())
 }
 
 #[test]
 fn both_locks_are_lacking(rt: HostRuntime) -> Result<(), Fail> {
     let both: &[Spelled] = &[(b"A", b""), (b"L", b"")];
-    assert!(rt; lacks(rt.alloc(), TWO_COVERS, &[], (b"A", b"?"), both)?);
-    assert!(rt; lacks(rt.alloc(), TWO_COVERS, both, (b"A", b"?"), &[])?);
+    let at: (Spelled, (Extent, Access)) = ((b"A", b"?"), WRITE_NODE);
+    assert!(rt; lacks(rt.alloc(), TWO_COVERS, &[], at, both)?);
+    assert!(rt; lacks(rt.alloc(), TWO_COVERS, both, at, &[])?);
+    Ok(())
+}
+
+const SECOND_OF_ONE: &[u8] =
+    b"cover = [{global = \"^G(x,...)\", lock = \"^A(x)\", also = \"^B(1)\"}]";
+
+#[test]
+fn what_is_lacking_of_a_rule_with_two_locks(rt: HostRuntime) -> Result<(), Fail> {
+    let first: Spelled = (b"A", b"ID");
+    let second: Spelled = (b"B", b"1");
+    let rows: &[(&[Spelled], (Extent, Access), &[Spelled])] = &[
+        (&[], WRITE_NODE, &[first, second]),
+        (&[first], WRITE_NODE, &[second]),
+        (&[second], WRITE_NODE, &[first]),
+        (&[first, second], WRITE_NODE, &[]),
+        (&[], READ_NODE, &[first]),
+        (&[first], READ_NODE, &[]),
+        (&[second], READ_NODE, &[]),
+    ];
+    for row in rows {
+        let at: (Spelled, (Extent, Access)) = ((b"G", b"ID"), row.1);
+        assert!(rt; lacks(rt.alloc(), SECOND_OF_ONE, row.0, at, row.2)?);
+    }
     Ok(())
 }
 

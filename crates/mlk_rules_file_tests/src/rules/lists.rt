@@ -35,6 +35,7 @@ fn cover(alloc: Global) -> Result<Cover, AllocError> {
     Ok(Cover {
         pattern,
         lock: lock(alloc)?,
+        also: None,
     })
 }
 

@@ -9,23 +9,23 @@ returns-then-not-each_is_own-clause-err c =
       λ k. not_both c.each_is_own.result c.if-not-each_is_own.true (own.1 k),
     )
 
-pub returns-then-not-each_is_held-clause-err : goal.returns-then-not-each_is_held-clause-err
-returns-then-not-each_is_held-clause-err c =
+pub returns-then-not-each_is_satisfied-clause-err : goal.returns-then-not-each_is_satisfied-clause-err
+returns-then-not-each_is_satisfied-clause-err c =
     let own = rw c.as_slice.ensures at c.each_is_own.ensures in
-    let all = rw c.as_slice-2.ensures at c.each_is_held.ensures in (
+    let all = rw c.as_slice-2.ensures at c.each_is_satisfied.ensures in (
       c.is_ruled.ensures.0 c.if-not-is_ruled.false,
       c.keeps_readonly.ensures.0 c.if-not-keeps_readonly.false,
       own.0 c.if-not-each_is_own.false,
-      λ k. not_both c.each_is_held.result c.if-not-each_is_held.true (all.1 k),
+      λ k. not_both c.each_is_satisfied.result c.if-not-each_is_satisfied.true (all.1 k),
     )
 
 pub returns-clause-ok : goal.returns-clause-ok
 returns-clause-ok c =
     let own = rw c.as_slice.ensures at c.each_is_own.ensures in
-    let all = rw c.as_slice-2.ensures at c.each_is_held.ensures in
+    let all = rw c.as_slice-2.ensures at c.each_is_satisfied.ensures in
     record {
       ruled = c.is_ruled.ensures.0 c.if-not-is_ruled.false;
       readonly = c.keeps_readonly.ensures.0 c.if-not-keeps_readonly.false;
       private = own.0 c.if-not-each_is_own.false;
-      covers = all.0 c.if-not-each_is_held.false;
+      covers = all.0 c.if-not-each_is_satisfied.false;
     }
