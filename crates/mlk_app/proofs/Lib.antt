@@ -3,5 +3,4 @@ pub mod Sources
 pub mod Checks
 pub mod Saying
 pub mod Printing
-pub mod ReadSpelling
 pub mod Chunks

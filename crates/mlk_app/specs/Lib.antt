@@ -3,4 +3,3 @@ pub mod Files
 pub mod Replayed
 pub mod Checked
 pub mod Ran
-pub mod Laws

@@ -3,7 +3,6 @@
 
 mod checked;
 mod file;
-mod law;
 mod printed;
 mod program;
 mod replayed;
@@ -11,7 +10,6 @@ mod source;
 mod text;
 
 pub use file::{LONGEST_FILE, read_whole};
-pub use law::{formals_distinct, routines_spelled};
 pub use mlk_make::{Stage, Unwatched, Watch};
 pub use program::{run, run_watched, wrong_words};
 pub use source::Files;

@@ -3,6 +3,7 @@ pub mod MachineLemmas
 pub mod Trees
 pub mod Examples
 pub mod LockExamples
+pub mod TaskExamples
 pub mod FoldLemmas
 pub mod StackLemmas
 pub mod PendingLemmas

@@ -39,13 +39,13 @@ lock names = Lock (LockNames sign.None names None ∷ [])
 abbrev claim : List VariableTree → ActionTree
 claim names = Lock (LockNames sign.Plus names None ∷ [])
 
-abbrev release : List VariableTree → ActionTree
+abbrev pub release : List VariableTree → ActionTree
 release names = Lock (LockNames sign.Minus names None ∷ [])
 
 abbrev claim_within : Tree → List VariableTree → ActionTree
 claim_within timeout names = Lock (LockNames sign.Plus names (Some timeout) ∷ [])
 
-abbrev straight : List ActionTree → List RoutineTree
+abbrev pub straight : List ActionTree → List RoutineTree
 straight actions = routine ((at_label (codes "A") None (commands actions), no_lines) ∷ [])
 
 abbrev held_of : Stepped → Option Counts
@@ -62,7 +62,7 @@ holds_after routines [] j = Some j.held
 holds_after routines (c ∷ choices) j =
     goes_on (holds_after routines choices) (go routines (λ n. true) c (settled routines 100 j).0)
 
-abbrev held_after : List RoutineTree → List Choice → Option Counts
+abbrev pub held_after : List RoutineTree → List Choice → Option Counts
 held_after routines choices = goes_on (holds_after routines choices) (begun routines first_entry 1 false [])
 
 -- A LOCK ^A

@@ -54,13 +54,17 @@ special_parts _ = AskValue 0 ∷ []
 abbrev pub unused : Trees → List Task
 unused ts = each_tree ts ++ Drop (count_trees ts) ∷ []
 
+-- how many subscripts a name has besides its last one
+abbrev pub above : Subs → ℕ
+above subs = count_subs subs - 1
+
 -- Functions of a global: `$DATA` reads the tree at it, `$GET` the node, `$ORDER` the tree above its last subscript,
 -- `$QUERY` the tree of the whole global, `$NAME` nothing. The value is what was read.
 abbrev pub of_global : Function → List ℕ → Subs → Trees → List Task
 of_global function.Data name subs more = read_global name subs extent.Tree ++ unused more
 of_global function.Get name subs more = read_global name subs extent.Node ++ unused more
 of_global function.Order name subs more =
-    each_sub subs ++ Drop 1 ∷ FormReference name (count_subs subs - 1) extent.Tree Reads ∷ unused more
+    each_sub subs ++ Drop (count_subs subs - above subs) ∷ FormReference name (above subs) extent.Tree Reads ∷ unused more
 of_global function.Query name subs more =
     each_sub subs ++ Drop (count_subs subs) ∷ FormReference name 0 extent.Tree Reads ∷ unused more
 of_global function.Name name subs more =

@@ -18,7 +18,7 @@ use Rattle.mlk_machine_laws.proofs.Tidy.{Nested, Tidied, below_look, tidied}
 use Rattle.mlk_machine_laws.proofs.Sharing.{Ordered, shares, at_moment}
 
 -- cells of other generations
-below_behind : (g : ℕ) (front back : Bindings) → Below g (front ++ back) → Below g back
+pub below_behind : (g : ℕ) (front back : Bindings) → Below g (front ++ back) → Below g back
 below_behind g [] back h = h
 below_behind g (Fresh k names ∷ front) back h = below_behind g front back h.1
 below_behind g (ByReference f c ∷ front) back h = below_behind g front back h.1
@@ -28,7 +28,7 @@ put_later c d v cells l =
     let e : (c.generation == d.generation) ≡ false = ne_eqb c.generation d.generation (λ z. omega (arith, z, l)) in
     rw e refl
 
-actuals_before : (g : ℕ) (fs : List (List ℕ)) (given : List ActualTree) (values : List (List ℕ)) (cells : Cells) (c : Cell) → c.generation < g
+pub actuals_before : (g : ℕ) (fs : List (List ℕ)) (given : List ActualTree) (values : List (List ℕ)) (cells : Cells) (c : Cell) → c.generation < g
     → with_actuals g fs given values cells c ≡ cells c
 actuals_before g [] given values cells c l = refl
 actuals_before g (f ∷ fs) [] values cells c l = refl
@@ -39,7 +39,7 @@ actuals_before g (f ∷ fs) (Given t ∷ given) (v ∷ values) cells c l =
 actuals_before g (f ∷ fs) (ByRef column name ∷ given) values cells c l = actuals_before g fs given values cells c l
 actuals_before g (f ∷ fs) (Missing ∷ given) values cells c l = actuals_before g fs given values cells c l
 
-not_forgotten : (g : ℕ) (cells : Cells) (c : Cell) → c.generation < g → forgotten g cells c ≡ cells c
+pub not_forgotten : (g : ℕ) (cells : Cells) (c : Cell) → c.generation < g → forgotten g cells c ≡ cells c
 not_forgotten g cells c l = let e : nat_lt c.generation g ≡ true = grind (arith, l) in rw e refl
 
 -- A name whose cell a step changes is bound there as itself, where nothing is lent.

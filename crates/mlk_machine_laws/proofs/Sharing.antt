@@ -25,7 +25,7 @@ use Rattle.mlk_machine_laws.proofs.Killing.{differs, same_self}
 use Rattle.mlk_machine_laws.proofs.Tidy.{Nested, Tidied, below_look, tidy_after, act_moves, begins}
 
 -- the cell of this generation and name is given by no binder
-abbrev Clear : ℕ → List ℕ → Bindings → Type 0
+abbrev pub Clear : ℕ → List ℕ → Bindings → Type 0
 Clear g n [] = 0 < g
 Clear g n (Fresh h names ∷ bs) = (covers names n ≡ true → h < g) × Clear g n bs
 Clear g n (ByReference formal cell ∷ bs) = (cell.generation < g) × Clear g n bs
@@ -51,18 +51,18 @@ clear_look g n [] h = h
 clear_look g n (Fresh x names ∷ bs) h = ⊎_elim (λ u. rw u (h.0 u)) (λ u. rw u (clear_look g n bs h.1)) (cases_Bool (covers names n))
 clear_look g n (ByReference f c ∷ bs) h = ⊎_elim (λ u. rw u h.0) (λ u. rw u (clear_look g n bs h.1)) (cases_Bool (bytes_eq f n))
 
-ordered_behind : (front bs : Bindings) → Ordered (front ++ bs) → Ordered bs
+pub ordered_behind : (front bs : Bindings) → Ordered (front ++ bs) → Ordered bs
 ordered_behind [] bs h = h
 ordered_behind (Fresh x names ∷ front) bs h = ordered_behind front bs h.1
 ordered_behind (ByReference f c ∷ front) bs h = ordered_behind front bs h
 
-lent_behind : (front bs : Bindings) (d : Cell) → is_lent (front ++ bs) d ≡ false → is_lent bs d ≡ false
+pub lent_behind : (front bs : Bindings) (d : Cell) → is_lent (front ++ bs) d ≡ false → is_lent bs d ≡ false
 lent_behind [] bs d h = h
 lent_behind (Fresh g names ∷ front) bs d h = lent_behind front bs d h
 lent_behind (ByReference f c ∷ front) bs d h = lent_behind front bs d (or_parts (same_cell c d) (is_lent (front ++ bs) d) h).1
 
 -- a cell that is nobody's by reference bears the name that is bound to it
-named : (bs : Bindings) (n : List ℕ) → is_lent bs (look bs n) ≡ false → (look bs n).name ≡ n
+pub named : (bs : Bindings) (n : List ℕ) → is_lent bs (look bs n) ≡ false → (look bs n).name ≡ n
 named [] n h = refl
 named (Fresh g names ∷ bs) n h = ⊎_elim (λ u. rw u refl) (λ u. rw u (named bs n (rw u at h))) (cases_Bool (covers names n))
 named (ByReference f c ∷ bs) n h =
@@ -128,7 +128,7 @@ clear_binders caller g (f ∷ fs) given bs n h b none = on (next_actual given) (
     on (Given t) rest = (not_first, rest)
     on Missing rest = (not_first, rest)
 
-ordered_binders : (caller : Bindings) (g : ℕ) (fs : List (List ℕ)) (given : List ActualTree) (bs : Bindings) → AreDistinct fs → Below g caller
+pub ordered_binders : (caller : Bindings) (g : ℕ) (fs : List (List ℕ)) (given : List ActualTree) (bs : Bindings) → AreDistinct fs → Below g caller
     → Below g bs → Ordered bs → Ordered (binders caller g fs given ++ bs)
 ordered_binders caller g [] given bs d h b o = o
 ordered_binders caller g (f ∷ fs) given bs d h b o = on (next_actual given) (ordered_binders caller g fs (later_actuals given) bs d.1 h b o)

@@ -51,7 +51,7 @@ binder_below caller g f (ByRef column name) bs h b = let l = below_look g caller
 binder_below caller g f (Given t) bs h b = (omega arith, b)
 binder_below caller g f Missing bs h b = (omega arith, b)
 
-binders_below : (caller : Bindings) (g : ℕ) (fs : List (List ℕ)) (given : List ActualTree) (bs : Bindings) → Below g caller → Below (suc g) bs
+pub binders_below : (caller : Bindings) (g : ℕ) (fs : List (List ℕ)) (given : List ActualTree) (bs : Bindings) → Below g caller → Below (suc g) bs
     → Below (suc g) (binders caller g fs given ++ bs)
 binders_below caller g [] given bs h b = b
 binders_below caller g (f ∷ fs) given bs h b =

@@ -5,3 +5,4 @@ pub mod Tidy
 pub mod Sharing
 pub mod Outside
 pub mod Laws
+pub mod WellFormed

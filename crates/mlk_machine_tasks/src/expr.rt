@@ -145,8 +145,9 @@ fn order_parts<'a>(
     ensures { OnOk result (Adds (of_global function.Order name.now (subs_of subscripts.now) (args_of more.now)) parts.old.items parts.new.items) }
 {
     each_subscript(parts, subscripts)?;
-    add(parts, Task::Value(ValueTask::DropValues(1)))?;
-    let above = count_subscripts(subscripts).saturating_sub(1);
+    let count = count_subscripts(subscripts);
+    let above = count.saturating_sub(1);
+    add(parts, Task::Value(ValueTask::DropValues(count - above)))?;
     let form = Task::Value(ValueTask::FormReference(name, above, Extent::Tree, Access::Reads));
     add(parts, form)?;
     unused(parts, more)?;

@@ -1,0 +1,6 @@
+//! Laws on the trees of routines that were read.
+#![tactic(auto)]
+
+mod law;
+
+pub use law::{routines_spelled, well_formed};
