@@ -15,7 +15,7 @@ use Rattle.mlk_walk_exprs.specs.Walks.{put_all, with_states, is_large, too_many,
 use Rattle.mlk_walk_exprs.specs.Expressions.{agrees, where_it_may_be, by_condition}
 use Rattle.mlk_walk_laws.specs.Fewer.{Among, AreDistinct, IsClean, IsPart}
 use Rattle.mlk_walk_laws.proofs.Lists.{in_front, in_back, in_either, all_old, all_new, all_from, all_distinct}
-use Rattle.mlk_walk_laws.proofs.Rows.{Keeps, Tells, clean_without, part_with, not_empty}
+use Rattle.mlk_walk_laws.proofs.Rows.{Keeps, Tells, clean_without, part_with, not_empty, Added, added_none, added_with, added_both, added_if}
 
 -- a list at one of its items
 pub record Cut (s : State) (ss : List State) : Type 0 where
@@ -72,7 +72,7 @@ few_of_few ss ts d more h =
     ap (λ b. b || list_any is_large ss) k ∙ all_small ss (λ s i. none_large s ts small (more s i)))
     (cases_lt 16 (length ts))
 
-few_clean : (line word : ℕ) (w : Walk) → IsClean (few line word w) → (too_many w.going ≡ false) × IsClean w
+pub few_clean : (line word : ℕ) (w : Walk) → IsClean (few line word w) → (too_many w.going ≡ false) × IsClean w
 unfolding few
 few_clean line word w h =
     ⊎_elim
@@ -80,7 +80,7 @@ few_clean line word w h =
     (λ (e : too_many w.going ≡ false). (e, (rw e at h)))
     (cases_Bool (too_many w.going))
 
-few_same : (line word : ℕ) (w : Walk) → too_many w.going ≡ false → few line word w ≡ w
+pub few_same : (line word : ℕ) (w : Walk) → too_many w.going ≡ false → few line word w ≡ w
 unfolding few
 few_same line word w e = rw e refl
 
@@ -96,8 +96,13 @@ few_tells line word w t =
     (λ (e : too_many w.going ≡ true). rw e (λ o h. not_empty w.faults (record { line = line; column = word; code = TooManyCases }) h))
     (λ (e : too_many w.going ≡ false). rw e t) (cases_Bool (too_many w.going))
 
+few_adds : (line word : ℕ) (w : Walk) → Added w (few line word w)
+unfolding few
+few_adds line word w = added_if (too_many w.going) w (overfull line word w) w (record { skips = λ c h. h; quits = λ q h. h }) (record { skips = λ c h. h; quits = λ q h. h })
+
 pub few_keeps : (line word : ℕ) → Keeps (few line word)
 few_keeps line word = record {
+  adds = few_adds line word;
   back = λ w h. (few_clean line word w h).1;
   apart = few_apart line word;
   tells = few_tells line word;
@@ -115,12 +120,15 @@ beside_others ss ts v w i more d = part_with v w (put_all v.going ss) (put_all w
     (λ s r. ⊎_elim (λ (l : Among s ss). all_old s w.going ts (more s l)) (λ (m : Among s v.going). all_new s w.going ts (i.going s m)) (all_from s v.going ss r))
     (all_distinct v.going ss d)
 
+pub joined_adds : (ss : List State) (w : Walk) → Added w (joined ss w)
+joined_adds ss w = added_if w.over w w (with_states (put_all w.going ss) w) (record { skips = λ c h. h; quits = λ q h. h }) (added_none w (put_all w.going ss))
+
 pub joined_clean : (ss : List State) (w : Walk) → IsClean (joined ss w) → IsClean w
 joined_clean ss w h =
     ⊎_elim (λ (e : w.over ≡ true). subst IsClean (ap (λ b. if b then w else with_states (put_all w.going ss) w) e) h)
     (λ (e : w.over ≡ false). clean_without (put_all w.going ss) w (subst IsClean (ap (λ b. if b then w else with_states (put_all w.going ss) w) e) h)) (cases_Bool w.over)
 
-joined_same : (ss : List State) (w : Walk) → w.over ≡ false → joined ss w ≡ with_states (put_all w.going ss) w
+pub joined_same : (ss : List State) (w : Walk) → w.over ≡ false → joined ss w ≡ with_states (put_all w.going ss) w
 joined_same ss w e = ap (λ b. if b then w else with_states (put_all w.going ss) w) e
 
 pub joined_apart : (ss : List State) (w : Walk) → AreDistinct ss → AreDistinct w.going → AreDistinct (joined ss w).going
@@ -141,13 +149,13 @@ joined_part ss ts v w i h more d =
     rw (a, b) (beside_others ss ts v w i more d)
 
 -- states with a property
-in_filter : (f : State → Bool) (s : State) (ss : List State) → Among s ss → f s ≡ true → Among s (filter f ss)
+pub in_filter : (f : State → Bool) (s : State) (ss : List State) → Among s ss → f s ≡ true → Among s (filter f ss)
 in_filter f s [] h k = absurd h
 in_filter f s (t ∷ ss) (inl e) k = let g : f t ≡ true = sym (ap f e) ∙ k in rw g (inl e)
 in_filter f s (t ∷ ss) (inr h) k =
     ⊎_elim (λ (e : f t ≡ true). rw e (inr (in_filter f s ss h k))) (λ (e : f t ≡ false). rw e (in_filter f s ss h k)) (cases_Bool (f t))
 
-from_filter : (f : State → Bool) (s : State) (ss : List State) → Among s (filter f ss) → Among s ss × (f s ≡ true)
+pub from_filter : (f : State → Bool) (s : State) (ss : List State) → Among s (filter f ss) → Among s ss × (f s ≡ true)
 from_filter f s [] h = absurd h
 from_filter f s (t ∷ ss) h =
     ⊎_elim
@@ -156,33 +164,33 @@ from_filter f s (t ∷ ss) h =
     (λ (e : f t ≡ false). let m = from_filter f s ss (rw e at h) in (inr m.0, m.1))
     (cases_Bool (f t))
 
-filter_distinct : (f : State → Bool) (ss : List State) → AreDistinct ss → AreDistinct (filter f ss)
+pub filter_distinct : (f : State → Bool) (ss : List State) → AreDistinct ss → AreDistinct (filter f ss)
 filter_distinct f [] d = tt
 filter_distinct f (s ∷ ss) d =
     ⊎_elim (λ (e : f s ≡ true). rw e ((λ r. d.0 (from_filter f s ss r).0), filter_distinct f ss d.1))
     (λ (e : f s ≡ false). rw e (filter_distinct f ss d.1)) (cases_Bool (f s))
 
-filter_part : (f : State → Bool) (ss ts : List State) → ((s : State) → Among s ss → Among s ts) → (s : State) → Among s (filter f ss) → Among s (filter f ts)
+pub filter_part : (f : State → Bool) (ss ts : List State) → ((s : State) → Among s ss → Among s ts) → (s : State) → Among s (filter f ss) → Among s (filter f ts)
 filter_part f ss ts more s r = let m = from_filter f s ss r in in_filter f s ts (more s m.0) m.1
 
 -- both ways of a condition
 module _ (sc : Scope) (t : Tree) (run other : Walk → Walk) (one : Keeps run) (two : Keeps other) where
-  abbrev true_of : Walk → List State
+  abbrev pub true_of : Walk → List State
   true_of w = where_it_may_be true sc t w.going
 
-  abbrev false_of : Walk → List State
+  abbrev pub false_of : Walk → List State
   false_of w = where_it_may_be false sc t w.going
 
-  abbrev first_of : Walk → Walk
+  abbrev pub first_of : Walk → Walk
   first_of w = run (with_states (true_of w) w)
 
-  abbrev second_of : Walk → Walk
+  abbrev pub second_of : Walk → Walk
   second_of w = other (with_states (false_of w) (first_of w))
 
-  ways_same : (w : Walk) → (first_of w).over ≡ false → by_condition sc t run other w ≡ joined (first_of w).going (second_of w)
+  pub ways_same : (w : Walk) → (first_of w).over ≡ false → by_condition sc t run other w ≡ joined (first_of w).going (second_of w)
   ways_same w e = ap (λ b. if b then first_of w else joined (first_of w).going (second_of w)) e
 
-  ways_clean : (w : Walk) → IsClean (by_condition sc t run other w) → ((first_of w).over ≡ false) × IsClean (second_of w)
+  pub ways_clean : (w : Walk) → IsClean (by_condition sc t run other w) → ((first_of w).over ≡ false) × IsClean (second_of w)
   ways_clean w h =
       ⊎_elim
       (λ (e : (first_of w).over ≡ true).
@@ -191,7 +199,7 @@ module _ (sc : Scope) (t : Tree) (run other : Walk → Walk) (one : Keeps run) (
       (λ (e : (first_of w).over ≡ false). (e, joined_clean (first_of w).going (second_of w) (subst IsClean (ways_same w e) h)))
       (cases_Bool (first_of w).over)
 
-  first_clean : (w : Walk) → IsClean (second_of w) → IsClean (first_of w)
+  pub first_clean : (w : Walk) → IsClean (second_of w) → IsClean (first_of w)
   first_clean w h = clean_without (false_of w) (first_of w) (two.back (with_states (false_of w) (first_of w)) h)
 
   ways_apart : (w : Walk) → AreDistinct w.going → AreDistinct (by_condition sc t run other w).going
@@ -214,8 +222,16 @@ module _ (sc : Scope) (t : Tree) (run other : Walk → Walk) (one : Keeps run) (
       (λ (e : (first_of w).over ≡ false). subst Tells (sym (ways_same w e)) (joined_tells (first_of w).going (second_of w) g))
       (cases_Bool (first_of w).over)
 
+  ways_add : (w : Walk) → Added w (by_condition sc t run other w)
+  ways_add w =
+      let a : Added w (first_of w) = added_with w (first_of w) (true_of w) (one.adds (with_states (true_of w) w)) in
+      let b : Added (first_of w) (second_of w) = added_with (first_of w) (second_of w) (false_of w) (two.adds (with_states (false_of w) (first_of w))) in
+      added_if (first_of w).over w (first_of w) (joined (first_of w).going (second_of w)) a
+      (added_both w (second_of w) (joined (first_of w).going (second_of w)) (added_both w (first_of w) (second_of w) a b) (joined_adds (first_of w).going (second_of w)))
+
   pub ways_keep : Keeps (by_condition sc t run other)
   ways_keep = record {
+    adds = ways_add;
     back = λ w h. clean_without (true_of w) w (one.back (with_states (true_of w) w) (first_clean w (ways_clean w h).1));
     apart = ways_apart;
     tells = ways_tell;

@@ -17,21 +17,22 @@ use Rattle.mlk_walk_commands.specs.Variables.{change_at}
 use Rattle.mlk_walk_lines.specs.Loops.{Rounds, begin_round, round_or_after, after_round, step_variable, step_again, limited, parameter, parameters, controlled, and_faults, ended_in, quit_in, and_states, over_too, after_rounds, at_word, one_command, commands}
 use Rattle.mlk_walk_laws.specs.Fewer.{Among, AreDistinct, IsClean, IsPart, ListsEachOnce, FewerCases, EachAlone}
 use Rattle.mlk_walk_laws.proofs.Lists.{all_old, all_new, all_from, all_distinct, in_map}
-use Rattle.mlk_walk_laws.proofs.Rows.{Keeps, Tells, both, stays, each_keeps, clean_without, part_with}
-use Rattle.mlk_walk_laws.proofs.Counts.{few_keeps, joined_part, joined_clean, joined_apart, joined_tells}
+use Rattle.mlk_walk_laws.proofs.Rows.{Keeps, Tells, both, stays, each_keeps, clean_without, part_with, added_none, added_both, added_if}
+use Rattle.mlk_walk_laws.proofs.Counts.{few_keeps, joined_part, joined_clean, joined_apart, joined_tells, joined_adds}
 use Rattle.mlk_walk_laws.proofs.Walks.{command_keeps, value_part}
 
 -- the states in which a round ended
-round_same : (ended : List State) (w : Walk) → w.over ≡ false → after_round ended w ≡ with_states ended w
+pub round_same : (ended : List State) (w : Walk) → w.over ≡ false → after_round ended w ≡ with_states ended w
 round_same ended w e = ap (λ b. if b then w else with_states ended w) e
 
-round_clean : (ended : List State) (w : Walk) → IsClean (after_round ended w) → IsClean w
+pub round_clean : (ended : List State) (w : Walk) → IsClean (after_round ended w) → IsClean w
 round_clean ended w h =
     ⊎_elim (λ (e : w.over ≡ true). subst IsClean (ap (λ b. if b then w else with_states ended w) e) h)
     (λ (e : w.over ≡ false). clean_without ended w (subst IsClean (round_same ended w e) h)) (cases_Bool w.over)
 
-round_keeps : (ended : List State) → AreDistinct ended → Keeps (after_round ended)
+pub round_keeps : (ended : List State) → AreDistinct ended → Keeps (after_round ended)
 round_keeps ended d = record {
+  adds = λ w. added_if w.over w w (with_states ended w) (record { skips = λ c h. h; quits = λ q h. h }) (added_none w ended);
   back = round_clean ended;
   tells = λ w t.
       ⊎_elim (λ (e : w.over ≡ true). subst Tells (sym (ap (λ b. if b then w else with_states ended w) e)) t)
@@ -47,20 +48,21 @@ round_keeps ended d = record {
 }
 
 module _ (p : Spot) (r : Rounds) (d : AreDistinct r.ended) where
-  again_keeps : Keeps (step_again p r)
+  pub again_keeps : Keeps (step_again p r)
   again_keeps =
       both (λ w. step_variable p r (after_round r.ended w)) (each (begin_round p r.cases))
       (both (after_round r.ended) (step_variable p r) (round_keeps r.ended d) (each_keeps (change_at p r.column r.variable)))
       (each_keeps (begin_round p r.cases))
 
-  abbrev after_again : Walk → Walk
+  abbrev pub after_again : Walk → Walk
   after_again w = after_round r.ended (step_again p r w)
 
-  after_again_keeps : Keeps after_again
+  pub after_again_keeps : Keeps after_again
   after_again_keeps = both (step_again p r) (after_round r.ended) again_keeps (round_keeps r.ended d)
 
-  limited_keeps : Keeps (limited p r)
+  pub limited_keeps : Keeps (limited p r)
   limited_keeps = record {
+    adds = λ w. added_both w (after_again w) (limited p r w) (after_again_keeps.adds w) (joined_adds w.going (after_again w));
     back = λ w h. after_again_keeps.back w (joined_clean w.going (after_again w) h);
     apart = λ w k. joined_apart w.going (after_again w) k (after_again_keeps.apart w k);
     tells = λ w t. joined_tells w.going (after_again w) (after_again_keeps.tells w t);
@@ -69,11 +71,11 @@ module _ (p : Spot) (r : Rounds) (d : AreDistinct r.ended) where
         joined_part v.going w.going (after_again v) (after_again w) (after_again_keeps.part v w i c) c i.going i.distinct;
   }
 
-  started_keeps : (f : Walk → Walk) → Keeps f → (row : State → List Outcome) → Keeps (λ w. each row (step_variable p r (f w)))
+  pub started_keeps : (f : Walk → Walk) → Keeps f → (row : State → List Outcome) → Keeps (λ w. each row (step_variable p r (f w)))
   started_keeps f k row =
       both (λ w. step_variable p r (f w)) (each row) (both f (step_variable p r) k (each_keeps (change_at p r.column r.variable))) (each_keeps row)
 
-  parameter_keeps : (q : ParameterTree) → Keeps (λ w. parameter p r w q)
+  pub parameter_keeps : (q : ParameterTree) → Keeps (λ w. parameter p r w q)
   parameter_keeps (Once t) =
       both (λ w. each (begin_round p r.cases) (step_variable p r (value p t w))) (after_round r.ended)
       (started_keeps (value p t) (value_part p t) (begin_round p r.cases)) (round_keeps r.ended d)
@@ -88,11 +90,11 @@ module _ (p : Spot) (r : Rounds) (d : AreDistinct r.ended) where
       (round_or_after p r.cases))
       limited_keeps
 
-  parameters_keep : (qs : List ParameterTree) → Keeps (parameters p r qs)
+  pub parameters_keep : (qs : List ParameterTree) → Keeps (parameters p r qs)
   parameters_keep [] = stays
   parameters_keep (q ∷ qs) = both (λ w. parameter p r w q) (parameters p r qs) (parameter_keeps q) (parameters_keep qs)
 
-controlled_keeps : (p : Spot) (control : Option ControlTree) (cases : List Case) (ended : List State) → AreDistinct ended → Keeps (controlled p control cases ended)
+pub controlled_keeps : (p : Spot) (control : Option ControlTree) (cases : List Case) (ended : List State) → AreDistinct ended → Keeps (controlled p control cases ended)
 controlled_keeps p None cases ended d =
     both (λ w. after_round ended (each (begin_round p cases) w)) (each (begin_round p cases))
     (both (each (begin_round p cases)) (after_round ended) (each_keeps (begin_round p cases)) (round_keeps ended d)) (each_keeps (begin_round p cases))
@@ -108,8 +110,9 @@ pub no_second : {A : Type 0} (xs ys : List A) → xs ++ ys ≡ [] → ys ≡ []
 no_second [] ys e = e
 no_second (x ∷ xs) ys e = cc e
 
-faults_keep : (faults : List Fault) → Keeps (and_faults faults)
+pub faults_keep : (faults : List Fault) → Keeps (and_faults faults)
 faults_keep faults = record {
+  adds = λ w. record { skips = λ c h. h; quits = λ q h. h };
   back = λ w h. record { faultless = no_first w.faults faults h.faultless; goes_on = h.goes_on };
   apart = λ w d. d;
   tells = λ w t e h. t e (no_first w.faults faults h);
@@ -125,16 +128,17 @@ faults_keep faults = record {
 }
 
 -- states beside those that go on
-states_same : (ss : List State) (w : Walk) → w.over ≡ false → and_states ss w ≡ with_states (put_all ss w.going) w
+pub states_same : (ss : List State) (w : Walk) → w.over ≡ false → and_states ss w ≡ with_states (put_all ss w.going) w
 states_same ss w e = ap (λ b. if b then w else with_states (put_all ss w.going) w) e
 
-states_clean : (ss : List State) (w : Walk) → IsClean (and_states ss w) → IsClean w
+pub states_clean : (ss : List State) (w : Walk) → IsClean (and_states ss w) → IsClean w
 states_clean ss w h =
     ⊎_elim (λ (e : w.over ≡ true). subst IsClean (ap (λ b. if b then w else with_states (put_all ss w.going) w) e) h)
     (λ (e : w.over ≡ false). clean_without (put_all ss w.going) w (subst IsClean (states_same ss w e) h)) (cases_Bool w.over)
 
-states_keep : (ss : List State) → Keeps (and_states ss)
+pub states_keep : (ss : List State) → Keeps (and_states ss)
 states_keep ss = record {
+  adds = λ w. added_if w.over w w (with_states (put_all ss w.going) w) (record { skips = λ c h. h; quits = λ q h. h }) (added_none w (put_all ss w.going));
   back = states_clean ss;
   tells = λ w t.
       ⊎_elim (λ (e : w.over ≡ true). subst Tells (sym (ap (λ b. if b then w else with_states (put_all ss w.going) w) e)) t)
@@ -153,13 +157,13 @@ states_keep ss = record {
 
 -- FOR, given what its rounds come to
 module _ (p : Spot) (control : Option ControlTree) (cases : List Case) (inner : Walk) (d : AreDistinct inner.going) (told : Tells inner) where
-  abbrev inside : Walk → Walk
+  abbrev pub inside : Walk → Walk
   inside w = few p.line p.word (and_states (quit_in inner) (controlled p control cases (ended_in inner) (and_faults inner.faults w)))
 
-  abbrev rest_of : Walk → Walk
+  abbrev pub rest_of : Walk → Walk
   rest_of w = if inner.over then over_too (and_faults inner.faults w) else inside w
 
-  inside_keeps : Keeps inside
+  pub inside_keeps : Keeps inside
   inside_keeps =
       both (λ w. and_states (quit_in inner) (controlled p control cases (ended_in inner) (and_faults inner.faults w))) (few p.line p.word)
       (both (λ w. controlled p control cases (ended_in inner) (and_faults inner.faults w)) (and_states (quit_in inner))
@@ -168,13 +172,13 @@ module _ (p : Spot) (control : Option ControlTree) (cases : List Case) (inner : 
       (states_keep (quit_in inner)))
       (few_keeps p.line p.word)
 
-  loop_same : (w : Walk) → w.over ≡ false → inner.over ≡ false → after_rounds p control cases inner w ≡ inside w
+  pub loop_same : (w : Walk) → w.over ≡ false → inner.over ≡ false → after_rounds p control cases inner w ≡ inside w
   loop_same w e k = ap (λ b. if b then w else rest_of w) e ∙ ap (λ b. if b then over_too (and_faults inner.faults w) else inside w) k
 
   over_not : (w : Walk) → IsClean (over_too w) → ⊥
   over_not w h = true≢false h.goes_on
 
-  loop_open : (w : Walk) → IsClean (after_rounds p control cases inner w) → (w.over ≡ false) × (inner.over ≡ false) × IsClean (inside w)
+  pub loop_open : (w : Walk) → IsClean (after_rounds p control cases inner w) → (w.over ≡ false) × (inner.over ≡ false) × IsClean (inside w)
   loop_open w h =
       ⊎_elim
       (λ (e : w.over ≡ true). let k : IsClean w = subst IsClean (ap (λ b. if b then w else rest_of w) e) h in absurd (true≢false (sym e ∙ k.goes_on)))
@@ -206,8 +210,10 @@ module _ (p : Spot) (control : Option ControlTree) (cases : List Case) (inner : 
       (cases_Bool inner.over)))
       (cases_Bool w.over)
 
-  rounds_keep : Keeps (after_rounds p control cases inner)
+  pub rounds_keep : Keeps (after_rounds p control cases inner)
   rounds_keep = record {
+    adds = λ w. added_if w.over w w (rest_of w) (record { skips = λ c h. h; quits = λ q h. h })
+        (added_if inner.over w (over_too (and_faults inner.faults w)) (inside w) (record { skips = λ c h. h; quits = λ q h. h }) (inside_keeps.adds w));
     back = λ w h. let o = loop_open w h in inside_keeps.back w o.2;
     apart = loop_apart;
     tells = loop_tells;
@@ -220,7 +226,7 @@ module _ (p : Spot) (control : Option ControlTree) (cases : List Case) (inner : 
   }
 
 -- the commands of a line
-one_keeps : (p : Spot) (c : CommandTree) → Keeps (λ w. one_command p w c)
+pub one_keeps : (p : Spot) (c : CommandTree) → Keeps (λ w. one_command p w c)
 one_keeps p (Does column condition action) = command_keeps (at_word p column) condition action
 
 pub commands_keep : (p : Spot) → ListsEachOnce p.scope → (cs : CommandTrees) → Keeps (commands p cs)
@@ -235,11 +241,11 @@ pub fewer_cases : FewerCases
 fewer_cases p cs once v w i h = (commands_keep p once cs).part v w i h
 
 -- one of the cases alone
-from_one : (s t : State) (ss : List State) → Among s ss → Among t (s ∷ []) → Among t ss
+pub from_one : (s t : State) (ss : List State) → Among s ss → Among t (s ∷ []) → Among t ss
 from_one s t ss h (inl e) = subst (λ z. Among z ss) (sym e) h
 from_one s t ss h (inr r) = absurd r
 
-one_part : (cases : List Case) (c : Case) → Among c cases → IsPart (begin (c ∷ [])) (begin cases)
+pub one_part : (cases : List Case) (c : Case) → Among c cases → IsPart (begin (c ∷ [])) (begin cases)
 one_part cases c h = record {
   clean = record { faultless = refl; goes_on = refl };
   going = λ s r. from_one (at_rest c) s (map at_rest cases) (in_map at_rest c cases h) r;

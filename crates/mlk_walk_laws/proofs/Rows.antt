@@ -1,6 +1,6 @@
 -- What rows make of fewer states.
-use Rattle.std.proofs.Common.{◌≡◌, true, List, [], ◌∷◌, ◌++◌, map, refl, ap, sym, ◌∙◌, inl, inr, ⊎_elim, subst, drop}
-use Rattle.std.specs.Prelude.{◌⊎◌, flat_map}
+use Rattle.std.proofs.Common.{◌≡◌, true, false, Bool, List, [], ◌∷◌, ◌++◌, map, refl, ap, sym, ◌∙◌, inl, inr, ⊎_elim, subst, drop}
+use Rattle.std.specs.Prelude.{◌⊎◌, flat_map, if◌then◌else◌}
 use Rattle.mlk_names.specs.declared.symbol.Sym.{Sym}
 use Rattle.mlk_names.specs.declared.symbol.Sym.TheVariants.{Unknown}
 use Rattle.mlk_cert_parts.specs.declared.case.Case.{Case}
@@ -21,14 +21,33 @@ Tells w = w.over ≡ true → w.faults ≡ [] → ⊥
 
 -- A walk of a part comes to a part of what the whole comes to, where nothing wrong is found in the whole. States that are
 -- told apart stay so, what was found wrong stays, and where the line is over it is told why.
+pub record Added (v w : Walk) : Type 0 where
+  pub skips : (c : Case) → Among c v.skips → Among c w.skips
+  pub quits : (q : Quit) → Among q v.quits → Among q w.quits
+
 pub record Keeps (F : Walk → Walk) : Type 0 where
+  pub adds : (w : Walk) → Added w (F w)
   pub back : (w : Walk) → IsClean (F w) → IsClean w
   pub apart : (w : Walk) → AreDistinct w.going → AreDistinct (F w).going
   pub tells : (w : Walk) → Tells w → Tells (F w)
   pub part : (v w : Walk) → IsPart v w → IsClean (F w) → IsPart (F v) (F w)
 
+pub added_none : (w : Walk) (ss : List State) → Added w (with_states ss w)
+added_none w ss = record { skips = λ c h. h; quits = λ q h. h }
+
+pub added_with : (w v : Walk) (ss : List State) → Added (with_states ss w) v → Added w v
+added_with w v ss a = record { skips = a.skips; quits = a.quits }
+
+pub added_both : (u v w : Walk) → Added u v → Added v w → Added u w
+added_both u v w a b = record { skips = λ c h. b.skips c (a.skips c h); quits = λ q h. b.quits q (a.quits q h) }
+
+pub added_if : (b : Bool) (u v w : Walk) → Added u v → Added u w → Added u (if b then v else w)
+added_if true u v w x y = x
+added_if false u v w x y = y
+
 pub both : (F G : Walk → Walk) → Keeps F → Keeps G → Keeps (λ w. G (F w))
 both F G f g = record {
+  adds = λ w. added_both w (F w) (G (F w)) (f.adds w) (g.adds (F w));
   back = λ w h. f.back w (g.back (F w) h);
   apart = λ w d. g.apart (F w) (f.apart w d);
   tells = λ w t. g.tells (F w) (f.tells w t);
@@ -36,7 +55,7 @@ both F G f g = record {
 }
 
 pub stays : Keeps (λ w. w)
-stays = record { back = λ w h. h; apart = λ w d. d; tells = λ w t. t; part = λ v w i h. i }
+stays = record { adds = λ w. record { skips = λ c h. h; quits = λ q h. h }; back = λ w h. h; apart = λ w d. d; tells = λ w t. t; part = λ v w i h. i }
 
 -- what is said of a walk without its states
 pub clean_with : (ss : List State) (w : Walk) → IsClean w → IsClean (with_states ss w)
@@ -50,7 +69,7 @@ not_empty [] x e = cc e
 not_empty (y ∷ xs) x e = cc e
 
 -- outcomes
-abbrev NotRefused : Outcome → Type 0
+abbrev pub NotRefused : Outcome → Type 0
 NotRefused (Goes s) = Unit {0}
 NotRefused (Skips c) = Unit {0}
 NotRefused (Quits column c) = Unit {0}
@@ -68,14 +87,14 @@ add_clean (Skips c) w h k = record { faultless = h.faultless; goes_on = h.goes_o
 add_clean (Quits column c) w h k = record { faultless = h.faultless; goes_on = h.goes_on }
 add_clean (Refused line column code) w h k = absurd k
 
-all_back : (os : List Outcome) (w : Walk) → IsClean (add_all os w) → IsClean w × ((o : Outcome) → Among o os → NotRefused o)
+pub all_back : (os : List Outcome) (w : Walk) → IsClean (add_all os w) → IsClean w × ((o : Outcome) → Among o os → NotRefused o)
 all_back [] w h = (h, λ o i. absurd i)
 all_back (o ∷ os) w h =
     let t = all_back os (add o w) h in
     let u = add_back o w t.0 in
     (u.0, λ p i. ⊎_elim (λ (e : p ≡ o). subst NotRefused (sym e) u.1) (λ (r : Among p os). t.1 p r) i)
 
-all_clean : (os : List Outcome) (w : Walk) → IsClean w → ((o : Outcome) → Among o os → NotRefused o) → IsClean (add_all os w)
+pub all_clean : (os : List Outcome) (w : Walk) → IsClean w → ((o : Outcome) → Among o os → NotRefused o) → IsClean (add_all os w)
 all_clean [] w h k = h
 all_clean (o ∷ os) w h k = all_clean os (add o w) (add_clean o w h (k o (inl refl))) (λ p i. k p (inr i))
 
@@ -90,7 +109,7 @@ going_old : (os : List Outcome) (w : Walk) (s : State) → Among s w.going → A
 going_old [] w s h = h
 going_old (o ∷ os) w s h = going_old os (add o w) s (going_kept o w s h)
 
-going_new : (os : List Outcome) (w : Walk) (s : State) → Among (Goes s) os → Among s (add_all os w).going
+pub going_new : (os : List Outcome) (w : Walk) (s : State) → Among (Goes s) os → Among s (add_all os w).going
 going_new [] w s h = absurd h
 going_new (o ∷ os) w s (inl e) = going_old os (add o w) s (subst (λ z. Among s (add z w).going) e (put_new s w.going))
 going_new (o ∷ os) w s (inr h) = going_new os (add o w) s h
@@ -101,7 +120,7 @@ going_made (Skips c) w s h = inl h
 going_made (Quits column c) w s h = inl h
 going_made (Refused line column code) w s h = inl h
 
-going_from : (os : List Outcome) (w : Walk) (s : State) → Among s (add_all os w).going → Among s w.going ⊎ Among (Goes s) os
+pub going_from : (os : List Outcome) (w : Walk) (s : State) → Among s (add_all os w).going → Among s w.going ⊎ Among (Goes s) os
 going_from [] w s h = inl h
 going_from (o ∷ os) w s h =
     ⊎_elim
@@ -122,11 +141,11 @@ skips_kept (Skips d) w c h = in_front c w.skips (d ∷ []) h
 skips_kept (Quits column d) w c h = h
 skips_kept (Refused line column code) w c h = h
 
-skips_old : (os : List Outcome) (w : Walk) (c : Case) → Among c w.skips → Among c (add_all os w).skips
+pub skips_old : (os : List Outcome) (w : Walk) (c : Case) → Among c w.skips → Among c (add_all os w).skips
 skips_old [] w c h = h
 skips_old (o ∷ os) w c h = skips_old os (add o w) c (skips_kept o w c h)
 
-skips_new : (os : List Outcome) (w : Walk) (c : Case) → Among (Skips c) os → Among c (add_all os w).skips
+pub skips_new : (os : List Outcome) (w : Walk) (c : Case) → Among (Skips c) os → Among c (add_all os w).skips
 skips_new [] w c h = absurd h
 skips_new (o ∷ os) w c (inl e) = skips_old os (add o w) c (subst (λ z. Among c (add z w).skips) e (in_back c w.skips (c ∷ []) (inl refl)))
 skips_new (o ∷ os) w c (inr h) = skips_new os (add o w) c h
@@ -142,7 +161,7 @@ skips_made (Skips d) w c h =
 skips_made (Quits column d) w c h = inl h
 skips_made (Refused line column code) w c h = inl h
 
-skips_from : (os : List Outcome) (w : Walk) (c : Case) → Among c (add_all os w).skips → Among c w.skips ⊎ Among (Skips c) os
+pub skips_from : (os : List Outcome) (w : Walk) (c : Case) → Among c (add_all os w).skips → Among c w.skips ⊎ Among (Skips c) os
 skips_from [] w c h = inl h
 skips_from (o ∷ os) w c h =
     ⊎_elim
@@ -150,7 +169,7 @@ skips_from (o ∷ os) w c h =
     (λ (r : Among (Skips c) os). inr (inr r)) (skips_from os (add o w) c h)
 
 -- the cases that quit
-abbrev quit_at : Quit → Outcome
+abbrev pub quit_at : Quit → Outcome
 quit_at q = Quits q.column q.case
 
 quits_kept : (o : Outcome) (w : Walk) (q : Quit) → Among q w.quits → Among q (add o w).quits
@@ -159,11 +178,11 @@ quits_kept (Skips d) w q h = h
 quits_kept (Quits column d) w q h = in_front q w.quits (record { column = column; case = d } ∷ []) h
 quits_kept (Refused line column code) w q h = h
 
-quits_old : (os : List Outcome) (w : Walk) (q : Quit) → Among q w.quits → Among q (add_all os w).quits
+pub quits_old : (os : List Outcome) (w : Walk) (q : Quit) → Among q w.quits → Among q (add_all os w).quits
 quits_old [] w q h = h
 quits_old (o ∷ os) w q h = quits_old os (add o w) q (quits_kept o w q h)
 
-quits_new : (os : List Outcome) (w : Walk) (q : Quit) → Among (quit_at q) os → Among q (add_all os w).quits
+pub quits_new : (os : List Outcome) (w : Walk) (q : Quit) → Among (quit_at q) os → Among q (add_all os w).quits
 quits_new [] w q h = absurd h
 quits_new (o ∷ os) w q (inl e) = quits_old os (add o w) q (subst (λ z. Among q (add z w).quits) e (in_back q w.quits (q ∷ []) (inl refl)))
 quits_new (o ∷ os) w q (inr h) = quits_new os (add o w) q h
@@ -180,7 +199,7 @@ quits_made (Quits column d) w q h =
     (in_either q w.quits (record { column = column; case = d } ∷ []) h)
 quits_made (Refused line column code) w q h = inl h
 
-quits_from : (os : List Outcome) (w : Walk) (q : Quit) → Among q (add_all os w).quits → Among q w.quits ⊎ Among (quit_at q) os
+pub quits_from : (os : List Outcome) (w : Walk) (q : Quit) → Among q (add_all os w).quits → Among q w.quits ⊎ Among (quit_at q) os
 quits_from [] w q h = inl h
 quits_from (o ∷ os) w q h =
     ⊎_elim
@@ -212,6 +231,7 @@ no_old (inr x) = x
 
 pub each_keeps : (row : State → List Outcome) → Keeps (each row)
 each_keeps row = record {
+  adds = λ w. record { skips = skips_old (flat_map row w.going) (with_states [] w); quits = quits_old (flat_map row w.going) (with_states [] w) };
   back = λ w h. clean_without [] w (all_back (flat_map row w.going) (with_states [] w) h).0;
   apart = λ w d. going_distinct (flat_map row w.going) (with_states [] w) tt;
   tells = λ w t e h. t (sym (over_same (flat_map row w.going) (with_states [] w)) ∙ e) (faults_back (flat_map row w.going) (with_states [] w) h);
@@ -243,6 +263,7 @@ part_with v w ss ts i more d = record {
 
 pub changed_keeps : (change : State → State) → Keeps (each_changed change)
 changed_keeps change = record {
+  adds = λ w. added_none w (put_all (map change w.going) []);
   back = λ w h. clean_without (put_all (map change w.going) []) w h;
   apart = λ w d. all_distinct (map change w.going) [] tt;
   tells = λ w t. t;
@@ -259,6 +280,7 @@ map_distinct f one (s ∷ ss) d =
 
 pub mapped_keeps : (f : State → State) → ((s t : State) → f s ≡ f t → s ≡ t) → Keeps (λ w. with_states (map f w.going) w)
 mapped_keeps f one = record {
+  adds = λ w. added_none w (map f w.going);
   back = λ w h. clean_without (map f w.going) w h;
   apart = λ w d. map_distinct f one w.going d;
   tells = λ w t. t;

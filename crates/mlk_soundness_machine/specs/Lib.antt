@@ -1,0 +1,6 @@
+pub mod Reads
+pub mod Frames
+pub mod Facts
+pub mod Described
+pub mod Safe
+pub mod Laws

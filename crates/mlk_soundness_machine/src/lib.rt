@@ -1,0 +1,8 @@
+//! How a case describes a job, and what it means that a job is safe for so many steps.
+#![tactic(auto)]
+
+mod law;
+
+pub use law::{
+    changed_is_described, described_is_covered, described_is_in_order, safe_at_each_moment,
+};

@@ -1,0 +1,55 @@
+-- Each entry is safe for each number of steps, but for what is still asked for.
+use Rattle.std.proofs.Common.{◌≡◌, ◌<◌, ℕ, zero, suc, List, [], ◌++◌, Option, arith}
+use Rattle.mlk_rules.specs.declared.rules.RuleLists.{RuleLists}
+use Rattle.mlk_rules.specs.Sound.{IsSound}
+use Rattle.mlk_rules.proofs.RankLemmas.{one_rank}
+use Rattle.mlk_program.specs.Calls.{in_action}
+use Rattle.mlk_program.specs.Program.{is_shared}
+use Rattle.mlk_program.specs.declared.entry.EntryId.{EntryId}
+use Rattle.mlk_syntax.specs.Trees.{RoutineTree, LineTrees, ActionTree}
+use Rattle.mlk_cert_parts.specs.declared.block.EntryCert.{EntryCert}
+use Rattle.mlk_cert_parts.specs.declared.case.Case.{Case}
+use Rattle.mlk_machine_jobs.specs.Commands.{action_parts}
+use Rattle.mlk_machine_jobs.specs.Lines.{skipped, quit}
+use Rattle.mlk_machine_jobs.specs.Tasks.{Task}
+use Rattle.mlk_walk_state.specs.States.{at_rest}
+use Rattle.mlk_walk_state.specs.declared.state.State.{State}
+use Rattle.mlk_walk_exprs.specs.declared.spot.Block.{Block}
+use Rattle.mlk_walk_exprs.specs.declared.walk.Quit.{Quit}
+use Rattle.mlk_walk_lines.specs.Commands.{act}
+use Rattle.mlk_walk.specs.Verdicts.{known}
+use Rattle.mlk_walk.specs.Reports.{report}
+use Rattle.mlk_soundness_machine.specs.Described.{World, Level, IsWorld}
+use Rattle.mlk_soundness_machine.proofs.Shared.{whole_program}
+use Rattle.mlk_soundness_machine.proofs.Values.{Fits}
+use Rattle.mlk_soundness_walk.specs.Entries.{scope, first_level, EntryFits}
+use Rattle.mlk_soundness_walk.specs.Forms.{AreFormed, ListOnce}
+use Rattle.mlk_soundness_walk.specs.Ours.{AreOurs}
+use Rattle.mlk_soundness_walk.proofs.Alone.{Leads}
+use Rattle.mlk_soundness_walk.proofs.Formed.{entry_lines}
+use Rattle.mlk_soundness_walk.proofs.Framed.{entry_fits}
+use Rattle.mlk_soundness_walk.proofs.Levels.{line_fits}
+use Rattle.mlk_soundness_walk.proofs.Wells.{lists_once, well_of}
+
+module _ (routines : List RoutineTree) (rules : RuleLists) (blocks : List EntryCert) (clean : report routines rules blocks ≡ []) (formed : AreFormed routines) (sound : IsSound rules) (once : ListOnce blocks)
+    (other : (e : EntryId) (blk : EntryCert) (w : World) → IsWorld (scope routines rules (known routines rules blocks) e blk) w → (b : Level) (number level : ℕ) (in_block : Option Block) (word : ℕ)
+    (S : Case → Type 0) (Q : Quit → Type 0) (n : ℕ) (block : LineTrees) (ts : List Task)
+    → ((c : Case) → S c → Fits routines (scope routines rules (known routines rules blocks) e blk) w b [] n (skipped ts) (at_rest c))
+    → ((q : Quit) → Q q → Fits routines (scope routines rules (known routines rules blocks) e blk) w b [] n (quit ts) (at_rest q.case))
+    → (B : State → Type 0) → ((u : State) → B u → Fits routines (scope routines rules (known routines rules blocks) e blk) w b [] n ts u)
+    → (a : ActionTree) → AreOurs (scope routines rules (known routines rules blocks) e blk) (in_action a) → (s : State)
+    → Leads (act (record { scope = scope routines rules (known routines rules blocks) e blk; line = number; level = level; block = in_block; word = word }) a) s B S Q
+    → Fits routines (scope routines rules (known routines rules blocks) e blk) w b [] n (action_parts block a ++ ts) s) where
+  below : (n k : ℕ) → k < n → EntryFits routines rules (known routines rules blocks) k
+  below zero k h = absurd (omega (arith, h))
+  below (suc n) k h =
+      entry_fits routines rules blocks clean k (lists_once routines rules blocks once) (entry_lines routines rules (known routines rules blocks) formed)
+      (λ e blk at w world p block same deep is lines pass.
+      line_fits routines rules (known routines rules blocks) e blk w world sound.apart (one_rank rules.families sound.apart)
+      (λ column callee written ours t its target head body more heads. well_of routines rules (known routines rules blocks) t head body more heads formed e blk its column callee written ours target)
+      (lists_once routines rules blocks once e blk at) (whole_program (is_shared routines)) k (λ i l. below n i (omega (arith, l, h)))
+      (λ b number level in_block word S Q m le. other e blk w world b number level in_block word S Q m)
+      block (first_level w) (omega arith) lines pass k (omega arith) p same deep is)
+
+  pub each_entry : (n : ℕ) → EntryFits routines rules (known routines rules blocks) n
+  each_entry n = below (suc n) n (omega arith)

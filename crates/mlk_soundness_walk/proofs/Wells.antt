@@ -1,0 +1,171 @@
+-- What the form of a program and of a certificate says of calls and of listed cases: formals of one line differ, what a call
+-- passes by reference is shared, and no case is listed twice at a place.
+use Rattle.std.proofs.Common.{◌≡◌, ℕ, zero, suc, Bool, true, false, List, [], ◌∷◌, map, drop, Option, Some, None, refl, sym, ap, ◌∙◌, subst, arith, ⊎_elim}
+use Rattle.std.specs.Prelude.{◌⊎◌, Contains, bytes_eq, find, flat_map, zip, slice_get, option_map, option_and_then}
+use Rattle.std.specs.List.{list_any}
+use Rattle.std.proofs.lemmas.Bool.{cases_Bool, or_cases, or_left, or_right}
+use Rattle.std.proofs.lemmas.List.Elements.{Contains-append_left, Contains-append_right}
+use Rattle.mlk_names.proofs.ListLemmas.{contains_cases}
+use Rattle.mlk_rules.specs.declared.rules.RuleLists.{RuleLists}
+use Rattle.mlk_syntax.specs.Distinct as names
+use Rattle.mlk_syntax.specs.declared.expr.Callee.{Callee}
+use Rattle.mlk_syntax.specs.ExprTrees.{ActualTree, Given, ByRef, Missing}
+use Rattle.mlk_syntax.specs.Trees.{RoutineTree, Called, HeadTree, LineHead, LineTrees}
+use Rattle.mlk_program.specs.Entries.{lines_in, formals_of, target_of, line_of_entry}
+use Rattle.mlk_program.specs.Program.{PlacedCall, calls_of, called_formals, lent_by, received_by, shared_with, shared_by, is_shared}
+use Rattle.mlk_program.specs.declared.entry.EntryId.{EntryId}
+use Rattle.mlk_cert_parts.specs.declared.block.EntryCert.{EntryCert}
+use Rattle.mlk_cert_parts.specs.declared.block.Point.{Point}
+use Rattle.mlk_machine_jobs.specs.Calling.{formals_in, lines_after}
+use Rattle.mlk_machine_jobs.specs.Tasks.{LineTree}
+use Rattle.mlk_walk_state.specs.Scope.{block_at, block_of, names_entry, cases_of, is_at, listed_at}
+use Rattle.mlk_walk_state.specs.States.{at_rest}
+use Rattle.mlk_walk_state.proofs.EntryTables.{tables_are}
+use Rattle.mlk_walk_commands.specs.Arguments.{given_list}
+use Rattle.mlk_walk.specs.Verdicts.{known}
+use Rattle.mlk_walk_laws.specs.Fewer.{AreDistinct, ListsEachOnce}
+use Rattle.mlk_machine_laws.specs.Sharing.{FormalsDiffer}
+use Rattle.mlk_soundness_machine.proofs.Passing.{is_reference, refs_of, refers_to, passes}
+use Rattle.mlk_soundness_machine.proofs.Reading.{differs, name_is, name_self}
+use Rattle.mlk_soundness_machine.proofs.Shared.{whole_program}
+use Rattle.mlk_soundness_walk.specs.Entries.{scope}
+use Rattle.mlk_soundness_walk.specs.Forms.{AreFormed, ListOnce}
+use Rattle.mlk_soundness_walk.specs.Ours.{IsOurs}
+use Rattle.mlk_soundness_walk.proofs.Entries.{IsWell, first_line}
+use Rattle.mlk_soundness_walk.proofs.Formed.{contains_get}
+
+-- what is found, what is left of a list, and a list made of lists
+found_in : {A : Type 0} (is : A → Bool) (xs : List A) (a : A) → find is xs ≡ Some a → Contains xs a
+found_in is [] a h = absurd (cc h)
+found_in is (x ∷ xs) a h =
+    ⊎_elim
+    (λ (u : is x ≡ true). let z : Some x ≡ Some a = (rw u at h) in let y : x ≡ a = cc z in subst (λ k. Contains (x ∷ xs) k) y (0, omega arith, refl))
+    (λ (u : is x ≡ false). let z : find is xs ≡ Some a = (rw u at h) in let r = found_in is xs a z in (suc r.0, omega (arith, r.1), r.2))
+    (cases_Bool (is x))
+
+left_in : {A : Type 0} (n : ℕ) (xs : List A) (a : A) → Contains (drop n xs) a → Contains xs a
+left_in zero xs a i = i
+left_in (suc n) [] a i = i
+left_in (suc n) (x ∷ xs) a i = let r = left_in n xs a i in (suc r.0, omega (arith, r.1), r.2)
+
+made_in : {A B : Type 0} (f : A → List B) (xs : List A) (a : A) (y : B) → Contains xs a → Contains (f a) y → Contains (flat_map f xs) y
+made_in f [] a y i k = absurd (omega (arith, i.1))
+made_in f (x ∷ xs) a y i k =
+    ⊎_elim
+    (λ (e : x ≡ a). Contains-append_left (f x) (flat_map f xs) y (subst (λ z. Contains (f z) y) (sym e) k))
+    (λ (r : Contains xs a). Contains-append_right (f x) (flat_map f xs) y (made_in f xs a y r k))
+    (contains_cases x xs a i)
+
+is_there : (x : List ℕ) (xs : List (List ℕ)) → Contains xs x → list_any (bytes_eq x) xs ≡ true
+is_there x [] i = absurd (omega (arith, i.1))
+is_there x (y ∷ ys) i =
+    ⊎_elim
+    (λ (e : y ≡ x). or_left (bytes_eq x y) (list_any (bytes_eq x) ys) (subst (λ z. bytes_eq x z ≡ true) (sym e) (name_self x)))
+    (λ (k : Contains ys x). or_right (bytes_eq x y) (list_any (bytes_eq x) ys) (is_there x ys k))
+    (contains_cases y ys x i)
+
+-- no case is listed twice at a place
+once_at : (number round : ℕ) (points : List Point) → ((p : Point) → Contains points p → AreDistinct (map at_rest p.cases)) → AreDistinct (map at_rest (listed_at points number round))
+once_at number round points h = on (find (is_at number round) points) refl
+  where
+    on : (o : Option Point) → find (is_at number round) points ≡ o → AreDistinct (map at_rest (cases_of o))
+    on None e = tt
+    on (Some p) e = h p (found_in (is_at number round) points p e)
+
+pub lists_once : (routines : List RoutineTree) (rules : RuleLists) (blocks : List EntryCert) → ListOnce blocks → (e : EntryId) (blk : EntryCert) → block_at (known routines rules blocks).0 e ≡ Some blk
+    → ListsEachOnce (scope routines rules (known routines rules blocks) e blk)
+lists_once routines rules blocks once e blk at number round =
+    let of : block_of routines blocks e ≡ Some blk = sym ((tables_are routines blocks rules.entries).certified e) ∙ at in
+    once_at number round blk.points (once blk (found_in (λ (b : EntryCert). names_entry routines e b.entry) blocks blk of))
+
+-- formals that receive a name, and names that are passed
+none_received : (fs : List (List ℕ)) (x : List ℕ) → refs_of fs [] x ≡ false
+none_received [] x = refl
+none_received (f ∷ fs) x = ⊎_elim (λ (u : bytes_eq f x ≡ true). rw u refl) (λ (u : bytes_eq f x ≡ false). rw u (none_received fs x)) (cases_Bool (bytes_eq f x))
+
+none_passed : (fs : List (List ℕ)) (n : List ℕ) → passes fs [] n ≡ false
+none_passed [] n = refl
+none_passed (f ∷ fs) n = none_passed fs n
+
+receives : (f : List ℕ) (a : ActualTree) (x : List ℕ) → f ≡ x → is_reference a ≡ true → Contains (received_by (f, a)) x
+receives f (ByRef column name) x e h = subst (λ z. Contains (f ∷ []) z) e (0, omega arith, refl)
+receives f (Given t) x e h = differs false h refl
+receives f Missing x e h = differs false h refl
+
+received : (fs : List (List ℕ)) (given : List ActualTree) (x : List ℕ) → refs_of fs given x ≡ true → Contains (flat_map received_by (zip fs given)) x
+received [] given x h = differs false h refl
+received (f ∷ fs) [] x h = differs (refs_of (f ∷ fs) [] x) h (none_received (f ∷ fs) x)
+received (f ∷ fs) (a ∷ given) x h =
+    ⊎_elim
+    (λ (u : bytes_eq f x ≡ true).
+    let z : is_reference a ≡ true = (rw u at h) in
+    Contains-append_left (received_by (f, a)) (flat_map received_by (zip fs given)) x (receives f a x (name_is f x u) z))
+    (λ (u : bytes_eq f x ≡ false).
+    let z : refs_of fs given x ≡ true = (rw u at h) in
+    Contains-append_right (received_by (f, a)) (flat_map received_by (zip fs given)) x (received fs given x z))
+    (cases_Bool (bytes_eq f x))
+
+lends : (a : ActualTree) (n : List ℕ) → refers_to n a ≡ true → Contains (lent_by a) n
+lends (ByRef column name) n h = subst (λ z. Contains (name ∷ []) z) (name_is name n h) (0, omega arith, refl)
+lends (Given t) n h = differs false h refl
+lends Missing n h = differs false h refl
+
+lent : (fs : List (List ℕ)) (given : List ActualTree) (n : List ℕ) → passes fs given n ≡ true → Contains (flat_map lent_by given) n
+lent [] given n h = differs false h refl
+lent (f ∷ fs) [] n h = differs (passes (f ∷ fs) [] n) h (none_passed (f ∷ fs) n)
+lent (f ∷ fs) (a ∷ given) n h =
+    ⊎_elim
+    (λ u. Contains-append_left (lent_by a) (flat_map lent_by given) n (lends a n u))
+    (λ u. Contains-append_right (lent_by a) (flat_map lent_by given) n (lent fs given n u))
+    (or_cases (refers_to n a) (passes fs given n) h)
+
+-- a call shares them
+filled_names : (head : HeadTree) (written : Option (List ActualTree)) (x : List ℕ) → refs_of (formals_in head) (given_list written) x ≡ true → Contains (shared_with written (Some (formals_of head))) x
+filled_names head None x h = differs (refs_of (formals_in head) [] x) h (none_received (formals_in head) x)
+filled_names (LineHead number level end label None commands) (Some given) x h = differs false h refl
+filled_names (LineHead number level end label (Some fs) commands) (Some given) x h =
+    Contains-append_right (flat_map lent_by given) (flat_map received_by (zip fs given)) x (received fs given x h)
+
+lent_names : (fs : List (List ℕ)) (written : Option (List ActualTree)) (o : Option (Option (List (List ℕ)))) (n : List ℕ) → passes fs (given_list written) n ≡ true → Contains (shared_with written o) n
+lent_names fs None o n h = differs (passes fs [] n) h (none_passed fs n)
+lent_names fs (Some given) None n h = lent fs given n h
+lent_names fs (Some given) (Some None) n h = lent fs given n h
+lent_names fs (Some given) (Some (Some formals)) n h = Contains-append_left (flat_map lent_by given) (flat_map received_by (zip formals given)) n (lent fs given n h)
+
+shares_name : (routines : List RoutineTree) (q : PlacedCall) (x : List ℕ) → Contains (calls_of routines) q → Contains (shared_by routines q) x → is_shared routines x ≡ true
+shares_name routines q x i k = is_there x (flat_map (shared_by routines) (calls_of routines)) (made_in (shared_by routines) (calls_of routines) q x i k)
+
+module _ (routines : List RoutineTree) (rules : RuleLists) (entries : List (EntryId × EntryCert) × List EntryId) (t : EntryId) (head : HeadTree) (body : LineTrees) (lines : List LineTree)
+    (heads : lines_after routines t ≡ (head, body) ∷ lines) where
+  its_line : line_of_entry routines t ≡ Some (head, body)
+  its_line = on (slice_get routines t.routine) refl heads
+    where
+      on : (o : Option RoutineTree) → slice_get routines t.routine ≡ o → lines_after routines t ≡ (head, body) ∷ lines → line_of_entry routines t ≡ Some (head, body)
+      on None f g = let z : [] ≡ (head, body) ∷ lines = (rw f at g) in absurd (cc z)
+      on (Some tree) f g =
+          let z : drop t.line (lines_in tree) ≡ (head, body) ∷ lines = (rw f at g) in
+          ap (λ o. option_and_then (λ x. slice_get (lines_in x) t.line) o) f ∙ first_line routines rules entries (lines_in tree) t.line (head, body) lines z
+
+  its_formals : FormalsDiffer routines → names.AreDistinct (formals_in head)
+  its_formals differ = on (slice_get routines t.routine) refl heads
+    where
+      on : (o : Option RoutineTree) → slice_get routines t.routine ≡ o → lines_after routines t ≡ (head, body) ∷ lines → names.AreDistinct (formals_in head)
+      on None f g = let z : [] ≡ (head, body) ∷ lines = (rw f at g) in absurd (cc z)
+      on (Some tree) f g =
+          let z : drop t.line (lines_in tree) ≡ (head, body) ∷ lines = (rw f at g) in
+          differ tree (contains_get routines t.routine tree f) (head, body)
+          (left_in t.line (lines_in tree) (head, body) (subst (λ y. Contains y (head, body)) (sym z) (0, omega arith, refl)))
+
+  -- a call of the program is well formed
+  pub well_of : AreFormed routines → (e : EntryId) (blk its : EntryCert) (column : ℕ) (callee : Callee) (written : Option (List ActualTree)) → IsOurs (scope routines rules entries e blk) (Called column callee written)
+      → target_of routines e.routine callee ≡ Some t → IsWell (scope routines rules entries e blk).is_shared (scope routines rules entries t its).is_shared (formals_in head) (given_list written)
+  well_of formed e blk its column callee written ours target =
+      let q : PlacedCall = record { routine = e.routine; line = ours.0; call = Called column callee written } in
+      let are : called_formals routines e.routine callee ≡ Some (formals_of head) =
+      ap (λ o. option_map (λ (l : LineTree). formals_of l.0) (option_and_then (line_of_entry routines) o)) target ∙ ap (option_map (λ (l : LineTree). formals_of l.0)) its_line in
+      record {
+        distinct = its_formals formed.formals;
+        shares = whole_program (is_shared routines);
+        filled = λ x h own i. shares_name routines q x ours.1 (subst (λ o. Contains (shared_with written o) x) (sym are) (filled_names head written x h));
+        lent = λ n h own i. shares_name routines q n ours.1 (lent_names (formals_in head) written (called_formals routines e.routine callee) n h);
+      }

@@ -1,0 +1,47 @@
+-- That commands are safe for so many steps, where the walk finds nothing wrong with them. This project's own choice; the
+-- laws of this crate speak of it.
+use Rattle.std.specs.Prelude.{◌≡◌, ℕ, Bool, true, false, List, [], ◌∷◌, ◌++◌, Option, None}
+use Rattle.mlk_syntax.specs.Trees.{RoutineTree, CommandTree, ControlTree, CommandTrees, then_for, LineTrees}
+use Rattle.mlk_cert_parts.specs.declared.case.Case.{Case}
+use Rattle.mlk_machine_jobs.specs.Lines.{skipped, quit, to_end, answered, command_parts, for_parts}
+use Rattle.mlk_machine_jobs.specs.Tasks.{Task, Job}
+use Rattle.mlk_walk_state.specs.Scope.{Scope}
+use Rattle.mlk_walk_state.specs.States.{at_rest}
+use Rattle.mlk_walk_state.specs.declared.state.State.{State}
+use Rattle.mlk_walk_exprs.specs.Spots.{Spot}
+use Rattle.mlk_walk_exprs.specs.declared.walk.Quit.{Quit}
+use Rattle.mlk_walk_exprs.specs.declared.walk.Walk.{Walk}
+use Rattle.mlk_walk_lines.specs.Loops.{commands, one_command}
+use Rattle.mlk_walk_laws.specs.Fewer.{Among, IsClean}
+use Rattle.mlk_soundness_machine.specs.Described.{World, Level, Bare, idle, Describes}
+use Rattle.mlk_soundness_machine.specs.Safe.{SafeFor, Fit, KeepsTo}
+use Rattle.mlk_soundness_walk.specs.Ours.{IsOf, AreOf}
+
+-- the walk of one state at its begin
+abbrev pub alone : State → Walk
+alone s = record { going = s ∷ []; skips = []; quits = []; faults = []; over = false }
+
+module _ (routines : List RoutineTree) (w : World) (b : Level) where
+  -- each job that the state describes, and that has these tasks and no other values of its own, is safe
+  abbrev pub IsSafe : Spot → ℕ → List Task → State → Type 0
+  IsSafe p n ts s = Fit routines (KeepsTo p.scope) p.scope w b [] n ts s
+
+  -- a QUIT gives a value, and the tasks from the end on are safe
+  abbrev pub Gives : Scope → ℕ → List Task → State → Type 0
+  Gives sc n us s = (j : Job) (v : List ℕ) (more : List (List ℕ)) → Describes sc w b (Bare None ∷ []) s (idle j) → j.values ≡ v ∷ more
+      → SafeFor routines (KeepsTo sc) n (answered j us)
+
+  -- what a walk comes to is safe: where it goes on, with the tasks that follow; where it skips or quits, with what is left
+  pub record AreSafe (p : Spot) (may : Bool) (n : ℕ) (ts : List Task) (found : Walk) : Type 0 where
+    pub going : (u : State) → Among u found.going → IsSafe p n ts u
+    pub skips : (c : Case) → Among c found.skips → IsSafe p n (skipped ts) (at_rest c)
+    pub quits : (q : Quit) → Among q found.quits → IsSafe p n (quit ts) (at_rest q.case)
+    pub gives : may ≡ true → (q : Quit) → Among q found.quits → Gives p.scope n (to_end ts) (at_rest q.case)
+
+  -- a command, and a FOR with the rest of its line, where the walk finds nothing wrong and what it comes to is safe
+  pub record CommandsAreSafe (p : Spot) (block : LineTrees) (n : ℕ) : Type 0 where
+    pub one : (may : Bool) (c : CommandTree) → IsOf p.scope may c → (ts : List Task) (s : State)
+        → IsClean (one_command p (alone s) c) → AreSafe p may n ts (one_command p (alone s) c) → IsSafe p n (command_parts block c ++ ts) s
+    pub loop : (may : Bool) (column index : ℕ) (control : Option ControlTree) (rest : CommandTrees) → AreOf p.scope may (then_for column index control rest)
+        → (ts : List Task) (s : State) → IsClean (commands p (then_for column index control rest) (alone s))
+        → AreSafe p false n ts (commands p (then_for column index control rest) (alone s)) → IsSafe p n (for_parts control rest block ∷ ts) s

@@ -1,0 +1,6 @@
+//! What a report without faults says of each run of one job.
+#![tactic(auto)]
+
+mod law;
+
+pub use law::{clean_entries, entries_by_commands};
