@@ -3,7 +3,7 @@
 ghost use Rattle.std.specs.Prelude.{◌≡◌};
 ghost use Rattle.mlk_text.specs.Failures.{IsRefused, IsLike};
 
-use crate::scope::Allows;
+use crate::scope::{Allows, Passing};
 use mlk_expr_tokens::lexeme::{Kind, count_at, kind_of};
 use mlk_expr_tokens::numeral::mantissa_len;
 use mlk_expr_tokens::words::{function_of, is_select, special_of};
@@ -92,8 +92,24 @@ pub(crate) fn no_end(bytes: &[u8]) -> Failure<Offence>
     }
 }
 
-/// Why no actual stands here, where an expression is refused so: after a point stands neither a name nor a digit.
-pub(crate) fn no_actual(refusal: Failure<Offence>, bytes: &[u8]) -> Failure<Offence>
+// Whether a name begins here, too long or not.
+fn begins_name(bytes: &[u8]) -> bool {
+    match bytes.split_first() {
+        Some((first, _)) => match kind_of(*first) {
+            Kind::Letter => true,
+            _ => false,
+        },
+        None => false,
+    }
+}
+
+/// Why no actual stands here, where an expression is refused so: after a point stands neither a name that is short enough
+/// nor a digit. Where a name may not be passed by reference, the point is what is wrong before one of any length.
+pub(crate) fn no_actual(
+    passing: Passing,
+    refusal: Failure<Offence>,
+    bytes: &[u8],
+) -> Failure<Offence>
     ensures { IsLike refusal result }
 {
     let Failure::Refused(offence) = refusal else {
@@ -105,6 +121,7 @@ pub(crate) fn no_actual(refusal: Failure<Offence>, bytes: &[u8]) -> Failure<Offe
     match after.first().copied() {
         Some(b'@') => leaves_out(LeftOut::Indirection, after),
         Some(first) if is_digit(first) => Failure::Refused(offence),
+        _ if !passing.lends() && begins_name(after) => refused(Wrong::Lent, bytes),
         _ => no_name(after),
     }
 }

@@ -1,6 +1,6 @@
 -- NEW: names that are made new, and stay so until their block or frame ends. Standard: NEW; that names and items stand in
 -- order is this project's own choice, that of certificates.
-use Rattle.std.specs.Prelude.{ℕ, if◌then◌else◌, List, [], ◌∷◌, ◌++◌, filter, fold, Result, Ok, Err}
+use Rattle.std.specs.Prelude.{ℕ, Bool, not, ◌&&◌, if◌then◌else◌, List, [], ◌∷◌, ◌++◌, filter, fold, Result, Ok, Err}
 use Rattle.std.specs.BTreeSet.{insert_key}
 use Rattle.std.specs.Ordering.{nat_cmp}
 use Rattle.std.specs.Cmp.Lexicographic.{slice_cmp}
@@ -11,6 +11,7 @@ use Rattle.mlk_cert_parts.specs.declared.names.Own.{Own}
 use Rattle.mlk_cert_parts.specs.Limits.{own_below}
 use Rattle.mlk_walk_state.specs.declared.state.State.{State}
 use Rattle.mlk_walk_state.specs.Terms.{mention}
+use Rattle.mlk_walk_state.specs.Cases.{same_own}
 use Rattle.mlk_calls.specs.Changes.{changed_state}
 use Rattle.mlk_walk_exprs.specs.Walks.{Outcome, placed}
 use Rattle.mlk_walk_exprs.specs.Spots.{Spot}
@@ -22,9 +23,13 @@ put_names found names = fold (insert_key (slice_cmp nat_cmp)) found names
 abbrev pub in_order : List (List ℕ) → List (List ℕ)
 in_order names = put_names [] names
 
--- new names with these too: those that stand before them, they, and those that stand after them
+-- New names with these too: the others that do not stand after them, they, and those that stand after them. None but the
+-- same names of the same level are left out.
+abbrev pub is_before : Own → Own → Bool
+is_before o p = not (same_own p o) && not (own_below o p)
+
 abbrev pub put_own : Own → List Own → List Own
-put_own o os = filter (λ p. own_below p o) os ++ o ∷ filter (own_below o) os
+put_own o os = filter (is_before o) os ++ o ∷ filter (own_below o) os
 
 abbrev pub with_own : Own → State → State
 with_own o s = record s { case = record s.case { own = put_own o s.case.own } }

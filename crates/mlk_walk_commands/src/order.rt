@@ -8,8 +8,9 @@ ghost use Rattle.mlk_cert_lexemes.specs.Lists.{upto, more, joined};
 ghost use Rattle.mlk_cert_lexemes.specs.Texts.{name_text};
 ghost use Rattle.mlk_cert_parts.specs.Texts.{names_text};
 ghost use Rattle.mlk_cert_parts.specs.Limits.{names_below, own_below};
-ghost use Rattle.mlk_walk_commands.specs.News.{in_order, put_own};
+ghost use Rattle.mlk_walk_commands.specs.News.{in_order, is_before, put_own};
 
+use mlk_calls::is_same_own;
 use mlk_cert::{NameSet, Own};
 use mlk_text::{List, Name, copy_of};
 use std::alloc::{AllocError, Global};
@@ -112,13 +113,23 @@ fn own_below(alloc: Global, first: &Own, second: &Own) -> Result<bool, AllocErro
     is_below(alloc, &first.names, &second.names)
 }
 
+// Whether an item is another, and does not stand after this one.
+fn is_before(alloc: Global, item: &Own, other: &Own) -> Result<bool, AllocError>
+    ensures { IfOk result (λ b. b ≡ is_before item.now other.now) }
+{
+    if is_same_own(other, item) {
+        return Ok(false);
+    }
+    Ok(!own_below(alloc, item, other)?)
+}
+
 fn before(alloc: Global, own: &[Own], item: &Own) -> Result<Vec<Own>, AllocError>
-    ensures { IfOk result (λ v. v.items ≡ filter (λ p. own_below p item.now) own.now) }
+    ensures { IfOk result (λ v. v.items ≡ filter (is_before item.now) own.now) }
 {
     let room = Vec::with_capacity(alloc, own.len().saturating_add(1))?;
     let mut found = List::of(room);
     for other in own {
-        if own_below(alloc, other, item)? {
+        if is_before(alloc, item, other)? {
             found.push(copy_of(other)?)?;
         }
     }

@@ -68,7 +68,7 @@ set_decides (Only n) (AllBut ms) = no (λ e. cc)
 set_decides (AllBut ns) (Only m) = no (λ e. cc)
 set_decides (AllBut ns) (AllBut ms) = Decides-like (pairwise bytes_eq ns ms) (λ e. ap AllBut e) (λ e. cc) (lists_decide bytes_eq bytes_eq-Decides ns ms)
 
-own_decides : (o p : Own) → Decides (same_own o p) (o ≡ p)
+pub own_decides : (o p : Own) → Decides (same_own o p) (o ≡ p)
 own_decides o p =
     Decides-like (same_own o p)
     (λ (h : (o.level ≡ p.level) × (o.names ≡ p.names)). ap (λ z. record o { level = z }) h.0 ∙ ap (λ z. record p { names = z }) h.1)

@@ -11,10 +11,11 @@ mod symbol;
 mod term;
 
 pub use law::{
-    all_but_allows, folds_are, held_are, includes_decides, rank_is, same_decides, tables_are,
+    all_but_allows, folds_are, held_are, includes_decides, rank_is, same_decides, shares_by_own,
+    tables_are,
 };
 pub use listed::{is_exit, is_listed};
-pub use names::{have, is_among, is_own, may_change, take_out};
+pub use names::{have, is_among, is_own, is_same_own, may_change, take_out};
 pub use scope::{Entries, Scope};
 pub use state::{Refusal, State, before_last, copy_case, last_of};
 pub use symbol::{symbol_of, truth_of};

@@ -1,8 +1,9 @@
 // Names that may change.
 
-ghost use Rattle.std.specs.Prelude.{◌≡◌, IfOk, OnOk};
+ghost use Rattle.std.specs.Prelude.{◌≡◌, ◌↔◌, IsTrue, IfOk, OnOk};
 ghost use Rattle.std.specs.List.{list_any, list_all};
 ghost use Rattle.mlk_cert_parts.specs.declared.names.Own.{Own as item};
+ghost use Rattle.mlk_walk_state.specs.Cases.{same_own};
 ghost use Rattle.mlk_walk_state.specs.Names.{is_among, has, have, is_own, spares, may_change, without};
 
 use mlk_cert::{NameSet, Own, Shared};
@@ -42,6 +43,19 @@ pub fn is_own(own: &[Own], name: &Name) -> bool
     ensures { result ≡ is_own own.now name.now }
 {
     own.iter().any(|item| has(&item.names, name))
+}
+
+fn is_equal_own(first: &Own, second: &Own) -> bool
+    ensures { IsTrue result ↔ (first.now ≡ second.now) }
+{
+    first == second
+}
+
+/// Whether two items are one: the same names, made new at the same level. It takes no memory.
+pub fn is_same_own(first: &Own, second: &Own) -> bool
+    ensures { result ≡ same_own first.now second.now }
+{
+    is_equal_own(first, second)
 }
 
 pub(crate) fn are_among(names: &[Name], others: &[Name]) -> bool

@@ -45,7 +45,7 @@ fn actual<'a>(
     }
     match chain(alloc, scope, bytes) {
         Ok((value, rest)) => Ok((Actual::Value(value), rest)),
-        Err(refusal) => Err(no_actual(refusal, bytes)),
+        Err(refusal) => Err(no_actual(passing, refusal, bytes)),
     }
 }
 
