@@ -79,7 +79,7 @@ pub enum Code {
     NoEnd = 606,
     /// 701: a reference that surely lies in no rule
     Unruled = 701,
-    /// 702: a cover rule may be met and its lock is not held
+    /// 702: a cover rule may be met and a lock that it asks for is not held
     Uncovered = 702,
     /// 703: a write that may meet a readonly rule
     ReadOnly = 703,

@@ -45,7 +45,7 @@ impl Code {
             Code::CertLimit => "a certificate past one of its limits",
             Code::NoEnd => "a certificate that ends before its end line",
             Code::Unruled => "a reference that surely lies in no rule",
-            Code::Uncovered => "a cover rule may be met and its lock is not held",
+            Code::Uncovered => "a cover rule may be met and a lock that it asks for is not held",
             Code::ReadOnly => "a write that may meet a readonly rule",
             Code::NotPrivate => "a private rule may be met without the job's own number",
             Code::Pinned => "a change of a name that a held lock mentions",

@@ -140,7 +140,7 @@ fn codes_as_sentences(rt: HostRuntime) -> Result<(), Fail> {
     let text = Code::Uncovered.to_string(rt.alloc())?;
     assert_eq!(rt;
         text.as_str(),
-        "a cover rule may be met and its lock is not held"
+        "a cover rule may be met and a lock that it asks for is not held"
     );
     Ok(())
 }
