@@ -25,8 +25,8 @@ use Rattle.mlk_machine_jobs.specs.Locking.{if_free, granted, claimed, held_more,
 use Rattle.mlk_machine_jobs.specs.Lines.{to_end, chosen, tasks_if}
 use Rattle.mlk_machine_jobs.specs.Calling.{frame_of, called_if, lines_after}
 use Rattle.mlk_machine_jobs.specs.Advance.{advance}
-use Rattle.mlk_machine_jobs.specs.Runs.{blank, by_value, formals_at, begun, aborted, seen, machine}
-use Rattle.mlk_machine_jobs.specs.Laws.{HeldApart, OneRunOfMany, LeavingOut, ChangesOne, RingsAreFound, EndedStays}
+use Rattle.mlk_machine_jobs.specs.Runs.{blank, by_value, formals_at, begun, aborted, seen, is_job_number, machine}
+use Rattle.mlk_machine_jobs.specs.Laws.{HeldApart, NumbersDistinct, OneRunOfMany, LeavingOut, ChangesOne, RingsAreFound, EndedStays}
 use Rattle.mlk_machine_jobs.proofs.StepLemmas.{Keeps, when_done, same, refused, unasked, of_value, of_truth, of_last, of_condition, of_result}
 use Rattle.mlk_machine_jobs.proofs.StepLemmas.{of_fetch, of_touch, of_select, of_choice, of_line, of_entered, of_call, of_call_if, of_answer, of_answer_held, of_end, of_claim, of_release, of_release_all}
 
@@ -164,7 +164,7 @@ stops j (t ∷ ts) =
 
 begins : (routines : List RoutineTree) (declared : EntryId → Bool) (e : EntryId) (test : Bool) (values : List (List ℕ)) (k : ℕ)
     → Keeps (λ n. false) (blank k test values) ((machine routines declared).begin e test values k)
-begins routines declared e test values k i h = elim (cases_Bool (declared e)) [
+begins routines declared e test values k i h = elim (cases_Bool (declared e && is_job_number k)) [
   | inl d ↦
       let g : begun routines e k test values ≡ Ok i = rw d at h in
       elim (cases_Bool (nat_lt (formals_at (lines_after routines e)) (length values))) [
@@ -196,6 +196,9 @@ module _ (routines : List RoutineTree) (declared : EntryId → Bool) where
 
 pub held_apart : HeldApart
 held_apart routines declared = systems.held_apart (machine routines declared) (is_machine routines declared)
+
+pub numbers_distinct : NumbersDistinct
+numbers_distinct routines declared = systems.numbers_distinct (machine routines declared) (is_machine routines declared)
 
 pub one_run_of_many : OneRunOfMany
 one_run_of_many routines declared = systems.one_run_of_many (machine routines declared) (is_machine routines declared)

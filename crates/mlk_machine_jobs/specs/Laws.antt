@@ -21,6 +21,10 @@ use Rattle.mlk_machine_jobs.specs.Runs.{machine, go, aborted, seen}
 abbrev pub HeldApart : Type 0
 HeldApart = (routines : List RoutineTree) (declared : EntryId → Bool) → any.HeldApart (machine routines declared)
 
+-- In every run each number is that of one job.
+abbrev pub NumbersDistinct : Type 0
+NumbersDistinct = (routines : List RoutineTree) (declared : EntryId → Bool) → any.NumbersDistinct (machine routines declared)
+
 -- Each job of a run is what its own acts alone make of it.
 abbrev pub OneRunOfMany : Type 0
 OneRunOfMany = (routines : List RoutineTree) (declared : EntryId → Bool) → any.OneRunOfMany (machine routines declared)

@@ -1,6 +1,6 @@
 -- How a job begins and is aborted, and the machine of all jobs of a program. This project's own: M's standard says what
 -- one process does.
-use Rattle.std.specs.Prelude.{ℕ, nat_lt, Bool, true, false, if◌then◌else◌, List, [], ◌∷◌, length, reverse, map, Option, Some, None, Ok, Err}
+use Rattle.std.specs.Prelude.{ℕ, nat_lt, ◌&&◌, Bool, true, false, if◌then◌else◌, List, [], ◌∷◌, length, reverse, map, Option, Some, None, Ok, Err}
 use Rattle.mlk_names.specs.declared.lock_name.LockName.{LockName}
 use Rattle.mlk_machine_locks.specs.declared.refusal.Refusal.TheVariants.{NotEnabled, BadChoice}
 use Rattle.mlk_machine_locks.specs.Waiting.{Claim, View}
@@ -60,11 +60,15 @@ next_claim ts = None
 abbrev pub seen : Job → View
 seen j = record { number = j.number; held = j.held; next = next_claim j.tasks }
 
+-- The numbers that jobs may have, from 1 to 4,294,967,295, as files of events write them. This project's own choice.
+abbrev pub is_job_number : ℕ → Bool
+is_job_number k = nat_lt 0 k && nat_lt k 4294967296
+
 -- The machine of these routines, whose jobs begin at declared entries.
 abbrev pub machine : List RoutineTree → (EntryId → Bool) → Machine Job Choice EntryId
 machine routines declared = record {
   view = seen;
-  begin = λ e test values k. if declared e then begun routines e k test values else Err NotEnabled;
+  begin = λ e test values k. if declared e && is_job_number k then begun routines e k test values else Err NotEnabled;
   go = λ free c j. go routines free c j;
   abort = λ j. aborted j j.tasks;
 }

@@ -1,10 +1,15 @@
 // What every run keeps to.
 
-ghost use Rattle.mlk_machine_jobs.specs.Laws.{HeldApart, OneRunOfMany, LeavingOut, ChangesOne, RingsAreFound, EndedStays, FoldsAgree, SettlesBySteps};
+ghost use Rattle.mlk_machine_jobs.specs.Laws.{HeldApart, NumbersDistinct, OneRunOfMany, LeavingOut, ChangesOne, RingsAreFound, EndedStays, FoldsAgree, SettlesBySteps};
 
 /// In every run, no job holds a lock that conflicts with one that another job holds.
 pub fn held_apart()
     ensures { HeldApart }
+{}
+
+/// In every run, each number is that of one job.
+pub fn numbers_distinct()
+    ensures { NumbersDistinct }
 {}
 
 /// Each job of a run of many is what its own acts alone make of it, from the entry at which they begin.

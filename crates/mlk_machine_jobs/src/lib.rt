@@ -21,7 +21,8 @@ pub use cell::{Table, add_generation, forget};
 pub use choice::Choice;
 pub use job::Job;
 pub use law::{
-    changes_one, ended_stays, folds_agree, held_apart, leaving_out, one_run_of_many,
+    changes_one, ended_stays, folds_agree, held_apart, leaving_out, numbers_distinct,
+    one_run_of_many,
     rings_are_found, settles_by_steps,
 };
 pub use locking::{count_all, count_in, cut_after, lock_names};

@@ -31,12 +31,12 @@ use Rattle.mlk_machine_jobs.specs.declared.choice.Choice.TheVariants as choice
 use Rattle.mlk_machine_jobs.specs.Tasks.{Task, Job, NoValue}
 use Rattle.mlk_machine_jobs.specs.Calling.{entered, lines_after}
 use Rattle.mlk_machine_jobs.specs.Choices.{Stepped}
-use Rattle.mlk_machine_jobs.specs.Runs.{blank, seen, by_value, begun, machine, go, next_claim, aborted}
+use Rattle.mlk_machine_jobs.specs.Runs.{blank, seen, by_value, begun, is_job_number, machine, go, next_claim, aborted}
 use Rattle.mlk_machine_jobs.specs.Advance.{advance}
 use Rattle.mlk_machine_locks.specs.Waiting.{awaited}
 use Rattle.mlk_machine_jobs.specs.Seen.{Clash, ready_in}
 use Rattle.mlk_machine_laws.specs.Order.{IsAboveAll}
-use Rattle.mlk_machine_laws.specs.Laws.{IsNumber, IsWithoutRing}
+use Rattle.mlk_machine_laws.specs.Laws.{IsWithoutRing}
 use Rattle.mlk_machine_laws.proofs.Runs.{no_clash, no_ring, all_end_empty}
 use Rattle.mlk_machine_jobs.proofs.Trees.{global, set, commands, at_label, routine, first_entry}
 use Rattle.mlk_machine_laws.specs.Moments.{IsHeld, IsCoveredAt, StandsCovered, StandsInOrder, EndsEmpty, AtEachMoment}
@@ -280,9 +280,9 @@ begins r l e d test [] k first h = is_it (at test k 0) first (begun careful firs
 begins r l e d test (v ∷ vs) k first h = no_such BadChoice first (begun careful first_entry k test (v ∷ vs)) (too_many test v vs k) (rw (e, d) at h)
 
 always : AtEachMoment careful declared Keeps
-always e test values k first j acts h g = elim (cases_Bool (declared e)) [
+always e test values k first j acts h g = elim (cases_Bool (declared e && is_job_number k)) [
   | inl d ↦
-      let p = and_parts (e.routine == 0) (e.line == 0) d in
+      let p = and_parts (e.routine == 0) (e.line == 0) (and_parts (declared e) (is_job_number k) d).0 in
       let b : begun careful e k test values ≡ Ok first = rw d at h in
       let f : first ≡ at test k 0 = begins e.routine e.line (eqb-true e.routine 0 p.0) (eqb-true e.line 0 p.1) test values k first b in
       from0 test k acts j (subst (λ i. lone_run its_machine acts i ≡ Ok j) f g)
@@ -291,7 +291,7 @@ always e test values k first j acts h g = elim (cases_Bool (declared e)) [
 
 -- The laws speak of it.
 pub no_clash_here : (events : List (Event Choice EntryId)) (jobs : List Job) → after its_machine events [] ≡ Ok jobs
-    → (i j : Job) → Among i jobs → Among j jobs → IsNumber i.number → IsNumber j.number → Clash i j → ⊥
+    → (i j : Job) → Among i jobs → Among j jobs → Clash i j → ⊥
 no_clash_here = no_clash careful declared rules sound (λ e test values k first j acts h g. (always e test values k first j acts h g).covered)
 
 pub no_ring_here : (events : List (Event Choice EntryId)) (jobs : List Job) → after its_machine events [] ≡ Ok jobs → IsWithoutRing jobs

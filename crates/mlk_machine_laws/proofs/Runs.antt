@@ -1,18 +1,20 @@
 -- Each job of a run is what its own acts make of it, and what two jobs hold is apart: so what each keeps to by itself tells
 -- of all.
-use Rattle.std.proofs.Common.{◌≡◌, Bool, true, List, [], Ok, sym, ◌∙◌, ⊎_elim}
-use Rattle.std.proofs.lemmas.Bool.{false_from_ne_true}
+use Rattle.std.proofs.Common.{◌≡◌, ◌<◌, ◌^◌, ℕ, Bool, true, List, [], Ok, Err, sym, ◌∙◌, ⊎_elim, inl, inr, arith}
+use Rattle.std.specs.Prelude.{◌&&◌, nat_lt}
+use Rattle.std.proofs.lemmas.Bool.{false_from_ne_true, cases_Bool, and_parts, ltb-true}
 use Rattle.std.proofs.lemmas.Fmt.{decimal_injective}
 use Rattle.mlk_rules.proofs.Apart.{covered_apart}
 use Rattle.mlk_rules.proofs.SoundLemmas.{by_job}
 use Rattle.mlk_machine_locks.specs.Lists.{Among}
 use Rattle.mlk_machine_locks.specs.Systems.{Event, after}
 use Rattle.mlk_machine_locks.specs.Laws.{has_ring_of}
+use Rattle.mlk_machine_locks.specs.declared.refusal.Refusal.TheVariants.{NotEnabled}
 use Rattle.mlk_syntax.specs.Trees.{RoutineTree}
 use Rattle.mlk_program.specs.declared.entry.EntryId.{EntryId}
 use Rattle.mlk_machine_jobs.specs.declared.choice.Choice.{Choice}
 use Rattle.mlk_machine_jobs.specs.Tasks.{Job}
-use Rattle.mlk_machine_jobs.specs.Runs.{machine, seen}
+use Rattle.mlk_machine_jobs.specs.Runs.{machine, seen, is_job_number}
 use Rattle.mlk_machine_jobs.proofs.MachineLemmas.{held_apart, one_run_of_many, rings_found}
 use Rattle.mlk_machine_laws.specs.Moments.{StandsCovered, StandsInOrder, EndsEmpty, AtEachMoment}
 use Rattle.mlk_machine_laws.specs.Laws.{NoClash, NoRing, AllEndEmpty}
@@ -25,8 +27,30 @@ module _ (routines : List RoutineTree) (declared : EntryId → Bool) (Keeps : Jo
       let s = (one_run_of_many routines declared events jobs h j a).lone in
       each s.entry s.test s.values j.number s.first j (one_run_of_many routines declared events jobs h j a).acts s.is_first s.runs
 
+-- the numbers of jobs are such as jobs may have
+small : (k : ℕ) → is_job_number k ≡ true → k < 2 ^ 64
+small k h =
+    let p = and_parts (nat_lt 0 k) (nat_lt k 4294967296) h in
+    let q : k < 4294967296 = (ltb-true k 4294967296 p.1) in
+    omega (arith, q)
+
+its_number : (routines : List RoutineTree) (declared : EntryId → Bool) (events : List (Event Choice EntryId)) (jobs : List Job)
+    → after (machine routines declared) events [] ≡ Ok jobs → (j : Job) → Among j jobs → j.number < 2 ^ 64
+its_number routines declared events jobs h j a =
+    let s = (one_run_of_many routines declared events jobs h j a).lone in
+    may s.entry s.test s.values j.number s.first s.is_first
+  where
+    may : (e : EntryId) (test : Bool) (values : List (List ℕ)) (k : ℕ) (first : Job)
+        → (machine routines declared).begin e test values k ≡ Ok first → k < 2 ^ 64
+    may e test values k first g = elim (cases_Bool (declared e && is_job_number k)) [
+      | inl d ↦ small k (and_parts (declared e) (is_job_number k) d).1
+      | inr d ↦ let z : Err NotEnabled ≡ Ok first = rw d at g in cc
+    ]
+
 pub no_clash : NoClash
-no_clash routines declared rules sound each events jobs h i j a b m n clash =
+no_clash routines declared rules sound each events jobs h i j a b clash =
+    let m = its_number routines declared events jobs h i a in
+    let n = its_number routines declared events jobs h j b in
     let p = in_run routines declared (StandsCovered rules) each events jobs h i a clash.one clash.is_one in
     let q = in_run routines declared (StandsCovered rules) each events jobs h j b clash.other clash.is_other in
     ⊎_elim

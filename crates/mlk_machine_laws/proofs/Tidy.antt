@@ -14,7 +14,7 @@ use Rattle.mlk_machine_jobs.specs.Tasks.{Job, NoValue, Mark, BlockMark, FrameMar
 use Rattle.mlk_machine_jobs.specs.Calling.{binder, binders, with_actuals, next_actual, later_actuals, lines_after, formals_in}
 use Rattle.mlk_machine_jobs.specs.Choices.{Stepped, without_choice, doing}
 use Rattle.mlk_machine_jobs.specs.Advance.{advance}
-use Rattle.mlk_machine_jobs.specs.Runs.{machine, blank, by_value, formals_at}
+use Rattle.mlk_machine_jobs.specs.Runs.{machine, is_job_number, blank, by_value, formals_at}
 use Rattle.mlk_machine_laws.specs.Tidy.{Below, AreNested, AreNew}
 use Rattle.mlk_machine_laws.specs.Laws.{EachIsTidy, NewIsNew}
 use Rattle.mlk_machine_laws.proofs.Kept.{Kept, kept_by, kept, Bound, untouched, stores, kills, news, Opened, as_block, as_frame, Move, stays, opens, ends, halts, Moves, refused, of_if, of_entered}
@@ -127,7 +127,7 @@ tidy_after routines j i t (halts e b n x) = given_by j.bindings j.next j.cells [
 module _ (routines : List RoutineTree) (declared : EntryId → Bool) where
   pub begins : (e : EntryId) (test : Bool) (values : List (List ℕ)) (k : ℕ) → Moves routines (blank k test values) ((machine routines declared).begin e test values k)
   begins e test values k =
-      of_if routines (blank k test values) (declared e) _ _
+      of_if routines (blank k test values) (declared e && is_job_number k) _ _
       (of_if routines (blank k test values) (nat_lt (formals_at (lines_after routines e)) (length values)) _ _ (refused routines (blank k test values) BadChoice)
       (of_entered routines (blank k test values) NoValue e.routine (by_value values) e (lines_after routines e) refl [] (blank k test values) refl refl refl refl (λ t h. cc)))
       (refused routines (blank k test values) NotEnabled)

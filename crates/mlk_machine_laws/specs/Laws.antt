@@ -1,5 +1,5 @@
 -- What follows for runs of any number of jobs.
-use Rattle.std.specs.Prelude.{◌≡◌, ℕ, ◌<◌, ◌^◌, Bool, true, false, List, [], Ok}
+use Rattle.std.specs.Prelude.{◌≡◌, ℕ, Bool, true, false, List, [], Ok}
 use Rattle.mlk_rules.specs.declared.rules.RuleLists.{RuleLists}
 use Rattle.mlk_rules.specs.Sound.{IsSound}
 use Rattle.mlk_machine_locks.specs.Lists.{Among}
@@ -18,10 +18,6 @@ use Rattle.mlk_machine_laws.specs.Outside.{KeepsOutside}
 use Rattle.mlk_machine_laws.specs.Tidy.{IsTidy, MakesNew, Kills}
 use Rattle.mlk_machine_laws.specs.Moments.{StandsCovered, StandsInOrder, EndsEmpty, AtEachMoment}
 
--- the number is one whose digits `$JOB` gives
-abbrev pub IsNumber : ℕ → Type 0
-IsNumber k = k < 2 ^ 64
-
 -- Where each job by itself always holds what covers the reference at which it stands ready, no two jobs clash, in any
 -- run of any number of jobs begun at declared entries.
 abbrev pub NoClash : Type 0
@@ -29,7 +25,7 @@ NoClash =
     (routines : List RoutineTree) (declared : EntryId → Bool) (rules : RuleLists) → IsSound rules
     → AtEachMoment routines declared (StandsCovered rules)
     → (events : List (Event Choice EntryId)) (jobs : List Job) → after (machine routines declared) events [] ≡ Ok jobs
-    → (i j : Job) → Among i jobs → Among j jobs → IsNumber i.number → IsNumber j.number → Clash i j → ⊥
+    → (i j : Job) → Among i jobs → Among j jobs → Clash i j → ⊥
 
 -- No jobs of these wait for each other in a ring: the test finds none, no list of some of them is one, and no other set
 -- of some of them either.

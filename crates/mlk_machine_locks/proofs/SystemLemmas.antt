@@ -11,7 +11,7 @@ use Rattle.mlk_machine_locks.specs.Lists.{Among}
 use Rattle.mlk_machine_locks.specs.Counts.{excludes}
 use Rattle.mlk_machine_locks.specs.Waiting.{Holds}
 use Rattle.mlk_machine_locks.specs.Systems.{Machine, IsMachine, Act, Begin, Go, Abort, Event, and_then, number, is_free, is_used, changed, joined, happens, after, alone, lone_run, acts_of, IsAlone}
-use Rattle.mlk_machine_locks.specs.Laws.{AreApart, HeldApart, OneRunOfMany}
+use Rattle.mlk_machine_locks.specs.Laws.{AreApart, AreDistinct, HeldApart, NumbersDistinct, OneRunOfMany}
 use Rattle.mlk_machine_locks.proofs.Answered.{done_then}
 use Rattle.mlk_machine_locks.proofs.NameLemmas.{excludes_if}
 
@@ -46,8 +46,7 @@ acts_other k e es h = let t : (e.job == k) ≡ false = ne_eqb e.job k h in rw t 
 module _ {J C E : Type 0} (m : Machine J C E) (is : IsMachine m) where
   -- each number is that of one job
   abbrev Distinct : List J → Type 0
-  Distinct [] = Unit {0}
-  Distinct (j ∷ js) = ((i : J) → Among i js → number m i ≢ number m j) × Distinct js
+  Distinct = AreDistinct m.view
 
   abbrev Unused : ℕ → List J → Type 0
   Unused k jobs = (j : J) → Among j jobs → number m j ≢ k
@@ -332,6 +331,9 @@ module _ {J C E : Type 0} (m : Machine J C E) (is : IsMachine m) where
 
   pub held_apart : HeldApart m
   held_apart events jobs h = (ran events [] jobs begins_sound h).sound.apart
+
+  pub numbers_distinct : NumbersDistinct m
+  numbers_distinct events jobs h = (ran events [] jobs begins_sound h).sound.distinct
 
   from_none : (events : List (Event C E)) (i : J) → Whence events [] i → IsAlone m events i
   unfolding Whence Was Since

@@ -1,5 +1,5 @@
 -- What holds of jobs that share locks.
-use Rattle.std.specs.Prelude.{◌≡◌, ◌≢◌, ◌↔◌, ℕ, suc, ◌<◌, Bool, true, List, [], Ok, ◌==◌, not, filter}
+use Rattle.std.specs.Prelude.{◌≡◌, ◌≢◌, ◌↔◌, ℕ, suc, ◌<◌, Bool, true, List, [], ◌∷◌, Ok, ◌==◌, not, filter}
 use Rattle.mlk_names.specs.declared.lock_name.LockName.{LockName}
 use Rattle.mlk_names.specs.LockNames.{IsAbove, Conflict}
 use Rattle.mlk_machine_locks.specs.Lists.{Among}
@@ -47,6 +47,16 @@ has_ring_of view xs = has_ring (waits_as view) xs
 -- The test finds a ring exactly where there is one.
 abbrev pub RingsAreFound : {X : Type 0} → (X → View) → Type 0
 RingsAreFound {X} view = (jobs : List X) → (has_ring_of view jobs ≡ true) ↔ HasRing (Waits view) jobs
+
+-- No number is that of two jobs.
+abbrev pub AreDistinct : {X : Type 0} → (X → View) → List X → Type 0
+AreDistinct view [] = Unit {0}
+AreDistinct {X} view (x ∷ xs) = ((y : X) → Among y xs → (view y).number ≢ (view x).number) × AreDistinct view xs
+
+-- In each run the numbers of the jobs are distinct.
+abbrev pub NumbersDistinct : {J C E : Type 0} → Machine J C E → Type 0
+NumbersDistinct {J} {C} {E} m =
+    (events : List (Event C E)) (jobs : List J) → after m events [] ≡ Ok jobs → AreDistinct m.view jobs
 
 -- No name that one job holds conflicts with one that another holds.
 abbrev pub AreApart : {X : Type 0} → (X → View) → List X → Type 0

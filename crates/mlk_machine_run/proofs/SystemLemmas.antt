@@ -144,6 +144,10 @@ module _ {J C E : Type 0} (m : Machine J C E) (k : ℕ) (js : List J) (b : Resul
       → joined m k js (if d then b else Err NotEnabled) ≡ and_then (λ j. Ok (js ++ j ∷ [])) b
   join_declared d e h = rw (h, e) refl
 
+  pub join_refused : (d : Bool) → d ≡ false → is_numbered m.view js k ≡ false
+      → joined m k js (if d then b else Err NotEnabled) ≡ Err NotEnabled
+  join_refused d e h = rw (h, e) refl
+
 pub same_at : (js : List JobIn) (i : ℕ) (x y : JobIn) → i < length js → x ≡ get_or js i x → y ≡ get_or js i y → x ≡ y
 same_at [] i x y l e d = absurd (omega arith)
 same_at (j ∷ js) zero x y l e d = e ∙ sym d

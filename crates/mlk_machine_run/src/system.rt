@@ -1,6 +1,6 @@
 // Jobs that run a program and share its locks.
 
-ghost use Rattle.std.specs.Prelude.{◌≡◌, OnErr, Ok, Bool, List, map};
+ghost use Rattle.std.specs.Prelude.{◌≡◌, ◌&&◌, OnErr, Ok, Bool, List, map};
 ghost use Rattle.mlk_text.specs.Failures.{Answers};
 ghost use Rattle.mlk_machine_locks.specs.Systems as systems;
 ghost use Rattle.mlk_machine_locks.specs.Waiting.{is_numbered};
@@ -8,7 +8,7 @@ ghost use Rattle.mlk_machine_locks.specs.Systems.{and_then, happens};
 ghost use Rattle.mlk_program.specs.declared.entry.EntryId.{EntryId as EntryOf};
 ghost use Rattle.mlk_syntax.specs.Trees.{RoutineTree};
 ghost use Rattle.mlk_syntax.specs.Views.{routine_of};
-ghost use Rattle.mlk_machine_jobs.specs.Runs.{machine, seen};
+ghost use Rattle.mlk_machine_jobs.specs.Runs.{machine, seen, is_job_number};
 ghost use Rattle.mlk_machine_jobs.specs.JobViews.{job_of};
 ghost use Rattle.mlk_machine_locks.specs.Tables.{Covers};
 ghost use Rattle.mlk_machine_run.specs.Jobs.{AreSound, IsPlaceOf, StayCovered, seen_in};
@@ -73,6 +73,20 @@ pub fn abort(
     jobs[place].abort(alloc)
 }
 
+// Whether jobs may have a number: 0 is none.
+fn is_job_number(number: u32) -> bool
+    ensures { result ≡ is_job_number number }
+{
+    number > 0
+}
+
+// Whether a job of this number may begin at an entry, if that is declared.
+fn may_begin(is_declared: bool, number: u32) -> bool
+    ensures { result ≡ (is_declared && is_job_number number) }
+{
+    is_declared && is_job_number(number)
+}
+
 /// A new job begins at an entry, after the others; `is_declared` says whether the entry may be begun at, `is_used` whether
 /// a job has its number.
 pub fn join<'a>(
@@ -99,7 +113,7 @@ pub fn join<'a>(
     if is_used {
         return Err(Failure::Refused(Refusal::NotEnabled));
     }
-    if !is_declared {
+    if !may_begin(is_declared, number) {
         return Err(Failure::Refused(Refusal::NotEnabled));
     }
     match begin(alloc, program, entry, number, test, values) {

@@ -1,11 +1,12 @@
 use Rattle.std.proofs.Common.{◌≡◌, ◌∙◌, false, [], ◌∷◌, ◌++◌, map, Ok, ap, sym, subst}
+use Rattle.std.specs.Prelude.{◌&&◌}
 use Rattle.std.proofs.lemmas.List.{map-append}
 use Rattle.mlk_text.specs.Failures.{FailsAs}
 use Rattle.mlk_machine_locks.specs.Waiting.{is_numbered}
 use Rattle.mlk_machine_locks.specs.Systems.{and_then}
 use Rattle.mlk_syntax.specs.Views.{routine_of}
 use Rattle.mlk_machine_jobs.specs.Tasks.{Job}
-use Rattle.mlk_machine_jobs.specs.Runs.{machine, seen}
+use Rattle.mlk_machine_jobs.specs.Runs.{machine, seen, is_job_number}
 use Rattle.mlk_machine_jobs.specs.JobViews.{job_of}
 use Rattle.mlk_machine_run.specs.Jobs.{AreSound, StayCovered}
 use Rattle.mlk_machine_run.proofs.SystemLemmas.{join_used, join_declared, fails_then, sound_more}
@@ -28,7 +29,8 @@ returns-in-Ok-push-clause-answer c = λ declared h.
     let unused : is_numbered seen (map job_of js) c.args.number ≡ false =
     sym c.requires.used ∙ c.if-is_used.false in
     join_declared (machine (map routine_of c.args.program.now) declared) c.args.number (map job_of js) _
-    (declared c.args.entry) (h ∙ c.if-not-is_declared.false) unused
+    (declared c.args.entry && is_job_number c.args.number)
+    (ap (λ d. d && is_job_number c.args.number) h ∙ sym c.may_begin.ensures ∙ c.if-not-may_begin.false) unused
     ∙ ap (and_then (λ (j : Job). Ok (map job_of js ++ j ∷ []))) c.in-Ok.ensures.job
     ∙ ap Ok (sym (ap (map job_of) c.in-Ok-push.ensures.items ∙ map-append job_of js (c.in-Ok.job ∷ [])))
 
@@ -39,7 +41,8 @@ returns-in-Err-clause-answer c = λ declared h.
     sym c.requires.used ∙ c.if-is_used.false in
     subst (λ s. FailsAs c.in-Err.why s)
     (sym (join_declared (machine (map routine_of c.args.program.now) declared) c.args.number (map job_of js) _
-    (declared c.args.entry) (h ∙ c.if-not-is_declared.false) unused))
+    (declared c.args.entry && is_job_number c.args.number)
+    (ap (λ d. d && is_job_number c.args.number) h ∙ sym c.may_begin.ensures ∙ c.if-not-may_begin.false) unused))
     (fails_then (λ (j : Job). Ok (map job_of js ++ j ∷ [])) c.in-Err.why _ c.in-Err.ensures.job)
 
 pub returns-in_default-clause-covered : goal.returns-in_default-clause-covered
