@@ -22,8 +22,7 @@ pub use choice::Choice;
 pub use job::Job;
 pub use law::{
     changes_one, ended_stays, folds_agree, held_apart, leaving_out, numbers_distinct,
-    one_run_of_many,
-    rings_are_found, settles_by_steps,
+    one_run_of_many, rings_are_found, settles_by_steps,
 };
 pub use locking::{count_all, count_in, cut_after, lock_names};
 pub use operator::{given_before, given_between};
