@@ -19,4 +19,3 @@ pub mod Blocks
 pub mod News
 pub mod Ranks
 pub mod Claims
-pub mod Shared
