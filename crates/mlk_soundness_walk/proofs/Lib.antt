@@ -34,3 +34,4 @@ pub mod Levels
 pub mod Wells
 pub mod Closed
 pub mod Starting
+pub mod Listed
