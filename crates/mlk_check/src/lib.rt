@@ -1,0 +1,2 @@
+//! The check of a program, and what its `yes` means for every run.
+#![tactic(auto)]
