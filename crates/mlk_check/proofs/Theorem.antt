@@ -22,7 +22,7 @@ pub keeps_rules : (routines : List RoutineTree) (rules : RuleLists) (blocks : Li
     → KeepsRules routines rules
 keeps_rules routines rules blocks sound certificate formed clean =
     let each : AtEachMoment routines (is_declared routines rules.entries) (Facts rules) =
-    each_moment routines rules blocks clean (λ e head body lines heads. its_formals routines rules (known routines rules blocks) e head body lines heads formed.formals) (each_entry routines rules blocks clean formed sound (list_once blocks certificate)) in
+    each_moment routines rules blocks clean (λ e head body lines heads. its_formals routines rules (known routines rules blocks) e head body lines heads (λ tree i. (formed tree i).formals)) (each_entry routines rules blocks clean formed sound (list_once blocks certificate)) in
     record {
       each_job = each;
       all_jobs = λ events jobs h. record {

@@ -41,7 +41,7 @@ use Rattle.mlk_soundness_machine.proofs.Steps.{Comes, done, less}
 use Rattle.mlk_soundness_machine.proofs.Values.{Safe, Fits, FitsValue}
 use Rattle.mlk_soundness_walk.specs.Commands.{Gives}
 use Rattle.mlk_soundness_walk.specs.Entries.{scope, EntryFits}
-use Rattle.mlk_soundness_walk.specs.Forms.{answers, reads_locals}
+use Rattle.mlk_machine_laws.specs.WellFormed.{answers, reads_locals}
 use Rattle.mlk_soundness_walk.specs.Ours.{IsOurs, AreOurs, IsOf}
 use Rattle.mlk_soundness_walk.proofs.Acts.{write_fits, ifs_fit, if_fits, else_fits, quit_fits, answer_fits}
 use Rattle.mlk_soundness_walk.proofs.Alone.{Leads, leads_both, leads_each, leads_few, leads_stay}

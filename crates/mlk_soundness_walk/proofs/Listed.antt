@@ -4,9 +4,8 @@ use Rattle.std.proofs.Common.{◌≡◌, ℕ, zero, suc, Bool, true, false, List
 use Rattle.std.specs.Prelude.{◌==◌, nat_lt, not, Contains}
 use Rattle.std.proofs.lemmas.Bool.{cases_Bool, and_parts, and_from}
 use Rattle.std.proofs.lemmas.Bool.Decides.{nat_tests}
-use Rattle.mlk_cert_lexemes.specs.Lists.{Each, ascends, upto, below}
+use Rattle.mlk_cert_lexemes.specs.Lists.{Each, ascends, upto}
 use Rattle.mlk_cert_parts.specs.declared.case.Case.{Case}
-use Rattle.mlk_cert_parts.specs.declared.block.Point.{Point}
 use Rattle.mlk_cert_parts.specs.declared.block.EntryCert.{EntryCert}
 use Rattle.mlk_cert_parts.specs.Limits.{cases_below, IsPoint, IsBlock, IsCertificate}
 use Rattle.mlk_cert_parts.specs.Texts.{case_text}

@@ -158,7 +158,7 @@ module _ (routines : List RoutineTree) (rules : RuleLists) (entries : List (Entr
       let are : called_formals routines e.routine callee ≡ Some (formals_of head) =
       ap (λ o. option_map (λ (l : LineTree). formals_of l.0) (option_and_then (line_of_entry routines) o)) target ∙ ap (option_map (λ (l : LineTree). formals_of l.0)) its_line in
       record {
-        distinct = its_formals formed.formals;
+        distinct = its_formals (λ tree i. (formed tree i).formals);
         shares = frames_share routines e t;
         filled = λ x h own i.
             let p : EntryId × List ℕ = (t, x) in
