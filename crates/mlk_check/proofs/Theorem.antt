@@ -1,5 +1,6 @@
 -- Where the report has no row, every run keeps the rules.
-use Rattle.std.proofs.Common.{◌≡◌, List, []}
+use Rattle.std.proofs.Common.{◌≡◌, List, [], Result, Ok, Err}
+use Rattle.std.specs.Prelude.{IfOk}
 use Rattle.mlk_rules.specs.declared.rules.RuleLists.{RuleLists}
 use Rattle.mlk_rules.specs.Sound.{IsSound}
 use Rattle.mlk_syntax.specs.Trees.{RoutineTree}
@@ -17,6 +18,10 @@ use Rattle.mlk_soundness_walk.proofs.Listed.{list_once}
 use Rattle.mlk_soundness_walk.proofs.Starting.{each_moment}
 use Rattle.mlk_soundness_walk.proofs.Wells.{its_formals}
 use Rattle.mlk_check.specs.Theorem.{AreSafe, KeepsRules}
+
+pub ok_turned : {A B : Type 0} {P Q : A → Type 0} (r : Result A B) → ((a : A) → P a → Q a) → IfOk r P → IfOk r Q
+ok_turned (Ok a) f h = f a h
+ok_turned (Err b) f h = h
 
 pub keeps_rules : (routines : List RoutineTree) (rules : RuleLists) (blocks : List EntryCert) → IsSound rules → IsCertificate blocks → AreFormed routines → report routines rules blocks ≡ []
     → KeepsRules routines rules
