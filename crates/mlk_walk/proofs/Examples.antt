@@ -534,13 +534,13 @@ shared-name = refl
 -- T NEW X SET X=1 DO G(.X) QUIT
 abbrev shared-elsewhere-routines : List RoutineTree
 shared-elsewhere-routines = ((Named_routine (codes "PRV") (line (LineHead 1 1 60 (Some (codes "S")) (Some ((codes "X") ∷ []))
-    (then_command (Does 6 None (Lock ((LockNames sign.Plus ((Named 12 (GlobalName 12 (codes "ACCT") (sub 18 (LocalName (codes "X") no_subs) no_subs))) ∷ []) None) ∷ []))) (then_command (Does 21 None (Set ((SetTo ((SetWhole (Named 25 (GlobalName 25 (codes "ACCT") (sub 31 (LocalName (codes "X") no_subs) no_subs)))) ∷ []) (Lit (codes "1"))) ∷ []))) (then_command (Does 36 None (Do ((DoCall (Called 39 (callee (Some (codes "T")) None) None) None) ∷ []))) (then_command (Does 41 None (Lock ((LockNames sign.Minus ((Named 47 (GlobalName 47 (codes "ACCT") (sub 53 (LocalName (codes "X") no_subs) no_subs))) ∷ []) None) ∷ []))) (then_command (Does 56 None (Quit None)) finished)))))
+    (then_command (Does 6 None (Lock ((LockNames sign.Plus ((Named 12 (GlobalName 12 (codes "ACCT") (sub 18 (LocalName (codes "X") no_subs) no_subs))) ∷ []) None) ∷ []))) (then_command (Does 21 None (Set ((SetTo ((SetWhole (Named 25 (GlobalName 25 (codes "ACCT") (sub 31 (LocalName (codes "X") no_subs) no_subs)))) ∷ []) (Lit (codes "1"))) ∷ []))) (then_command (Does 36 None (Do ((DoCall (Called 39 (callee (Some (codes "T")) None) None) None) ∷ []))) (then_command (Does 41 None (Lock ((LockNames sign.Minus ((Named 47 (GlobalName 47 (codes "ACCT") (sub 53 (LocalName (codes "X") no_subs) no_subs))) ∷ []) None) ∷ []))) (then_command (Does 56 None (Quit None)) finished))))))
     no_lines
     (line (LineHead 2 1 18 (Some (codes "G")) (Some ((codes "Y") ∷ []))
-    (then_command (Does 6 None (Set ((SetTo ((SetWhole (Named 10 (LocalName (codes "Y") no_subs))) ∷ []) (Lit (codes "2"))) ∷ []))) (then_command (Does 14 None (Quit None)) finished))
+    (then_command (Does 6 None (Set ((SetTo ((SetWhole (Named 10 (LocalName (codes "Y") no_subs))) ∷ []) (Lit (codes "2"))) ∷ []))) (then_command (Does 14 None (Quit None)) finished)))
     no_lines
     (line (LineHead 3 1 30 (Some (codes "T")) None
-    (then_command (Does 3 None (New ((NewOne 7 (codes "X")) ∷ []))) (then_command (Does 9 None (Set ((SetTo ((SetWhole (Named 13 (LocalName (codes "X") no_subs))) ∷ []) (Lit (codes "1"))) ∷ []))) (then_command (Does 17 None (Do ((DoCall (Called 20 (callee (Some (codes "G")) None) (Some ((ByRef 22 (codes "X")) ∷ []))) None) ∷ []))) (then_command (Does 26 None (Quit None)) finished))))
+    (then_command (Does 3 None (New ((NewOne 7 (codes "X")) ∷ []))) (then_command (Does 9 None (Set ((SetTo ((SetWhole (Named 13 (LocalName (codes "X") no_subs))) ∷ []) (Lit (codes "1"))) ∷ []))) (then_command (Does 17 None (Do ((DoCall (Called 20 (callee (Some (codes "G")) None) (Some ((ByRef 22 (codes "X")) ∷ []))) None) ∷ []))) (then_command (Does 26 None (Quit None)) finished)))))
     no_lines
     no_lines)))) ∷ [])
 
