@@ -1,6 +1,6 @@
 -- What is refused on the way from texts to a report.
-use Rattle.std.proofs.Common.{◌≡◌, ℕ, ◌++◌, List, [], ◌∷◌, Result, Ok, Err, Some, None, sym, ap, ◌∙◌, inl, inr}
-use Rattle.std.specs.Prelude.{IfOk, IfErr, find}
+use Rattle.std.proofs.Common.{◌≡◌, ℕ, ◌++◌, List, [], ◌∷◌, Result, Ok, Err, Some, None, sym, ap, ◌∙◌, subst, inl, inr, ⊎_elim, arith}
+use Rattle.std.specs.Prelude.{IfOk, IfErr, find, Contains}
 use Rattle.mlk_text.specs.declared.failure.Failure.{Failure}
 use Rattle.mlk_text.specs.declared.failure.Failure.TheVariants as failure
 use Rattle.mlk_text.specs.declared.fault.Fault.{Fault}
@@ -16,7 +16,11 @@ use Rattle.mlk_cert.specs.Theorem.{Spells, IsReading}
 use Rattle.mlk_cert.specs.Refusals.{IsPlaced}
 use Rattle.mlk_make.specs.Missing.{is_missing}
 use Rattle.mlk_readers.specs.declared.source.Source.{Source}
-use Rattle.mlk_readers.specs.Reading.{RefusesFirst}
+use Rattle.mlk_names.proofs.ListLemmas.{contains_cases}
+use Rattle.mlk_machine_laws.specs.WellFormed.{IsWellFormed}
+use Rattle.mlk_routine_laws.proofs.ReadTrees.{well-formed}
+use Rattle.mlk_soundness_walk.specs.Forms.{AreFormed}
+use Rattle.mlk_readers.specs.Reading.{AreRead, RefusesFirst}
 use Rattle.mlk_app.specs.declared.source.Work.{Work}
 use Rattle.mlk_app.specs.declared.source.Work.TheVariants as work
 use Rattle.mlk_app.specs.declared.checked.Refusal.{Refusal}
@@ -58,13 +62,12 @@ ok_turned (Err b) f h = h
 
 -- What is refused below is refused above, where what stands before is read.
 pub below : (trees : List RoutineTree) (rules : RuleLists) (blocks : List EntryCert) (text : List ℕ) (r : Refusal) → Spells blocks text
-    → IsRefusalBy trees rules blocks text r → IsRefusalWith trees rules text r
+    → IsRefusalBy trees rules blocks r → IsRefusalWith trees rules text r
 below trees rules blocks text refusal.OutOfMemory spelled refused = record {}
 below trees rules blocks text (refusal.Routine fault) spelled refused = refused
 below trees rules blocks text (refusal.Rules fault) spelled refused = refused
 below trees rules blocks text (refusal.Certificate fault) spelled refused = absurd refused
 below trees rules blocks text (refusal.Entry entry) spelled refused = (blocks, spelled, refused)
-below trees rules blocks text refusal.Disagreement spelled refused = (blocks, spelled, refused.0, refused.1)
 below trees rules blocks text (refusal.GaveUp entry fault) spelled refused = refused
 below trees rules blocks text (refusal.Events fault) spelled refused = refused
 
@@ -75,7 +78,6 @@ undeclared trees texts text (refusal.Routine fault) first told = told
 undeclared trees texts text (refusal.Rules fault) first told = told
 undeclared trees texts text (refusal.Certificate fault) first told = told
 undeclared trees texts text (refusal.Entry entry) first told = first ∙ ap Some (sym told)
-undeclared trees texts text refusal.Disagreement first told = told
 undeclared trees texts text (refusal.GaveUp entry fault) first told = told
 undeclared trees texts text (refusal.Events fault) first told = told
 
@@ -91,10 +93,20 @@ unmade-stuck trees rules (refusal.Routine fault) none told = told
 unmade-stuck trees rules (refusal.Rules fault) none told = told
 unmade-stuck trees rules (refusal.Certificate fault) none told = absurd told
 unmade-stuck trees rules (refusal.Entry entry) none told = absurd told
-unmade-stuck trees rules refusal.Disagreement none told = told
 unmade-stuck trees rules (refusal.GaveUp entry fault) none told = none
 unmade-stuck trees rules (refusal.Events fault) none told = told
 
 -- What is told of the report by what was made.
 pub verify-refused : (trees : List RoutineTree) (rules : RuleLists) (text : List ℕ) (r : Refusal) → IsMade trees rules text → IsRefusalWith trees rules text r → IsRefusalOfWork trees rules work.Verify r
 verify-refused trees rules text r made refused = inr (text, made, refused)
+
+-- Routines that were read are well formed.
+pub read_formed : (sources : List Source) (trees : List RoutineTree) → AreRead sources trees → AreFormed trees
+read_formed [] [] read r i = absurd (omega (arith, i.1))
+read_formed [] (tree ∷ trees) read r i = absurd read
+read_formed (source ∷ sources) [] read r i = absurd (omega (arith, i.1))
+read_formed (source ∷ sources) (tree ∷ trees) read r i =
+    ⊎_elim
+    (λ (e : tree ≡ r). subst IsWellFormed e (well-formed source.stem.now source.text.items tree read.0))
+    (λ (k : Contains trees r). read_formed sources trees read.1 r k)
+    (contains_cases tree trees r i)

@@ -18,7 +18,7 @@ use Rattle.mlk_text.specs.declared.code.Code.TheVariants.{CertLimit}
 use Rattle.mlk_make.specs.Missing.{is_missing}
 use Rattle.mlk_walk.specs.declared.report.Row.{Row}
 use Rattle.mlk_walk.specs.Reports.{report, missing}
-use Rattle.mlk_straight_check.specs.Kept.{IsKept, HasFaults}
+use Rattle.mlk_check.specs.Theorem.{KeepsRules}
 use Rattle.mlk_machine.specs.declared.fault.EventsFault.{EventsFault}
 use Rattle.mlk_app.specs.Replayed.{IsReplayed, IsUnreplayed}
 use Rattle.mlk_app.specs.declared.source.Sources.{Sources}
@@ -29,16 +29,16 @@ use Rattle.mlk_app.specs.declared.checked.Outcome.TheVariants as outcome
 use Rattle.mlk_app.specs.declared.checked.Refusal.{Refusal}
 use Rattle.mlk_app.specs.declared.checked.Refusal.TheVariants as refusal
 
--- The report of a program by rules and a certificate's blocks, whose entries it has. Where it has no row, and all is of
--- straight lines, each run keeps the rules.
-pub record IsReportBy (trees : List RoutineTree) (rules : RuleLists) (blocks : List EntryCert) (text : List ℕ) (rows : List Row) : Type 0 where
+-- The report of a program by rules and a certificate's blocks, whose entries it has. Where it has no row, every run of the
+-- program keeps the rules.
+pub record IsReportBy (trees : List RoutineTree) (rules : RuleLists) (blocks : List EntryCert) (rows : List Row) : Type 0 where
   pub named : missing trees rules blocks ≡ None
   pub are : rows ≡ report trees rules blocks
-  pub kept : rows ≡ [] → IsKept trees rules text
+  pub kept : rows ≡ [] → KeepsRules trees rules
 
 -- the same by the certificate that a text spells, by the rules that a text says, and of trees that make a program
 abbrev pub IsReportWith : List RoutineTree → RuleLists → List ℕ → List Row → Type 0
-IsReportWith trees rules text rows = (blocks : List EntryCert) × Spells blocks text × IsReportBy trees rules blocks text rows
+IsReportWith trees rules text rows = (blocks : List EntryCert) × Spells blocks text × IsReportBy trees rules blocks rows
 
 -- A text is the one of a certificate, made of a program that has all declared entries. Nothing else is promised of it.
 abbrev pub IsMade : List RoutineTree → RuleLists → List ℕ → Type 0
@@ -80,7 +80,6 @@ RefusedRules rules_text (refusal.Routine fault) = ⊥
 RefusedRules rules_text (refusal.Rules fault) = RefusesRules rules_text (failure.Refused fault)
 RefusedRules rules_text (refusal.Certificate fault) = ⊥
 RefusedRules rules_text (refusal.Entry entry) = ⊥
-RefusedRules rules_text refusal.Disagreement = ⊥
 RefusedRules rules_text (refusal.GaveUp entry fault) = ⊥
 RefusedRules rules_text (refusal.Events fault) = ⊥
 
@@ -90,21 +89,18 @@ RefusedLink trees (refusal.Routine fault) = IsLinkFault trees fault
 RefusedLink trees (refusal.Rules fault) = ⊥
 RefusedLink trees (refusal.Certificate fault) = ⊥
 RefusedLink trees (refusal.Entry entry) = ⊥
-RefusedLink trees refusal.Disagreement = ⊥
 RefusedLink trees (refusal.GaveUp entry fault) = ⊥
 RefusedLink trees (refusal.Events fault) = ⊥
 
--- Why a program has no report: an entry that it lacks, or that the walk of straight lines finds faults where the walk of
--- all of M finds none; no such texts are known. Want of memory says nothing.
-abbrev pub IsRefusalBy : List RoutineTree → RuleLists → List EntryCert → List ℕ → Refusal → Type 0
-IsRefusalBy trees rules blocks text refusal.OutOfMemory = Unit {0}
-IsRefusalBy trees rules blocks text (refusal.Routine fault) = ⊥
-IsRefusalBy trees rules blocks text (refusal.Rules fault) = ⊥
-IsRefusalBy trees rules blocks text (refusal.Certificate fault) = ⊥
-IsRefusalBy trees rules blocks text (refusal.Entry entry) = missing trees rules blocks ≡ Some entry
-IsRefusalBy trees rules blocks text refusal.Disagreement = (report trees rules blocks ≡ []) × HasFaults trees rules text
-IsRefusalBy trees rules blocks text (refusal.GaveUp entry fault) = ⊥
-IsRefusalBy trees rules blocks text (refusal.Events fault) = ⊥
+-- Why a program has no report: an entry that it lacks. Want of memory says nothing.
+abbrev pub IsRefusalBy : List RoutineTree → RuleLists → List EntryCert → Refusal → Type 0
+IsRefusalBy trees rules blocks refusal.OutOfMemory = Unit {0}
+IsRefusalBy trees rules blocks (refusal.Routine fault) = ⊥
+IsRefusalBy trees rules blocks (refusal.Rules fault) = ⊥
+IsRefusalBy trees rules blocks (refusal.Certificate fault) = ⊥
+IsRefusalBy trees rules blocks (refusal.Entry entry) = missing trees rules blocks ≡ Some entry
+IsRefusalBy trees rules blocks (refusal.GaveUp entry fault) = ⊥
+IsRefusalBy trees rules blocks (refusal.Events fault) = ⊥
 
 -- It is told of the certificate's text first,
 abbrev pub IsRefusalWith : List RoutineTree → RuleLists → List ℕ → Refusal → Type 0
@@ -114,8 +110,6 @@ IsRefusalWith trees rules text (refusal.Rules fault) = ⊥
 IsRefusalWith trees rules text (refusal.Certificate fault) = NoCertificate text fault
 IsRefusalWith trees rules text (refusal.Entry entry) =
     (blocks : List EntryCert) × Spells blocks text × (missing trees rules blocks ≡ Some entry)
-IsRefusalWith trees rules text refusal.Disagreement = (blocks : List EntryCert) × Spells blocks text
-    × (report trees rules blocks ≡ []) × HasFaults trees rules text
 IsRefusalWith trees rules text (refusal.GaveUp entry fault) = ⊥
 IsRefusalWith trees rules text (refusal.Events fault) = ⊥
 
@@ -126,7 +120,6 @@ IsUnmade trees rules (refusal.Routine fault) = ⊥
 IsUnmade trees rules (refusal.Rules fault) = ⊥
 IsUnmade trees rules (refusal.Certificate fault) = (fault.code ≡ CertLimit) × (fault.line ≡ 1)
 IsUnmade trees rules (refusal.Entry entry) = find (is_missing trees) rules.entries ≡ Some entry
-IsUnmade trees rules refusal.Disagreement = ⊥
 IsUnmade trees rules (refusal.GaveUp entry fault) = find (is_missing trees) rules.entries ≡ None
 IsUnmade trees rules (refusal.Events fault) = ⊥
 
@@ -154,7 +147,6 @@ IsFirst sources (refusal.Routine fault) = IsFirstRefused sources fault
 IsFirst sources (refusal.Rules fault) = ⊥
 IsFirst sources (refusal.Certificate fault) = ⊥
 IsFirst sources (refusal.Entry entry) = ⊥
-IsFirst sources refusal.Disagreement = ⊥
 IsFirst sources (refusal.GaveUp entry fault) = ⊥
 IsFirst sources (refusal.Events fault) = ⊥
 
@@ -180,26 +172,15 @@ abbrev pub refusal_of_events : Failure EventsFault → Refusal
 refusal_of_events failure.OutOfMemory = refusal.OutOfMemory
 refusal_of_events (failure.Refused fault) = refusal.Events fault
 
--- what is told of an entry that is lacking, and where straight lines are walked again
+-- what is told of an entry that is lacking
 abbrev pub TellsEntry : List ℕ → Refusal → Type 0
 TellsEntry text refusal.OutOfMemory = Unit {0}
 TellsEntry text (refusal.Routine fault) = ⊥
 TellsEntry text (refusal.Rules fault) = ⊥
 TellsEntry text (refusal.Certificate fault) = ⊥
 TellsEntry text (refusal.Entry entry) = entry ≡ text
-TellsEntry text refusal.Disagreement = ⊥
 TellsEntry text (refusal.GaveUp entry fault) = ⊥
 TellsEntry text (refusal.Events fault) = ⊥
-
-abbrev pub IsDoubt : List RoutineTree → RuleLists → List ℕ → List Row → Refusal → Type 0
-IsDoubt trees rules text rows refusal.OutOfMemory = Unit {0}
-IsDoubt trees rules text rows (refusal.Routine fault) = ⊥
-IsDoubt trees rules text rows (refusal.Rules fault) = ⊥
-IsDoubt trees rules text rows (refusal.Certificate fault) = ⊥
-IsDoubt trees rules text rows (refusal.Entry entry) = ⊥
-IsDoubt trees rules text rows refusal.Disagreement = (rows ≡ []) × HasFaults trees rules text
-IsDoubt trees rules text rows (refusal.GaveUp entry fault) = ⊥
-IsDoubt trees rules text rows (refusal.Events fault) = ⊥
 
 -- what is told where the maker gave up: nothing else
 abbrev pub IsStuck : List RoutineTree → Refusal → Type 0
@@ -208,6 +189,5 @@ IsStuck trees (refusal.Routine fault) = ⊥
 IsStuck trees (refusal.Rules fault) = ⊥
 IsStuck trees (refusal.Certificate fault) = ⊥
 IsStuck trees (refusal.Entry entry) = ⊥
-IsStuck trees refusal.Disagreement = ⊥
 IsStuck trees (refusal.GaveUp entry fault) = Unit {0}
 IsStuck trees (refusal.Events fault) = ⊥

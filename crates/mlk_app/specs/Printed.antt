@@ -71,10 +71,6 @@ events_code (why.Refused cant.UnknownJob) = UnknownJob
 abbrev pub events_line : EventsFault → List ℕ
 events_line f = codes "refused line " ++ decimal f.line ++ space ++ code_text (events_code f.why) ++ line_end
 
--- what is told where the two walks of straight lines disagree
-abbrev pub disagreement_line : List ℕ
-disagreement_line = codes "error the walk of straight lines finds faults that the walk of all of M does not" ++ line_end
-
 -- `error file PATH`
 abbrev pub file_line : List ℕ → List ℕ
 file_line path = codes "error file " ++ path ++ line_end

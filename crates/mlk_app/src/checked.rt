@@ -3,25 +3,25 @@
 ghost use Rattle.std.specs.Prelude.{◌≡◌, [], map, IfOk, IfErr};
 ghost use Rattle.mlk_syntax.specs.Views.{routine_of};
 ghost use Rattle.mlk_readers.specs.Reading.{AreRead, RefusesFirst};
-ghost use Rattle.mlk_app.specs.Checked.{refusal_of_routine, refusal_of_rules, refusal_of_certificate, refusal_of_events, TellsEntry, IsDoubt, IsReportBy, IsReportWith, IsStuck, IsMade, IsUnmade, IsOutcomeWith, IsOutcomeUnder, IsOutcomeOf, IsRefusalBy, IsRefusalWith, IsRefusalOfWork, IsRefusalUnder, IsRefusalOf, IsChecked, IsRefusedBy};
+ghost use Rattle.mlk_app.specs.Checked.{refusal_of_routine, refusal_of_rules, refusal_of_certificate, refusal_of_events, TellsEntry, IsReportBy, IsReportWith, IsStuck, IsMade, IsUnmade, IsOutcomeWith, IsOutcomeUnder, IsOutcomeOf, IsRefusalBy, IsRefusalWith, IsRefusalOfWork, IsRefusalUnder, IsRefusalOf, IsChecked, IsRefusedBy};
 ghost use Rattle.mlk_cert.specs.Theorem.{Spells};
-ghost use Rattle.mlk_straight_check.specs.Kept.{IsKept};
+ghost use Rattle.mlk_soundness_walk.specs.Forms.{AreFormed};
 ghost use Rattle.mlk_app.specs.Ran.{trees_of};
 ghost use Rattle.mlk_app.specs.declared.checked.Refusal.TheVariants as refusal;
 
 use crate::replayed::jobs_text;
 use crate::source::{Sources, Work};
 use mlk_cert::{CertFault, Certificate, Spelled, read_cert};
+use mlk_check::check_all;
 use mlk_machine::EventsFault;
 use mlk_make::{GaveUp, MakeError, Stage, Watch, make_watched};
 use mlk_program::{Program, link};
 use mlk_readers::{Source, read_all};
 use mlk_rules::Rules;
 use mlk_rules_file::{RulesFault, read_rules};
-use mlk_straight_check::is_kept;
 use mlk_syntax::Routine;
 use mlk_text::{Failure, Fault, Value};
-use mlk_walk::{Report, check_all, missing_entry};
+use mlk_walk::{Report, missing_entry};
 use std::alloc::{AllocError, Global};
 use std::thread::Threads;
 
@@ -34,8 +34,6 @@ pub(crate) enum Refusal {
     Certificate(CertFault),
     /// An entry text of the rules or the certificate that the routines lack.
     Entry(Value),
-    /// The walk of straight lines finds faults, and that of all of M finds none. No such texts are known.
-    Disagreement,
     /// No certificate was made: the text of the entry, and the fault at which the maker gave up.
     GaveUp(Value, mlk_walk_exprs::Fault),
     Events(EventsFault),
@@ -152,40 +150,22 @@ pub(crate) fn lacks(alloc: Global, entry: &[u8]) -> Refusal
     }
 }
 
-// The report, unless the walk of straight lines finds faults where it has none.
-fn confirmed(
-    alloc: Global,
-    program: &Program<'_>,
-    rules: &Rules,
-    certificate: &[u8],
-    report: Report,
-) -> Result<Report, Refusal>
-    ensures ok { IfOk result (λ r. (r ≡ report) × (r ≡ [] → IsKept (map routine_of program.now) rules.now certificate.now)) }
-    ensures refused { IfErr result (IsDoubt (map routine_of program.now) rules.now certificate.now report) }
-{
-    if report.is_yes() && !is_kept(alloc, program, rules, certificate)? {
-        return Err(Refusal::Disagreement);
-    }
-    Ok(report)
-}
-
 fn report_by<W: Watch>(
     alloc: Global,
     program: &Program<'_>,
     rules: &Rules,
     certificate: &Certificate,
-    text: &[u8],
     watch: &W,
 ) -> Result<Report, Refusal>
-    ensures ok { IfOk result (IsReportBy (map routine_of program.now) rules.now certificate.now text.now) }
-    ensures refused { IfErr result (IsRefusalBy (map routine_of program.now) rules.now certificate.now text.now) }
+    requires { AreFormed (map routine_of program.now) }
+    ensures ok { IfOk result (IsReportBy (map routine_of program.now) rules.now certificate.now) }
+    ensures refused { IfErr result (IsRefusalBy (map routine_of program.now) rules.now certificate.now) }
 {
     if let Some(entry) = missing_entry(program, rules, certificate) {
         return Err(lacks(alloc, entry));
     }
     watch.see(Stage::Checking, 0, 0);
-    let report = check_all(alloc, program, rules, certificate)?;
-    confirmed(alloc, program, rules, text, report)
+    Ok(check_all(alloc, program, rules, certificate)?)
 }
 
 fn report_with<W: Watch>(
@@ -195,11 +175,12 @@ fn report_with<W: Watch>(
     text: &[u8],
     watch: &W,
 ) -> Result<Report, Refusal>
+    requires { AreFormed (map routine_of program.now) }
     ensures ok { IfOk result (IsReportWith (map routine_of program.now) rules.now text.now) }
     ensures refused { IfErr result (IsRefusalWith (map routine_of program.now) rules.now text.now) }
 {
     let certificate = read_cert(alloc, text)?;
-    let report = report_by(alloc, program, rules, &certificate, text, watch);
+    let report = report_by(alloc, program, rules, &certificate, watch);
     watch.discard(certificate);
     report
 }
@@ -212,18 +193,12 @@ fn report_of<W: Watch>(
     made: &Spelled,
     watch: &W,
 ) -> Result<Report, Refusal>
-    requires { Spells made.now.certificate made.now.text.items }
+    requires formed { AreFormed (map routine_of program.now) }
+    requires spelled { Spells made.now.certificate made.now.text.items }
     ensures ok { IfOk result (IsReportWith (map routine_of program.now) rules.now made.now.text.items) }
     ensures refused { IfErr result (IsRefusalWith (map routine_of program.now) rules.now made.now.text.items) }
 {
-    report_by(
-        alloc,
-        program,
-        rules,
-        &made.certificate,
-        made.text.as_slice(),
-        watch,
-    )
+    report_by(alloc, program, rules, &made.certificate, watch)
 }
 
 // What is told where the maker gave up.
@@ -263,6 +238,7 @@ fn outcome_with<W: Watch>(
     work: &Work,
     watch: &W,
 ) -> Result<Outcome, Refusal>
+    requires { AreFormed (map routine_of program.now) }
     ensures ok { IfOk result (IsOutcomeWith (map routine_of program.now) rules.now work.now) }
     ensures refused { IfErr result (IsRefusalOfWork (map routine_of program.now) rules.now work.now) }
 {
@@ -295,6 +271,7 @@ fn outcome_under<W: Watch>(
     work: &Work,
     watch: &W,
 ) -> Result<Outcome, Refusal>
+    requires { AreFormed (map routine_of program.now) }
     ensures ok { IfOk result (IsOutcomeUnder (map routine_of program.now) rules_text.now work.now) }
     ensures refused { IfErr result (IsRefusalUnder (map routine_of program.now) rules_text.now work.now) }
 {
@@ -310,6 +287,7 @@ fn outcome_of<W: Watch>(
     work: &Work,
     watch: &W,
 ) -> Result<Outcome, Refusal>
+    requires { AreFormed (map routine_of routines.now) }
     ensures ok { IfOk result (IsOutcomeOf (map routine_of routines.now) rules_text.now work.now) }
     ensures refused { IfErr result (IsRefusalOf (map routine_of routines.now) rules_text.now work.now) }
 {

@@ -3,7 +3,7 @@
 ghost use Rattle.std.specs.Prelude.{◌≡◌, ◌++◌, OnOk, IfOk, map, slice_get, option_copied};
 ghost use Rattle.mlk_syntax.specs.Views.{line_of, routine_of};
 ghost use Rattle.mlk_program.specs.Entries.{label_of, text_with};
-ghost use Rattle.mlk_app.specs.Printed.{code_text, place_text, left_out_text, fault_line, missing_line, rules_line, certificate_line, events_code, events_line, disagreement_line, stuck_line, file_line, entry_text, fault_text, row_line, row_lines, last_line, report_text};
+ghost use Rattle.mlk_app.specs.Printed.{code_text, place_text, left_out_text, fault_line, missing_line, rules_line, certificate_line, events_code, events_line, stuck_line, file_line, entry_text, fault_text, row_line, row_lines, last_line, report_text};
 
 use crate::text::Text;
 use mlk_cert::CertFault;
@@ -141,17 +141,6 @@ pub(crate) fn events_line(alloc: Global, fault: &EventsFault) -> Result<Text, Al
     text.push(b" ")?;
     push_code(&mut text, events_code(fault.why))?;
     text.push(b"\n")?;
-    Ok(text)
-}
-
-/// What is told where the two walks of straight lines disagree.
-pub(crate) fn disagreement_line(alloc: Global) -> Result<Text, AllocError>
-    ensures { IfOk result (λ t. t ≡ disagreement_line) }
-{
-    let mut text = Text::new(alloc);
-    text.push(
-        b"error the walk of straight lines finds faults that the walk of all of M does not\n",
-    )?;
     Ok(text)
 }
 

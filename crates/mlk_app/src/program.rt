@@ -8,8 +8,8 @@ ghost use Rattle.mlk_app.specs.Ran.{status_of, PrintsReport, PrintsText, PrintsO
 
 use crate::checked::{Checked, Outcome, Refusal, check_texts};
 use crate::printed::{
-    certificate_line, disagreement_line, events_line, fault_line, file_line, missing_line,
-    report_text, rules_line, stuck_line,
+    certificate_line, events_line, fault_line, file_line, missing_line, report_text, rules_line,
+    stuck_line,
 };
 use crate::source::{FileError, Files, read_files};
 use crate::text::Text;
@@ -96,7 +96,6 @@ fn refusal_line(alloc: Global, refusal: &Refusal) -> Result<Text, AllocError>
         Refusal::Rules(fault) => rules_line(alloc, fault),
         Refusal::Certificate(fault) => certificate_line(alloc, fault),
         Refusal::Entry(entry) => missing_line(alloc, entry),
-        Refusal::Disagreement => disagreement_line(alloc),
         Refusal::GaveUp(entry, fault) => stuck_line(alloc, entry, fault),
         Refusal::Events(fault) => events_line(alloc, fault),
     }

@@ -2,11 +2,9 @@
 -- reference a formal is its actual's variable, and else it is a new one.
 use Rattle.std.specs.Prelude.{◌≡◌, ℕ, Bool, false, ◌||◌, List, [], ◌∷◌, ◌++◌, bytes_eq, Contains}
 use Rattle.mlk_syntax.specs.Trees.{RoutineTree}
-use Rattle.mlk_syntax.specs.Distinct.{AreDistinct}
-use Rattle.mlk_program.specs.Entries.{lines_in}
 use Rattle.mlk_machine_jobs.specs.Bindings.{covers, Cell, same_cell, Fresh, ByReference, Bindings, look}
-use Rattle.mlk_machine_jobs.specs.Tasks.{Job, LineTree}
-use Rattle.mlk_machine_jobs.specs.Calling.{formals_in}
+use Rattle.mlk_machine_jobs.specs.Tasks.{Job}
+use Rattle.mlk_machine_laws.specs.WellFormed.{FormalsDifferIn}
 
 -- these bind the name
 abbrev pub binds : Bindings → List ℕ → Bool
@@ -22,8 +20,7 @@ is_lent (ByReference formal cell ∷ bs) c = same_cell cell c || is_lent bs c
 
 -- no formal list has a name twice
 abbrev pub FormalsDiffer : List RoutineTree → Type 0
-FormalsDiffer routines = (tree : RoutineTree) → Contains routines tree → (l : LineTree) → Contains (lines_in tree) l
-    → AreDistinct (formals_in l.0)
+FormalsDiffer routines = (tree : RoutineTree) → Contains routines tree → FormalsDifferIn tree
 
 -- Two names, one as it is bound now and one as it was bound when there were fewer binders, have one cell only where some
 -- formal is bound to it by reference, or where they are one name and nothing since then has bound it.

@@ -1,8 +1,12 @@
 -- What is so of each tree that a text spells, and what runs of jobs rest on: a QUIT with a value stands where it ends a call,
--- each line bears the level at which it stands, and no formal list has a name twice. Restates ISO/IEC 11756: QUIT, block,
--- formallist; that QUIT with a value stands in no block and in no FOR is this project's own choice.
-use Rattle.std.specs.Prelude.{◌≡◌, ℕ, suc, Bool, true, false, List, Option, Some, None, Contains}
+-- each line bears the level at which it stands, no formal list has a name twice, and READ is into locals. Restates ISO/IEC
+-- 11756: QUIT, block, formallist, READ; that QUIT with a value stands in no block and in no FOR, and that READ is into no
+-- global, is this project's own choice.
+use Rattle.std.specs.Prelude.{◌≡◌, ℕ, suc, Bool, true, false, Some, Contains}
+use Rattle.std.specs.List.{list_all}
 use Rattle.mlk_syntax.specs.Distinct.{AreDistinct}
+use Rattle.mlk_syntax.specs.ExprTrees.{LocalName}
+use Rattle.mlk_syntax.specs.Trees.{VariableTree, Named, ReadTree, ReadText, ReadFormat, ReadLine, ReadCharacter, Read}
 use Rattle.mlk_syntax.specs.Trees.{CommandTree, Does, Quit, CommandTrees, finished, then_command, then_for}
 use Rattle.mlk_syntax.specs.Trees.{HeadTree, LineHead, LineTrees, no_lines, line, RoutineTree, Named_routine}
 use Rattle.mlk_program.specs.Entries.{lines_in}
@@ -32,6 +36,42 @@ AreLeveled level may (line head block rest) =
 abbrev pub lines_of_routine : RoutineTree → LineTrees
 lines_of_routine (Named_routine name lines) = lines
 
+-- no formal list of the routine has a name twice
+abbrev pub FormalsDifferIn : RoutineTree → Type 0
+FormalsDifferIn r = (l : LineTree) → Contains (lines_in r) l → AreDistinct (formals_in l.0)
+
+-- a local, with or without subscripts
+abbrev pub is_local : VariableTree → Bool
+is_local (Named column (LocalName name subs)) = true
+is_local v = false
+
+-- an argument of READ: a text, a format, or a variable, `X`, `X#5` or `*X`, and then a local
+abbrev pub reads_local : ReadTree → Bool
+reads_local (ReadText prompt) = true
+reads_local (ReadFormat tab) = true
+reads_local (ReadLine v most timeout) = is_local v
+reads_local (ReadCharacter v timeout) = is_local v
+
+-- a command: where it is READ, each argument is so
+abbrev pub reads_locals : CommandTree → Bool
+reads_locals (Does column condition (Read reads)) = list_all reads_local reads
+reads_locals c = true
+
+-- commands in a row, also behind a FOR
+abbrev pub ReadsLocals : CommandTrees → Type 0
+ReadsLocals finished = Unit {0}
+ReadsLocals (then_command c rest) = (reads_locals c ≡ true) × ReadsLocals rest
+ReadsLocals (then_for column index control rest) = ReadsLocals rest
+
+abbrev pub HeadReadsLocals : HeadTree → Type 0
+HeadReadsLocals (LineHead number at end label formals commands) = ReadsLocals commands
+
+-- lines, and those of their blocks
+abbrev pub LinesReadLocals : LineTrees → Type 0
+LinesReadLocals no_lines = Unit {0}
+LinesReadLocals (line head block rest) = HeadReadsLocals head × LinesReadLocals block × LinesReadLocals rest
+
 pub record IsWellFormed (r : RoutineTree) : Type 0 where
   pub levels : AreLeveled 1 true (lines_of_routine r)
-  pub formals : (l : LineTree) → Contains (lines_in r) l → AreDistinct (formals_in l.0)
+  pub formals : FormalsDifferIn r
+  pub reads : LinesReadLocals (lines_of_routine r)

@@ -1,19 +1,24 @@
 -- Routines that were read have names and labels that are written as such, levels as their lines are nested, values of QUIT
--- where they end calls, and formals that differ.
-use Rattle.std.proofs.Common.{◌≡◌, ap, refl, sym, subst, ◌∙◌, ℕ, zero, suc, ◌<◌, Bool, true, false, List, [], ◌∷◌, ◌++◌, Option, Some, None, inl, inr, arith}
+-- where they end calls, formals that differ, and READ into locals alone.
+use Rattle.std.proofs.Common.{◌≡◌, ap, refl, sym, subst, ℕ, zero, suc, ◌<◌, Bool, true, false, List, [], ◌∷◌, ◌++◌, Option, Some, None, inl, inr, arith}
 use Rattle.std.specs.Prelude.{Contains, ◌==◌, ◌&&◌}
-use Rattle.std.proofs.lemmas.Bool.{cases_Bool, and_parts}
+use Rattle.std.specs.List.{list_all}
+use Rattle.std.proofs.lemmas.Bool.{and_from}
 use Rattle.std.proofs.lemmas.Bool.Decides.{nat_tests}
 use Rattle.std.proofs.lemmas.List.Elements.{Contains-append_left, Contains-append_right}
 use Rattle.mlk_text.specs.Spellings.{IsLabel}
+use Rattle.mlk_expr.specs.Grammar.{AreNext, IsList}
 use Rattle.mlk_syntax.specs.Distinct.{AreDistinct}
+use Rattle.mlk_syntax.specs.ExprTrees.{LocalName}
+use Rattle.mlk_syntax.specs.Trees.{VariableTree, Named, ReadTree, ReadText, ReadFormat, ReadLine, ReadCharacter}
 use Rattle.mlk_syntax.specs.Trees.{Do, Else, Halt, Hang, If, Job, Kill, Lock, Merge, New, Quit, Read, Set, Write}
 use Rattle.mlk_syntax.specs.Trees.{Named_routine, CommandTree, Does, CommandTrees, finished, then_command, then_for, HeadTree, LineHead, LineTrees, no_lines, line}
-use Rattle.mlk_routine_arguments.specs.CommandGrammar.{IsCommand, AreCommands}
+use Rattle.mlk_routine_arguments.specs.CommandGrammar as grammar
+use Rattle.mlk_routine_arguments.specs.CommandGrammar.{IsRead, IsCommand, AreCommands}
 use Rattle.mlk_routine.specs.RoutineGrammar.{IsFormals, IsLabelled, IsLine, IsBody, AreLines, IsRoutine, AreNested, heads_of, level_of}
 use Rattle.mlk_program.specs.Entries.{as_lines, label_of}
 use Rattle.mlk_machine_jobs.specs.Calling.{formals_in}
-use Rattle.mlk_machine_laws.specs.WellFormed.{answers, AnswersAtEnd, IsAtLevel, AreLeveled, IsWellFormed}
+use Rattle.mlk_machine_laws.specs.WellFormed.{answers, AnswersAtEnd, IsAtLevel, AreLeveled, is_local, reads_local, reads_locals, ReadsLocals, HeadReadsLocals, LinesReadLocals}
 use Rattle.mlk_routine_laws.specs.Laws.{RoutinesSpelled, WellFormed}
 
 one : (a b : List ℕ) → Some a ≡ Some b → a ≡ b
@@ -109,6 +114,16 @@ line_answers : (n : ℕ) (head : HeadTree) (s : List ℕ) → IsLine n head s �
 line_answers n (LineHead number level end label formals commands) s (front, body, joined, counted, ended, labelled, leveled, is) =
     body_answers level _ commands body is
 
+-- the lines of a block, and those behind it, are among all
+later : {A : Type 0} (first a : A) (others : List A) → Contains others a → Contains (first ∷ others) a
+later first a others (k, below, same) = (suc k, omega (arith, below), same)
+
+in_block : (head h : HeadTree) (block rest : LineTrees) → Contains (heads_of block) h → Contains (heads_of (line head block rest)) h
+in_block head h block rest c = later head h (heads_of block ++ heads_of rest) (Contains-append_left (heads_of block) (heads_of rest) h c)
+
+in_rest : (head h : HeadTree) (block rest : LineTrees) → Contains (heads_of rest) h → Contains (heads_of (line head block rest)) h
+in_rest head h block rest c = later head h (heads_of block ++ heads_of rest) (Contains-append_right (heads_of block) (heads_of rest) h c)
+
 -- lines that are nested bear the levels at which they stand
 leveled : (level : ℕ) (lines : LineTrees) → 0 < level → AreNested level lines → ((head : HeadTree) → Contains (heads_of lines) head → AnswersRight head)
     → AreLeveled level (level == 1) lines
@@ -116,22 +131,79 @@ leveled level no_lines low nested each = tt
 leveled level (line head block rest) low (at, reached, below, more) each = (
   at_level head at (each head (0, omega arith, refl)),
   subst (λ b. AreLeveled (suc level) b block) (deeper level low)
-      (leveled (suc level) block (omega arith) below (λ h c. each h (later h (Contains-append_left (heads_of block) (heads_of rest) h c)))),
-  leveled level rest low more (λ h c. each h (later h (Contains-append_right (heads_of block) (heads_of rest) h c))),
+      (leveled (suc level) block (omega arith) below (λ h c. each h (in_block head h block rest c))),
+  leveled level rest low more (λ h c. each h (in_rest head h block rest c)),
 )
   where
     at_level : (head : HeadTree) → level_of head ≡ level → AnswersRight head → IsAtLevel level (level == 1) head
     at_level (LineHead number l end label formals commands) e a = (e, subst (λ n. AnswersAtEnd (n == 1) commands) e a)
 
-    later : (h : HeadTree) → Contains (heads_of block ++ heads_of rest) h → Contains (head ∷ (heads_of block ++ heads_of rest)) h
-    later h (k, below, same) = (suc k, omega (arith, below), same)
-
     deeper : (level : ℕ) → 0 < level → (suc level == 1) ≡ false
     deeper level low = grind (arith, nat_tests, low)
+
+-- READ is into locals alone
+local : (v : VariableTree) → grammar.is_local v ≡ true → is_local v ≡ true
+local (Named column (LocalName name subs)) h = refl
+local (Named column other) h = no h
+
+argument_reads : (at : ℕ) (r : ReadTree) (s : List ℕ) → IsRead at r s → reads_local r ≡ true
+argument_reads at (ReadText prompt) s is = refl
+argument_reads at (ReadFormat tab) s is = refl
+argument_reads at (ReadLine v most timeout) s (front, rest, joined, (variable, of), more) = local v of
+argument_reads at (ReadCharacter v timeout) s (after, star, (front, rest, joined, (variable, of), more)) = local v of
+
+next_reads : (reads : List ReadTree) (at : ℕ) (s : List ℕ) → AreNext IsRead at reads s → list_all reads_local reads ≡ true
+next_reads [] at s is = refl
+next_reads (r ∷ reads) at s (front, rest, joined, is, more) =
+    and_from (reads_local r) (list_all reads_local reads) (argument_reads _ r front is) (next_reads reads _ rest more)
+
+list_reads : (reads : List ReadTree) (at : ℕ) (s : List ℕ) → IsList IsRead at reads s → list_all reads_local reads ≡ true
+list_reads reads at s (first, others, front, rest, same, joined, is, more) =
+    subst (λ rs. list_all reads_local rs ≡ true) (sym same)
+    (and_from (reads_local first) (list_all reads_local others) (argument_reads at first front is) (next_reads others _ rest more))
+
+command_reads : (may : Bool) (at : ℕ) (c : CommandTree) (s : List ℕ) → IsCommand may at c s → reads_locals c ≡ true
+command_reads may at (Does column condition (Read reads)) s (is, conditioned, (front, rest, joined, word, (front', rest', joined', cond, (after, space, list)))) = list_reads reads _ after list
+command_reads may at (Does column condition (Do calls)) s is = refl
+command_reads may at (Does column condition Else) s is = refl
+command_reads may at (Does column condition Halt) s is = refl
+command_reads may at (Does column condition (Hang times)) s is = refl
+command_reads may at (Does column condition (If conditions)) s is = refl
+command_reads may at (Does column condition (Job calls)) s is = refl
+command_reads may at (Does column condition (Kill kills)) s is = refl
+command_reads may at (Does column condition (Lock locks)) s is = refl
+command_reads may at (Does column condition (Merge merges)) s is = refl
+command_reads may at (Does column condition (New news)) s is = refl
+command_reads may at (Does column condition (Quit value)) s is = refl
+command_reads may at (Does column condition (Set sets)) s is = refl
+command_reads may at (Does column condition (Write writes)) s is = refl
+
+commands_read : (level loops at : ℕ) (cs : CommandTrees) (s : List ℕ) → AreCommands level loops at cs s → ReadsLocals cs
+commands_read level loops at finished s h = tt
+commands_read level loops at (then_command c rest) s (text, gap, following, joined, is, gapped, more) =
+    (command_reads ((level == 1) && (loops == 0)) at c text is, commands_read level loops _ rest following more)
+commands_read level loops at (then_for column index control rest) s (text, gap, following, joined, head, counted, few, gapped, more) =
+    commands_read level (suc loops) _ rest following more
+
+body_reads : (level at : ℕ) (cs : CommandTrees) (s : List ℕ) → IsBody level at cs s → ReadsLocals cs
+body_reads level at cs s (inl (first, none, comment)) = subst ReadsLocals (sym none) tt
+body_reads level at cs s (inr (periods, start, text, comment, joined, is, few, started, are, after)) = commands_read level 0 _ cs text are
+
+line_reads : (n : ℕ) (head : HeadTree) (s : List ℕ) → IsLine n head s → HeadReadsLocals head
+line_reads n (LineHead number level end label formals commands) s (front, body, joined, counted, ended, at, level_is, is) = body_reads level _ commands body is
+
+lines_read : (lines : LineTrees) → ((head : HeadTree) → Contains (heads_of lines) head → HeadReadsLocals head) → LinesReadLocals lines
+lines_read no_lines each = tt
+lines_read (line head block rest) each = (
+  each head (0, omega arith, refl),
+  lines_read block (λ h c. each h (in_block head h block rest c)),
+  lines_read rest (λ h c. each h (in_rest head h block rest c)),
+)
 
 pub well-formed : WellFormed
 unfolding IsRoutine
 well-formed stem text (Named_routine name lines) (texts, stemmed, named, small, cut, few, good, nested, distinct) = record {
   levels = leveled 1 lines (omega arith) nested (each_line AnswersRight line_answers 1 (heads_of lines) texts good);
   formals = λ l c. each_line (λ head. AreDistinct (formals_in head)) line_differs 1 (heads_of lines) texts good l.0 (among lines l c);
+  reads = lines_read lines (each_line HeadReadsLocals line_reads 1 (heads_of lines) texts good);
 }

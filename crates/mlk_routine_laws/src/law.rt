@@ -8,7 +8,7 @@ pub fn routines_spelled()
 {}
 
 /// In a routine that was read each line bears its own level, QUIT has a value only on lines of the first level and behind
-/// no FOR, and no formal list has a name twice: what the laws on runs ask of trees.
+/// no FOR, no formal list has a name twice, and READ is into locals: what the laws on runs ask of trees.
 pub fn well_formed()
     ensures { WellFormed }
 {}

@@ -1,4 +1,4 @@
--- Each entry is safe for each number of steps, but for what is still asked for.
+-- Each certified entry is safe for each number of steps.
 use Rattle.std.proofs.Common.{◌≡◌, ◌<◌, ℕ, zero, suc, List, [], ◌++◌, Option, arith}
 use Rattle.mlk_rules.specs.declared.rules.RuleLists.{RuleLists}
 use Rattle.mlk_rules.specs.Sound.{IsSound}
@@ -29,15 +29,7 @@ use Rattle.mlk_soundness_walk.proofs.Framed.{entry_fits}
 use Rattle.mlk_soundness_walk.proofs.Levels.{line_fits}
 use Rattle.mlk_soundness_walk.proofs.Wells.{lists_once, well_of, frames_share}
 
-module _ (routines : List RoutineTree) (rules : RuleLists) (blocks : List EntryCert) (clean : report routines rules blocks ≡ []) (formed : AreFormed routines) (sound : IsSound rules) (once : ListOnce blocks)
-    (other : (e : EntryId) (blk : EntryCert) (w : World) → IsWorld (scope routines rules (known routines rules blocks) e blk) w → (b : Level) (number level : ℕ) (in_block : Option Block) (word : ℕ)
-    (S : Case → Type 0) (Q : Quit → Type 0) (n : ℕ) (block : LineTrees) (ts : List Task)
-    → ((c : Case) → S c → Fits routines (scope routines rules (known routines rules blocks) e blk) w b [] n (skipped ts) (at_rest c))
-    → ((q : Quit) → Q q → Fits routines (scope routines rules (known routines rules blocks) e blk) w b [] n (quit ts) (at_rest q.case))
-    → (B : State → Type 0) → ((u : State) → B u → Fits routines (scope routines rules (known routines rules blocks) e blk) w b [] n ts u)
-    → (a : ActionTree) → AreOurs (scope routines rules (known routines rules blocks) e blk) (in_action a) → (s : State)
-    → Leads (act (record { scope = scope routines rules (known routines rules blocks) e blk; line = number; level = level; block = in_block; word = word }) a) s B S Q
-    → Fits routines (scope routines rules (known routines rules blocks) e blk) w b [] n (action_parts block a ++ ts) s) where
+module _ (routines : List RoutineTree) (rules : RuleLists) (blocks : List EntryCert) (clean : report routines rules blocks ≡ []) (formed : AreFormed routines) (sound : IsSound rules) (once : ListOnce blocks) where
   below : (n k : ℕ) → k < n → EntryFits routines rules (known routines rules blocks) k
   below zero k h = absurd (omega (arith, h))
   below (suc n) k h =
@@ -46,7 +38,6 @@ module _ (routines : List RoutineTree) (rules : RuleLists) (blocks : List EntryC
       line_fits routines rules (known routines rules blocks) e blk w world sound.apart (one_rank rules.families sound.apart)
       (λ column callee written ours t its target head body more heads. well_of routines rules (known routines rules blocks) t head body more heads formed e blk its column callee written ours target)
       (lists_once routines rules blocks once e blk at) (frames_share routines e e) k (λ i l. below n i (omega (arith, l, h)))
-      (λ b number level in_block word S Q m le. other e blk w world b number level in_block word S Q m)
       block (first_level w) (omega arith) lines pass k (omega arith) p same deep is)
 
   pub each_entry : (n : ℕ) → EntryFits routines rules (known routines rules blocks) n

@@ -36,11 +36,12 @@ use Rattle.mlk_walk_laws.proofs.Rows.{stays, each_keeps}
 use Rattle.mlk_walk_laws.proofs.Walks.{value_keeps, set_keeps, write_keeps, do_keeps, job_keeps, kill_keeps, acts_keep, conditioned_keeps}
 use Rattle.mlk_soundness_machine.specs.Described.{World, Level, Slot, IsWorld, idle, Describes}
 use Rattle.mlk_soundness_machine.specs.Safe.{KeepsTo}
+use Rattle.mlk_soundness_machine.proofs.Sharing.{SharesByOwn}
 use Rattle.mlk_soundness_machine.proofs.Steps.{Comes, done, less}
 use Rattle.mlk_soundness_machine.proofs.Values.{Safe, Fits, FitsValue}
 use Rattle.mlk_soundness_walk.specs.Commands.{Gives}
 use Rattle.mlk_soundness_walk.specs.Entries.{scope, EntryFits}
-use Rattle.mlk_soundness_walk.specs.Forms.{answers, reads_locals}
+use Rattle.mlk_machine_laws.specs.WellFormed.{answers, reads_locals}
 use Rattle.mlk_soundness_walk.specs.Ours.{IsOurs, AreOurs, IsOf}
 use Rattle.mlk_soundness_walk.proofs.Acts.{write_fits, ifs_fit, if_fits, else_fits, quit_fits, answer_fits}
 use Rattle.mlk_soundness_walk.proofs.Alone.{Leads, leads_both, leads_each, leads_few, leads_stay}
@@ -50,7 +51,10 @@ use Rattle.mlk_soundness_walk.proofs.Entries as entered
 use Rattle.mlk_soundness_walk.proofs.Entries.{IsWell, do_comes, value_fits}
 use Rattle.mlk_soundness_walk.proofs.Expressions.{CallsFit, evaluate_fits, subs_fit, actuals_fit}
 use Rattle.mlk_soundness_walk.proofs.Inputs.{reads_fit}
+use Rattle.mlk_soundness_walk.proofs.Locks.{lock_fits}
+use Rattle.mlk_soundness_walk.proofs.Merging.{merges_fit}
 use Rattle.mlk_soundness_walk.proofs.Ours.{ours_left, ours_right}
+use Rattle.mlk_soundness_walk.proofs.Renewing.{news_fit}
 use Rattle.mlk_soundness_walk.proofs.Setting.{set_fits}
 use Rattle.mlk_soundness_walk.proofs.Sets.{variable_fits}
 use Rattle.mlk_soundness_walk.proofs.Variables.{halted, all_but_fits, kill_one_fits}
@@ -101,12 +105,12 @@ module _ (routines : List RoutineTree) (rules : RuleLists) (entries : List (Entr
       → ((u : State) → A u → FitsValue routines sc w b t slots n ts u) → Fits routines sc w b slots n (task.Evaluate t ∷ ts) s
   evaluate = evaluate_fits routines here w b S Q n calls_fit
 
-  -- what a command does: these are shown, and the others are asked for
+  -- what a command does
   module _ (block : LineTrees) (may : Bool) (ts : List Task) (A : State → Type 0) (go : (u : State) → A u → Fits routines sc w b [] n ts u)
       (skip : (c : Case) → S c → Fits routines sc w b [] n (skipped ts) (at_rest c)) (stop : (q : Quitting) → Q q → Fits routines sc w b [] n (quit ts) (at_rest q.case))
       (give : may ≡ true → (q : Quitting) → Q q → Gives routines w b sc n (to_end ts) (at_rest q.case))
       (in_a_block : (s : State) → Leads (do_block here in_block) s A S Q → Fits routines sc w b [] n (action_parts block (Do []) ++ ts) s)
-      (other : (a : ActionTree) → AreOurs sc (in_action a) → (s : State) → Leads (act here a) s A S Q → Fits routines sc w b [] n (action_parts block a ++ ts) s) where
+      (shares : SharesByOwn sc.is_shared sc.is_shared) (deep : level ≡ b.level) where
     pub act_fits : (column : ℕ) (condition : Option Tree) (a : ActionTree) → (answers (Does column condition a) ≡ true → may ≡ true) → reads_locals (Does column condition a) ≡ true → AreOurs sc (in_action a) → (s : State) → Leads (act here a) s A S Q
         → Fits routines sc w b [] n (action_parts block a ++ ts) s
     act_fits column condition (Do []) may_be locals ours s l = in_a_block s l
@@ -136,9 +140,11 @@ module _ (routines : List RoutineTree) (rules : RuleLists) (entries : List (Entr
     act_fits column condition (Kill (k ∷ kills)) may_be locals ours s l =
         turns_fit routines here w b S Q n kill_argument (kill_keeps here) kill_parts in_kill ts
         (λ x its more u B m f. kill_one_fits routines here w b world S Q n (variable_fits routines here w b S Q n evaluate (subs_fit routines here w b S Q n calls_fit)) x its more u B m f) (k ∷ kills) ours s A l go
-    act_fits column condition (Lock locks) may_be locals ours s l = other (Lock locks) ours s l
-    act_fits column condition (Merge merges) may_be locals ours s l = other (Merge merges) ours s l
-    act_fits column condition (New news) may_be locals ours s l = other (New news) ours s l
+    act_fits column condition (Lock locks) may_be locals ours s l =
+        lock_fits routines here w b world apart ranked S Q n evaluate (variable_fits routines here w b S Q n evaluate (subs_fit routines here w b S Q n calls_fit)) locks ours block ts s A l go
+    act_fits column condition (Merge merges) may_be locals ours s l =
+        merges_fit routines here w b world S Q n (variable_fits routines here w b S Q n evaluate (subs_fit routines here w b S Q n calls_fit)) merges ours ts s A l go
+    act_fits column condition (New news) may_be locals ours s l = news_fit routines here w b S Q n shares deep news block ts s A l go
     act_fits column condition (Read reads) may_be locals ours s l =
         reads_fit routines here w b world S Q n evaluate (variable_fits routines here w b S Q n evaluate (subs_fit routines here w b S Q n calls_fit)) reads locals ours ts s A l go
 
@@ -147,7 +153,7 @@ module _ (routines : List RoutineTree) (rules : RuleLists) (entries : List (Entr
       (skip : (c : Case) → S c → Fits routines sc w b [] n (skipped ts) (at_rest c)) (stop : (q : Quitting) → Q q → Fits routines sc w b [] n (quit ts) (at_rest q.case))
       (give : may ≡ true → (q : Quitting) → Q q → Gives routines w b sc n (to_end ts) (at_rest q.case))
       (in_a_block : (B : State → Type 0) → ((u : State) → B u → Fits routines sc w b [] n ts u) → (s : State) → Leads (do_block here in_block) s B S Q → Fits routines sc w b [] n (action_parts block (Do []) ++ ts) s)
-      (other : (B : State → Type 0) → ((u : State) → B u → Fits routines sc w b [] n ts u) → (a : ActionTree) → AreOurs sc (in_action a) → (s : State) → Leads (act here a) s B S Q → Fits routines sc w b [] n (action_parts block a ++ ts) s)
+      (shares : SharesByOwn sc.is_shared sc.is_shared) (deep : level ≡ b.level)
       (A : State → Type 0) (go : (u : State) → A u → Fits routines sc w b [] n ts u) where
     abbrev Few : State → Type 0
     Few u = Leads (few number word) u A S Q
@@ -157,7 +163,7 @@ module _ (routines : List RoutineTree) (rules : RuleLists) (entries : List (Entr
 
     runs : (condition : Option Tree) (a : ActionTree) → IsOf sc may (Does word condition a) → (s : State) → Leads (act here a) s Few S Q → Fits routines sc w b [] n (action_parts block a ++ ts) s
     runs condition a of s l =
-        act_fits block may ts Few then_few skip stop give (in_a_block Few then_few) (other Few then_few) word condition a of.ends of.reads (ours_right sc (in_option condition) (in_action a) of.ours) s l
+        act_fits block may ts Few then_few skip stop give (in_a_block Few then_few) shares deep word condition a of.ends of.reads (ours_right sc (in_option condition) (in_action a) of.ours) s l
 
     pub one_fits : (condition : Option Tree) (a : ActionTree) → IsOf sc may (Does word condition a) → (s : State) → Leads (command here condition a) s A S Q
         → Fits routines sc w b [] n (command_parts block (Does word condition a) ++ ts) s

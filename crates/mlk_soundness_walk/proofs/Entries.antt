@@ -98,14 +98,14 @@ terms_same (x ∷ xs) (y ∷ ys) h =
     let b : xs ≡ ys = terms_same xs ys p.1 in
     rw (a, b) refl
 
-leaves_same : (c : Case) (x : ExitCase) → leaves_by c x ≡ true → (c.held ≡ x.held) × (says_no_more c.test x.test ≡ true)
+pub leaves_same : (c : Case) (x : ExitCase) → leaves_by c x ≡ true → (c.held ≡ x.held) × (says_no_more c.test x.test ≡ true)
 unfolding leaves_by
 leaves_same c x h =
     let p = and_parts (says_no_more c.test x.test) (pairwise same_term c.held x.held && list_all (is_among c.kept) x.kept) h in
     let q = and_parts (pairwise same_term c.held x.held) (list_all (is_among c.kept) x.kept) p.1 in
     (terms_same c.held x.held q.0, p.0)
 
-none_local : (x : List ℕ) → some_local x [] ≡ false
+pub none_local : (x : List ℕ) → some_local x [] ≡ false
 unfolding some_local
 none_local x = refl
 
@@ -157,20 +157,20 @@ pub in_order_same : (names : List (List ℕ)) (x : List ℕ) → is_among (in_or
 unfolding is_among
 in_order_same names x = among_order [] names x
 
-own_formals : (names : List (List ℕ)) (x : List ℕ) → is_own (map own_formal names) x ≡ is_among names x
+pub own_formals : (names : List (List ℕ)) (x : List ℕ) → is_own (map own_formal names) x ≡ is_among names x
 unfolding is_among
 own_formals [] x = refl
 own_formals (n ∷ names) x = ap (λ z. z || is_own (map own_formal names) x) (turned n x) ∙ ap (λ z. bytes_eq x n || z) (own_formals names x)
 
-at_formals : (names : List (List ℕ)) (x : List ℕ) → own_at 1 (map own_formal names) x ≡ is_own (map own_formal names) x
+pub at_formals : (names : List (List ℕ)) (x : List ℕ) → own_at 1 (map own_formal names) x ≡ is_own (map own_formal names) x
 at_formals [] x = refl
 at_formals (n ∷ names) x = ap (λ z. bytes_eq n x || z) (at_formals names x)
 
-at_others : (names : List (List ℕ)) (l : ℕ) → (l ≡ 1 → ⊥) → (x : List ℕ) → own_at l (map own_formal names) x ≡ false
+pub at_others : (names : List (List ℕ)) (l : ℕ) → (l ≡ 1 → ⊥) → (x : List ℕ) → own_at l (map own_formal names) x ≡ false
 at_others [] l ne x = refl
 at_others (n ∷ names) l ne x = let e : (1 == l) ≡ false = ne_eqb 1 l (λ z. ne (sym z)) in rw e (at_others names l ne x)
 
-low_formals : (names : List (List ℕ)) → Each (λ (o : Own). o.level ≤ 1) (map own_formal names)
+pub low_formals : (names : List (List ℕ)) → Each (λ (o : Own). o.level ≤ 1) (map own_formal names)
 low_formals [] = tt
 low_formals (n ∷ names) = (omega arith, low_formals names)
 

@@ -16,7 +16,8 @@ use Rattle.mlk_rules.specs.declared.rules.RuleLists.{RuleLists}
 use Rattle.mlk_cert_parts.specs.declared.block.EntryCert.{EntryCert}
 use Rattle.mlk_walk_state.specs.Scope.{Scope}
 use Rattle.mlk_soundness_walk.specs.Entries.{scope}
-use Rattle.mlk_soundness_walk.specs.Forms.{AreLeveled, LinesReadLocals, AreFormed, lines_of_routine}
+use Rattle.mlk_machine_laws.specs.WellFormed.{AreLeveled, LinesReadLocals, lines_of_routine}
+use Rattle.mlk_soundness_walk.specs.Forms.{AreFormed}
 use Rattle.mlk_soundness_walk.specs.Ours.{IsHeadOf, AreLinesOf}
 
 contains_map : {A B : Type 0} (f : A → B) (xs : List A) (a : A) → Contains xs a → Contains (map f xs) (f a)
@@ -96,7 +97,7 @@ entry_lines routines rules entries formed e blk = on (slice_get routines e.routi
     of_tree : (tree : RoutineTree) → slice_get routines e.routine ≡ Some tree → AreLinesOf (scope routines rules entries e blk) 1 true (lines_of_routine tree)
     of_tree tree h =
         let z : e.routine ≡ 0 + e.routine = omega arith in
-        from_calls (scope routines rules entries e blk) 1 true (lines_of_routine tree) (formed.levels tree (contains_get routines e.routine tree h)) (formed.reads tree (contains_get routines e.routine tree h))
+        from_calls (scope routines rules entries e blk) 1 true (lines_of_routine tree) (formed tree (contains_get routines e.routine tree h)).levels (formed tree (contains_get routines e.routine tree h)).reads
         (λ q i. routine_calls 0 e.routine routines tree h q (subst (λ k. Contains (calls_in k (lines_of_routine tree)) q) z i))
 
     in_tree : (tree : RoutineTree) → as_lines (lines_of_routine tree) ≡ lines_in tree

@@ -38,7 +38,7 @@ use Rattle.mlk_soundness_machine.proofs.Stack.{kepts}
 use Rattle.mlk_soundness_machine.proofs.Steps.{done, of_truth}
 use Rattle.mlk_soundness_machine.proofs.Unused.{ask_fits, drop_fits, forgotten_fits, nothing_less}
 use Rattle.mlk_soundness_machine.proofs.Values.{Safe, Fits, FitsValue, plain_step}
-use Rattle.mlk_soundness_walk.specs.Forms.{is_local, reads_local}
+use Rattle.mlk_machine_laws.specs.WellFormed.{is_local, reads_local}
 use Rattle.mlk_soundness_walk.specs.Ours.{AreOurs}
 use Rattle.mlk_soundness_walk.proofs.Alone.{Leads, leads_both, leads_each, leads_few, leads_stay}
 use Rattle.mlk_soundness_walk.proofs.Commands.{changed_goes, tested_law}

@@ -57,66 +57,60 @@ module _ (routines : List RoutineTree) (rules : RuleLists) (entries : List (Entr
   abbrev spot : ℕ → ℕ → Option Block → ℕ → Spot
   spot number level in_block word = record { scope = scope routines rules entries e blk; line = number; level = level; block = in_block; word = word }
 
-  -- what is still asked for: the commands that are left
-  module _
-      (other : (b : Level) (number level : ℕ) (in_block : Option Block) (word : ℕ) (S : Case → Type 0) (Q : Quit → Type 0) (n : ℕ) → n ≤ bound → (block : LineTrees) (ts : List Task)
-      → ((c : Case) → S c → Fits routines sc w b [] n (skipped ts) (at_rest c)) → ((q : Quit) → Q q → Fits routines sc w b [] n (quit ts) (at_rest q.case))
-      → (B : State → Type 0) → ((u : State) → B u → Fits routines sc w b [] n ts u) → (a : ActionTree) → AreOurs sc (in_action a) → (s : State) → Leads (act (spot number level in_block word) a) s B S Q
-      → Fits routines sc w b [] n (action_parts block a ++ ts) s) where
-    -- the commands of one line, given what its block's lines are
-    module _ (block : LineTrees) (b : Level) (pos : 0 < b.level) (leveled : AreLinesOf sc (suc b.level) false block) (passes : EachLinePasses sc OfBlock (walk_lines sc OfBlock block).ends block)
-        (inner : (inside : Level) → inside.level ≡ suc b.level → (m : ℕ) → m ≤ bound → EachBlockFits routines sc w inside m block) where
-      abbrev its : Option Block
-      its = block_with block (walk_lines sc OfBlock block).ends
+  -- the commands of one line, given what its block's lines are
+  module _ (block : LineTrees) (b : Level) (pos : 0 < b.level) (leveled : AreLinesOf sc (suc b.level) false block) (passes : EachLinePasses sc OfBlock (walk_lines sc OfBlock block).ends block)
+      (inner : (inside : Level) → inside.level ≡ suc b.level → (m : ℕ) → m ≤ bound → EachBlockFits routines sc w inside m block) where
+    abbrev its : Option Block
+    its = block_with block (walk_lines sc OfBlock block).ends
 
-      in_block : (number level word : ℕ) (S : Case → Type 0) (Q : Quit → Type 0) (m : ℕ) → m ≤ bound → (ts : List Task) (B : State → Type 0) → ((u : State) → B u → Fits routines sc w b [] m ts u)
-          → (s : State) → Leads (do_block (spot number level its word) its) s B S Q → Fits routines sc w b [] m (action_parts block (Do []) ++ ts) s
-      in_block number level word S Q m le ts B go s l = by block leveled passes (λ inside eq. inner inside eq m le) l
-        where
-          by : (body : LineTrees) → AreLinesOf sc (suc b.level) false body → EachLinePasses sc OfBlock (walk_lines sc OfBlock body).ends body
-              → ((inside : Level) → inside.level ≡ suc b.level → EachBlockFits routines sc w inside m body)
-              → Leads (do_block (spot number level its word) (block_with body (walk_lines sc OfBlock body).ends)) s B S Q → Fits routines sc w b [] m (action_parts body (Do []) ++ ts) s
-          by no_lines deep pass each h = go s (leads_stay B S Q s h)
-          by (line head inside more) deep pass each h = block_fits routines (spot number level its word) w b world pos shares once m head inside more ts each deep pass s B S Q h go
+    in_block : (number level word : ℕ) (S : Case → Type 0) (Q : Quit → Type 0) (m : ℕ) → m ≤ bound → (ts : List Task) (B : State → Type 0) → ((u : State) → B u → Fits routines sc w b [] m ts u)
+        → (s : State) → Leads (do_block (spot number level its word) its) s B S Q → Fits routines sc w b [] m (action_parts block (Do []) ++ ts) s
+    in_block number level word S Q m le ts B go s l = by block leveled passes (λ inside eq. inner inside eq m le) l
+      where
+        by : (body : LineTrees) → AreLinesOf sc (suc b.level) false body → EachLinePasses sc OfBlock (walk_lines sc OfBlock body).ends body
+            → ((inside : Level) → inside.level ≡ suc b.level → EachBlockFits routines sc w inside m body)
+            → Leads (do_block (spot number level its word) (block_with body (walk_lines sc OfBlock body).ends)) s B S Q → Fits routines sc w b [] m (action_parts body (Do []) ++ ts) s
+        by no_lines deep pass each h = go s (leads_stay B S Q s h)
+        by (line head inside more) deep pass each h = block_fits routines (spot number level its word) w b world pos shares once m head inside more ts each deep pass s B S Q h go
 
-      one_fits : (number level word m : ℕ) → m ≤ bound → (may : Bool) (c : CommandTree) → IsOf sc may c → (ts : List Task) (s : State) (A : State → Type 0) (S : Case → Type 0) (Q : Quit → Type 0)
-          → Leads (λ v. one_command (spot number level its word) v c) s A S Q
-          → ((u : State) → A u → Fits routines sc w b [] m ts u) → ((d : Case) → S d → Fits routines sc w b [] m (skipped ts) (at_rest d))
-          → ((q : Quit) → Q q → Fits routines sc w b [] m (quit ts) (at_rest q.case)) → (may ≡ true → (q : Quit) → Q q → Gives routines w b sc m (to_end ts) (at_rest q.case))
-          → Fits routines sc w b [] m (command_parts block c ++ ts) s
-      one_fits number level word m le may (Does column condition a) of ts s A S Q l go skip stop give =
-          commanding.one_fits routines rules entries e blk w world apart ranked well b bound lower number level its column S Q m le block may ts skip stop give
-          (in_block number level column S Q m le ts) (other b number level its column S Q m le block ts skip stop) A go condition a of s l
+    one_fits : (number level word m : ℕ) → level ≡ b.level → m ≤ bound → (may : Bool) (c : CommandTree) → IsOf sc may c → (ts : List Task) (s : State) (A : State → Type 0) (S : Case → Type 0) (Q : Quit → Type 0)
+        → Leads (λ v. one_command (spot number level its word) v c) s A S Q
+        → ((u : State) → A u → Fits routines sc w b [] m ts u) → ((d : Case) → S d → Fits routines sc w b [] m (skipped ts) (at_rest d))
+        → ((q : Quit) → Q q → Fits routines sc w b [] m (quit ts) (at_rest q.case)) → (may ≡ true → (q : Quit) → Q q → Gives routines w b sc m (to_end ts) (at_rest q.case))
+        → Fits routines sc w b [] m (command_parts block c ++ ts) s
+    one_fits number level word m deep le may (Does column condition a) of ts s A S Q l go skip stop give =
+        commanding.one_fits routines rules entries e blk w world apart ranked well b bound lower number level its column S Q m le block may ts skip stop give
+        (in_block number level column S Q m le ts) shares deep A go condition a of s l
 
-      evaluate : (number level word m : ℕ) → m ≤ bound → (t : Tree) → AreOurs sc (in_tree t) → (slots : List Slot) (us : List Task) (s : State) (A : State → Type 0)
-          → Leads (value (spot number level its word) t) s A Some_case Some_quit → ((u : State) → A u → FitsValue routines sc w b t slots m us u) → Fits routines sc w b slots m (task.Evaluate t ∷ us) s
-      evaluate number level word m le =
-          commanding.evaluate routines rules entries e blk w world apart ranked well b bound lower number level its word Some_case Some_quit m le
+    evaluate : (number level word m : ℕ) → m ≤ bound → (t : Tree) → AreOurs sc (in_tree t) → (slots : List Slot) (us : List Task) (s : State) (A : State → Type 0)
+        → Leads (value (spot number level its word) t) s A Some_case Some_quit → ((u : State) → A u → FitsValue routines sc w b t slots m us u) → Fits routines sc w b slots m (task.Evaluate t ∷ us) s
+    evaluate number level word m le =
+        commanding.evaluate routines rules entries e blk w world apart ranked well b bound lower number level its word Some_case Some_quit m le
 
-      pub block_fit : (m : ℕ) → m ≤ bound → BlockFits routines sc w b m block
-      block_fit m le p same deep is =
-          let here : Spot = record p { scope = scope routines rules entries e blk; block = its } in
-          let eq : p ≡ here = ap (λ z. record p { scope = z }) same ∙ ap (λ z. record p { scope = scope routines rules entries e blk; block = z }) is in
-          subst (λ q. CommandFits routines w b q block m) (sym eq)
-          (command_fits routines here w b world block bound once (λ word k lk. evaluate p.line p.level word k lk) (λ k lk. one_fits p.line p.level p.word k lk) m le)
+    pub block_fit : (m : ℕ) → m ≤ bound → BlockFits routines sc w b m block
+    block_fit m le p same deep is =
+        let here : Spot = record p { scope = scope routines rules entries e blk; block = its } in
+        let eq : p ≡ here = ap (λ z. record p { scope = z }) same ∙ ap (λ z. record p { scope = scope routines rules entries e blk; block = z }) is in
+        subst (λ q. CommandFits routines w b q block m) (sym eq)
+        (command_fits routines here w b world block bound once (λ word k lk. evaluate p.line p.level word k lk) (λ k lk. one_fits p.line p.level p.word k deep lk) m le)
 
-    -- the lines of a level
-    pub blocks_fit : (lines : LineTrees) (b : Level) → 0 < b.level → (may : Bool) (around : Around) (ends : List Case) → AreLinesOf sc b.level may lines → EachLinePasses sc around ends lines
-        → (m : ℕ) → m ≤ bound → EachBlockFits routines sc w b m lines
-    blocks_fit no_lines b pos may around ends leveled passes m le = tt
-    blocks_fit (line head block rest) b pos may around ends leveled passes m le = (
-      block_fit block b pos leveled.1 passes.1
-          (λ inside eq k lk.
-          let more : 0 < inside.level = (let z = eq in omega (arith, z)) in
-          blocks_fit block inside more false OfBlock (walk_lines sc OfBlock block).ends (subst (λ z. AreLinesOf sc z false block) (sym eq) leveled.1) passes.1 k lk) m le,
-      blocks_fit rest b pos may around ends leveled.2 passes.2 m le,
-    )
-
-    -- the commands of a line of the entry
-    pub line_fits : (block : LineTrees) (b : Level) → 0 < b.level → AreLinesOf sc (suc b.level) false block → EachLinePasses sc OfBlock (walk_lines sc OfBlock block).ends block
-        → (m : ℕ) → m ≤ bound → BlockFits routines sc w b m block
-    line_fits block b pos leveled passes m le =
-        block_fit block b pos leveled passes
+  -- the lines of a level
+  pub blocks_fit : (lines : LineTrees) (b : Level) → 0 < b.level → (may : Bool) (around : Around) (ends : List Case) → AreLinesOf sc b.level may lines → EachLinePasses sc around ends lines
+      → (m : ℕ) → m ≤ bound → EachBlockFits routines sc w b m lines
+  blocks_fit no_lines b pos may around ends leveled passes m le = tt
+  blocks_fit (line head block rest) b pos may around ends leveled passes m le = (
+    block_fit block b pos leveled.1 passes.1
         (λ inside eq k lk.
         let more : 0 < inside.level = (let z = eq in omega (arith, z)) in
-        blocks_fit block inside more false OfBlock (walk_lines sc OfBlock block).ends (subst (λ z. AreLinesOf sc z false block) (sym eq) leveled) passes k lk) m le
+        blocks_fit block inside more false OfBlock (walk_lines sc OfBlock block).ends (subst (λ z. AreLinesOf sc z false block) (sym eq) leveled.1) passes.1 k lk) m le,
+    blocks_fit rest b pos may around ends leveled.2 passes.2 m le,
+  )
+
+  -- the commands of a line of the entry
+  pub line_fits : (block : LineTrees) (b : Level) → 0 < b.level → AreLinesOf sc (suc b.level) false block → EachLinePasses sc OfBlock (walk_lines sc OfBlock block).ends block
+      → (m : ℕ) → m ≤ bound → BlockFits routines sc w b m block
+  line_fits block b pos leveled passes m le =
+      block_fit block b pos leveled passes
+      (λ inside eq k lk.
+      let more : 0 < inside.level = (let z = eq in omega (arith, z)) in
+      blocks_fit block inside more false OfBlock (walk_lines sc OfBlock block).ends (subst (λ z. AreLinesOf sc z false block) (sym eq) leveled) passes k lk) m le

@@ -25,6 +25,13 @@ pub mod Commanding
 pub mod Formed
 pub mod Variables
 pub mod Rests
+pub mod LockNames
+pub mod Releases
+pub mod Locks
+pub mod Merging
+pub mod Renewing
 pub mod Levels
 pub mod Wells
 pub mod Closed
+pub mod Starting
+pub mod Listed

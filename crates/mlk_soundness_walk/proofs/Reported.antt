@@ -5,6 +5,7 @@ use Rattle.std.specs.Ordering.{match_ordering}
 use Rattle.std.specs.declared.cmp.Ordering.{Ordering}
 use Rattle.std.specs.declared.cmp.Ordering.TheVariants.{Less, Equal, Greater}
 use Rattle.std.proofs.lemmas.Bool.{cases_Bool, and_parts, or_left, or_right}
+use Rattle.mlk_text.specs.declared.code.Code.TheVariants.{NoCertificate}
 use Rattle.mlk_syntax.specs.Trees.{RoutineTree, HeadTree, LineTrees}
 use Rattle.mlk_program.specs.Entries.{same_entry, lines_in, label_of, is_label, line_named, entry_by, has_label, line_of_entry}
 use Rattle.mlk_program.specs.Laws.{IsEntryOf}
@@ -13,12 +14,12 @@ use Rattle.mlk_program.proofs.EntryTexts.{entries-named}
 use Rattle.mlk_program.proofs.NameTables.{position-cons}
 use Rattle.mlk_cert_parts.specs.declared.block.EntryCert.{EntryCert}
 use Rattle.mlk_rules.specs.declared.rules.RuleLists.{RuleLists}
-use Rattle.mlk_walk_state.specs.Scope.{block_at, block_of, has_entry, certified, declared, scope_with}
+use Rattle.mlk_walk_state.specs.Scope.{block_at, block_of, has_entry, is_declared, certified, declared, scope_with}
 use Rattle.mlk_walk_state.proofs.EntryTables.{tables_are}
 use Rattle.mlk_calls.specs.Calls.{formals_in}
 use Rattle.mlk_walk_exprs.specs.declared.walk.Fault.{Fault}
 use Rattle.mlk_walk.specs.Faults.{fault_cmp, put_fault, put_faults}
-use Rattle.mlk_walk.specs.Verdicts.{known, verdict, entry_faults, faults_with, all_faults, own_faults, begin_faults, need_faults, exit_faults, entry_number, entry_walk, fault_in}
+use Rattle.mlk_walk.specs.Verdicts.{fault_at, known, verdict, entry_faults, faults_with, all_faults, own_faults, begin_faults, need_faults, exit_faults, entry_number, entry_walk, fault_in}
 use Rattle.mlk_walk.specs.Reports.{is_entry, entry_at, line_entries, entries_from, is_checked, row_of, rows_of, report}
 use Rattle.mlk_walk_laws.specs.Fewer.{Among}
 use Rattle.mlk_soundness_walk.specs.Clean.{IsCleanEntry}
@@ -181,6 +182,10 @@ faults_are : (routines : List RoutineTree) (rules : RuleLists) (entries : List (
 unfolding entry_faults
 faults_are routines rules entries e b h = ap (faults_with routines rules entries e) h
 
+unsaid : (routines : List RoutineTree) (rules : RuleLists) (entries : List (EntryId × EntryCert) × List EntryId) (e : EntryId) → block_at entries.0 e ≡ None → entry_faults routines rules entries e ≡ [] → ⊥
+unfolding entry_faults
+unsaid routines rules entries e i h = let z : fault_at (entry_number (line_of_entry routines e)) 1 NoCertificate ∷ [] ≡ [] = sym (ap (faults_with routines rules entries e) i) ∙ h in cc z
+
 pub clean_entry : (routines : List RoutineTree) (rules : RuleLists) (blocks : List EntryCert) → report routines rules blocks ≡ [] → (e : EntryId) (b : EntryCert) → block_at (certified routines blocks) e ≡ Some b → IsCleanEntry routines rules blocks e b
 clean_entry routines rules blocks h e b at =
     let entries = known routines rules blocks in
@@ -201,3 +206,29 @@ clean_entry routines rules blocks h e b at =
       exits = right_none (need_faults sc number) (exit_faults sc number) rest;
       lines = map_none fault_in (entry_walk routines e sc).faults (right_none (own_faults sc number formals) (map fault_in (entry_walk routines e sc).faults) all);
     }
+
+-- a declared entry is certified
+declared_named : (routines : List RoutineTree) (e : EntryId) (texts : List (List ℕ)) → is_declared routines texts e ≡ true → IsEntryOf routines e
+declared_named routines e [] h = cc h
+declared_named routines e (text ∷ texts) h = of (entry_by routines text) refl (declared_named routines e texts)
+  where
+    of : (o : Option EntryId) → entry_by routines text ≡ o → (is_declared routines texts e ≡ true → IsEntryOf routines e) → IsEntryOf routines e
+    of None i more = more (rw i at h)
+    of (Some k) i more =
+        ⊎_elim (λ (g : same_entry e k ≡ true). subst (IsEntryOf routines) (sym (entry_is e k g)) ((entries-named routines k).0 text i))
+        (λ (g : same_entry e k ≡ false). more (rw (i, g) at h)) (cases_Bool (same_entry e k))
+
+pub certified_entry : (routines : List RoutineTree) (rules : RuleLists) (blocks : List EntryCert) → report routines rules blocks ≡ [] → (e : EntryId) → is_declared routines rules.entries e ≡ true
+    → (b : EntryCert) × (block_at (known routines rules blocks).0 e ≡ Some b) × (has_entry (known routines rules blocks).1 e ≡ true)
+certified_entry routines rules blocks h e is =
+    let there : has_entry (declared routines rules.entries) e ≡ true = (tables_are routines blocks rules.entries).declared e ∙ is in
+    let rows = report_rows routines rules blocks h e (entry_among routines e (declared_named routines e rules.entries is)) in
+    let checked : is_checked (known routines rules blocks) e ≡ true = or_right (is_some (block_at (certified routines blocks) e)) (has_entry (declared routines rules.entries) e) there in
+    let some : map (row_of e) (verdict routines rules (known routines rules blocks) e) ≡ [] = sym (ap (λ q. if q then map (row_of e) (verdict routines rules (known routines rules blocks) e) else []) checked) ∙ rows in
+    let none : entry_faults routines rules (known routines rules blocks) e ≡ [] = put_none (entry_faults routines rules (known routines rules blocks) e) (map_none (row_of e) (verdict routines rules (known routines rules blocks) e) some) in
+    of (block_at (certified routines blocks) e) refl there none
+  where
+    of : (o : Option EntryCert) → block_at (certified routines blocks) e ≡ o → has_entry (declared routines rules.entries) e ≡ true → entry_faults routines rules (known routines rules blocks) e ≡ []
+        → (b : EntryCert) × (block_at (known routines rules blocks).0 e ≡ Some b) × (has_entry (known routines rules blocks).1 e ≡ true)
+    of None i there none = absurd (unsaid routines rules (known routines rules blocks) e i none)
+    of (Some b) i there none = (b, i, there)

@@ -40,7 +40,7 @@ use Rattle.mlk_soundness_walk.proofs.Lines.{none_local}
 use Rattle.mlk_soundness_walk.proofs.Sets.{all_slots, subs_values, AllTaken, all_taken, targets_fit}
 use Rattle.mlk_soundness_walk.proofs.Assigns.{spents, spent_fills, spent_taken, captured_stand, counted, enough, taken_size, dropped_size, targets_assigned}
 
-zip_size : (a : Assignment) (xs : List Sym) (ys : List (List ℕ)) → AllZip (StandsFor a) xs ys → length xs ≡ length ys
+pub zip_size : (a : Assignment) (xs : List Sym) (ys : List (List ℕ)) → AllZip (StandsFor a) xs ys → length xs ≡ length ys
 zip_size a [] [] h = refl
 zip_size a [] (y ∷ ys) h = absurd h
 zip_size a (x ∷ xs) [] h = absurd h
@@ -66,7 +66,7 @@ drop_one (suc n) [] = refl
 drop_one n (x ∷ xs) = refl
 
 -- nothing is captured below what is taken
-bottom : (a : Assignment) (ss : List Sym) (values below : List (List ℕ)) → Fills a [] ss values below → (ss ≡ []) × (values ≡ below)
+pub bottom : (a : Assignment) (ss : List Sym) (values below : List (List ℕ)) → Fills a [] ss values below → (ss ≡ []) × (values ≡ below)
 bottom a [] values below f = (refl, f)
 bottom a (s ∷ ss) values below f = absurd f
 
@@ -93,7 +93,7 @@ module _ (sc : Scope) (w : World) (b : Level) (targets : List TargetTree) (u : S
       }
 
 -- all is forgotten
-forgotten : (sc : Scope) (w : World) (b : Level) (vals : List (List ℕ)) (n : ℕ) → length vals ≡ n → (u : State) (j : Job) → Describes sc w b (spents vals []) u j → Describes sc w b [] (without_last n u) j
+pub forgotten : (sc : Scope) (w : World) (b : Level) (vals : List (List ℕ)) (n : ℕ) → length vals ≡ n → (u : State) (j : Job) → Describes sc w b (spents vals []) u j → Describes sc w b [] (without_last n u) j
 forgotten sc w b vals n e u j d =
     let z = zip_size (now j) u.captured vals (captured_stand sc w b vals u j d) in
     let g : take (length u.captured - n) u.captured ≡ [] = nothing_left u.captured n (z ∙ e) in

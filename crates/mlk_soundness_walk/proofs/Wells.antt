@@ -140,7 +140,7 @@ module _ (routines : List RoutineTree) (rules : RuleLists) (entries : List (Entr
           let z : drop t.line (lines_in tree) ≡ (head, body) ∷ lines = (rw f at g) in
           ap (λ o. option_and_then (λ x. slice_get (lines_in x) t.line) o) f ∙ first_line routines rules entries (lines_in tree) t.line (head, body) lines z
 
-  its_formals : FormalsDiffer routines → names.AreDistinct (formals_in head)
+  pub its_formals : FormalsDiffer routines → names.AreDistinct (formals_in head)
   its_formals differ = on (slice_get routines t.routine) refl heads
     where
       on : (o : Option RoutineTree) → slice_get routines t.routine ≡ o → lines_after routines t ≡ (head, body) ∷ lines → names.AreDistinct (formals_in head)
@@ -158,7 +158,7 @@ module _ (routines : List RoutineTree) (rules : RuleLists) (entries : List (Entr
       let are : called_formals routines e.routine callee ≡ Some (formals_of head) =
       ap (λ o. option_map (λ (l : LineTree). formals_of l.0) (option_and_then (line_of_entry routines) o)) target ∙ ap (option_map (λ (l : LineTree). formals_of l.0)) its_line in
       record {
-        distinct = its_formals formed.formals;
+        distinct = its_formals (λ tree i. (formed tree i).formals);
         shares = frames_share routines e t;
         filled = λ x h own i.
             let p : EntryId × List ℕ = (t, x) in

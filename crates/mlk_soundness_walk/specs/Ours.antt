@@ -4,7 +4,7 @@ use Rattle.mlk_syntax.specs.Trees.{CallTree, CommandTree, CommandTrees, HeadTree
 use Rattle.mlk_program.specs.Calls.{in_command, in_commands}
 use Rattle.mlk_program.specs.Program.{calls_of}
 use Rattle.mlk_walk_state.specs.Scope.{Scope}
-use Rattle.mlk_soundness_walk.specs.Forms.{answers, AnswersAtEnd, reads_locals, ReadLocals}
+use Rattle.mlk_machine_laws.specs.WellFormed.{answers, AnswersAtEnd, reads_locals, ReadsLocals}
 
 -- the call stands in the routine that is walked
 abbrev pub IsOurs : Scope → CallTree → Type 0
@@ -22,7 +22,7 @@ pub record IsOf (sc : Scope) (may : Bool) (c : CommandTree) : Type 0 where
 
 pub record AreOf (sc : Scope) (may : Bool) (cs : CommandTrees) : Type 0 where
   pub at_end : AnswersAtEnd may cs
-  pub reads : ReadLocals cs
+  pub reads : ReadsLocals cs
   pub ours : AreOurs sc (in_commands cs)
 
 -- what is asked of lines of one level, each with its block one level deeper

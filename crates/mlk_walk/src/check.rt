@@ -75,7 +75,7 @@ fn verdict_of(alloc: Global, checks: &Checks<'_>, entry: EntryId) -> Result<Verd
 /// of the first block that names it.
 ///
 /// Without a block it has the one fault `Code::NoCertificate` at its line, column 1. It looks into the whole
-/// certificate first; `check_all` does so once for all entries.
+/// certificate first; `report_of` does so once for all entries.
 pub fn check_entry(
     alloc: Global,
     program: &Program<'_>,
@@ -165,10 +165,10 @@ fn check_routines(alloc: Global, checks: &Checks<'_>) -> Result<Report, AllocErr
     Ok(report)
 }
 
-/// The faults of a program: for each entry that is declared or certified, in the program's order, those of
+/// The report of a program: for each entry that is declared or certified, in the program's order, the faults of
 /// `check_entry`.
 #[tactic(auto, unfolding(crate::specs::Reports::report))]
-pub fn check_all(
+pub fn report_of(
     alloc: Global,
     program: &Program<'_>,
     rules: &Rules,

@@ -1,0 +1,32 @@
+-- What a `yes` means: what holds in every run of a program whose report has no row. This project's own choice; what a run is
+-- stands in `Runs` of mlk_machine_jobs and `Systems` of mlk_machine_locks.
+use Rattle.std.specs.Prelude.{◌≡◌, List, [], Ok}
+use Rattle.mlk_rules.specs.declared.rules.RuleLists.{RuleLists}
+use Rattle.mlk_syntax.specs.Trees.{RoutineTree}
+use Rattle.mlk_program.specs.declared.entry.EntryId.{EntryId}
+use Rattle.mlk_machine_locks.specs.Lists.{Among}
+use Rattle.mlk_machine_locks.specs.Systems.{Event, after}
+use Rattle.mlk_machine_jobs.specs.declared.choice.Choice.{Choice}
+use Rattle.mlk_machine_jobs.specs.Tasks.{Job}
+use Rattle.mlk_machine_jobs.specs.Seen.{Clash}
+use Rattle.mlk_machine_jobs.specs.Runs.{machine}
+use Rattle.mlk_machine_laws.specs.Laws.{IsWithoutRing}
+use Rattle.mlk_machine_laws.specs.Moments.{EndsEmpty, AtEachMoment}
+use Rattle.mlk_walk_state.specs.Scope.{is_declared}
+use Rattle.mlk_soundness_machine.specs.Facts.{Facts}
+
+-- Jobs that run side by side are safe: no two of them stand ready at references that overlap and of which one writes; none
+-- that has ended by itself holds a lock; and no set of them waits for each other's locks in a ring.
+pub record AreSafe (jobs : List Job) : Type 0 where
+  pub no_clash : (i j : Job) → Among i jobs → Among j jobs → Clash i j → ⊥
+  pub all_end_empty : (j : Job) → Among j jobs → EndsEmpty j
+  pub no_ring : IsWithoutRing jobs
+
+-- Every run of a program keeps its rules. Of one job alone, begun at a declared entry and granted each claim at any time: at
+-- each moment the reference that it stands ready at is covered by locks that it holds, what it claims is in the order of the
+-- ranks, and where it has ended by itself it holds nothing. And of any number of jobs begun at declared entries, whatever
+-- happens to them in whatever order: at each moment they are safe.
+pub record KeepsRules (routines : List RoutineTree) (rules : RuleLists) : Type 0 where
+  pub each_job : AtEachMoment routines (is_declared routines rules.entries) (Facts rules)
+  pub all_jobs : (events : List (Event Choice EntryId)) (jobs : List Job)
+      → after (machine routines (is_declared routines rules.entries)) events [] ≡ Ok jobs → AreSafe jobs

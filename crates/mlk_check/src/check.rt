@@ -1,0 +1,34 @@
+// The check of a whole program.
+
+ghost use Rattle.std.specs.Prelude.{◌≡◌, [], IfOk, map};
+ghost use Rattle.mlk_syntax.specs.Views.{routine_of};
+ghost use Rattle.mlk_walk.specs.Reports.{report};
+ghost use Rattle.mlk_soundness_walk.specs.Forms.{AreFormed};
+ghost use Rattle.mlk_check.specs.Theorem.{KeepsRules};
+
+use mlk_cert::Certificate;
+use mlk_program::Program;
+use mlk_rules::Rules;
+use mlk_walk::{Report, report_of};
+use std::alloc::{AllocError, Global};
+
+/// The faults of a program by its rules and a certificate: for each entry that is declared or certified, in the program's
+/// order, those of its verdict. It is `yes` where there are none.
+///
+/// After a `yes`, every run of any number of jobs begun at the declared entries keeps the rules, whoever made the
+/// certificate. Routines that were read are well formed.
+pub fn check_all(
+    alloc: Global,
+    program: &Program<'_>,
+    rules: &Rules,
+    certificate: &Certificate,
+) -> Result<Report, AllocError>
+    ensures exact { IfOk result (λ r. r ≡ report (map routine_of program.now) rules.now certificate.now) }
+    ensures safe { IfOk result (λ r. r ≡ [] → AreFormed (map routine_of program.now)
+        → KeepsRules (map routine_of program.now) rules.now) }
+{
+    // What rules and certificates are by their types.
+    let _ = rules.lists();
+    let _ = certificate.blocks();
+    report_of(alloc, program, rules, certificate)
+}
