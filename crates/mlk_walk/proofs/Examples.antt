@@ -106,17 +106,17 @@ row routine entry number column code = record {
 
 -- `^ACCT(id,...)` is covered by `^ACCT(id)`, of rank 10, and `^LOG(...)` by `^LOG`, of rank 20; each job has its own part
 -- of `^TMP`, and `^CONF` is read alone
-abbrev base_rules : List (List ℕ) → RuleLists
+abbrev pub base_rules : List (List ℕ) → RuleLists
 base_rules entries = (rules_of ((family (lock_name (root.Global (codes "ACCT")) ([])) 10) ∷ (family (lock_name (root.Global (codes "LOG")) ([])) 20) ∷ []) ((cover (pattern_of (codes "ACCT") (element.Variable ∷ []) extent.Tree) (template (root.Global (codes "ACCT")) ((part_of.Place 0) ∷ []))) ∷ (cover (pattern_of (codes "LOG") ([]) extent.Tree) (template (root.Global (codes "LOG")) ([]))) ∷ []) ((pattern_of (codes "TMP") (element.Job ∷ []) extent.Tree) ∷ []) ((pattern_of (codes "CONF") ([]) extent.Tree) ∷ []) entries)
 
 -- DEP(ID,AMT) LOCK +^ACCT(ID) SET ^ACCT(ID,"bal")=$GET(^ACCT(ID,"bal"))+AMT LOCK -^ACCT(ID) QUIT
-abbrev deposit-yes-routines : List RoutineTree
+abbrev pub deposit-yes-routines : List RoutineTree
 deposit-yes-routines = ((Named_routine (codes "BANK") (line (LineHead 1 1 95 (Some (codes "DEP")) (Some ((codes "ID") ∷ (codes "AMT") ∷ []))
     (then_command (Does 13 None (Lock ((LockNames sign.Plus ((Named 19 (GlobalName 19 (codes "ACCT") (sub 25 (LocalName (codes "ID") no_subs) no_subs))) ∷ []) None) ∷ []))) (then_command (Does 29 None (Set ((SetTo ((SetWhole (Named 33 (GlobalName 33 (codes "ACCT") (sub 39 (LocalName (codes "ID") no_subs) (sub 42 (Lit (codes "bal")) no_subs))))) ∷ []) (Chain (Func function.Get (tree (GlobalName 54 (codes "ACCT") (sub 60 (LocalName (codes "ID") no_subs) (sub 63 (Lit (codes "bal")) no_subs))) no_trees)) (link op.Add (LocalName (codes "AMT") no_subs) no_links))) ∷ []))) (then_command (Does 75 None (Lock ((LockNames sign.Minus ((Named 81 (GlobalName 81 (codes "ACCT") (sub 87 (LocalName (codes "ID") no_subs) no_subs))) ∷ []) None) ∷ []))) (then_command (Does 91 None (Quit None)) finished)))))
     no_lines
     no_lines)) ∷ [])
 
-abbrev deposit-yes-blocks : List EntryCert
+abbrev pub deposit-yes-blocks : List EntryCert
 deposit-yes-blocks = ((block (codes "DEP^BANK") [] (Some 10) false []
     ((exit_of Any [] ((codes "AMT") ∷ (codes "ID") ∷ [])) ∷ [])
     ((point_of 1 0 ((case_of Any [] ((own_item 1 (Only (codes "AMT"))) ∷ (own_item 1 (Only (codes "ID"))) ∷ []) ((codes "AMT") ∷ (codes "ID") ∷ []) []) ∷ [])) ∷ [])) ∷ [])
@@ -253,7 +253,7 @@ unfolding report entry_faults fault_cmp answer same_term same_case includes leav
 timed-lock-untested = refl
 
 --  SET ^ACCT(ID)=1 LOCK -^ACCT(ID) QUIT
-abbrev timed-lock-block-keeps-test-routines : List RoutineTree
+abbrev pub timed-lock-block-keeps-test-routines : List RoutineTree
 timed-lock-block-keeps-test-routines = ((Named_routine (codes "BLOCK") (line (LineHead 1 1 27 (Some (codes "T")) (Some ((codes "ID") ∷ []))
     (then_command (Does 7 None (Lock ((LockNames sign.Plus ((Named 13 (GlobalName 13 (codes "ACCT") (sub 19 (LocalName (codes "ID") no_subs) no_subs))) ∷ []) (Some (Lit (codes "5")))) ∷ []))) (then_command (Does 25 None (Do [])) finished)))
     (line (LineHead 2 2 8 None None
@@ -268,7 +268,7 @@ timed-lock-block-keeps-test-routines = ((Named_routine (codes "BLOCK") (line (Li
     no_lines
     no_lines)))) ∷ [])
 
-abbrev timed-lock-block-keeps-test-blocks : List EntryCert
+abbrev pub timed-lock-block-keeps-test-blocks : List EntryCert
 timed-lock-block-keeps-test-blocks = ((block (codes "T^BLOCK") [] None false []
     ((exit_of Zero [] ((codes "ID") ∷ [])) ∷ (exit_of One [] ((codes "ID") ∷ [])) ∷ [])
     ((point_of 1 0 ((case_of Any [] ((own_item 1 (Only (codes "ID"))) ∷ []) ((codes "ID") ∷ []) []) ∷ [])) ∷ (point_of 2 0 ((case_of Zero [] ((own_item 1 (Only (codes "ID"))) ∷ []) ((codes "ID") ∷ []) (Zero ∷ [])) ∷ (case_of One ((lock_term (root.Global (codes "ACCT")) ((known.Local (codes "ID")) ∷ [])) ∷ []) ((own_item 1 (Only (codes "ID"))) ∷ []) ((codes "ID") ∷ []) (One ∷ [])) ∷ [])) ∷ (point_of 3 0 ((case_of Zero [] ((own_item 1 (Only (codes "ID"))) ∷ []) ((codes "ID") ∷ []) []) ∷ (case_of One ((lock_term (root.Global (codes "ACCT")) ((known.Local (codes "ID")) ∷ [])) ∷ []) ((own_item 1 (Only (codes "ID"))) ∷ []) ((codes "ID") ∷ []) []) ∷ [])) ∷ (point_of 4 0 ((case_of One ((lock_term (root.Global (codes "ACCT")) ((known.Local (codes "ID")) ∷ [])) ∷ []) ((own_item 1 (Only (codes "ID"))) ∷ []) ((codes "ID") ∷ []) []) ∷ [])) ∷ [])) ∷ [])
@@ -427,7 +427,7 @@ unfolding report entry_faults fault_cmp answer same_term same_case includes leav
 rank-order = refl
 
 -- GRAB(K) LOCK +^ACCT(K) QUIT
-abbrev wrapper-takes-lock-routines : List RoutineTree
+abbrev pub wrapper-takes-lock-routines : List RoutineTree
 wrapper-takes-lock-routines = ((Named_routine (codes "WRAP") (line (LineHead 1 1 57 (Some (codes "USE")) (Some ((codes "ID") ∷ []))
     (then_command (Does 9 None (Do ((DoCall (Called 12 (callee (Some (codes "GRAB")) None) (Some ((Given (LocalName (codes "ID") no_subs)) ∷ []))) None) ∷ []))) (then_command (Does 21 None (Set ((SetTo ((SetWhole (Named 25 (GlobalName 25 (codes "ACCT") (sub 31 (LocalName (codes "ID") no_subs) no_subs)))) ∷ []) (Lit (codes "1"))) ∷ []))) (then_command (Does 37 None (Lock ((LockNames sign.Minus ((Named 43 (GlobalName 43 (codes "ACCT") (sub 49 (LocalName (codes "ID") no_subs) no_subs))) ∷ []) None) ∷ []))) (then_command (Does 53 None (Quit None)) finished)))))
     no_lines
@@ -436,7 +436,7 @@ wrapper-takes-lock-routines = ((Named_routine (codes "WRAP") (line (LineHead 1 1
     no_lines
     no_lines))) ∷ [])
 
-abbrev wrapper-takes-lock-blocks : List EntryCert
+abbrev pub wrapper-takes-lock-blocks : List EntryCert
 wrapper-takes-lock-blocks = ((block (codes "USE^WRAP") [] (Some 10) false []
     ((exit_of Any [] ((codes "ID") ∷ [])) ∷ [])
     ((point_of 1 0 ((case_of Any [] ((own_item 1 (Only (codes "ID"))) ∷ []) ((codes "ID") ∷ []) []) ∷ [])) ∷ [])) ∷ (block (codes "GRAB^WRAP") [] (Some 10) false []
@@ -594,7 +594,7 @@ unfolding report entry_faults fault_cmp answer same_term same_case includes leav
 halt-with-lock = refl
 
 --  LOCK -^LOG QUIT
-abbrev loop-under-lock-routines : List RoutineTree
+abbrev pub loop-under-lock-routines : List RoutineTree
 loop-under-lock-routines = ((Named_routine (codes "LOOP") (line (LineHead 1 1 39 (Some (codes "L")) None
     (then_command (Does 3 None (Lock ((LockNames sign.Plus ((Named 9 (GlobalName 9 (codes "LOG") no_subs)) ∷ []) None) ∷ []))) (then_for 14 1 (Some (Runs 18 (codes "I") ((Limited (Lit (codes "1")) (Lit (codes "1")) (Lit (codes "3"))) ∷ []))) (then_command (Does 26 None (Set ((SetTo ((SetWhole (Named 30 (GlobalName 30 (codes "LOG") (sub 35 (LocalName (codes "I") no_subs) no_subs)))) ∷ []) (LocalName (codes "I") no_subs)) ∷ []))) finished))))
     no_lines
@@ -603,7 +603,7 @@ loop-under-lock-routines = ((Named_routine (codes "LOOP") (line (LineHead 1 1 39
     no_lines
     no_lines))) ∷ [])
 
-abbrev loop-under-lock-blocks : List EntryCert
+abbrev pub loop-under-lock-blocks : List EntryCert
 loop-under-lock-blocks = ((block (codes "L^LOOP") [] (Some 20) false ((Only (codes "I")) ∷ [])
     ((exit_of Any [] []) ∷ [])
     ((point_of 1 0 ((case_of Any [] [] [] []) ∷ [])) ∷ (point_of 1 1 ((case_of Any ((lock_term (root.Global (codes "LOG")) ([])) ∷ []) [] [] []) ∷ [])) ∷ (point_of 2 0 ((case_of Any ((lock_term (root.Global (codes "LOG")) ([])) ∷ []) [] [] []) ∷ [])) ∷ [])) ∷ [])
