@@ -1,6 +1,6 @@
 -- A lock table finds jobs by what they hold after a step, too: what a job holds it held before, or it claimed it.
 use Rattle.std.proofs.Common.{◌≡◌, ◌∙◌, ℕ, zero, suc, Bool, true, false, List, [], ◌∷◌, ◌++◌, Some, None, Result, Ok, Err, refl, sym, ap, subst, inl, inr}
-use Rattle.std.specs.Prelude.{◌⊎◌, ◌&&◌, OnOk, OnErr, slice_set}
+use Rattle.std.specs.Prelude.{◌⊎◌, ◌&&◌, if◌then◌else◌, OnOk, OnErr, slice_set}
 use Rattle.std.specs.List.{list_any, list_all, slice_get}
 use Rattle.std.proofs.lemmas.Bool.{and_parts, false≢true}
 use Rattle.mlk_text.specs.declared.failure.Failure.{Failure}
@@ -20,7 +20,7 @@ use Rattle.mlk_program.specs.declared.entry.EntryId.{EntryId}
 use Rattle.mlk_machine_jobs.specs.declared.choice.Choice.{Choice}
 use Rattle.mlk_machine_jobs.specs.declared.job.Job.{Job as JobIn}
 use Rattle.mlk_machine_jobs.specs.JobViews.{job_of}
-use Rattle.mlk_machine_jobs.specs.Runs.{begun, go, aborted, seen}
+use Rattle.mlk_machine_jobs.specs.Runs.{begun, go, aborted, seen, is_job_number}
 use Rattle.mlk_machine_jobs.specs.Tasks.{Job}
 use Rattle.mlk_machine_jobs.proofs.MachineLemmas.{is_machine}
 use Rattle.mlk_machine_run.specs.Frames.{claimed_in}
@@ -99,8 +99,10 @@ aborted_takes (Ok u) old new ok same = (is_machine [] (λ _. false)).abort_holds
 aborted_takes (Err why) old new ok same = stays_so (job_of old) (job_of new) (ap job_of same)
 
 pub begun_holds : (routines : List RoutineTree) (e : EntryId) (k : ℕ) (test : Bool) (values : List (List ℕ)) (new : JobIn)
-    → begun routines e k test values ≡ Ok (job_of new) → (n : LockName) → Holds (seen_in new) n → ⊥
-begun_holds routines e k test values new h = (is_machine routines (λ _. true)).begin_holds e test values k (job_of new) h
+    → is_job_number k ≡ true → begun routines e k test values ≡ Ok (job_of new) → (n : LockName) → Holds (seen_in new) n → ⊥
+begun_holds routines e k test values new may h =
+    (is_machine routines (λ _. true)).begin_holds e test values k (job_of new)
+    (ap (λ b. if b then begun routines e k test values else Err NotEnabled) may ∙ h)
 
 -- One job of all does something.
 pub set_covered : (js : List JobIn) (i : ℕ) (old new : JobIn) → slice_get js i ≡ Some old

@@ -1,5 +1,6 @@
 use Rattle.std.proofs.Common.{◌≡◌, ◌∙◌, false, [], ◌∷◌, ◌++◌, map, Ok, ap, sym, subst}
 use Rattle.std.specs.Prelude.{◌&&◌}
+use Rattle.std.proofs.lemmas.Bool.{and_parts}
 use Rattle.std.proofs.lemmas.List.{map-append}
 use Rattle.mlk_text.specs.Failures.{FailsAs}
 use Rattle.mlk_machine_locks.specs.Waiting.{is_numbered}
@@ -54,4 +55,5 @@ returns-in-Ok-push-clause-covered c =
     subst (StayCovered c.args.jobs.now.items) (sym c.in-Ok-push.ensures.items)
     (added_covered c.args.jobs.now.items c.in-Ok.job
     (begun_holds (map routine_of c.args.program.now) c.args.entry c.args.number c.args.test c.args.values.now c.in-Ok.job
+    (and_parts c.args.is_declared (is_job_number c.args.number) (sym c.may_begin.ensures ∙ c.if-not-may_begin.false)).1
     c.in-Ok.ensures.job))
