@@ -34,7 +34,7 @@ use Rattle.mlk_app.specs.declared.checked.Refusal.TheVariants as refusal
 pub record IsReportBy (trees : List RoutineTree) (rules : RuleLists) (blocks : List EntryCert) (rows : List Row) : Type 0 where
   pub named : missing trees rules blocks ≡ None
   pub are : rows ≡ report trees rules blocks
-  pub kept : rows ≡ [] → KeepsRules trees rules
+  pub kept : rows ≡ [] → KeepsRules trees rules blocks
 
 -- the same by the certificate that a text spells, by the rules that a text says, and of trees that make a program
 abbrev pub IsReportWith : List RoutineTree → RuleLists → List ℕ → List Row → Type 0

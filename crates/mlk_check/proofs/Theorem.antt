@@ -10,13 +10,10 @@ use Rattle.mlk_machine_laws.specs.Moments.{AtEachMoment}
 use Rattle.mlk_machine_laws.proofs.Runs.{no_clash, no_ring, all_end_empty}
 use Rattle.mlk_walk_state.specs.Scope.{is_declared}
 use Rattle.mlk_walk.specs.Reports.{report}
-use Rattle.mlk_walk.specs.Verdicts.{known}
 use Rattle.mlk_soundness_machine.specs.Facts.{Facts}
 use Rattle.mlk_soundness_walk.specs.Forms.{AreFormed}
-use Rattle.mlk_soundness_walk.proofs.Closed.{each_entry}
 use Rattle.mlk_soundness_walk.proofs.Listed.{list_once}
-use Rattle.mlk_soundness_walk.proofs.Starting.{each_moment}
-use Rattle.mlk_soundness_walk.proofs.Wells.{its_formals}
+use Rattle.mlk_soundness_walk.proofs.OneJob.{one_job, each_facts}
 use Rattle.mlk_check.specs.Theorem.{AreSafe, KeepsRules}
 
 pub ok_turned : {A B : Type 0} {P Q : A → Type 0} (r : Result A B) → ((a : A) → P a → Q a) → IfOk r P → IfOk r Q
@@ -24,12 +21,11 @@ ok_turned (Ok a) f h = f a h
 ok_turned (Err b) f h = h
 
 pub keeps_rules : (routines : List RoutineTree) (rules : RuleLists) (blocks : List EntryCert) → IsSound rules → IsCertificate blocks → AreFormed routines → report routines rules blocks ≡ []
-    → KeepsRules routines rules
+    → KeepsRules routines rules blocks
 keeps_rules routines rules blocks sound certificate formed clean =
-    let each : AtEachMoment routines (is_declared routines rules.entries) (Facts rules) =
-    each_moment routines rules blocks clean (λ e head body lines heads. its_formals routines rules (known routines rules blocks) e head body lines heads (λ tree i. (formed tree i).formals)) (each_entry routines rules blocks clean formed sound (list_once blocks certificate)) in
+    let each : AtEachMoment routines (is_declared routines rules.entries) (Facts rules) = each_facts routines rules blocks formed sound (list_once blocks certificate) clean in
     record {
-      each_job = each;
+      each_job = one_job routines rules blocks formed sound (list_once blocks certificate) clean;
       all_jobs = λ events jobs h. record {
         no_clash = no_clash routines (is_declared routines rules.entries) rules sound (λ e test values k first j acts b r. (each e test values k first j acts b r).covered) events jobs h;
         all_end_empty = all_end_empty routines (is_declared routines rules.entries) (λ e test values k first j acts b r. (each e test values k first j acts b r).ends) events jobs h;

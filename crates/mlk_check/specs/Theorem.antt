@@ -11,9 +11,11 @@ use Rattle.mlk_machine_jobs.specs.Tasks.{Job}
 use Rattle.mlk_machine_jobs.specs.Seen.{Clash}
 use Rattle.mlk_machine_jobs.specs.Runs.{machine}
 use Rattle.mlk_machine_laws.specs.Laws.{IsWithoutRing}
-use Rattle.mlk_machine_laws.specs.Moments.{EndsEmpty, AtEachMoment}
-use Rattle.mlk_walk_state.specs.Scope.{is_declared}
-use Rattle.mlk_soundness_machine.specs.Facts.{Facts}
+use Rattle.mlk_machine_laws.specs.Moments.{EndsEmpty}
+use Rattle.mlk_cert_parts.specs.declared.block.EntryCert.{EntryCert}
+use Rattle.mlk_walk_state.specs.Scope.{certified, is_declared}
+use Rattle.mlk_soundness_machine.specs.Listed.{FactsSince}
+use Rattle.mlk_soundness_machine.specs.Moments.{AtEachMomentSince}
 
 -- Jobs that run side by side are safe: no two of them stand ready at references that overlap and of which one writes; none
 -- that has ended by itself holds a lock; and no set of them waits for each other's locks in a ring.
@@ -22,11 +24,12 @@ pub record AreSafe (jobs : List Job) : Type 0 where
   pub all_end_empty : (j : Job) → Among j jobs → EndsEmpty j
   pub no_ring : IsWithoutRing jobs
 
--- Every run of a program keeps its rules. Of one job alone, begun at a declared entry and granted each claim at any time: at
--- each moment the reference that it stands ready at is covered by locks that it holds, what it claims is in the order of the
--- ranks, and where it has ended by itself it holds nothing. And of any number of jobs begun at declared entries, whatever
--- happens to them in whatever order: at each moment they are safe.
-pub record KeepsRules (routines : List RoutineTree) (rules : RuleLists) : Type 0 where
-  pub each_job : AtEachMoment routines (is_declared routines rules.entries) (Facts rules)
+-- Every run of a program keeps its rules.
+-- Of one job alone, begun at a declared entry and granted each claim at any time: at each moment the reference that it stands
+-- ready at is covered by locks that it holds; what it claims is in the order of the ranks; where it has ended by itself it holds
+-- nothing; and at each begin of a frame, of a line and of a round of a FOR, a case that the certificate lists there describes it.
+-- Of any number of jobs begun at declared entries, whatever happens to them in whatever order: at each moment they are safe.
+pub record KeepsRules (routines : List RoutineTree) (rules : RuleLists) (blocks : List EntryCert) : Type 0 where
+  pub each_job : AtEachMomentSince routines (is_declared routines rules.entries) (FactsSince routines rules (certified routines blocks))
   pub all_jobs : (events : List (Event Choice EntryId)) (jobs : List Job)
       → after (machine routines (is_declared routines rules.entries)) events [] ≡ Ok jobs → AreSafe jobs

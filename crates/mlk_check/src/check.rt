@@ -25,7 +25,7 @@ pub fn check_all(
 ) -> Result<Report, AllocError>
     ensures exact { IfOk result (λ r. r ≡ report (map routine_of program.now) rules.now certificate.now) }
     ensures safe { IfOk result (λ r. r ≡ [] → AreFormed (map routine_of program.now)
-        → KeepsRules (map routine_of program.now) rules.now) }
+        → KeepsRules (map routine_of program.now) rules.now certificate.now) }
 {
     // What rules and certificates are by their types.
     let _ = rules.lists();

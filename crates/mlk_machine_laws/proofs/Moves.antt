@@ -77,13 +77,13 @@ from is f (t ∷ ts) = elim (cases_Bool (is t)) [
   | inr n ↦ rw n (from is f ts ∙ sym (no_end t ts (f t n)))
 ]
 
-to_its_end : (ts : List Task) → marks (to_end ts) ≡ marks ts
+pub to_its_end : (ts : List Task) → marks (to_end ts) ≡ marks ts
 to_its_end ts = from is_end (λ t n. n) ts
 
 no_skip : (t : Task) → (is_round t || is_lines t || is_end t) ≡ false → is_end t ≡ false
 no_skip t e = grind arith
 
-after_skip : (ts : List Task) → marks (skipped ts) ≡ marks ts
+pub after_skip : (ts : List Task) → marks (skipped ts) ≡ marks ts
 after_skip ts = from _ no_skip ts
 
 round_no_end : (t : Task) → is_round t ≡ true → is_end t ≡ false
@@ -96,7 +96,7 @@ after_quit_from (t ∷ ts) = elim (cases_Bool (is_round t)) [
   | inr n ↦ rw n (to_its_end (t ∷ ts))
 ]
 
-after_quit : (ts : List Task) → marks (quit ts) ≡ marks ts
+pub after_quit : (ts : List Task) → marks (quit ts) ≡ marks ts
 after_quit ts = after_quit_from (skipped ts) ∙ after_skip ts
 
 -- A value that the frame of `$$` keeps changes nothing of what is put back.
@@ -197,18 +197,18 @@ answer_bound j (task.QuitHere ∷ ts) = untouched refl refl refl
 answer_bound j (task.QuitWithValue ∷ ts) = untouched refl refl refl
 answer_bound j (task.HaltJob ∷ ts) = untouched refl refl refl
 
-merged : (ss : List (List ℕ)) (target source : VariableTree) (ts : List Task)
+pub merged : (ss : List (List ℕ)) (target source : VariableTree) (ts : List Task)
     → marks (merge_source (drop (count_in target) ss) source ++ merge_target (take (count_in target) ss) target source ++ ts) ≡ marks ts
 merged ss target source ts =
     ap marks (append_assoc (merge_source (drop (count_in target) ss) source) (merge_target (take (count_in target) ss) target source) ts)
     ∙ merged_source (drop (count_in target) ss) source (merge_target (take (count_in target) ss) target source ++ ts)
     ∙ merged_target (take (count_in target) ss) target source ts
 
-skip_if : (b : Bool) (ts : List Task) → marks (if b then skipped ts else ts) ≡ marks ts
+pub skip_if : (b : Bool) (ts : List Task) → marks (if b then skipped ts else ts) ≡ marks ts
 skip_if true ts = after_skip ts
 skip_if false ts = refl
 
-run_if : (b : Bool) (xs ts : List Task) → Plain xs → marks (tasks_if b xs ++ ts) ≡ marks ts
+pub run_if : (b : Bool) (xs ts : List Task) → Plain xs → marks (tasks_if b xs ++ ts) ≡ marks ts
 run_if true xs ts p = p ts
 run_if false xs ts p = refl
 

@@ -123,7 +123,7 @@ module _ (sc callee : Scope) (w : World) (b : Level) (s : State) (j : Job) (d : 
     (ok : Allowed sc (changes callee.summary given) s)
     (shares : SharesByOwn sc.is_shared callee.is_shared)
     (filled : (x : List ℕ) → refs_of formals given x ≡ true → (own : List Own) → is_own own x ≡ true → callee.is_shared own x ≡ true)
-    (lent : (n : List ℕ) → passes formals given n ≡ true → (own : List Own) → is_own own n ≡ false → callee.is_shared own n ≡ true) where
+    (lent : (n : List ℕ) → passes formals given n ≡ true → (own : List Own) → is_own own n ≡ false → callee.is_shared own n ≡ true) (begun : List Job) where
   abbrev pub ch : List NameSet
   ch = changes callee.summary given
 
@@ -149,6 +149,7 @@ module _ (sc callee : Scope) (w : World) (b : Level) (s : State) (j : Job) (d : 
     formals = is_among formals;
     refs = refs_of formals given;
     snap = λ x. cells (look (front ++ j.bindings) x);
+    begun = begun;
   }
 
   abbrev pub level : Level

@@ -1,29 +1,36 @@
 -- What a job keeps to, by its first task.
-use Rattle.std.proofs.Common.{◌≡◌, true, List, [], ◌∷◌, Some, None, refl, sym, ap, ◌∙◌, subst}
+use Rattle.std.proofs.Common.{◌≡◌, ℕ, true, false, List, [], ◌∷◌, Some, None, refl, sym, ap, ◌∙◌, subst}
 use Rattle.mlk_names.specs.References.{Touch}
-use Rattle.mlk_walk_state.specs.Scope.{Scope}
+use Rattle.mlk_walk_state.specs.Scope.{Scope, listed}
 use Rattle.mlk_machine_locks.specs.Lists.{Among}
 use Rattle.mlk_machine_locks.specs.Waiting.{awaited}
 use Rattle.mlk_machine_jobs.specs.Tasks as task
-use Rattle.mlk_machine_jobs.specs.Tasks.{Task, Job}
+use Rattle.mlk_machine_jobs.specs.Tasks.{Task, Job, LineTree, RunLines, RunCommands}
 use Rattle.mlk_machine_jobs.specs.Runs.{next_claim}
 use Rattle.mlk_machine_jobs.specs.Seen.{ready_in}
 use Rattle.mlk_machine_laws.specs.Moments.{IsCoveredAt, EndsEmpty}
-use Rattle.mlk_soundness_machine.specs.Safe.{KeepsTo, is_plain}
+use Rattle.mlk_rules.specs.declared.rules.RuleLists.{RuleLists}
+use Rattle.mlk_syntax.specs.Trees.{CommandTrees, LineTrees}
+use Rattle.mlk_cert_parts.specs.declared.case.Case.{Case}
+use Rattle.mlk_soundness_machine.specs.Described.{World, Level, bare, idle, Stands}
+use Rattle.mlk_soundness_machine.specs.Facts.{Facts}
+use Rattle.mlk_soundness_machine.specs.Listed.{IsListedAt, line_number, round_of}
+use Rattle.mlk_soundness_machine.proofs.Listing.{is_listed_at, begins_lines, begins_commands, starts_listed, no_start, no_line, no_round, Opens}
+use Rattle.mlk_soundness_machine.specs.Safe.{Keeps, is_quiet, is_plain}
 
-no_touch : (t : Task) (ts : List Task) → is_plain t ≡ true → ready_in (t ∷ ts) ≡ None
+no_touch : (t : Task) (ts : List Task) → is_quiet t ≡ true → ready_in (t ∷ ts) ≡ None
 no_touch (task.DoTouch touch) ts h = cc
 no_touch t ts h = refl
 
-no_claim : (t : Task) (ts : List Task) → is_plain t ≡ true → next_claim (t ∷ ts) ≡ None
+no_claim : (t : Task) (ts : List Task) → is_quiet t ≡ true → next_claim (t ∷ ts) ≡ None
 no_claim (task.Claim names timed) ts h = cc
 no_claim t ts h = refl
 
 not_ended : (j : Job) (t : Task) (ts : List Task) → j.tasks ≡ t ∷ ts → EndsEmpty j
 not_ended j t ts e ended = let z : [] ≡ t ∷ ts = sym ended.0 ∙ e in cc
 
-pub plain_facts : (sc : Scope) (j : Job) (t : Task) (ts : List Task) → j.tasks ≡ t ∷ ts → is_plain t ≡ true → KeepsTo sc j
-plain_facts sc j t ts e h = record {
+quiet_facts : (rules : RuleLists) (j : Job) (t : Task) (ts : List Task) → j.tasks ≡ t ∷ ts → is_quiet t ≡ true → Facts rules j
+quiet_facts rules j t ts e h = record {
   covered = λ u r. let z : None ≡ Some u = sym (no_touch t ts h) ∙ sym (ap ready_in e) ∙ r in cc;
   in_order = λ n i.
       let z : next_claim j.tasks ≡ None = ap next_claim e ∙ no_claim t ts h in
@@ -32,11 +39,68 @@ plain_facts sc j t ts e h = record {
   ends = not_ended j t ts e;
 }
 
-pub touch_facts : (sc : Scope) (j : Job) (t : Touch) (ts : List Task) → j.tasks ≡ task.DoTouch t ∷ ts → IsCoveredAt sc.rules j t → KeepsTo sc j
-touch_facts sc j t ts e h = record {
-  covered = λ u r. (let z : Some t ≡ Some u = sym (ap ready_in e) ∙ r in let y : t ≡ u = cc in subst (IsCoveredAt sc.rules j) y h);
+plain_quiet : (t : Task) → is_plain t ≡ true → is_quiet t ≡ true
+plain_quiet (task.DoTouch touch) h = h
+plain_quiet (task.Claim names timed) h = h
+plain_quiet (RunLines (l ∷ lines)) h = refl
+plain_quiet (RunCommands rest block) h = refl
+plain_quiet t h = refl
+
+plain_lines : (t : Task) (ts : List Task) → is_plain t ≡ true → begins_lines (t ∷ ts) ≡ false
+plain_lines (RunLines (l ∷ lines)) ts h = cc
+plain_lines t ts h = refl
+
+plain_commands : (t : Task) (ts : List Task) → is_plain t ≡ true → begins_commands (t ∷ ts) ≡ false
+plain_commands (RunCommands rest block) ts h = cc
+plain_commands t ts h = refl
+
+pub plain_facts : (sc : Scope) (w : World) (b : Level) (j : Job) (t : Task) (ts : List Task) → j.tasks ≡ t ∷ ts → is_plain t ≡ true → Keeps sc w b j
+plain_facts sc w b j t ts e h k = record {
+  facts = quiet_facts sc.rules j t ts e (plain_quiet t h);
+  starts = no_start sc.routines sc.blocks w.begun j (t ∷ ts) e (plain_commands t ts h);
+  lines = no_line sc.routines sc.blocks w.begun j (t ∷ ts) e (plain_lines t ts h);
+  rounds = no_round sc.routines sc.blocks w.begun j (t ∷ ts) e (plain_commands t ts h);
+}
+
+-- where it goes on to a line, and where commands begin
+pub lines_facts : (sc : Scope) (w : World) (b : Level) (j : Job) (l : LineTree) (lines : List LineTree) (ts : List Task) → j.tasks ≡ RunLines (l ∷ lines) ∷ ts
+    → (c : Case) → Among c (listed sc (line_number l.0) 0) → Stands sc w b c (bare (idle j)) → Keeps sc w b j
+lines_facts sc w b j l lines ts e c i d k = record {
+  facts = quiet_facts sc.rules j (RunLines (l ∷ lines)) ts e refl;
+  starts = no_start sc.routines sc.blocks w.begun j (RunLines (l ∷ lines) ∷ ts) e refl;
+  lines = λ m more us at.
+      let same : l ≡ m = (let z : RunLines (l ∷ lines) ∷ ts ≡ RunLines (m ∷ more) ∷ us = sym e ∙ at in cc) in
+      subst (λ z. IsListedAt sc.routines sc.blocks (line_number z.0) 0 w.begun j) same (is_listed_at sc w b c (line_number l.0) 0 i j k.marks k.begun d);
+  rounds = no_round sc.routines sc.blocks w.begun j (RunLines (l ∷ lines) ∷ ts) e refl;
+}
+
+pub commands_facts : (sc : Scope) (w : World) (b : Level) (j : Job) (cs : CommandTrees) (block : LineTrees) (ts : List Task) → j.tasks ≡ RunCommands cs block ∷ ts
+    → (number : ℕ) (c : Case) → Opens sc number cs ts c → Stands sc w b c (bare (idle j)) → Keeps sc w b j
+commands_facts sc w b j cs block ts e number c o d k = record {
+  facts = quiet_facts sc.rules j (RunCommands cs block) ts e refl;
+  starts = starts_listed sc w b j k;
+  lines = no_line sc.routines sc.blocks w.begun j (RunCommands cs block ∷ ts) e refl;
+  rounds = λ rest inner t us at is.
+      let z : RunCommands cs block ∷ ts ≡ RunCommands rest inner ∷ t ∷ us = sym e ∙ at in
+      let same : rest ≡ cs = (let y = z in cc) in
+      let behind : ts ≡ t ∷ us = (let y = z in cc) in
+      let r = o.listed t us behind (subst (λ q. round_of t ≡ Some q) same is) in
+      (number, r.0, is_listed_at sc w b c number r.0 r.1 j k.marks k.begun d);
+}
+
+touching : (rules : RuleLists) (j : Job) (t : Touch) (ts : List Task) → j.tasks ≡ task.DoTouch t ∷ ts → IsCoveredAt rules j t → Facts rules j
+touching rules j t ts e h = record {
+  covered = λ u r. (let z : Some t ≡ Some u = sym (ap ready_in e) ∙ r in let y : t ≡ u = cc in subst (IsCoveredAt rules j) y h);
   in_order = λ n i.
       let z : next_claim j.tasks ≡ None = ap next_claim e in
       absurd (subst (λ o. Among n (awaited o)) z i);
   ends = not_ended j (task.DoTouch t) ts e;
+}
+
+pub touch_facts : (sc : Scope) (w : World) (b : Level) (j : Job) (t : Touch) (ts : List Task) → j.tasks ≡ task.DoTouch t ∷ ts → IsCoveredAt sc.rules j t → Keeps sc w b j
+touch_facts sc w b j t ts e h k = record {
+  facts = touching sc.rules j t ts e h;
+  starts = no_start sc.routines sc.blocks w.begun j (task.DoTouch t ∷ ts) e refl;
+  lines = no_line sc.routines sc.blocks w.begun j (task.DoTouch t ∷ ts) e refl;
+  rounds = no_round sc.routines sc.blocks w.begun j (task.DoTouch t ∷ ts) e refl;
 }

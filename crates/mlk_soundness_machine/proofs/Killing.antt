@@ -1,6 +1,5 @@
 -- KILL of locals, and the end of a job.
 use Rattle.std.proofs.Common.{◌≡◌, ℕ, zero, suc, ◌+◌, ◌<◌, true, false, List, [], ◌∷◌, Some, None, Ok, Err, refl, sym, ap, ◌∙◌, subst, arith, ⊎_elim, inl, inr}
-use Rattle.std.specs.Prelude.{◌⊎◌}
 use Rattle.std.proofs.lemmas.Bool.{cases_Bool}
 use Rattle.mlk_names.specs.declared.lock_name.LockName.{LockName}
 use Rattle.mlk_cert_parts.specs.declared.case.Case.{Case}
@@ -26,7 +25,11 @@ use Rattle.mlk_calls.specs.Changes.{changed_state}
 use Rattle.mlk_soundness_machine.specs.Frames.{times_waiting}
 use Rattle.mlk_soundness_machine.specs.Reads.{now, times}
 use Rattle.mlk_soundness_machine.specs.Described.{World, Level, Slot, IsWorld, idle, bare, Stands}
-use Rattle.mlk_soundness_machine.specs.Safe.{KeepsTo}
+use Rattle.mlk_soundness_machine.specs.Safe.{SafeFor, KeepsTo}
+use Rattle.mlk_soundness_machine.proofs.Facts.{plain_facts}
+use Rattle.mlk_soundness_machine.proofs.Going.{Next, by_step}
+use Rattle.mlk_soundness_machine.specs.Facts.{Facts}
+use Rattle.mlk_soundness_machine.proofs.Listing.{no_start, no_line, no_round}
 use Rattle.mlk_soundness_machine.proofs.Calling.{none_held}
 use Rattle.mlk_soundness_machine.proofs.Changes.{Allowed}
 use Rattle.mlk_soundness_machine.proofs.Steps.{done, unasked}
@@ -63,19 +66,22 @@ module _ (routines : List RoutineTree) (sc : Scope) (w : World) (b : Level) (wor
       omega (arith, k, own, low)
 
   -- a job that has ended and holds nothing does nothing more
-  ended_facts : (j : Job) → j.tasks ≡ [] → ((m : LockName) → count_of j.held m ≡ 0) → KeepsTo sc j
-  ended_facts j e none = record {
+  ended : (j : Job) → j.tasks ≡ [] → ((m : LockName) → count_of j.held m ≡ 0) → Facts sc.rules j
+  ended j e none = record {
     covered = λ u r. let z : None ≡ Some u = sym (ap ready_in e) ∙ r in cc;
     in_order = λ m i. absurd (subst (λ o. Among m (awaited o)) (ap next_claim e) i);
-    ends = λ ended m h. (let z = none m in let y : 0 < count_of j.held m = h in absurd (omega (arith, z, y)));
+    ends = λ over m h. (let z = none m in let y : 0 < count_of j.held m = h in absurd (omega (arith, z, y)));
   }
 
-  pub ended_safe : (n : ℕ) (j : Job) → j.tasks ≡ [] → ((m : LockName) → count_of j.held m ≡ 0) → Safe routines sc w b n j
-  ended_safe zero j e none = ended_facts j e none
-  ended_safe (suc n) j e none = (ended_facts j e none, λ free c i r. let z : Err _ ≡ Ok i = subst (λ ts. advance routines free c j ts ≡ Ok i) e r in cc)
+  ended_facts : (begun : List Job) (j : Job) → j.tasks ≡ [] → ((m : LockName) → count_of j.held m ≡ 0) → KeepsTo sc begun j
+  ended_facts begun j e none = record { facts = ended j e none; starts = no_start sc.routines sc.blocks begun j [] e refl; lines = no_line sc.routines sc.blocks begun j [] e refl; rounds = no_round sc.routines sc.blocks begun j [] e refl }
+
+  pub ended_safe : (n : ℕ) (begun : List Job) (j : Job) → j.tasks ≡ [] → ((m : LockName) → count_of j.held m ≡ 0) → SafeFor routines (KeepsTo sc) n begun j
+  ended_safe zero begun j e none = ended_facts begun j e none
+  ended_safe (suc n) begun j e none = (ended_facts begun j e none, λ free c i r. let z : Err _ ≡ Ok i = subst (λ ts. advance routines free c j ts ≡ Ok i) e r in cc)
 
   -- HALT
   pub halt_fits : (slots : List Slot) (n : ℕ) (ts : List Task) (s : State) → holds_some s.case.held ≡ false → sc.summary.drops ≡ true → Fits routines sc w b slots n (task.HaltJob ∷ ts) s
   halt_fits slots n ts s none drops j d tasks =
-      plain_step routines sc w b slots n ts s task.HaltJob refl j tasks (λ free c.
-      unasked (Safe routines sc w b n) c _ (done (Safe routines sc w b n) (doing [] j) (ended_safe n (doing [] j) refl (nothing_held s.case j d.stands none drops))))
+      by_step routines sc w b n j (task.HaltJob ∷ ts) tasks (plain_facts sc w b j task.HaltJob ts tasks refl) (λ m same free c.
+      unasked (Next routines sc w b (task.HaltJob ∷ ts) m) c _ (done (Next routines sc w b (task.HaltJob ∷ ts) m) (doing [] j) (λ k. ended_safe m _ (doing [] j) refl (nothing_held s.case j d.stands none drops))))

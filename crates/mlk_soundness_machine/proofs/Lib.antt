@@ -3,6 +3,9 @@ pub mod Sharing
 pub mod Reading
 pub mod Worlds
 pub mod Steps
+pub mod Stays
+pub mod Going
+pub mod Listing
 pub mod Facts
 pub mod Held
 pub mod Stack

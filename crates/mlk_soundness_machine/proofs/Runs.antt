@@ -1,5 +1,5 @@
 -- A job that is safe for any number of steps keeps to the facts at each moment of each run of its own.
-use Rattle.std.proofs.Common.{◌≡◌, Bool, true, false, List, [], ◌∷◌, length, Ok, Err, refl, subst}
+use Rattle.std.proofs.Common.{◌≡◌, Bool, true, false, List, [], ◌∷◌, length, Some, None, Ok, Err, refl, sym, ap, ◌∙◌, subst}
 use Rattle.mlk_rules.specs.declared.rules.RuleLists.{RuleLists}
 use Rattle.mlk_program.specs.declared.entry.EntryId.{EntryId}
 use Rattle.mlk_syntax.specs.Trees.{RoutineTree}
@@ -9,44 +9,56 @@ use Rattle.mlk_machine_locks.specs.declared.refusal.Refusal.TheVariants.{NotEnab
 use Rattle.mlk_machine_jobs.specs.Advance.{advance}
 use Rattle.mlk_machine_jobs.specs.Choices.{Stepped}
 use Rattle.mlk_machine_jobs.specs.Tasks.{Task, Job}
-use Rattle.mlk_machine_jobs.specs.Runs.{go, aborted, machine}
-use Rattle.mlk_soundness_machine.specs.Facts.{Facts}
+use Rattle.mlk_machine_jobs.specs.Runs.{go, aborted, machine, next_claim}
+use Rattle.mlk_cert_parts.specs.declared.block.EntryCert.{EntryCert}
+use Rattle.mlk_soundness_machine.specs.Listed.{FactsSince}
+use Rattle.mlk_soundness_machine.proofs.Listing.{no_start, no_line, no_round}
 use Rattle.mlk_soundness_machine.specs.Safe.{SafeFor}
+use Rattle.mlk_soundness_machine.specs.History.{begun_after}
+use Rattle.mlk_soundness_machine.specs.Moments.{where_it_goes, begun_by}
+use Rattle.mlk_machine_locks.specs.Lists.{Among}
+use Rattle.mlk_machine_locks.specs.Waiting.{awaited}
+use Rattle.mlk_machine_jobs.specs.Seen.{ready_in}
 
-module _ (routines : List RoutineTree) (declared : EntryId → Bool) (rules : RuleLists) where
+module _ (routines : List RoutineTree) (declared : EntryId → Bool) (Fact : List Job → Job → Type 0) (stopped : (begun : List Job) (j : Job) → j.tasks ≡ [] → j.stopped ≡ true → Fact begun j) where
   -- an aborted job does nothing more
-  stopped_facts : (j k : Job) (ts : List Task) → aborted j ts ≡ Ok k → Facts rules k × (k.tasks ≡ [])
-  stopped_facts j k [] e = cc
-  stopped_facts j k (t ∷ ts) e =
-      let z : record j { held = []; tasks = []; stopped = true } ≡ k = cc e in
-      subst (λ i. Facts rules i × (i.tasks ≡ [])) z (
-        record {
-          covered = λ u r. cc;
-          in_order = λ n i. absurd i;
-          ends = λ ended. (let y : true ≡ false = ended.1 in cc);
-        },
-        refl,
-      )
+  is_stopped : (j k : Job) (ts : List Task) → aborted j ts ≡ Ok k → (k.tasks ≡ []) × (k.stopped ≡ true)
+  is_stopped j k [] e = cc
+  is_stopped j k (t ∷ ts) e = let z : record j { held = []; tasks = []; stopped = true } ≡ k = cc e in subst (λ (i : Job). (i.tasks ≡ []) × (i.stopped ≡ true)) z (refl, refl)
 
-  stays_stopped : (acts : List (Act Choice EntryId)) (j i : Job) → j.tasks ≡ [] → Facts rules j → lone_run (machine routines declared) acts j ≡ Ok i → Facts rules i
-  stays_stopped [] j i e f h = let z : j ≡ i = cc in subst (Facts rules) z f
-  stays_stopped (Begin entry test values ∷ acts) j i e f h = cc
-  stays_stopped (Go c ∷ acts) j i e f h =
+  -- of what the rest of a run comes to
+  abbrev Since : List (Act Choice EntryId) → List Job → Job → Job → Type 0
+  Since acts begun j i = Fact (begun_by (machine routines declared) acts begun j) i
+
+  stays_stopped : (acts : List (Act Choice EntryId)) (begun : List Job) (j i : Job) → j.tasks ≡ [] → j.stopped ≡ true → lone_run (machine routines declared) acts j ≡ Ok i → Since acts begun j i
+  stays_stopped [] begun j i e f h = let z : j ≡ i = cc in subst (Fact begun) z (stopped begun j e f)
+  stays_stopped (Begin entry test values ∷ acts) begun j i e f h = cc
+  stays_stopped (Go c ∷ acts) begun j i e f h =
       let z : and_then (lone_run (machine routines declared) acts) (Err NotEnabled) ≡ Ok i = subst (λ ts. and_then (lone_run (machine routines declared) acts) (advance routines (λ x. true) c j ts) ≡ Ok i) e h in cc
-  stays_stopped (Abort ∷ acts) j i e f h =
+  stays_stopped (Abort ∷ acts) begun j i e f h =
       let z : and_then (lone_run (machine routines declared) acts) (aborted j []) ≡ Ok i = subst (λ ts. and_then (lone_run (machine routines declared) acts) (aborted j ts) ≡ Ok i) e h in cc
 
-  pub moments : (acts : List (Act Choice EntryId)) (j i : Job) → SafeFor routines (Facts rules) (length acts) j → lone_run (machine routines declared) acts j ≡ Ok i → Facts rules i
-  moments [] j i s h = let z : j ≡ i = cc in subst (Facts rules) z s
-  moments (Begin entry test values ∷ acts) j i s h = cc
-  moments (Go c ∷ acts) j i s h = on (λ k t g. moments acts k i t g) (go routines (λ x. true) c j) refl h
-    where
-      on : ((k : Job) → SafeFor routines (Facts rules) (length acts) k → lone_run (machine routines declared) acts k ≡ Ok i → Facts rules i)
-          → (r : Stepped) → go routines (λ x. true) c j ≡ r → and_then (lone_run (machine routines declared) acts) r ≡ Ok i → Facts rules i
-      on more (Err why) e g = cc
-      on more (Ok k) e g = more k (s.1 (λ x. true) c k e) g
-  moments (Abort ∷ acts) j i s h = on (aborted j j.tasks) refl h
-    where
-      on : (r : Stepped) → aborted j j.tasks ≡ r → and_then (lone_run (machine routines declared) acts) r ≡ Ok i → Facts rules i
-      on (Err why) e g = cc
-      on (Ok k) e g = let f = stopped_facts j k j.tasks e in stays_stopped acts k i f.1 f.0 g
+  goes_on : (acts : List (Act Choice EntryId)) (begun : List Job) (j i : Job) (r : Stepped) → ((k : Job) → r ≡ Ok k → lone_run (machine routines declared) acts k ≡ Ok i → Since acts (begun_after begun j k) k i)
+      → and_then (lone_run (machine routines declared) acts) r ≡ Ok i → Fact (where_it_goes begun (λ k. begun_by (machine routines declared) acts (begun_after begun j k) k) r) i
+  goes_on acts begun j i (Err why) f g = cc
+  goes_on acts begun j i (Ok k) f g = f k refl g
+
+  pub moments : (acts : List (Act Choice EntryId)) (begun : List Job) (j i : Job) → SafeFor routines Fact (length acts) begun j → lone_run (machine routines declared) acts j ≡ Ok i → Since acts begun j i
+  moments [] begun j i s h = let z : j ≡ i = cc in subst (Fact begun) z s
+  moments (Begin entry test values ∷ acts) begun j i s h = cc
+  moments (Go c ∷ acts) begun j i s h = goes_on acts begun j i (go routines (λ x. true) c j) (λ k e g. moments acts (begun_after begun j k) k i (s.1 (λ x. true) c k e) g) h
+  moments (Abort ∷ acts) begun j i s h =
+      goes_on acts begun j i (aborted j j.tasks) (λ k e g. let f = is_stopped j k j.tasks e in stays_stopped acts (begun_after begun j k) k i f.0 f.1 g) h
+
+-- a job that was stopped keeps to the facts
+pub stopped_facts : (routines : List RoutineTree) (rules : RuleLists) (blocks : List (EntryId × EntryCert)) (begun : List Job) (j : Job) → j.tasks ≡ [] → j.stopped ≡ true → FactsSince routines rules blocks begun j
+stopped_facts routines rules blocks begun j e f = record {
+  facts = record {
+    covered = λ u r. let z : None ≡ Some u = sym (ap ready_in e) ∙ r in cc;
+    in_order = λ n i. absurd (subst (λ o. Among n (awaited o)) (ap next_claim e) i);
+    ends = λ ended. (let y : true ≡ false = sym f ∙ ended.1 in cc);
+  };
+  starts = no_start routines blocks begun j [] e refl;
+  lines = no_line routines blocks begun j [] e refl;
+  rounds = no_round routines blocks begun j [] e refl;
+}

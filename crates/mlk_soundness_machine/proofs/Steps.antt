@@ -1,15 +1,11 @@
--- What a step comes to, and that a job is safe where each step leads to one that is.
-use Rattle.std.proofs.Common.{◌≡◌, ℕ, zero, suc, Bool, true, false, List, [], ◌∷◌, Option, Some, None, Ok, Err, refl, sym, ◌∙◌, subst, ⊎_elim}
+-- What a step comes to.
+use Rattle.std.proofs.Common.{◌≡◌, ℕ, Bool, true, false, List, [], ◌∷◌, Option, Some, None, Ok, Err, refl, sym, ◌∙◌, subst, ⊎_elim}
 use Rattle.std.proofs.lemmas.Bool.{cases_Bool}
-use Rattle.mlk_names.specs.declared.lock_name.LockName.{LockName}
 use Rattle.mlk_machine_locks.specs.declared.refusal.Refusal.{Refusal}
-use Rattle.mlk_syntax.specs.Trees.{RoutineTree}
 use Rattle.mlk_machine_jobs.specs.declared.choice.Choice.{Choice}
 use Rattle.mlk_machine_jobs.specs.declared.choice.Choice.TheVariants as choice
-use Rattle.mlk_machine_jobs.specs.Tasks.{Task, Job}
-use Rattle.mlk_machine_jobs.specs.Advance.{advance}
+use Rattle.mlk_machine_jobs.specs.Tasks.{Job}
 use Rattle.mlk_machine_jobs.specs.Choices.{Stepped, without_choice, with_value, with_truth, with_last, truth_of, is_one, is_zero, given_or_asked}
-use Rattle.mlk_soundness_machine.specs.Safe.{SafeFor}
 
 module _ (P : Job → Type 0) where
   -- whatever the step comes to has P
@@ -57,24 +53,3 @@ module _ (P : Job → Type 0) where
       (λ (w : is_zero v ≡ false). of_truth c f (λ t. h t (λ k. let z : true ≡ false = sym k ∙ u in cc) (λ k n. let z : true ≡ false = sym k ∙ w in cc)) i (rw (u, w) at e))
       (cases_Bool (is_zero v)))
       (cases_Bool (is_one v))
-
-module _ (routines : List RoutineTree) (Fact : Job → Type 0) where
-  pub less : (n : ℕ) (j : Job) → SafeFor routines Fact (suc n) j → SafeFor routines Fact n j
-  less zero j h = h.0
-  less (suc n) j h = (h.0, λ free c i e. less n i (h.1 free c i e))
-
-  -- one step, after which the job is safe for one step less
-  pub by_step : (n : ℕ) (j : Job) (ts : List Task) → j.tasks ≡ ts → Fact j
-      → ((m : ℕ) → n ≡ suc m → (free : LockName → Bool) (c : Choice) → Comes (SafeFor routines Fact m) (advance routines free c j ts)) → SafeFor routines Fact n j
-  by_step zero j ts e f h = f
-  by_step (suc m) j ts e f h = (f, λ free c i r. h m refl free c i (subst (λ z. advance routines free c j z ≡ Ok i) e r))
-
-  -- or for as many
-  pub step : (n : ℕ) (j : Job) (ts : List Task) → j.tasks ≡ ts → Fact j
-      → ((free : LockName → Bool) (c : Choice) → Comes (SafeFor routines Fact n) (advance routines free c j ts)) → SafeFor routines Fact n j
-  step n j ts e f h = by_step n j ts e f (λ m k free c i r. less m i (subst (λ z. SafeFor routines Fact z i) k (h free c i r)))
-
-  -- one step, for one more
-  pub down : (m : ℕ) (j : Job) (ts : List Task) → j.tasks ≡ ts → Fact j
-      → ((free : LockName → Bool) (c : Choice) → Comes (SafeFor routines Fact m) (advance routines free c j ts)) → SafeFor routines Fact (suc m) j
-  down m j ts e f h = (f, λ free c i r. h free c i (subst (λ z. advance routines free c j z ≡ Ok i) e r))

@@ -24,10 +24,10 @@ use Rattle.mlk_machine_laws.specs.Moments.{IsCoveredAt}
 use Rattle.mlk_soundness_machine.specs.Frames.{times_waiting}
 use Rattle.mlk_soundness_machine.specs.Reads.{now}
 use Rattle.mlk_soundness_machine.specs.Described.{some_local, World, Level, Slot, Bare, Fills, idle, bare, Stands, Describes}
-use Rattle.mlk_soundness_machine.specs.Safe.{KeepsTo}
 use Rattle.mlk_soundness_machine.proofs.Reading.{local_front}
 use Rattle.mlk_soundness_machine.proofs.Worlds.{push_law}
-use Rattle.mlk_soundness_machine.proofs.Steps.{Comes, done, unasked, of_value, step}
+use Rattle.mlk_soundness_machine.proofs.Steps.{Comes, done, unasked, of_value}
+use Rattle.mlk_soundness_machine.proofs.Going.{step}
 use Rattle.mlk_soundness_machine.proofs.Facts.{touch_facts}
 use Rattle.mlk_soundness_machine.proofs.Held.{each_held}
 use Rattle.mlk_soundness_machine.proofs.Stack.{kepts, Taken, taken, last_are, whole, others_are, others_turned, taken_are, dropped_are}
@@ -88,8 +88,8 @@ module _ (routines : List RoutineTree) (sc : Scope) (w : World) (b : Level) (slo
   pub touch : (e : Extent) (a : Access) (name : List ℕ) (subs : List Sym) (vals : List (List ℕ)) → answer sc.rules s.case.held (referring e a name subs) ≡ None → FitsAfter a
       → (j : Job) → Describes sc w b slots s (idle j) → AllZip (StandsFor (now j)) subs vals → j.tasks ≡ task.DoTouch (touch_of name vals e a) ∷ ts → Safe routines sc w b n j
   touch e a name subs vals h k j d stand tasks =
-      step routines (KeepsTo sc) n j (task.DoTouch (touch_of name vals e a) ∷ ts) tasks
-      (touch_facts sc j (touch_of name vals e a) ts tasks (is_covered sc.rules sc w b s.case j d.stands e a name subs vals stand h))
+      step routines sc w b n j (task.DoTouch (touch_of name vals e a)) ts tasks refl
+      (touch_facts sc w b j (touch_of name vals e a) ts tasks (is_covered sc.rules sc w b s.case j d.stands e a name subs vals stand h))
       (λ free c. by a k c)
     where
       by : (a : Access) → FitsAfter a → (c : _) → Comes (Safe routines sc w b n) (touched c a j ts)

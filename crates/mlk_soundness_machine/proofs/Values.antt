@@ -1,8 +1,8 @@
 -- Values: what each task of an expression leaves on a job's stack.
 use Rattle.std.proofs.Common.{◌≡◌, ℕ, Bool, true, false, List, ◌∷◌, ◌++◌, drop, Option, Some, None, Ok, refl, sym, ap, ◌∙◌, subst, ⊎_elim}
-use Rattle.std.specs.Prelude.{codes, not, option_map}
+use Rattle.std.specs.Prelude.{codes, not, option_map, ◌&&◌}
 use Rattle.std.specs.Fmt.{decimal}
-use Rattle.std.proofs.lemmas.Bool.{cases_Bool}
+use Rattle.std.proofs.lemmas.Bool.{cases_Bool, and_parts}
 use Rattle.std.proofs.lemmas.Slice.Eq.{bytes_eq-Decides}
 use Rattle.mlk_text.specs.declared.operator.Op.{Op}
 use Rattle.mlk_text.specs.declared.operator.UnaryOp.{UnaryOp}
@@ -35,10 +35,11 @@ use Rattle.mlk_soundness_machine.specs.Frames.{Agrees}
 use Rattle.mlk_soundness_machine.specs.Reads.{now}
 use Rattle.mlk_soundness_machine.specs.Described.{World, Level, Slot, Bare, idle, Describes}
 use Rattle.mlk_soundness_machine.proofs.Known.{IsConstant, IsTruth, KnowsBy, Knows}
-use Rattle.mlk_soundness_machine.specs.Safe.{SafeFor, Fit, KeepsTo, is_plain}
+use Rattle.mlk_soundness_machine.specs.Safe.{SafeIn, Fit, is_plain, is_steady}
 use Rattle.mlk_soundness_machine.proofs.Reading.{differs}
 use Rattle.mlk_soundness_machine.proofs.Worlds.{push_law, drop_law, know_law, is_known}
-use Rattle.mlk_soundness_machine.proofs.Steps.{Comes, done, refused, unasked, of_last, of_result, step}
+use Rattle.mlk_soundness_machine.proofs.Steps.{Comes, done, refused, unasked, of_last, of_result}
+use Rattle.mlk_soundness_machine.proofs.Going.{step}
 use Rattle.mlk_soundness_machine.proofs.Facts.{plain_facts}
 
 -- what both definitions of operators make of constants is one
@@ -134,10 +135,10 @@ test_truth One false h = differs false h refl
 
 module _ (routines : List RoutineTree) (sc : Scope) (w : World) (b : Level) where
   abbrev pub Safe : ℕ → Job → Type 0
-  Safe = SafeFor routines (KeepsTo sc)
+  Safe = SafeIn routines sc w b
 
   abbrev pub Fits : List Slot → ℕ → List Task → State → Type 0
-  Fits = Fit routines (KeepsTo sc) sc w b
+  Fits = Fit routines sc w b
 
   -- each job that has one more value, of which so much is known, is safe
   abbrev pub FitsBy : ((List ℕ → Bool) → Sym) → List Slot → ℕ → List Task → State → Type 0
@@ -150,9 +151,11 @@ module _ (routines : List RoutineTree) (sc : Scope) (w : World) (b : Level) wher
 
   module _ (slots : List Slot) (n : ℕ) (ts : List Task) (s : State) where
     -- a plain task
-    pub plain_step : (t : Task) → is_plain t ≡ true → (j : Job) → j.tasks ≡ t ∷ ts
+    pub plain_step : (t : Task) → (is_plain t && is_steady t) ≡ true → (j : Job) → j.tasks ≡ t ∷ ts
         → ((free : LockName → Bool) (c : Choice) → Comes (Safe n) (advance routines free c j (t ∷ ts))) → Safe n j
-    plain_step t h j e k = step routines (KeepsTo sc) n j (t ∷ ts) e (plain_facts sc j t ts e h) k
+    plain_step t h j e k =
+        let both = and_parts (is_plain t) (is_steady t) h in
+        step routines sc w b n j t ts e both.1 (plain_facts sc w b j t ts e both.0) k
 
     pub expand : (t : Tree) → Fits slots n (parts_of t ++ ts) s → Fits slots n (task.Evaluate t ∷ ts) s
     expand t f j d e = plain_step (task.Evaluate t) refl j e (λ free c.

@@ -34,7 +34,8 @@ unfoldable pub some_local : List ℕ → List Sym → Bool
 some_local x symbols = list_any (is_local x) symbols
 
 -- What is fixed while a frame runs: the job's number, how names were bound at its begin, the frames that wait, the values of their cells, and
--- the values that they have computed; its formals, which of them are another's by reference, and what names had at its begin.
+-- the values that they have computed; its formals, which of them are another's by reference, and what names had at its begin;
+-- and what the job was when each open frame began, the running one first.
 pub record World : Type 0 where
   pub number : ℕ
   pub back : Bindings
@@ -44,6 +45,7 @@ pub record World : Type 0 where
   pub formals : List ℕ → Bool
   pub refs : List ℕ → Bool
   pub snap : List ℕ → Option (List ℕ)
+  pub begun : List Job
 
 -- what is fixed while a block runs, or the lines of a frame: the level, how names were bound and which were own at its
 -- begin, and the values of `$TEST` that the frame's open blocks put back, the outermost first

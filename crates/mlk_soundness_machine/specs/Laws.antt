@@ -1,5 +1,5 @@
 -- What is shown of a job that a case describes. This project's own choice.
-use Rattle.std.specs.Prelude.{◌≡◌, ◌⊎◌, ◌||◌, ℕ, Bool, true, false, List, Some, None, Ok}
+use Rattle.std.specs.Prelude.{◌≡◌, ◌⊎◌, ◌||◌, ℕ, Bool, true, false, List, [], ◌∷◌, Some, None, Ok}
 use Rattle.std.specs.List.{AllZip}
 use Rattle.mlk_names.specs.declared.lock_name.LockName.{LockName}
 use Rattle.mlk_names.specs.declared.term.LockTerm.{LockTerm}
@@ -19,7 +19,8 @@ use Rattle.mlk_machine_jobs.specs.Bindings.{Cell, Cells, look}
 use Rattle.mlk_machine_jobs.specs.Choices.{touch_of}
 use Rattle.mlk_machine_jobs.specs.Runs.{machine, seen}
 use Rattle.mlk_machine_jobs.specs.Tasks.{Job}
-use Rattle.mlk_machine_laws.specs.Moments.{AtEachMoment, IsCoveredAt}
+use Rattle.mlk_machine_laws.specs.Moments.{IsCoveredAt}
+use Rattle.mlk_soundness_machine.specs.Moments.{AtEachMomentSince}
 use Rattle.mlk_machine_laws.specs.Order.{IsOwn, IsAboveAll}
 use Rattle.mlk_walk_state.specs.Names.{have, is_own}
 use Rattle.mlk_walk_state.specs.Scope.{Scope}
@@ -27,7 +28,8 @@ use Rattle.mlk_walk_state.specs.Terms.{mention}
 use Rattle.mlk_walk_state.specs.declared.state.State.{State}
 use Rattle.mlk_calls.specs.Changes.{changed_state}
 use Rattle.mlk_calls.specs.Claims.{claim_fault}
-use Rattle.mlk_soundness_machine.specs.Facts.{Facts}
+use Rattle.mlk_cert_parts.specs.declared.block.EntryCert.{EntryCert}
+use Rattle.mlk_soundness_machine.specs.Listed.{FactsSince}
 use Rattle.mlk_soundness_machine.specs.Reads.{now, name_of}
 use Rattle.mlk_soundness_machine.specs.Described.{World, Level, Slot, IsWorld, bare, idle, Stands, Describes}
 use Rattle.mlk_soundness_machine.specs.Safe.{SafeFor}
@@ -35,10 +37,10 @@ use Rattle.mlk_soundness_machine.specs.Safe.{SafeFor}
 -- Where each job that begins is safe for each number of steps, the facts hold at each moment of each run of one job.
 abbrev pub SafeAtEachMoment : Type 0
 SafeAtEachMoment =
-    (routines : List RoutineTree) (declared : EntryId → Bool) (rules : RuleLists)
+    (routines : List RoutineTree) (declared : EntryId → Bool) (rules : RuleLists) (blocks : List (EntryId × EntryCert))
     → ((e : EntryId) (test : Bool) (values : List (List ℕ)) (k : ℕ) (first : Job)
-    → (machine routines declared).begin e test values k ≡ Ok first → (n : ℕ) → SafeFor routines (Facts rules) n first)
-    → AtEachMoment routines declared (Facts rules)
+    → (machine routines declared).begin e test values k ≡ Ok first → (n : ℕ) → SafeFor routines (FactsSince routines rules blocks) n (first ∷ []) first)
+    → AtEachMomentSince routines declared (FactsSince routines rules blocks)
 
 -- Where a case describes a job and its terms cover a reference, so do names that the job holds cover what the reference
 -- stands for.

@@ -2,5 +2,9 @@ pub mod Reads
 pub mod Frames
 pub mod Facts
 pub mod Described
+pub mod History
+pub mod Listed
+pub mod Marked
+pub mod Moments
 pub mod Safe
 pub mod Laws

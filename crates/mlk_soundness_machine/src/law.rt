@@ -21,7 +21,8 @@ pub fn changed_is_described()
 {}
 
 /// Where each job that begins is safe for each number of steps, at each moment of each run of its own what it touches next is
-/// covered, what it claims next is in order, and it ends without a lock.
+/// covered, what it claims next is in order, and it ends without a lock; and a listed case describes it where a frame of it
+/// begins, where it goes on to a line, and where a round of a FOR begins.
 pub fn safe_at_each_moment()
     ensures { SafeAtEachMoment }
 {}

@@ -1,6 +1,5 @@
 -- The commands of a line, in an entry's scope: calls close by lesser numbers of steps.
-use Rattle.std.proofs.Common.{◌≡◌, ℕ, suc, ◌<◌, ◌≤◌, ◌+◌, Bool, true, List, [], ◌∷◌, ◌++◌, length, Option, Some, None, Ok, refl, subst, arith}
-use Rattle.std.specs.Prelude.{if◌then◌else◌}
+use Rattle.std.proofs.Common.{◌≡◌, ℕ, suc, ◌<◌, ◌≤◌, Bool, true, List, [], ◌∷◌, ◌++◌, length, Option, Some, None, Ok, refl, subst, arith}
 use Rattle.mlk_rules.specs.declared.rules.RuleLists.{RuleLists}
 use Rattle.mlk_rules.specs.Ranks.{FamiliesApart}
 use Rattle.mlk_rules.specs.Laws.{RankedOnce}
@@ -9,7 +8,7 @@ use Rattle.mlk_program.specs.Entries.{target_of}
 use Rattle.mlk_program.specs.declared.entry.EntryId.{EntryId}
 use Rattle.mlk_syntax.specs.declared.expr.Callee.{Callee}
 use Rattle.mlk_syntax.specs.ExprTrees.{Tree, ActualTree}
-use Rattle.mlk_syntax.specs.Trees.{RoutineTree, Called, HeadTree, LineTrees, line, Does, SetTree, SetTo}
+use Rattle.mlk_syntax.specs.Trees.{RoutineTree, Called, HeadTree, LineTrees, Does, SetTree, SetTo}
 use Rattle.mlk_syntax.specs.Trees.{ActionTree, Do, Else, Halt, Hang, If, Job, Kill, Lock, Merge, New, Quit, Read, Set, Write}
 use Rattle.mlk_cert_parts.specs.declared.block.EntryCert.{EntryCert}
 use Rattle.mlk_cert_parts.specs.declared.case.Case.{Case}
@@ -35,9 +34,9 @@ use Rattle.mlk_walk_laws.proofs.Counts.{few_keeps}
 use Rattle.mlk_walk_laws.proofs.Rows.{stays, each_keeps}
 use Rattle.mlk_walk_laws.proofs.Walks.{value_keeps, set_keeps, write_keeps, do_keeps, job_keeps, kill_keeps, acts_keep, conditioned_keeps}
 use Rattle.mlk_soundness_machine.specs.Described.{World, Level, Slot, IsWorld, idle, Describes}
-use Rattle.mlk_soundness_machine.specs.Safe.{KeepsTo}
 use Rattle.mlk_soundness_machine.proofs.Sharing.{SharesByOwn}
-use Rattle.mlk_soundness_machine.proofs.Steps.{Comes, done, less}
+use Rattle.mlk_soundness_machine.proofs.Steps.{Comes, done}
+use Rattle.mlk_soundness_machine.proofs.Going.{Next, steady, less}
 use Rattle.mlk_soundness_machine.proofs.Values.{Safe, Fits, FitsValue}
 use Rattle.mlk_soundness_walk.specs.Commands.{Gives}
 use Rattle.mlk_soundness_walk.specs.Entries.{scope, EntryFits}
@@ -92,7 +91,7 @@ module _ (routines : List RoutineTree) (rules : RuleLists) (entries : List (Entr
   -- DO of a label
   do_call : (column : ℕ) (callee : Callee) (written : Option (List ActualTree)) → IsOurs sc (Called column callee written) → (ts : List Task) (s : State) (A : State → Type 0)
       → Leads (each (do_row here (Called column callee written))) s A S Q → ((u : State) → A u → Fits routines sc w b [] n ts u) → (j : task.Job) → Describes sc w b (given_slots (given_list written) []) s (idle j)
-      → (m : ℕ) → n ≡ suc m → Comes (Safe routines sc w b m) (called routines NoValue (target_of routines j.routine callee) (given_list written) ts j)
+      → (m : ℕ) → n ≡ suc m → Comes (Next routines sc w b ts m) (called routines NoValue (target_of routines j.routine callee) (given_list written) ts j)
   do_call column callee written ours ts s A l k j d m same =
       let given : List ActualTree = given_list written in
       let r : CallRow sc by.ByDo callee given (last_captured (length given) s) (without_last (length given) s) A =
@@ -171,10 +170,11 @@ module _ (routines : List RoutineTree) (rules : RuleLists) (entries : List (Entr
     one_fits (Some t) a of s l =
         condition_fits routines here w b S Q n evaluate t (act here a) stay (acts_keep here a) stays [] (task.Conditionally a block) refl ts
         (λ x i. Ok (doing (tasks_if x (action_parts block a) ++ ts) i)) (λ free c i. refl) Few
+        (Safe routines sc w b) (λ m free c i x at comes. steady routines sc w b free c i (task.Conditionally a block) ts refl m x at comes)
         (λ m is u h i d. done (Safe routines sc w b m) (doing (action_parts block a ++ ts) i) (down_to m is (doing (action_parts block a ++ ts) i) (runs (Some t) a of u h (doing (action_parts block a ++ ts) i) d refl)))
         (λ m is u h i d. done (Safe routines sc w b m) (doing ts i) (down_to m is (doing ts i) (then_few u (leads_stay Few S Q u h) (doing ts i) d refl)))
         (ours_left sc (in_tree t) (in_action a) of.ours) s
         (leads_both A S Q (λ v. conditioned here (Some t) (act here a) stay v) (few number word) (conditioned_keeps here (Some t) (act here a) stay (acts_keep here a) stays) (few_keeps number word) s l)
       where
         down_to : (m : ℕ) → n ≡ suc m → (i : task.Job) → Safe routines sc w b n i → Safe routines sc w b m i
-        down_to m is i h = less routines (KeepsTo sc) m i (subst (λ z. Safe routines sc w b z i) is h)
+        down_to m is i h = less routines sc w b m i (subst (λ z. Safe routines sc w b z i) is h)

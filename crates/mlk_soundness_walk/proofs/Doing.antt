@@ -9,7 +9,7 @@ use Rattle.mlk_program.specs.Calls.{as_list, in_tree, in_actuals, in_given, in_c
 use Rattle.mlk_program.specs.Entries.{target_of}
 use Rattle.mlk_cert_parts.specs.declared.case.Case.{Case}
 use Rattle.mlk_machine_jobs.specs.Tasks as task
-use Rattle.mlk_machine_jobs.specs.Tasks.{Task, Job, NoValue}
+use Rattle.mlk_machine_jobs.specs.Tasks.{marks, Task, Job, NoValue}
 use Rattle.mlk_machine_jobs.specs.Choices.{dropped, doing}
 use Rattle.mlk_machine_jobs.specs.Calling.{called, called_if, count_given}
 use Rattle.mlk_machine_jobs.specs.Commands as made
@@ -33,9 +33,11 @@ use Rattle.mlk_soundness_machine.specs.Reads.{now}
 use Rattle.mlk_soundness_machine.specs.Described.{some_local, World, Level, Slot, Fills, idle, Describes}
 use Rattle.mlk_soundness_machine.proofs.Facts.{plain_facts}
 use Rattle.mlk_soundness_machine.proofs.Reading.{local_front}
-use Rattle.mlk_soundness_machine.specs.Safe.{KeepsTo}
+use Rattle.mlk_soundness_machine.specs.Safe.{SafeFor, KeepsTo}
+use Rattle.mlk_soundness_machine.specs.History.{count_frames}
+use Rattle.mlk_soundness_machine.proofs.Going.{Next, as_many, by_step, less}
 use Rattle.mlk_soundness_machine.proofs.Stack.{whole, others_are, others_turned, dropped_are}
-use Rattle.mlk_soundness_machine.proofs.Steps.{Comes, done, unasked, by_step, less}
+use Rattle.mlk_soundness_machine.proofs.Steps.{Comes, done, unasked}
 use Rattle.mlk_soundness_machine.proofs.Values.{Safe, Fits, FitsValue, plain_step}
 use Rattle.mlk_soundness_walk.proofs.Alone.{Leads}
 use Rattle.mlk_soundness_walk.proofs.Alone.{Meets, leads_both, leads_each, leads_changed}
@@ -84,12 +86,12 @@ module _ (routines : List RoutineTree) (p : Spot) (w : World) (b : Level) (S : C
   module _
       (call : (column : ℕ) (callee : Callee) (written : Option (List ActualTree)) → IsOurs p.scope (Called column callee written) → (ts : List Task) (s : State) (A : State → Type 0)
       → Leads (each (do_row p (Called column callee written))) s A S Q → ((u : State) → A u → Fit [] n ts u) → (j : Job) → Describes p.scope w b (given_slots (given_list written) []) s (idle j)
-      → (m : ℕ) → n ≡ suc m → Comes (Safe routines p.scope w b m) (called routines NoValue (target_of routines j.routine callee) (given_list written) ts j)) where
+      → (m : ℕ) → n ≡ suc m → Comes (Next routines p.scope w b ts m) (called routines NoValue (target_of routines j.routine callee) (given_list written) ts j)) where
     call_step : (column : ℕ) (callee : Callee) (written : Option (List ActualTree)) → IsOurs p.scope (Called column callee written) → (ts : List Task) (s : State) (A : State → Type 0)
         → Leads (each (do_row p (Called column callee written))) s A S Q → ((u : State) → A u → Fit [] n ts u) → Fit (given_slots (given_list written) []) n (task.Call false callee (given_list written) ∷ ts) s
     call_step column callee written ours ts s A l k j d tasks =
-        by_step routines (KeepsTo p.scope) n j (task.Call false callee (given_list written) ∷ ts) tasks (plain_facts p.scope j (task.Call false callee (given_list written)) ts tasks refl) (λ m same free c.
-        unasked (Safe routines p.scope w b m) c _ (call column callee written ours ts s A l k j d m same))
+        by_step routines p.scope w b n j (task.Call false callee (given_list written) ∷ ts) tasks (plain_facts p.scope w b j (task.Call false callee (given_list written)) ts tasks refl) (λ m same free c.
+        unasked (Next routines p.scope w b ts m) c _ (call column callee written ours ts s A l k j d m same))
 
     pub do_one_fits : (d : DoTree) → AreOurs p.scope (in_do d) → (ts : List Task) (s : State) (A : State → Type 0) → Leads (do_argument p d) s A S Q → ((u : State) → A u → Fit [] n ts u)
         → Fit [] n (do_parts d ++ ts) s
@@ -114,17 +116,19 @@ module _ (routines : List RoutineTree) (p : Spot) (w : World) (b : Level) (S : C
         (leads_both A S Q (capture_given p c) G (actuals_keep p c) G_keeps s l)
         (λ u m. condition_fits routines p w b S Q n evaluate t (each (do_row p c)) (forget_given c) (each_keeps (do_row p c)) (changed_keeps (without_last (length (given_list written))))
         (given_slots (given_list written) []) (task.CallIf callee (given_list written)) refl ts (λ x i. called_if x routines (target_of routines i.routine callee) (given_list written) ts i) (λ free y i. refl) A
+        (Next routines p.scope w b ts) (λ m free y i x at comes. comes)
         (λ q is y h i d. call column callee written (all (Called column callee written) (0, omega arith, refl)) ts y A h k i d q is)
         (λ q is y h i d. passes_by column callee written ts y A h k i d q is)
         (ours_right p.scope (Called column callee written ∷ in_given written) (in_tree t) ours) u m)))
       where
         passes_by : (column : ℕ) (callee : Callee) (written : Option (List ActualTree)) (ts : List Task) (y : State) (A : State → Type 0) → Leads (forget_given (Called column callee written)) y A S Q → ((u : State) → A u → Fit [] n ts u)
-            → (i : Job) → Describes p.scope w b (given_slots (given_list written) []) y (idle i) → (q : ℕ) → n ≡ suc q → Comes (Safe routines p.scope w b q) (Ok (doing ts (dropped (count_given (given_list written)) i)))
+            → (i : Job) → Describes p.scope w b (given_slots (given_list written) []) y (idle i) → (q : ℕ) → n ≡ suc q → Comes (Next routines p.scope w b ts q) (Ok (doing ts (dropped (count_given (given_list written)) i)))
         passes_by column callee written ts y A h k i d q is =
             let to : Job = doing ts (dropped (count_given (given_list written)) i) in
             let at_n : Safe routines p.scope w b n to = k (without_last (length (given_list written)) y) (leads_changed A S Q (without_last (length (given_list written))) y h) to
             (unused_given p.scope w b (given_list written) [] y (idle i) d) refl in
-            done (Safe routines p.scope w b q) to (less routines (KeepsTo p.scope) q to (subst (λ z. Safe routines p.scope w b z to) is at_n))
+            done (Next routines p.scope w b ts q) to (λ marked.
+            subst (λ z. SafeFor routines (KeepsTo p.scope) q z to) (sym (as_many w.begun to (count_frames (marks ts)) refl)) (less routines p.scope w b q to (subst (λ z. Safe routines p.scope w b z to) is at_n) marked))
 
   -- JOB: the job that it starts is another one
   pub job_one_fits : (c : CallTree) → AreOurs p.scope (in_call c) → (ts : List Task) (s : State) (A : State → Type 0) → Leads (job_argument p c) s A S Q → ((u : State) → A u → Fit [] n ts u)

@@ -1,7 +1,7 @@
 -- DO of a label: the job goes into the callee's lines, which are safe for fewer steps, and comes back at its end.
-use Rattle.std.proofs.Common.{◌≡◌, ℕ, zero, suc, ◌<◌, Bool, true, false, List, [], ◌∷◌, ◌++◌, length, drop, reverse, map, Option, Some, None, Ok, refl, sym, ap, ◌∙◌, subst, arith, ⊎_elim, inl, inr}
-use Rattle.std.specs.Prelude.{◌⊎◌, ◌||◌, ◌&&◌, option_map, option_and_then, slice_get}
-use Rattle.std.proofs.lemmas.Bool.{cases_Bool, and_parts, ne_eqb}
+use Rattle.std.proofs.Common.{◌≡◌, ℕ, zero, suc, ◌<◌, Bool, true, false, List, [], ◌∷◌, ◌++◌, length, drop, reverse, map, Option, Some, None, Ok, refl, sym, ap, ◌∙◌, subst, arith, ⊎_elim, inl, inr, ◌+◌}
+use Rattle.std.specs.Prelude.{◌||◌, ◌&&◌, option_map, option_and_then, slice_get}
+use Rattle.std.proofs.lemmas.Bool.{cases_Bool, or_cases, and_parts, ne_eqb}
 use Rattle.mlk_names.specs.declared.term.LockTerm.{LockTerm}
 use Rattle.mlk_names.specs.declared.symbol.Sym.{Sym}
 use Rattle.mlk_rules.specs.declared.rules.RuleLists.{RuleLists}
@@ -26,7 +26,7 @@ use Rattle.mlk_program.specs.declared.entry.EntryId.{EntryId}
 use Rattle.mlk_program.specs.Entries.{target_of, line_of_entry}
 use Rattle.mlk_syntax.specs.Distinct.{AreDistinct}
 use Rattle.mlk_syntax.specs.declared.expr.Callee.{Callee}
-use Rattle.mlk_syntax.specs.ExprTrees.{ActualTree}
+use Rattle.mlk_syntax.specs.ExprTrees.{ActualTree, Given, ByRef, Missing}
 use Rattle.mlk_syntax.specs.Trees.{RoutineTree, HeadTree, LineHead, LineTrees}
 use Rattle.mlk_cert_parts.specs.declared.case.Case.{Case}
 use Rattle.mlk_cert_parts.specs.declared.case.ExitCase.{ExitCase}
@@ -37,7 +37,7 @@ use Rattle.mlk_cert_parts.specs.declared.block.EntryCert.{EntryCert}
 use Rattle.mlk_machine_locks.specs.declared.refusal.Refusal.TheVariants.{NotEnabled}
 use Rattle.mlk_machine_jobs.specs.Bindings.{Bindings, look}
 use Rattle.mlk_machine_jobs.specs.Tasks as task
-use Rattle.mlk_machine_jobs.specs.Tasks.{Task, Job, Frame, NoValue, AwaitsValue, HasValue, LineTree, RunLines, RunCommands, EndFrame}
+use Rattle.mlk_machine_jobs.specs.Tasks.{Task, Job, marks, Frame, NoValue, AwaitsValue, HasValue, LineTree, RunLines, RunCommands, EndFrame}
 use Rattle.mlk_machine_jobs.specs.Choices.{doing, pushed, dropped, last_values}
 use Rattle.mlk_machine_jobs.specs.Locking.{tested}
 use Rattle.std.specs.Fmt.{decimal}
@@ -46,7 +46,7 @@ use Rattle.mlk_cert_parts.specs.declared.block.Summary.{Summary}
 use Rattle.mlk_soundness_walk.specs.Entries as stated
 use Rattle.mlk_soundness_walk.specs.Entries.{first_level}
 use Rattle.mlk_soundness_walk.proofs.Lines.{nothing}
-use Rattle.mlk_machine_jobs.specs.Calling.{binders, with_actuals, formals_in, commands_in, lines_after, entered, called, count_given, back_to}
+use Rattle.mlk_machine_jobs.specs.Calling.{binder, binders, next_actual, later_actuals, with_actuals, formals_in, commands_in, lines_after, entered, called, count_given, back_to}
 use Rattle.mlk_walk_state.specs.declared.state.State.{State}
 use Rattle.mlk_walk_state.specs.States.{at_rest, last_captured, without_last}
 use Rattle.mlk_walk_state.specs.Scope.{Scope, block_at}
@@ -62,19 +62,23 @@ use Rattle.mlk_walk_lines.specs.Endings.{escapes}
 use Rattle.mlk_walk.specs.Verdicts.{begin_case}
 use Rattle.mlk_walk_laws.specs.Fewer.{Among}
 use Rattle.mlk_machine_laws.specs.Sharing.{is_lent}
-use Rattle.mlk_soundness_machine.specs.Frames.{Agrees}
-use Rattle.mlk_soundness_machine.specs.Reads.{now, mentions}
+use Rattle.mlk_soundness_machine.specs.Frames.{Agrees, times_waiting}
+use Rattle.mlk_soundness_machine.specs.Reads.{now, mentions, times}
 use Rattle.mlk_soundness_machine.specs.Described.{some_local, World, Level, Slot, Bare, Fills, own_at, IsWorld, idle, bare, Stands, Describes}
-use Rattle.mlk_soundness_machine.specs.Safe.{KeepsTo}
+use Rattle.mlk_soundness_machine.specs.Safe.{SafeFor, KeepsTo}
+use Rattle.mlk_soundness_machine.specs.History.{count_frames, is_reference}
+use Rattle.mlk_soundness_machine.specs.Marked.{Begun, Marked}
 use Rattle.mlk_soundness_machine.proofs.Sharing.{SharesByOwn}
 use Rattle.mlk_soundness_machine.proofs.Reading.{differs, name_is, name_self, mentioned_such, local_front, local_back, local_reversed, fills_same, marked_fills, reversed_map}
-use Rattle.mlk_soundness_machine.proofs.Steps.{Comes, done, refused, unasked, of_value, by_step, step, less}
+use Rattle.mlk_soundness_machine.proofs.Steps.{Comes, done, refused, unasked, of_value}
+use Rattle.mlk_soundness_machine.proofs.Going.{Next, one_more, by_step, end_step, less}
 use Rattle.mlk_soundness_machine.proofs.Facts.{plain_facts}
 use Rattle.mlk_soundness_machine.proofs.Stack.{last_are, whole, others_are, others_turned, taken_are, dropped_are}
 use Rattle.mlk_soundness_machine.proofs.Changes.{Allowed, allowed}
 use Rattle.mlk_soundness_machine.proofs.Passing.{Passed, refs_of, passes}
+use Rattle.mlk_soundness_machine.proofs.Passing as passing
 use Rattle.mlk_soundness_machine.proofs.Calling as calling
-use Rattle.mlk_soundness_machine.proofs.Values.{Fits}
+use Rattle.mlk_soundness_machine.proofs.Values.{Safe, Fits}
 use Rattle.mlk_soundness_machine.proofs.Touches.{FitsAny}
 use Rattle.mlk_soundness_machine.proofs.Unused.{first_value}
 use Rattle.mlk_soundness_machine.proofs.Worlds.{push_law, drop_law}
@@ -174,11 +178,34 @@ pub low_formals : (names : List (List ℕ)) → Each (λ (o : Own). o.level ≤ 
 low_formals [] = tt
 low_formals (n ∷ names) = (omega arith, low_formals names)
 
+-- a formal that is no reference once it is bound is given none
+refs_false : (caller : Bindings) (g : ℕ) (formals : List (List ℕ)) (given : List ActualTree) (back : Bindings) (x : List ℕ) → is_among formals x ≡ true
+    → is_reference (binders caller g formals given ++ back) x ≡ false → refs_of formals given x ≡ false
+unfolding is_among
+refs_false caller g [] given back x h r = refl
+refs_false caller g (f ∷ formals) given back x h r =
+    ⊎_elim
+    (λ (u : bytes_eq f x ≡ true). rw u (here (next_actual given) u r))
+    (λ (u : bytes_eq f x ≡ false). rw u (there (next_actual given) u r
+    (refs_false caller g formals (later_actuals given) back x (⊎_elim (λ (v : bytes_eq x f ≡ true). differs (bytes_eq f x) (turned f x ∙ v) u) (λ (v : is_among formals x ≡ true). v) (or_cases (bytes_eq x f) (is_among formals x) h)))))
+    (cases_Bool (bytes_eq f x))
+  where
+    here : (a : ActualTree) → bytes_eq f x ≡ true → is_reference (binder caller g f a ∷ (binders caller g formals (later_actuals given) ++ back)) x ≡ false → passing.is_reference a ≡ false
+    here (Given e) u q = refl
+    here Missing u q = refl
+    here (ByRef column name) u q = let z : true ≡ false = (rw u at q) in absurd (cc z)
+
+    there : (a : ActualTree) → bytes_eq f x ≡ false → is_reference (binder caller g f a ∷ (binders caller g formals (later_actuals given) ++ back)) x ≡ false
+        → (is_reference (binders caller g formals (later_actuals given) ++ back) x ≡ false → refs_of formals (later_actuals given) x ≡ false) → refs_of formals (later_actuals given) x ≡ false
+    there (Given e) u q k = k (rw u at q)
+    there Missing u q k = k (rw u at q)
+    there (ByRef column name) u q k = k (rw u at q)
+
 module _ (routines : List RoutineTree) (rules : RuleLists) (entries : List (EntryId × EntryCert) × List EntryId) where
   abbrev pub scope : EntryId → EntryCert → Scope
   scope = stated.scope routines rules entries
 
-  abbrev pub Safely : Scope → ℕ → Job → Type 0
+  abbrev pub Safely : Scope → World → ℕ → Job → Type 0
   Safely = stated.Safely routines rules entries
 
   abbrev pub EndsFit : Scope → World → ℕ → Frame → Bindings → ℕ → ℕ → List Task → Type 0
@@ -264,7 +291,7 @@ module _ (routines : List RoutineTree) (rules : RuleLists) (entries : List (Entr
         (shares : SharesByOwn (scope e blk).is_shared its.is_shared)
         (filled : (x : List ℕ) → refs_of (formals_in head) given x ≡ true → (own : List Own) → is_own own x ≡ true → its.is_shared own x ≡ true)
         (lent : (n : List ℕ) → passes (formals_in head) given n ≡ true → (own : List Own) → is_own own n ≡ false → its.is_shared own n ≡ true)
-        (j : Job) (d : Describes (scope e blk) w b (given_slots given slots) s (idle j)) where
+        (j : Job) (d : Describes (scope e blk) w b (given_slots given slots) s (idle j)) (begun : List Job) where
       g : GivenTaken (now j) given slots (reverse s.captured) j.values w.values
       g = given_taken (now j) given slots (reverse s.captured) j.values w.values d.values
 
@@ -307,16 +334,16 @@ module _ (routines : List RoutineTree) (rules : RuleLists) (entries : List (Entr
       ok = subst (λ z. Allowed (scope e blk) (changes z given) (without_last (length given) s)) summary_is (allowed (scope e blk) (changes row.called.summary given) (without_last (length given) s) row.changed)
 
       abbrev world : World
-      world = calling.world (scope e blk) its w b (without_last (length given) s) rest d.stands k sole (formals_in head) dist given syms vals passed syms_sole row.needs row.aside put row.taken ok shares filled lent
+      world = calling.world (scope e blk) its w b (without_last (length given) s) rest d.stands k sole (formals_in head) dist given syms vals passed syms_sole row.needs row.aside put row.taken ok shares filled lent begun
 
       is_world : IsWorld its world
-      is_world = calling.call_world (scope e blk) its w b (without_last (length given) s) rest d.stands k sole (formals_in head) dist given syms vals passed syms_sole row.needs row.aside put row.taken ok shares filled lent
+      is_world = calling.call_world (scope e blk) its w b (without_last (length given) s) rest d.stands k sole (formals_in head) dist given syms vals passed syms_sole row.needs row.aside put row.taken ok shares filled lent begun
           refl apart once (subst (λ z. ranks_fault (scope e blk) z row.aside ≡ None) summary_is row.ranked)
 
       begins : Describes its world (first_level world) [] (at_rest (begin_case its.summary (formals_in head)))
-          (calling.called (scope e blk) its w b (without_last (length given) s) rest d.stands k sole (formals_in head) dist given syms vals passed syms_sole row.needs row.aside put row.taken ok shares filled lent)
+          (calling.called (scope e blk) its w b (without_last (length given) s) rest d.stands k sole (formals_in head) dist given syms vals passed syms_sole row.needs row.aside put row.taken ok shares filled lent begun)
       begins = record {
-        stands = calling.call_stands (scope e blk) its w b (without_last (length given) s) rest d.stands k sole (formals_in head) dist given syms vals passed syms_sole row.needs row.aside put row.taken ok shares filled lent
+        stands = calling.call_stands (scope e blk) its w b (without_last (length given) s) rest d.stands k sole (formals_in head) dist given syms vals passed syms_sole row.needs row.aside put row.taken ok shares filled lent begun
             (begin_case its.summary (formals_in head)).own (begin_case its.summary (formals_in head)).kept
             (λ x. own_formals (in_order (formals_in head)) x ∙ in_order_same (formals_in head) x)
             (λ x. at_formals (in_order (formals_in head)) x ∙ own_formals (in_order (formals_in head)) x ∙ in_order_same (formals_in head) x)
@@ -348,21 +375,21 @@ module _ (routines : List RoutineTree) (rules : RuleLists) (entries : List (Entr
           out = subst (λ z. put_terms (formals_in head) (map Some (map (marked ch) syms)) z ≡ Some exit.0) (sym held_is) exit.1
 
           abbrev back : Job
-          back = calling.returned (scope e blk) its w b (without_last (length given) s) rest d.stands k sole (formals_in head) dist given syms vals passed syms_sole row.needs row.aside put row.taken ok shares filled lent
+          back = calling.returned (scope e blk) its w b (without_last (length given) s) rest d.stands k sole (formals_in head) dist given syms vals passed syms_sole row.needs row.aside put row.taken ok shares filled lent begun
               c i f.stands (fine_case c esc) exit.0 out (test_after how s.case.test x.test) kept agrees
 
           left : Stands (scope e blk) w b (record { test = test_after how s.case.test x.test; saved = s.case.saved; held = put_all exit.0 row.aside; own = s.case.own; kept = without ch s.case.kept }) (bare back)
-          left = calling.leave_stands (scope e blk) its w b (without_last (length given) s) rest d.stands k sole (formals_in head) dist given syms vals passed syms_sole row.needs row.aside put row.taken ok shares filled lent
+          left = calling.leave_stands (scope e blk) its w b (without_last (length given) s) rest d.stands k sole (formals_in head) dist given syms vals passed syms_sole row.needs row.aside put row.taken ok shares filled lent begun
               c i f.stands (fine_case c esc) exit.0 out (test_after how s.case.test x.test) kept agrees
 
           guarded_now : (y : List ℕ) → some_local y (map (marked ch) (without_last (length given) s).captured) ≡ true
               → (back.cells (look j.bindings y) ≡ j.cells (look j.bindings y)) × (is_lent j.bindings (look j.bindings y) ≡ false)
           guarded_now y h =
-              let q = calling.in_captured (scope e blk) its w b (without_last (length given) s) rest d.stands k sole (formals_in head) dist given syms vals passed syms_sole row.needs row.aside put row.taken ok shares filled lent
+              let q = calling.in_captured (scope e blk) its w b (without_last (length given) s) rest d.stands k sole (formals_in head) dist given syms vals passed syms_sole row.needs row.aside put row.taken ok shares filled lent begun
               c i f.stands (fine_case c esc) exit.0 out (test_after how s.case.test x.test) kept agrees y h in (
-                calling.guard_value (scope e blk) its w b (without_last (length given) s) rest d.stands k sole (formals_in head) dist given syms vals passed syms_sole row.needs row.aside put row.taken ok shares filled lent
+                calling.guard_value (scope e blk) its w b (without_last (length given) s) rest d.stands k sole (formals_in head) dist given syms vals passed syms_sole row.needs row.aside put row.taken ok shares filled lent begun
                     c i f.stands (fine_case c esc) exit.0 out (test_after how s.case.test x.test) kept agrees y q,
-                calling.guard_behind (scope e blk) its w b (without_last (length given) s) rest d.stands k sole (formals_in head) dist given syms vals passed syms_sole row.needs row.aside put row.taken ok shares filled lent
+                calling.guard_behind (scope e blk) its w b (without_last (length given) s) rest d.stands k sole (formals_in head) dist given syms vals passed syms_sole row.needs row.aside put row.taken ok shares filled lent begun
                     c i f.stands (fine_case c esc) exit.0 out (test_after how s.case.test x.test) kept agrees y q,
               )
 
@@ -391,30 +418,38 @@ module _ (routines : List RoutineTree) (rules : RuleLists) (entries : List (Entr
         left_test : (c : Case) (x : ExitCase) → leaves_by c x ≡ true → (i : Job) → Describes its world (first_level world) [] (at_rest c) (idle i) → Agrees x.test i.test
         left_test c x leaves i f = less_test c.test x.test i.test (same_held c x leaves).1 f.stands.test
 
-        returns : how ≡ by.ByDo → ((u : State) → G u → Fits routines (scope e blk) w b slots n ts u) → EndsFit its world m NoValue j.bindings j.next j.routine ts
-        returns by_do next c x among leaves esc slots' end (inr q) i f tasks = let z : NoValue ≡ AwaitsValue q.0 = q.1 in absurd (cc z)
-        returns by_do next c x among leaves esc slots' end (inl q) i f tasks =
+        -- where the callee ends, the job is in the caller's frame again
+        abbrev Back : Job → Type 0
+        Back i = (i.tasks ≡ ts) × SafeFor routines (KeepsTo its) m (drop 1 begun) i
+
+        goes_back : drop 1 begun ≡ w.begun → Marked (scope e blk) w b (marks ts) → (to : Job) → to.tasks ≡ ts → Safe routines (scope e blk) w b n to → Back to
+        goes_back past marked to at safe =
+            (at, subst (λ z. SafeFor routines (KeepsTo its) m z to) (sym past) (less routines (scope e blk) w b m to (subst (λ z. Safe routines (scope e blk) w b z to) same safe) (subst (λ z. Marked (scope e blk) w b (marks z)) (sym at) marked)))
+
+        returns : drop 1 begun ≡ w.begun → Marked (scope e blk) w b (marks ts) → how ≡ by.ByDo → ((u : State) → G u → Fits routines (scope e blk) w b slots n ts u) → EndsFit its world m NoValue j.bindings j.next j.routine ts
+        returns past marked by_do next c x among leaves esc slots' end (inr q) i f tasks = let z : NoValue ≡ AwaitsValue q.0 = q.1 in absurd (cc z)
+        returns past marked by_do next c x among leaves esc slots' end (inl q) i f tasks =
             let f' : Describes its world (first_level world) [] (at_rest c) (idle i) = subst (λ z. Describes its world (first_level world) z (at_rest c) (idle i)) q.1 f in
             let tasks' : i.tasks ≡ EndFrame NoValue j.bindings j.next j.routine ∷ ts = subst (λ z. i.tasks ≡ EndFrame z j.bindings j.next j.routine ∷ ts) q.0 tasks in
             let agrees : Agrees (test_after how s.case.test x.test) i.test = subst (λ h. Agrees (test_after h s.case.test x.test) i.test) (sym by_do) (left_test c x leaves i f') in
             let to : Job = doing ts (record (back_to j.bindings j.next i) { routine = j.routine }) in
-            step routines (KeepsTo (scope e blk)) m i (EndFrame NoValue j.bindings j.next j.routine ∷ ts) tasks' (plain_facts (scope e blk) i (EndFrame NoValue j.bindings j.next j.routine) ts tasks' refl) (λ free y.
-            unasked (Safely (scope e blk) m) y (Ok to) (done (Safely (scope e blk) m) to
-            (less routines (KeepsTo (scope e blk)) m to (subst (λ z. Safely (scope e blk) z to) same (next _ (exit c x among leaves esc i f' i.test agrees).2 to (after c x among leaves esc i f' i.test agrees) refl)))))
+            end_step routines its world (first_level world) m i NoValue j.bindings j.next j.routine ts tasks' (plain_facts its world (first_level world) i (EndFrame NoValue j.bindings j.next j.routine) ts tasks' refl) (λ free y.
+            unasked Back y (Ok to) (done Back to
+            (goes_back past marked to refl (next _ (exit c x among leaves esc i f' i.test agrees).2 to (after c x among leaves esc i f' i.test agrees) refl))))
 
         -- an extrinsic function puts `$TEST` back, and gives the value of QUIT, or any where that has none
-        gives_back : how ≡ by.Extrinsic → ((u : State) → G u → FitsAny routines (scope e blk) w b slots n ts u) → EndsFit its world m (AwaitsValue j.test) j.bindings j.next j.routine ts
-        gives_back extrinsic next c x among leaves esc slots' end (inl q) i f tasks =
+        gives_back : drop 1 begun ≡ w.begun → Marked (scope e blk) w b (marks ts) → how ≡ by.Extrinsic → ((u : State) → G u → FitsAny routines (scope e blk) w b slots n ts u) → EndsFit its world m (AwaitsValue j.test) j.bindings j.next j.routine ts
+        gives_back past marked extrinsic next c x among leaves esc slots' end (inl q) i f tasks =
             let f' : Describes its world (first_level world) [] (at_rest c) (idle i) = subst (λ z. Describes its world (first_level world) z (at_rest c) (idle i)) q.1 f in
             let tasks' : i.tasks ≡ EndFrame (AwaitsValue j.test) j.bindings j.next j.routine ∷ ts = subst (λ z. i.tasks ≡ EndFrame z j.bindings j.next j.routine ∷ ts) q.0 tasks in
             let agrees : Agrees (test_after how s.case.test x.test) j.test = subst (λ h. Agrees (test_after h s.case.test x.test) j.test) (sym extrinsic) d.stands.test in
             let to : List ℕ → Job = λ v. pushed v (tested j.test (doing ts (record (back_to j.bindings j.next i) { routine = j.routine }))) in
-            step routines (KeepsTo (scope e blk)) m i (EndFrame (AwaitsValue j.test) j.bindings j.next j.routine ∷ ts) tasks' (plain_facts (scope e blk) i (EndFrame (AwaitsValue j.test) j.bindings j.next j.routine) ts tasks' refl) (λ free y.
-            of_value (Safely (scope e blk) m) y _ (λ v. done (Safely (scope e blk) m) (to v)
-            (less routines (KeepsTo (scope e blk)) m (to v) (subst (λ z. Safely (scope e blk) z (to v)) same
+            end_step routines its world (first_level world) m i (AwaitsValue j.test) j.bindings j.next j.routine ts tasks' (plain_facts its world (first_level world) i (EndFrame (AwaitsValue j.test) j.bindings j.next j.routine) ts tasks' refl) (λ free y.
+            of_value Back y _ (λ v. done Back (to v)
+            (goes_back past marked (to v) refl
             (next _ (exit c x among leaves esc i f' j.test agrees).2 (to v) v
-            (push_law (scope e blk) w b slots _ (idle (tested j.test (record (back_to j.bindings j.next i) { routine = j.routine }))) (after c x among leaves esc i f' j.test agrees) v) refl refl)))))
-        gives_back extrinsic next c x among leaves esc slots' end (inr (t', frame_is, end_is, slots_are)) i f tasks =
+            (push_law (scope e blk) w b slots _ (idle (tested j.test (record (back_to j.bindings j.next i) { routine = j.routine }))) (after c x among leaves esc i f' j.test agrees) v) refl refl))))
+        gives_back past marked extrinsic next c x among leaves esc slots' end (inr (t', frame_is, end_is, slots_are)) i f tasks =
             let of_frame : j.test ≡ t' = (let z : AwaitsValue j.test ≡ AwaitsValue t' = frame_is in cc z) in
             let f1 : Describes its world (first_level world) (Bare None ∷ []) (at_rest c) (idle i) = subst (λ z. Describes its world (first_level world) z (at_rest c) (idle i)) slots_are f in
             let tasks' : i.tasks ≡ EndFrame (HasValue j.test) j.bindings j.next j.routine ∷ ts = subst (λ z. i.tasks ≡ EndFrame (HasValue z) j.bindings j.next j.routine ∷ ts) (sym of_frame) (subst (λ z. i.tasks ≡ EndFrame z j.bindings j.next j.routine ∷ ts) end_is tasks) in
@@ -424,23 +459,52 @@ module _ (routines : List RoutineTree) (rules : RuleLists) (entries : List (Entr
             let f' : Describes its world (first_level world) [] (at_rest c) (idle (dropped 1 i)) = drop_law its world (first_level world) None [] (at_rest c) (idle i) f1 has.0 (drop 1 i.values) whole_is in
             let agrees : Agrees (test_after how s.case.test x.test) j.test = subst (λ h. Agrees (test_after h s.case.test x.test) j.test) (sym extrinsic) d.stands.test in
             let to : Job = tested j.test (doing ts (record (back_to j.bindings j.next i) { routine = j.routine })) in
-            step routines (KeepsTo (scope e blk)) m i (EndFrame (HasValue j.test) j.bindings j.next j.routine ∷ ts) tasks' (plain_facts (scope e blk) i (EndFrame (HasValue j.test) j.bindings j.next j.routine) ts tasks' refl) (λ free y.
-            unasked (Safely (scope e blk) m) y (Ok to) (done (Safely (scope e blk) m) to
-            (less routines (KeepsTo (scope e blk)) m to (subst (λ z. Safely (scope e blk) z to) same
-            (next _ (exit c x among leaves esc (dropped 1 i) f' j.test agrees).2 to has.0
+            end_step routines its world (first_level world) m i (HasValue j.test) j.bindings j.next j.routine ts tasks' (plain_facts its world (first_level world) i (EndFrame (HasValue j.test) j.bindings j.next j.routine) ts tasks' refl) (λ free y.
+            unasked Back y (Ok to) (done Back to
+            (goes_back past marked to refl (next _ (exit c x among leaves esc (dropped 1 i) f' j.test agrees).2 to has.0
             (subst (λ z. Describes (scope e blk) w b (Bare None ∷ slots) (Ends s x (exit c x among leaves esc (dropped 1 i) f' j.test agrees).0) (record (idle to) { values = z })) (sym whole_is)
             (push_law (scope e blk) w b slots (Ends s x (exit c x among leaves esc (dropped 1 i) f' j.test agrees).0) (record (idle to) { values = drop 1 i.values }) (after c x among leaves esc (dropped 1 i) f' j.test agrees) has.0))
-            whole_is refl)))))
+            whole_is refl))))
 
-        goes_in : (frame : Frame) → EndsFit its world m frame j.bindings j.next j.routine ts → Safely (scope e blk) m (record j {
-          routine = t.entry.routine;
-          bindings = binders j.bindings j.next (formals_in head) given ++ j.bindings;
-          next = suc j.next;
-          cells = with_actuals j.next (formals_in head) given vals j.cells;
-          values = drop (count_given given) j.values;
-          tasks = RunCommands (commands_in head) body ∷ RunLines lines ∷ EndFrame frame j.bindings j.next j.routine ∷ ts;
-        })
-        goes_in frame ends = lower m (subst (λ z. m < z) (sym same) (omega arith)) t.entry t.block t.certified head body lines heads world is_world (λ x. refl) frame j.next j.routine ts ends _ begins refl
+      -- the job as it enters the callee
+      abbrev to_callee : Frame → Job
+      to_callee frame = record j {
+        routine = t.entry.routine;
+        bindings = binders j.bindings j.next (formals_in head) given ++ j.bindings;
+        next = suc j.next;
+        cells = with_actuals j.next (formals_in head) given vals j.cells;
+        values = drop (count_given given) j.values;
+        tasks = RunCommands (commands_in head) body ∷ RunLines lines ∷ EndFrame frame j.bindings j.next j.routine ∷ ts;
+      }
+
+      -- how its frame begins
+      begun_in : (frame : Frame) → begun ≡ to_callee frame ∷ w.begun → Begun its world
+      begun_in frame past = record {
+        entry = t.entry;
+        own = refl;
+        block = t.block;
+        certified = t.certified;
+        points = refl;
+        first = to_callee frame;
+        others = w.begun;
+        since = past;
+        began = record { head = head; body = body; lines = lines; more = EndFrame frame j.bindings j.next j.routine ∷ ts; are = heads; tasks = refl };
+        back = refl;
+        values = λ x f r. (refs_false j.bindings j.next (formals_in head) given j.bindings x f r, refl);
+        rests = is_world.rests;
+        held = λ m. begins.stands.counts m ∙ ap (λ z. times (now (to_callee frame)) its.summary.need m + times_waiting world.saved z world.waiting m) begins.stands.numbered;
+      }
+
+      goes_in : (m : ℕ) → n ≡ suc m → (frame : Frame) → begun ≡ to_callee frame ∷ w.begun → EndsFit its world m frame j.bindings j.next j.routine ts → Marked (scope e blk) w b (marks ts) → SafeFor routines (KeepsTo its) m begun (to_callee frame)
+      unfolding begun_in
+      goes_in m same frame past ends k =
+          lower m (subst (λ z. m < z) (sym same) (omega arith)) t.entry t.block t.certified head body lines heads world is_world (λ x. refl) frame j.next j.routine ts ends (to_callee frame) begins refl
+          (begun_in frame past) refl refl (record { tests = refl; frames = ap (λ z. j.bindings ∷ z) k.marks.frames })
+
+    -- the call begins a frame
+    goes_on : (frame : Frame) (m : ℕ) (to : Job) → count_frames (marks to.tasks) ≡ suc (count_frames (marks ts)) → ((marked : Marked (scope e blk) w b (marks ts)) → SafeFor routines (KeepsTo (scope e blk)) m (to ∷ w.begun) to)
+        → Next routines (scope e blk) w b ts m to
+    goes_on frame m to more h k = subst (λ z. SafeFor routines (KeepsTo (scope e blk)) m z to) (sym (one_more w.begun to (count_frames (marks ts)) more)) (h k)
 
     -- what the program's form says of the callee's line
     abbrev pub Wells : Type 0
@@ -448,7 +512,7 @@ module _ (routines : List RoutineTree) (rules : RuleLists) (entries : List (Entr
 
     -- a call: into the callee's lines, which go to a frame's end that is safe
     enters_callee : (frame : Frame) (m : ℕ) → (j : Job)
-        → ((head : HeadTree) (body : LineTrees) (lines : List LineTree) → lines_after routines t.entry ≡ (head, body) ∷ lines → Safely (scope e blk) m (record j {
+        → ((head : HeadTree) (body : LineTrees) (lines : List LineTree) → lines_after routines t.entry ≡ (head, body) ∷ lines → Next routines (scope e blk) w b ts m (record j {
           routine = t.entry.routine;
           bindings = binders j.bindings j.next (formals_in head) given ++ j.bindings;
           next = suc j.next;
@@ -456,32 +520,36 @@ module _ (routines : List RoutineTree) (rules : RuleLists) (entries : List (Entr
           values = drop (count_given given) j.values;
           tasks = RunCommands (commands_in head) body ∷ RunLines lines ∷ EndFrame frame j.bindings j.next j.routine ∷ ts;
         }))
-        → (ls : List LineTree) → lines_after routines t.entry ≡ ls → Comes (Safely (scope e blk) m) (entered frame t.entry.routine given ls ts j)
-    enters_callee frame m j f [] h = refused (Safely (scope e blk) m) NotEnabled
-    enters_callee frame m j f ((head, body) ∷ lines) h = done (Safely (scope e blk) m) _ (f head body lines h)
+        → (ls : List LineTree) → lines_after routines t.entry ≡ ls → Comes (Next routines (scope e blk) w b ts m) (entered frame t.entry.routine given ls ts j)
+    enters_callee frame m j f [] h = refused (Next routines (scope e blk) w b ts m) NotEnabled
+    enters_callee frame m j f ((head, body) ∷ lines) h = done (Next routines (scope e blk) w b ts m) _ (f head body lines h)
 
     -- DO: the call, the callee's lines, and what follows
     pub do_comes : FamiliesApart rules.families → RankedOnce rules.families → Wells → how ≡ by.ByDo → ((u : State) → G u → Fits routines (scope e blk) w b slots n ts u)
-        → (j : Job) → Describes (scope e blk) w b (given_slots given slots) s (idle j) → (m : ℕ) → n ≡ suc m → Comes (Safely (scope e blk) m) (called routines NoValue (target_of routines j.routine callee) given ts j)
+        → (j : Job) → Describes (scope e blk) w b (given_slots given slots) s (idle j) → (m : ℕ) → n ≡ suc m → Comes (Next routines (scope e blk) w b ts m) (called routines NoValue (target_of routines j.routine callee) given ts j)
     do_comes apart once well by_do next j d m same =
-        subst (λ o. Comes (Safely (scope e blk) m) (called routines NoValue o given ts j)) (sym (ap (λ r. target_of routines r callee) d.stands.routine ∙ t.target))
+        subst (λ o. Comes (Next routines (scope e blk) w b ts m) (called routines NoValue o given ts j)) (sym (ap (λ r. target_of routines r callee) d.stands.routine ∙ t.target))
         (enters_callee NoValue m j (λ head body lines h.
         let q = well head body lines h in
-        goes_in apart once head body lines h q.distinct q.shares q.filled q.lent j d m same NoValue (returns apart once head body lines h q.distinct q.shares q.filled q.lent j d m same by_do next)) (lines_after routines t.entry) refl)
+        let to : Job = to_callee apart once head body lines h q.distinct q.shares q.filled q.lent j d [] NoValue in
+        goes_on NoValue m to refl (λ marked.
+        goes_in apart once head body lines h q.distinct q.shares q.filled q.lent j d (to ∷ w.begun) m same NoValue refl (returns apart once head body lines h q.distinct q.shares q.filled q.lent j d (to ∷ w.begun) m same refl marked by_do next) marked)) (lines_after routines t.entry) refl)
 
     pub do_fits : FamiliesApart rules.families → RankedOnce rules.families → Wells → how ≡ by.ByDo → ((u : State) → G u → Fits routines (scope e blk) w b slots n ts u)
         → Fits routines (scope e blk) w b (given_slots given slots) n (task.Call false callee given ∷ ts) s
     do_fits apart once well by_do next j d tasks =
-        by_step routines (KeepsTo (scope e blk)) n j (task.Call false callee given ∷ ts) tasks (plain_facts (scope e blk) j (task.Call false callee given) ts tasks refl) (λ m same free c.
-        unasked (Safely (scope e blk) m) c (called routines NoValue (target_of routines j.routine callee) given ts j) (do_comes apart once well by_do next j d m same))
+        by_step routines (scope e blk) w b n j (task.Call false callee given ∷ ts) tasks (plain_facts (scope e blk) w b j (task.Call false callee given) ts tasks refl) (λ m same free c.
+        unasked (Next routines (scope e blk) w b ts m) c (called routines NoValue (target_of routines j.routine callee) given ts j) (do_comes apart once well by_do next j d m same))
 
     -- an extrinsic function: the same, and its value
     pub value_fits : FamiliesApart rules.families → RankedOnce rules.families → Wells → how ≡ by.Extrinsic → ((u : State) → G u → FitsAny routines (scope e blk) w b slots n ts u)
         → Fits routines (scope e blk) w b (given_slots given slots) n (task.Call true callee given ∷ ts) s
     value_fits apart once well extrinsic next j d tasks =
-        by_step routines (KeepsTo (scope e blk)) n j (task.Call true callee given ∷ ts) tasks (plain_facts (scope e blk) j (task.Call true callee given) ts tasks refl) (λ m same free c.
-        unasked (Safely (scope e blk) m) c (called routines (AwaitsValue j.test) (target_of routines j.routine callee) given ts j)
-        (subst (λ o. Comes (Safely (scope e blk) m) (called routines (AwaitsValue j.test) o given ts j)) (sym (ap (λ r. target_of routines r callee) d.stands.routine ∙ t.target))
+        by_step routines (scope e blk) w b n j (task.Call true callee given ∷ ts) tasks (plain_facts (scope e blk) w b j (task.Call true callee given) ts tasks refl) (λ m same free c.
+        unasked (Next routines (scope e blk) w b ts m) c (called routines (AwaitsValue j.test) (target_of routines j.routine callee) given ts j)
+        (subst (λ o. Comes (Next routines (scope e blk) w b ts m) (called routines (AwaitsValue j.test) o given ts j)) (sym (ap (λ r. target_of routines r callee) d.stands.routine ∙ t.target))
         (enters_callee (AwaitsValue j.test) m j (λ head body lines h.
         let q = well head body lines h in
-        goes_in apart once head body lines h q.distinct q.shares q.filled q.lent j d m same (AwaitsValue j.test) (gives_back apart once head body lines h q.distinct q.shares q.filled q.lent j d m same extrinsic next)) (lines_after routines t.entry) refl)))
+        let to : Job = to_callee apart once head body lines h q.distinct q.shares q.filled q.lent j d [] (AwaitsValue j.test) in
+        goes_on (AwaitsValue j.test) m to refl (λ marked.
+        goes_in apart once head body lines h q.distinct q.shares q.filled q.lent j d (to ∷ w.begun) m same (AwaitsValue j.test) refl (gives_back apart once head body lines h q.distinct q.shares q.filled q.lent j d (to ∷ w.begun) m same refl marked extrinsic next) marked)) (lines_after routines t.entry) refl)))

@@ -3,7 +3,7 @@ use Rattle.std.proofs.Common.{◌≡◌, ℕ, zero, suc, ◌+◌, ◌<◌, Bool,
 use Rattle.std.specs.Prelude.{◌⊎◌, ◌&&◌, if◌then◌else◌, take_while, slice_get, is_none}
 use Rattle.std.specs.List.{prefix_len}
 use Rattle.std.proofs.lemmas.Bool.{cases_Bool, or_cases}
-use Rattle.mlk_syntax.specs.Trees.{RoutineTree, HeadTree, LineTrees, no_lines, line}
+use Rattle.mlk_syntax.specs.Trees.{RoutineTree, HeadTree, LineTrees, no_lines, line, LineHead}
 use Rattle.mlk_syntax.specs.Views.{lines_from}
 use Rattle.mlk_program.specs.Entries.{as_lines, formals_of, lacks_formals}
 use Rattle.mlk_text.specs.declared.code.Code.TheVariants.{HeldAtEnd, NameEscapes, CaseNotListed}
@@ -19,7 +19,7 @@ use Rattle.mlk_program.specs.declared.entry.EntryId.{EntryId}
 use Rattle.mlk_program.specs.Entries.{lines_in, lines_of, line_of_entry}
 use Rattle.mlk_cert_parts.specs.declared.block.EntryCert.{EntryCert}
 use Rattle.mlk_rules.specs.declared.rules.RuleLists.{RuleLists}
-use Rattle.mlk_machine_jobs.specs.Tasks.{Task, Job, RunLines, RunCommands, EndFrame, Frame, NoValue, AwaitsValue, HasValue}
+use Rattle.mlk_machine_jobs.specs.Tasks.{Task, Job, RunLines, RunCommands, EndFrame, Frame, NoValue, AwaitsValue, HasValue, marks}
 use Rattle.mlk_machine_jobs.specs.Choices.{doing, dropped}
 use Rattle.mlk_machine_jobs.specs.Calling.{formals_in, commands_in, lines_after}
 use Rattle.mlk_walk_state.specs.Scope.{Scope, block_at, listed}
@@ -34,17 +34,19 @@ use Rattle.mlk_walk.specs.Reports.{report}
 use Rattle.mlk_walk_laws.specs.Fewer.{ListsEachOnce}
 use Rattle.mlk_walk_laws.specs.Passing.{EachLinePasses}
 use Rattle.mlk_walk_laws.proofs.Passing.{lines_pass}
-use Rattle.mlk_soundness_machine.specs.Described.{World, Bare, IsWorld, Describes, idle}
+use Rattle.mlk_soundness_machine.specs.Described.{World, Bare, IsWorld, Describes, idle, Level, bare}
 use Rattle.mlk_soundness_machine.proofs.Worlds.{drop_law}
 use Rattle.mlk_soundness_machine.proofs.Values.{Fits}
 use Rattle.mlk_soundness_walk.specs.Ours.{AreLinesOf}
 use Rattle.mlk_soundness_walk.specs.Commands.{Gives}
-use Rattle.mlk_soundness_walk.proofs.Lines.{CommandFits, as_said}
-use Rattle.mlk_soundness_walk.proofs.Lines.{EachBlockFits, all_fit, head_fits, lines_fit}
+use Rattle.mlk_soundness_walk.proofs.Lines.{CommandFits, as_said, listed_for, listed_there, less_stands, EachBlockFits, all_fit, head_fits, lines_fit}
 use Rattle.mlk_soundness_walk.proofs.Entries.{scope, EndsFit, EntryFits, first_line, formals_same}
 use Rattle.mlk_soundness_walk.specs.Entries.{first_level}
 use Rattle.mlk_soundness_walk.specs.Laws.{AllCommands}
 use Rattle.mlk_soundness_walk.proofs.Reported.{clean_entry}
+use Rattle.mlk_soundness_machine.specs.Marked.{Begun, AreMarked}
+use Rattle.mlk_soundness_machine.specs.Listed.{IsAtStart, line_number}
+use Rattle.mlk_soundness_machine.proofs.Listing.{is_at_start}
 
 -- a frame's end that is right leaves by an exit
 pub record LeavesBy (e : LineEnd) (c : Case) : Type 0 where
@@ -159,6 +161,14 @@ module _ (routines : List RoutineTree) (rules : RuleLists) (entries : List (Entr
   gives (HasValue t) next r ts f c x among leaves stays j v more d e = f c x among leaves stays [] (HasValue t) (inl (refl, refl)) (doing (EndFrame (HasValue t) w.back next r ∷ ts) (dropped 1 j)) (one_less c j v more d e) refl
   gives (AwaitsValue t) next r ts f c x among leaves stays j v more d e = f c x among leaves stays (Bare None ∷ []) (HasValue t) (inr (t, refl, refl, refl)) (doing (EndFrame (HasValue t) w.back next r ∷ ts) j) d refl
 
+-- where an entry's frame begins, a case describes it that is listed at the entry's line
+starts : (sc : Scope) (w : World) (b : Level) (head : HeadTree) (c : Case) → is_listed (listed sc (number_of head) 0) c ≡ true → (j : Job) → Describes sc w b [] (at_rest c) (idle j)
+    → (begun : Begun sc w) → begun.first ≡ j → begun.began.head ≡ head → AreMarked w b (marks j.tasks) → IsAtStart sc.routines sc.blocks w.begun begun.first
+starts sc w b (LineHead number level at label formals cs) c h j d begun is same marked =
+    let r = listed_for (listed sc number 0) c h in
+    subst (IsAtStart sc.routines sc.blocks w.begun) (sym is)
+    (is_at_start sc w b r.0 number (listed_there r.0 (listed sc number 0) r.1) j marked begun (less_stands sc w b c r.0 r.2 (bare (idle j)) d.stands) (ap line_number same))
+
 -- an entry is safe for so many steps where its commands fit
 module _ (routines : List RoutineTree) (rules : RuleLists) (blocks : List EntryCert) (clean : report routines rules blocks ≡ []) where
   abbrev entries : List (EntryId × EntryCert) × List EntryId
@@ -172,7 +182,7 @@ module _ (routines : List RoutineTree) (rules : RuleLists) (blocks : List EntryC
       → p.block ≡ block_with block (walk_lines (sc_of e blk) OfBlock block).ends → AreLinesOf (sc_of e blk) 2 false block → EachLinePasses (sc_of e blk) OfBlock (walk_lines (sc_of e blk) OfBlock block).ends block
       → CommandFits routines w (first_level w) p block m)
       → EntryFits routines rules entries m
-  entry_fits m once leveled each e blk at head body lines heads w world formals frame next r ts ends_fit j d tasks =
+  entry_fits m once leveled each e blk at head body lines heads w world formals frame next r ts ends_fit j d tasks begun is same marks =
       let c = clean_entry routines rules blocks clean e blk at in
       let past = behind lines in
       let pl = placed routines rules entries e head body lines heads past in
@@ -202,6 +212,7 @@ module _ (routines : List RoutineTree) (rules : RuleLists) (blocks : List EntryC
       (goes_past routines rules entries lines past (head_after routines e) pl.after) at_end true give (lines_from (take_while lacks_formals lines)) fits.1 deep.2 passes.2 f g)
       (begin_case blk.summary (formals_in head)) in_list j d
       (tasks ∙ ap (λ z. RunCommands (commands_in head) body ∷ RunLines z ∷ EndFrame frame w.back next r ∷ ts) (past.are ∙ ap (λ z. z ++ past.tail) (sym (listed_back (take_while lacks_formals lines)))))
+      (record { marks = marks; begun = begun; starts = starts (sc_of e blk) w (first_level w) head (begin_case blk.summary (formals_in head)) in_list j d begun is same marks })
 
   -- calls close by the number of steps
   module _ (once : (e : EntryId) (blk : EntryCert) → block_at entries.0 e ≡ Some blk → ListsEachOnce (sc_of e blk)) (leveled : (e : EntryId) (blk : EntryCert) → AreLinesOf (sc_of e blk) 1 true (lines_from (lines_of routines e)))

@@ -35,3 +35,4 @@ pub mod Wells
 pub mod Closed
 pub mod Starting
 pub mod Listed
+pub mod OneJob

@@ -33,6 +33,11 @@ use Rattle.mlk_walk_lines.specs.Loops.{commands, one_command}
 use Rattle.mlk_walk_lines.specs.Endings.{Around, OfBlock, LineEnd, number_of, into_line, go_on, case_end, quit_end, state_end, level_end}
 use Rattle.mlk_walk_lines.specs.Lines.{next_head, block_with, walk_lines}
 use Rattle.mlk_walk_laws.specs.Fewer.{Among, ListsEachOnce}
+use Rattle.mlk_machine_locks.specs.Lists as places
+use Rattle.mlk_soundness_machine.specs.Safe.{Keeps}
+use Rattle.mlk_soundness_machine.proofs.Facts.{lines_facts, commands_facts}
+use Rattle.mlk_soundness_machine.proofs.Listing.{Opens, opens_rest, opens_line}
+use Rattle.mlk_soundness_machine.proofs.Going.{step}
 use Rattle.mlk_walk_laws.specs.Passing.{IsRight, PassesFromEach, EachLinePasses}
 use Rattle.mlk_walk_laws.proofs.Rounds.{one_keeps, commands_keep}
 use Rattle.mlk_soundness_machine.proofs.Reading.{differs, name_is, name_self}
@@ -90,7 +95,7 @@ module _ (sc : Scope) (w : World) (b : Level) (c d : Case) (i : Included c d) wh
   kept_in : (x : List ℕ) → is_among d.kept x ≡ true → is_among c.kept x ≡ true
   kept_in x h = kept_each d.kept c.kept x i.kept h
 
-  less_stands : (j : Job) → Stands sc w b c j → Stands sc w b d j
+  pub less_stands : (j : Job) → Stands sc w b c j → Stands sc w b d j
   less_stands j k =
       let first : Stands sc w b (record { test = d.test; saved = d.saved; held = c.held; own = c.own; kept = d.kept }) j = record {
         test = test_less c.test d.test j.test i.test k.test;
@@ -134,6 +139,11 @@ listed_for (d ∷ cases) c h =
     (λ (u : list_any (includes c) cases ≡ true). let r = listed_for cases c u in (r.0, inr r.1, r.2))
     (or_cases (includes c d) (list_any (includes c) cases) h)
 
+-- among the cases, as the machine's crate says it
+pub listed_there : (c : Case) (cases : List Case) → Among c cases → places.Among c cases
+listed_there c [] i = i
+listed_there c (d ∷ cases) i = ⊎_elim (λ e. inl e) (λ k. inr (listed_there c cases k)) i
+
 module _ (routines : List RoutineTree) (w : World) (b : Level) where
   abbrev Fit : Spot → ℕ → List Task → State → Type 0
   Fit p n ts s = Fits routines p.scope w b [] n ts s
@@ -154,7 +164,7 @@ module _ (routines : List RoutineTree) (w : World) (b : Level) where
   -- the commands of a line from here on
   abbrev pub RestFits : Spot → LineTrees → CommandTrees → ℕ → Type 1
   RestFits p block cs n =
-      (may : Bool) → AreOf p.scope may cs → (ts : List Task) (s : State) (A : State → Type 0) (S : Case → Type 0) (Q : Quit → Type 0) → Leads (commands p cs) s A S Q
+      (may : Bool) → AreOf p.scope may cs → (ts : List Task) (s : State) (A : State → Type 0) (S : Case → Type 0) (Q : Quit → Type 0) → Opens p.scope p.line cs ts s.case → Leads (commands p cs) s A S Q
       → ((u : State) → A u → Fit p n ts u) → ((d : Case) → S d → Fit p n (skipped ts) (at_rest d)) → ((q : Quit) → Q q → Fit p n (quit ts) (at_rest q.case))
       → (may ≡ true → (q : Quit) → Q q → Gives p.scope n (to_end ts) (at_rest q.case)) → Fit p n (RunCommands cs block ∷ ts) s
 
@@ -168,22 +178,22 @@ module _ (routines : List RoutineTree) (w : World) (b : Level) where
   }
 
   module _ (p : Spot) (block : LineTrees) (n : ℕ) (once : ListsEachOnce p.scope) (each : CommandFits p block n) (S : Case → Type 0) (Q : Quit → Type 0) (may : Bool) where
-    opened : (cs : CommandTrees) (ts : List Task) (s : State) → Fit p n (next_command cs block ts) s → Fit p n (RunCommands cs block ∷ ts) s
-    opened cs ts s k j d e =
-        plain_step routines p.scope w b [] n ts s (RunCommands cs block) refl j e (λ free c.
+    opened : (cs : CommandTrees) (ts : List Task) (s : State) → Opens p.scope p.line cs ts s.case → Fit p n (next_command cs block ts) s → Fit p n (RunCommands cs block ∷ ts) s
+    opened cs ts s o k j d e =
+        step routines p.scope w b n j (RunCommands cs block) ts e refl (commands_facts p.scope w b j cs block ts e p.line s.case o d.stands) (λ free c.
         unasked (Safe routines p.scope w b n) c _ (done (Safe routines p.scope w b n) (doing (next_command cs block ts) j) (k (doing (next_command cs block ts) j) d refl)))
 
-    pub commands_fit : (cs : CommandTrees) → AreOf p.scope may cs → (ts : List Task) (s : State) (A : State → Type 0) → Leads (commands p cs) s A S Q
+    pub commands_fit : (cs : CommandTrees) → AreOf p.scope may cs → (ts : List Task) (s : State) (A : State → Type 0) → Opens p.scope p.line cs ts s.case → Leads (commands p cs) s A S Q
         → ((u : State) → A u → Fit p n ts u) → ((d : Case) → S d → Fit p n (skipped ts) (at_rest d)) → ((q : Quit) → Q q → Fit p n (quit ts) (at_rest q.case))
         → (may ≡ true → (q : Quit) → Q q → Gives p.scope n (to_end ts) (at_rest q.case)) → Fit p n (RunCommands cs block ∷ ts) s
-    commands_fit finished of ts s A l go skip stop give = opened finished ts s (go s (leads_stay A S Q s l))
-    commands_fit (then_command c rest) of ts s A l go skip stop give =
-        opened (then_command c rest) ts s
+    commands_fit finished of ts s A o l go skip stop give = opened finished ts s o (go s (leads_stay A S Q s l))
+    commands_fit (then_command c rest) of ts s A o l go skip stop give =
+        opened (then_command c rest) ts s o
         (each.one may c (first_of p.scope may c rest of) (RunCommands rest block ∷ ts) s (λ u. Leads (commands p rest) u A S Q) S Q
         (leads_both A S Q (λ v. one_command p v c) (commands p rest) (one_keeps p c) (commands_keep p once rest) s l)
-        (λ u m. commands_fit rest (rest_of p.scope may c rest of) ts u A m go skip stop give) skip stop give)
-    commands_fit (then_for column index control rest) of ts s A l go skip stop give =
-        opened (then_for column index control rest) ts s (each.loop may column index control rest of ts s A S Q l go skip stop)
+        (λ u m. commands_fit rest (rest_of p.scope may c rest of) ts u A (opens_rest p.scope p.line (then_command c rest) rest refl ts s.case u.case o) m go skip stop give) skip stop give)
+    commands_fit (then_for column index control rest) of ts s A o l go skip stop give =
+        opened (then_for column index control rest) ts s o (each.loop may column index control rest of ts s A S Q l go skip stop)
 
 -- on each line of a level, commands are safe
 module _ (routines : List RoutineTree) (sc : Scope) (w : World) (b : Level) (n : ℕ) where
@@ -256,22 +266,29 @@ module _ (routines : List RoutineTree) (sc : Scope) (w : World) (b : Level) (aro
       let Q : Quit → Type 0 = λ q. IsRight ends (quit_end e q) in
       let l : Leads (commands p cs) (at_rest r.0) A S Q = record { clean = g.clean; going = g.going; skips = g.skips; quits = g.quits } in
       let rest : List Task = RunLines (as_lines more ++ tail) ∷ E ∷ ts in
-      commands_fit routines w b p inner n once (fits p refl deep.0 refl) S Q may cs deep.1 rest (at_rest r.0) A l
+      commands_fit routines w b p inner n once (fits p refl deep.0 refl) S Q may cs deep.1 rest (at_rest r.0) A (opens_line sc number cs (RunLines (as_lines more ++ tail)) (E ∷ ts) r.0 refl) l
       (λ u m k f t. later u.case (enters_next e refl deep.0 refl more refl u.case m) k (at_rest_law sc w b u (idle k) f) t)
       (λ x m. later x (enters_next e refl deep.0 refl more refl x m))
       (λ q m. subst (λ z. Goes z (at_rest q.case)) (sym (to_the_end (as_lines more ++ tail))) (end e q.column q.case refl deep.0 m))
       (λ y q m. subst (λ z. stated.Gives routines w b sc n z (at_rest q.case)) (sym (end_is (as_lines more ++ tail))) (give y e q.column q.case refl deep.0 m))
       j (less_law sc w b c r.0 r.2 (at_rest c) refl (idle j) d) tasks
 
+  -- where the job goes on to a line, a listed case describes it
+  at_line : (head : HeadTree) (inner : LineTrees) (lines : List task.LineTree) (c : Case) → is_listed (listed sc (number_of head) 0) c ≡ true → (j : Job) → Describes sc w b [] (at_rest c) (idle j)
+      → j.tasks ≡ RunLines ((head, inner) ∷ lines) ∷ E ∷ ts → Keeps sc w b j
+  at_line (LineHead number level at label formals cs) inner lines c h j d tasks =
+      let r = listed_for (listed sc number 0) c h in
+      lines_facts sc w b j (LineHead number level at label formals cs, inner) lines (E ∷ ts) tasks r.0 (listed_there r.0 (listed sc number 0) r.1) (less_stands sc w b c r.0 r.2 (bare (idle j)) d.stands)
+
   pub lines_fit : (lines : LineTrees) → EachBlockFits routines sc w b n lines → AreLinesOf sc b.level may lines → EachLinePasses sc around ends lines → (c : Case) → Enters lines c → Goes (RunLines (as_lines lines ++ tail) ∷ E ∷ ts) (at_rest c)
   lines_fit no_lines fits leveled passes c enters j d tasks =
       plain_step routines sc w b [] n (E ∷ ts) (at_rest c) (RunLines []) refl j (tasks ∙ ap (λ z. RunLines z ∷ E ∷ ts) enters.0) (λ free x.
       unasked (Safe routines sc w b n) x _ (done (Safe routines sc w b n) (doing (E ∷ ts) j) (end enters.1 enters.2 c enters.3 enters.4 enters.5 (doing (E ∷ ts) j) d refl)))
   lines_fit (line (LineHead number level at label (Some formals) cs) inner more) fits leveled passes c h j d tasks =
-      plain_step routines sc w b [] n (E ∷ ts) (at_rest c) (RunLines (as_lines (line (LineHead number level at label (Some formals) cs) inner more) ++ tail)) refl j tasks (λ free x.
+      step routines sc w b n j (RunLines (as_lines (line (LineHead number level at label (Some formals) cs) inner more) ++ tail)) (E ∷ ts) tasks refl (at_line (LineHead number level at label (Some formals) cs) inner (as_lines more ++ tail) c h j d tasks) (λ free x.
       unasked (Safe routines sc w b n) x _ (refused (Safe routines sc w b n) _))
   lines_fit (line (LineHead number level at label None cs) inner more) fits leveled passes c h j d tasks =
       let i : Job = doing (RunCommands cs inner ∷ RunLines (as_lines more ++ tail) ∷ E ∷ ts) j in
-      plain_step routines sc w b [] n (E ∷ ts) (at_rest c) (RunLines (as_lines (line (LineHead number level at label None cs) inner more) ++ tail)) refl j tasks (λ free x.
+      step routines sc w b n j (RunLines (as_lines (line (LineHead number level at label None cs) inner more) ++ tail)) (E ∷ ts) tasks refl (at_line (LineHead number level at label None cs) inner (as_lines more ++ tail) c h j d tasks) (λ free x.
       unasked (Safe routines sc w b n) x _ (done (Safe routines sc w b n) i
       (head_fits (LineHead number level at label None cs) inner more fits.0 leveled.0 passes.0 (λ f m. lines_fit more fits.1 leveled.2 passes.2 f m) c h i d refl)))

@@ -46,10 +46,10 @@ use Rattle.mlk_walk_laws.proofs.Rows.{each_keeps, both}
 use Rattle.mlk_walk_laws.proofs.Walks.{variable_keeps, names_keep, if_keeps, lock_keeps}
 use Rattle.mlk_soundness_machine.specs.Described.{some_local, World, Level, Slot, Kept, IsWorld, idle, Describes}
 use Rattle.mlk_soundness_machine.specs.Reads.{now}
-use Rattle.mlk_soundness_machine.specs.Safe.{KeepsTo}
 use Rattle.mlk_soundness_machine.proofs.Reading.{local_back}
 use Rattle.mlk_soundness_machine.proofs.Stack.{kepts}
-use Rattle.mlk_soundness_machine.proofs.Steps.{Comes, done, refused, unasked, of_truth, step}
+use Rattle.mlk_soundness_machine.proofs.Steps.{Comes, done, refused, unasked, of_truth}
+use Rattle.mlk_soundness_machine.proofs.Going.{step}
 use Rattle.mlk_soundness_machine.proofs.Touches.{forget_law, last_stand}
 use Rattle.mlk_soundness_machine.proofs.Values.{Safe, Fits, FitsValue, plain_step}
 use Rattle.mlk_soundness_walk.specs.Ours.{AreOurs}
@@ -143,8 +143,8 @@ module _ (routines : List RoutineTree) (p : Spot) (w : World) (b : Level) (world
         → (j : Job) → Describes p.scope w b [] s (idle j) → AreNamed (now j) j.bindings terms names → j.tasks ≡ task.Claim names timed ∷ ts → IsSafe j
     claim_fits timed trees terms names s h j d named tasks =
         let r = claim_goes p A S Q timed trees terms s h in
-        step routines (KeepsTo p.scope) n j (task.Claim names timed ∷ ts) tasks
-        (claim_facts p.scope j names timed ts tasks
+        step routines p.scope w b n j (task.Claim names timed) ts tasks refl
+        (claim_facts p.scope w b j names timed ts tasks
         (λ e m i. all_in_order p.scope w b [] s j d world apart ranked 0 terms names named.named (subst (λ x. claim_refused p.scope x s.case.held terms ≡ None) e r.0) m i))
         (λ free c. by timed r.1 free c)
       where

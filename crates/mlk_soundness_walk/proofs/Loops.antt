@@ -29,7 +29,8 @@ use Rattle.mlk_soundness_walk.specs.Ours.{AreOurs, AreOf}
 use Rattle.mlk_soundness_walk.proofs.Ours.{ours_left, ours_right}
 use Rattle.mlk_soundness_walk.specs.Commands.{alone}
 use Rattle.mlk_soundness_walk.proofs.Alone.{Leads}
-use Rattle.mlk_soundness_walk.proofs.Lines.{RestFits}
+use Rattle.mlk_soundness_walk.proofs.Lines.{RestFits, listed_there}
+use Rattle.mlk_soundness_machine.proofs.Listing.{opens_round}
 use Rattle.mlk_soundness_walk.proofs.Parameters.{Some_case, Some_quit, parameters_fit}
 
 module _ (p : Spot) (column index : ℕ) (control : Option ControlTree) (rest : CommandTrees) (once : ListsEachOnce p.scope) (s : State) (A : State → Type 0) (S : Case → Type 0) (Q : Quit → Type 0)
@@ -116,9 +117,9 @@ module _ (routines : List RoutineTree) (p : Spot) (w : World) (b : Level) (world
       let ends = ended_in (inner p column index control rest once s A S Q l) in
       let quits = quit_in (inner p column index control rest once s A S Q l) in
       parameters_fit routines (at_word p column) w b world c name (cs p column index control rest once s A S Q l) ends (ended_apart p column index control rest once s A S Q l) rest block ts n (evaluate column) quits
-      (λ k lt d i K is again out.
+      (λ k lt d i K is runs again out.
       inside k lt false (record { at_end = of.at_end; reads = of.reads; ours = ours_right p.scope (flat_map in_parameter qs) (in_commands rest) of.ours }) (K ∷ ts) (at_rest d) (λ u. Among u ends) (λ x. Among (at_rest x) ends) (λ q. Among (at_rest q.case) quits)
-      (round_leads p column index control rest once s A S Q l d i) again
+      (opens_round p.scope p.line index rest K ts d runs (listed_there d (cs p column index control rest once s A S Q l) i)) (round_leads p column index control rest once s A S Q l d i) again
       (λ x h. subst (λ z. Fits routines p.scope w b [] k z (at_rest x)) (sym (round_skips K ts is)) (again (at_rest x) h))
       (λ q h. subst (λ z. Fits routines p.scope w b [] k z (at_rest q.case)) (sym (round_quits K ts is)) (out (at_rest q.case) h))
       (λ y. absurd (false≢true y)))

@@ -1,6 +1,6 @@
 -- DO of a line's block: it begins in a case that is listed at its first line, and ends in one of its ends.
-use Rattle.std.proofs.Common.{◌≡◌, ℕ, suc, ◌+◌, ◌<◌, Bool, true, false, List, [], ◌∷◌, ◌++◌, map, Option, Some, None, refl, sym, ap, subst, ⊎_elim, inl, inr, append-nil}
-use Rattle.std.specs.Prelude.{◌⊎◌, ◌||◌, ◌&&◌, ◌==◌, if◌then◌else◌}
+use Rattle.std.proofs.Common.{◌≡◌, ℕ, suc, ◌<◌, Bool, true, false, List, [], ◌∷◌, ◌++◌, map, Option, Some, None, refl, sym, ap, subst, ⊎_elim, inl, inr, append-nil}
+use Rattle.std.specs.Prelude.{◌||◌, ◌&&◌, ◌==◌, if◌then◌else◌}
 use Rattle.std.specs.List.{list_any, AllZip}
 use Rattle.std.proofs.lemmas.Bool.{cases_Bool, false≢true}
 use Rattle.mlk_syntax.specs.Trees.{RoutineTree, HeadTree, LineTrees, line}
@@ -11,7 +11,7 @@ use Rattle.mlk_cert_parts.specs.declared.case.Test.{Test}
 use Rattle.mlk_cert_parts.specs.declared.names.Own.{Own}
 use Rattle.mlk_walk_exprs.specs.declared.spot.Block.{Block}
 use Rattle.mlk_machine_jobs.specs.Tasks as task
-use Rattle.mlk_machine_jobs.specs.Tasks.{Task, Job, RunLines, EndBlock}
+use Rattle.mlk_machine_jobs.specs.Tasks.{Task, Job, RunLines, EndBlock, BlockMark, marks}
 use Rattle.mlk_machine_jobs.specs.Choices.{doing}
 use Rattle.mlk_machine_jobs.specs.Locking.{tested}
 use Rattle.mlk_machine_jobs.specs.Calling.{back_to}
@@ -35,7 +35,10 @@ use Rattle.mlk_soundness_machine.specs.Described.{some_local, World, Level, IsWo
 use Rattle.mlk_soundness_machine.proofs.Sharing.{SharesByOwn}
 use Rattle.mlk_soundness_machine.proofs.Reading.{differs}
 use Rattle.mlk_soundness_machine.proofs.Steps.{done, unasked}
-use Rattle.mlk_soundness_machine.proofs.Values.{Safe, Fits, plain_step}
+use Rattle.mlk_soundness_machine.proofs.Going.{Next, by_step, into_level, one_fewer}
+use Rattle.mlk_soundness_machine.proofs.Facts.{plain_facts}
+use Rattle.mlk_soundness_machine.specs.Marked.{Marked}
+use Rattle.mlk_soundness_machine.proofs.Values.{Safe, Fits}
 use Rattle.mlk_soundness_machine.proofs.Blocks.{inner, begin_stands, end_stands}
 use Rattle.mlk_soundness_walk.specs.Ours.{AreLinesOf}
 use Rattle.mlk_soundness_walk.proofs.Alone.{Leads}
@@ -85,23 +88,29 @@ module _ (routines : List RoutineTree) (p : Spot) (w : World) (b : Level) (world
       abbrev E : Task
       E = EndBlock j.bindings j.next j.test
 
-      leaves : (e : LineEnd) → e.level ≡ suc b.level → (column : ℕ) (f : Case) → (o : Option Test) → last_saved f.saved ≡ o → IsRight ends (block_end e column f o) → Fits routines p.scope w level [] n (E ∷ ts) (at_rest f)
-      leaves e deep column f None last right i given tasks = absurd (saved_some f.saved b.tests j.test given.stands.saved last)
-      leaves e deep column f (Some t) last right i given tasks = by (list_any (escapes_block e.level f) f.own) refl right
+      leaves : Marked p.scope w b (marks ts) → (e : LineEnd) → e.level ≡ suc b.level → (column : ℕ) (f : Case) → (o : Option Test) → last_saved f.saved ≡ o → IsRight ends (block_end e column f o) → Fits routines p.scope w level [] n (E ∷ ts) (at_rest f)
+      leaves marked e deep column f None last right i given tasks = absurd (saved_some f.saved b.tests j.test given.stands.saved last)
+      leaves marked e deep column f (Some t) last right i given tasks = by (list_any (escapes_block e.level f) f.own) refl right
         where
           by : (x : Bool) → list_any (escapes_block e.level f) f.own ≡ x → IsRight ends (if x then ending.Faulty e.line column NameEscapes else ending.Leaves (ending.restored e.level t f)) → Safe routines p.scope w level n i
           by true h r = absurd r
           by false h r =
               let esc : list_any (λ (o : Own). (o.level == suc b.level) && mention (o.names ∷ []) f.held) f.own ≡ false = subst (λ z. list_any (escapes_block z f) f.own ≡ false) deep h in
               let m : Among (ending.restored (suc b.level) t f) ends = subst (λ z. Among (ending.restored z t f) ends) deep r in
-              plain_step routines p.scope w level [] n ts (at_rest f) E refl i tasks (λ free c.
-              unasked (Safe routines p.scope w level n) c _ (done (Safe routines p.scope w level n) (doing ts (tested j.test (back_to j.bindings j.next i)))
+              by_step routines p.scope w level n i (E ∷ ts) tasks (plain_facts p.scope w level i E ts tasks refl) (λ m' one_less free c.
+              unasked (Next routines p.scope w level (E ∷ ts) m') c _ (done (Next routines p.scope w level (E ∷ ts) m') (doing ts (tested j.test (back_to j.bindings j.next i)))
+              (into_level routines p.scope w level b (E ∷ ts) ts m' (doing ts (tested j.test (back_to j.bindings j.next i))) refl refl (λ inside. marked) (λ inside.
+              one_fewer routines p.scope w b n m' one_less (doing ts (tested j.test (back_to j.bindings j.next i)))
               (next (ending.restored (suc b.level) t f) m (doing ts (tested j.test (back_to j.bindings j.next i)))
               (record {
                 stands = end_stands p.scope w b s.case j d.stands world pos shares f i given.stands t last esc;
                 captured_sole = λ x q. differs (some_local x []) q (none_local x);
                 values = given.values;
-              }) refl)))
+              }) refl)))))
+
+      -- the block's mark is the innermost
+      marked_in : Marked p.scope w b (marks ts) → Marked p.scope w level (BlockMark j.bindings j.next j.test ∷ marks ts)
+      marked_in k = record { marks = record { tests = ap (λ z. z ++ j.test ∷ []) k.marks.tests; frames = k.marks.frames }; begun = k.begun; starts = k.starts }
 
       pub enters_block : (head : HeadTree) (inner_block more : LineTrees) → block ≡ line head inner_block more → is_listed (listed p.scope (number_of head) 0) (entering s.case) ≡ true
           → j.tasks ≡ task.Block block ∷ ts → Safe routines p.scope w b n j
@@ -111,10 +120,13 @@ module _ (routines : List RoutineTree) (p : Spot) (w : World) (b : Level) (world
             captured_sole = λ x q. differs (some_local x []) q (none_local x);
             values = (at_rest_law p.scope w b s (idle j) d).values;
           } in
-          plain_step routines p.scope w b [] n ts s (task.Block block) refl j tasks (λ free c.
-          unasked (Safe routines p.scope w b n) c _ (done (Safe routines p.scope w b n) (doing (RunLines (as_lines block) ∷ E ∷ ts) j)
-          (lines_fit routines p.scope w level OfBlock ends once n E refl ts [] (inl (refl, refl)) (λ e column f same deep right. leaves e deep column f (last_saved f.saved) refl right)
-          false (λ y. absurd (false≢true y)) block (each level refl) leveled passes (entering s.case) (subst (λ z. Enters routines p.scope w level OfBlock ends once n E refl ts [] (inl (refl, refl)) (λ e column f same deep right. leaves e deep column f (last_saved f.saved) refl right) false (λ y. absurd (false≢true y)) z (entering s.case)) (sym is) in_list) (doing (RunLines (as_lines block) ∷ E ∷ ts) j) here (ap (λ z. RunLines z ∷ E ∷ ts) (sym (append-nil (as_lines block)))))))
+          let to : Job = doing (RunLines (as_lines block) ∷ E ∷ ts) j in
+          by_step routines p.scope w b n j (task.Block block ∷ ts) tasks (plain_facts p.scope w b j (task.Block block) ts tasks refl) (λ m one_less free c.
+          unasked (Next routines p.scope w b (task.Block block ∷ ts) m) c _ (done (Next routines p.scope w b (task.Block block ∷ ts) m) to
+          (into_level routines p.scope w b level (task.Block block ∷ ts) (RunLines (as_lines block) ∷ E ∷ ts) m to refl refl marked_in (λ marked.
+          one_fewer routines p.scope w level n m one_less to
+          (lines_fit routines p.scope w level OfBlock ends once n E refl ts [] (inl (refl, refl)) (λ e column f same deep right. leaves marked e deep column f (last_saved f.saved) refl right)
+          false (λ y. absurd (false≢true y)) block (each level refl) leveled passes (entering s.case) (subst (λ z. Enters routines p.scope w level OfBlock ends once n E refl ts [] (inl (refl, refl)) (λ e column f same deep right. leaves marked e deep column f (last_saved f.saved) refl right) false (λ y. absurd (false≢true y)) z (entering s.case)) (sym is) in_list) (doing (RunLines (as_lines block) ∷ E ∷ ts) j) here (ap (λ z. RunLines z ∷ E ∷ ts) (sym (append-nil (as_lines block)))))))))
 
   -- DO of a block
   pub block_fits : (head : HeadTree) (inside more : LineTrees) (ts : List Task) → Inside (suc b.level) (line head inside more) → AreLinesOf p.scope (suc b.level) false (line head inside more)

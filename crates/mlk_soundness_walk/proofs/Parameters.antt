@@ -1,6 +1,6 @@
 -- FOR with parameters: a value, a start and a step, and these with a limit.
-use Rattle.std.proofs.Common.{◌≡◌, ◌≤◌, ℕ, zero, suc, Bool, true, false, List, [], ◌∷◌, ◌++◌, drop, reverse, None, Ok, refl, sym, ap, ◌∙◌, subst, arith, ⊎_elim, inl}
-use Rattle.std.specs.Prelude.{◌⊎◌, if◌then◌else◌, flat_map}
+use Rattle.std.proofs.Common.{◌≡◌, ◌≤◌, ℕ, zero, suc, Bool, true, false, List, [], ◌∷◌, ◌++◌, drop, reverse, Some, None, Ok, refl, sym, ap, ◌∙◌, subst, arith, ⊎_elim, inl}
+use Rattle.std.specs.Prelude.{if◌then◌else◌, flat_map}
 use Rattle.std.proofs.lemmas.Bool.{cases_Bool}
 use Rattle.mlk_text.specs.declared.code.Code.TheVariants.{CaseNotListed}
 use Rattle.mlk_syntax.specs.ExprTrees.{Tree}
@@ -29,10 +29,11 @@ use Rattle.mlk_walk_laws.proofs.Counts.{joined_clean, joined_same}
 use Rattle.mlk_walk_laws.proofs.Walks.{value_keeps}
 use Rattle.mlk_walk_laws.proofs.Rounds.{round_clean, round_same, parameter_keeps, parameters_keep}
 use Rattle.mlk_soundness_machine.specs.Reads.{now}
+use Rattle.mlk_soundness_machine.specs.Listed.{round_of}
 use Rattle.mlk_soundness_machine.specs.Described.{World, Level, Slot, Bare, IsWorld, idle, Describes}
-use Rattle.mlk_soundness_machine.specs.Safe.{SafeFor, KeepsTo}
 use Rattle.mlk_soundness_machine.proofs.Worlds.{drop_law}
-use Rattle.mlk_soundness_machine.proofs.Steps.{Comes, done, unasked, of_truth, down, less}
+use Rattle.mlk_soundness_machine.proofs.Steps.{Comes, done, unasked, of_truth}
+use Rattle.mlk_soundness_machine.proofs.Going.{down, less}
 use Rattle.mlk_soundness_machine.proofs.Facts.{plain_facts}
 use Rattle.mlk_soundness_machine.proofs.Changes.{Allowed, store_any, store_last}
 use Rattle.mlk_soundness_machine.proofs.Unused.{first_value}
@@ -103,63 +104,63 @@ module _ (routines : List RoutineTree) (p : Spot) (w : World) (b : Level) (world
       (r.0, begun p cases (changed_state (Only name ∷ []) u) (leads_each Some_state Some_case Some_quit (begin_round p cases) (changed_state (Only name ∷ []) u) r.1))
 
   module _ (quits : List State)
-      (round : (m : ℕ) → m ≤ n → (c : Case) → Among c cases → (K : Task) → is_round K ≡ true → ((u : State) → Among u ended → At m (K ∷ ts) u) → ((u : State) → Among u quits → At m ts u)
+      (round : (m : ℕ) → m ≤ n → (c : Case) → Among c cases → (K : Task) → is_round K ≡ true → round_of K ≡ Some rest → ((u : State) → Among u ended → At m (K ∷ ts) u) → ((u : State) → Among u quits → At m ts u)
       → At m (RunCommands rest block ∷ K ∷ ts) (at_rest c)) where
     fewer : (m : ℕ) (us : List Task) (s : State) → At (suc m) us s → At m us s
-    fewer m us s f j d e = less routines (KeepsTo p.scope) m j (f j d e)
+    fewer m us s f j d e = less routines p.scope w b m j (f j d e)
 
     -- a round, from a case that says more than a listed one
-    enter : (m : ℕ) → m ≤ n → (K : Task) → is_round K ≡ true → ((u : State) → Among u ended → At m (K ∷ ts) u) → ((u : State) → Among u quits → At m ts u)
+    enter : (m : ℕ) → m ≤ n → (K : Task) → is_round K ≡ true → round_of K ≡ Some rest → ((u : State) → Among u ended → At m (K ∷ ts) u) → ((u : State) → Among u quits → At m ts u)
         → (u : State) → is_listed cases u.case ≡ true → At m (RunCommands rest block ∷ K ∷ ts) u
-    enter m le K is go out u h j d e =
+    enter m le K is runs go out u h j d e =
         let r = listed_for cases u.case h in
-        round m le r.0 r.1 K is go out j (less_law p.scope w b u.case r.0 r.2 u refl (idle j) d) e
+        round m le r.0 r.1 K is runs go out j (less_law p.scope w b u.case r.0 r.2 u refl (idle j) d) e
 
     abbrev Out : ℕ → Type 0
     Out m = (u : State) → Among u quits → At m ts u
 
     -- each further value, without a limit and with one
     next_fits : ((u : State) → Among u ended → Leads again u Some_state Some_case Some_quit) → (m : ℕ) → m ≤ n → Out m → (u : State) → Among u ended → At m (NextValue name rest block ∷ ts) u
-    next_fits l zero le out u i j d e = plain_facts p.scope j (NextValue name rest block) ts e refl
+    next_fits l zero le out u i j d e = plain_facts p.scope w b j (NextValue name rest block) ts e refl
     next_fits l (suc m) le out u i j d e =
         let le' : m ≤ n = omega (arith, le) in
         let out' : Out m = (λ v x. fewer m ts v (out v x)) in
         let a = starts u (l u i) in
         let to : List Task = task.StoreAny name ∷ RunCommands rest block ∷ NextValue name rest block ∷ ts in
-        down routines (KeepsTo p.scope) m j (NextValue name rest block ∷ ts) e (plain_facts p.scope j (NextValue name rest block) ts e refl) (λ free c.
-        unasked (SafeFor routines (KeepsTo p.scope) m) c _ (done (SafeFor routines (KeepsTo p.scope) m) (doing to j)
+        down routines p.scope w b m j (NextValue name rest block) ts e refl (plain_facts p.scope w b j (NextValue name rest block) ts e refl) (λ free c.
+        unasked (Safe routines p.scope w b m) c _ (done (Safe routines p.scope w b m) (doing to j)
         (store_any routines p.scope w b world [] m (RunCommands rest block ∷ NextValue name rest block ∷ ts) u name a.0
-        (enter m le' (NextValue name rest block) refl (λ v x. next_fits l m le' out' v x) out' (changed_state (Only name ∷ []) u) a.1) (doing to j) d refl)))
+        (enter m le' (NextValue name rest block) refl refl (λ v x. next_fits l m le' out' v x) out' (changed_state (Only name ∷ []) u) a.1) (doing to j) d refl)))
 
     later_fits : (qs : List ParameterTree) → ((u : State) → Among u ended → Leads again u Some_state Some_case Some_quit)
         → (m : ℕ) → m ≤ n → ((k : ℕ) → k ≤ m → (u : State) → Among u ended → At k (Parameters name qs rest block ∷ ts) u) → Out m → (u : State) → Among u ended → At m (LaterRound name qs rest block ∷ ts) u
-    later_fits qs l zero le more out u i j d e = plain_facts p.scope j (LaterRound name qs rest block) ts e refl
+    later_fits qs l zero le more out u i j d e = plain_facts p.scope w b j (LaterRound name qs rest block) ts e refl
     later_fits qs l (suc m) le more out u i j d e =
         let le' : m ≤ n = omega (arith, le) in
         let out' : Out m = (λ v x. fewer m ts v (out v x)) in
         let more' : (k : ℕ) → k ≤ m → (v : State) → Among v ended → At k (Parameters name qs rest block ∷ ts) v = (λ k lt. more k (omega (arith, lt))) in
         let a = starts u (l u i) in
         let deeper : At m (RunCommands rest block ∷ LaterRound name qs rest block ∷ ts) (changed_state (Only name ∷ []) u) =
-        (enter m le' (LaterRound name qs rest block) refl (λ v x. later_fits qs l m le' more' out' v x) out' (changed_state (Only name ∷ []) u) a.1) in
-        down routines (KeepsTo p.scope) m j (LaterRound name qs rest block ∷ ts) e (plain_facts p.scope j (LaterRound name qs rest block) ts e refl) (λ free c.
-        of_truth (SafeFor routines (KeepsTo p.scope) m) c (λ t. Ok (doing (later_round name qs rest block t ++ ts) j)) (way a.0 deeper (more' m (omega arith) u i)))
+        (enter m le' (LaterRound name qs rest block) refl refl (λ v x. later_fits qs l m le' more' out' v x) out' (changed_state (Only name ∷ []) u) a.1) in
+        down routines p.scope w b m j (LaterRound name qs rest block) ts e refl (plain_facts p.scope w b j (LaterRound name qs rest block) ts e refl) (λ free c.
+        of_truth (Safe routines p.scope w b m) c (λ t. Ok (doing (later_round name qs rest block t ++ ts) j)) (way a.0 deeper (more' m (omega arith) u i)))
       where
         way : Allowed p.scope (Only name ∷ []) u → At m (RunCommands rest block ∷ LaterRound name qs rest block ∷ ts) (changed_state (Only name ∷ []) u) → At m (Parameters name qs rest block ∷ ts) u
-            → (t : Bool) → Comes (SafeFor routines (KeepsTo p.scope) m) (Ok (doing (later_round name qs rest block t ++ ts) j))
-        way a deeper other true = done (SafeFor routines (KeepsTo p.scope) m) (doing (task.StoreAny name ∷ RunCommands rest block ∷ LaterRound name qs rest block ∷ ts) j)
+            → (t : Bool) → Comes (Safe routines p.scope w b m) (Ok (doing (later_round name qs rest block t ++ ts) j))
+        way a deeper other true = done (Safe routines p.scope w b m) (doing (task.StoreAny name ∷ RunCommands rest block ∷ LaterRound name qs rest block ∷ ts) j)
             (store_any routines p.scope w b world [] m (RunCommands rest block ∷ LaterRound name qs rest block ∷ ts) u name a deeper (doing (task.StoreAny name ∷ RunCommands rest block ∷ LaterRound name qs rest block ∷ ts) j) d refl)
-        way a deeper other false = done (SafeFor routines (KeepsTo p.scope) m) (doing (Parameters name qs rest block ∷ ts) j) (other (doing (Parameters name qs rest block ∷ ts) j) d refl)
+        way a deeper other false = done (Safe routines p.scope w b m) (doing (Parameters name qs rest block ∷ ts) j) (other (doing (Parameters name qs rest block ∷ ts) j) d refl)
 
     -- what a first value and its round ask
-    firsts : (t : Tree) → AreOurs p.scope (in_tree t) → (s : State) → Leads (λ v. again (value p t v)) s Some_state Some_case Some_quit → (m : ℕ) → m ≤ n → (K : Task) → is_round K ≡ true
+    firsts : (t : Tree) → AreOurs p.scope (in_tree t) → (s : State) → Leads (λ v. again (value p t v)) s Some_state Some_case Some_quit → (m : ℕ) → m ≤ n → (K : Task) → is_round K ≡ true → round_of K ≡ Some rest
         → ((u : State) → Among u ended → At m (K ∷ ts) u) → Out m → At m (task.Evaluate t ∷ task.StoreLast name ∷ RunCommands rest block ∷ K ∷ ts) s
-    firsts t ours s l m le K is go out =
+    firsts t ours s l m le K is runs go out =
         evaluate m le t ours [] (task.StoreLast name ∷ RunCommands rest block ∷ K ∷ ts) s (λ u. Leads again u Some_state Some_case Some_quit)
         (leads_both Some_state Some_case Some_quit (value p t) again (value_keeps p t) again_keeps s l)
         (λ u q j v more d e knows tasks.
         let a = starts u q in
         store_last routines p.scope w b world [] m (RunCommands rest block ∷ K ∷ ts) u name a.0
-        (enter m le K is go out (changed_state (Only name ∷ []) u) a.1) j v more d e tasks)
+        (enter m le K is runs go out (changed_state (Only name ∷ []) u) a.1) j v more d e tasks)
 
     -- where a round ended, the variable may change and another one begins
     from_ended : (v : Walk) → IsClean v → IsClean (again (after_round ended v)) → (u : State) → Among u ended → Leads again u Some_state Some_case Some_quit
@@ -212,7 +213,7 @@ module _ (routines : List RoutineTree) (p : Spot) (w : World) (b : Level) (world
         let to : List Task = task.Evaluate t ∷ task.StoreLast name ∷ RunCommands rest block ∷ Parameters name qs rest block ∷ ts in
         plain_step routines p.scope w b [] m ts s (Parameters name (Once t ∷ qs) rest block) refl j e (λ free c.
         unasked (Safe routines p.scope w b m) c _ (done (Safe routines p.scope w b m) (doing to j)
-        (firsts t (ours_left p.scope (in_tree t) (flat_map in_parameter qs) ours) s (only_clean first s clean) m le (Parameters name qs rest block) refl
+        (firsts t (ours_left p.scope (in_tree t) (flat_map in_parameter qs) ours) s (only_clean first s clean) m le (Parameters name qs rest block) refl refl
         (λ u i. parameters_fit qs (ours_right p.scope (in_tree t) (flat_map in_parameter qs) ours) m le u A (after u i) go out) (out m (omega arith)) (doing to j) d refl)))
     parameters_fit (Endless start by ∷ qs) ours m le s A l go out j d e =
         let here = ours_left p.scope (in_tree start ++ in_tree by) (flat_map in_parameter qs) ours in
@@ -235,7 +236,7 @@ module _ (routines : List RoutineTree) (p : Spot) (w : World) (b : Level) (world
         let a = starts y r in
         plain_step routines p.scope w b [] m (task.StoreLast name ∷ us) y (task.Drop 1) refl i' tasks' (λ free' c'.
         unasked (Safe routines p.scope w b m) c' _ (done (Safe routines p.scope w b m) (doing (task.StoreLast name ∷ us) (dropped 1 i'))
-        (store_then m us y a.0 (enter m le K refl (λ z g. next_fits more m le (out m (omega arith)) z g) (out m (omega arith)) (changed_state (Only name ∷ []) y) a.1)
+        (store_then m us y a.0 (enter m le K refl refl (λ z g. next_fits more m le (out m (omega arith)) z g) (out m (omega arith)) (changed_state (Only name ∷ []) y) a.1)
         (doing (task.StoreLast name ∷ us) (dropped 1 i')) (drop_first (Bare None ∷ []) y i' f') refl))))
         i f tasks)
         (doing to j) d refl)))
@@ -283,7 +284,7 @@ module _ (routines : List RoutineTree) (p : Spot) (w : World) (b : Level) (world
         unasked (Safe routines p.scope w b m) c' _ (done (Safe routines p.scope w b m) (doing (task.StoreLast name ∷ us) (dropped 2 i'))
         (store_then m us y ch.0
         (first_fits m qs (changed_state (Only name ∷ []) y)
-        (enter m le (LaterRound name qs rest block) refl (λ z g. later_fits qs more m le (λ k lt h g'. others k lt h (after_ended h g')) (out m (omega arith)) z g) (out m (omega arith)) (changed_state (Only name ∷ []) y) li.0)
+        (enter m le (LaterRound name qs rest block) refl refl (λ z g. later_fits qs more m le (λ k lt h g'. others k lt h (after_ended h g')) (out m (omega arith)) z g) (out m (omega arith)) (changed_state (Only name ∷ []) y) li.0)
         (others m (omega arith) (changed_state (Only name ∷ []) y) li.1))
         (doing (task.StoreLast name ∷ us) (dropped 2 i')) (drop_two (Bare None ∷ []) y i' f') refl))))
         i2 f2 tasks2)

@@ -26,7 +26,10 @@ use Rattle.mlk_machine_laws.specs.Sharing.{is_lent}
 use Rattle.mlk_soundness_machine.specs.Described.{World, Level, Slot, IsWorld, idle, Describes}
 use Rattle.mlk_soundness_machine.specs.Frames.{times_waiting}
 use Rattle.mlk_soundness_machine.specs.Reads.{now, mentions}
-use Rattle.mlk_soundness_machine.specs.Safe.{KeepsTo}
+use Rattle.mlk_soundness_machine.specs.Safe.{Keeps}
+use Rattle.mlk_soundness_machine.specs.Facts.{Facts}
+use Rattle.mlk_soundness_machine.proofs.Listing.{no_start, no_line, no_round}
+use Rattle.mlk_rules.specs.declared.rules.RuleLists.{RuleLists}
 use Rattle.mlk_soundness_machine.proofs.Claims.{claims_in_order}
 use Rattle.mlk_soundness_machine.proofs.News.{hold_stands}
 use Rattle.mlk_soundness_machine.proofs.Reading.{differs}
@@ -104,14 +107,23 @@ module _ (sc : Scope) (w : World) (b : Level) (slots : List Slot) (s : State) (j
         both (Some code) f g = let z : Some (index, code) ≡ None = g in absurd (cc z)
 
 -- what a job keeps to where it claims next: a timed claim is not awaited
-pub claim_facts : (sc : Scope) (j : Job) (names : List LockName) (timed : Bool) (ts : List Task) → j.tasks ≡ task.Claim names timed ∷ ts
-    → (timed ≡ false → (n : LockName) → Among n names → IsOwn (seen j) n ⊎ IsAboveAll sc.rules.families (seen j) n) → KeepsTo sc j
-claim_facts sc j names timed ts e h = record {
+claiming : (rules : RuleLists) (j : Job) (names : List LockName) (timed : Bool) (ts : List Task) → j.tasks ≡ task.Claim names timed ∷ ts
+    → (timed ≡ false → (n : LockName) → Among n names → IsOwn (seen j) n ⊎ IsAboveAll rules.families (seen j) n) → Facts rules j
+claiming rules j names timed ts e h = record {
   covered = λ u r. let z : None ≡ Some u = sym (ap ready_in e) ∙ r in cc;
   in_order = λ n i. by n timed refl (subst (λ o. Among n (awaited o)) (ap next_claim e) i);
   ends = λ ended. let z : [] ≡ task.Claim names timed ∷ ts = sym ended.0 ∙ e in cc;
 }
   where
-    by : (n : LockName) (t : Bool) → timed ≡ t → Among n (if t then [] else names) → IsOwn (seen j) n ⊎ IsAboveAll sc.rules.families (seen j) n
+    by : (n : LockName) (t : Bool) → timed ≡ t → Among n (if t then [] else names) → IsOwn (seen j) n ⊎ IsAboveAll rules.families (seen j) n
     by n true k i = absurd i
     by n false k i = h k n i
+
+pub claim_facts : (sc : Scope) (w : World) (b : Level) (j : Job) (names : List LockName) (timed : Bool) (ts : List Task) → j.tasks ≡ task.Claim names timed ∷ ts
+    → (timed ≡ false → (n : LockName) → Among n names → IsOwn (seen j) n ⊎ IsAboveAll sc.rules.families (seen j) n) → Keeps sc w b j
+claim_facts sc w b j names timed ts e h marked = record {
+  facts = claiming sc.rules j names timed ts e h;
+  starts = no_start sc.routines sc.blocks w.begun j (task.Claim names timed ∷ ts) e refl;
+  lines = no_line sc.routines sc.blocks w.begun j (task.Claim names timed ∷ ts) e refl;
+  rounds = no_round sc.routines sc.blocks w.begun j (task.Claim names timed ∷ ts) e refl;
+}

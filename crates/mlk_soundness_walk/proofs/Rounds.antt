@@ -1,12 +1,12 @@
 -- FOR without an argument: each round begins in a case that is listed for it.
-use Rattle.std.proofs.Common.{◌≡◌, ◌≤◌, ℕ, zero, suc, true, false, List, [], ◌∷◌, map, None, Ok, refl, sym, ◌∙◌, subst, arith, ⊎_elim, inl}
-use Rattle.std.specs.Prelude.{◌⊎◌, if◌then◌else◌, flat_map}
+use Rattle.std.proofs.Common.{◌≡◌, ◌≤◌, ℕ, zero, suc, true, false, List, [], ◌∷◌, map, None, refl, sym, ◌∙◌, subst, arith, ⊎_elim, inl}
+use Rattle.std.specs.Prelude.{if◌then◌else◌, flat_map}
 use Rattle.std.proofs.lemmas.Bool.{cases_Bool, false≢true}
 use Rattle.mlk_syntax.specs.Trees.{RoutineTree, CommandTrees, then_for, LineTrees}
 use Rattle.mlk_cert_parts.specs.declared.case.Case.{Case}
 use Rattle.mlk_machine_jobs.specs.Tasks.{Task, RunCommands, Forever}
 use Rattle.mlk_text.specs.declared.code.Code.TheVariants.{CaseNotListed}
-use Rattle.mlk_machine_jobs.specs.Choices.{doing, without_choice}
+use Rattle.mlk_machine_jobs.specs.Choices.{doing}
 use Rattle.mlk_walk_state.specs.declared.state.State.{State}
 use Rattle.mlk_walk_state.specs.States.{at_rest}
 use Rattle.mlk_walk_state.specs.Scope.{listed}
@@ -22,10 +22,10 @@ use Rattle.mlk_walk_laws.proofs.Rows.{Tells, each_keeps, all_back}
 use Rattle.mlk_walk_laws.proofs.Counts.{few_clean, few_same}
 use Rattle.mlk_walk_laws.proofs.Rounds.{commands_keep, each_alone, round_clean, round_same, states_clean, states_same, loop_open, loop_same}
 use Rattle.mlk_soundness_machine.specs.Described.{World, Level, idle}
-use Rattle.mlk_soundness_machine.specs.Safe.{SafeFor, KeepsTo}
-use Rattle.mlk_soundness_machine.proofs.Steps.{Comes, done, unasked, by_step, less}
+use Rattle.mlk_soundness_machine.proofs.Steps.{done, unasked}
+use Rattle.mlk_soundness_machine.proofs.Going.{down, less}
 use Rattle.mlk_soundness_machine.proofs.Facts.{plain_facts}
-use Rattle.mlk_soundness_machine.proofs.Values.{Fits}
+use Rattle.mlk_soundness_machine.proofs.Values.{Safe, Fits}
 use Rattle.mlk_soundness_walk.specs.Commands.{alone}
 use Rattle.mlk_soundness_walk.proofs.Alone.{Leads}
 use Rattle.mlk_soundness_walk.proofs.Lines.{listed_for, less_law}
@@ -126,7 +126,7 @@ module _ (routines : List RoutineTree) (w : World) (b : Level) (p : Spot) (rest 
   At m us s = Fits routines p.scope w b [] m us s
 
   fewer : (m : ℕ) (us : List Task) (s : State) → At (suc m) us s → At m us s
-  fewer m us s f j d e = less routines (KeepsTo p.scope) m j (f j d e)
+  fewer m us s f j d e = less routines p.scope w b m j (f j d e)
 
   module _ (cs : List Case) (ended quits : List State)
       (round : (m : ℕ) → m ≤ n → (c : Case) → Among c cs → ((u : State) → Among u ended → At m (Forever rest block ∷ ts) u) → ((d : Case) → Among (at_rest d) ended → At m (Forever rest block ∷ ts) (at_rest d))
@@ -134,14 +134,12 @@ module _ (routines : List RoutineTree) (w : World) (b : Level) (p : Spot) (rest 
       (again : (u : State) → Among u ended → is_listed cs u.case ≡ true) where
     -- each number of steps on
     pub forever_fits : (m : ℕ) → m ≤ n → ((u : State) → Among u quits → At m ts u) → (u : State) → is_listed cs u.case ≡ true → At m (Forever rest block ∷ ts) u
-    forever_fits zero le out u h j d e = plain_facts p.scope j (Forever rest block) ts e refl
+    forever_fits zero le out u h j d e = plain_facts p.scope w b j (Forever rest block) ts e refl
     forever_fits (suc m) le out u h j d e =
         let r = listed_for cs u.case h in
         let le' : m ≤ n = omega (arith, le) in
         let out' : (v : State) → Among v quits → At m ts v = (λ v i. fewer m ts v (out v i)) in
-        by_step routines (KeepsTo p.scope) (suc m) j (Forever rest block ∷ ts) e (plain_facts p.scope j (Forever rest block) ts e refl) (λ k same free c.
-        let z : m ≡ k = cc same in
-        subst (λ x. Comes (SafeFor routines (KeepsTo p.scope) x) (without_choice c (Ok (doing (RunCommands rest block ∷ Forever rest block ∷ ts) j)))) z
-        (unasked (SafeFor routines (KeepsTo p.scope) m) c _ (done (SafeFor routines (KeepsTo p.scope) m) (doing (RunCommands rest block ∷ Forever rest block ∷ ts) j)
+        down routines p.scope w b m j (Forever rest block) ts e refl (plain_facts p.scope w b j (Forever rest block) ts e refl) (λ free c.
+        (unasked (Safe routines p.scope w b m) c _ (done (Safe routines p.scope w b m) (doing (RunCommands rest block ∷ Forever rest block ∷ ts) j)
         (round m le' r.0 r.1 (λ v i. forever_fits m le' out' v (again v i)) (λ x i. forever_fits m le' out' (at_rest x) (again (at_rest x) i)) (λ q i. out' (at_rest q.case) i)
         (doing (RunCommands rest block ∷ Forever rest block ∷ ts) j) (less_law p.scope w b u.case r.0 r.2 u refl (idle j) d) refl))))

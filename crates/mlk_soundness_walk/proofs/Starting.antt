@@ -1,5 +1,5 @@
 -- A job that begins at a declared entry: the entry's lines are safe, from its begin to its end, where it holds nothing.
-use Rattle.std.proofs.Common.{◌≡◌, ◌<◌, ℕ, zero, suc, Bool, true, false, ◌+◌, List, [], ◌∷◌, ◌++◌, drop, reverse, Some, Ok, Err, refl, sym, ap, ◌∙◌, subst, arith, ⊎_elim, inl, inr}
+use Rattle.std.proofs.Common.{◌≡◌, ℕ, Bool, true, false, ◌+◌, List, [], ◌∷◌, ◌++◌, drop, reverse, Some, Ok, Err, refl, sym, ◌∙◌, subst, arith, ⊎_elim, inl, inr}
 use Rattle.std.specs.Prelude.{◌&&◌, if◌then◌else◌, nat_lt, length}
 use Rattle.std.specs.List.{list_any}
 use Rattle.std.proofs.lemmas.Bool.{cases_Bool, and_parts, or_left, or_right}
@@ -14,10 +14,11 @@ use Rattle.mlk_cert_parts.specs.declared.case.ExitCase.{ExitCase}
 use Rattle.mlk_machine_locks.specs.declared.refusal.Refusal.TheVariants.{NotEnabled, BadChoice}
 use Rattle.mlk_machine_jobs.specs.Bindings.{Cell, Bindings, Cells, look, no_values}
 use Rattle.mlk_machine_jobs.specs.Calling.{binders, with_actuals, count_given, formals_in, commands_in, lines_after, entered, back_to}
-use Rattle.mlk_machine_jobs.specs.Choices.{last_values, doing, Stepped}
+use Rattle.mlk_machine_jobs.specs.Choices.{last_values, doing}
 use Rattle.mlk_machine_jobs.specs.Runs.{blank, by_value, formals_at, begun, is_job_number, machine}
-use Rattle.mlk_machine_jobs.specs.Tasks.{Task, Job, Frame, NoValue, AwaitsValue, LineTree, RunLines, RunCommands, EndFrame}
-use Rattle.mlk_machine_laws.specs.Moments.{AtEachMoment}
+use Rattle.mlk_machine_jobs.specs.Tasks.{Job, NoValue, AwaitsValue, LineTree, RunLines, RunCommands, EndFrame}
+use Rattle.mlk_soundness_machine.specs.Moments.{AtEachMomentSince}
+use Rattle.mlk_soundness_machine.specs.Marked.{Begun}
 use Rattle.mlk_machine_laws.specs.Sharing.{is_lent}
 use Rattle.mlk_machine_laws.proofs.Sharing.{ordered_binders}
 use Rattle.mlk_machine_laws.proofs.Tidy.{binders_below}
@@ -31,7 +32,7 @@ use Rattle.mlk_walk.specs.Verdicts.{known, begin_case, leaves_some}
 use Rattle.mlk_walk.specs.Reports.{report}
 use Rattle.mlk_walk_laws.specs.Fewer.{Among}
 use Rattle.mlk_soundness_machine.specs.Described.{some_local, World, IsWorld, idle, Describes}
-use Rattle.mlk_soundness_machine.specs.Facts.{Facts}
+use Rattle.mlk_soundness_machine.specs.Listed.{FactsSince}
 use Rattle.mlk_soundness_machine.specs.Reads.{now, times, mentions}
 use Rattle.mlk_soundness_machine.specs.Safe.{SafeFor, KeepsTo}
 use Rattle.mlk_soundness_machine.proofs.Calling.{none_held}
@@ -39,9 +40,10 @@ use Rattle.mlk_soundness_machine.proofs.Facts.{plain_facts}
 use Rattle.mlk_soundness_machine.proofs.Killing.{ended_safe}
 use Rattle.mlk_soundness_machine.proofs.Passing.{passes, binds_call, lent_call}
 use Rattle.mlk_soundness_machine.proofs.Reading.{differs}
-use Rattle.mlk_soundness_machine.proofs.Runs.{moments}
-use Rattle.mlk_soundness_machine.proofs.Steps.{done, unasked, step}
-use Rattle.mlk_soundness_walk.specs.Entries.{first_level, scope, Safely, EndsFit, EntryFits}
+use Rattle.mlk_soundness_machine.proofs.Runs.{moments, stopped_facts}
+use Rattle.mlk_soundness_machine.proofs.Steps.{done, unasked}
+use Rattle.mlk_soundness_machine.proofs.Going.{end_step}
+use Rattle.mlk_soundness_walk.specs.Entries.{first_level, scope, EndsFit, EntryFits}
 use Rattle.mlk_soundness_walk.proofs.Entries.{own_formals, at_formals, at_others, low_formals, in_order_same, none_local, leaves_same}
 use Rattle.mlk_soundness_walk.proofs.Reported.{clean_entry, certified_entry}
 
@@ -95,6 +97,16 @@ module _ (routines : List RoutineTree) (rules : RuleLists) (blocks : List EntryC
       abbrev cells : Cells
       cells = with_actuals 1 (formals_in head) given (last_values (count_given given) (blank k test values)) no_values
 
+      abbrev first : Job
+      first = record (blank k test values) {
+        routine = e.routine;
+        bindings = front ++ [];
+        next = 2;
+        cells = cells;
+        values = drop (count_given given) (reverse values);
+        tasks = RunCommands (commands_in head) body ∷ RunLines lines ∷ EndFrame NoValue [] 1 0 ∷ [];
+      }
+
       abbrev world : World
       world = record {
         number = k;
@@ -105,16 +117,7 @@ module _ (routines : List RoutineTree) (rules : RuleLists) (blocks : List EntryC
         formals = is_among (formals_in head);
         refs = λ x. false;
         snap = λ x. cells (look (front ++ []) x);
-      }
-
-      abbrev first : Job
-      first = record (blank k test values) {
-        routine = e.routine;
-        bindings = front ++ [];
-        next = 2;
-        cells = cells;
-        values = drop (count_given given) (reverse values);
-        tasks = RunCommands (commands_in head) body ∷ RunLines lines ∷ EndFrame NoValue [] 1 0 ∷ [];
+        begun = first ∷ [];
       }
 
       is_world : IsWorld sc world
@@ -152,6 +155,9 @@ module _ (routines : List RoutineTree) (rules : RuleLists) (blocks : List EntryC
         values = refl;
       }
 
+      abbrev AtEnd : ℕ → Job → Type 0
+      AtEnd n i = (i.tasks ≡ []) × SafeFor routines (KeepsTo sc) n [] i
+
       -- at its end the job has nothing left to do, and holds nothing
       ends : (n : ℕ) → EndsFit routines rules (known routines rules blocks) sc world n NoValue [] 1 0 []
       ends n c x among leaves stays slots end (inr q) i d tasks = let z : NoValue ≡ AwaitsValue q.0 = q.1 in absurd (cc z)
@@ -159,21 +165,39 @@ module _ (routines : List RoutineTree) (rules : RuleLists) (blocks : List EntryC
           let ended : i.tasks ≡ EndFrame NoValue [] 1 0 ∷ [] = subst (λ z. i.tasks ≡ EndFrame z [] 1 0 ∷ []) q.0 tasks in
           let held : c.held ≡ [] = (leaves_same c x leaves).0 ∙ leaves_nothing x among in
           let to : Job = doing [] (record (back_to [] 1 i) { routine = 0 }) in
-          step routines (KeepsTo sc) n i (EndFrame NoValue [] 1 0 ∷ []) ended (plain_facts sc i (EndFrame NoValue [] 1 0) [] ended refl) (λ free y.
-          unasked (Safely routines rules (known routines rules blocks) sc n) y (Ok to) (done (Safely routines rules (known routines rules blocks) sc n) to
-          (ended_safe routines sc world (first_level world) is_world n to refl (λ m. d.stands.counts m ∙ none_times i m held))))
+          end_step routines sc world (first_level world) n i NoValue [] 1 0 [] ended (plain_facts sc world (first_level world) i (EndFrame NoValue [] 1 0) [] ended refl) (λ free y.
+          unasked (AtEnd n) y (Ok to) (done (AtEnd n) to (refl,
+          ended_safe routines sc world (first_level world) is_world n [] to refl (λ m. d.stands.counts m ∙ none_times i m held))))
         where
           none_times : (i : Job) (m : LockName) → c.held ≡ [] → times (now i) c.held m + 0 ≡ 0
           none_times i m h = rw h refl
 
-      first_safe : ((n : ℕ) → EntryFits routines rules (known routines rules blocks) n) → (n : ℕ) → SafeFor routines (Facts rules) n first
-      first_safe each n = each n e blk at head body lines heads world is_world (λ x. refl) NoValue 1 0 [] (ends n) first begins refl
+      begun_first : Begun sc world
+      begun_first = record {
+        entry = e;
+        own = refl;
+        block = blk;
+        certified = at;
+        points = refl;
+        first = first;
+        others = [];
+        since = refl;
+        began = record { head = head; body = body; lines = lines; more = EndFrame NoValue [] 1 0 ∷ []; are = heads; tasks = refl };
+        back = refl;
+        values = λ x f r. (refl, refl);
+        rests = tt;
+        held = begins.stands.counts;
+      }
+
+      first_safe : ((n : ℕ) → EntryFits routines rules (known routines rules blocks) n) → (n : ℕ) → SafeFor routines (KeepsTo sc) n (first ∷ []) first
+      unfolding begun_first
+      first_safe each n = each n e blk at head body lines heads world is_world (λ x. refl) NoValue 1 0 [] (ends n) first begins refl begun_first refl refl (record { tests = refl; frames = refl })
 
   -- each job that begins is safe for each number of steps
   module _ (distinct : (e : EntryId) (head : HeadTree) (body : LineTrees) (lines : List LineTree) → lines_after routines e ≡ (head, body) ∷ lines → AreDistinct (formals_in head))
       (each : (n : ℕ) → EntryFits routines rules (known routines rules blocks) n) where
     begins_safe : (e : EntryId) (test : Bool) (values : List (List ℕ)) (k : ℕ) (first : Job) → (machine routines (is_declared routines rules.entries)).begin e test values k ≡ Ok first
-        → (n : ℕ) → SafeFor routines (Facts rules) n first
+        → (n : ℕ) → SafeFor routines (FactsSince routines rules (known routines rules blocks).0) n (first ∷ []) first
     begins_safe e test values k j h n =
         ⊎_elim
         (λ (d : (is_declared routines rules.entries e && is_job_number k) ≡ true).
@@ -189,13 +213,13 @@ module _ (routines : List RoutineTree) (rules : RuleLists) (blocks : List EntryC
         (cases_Bool (is_declared routines rules.entries e && is_job_number k))
       where
         on : (blk : EntryCert) → block_at (known routines rules blocks).0 e ≡ Some blk → has_entry (known routines rules blocks).1 e ≡ true
-            → (ls : List LineTree) → lines_after routines e ≡ ls → entered NoValue e.routine (by_value values) ls [] (blank k test values) ≡ Ok j → SafeFor routines (Facts rules) n j
+            → (ls : List LineTree) → lines_after routines e ≡ ls → entered NoValue e.routine (by_value values) ls [] (blank k test values) ≡ Ok j → SafeFor routines (FactsSince routines rules (known routines rules blocks).0) n (j ∷ []) j
         on blk at is [] heads f = let z : Err NotEnabled ≡ Ok j = f in absurd (cc z)
         on blk at is ((head, body) ∷ lines) heads f =
             let z : first e blk at is head body lines heads (distinct e head body lines heads) k test values ≡ j = (let y : Ok (first e blk at is head body lines heads (distinct e head body lines heads) k test values) ≡ Ok j = f in cc) in
-            subst (SafeFor routines (Facts rules) n) z (first_safe e blk at is head body lines heads (distinct e head body lines heads) k test values each n)
+            subst (λ i. SafeFor routines (FactsSince routines rules (known routines rules blocks).0) n (i ∷ []) i) z (first_safe e blk at is head body lines heads (distinct e head body lines heads) k test values each n)
 
     -- so at each moment of each run of its own
-    pub each_moment : AtEachMoment routines (is_declared routines rules.entries) (Facts rules)
+    pub each_moment : AtEachMomentSince routines (is_declared routines rules.entries) (FactsSince routines rules (known routines rules blocks).0)
     each_moment e test values k first j acts h run =
-        moments routines (is_declared routines rules.entries) rules acts first j (begins_safe e test values k first h (length acts)) run
+        moments routines (is_declared routines rules.entries) (FactsSince routines rules (known routines rules blocks).0) (stopped_facts routines rules (known routines rules blocks).0) acts (first ∷ []) first j (begins_safe e test values k first h (length acts)) run

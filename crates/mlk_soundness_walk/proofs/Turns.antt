@@ -1,5 +1,5 @@
 -- Arguments in turn, values that are not used, and postconditionals.
-use Rattle.std.proofs.Common.{◌≡◌, ℕ, suc, Bool, true, false, List, [], ◌∷◌, ◌++◌, drop, Option, Some, None, sym, ap, ◌∙◌, subst, append_assoc}
+use Rattle.std.proofs.Common.{◌≡◌, ℕ, suc, Bool, true, false, List, [], ◌∷◌, ◌++◌, drop, Option, Some, None, sym, ap, ◌∙◌, subst, append_assoc, refl}
 use Rattle.std.specs.Prelude.{flat_map}
 use Rattle.mlk_syntax.specs.ExprTrees.{Tree}
 use Rattle.mlk_syntax.specs.Trees.{RoutineTree, CallTree}
@@ -25,11 +25,12 @@ use Rattle.mlk_walk_laws.proofs.Rows.{Keeps, both}
 use Rattle.mlk_walk_laws.proofs.Walks.{value_keeps, turns_keep}
 use Rattle.mlk_soundness_machine.specs.Described.{World, Level, Slot, idle, Describes}
 use Rattle.mlk_soundness_machine.proofs.Worlds.{drop_law}
-use Rattle.mlk_soundness_machine.proofs.Steps.{Comes, by_step, of_last, of_known}
-use Rattle.mlk_soundness_machine.specs.Safe.{KeepsTo, is_plain}
+use Rattle.mlk_soundness_machine.proofs.Steps.{Comes, of_last, of_known}
+use Rattle.mlk_soundness_machine.proofs.Going.{Next, by_step}
+use Rattle.mlk_soundness_machine.specs.Safe.{is_plain}
 use Rattle.mlk_soundness_machine.proofs.Facts.{plain_facts}
 use Rattle.mlk_soundness_machine.proofs.Unused.{drop_fits}
-use Rattle.mlk_soundness_machine.proofs.Values.{Safe, Fits, FitsValue}
+use Rattle.mlk_soundness_machine.proofs.Values.{Fits, FitsValue}
 use Rattle.mlk_soundness_walk.proofs.Alone.{Leads}
 use Rattle.mlk_soundness_walk.proofs.Alone.{leads_both, leads_few, leads_stay, leads_true, leads_false}
 use Rattle.mlk_soundness_walk.proofs.Symbols.{truth_agrees}
@@ -69,26 +70,27 @@ module _ (routines : List RoutineTree) (p : Spot) (w : World) (b : Level) (S : C
     -- a condition, and a task that uses its truth: what is done where it may be true, and where it may be false
     module _ (t : Tree) (run other : Walk → Walk) (one : Keeps run) (two : Keeps other) (slots : List Slot) (T : Task) (plain : is_plain T ≡ true) (ts : List Task) (f : Bool → Job → Stepped)
         (reduces : (free : LockName → Bool) (c : Choice) (i : Job) → advance routines free c i (T ∷ ts) ≡ by_truth c i f) (A : State → Type 0)
-        (yes : (m : ℕ) → n ≡ suc m → (u : State) → Leads run u A S Q → (i : Job) → Describes p.scope w b slots u (idle i) → Comes (Safe routines p.scope w b m) (f true i))
-        (no : (m : ℕ) → n ≡ suc m → (u : State) → Leads other u A S Q → (i : Job) → Describes p.scope w b slots u (idle i) → Comes (Safe routines p.scope w b m) (f false i)) where
+        (P : ℕ → Job → Type 0) (close : (m : ℕ) (free : LockName → Bool) (c : Choice) (i : Job) (x : Stepped) → x ≡ advance routines free c i (T ∷ ts) → Comes (P m) x → Comes (Next routines p.scope w b (T ∷ ts) m) x)
+        (yes : (m : ℕ) → n ≡ suc m → (u : State) → Leads run u A S Q → (i : Job) → Describes p.scope w b slots u (idle i) → Comes (P m) (f true i))
+        (no : (m : ℕ) → n ≡ suc m → (u : State) → Leads other u A S Q → (i : Job) → Describes p.scope w b slots u (idle i) → Comes (P m) (f false i)) where
       abbrev G : Walk → Walk
       G = by_condition p.scope t run other
 
-      pick : (k : ℕ) → n ≡ suc k → (u : State) → Leads G u A S Q → (z : Bool) → agrees z (truth_in p.scope t u) ≡ true → (i : Job) → Describes p.scope w b slots u (idle i) → Comes (Safe routines p.scope w b k) (f z i)
+      pick : (k : ℕ) → n ≡ suc k → (u : State) → Leads G u A S Q → (z : Bool) → agrees z (truth_in p.scope t u) ≡ true → (i : Job) → Describes p.scope w b slots u (idle i) → Comes (P k) (f z i)
       pick k is u m true may i d = yes k is u (leads_true A S Q p.scope t run other one two u m may) i d
       pick k is u m false may i d = no k is u (leads_false A S Q p.scope t run other one two u m may) i d
 
       used : (u : State) → Leads G u A S Q → FitsValue routines p.scope w b t slots n (T ∷ ts) u
       used u m i x more d g knows at =
-          by_step routines (KeepsTo p.scope) n i (T ∷ ts) at (plain_facts p.scope i T ts at plain) (λ k is free c.
-          subst (Comes (Safe routines p.scope w b k)) (sym (reduces free c i))
-          (of_last (Safe routines p.scope w b k) i.values _ (λ y below ey.
+          by_step routines p.scope w b n i (T ∷ ts) at (plain_facts p.scope w b i T ts at plain) (λ k is free c.
+          close k free c i (advance routines free c i (T ∷ ts)) refl (subst (Comes (P k)) (sym (reduces free c i))
+          (of_last (P k) i.values _ (λ y below ey.
           let same : y ≡ x = (let z : y ∷ below ≡ x ∷ more = sym ey ∙ g in cc) in
-          of_known (Safe routines p.scope w b k) c y _ (λ z first naught.
+          of_known (P k) c y _ (λ z first naught.
           let less : Describes p.scope w b slots u (idle (dropped 1 i)) = subst (λ q. Describes p.scope w b slots u (record (idle i) { values = q })) (sym (ap (drop 1) g)) (drop_law p.scope w b None slots u (idle i) d x more g) in
           let may : agrees z (truth_in p.scope t u) ≡ true = truth_agrees (truth_in p.scope t u) x knows.truth z (λ h. first (subst (λ q. is_one q ≡ true) (sym same) h))
           (λ h l. naught (subst (λ q. is_zero q ≡ true) (sym same) h) (subst (λ q. is_one q ≡ false) (sym same) l)) in
-          pick k is u m z may (dropped 1 i) less))))
+          pick k is u m z may (dropped 1 i) less)))))
 
       pub condition_fits : AreOurs p.scope (in_tree t) → (s : State) → Leads (λ v. by_condition p.scope t run other (value p t v)) s A S Q → Fit slots n (task.Evaluate t ∷ T ∷ ts) s
       condition_fits ours s l =

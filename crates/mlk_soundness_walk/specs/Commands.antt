@@ -14,7 +14,7 @@ use Rattle.mlk_walk_exprs.specs.declared.walk.Walk.{Walk}
 use Rattle.mlk_walk_lines.specs.Loops.{commands, one_command}
 use Rattle.mlk_walk_laws.specs.Fewer.{Among, IsClean}
 use Rattle.mlk_soundness_machine.specs.Described.{World, Level, Bare, idle, Describes}
-use Rattle.mlk_soundness_machine.specs.Safe.{SafeFor, Fit, KeepsTo}
+use Rattle.mlk_soundness_machine.specs.Safe.{SafeIn, Fit}
 use Rattle.mlk_soundness_walk.specs.Ours.{IsOf, AreOf}
 
 -- the walk of one state at its begin
@@ -24,12 +24,12 @@ alone s = record { going = s ∷ []; skips = []; quits = []; faults = []; over =
 module _ (routines : List RoutineTree) (w : World) (b : Level) where
   -- each job that the state describes, and that has these tasks and no other values of its own, is safe
   abbrev pub IsSafe : Spot → ℕ → List Task → State → Type 0
-  IsSafe p n ts s = Fit routines (KeepsTo p.scope) p.scope w b [] n ts s
+  IsSafe p n ts s = Fit routines p.scope w b [] n ts s
 
   -- a QUIT gives a value, and the tasks from the end on are safe
   abbrev pub Gives : Scope → ℕ → List Task → State → Type 0
   Gives sc n us s = (j : Job) (v : List ℕ) (more : List (List ℕ)) → Describes sc w b (Bare None ∷ []) s (idle j) → j.values ≡ v ∷ more
-      → SafeFor routines (KeepsTo sc) n (answered j us)
+      → SafeIn routines sc w b n (answered j us)
 
   -- what a walk comes to is safe: where it goes on, with the tasks that follow; where it skips or quits, with what is left
   pub record AreSafe (p : Spot) (may : Bool) (n : ℕ) (ts : List Task) (found : Walk) : Type 0 where

@@ -9,7 +9,7 @@ use Rattle.mlk_cert_parts.specs.declared.case.Case.{Case}
 use Rattle.mlk_cert_parts.specs.declared.case.ExitCase.{ExitCase}
 use Rattle.mlk_machine_jobs.specs.Bindings.{Bindings}
 use Rattle.mlk_machine_jobs.specs.Calling.{formals_in, commands_in, lines_after}
-use Rattle.mlk_machine_jobs.specs.Tasks.{Task, Job, Frame, AwaitsValue, HasValue, LineTree, RunLines, RunCommands, EndFrame}
+use Rattle.mlk_machine_jobs.specs.Tasks.{Task, Job, marks, Frame, AwaitsValue, HasValue, LineTree, RunLines, RunCommands, EndFrame}
 use Rattle.mlk_walk_state.specs.Cases.{leaves_by}
 use Rattle.mlk_walk_state.specs.Names.{is_among}
 use Rattle.mlk_walk_state.specs.Scope.{Scope, scope_with, block_at}
@@ -19,7 +19,8 @@ use Rattle.mlk_walk_lines.specs.Endings.{escapes}
 use Rattle.mlk_walk.specs.Verdicts.{begin_case}
 use Rattle.mlk_walk_laws.specs.Fewer.{Among}
 use Rattle.mlk_soundness_machine.specs.Described.{World, Level, Slot, Bare, IsWorld, idle, Describes}
-use Rattle.mlk_soundness_machine.specs.Safe.{SafeFor, KeepsTo}
+use Rattle.mlk_soundness_machine.specs.Safe.{SafeFor, SafeIn, KeepsTo}
+use Rattle.mlk_soundness_machine.specs.Marked.{Begun, AreMarked}
 
 -- which frame's end a callee may come to, and with which values: QUIT with a value gives it to the frame of `$$`
 abbrev pub Ended : Frame → Frame → List Slot → Type 0
@@ -32,15 +33,15 @@ module _ (routines : List RoutineTree) (rules : RuleLists) (entries : List (Entr
   abbrev pub scope : EntryId → EntryCert → Scope
   scope e blk = scope_with routines rules entries e blk
 
-  abbrev pub Safely : Scope → ℕ → Job → Type 0
-  Safely sc = SafeFor routines (KeepsTo sc)
+  abbrev pub Safely : Scope → World → ℕ → Job → Type 0
+  Safely sc w = SafeIn routines sc w (first_level w)
 
   -- at an exit of the entry, the frame's end is safe
   abbrev pub EndsFit : Scope → World → ℕ → Frame → Bindings → ℕ → ℕ → List Task → Type 0
   EndsFit sc w m frame back next r ts =
       (c : Case) (x : ExitCase) → Among x sc.summary.exits → leaves_by c x ≡ true → mention_such (escapes c) c.held ≡ false
       → (slots : List Slot) (end : Frame) → Ended frame end slots
-      → (i : Job) → Describes sc w (first_level w) slots (at_rest c) (idle i) → i.tasks ≡ EndFrame end back next r ∷ ts → Safely sc m i
+      → (i : Job) → Describes sc w (first_level w) slots (at_rest c) (idle i) → i.tasks ≡ EndFrame end back next r ∷ ts → Safely sc w m i
 
   -- the lines of each certified entry are safe for so many steps, if its ends are
   abbrev pub EntryFits : ℕ → Type 0
@@ -50,4 +51,5 @@ module _ (routines : List RoutineTree) (rules : RuleLists) (entries : List (Entr
       → (w : World) → IsWorld (scope e blk) w → ((x : List ℕ) → w.formals x ≡ is_among (formals_in head) x)
       → (frame : Frame) (next r : ℕ) (ts : List Task) → EndsFit (scope e blk) w m frame w.back next r ts
       → (j : Job) → Describes (scope e blk) w (first_level w) [] (at_rest (begin_case blk.summary (formals_in head))) (idle j)
-      → j.tasks ≡ RunCommands (commands_in head) body ∷ RunLines lines ∷ EndFrame frame w.back next r ∷ ts → Safely (scope e blk) m j
+      → j.tasks ≡ RunCommands (commands_in head) body ∷ RunLines lines ∷ EndFrame frame w.back next r ∷ ts
+      → (begun : Begun (scope e blk) w) → begun.first ≡ j → begun.began.head ≡ head → AreMarked w (first_level w) (marks j.tasks) → SafeFor routines (KeepsTo (scope e blk)) m w.begun j

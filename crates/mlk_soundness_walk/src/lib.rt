@@ -3,4 +3,4 @@
 
 mod law;
 
-pub use law::{clean_entries, entries_by_commands};
+pub use law::{clean_entries, entries_by_commands, one_job};

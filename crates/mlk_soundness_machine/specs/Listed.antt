@@ -1,0 +1,88 @@
+-- That a listed case describes a job where a frame of it begins, where it goes on to a line, and where a round of a FOR begins.
+-- This project's own choice.
+use Rattle.std.specs.Prelude.{◌≡◌, ℕ, ◌+◌, true, false, List, [], ◌∷◌, ◌++◌, map, Option, Some, None}
+use Rattle.std.specs.List.{AllZip}
+use Rattle.mlk_names.specs.declared.lock_name.LockName.{LockName}
+use Rattle.mlk_names.specs.declared.term.LockTerm.{LockTerm}
+use Rattle.mlk_rules.specs.declared.rules.RuleLists.{RuleLists}
+use Rattle.mlk_program.specs.declared.entry.EntryId.{EntryId}
+use Rattle.mlk_syntax.specs.Trees.{RoutineTree, CommandTrees, LineTrees, HeadTree, LineHead}
+use Rattle.mlk_cert_parts.specs.declared.block.EntryCert.{EntryCert}
+use Rattle.mlk_cert_parts.specs.declared.case.Case.{Case}
+use Rattle.mlk_machine_locks.specs.Counts.{count_of}
+use Rattle.mlk_machine_locks.specs.Lists.{Among}
+use Rattle.mlk_machine_jobs.specs.Bindings.{look}
+use Rattle.mlk_machine_jobs.specs.Tasks.{Task, Job, marks, LineTree, RunLines, RunCommands, Parameters, Forever, NextValue, LaterRound}
+use Rattle.mlk_walk_state.specs.Names.{is_among, is_own}
+use Rattle.mlk_walk_state.specs.Scope.{block_at, listed_at}
+use Rattle.mlk_soundness_machine.specs.Facts.{Facts}
+use Rattle.mlk_soundness_machine.specs.Frames.{Waiting, times_waiting, Binds, Agrees}
+use Rattle.mlk_soundness_machine.specs.History.{block_tests, frame_backs, first_back, is_reference, BeganAt}
+use Rattle.mlk_soundness_machine.specs.Reads.{now, times}
+
+-- The case describes the job: with what other open frames have set aside, each read in its own bindings, its terms stand for
+-- exactly what the job holds; `$TEST` and the saved ones are as it says, and so are the names bound anew in the running frame;
+-- names that it lists as kept have their values of the frame's begin, but for those that the frame's own call bound by reference.
+-- What others have set aside is what the job held at the frame's begin, but for what the terms that the entry needs stood for.
+pub record IsDescribed (need : List LockTerm) (c : Case) (begun : List Job) (j : Job) : Type 0 where
+  pub test : Agrees c.test j.test
+  pub saved : AllZip Agrees c.saved (block_tests (marks j.tasks))
+  pub waiting : List Waiting
+  pub frames : frame_backs (marks j.tasks) ≡ map (λ (w : Waiting). w.bindings) waiting ++ [] ∷ []
+  pub own : Binds j.bindings (first_back waiting) (λ n. is_own c.own n)
+  pub counts : (m : LockName) → count_of j.held m ≡ times (now j) c.held m + times_waiting j.cells j.number waiting m
+  -- the job as it was at the running frame's begin
+  pub first : Job
+  pub others : List Job
+  pub since : begun ≡ first ∷ others
+  pub aside : (m : LockName) → count_of first.held m ≡ times (now first) need m + times_waiting j.cells j.number waiting m
+  pub kept : (n : List ℕ) → is_among c.kept n ≡ true → is_reference first.bindings n ≡ false → j.cells (look j.bindings n) ≡ first.cells (look first.bindings n)
+
+-- a case describes it that is listed at a place for the certified entry by which the running frame began
+pub record IsListedAt (routines : List RoutineTree) (blocks : List (EntryId × EntryCert)) (number round : ℕ) (begun : List Job) (j : Job) : Type 0 where
+  pub entry : EntryId
+  pub running : entry.routine ≡ j.routine
+  pub block : EntryCert
+  pub is_certified : block_at blocks entry ≡ Some block
+  pub case : Case
+  pub is_listed : Among case (listed_at block.points number round)
+  pub describes : IsDescribed block.summary.need case begun j
+  pub began : BeganAt routines entry describes.first
+
+-- a line's number
+abbrev pub line_number : HeadTree → ℕ
+line_number (LineHead number level end label formals commands) = number
+
+-- what a round of a FOR runs
+abbrev pub round_of : Task → Option CommandTrees
+round_of (Parameters v ps rest block) = Some rest
+round_of (Forever rest block) = Some rest
+round_of (NextValue v rest block) = Some rest
+round_of (LaterRound v ps rest block) = Some rest
+round_of t = None
+
+-- one that is listed at the line of that entry
+abbrev pub IsAtStart : List RoutineTree → List (EntryId × EntryCert) → List Job → Job → Type 0
+IsAtStart routines blocks begun j = (number : ℕ) × (at : IsListedAt routines blocks number 0 begun j) × (line_number at.began.head ≡ number)
+
+-- where its frame begins, a case that is listed at the entry's line does; where it goes on to a line, one that is listed at the
+-- line; and where a round begins, one that is listed for rounds
+abbrev pub StartListed : List RoutineTree → List (EntryId × EntryCert) → List Job → Job → Type 0
+StartListed routines blocks begun j =
+    (others : List Job) (commands : CommandTrees) (block : LineTrees) (ts : List Task) → begun ≡ j ∷ others → j.tasks ≡ RunCommands commands block ∷ ts → IsAtStart routines blocks begun j
+
+abbrev pub GoesListed : List RoutineTree → List (EntryId × EntryCert) → List Job → Job → Type 0
+GoesListed routines blocks begun j =
+    (l : LineTree) (lines : List LineTree) (ts : List Task) → j.tasks ≡ RunLines (l ∷ lines) ∷ ts → IsListedAt routines blocks (line_number l.0) 0 begun j
+
+abbrev pub RoundListed : List RoutineTree → List (EntryId × EntryCert) → List Job → Job → Type 0
+RoundListed routines blocks begun j =
+    (rest : CommandTrees) (block : LineTrees) (t : Task) (ts : List Task) → j.tasks ≡ RunCommands rest block ∷ t ∷ ts → round_of t ≡ Some rest
+    → (number round : ℕ) × IsListedAt routines blocks number round begun j
+
+-- what one job keeps to at each moment, where these entries are certified with these blocks
+pub record FactsSince (routines : List RoutineTree) (rules : RuleLists) (blocks : List (EntryId × EntryCert)) (begun : List Job) (j : Job) : Type 0 where
+  pub facts : Facts rules j
+  pub starts : StartListed routines blocks begun j
+  pub lines : GoesListed routines blocks begun j
+  pub rounds : RoundListed routines blocks begun j
