@@ -22,7 +22,7 @@ use mlk_rules::Rules;
 use mlk_program::{Program, link};
 use mlk_routine::{Routine, read_routine};
 use mlk_rules_file::read_rules;
-use mlk_walk::check_all;
+use mlk_walk::report_of;
 use std::alloc::Global;
 use std::fs;
 use std::io;
@@ -75,7 +75,7 @@ fn walk(
     };
     println!(rt; "certificate {:?}", begin.elapsed(rt)?)?;
     let begin = Instant::now(rt)?;
-    let report = check_all(alloc, program, rules, &certificate)?;
+    let report = report_of(alloc, program, rules, &certificate)?;
     println!(rt; "walk {:?}, {} faults", begin.elapsed(rt)?, report.rows().len())
 }
 

@@ -1,7 +1,8 @@
 // Certificates that are read, and written again as they stood.
 
 use mlk_cert::{read_cert, write_cert};
-use std::alloc::Global;
+use mlk_names::KnownSym;
+use std::alloc::{AllocError, Global};
 use std::test::Fail;
 
 // Whether the text is read, and written again byte for byte.
@@ -56,4 +57,52 @@ fn blocks_hold_what_the_text_says(rt: HostRuntime) -> Result<(), Fail> {
     }
     assert!(rt; certificate.blocks().len() == 1);
     Ok(())
+}
+
+// How many blocks a certificate with so many entries is read as, each with a label of its own; none where it is refused.
+fn blocks_of(alloc: Global, entries: u32) -> Result<usize, AllocError> {
+    let mut text: Vec<u8> = Vec::new(alloc);
+    text.extend_from_slice(b"mlock-cert 1\n")?;
+    for i in 0..entries {
+        text.extend_from_slice(b"entry ")?;
+        for place in [10000, 1000, 100, 10, 1] {
+            text.push(b'0' + ((i / place) % 10) as u8)?;
+        }
+        text.extend_from_slice(b"^R\nneed -\nlow -\ndrops 0\nmods -\n")?;
+    }
+    text.extend_from_slice(b"end\n")?;
+    match read_cert(alloc, text.as_slice()) {
+        Ok(certificate) => Ok(certificate.blocks().len()),
+        Err(_) => Ok(0),
+    }
+}
+
+#[test]
+fn many_blocks_are_read(rt: HostRuntime) -> Result<(), Fail> {
+    assert!(rt; blocks_of(rt.alloc(), 20000)? == 20000);
+    Ok(())
+}
+
+// Whether some lock that the first block needs has this constant as its first subscript.
+fn needs(alloc: Global, text: &[u8], constant: &[u8]) -> bool {
+    let Ok(certificate) = read_cert(alloc, text) else {
+        return false;
+    };
+    let [block, ..] = certificate.blocks() else {
+        return false;
+    };
+    let [term] = block.summary.need.as_slice() else {
+        return false;
+    };
+    let [KnownSym::Const(value), ..] = term.subs.as_slice() else {
+        return false;
+    };
+    value.as_bytes() == constant
+}
+
+#[test]
+fn a_constant_is_its_bytes(rt: HostRuntime) {
+    let text =
+        b"mlock-cert 1\nentry ^R\nneed ^A(\"a\\0a\"\"\\5c\",ID)\nlow -\ndrops 0\nmods -\nend\n";
+    assert!(rt; needs(rt.alloc(), text, b"a\n\"\\"));
 }

@@ -1,13 +1,12 @@
 //! Reads parts of expressions, routines, programs of one routine, rule files and certificates, one for each line of
-//! standard input, and prints a line for each: what is answered. So for the older readers, of straight lines alone.
+//! standard input, and prints a line for each: what is answered.
 //!
 //! A line has the reader (`expr`, `ref` or `actuals`), the byte of the text at which the reader begins, and the text, in
 //! which `\` and two hexadecimal digits are one byte. The answer is `to` and the byte after what was read, or the fault:
 //! its code, its column, and the word of what is left out. Or it has `routine`, `program`, `rules` or `cert` and a text:
 //! then the answer is `read`, or the fault. For a routine, which is named `R`, that is its place, its code, and the word of
 //! what is left out; so for a program of such a routine alone. For rules it is the section, the index in it, and the code;
-//! for a certificate the line and the code. Of straight lines, `plain` has a routine, and what is read has the columns of
-//! each command, of what it names, and of each line's end; `straight` has a certificate.
+//! for a certificate the line and the code.
 #![tactic(auto)]
 
 ghost use Rattle.std.specs.Prelude.{◌<◌, ◌≤◌, length};
@@ -19,9 +18,6 @@ use mlk_numbers::whole;
 use mlk_program::link;
 use mlk_routine::read_routine;
 use mlk_rules_file::{RulesFault, read_rules};
-use mlk_straight_check::{CertificateError, read_certificate};
-use mlk_straight_machine::plain::{Action, Line, Plain};
-use mlk_straight_walk::plain_of;
 use mlk_text::{Failure, Fault};
 use std::alloc::{AllocError, Global};
 use std::io::{self, ErrorKind, Read, Write};
@@ -161,63 +157,6 @@ fn answer_cert(alloc: Global, written: &[u8], out: &mut Vec<u8>) -> io::Result<(
     }
 }
 
-// Adds what is answered to the text of a certificate of straight lines.
-fn answer_straight(alloc: Global, written: &[u8], out: &mut Vec<u8>) -> io::Result<()> {
-    let text = text_of(alloc, written)?;
-    match read_certificate(alloc, text.as_slice()) {
-        Ok(_) => writeln!(out, "read"),
-        Err(CertificateError::Refused(fault)) => {
-            writeln!(out, "{} {}", fault.line, fault.code.number())
-        }
-        Err(CertificateError::OutOfMemory) => Err(no_memory()),
-    }
-}
-
-// The straight lines of a routine alone.
-fn plain_alone(alloc: Global, text: &[u8]) -> Result<Plain, Failure<Fault>> {
-    let routines = [read_routine(alloc, b"R", text)?];
-    plain_of(alloc, &link(alloc, &routines)?)
-}
-
-// The column of what a command names, 0 where it names nothing.
-fn action_column(action: &Action) -> u32 {
-    match action {
-        Action::Set { column, .. } => *column,
-        Action::Lock { column, .. } => *column,
-        Action::Unlock { column, .. } => *column,
-        Action::Quit => 0,
-    }
-}
-
-// Each command's column and that of what it names, and the line's end.
-fn write_columns(line: &Line, out: &mut Vec<u8>) -> io::Result<()> {
-    for command in line.commands.as_slice() {
-        write!(
-            out,
-            " {} {}",
-            command.column,
-            action_column(&command.action)
-        )?;
-    }
-    write!(out, " {}", line.end)
-}
-
-// Adds what is answered to the text of a routine of straight lines.
-fn answer_plain(alloc: Global, written: &[u8], out: &mut Vec<u8>) -> io::Result<()> {
-    let plain = match plain_alone(alloc, text_of(alloc, written)?.as_slice()) {
-        Ok(plain) => plain,
-        Err(Failure::Refused(fault)) => return write_placed(&fault, out),
-        Err(Failure::OutOfMemory) => return Err(no_memory()),
-    };
-    write!(out, "read")?;
-    for routine in plain.as_slice() {
-        for line in routine.lines.as_slice() {
-            write_columns(line, out)?;
-        }
-    }
-    writeln!(out)
-}
-
 // Adds what is answered to a part of an expression, which stands after its place.
 fn answer_part(alloc: Global, reader: &[u8], rest: &[u8], out: &mut Vec<u8>) -> io::Result<()> {
     let Some((at, written)) = rest.split_once_str(b" ") else {
@@ -238,8 +177,6 @@ fn answer(alloc: Global, line: &[u8], out: &mut Vec<u8>) -> io::Result<()> {
         None => Err(io::Error::from(ErrorKind::InvalidInput)),
         Some((b"cert", written)) => answer_cert(alloc, written, out),
         Some((b"rules", written)) => answer_rules(alloc, written, out),
-        Some((b"straight", written)) => answer_straight(alloc, written, out),
-        Some((b"plain", written)) => answer_plain(alloc, written, out),
         Some((b"routine", written)) => {
             write_read(read_alone(alloc, text_of(alloc, written)?.as_slice()), out)
         }

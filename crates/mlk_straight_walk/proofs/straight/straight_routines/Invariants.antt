@@ -1,6 +1,0 @@
-use Rattle.std.proofs.Common.{◌≡◌, take, Ok}
-use Rattle.mlk_straight_walk.specs.StraightAnswers.{each, of_routine}
-use Rattle.mlk_straight_walk.proofs.straight.straight_routines.Given as goal
-
-abbrev pub invariant-loop-tree : goal.invariant-loop-tree
-invariant-loop-tree l = each of_routine (take l.tree-index l.trees) ≡ Ok l.routines.items
