@@ -1,2 +1,6 @@
 //! The check of a program, and what its `yes` means for every run.
 #![tactic(auto)]
+
+mod law;
+
+pub use law::{replays_are_safe, safe_is_shown};

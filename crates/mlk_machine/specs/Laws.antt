@@ -1,5 +1,5 @@
 -- What a replay comes to is a moment of a run. This project's own.
-use Rattle.std.specs.Prelude.{◌≡◌, ℕ, Bool, List, [], ◌∷◌, replicate, map, Ok}
+use Rattle.std.specs.Prelude.{◌≡◌, ℕ, Bool, List, [], ◌∷◌, replicate, Ok}
 use Rattle.std.specs.List.{flat_map}
 use Rattle.mlk_machine_locks.specs.Systems.{Machine, Event, Go, after}
 use Rattle.mlk_syntax.specs.declared.routine.Routine.{Routine}
