@@ -1,1 +1,3 @@
 pub mod Theorem
+mod Endings
+pub mod Replays

@@ -2,5 +2,7 @@
 #![tactic(auto)]
 
 mod check;
+mod law;
 
 pub use check::check_all;
+pub use law::{replays_are_safe, safe_is_shown};

@@ -7,3 +7,4 @@ pub mod LineLemmas
 pub mod ReplayLemmas
 pub mod FileLemmas
 pub mod FollowLemmas
+pub mod RunLemmas

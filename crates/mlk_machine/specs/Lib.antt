@@ -9,3 +9,4 @@ pub mod EventReading
 pub mod Replays
 pub mod Files
 pub mod InstructionViews
+pub mod Laws

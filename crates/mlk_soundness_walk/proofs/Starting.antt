@@ -166,8 +166,10 @@ module _ (routines : List RoutineTree) (rules : RuleLists) (blocks : List EntryC
           let held : c.held ≡ [] = (leaves_same c x leaves).0 ∙ leaves_nothing x among in
           let to : Job = doing [] (record (back_to [] 1 i) { routine = 0 }) in
           end_step routines sc world (first_level world) n i NoValue [] 1 0 [] ended (plain_facts sc world (first_level world) i (EndFrame NoValue [] 1 0) [] ended refl) (λ free y.
-          unasked (AtEnd n) y (Ok to) (done (AtEnd n) to (refl,
-          ended_safe routines sc world (first_level world) is_world n [] to refl (λ m. d.stands.counts m ∙ none_times i m held))))
+          unasked (AtEnd n) y (Ok to) (done (AtEnd n) to (
+            refl,
+            ended_safe routines sc world (first_level world) is_world n [] to refl (λ m. d.stands.counts m ∙ none_times i m held),
+          )))
         where
           none_times : (i : Job) (m : LockName) → c.held ≡ [] → times (now i) c.held m + 0 ≡ 0
           none_times i m h = rw h refl

@@ -1,0 +1,46 @@
+-- What a replay comes to is a moment of a run. This project's own.
+use Rattle.std.specs.Prelude.{◌≡◌, ℕ, Bool, List, [], ◌∷◌, replicate, Ok}
+use Rattle.std.specs.List.{flat_map}
+use Rattle.mlk_machine_locks.specs.Systems.{Machine, Event, Go, after}
+use Rattle.mlk_syntax.specs.declared.routine.Routine.{Routine}
+use Rattle.mlk_syntax.specs.Trees.{RoutineTree}
+use Rattle.mlk_program.specs.declared.entry.EntryId.{EntryId}
+use Rattle.mlk_cert_lexemes.specs.Lists.{EachPair}
+use Rattle.mlk_machine_jobs.specs.declared.choice.Choice.{Choice}
+use Rattle.mlk_machine_jobs.specs.declared.choice.Choice.TheVariants as choice
+use Rattle.mlk_machine_jobs.specs.Tasks.{Job}
+use Rattle.mlk_machine_jobs.specs.Runs.{machine}
+use Rattle.mlk_machine.specs.Running.{Running}
+use Rattle.mlk_machine.specs.Systems.{jobs_in, machine_in}
+use Rattle.mlk_machine.specs.Replays.{Replayed}
+use Rattle.mlk_machine.specs.Files.{Asked, Happens, GoesOn, in_turn, ReplayedFile}
+
+-- The events that a line stands for: its own, or so many steps, without a choice, of the job that goes on by itself.
+abbrev pub StandFor : Asked → List (Event Choice EntryId) → Type 0
+StandFor (Happens e) events = events ≡ e ∷ []
+StandFor (GoesOn k) events = (count : ℕ) × (events ≡ replicate count (record { job = k; act = Go choice.None }))
+
+-- Events, some for each of these lines, make new jobs of old ones.
+pub record AreMade (m : Machine Job Choice EntryId) (asks : List Asked) (old new : List Job) : Type 0 where
+  pub events : List (List (Event Choice EntryId))
+  pub each : EachPair StandFor asks events
+  pub come_to : after m (flat_map (λ es. es) events) old ≡ Ok new
+
+-- What lines in turn make of jobs, the events that they stand for make of them.
+abbrev pub LinesAreEvents : Type 0
+LinesAreEvents =
+    (routines : List RoutineTree) (declared : EntryId → Bool) (line : ℕ) (asks : List Asked) (old new : List Job)
+    → in_turn (machine routines declared) routines line asks old ≡ Ok new
+    → AreMade (machine routines declared) asks old new
+
+-- Some events in turn, from no jobs on, come to these jobs.
+abbrev pub IsMoment : List Routine → List EntryId → List Job → Type 0
+IsMoment program entries jobs =
+    (events : List (Event Choice EntryId)) × (after (machine_in program entries) events [] ≡ Ok jobs)
+
+-- What is left after events, or after all lines of a file of them, is a moment of a run of the program.
+pub record ReplaysAreRuns : Type 0 where
+  pub of_events : (program : List Routine) (entries : List EntryId) (events : List (Event Choice EntryId)) (s : Running)
+      → Replayed program entries events (Ok s) → IsMoment program entries (jobs_in s)
+  pub of_file : (program : List Routine) (entries : List EntryId) (bytes : List ℕ) (s : Running)
+      → ReplayedFile program entries bytes (Ok s) → IsMoment program entries (jobs_in s)
