@@ -1,7 +1,14 @@
-use Rattle.std.proofs.Common.{map, inr, rules, subst}
+use Rattle.std.proofs.Common.{map, inr, rules, subst, sym}
 use Rattle.mlk_syntax.specs.Views.{routine_of}
+use Rattle.mlk_soundness_walk.specs.Forms.{AreFormed}
 use Rattle.mlk_app.specs.Checked.{IsRefusalOf, IsRefusedBy}
+use Rattle.mlk_app.proofs.Checks.{read_formed}
 use Rattle.mlk_app.proofs.checked.check_texts.Goals as goal
+
+pub outcome_of-requires : goal.outcome_of-requires
+outcome_of-requires g c =
+    subst (λ l. AreFormed (map routine_of l)) (sym c.as_slice.ensures.value)
+    (read_formed c.args.sources.routines.items (map routine_of c.in_ok-routines.routines.items) c.in_ok-routines.ensures.ok)
 
 pub returns-clause-refused : goal.returns-clause-refused
 returns-clause-refused g c =
