@@ -6,4 +6,3 @@ pub mod Tables
 pub mod Program
 pub mod Linking
 pub mod Laws
-pub mod Frames

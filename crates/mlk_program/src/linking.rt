@@ -14,7 +14,6 @@ use crate::call::CallSite;
 use crate::directory::Directory;
 use crate::fault::refusal;
 use crate::found::in_commands;
-use crate::frames::Frames;
 use crate::program::Program;
 use crate::shared::Shared;
 use mlk_syntax::{Actual, Callee, Line, Rare, Routine};
@@ -282,10 +281,5 @@ pub fn link<'a>(alloc: Global, routines: &'a [Routine]) -> Result<Program<'a>, F
     check_limits(alloc, routines)?;
     let mut shared = Shared::new(alloc);
     link_routines(alloc, &directory, &mut shared)?;
-    let frames = Frames::of(alloc, &directory)?;
-    Ok(Program {
-        directory,
-        shared,
-        frames,
-    })
+    Ok(Program { directory, shared })
 }

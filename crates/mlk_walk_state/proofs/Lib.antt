@@ -10,4 +10,3 @@ pub mod HeldTerms
 pub mod NameLaws
 pub mod ChainSymbols
 pub mod PointEnds
-pub mod Shared
