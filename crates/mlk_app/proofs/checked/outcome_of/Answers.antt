@@ -1,5 +1,6 @@
-use Rattle.std.proofs.Common.{map, inr, rules, subst}
+use Rattle.std.proofs.Common.{map, inr, rules, subst, sym}
 use Rattle.mlk_syntax.specs.Views.{routine_of}
+use Rattle.mlk_soundness_walk.specs.Forms.{AreFormed}
 use Rattle.mlk_app.specs.Checked.{IsOutcomeUnder, IsRefusalUnder}
 use Rattle.mlk_app.proofs.Checks.{by-link, ok_turned, err_turned}
 use Rattle.mlk_app.proofs.checked.outcome_of.Goals as goal
@@ -8,6 +9,9 @@ pub returns-in_err-program-clause-refused : goal.returns-in_err-program-clause-r
 returns-in_err-program-clause-refused g c =
     let refused = by-link (map routine_of c.args.routines.now) c.args.rules_text.now c.args.work.now c.in_err-program.field-0.0 c.in_err-program.ensures.refused in
     grind rules
+
+pub outcome_under-outcome-requires : goal.outcome_under-outcome-requires
+outcome_under-outcome-requires g c = subst (λ l. AreFormed (map routine_of l)) (sym c.in_ok-program.ensures.same) c.requires
 
 pub returns-clause-ok : goal.returns-clause-ok
 returns-clause-ok g c =

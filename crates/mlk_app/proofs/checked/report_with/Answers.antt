@@ -13,4 +13,4 @@ pub returns-clause-ok : goal.returns-clause-ok
 returns-clause-ok g c = ok_turned c.report_by-report.result (λ r h. (c.in_ok-certificate.certificate, c.in_ok-certificate.ensures.ok, h)) c.report_by-report.ensures.ok
 
 pub returns-clause-refused : goal.returns-clause-refused
-returns-clause-refused g c = err_turned c.report_by-report.result (λ r h. below _ _ _ _ r c.in_ok-certificate.ensures.ok h) c.report_by-report.ensures.refused
+returns-clause-refused g c = err_turned c.report_by-report.result (λ r h. below (map routine_of c.args.program.now) c.args.rules.now c.in_ok-certificate.certificate c.args.text.now r c.in_ok-certificate.ensures.ok h) c.report_by-report.ensures.refused

@@ -6,5 +6,5 @@ use Rattle.mlk_check.proofs.check.check_all.Goals as goal
 pub returns-clause-safe : goal.returns-clause-safe
 returns-clause-safe c =
     ok_turned c.report_of.result
-    (λ r is none formed. keeps_rules (map routine_of c.args.program.now) c.args.rules.now c.args.certificate.now c.lists.ensures.sound c.blocks.ensures.limits formed (sym is ∙ none))
+    (λ r is none formed. keeps_rules (map routine_of c.args.program.now) c.args.rules.now c.args.certificate.now c.lists.ensures.sound c.blocks-2.ensures.limits formed (sym is ∙ none))
     c.report_of.ensures
