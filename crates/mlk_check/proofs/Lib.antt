@@ -1,3 +1,4 @@
 pub mod Theorem
 mod Endings
 pub mod Replays
+pub mod Examples

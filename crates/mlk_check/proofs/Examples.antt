@@ -1,0 +1,508 @@
+-- The theorem speaks of real programs: of four worked programs all that it asks for is shown, so every run of theirs keeps the
+-- rules. And what it says of one given run, in which two jobs of one program want the same lock.
+use Rattle.std.proofs.Common.{◌≡◌, refl, sym, ap, subst, ℕ, zero, suc, Bool, true, false, List, [], ◌∷◌, arith, inl, inr, length}
+use Rattle.std.specs.Prelude.{◌≤◌, ◌++◌, Some, None, Ok, Err, codes, Contains}
+use Rattle.mlk_text.specs.declared.root.Root.{Root}
+use Rattle.mlk_text.specs.declared.root.Root.TheVariants as root
+use Rattle.mlk_names.specs.declared.lock_name.LockName.{LockName}
+use Rattle.mlk_names.specs.declared.known_symbol.KnownSym.TheVariants as known
+use Rattle.mlk_names.specs.declared.term.LockTerm.{LockTerm}
+use Rattle.mlk_names.specs.LockNames.{Conflict, IsAbove}
+use Rattle.mlk_names.specs.Symbols.{Assignment}
+use Rattle.mlk_names.specs.declared.reference.Reference.{Reference}
+use Rattle.mlk_names.proofs.OverlapLemmas.{may_touch}
+use Rattle.mlk_rules.specs.declared.cover.Cover.{Cover}
+use Rattle.mlk_rules.specs.declared.pattern.Element.TheVariants as element
+use Rattle.mlk_rules.specs.declared.template.Part.TheVariants.{Place}
+use Rattle.mlk_rules.specs.declared.template.Template.{Template}
+use Rattle.mlk_rules.specs.Coverage.{HoldLocks, HoldsLock, Satisfies}
+use Rattle.mlk_rules.specs.Patterns.{MayMeet}
+use Rattle.mlk_rules.proofs.Instances.{lock_of_node}
+use Rattle.mlk_rules.specs.declared.rules.RuleLists.{RuleLists}
+use Rattle.mlk_rules.specs.Ranks.{FamiliesApart}
+use Rattle.mlk_rules.specs.Sound.{IsSound}
+use Rattle.mlk_syntax.specs.Distinct.{AreDistinct}
+use Rattle.mlk_syntax.specs.Trees.{RoutineTree}
+use Rattle.mlk_program.specs.Entries.{lines_in}
+use Rattle.mlk_cert_lexemes.specs.Kinds.{IsName, IsTerm}
+use Rattle.mlk_cert_lexemes.specs.Lists.{Each, ascends}
+use Rattle.mlk_cert_parts.specs.declared.case.Case.{Case}
+use Rattle.mlk_cert_parts.specs.declared.names.NameSet.TheVariants.{Only}
+use Rattle.mlk_cert_parts.specs.Limits.{AreTerms, AreMods, IsOwn, AreOwn, AreKept, IsCase, IsPoint, IsCertificate, cases_below}
+use Rattle.mlk_machine_jobs.specs.Calling.{formals_in}
+use Rattle.mlk_machine_jobs.specs.Tasks.{Job, LineTree}
+use Rattle.mlk_machine_laws.specs.WellFormed.{AreLeveled, LinesReadLocals, lines_of_routine}
+use Rattle.mlk_soundness_walk.specs.Forms.{AreFormed}
+use Rattle.mlk_walk.proofs.Examples.{base_rules, deposit-yes-routines, deposit-yes-blocks, deposit-yes}
+use Rattle.mlk_walk.proofs.Examples.{wrapper-takes-lock-routines, wrapper-takes-lock-blocks, wrapper-takes-lock}
+use Rattle.mlk_walk.proofs.Examples.{loop-under-lock-routines, loop-under-lock-blocks, loop-under-lock}
+use Rattle.mlk_walk.proofs.Examples.{timed-lock-block-keeps-test-routines, timed-lock-block-keeps-test-blocks, timed-lock-block-keeps-test}
+use Rattle.std.specs.Fmt.{digits}
+use Rattle.mlk_text.specs.Lexemes.{name_at, entry_of, label_at, digits_at}
+use Rattle.mlk_names.specs.declared.reference.Extent.TheVariants.{Node, Tree}
+use Rattle.mlk_names.specs.declared.reference.Access.TheVariants.{Writes}
+use Rattle.mlk_names.specs.References.{Touch, Touches}
+use Rattle.mlk_program.specs.declared.entry.EntryId.{EntryId}
+use Rattle.mlk_machine_locks.specs.NameTests.{same_name, is_above, in_conflict}
+use Rattle.mlk_machine_locks.specs.Counts.{count_of}
+use Rattle.mlk_machine_locks.specs.Waiting.{Holds, waits}
+use Rattle.mlk_machine_locks.specs.Systems.{Machine, Event, Act, Begin, Go, after, happens, lone_run}
+use Rattle.mlk_machine_locks.specs.declared.refusal.Refusal.TheVariants.{NotEnabled}
+use Rattle.mlk_machine_jobs.specs.declared.choice.Choice.{Choice}
+use Rattle.mlk_machine_jobs.specs.declared.choice.Choice.TheVariants as choice
+use Rattle.mlk_machine_jobs.specs.Choices.{Stepped, touch_of}
+use Rattle.mlk_machine_jobs.specs.Runs.{machine, begun, blank, seen, next_claim}
+use Rattle.mlk_machine_jobs.specs.Seen.{Clash, ready, HasEnded}
+use Rattle.mlk_machine_jobs.specs.Values.{fold_between}
+use Rattle.mlk_machine_laws.specs.Moments.{IsCoveredAt, IsHeld}
+use Rattle.mlk_machine_laws.specs.Laws.{IsWithoutRing}
+use Rattle.mlk_walk_state.specs.Scope.{is_declared}
+use Rattle.mlk_check.specs.Theorem.{AreSafe, KeepsRules}
+use Rattle.mlk_check.proofs.Theorem.{keeps_rules}
+
+-- what each item of a list is, and that a name is not in a list
+each_one : {A : Type 0} (Is : A → Type 0) (xs : List A) → Each Is xs → (a : A) → Contains xs a → Is a
+each_one Is [] h a i = absurd (omega (arith, i.1))
+each_one Is (x ∷ xs) h a (zero, low, same) = subst Is same h.0
+each_one Is (x ∷ xs) h a (suc k, low, same) = each_one Is xs h.1 a (k, omega (arith, low), same)
+
+not_there : (n : List ℕ) (names : List (List ℕ)) → Each (λ m. m ≡ n → ⊥) names → Contains names n → ⊥
+not_there n names h i = each_one (λ m. m ≡ n → ⊥) names h n i refl
+
+-- The rules: each is well formed, and `^ACCT` is neither `^LOG` nor above or below it.
+abbrev size : Root → ℕ
+size (root.Global name) = length name
+size (root.Local name) = length name
+
+differ : root.Global (codes "ACCT") ≡ root.Global (codes "LOG") → ⊥
+differ e = let z : 4 ≡ 3 = ap size e in absurd (omega (arith, z))
+
+abbrev acct : LockName
+acct = record { root = root.Global (codes "ACCT"); subs = [] }
+
+abbrev log : LockName
+log = record { root = root.Global (codes "LOG"); subs = [] }
+
+no_conflict : Conflict acct log → ⊥
+no_conflict (inl above) = differ above.root
+no_conflict (inr above) = differ (sym above.root)
+
+apart : (entries : List (List ℕ)) → FamiliesApart (base_rules entries).families
+apart entries zero zero d l m = absurd (omega (arith, l))
+apart entries zero (suc zero) d l m = no_conflict
+apart entries zero (suc (suc j)) d l m = absurd (omega (arith, m))
+apart entries (suc i) zero d l m = absurd (omega (arith, l))
+apart entries (suc i) (suc zero) d l m = absurd (omega (arith, l))
+apart entries (suc i) (suc (suc j)) d l m = absurd (omega (arith, m))
+
+sound : (entries : List (List ℕ)) → IsSound (base_rules entries)
+sound entries = record { formed = refl; apart = apart entries }
+
+-- Parts of certificates: lists without an item, and with one; a formal's name, which is new at level 1; a point with one case.
+no_terms : AreTerms []
+no_terms = record { each = tt; few = omega arith; order = refl }
+
+no_mods : AreMods []
+no_mods = record { each = tt; few = omega arith; order = refl }
+
+no_own : AreOwn []
+no_own = record { each = tt; few = omega arith; order = refl }
+
+no_kept : AreKept []
+no_kept = record { each = tt; few = omega arith; order = refl }
+
+one_term : (t : LockTerm) → IsTerm t → AreTerms (t ∷ [])
+one_term t h = record { each = (h, tt); few = omega arith; order = refl }
+
+formal : (name : List ℕ) → IsName name → IsOwn (record { level = 1; names = Only name })
+formal name h = (omega arith, omega arith, h)
+
+one_own : (name : List ℕ) → IsName name → AreOwn (record { level = 1; names = Only name } ∷ [])
+one_own name h = record { each = (formal name h, tt); few = omega arith; order = refl }
+
+one_kept : (name : List ℕ) → IsName name → AreKept (name ∷ [])
+one_kept name h = record { each = (h, tt); few = omega arith; order = refl }
+
+one_case : (number round : ℕ) (c : Case) → 1 ≤ number → number ≤ 65535 → round ≤ 255 → IsCase c
+    → IsPoint (record { line = number; round = round; cases = c ∷ [] })
+one_case number round c least most rounds h = record {
+  from_one = least;
+  line = most;
+  round = rounds;
+  each = (h, tt);
+  some_case = omega arith;
+  few = omega arith;
+  order = refl;
+}
+
+two_cases : (number : ℕ) (c d : Case) → 1 ≤ number → number ≤ 65535 → IsCase c → IsCase d → ascends cases_below (c ∷ d ∷ []) ≡ true
+    → IsPoint (record { line = number; round = 0; cases = c ∷ d ∷ [] })
+two_cases number c d least most h g order = record {
+  from_one = least;
+  line = most;
+  round = omega arith;
+  each = (h, (g, tt));
+  some_case = omega arith;
+  few = omega arith;
+  order = order;
+}
+
+-- what cases say of the formal ID: it is new at level 1, it is kept, and ^ACCT(ID) is held
+id_own : AreOwn (record { level = 1; names = Only (codes "ID") } ∷ [])
+unfolding name_at
+id_own = one_own (codes "ID") refl
+
+id_kept : AreKept (codes "ID" ∷ [])
+unfolding name_at
+id_kept = one_kept (codes "ID") refl
+
+id_held : AreTerms (record { root = root.Global (codes "ACCT"); subs = known.Local (codes "ID") ∷ [] } ∷ [])
+unfolding name_at
+id_held = one_term (record { root = root.Global (codes "ACCT"); subs = known.Local (codes "ID") ∷ [] }) (refl, (refl, tt))
+
+-- QUIT with a value may stand on level 1, and stands nowhere else, since no command of these programs is one
+may : {b : Bool} → b ≡ true → true ≡ true
+may e = refl
+
+-- the levels of a routine's lines with their QUITs, the formal list of each of its lines, and what its READs read into
+abbrev Parts : RoutineTree → Type 0
+Parts r =
+    AreLeveled 1 true (lines_of_routine r) × Each (λ (l : LineTree). AreDistinct (formals_in l.0)) (lines_in r) × LinesReadLocals (lines_of_routine r)
+
+formed : (routines : List RoutineTree) → Each Parts routines → AreFormed routines
+formed routines h r i =
+    let p : Parts r = each_one Parts routines h r i in
+    record {
+      levels = p.0;
+      formals = each_one (λ (l : LineTree). AreDistinct (formals_in l.0)) (lines_in r) p.1;
+      reads = p.2;
+    }
+
+-- the formal list of one name
+one_name : (name : List ℕ) → AreDistinct (name ∷ [])
+one_name name = ((λ i. not_there name [] tt i), tt)
+
+-- DEP(ID,AMT) LOCK +^ACCT(ID) SET ^ACCT(ID,"bal")=$GET(^ACCT(ID,"bal"))+AMT LOCK -^ACCT(ID) QUIT
+-- One entry that takes its lock, reads and writes what the lock covers, and gives the lock back.
+abbrev deposit_rules : RuleLists
+deposit_rules = base_rules (codes "DEP^BANK" ∷ [])
+
+deposit_formed : AreFormed deposit-yes-routines
+deposit_formed = formed deposit-yes-routines ((
+  ((refl, (may, (may, (may, (may, tt))))), tt, tt),
+  ((no_amount, one_name (codes "AMT")), tt),
+  ((refl, (refl, (refl, (refl, tt)))), tt, tt),
+), tt)
+  where
+    no_amount : Contains (codes "AMT" ∷ []) (codes "ID") → ⊥
+    no_amount i = not_there (codes "ID") (codes "AMT" ∷ []) ((λ e. let z : 3 ≡ 2 = ap length e in absurd (omega (arith, z))), tt) i
+
+deposit_certificate : IsCertificate deposit-yes-blocks
+unfolding name_at
+deposit_certificate = record {
+  each = (record {
+    entry = (codes "DEP", codes "BANK", inr refl, refl, refl);
+    summary = record {
+      need = no_terms;
+      low = omega arith;
+      mods = no_mods;
+      each_exit = (record { held = no_terms; kept = record { each = (refl, (refl, tt)); few = omega arith; order = refl } }, tt);
+      few_exits = omega arith;
+      exit_order = refl;
+    };
+    each_point = (one_case 1 0 _ (omega arith) (omega arith) (omega arith) (record {
+      held = no_terms;
+      own = record { each = (formal (codes "AMT") refl, (formal (codes "ID") refl, tt)); few = omega arith; order = refl };
+      kept = record { each = (refl, (refl, tt)); few = omega arith; order = refl };
+    }), tt);
+    order = refl;
+  }, tt);
+  distinct = (tt, tt);
+}
+
+pub deposit_keeps_rules : KeepsRules deposit-yes-routines deposit_rules deposit-yes-blocks
+deposit_keeps_rules = keeps_rules deposit-yes-routines deposit_rules deposit-yes-blocks (sound _) deposit_certificate deposit_formed deposit-yes
+
+-- USE(ID) DO GRAB(ID) SET ^ACCT(ID)=1 LOCK -^ACCT(ID) QUIT
+-- GRAB(K) LOCK +^ACCT(K) QUIT
+-- The lock is taken by another entry than the one that writes and gives it back.
+wrapper_formed : AreFormed wrapper-takes-lock-routines
+wrapper_formed = formed wrapper-takes-lock-routines ((
+  ((refl, (may, (may, (may, (may, tt))))), tt, ((refl, (may, (may, tt))), tt, tt)),
+  (one_name (codes "ID"), (one_name (codes "K"), tt)),
+  ((refl, (refl, (refl, (refl, tt)))), tt, ((refl, (refl, tt)), tt, tt)),
+), tt)
+
+wrapper_certificate : IsCertificate wrapper-takes-lock-blocks
+unfolding name_at
+wrapper_certificate = record {
+  each = (record {
+    entry = (codes "USE", codes "WRAP", inr refl, refl, refl);
+    summary = record {
+      need = no_terms;
+      low = omega arith;
+      mods = no_mods;
+      each_exit = (record { held = no_terms; kept = id_kept }, tt);
+      few_exits = omega arith;
+      exit_order = refl;
+    };
+    each_point = (one_case 1 0 _ (omega arith) (omega arith) (omega arith)
+        (record { held = no_terms; own = id_own; kept = id_kept }), tt);
+    order = refl;
+  }, (record {
+    entry = (codes "GRAB", codes "WRAP", inr refl, refl, refl);
+    summary = record {
+      need = no_terms;
+      low = omega arith;
+      mods = no_mods;
+      each_exit = (record { held = one_term _ (refl, (refl, tt)); kept = one_kept (codes "K") refl }, tt);
+      few_exits = omega arith;
+      exit_order = refl;
+    };
+    each_point = (one_case 2 0 _ (omega arith) (omega arith) (omega arith)
+        (record { held = no_terms; own = one_own (codes "K") refl; kept = one_kept (codes "K") refl }), tt);
+    order = refl;
+  }, tt));
+  distinct = (((λ e. let z : 9 ≡ 8 = ap length e in absurd (omega (arith, z))), tt), (tt, tt));
+}
+
+pub wrapper_keeps_rules : KeepsRules wrapper-takes-lock-routines (base_rules (codes "USE^WRAP" ∷ [])) wrapper-takes-lock-blocks
+wrapper_keeps_rules =
+    keeps_rules wrapper-takes-lock-routines (base_rules (codes "USE^WRAP" ∷ [])) wrapper-takes-lock-blocks (sound _) wrapper_certificate wrapper_formed wrapper-takes-lock
+
+-- L LOCK +^LOG FOR I=1:1:3 SET ^LOG(I)=I
+--  LOCK -^LOG QUIT
+-- A FOR whose rounds write under a lock that the line before them takes.
+loop_formed : AreFormed loop-under-lock-routines
+loop_formed = formed loop-under-lock-routines ((
+  ((refl, (may, ((λ e. e), tt))), tt, ((refl, (may, (may, tt))), tt, tt)),
+  (tt, (tt, tt)),
+  ((refl, (refl, tt)), tt, ((refl, (refl, tt)), tt, tt)),
+), tt)
+
+loop_certificate : IsCertificate loop-under-lock-blocks
+unfolding name_at
+loop_certificate = record {
+  each = (record {
+    entry = (codes "L", codes "LOOP", inr refl, refl, refl);
+    summary = record {
+      need = no_terms;
+      low = omega arith;
+      mods = record { each = (refl, tt); few = omega arith; order = refl };
+      each_exit = (record { held = no_terms; kept = no_kept }, tt);
+      few_exits = omega arith;
+      exit_order = refl;
+    };
+    each_point = (
+      one_case 1 0 _ (omega arith) (omega arith) (omega arith) (record { held = no_terms; own = no_own; kept = no_kept }),
+      (one_case 1 1 _ (omega arith) (omega arith) (omega arith) (record { held = one_term _ (refl, tt); own = no_own; kept = no_kept }),
+      (one_case 2 0 _ (omega arith) (omega arith) (omega arith) (record { held = one_term _ (refl, tt); own = no_own; kept = no_kept }), tt)),
+    );
+    order = refl;
+  }, tt);
+  distinct = (tt, tt);
+}
+
+pub loop_keeps_rules : KeepsRules loop-under-lock-routines (base_rules (codes "L^LOOP" ∷ [])) loop-under-lock-blocks
+loop_keeps_rules =
+    keeps_rules loop-under-lock-routines (base_rules (codes "L^LOOP" ∷ [])) loop-under-lock-blocks (sound _) loop_certificate loop_formed loop-under-lock
+
+-- T(ID) LOCK +^ACCT(ID):5 DO
+--  . IF 0
+--  ELSE  QUIT
+--  SET ^ACCT(ID)=1 LOCK -^ACCT(ID) QUIT
+-- Whether a LOCK with a timeout was granted stands in `$TEST`, and the end of the block puts that back.
+timed_formed : AreFormed timed-lock-block-keeps-test-routines
+timed_formed = formed timed-lock-block-keeps-test-routines ((
+  (
+    (refl, (may, (may, tt))),
+    ((refl, ((λ e. e), tt)), tt, tt),
+    ((refl, (may, (may, tt))), tt, ((refl, (may, (may, (may, tt)))), tt, tt)),
+  ),
+  (one_name (codes "ID"), (tt, (tt, tt))),
+  ((refl, (refl, tt)), ((refl, tt), tt, tt), ((refl, (refl, tt)), tt, ((refl, (refl, (refl, tt))), tt, tt))),
+), tt)
+
+timed_certificate : IsCertificate timed-lock-block-keeps-test-blocks
+unfolding name_at
+timed_certificate = record {
+  each = (record {
+    entry = (codes "T", codes "BLOCK", inr refl, refl, refl);
+    summary = record {
+      need = no_terms;
+      low = tt;
+      mods = no_mods;
+      each_exit = (record { held = no_terms; kept = id_kept }, (record { held = no_terms; kept = id_kept }, tt));
+      few_exits = omega arith;
+      exit_order = refl;
+    };
+    each_point = (
+      one_case 1 0 _ (omega arith) (omega arith) (omega arith) (record { held = no_terms; own = id_own; kept = id_kept }),
+      (two_cases 2 _ _ (omega arith) (omega arith) (record { held = no_terms; own = id_own; kept = id_kept }) (record { held = id_held; own = id_own; kept = id_kept }) refl,
+      (two_cases 3 _ _ (omega arith) (omega arith) (record { held = no_terms; own = id_own; kept = id_kept }) (record { held = id_held; own = id_own; kept = id_kept }) refl,
+      (one_case 4 0 _ (omega arith) (omega arith) (omega arith) (record { held = id_held; own = id_own; kept = id_kept }), tt))),
+    );
+    order = refl;
+  }, tt);
+  distinct = (tt, tt);
+}
+
+pub timed_keeps_rules : KeepsRules timed-lock-block-keeps-test-routines (base_rules (codes "T^BLOCK" ∷ [])) timed-lock-block-keeps-test-blocks
+timed_keeps_rules =
+    keeps_rules timed-lock-block-keeps-test-routines (base_rules (codes "T^BLOCK" ∷ [])) timed-lock-block-keeps-test-blocks (sound _) timed_certificate timed_formed timed-lock-block-keeps-test
+
+-- One run of DEP^BANK. Two jobs deposit into account 7: the first one 5, the second one 9. Both go up to their claim of
+-- ^ACCT(7). The first one gets it, reads a balance of 100, and goes up to its write.
+abbrev deposit_entry : EntryId
+deposit_entry = record { routine = 0; line = 0 }
+
+abbrev bank : Machine Job Choice EntryId
+bank = machine deposit-yes-routines (is_declared deposit-yes-routines deposit_rules.entries)
+
+-- so many steps that ask for nothing
+abbrev steps : ℕ → List (Act Choice EntryId)
+steps zero = []
+steps (suc n) = Go choice.None ∷ steps n
+
+-- the acts of a job, as events of the run
+abbrev events_of : ℕ → List (Act Choice EntryId) → List (Event Choice EntryId)
+events_of k [] = []
+events_of k (a ∷ acts) = record { job = k; act = a } ∷ events_of k acts
+
+abbrev deposits : ℕ → List ℕ → Event Choice EntryId
+deposits k amount = record { job = k; act = Begin deposit_entry false (codes "7" ∷ amount ∷ []) }
+
+abbrev events : List (Event Choice EntryId)
+events =
+    deposits 1 (codes "5") ∷ deposits 2 (codes "9") ∷ events_of 1 (steps 4) ++ events_of 2 (steps 4)
+    ++ events_of 1 (steps 13 ++ Go (choice.Value (codes "100")) ∷ steps 5)
+
+-- What each job is, by itself: at its begin, and after these acts of its own.
+abbrev job_of : Stepped → Job
+job_of (Ok j) = j
+job_of (Err why) = blank 0 false []
+
+abbrev begun_with : ℕ → List ℕ → Job
+begun_with k amount = job_of (begun deposit-yes-routines deposit_entry k false (codes "7" ∷ amount ∷ []))
+
+abbrev up_to_write : List (Act Choice EntryId)
+up_to_write = steps 17 ++ Go (choice.Value (codes "100")) ∷ steps 5
+
+abbrev first : Job
+first = job_of (lone_run bank up_to_write (begun_with 1 (codes "5")))
+
+abbrev second : Job
+second = job_of (lone_run bank (steps 4) (begun_with 2 (codes "9")))
+
+pub both_jobs : after bank events [] ≡ Ok (first ∷ second ∷ [])
+unfolding entry_of label_at name_at digits_at digits fold_between same_name is_above in_conflict
+both_jobs = refl
+
+-- The first job stands ready at SET ^ACCT(7,"bal"), and holds ^ACCT(7) once.
+abbrev account : LockName
+account = record { root = root.Global (codes "ACCT"); subs = codes "7" ∷ [] }
+
+abbrev balance : Touch
+balance = touch_of (codes "ACCT") (codes "7" ∷ codes "bal" ∷ []) Node Writes
+
+first_is_ready : ready first ≡ Some balance
+unfolding digits fold_between same_name is_above
+first_is_ready = refl
+
+pub first_holds : count_of first.held account ≡ 1
+unfolding digits fold_between same_name is_above
+first_holds = refl
+
+-- The second job stands at LOCK +^ACCT(7). It can't go on, whatever is chosen: it waits for the first one.
+pub second_claims : next_claim second.tasks ≡ Some (record { names = account ∷ []; timed = false })
+second_claims = refl
+
+pub second_waits : (c : Choice) → happens bank (first ∷ second ∷ []) 2 (Go c) ≡ Err NotEnabled
+unfolding digits fold_between same_name is_above in_conflict
+second_waits choice.None = refl
+second_waits (choice.Value v) = refl
+second_waits (choice.Truth b) = refl
+
+pub second_waits_for_first : waits (seen second) (seen first) ≡ true
+unfolding digits fold_between same_name is_above in_conflict
+second_waits_for_first = refl
+
+-- What the theorem says of this moment: the jobs don't clash, they don't wait for each other in a ring, and the first one
+-- holds what covers the node that it is about to write.
+pub both_are_safe : AreSafe (first ∷ second ∷ [])
+both_are_safe = deposit_keeps_rules.all_jobs events (first ∷ second ∷ []) both_jobs
+
+pub no_ring_of_both : IsWithoutRing (first ∷ second ∷ [])
+no_ring_of_both = both_are_safe.no_ring
+
+pub they_do_not_clash : Clash first second → ⊥
+they_do_not_clash = both_are_safe.no_clash first second (inl refl) (inr (inl refl))
+
+pub write_is_covered : IsCoveredAt deposit_rules first balance
+unfolding entry_of label_at name_at digits_at digits fold_between same_name is_above
+write_is_covered =
+    (deposit_keeps_rules.each_job deposit_entry false (codes "7" ∷ codes "5" ∷ []) 1 (begun_with 1 (codes "5")) first up_to_write refl refl).facts.covered balance first_is_ready
+
+-- That is, it holds ^ACCT(7) or a name above it: by the rules that is the lock of each node at or below ^ACCT(7).
+abbrev account_lock : Template
+account_lock = record { root = root.Global (codes "ACCT"); parts = Place 0 ∷ [] }
+
+abbrev account_cover : Cover
+account_cover = record {
+  pattern = record { global = codes "ACCT"; elements = element.Variable ∷ []; extent = Tree };
+  lock = account_lock;
+  also = None;
+}
+
+may_meet : (a : Assignment) (r : Reference) → Touches a r balance → MayMeet account_cover.pattern r
+may_meet a r h = (
+  balance.region,
+  balance.region.node,
+  may_touch a r balance h,
+  record { root = refl; subs = refl },
+  (
+    record { node = record { root = codes "ACCT"; subs = codes "7" ∷ [] }; extent = Tree },
+    record { root = refl; extent = refl; subs = (tt, tt) },
+    record { root = refl; subs = record { tail = codes "bal" ∷ []; is = refl } },
+  ),
+)
+
+holds_above : IsCoveredAt deposit_rules first balance → (n : LockName) × Holds (seen first) n × IsAbove n account
+holds_above c =
+    let satisfied : Satisfies c.held c.reference account_cover = c.covered.covers account_cover (0, omega arith, refl) (may_meet c.values c.reference c.touches) in
+    let locks : HoldLocks Writes c.held c.reference (account_lock ∷ []) = subst (λ x. HoldLocks x c.held c.reference (account_lock ∷ [])) (sym c.touches.access) satisfied in
+    let h : HoldsLock c.held account_lock c.reference = locks account_lock (0, omega arith, refl) in
+    let one : IsHeld c.values first h.0 = c.each_held h.0 h.1 in
+    let above : IsAbove one.name account =
+        (lock_of_node account_lock balance.region.node).above c.values c.reference balance h.0 one.name c.touches (record { root = refl; subs = refl }) h.2 one.names in
+    (one.name, one.holds, above)
+
+pub holds_its_cover : (n : LockName) × Holds (seen first) n × IsAbove n account
+holds_its_cover = holds_above write_is_covered
+
+-- The first job goes on to its end, while the second one waits: the write, LOCK -^ACCT(7), QUIT. It has ended by itself, and so,
+-- says the theorem, holds nothing. Now the second one is granted its claim.
+abbrev to_the_end : List (Act Choice EntryId)
+to_the_end = steps 9
+
+abbrev ended : Job
+ended = job_of (lone_run bank to_the_end first)
+
+abbrev granted : Job
+granted = job_of (lone_run bank (steps 1) second)
+
+pub first_at_its_end : after bank (events ++ events_of 1 to_the_end) [] ≡ Ok (ended ∷ second ∷ [])
+unfolding entry_of label_at name_at digits_at digits fold_between same_name is_above in_conflict
+first_at_its_end = refl
+
+first_has_ended : HasEnded ended
+unfolding digits fold_between same_name is_above
+first_has_ended = (refl, refl)
+
+pub holds_nothing : (n : LockName) → Holds (seen ended) n → ⊥
+holds_nothing =
+    (deposit_keeps_rules.all_jobs (events ++ events_of 1 to_the_end) (ended ∷ second ∷ []) first_at_its_end).all_end_empty ended (inl refl) first_has_ended
+
+pub second_is_granted : happens bank (ended ∷ second ∷ []) 2 (Go choice.None) ≡ Ok (ended ∷ granted ∷ [])
+unfolding digits fold_between same_name is_above in_conflict
+second_is_granted = refl

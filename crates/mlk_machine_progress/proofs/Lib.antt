@@ -1,0 +1,11 @@
+pub mod Effects
+pub mod Parts
+pub mod Rests
+pub mod Outcomes
+pub mod Values
+pub mod Found
+pub mod FoundParts
+pub mod Callees
+pub mod Goes
+pub mod Below
+pub mod Examples

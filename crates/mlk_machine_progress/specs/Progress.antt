@@ -1,0 +1,125 @@
+-- How many values a task uses and leaves, and whether a job can go on. This project's own choice.
+use Rattle.std.specs.Prelude.{◌≡◌, ℕ, suc, ◌+◌, ◌&&◌, Bool, true, false, List, [], ◌∷◌, ◌++◌, drop, length, is_some, Ok}
+use Rattle.std.specs.List.{list_all}
+use Rattle.mlk_names.specs.declared.lock_name.LockName.{LockName}
+use Rattle.mlk_names.specs.declared.reference.Access.{Access}
+use Rattle.mlk_names.specs.declared.reference.Access.TheVariants.{Reads, Writes}
+use Rattle.mlk_machine_locks.specs.Counts.{has_room}
+use Rattle.mlk_syntax.specs.ExprTrees.{no_choices}
+use Rattle.mlk_syntax.specs.Trees.{RoutineTree}
+use Rattle.mlk_program.specs.Entries.{lacks_formals}
+use Rattle.mlk_machine_jobs.specs.declared.choice.Choice.{Choice}
+use Rattle.mlk_machine_jobs.specs.declared.choice.Choice.TheVariants as choice
+use Rattle.mlk_machine_jobs.specs.Bindings.{look}
+use Rattle.mlk_machine_jobs.specs.Tasks as task
+use Rattle.mlk_machine_jobs.specs.Tasks.{Task, Job, NoValue, AwaitsValue, HasValue, RunLines, EndFrame}
+use Rattle.mlk_machine_jobs.specs.Commands.{count_in}
+use Rattle.mlk_machine_jobs.specs.Assigning.{count_parts}
+use Rattle.mlk_machine_jobs.specs.Locking.{count_all}
+use Rattle.mlk_machine_jobs.specs.Calling.{count_given}
+use Rattle.mlk_machine_jobs.specs.Runs.{go}
+
+-- how many of the values that were computed last a task uses up
+abbrev pub uses : Task → ℕ
+uses (task.ApplyUnary op) = 1
+uses (task.ApplyBinary op) = 2
+uses (task.AskValue n) = n
+uses (task.Drop n) = n
+uses (task.Selected value others) = 1
+uses (task.FormReference name n extent access) = n
+uses (task.StoreLast name) = 1
+uses (task.Assign targets) = suc (count_parts targets)
+uses (task.Merge target source) = count_in target + count_in source
+uses task.SetTest = 1
+uses (task.Conditionally action block) = 1
+uses (task.LockNamed sign names timed) = count_all names
+uses (task.Call extrinsic callee given) = count_given given
+uses (task.CallIf callee given) = suc (count_given given)
+uses task.QuitWithValue = 1
+uses (EndFrame (HasValue test) back next routine) = 1
+uses t = 0
+
+-- what a touch gives: a value where it reads
+abbrev pub given_by : Access → ℕ
+given_by Reads = 1
+given_by Writes = 0
+
+-- a frame of `$$`, and the call that begins it, give one value
+abbrev pub value_of : Bool → ℕ
+value_of true = 1
+value_of false = 0
+
+-- how many values there are in their place once it is done, with all that it is replaced by
+abbrev pub leaves : Task → ℕ
+leaves (task.Evaluate t) = 1
+leaves (task.Push value) = 1
+leaves (task.Fetch name) = 1
+leaves task.PushJob = 1
+leaves task.PushTest = 1
+leaves (task.ApplyUnary op) = 1
+leaves (task.ApplyBinary op) = 1
+leaves (task.AskValue n) = 1
+leaves (task.Select cs) = 1
+leaves (task.Selected value others) = 1
+leaves (task.FormReference name n extent access) = given_by access
+leaves (task.DoTouch touch) = given_by touch.access
+leaves (task.Call extrinsic callee given) = value_of extrinsic
+leaves (EndFrame (AwaitsValue test) back next routine) = 1
+leaves (EndFrame (HasValue test) back next routine) = 1
+leaves t = 0
+
+-- So many values are just enough for tasks: the first finds what it uses, and the others what they use, and at the end
+-- none is left.
+abbrev pub AreEnough : ℕ → List Task → Type 0
+AreEnough n [] = n ≡ 0
+AreEnough n (t ∷ ts) = (kept : ℕ) × (n ≡ uses t + kept) × AreEnough (leaves t + kept) ts
+
+-- While tasks are left its values are just enough for them; HALT and an abort leave what was computed.
+abbrev pub HasEnough : Job → Type 0
+HasEnough j = (j.tasks ≡ [] → ⊥) → AreEnough (length j.values) j.tasks
+
+-- A step leaves all values as they are, but for the last ones, as many as its task uses.
+abbrev pub LeavesBelow : List RoutineTree → Job → Type 0
+LeavesBelow routines j = (t : Task) (ts : List Task) (free : LockName → Bool) (c : Choice) (i : Job) → j.tasks ≡ t ∷ ts
+    → go routines free c j ≡ Ok i → (last : List (List ℕ)) × (i.values ≡ last ++ drop (uses t) j.values)
+
+-- all names of a claim are free, and no count passes the greatest
+abbrev pub is_granted : (LockName → Bool) → Job → List LockName → Bool
+is_granted free j names = list_all free names && has_room names j.held
+
+-- Whether a job with these tasks can go on, where these names are free: not where it has ended, where a local has no
+-- value, where no condition of `$SELECT` was true, where a claim has to wait, or before a line with a formal list.
+abbrev pub can_go : (LockName → Bool) → Job → List Task → Bool
+can_go free j [] = false
+can_go free j (task.Fetch name ∷ ts) = is_some (j.cells (look j.bindings name))
+can_go free j (task.Select no_choices ∷ ts) = false
+can_go free j (task.Claim names false ∷ ts) = is_granted free j names
+can_go free j (RunLines (l ∷ lines) ∷ ts) = lacks_formals l
+can_go free j ts = true
+
+-- a step by some choice, and one by this choice
+abbrev pub Steps : List RoutineTree → (LockName → Bool) → Choice → Job → Type 0
+Steps routines free c j = (i : Job) × (go routines free c j ≡ Ok i)
+
+abbrev pub HasStep : List RoutineTree → (LockName → Bool) → Job → Type 0
+HasStep routines free j = (c : Choice) × Steps routines free c j
+
+-- it has a next step where it can go on, and else it has none
+pub record GoesOn (routines : List RoutineTree) (j : Job) : Type 0 where
+  pub goes : (free : LockName → Bool) → can_go free j j.tasks ≡ true → HasStep routines free j
+  pub stands : (free : LockName → Bool) → can_go free j j.tasks ≡ false → HasStep routines free j → ⊥
+
+-- the choice by which a claim is made: a timed one is told that it does not fail
+abbrev pub claiming : Bool → Choice
+claiming false = choice.None
+claiming true = choice.Truth true
+
+-- A claim is granted where all its names are free and no count passes the greatest, and else not; a timed one may always
+-- fail.
+pub record IsGrantedSo (routines : List RoutineTree) (j : Job) : Type 0 where
+  pub granted : (free : LockName → Bool) (names : List LockName) (timed : Bool) (ts : List Task) → j.tasks ≡ task.Claim names timed ∷ ts
+      → is_granted free j names ≡ true → Steps routines free (claiming timed) j
+  pub refused : (free : LockName → Bool) (names : List LockName) (timed : Bool) (ts : List Task) → j.tasks ≡ task.Claim names timed ∷ ts
+      → is_granted free j names ≡ false → Steps routines free (claiming timed) j → ⊥
+  pub fails : (free : LockName → Bool) (names : List LockName) (ts : List Task) → j.tasks ≡ task.Claim names true ∷ ts
+      → Steps routines free (choice.Truth false) j

@@ -1,0 +1,7 @@
+//! Whether a job can go on. No step ever lacks a value that it uses; and a job has a next step but where it has ended, waits
+//! for a lock, or meets what ends a run: a local without a value, `$SELECT` without a true condition, a line with formals.
+#![tactic(auto)]
+
+mod law;
+
+pub use law::{claims_are_granted, jobs_go_on, uses_no_more, values_suffice};
