@@ -188,11 +188,14 @@ abbrev deposit_rules : RuleLists
 deposit_rules = base_rules (codes "DEP^BANK" ∷ [])
 
 deposit_formed : AreFormed deposit-yes-routines
-deposit_formed = formed deposit-yes-routines ((
-  ((refl, (may, (may, (may, (may, tt))))), tt, tt),
-  ((no_amount, one_name (codes "AMT")), tt),
-  ((refl, (refl, (refl, (refl, tt)))), tt, tt),
-), tt)
+deposit_formed = formed deposit-yes-routines (
+  (
+    ((refl, (may, (may, (may, (may, tt))))), tt, tt),
+    ((no_amount, one_name (codes "AMT")), tt),
+    ((refl, (refl, (refl, (refl, tt)))), tt, tt),
+  ),
+  tt,
+)
   where
     no_amount : Contains (codes "AMT" ∷ []) (codes "ID") → ⊥
     no_amount i = not_there (codes "ID") (codes "AMT" ∷ []) ((λ e. let z : 3 ≡ 2 = ap length e in absurd (omega (arith, z))), tt) i
@@ -200,23 +203,29 @@ deposit_formed = formed deposit-yes-routines ((
 deposit_certificate : IsCertificate deposit-yes-blocks
 unfolding name_at
 deposit_certificate = record {
-  each = (record {
-    entry = (codes "DEP", codes "BANK", inr refl, refl, refl);
-    summary = record {
-      need = no_terms;
-      low = omega arith;
-      mods = no_mods;
-      each_exit = (record { held = no_terms; kept = record { each = (refl, (refl, tt)); few = omega arith; order = refl } }, tt);
-      few_exits = omega arith;
-      exit_order = refl;
-    };
-    each_point = (one_case 1 0 _ (omega arith) (omega arith) (omega arith) (record {
-      held = no_terms;
-      own = record { each = (formal (codes "AMT") refl, (formal (codes "ID") refl, tt)); few = omega arith; order = refl };
-      kept = record { each = (refl, (refl, tt)); few = omega arith; order = refl };
-    }), tt);
-    order = refl;
-  }, tt);
+  each = (
+    record {
+      entry = (codes "DEP", codes "BANK", inr refl, refl, refl);
+      summary = record {
+        need = no_terms;
+        low = omega arith;
+        mods = no_mods;
+        each_exit = (record { held = no_terms; kept = record { each = (refl, (refl, tt)); few = omega arith; order = refl } }, tt);
+        few_exits = omega arith;
+        exit_order = refl;
+      };
+      each_point = (
+        one_case 1 0 _ (omega arith) (omega arith) (omega arith) (record {
+          held = no_terms;
+          own = record { each = (formal (codes "AMT") refl, (formal (codes "ID") refl, tt)); few = omega arith; order = refl };
+          kept = record { each = (refl, (refl, tt)); few = omega arith; order = refl };
+        }),
+        tt,
+      );
+      order = refl;
+    },
+    tt,
+  );
   distinct = (tt, tt);
 }
 
@@ -227,42 +236,57 @@ deposit_keeps_rules = keeps_rules deposit-yes-routines deposit_rules deposit-yes
 -- GRAB(K) LOCK +^ACCT(K) QUIT
 -- The lock is taken by another entry than the one that writes and gives it back.
 wrapper_formed : AreFormed wrapper-takes-lock-routines
-wrapper_formed = formed wrapper-takes-lock-routines ((
-  ((refl, (may, (may, (may, (may, tt))))), tt, ((refl, (may, (may, tt))), tt, tt)),
-  (one_name (codes "ID"), (one_name (codes "K"), tt)),
-  ((refl, (refl, (refl, (refl, tt)))), tt, ((refl, (refl, tt)), tt, tt)),
-), tt)
+wrapper_formed = formed wrapper-takes-lock-routines (
+  (
+    ((refl, (may, (may, (may, (may, tt))))), tt, ((refl, (may, (may, tt))), tt, tt)),
+    (one_name (codes "ID"), (one_name (codes "K"), tt)),
+    ((refl, (refl, (refl, (refl, tt)))), tt, ((refl, (refl, tt)), tt, tt)),
+  ),
+  tt,
+)
 
 wrapper_certificate : IsCertificate wrapper-takes-lock-blocks
 unfolding name_at
 wrapper_certificate = record {
-  each = (record {
-    entry = (codes "USE", codes "WRAP", inr refl, refl, refl);
-    summary = record {
-      need = no_terms;
-      low = omega arith;
-      mods = no_mods;
-      each_exit = (record { held = no_terms; kept = id_kept }, tt);
-      few_exits = omega arith;
-      exit_order = refl;
-    };
-    each_point = (one_case 1 0 _ (omega arith) (omega arith) (omega arith)
-        (record { held = no_terms; own = id_own; kept = id_kept }), tt);
-    order = refl;
-  }, (record {
-    entry = (codes "GRAB", codes "WRAP", inr refl, refl, refl);
-    summary = record {
-      need = no_terms;
-      low = omega arith;
-      mods = no_mods;
-      each_exit = (record { held = one_term _ (refl, (refl, tt)); kept = one_kept (codes "K") refl }, tt);
-      few_exits = omega arith;
-      exit_order = refl;
-    };
-    each_point = (one_case 2 0 _ (omega arith) (omega arith) (omega arith)
-        (record { held = no_terms; own = one_own (codes "K") refl; kept = one_kept (codes "K") refl }), tt);
-    order = refl;
-  }, tt));
+  each = (
+    record {
+      entry = (codes "USE", codes "WRAP", inr refl, refl, refl);
+      summary = record {
+        need = no_terms;
+        low = omega arith;
+        mods = no_mods;
+        each_exit = (record { held = no_terms; kept = id_kept }, tt);
+        few_exits = omega arith;
+        exit_order = refl;
+      };
+      each_point = (
+        one_case 1 0 _ (omega arith) (omega arith) (omega arith)
+            (record { held = no_terms; own = id_own; kept = id_kept }),
+        tt,
+      );
+      order = refl;
+    },
+    (
+      record {
+        entry = (codes "GRAB", codes "WRAP", inr refl, refl, refl);
+        summary = record {
+          need = no_terms;
+          low = omega arith;
+          mods = no_mods;
+          each_exit = (record { held = one_term _ (refl, (refl, tt)); kept = one_kept (codes "K") refl }, tt);
+          few_exits = omega arith;
+          exit_order = refl;
+        };
+        each_point = (
+          one_case 2 0 _ (omega arith) (omega arith) (omega arith)
+              (record { held = no_terms; own = one_own (codes "K") refl; kept = one_kept (codes "K") refl }),
+          tt,
+        );
+        order = refl;
+      },
+      tt,
+    ),
+  );
   distinct = (((λ e. let z : 9 ≡ 8 = ap length e in absurd (omega (arith, z))), tt), (tt, tt));
 }
 
@@ -274,32 +298,40 @@ wrapper_keeps_rules =
 --  LOCK -^LOG QUIT
 -- A FOR whose rounds write under a lock that the line before them takes.
 loop_formed : AreFormed loop-under-lock-routines
-loop_formed = formed loop-under-lock-routines ((
-  ((refl, (may, ((λ e. e), tt))), tt, ((refl, (may, (may, tt))), tt, tt)),
-  (tt, (tt, tt)),
-  ((refl, (refl, tt)), tt, ((refl, (refl, tt)), tt, tt)),
-), tt)
+loop_formed = formed loop-under-lock-routines (
+  (
+    ((refl, (may, ((λ e. e), tt))), tt, ((refl, (may, (may, tt))), tt, tt)),
+    (tt, (tt, tt)),
+    ((refl, (refl, tt)), tt, ((refl, (refl, tt)), tt, tt)),
+  ),
+  tt,
+)
 
 loop_certificate : IsCertificate loop-under-lock-blocks
 unfolding name_at
 loop_certificate = record {
-  each = (record {
-    entry = (codes "L", codes "LOOP", inr refl, refl, refl);
-    summary = record {
-      need = no_terms;
-      low = omega arith;
-      mods = record { each = (refl, tt); few = omega arith; order = refl };
-      each_exit = (record { held = no_terms; kept = no_kept }, tt);
-      few_exits = omega arith;
-      exit_order = refl;
-    };
-    each_point = (
-      one_case 1 0 _ (omega arith) (omega arith) (omega arith) (record { held = no_terms; own = no_own; kept = no_kept }),
-      (one_case 1 1 _ (omega arith) (omega arith) (omega arith) (record { held = one_term _ (refl, tt); own = no_own; kept = no_kept }),
-      (one_case 2 0 _ (omega arith) (omega arith) (omega arith) (record { held = one_term _ (refl, tt); own = no_own; kept = no_kept }), tt)),
-    );
-    order = refl;
-  }, tt);
+  each = (
+    record {
+      entry = (codes "L", codes "LOOP", inr refl, refl, refl);
+      summary = record {
+        need = no_terms;
+        low = omega arith;
+        mods = record { each = (refl, tt); few = omega arith; order = refl };
+        each_exit = (record { held = no_terms; kept = no_kept }, tt);
+        few_exits = omega arith;
+        exit_order = refl;
+      };
+      each_point = (
+        one_case 1 0 _ (omega arith) (omega arith) (omega arith) (record { held = no_terms; own = no_own; kept = no_kept }),
+        (
+          one_case 1 1 _ (omega arith) (omega arith) (omega arith) (record { held = one_term _ (refl, tt); own = no_own; kept = no_kept }),
+          (one_case 2 0 _ (omega arith) (omega arith) (omega arith) (record { held = one_term _ (refl, tt); own = no_own; kept = no_kept }), tt),
+        ),
+      );
+      order = refl;
+    },
+    tt,
+  );
   distinct = (tt, tt);
 }
 
@@ -313,37 +345,47 @@ loop_keeps_rules =
 --  SET ^ACCT(ID)=1 LOCK -^ACCT(ID) QUIT
 -- Whether a LOCK with a timeout was granted stands in `$TEST`, and the end of the block puts that back.
 timed_formed : AreFormed timed-lock-block-keeps-test-routines
-timed_formed = formed timed-lock-block-keeps-test-routines ((
+timed_formed = formed timed-lock-block-keeps-test-routines (
   (
-    (refl, (may, (may, tt))),
-    ((refl, ((λ e. e), tt)), tt, tt),
-    ((refl, (may, (may, tt))), tt, ((refl, (may, (may, (may, tt)))), tt, tt)),
+    (
+      (refl, (may, (may, tt))),
+      ((refl, ((λ e. e), tt)), tt, tt),
+      ((refl, (may, (may, tt))), tt, ((refl, (may, (may, (may, tt)))), tt, tt)),
+    ),
+    (one_name (codes "ID"), (tt, (tt, tt))),
+    ((refl, (refl, tt)), ((refl, tt), tt, tt), ((refl, (refl, tt)), tt, ((refl, (refl, (refl, tt))), tt, tt))),
   ),
-  (one_name (codes "ID"), (tt, (tt, tt))),
-  ((refl, (refl, tt)), ((refl, tt), tt, tt), ((refl, (refl, tt)), tt, ((refl, (refl, (refl, tt))), tt, tt))),
-), tt)
+  tt,
+)
 
 timed_certificate : IsCertificate timed-lock-block-keeps-test-blocks
 unfolding name_at
 timed_certificate = record {
-  each = (record {
-    entry = (codes "T", codes "BLOCK", inr refl, refl, refl);
-    summary = record {
-      need = no_terms;
-      low = tt;
-      mods = no_mods;
-      each_exit = (record { held = no_terms; kept = id_kept }, (record { held = no_terms; kept = id_kept }, tt));
-      few_exits = omega arith;
-      exit_order = refl;
-    };
-    each_point = (
-      one_case 1 0 _ (omega arith) (omega arith) (omega arith) (record { held = no_terms; own = id_own; kept = id_kept }),
-      (two_cases 2 _ _ (omega arith) (omega arith) (record { held = no_terms; own = id_own; kept = id_kept }) (record { held = id_held; own = id_own; kept = id_kept }) refl,
-      (two_cases 3 _ _ (omega arith) (omega arith) (record { held = no_terms; own = id_own; kept = id_kept }) (record { held = id_held; own = id_own; kept = id_kept }) refl,
-      (one_case 4 0 _ (omega arith) (omega arith) (omega arith) (record { held = id_held; own = id_own; kept = id_kept }), tt))),
-    );
-    order = refl;
-  }, tt);
+  each = (
+    record {
+      entry = (codes "T", codes "BLOCK", inr refl, refl, refl);
+      summary = record {
+        need = no_terms;
+        low = tt;
+        mods = no_mods;
+        each_exit = (record { held = no_terms; kept = id_kept }, (record { held = no_terms; kept = id_kept }, tt));
+        few_exits = omega arith;
+        exit_order = refl;
+      };
+      each_point = (
+        one_case 1 0 _ (omega arith) (omega arith) (omega arith) (record { held = no_terms; own = id_own; kept = id_kept }),
+        (
+          two_cases 2 _ _ (omega arith) (omega arith) (record { held = no_terms; own = id_own; kept = id_kept }) (record { held = id_held; own = id_own; kept = id_kept }) refl,
+          (
+            two_cases 3 _ _ (omega arith) (omega arith) (record { held = no_terms; own = id_own; kept = id_kept }) (record { held = id_held; own = id_own; kept = id_kept }) refl,
+            (one_case 4 0 _ (omega arith) (omega arith) (omega arith) (record { held = id_held; own = id_own; kept = id_kept }), tt),
+          ),
+        ),
+      );
+      order = refl;
+    },
+    tt,
+  );
   distinct = (tt, tt);
 }
 
@@ -474,7 +516,7 @@ holds_above c =
     let h : HoldsLock c.held account_lock c.reference = locks account_lock (0, omega arith, refl) in
     let one : IsHeld c.values first h.0 = c.each_held h.0 h.1 in
     let above : IsAbove one.name account =
-        (lock_of_node account_lock balance.region.node).above c.values c.reference balance h.0 one.name c.touches (record { root = refl; subs = refl }) h.2 one.names in
+    (lock_of_node account_lock balance.region.node).above c.values c.reference balance h.0 one.name c.touches (record { root = refl; subs = refl }) h.2 one.names in
     (one.name, one.holds, above)
 
 pub holds_its_cover : (n : LockName) × Holds (seen first) n × IsAbove n account
