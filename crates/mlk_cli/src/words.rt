@@ -89,7 +89,7 @@ written.";
 
 // The program's version, and the kit that it is made for. Whether a build was proved is not for the program to say: the
 // script that starts it knows.
-const VERSION: &str = "0.1.0, for rattle-kit-13f logic dac8208d650f15bf";
+const VERSION: &str = "0.1.0, for rattle-kit-13b logic dac8208d650f15bf";
 
 const ABOUT: &str = "Checks that M routines touch shared data only under their locks";
 
