@@ -5,7 +5,7 @@ use crate::news::are_made_new;
 use crate::probe::{Probe, is_reached};
 use crate::walk::{Site, Target};
 use mlk_calls::{is_among, is_own};
-use mlk_cert::{Case, NameSet};
+use mlk_cert::{Case, NameSet, Own};
 use mlk_make_drafts::{At, Draft, rounds_in};
 use mlk_names::{KnownSym, LockTerm};
 use mlk_text::{List, Name};
@@ -47,6 +47,20 @@ pub(crate) fn formals_of<'a>(ground: &Ground<'a>, draft: &Draft) -> &'a [Name] {
             Some(formals) => formals.as_slice(),
         },
     }
+}
+
+// Those of the names that are formals of a draft's entry, as own.
+fn own_formals(ground: &Ground<'_>, draft: &Draft, names: &[Name]) -> Result<Vec<Own>, AllocError> {
+    let mut own = Vec::new(ground.alloc);
+    for name in names {
+        if is_among(formals_of(ground, draft), name) {
+            own.push(Own {
+                level: 1,
+                names: NameSet::Only(name.copy()?),
+            })?;
+        }
+    }
+    Ok(own)
 }
 
 // Whether a name is no formal, and the call changes it or some call shares it.
@@ -134,11 +148,13 @@ pub(crate) fn is_needed(
     if names.iter().any(|name| is_changed(ground, draft, name)) {
         return Ok(false);
     }
+    let own = own_formals(ground, draft, names)?;
     let probe = Probe {
         site,
         targets,
         fault,
         names,
+        own: own.as_slice(),
     };
     is_reached_on(ground, maker, draft, &probe)
 }

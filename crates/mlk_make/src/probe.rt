@@ -1,5 +1,6 @@
 // Whether a fault is reached before some names change. They are told by the walk itself: from a case in which they are
-// not own, by a summary that lets all other names change, it goes no further than where one of them does.
+// not own, by a summary that lets all other names change, it goes no further than where one of them does. Where it is asked
+// which names are shared, those that are own in truth count as own.
 
 use crate::maker::{Ground, Maker};
 use crate::need::are_kept;
@@ -22,6 +23,8 @@ pub(crate) struct Probe<'a> {
     pub(crate) targets: &'a [Target],
     pub(crate) fault: Fault,
     pub(crate) names: &'a [Name],
+    /// those of the names that are own in truth
+    pub(crate) own: &'a [Own],
 }
 
 fn is_one_of(item: &Own, names: &[Name]) -> bool {
@@ -141,6 +144,7 @@ fn is_found(
         maker,
         draft,
         block,
+        probe.own,
         probe.site,
         probe.targets,
         inner,

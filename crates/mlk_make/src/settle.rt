@@ -41,7 +41,16 @@ fn walk_line(
     let inner = draft
         .lists
         .ends_of(ground.alloc, site.line.block.as_slice())?;
-    walk_site(ground, maker, draft, &draft.block, site, targets, inner)
+    walk_site(
+        ground,
+        maker,
+        draft,
+        &draft.block,
+        &[],
+        site,
+        targets,
+        inner,
+    )
 }
 
 // A line that calls these is walked once.

@@ -2,7 +2,7 @@
 
 use crate::maker::{Ground, Maker};
 use mlk_calls::{Entries, Scope};
-use mlk_cert::{Case, EntryCert};
+use mlk_cert::{Case, EntryCert, Own};
 use mlk_make_drafts::{Draft, copy_summed};
 use mlk_program::{EntryId, calls_of};
 use mlk_rules::{RuleLists, Rules};
@@ -152,17 +152,18 @@ fn declared_rules(
     declaring(alloc, entries)
 }
 
-// The walk of a line, where this is known of entries.
+// The walk of a line, where this is known of entries, and these names count as own where it is asked which are shared.
 fn walk_among(
     ground: &Ground<'_>,
     entries: &Entries<'_>,
     entry: EntryId,
     block: &EntryCert,
+    own: &[Own],
     site: Site<'_>,
     inner: List<Case>,
 ) -> Result<Walked, AllocError> {
     let alloc = ground.alloc;
-    let scope = Scope::of(ground.program, ground.rules, entries, entry, block);
+    let scope = Scope::counting(ground.program, ground.rules, entries, entry, block, own);
     let mut found = LineFaults::new(alloc);
     let ends = walk_alone(
         alloc,
@@ -186,27 +187,38 @@ fn walk_by(
     rules: Option<&Rules>,
     entry: EntryId,
     block: &EntryCert,
+    own: &[Own],
     site: Site<'_>,
     inner: List<Case>,
 ) -> Result<Walked, AllocError> {
     let rules = rules.unwrap_or(ground.rules);
     let entries = Entries::of(ground.alloc, ground.program, rules, blocks)?;
-    walk_among(ground, &entries, entry, block, site, inner)
+    walk_among(ground, &entries, entry, block, own, site, inner)
 }
 
-/// The walk of a line from the cases of a block, where the line's own block may end in these cases.
+/// The walk of a line from the cases of a block, where the line's own block may end in these cases, and these names count
+/// as own where it is asked which are shared.
 pub(crate) fn walk_site(
     ground: &Ground<'_>,
     maker: &Maker,
     draft: &Draft,
     block: &EntryCert,
+    own: &[Own],
     site: Site<'_>,
     targets: &[Target],
     inner: List<Case>,
 ) -> Result<Walked, AllocError> {
     let blocks = summed(ground.alloc, maker, draft, targets)?;
     if blocks.is_empty() {
-        return walk_among(ground, ground.declared, draft.entry, block, site, inner);
+        return walk_among(
+            ground,
+            ground.declared,
+            draft.entry,
+            block,
+            own,
+            site,
+            inner,
+        );
     }
     let few = declared_rules(ground.alloc, maker, draft, targets)?;
     walk_by(
@@ -215,6 +227,7 @@ pub(crate) fn walk_site(
         few.as_ref(),
         draft.entry,
         block,
+        own,
         site,
         inner,
     )

@@ -12,3 +12,8 @@ pub mod LinkedRoutines
 pub mod EntryLines
 pub mod EntryTexts
 pub mod FittingCalls
+pub mod EntryParts
+pub mod KeyTables
+pub mod FrameNames
+pub mod Learned
+pub mod SharingCalls

@@ -70,7 +70,7 @@ pub zip_none : (formals : List (List ℕ)) → zip {X = ActualTree} formals [] �
 zip_none [] = refl
 zip_none (f ∷ formals) = refl
 
-received_more : (formals : List (List ℕ)) (given : List ActualTree) (a : ActualTree)
+pub received_more : (formals : List (List ℕ)) (given : List ActualTree) (a : ActualTree)
     → flat_map received_by (zip formals (given ++ a ∷ []))
     ≡ flat_map received_by (zip formals given) ++ received_at (slice_get formals (length given)) a
 received_more [] [] a = refl
@@ -79,11 +79,11 @@ received_more (f ∷ formals) [] a = ap (λ more. received_by (f, a) ++ flat_map
 received_more (f ∷ formals) (g ∷ given) a = ap (λ more. received_by (f, g) ++ more) (received_more formals given a)
     ∙ sym (append_assoc (received_by (f, g)) (flat_map received_by (zip formals given)) (received_at (slice_get formals (length given)) a))
 
-trees_snoc : (given : List Actual) (a : Actual) → actual_trees (given ++ a ∷ []) ≡ actual_trees given ++ actual_of a ∷ []
+pub trees_snoc : (given : List Actual) (a : Actual) → actual_trees (given ++ a ∷ []) ≡ actual_trees given ++ actual_of a ∷ []
 trees_snoc [] a = refl
 trees_snoc (g ∷ given) a = ap (λ more. actual_of g ∷ more) (trees_snoc given a)
 
-trees_length : (given : List Actual) → length (actual_trees given) ≡ length given
+pub trees_length : (given : List Actual) → length (actual_trees given) ≡ length given
 trees_length [] = refl
 trees_length (g ∷ given) = ap suc (trees_length given)
 

@@ -1,10 +1,15 @@
 -- The entries of routines, and what a call names. Standard: routine, label, entryref, labelref.
 use Rattle.std.specs.Prelude.{ℕ, suc, List, [], ◌∷◌, ◌++◌, Bool, true, false, Option, Some, None, option_map}
 use Rattle.std.specs.Prelude.{option_and_then, position, slice_get, bytes_eq, is_some, is_none, take_while, count_by, ◌+◌, drop}
+use Rattle.std.specs.Prelude.{◌&&◌, ◌==◌}
 use Rattle.mlk_text.specs.Lexemes.{entry_of}
 use Rattle.mlk_syntax.specs.declared.expr.Callee.{Callee}
 use Rattle.mlk_syntax.specs.Trees.{RoutineTree, Named_routine, LineTrees, no_lines, line, HeadTree, LineHead}
 use Rattle.mlk_program.specs.declared.entry.EntryId.{EntryId}
+
+-- Entries are compared as entries, never by their texts.
+abbrev pub same_entry : EntryId → EntryId → Bool
+same_entry e f = (e.routine == f.routine) && (e.line == f.line)
 
 abbrev pub name_of : RoutineTree → List ℕ
 name_of (Named_routine name lines) = name

@@ -1,12 +1,12 @@
--- What programs keep to: their entries have lines, the text of an entry names it, and each call has a line that takes
--- its actuals.
+-- What programs keep to: their entries have lines, the text of an entry names it, each call has a line that takes its
+-- actuals, and what a call passes by reference is shared.
 use Rattle.std.specs.Prelude.{ℕ, ◌≡◌, List, Contains, Option, Some, true}
 use Rattle.mlk_text.specs.Spellings.{IsName, IsLabel}
 use Rattle.mlk_syntax.specs.declared.expr.Callee.{Callee}
 use Rattle.mlk_syntax.specs.Trees.{RoutineTree, HeadTree, LineTrees, CallTree, Called}
 use Rattle.mlk_program.specs.Entries.{name_of, lines_in, label_of, formals_of, entry_in, entry_by, target_of}
 use Rattle.mlk_program.specs.Entries.{line_of_entry, text_of_entry}
-use Rattle.mlk_program.specs.Program.{PlacedCall, calls_of, takes, IsProgram}
+use Rattle.mlk_program.specs.Program.{PlacedCall, calls_of, takes, IsProgram, passed_by, filled_by, is_shared, is_filled}
 use Rattle.mlk_program.specs.declared.entry.EntryId.{EntryId}
 
 -- an entry of these routines: a line of one of them that a label names, or the first
@@ -45,3 +45,12 @@ IsFitting routines r (Called column callee given) = (e : EntryId) × (l : HeadTr
 abbrev pub CallsFit : Type 0
 CallsFit = (routines : List RoutineTree) (p : PlacedCall) → IsProgram routines → Contains (calls_of routines) p
     → IsFitting routines p.routine p.call
+
+-- What calls share: a name that one passes by reference, and a formal that one fills, which counts as filled in the entry
+-- that it is a formal of.
+pub record CallsShare (routines : List RoutineTree) : Type 0 where
+  pub passed : (p : PlacedCall) (name : List ℕ) → Contains (calls_of routines) p → Contains (passed_by p) name
+      → is_shared routines name ≡ true
+  pub counted : (p : PlacedCall) (e : EntryId) (formal : List ℕ) → Contains (calls_of routines) p
+      → Contains (filled_by routines p) (e, formal) → is_filled routines e formal ≡ true
+  pub filled : (e : EntryId) (formal : List ℕ) → is_filled routines e formal ≡ true → is_shared routines formal ≡ true

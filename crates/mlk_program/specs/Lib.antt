@@ -6,3 +6,4 @@ pub mod Tables
 pub mod Program
 pub mod Linking
 pub mod Laws
+pub mod Frames

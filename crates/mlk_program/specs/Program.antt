@@ -1,7 +1,7 @@
 -- Routines that are linked to a program: every call has a line that takes its actuals. Standard: routine, actuallist,
 -- formallist; that all routines are known, the limits and the order of refusals are this project's own choice.
 use Rattle.std.specs.Prelude.{ℕ, zero, suc, ◌≡◌, ◌<◌, ◌⊎◌, List, [], ◌∷◌, ◌++◌, length, map, flat_map}
-use Rattle.std.specs.Prelude.{Contains, Bool, true, false, not, nat_lt, zip, bytes_eq, Option, Some, None, option_and_then, option_map}
+use Rattle.std.specs.Prelude.{Contains, Bool, true, false, not, ◌&&◌, ◌||◌, nat_lt, zip, bytes_eq, Option, Some, None, option_and_then, option_map}
 use Rattle.std.specs.List.{list_any}
 use Rattle.mlk_text.specs.declared.code.Code.{Code}
 use Rattle.mlk_text.specs.declared.code.Code.TheVariants.{RoutineTwice, TooMany, UnknownLabel, Arity}
@@ -12,7 +12,8 @@ use Rattle.mlk_syntax.specs.Trees.{RoutineTree, Named_routine, LineTrees, no_lin
 use Rattle.mlk_syntax.specs.Trees.{CallTree, Called}
 use Rattle.mlk_syntax.specs.Distinct.{AreDistinct}
 use Rattle.mlk_program.specs.Calls.{in_commands}
-use Rattle.mlk_program.specs.Entries.{name_of, formals_of, target_of, line_of_entry, entry_count}
+use Rattle.mlk_program.specs.Entries.{name_of, formals_of, target_of, line_of_entry, lines_of, entry_count, same_entry}
+use Rattle.mlk_program.specs.declared.entry.EntryId.{EntryId}
 
 -- a call, with the routine in which it stands, counted from 0, and its line
 pub record PlacedCall : Type 0 where
@@ -129,6 +130,11 @@ lent_by (ByRef column name) = name ∷ []
 lent_by (Given t) = []
 lent_by Missing = []
 
+abbrev pub is_by_reference : ActualTree → Bool
+is_by_reference (ByRef column name) = true
+is_by_reference (Given t) = false
+is_by_reference Missing = false
+
 -- a formal that receives a name
 abbrev pub received_by : List ℕ × ActualTree → List (List ℕ)
 received_by (formal, ByRef column name) = formal ∷ []
@@ -156,3 +162,54 @@ shared_by routines p = go p.call
 -- Whether some call shares a name. This project's own.
 abbrev pub is_shared : List RoutineTree → List ℕ → Bool
 is_shared routines name = list_any (bytes_eq name) (flat_map (shared_by routines) (calls_of routines))
+
+-- The formals that a call fills by reference, each with the entry that it is a formal of.
+abbrev pub received_with : Option (Option (List (List ℕ))) → Option (List ActualTree) → List (List ℕ)
+received_with (Some (Some formals)) (Some given) = flat_map received_by (zip formals given)
+received_with (Some (Some formals)) None = []
+received_with (Some None) given = []
+received_with None given = []
+
+abbrev pub of_entry : Option EntryId → List (List ℕ) → List (EntryId × List ℕ)
+of_entry None formals = []
+of_entry (Some e) formals = map (λ f. (e, f)) formals
+
+abbrev pub filled_by : List RoutineTree → PlacedCall → List (EntryId × List ℕ)
+filled_by routines p = go p.call
+  where
+    go : CallTree → List (EntryId × List ℕ)
+    go (Called column callee given) =
+        of_entry (target_of routines p.routine callee) (received_with (called_formals routines p.routine callee) given)
+
+-- Whether some call fills this formal of an entry by reference. A formal of the same name of another entry is another
+-- matter.
+abbrev pub is_formal : EntryId → List ℕ → EntryId × List ℕ → Bool
+is_formal e name filled = same_entry e filled.0 && bytes_eq name filled.1
+
+abbrev pub is_filled : List RoutineTree → EntryId → List ℕ → Bool
+is_filled routines e name = list_any (is_formal e name) (flat_map (filled_by routines) (calls_of routines))
+
+-- the names that a call passes by reference
+abbrev pub passed_with : Option (List ActualTree) → List (List ℕ)
+passed_with None = []
+passed_with (Some given) = flat_map lent_by given
+
+abbrev pub passed_by : PlacedCall → List (List ℕ)
+passed_by p = go p.call
+  where
+    go : CallTree → List (List ℕ)
+    go (Called column callee given) = passed_with given
+
+-- the calls of a line and of its block
+abbrev pub calls_at : ℕ → HeadTree × LineTrees → List PlacedCall
+calls_at r l = placed r l.0 ++ calls_in r l.1
+
+-- Whether some call in the lines of an entry, those of blocks too, passes a name by reference.
+abbrev pub is_passed_in : List RoutineTree → EntryId → List ℕ → Bool
+is_passed_in routines e name =
+    list_any (bytes_eq name) (flat_map passed_by (flat_map (calls_at e.routine) (lines_of routines e)))
+
+-- Whether a name is shared by what an entry itself does, or what is done to it: it is a formal of the entry that some call
+-- fills by reference, or `.name` stands in the entry's lines. This project's own.
+abbrev pub is_shared_in : List RoutineTree → EntryId → List ℕ → Bool
+is_shared_in routines e name = is_filled routines e name || is_passed_in routines e name

@@ -3,9 +3,11 @@
 ghost use Rattle.std.specs.Prelude.{◌≡◌, IfOk, Some, None, option_map, option_and_then, option_copied, slice_get, map, take, drop, suc};
 ghost use Rattle.mlk_syntax.specs.Views.{line_of};
 ghost use Rattle.mlk_program.specs.Entries.{entry_in, routine_named, target_of, entry_by, line_of_entry, lines_of, line_named, lines_in, lacks_formals, label_of, text_with, text_of_entry};
+ghost use Rattle.mlk_program.specs.Frames.{part_of};
 ghost use Rattle.mlk_program.specs.Tables.{trees, AreTables, AreLater, first_of, later_lines, later_of};
 
 use crate::entry::EntryId;
+use crate::part::Part;
 use crate::table::Table;
 use mlk_syntax::{Callee, Line, Routine};
 use mlk_text::{Name, spelling};
@@ -78,8 +80,8 @@ fn lines_after(lines: &[Line], count: usize) -> &[Line]
     after
 }
 
-// Whether a line is without a formal list.
-fn lacks_formals(line: &Line) -> bool
+/// Whether a line is without a formal list.
+pub(crate) fn lacks_formals(line: &Line) -> bool
     ensures { result ≡ lacks_formals (line_of line.now) }
 {
     !line.formals.is_some()
@@ -269,6 +271,33 @@ impl<'a> Directory<'a> {
         match self.later(entry) {
             Some(later) => first_lines(lines_after(routine.lines.as_slice(), entry.line), later),
             None => &[],
+        }
+    }
+
+    /// The part of an entry's line.
+    #[tactic(auto, using(crate::proofs::EntryParts::part_some, crate::proofs::EntryParts::part_none, crate::proofs::EntryParts::part_past, crate::proofs::EntryParts::part_counted))]
+    pub(crate) fn part_of(&self, entry: EntryId) -> Part
+        ensures { result ≡ part_of self.now entry }
+    {
+        let none = Part {
+            routine: entry.routine,
+            past: 0,
+            left: 0,
+        };
+        let Some(routine) = item(self.routines, entry.routine) else {
+            return none;
+        };
+        let left = lines_after(routine.lines.as_slice(), entry.line);
+        let Some((_, others)) = left.split_first() else {
+            return none;
+        };
+        let Some(later) = self.later(entry) else {
+            return none;
+        };
+        Part {
+            routine: entry.routine,
+            past: lines_after(others, later).len(),
+            left: left.len(),
         }
     }
 

@@ -1,6 +1,8 @@
 // What programs keep to.
 
-ghost use Rattle.mlk_program.specs.Laws.{EntriesNamed, EntriesHaveLines, TextsName, CallsFit};
+ghost use Rattle.mlk_program.specs.Laws.{EntriesNamed, EntriesHaveLines, TextsName, CallsFit, CallsShare};
+ghost use Rattle.mlk_syntax.specs.Trees.{RoutineTree};
+ghost use Rattle.std.specs.Prelude.{List};
 
 /// What `entry` and `target` answer are entries of the program.
 pub fn entries_named()
@@ -20,4 +22,9 @@ pub fn texts_name()
 /// Each call of a program has a target, whose line takes its actuals.
 pub fn calls_fit()
     ensures { CallsFit }
+{}
+
+/// A name that a call passes by reference is shared, and so is a formal that one fills, in its own entry too.
+pub fn calls_share()
+    ensures { (routines : List RoutineTree) → CallsShare routines }
 {}

@@ -14,6 +14,7 @@ use crate::call::CallSite;
 use crate::directory::Directory;
 use crate::fault::refusal;
 use crate::found::in_commands;
+use crate::frames::Frames;
 use crate::program::Program;
 use crate::shared::Shared;
 use mlk_syntax::{Actual, Callee, Line, Rare, Routine};
@@ -281,5 +282,10 @@ pub fn link<'a>(alloc: Global, routines: &'a [Routine]) -> Result<Program<'a>, F
     check_limits(alloc, routines)?;
     let mut shared = Shared::new(alloc);
     link_routines(alloc, &directory, &mut shared)?;
-    Ok(Program { directory, shared })
+    let frames = Frames::of(alloc, &directory)?;
+    Ok(Program {
+        directory,
+        shared,
+        frames,
+    })
 }

@@ -3,10 +3,11 @@
 ghost use Rattle.std.specs.Prelude.{◌≡◌, IfOk, map, option_map, option_copied, slice_get};
 ghost use Rattle.mlk_syntax.specs.Views.{line_of, routine_of};
 ghost use Rattle.mlk_program.specs.Entries.{target_of, entry_by, line_of_entry, lines_of, text_of_entry};
-ghost use Rattle.mlk_program.specs.Program.{is_shared};
+ghost use Rattle.mlk_program.specs.Program.{is_shared, is_shared_in};
 
 use crate::directory::Directory;
 use crate::entry::EntryId;
+use crate::frames::Frames;
 use crate::shared::Shared;
 use mlk_syntax::{Callee, Line, Routine};
 use mlk_text::Name;
@@ -18,16 +19,19 @@ use std::marker::Model;
 pub struct Program<'a> {
     pub(crate) directory: Directory<'a>,
     pub(crate) shared: Shared<'a>,
+    pub(crate) frames: Frames<'a>,
 }
 
 impl<'a> Model for Program<'a> {
-    ghost use Rattle.std.specs.Prelude.{List, ℕ, ◌≡◌, map, bytes_eq};
+    ghost use Rattle.std.specs.Prelude.{List, [], ℕ, ◌≡◌, map, bytes_eq};
     ghost use Rattle.std.specs.List.{list_any};
     ghost use Rattle.std.specs.Coded.{codes};
     ghost use Rattle.mlk_syntax.specs.contracts.routine.Line as line;
     ghost use Rattle.mlk_syntax.specs.declared.routine.Routine.{Routine};
     ghost use Rattle.mlk_syntax.specs.Views.{routine_of};
-    ghost use Rattle.mlk_program.specs.Program.{IsProgram, is_shared};
+    ghost use Rattle.mlk_program.specs.Program.{IsProgram, is_shared, calls_of};
+    ghost use Rattle.mlk_program.specs.Frames.{Learns, fillings, passed_from};
+    ghost use Rattle.mlk_program.specs.Tables.{trees};
 
     ghost Value = { List Routine };
 
@@ -36,7 +40,9 @@ impl<'a> Model for Program<'a> {
     ghost view = { λ p. p.directory };
 
     ghost invariant = { λ p. IsProgram (map routine_of p.directory)
-        × ((name : List ℕ) → list_any (bytes_eq name) p.shared ≡ is_shared (map routine_of p.directory) name) };
+        × ((name : List ℕ) → list_any (bytes_eq name) p.shared ≡ is_shared (map routine_of p.directory) name)
+        × Learns (fillings (trees p.directory) (calls_of (trees p.directory))) (passed_from 0 p.directory) ([], [])
+        p.frames };
 }
 
 impl<'a> Program<'a> {
@@ -100,5 +106,16 @@ impl<'a> Program<'a> {
         ensures { result ≡ is_shared (map routine_of self.now) name.now }
     {
         self.shared.has(name.as_bytes())
+    }
+
+    /// Whether a name is shared in an entry's frames by what the entry itself does, or what is done to it: it is a formal
+    /// of the entry that some call of the program fills by reference, or `.X` stands in the entry's lines or their blocks
+    /// for the name X. It takes no memory.
+    pub fn is_shared_in(&self, entry: EntryId, name: &Name) -> bool
+        ensures { result ≡ is_shared_in (map routine_of self.now) entry name.now }
+    {
+        let name = name.as_bytes();
+        self.frames.has_filled(entry, name)
+            || self.frames.has_passed(self.directory.part_of(entry), name)
     }
 }

@@ -110,6 +110,45 @@ fn shared(rt: HostRuntime) {
     }
 }
 
+// Names that are shared in an entry: formals that a call fills, and names that the entry's lines pass on, in blocks too.
+// Those of other entries, routines and parts of a routine are left aside.
+#[test]
+fn shared_in(rt: HostRuntime) {
+    let alloc = rt.alloc();
+    let texts: [(&[u8], &[u8]); 2] = [
+        (
+            b"A",
+            b"S(X) DO T QUIT\nG(Y) QUIT\nT NEW X DO  QUIT\n . DO G(.X)\nU(V) QUIT\n DO G^B(.V)\n",
+        ),
+        (b"B", b"G(Z,V) QUIT\n NEW W DO G^A(.W)\n"),
+    ];
+    let routines = routines(alloc, &texts).ok().expect(&rt, "routines");
+    let program = link(alloc, routines.as_slice())
+        .ok()
+        .expect(&rt, "a program");
+    let rows: [(&[u8], &[u8], bool); 14] = [
+        (b"S^A", b"X", false),
+        (b"S^A", b"Y", false),
+        (b"G^A", b"X", true),
+        (b"G^A", b"Y", true),
+        (b"T^A", b"X", true),
+        (b"T^A", b"Y", false),
+        (b"U^A", b"V", true),
+        (b"U^A", b"X", false),
+        (b"U^A", b"W", false),
+        (b"^B", b"Z", true),
+        (b"G^B", b"W", true),
+        (b"G^B", b"V", false),
+        (b"G^B", b"Y", false),
+        (b"G^B", b"X", false),
+    ];
+    for (text, name, shared) in rows.iter() {
+        let entry = program.entry(text).expect(&rt, "an entry");
+        let name = Name::of(alloc, name).ok().expect(&rt, "memory");
+        assert!(rt; program.is_shared_in(entry, &name) == *shared, "{text:?}");
+    }
+}
+
 // Names that NEW makes new, in order: those after FOR too, not those of the block; without arguments all of them.
 #[test]
 fn new(rt: HostRuntime) {

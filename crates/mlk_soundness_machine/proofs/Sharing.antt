@@ -1,5 +1,5 @@
 -- What the names that are shared have to keep to. This project's own choice.
-use Rattle.std.proofs.Common.{◌≡◌, ℕ, Bool, true, false, List, refl}
+use Rattle.std.specs.Prelude.{◌≡◌, ℕ, Bool, true, false, List}
 use Rattle.mlk_cert_parts.specs.declared.names.Own.{Own}
 use Rattle.mlk_walk_state.specs.Names.{is_own}
 
@@ -13,7 +13,3 @@ pub record SharesByOwn (caller callee : List Own → List ℕ → Bool) : Type 0
 pub record SharesPassed (callee : List Own → List ℕ → Bool) (name filled : List ℕ) : Type 0 where
   pub actual : (own : List Own) → is_own own name ≡ false → callee own name ≡ true
   pub formal : (own : List Own) → is_own own filled ≡ true → callee own filled ≡ true
-
--- names that are shared in every frame, if in any
-pub whole_program : (shared : List ℕ → Bool) → SharesByOwn (λ own x. shared x) (λ own x. shared x)
-whole_program shared = record { by_own = λ own more x e. refl; nowhere = λ own other x h k. k }

@@ -4,7 +4,6 @@ use Rattle.mlk_rules.specs.declared.rules.RuleLists.{RuleLists}
 use Rattle.mlk_rules.specs.Sound.{IsSound}
 use Rattle.mlk_rules.proofs.RankLemmas.{one_rank}
 use Rattle.mlk_program.specs.Calls.{in_action}
-use Rattle.mlk_program.specs.Program.{is_shared}
 use Rattle.mlk_program.specs.declared.entry.EntryId.{EntryId}
 use Rattle.mlk_syntax.specs.Trees.{RoutineTree, LineTrees, ActionTree}
 use Rattle.mlk_cert_parts.specs.declared.block.EntryCert.{EntryCert}
@@ -20,7 +19,6 @@ use Rattle.mlk_walk_lines.specs.Commands.{act}
 use Rattle.mlk_walk.specs.Verdicts.{known}
 use Rattle.mlk_walk.specs.Reports.{report}
 use Rattle.mlk_soundness_machine.specs.Described.{World, Level, IsWorld}
-use Rattle.mlk_soundness_machine.proofs.Sharing.{whole_program}
 use Rattle.mlk_soundness_machine.proofs.Values.{Fits}
 use Rattle.mlk_soundness_walk.specs.Entries.{scope, first_level, EntryFits}
 use Rattle.mlk_soundness_walk.specs.Forms.{AreFormed, ListOnce}
@@ -29,7 +27,7 @@ use Rattle.mlk_soundness_walk.proofs.Alone.{Leads}
 use Rattle.mlk_soundness_walk.proofs.Formed.{entry_lines}
 use Rattle.mlk_soundness_walk.proofs.Framed.{entry_fits}
 use Rattle.mlk_soundness_walk.proofs.Levels.{line_fits}
-use Rattle.mlk_soundness_walk.proofs.Wells.{lists_once, well_of}
+use Rattle.mlk_soundness_walk.proofs.Wells.{lists_once, well_of, frames_share}
 
 module _ (routines : List RoutineTree) (rules : RuleLists) (blocks : List EntryCert) (clean : report routines rules blocks ≡ []) (formed : AreFormed routines) (sound : IsSound rules) (once : ListOnce blocks) where
   below : (n k : ℕ) → k < n → EntryFits routines rules (known routines rules blocks) k
@@ -39,7 +37,7 @@ module _ (routines : List RoutineTree) (rules : RuleLists) (blocks : List EntryC
       (λ e blk at w world p block same deep is lines pass.
       line_fits routines rules (known routines rules blocks) e blk w world sound.apart (one_rank rules.families sound.apart)
       (λ column callee written ours t its target head body more heads. well_of routines rules (known routines rules blocks) t head body more heads formed e blk its column callee written ours target)
-      (lists_once routines rules blocks once e blk at) (whole_program (is_shared routines)) k (λ i l. below n i (omega (arith, l, h)))
+      (lists_once routines rules blocks once e blk at) (frames_share routines e e) k (λ i l. below n i (omega (arith, l, h)))
       block (first_level w) (omega arith) lines pass k (omega arith) p same deep is)
 
   pub each_entry : (n : ℕ) → EntryFits routines rules (known routines rules blocks) n

@@ -7,14 +7,14 @@ use Rattle.std.specs.declared.cmp.Ordering.TheVariants.{Less, Equal, Greater}
 use Rattle.std.proofs.lemmas.Bool.{cases_Bool, and_parts, or_left, or_right}
 use Rattle.mlk_text.specs.declared.code.Code.TheVariants.{NoCertificate}
 use Rattle.mlk_syntax.specs.Trees.{RoutineTree, HeadTree, LineTrees}
-use Rattle.mlk_program.specs.Entries.{lines_in, label_of, is_label, line_named, entry_by, has_label, line_of_entry}
+use Rattle.mlk_program.specs.Entries.{same_entry, lines_in, label_of, is_label, line_named, entry_by, has_label, line_of_entry}
 use Rattle.mlk_program.specs.Laws.{IsEntryOf}
 use Rattle.mlk_program.specs.declared.entry.EntryId.{EntryId}
 use Rattle.mlk_program.proofs.EntryTexts.{entries-named}
 use Rattle.mlk_program.proofs.NameTables.{position-cons}
 use Rattle.mlk_cert_parts.specs.declared.block.EntryCert.{EntryCert}
 use Rattle.mlk_rules.specs.declared.rules.RuleLists.{RuleLists}
-use Rattle.mlk_walk_state.specs.Scope.{same_entry, block_at, block_of, has_entry, is_declared, certified, declared, scope_with}
+use Rattle.mlk_walk_state.specs.Scope.{block_at, block_of, has_entry, is_declared, certified, declared, scope_with}
 use Rattle.mlk_walk_state.proofs.EntryTables.{tables_are}
 use Rattle.mlk_calls.specs.Calls.{formals_in}
 use Rattle.mlk_walk_exprs.specs.declared.walk.Fault.{Fault}

@@ -12,22 +12,23 @@ use Rattle.mlk_syntax.specs.declared.expr.Callee.{Callee}
 use Rattle.mlk_syntax.specs.ExprTrees.{ActualTree, Given, ByRef, Missing}
 use Rattle.mlk_syntax.specs.Trees.{RoutineTree, Called, HeadTree, LineHead, LineTrees}
 use Rattle.mlk_program.specs.Entries.{lines_in, formals_of, target_of, line_of_entry}
-use Rattle.mlk_program.specs.Program.{PlacedCall, calls_of, called_formals, lent_by, received_by, shared_with, shared_by, is_shared}
+use Rattle.mlk_program.specs.Program.{PlacedCall, called_formals, lent_by, received_by, received_with, of_entry, passed_with}
 use Rattle.mlk_program.specs.declared.entry.EntryId.{EntryId}
 use Rattle.mlk_cert_parts.specs.declared.block.EntryCert.{EntryCert}
 use Rattle.mlk_cert_parts.specs.declared.block.Point.{Point}
 use Rattle.mlk_machine_jobs.specs.Calling.{formals_in, lines_after}
 use Rattle.mlk_machine_jobs.specs.Tasks.{LineTree}
-use Rattle.mlk_walk_state.specs.Scope.{block_at, block_of, names_entry, cases_of, is_at, listed_at}
+use Rattle.mlk_walk_state.specs.Scope.{block_at, block_of, names_entry, cases_of, is_at, listed_at, shared_in_frame}
 use Rattle.mlk_walk_state.specs.States.{at_rest}
 use Rattle.mlk_walk_state.proofs.EntryTables.{tables_are}
+use Rattle.mlk_walk_state.proofs.Shared.{shares_by_own}
 use Rattle.mlk_walk_commands.specs.Arguments.{given_list}
 use Rattle.mlk_walk.specs.Verdicts.{known}
 use Rattle.mlk_walk_laws.specs.Fewer.{AreDistinct, ListsEachOnce}
 use Rattle.mlk_machine_laws.specs.Sharing.{FormalsDiffer}
 use Rattle.mlk_soundness_machine.proofs.Passing.{is_reference, refs_of, refers_to, passes}
 use Rattle.mlk_soundness_machine.proofs.Reading.{differs, name_is, name_self}
-use Rattle.mlk_soundness_machine.proofs.Sharing.{whole_program}
+use Rattle.mlk_soundness_machine.proofs.Sharing.{SharesByOwn}
 use Rattle.mlk_soundness_walk.specs.Entries.{scope}
 use Rattle.mlk_soundness_walk.specs.Forms.{AreFormed, ListOnce}
 use Rattle.mlk_soundness_walk.specs.Ours.{IsOurs}
@@ -47,22 +48,6 @@ left_in : {A : Type 0} (n : ℕ) (xs : List A) (a : A) → Contains (drop n xs) 
 left_in zero xs a i = i
 left_in (suc n) [] a i = i
 left_in (suc n) (x ∷ xs) a i = let r = left_in n xs a i in (suc r.0, omega (arith, r.1), r.2)
-
-made_in : {A B : Type 0} (f : A → List B) (xs : List A) (a : A) (y : B) → Contains xs a → Contains (f a) y → Contains (flat_map f xs) y
-made_in f [] a y i k = absurd (omega (arith, i.1))
-made_in f (x ∷ xs) a y i k =
-    ⊎_elim
-    (λ (e : x ≡ a). Contains-append_left (f x) (flat_map f xs) y (subst (λ z. Contains (f z) y) (sym e) k))
-    (λ (r : Contains xs a). Contains-append_right (f x) (flat_map f xs) y (made_in f xs a y r k))
-    (contains_cases x xs a i)
-
-is_there : (x : List ℕ) (xs : List (List ℕ)) → Contains xs x → list_any (bytes_eq x) xs ≡ true
-is_there x [] i = absurd (omega (arith, i.1))
-is_there x (y ∷ ys) i =
-    ⊎_elim
-    (λ (e : y ≡ x). or_left (bytes_eq x y) (list_any (bytes_eq x) ys) (subst (λ z. bytes_eq x z ≡ true) (sym e) (name_self x)))
-    (λ (k : Contains ys x). or_right (bytes_eq x y) (list_any (bytes_eq x) ys) (is_there x ys k))
-    (contains_cases y ys x i)
 
 -- no case is listed twice at a place
 once_at : (number round : ℕ) (points : List Point) → ((p : Point) → Contains points p → AreDistinct (map at_rest p.cases)) → AreDistinct (map at_rest (listed_at points number round))
@@ -119,21 +104,30 @@ lent (f ∷ fs) (a ∷ given) n h =
     (λ u. Contains-append_right (lent_by a) (flat_map lent_by given) n (lent fs given n u))
     (or_cases (refers_to n a) (passes fs given n) h)
 
--- a call shares them
-filled_names : (head : HeadTree) (written : Option (List ActualTree)) (x : List ℕ) → refs_of (formals_in head) (given_list written) x ≡ true → Contains (shared_with written (Some (formals_of head))) x
+-- a call fills and passes them
+mapped_in : {A B : Type 0} (f : A → B) (xs : List A) (a : A) → Contains xs a → Contains (map f xs) (f a)
+mapped_in f [] a i = absurd (omega (arith, i.1))
+mapped_in f (x ∷ xs) a i =
+    ⊎_elim
+    (λ (e : x ≡ a). (0, omega arith, ap f e))
+    (λ (r : Contains xs a). let q = mapped_in f xs a r in (suc q.0, omega (arith, q.1), q.2))
+    (contains_cases x xs a i)
+
+filled_names : (head : HeadTree) (written : Option (List ActualTree)) (x : List ℕ) → refs_of (formals_in head) (given_list written) x ≡ true → Contains (received_with (Some (formals_of head)) written) x
 filled_names head None x h = differs (refs_of (formals_in head) [] x) h (none_received (formals_in head) x)
 filled_names (LineHead number level end label None commands) (Some given) x h = differs false h refl
-filled_names (LineHead number level end label (Some fs) commands) (Some given) x h =
-    Contains-append_right (flat_map lent_by given) (flat_map received_by (zip fs given)) x (received fs given x h)
+filled_names (LineHead number level end label (Some fs) commands) (Some given) x h = received fs given x h
 
-lent_names : (fs : List (List ℕ)) (written : Option (List ActualTree)) (o : Option (Option (List (List ℕ)))) (n : List ℕ) → passes fs (given_list written) n ≡ true → Contains (shared_with written o) n
-lent_names fs None o n h = differs (passes fs [] n) h (none_passed fs n)
-lent_names fs (Some given) None n h = lent fs given n h
-lent_names fs (Some given) (Some None) n h = lent fs given n h
-lent_names fs (Some given) (Some (Some formals)) n h = Contains-append_left (flat_map lent_by given) (flat_map received_by (zip formals given)) n (lent fs given n h)
+lent_names : (fs : List (List ℕ)) (written : Option (List ActualTree)) (n : List ℕ) → passes fs (given_list written) n ≡ true → Contains (passed_with written) n
+lent_names fs None n h = differs (passes fs [] n) h (none_passed fs n)
+lent_names fs (Some given) n h = lent fs given n h
 
-shares_name : (routines : List RoutineTree) (q : PlacedCall) (x : List ℕ) → Contains (calls_of routines) q → Contains (shared_by routines q) x → is_shared routines x ≡ true
-shares_name routines q x i k = is_there x (flat_map (shared_by routines) (calls_of routines)) (made_in (shared_by routines) (calls_of routines) q x i k)
+-- which names are shared in frames of two entries, of which the one may call the other
+pub frames_share : (routines : List RoutineTree) (caller callee : EntryId) → SharesByOwn (shared_in_frame routines caller) (shared_in_frame routines callee)
+frames_share routines caller callee = record {
+  by_own = (shares_by_own routines).by_own caller;
+  nowhere = (shares_by_own routines).nowhere caller callee;
+}
 
 module _ (routines : List RoutineTree) (rules : RuleLists) (entries : List (EntryId × EntryCert) × List EntryId) (t : EntryId) (head : HeadTree) (body : LineTrees) (lines : List LineTree)
     (heads : lines_after routines t ≡ (head, body) ∷ lines) where
@@ -165,7 +159,13 @@ module _ (routines : List RoutineTree) (rules : RuleLists) (entries : List (Entr
       ap (λ o. option_map (λ (l : LineTree). formals_of l.0) (option_and_then (line_of_entry routines) o)) target ∙ ap (option_map (λ (l : LineTree). formals_of l.0)) its_line in
       record {
         distinct = its_formals (λ tree i. (formed tree i).formals);
-        shares = whole_program (is_shared routines);
-        filled = λ x h own i. shares_name routines q x ours.1 (subst (λ o. Contains (shared_with written o) x) (sym are) (filled_names head written x h));
-        lent = λ n h own i. shares_name routines q n ours.1 (lent_names (formals_in head) written (called_formals routines e.routine callee) n h);
+        shares = frames_share routines e t;
+        filled = λ x h own i.
+            let p : EntryId × List ℕ = (t, x) in
+            let here : Contains {X = EntryId × List ℕ} (of_entry (Some t) (received_with (Some (formals_of head)) written)) p =
+            mapped_in (λ f. (t, f)) (received_with (Some (formals_of head)) written) x (filled_names head written x h) in
+            (shares_by_own routines).filled q t own x ours.1
+            (subst (λ o. Contains {X = EntryId × List ℕ} (of_entry o (received_with (called_formals routines e.routine callee) written)) p) (sym target)
+            (subst (λ o. Contains {X = EntryId × List ℕ} (of_entry (Some t) (received_with o written)) p) (sym are) here));
+        lent = λ n h own i. (shares_by_own routines).passed q t own n ours.1 (lent_names (formals_in head) written n h) i;
       }

@@ -529,6 +529,35 @@ pub shared-name : report shared-name-routines (base_rules ((codes "S^SHR") ∷ [
 unfolding report entry_faults fault_cmp answer same_term same_case includes leaves_by same_state too_many few certified declared fold_between fold_before byte_text digits entry_of label_at name_at digits_at is_among have spares whole
 shared-name = refl
 
+-- S(X) LOCK +^ACCT(X) SET ^ACCT(X)=1 DO T LOCK -^ACCT(X) QUIT
+-- G(Y) SET Y=2 QUIT
+-- T NEW X SET X=1 DO G(.X) QUIT
+abbrev shared-elsewhere-routines : List RoutineTree
+shared-elsewhere-routines = ((Named_routine (codes "PRV") (line (LineHead 1 1 60 (Some (codes "S")) (Some ((codes "X") ∷ []))
+    (then_command (Does 6 None (Lock ((LockNames sign.Plus ((Named 12 (GlobalName 12 (codes "ACCT") (sub 18 (LocalName (codes "X") no_subs) no_subs))) ∷ []) None) ∷ []))) (then_command (Does 21 None (Set ((SetTo ((SetWhole (Named 25 (GlobalName 25 (codes "ACCT") (sub 31 (LocalName (codes "X") no_subs) no_subs)))) ∷ []) (Lit (codes "1"))) ∷ []))) (then_command (Does 36 None (Do ((DoCall (Called 39 (callee (Some (codes "T")) None) None) None) ∷ []))) (then_command (Does 41 None (Lock ((LockNames sign.Minus ((Named 47 (GlobalName 47 (codes "ACCT") (sub 53 (LocalName (codes "X") no_subs) no_subs))) ∷ []) None) ∷ []))) (then_command (Does 56 None (Quit None)) finished))))))
+    no_lines
+    (line (LineHead 2 1 18 (Some (codes "G")) (Some ((codes "Y") ∷ []))
+    (then_command (Does 6 None (Set ((SetTo ((SetWhole (Named 10 (LocalName (codes "Y") no_subs))) ∷ []) (Lit (codes "2"))) ∷ []))) (then_command (Does 14 None (Quit None)) finished)))
+    no_lines
+    (line (LineHead 3 1 30 (Some (codes "T")) None
+    (then_command (Does 3 None (New ((NewOne 7 (codes "X")) ∷ []))) (then_command (Does 9 None (Set ((SetTo ((SetWhole (Named 13 (LocalName (codes "X") no_subs))) ∷ []) (Lit (codes "1"))) ∷ []))) (then_command (Does 17 None (Do ((DoCall (Called 20 (callee (Some (codes "G")) None) (Some ((ByRef 22 (codes "X")) ∷ []))) None) ∷ []))) (then_command (Does 26 None (Quit None)) finished)))))
+    no_lines
+    no_lines)))) ∷ [])
+
+abbrev shared-elsewhere-blocks : List EntryCert
+shared-elsewhere-blocks = ((block (codes "S^PRV") [] (Some 10) false []
+    ((exit_of Any [] ((codes "X") ∷ [])) ∷ [])
+    ((point_of 1 0 ((case_of Any [] ((own_item 1 (Only (codes "X"))) ∷ []) ((codes "X") ∷ []) []) ∷ [])) ∷ [])) ∷ (block (codes "G^PRV") [] None false []
+    ((exit_of Any [] []) ∷ [])
+    ((point_of 2 0 ((case_of Any [] ((own_item 1 (Only (codes "Y"))) ∷ []) ((codes "Y") ∷ []) []) ∷ [])) ∷ [])) ∷ (block (codes "T^PRV") [] None false []
+    ((exit_of Any [] []) ∷ [])
+    ((point_of 3 0 ((case_of Any [] [] [] []) ∷ [])) ∷ [])) ∷ [])
+
+-- the X that is passed on is another frame's
+pub shared-elsewhere : report shared-elsewhere-routines (base_rules ((codes "S^PRV") ∷ [])) shared-elsewhere-blocks ≡ []
+unfolding report entry_faults fault_cmp answer same_term same_case includes leaves_by same_state too_many few certified declared fold_between fold_before byte_text digits entry_of label_at name_at digits_at is_among have spares whole
+shared-elsewhere = refl
+
 -- B(C) QUIT
 abbrev falls-into-formals-routines : List RoutineTree
 falls-into-formals-routines = ((Named_routine (codes "FALL") (line (LineHead 1 1 10 (Some (codes "A")) None

@@ -10,3 +10,4 @@ pub mod VariableExamples
 pub mod LockExamples
 pub mod CallExamples
 pub mod Written
+mod Targets

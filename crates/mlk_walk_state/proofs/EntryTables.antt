@@ -8,7 +8,8 @@ use Rattle.mlk_syntax.specs.Trees.{RoutineTree}
 use Rattle.mlk_program.specs.declared.entry.EntryId.{EntryId}
 use Rattle.mlk_program.specs.Entries.{entry_by}
 use Rattle.mlk_cert_parts.specs.declared.block.EntryCert.{EntryCert}
-use Rattle.mlk_walk_state.specs.Scope.{same_entry, block_at, has_entry, firsts, block_in, block_of, is_declared, certified, declared}
+use Rattle.mlk_program.specs.Entries.{same_entry}
+use Rattle.mlk_walk_state.specs.Scope.{block_at, has_entry, firsts, block_in, block_of, is_declared, certified, declared}
 use Rattle.mlk_walk_state.specs.Entries.{further, gained, gained_if}
 use Rattle.mlk_walk_state.specs.Laws.{TablesAre}
 

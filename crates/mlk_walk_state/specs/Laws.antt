@@ -1,5 +1,5 @@
 -- That the tests of this crate are the relations of the crates below.
-use Rattle.std.specs.Prelude.{◌≡◌, ◌↔◌, ℕ, ◌+◌, Bool, true, if◌then◌else◌, List, [], ◌∷◌, length, Some, None, Decides}
+use Rattle.std.specs.Prelude.{◌≡◌, ◌↔◌, ℕ, ◌+◌, Bool, true, false, if◌then◌else◌, List, [], ◌∷◌, length, Contains, Some, None, Decides}
 use Rattle.mlk_text.specs.declared.operator.Op.{Op}
 use Rattle.mlk_text.specs.declared.operator.UnaryOp.{UnaryOp}
 use Rattle.mlk_numbers.specs.Folding.{IsFold, IsUnaryFold}
@@ -18,10 +18,12 @@ use Rattle.mlk_cert_parts.specs.declared.names.NameSet.TheVariants.{Only, AllBut
 use Rattle.mlk_walk_state.specs.declared.state.State.{State}
 use Rattle.mlk_walk_state.specs.Values.{fold_between, fold_before}
 use Rattle.mlk_walk_state.specs.Terms.{same_term, rank_of, put, put_all, taken}
-use Rattle.mlk_walk_state.specs.Names.{has, may_change}
+use Rattle.mlk_walk_state.specs.Names.{has, is_own, may_change}
 use Rattle.mlk_walk_state.specs.Cases.{same_case, includes}
 use Rattle.mlk_walk_state.specs.States.{same_state}
-use Rattle.mlk_walk_state.specs.Scope.{AreEntries, certified, declared}
+use Rattle.mlk_walk_state.specs.Scope.{AreEntries, certified, declared, shared_in_frame}
+use Rattle.mlk_program.specs.declared.entry.EntryId.{EntryId}
+use Rattle.mlk_program.specs.Program.{PlacedCall, calls_of, passed_by, filled_by}
 
 -- A case includes another where the relation says so.
 abbrev pub IncludesDecides : Type 0
@@ -67,3 +69,16 @@ pub record HeldAre : Type 0 where
 abbrev pub AllButAllows : Type 0
 AllButAllows = (own : List Own) (mods : List NameSet) (names : List (List ℕ)) (name : List ℕ)
     → may_change own mods (AllBut names) ≡ true → has (AllBut names) name ≡ true → may_change own mods (Only name) ≡ true
+
+-- Whether a name is shared in a frame of an entry rests on whether it is own there, and what is not shared where it is not
+-- own is shared in no frame. A name that some call passes by reference is shared where it is not own, and a formal that one
+-- fills in each frame of its entry.
+pub record SharesByOwn (routines : List RoutineTree) : Type 0 where
+  pub by_own : (e : EntryId) (own more : List Own) (name : List ℕ) → is_own own name ≡ is_own more name
+      → shared_in_frame routines e own name ≡ shared_in_frame routines e more name
+  pub nowhere : (caller callee : EntryId) (own other : List Own) (name : List ℕ) → is_own other name ≡ false
+      → shared_in_frame routines callee other name ≡ false → shared_in_frame routines caller own name ≡ false
+  pub passed : (p : PlacedCall) (e : EntryId) (own : List Own) (name : List ℕ) → Contains (calls_of routines) p
+      → Contains (passed_by p) name → is_own own name ≡ false → shared_in_frame routines e own name ≡ true
+  pub filled : (p : PlacedCall) (e : EntryId) (own : List Own) (formal : List ℕ) → Contains (calls_of routines) p
+      → Contains (filled_by routines p) (e, formal) → shared_in_frame routines e own formal ≡ true

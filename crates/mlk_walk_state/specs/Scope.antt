@@ -1,12 +1,12 @@
 -- What the walk of an entry's lines is given. This project's own choice.
-use Rattle.std.specs.Prelude.{ℕ, ◌≡◌, Bool, ◌&&◌, ◌==◌, nat_lt, not, false, if◌then◌else◌, List, [], ◌∷◌, map, find, filter, filter_map}
+use Rattle.std.specs.Prelude.{ℕ, ◌≡◌, Bool, ◌&&◌, ◌||◌, ◌==◌, nat_lt, not, false, if◌then◌else◌, List, [], ◌∷◌, ◌++◌, map, find, filter, filter_map}
 use Rattle.std.specs.Prelude.{Option, Some, None, option_map}
 use Rattle.std.specs.List.{list_any, list_all}
 use Rattle.mlk_syntax.specs.Trees.{RoutineTree}
 use Rattle.mlk_program.specs.declared.entry.EntryId.{EntryId}
 use Rattle.mlk_syntax.specs.Views.{routine_of}
-use Rattle.mlk_program.specs.Entries.{entry_by}
-use Rattle.mlk_program.specs.Program.{is_shared}
+use Rattle.mlk_program.specs.Entries.{entry_by, same_entry}
+use Rattle.mlk_program.specs.Program.{is_shared, is_shared_in}
 use Rattle.mlk_walk_state.specs.declared.scope.Scope.{Scope as GivenScope}
 use Rattle.mlk_rules.specs.declared.rules.RuleLists.{RuleLists}
 use Rattle.mlk_cert_parts.specs.declared.names.Own.{Own}
@@ -14,10 +14,7 @@ use Rattle.mlk_cert_parts.specs.declared.case.Case.{Case}
 use Rattle.mlk_cert_parts.specs.declared.block.Point.{Point}
 use Rattle.mlk_cert_parts.specs.declared.block.Summary.{Summary}
 use Rattle.mlk_cert_parts.specs.declared.block.EntryCert.{EntryCert}
-
--- Entries are compared as entries, never by their texts.
-abbrev pub same_entry : EntryId → EntryId → Bool
-same_entry e f = (e.routine == f.routine) && (e.line == f.line)
+use Rattle.mlk_walk_state.specs.Names.{is_own}
 
 abbrev pub is_entry : EntryId → Option EntryId → Bool
 is_entry e None = false
@@ -106,8 +103,14 @@ listed sc number round = listed_at sc.points number round
 abbrev pub is_past : Scope → ℕ → Bool
 is_past sc number = list_all (is_earlier number) sc.points
 
--- The scope of an entry and of the block that is believed of it. Which names are shared is one of the program's facts,
--- whatever names are own.
+-- Whether a name is shared in a frame of an entry with these names of its own. A name that is own there has a cell of the
+-- frame's own, which no other name reaches but by what this very entry does: it is a formal that a call fills by reference,
+-- or the entry passes it on. A name that is not own is one of a caller's, and shared where some call of the program shares
+-- it.
+abbrev pub shared_in_frame : List RoutineTree → EntryId → List Own → List ℕ → Bool
+shared_in_frame routines e own name = is_shared routines name && (not (is_own own name) || is_shared_in routines e name)
+
+-- The scope of an entry and of the block that is believed of it.
 abbrev pub scope_with :
     List RoutineTree → RuleLists → List (EntryId × EntryCert) × List EntryId → EntryId → EntryCert → Scope
 scope_with routines rules entries e b = record {
@@ -119,8 +122,12 @@ scope_with routines rules entries e b = record {
   summary = b.summary;
   declared = has_entry entries.1 e;
   points = b.points;
-  is_shared = λ own name. is_shared routines name;
+  is_shared = shared_in_frame routines e;
 }
+
+-- the scope in which these names count as own, too, where it is asked which names are shared
+abbrev pub counting : List Own → Scope → Scope
+counting more sc = record sc { is_shared = λ own name. sc.is_shared (more ++ own) name }
 
 -- by what a program, its rules and its certificate say
 abbrev pub entry_scope : List RoutineTree → RuleLists → List EntryCert → EntryId → EntryCert → Scope
@@ -129,4 +136,4 @@ entry_scope routines rules blocks e b =
 
 -- the scope of the code's value
 abbrev pub scope_of : GivenScope → Scope
-scope_of g = scope_with (map routine_of g.program.now) g.rules.now g.entries.now g.entry g.block.now
+scope_of g = counting g.counted.now (scope_with (map routine_of g.program.now) g.rules.now g.entries.now g.entry g.block.now)

@@ -1,7 +1,9 @@
 // Laws of the definitions: their tests are the relations of the crates below, among others. Each function is a law, and
 // does nothing.
 
-ghost use Rattle.mlk_walk_state.specs.Laws.{IncludesDecides, SameDecides, RankIs, FoldsAre, TablesAre, HeldAre, AllButAllows};
+ghost use Rattle.mlk_walk_state.specs.Laws.{IncludesDecides, SameDecides, RankIs, FoldsAre, TablesAre, HeldAre, AllButAllows, SharesByOwn};
+ghost use Rattle.mlk_syntax.specs.Trees.{RoutineTree};
+ghost use Rattle.std.specs.Prelude.{List};
 
 /// The test of inclusion is the relation of cases.
 pub fn includes_decides()
@@ -36,4 +38,9 @@ pub fn held_are()
 /// Where all names but some may change, each of them may.
 pub fn all_but_allows()
     ensures { AllButAllows }
+{}
+
+/// Which names are shared in a frame rests on which are own there.
+pub fn shares_by_own()
+    ensures { (routines : List RoutineTree) → SharesByOwn routines }
 {}

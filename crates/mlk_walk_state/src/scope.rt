@@ -6,7 +6,9 @@ ghost use Rattle.mlk_program.specs.Entries.{entry_by};
 ghost use Rattle.mlk_cert_parts.specs.Limits.{points_below};
 ghost use Rattle.mlk_cert_lexemes.specs.Lists.{ascends};
 ghost use Rattle.mlk_walk_state.specs.Ends.{IsEnd};
+ghost use Rattle.mlk_walk_state.specs.Names.{is_own};
 
+use crate::names::is_own;
 use crate::points::{
     are_earlier, are_earlier_in_order, are_in_order, cases_ahead, cases_at, from_line,
 };
@@ -159,6 +161,15 @@ impl<'a> Entries<'a> {
     }
 }
 
+// Whether a name is among some own names, or among others.
+#[inline(always)]
+#[tactic(auto, using(crate::proofs::Shared::own_both, crate::proofs::Shared::own_first, crate::proofs::Shared::own_after))]
+fn counts_as_own(counted: &[Own], own: &[Own], name: &Name) -> bool
+    ensures { result ≡ is_own (counted.now ++ own.now) name.now }
+{
+    is_own(counted, name) || is_own(own, name)
+}
+
 /// What the walk of an entry's lines is given.
 #[derive(Clone, Copy, Drop)]
 pub struct Scope<'a> {
@@ -169,6 +180,8 @@ pub struct Scope<'a> {
     pub entry: EntryId,
     /// what is believed of it
     pub block: &'a EntryCert,
+    // names that count as own, besides those of a state, where it is asked which are shared
+    counted: &'a [Own],
     // whether the block's points stand in order, as those of a certificate do
     in_order: bool,
     // the last of the points, from a line on to which the walk has come
@@ -178,7 +191,7 @@ pub struct Scope<'a> {
 }
 
 impl<'a> Scope<'a> {
-    ghost use Rattle.mlk_walk_state.specs.Scope.{scope_with, scope_of, listed, is_past};
+    ghost use Rattle.mlk_walk_state.specs.Scope.{scope_with, scope_of, counting, listed, is_past};
 
     /// What the walk of an entry's lines is given, where this block is believed of it. The entries are those of the same
     /// program and rules, and of the block's certificate. It takes no memory, and goes once through the block's points.
@@ -192,6 +205,23 @@ impl<'a> Scope<'a> {
         ensures { scope_of result
             ≡ scope_with (map routine_of program.now) rules.now entries.now entry block.now }
     {
+        Scope::counting(program, rules, entries, entry, block, &[])
+    }
+
+    /// The same, where these names count as own, besides those of a state, where it is asked which names are shared: so it
+    /// can be tried what would be found in a state in which they are not own. It takes no memory, and goes once through
+    /// the block's points.
+    pub fn counting(
+        program: &'a Program<'a>,
+        rules: &'a Rules,
+        entries: &'a Entries<'a>,
+        entry: EntryId,
+        block: &'a EntryCert,
+        own: &'a [Own],
+    ) -> Scope<'a>
+        ensures { scope_of result ≡ counting own.now
+            (scope_with (map routine_of program.now) rules.now entries.now entry block.now) }
+    {
         let points = block.points.as_slice();
         Scope {
             program,
@@ -199,6 +229,7 @@ impl<'a> Scope<'a> {
             entries,
             entry,
             block,
+            counted: own,
             in_order: are_in_order(points),
             ahead: points,
         }
@@ -215,6 +246,7 @@ impl<'a> Scope<'a> {
             entries: self.entries,
             entry: self.entry,
             block: self.block,
+            counted: self.counted,
             in_order: self.in_order,
             ahead: from_line(self.ahead, line),
         }
@@ -266,12 +298,15 @@ impl<'a> Scope<'a> {
         }
     }
 
-    /// Whether the name is shared in a frame with these names of its own: some call of the program passes it by
-    /// reference, or a formal of this name receives one that is passed so, whatever names are own. It takes no memory.
+    /// Whether the name is shared in a frame of the walked entry with these names of its own: some call of the program
+    /// passes it by reference, or a formal of this name receives one that is passed so; and where it is own, it is such a
+    /// formal of this entry, or this entry passes it on. It takes no memory.
     #[inline(always)]
-    pub fn is_shared_in(&self, _own: &[Own], name: &Name) -> bool
-        ensures { result ≡ (scope_of self.now).is_shared _own.now name.now }
+    pub fn is_shared_in(&self, own: &[Own], name: &Name) -> bool
+        ensures { result ≡ (scope_of self.now).is_shared own.now name.now }
     {
         self.program.is_shared(name)
+            && (!counts_as_own(self.counted, own, name)
+                || self.program.is_shared_in(self.entry, name))
     }
 }

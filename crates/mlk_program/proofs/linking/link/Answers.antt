@@ -20,6 +20,7 @@ invariant_of-result c =
     let rs = trees c.in_ok-directory.directory in (
       is_program rs _ c.link_routines.new.shared c.in_ok-check_distinct.ensures.ok (rw (← v) at c.in_ok-check_limits.ensures.ok) links,
       shared_is rs c.link_routines.new.shared (rw c.new-shared.ensures at links),
+      c.in_ok-frames.ensures,
     )
 
 pub returns-clause-linked : goal.returns-clause-linked
