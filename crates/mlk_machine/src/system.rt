@@ -19,9 +19,9 @@ use crate::ring::has_ring;
 use crate::settling::settle_numbered;
 use crate::stepping::{abort_numbered, go_numbered};
 use indexmap::IndexSet;
-use mlk_machine_jobs::{Choice, Job};
+use mlk_machine_jobs::{Choice, Job, Touch};
 use mlk_machine_locks::{LockTable, Refusal, waits_for};
-use mlk_names::{LockName, Reference};
+use mlk_names::LockName;
 use mlk_program::{EntryId, Program};
 use mlk_text::{Failure, Value};
 use std::alloc::{AllocError, Global};
@@ -196,8 +196,8 @@ impl<'a> System<'a> {
     }
 
     /// The reference that the job of this number stands ready at. It takes no memory.
-    pub fn ready(&self, number: u32) -> Option<&Reference>
-        ensures { option_map (λ r. touch_of r.now) result
+    pub fn ready(&self, number: u32) -> Option<&Touch>
+        ensures { option_map (λ t. touch_of t.now) result
             ≡ option_and_then ready (job_numbered number (jobs_in self.now)) }
     {
         self.job(number)?.ready()

@@ -1,8 +1,5 @@
 -- The definition's tasks of the code's. This project's own.
-use Rattle.std.specs.Prelude.{◌≡◌, ℕ, Bool, true, false, List, [], ◌++◌, map, option_map}
-use Rattle.mlk_names.specs.declared.symbol.Sym.{Sym}
-use Rattle.mlk_names.specs.declared.symbol.Sym.TheVariants as sym
-use Rattle.mlk_names.specs.declared.reference.Reference.{Reference}
+use Rattle.std.specs.Prelude.{◌≡◌, Bool, true, false, List, ◌++◌, map, option_map}
 use Rattle.mlk_names.specs.References.{Touch}
 use Rattle.mlk_syntax.specs.ExprTrees.{tree_of, choices, choices_from, actual_trees}
 use Rattle.mlk_syntax.specs.declared.command.For.{For}
@@ -27,6 +24,7 @@ use Rattle.mlk_machine_jobs.specs.declared.task.ScopeTask.{ScopeTask}
 use Rattle.mlk_machine_jobs.specs.declared.task.ScopeTask.TheVariants as a_scope
 use Rattle.mlk_machine_jobs.specs.declared.task.LineTask.{LineTask}
 use Rattle.mlk_machine_jobs.specs.declared.task.LineTask.TheVariants as a_line
+use Rattle.mlk_machine_jobs.specs.declared.touch.Touch.{Touch as TouchIn}
 use Rattle.mlk_machine_jobs.specs.Tasks as task
 use Rattle.mlk_machine_jobs.specs.Tasks.{Task}
 use Rattle.mlk_machine_jobs.specs.Views.{names_of}
@@ -45,17 +43,11 @@ commands_left r = commands_from (map command_of r.commands.now) (last_or_none (o
 abbrev pub block_of : List Line → LineTrees
 block_of lines = lines_from (map line_of lines)
 
--- the value of a subscript that is a constant
-abbrev pub constant_of : Sym → List ℕ
-constant_of (sym.Const value) = value
-constant_of (sym.Local name) = []
-constant_of sym.Job = []
-constant_of sym.Unknown = []
-
-abbrev pub touch_of : Reference → Touch
-touch_of r = record {
-  region = record { node = record { root = r.root; subs = map constant_of r.subs }; extent = r.extent };
-  access = r.access;
+-- what is touched, and how
+abbrev pub touch_of : TouchIn → Touch
+touch_of t = record {
+  region = record { node = record { root = t.root; subs = t.subs }; extent = t.extent };
+  access = t.access;
 }
 
 abbrev pub value_task : ValueTask → Task
@@ -71,7 +63,7 @@ value_task (a_value.DropValues n) = task.Drop n
 value_task (a_value.Select branches) = task.Select (choices_from (choices branches.now))
 value_task (a_value.Selected value others) = task.Selected (tree_of value.now) (choices_from (choices others.now))
 value_task (a_value.FormReference name n e a) = task.FormReference name.now n e a
-value_task (a_value.DoTouch r) = task.DoTouch (touch_of r)
+value_task (a_value.DoTouch t) = task.DoTouch (touch_of t)
 
 abbrev pub local_task : LocalTask → Task
 local_task (a_local.Store name value) = task.Store name.now value

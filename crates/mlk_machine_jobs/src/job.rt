@@ -12,8 +12,9 @@ use crate::cell::Table;
 use crate::pending::Pending;
 use crate::stack::Stack;
 use crate::task::{LockTask, Task, ValueTask};
+use crate::touch::Touch;
 use mlk_machine_locks::{Held, Refusal, Seen};
-use mlk_names::{LockName, Reference};
+use mlk_names::LockName;
 use std::alloc::Global;
 
 /// A job that runs routines.
@@ -58,11 +59,11 @@ impl<'a> Seen for Job<'a> {
 
 impl<'a> Job<'a> {
     /// The reference that the job stands ready at: touching it is its next task. It takes no memory.
-    pub fn ready(&self) -> Option<&Reference>
-        ensures { option_map (λ r. touch_of r.now) result ≡ ready (job_of self.now) }
+    pub fn ready(&self) -> Option<&Touch>
+        ensures { option_map (λ t. touch_of t.now) result ≡ ready (job_of self.now) }
     {
         match self.pending.last() {
-            Some(Pending::Task(Task::Value(ValueTask::DoTouch(reference)))) => Some(reference),
+            Some(Pending::Task(Task::Value(ValueTask::DoTouch(touch)))) => Some(touch),
             _ => None,
         }
     }

@@ -14,6 +14,7 @@ mod operator;
 mod pending;
 mod stack;
 mod task;
+mod touch;
 
 pub use asking::{asked_truth, asked_value, known_truth, not_asked};
 pub use binding::{Binder, Cell, Names, look};
@@ -31,3 +32,4 @@ pub use stack::Stack;
 pub use task::{
     Calling, LineTask, LocalTask, LockTask, Rest, ScopeTask, Task, TestTask, ValueTask,
 };
+pub use touch::Touch;

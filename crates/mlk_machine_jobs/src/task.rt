@@ -1,7 +1,8 @@
 // What a job has to do.
 
 use crate::binding::Names;
-use mlk_names::{Access, Extent, LockName, Reference};
+use crate::touch::Touch;
+use mlk_names::{Access, Extent, LockName};
 use mlk_syntax::{
     Action, Actual, Callee, Command, Expr, For, Line, Parameter, Sign, Target, Variable,
 };
@@ -41,8 +42,7 @@ pub enum ValueTask<'a> {
     Selected(&'a Expr, &'a [(Expr, Expr)]),
     /// a global whose subscripts, so many, were evaluated
     FormReference(&'a Name, usize, Extent, Access),
-    /// its subscripts are constants
-    DoTouch(Reference),
+    DoTouch(Touch),
 }
 
 /// What is done to locals, and the assignments of SET and MERGE.

@@ -14,29 +14,29 @@ use crate::adding::add;
 use crate::argument::bare_name;
 use crate::command::subscripts_of;
 use crate::expr::count_subscripts;
-use mlk_machine_jobs::{LocalTask, LockTask, Task, ValueTask, count_in, cut_after};
-use mlk_names::{Access, Extent, LockName, Reference, Sym};
+use mlk_machine_jobs::{LocalTask, LockTask, Task, Touch, ValueTask, count_in, cut_after};
+use mlk_names::{Access, Extent, LockName};
 use mlk_syntax::{Expr, Sign, Target, Variable};
 use mlk_text::{Name, Subscripts, Value};
 use std::alloc::{AllocError, Global};
 
-/// A concrete reference, of subscripts that were computed.
+/// What is touched, of subscripts that were computed.
 pub fn concrete(
     alloc: Global,
     name: &Name,
     values: &[Value],
     extent: Extent,
     access: Access,
-) -> Result<Reference, AllocError>
-    ensures { IfOk result (λ r. view.touch_of r ≡ touch_of name.now values.now extent access) }
+) -> Result<Touch, AllocError>
+    ensures { IfOk result (λ t. view.touch_of t ≡ touch_of name.now values.now extent access) }
 {
     let mut subs = Subscripts::new(alloc);
     let mut left = values;
     while let Some((value, others)) = left.split_first() {
-        subs.push(Sym::Const(value.copy()?))?;
+        subs.push(value.copy()?)?;
         left = others;
     }
-    Ok(Reference {
+    Ok(Touch {
         root: name.copy()?,
         subs,
         extent,

@@ -11,7 +11,7 @@ more_values : (vs : List (List ℕ)) → more 44 constant_text vs ≡ more 44 sy
 more_values [] = refl
 more_values (v ∷ vs) = ap (λ t. 44 ∷ (constant_text v ++ t)) (more_values vs)
 
-values_as_subs : (vs : List (List ℕ)) → constants_in constant_text vs ≡ subs_text (map Const vs)
+pub values_as_subs : (vs : List (List ℕ)) → constants_in constant_text vs ≡ subs_text (map Const vs)
 values_as_subs [] = refl
 values_as_subs (v ∷ vs) = ap (λ t. 40 ∷ (constant_text v ++ (t ++ 41 ∷ []))) (more_values vs)
 

@@ -2,16 +2,10 @@
 use Rattle.std.specs.Prelude.{ℕ, Bool, List, [], ◌∷◌, ◌++◌}
 use Rattle.std.specs.Fmt.{decimal}
 use Rattle.mlk_names.specs.declared.lock_name.LockName.{LockName}
-use Rattle.mlk_names.specs.declared.symbol.Sym.{Sym}
 use Rattle.mlk_cert_lexemes.specs.Lists.{more}
-use Rattle.mlk_cert_lexemes.specs.Texts.{constant_text, listed}
-use Rattle.mlk_machine_jobs.specs.TaskViews.{constant_of}
+use Rattle.mlk_cert_lexemes.specs.Texts.{listed}
 use Rattle.mlk_machine_view.specs.declared.holding.Holding.{Holding}
 use Rattle.mlk_machine_view.specs.StateTexts.{name_text, timed_text}
-
--- a subscript that is a constant
-abbrev pub constant_in : Sym → List ℕ
-constant_in s = constant_text (constant_of s)
 
 -- subscripts: none, or in parentheses with commas between them
 abbrev pub constants_in : {A : Type 0} → (A → List ℕ) → List A → List ℕ

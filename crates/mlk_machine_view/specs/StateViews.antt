@@ -6,7 +6,7 @@ use Rattle.mlk_machine_view.specs.declared.shown.State.{State as StateIn}
 use Rattle.mlk_machine_view.specs.declared.shown.State.TheVariants as next
 
 abbrev pub state_of : StateIn → State
-state_of (next.Ready r) = seen.Ready (touch_of r.now)
+state_of (next.Ready t) = seen.Ready (touch_of t.now)
 state_of (next.Claims names timed) = seen.Claims names.now timed
 state_of next.Releases = seen.Releases
 state_of next.AsksChoice = seen.AsksChoice

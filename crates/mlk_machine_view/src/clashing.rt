@@ -7,15 +7,15 @@ ghost use Rattle.mlk_machine_jobs.specs.TaskViews.{touch_of};
 ghost use Rattle.mlk_machine_view.specs.Clashes as tests;
 
 use crate::region::overlap;
-use mlk_machine_jobs::Job;
-use mlk_names::{Access, Reference};
+use mlk_machine_jobs::{Job, Touch};
+use mlk_names::Access;
 use std::alloc::{AllocError, Global};
 
-// Whether a reference writes.
-fn writes(reference: &Reference) -> bool
-    ensures { result ≡ tests.writes (touch_of reference.now) }
+// Whether it writes.
+fn writes(touch: &Touch) -> bool
+    ensures { result ≡ tests.writes (touch_of touch.now) }
 {
-    matches!(reference.access, Access::Writes)
+    matches!(touch.access, Access::Writes)
 }
 
 // Whether two jobs clash, as a test.

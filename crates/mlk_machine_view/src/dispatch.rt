@@ -32,7 +32,7 @@ fn value_state<'j>(program: &Program, job: &Job, task: &'j ValueTask) -> State<'
         ValueTask::AskValue(_) => State::AsksChoice,
         ValueTask::Select(branches) => selects(branches),
         ValueTask::Selected(_, _) => uses_truth(job, State::Silent, State::Silent),
-        ValueTask::DoTouch(reference) => State::Ready(reference),
+        ValueTask::DoTouch(touch) => State::Ready(touch),
         ValueTask::Evaluate(_)
         | ValueTask::Push(_)
         | ValueTask::PushJob

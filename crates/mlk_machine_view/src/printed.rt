@@ -40,9 +40,9 @@ fn push_state(text: &mut Text, state: State) -> Result<(), AllocError>
     ensures { OnOk result (text.new ≡ text.old ++ state_text (state_of state.entry)) }
 {
     match state {
-        State::Ready(reference) => {
+        State::Ready(touch) => {
             text.push(b"ready ")?;
-            push_touch(text, reference)
+            push_touch(text, touch)
         }
         State::Claims(names, timed) => {
             text.push(b"claims ")?;

@@ -1,26 +1,18 @@
-// Which references touch one node.
+// Which jobs touch one node.
 
-ghost use Rattle.std.specs.Prelude.{◌≡◌, ◌⊎◌, length, map};
-ghost use Rattle.mlk_machine_jobs.specs.TaskViews.{constant_of, touch_of};
+ghost use Rattle.std.specs.Prelude.{◌≡◌, ◌⊎◌, length};
+ghost use Rattle.mlk_machine_jobs.specs.TaskViews.{touch_of};
 ghost use Rattle.mlk_machine_view.specs.Regions as regions;
 
-use mlk_names::{Extent, Reference, Sym};
-
-// The value of a subscript.
-fn constant(symbol: &Sym) -> &[u8]
-    ensures { result.now ≡ constant_of symbol.now }
-{
-    match symbol {
-        Sym::Const(value) => value.as_bytes(),
-        Sym::Local(_) | Sym::Job | Sym::Unknown => &[],
-    }
-}
+use mlk_machine_jobs::Touch;
+use mlk_names::Extent;
+use mlk_text::Value;
 
 // Whether two subscripts are one value.
-fn same_value(first: &Sym, second: &Sym) -> bool
-    ensures { result ≡ regions.same_value (constant_of first.now) (constant_of second.now) }
+fn same_value(first: &Value, second: &Value) -> bool
+    ensures { result ≡ regions.same_value first.now second.now }
 {
-    constant(first) == constant(second)
+    first.as_bytes() == second.as_bytes()
 }
 
 // Whether a reference reaches all below its node.
@@ -31,9 +23,9 @@ fn is_tree(extent: Extent) -> bool
 }
 
 // Whether subscripts meet of which the one or the other are none.
-fn ends_meet(first: &[Sym], far: Extent, second: &[Sym], wide: Extent) -> bool
+fn ends_meet(first: &[Value], far: Extent, second: &[Value], wide: Extent) -> bool
     requires { (length first.now ≡ 0) ⊎ (length second.now ≡ 0) }
-    ensures { result ≡ regions.subs_meet (map constant_of first.now) far (map constant_of second.now) wide }
+    ensures { result ≡ regions.subs_meet first.now far second.now wide }
 {
     match (first.split_first(), second.split_first()) {
         (None, None) => true,
@@ -43,8 +35,8 @@ fn ends_meet(first: &[Sym], far: Extent, second: &[Sym], wide: Extent) -> bool
 }
 
 // Whether some subscripts are reached from both.
-fn subs_meet(first: &[Sym], far: Extent, second: &[Sym], wide: Extent) -> bool
-    ensures { result ≡ regions.subs_meet (map constant_of first.now) far (map constant_of second.now) wide }
+fn subs_meet(first: &[Value], far: Extent, second: &[Value], wide: Extent) -> bool
+    ensures { result ≡ regions.subs_meet first.now far second.now wide }
 {
     let (mut firsts, mut seconds) = (first, second);
     while let (Some((x, xs)), Some((y, ys))) = (firsts.split_first(), seconds.split_first()) {
@@ -57,8 +49,8 @@ fn subs_meet(first: &[Sym], far: Extent, second: &[Sym], wide: Extent) -> bool
     ends_meet(firsts, far, seconds, wide)
 }
 
-/// Whether two references, whose subscripts are constants, touch one node. It takes no memory.
-pub(crate) fn overlap(first: &Reference, second: &Reference) -> bool
+/// Whether there is a node that both touch. It takes no memory.
+pub(crate) fn overlap(first: &Touch, second: &Touch) -> bool
     ensures { result ≡ regions.overlap (touch_of first.now).region (touch_of second.now).region }
 {
     first.root == second.root

@@ -1,12 +1,13 @@
 // What a job does next, in one word.
 
-use mlk_names::{LockName, Reference};
+use mlk_machine_jobs::Touch;
+use mlk_names::LockName;
 
 /// What a job does next.
 #[derive(Clone, Copy, Drop)]
 pub enum State<'j> {
     /// It touches a reference.
-    Ready(&'j Reference),
+    Ready(&'j Touch),
     /// It claims these names; whether there is a timeout.
     Claims(&'j [LockName], bool),
     /// It releases locks.

@@ -11,8 +11,8 @@ use mlk_names::LockName;
 use mlk_text::Value;
 use std::alloc::{AllocError, Global};
 
-// Values: none, or in parentheses with commas between them.
-fn push_values(text: &mut Text, values: &[Value]) -> Result<(), AllocError>
+/// Values: none, or in parentheses with commas between them.
+pub(crate) fn push_values(text: &mut Text, values: &[Value]) -> Result<(), AllocError>
     ensures { OnOk result (text.new ≡ text.old ++ constants_in constant_text values.now) }
 {
     let Some((first, others)) = values.split_first() else {
