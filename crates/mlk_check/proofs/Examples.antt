@@ -53,7 +53,7 @@ use Rattle.mlk_machine_jobs.specs.declared.choice.Choice.TheVariants as choice
 use Rattle.mlk_machine_jobs.specs.Choices.{Stepped, touch_of}
 use Rattle.mlk_machine_jobs.specs.Runs.{machine, begun, blank, seen, next_claim}
 use Rattle.mlk_machine_jobs.specs.Seen.{Clash, ready, HasEnded}
-use Rattle.mlk_machine_jobs.specs.Values.{fold_between}
+use Rattle.mlk_numbers.specs.Operators.{fold_between}
 use Rattle.mlk_machine_laws.specs.Moments.{IsCoveredAt, IsHeld}
 use Rattle.mlk_machine_laws.specs.Laws.{IsWithoutRing}
 use Rattle.mlk_walk_state.specs.Scope.{is_declared}

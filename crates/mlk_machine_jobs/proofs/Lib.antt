@@ -4,7 +4,6 @@ pub mod Trees
 pub mod Examples
 pub mod LockExamples
 pub mod TaskExamples
-pub mod FoldLemmas
 pub mod StackLemmas
 pub mod PendingLemmas
 pub mod LockNameLemmas

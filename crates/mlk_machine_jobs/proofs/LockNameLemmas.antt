@@ -4,11 +4,10 @@ use Rattle.std.specs.Prelude.{◌^◌}
 use Rattle.std.proofs.Math.Nat.{min-eq_left}
 use Rattle.mlk_syntax.specs.declared.expr.Subscript.{Subscript}
 use Rattle.mlk_syntax.specs.declared.expr.Expr.TheVariants as rust
-use Rattle.mlk_syntax.specs.ExprTrees.{tree_of, subs_from, sub_trees, LocalName, GlobalName}
+use Rattle.mlk_syntax.specs.ExprTrees.{tree_of, subs_from, sub_trees, LocalName, GlobalName, count_subs}
 use Rattle.mlk_syntax.proofs.Variants.{tree_local, tree_global}
 use Rattle.mlk_syntax.specs.declared.command.Variable.{Variable}
 use Rattle.mlk_syntax.specs.Views.{variable_of}
-use Rattle.mlk_machine_jobs.specs.Expressions.{count_subs}
 use Rattle.mlk_machine_jobs.specs.Commands.{count_in}
 use Rattle.mlk_machine_jobs.specs.Locking.{count_all}
 

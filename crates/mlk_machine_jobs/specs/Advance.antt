@@ -9,7 +9,7 @@ use Rattle.mlk_machine_locks.specs.declared.refusal.Refusal.TheVariants.{NotEnab
 use Rattle.mlk_machine_locks.specs.Counts.{all_lowered}
 use Rattle.mlk_machine_jobs.specs.declared.choice.Choice.{Choice}
 use Rattle.mlk_machine_jobs.specs.Bindings.{Fresh, look, killed}
-use Rattle.mlk_machine_jobs.specs.Values.{fold_before, fold_between}
+use Rattle.mlk_numbers.specs.Operators.{fold_before, fold_between}
 use Rattle.mlk_machine_jobs.specs.Tasks as task
 use Rattle.mlk_machine_jobs.specs.Tasks.{Task, Job, NoValue}
 use Rattle.mlk_machine_jobs.specs.Tasks.{RunLines, RunCommands, Parameters, Forever, NextValue, FirstRound, LaterRound, EndBlock, EndFrame}

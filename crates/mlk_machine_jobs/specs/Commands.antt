@@ -1,6 +1,6 @@
 -- What a command is replaced by, argument by argument. Restates ISO/IEC 11756, commands.
 use Rattle.std.specs.Prelude.{ℕ, true, false, List, [], ◌∷◌, ◌++◌, flat_map, length, is_some, Option, Some, None}
-use Rattle.mlk_syntax.specs.ExprTrees.{Tree, LocalName, GlobalName, Subs, no_subs, ActualTree}
+use Rattle.mlk_syntax.specs.ExprTrees.{Tree, LocalName, GlobalName, Subs, no_subs, ActualTree, count_subs}
 use Rattle.mlk_syntax.specs.Trees.{VariableTree, Named, CallTree, Called, DoTree, DoCall, KillTree, KillOne, KillAllBut, NewTree, NewOne, NewAllBut, LockTree, LockNames, MergeTree, MergeInto}
 use Rattle.mlk_syntax.specs.Trees.{ReadTree, ReadText, ReadFormat, ReadLine, ReadCharacter, TargetTree, SetWhole, SetPart, SetTree, SetTo, WriteTree, WriteValue, WriteCharacter, WriteFormat}
 use Rattle.mlk_syntax.specs.Trees.{ActionTree, Do, Else, Halt, Hang, If, Job, Kill, Lock, Merge, New, Quit, Read, Set, Write, LineTrees, no_lines, line}
@@ -9,7 +9,7 @@ use Rattle.mlk_names.specs.declared.reference.Access.TheVariants.{Writes}
 use Rattle.mlk_machine_jobs.specs.Bindings.{Only, AllBut}
 use Rattle.mlk_machine_jobs.specs.Tasks as task
 use Rattle.mlk_machine_jobs.specs.Tasks.{Task, Evaluate, AskValue, Drop, FormReference}
-use Rattle.mlk_machine_jobs.specs.Expressions.{each_sub, count_subs, each_actual}
+use Rattle.mlk_machine_jobs.specs.Expressions.{each_sub, each_actual}
 
 -- an expression whose value is not used, and one that may be missing
 abbrev pub evaluated : Tree → List Task

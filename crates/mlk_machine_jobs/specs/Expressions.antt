@@ -7,7 +7,7 @@ use Rattle.mlk_syntax.specs.declared.expr.Special.TheVariants as special
 use Rattle.mlk_syntax.specs.declared.expr.Function.{Function}
 use Rattle.mlk_syntax.specs.declared.expr.Function.TheVariants as function
 use Rattle.mlk_syntax.specs.ExprTrees.{Tree, Lit, Free, LocalName, GlobalName, SpecialName, Prefixed, Chain, PatternText, Func, Selected, BareCall, CallOf}
-use Rattle.mlk_syntax.specs.ExprTrees.{Trees, no_trees, tree, Subs, no_subs, sub, Links, no_links, link, ActualTree, Given, ByRef, Missing, Actuals, no_actuals, actual}
+use Rattle.mlk_syntax.specs.ExprTrees.{Trees, no_trees, tree, Subs, no_subs, sub, Links, no_links, link, ActualTree, Given, ByRef, Missing, Actuals, no_actuals, actual, count_subs, as_list}
 use Rattle.mlk_names.specs.declared.reference.Extent.{Extent}
 use Rattle.mlk_names.specs.declared.reference.Extent.TheVariants as extent
 use Rattle.mlk_names.specs.declared.reference.Access.TheVariants.{Reads}
@@ -17,10 +17,6 @@ use Rattle.mlk_machine_jobs.specs.Tasks.{Task, Evaluate, Push, Fetch, PushJob, P
 abbrev pub each_sub : Subs → List Task
 each_sub no_subs = []
 each_sub (sub column t rest) = Evaluate t ∷ each_sub rest
-
-abbrev pub count_subs : Subs → ℕ
-count_subs no_subs = 0
-count_subs (sub column t rest) = suc (count_subs rest)
 
 abbrev pub each_tree : Trees → List Task
 each_tree no_trees = []
@@ -94,10 +90,6 @@ each_actual [] = []
 each_actual (Given t ∷ given) = Evaluate t ∷ each_actual given
 each_actual (ByRef column name ∷ given) = each_actual given
 each_actual (Missing ∷ given) = each_actual given
-
-abbrev pub as_list : Actuals → List ActualTree
-as_list no_actuals = []
-as_list (actual a rest) = a ∷ as_list rest
 
 abbrev pub parts_of : Tree → List Task
 parts_of (Lit value) = Push value ∷ []

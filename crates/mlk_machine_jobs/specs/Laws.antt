@@ -1,8 +1,5 @@
 -- What every run of a program keeps to, whatever its jobs do.
 use Rattle.std.specs.Prelude.{◌≡◌, ◌↔◌, ◌⊎◌, ℕ, zero, suc, Bool, List, [], Some, Ok, Err}
-use Rattle.mlk_text.specs.declared.operator.Op.{Op}
-use Rattle.mlk_text.specs.declared.operator.UnaryOp.{UnaryOp}
-use Rattle.mlk_numbers.specs.Folding.{IsFold, IsUnaryFold}
 use Rattle.mlk_names.specs.declared.lock_name.LockName.{LockName}
 use Rattle.mlk_machine_locks.specs.declared.refusal.Refusal.TheVariants.{NotEnabled}
 use Rattle.mlk_machine_locks.specs.Systems.{and_then}
@@ -13,7 +10,6 @@ use Rattle.mlk_machine_jobs.specs.declared.choice.Choice.{Choice}
 use Rattle.mlk_machine_jobs.specs.declared.choice.Choice.TheVariants as choice
 use Rattle.mlk_machine_jobs.specs.Choices.{Stepped}
 use Rattle.mlk_machine_jobs.specs.Seen.{Silent, state, settled}
-use Rattle.mlk_machine_jobs.specs.Values.{fold_between, fold_before}
 use Rattle.mlk_machine_jobs.specs.Tasks.{Job}
 use Rattle.mlk_machine_jobs.specs.Runs.{machine, go, aborted, seen}
 
@@ -48,11 +44,6 @@ pub record EndedTakesNone (routines : List RoutineTree) (j : Job) : Type 0 where
 
 abbrev pub EndedStays : Type 0
 EndedStays = (routines : List RoutineTree) (j : Job) → j.tasks ≡ [] → EndedTakesNone routines j
-
--- The results that are computed for operators are the exact ones, wherever there is one, and no others.
-pub record FoldsAgree : Type 0 where
-  pub between : (op : Op) (a b text : List ℕ) → (fold_between op a b ≡ Some text) ↔ IsFold op a b text
-  pub before : (op : UnaryOp) (a text : List ℕ) → (fold_before op a ≡ Some text) ↔ IsUnaryFold op a text
 
 -- so many steps without choice, where these names are free
 abbrev pub goes : List RoutineTree → (LockName → Bool) → ℕ → Job → Stepped

@@ -1,4 +1,3 @@
-pub mod Values
 pub mod Bindings
 pub mod Tasks
 pub mod Expressions

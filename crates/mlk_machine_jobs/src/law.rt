@@ -1,6 +1,6 @@
 // What every run keeps to.
 
-ghost use Rattle.mlk_machine_jobs.specs.Laws.{HeldApart, NumbersDistinct, OneRunOfMany, LeavingOut, ChangesOne, RingsAreFound, EndedStays, FoldsAgree, SettlesBySteps};
+ghost use Rattle.mlk_machine_jobs.specs.Laws.{HeldApart, NumbersDistinct, OneRunOfMany, LeavingOut, ChangesOne, RingsAreFound, EndedStays, SettlesBySteps};
 
 /// In every run, no job holds a lock that conflicts with one that another job holds.
 pub fn held_apart()
@@ -35,11 +35,6 @@ pub fn rings_are_found()
 /// A job that has ended or was stopped takes no event.
 pub fn ended_stays()
     ensures { EndedStays }
-{}
-
-/// What operators give of known values is the exact result, wherever there is one.
-pub fn folds_agree()
-    ensures { FoldsAgree }
 {}
 
 /// A job that goes on by itself makes steps without choice, up to a task that is not silent or the greatest number.

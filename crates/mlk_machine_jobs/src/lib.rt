@@ -10,7 +10,6 @@ mod job;
 mod kill;
 mod law;
 mod locking;
-mod operator;
 mod pending;
 mod stack;
 mod task;
@@ -22,11 +21,10 @@ pub use cell::{Table, add_generation, forget};
 pub use choice::Choice;
 pub use job::Job;
 pub use law::{
-    changes_one, ended_stays, folds_agree, held_apart, leaving_out, numbers_distinct,
-    one_run_of_many, rings_are_found, settles_by_steps,
+    changes_one, ended_stays, held_apart, leaving_out, numbers_distinct, one_run_of_many,
+    rings_are_found, settles_by_steps,
 };
 pub use locking::{count_all, count_in, cut_after, lock_names};
-pub use operator::{given_before, given_between};
 pub use pending::{Back, Frame, Pending};
 pub use stack::Stack;
 pub use task::{

@@ -4,7 +4,7 @@ use Rattle.mlk_syntax.specs.declared.expr.Special.{Special}
 use Rattle.mlk_syntax.specs.declared.expr.Function.{Function}
 use Rattle.mlk_syntax.specs.declared.expr.Function.TheVariants as function
 use Rattle.mlk_syntax.specs.ExprTrees.{Tree, Lit, Free, LocalName, GlobalName, SpecialName, Prefixed, Chain, PatternText, Func, Selected, BareCall, CallOf}
-use Rattle.mlk_syntax.specs.ExprTrees.{Trees, no_trees, tree, Subs, no_subs, sub, Links, no_links, link, ActualTree, Given, ByRef, Missing}
+use Rattle.mlk_syntax.specs.ExprTrees.{Trees, no_trees, tree, Subs, no_subs, sub, Links, no_links, link, ActualTree, Given, ByRef, Missing, as_list}
 use Rattle.mlk_names.specs.declared.reference.Extent.{Extent}
 use Rattle.mlk_names.specs.declared.reference.Extent.TheVariants as extent
 use Rattle.mlk_names.specs.declared.lock_name.LockName.{LockName}
@@ -15,7 +15,7 @@ use Rattle.mlk_syntax.specs.Trees.{ReadTree, ReadText, ReadFormat, ReadLine, Rea
 use Rattle.mlk_syntax.specs.Trees.{ActionTree, Do, Else, Halt, Hang, If, Job, Kill, Lock, Merge, New, Quit, Read, Set, Write, LineTrees, no_lines, line}
 use Rattle.mlk_syntax.specs.Trees.{ParameterTree, Once, Endless, Limited, CommandTree, Does, CommandTrees, Runs, finished, then_command, then_for}
 use Rattle.mlk_machine_jobs.specs.Tasks.{Task, Evaluate, AskValue, RunCommands, marks}
-use Rattle.mlk_machine_jobs.specs.Expressions.{each_sub, each_tree, unused, read_global, read_local, operation, special_parts, of_global, function_parts, takes_name, each_actual, as_list, parts_of}
+use Rattle.mlk_machine_jobs.specs.Expressions.{each_sub, each_tree, unused, read_global, read_local, operation, special_parts, of_global, function_parts, takes_name, each_actual, parts_of}
 use Rattle.mlk_machine_jobs.specs.Commands.{evaluated, evaluated_if, subs_in, in_variable, count_in, given_in, do_parts, block_parts, job_parts, if_parts, kill_variable, kill_parts, new_parts, lock_parts, merge_parts, store_last, in_time, read_into, read_parts, target_parts, set_parts, write_parts, action_parts}
 use Rattle.mlk_machine_jobs.specs.Assigning.{assigned, assignments, subs_of_target, parts_in, merge_source, merge_target}
 use Rattle.mlk_machine_jobs.specs.Locking.{by_sign}

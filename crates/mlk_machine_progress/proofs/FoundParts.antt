@@ -6,7 +6,7 @@ use Rattle.mlk_syntax.specs.declared.expr.Special.TheVariants as special
 use Rattle.mlk_syntax.specs.declared.expr.Function.{Function}
 use Rattle.mlk_syntax.specs.declared.expr.Function.TheVariants as function
 use Rattle.mlk_syntax.specs.ExprTrees.{Tree, Lit, Free, LocalName, GlobalName, SpecialName, Prefixed, Chain, PatternText, Func, Selected, BareCall, CallOf}
-use Rattle.mlk_syntax.specs.ExprTrees.{Trees, no_trees, tree, Subs, no_subs, sub, Links, no_links, link, ActualTree, Given, ByRef, Missing, Actuals, no_actuals, actual}
+use Rattle.mlk_syntax.specs.ExprTrees.{Trees, no_trees, tree, Subs, no_subs, sub, Links, no_links, link, ActualTree, Given, ByRef, Missing, Actuals, no_actuals, actual, as_list}
 use Rattle.mlk_names.specs.declared.reference.Extent.{Extent}
 use Rattle.mlk_names.specs.declared.reference.Extent.TheVariants as extent
 use Rattle.mlk_names.specs.declared.lock_name.LockName.{LockName}
@@ -25,7 +25,7 @@ use Rattle.mlk_program.specs.Calls.{in_control, in_commands}
 use Rattle.mlk_machine_jobs.specs.Tasks as task
 use Rattle.mlk_machine_jobs.specs.Tasks.{Task, RunLines, RunCommands, Parameters, Forever, NextValue, FirstRound, LaterRound}
 use Rattle.mlk_machine_jobs.specs.Expressions.{each_sub, each_tree, unused, read_global, read_local, operation, special_parts, of_global}
-use Rattle.mlk_machine_jobs.specs.Expressions.{function_parts, takes_name, each_actual, as_list, parts_of}
+use Rattle.mlk_machine_jobs.specs.Expressions.{function_parts, takes_name, each_actual, parts_of}
 use Rattle.mlk_machine_jobs.specs.Commands.{evaluated, evaluated_if, in_variable, given_in, do_parts, block_parts, job_parts, if_parts}
 use Rattle.mlk_machine_jobs.specs.Commands.{kill_variable, kill_parts, new_parts, lock_parts, merge_parts, store_last, in_time, read_into}
 use Rattle.mlk_machine_jobs.specs.Commands.{read_parts, target_parts, set_parts, write_parts, action_parts}

@@ -6,7 +6,7 @@ use Rattle.mlk_syntax.specs.declared.expr.Special.TheVariants as special
 use Rattle.mlk_syntax.specs.declared.expr.Function.{Function}
 use Rattle.mlk_syntax.specs.declared.expr.Function.TheVariants as function
 use Rattle.mlk_syntax.specs.ExprTrees.{Tree, Lit, Free, LocalName, GlobalName, SpecialName, Prefixed, Chain, PatternText, Func, Selected, BareCall, CallOf}
-use Rattle.mlk_syntax.specs.ExprTrees.{Trees, no_trees, tree, Subs, no_subs, sub, Links, no_links, link, ActualTree, Given, ByRef, Missing}
+use Rattle.mlk_syntax.specs.ExprTrees.{Trees, no_trees, tree, Subs, no_subs, sub, Links, no_links, link, ActualTree, Given, ByRef, Missing, count_subs, as_list}
 use Rattle.mlk_names.specs.declared.reference.Extent.{Extent}
 use Rattle.mlk_names.specs.declared.reference.Extent.TheVariants as extent
 use Rattle.mlk_names.specs.declared.reference.Access.TheVariants.{Reads, Writes}
@@ -19,8 +19,8 @@ use Rattle.mlk_syntax.specs.Trees.{ReadTree, ReadText, ReadFormat, ReadLine, Rea
 use Rattle.mlk_syntax.specs.Trees.{WriteValue, WriteCharacter, WriteFormat}
 use Rattle.mlk_machine_jobs.specs.Tasks as task
 use Rattle.mlk_machine_jobs.specs.Tasks.{Task}
-use Rattle.mlk_machine_jobs.specs.Expressions.{each_sub, count_subs, each_tree, count_trees, unused, above as all_but_last, read_global, read_local}
-use Rattle.mlk_machine_jobs.specs.Expressions.{operation, special_parts, of_global, function_parts, takes_name, each_actual, as_list, parts_of}
+use Rattle.mlk_machine_jobs.specs.Expressions.{each_sub, each_tree, count_trees, unused, above as all_but_last, read_global, read_local}
+use Rattle.mlk_machine_jobs.specs.Expressions.{operation, special_parts, of_global, function_parts, takes_name, each_actual, parts_of}
 use Rattle.mlk_machine_jobs.specs.Commands.{evaluated, evaluated_if, subs_in, in_variable, count_in, given_in, do_parts, block_parts, job_parts}
 use Rattle.mlk_machine_jobs.specs.Commands.{kill_variable, kill_parts, new_parts, lock_parts, merge_parts, store_last, in_time, read_into}
 use Rattle.mlk_machine_jobs.specs.Commands.{read_parts, target_parts, set_parts, write_parts}

@@ -4,14 +4,15 @@ ghost use Rattle.std.specs.Prelude.{◌≡◌, IfOk, OnErr, Ok, drop};
 ghost use Rattle.std.specs.Fmt.{decimal};
 ghost use Rattle.mlk_text.specs.Failures.{Answers};
 ghost use Rattle.mlk_machine_jobs.specs.Bindings.{look};
-ghost use Rattle.mlk_machine_jobs.specs.Values.{fold_before, fold_between};
+ghost use Rattle.mlk_numbers.specs.Operators.{fold_before, fold_between};
 ghost use Rattle.mlk_machine_jobs.specs.Choices.{without_choice, with_value, with_last, given_or_asked, pushed, dropped, fetched, test_text};
 ghost use Rattle.mlk_machine_jobs.specs.JobViews.{job_of, KeepsPending};
 ghost use Rattle.mlk_machine_jobs.specs.Sound.{Sound};
 
 use crate::ask::{nothing_asked, or_refused};
-use mlk_machine_jobs::{Choice, Job, asked_value, given_before, given_between};
+use mlk_machine_jobs::{Choice, Job, asked_value};
 use mlk_machine_locks::Refusal;
+use mlk_numbers::{fold, fold_unary};
 use mlk_text::{Failure, Name, Op, UnaryOp, Value};
 use std::alloc::{AllocError, Global};
 
@@ -145,7 +146,7 @@ pub fn apply_unary(
     let Some(operand) = job.values.at(0) else {
         return Err(Failure::Refused(Refusal::NotEnabled));
     };
-    let known = given_before(alloc, op, operand)?;
+    let known = fold_unary(alloc, op, operand)?;
     give_value(job, choice, known, 1)
 }
 
@@ -170,7 +171,7 @@ pub fn apply_binary(
     let Some(first) = job.values.at(1) else {
         return Err(Failure::Refused(Refusal::NotEnabled));
     };
-    let known = given_between(alloc, op, first, second)?;
+    let known = fold(alloc, op, first, second)?;
     give_value(job, choice, known, 2)
 }
 

@@ -3,14 +3,13 @@ use Rattle.std.proofs.Common.{◌≡◌, ap, ℕ, false, refl, sym, List, [], �
 use Rattle.std.proofs.lemmas.Bool.{false≢true}
 use Rattle.mlk_syntax.specs.declared.expr.Subscript.{Subscript}
 use Rattle.mlk_syntax.specs.declared.expr.Expr.TheVariants as rust
-use Rattle.mlk_syntax.specs.ExprTrees.{Tree, Lit, Free, LocalName, GlobalName, SpecialName, Prefixed, Chain, PatternText, Func, Selected, BareCall, CallOf, Subs, no_subs, sub, tree_of}
+use Rattle.mlk_syntax.specs.ExprTrees.{Tree, Lit, Free, LocalName, GlobalName, SpecialName, Prefixed, Chain, PatternText, Func, Selected, BareCall, CallOf, Subs, no_subs, sub, tree_of, count_subs}
 use Rattle.mlk_syntax.proofs.Variants.{tree_local, tree_global}
 use Rattle.mlk_syntax.specs.Trees.{VariableTree, Named}
 use Rattle.mlk_names.specs.declared.reference.Extent.TheVariants as extent
 use Rattle.mlk_names.specs.declared.reference.Access.TheVariants.{Writes}
 use Rattle.mlk_machine_jobs.specs.Bindings.{Only}
 use Rattle.mlk_machine_jobs.specs.Tasks.{KillNames, Drop, FormReference}
-use Rattle.mlk_machine_jobs.specs.Expressions.{count_subs}
 use Rattle.mlk_machine_jobs.specs.Commands.{subs_in, store_last, kill_variable}
 use Rattle.mlk_machine_tasks.specs.PartViews.{subs_of, is_variable}
 use Rattle.mlk_machine_tasks.specs.ArgumentViews.{bare_name, stored_in}

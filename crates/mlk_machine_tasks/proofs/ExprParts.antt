@@ -2,9 +2,9 @@
 use Rattle.std.proofs.Common.{◌≡◌, true, false, List, [], ◌∷◌, ◌++◌, refl, sym, ap}
 use Rattle.std.proofs.lemmas.Bool.{false≢true}
 use Rattle.mlk_text.specs.declared.operator.Op.{Op}
-use Rattle.mlk_syntax.specs.ExprTrees.{Tree, Lit, Free, LocalName, GlobalName, SpecialName, Prefixed, Chain, PatternText, Func, Selected, BareCall, CallOf, Links, no_links, link, ActualTree, Given, ByRef, Missing, actuals_from}
+use Rattle.mlk_syntax.specs.ExprTrees.{Tree, Lit, Free, LocalName, GlobalName, SpecialName, Prefixed, Chain, PatternText, Func, Selected, BareCall, CallOf, Links, no_links, link, ActualTree, Given, ByRef, Missing, actuals_from, as_list}
 use Rattle.mlk_machine_jobs.specs.Tasks.{Evaluate, ApplyBinary, AskValue}
-use Rattle.mlk_machine_jobs.specs.Expressions.{operation, each_actual, as_list}
+use Rattle.mlk_machine_jobs.specs.Expressions.{operation, each_actual}
 use Rattle.mlk_machine_tasks.specs.PartViews.{is_pattern}
 
 pub pattern_operation : (op : Op) (t : Tree) → is_pattern t ≡ true → operation (link op t no_links) ≡ AskValue 1 ∷ []

@@ -1,8 +1,9 @@
 -- How many subscripts and arguments there are.
 use Rattle.std.proofs.Common.{◌≡◌, suc, List, [], ◌∷◌, length, refl, ap}
+use Rattle.mlk_syntax.specs.ExprTrees.{count_subs}
 use Rattle.mlk_syntax.specs.declared.expr.Expr.{Expr}
 use Rattle.mlk_syntax.specs.declared.expr.Subscript.{Subscript}
-use Rattle.mlk_machine_jobs.specs.Expressions.{count_subs, count_trees}
+use Rattle.mlk_machine_jobs.specs.Expressions.{count_trees}
 use Rattle.mlk_machine_tasks.specs.PartViews.{subs_of, args_of}
 
 pub subs_counted : (ss : List Subscript) → count_subs (subs_of ss) ≡ length ss

@@ -6,11 +6,11 @@ use Rattle.mlk_syntax.specs.declared.expr.Subscript.{Subscript}
 use Rattle.mlk_syntax.specs.declared.expr.Callee.{Callee}
 use Rattle.mlk_syntax.specs.declared.expr.Function.{Function}
 use Rattle.mlk_syntax.specs.declared.expr.Function.TheVariants as function
-use Rattle.mlk_syntax.specs.ExprTrees.{Tree, LocalName, GlobalName, PatternText, Trees, Subs, Links, ActualTree, trees, trees_from, sub_trees, subs_from, links, links_from}
+use Rattle.mlk_syntax.specs.ExprTrees.{Tree, LocalName, GlobalName, PatternText, Trees, Subs, Links, ActualTree, trees, trees_from, sub_trees, subs_from, links, links_from, count_subs}
 use Rattle.mlk_machine_tasks.specs.declared.expr.Naming.{Naming}
 use Rattle.mlk_machine_tasks.specs.declared.expr.Naming.TheVariants as naming
 use Rattle.mlk_machine_jobs.specs.Tasks.{Task, AskValue, Call}
-use Rattle.mlk_machine_jobs.specs.Expressions.{each_sub, count_subs, each_tree, count_trees, takes_name, each_actual}
+use Rattle.mlk_machine_jobs.specs.Expressions.{each_sub, each_tree, count_trees, takes_name, each_actual}
 
 -- parts of the code's values
 abbrev pub subs_of : List Subscript → Subs

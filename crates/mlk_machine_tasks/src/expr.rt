@@ -1,9 +1,9 @@
 // What an expression is replaced by.
 
 ghost use Rattle.std.specs.Prelude.{◌≡◌, ◌++◌, OnOk, length, option_map};
-ghost use Rattle.mlk_syntax.specs.ExprTrees.{tree_of, actual_trees};
+ghost use Rattle.mlk_syntax.specs.ExprTrees.{tree_of, actual_trees, count_subs};
 ghost use Rattle.mlk_syntax.specs.declared.expr.Function.TheVariants as function;
-ghost use Rattle.mlk_machine_jobs.specs.Expressions.{each_sub, count_subs, each_tree, count_trees, read_global, read_local, operation, special_parts, unused, of_global, takes_name, function_parts, each_actual, parts_of};
+ghost use Rattle.mlk_machine_jobs.specs.Expressions.{each_sub, each_tree, count_trees, read_global, read_local, operation, special_parts, unused, of_global, takes_name, function_parts, each_actual, parts_of};
 ghost use Rattle.mlk_machine_jobs.specs.TaskViews.{Adds};
 ghost use Rattle.mlk_machine_tasks.specs.PartViews.{subs_of, args_of, asked, naming_of, named_function};
 

@@ -12,7 +12,7 @@ use Rattle.mlk_program.specs.declared.entry.EntryId.{EntryId}
 use Rattle.mlk_program.specs.Entries.{target_of}
 use Rattle.mlk_machine_jobs.specs.declared.choice.Choice.TheVariants as chosen
 use Rattle.mlk_machine_jobs.specs.Bindings.{Bindings, look}
-use Rattle.mlk_machine_jobs.specs.Values.{fold_before, fold_between}
+use Rattle.mlk_numbers.specs.Operators.{fold_before, fold_between}
 use Rattle.mlk_machine_jobs.specs.Tasks as task
 use Rattle.mlk_machine_jobs.specs.Tasks.{Task, Job, LineTree, Frame, NoValue, AwaitsValue, HasValue, RunLines, EndFrame}
 use Rattle.mlk_machine_jobs.specs.Choices.{Stepped, given_or_asked, with_last, by_truth, dropped, fetched, is_one, is_zero}

@@ -10,9 +10,9 @@ use Rattle.mlk_text.specs.declared.operator.Op.{Op}
 use Rattle.mlk_text.specs.declared.operator.Op.TheVariants.{Concatenate}
 use Rattle.mlk_text.specs.declared.operator.UnaryOp.TheVariants.{Plus, Minus, Not}
 use Rattle.mlk_numbers.proofs.Folds.{folded-short}
-use Rattle.mlk_machine_jobs.specs.Values.{if_joined, fold_before, fold_between}
+use Rattle.mlk_numbers.specs.Operators.{if_joined, fold_before, fold_between}
 use Rattle.mlk_machine_jobs.specs.Choices.{is_one, is_zero}
-use Rattle.mlk_machine_jobs.proofs.FoldLemmas.{folds_agree}
+use Rattle.mlk_numbers.proofs.Operators.{folds_are}
 
 -- what is found, or not
 none_found : {A : Type 0} (r : Option A) → ((a : A) → r ≡ Some a → ⊥) → false ≡ is_some r
@@ -28,15 +28,15 @@ same_size (pos (suc n)) = refl
 same_size (negsuc n) = refl
 
 pub some_plus : (a : List ℕ) (o : Option ℤ) → Finds (λ z. IsWhole z a) o → is_some o ≡ is_some (fold_before Plus a)
-some_plus a (Some z) h = one_found (fold_before Plus a) a ((folds_agree.before Plus a a).1 (z, h, refl))
-some_plus a None h = none_found (fold_before Plus a) (λ t e. let i = (folds_agree.before Plus a t).0 e in h i.0 i.1)
+some_plus a (Some z) h = one_found (fold_before Plus a) a ((folds_are.before Plus a a).1 (z, h, refl))
+some_plus a None h = none_found (fold_before Plus a) (λ t e. let i = (folds_are.before Plus a t).0 e in h i.0 i.1)
 
 pub some_minus : (a : List ℕ) (o : Option ℤ) → Finds (λ z. IsWhole z a) o → is_some o ≡ is_some (fold_before Minus a)
 some_minus a (Some z) h =
     let few : unsigned_abs (neg_ℤ z) < 10 ^ 15 = rw (same_size z) h.0 in
     one_found (fold_before Minus a) (signed_decimal (neg_ℤ z))
-    ((folds_agree.before Minus a (signed_decimal (neg_ℤ z))).1 (z, h, (few, refl)))
-some_minus a None h = none_found (fold_before Minus a) (λ t e. let i = (folds_agree.before Minus a t).0 e in h i.0 i.1)
+    ((folds_are.before Minus a (signed_decimal (neg_ℤ z))).1 (z, h, (few, refl)))
+some_minus a None h = none_found (fold_before Minus a) (λ t e. let i = (folds_are.before Minus a t).0 e in h i.0 i.1)
 
 pub truth_known : (a : List ℕ)
     → is_some (if is_one a then Some true else if is_zero a then Some false else None) ≡ is_some (fold_before Not a)
@@ -77,8 +77,8 @@ pub some_number : (op : Op) (a b : List ℕ) (o : Option ℤ) → (op ≡ Concat
     → is_some o ≡ is_some (fold_between op a b)
 some_number op a b (Some z) other (x, y, f, g, e) =
     one_found (fold_between op a b) (signed_decimal z)
-    ((folds_agree.between op a b (signed_decimal z)).1 (inr (x, y, z, f, g, e, (folded-short op x y z e, refl))))
-some_number op a b None other h = none_found (fold_between op a b) (λ t e. elim ((folds_agree.between op a b t).0 e) [
+    ((folds_are.between op a b (signed_decimal z)).1 (inr (x, y, z, f, g, e, (folded-short op x y z e, refl))))
+some_number op a b None other h = none_found (fold_between op a b) (λ t e. elim ((folds_are.between op a b t).0 e) [
   | inl joined ↦ other joined.0
   | inr r ↦ h r.2 (r.0, r.1, r.3, r.4, r.5)
 ])

@@ -7,7 +7,7 @@ use Rattle.mlk_syntax.specs.Trees.{RoutineTree}
 use Rattle.mlk_machine_locks.specs.Lists.{is_some_there}
 use Rattle.mlk_program.specs.declared.entry.EntryId.{EntryId}
 use Rattle.mlk_program.specs.Entries.{formals_of}
-use Rattle.mlk_machine_jobs.specs.Values.{fold_before, fold_between}
+use Rattle.mlk_numbers.specs.Operators.{fold_before, fold_between}
 use Rattle.mlk_machine_jobs.specs.Choices.{is_one, is_zero}
 use Rattle.mlk_machine_jobs.specs.Tasks.{LineTree, Frame, NoValue, AwaitsValue, HasValue}
 use Rattle.mlk_machine_jobs.specs.Calling.{lines_after}

@@ -3,7 +3,7 @@
 ghost use Rattle.std.specs.Prelude.{◌≡◌, ℤ, Some, is_some};
 ghost use Rattle.mlk_numbers.specs.Folding.{IsWhole, folded};
 ghost use Rattle.mlk_numbers.specs.Outcome.{Finds};
-ghost use Rattle.mlk_machine_jobs.specs.Values.{fold_before, fold_between};
+ghost use Rattle.mlk_numbers.specs.Operators.{fold_before, fold_between};
 ghost use Rattle.mlk_text.specs.declared.operator.Op.TheVariants as operator;
 ghost use Rattle.mlk_text.specs.declared.operator.UnaryOp.TheVariants.{Plus, Minus};
 

@@ -6,3 +6,4 @@ pub mod Folds
 pub mod NumberLaws
 pub mod CanonicalReading
 pub mod Examples
+pub mod Operators

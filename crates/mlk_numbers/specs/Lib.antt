@@ -3,3 +3,4 @@ pub mod Canonical
 pub mod Folding
 pub mod NumberLaws
 pub mod Outcome
+pub mod Operators

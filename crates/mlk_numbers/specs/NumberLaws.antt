@@ -4,7 +4,10 @@ use Rattle.std.specs.Fmt.{signed_decimal}
 use Rattle.mlk_text.specs.Lexemes.{is_exact, canonical, are_digits}
 use Rattle.mlk_numbers.specs.Numbers.{IsEqual, IsLowest, IsTextOf, IsNumeral, IsExact, IsCanonical}
 use Rattle.mlk_numbers.specs.Canonical.{canonical_text}
-use Rattle.mlk_numbers.specs.Folding.{IsWhole}
+use Rattle.mlk_numbers.specs.Folding.{IsWhole, IsFold, IsUnaryFold}
+use Rattle.mlk_numbers.specs.Operators.{fold_between, fold_before}
+use Rattle.mlk_text.specs.declared.operator.Op.{Op}
+use Rattle.mlk_text.specs.declared.operator.UnaryOp.{UnaryOp}
 
 -- A number has one pair in lowest form, and a pair one text.
 pub record OneText : Type 0 where
@@ -25,6 +28,11 @@ GivesCanonical = (literal text : List ℕ) → (canonical_text literal ≡ Some 
 pub record OneWhole : Type 0 where
   pub texts : (z : ℤ) → unsigned_abs z < 10 ^ 15 → IsWhole z (signed_decimal z)
   pub numbers : (x z : ℤ) (text : List ℕ) → IsWhole x text → IsWhole z text → x ≡ z
+
+-- What is computed for operators is the exact result, wherever there is one, and nothing else.
+pub record FoldsAre : Type 0 where
+  pub between : (op : Op) (a b text : List ℕ) → (fold_between op a b ≡ Some text) ↔ IsFold op a b text
+  pub before : (op : UnaryOp) (a text : List ℕ) → (fold_before op a ≡ Some text) ↔ IsUnaryFold op a text
 
 -- Where a literal has digits alone, reading it with `canonical` of Lexemes gives its canonical text, or refuses it where
 -- it has none.

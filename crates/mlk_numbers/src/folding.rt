@@ -6,6 +6,7 @@ ghost use Rattle.mlk_numbers.specs.Numbers.{number_of_digits};
 ghost use Rattle.mlk_text.specs.Lexemes.{are_digits};
 ghost use Rattle.mlk_numbers.specs.Outcome.{Finds};
 ghost use Rattle.mlk_numbers.specs.Folding.{IsPlain, IsWhole, IsFold, IsUnaryFold, is_short, folded};
+ghost use Rattle.mlk_numbers.specs.Operators.{fold_between, fold_before};
 
 use crate::numeral::are_digits;
 use mlk_text::lexeme::byte_of;
@@ -115,9 +116,8 @@ fn fold_texts(op: Op, a: &Value, b: &Value) -> Option<i64>
     fold_number(op, x, y)
 }
 
-/// What an operator gives of two values, where that is exact: sums, differences and products of whole numbers of at
-/// most 15 digits, and joined texts of at most 255 bytes.
-pub fn fold(alloc: Global, op: Op, a: &Value, b: &Value) -> Result<Option<Value>, AllocError>
+// The exact result of an operator between two texts.
+fn exact(alloc: Global, op: Op, a: &Value, b: &Value) -> Result<Option<Value>, AllocError>
     ensures { IfOk result (Finds (IsFold op a.now b.now)) }
 {
     if let Op::Concatenate = op {
@@ -127,6 +127,15 @@ pub fn fold(alloc: Global, op: Op, a: &Value, b: &Value) -> Result<Option<Value>
         return Ok(None);
     };
     Ok(Some(text_of(alloc, answer)?))
+}
+
+/// What an operator gives of two values, where that is exact: sums, differences and products of whole numbers of at
+/// most 15 digits, and joined texts of at most 255 bytes.
+pub fn fold(alloc: Global, op: Op, a: &Value, b: &Value) -> Result<Option<Value>, AllocError>
+    ensures { IfOk result (λ v. v ≡ fold_between op a.now b.now) }
+{
+    let found = exact(alloc, op, a, b)?;
+    Ok(found)
 }
 
 fn negated(alloc: Global, a: &Value) -> Result<Option<Value>, AllocError>
@@ -150,9 +159,8 @@ fn opposite(alloc: Global, a: &Value) -> Result<Option<Value>, AllocError>
     Ok(Some(Value::of(alloc, opposite)?))
 }
 
-/// What an operator gives of one value, where that is exact: `+` and `-` of a whole number of at most 15 digits, `'` of
-/// `0` and `1`.
-pub fn fold_unary(alloc: Global, op: UnaryOp, a: &Value) -> Result<Option<Value>, AllocError>
+// The exact result of an operator before a text.
+fn exact_unary(alloc: Global, op: UnaryOp, a: &Value) -> Result<Option<Value>, AllocError>
     ensures { IfOk result (Finds (IsUnaryFold op a.now)) }
 {
     match op {
@@ -163,4 +171,13 @@ pub fn fold_unary(alloc: Global, op: UnaryOp, a: &Value) -> Result<Option<Value>
         UnaryOp::Minus => negated(alloc, a),
         UnaryOp::Not => opposite(alloc, a),
     }
+}
+
+/// What an operator gives of one value, where that is exact: `+` and `-` of a whole number of at most 15 digits, `'` of
+/// `0` and `1`.
+pub fn fold_unary(alloc: Global, op: UnaryOp, a: &Value) -> Result<Option<Value>, AllocError>
+    ensures { IfOk result (λ v. v ≡ fold_before op a.now) }
+{
+    let found = exact_unary(alloc, op, a)?;
+    Ok(found)
 }

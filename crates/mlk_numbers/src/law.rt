@@ -1,6 +1,6 @@
 // What numbers and their texts keep to.
 
-ghost use Rattle.mlk_numbers.specs.NumberLaws.{OneText, OneCanonical, GivesCanonical, OneWhole, BothRead};
+ghost use Rattle.mlk_numbers.specs.NumberLaws.{OneText, OneCanonical, GivesCanonical, OneWhole, BothRead, FoldsAre};
 
 /// A number is written in one way: it is one pair in lowest form, and a pair has one text.
 pub fn one_text()
@@ -20,6 +20,11 @@ pub fn literals_canonical()
 /// A whole number of at most 15 digits has one text, and that text no other number.
 pub fn one_whole()
     ensures { OneWhole }
+{}
+
+/// What operators make of texts, as it is computed, is the exact result, wherever there is one.
+pub fn folds_are()
+    ensures { FoldsAre }
 {}
 
 /// Of digits alone, `mlk_text::literal::literal` and `canonical` give one value.

@@ -6,5 +6,5 @@ mod law;
 mod numeral;
 
 pub use folding::{fold, fold_number, fold_unary, whole};
-pub use law::{both_read, literals_canonical, one_canonical, one_text, one_whole};
+pub use law::{both_read, folds_are, literals_canonical, one_canonical, one_text, one_whole};
 pub use numeral::canonical;

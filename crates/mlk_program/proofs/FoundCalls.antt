@@ -7,7 +7,7 @@ use Rattle.mlk_syntax.specs.declared.expr.Actual.{Actual}
 use Rattle.mlk_syntax.specs.declared.expr.Subscript.{Subscript}
 use Rattle.mlk_syntax.specs.ExprTrees.{tree_of, trees, actual_trees, sub_trees, links, choices}
 use Rattle.mlk_syntax.specs.ExprTrees.{trees_from, actuals_from, subs_from, links_from, choices_from, ActualTree}
-use Rattle.mlk_syntax.specs.ExprTrees.{Tree, Chain, Selected, actual_step, expr_step, subscript_step}
+use Rattle.mlk_syntax.specs.ExprTrees.{Tree, Chain, Selected, actual_step, expr_step, subscript_step, as_list}
 use Rattle.mlk_syntax.specs.declared.expr.Callee.{Callee}
 use Rattle.mlk_syntax.specs.declared.expr.Function.{Function}
 use Rattle.mlk_syntax.specs.declared.expr.Expr.{fold-roll-Expr}
@@ -16,7 +16,7 @@ use Rattle.mlk_syntax.specs.declared.expr.Expr.TheVariants.{rolls-Binary, rolls-
 use Rattle.mlk_syntax.specs.declared.expr.Actual.TheOpen as open'
 use Rattle.mlk_syntax.proofs.Variants.{tree_func, tree_local, tree_global, tree_call}
 use Rattle.mlk_syntax.specs.Trees.{CallTree, Called}
-use Rattle.mlk_program.specs.Calls.{in_tree, in_trees, in_subs, in_links, in_choices, in_actuals, as_list}
+use Rattle.mlk_program.specs.Calls.{in_tree, in_trees, in_subs, in_links, in_choices, in_actuals}
 use Rattle.mlk_program.specs.declared.call.CallSite.{CallSite}
 use Rattle.mlk_program.specs.Found.{Finds, site_of, of_expr, of_subscript, of_link, of_choice, of_actual, given_of}
 

@@ -5,7 +5,7 @@ use Rattle.std.specs.Prelude.{List, [], ◌∷◌, ◌++◌, flat_map, Option, S
 use Rattle.mlk_syntax.specs.ExprTrees.{Tree, Lit, Free, LocalName, GlobalName, SpecialName, Prefixed, Chain, PatternText}
 use Rattle.mlk_syntax.specs.ExprTrees.{Func, Selected, BareCall, CallOf, Trees, no_trees, tree, Subs, no_subs, sub, Links}
 use Rattle.mlk_syntax.specs.ExprTrees.{no_links, link, Choices, no_choices, choice, ActualTree, Given, ByRef, Missing}
-use Rattle.mlk_syntax.specs.ExprTrees.{Actuals, no_actuals, actual}
+use Rattle.mlk_syntax.specs.ExprTrees.{Actuals, no_actuals, actual, as_list}
 use Rattle.mlk_syntax.specs.Trees.{VariableTree, Named, CallTree, Called, DoTree, DoCall, KillTree, KillOne}
 use Rattle.mlk_syntax.specs.Trees.{KillAllBut, LockTree, LockNames, MergeTree, MergeInto}
 use Rattle.mlk_syntax.specs.Trees.{ReadTree, ReadText, ReadFormat, ReadLine, ReadCharacter, TargetTree, SetWhole}
@@ -13,11 +13,6 @@ use Rattle.mlk_syntax.specs.Trees.{SetPart, SetTree, SetTo, WriteTree, WriteValu
 use Rattle.mlk_syntax.specs.Trees.{ActionTree, Do, Else, Halt, Hang, If, Job, Kill, Lock, Merge, New, Quit, Read, Set}
 use Rattle.mlk_syntax.specs.Trees.{Write, CommandTree, Does, ParameterTree, Once, Endless, Limited, ControlTree, Runs}
 use Rattle.mlk_syntax.specs.Trees.{CommandTrees, finished, then_command, then_for}
-
--- the actuals that a list is made of
-abbrev pub as_list : Actuals → List ActualTree
-as_list no_actuals = []
-as_list (actual a rest) = a ∷ as_list rest
 
 abbrev mutual
   pub in_tree : Tree → List CallTree

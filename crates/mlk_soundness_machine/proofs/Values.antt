@@ -20,17 +20,14 @@ use Rattle.mlk_machine_jobs.specs.declared.choice.Choice.{Choice}
 use Rattle.mlk_machine_jobs.specs.Bindings.{look}
 use Rattle.mlk_machine_jobs.specs.Tasks as task
 use Rattle.mlk_machine_jobs.specs.Tasks.{Task, Job}
-use Rattle.mlk_machine_jobs.specs.Values as ran
+use Rattle.mlk_numbers.specs.Operators.{fold_before, fold_between, opposite}
 use Rattle.mlk_machine_jobs.specs.Expressions.{parts_of}
 use Rattle.mlk_machine_jobs.specs.Choices.{pushed, dropped, doing, fetched, is_one, is_zero, test_text}
 use Rattle.mlk_machine_jobs.specs.Advance.{advance}
-use Rattle.mlk_machine_jobs.proofs.FoldLemmas.{folds_agree}
 use Rattle.mlk_walk_state.specs.declared.state.State.{State}
 use Rattle.mlk_walk_state.specs.Scope.{Scope}
-use Rattle.mlk_walk_state.specs.Values as walked
 use Rattle.mlk_walk_state.specs.Symbols.{constant_if, before_symbol, after_constant, between_symbols, local_symbol, symbol_of, truth_of_text, truth_of_symbol, before_truth, truth_in}
 use Rattle.mlk_walk_state.specs.Cases.{known_test}
-use Rattle.mlk_walk_state.proofs.Folded.{folds_are}
 use Rattle.mlk_soundness_machine.specs.Frames.{Agrees}
 use Rattle.mlk_soundness_machine.specs.Reads.{now}
 use Rattle.mlk_soundness_machine.specs.Described.{World, Level, Slot, Bare, idle, Describes}
@@ -42,31 +39,24 @@ use Rattle.mlk_soundness_machine.proofs.Steps.{Comes, done, refused, unasked, of
 use Rattle.mlk_soundness_machine.proofs.Going.{step}
 use Rattle.mlk_soundness_machine.proofs.Facts.{plain_facts}
 
--- what both definitions of operators make of constants is one
-before_same : (op : UnaryOp) (a c : List ℕ) → walked.fold_before op a ≡ Some c → ran.fold_before op a ≡ Some c
-before_same op a c h = (folds_agree.before op a c).1 ((folds_are.before op a c).0 h)
-
-between_same : (op : Op) (a b c : List ℕ) → walked.fold_between op a b ≡ Some c → ran.fold_between op a b ≡ Some c
-between_same op a b c h = (folds_agree.between op a b c).1 ((folds_are.between op a b c).0 h)
-
 constant_of : (o : Option (List ℕ)) (r : List ℕ) → ((c : List ℕ) → o ≡ Some c → r ≡ c) → IsConstant (constant_if o) r
 constant_of None r h = tt
 constant_of (Some c) r h = h c refl
 
-unary_constant : (op : UnaryOp) (s : Sym) (a r : List ℕ) → IsConstant s a → ((u : List ℕ) → ran.fold_before op a ≡ Some u → r ≡ u) → IsConstant (before_symbol op s) r
-unary_constant op (known.Const c) a r h k = constant_of (walked.fold_before op c) r (λ u e. k u (subst (λ z. ran.fold_before op z ≡ Some u) (sym h) (before_same op c u e)))
+unary_constant : (op : UnaryOp) (s : Sym) (a r : List ℕ) → IsConstant s a → ((u : List ℕ) → fold_before op a ≡ Some u → r ≡ u) → IsConstant (before_symbol op s) r
+unary_constant op (known.Const c) a r h k = constant_of (fold_before op c) r (λ u e. k u (subst (λ z. fold_before op z ≡ Some u) (sym h) e))
 unary_constant op (known.Local n) a r h k = tt
 unary_constant op known.Job a r h k = tt
 unary_constant op known.Unknown a r h k = tt
 
-after_const : (op : Op) (c : List ℕ) (t : Sym) (a b r : List ℕ) → a ≡ c → IsConstant t b → ((u : List ℕ) → ran.fold_between op a b ≡ Some u → r ≡ u) → IsConstant (after_constant op c t) r
+after_const : (op : Op) (c : List ℕ) (t : Sym) (a b r : List ℕ) → a ≡ c → IsConstant t b → ((u : List ℕ) → fold_between op a b ≡ Some u → r ≡ u) → IsConstant (after_constant op c t) r
 after_const op c (known.Const d) a b r e h k =
-    constant_of (walked.fold_between op c d) r (λ u f. k u (subst (λ z. ran.fold_between op z b ≡ Some u) (sym e) (subst (λ z. ran.fold_between op c z ≡ Some u) (sym h) (between_same op c d u f))))
+    constant_of (fold_between op c d) r (λ u f. k u (subst (λ z. fold_between op z b ≡ Some u) (sym e) (subst (λ z. fold_between op c z ≡ Some u) (sym h) f)))
 after_const op c (known.Local n) a b r e h k = tt
 after_const op c known.Job a b r e h k = tt
 after_const op c known.Unknown a b r e h k = tt
 
-binary_constant : (op : Op) (s t : Sym) (a b r : List ℕ) → IsConstant s a → IsConstant t b → ((u : List ℕ) → ran.fold_between op a b ≡ Some u → r ≡ u) → IsConstant (between_symbols op s t) r
+binary_constant : (op : Op) (s t : Sym) (a b r : List ℕ) → IsConstant s a → IsConstant t b → ((u : List ℕ) → fold_between op a b ≡ Some u → r ≡ u) → IsConstant (between_symbols op s t) r
 binary_constant op (known.Const c) t a b r h i k = after_const op c t a b r h i k
 binary_constant op (known.Local n) t a b r h i k = tt
 binary_constant op known.Job t a b r h i k = tt
@@ -78,13 +68,13 @@ constant_stands w None r h = tt
 constant_stands w (Some c) r h = h
 
 before_stands : (w : Assignment) (op : UnaryOp) (s : Sym) (r : List ℕ) → IsConstant (before_symbol op s) r → StandsFor w (before_symbol op s) r
-before_stands w op (known.Const c) r h = constant_stands w (walked.fold_before op c) r h
+before_stands w op (known.Const c) r h = constant_stands w (fold_before op c) r h
 before_stands w op (known.Local n) r h = tt
 before_stands w op known.Job r h = tt
 before_stands w op known.Unknown r h = tt
 
 after_stands : (w : Assignment) (op : Op) (c : List ℕ) (t : Sym) (r : List ℕ) → IsConstant (after_constant op c t) r → StandsFor w (after_constant op c t) r
-after_stands w op c (known.Const d) r h = constant_stands w (walked.fold_between op c d) r h
+after_stands w op c (known.Const d) r h = constant_stands w (fold_between op c d) r h
 after_stands w op c (known.Local n) r h = tt
 after_stands w op c known.Job r h = tt
 after_stands w op c known.Unknown r h = tt
@@ -109,19 +99,19 @@ symbol_truth (known.Local n) v h = tt
 symbol_truth known.Job v h = tt
 symbol_truth known.Unknown v h = tt
 
-not_truth : (o : Option Bool) (a r : List ℕ) → IsTruth o a → ((u : List ℕ) → ran.fold_before Not a ≡ Some u → r ≡ u) → IsTruth (option_map not o) r
-unfolding ran.fold_before
+not_truth : (o : Option Bool) (a r : List ℕ) → IsTruth o a → ((u : List ℕ) → fold_before Not a ≡ Some u → r ≡ u) → IsTruth (option_map not o) r
+unfolding fold_before
 not_truth None a r h k = tt
 not_truth (Some true) a r h k =
     let e : a ≡ codes "1" = (bytes_eq-Decides a (codes "1")).0 h in
-    let f : r ≡ codes "0" = k (codes "0") (subst (λ z. ran.opposite z ≡ Some (codes "0")) (sym e) refl) in
+    let f : r ≡ codes "0" = k (codes "0") (subst (λ z. opposite z ≡ Some (codes "0")) (sym e) refl) in
     subst (λ z. is_zero z ≡ true) (sym f) refl
 not_truth (Some false) a r h k =
     let e : a ≡ codes "0" = (bytes_eq-Decides a (codes "0")).0 h in
-    let f : r ≡ codes "1" = k (codes "1") (subst (λ z. ran.opposite z ≡ Some (codes "1")) (sym e) refl) in
+    let f : r ≡ codes "1" = k (codes "1") (subst (λ z. opposite z ≡ Some (codes "1")) (sym e) refl) in
     subst (λ z. is_one z ≡ true) (sym f) refl
 
-prefixed_truth : (op : UnaryOp) (s : Sym) (o : Option Bool) (a r : List ℕ) → IsTruth o a → IsConstant s r → ((u : List ℕ) → ran.fold_before op a ≡ Some u → r ≡ u) → IsTruth (before_truth op s o) r
+prefixed_truth : (op : UnaryOp) (s : Sym) (o : Option Bool) (a r : List ℕ) → IsTruth o a → IsConstant s r → ((u : List ℕ) → fold_before op a ≡ Some u → r ≡ u) → IsTruth (before_truth op s o) r
 prefixed_truth Not s o a r h i k = not_truth o a r h k
 prefixed_truth Plus s o a r h i k = symbol_truth s r i
 prefixed_truth Minus s o a r h i k = symbol_truth s r i
@@ -212,8 +202,8 @@ module _ (routines : List RoutineTree) (sc : Scope) (w : World) (b : Level) wher
     unary op t k j v more d e knows tasks = plain_step (task.ApplyUnary op) refl j tasks (λ free c.
         of_last (Safe n) j.values _ (λ a rest ea.
         let same : a ≡ v = (let z : a ∷ rest ≡ v ∷ more = sym ea ∙ e in cc) in
-        of_result (Safe n) c (ran.fold_before op a) _ (λ r given.
-        let from : (u : List ℕ) → ran.fold_before op v ≡ Some u → r ≡ u = (λ u h. given u (subst (λ z. ran.fold_before op z ≡ Some u) (sym same) h)) in
+        of_result (Safe n) c (fold_before op a) _ (λ r given.
+        let from : (u : List ℕ) → fold_before op v ≡ Some u → r ≡ u = (λ u h. given u (subst (λ z. fold_before op z ≡ Some u) (sym same) h)) in
         let constant : (shared : List ℕ → Bool) → IsConstant (before_symbol op (symbol_of shared t)) r = (λ shared. unary_constant op (symbol_of shared t) v r (knows.symbol.constant shared) from) in
         done (Safe n) (doing ts (pushed r (dropped 1 j)))
         (k (doing ts (pushed r (dropped 1 j))) r (drop 1 j.values) (replace_law j v more r d e) refl
@@ -229,13 +219,13 @@ module _ (routines : List RoutineTree) (sc : Scope) (w : World) (b : Level) wher
     binary op by v t is k j u more d e knows tasks = plain_step (task.ApplyBinary op) refl j tasks (λ free c.
         of_last (Safe n) j.values _ (λ y rest ey.
         of_last (Safe n) (drop 1 j.values) _ (λ x below ex.
-        of_result (Safe n) c (ran.fold_between op x y) _ (λ r given.
+        of_result (Safe n) c (fold_between op x y) _ (λ r given.
         let same : y ≡ u = (let z : y ∷ rest ≡ u ∷ more = sym ey ∙ e in cc) in
         let tail : more ≡ x ∷ below = sym (ap (drop 1) e) ∙ ex in
         let less : Describes sc w b (Bare (Some v) ∷ slots) s (record (idle j) { values = more }) = drop_law sc w b None (Bare (Some v) ∷ slots) s (idle j) d u more e in
         let first : x ≡ v = is_known sc w b (Some v) slots s (record (idle j) { values = more }) less x below tail in
         let least : Describes sc w b slots s (record (idle j) { values = below }) = drop_law sc w b (Some v) slots s (record (idle j) { values = more }) less x below tail in
-        let from : (z : List ℕ) → ran.fold_between op v u ≡ Some z → r ≡ z = (λ z h. given z (subst (λ q. ran.fold_between op q y ≡ Some z) (sym first) (subst (λ q. ran.fold_between op v q ≡ Some z) (sym same) h))) in
+        let from : (z : List ℕ) → fold_between op v u ≡ Some z → r ≡ z = (λ z h. given z (subst (λ q. fold_between op q y ≡ Some z) (sym first) (subst (λ q. fold_between op v q ≡ Some z) (sym same) h))) in
         let constant : (shared : List ℕ → Bool) → IsConstant (between_symbols op (by shared) (symbol_of shared t)) r = (λ shared. binary_constant op (by shared) (symbol_of shared t) v u r (is shared) (knows.symbol.constant shared) from) in
         let stack : drop 2 j.values ≡ below = (ap (drop 2) e ∙ ap (drop 1) tail) in
         done (Safe n) (doing ts (pushed r (dropped 2 j)))

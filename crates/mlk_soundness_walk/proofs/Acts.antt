@@ -1,9 +1,9 @@
 -- Commands: what each does, from left to right.
 use Rattle.std.proofs.Common.{◌≡◌, ℕ, ◌+◌, Bool, true, false, List, [], ◌∷◌, ◌++◌, reverse, map, Option, Some, None, refl, sym, ap, subst, inl, inr}
 use Rattle.std.specs.Prelude.{flat_map, if◌then◌else◌}
-use Rattle.mlk_syntax.specs.ExprTrees.{Tree, ActualTree, actuals_from}
+use Rattle.mlk_syntax.specs.ExprTrees.{Tree, ActualTree, actuals_from, as_list}
 use Rattle.mlk_syntax.specs.Trees.{RoutineTree, WriteTree, WriteValue, WriteCharacter, WriteFormat}
-use Rattle.mlk_program.specs.Calls.{as_list, in_tree, in_actual, in_actuals, in_given, in_write}
+use Rattle.mlk_program.specs.Calls.{in_tree, in_actual, in_actuals, in_given, in_write}
 use Rattle.mlk_cert_parts.specs.declared.case.Case.{Case}
 use Rattle.mlk_cert_parts.specs.declared.case.Test.{Test}
 use Rattle.mlk_cert_parts.specs.declared.case.Test.TheVariants.{Any, Zero, One}

@@ -6,7 +6,7 @@ use Rattle.mlk_names.specs.declared.reference.Extent.TheVariants.{Node}
 use Rattle.mlk_names.specs.declared.reference.Access.TheVariants.{Reads, Writes}
 use Rattle.mlk_names.specs.Symbols.{Assignment, StandsFor}
 use Rattle.mlk_cert_parts.specs.declared.names.NameSet.TheVariants.{Only}
-use Rattle.mlk_syntax.specs.ExprTrees.{Tree, LocalName, GlobalName, no_subs, sub}
+use Rattle.mlk_syntax.specs.ExprTrees.{Tree, LocalName, GlobalName, no_subs, sub, count_subs}
 use Rattle.mlk_syntax.specs.Trees.{RoutineTree, VariableTree, Named, TargetTree, SetWhole, SetPart}
 use Rattle.mlk_cert_parts.specs.declared.case.Case.{Case}
 use Rattle.mlk_machine_jobs.specs.Tasks as task
@@ -28,7 +28,6 @@ use Rattle.mlk_calls.specs.Changes.{changed_state}
 use Rattle.mlk_walk_exprs.specs.declared.walk.Quit.{Quit}
 use Rattle.mlk_walk_exprs.specs.Walks.{Goes, each}
 use Rattle.mlk_walk_exprs.specs.Spots.{Spot}
-use Rattle.mlk_walk_exprs.specs.Expressions.{count_subs}
 use Rattle.mlk_walk_exprs.specs.References.{checked}
 use Rattle.mlk_walk_commands.specs.Variables.{count_in, change_at}
 use Rattle.mlk_walk_commands.specs.Arguments.{symbols_at, read_part, write_variable}
@@ -173,7 +172,7 @@ dropped_more {A} (suc m) n [] = nothing (suc m + n) ∙ sym (nothing n)
 dropped_more (suc m) n (x ∷ xs) = let e : suc m + n ≡ suc (m + n) = omega arith in ap (λ k. drop k (x ∷ xs)) e ∙ dropped_more m n xs
 
 count_is : (v : VariableTree) → count_in v ≡ made.count_in v
-count_is v = count_same (subs_of (name_in v)) ∙ ap run.count_subs (subs_same v)
+count_is v = count_same (subs_of (name_in v)) ∙ ap count_subs (subs_same v)
 
 pub enough : (t : TargetTree) (m k : ℕ) → k ≡ parts_in t + m → subs_of_target t ≤ k
 enough (SetWhole v) m k e = omega (arith, e)

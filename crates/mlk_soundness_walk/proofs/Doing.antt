@@ -3,9 +3,9 @@ use Rattle.std.proofs.Common.{◌≡◌, ℕ, suc, Bool, true, false, List, [], 
 use Rattle.std.specs.Prelude.{if◌then◌else◌}
 use Rattle.mlk_text.specs.declared.code.Code.TheVariants.{NoCertificate}
 use Rattle.mlk_syntax.specs.declared.expr.Callee.{Callee}
-use Rattle.mlk_syntax.specs.ExprTrees.{Tree, ActualTree, Given, ByRef, Missing, Actuals, actuals_from}
+use Rattle.mlk_syntax.specs.ExprTrees.{Tree, ActualTree, Given, ByRef, Missing, Actuals, actuals_from, as_list}
 use Rattle.mlk_syntax.specs.Trees.{RoutineTree, CallTree, Called, DoTree, DoCall}
-use Rattle.mlk_program.specs.Calls.{as_list, in_tree, in_actuals, in_given, in_call, in_do}
+use Rattle.mlk_program.specs.Calls.{in_tree, in_actuals, in_given, in_call, in_do}
 use Rattle.mlk_program.specs.Entries.{target_of}
 use Rattle.mlk_cert_parts.specs.declared.case.Case.{Case}
 use Rattle.mlk_machine_jobs.specs.Tasks as task

@@ -12,9 +12,9 @@ use Rattle.mlk_syntax.specs.declared.expr.Callee.{Callee}
 use Rattle.mlk_syntax.specs.declared.expr.Function.{Function}
 use Rattle.mlk_syntax.specs.declared.expr.Special.TheVariants as special
 use Rattle.mlk_syntax.specs.ExprTrees.{Tree, Lit, Free, LocalName, GlobalName, SpecialName, Prefixed, Chain, PatternText, Func, Selected, BareCall, CallOf}
-use Rattle.mlk_syntax.specs.ExprTrees.{Subs, no_subs, sub, Links, no_links, link, Trees, no_trees, tree, Choices, no_choices, choice, ActualTree, Given, ByRef, Missing, Actuals, no_actuals, actual}
+use Rattle.mlk_syntax.specs.ExprTrees.{Subs, no_subs, sub, Links, no_links, link, Trees, no_trees, tree, Choices, no_choices, choice, ActualTree, Given, ByRef, Missing, Actuals, no_actuals, actual, count_subs, as_list}
 use Rattle.mlk_syntax.specs.Trees.{RoutineTree, Called}
-use Rattle.mlk_program.specs.Calls.{as_list, in_tree, in_trees, in_subs, in_links, in_choices, in_actuals}
+use Rattle.mlk_program.specs.Calls.{in_tree, in_trees, in_subs, in_links, in_choices, in_actuals}
 use Rattle.mlk_cert_parts.specs.declared.case.Case.{Case}
 use Rattle.mlk_machine_jobs.specs.Tasks as task
 use Rattle.mlk_machine_jobs.specs.Tasks.{Task, Job}
@@ -31,7 +31,7 @@ use Rattle.mlk_walk_exprs.specs.declared.reference.Use.TheVariants.{ItsValue}
 use Rattle.mlk_walk_exprs.specs.Walks.{each}
 use Rattle.mlk_walk_exprs.specs.Spots.{Spot}
 use Rattle.mlk_walk_exprs.specs.References.{use_of, read_fault, read_last}
-use Rattle.mlk_walk_exprs.specs.Expressions.{count_subs, agrees, by_condition, with_value, capture, forget_subs, extrinsic, evaluate, evaluate_all, evaluate_choices, capture_subs, capture_actual, capture_actuals, evaluate_links}
+use Rattle.mlk_walk_exprs.specs.Expressions.{agrees, by_condition, with_value, capture, forget_subs, extrinsic, evaluate, evaluate_all, evaluate_choices, capture_subs, capture_actual, capture_actuals, evaluate_links}
 use Rattle.mlk_walk_commands.specs.Arguments.{given_list}
 use Rattle.mlk_walk_laws.proofs.Counts.{ways_keep}
 use Rattle.mlk_walk_laws.proofs.Rows.{each_keeps, capture_keeps, both}
@@ -55,7 +55,7 @@ use Rattle.mlk_soundness_walk.proofs.Ours.{ours_left, ours_right}
 use Rattle.mlk_soundness_walk.proofs.Symbols.{local_unshared, operand, with_subs, truth_agrees}
 
 -- both definitions of the list of actuals
-list_same : (given : Actuals) → run.as_list given ≡ as_list given
+list_same : (given : Actuals) → as_list given ≡ as_list given
 list_same no_actuals = refl
 list_same (actual a rest) = ap (λ z. a ∷ z) (list_same rest)
 
@@ -187,7 +187,7 @@ module _ (routines : List RoutineTree) (p : Spot) (w : World) (b : Level) (S : C
       evaluate_fits Free ours slots ts s A l k = asked Free (λ shared. refl) refl slots ts s refl (k s (leads_stay A S Q s l))
       evaluate_fits (LocalName name no_subs) ours slots ts s A l k = local routines p.scope w b slots n ts s name (k s (leads_stay A S Q s l))
       evaluate_fits (LocalName name (sub column t rest)) ours slots ts s A l k =
-          let count : ℕ = run.count_subs (sub column t rest) in
+          let count : ℕ = count_subs (sub column t rest) in
           expand routines p.scope w b slots n ts s (LocalName name (sub column t rest))
           (subst (λ z. Fit slots n z s) (sym (append_assoc (each_sub (sub column t rest)) (task.AskValue count ∷ []) ts))
           (subs_fit (sub column t rest) ours slots (task.AskValue count ∷ ts) s (λ u. Leads (forget_subs (sub column t rest)) u A S Q)
@@ -199,16 +199,16 @@ module _ (routines : List RoutineTree) (p : Spot) (w : World) (b : Level) (S : C
           (any_of (LocalName name (sub column t rest)) (λ shared. with_subs shared name column t rest) slots ts (without_last count u) refl (k (without_last count u) a))))))
       evaluate_fits (GlobalName column name subs) ours slots ts s A l k =
           expand routines p.scope w b slots n ts s (GlobalName column name subs)
-          (subst (λ z. Fit slots n z s) (sym (append_assoc (each_sub subs) (task.FormReference name (run.count_subs subs) Node Reads ∷ []) ts))
-          (subs_fit subs ours slots (task.FormReference name (run.count_subs subs) Node Reads ∷ ts) s
+          (subst (λ z. Fit slots n z s) (sym (append_assoc (each_sub subs) (task.FormReference name (count_subs subs) Node Reads ∷ []) ts))
+          (subs_fit subs ours slots (task.FormReference name (count_subs subs) Node Reads ∷ ts) s
           (λ u. Leads (each (read_last p ItsValue column name (count_subs subs))) u A S Q)
           (leads_both A S Q (capture_subs p subs) (each (read_last p ItsValue column name (count_subs subs))) (captured_keep p subs) (each_keeps (read_last p ItsValue column name (count_subs subs))) s l)
           (λ u m.
           let r = covered_goes A S Q (read_fault p ItsValue name (last_captured (count_subs subs) u) u) p.line column (without_last (count_subs subs) u)
           (leads_each A S Q (read_last p ItsValue column name (count_subs subs)) u m) in
-          form routines p.scope w b slots n ts u name (run.count_subs subs) Node Reads
+          form routines p.scope w b slots n ts u name (count_subs subs) Node Reads
           (subst (λ z. read_fault p ItsValue name (last_captured z u) u ≡ None) (count_same subs) r.0)
-          (λ j v d e tasks. any_value (GlobalName column name subs) (λ shared. refl) slots ts (without_last (run.count_subs subs) u) refl
+          (λ j v d e tasks. any_value (GlobalName column name subs) (λ shared. refl) slots ts (without_last (count_subs subs) u) refl
           (subst (λ z. FitValue (GlobalName column name subs) slots n ts (without_last z u)) (count_same subs) (k (without_last (count_subs subs) u) r.1)) j v (drop 1 j.values) d e tasks))))
       evaluate_fits (SpecialName special.Job) ours slots ts s A l k = number routines p.scope w b slots n ts s (k s (leads_stay A S Q s l))
       evaluate_fits (SpecialName special.Test) ours slots ts s A l k = test routines p.scope w b slots n ts s (k s (leads_stay A S Q s l))
@@ -265,7 +265,7 @@ module _ (routines : List RoutineTree) (p : Spot) (w : World) (b : Level) (S : C
           (operand op t rest)
 
       pub subs_fit : (subs : Subs) → AreOurs p.scope (in_subs subs) → (slots : List Slot) (ts : List Task) (s : State) (A : State → Type 0) → Leads (capture_subs p subs) s A S Q
-          → ((u : State) → A u → Fit (kepts (run.count_subs subs) slots) n ts u) → Fit slots n (each_sub subs ++ ts) s
+          → ((u : State) → A u → Fit (kepts (count_subs subs) slots) n ts u) → Fit slots n (each_sub subs ++ ts) s
       subs_fit no_subs ours slots ts s A l k = k s (leads_stay A S Q s l)
       subs_fit (sub column t rest) ours slots ts s A l k =
           let whole = leads_both A S Q (λ v. capture p.scope t (evaluate p ItsValue t v)) (capture_subs p rest)

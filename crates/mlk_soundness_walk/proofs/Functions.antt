@@ -7,7 +7,7 @@ use Rattle.mlk_names.specs.declared.reference.Access.TheVariants.{Reads}
 use Rattle.mlk_rules.specs.Computed.{answer}
 use Rattle.mlk_syntax.specs.declared.expr.Function.{Function}
 use Rattle.mlk_syntax.specs.declared.expr.Function.TheVariants as function
-use Rattle.mlk_syntax.specs.ExprTrees.{Tree, GlobalName, LocalName, Trees, tree, Subs, no_subs, sub}
+use Rattle.mlk_syntax.specs.ExprTrees.{Tree, GlobalName, LocalName, Trees, tree, Subs, no_subs, sub, count_subs}
 use Rattle.mlk_syntax.specs.Trees.{RoutineTree}
 use Rattle.mlk_cert_parts.specs.declared.case.Case.{Case}
 use Rattle.mlk_machine_jobs.specs.Tasks as task
@@ -23,7 +23,7 @@ use Rattle.mlk_walk_exprs.specs.declared.reference.Use.TheVariants.{ItsValue, Be
 use Rattle.mlk_walk_exprs.specs.Walks.{Outcome, each}
 use Rattle.mlk_walk_exprs.specs.Spots.{Spot}
 use Rattle.mlk_walk_exprs.specs.References.{use_of, checked, read_fault, read_last}
-use Rattle.mlk_walk_exprs.specs.Expressions.{count_subs, forget_subs, capture_subs, evaluate_all}
+use Rattle.mlk_walk_exprs.specs.Expressions.{forget_subs, capture_subs, evaluate_all}
 use Rattle.mlk_walk_laws.proofs.Rows.{each_keeps, both}
 use Rattle.mlk_walk_laws.proofs.Walks.{captured_keep, forgotten_keeps, all_keep}
 use Rattle.mlk_soundness_machine.specs.Described.{World, Level, Slot, Bare}
@@ -77,7 +77,7 @@ module _ (routines : List RoutineTree) (p : Spot) (w : World) (b : Level) (S : C
   -- subscripts, and arguments, are evaluated
   abbrev pub Subscripts : Subs → Type 1
   Subscripts subs = (slots : List Slot) (ts : List Task) (s : State) (A : State → Type 0) → Leads (capture_subs p subs) s A S Q
-      → ((u : State) → A u → Fit (kepts (run.count_subs subs) slots) n ts u) → Fit slots n (each_sub subs ++ ts) s
+      → ((u : State) → A u → Fit (kepts (count_subs subs) slots) n ts u) → Fit slots n (each_sub subs ++ ts) s
 
   abbrev pub Others : Trees → Type 1
   Others more = (slots : List Slot) (ts : List Task) (s : State) (A : State → Type 0) → Leads (evaluate_all p ItsValue more) s A S Q
@@ -111,20 +111,20 @@ module _ (routines : List RoutineTree) (p : Spot) (w : World) (b : Level) (S : C
 
     -- a local's name
     pub local_fits : (how : Use) (name : List ℕ) (subs : Subs) → Subscripts subs → (s : State) → Leads (evaluate_all p how (tree (LocalName name subs) more)) s A S Q
-        → Fit slots n (((each_sub subs ++ each_tree more) ++ task.AskValue (run.count_subs subs + run.count_trees more) ∷ []) ++ ts) s
+        → Fit slots n (((each_sub subs ++ each_tree more) ++ task.AskValue (count_subs subs + run.count_trees more) ∷ []) ++ ts) s
     local_fits how name no_subs subscripts s l =
         subst (λ z. Fit slots n z s) (sym (regroup [] (each_tree more) (task.AskValue (0 + run.count_trees more) ∷ []) ts)) (tail_fit 0 s l)
     local_fits how name (sub column t rest) subscripts s l =
         let subs : Subs = sub column t rest in
         let F : Walk → Walk = λ v. evaluate_all p ItsValue more (forget_subs (sub column t rest) v) in
         let keeps = both (forget_subs (sub column t rest)) (evaluate_all p ItsValue more) (forgotten_keeps (sub column t rest)) (all_keep p ItsValue more) in
-        subst (λ z. Fit slots n z s) (sym (regroup (each_sub subs) (each_tree more) (task.AskValue (run.count_subs subs + run.count_trees more) ∷ []) ts))
-        (subscripts slots (each_tree more ++ (task.AskValue (run.count_subs subs + run.count_trees more) ∷ ts)) s (λ u. Leads F u A S Q)
+        subst (λ z. Fit slots n z s) (sym (regroup (each_sub subs) (each_tree more) (task.AskValue (count_subs subs + run.count_trees more) ∷ []) ts))
+        (subscripts slots (each_tree more ++ (task.AskValue (count_subs subs + run.count_trees more) ∷ ts)) s (λ u. Leads F u A S Q)
         (leads_both A S Q (capture_subs p subs) F (captured_keep p subs) keeps s l)
         (λ u q.
         let a : Then (without_last (count_subs subs) u) = leads_changed Then S Q (without_last (count_subs subs)) u (leads_both A S Q (forget_subs subs) (evaluate_all p ItsValue more) (forgotten_keeps subs) (all_keep p ItsValue more) u q) in
-        forgotten_fits routines p.scope w b slots n (each_tree more ++ (task.AskValue (run.count_subs subs + run.count_trees more) ∷ ts)) u (run.count_subs subs)
-        (tail_fit (run.count_subs subs) (without_last (run.count_subs subs) u) (subst (λ z. Then (without_last z u)) (count_same subs) a))))
+        forgotten_fits routines p.scope w b slots n (each_tree more ++ (task.AskValue (count_subs subs + run.count_trees more) ∷ ts)) u (count_subs subs)
+        (tail_fit (count_subs subs) (without_last (count_subs subs) u) (subst (λ z. Then (without_last z u)) (count_same subs) a))))
 
     -- a global's name
     module _ (column : ℕ) (name : List ℕ) (subs : Subs) (subscripts : Subscripts subs) where
@@ -136,12 +136,12 @@ module _ (routines : List RoutineTree) (p : Spot) (w : World) (b : Level) (S : C
 
       -- subscripts, then what is made of them
       opened : (how : Use) (us : List Task) (s : State) → Leads (evaluate_all p how (tree (GlobalName column name subs) more)) s A S Q
-          → ((u : State) → After how u → Fit (kepts (run.count_subs subs) slots) n us u) → Fit slots n (each_sub subs ++ us) s
+          → ((u : State) → After how u → Fit (kepts (count_subs subs) slots) n us u) → Fit slots n (each_sub subs ++ us) s
       opened how us s l f =
           subscripts slots us s (After how)
           (leads_both A S Q (capture_subs p subs) (λ v. evaluate_all p ItsValue more (each (row how) v)) (captured_keep p subs) (both (each (row how)) (evaluate_all p ItsValue more) (each_keeps (row how)) (all_keep p ItsValue more)) s l) f
 
-      allowed : (how : Use) (u : State) → After how u → (read_fault p how name (last_captured (run.count_subs subs) u) u ≡ None) × Then (without_last (run.count_subs subs) u)
+      allowed : (how : Use) (u : State) → After how u → (read_fault p how name (last_captured (count_subs subs) u) u ≡ None) × Then (without_last (count_subs subs) u)
       allowed how u q =
           let r = covered_goes Then S Q (read_fault p how name (last_captured (count_subs subs) u) u) p.line column (without_last (count_subs subs) u)
           (leads_each Then S Q (row how) u (leads_both A S Q (each (row how)) (evaluate_all p ItsValue more) (each_keeps (row how)) (all_keep p ItsValue more) u q)) in (
@@ -153,45 +153,45 @@ module _ (routines : List RoutineTree) (p : Spot) (w : World) (b : Level) (S : C
       read_fits : (how : Use) (e : Extent) → ((ss : List Sym) (u : State) → read_fault p how name ss u ≡ checked p e Reads name ss u)
           → (s : State) → Leads (evaluate_all p how (tree (GlobalName column name subs) more)) s A S Q → Fit slots n ((read_global name subs e ++ unused more) ++ ts) s
       read_fits how e same s l =
-          subst (λ z. Fit slots n z s) (sym (then_unused (each_sub subs) (task.FormReference name (run.count_subs subs) e Reads) (task.Drop (run.count_trees more)) (each_tree more) ts))
-          (opened how (task.FormReference name (run.count_subs subs) e Reads ∷ later) s l
+          subst (λ z. Fit slots n z s) (sym (then_unused (each_sub subs) (task.FormReference name (count_subs subs) e Reads) (task.Drop (run.count_trees more)) (each_tree more) ts))
+          (opened how (task.FormReference name (count_subs subs) e Reads ∷ later) s l
           (λ u q.
           let r = allowed how u q in
-          form routines p.scope w b slots n later u name (run.count_subs subs) e Reads (sym (same (last_captured (run.count_subs subs) u) u) ∙ r.0)
-          (unused_fit (without_last (run.count_subs subs) u) r.1)))
+          form routines p.scope w b slots n later u name (count_subs subs) e Reads (sym (same (last_captured (count_subs subs) u) u) ∙ r.0)
+          (unused_fit (without_last (count_subs subs) u) r.1)))
 
       -- all of the global is read
       query_fits : (s : State) → Leads (evaluate_all p AllOfIt (tree (GlobalName column name subs) more)) s A S Q
-          → Fit slots n ((each_sub subs ++ task.Drop (run.count_subs subs) ∷ task.FormReference name 0 extent.Tree Reads ∷ unused more) ++ ts) s
+          → Fit slots n ((each_sub subs ++ task.Drop (count_subs subs) ∷ task.FormReference name 0 extent.Tree Reads ∷ unused more) ++ ts) s
       query_fits s l =
           let to : List Task = task.FormReference name 0 extent.Tree Reads ∷ later in
           subst (λ z. Fit slots n z s)
-          (sym (then_two (each_sub subs) (task.Drop (run.count_subs subs)) (task.FormReference name 0 extent.Tree Reads) (task.Drop (run.count_trees more)) (each_tree more) ts))
-          (opened AllOfIt (task.Drop (run.count_subs subs) ∷ to) s l
+          (sym (then_two (each_sub subs) (task.Drop (count_subs subs)) (task.FormReference name 0 extent.Tree Reads) (task.Drop (run.count_trees more)) (each_tree more) ts))
+          (opened AllOfIt (task.Drop (count_subs subs) ∷ to) s l
           (λ u q.
           let r = allowed AllOfIt u q in
-          let x : State = without_last (run.count_subs subs) u in
-          forgotten_fits routines p.scope w b slots n (task.Drop (run.count_subs subs) ∷ to) u (run.count_subs subs)
-          (drop_fits routines p.scope w b slots n to x (run.count_subs subs)
+          let x : State = without_last (count_subs subs) u in
+          forgotten_fits routines p.scope w b slots n (task.Drop (count_subs subs) ∷ to) u (count_subs subs)
+          (drop_fits routines p.scope w b slots n to x (count_subs subs)
           (form routines p.scope w b slots n later x name 0 extent.Tree Reads (subst (λ z. answer p.scope.rules u.case.held (referring extent.Tree Reads name z) ≡ None) (sym (none_last x)) r.0)
           (subst (FitsAny routines p.scope w b slots n later) (sym (nothing_less x)) (unused_fit x r.1))))))
 
       -- nothing is read
       spelled_fits : (s : State) → Leads (evaluate_all p Spelled (tree (GlobalName column name subs) more)) s A S Q
-          → Fit slots n (((each_sub subs ++ each_tree more) ++ task.AskValue (run.count_subs subs + run.count_trees more) ∷ []) ++ ts) s
+          → Fit slots n (((each_sub subs ++ each_tree more) ++ task.AskValue (count_subs subs + run.count_trees more) ∷ []) ++ ts) s
       spelled_fits s l =
-          subst (λ z. Fit slots n z s) (sym (regroup (each_sub subs) (each_tree more) (task.AskValue (run.count_subs subs + run.count_trees more) ∷ []) ts))
-          (opened Spelled (each_tree more ++ (task.AskValue (run.count_subs subs + run.count_trees more) ∷ ts)) s l
+          subst (λ z. Fit slots n z s) (sym (regroup (each_sub subs) (each_tree more) (task.AskValue (count_subs subs + run.count_trees more) ∷ []) ts))
+          (opened Spelled (each_tree more ++ (task.AskValue (count_subs subs + run.count_trees more) ∷ ts)) s l
           (λ u q.
-          forgotten_fits routines p.scope w b slots n (each_tree more ++ (task.AskValue (run.count_subs subs + run.count_trees more) ∷ ts)) u (run.count_subs subs)
-          (tail_fit (run.count_subs subs) (without_last (run.count_subs subs) u) (allowed Spelled u q).1)))
+          forgotten_fits routines p.scope w b slots n (each_tree more ++ (task.AskValue (count_subs subs + run.count_trees more) ∷ ts)) u (count_subs subs)
+          (tail_fit (count_subs subs) (without_last (count_subs subs) u) (allowed Spelled u q).1)))
 
     -- what is beside the node is read
     order_fits : (column : ℕ) (name : List ℕ) (c : ℕ) (t : Tree) (rest : Subs) → Subscripts (sub c t rest) → (s : State) → Leads (evaluate_all p Beside (tree (GlobalName column name (sub c t rest)) more)) s A S Q
         → Fit slots n (of_global function.Order name (sub c t rest) more ++ ts) s
     order_fits column name c t rest subscripts s l =
         let subs : Subs = sub c t rest in
-        let k : ℕ = run.count_subs rest in
+        let k : ℕ = count_subs rest in
         let one : k ≡ suc k - 1 = omega arith in
         let two : 1 ≡ suc k - (suc k - 1) = omega arith in
         let above : ℕ → ℕ → List Task = λ m z. task.Drop m ∷ task.FormReference name z extent.Tree Reads ∷ later in
@@ -202,7 +202,7 @@ module _ (routines : List RoutineTree) (p : Spot) (w : World) (b : Level) (S : C
         let r = allowed column name subs subscripts Beside u q in
         subst (λ z. Fit (kepts (suc k) slots) n (above z (suc k - 1)) u) two
         (subst (λ z. Fit (kepts (suc k) slots) n (above 1 z) u) one
-        (above_fits routines p.scope w b slots n later u name k r.0 (unused_fit (without_last (run.count_subs subs) u) r.1)))))
+        (above_fits routines p.scope w b slots n later u name k r.0 (unused_fit (without_last (count_subs subs) u) r.1)))))
 
     -- a name without subscripts: all of the global is read
     whole_fits : (column : ℕ) (name : List ℕ) → Subscripts no_subs → (s : State) → Leads (evaluate_all p Beside (tree (GlobalName column name no_subs) more)) s A S Q

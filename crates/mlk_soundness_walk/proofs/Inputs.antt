@@ -3,7 +3,7 @@ use Rattle.std.proofs.Common.{◌≡◌, ℕ, Bool, true, false, List, [], ◌�
 use Rattle.std.specs.Prelude.{flat_map}
 use Rattle.std.specs.List.{list_all}
 use Rattle.std.proofs.lemmas.Bool.{and_parts}
-use Rattle.mlk_syntax.specs.ExprTrees.{Tree, Lit, Free, LocalName, GlobalName, SpecialName, Prefixed, Chain, PatternText, Func, Selected, BareCall, CallOf, no_subs, sub}
+use Rattle.mlk_syntax.specs.ExprTrees.{Tree, Lit, Free, LocalName, GlobalName, SpecialName, Prefixed, Chain, PatternText, Func, Selected, BareCall, CallOf, no_subs, sub, count_subs}
 use Rattle.mlk_syntax.specs.Trees.{RoutineTree, VariableTree, Named, ReadTree, ReadText, ReadFormat, ReadLine, ReadCharacter}
 use Rattle.mlk_program.specs.Calls as calls
 use Rattle.mlk_program.specs.Calls.{in_tree, in_option, in_read}
@@ -21,7 +21,7 @@ use Rattle.mlk_walk_state.specs.States as state
 use Rattle.mlk_walk_state.specs.States.{without_last}
 use Rattle.mlk_walk_state.specs.declared.state.State.{State}
 use Rattle.mlk_calls.specs.Changes.{changed_state}
-use Rattle.mlk_walk_exprs.specs.Expressions.{count_subs, value, value_if}
+use Rattle.mlk_walk_exprs.specs.Expressions.{value, value_if}
 use Rattle.mlk_walk_exprs.specs.Spots.{Spot}
 use Rattle.mlk_walk_exprs.specs.Walks.{Goes, each, few}
 use Rattle.mlk_walk_exprs.specs.declared.walk.Quit.{Quit}
@@ -85,7 +85,7 @@ module _ (routines : List RoutineTree) (p : Spot) (w : World) (b : Level) (world
       (ask_fits routines p.scope w b [] n (task.StoreLast name ∷ ts) (without_last 0 s) 0
       (λ j x d e tasks. changes.store_last routines p.scope w b world [] n ts (without_last 0 s) name r.0 (k (changed_state (those.Only name ∷ []) (without_last 0 s)) r.1) j x (drop 1 j.values) d e tasks))
   stored_fits (Named column (LocalName name (sub c t rest))) is ts s B l k =
-      let count : ℕ = run.count_subs (sub c t rest) in
+      let count : ℕ = count_subs (sub c t rest) in
       let a : B (without_last count s) = subst (λ z. B (without_last z s)) (count_same (sub c t rest))
       (leads_each B S Q (read_row p (Named column (LocalName name (sub c t rest)))) s l (Goes (without_last (count_subs (sub c t rest)) s)) (inl refl)) in
       forgotten_fits routines p.scope w b [] n (task.AskValue count ∷ task.Drop 1 ∷ ts) s count

@@ -11,7 +11,7 @@ use Rattle.mlk_names.specs.declared.symbol.Sym.TheVariants as symbol
 use Rattle.mlk_names.specs.declared.known_symbol.KnownSym.{KnownSym}
 use Rattle.mlk_names.specs.declared.known_symbol.KnownSym.TheVariants as known
 use Rattle.mlk_names.specs.Symbols.{Assignment, StandsFor, known_of}
-use Rattle.mlk_syntax.specs.ExprTrees.{Lit, Free, LocalName, GlobalName, SpecialName, Prefixed, Chain, PatternText, Func, Selected, BareCall, CallOf}
+use Rattle.mlk_syntax.specs.ExprTrees.{Lit, Free, LocalName, GlobalName, SpecialName, Prefixed, Chain, PatternText, Func, Selected, BareCall, CallOf, count_subs}
 use Rattle.mlk_syntax.specs.Trees.{VariableTree, Named}
 use Rattle.mlk_machine_locks.specs.Counts.{Counts, count_of, raised, lowered, all_raised, all_lowered}
 use Rattle.mlk_machine_locks.proofs.Counting.{count_of-raised, count_of-lowered}
@@ -21,7 +21,6 @@ use Rattle.mlk_machine_jobs.specs.Commands.{subs_in}
 use Rattle.mlk_machine_jobs.specs.Locking.{root_in, count_all, lock_name_of, names_of}
 use Rattle.mlk_walk_state.specs.Lists.{all_some}
 use Rattle.mlk_walk_state.specs.Terms.{taken, all_taken, is_such, all_known}
-use Rattle.mlk_walk_exprs.specs.Expressions.{count_subs}
 use Rattle.mlk_walk_commands.specs.Locks.{root_of, count_from, count_names, terms_of}
 use Rattle.mlk_walk_commands.specs.Variables as walked
 use Rattle.mlk_walk_commands.specs.Variables.{name_in}

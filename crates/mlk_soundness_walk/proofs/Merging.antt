@@ -7,7 +7,7 @@ use Rattle.std.proofs.Math.Seq.{drop-append_seam, take-append_seam}
 use Rattle.mlk_names.specs.Symbols.{StandsFor}
 use Rattle.mlk_names.specs.declared.reference.Extent.TheVariants as extent
 use Rattle.mlk_names.specs.declared.reference.Access.TheVariants.{Reads, Writes}
-use Rattle.mlk_syntax.specs.ExprTrees.{LocalName, GlobalName, Subs, no_subs, sub}
+use Rattle.mlk_syntax.specs.ExprTrees.{LocalName, GlobalName, Subs, no_subs, sub, count_subs}
 use Rattle.mlk_syntax.specs.Trees.{RoutineTree, VariableTree, Named, MergeTree, MergeInto}
 use Rattle.mlk_program.specs.Calls as calls
 use Rattle.mlk_program.specs.Calls.{in_merge}
@@ -24,7 +24,6 @@ use Rattle.mlk_walk_state.specs.Scope.{Scope}
 use Rattle.mlk_walk_state.specs.States.{last_captured, without_last}
 use Rattle.mlk_walk_state.specs.declared.state.State.{State}
 use Rattle.mlk_calls.specs.Changes.{changed_state}
-use Rattle.mlk_walk_exprs.specs.Expressions.{count_subs}
 use Rattle.mlk_walk_exprs.specs.References.{checked}
 use Rattle.mlk_walk_exprs.specs.Spots.{Spot}
 use Rattle.mlk_walk_exprs.specs.Walks.{Outcome, Goes, each}
@@ -123,7 +122,7 @@ alone_same vals (Named column (GlobalName at name ss)) (Named c y) is = refl
 alone_same vals (Named column x) (Named c y) is = refl
 
 count_is : (v : VariableTree) → variable.count_in v ≡ made.count_in v
-count_is v = count_same (variable.subs_of (variable.name_in v)) ∙ ap run.count_subs (subs_same v)
+count_is v = count_same (variable.subs_of (variable.name_in v)) ∙ ap count_subs (subs_same v)
 
 module _ (routines : List RoutineTree) (p : Spot) (w : World) (b : Level) (world : IsWorld p.scope w) (S : Case → Type 0) (Q : Quit → Type 0) (n : ℕ) where
   abbrev Fit : List Slot → ℕ → List Task → State → Type 0
@@ -152,10 +151,10 @@ module _ (routines : List RoutineTree) (p : Spot) (w : World) (b : Level) (world
         let r = changed_goes p A S Q column (those.Only name ∷ []) (without_last 0 v) h in
         over vals 0 size (task.StoreAny name ∷ ts) v (store_any routines p.scope w b world [] n ts (without_last 0 v) name r.0 (go (changed_state (those.Only name ∷ []) (without_last 0 v)) r.1))
     alone_fits (Named column (LocalName name (sub c t rest))) vals size v h =
-        over vals (run.count_subs (sub c t rest)) size ts v (go (without_last (run.count_subs (sub c t rest)) v)
+        over vals (count_subs (sub c t rest)) size ts v (go (without_last (count_subs (sub c t rest)) v)
         (subst (λ z. A (without_last z v)) (count_same (sub c t rest)) (h (Goes (without_last (count_subs (sub c t rest)) v)) (inl refl))))
     alone_fits (Named column (GlobalName caret name subs)) vals size v h = λ j d tasks.
-        let count : ℕ = run.count_subs subs in
+        let count : ℕ = count_subs subs in
         let r = covered_goes A S Q (checked p extent.Tree Writes name (last_captured (count_subs subs) v) v) p.line caret (without_last (count_subs subs) v) h in
         let c : checked p extent.Tree Writes name (last_captured count v) v ≡ None = subst (λ z. checked p extent.Tree Writes name (last_captured z v) v ≡ None) (count_same subs) r.0 in
         let a : A (without_last count v) = subst (λ z. A (without_last z v)) (count_same subs) r.1 in
@@ -188,7 +187,7 @@ module _ (routines : List RoutineTree) (p : Spot) (w : World) (b : Level) (world
         → j.tasks ≡ merge_source found source ++ (merge_target vals target source ++ ts) → Safe routines p.scope w b n j
     sides_fit (Named column (GlobalName caret name subs)) target found vals size u h j d stand tasks =
         let B : State → Type 0 = λ v. Leads (each (kill_row p target)) v A S Q in
-        let count : ℕ = run.count_subs subs in
+        let count : ℕ = count_subs subs in
         let r = covered_goes B S Q (checked p extent.Tree Reads name (last_captured (count_subs subs) u) u) p.line caret (without_last (count_subs subs) u) h in
         let c : checked p extent.Tree Reads name (last_captured count u) u ≡ None = subst (λ z. checked p extent.Tree Reads name (last_captured z u) u ≡ None) (count_same subs) r.0 in
         let a : B (without_last count u) = subst (λ z. B (without_last z u)) (count_same subs) r.1 in

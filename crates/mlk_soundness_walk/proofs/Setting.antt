@@ -4,7 +4,7 @@ use Rattle.std.specs.Prelude.{flat_map}
 use Rattle.std.specs.List.{AllZip}
 use Rattle.mlk_names.specs.declared.symbol.Sym.{Sym}
 use Rattle.mlk_names.specs.Symbols.{Assignment, StandsFor}
-use Rattle.mlk_syntax.specs.ExprTrees.{Tree, Subs}
+use Rattle.mlk_syntax.specs.ExprTrees.{Tree, Subs, count_subs}
 use Rattle.mlk_syntax.specs.Trees.{RoutineTree, TargetTree, SetTo}
 use Rattle.mlk_cert_parts.specs.declared.case.Case.{Case}
 use Rattle.mlk_machine_jobs.specs.Tasks as task
@@ -108,7 +108,7 @@ module _ (routines : List RoutineTree) (p : Spot) (w : World) (b : Level) (world
     (evaluate : (t : Tree) → AreOurs p.scope (in_tree t) → (slots : List Slot) (ts : List Task) (s : State) (A : State → Type 0) → Leads (value p t) s A S Q
     → ((u : State) → A u → FitsValue routines p.scope w b t slots n ts u) → Fits routines p.scope w b slots n (task.Evaluate t ∷ ts) s)
     (subs_fit : (subs : Subs) → AreOurs p.scope (in_subs subs) → (slots : List Slot) (ts : List Task) (s : State) (A : State → Type 0) → Leads (capture_subs p subs) s A S Q
-    → ((u : State) → A u → Fits routines p.scope w b (kepts (run.count_subs subs) slots) n ts u) → Fits routines p.scope w b slots n (each_sub subs ++ ts) s) where
+    → ((u : State) → A u → Fits routines p.scope w b (kepts (count_subs subs) slots) n ts u) → Fits routines p.scope w b slots n (each_sub subs ++ ts) s) where
   abbrev Fit : List Slot → ℕ → List Task → State → Type 0
   Fit = Fits routines p.scope w b
 

@@ -12,7 +12,7 @@ use Rattle.mlk_syntax.specs.ExprTrees.{Subs, no_subs, sub, Links, no_links, link
 use Rattle.mlk_machine_jobs.specs.Tasks as task
 use Rattle.mlk_machine_jobs.specs.Choices.{is_one, is_zero}
 use Rattle.mlk_machine_jobs.specs.Expressions.{operation}
-use Rattle.mlk_walk_state.specs.Values.{fold_before, fold_between}
+use Rattle.mlk_numbers.specs.Operators.{fold_before, fold_between}
 use Rattle.mlk_walk_state.specs.Symbols.{local_symbol, before_symbol, after_constant, between_symbols, constant_if, chain_symbol, symbol_of}
 use Rattle.mlk_walk_exprs.specs.Expressions.{agrees}
 use Rattle.mlk_soundness_machine.specs.Described.{is_local}

@@ -4,7 +4,7 @@ use Rattle.std.specs.Prelude.{◌||◌, not, if◌then◌else◌, bytes_eq}
 use Rattle.mlk_text.specs.declared.code.Code.TheVariants.{HeldAtEnd, SummaryShort}
 use Rattle.mlk_names.specs.declared.reference.Extent.TheVariants as extent
 use Rattle.mlk_names.specs.declared.reference.Access.TheVariants.{Writes}
-use Rattle.mlk_syntax.specs.ExprTrees.{Tree, Lit, Free, LocalName, GlobalName, SpecialName, Prefixed, Chain, PatternText, Func, Selected, BareCall, CallOf, no_subs, sub}
+use Rattle.mlk_syntax.specs.ExprTrees.{Tree, Lit, Free, LocalName, GlobalName, SpecialName, Prefixed, Chain, PatternText, Func, Selected, BareCall, CallOf, no_subs, sub, count_subs}
 use Rattle.mlk_syntax.specs.Trees.{RoutineTree, VariableTree, Named, KillTree, KillOne, KillAllBut}
 use Rattle.mlk_program.specs.Calls as calls
 use Rattle.mlk_program.specs.Calls.{in_kill}
@@ -23,7 +23,6 @@ use Rattle.mlk_walk_state.specs.Names.{have, is_among}
 use Rattle.mlk_walk_state.specs.States.{without_last, last_captured}
 use Rattle.mlk_walk_state.specs.declared.state.State.{State}
 use Rattle.mlk_calls.specs.Changes.{changed_state}
-use Rattle.mlk_walk_exprs.specs.Expressions.{count_subs}
 use Rattle.mlk_walk_exprs.specs.References.{checked}
 use Rattle.mlk_walk_exprs.specs.Spots.{Spot}
 use Rattle.mlk_walk_exprs.specs.Walks.{Outcome, Goes, Refused, each}
@@ -100,12 +99,12 @@ module _ (routines : List RoutineTree) (p : Spot) (w : World) (b : Level) (world
         subst (λ z. Fit [] n (task.KillNames (bound.Only name) ∷ ts) z) (nothing_less u)
         (killed column (bound.Only name) (those.Only name) (only_same name) (without_last 0 u) h)
     after (Named column (LocalName name (sub c t rest))) u h =
-        let count : ℕ = run.count_subs (sub c t rest) in
+        let count : ℕ = count_subs (sub c t rest) in
         let a : A (without_last count u) = subst (λ z. A (without_last z u)) (count_same (sub c t rest)) (h (Goes (without_last (count_subs (sub c t rest)) u)) (inl refl)) in
         forgotten_fits routines p.scope w b [] n (task.Drop count ∷ ts) u count (drop_fits routines p.scope w b [] n ts (without_last count u) count (go (without_last count u) a))
     after (Named column (GlobalName caret name subs)) u h =
         let r = covered_goes A S Q (checked p extent.Tree Writes name (last_captured (count_subs subs) u) u) p.line caret (without_last (count_subs subs) u) h in
-        form routines p.scope w b [] n ts u name (run.count_subs subs) extent.Tree Writes
+        form routines p.scope w b [] n ts u name (count_subs subs) extent.Tree Writes
         (subst (λ z. checked p extent.Tree Writes name (last_captured z u) u ≡ None) (count_same subs) r.0)
         (subst (λ z. Fit [] n ts (without_last z u)) (count_same subs) (go (without_last (count_subs subs) u) r.1))
     after (Named column (Lit v)) u h = stays u h

@@ -51,6 +51,15 @@ mutual
     no_actuals : Actuals
     actual : (a : ActualTree) → (rest : Actuals) → Actuals
 
+-- how many subscripts stand in a list of them, and an actual list as a list
+abbrev pub count_subs : Subs → ℕ
+count_subs no_subs = 0
+count_subs (sub column t rest) = suc (count_subs rest)
+
+abbrev pub as_list : Actuals → List ActualTree
+as_list no_actuals = []
+as_list (actual a rest) = a ∷ as_list rest
+
 abbrev pub trees_from : List Tree → Trees
 trees_from [] = no_trees
 trees_from (t ∷ ts) = tree t (trees_from ts)

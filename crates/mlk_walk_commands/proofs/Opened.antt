@@ -3,7 +3,7 @@ use Rattle.std.proofs.Common.{◌≡◌, ◌∙◌, refl, ap, ℕ, suc, length, 
 use Rattle.mlk_text.specs.declared.root.Root.TheVariants as root
 use Rattle.mlk_syntax.specs.declared.expr.Subscript.{Subscript}
 use Rattle.mlk_syntax.specs.declared.expr.Expr.TheVariants as rust
-use Rattle.mlk_syntax.specs.ExprTrees.{tree_of, sub_trees, subs_from, LocalName}
+use Rattle.mlk_syntax.specs.ExprTrees.{tree_of, sub_trees, subs_from, LocalName, count_subs}
 use Rattle.mlk_syntax.proofs.Variants.{tree_local, tree_global}
 use Rattle.mlk_syntax.specs.Trees.{Named}
 use Rattle.mlk_names.specs.declared.reference.Access.TheVariants.{Reads, Writes}
@@ -13,7 +13,6 @@ use Rattle.mlk_walk_state.specs.States.{without_last}
 use Rattle.mlk_walk_exprs.specs.Walks.{Goes}
 use Rattle.mlk_walk_exprs.specs.Spots.{Spot}
 use Rattle.mlk_walk_exprs.specs.References.{touch, touch_last}
-use Rattle.mlk_walk_exprs.specs.Expressions.{count_subs}
 use Rattle.mlk_walk_commands.specs.Variables.{subs_of, change_local}
 use Rattle.mlk_walk_commands.specs.Locks.{root_of, unknown_code}
 use Rattle.mlk_walk_commands.specs.Arguments.{kill_row, read_row, merge_from, symbols_at, write_variable, read_part}

@@ -1,7 +1,7 @@
 -- What one argument of a command makes of states. Standard: SET, KILL, NEW, READ, MERGE, WRITE, DO, JOB, IF; the order
 -- within an argument is from left to right, but that SET evaluates its left subscripts, then its value, then assigns.
 use Rattle.std.specs.Prelude.{ℕ, ◌+◌, Bool, true, false, List, [], ◌∷◌, length, take, drop, fold, Option, Some, None}
-use Rattle.mlk_syntax.specs.ExprTrees.{Tree, LocalName, GlobalName, ActualTree, actuals_from}
+use Rattle.mlk_syntax.specs.ExprTrees.{Tree, LocalName, GlobalName, ActualTree, actuals_from, count_subs}
 use Rattle.mlk_syntax.specs.Trees.{VariableTree, Named, CallTree, Called, DoTree, DoCall, KillTree, KillOne, KillAllBut}
 use Rattle.mlk_syntax.specs.Trees.{NewTree, NewOne, NewAllBut, MergeTree, MergeInto, ReadTree, ReadText, ReadFormat}
 use Rattle.mlk_syntax.specs.Trees.{ReadLine, ReadCharacter, TargetTree, SetWhole, SetPart, SetTree, SetTo}
@@ -20,7 +20,7 @@ use Rattle.mlk_walk_exprs.specs.declared.walk.Walk.{Walk}
 use Rattle.mlk_walk_exprs.specs.Walks.{Outcome, Goes, Skips, each, each_changed, placed, all_placed}
 use Rattle.mlk_walk_exprs.specs.Spots.{Spot}
 use Rattle.mlk_walk_exprs.specs.References.{touch, touch_last}
-use Rattle.mlk_walk_exprs.specs.Expressions.{count_subs, capture_actuals, value, value_if, values, conditioned}
+use Rattle.mlk_walk_exprs.specs.Expressions.{capture_actuals, value, value_if, values, conditioned}
 use Rattle.mlk_walk_commands.specs.Variables.{count_in, capture_variable, change_at, change_local}
 use Rattle.mlk_walk_commands.specs.News.{in_order, renew}
 

@@ -1,7 +1,7 @@
 -- Variables as commands name them, and changes of locals. Standard: SET, KILL, READ (a variable's subscripts are
 -- evaluated before the command acts on it).
 use Rattle.std.specs.Prelude.{ℕ, List, [], ◌∷◌}
-use Rattle.mlk_syntax.specs.ExprTrees.{Tree, LocalName, GlobalName, Subs, no_subs, sub}
+use Rattle.mlk_syntax.specs.ExprTrees.{Tree, LocalName, GlobalName, Subs, no_subs, sub, count_subs}
 use Rattle.mlk_syntax.specs.Trees.{VariableTree, Named}
 use Rattle.mlk_cert_parts.specs.declared.names.NameSet.{NameSet}
 use Rattle.mlk_cert_parts.specs.declared.names.NameSet.TheVariants.{Only}
@@ -10,7 +10,7 @@ use Rattle.mlk_calls.specs.Changes.{change}
 use Rattle.mlk_walk_exprs.specs.declared.walk.Walk.{Walk}
 use Rattle.mlk_walk_exprs.specs.Walks.{Outcome, Goes, placed}
 use Rattle.mlk_walk_exprs.specs.Spots.{Spot}
-use Rattle.mlk_walk_exprs.specs.Expressions.{count_subs, capture_subs}
+use Rattle.mlk_walk_exprs.specs.Expressions.{capture_subs}
 
 -- a variable's name with its subscripts, and its column; only locals and globals are variables
 abbrev pub subs_of : Tree → Subs

@@ -11,7 +11,7 @@ use Rattle.mlk_syntax.specs.declared.expr.Subscript.{Subscript}
 use Rattle.mlk_syntax.specs.declared.expr.Actual.TheOpen as open'
 use Rattle.mlk_syntax.specs.declared.expr.Expr.TheVariants as rust
 use Rattle.mlk_syntax.specs.declared.expr.Expr.TheVariants.{rolls-Unary, rolls-Binary, rolls-Select, rolls-Call}
-use Rattle.mlk_syntax.specs.ExprTrees.{Tree, ActualTree, Prefixed, Chain, Selected, BareCall, tree_of, sub_trees, subs_from, trees, trees_from, no_subs, links, links_from, choices, choices_from, actual_trees, actuals_from, actual_step, expr_step, subscript_step}
+use Rattle.mlk_syntax.specs.ExprTrees.{Tree, ActualTree, Prefixed, Chain, Selected, BareCall, tree_of, sub_trees, subs_from, trees, trees_from, no_subs, links, links_from, choices, choices_from, actual_trees, actuals_from, actual_step, expr_step, subscript_step, count_subs}
 use Rattle.mlk_syntax.proofs.Variants.{tree_local, tree_global, tree_func, tree_call}
 use Rattle.mlk_program.proofs.FoundCalls.{as_list_same}
 use Rattle.mlk_walk_exprs.specs.declared.walk.Walk.{Walk}
@@ -24,7 +24,7 @@ use Rattle.mlk_walk_state.specs.States.{without_last, with_symbol}
 use Rattle.mlk_walk_exprs.specs.Walks.{each, each_changed}
 use Rattle.mlk_walk_exprs.specs.Spots.{Spot}
 use Rattle.mlk_walk_exprs.specs.References.{use_of, read_last}
-use Rattle.mlk_walk_exprs.specs.Expressions.{with_value, count_subs, forget_subs, extrinsic, evaluate, evaluate_all, capture_subs, evaluate_links, evaluate_choices, capture_actuals}
+use Rattle.mlk_walk_exprs.specs.Expressions.{with_value, forget_subs, extrinsic, evaluate, evaluate_all, capture_subs, evaluate_links, evaluate_choices, capture_actuals}
 
 tree_unary : (op : UnaryOp) (b : Box Expr Global) → tree_of (rust.Unary op b) ≡ Prefixed op (tree_of b.value)
 tree_unary op b = ap tree_of (sym (rolls-Unary op b))

@@ -5,9 +5,8 @@ use Rattle.mlk_syntax.specs.declared.expr.Callee.{Callee}
 use Rattle.mlk_syntax.specs.ExprTrees.{Tree, Lit, Free, LocalName, GlobalName, SpecialName, Prefixed, Chain, PatternText}
 use Rattle.mlk_syntax.specs.ExprTrees.{Func, Selected, BareCall, CallOf, Trees, no_trees, tree, Subs, no_subs, sub, Links}
 use Rattle.mlk_syntax.specs.ExprTrees.{no_links, link, Choices, no_choices, choice, ActualTree, Given, ByRef, Missing}
-use Rattle.mlk_syntax.specs.ExprTrees.{Actuals, no_actuals, actual}
+use Rattle.mlk_syntax.specs.ExprTrees.{Actuals, no_actuals, actual, count_subs, as_list}
 use Rattle.mlk_names.specs.declared.symbol.Sym.TheVariants.{Unknown}
-use Rattle.mlk_program.specs.Calls.{as_list}
 use Rattle.mlk_walk_state.specs.Symbols.{symbol_in, truth_in}
 use Rattle.mlk_walk_state.specs.declared.state.State.{State}
 use Rattle.mlk_calls.specs.declared.call.Calling.TheVariants.{Extrinsic}
@@ -20,10 +19,6 @@ use Rattle.mlk_walk_exprs.specs.Spots.{Spot}
 use Rattle.mlk_walk_exprs.specs.declared.reference.Use.{Use}
 use Rattle.mlk_walk_exprs.specs.declared.reference.Use.TheVariants.{ItsValue}
 use Rattle.mlk_walk_exprs.specs.References.{use_of, read_last}
-
-abbrev pub count_subs : Subs → ℕ
-count_subs no_subs = zero
-count_subs (sub column t rest) = suc (count_subs rest)
 
 abbrev pub agrees : Bool → Option Bool → Bool
 agrees wanted None = true

@@ -6,8 +6,7 @@ use Rattle.std.proofs.lemmas.Bool.{cases_Bool, false≢true}
 use Rattle.mlk_syntax.specs.declared.expr.Callee.{Callee}
 use Rattle.mlk_syntax.specs.ExprTrees.{Tree, Lit, Free, LocalName, GlobalName, SpecialName, Prefixed, Chain, PatternText, Func, Selected, BareCall, CallOf}
 use Rattle.mlk_syntax.specs.ExprTrees.{Trees, no_trees, tree, Subs, no_subs, sub, Links, no_links, link, Choices, no_choices, choice}
-use Rattle.mlk_syntax.specs.ExprTrees.{ActualTree, Given, ByRef, Missing, Actuals, no_actuals, actual, actuals_from}
-use Rattle.mlk_program.specs.Calls.{as_list}
+use Rattle.mlk_syntax.specs.ExprTrees.{ActualTree, Given, ByRef, Missing, Actuals, no_actuals, actual, actuals_from, count_subs, as_list}
 use Rattle.mlk_syntax.specs.Trees.{VariableTree, CallTree, DoTree, DoCall, KillTree, KillOne, KillAllBut, NewTree, NewOne, NewAllBut}
 use Rattle.mlk_syntax.specs.Trees.{LockTree, LockNames, MergeTree, MergeInto, ReadTree, ReadText, ReadFormat, ReadLine, ReadCharacter}
 use Rattle.mlk_syntax.specs.Trees.{TargetTree, SetWhole, SetPart, SetTree, SetTo, WriteTree, WriteValue, WriteCharacter, WriteFormat}
@@ -25,7 +24,7 @@ use Rattle.mlk_calls.specs.Claims.{held_too}
 use Rattle.mlk_walk_exprs.specs.Walks.{all_placed, with_states, few, each}
 use Rattle.mlk_walk_exprs.specs.Spots.{Spot}
 use Rattle.mlk_walk_exprs.specs.References.{use_of, read_last}
-use Rattle.mlk_walk_exprs.specs.Expressions.{count_subs, forget_subs, extrinsic, evaluate, evaluate_all, capture_subs, evaluate_links, evaluate_choices, capture_actual, capture_actuals, capture, by_condition, value, value_if, values, conditioned}
+use Rattle.mlk_walk_exprs.specs.Expressions.{forget_subs, extrinsic, evaluate, evaluate_all, capture_subs, evaluate_links, evaluate_choices, capture_actual, capture_actuals, capture, by_condition, value, value_if, values, conditioned}
 use Rattle.mlk_walk_commands.specs.Variables.{subs_of, name_in, count_in, capture_variable}
 use Rattle.mlk_walk_commands.specs.Locks.{capture_names, known_names, lock_row, is_timed, lock_argument, release}
 use Rattle.mlk_walk_commands.specs.Arguments.{variable_in, arguments_in, capture_target, capture_targets, read_target, read_part, write_variable, assign, assign_all, set_argument, kill_row, kill_argument, new_argument, in_time_or_not, read_row, read_variable, read_argument, merge_from, merge_argument, write_argument, capture_given, given_in, do_row, forget_given, do_argument, job_row, job_argument, by_truth, if_argument, forget, count_targets}

@@ -3,7 +3,7 @@ use Rattle.std.proofs.Common.{◌≡◌, ◌∙◌, ◌<◌, ap, refl, arith, �
 use Rattle.mlk_syntax.specs.declared.expr.Callee.{Callee}
 use Rattle.mlk_syntax.specs.ExprTrees.{Tree, Lit, Free, LocalName, GlobalName, SpecialName, Prefixed, Chain, PatternText, Func, Selected, BareCall, CallOf}
 use Rattle.mlk_syntax.specs.ExprTrees.{Trees, no_trees, tree, Subs, no_subs, sub, Links, no_links, link, Choices, no_choices, choice}
-use Rattle.mlk_syntax.specs.ExprTrees.{ActualTree, Given, ByRef, Missing, Actuals, no_actuals, actual, actuals_from}
+use Rattle.mlk_syntax.specs.ExprTrees.{ActualTree, Given, ByRef, Missing, Actuals, no_actuals, actual, actuals_from, count_subs, as_list}
 use Rattle.mlk_syntax.specs.Trees.{VariableTree, CallTree, DoTree, DoCall, KillTree, KillOne, KillAllBut, NewTree, NewOne, NewAllBut}
 use Rattle.mlk_syntax.specs.Trees.{LockTree, LockNames, MergeTree, MergeInto, ReadTree, ReadText, ReadFormat, ReadLine, ReadCharacter}
 use Rattle.mlk_syntax.specs.Trees.{TargetTree, SetWhole, SetPart, SetTree, SetTo, WriteTree, WriteValue, WriteCharacter, WriteFormat}
@@ -14,7 +14,6 @@ use Rattle.mlk_syntax.specs.declared.routine.Line.TheViews.{out-Line}
 use Rattle.mlk_syntax.specs.declared.routine.Line.TheFolds.{fold_out-Line}
 use Rattle.mlk_syntax.specs.Views.{commands_of, line_step, line_of, lines_from}
 use Rattle.mlk_rules.proofs.CheckLemmas.{drop_step}
-use Rattle.mlk_program.specs.Calls.{as_list}
 use Rattle.mlk_cert_parts.specs.declared.names.NameSet.TheVariants.{Only}
 use Rattle.mlk_walk_state.specs.Scope.{Scope, listed, is_past}
 use Rattle.mlk_walk_state.proofs.PointOrder.{nothing_past}
@@ -26,7 +25,7 @@ use Rattle.mlk_walk_exprs.specs.declared.walk.Walk.{Walk}
 use Rattle.mlk_walk_exprs.specs.Walks.{each, few, too_many, begin}
 use Rattle.mlk_walk_exprs.specs.Spots.{Spot}
 use Rattle.mlk_walk_exprs.specs.References.{use_of, read_last}
-use Rattle.mlk_walk_exprs.specs.Expressions.{count_subs, by_condition, capture, forget_subs, extrinsic, evaluate, evaluate_all, capture_subs, evaluate_links, evaluate_choices, capture_actual, capture_actuals, value, value_if, values, conditioned}
+use Rattle.mlk_walk_exprs.specs.Expressions.{by_condition, capture, forget_subs, extrinsic, evaluate, evaluate_all, capture_subs, evaluate_links, evaluate_choices, capture_actual, capture_actuals, value, value_if, values, conditioned}
 use Rattle.mlk_walk_commands.specs.Variables.{capture_variable, subs_of, name_in, count_in}
 use Rattle.mlk_walk_commands.specs.Locks.{capture_names, known_names, lock_row, is_timed, lock_argument}
 use Rattle.mlk_walk_commands.specs.Arguments.{variable_in, arguments_in, capture_targets, assign, assign_all, forget, count_targets, set_argument, kill_row, kill_argument, new_argument, in_time_or_not, read_row, read_variable, read_argument, merge_from, merge_argument, write_argument, given_in, do_row, forget_given, do_argument, job_row, job_argument, if_argument}

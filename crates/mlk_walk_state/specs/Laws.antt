@@ -1,8 +1,5 @@
 -- That the tests of this crate are the relations of the crates below.
 use Rattle.std.specs.Prelude.{◌≡◌, ◌↔◌, ℕ, ◌+◌, Bool, true, false, if◌then◌else◌, List, [], ◌∷◌, length, Contains, Some, None, Decides}
-use Rattle.mlk_text.specs.declared.operator.Op.{Op}
-use Rattle.mlk_text.specs.declared.operator.UnaryOp.{UnaryOp}
-use Rattle.mlk_numbers.specs.Folding.{IsFold, IsUnaryFold}
 use Rattle.mlk_names.specs.declared.term.LockTerm.{LockTerm}
 use Rattle.mlk_syntax.specs.Trees.{RoutineTree}
 use Rattle.mlk_cert_parts.specs.declared.block.EntryCert.{EntryCert}
@@ -16,7 +13,6 @@ use Rattle.mlk_cert_parts.specs.declared.names.Own.{Own}
 use Rattle.mlk_cert_parts.specs.declared.names.NameSet.{NameSet}
 use Rattle.mlk_cert_parts.specs.declared.names.NameSet.TheVariants.{Only, AllBut}
 use Rattle.mlk_walk_state.specs.declared.state.State.{State}
-use Rattle.mlk_walk_state.specs.Values.{fold_between, fold_before}
 use Rattle.mlk_walk_state.specs.Terms.{same_term, rank_of, put, put_all, taken}
 use Rattle.mlk_walk_state.specs.Names.{has, is_own, may_change}
 use Rattle.mlk_walk_state.specs.Cases.{same_case, includes}
@@ -38,11 +34,6 @@ pub record SameDecides : Type 0 where
 -- Where no two families meet, a term's rank is that of the relation.
 abbrev pub RankIs : Type 0
 RankIs = (families : List Family) (t : LockTerm) (k : ℕ) → FamiliesApart families → (rank_of families t ≡ Some k) ↔ HasRank families t k
-
--- What operators make of texts is the one exact result of the relations.
-pub record FoldsAre : Type 0 where
-  pub between : (op : Op) (a b text : List ℕ) → (fold_between op a b ≡ Some text) ↔ IsFold op a b text
-  pub before : (op : UnaryOp) (a text : List ℕ) → (fold_before op a ≡ Some text) ↔ IsUnaryFold op a text
 
 -- The tables of entries say of each entry what its first block and the rules say.
 abbrev pub TablesAre : Type 0

@@ -1,4 +1,3 @@
-pub mod Values
 pub mod Names
 pub mod Lists
 pub mod Terms

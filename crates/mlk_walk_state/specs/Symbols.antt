@@ -14,7 +14,7 @@ use Rattle.mlk_cert_parts.specs.declared.case.Test.{Test}
 use Rattle.mlk_walk_state.specs.declared.state.State.{State}
 use Rattle.mlk_walk_state.specs.Scope.{Scope}
 use Rattle.mlk_walk_state.specs.Cases.{known_test}
-use Rattle.mlk_walk_state.specs.Values.{fold_before, fold_between}
+use Rattle.mlk_numbers.specs.Operators.{fold_before, fold_between}
 
 abbrev pub constant_if : Option (List ℕ) → Sym
 constant_if None = Unknown

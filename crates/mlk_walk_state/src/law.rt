@@ -1,7 +1,7 @@
 // Laws of the definitions: their tests are the relations of the crates below, among others. Each function is a law, and
 // does nothing.
 
-ghost use Rattle.mlk_walk_state.specs.Laws.{IncludesDecides, SameDecides, RankIs, FoldsAre, TablesAre, HeldAre, AllButAllows, SharesByOwn};
+ghost use Rattle.mlk_walk_state.specs.Laws.{IncludesDecides, SameDecides, RankIs, TablesAre, HeldAre, AllButAllows, SharesByOwn};
 ghost use Rattle.mlk_syntax.specs.Trees.{RoutineTree};
 ghost use Rattle.std.specs.Prelude.{List};
 
@@ -18,11 +18,6 @@ pub fn same_decides()
 /// A term's rank is that of the relation.
 pub fn rank_is()
     ensures { RankIs }
-{}
-
-/// What operators make of known texts is the one exact result.
-pub fn folds_are()
-    ensures { FoldsAre }
 {}
 
 /// The tables of entries say of each entry what its first block and the rules say.

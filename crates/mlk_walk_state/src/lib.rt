@@ -11,8 +11,7 @@ mod symbol;
 mod term;
 
 pub use law::{
-    all_but_allows, folds_are, held_are, includes_decides, rank_is, same_decides, shares_by_own,
-    tables_are,
+    all_but_allows, held_are, includes_decides, rank_is, same_decides, shares_by_own, tables_are,
 };
 pub use listed::{is_exit, is_listed};
 pub use names::{have, is_among, is_own, is_same_own, may_change, take_out};

@@ -4,7 +4,6 @@ ghost use Rattle.std.specs.Prelude.{◌≡◌, IfOk, true, drop};
 ghost use Rattle.mlk_syntax.specs.ExprTrees.{tree_of, links, links_from, subs_from, sub_trees};
 ghost use Rattle.mlk_walk_state.specs.Scope.{scope_of};
 ghost use Rattle.mlk_walk_state.specs.Symbols.{local_symbol, before_symbol, between_symbols, symbol_in, truth_in, chain_in, truth_of_symbol, truth_of_text};
-ghost use Rattle.mlk_walk_state.specs.Values.{fold_before, fold_between};
 ghost use Rattle.mlk_walk_state.specs.Cases.{known_test};
 
 use crate::scope::Scope;
@@ -16,35 +15,16 @@ use mlk_syntax::{Expr, Special, Subscript};
 use mlk_text::{Name, Op, UnaryOp, Value};
 use std::alloc::{AllocError, Global};
 
-fn fold_before(alloc: Global, op: UnaryOp, value: &Value) -> Result<Option<Value>, AllocError>
-    ensures { IfOk result (λ v. v ≡ fold_before op value.now) }
-{
-    let found = fold_unary(alloc, op, value)?;
-    Ok(found)
-}
-
 fn before_symbol(alloc: Global, op: UnaryOp, operand: Sym) -> Result<Sym, AllocError>
     ensures { IfOk result (λ s. s ≡ before_symbol op operand) }
 {
     let Sym::Const(value) = operand else {
         return Ok(Sym::Unknown);
     };
-    match fold_before(alloc, op, &value)? {
+    match fold_unary(alloc, op, &value)? {
         Some(result) => Ok(Sym::Const(result)),
         None => Ok(Sym::Unknown),
     }
-}
-
-fn fold_between(
-    alloc: Global,
-    op: Op,
-    left: &Value,
-    right: &Value,
-) -> Result<Option<Value>, AllocError>
-    ensures { IfOk result (λ v. v ≡ fold_between op left.now right.now) }
-{
-    let found = fold(alloc, op, left, right)?;
-    Ok(found)
 }
 
 fn between_symbols(alloc: Global, op: Op, left: Sym, right: Sym) -> Result<Sym, AllocError>
@@ -56,7 +36,7 @@ fn between_symbols(alloc: Global, op: Op, left: Sym, right: Sym) -> Result<Sym, 
     let Sym::Const(b) = right else {
         return Ok(Sym::Unknown);
     };
-    match fold_between(alloc, op, &a, &b)? {
+    match fold(alloc, op, &a, &b)? {
         Some(result) => Ok(Sym::Const(result)),
         None => Ok(Sym::Unknown),
     }

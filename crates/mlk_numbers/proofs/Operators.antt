@@ -16,8 +16,8 @@ use Rattle.mlk_text.specs.declared.operator.UnaryOp.TheVariants.{Plus, Minus, No
 use Rattle.mlk_numbers.specs.Folding.{is_short, if_short, folded, IsWhole, IsFold, IsUnaryFold}
 use Rattle.mlk_numbers.proofs.WholeTexts.{plain-number, decimal-plain}
 use Rattle.mlk_numbers.proofs.Folds.{folded-short, no_number}
-use Rattle.mlk_walk_state.specs.Laws.{FoldsAre}
-use Rattle.mlk_walk_state.specs.Values.{number_in, if_text_of, whole, if_joined, of_numbers, fold_between, opposite, fold_before}
+use Rattle.mlk_numbers.specs.NumberLaws.{FoldsAre}
+use Rattle.mlk_numbers.specs.Operators.{number_in, if_text_of, whole, if_joined, of_numbers, fold_between, opposite, fold_before}
 
 short_is : (n m : ℕ) → n < m → nat_lt n m ≡ true
 short_is n m h = grind (arith, nat_tests)

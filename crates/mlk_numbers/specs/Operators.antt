@@ -1,6 +1,6 @@
 -- What operators make of texts that are known: the one exact result, or none. Standard: operators, canonic numeric
 -- values. That only whole numbers of at most 15 digits and texts of at most 255 bytes are computed is this project's own
--- choice. These are functions; that they are the relations of `mlk_text` is a law to be shown.
+-- choice. That they are the results that `Folding` relates is a law.
 use Rattle.std.specs.Prelude.{ℕ, ℤ, pos, neg_ℤ, ◌&&◌, ◌==◌, nat_le, if◌then◌else◌, List, [], ◌∷◌, ◌++◌, length, Option, Some, None}
 use Rattle.std.specs.Prelude.{option_map, option_and_then, bytes_eq, codes}
 use Rattle.std.specs.Fmt.{signed_decimal}
