@@ -87,9 +87,9 @@ for each that waits for another; and `ring yes` where jobs wait for each other i
 Status: 0 replayed, 2 refused input or an event that can't happen, 3 want of memory or a file that can't be read or
 written.";
 
-// The program's version, and the kit that it is made for. Whether a build was proved is not for the program to say: the
+// The program's version, and the logic that it is proved in. Whether a build was proved is not for the program to say: the
 // script that starts it knows.
-const VERSION: &str = "0.1.0, for rattle-kit-13b logic dac8208d650f15bf";
+const VERSION: &str = "0.1.0, for Rattle logic dac8208d650f15bf";
 
 const ABOUT: &str = "Checks that M routines touch shared data only under their locks";
 

@@ -93,7 +93,7 @@ fn version(rt: HostRuntime) -> Result<(), Fail> {
     assert!(&rt; out.is_empty());
     let told = String::from_utf8_lossy(alloc, err.as_slice())?;
     assert!(&rt; told.starts_with("mlock 0.1.0"), "{told}");
-    assert!(&rt; told.contains("rattle-kit-13b logic"), "{told}");
+    assert!(&rt; told.contains("logic dac8208d650f15bf"), "{told}");
     Ok(())
 }
 
