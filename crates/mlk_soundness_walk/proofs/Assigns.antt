@@ -14,7 +14,6 @@ use Rattle.mlk_machine_jobs.specs.Tasks.{Task, Job}
 use Rattle.mlk_machine_jobs.specs.Choices.{doing, dropped}
 use Rattle.std.proofs.Math.Seq.{drop-append_seam, take-append_seam}
 use Rattle.mlk_machine_jobs.specs.Commands as made
-use Rattle.mlk_machine_jobs.specs.Expressions as run
 use Rattle.mlk_walk_commands.specs.Variables.{subs_of, name_in}
 use Rattle.mlk_walk_commands.specs.Arguments.{variable_in, assign, assign_all}
 use Rattle.mlk_walk_laws.proofs.Walks.{assigned_keeps, all_assigned_keep}
@@ -42,7 +41,7 @@ use Rattle.mlk_soundness_machine.proofs.Values.{Safe, Fits, plain_step}
 use Rattle.mlk_soundness_machine.proofs.Stack.{back_one, turned_twice}
 use Rattle.mlk_soundness_walk.proofs.Alone.{Leads}
 use Rattle.mlk_soundness_walk.proofs.Alone.{leads_both, leads_each, leads_stay}
-use Rattle.mlk_soundness_walk.proofs.Goes.{covered_goes, count_same}
+use Rattle.mlk_soundness_walk.proofs.Goes.{covered_goes}
 use Rattle.mlk_soundness_walk.proofs.Commands.{changed_goes}
 
 -- captured symbols whose values the job has no more
@@ -172,7 +171,7 @@ dropped_more {A} (suc m) n [] = nothing (suc m + n) ∙ sym (nothing n)
 dropped_more (suc m) n (x ∷ xs) = let e : suc m + n ≡ suc (m + n) = omega arith in ap (λ k. drop k (x ∷ xs)) e ∙ dropped_more m n xs
 
 count_is : (v : VariableTree) → count_in v ≡ made.count_in v
-count_is v = count_same (subs_of (name_in v)) ∙ ap count_subs (subs_same v)
+count_is v = ap count_subs (subs_same v)
 
 pub enough : (t : TargetTree) (m k : ℕ) → k ≡ parts_in t + m → subs_of_target t ≤ k
 enough (SetWhole v) m k e = omega (arith, e)

@@ -49,16 +49,12 @@ use Rattle.mlk_soundness_walk.proofs.Alone.{Leads}
 use Rattle.mlk_soundness_walk.proofs.Alone.{leads_both, leads_each, leads_mapped, leads_stay, leads_changed, leads_true, leads_false}
 use Rattle.mlk_soundness_walk.proofs.Calls.{given_slots}
 use Rattle.mlk_soundness_walk.proofs.Functions.{Subscripts, Others, no_name, values_asked, local_fits, global_fits}
-use Rattle.mlk_soundness_walk.proofs.Goes.{count_same, covered_goes}
+use Rattle.mlk_soundness_walk.proofs.Goes.{covered_goes}
 use Rattle.mlk_soundness_walk.specs.Ours.{IsOurs, AreOurs}
 use Rattle.mlk_soundness_walk.proofs.Ours.{ours_left, ours_right}
 use Rattle.mlk_soundness_walk.proofs.Symbols.{local_unshared, operand, with_subs, truth_agrees}
 
 -- both definitions of the list of actuals
-list_same : (given : Actuals) → as_list given ≡ as_list given
-list_same no_actuals = refl
-list_same (actual a rest) = ap (λ z. a ∷ z) (list_same rest)
-
 module _ (routines : List RoutineTree) (p : Spot) (w : World) (b : Level) (S : Case → Type 0) (Q : Quit → Type 0) (n : ℕ) where
   abbrev Fit : List Slot → ℕ → List Task → State → Type 0
   Fit = Fits routines p.scope w b
@@ -193,7 +189,7 @@ module _ (routines : List RoutineTree) (p : Spot) (w : World) (b : Level) (S : C
           (subs_fit (sub column t rest) ours slots (task.AskValue count ∷ ts) s (λ u. Leads (forget_subs (sub column t rest)) u A S Q)
           (leads_both A S Q (capture_subs p (sub column t rest)) (forget_subs (sub column t rest)) (captured_keep p (sub column t rest)) (forgotten_keeps (sub column t rest)) s l)
           (λ u m.
-          let a : A (without_last count u) = subst (λ z. A (without_last z u)) (count_same (sub column t rest)) (leads_changed A S Q (without_last (count_subs (sub column t rest))) u m) in
+          let a : A (without_last count u) = leads_changed A S Q (without_last (count_subs (sub column t rest))) u m in
           forgotten_fits routines p.scope w b slots n (task.AskValue count ∷ ts) u count
           (ask_fits routines p.scope w b slots n ts (without_last count u) count
           (any_of (LocalName name (sub column t rest)) (λ shared. with_subs shared name column t rest) slots ts (without_last count u) refl (k (without_last count u) a))))))
@@ -207,9 +203,9 @@ module _ (routines : List RoutineTree) (p : Spot) (w : World) (b : Level) (S : C
           let r = covered_goes A S Q (read_fault p ItsValue name (last_captured (count_subs subs) u) u) p.line column (without_last (count_subs subs) u)
           (leads_each A S Q (read_last p ItsValue column name (count_subs subs)) u m) in
           form routines p.scope w b slots n ts u name (count_subs subs) Node Reads
-          (subst (λ z. read_fault p ItsValue name (last_captured z u) u ≡ None) (count_same subs) r.0)
+          r.0
           (λ j v d e tasks. any_value (GlobalName column name subs) (λ shared. refl) slots ts (without_last (count_subs subs) u) refl
-          (subst (λ z. FitValue (GlobalName column name subs) slots n ts (without_last z u)) (count_same subs) (k (without_last (count_subs subs) u) r.1)) j v (drop 1 j.values) d e tasks))))
+          (k (without_last (count_subs subs) u) r.1) j v (drop 1 j.values) d e tasks))))
       evaluate_fits (SpecialName special.Job) ours slots ts s A l k = number routines p.scope w b slots n ts s (k s (leads_stay A S Q s l))
       evaluate_fits (SpecialName special.Test) ours slots ts s A l k = test routines p.scope w b slots n ts s (k s (leads_stay A S Q s l))
       evaluate_fits (SpecialName x) ours slots ts s A l k = asked (SpecialName x) (λ shared. refl) refl slots ts s refl (k s (leads_stay A S Q s l))
@@ -239,12 +235,11 @@ module _ (routines : List RoutineTree) (p : Spot) (w : World) (b : Level) (S : C
           let one : AreOurs p.scope (Called column callee (Some (as_list given)) ∷ []) = ours_left p.scope (Called column callee (Some (as_list given)) ∷ []) (in_actuals given) ours in
           let rest = ours_right p.scope (Called column callee (Some (as_list given)) ∷ []) (in_actuals given) ours in
           expand routines p.scope w b slots n ts s (CallOf column callee given)
-          (subst (λ z. Fit slots n ((each_actual z ++ task.Call true callee z ∷ []) ++ ts) s) (sym (list_same given))
           (subst (λ z. Fit slots n z s) (sym (append_assoc (each_actual (as_list given)) (task.Call true callee (as_list given) ∷ []) ts))
           (actuals_fit given rest slots (task.Call true callee (as_list given) ∷ ts) s (λ u. Leads (extrinsic p column callee (as_list given)) u A S Q)
           (leads_both A S Q (capture_actuals p given) (extrinsic p column callee (as_list given)) (given_keep p given) (extrinsic_keeps p column callee (as_list given)) s l)
           (λ u m. call column callee (Some (as_list given)) (one (Called column callee (Some (as_list given))) (0, omega arith, refl)) slots ts u A m
-          (λ x a. any_of (CallOf column callee given) (λ shared. refl) slots ts x refl (k x a))))))
+          (λ x a. any_of (CallOf column callee given) (λ shared. refl) slots ts x refl (k x a)))))
 
       pub links_fit : (rest : Links) → AreOurs p.scope (in_links rest) → (by : (List ℕ → Bool) → Sym) (slots : List Slot) (ts : List Task) (s : State) (A : State → Type 0) → Leads (evaluate_links p rest) s A S Q
           → ((u : State) → A u → FitBy (λ shared. chain_symbol shared (by shared) rest) slots n ts u) → FitBy by slots n (operation rest ++ ts) s

@@ -33,7 +33,7 @@ use Rattle.mlk_soundness_machine.proofs.Touches.{FitsAny, form, referring}
 use Rattle.mlk_soundness_machine.proofs.Unused.{bares, bares_more, ask_fits, drop_fits, forgotten_fits, any_fits, above_fits, none_last, nothing_less, shortened}
 use Rattle.mlk_soundness_walk.proofs.Alone.{Leads}
 use Rattle.mlk_soundness_walk.proofs.Alone.{leads_both, leads_each, leads_changed}
-use Rattle.mlk_soundness_walk.proofs.Goes.{count_same, covered_goes}
+use Rattle.mlk_soundness_walk.proofs.Goes.{covered_goes}
 
 -- a function that is given no name makes no other use of one
 pub no_name : (f : Function) → takes_name f ≡ false → use_of f ≡ ItsValue
@@ -124,7 +124,7 @@ module _ (routines : List RoutineTree) (p : Spot) (w : World) (b : Level) (S : C
         (λ u q.
         let a : Then (without_last (count_subs subs) u) = leads_changed Then S Q (without_last (count_subs subs)) u (leads_both A S Q (forget_subs subs) (evaluate_all p ItsValue more) (forgotten_keeps subs) (all_keep p ItsValue more) u q) in
         forgotten_fits routines p.scope w b slots n (each_tree more ++ (task.AskValue (count_subs subs + run.count_trees more) ∷ ts)) u (count_subs subs)
-        (tail_fit (count_subs subs) (without_last (count_subs subs) u) (subst (λ z. Then (without_last z u)) (count_same subs) a))))
+        (tail_fit (count_subs subs) (without_last (count_subs subs) u) a)))
 
     -- a global's name
     module _ (column : ℕ) (name : List ℕ) (subs : Subs) (subscripts : Subscripts subs) where
@@ -145,8 +145,8 @@ module _ (routines : List RoutineTree) (p : Spot) (w : World) (b : Level) (S : C
       allowed how u q =
           let r = covered_goes Then S Q (read_fault p how name (last_captured (count_subs subs) u) u) p.line column (without_last (count_subs subs) u)
           (leads_each Then S Q (row how) u (leads_both A S Q (each (row how)) (evaluate_all p ItsValue more) (each_keeps (row how)) (all_keep p ItsValue more) u q)) in (
-            subst (λ z. read_fault p how name (last_captured z u) u ≡ None) (count_same subs) r.0,
-            subst (λ z. Then (without_last z u)) (count_same subs) r.1,
+            r.0,
+            r.1,
           )
 
       -- the node, or the tree below it, is read

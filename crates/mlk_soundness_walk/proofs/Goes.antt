@@ -1,19 +1,13 @@
--- Rows that are not refused, and counts of subscripts.
-use Rattle.std.proofs.Common.{◌≡◌, ℕ, suc, Option, Some, None, refl, ap, inl}
+-- Rows that are not refused.
+use Rattle.std.proofs.Common.{◌≡◌, ℕ, Option, Some, None, refl, inl}
 use Rattle.mlk_text.specs.declared.code.Code.{Code}
-use Rattle.mlk_syntax.specs.ExprTrees.{Subs, no_subs, sub, count_subs}
 use Rattle.mlk_cert_parts.specs.declared.case.Case.{Case}
-use Rattle.mlk_machine_jobs.specs.Expressions as run
 use Rattle.mlk_walk_state.specs.declared.state.State.{State}
 use Rattle.mlk_walk_exprs.specs.declared.walk.Quit.{Quit}
 use Rattle.mlk_walk_exprs.specs.Walks.{Outcome, Goes, Refused}
 use Rattle.mlk_walk_exprs.specs.References.{covered_or}
 use Rattle.mlk_walk_laws.specs.Fewer.{Among}
 use Rattle.mlk_soundness_walk.proofs.Alone.{Meets}
-
-pub count_same : (subs : Subs) → count_subs subs ≡ count_subs subs
-count_same no_subs = refl
-count_same (sub column t rest) = ap suc (count_same rest)
 
 -- what a row answers where nothing is wrong
 pub covered_goes : (G : State → Type 0) (S : Case → Type 0) (Q : Quit → Type 0) (o : Option Code) (line column : ℕ) (s : State)

@@ -13,7 +13,6 @@ use Rattle.mlk_cert_parts.specs.declared.names.NameSet.TheVariants as those
 use Rattle.mlk_machine_jobs.specs.Choices.{doing}
 use Rattle.mlk_machine_jobs.specs.Commands as made
 use Rattle.mlk_machine_jobs.specs.Commands.{in_variable, evaluated_if, store_last, in_time, read_into, read_parts}
-use Rattle.mlk_machine_jobs.specs.Expressions as run
 use Rattle.mlk_machine_jobs.specs.Locking.{tested}
 use Rattle.mlk_machine_jobs.specs.Tasks as task
 use Rattle.mlk_machine_jobs.specs.Tasks.{Task, Job}
@@ -42,7 +41,6 @@ use Rattle.mlk_machine_laws.specs.WellFormed.{is_local, reads_local}
 use Rattle.mlk_soundness_walk.specs.Ours.{AreOurs}
 use Rattle.mlk_soundness_walk.proofs.Alone.{Leads, leads_both, leads_each, leads_few, leads_stay}
 use Rattle.mlk_soundness_walk.proofs.Commands.{changed_goes, tested_law}
-use Rattle.mlk_soundness_walk.proofs.Goes.{count_same}
 use Rattle.mlk_soundness_walk.proofs.Ours.{ours_left, ours_right}
 use Rattle.mlk_soundness_walk.proofs.Turns.{optional_fits}
 
@@ -86,8 +84,7 @@ module _ (routines : List RoutineTree) (p : Spot) (w : World) (b : Level) (world
       (λ j x d e tasks. changes.store_last routines p.scope w b world [] n ts (without_last 0 s) name r.0 (k (changed_state (those.Only name ∷ []) (without_last 0 s)) r.1) j x (drop 1 j.values) d e tasks))
   stored_fits (Named column (LocalName name (sub c t rest))) is ts s B l k =
       let count : ℕ = count_subs (sub c t rest) in
-      let a : B (without_last count s) = subst (λ z. B (without_last z s)) (count_same (sub c t rest))
-      (leads_each B S Q (read_row p (Named column (LocalName name (sub c t rest)))) s l (Goes (without_last (count_subs (sub c t rest)) s)) (inl refl)) in
+      let a : B (without_last count s) = leads_each B S Q (read_row p (Named column (LocalName name (sub c t rest)))) s l (Goes (without_last (count_subs (sub c t rest)) s)) (inl refl) in
       forgotten_fits routines p.scope w b [] n (task.AskValue count ∷ task.Drop 1 ∷ ts) s count
       (ask_fits routines p.scope w b [] n (task.Drop 1 ∷ ts) (without_last count s) count
       (λ j x d e tasks. drop_fits routines p.scope w b [] n ts (without_last count s) 1 (k (without_last count s) a) j d tasks))

@@ -28,12 +28,11 @@ use Rattle.mlk_soundness_machine.specs.Described.{is_local, some_local}
 use Rattle.mlk_soundness_machine.specs.Reads.{value_of, name_of, one_at, times, mentions}
 use Rattle.mlk_soundness_machine.proofs.Reading.{differs, name_is, of_subs, local_first, local_later, local_front, local_back}
 use Rattle.mlk_soundness_machine.proofs.Terms.{first_of, left_of, mentions_cases, mentions_none}
-use Rattle.mlk_soundness_walk.proofs.Goes.{count_same}
 use Rattle.mlk_soundness_walk.proofs.Sets.{subs_same}
 
 -- the walk and the machine count a name's subscripts alike, and have one root for it
 pub count_in_same : (v : VariableTree) → walked.count_in v ≡ made.count_in v
-count_in_same v = ap count_subs (subs_same v) ∙ count_same (subs_in v)
+count_in_same v = ap count_subs (subs_same v)
 
 pub count_all_same : (names : List VariableTree) → count_names names ≡ count_all names
 count_all_same names = from 0 names ∙ (let e : 0 + count_all names ≡ count_all names = omega arith in e)

@@ -17,7 +17,6 @@ use Rattle.mlk_machine_jobs.specs.Assigning.{merge_source, merge_target}
 use Rattle.mlk_machine_jobs.specs.Choices.{doing, dropped, last_values, touch_of}
 use Rattle.mlk_machine_jobs.specs.Commands as made
 use Rattle.mlk_machine_jobs.specs.Commands.{in_variable, merge_parts}
-use Rattle.mlk_machine_jobs.specs.Expressions as run
 use Rattle.mlk_machine_jobs.specs.Tasks as task
 use Rattle.mlk_machine_jobs.specs.Tasks.{Task, Job}
 use Rattle.mlk_walk_state.specs.Scope.{Scope}
@@ -50,7 +49,7 @@ use Rattle.mlk_soundness_walk.specs.Ours.{AreOurs}
 use Rattle.mlk_soundness_walk.proofs.Alone.{Leads, Meets, leads_both, leads_each}
 use Rattle.mlk_soundness_walk.proofs.Assigns.{spents, spent_fills, captured_stand}
 use Rattle.mlk_soundness_walk.proofs.Commands.{changed_goes}
-use Rattle.mlk_soundness_walk.proofs.Goes.{count_same, covered_goes}
+use Rattle.mlk_soundness_walk.proofs.Goes.{covered_goes}
 use Rattle.mlk_soundness_walk.proofs.Ours.{ours_left, ours_right}
 use Rattle.mlk_soundness_walk.proofs.Sets.{subs_same}
 use Rattle.mlk_soundness_walk.proofs.Setting.{zip_size, bottom, forgotten}
@@ -122,7 +121,7 @@ alone_same vals (Named column (GlobalName at name ss)) (Named c y) is = refl
 alone_same vals (Named column x) (Named c y) is = refl
 
 count_is : (v : VariableTree) → variable.count_in v ≡ made.count_in v
-count_is v = count_same (variable.subs_of (variable.name_in v)) ∙ ap count_subs (subs_same v)
+count_is v = ap count_subs (subs_same v)
 
 module _ (routines : List RoutineTree) (p : Spot) (w : World) (b : Level) (world : IsWorld p.scope w) (S : Case → Type 0) (Q : Quit → Type 0) (n : ℕ) where
   abbrev Fit : List Slot → ℕ → List Task → State → Type 0
@@ -152,12 +151,12 @@ module _ (routines : List RoutineTree) (p : Spot) (w : World) (b : Level) (world
         over vals 0 size (task.StoreAny name ∷ ts) v (store_any routines p.scope w b world [] n ts (without_last 0 v) name r.0 (go (changed_state (those.Only name ∷ []) (without_last 0 v)) r.1))
     alone_fits (Named column (LocalName name (sub c t rest))) vals size v h =
         over vals (count_subs (sub c t rest)) size ts v (go (without_last (count_subs (sub c t rest)) v)
-        (subst (λ z. A (without_last z v)) (count_same (sub c t rest)) (h (Goes (without_last (count_subs (sub c t rest)) v)) (inl refl))))
+        (h (Goes (without_last (count_subs (sub c t rest)) v)) (inl refl)))
     alone_fits (Named column (GlobalName caret name subs)) vals size v h = λ j d tasks.
         let count : ℕ = count_subs subs in
         let r = covered_goes A S Q (checked p extent.Tree Writes name (last_captured (count_subs subs) v) v) p.line caret (without_last (count_subs subs) v) h in
-        let c : checked p extent.Tree Writes name (last_captured count v) v ≡ None = subst (λ z. checked p extent.Tree Writes name (last_captured z v) v ≡ None) (count_same subs) r.0 in
-        let a : A (without_last count v) = subst (λ z. A (without_last z v)) (count_same subs) r.1 in
+        let c : checked p extent.Tree Writes name (last_captured count v) v ≡ None = r.0 in
+        let a : A (without_last count v) = r.1 in
         touch routines p.scope w b (spents vals []) n ts v extent.Tree Writes name (last_captured count v) vals c (over vals count size ts v (go (without_last count v) a)) j d
         (all_stand vals count size v j d) tasks
     alone_fits (Named column x) vals size v h = over vals 0 size ts v (subst (λ z. Fit [] n ts z) (sym (nothing_less v)) (go v (h (Goes v) (inl refl))))
@@ -189,8 +188,8 @@ module _ (routines : List RoutineTree) (p : Spot) (w : World) (b : Level) (world
         let B : State → Type 0 = λ v. Leads (each (kill_row p target)) v A S Q in
         let count : ℕ = count_subs subs in
         let r = covered_goes B S Q (checked p extent.Tree Reads name (last_captured (count_subs subs) u) u) p.line caret (without_last (count_subs subs) u) h in
-        let c : checked p extent.Tree Reads name (last_captured count u) u ≡ None = subst (λ z. checked p extent.Tree Reads name (last_captured z u) u ≡ None) (count_same subs) r.0 in
-        let a : B (without_last count u) = subst (λ z. B (without_last z u)) (count_same subs) r.1 in
+        let c : checked p extent.Tree Reads name (last_captured count u) u ≡ None = r.0 in
+        let a : B (without_last count u) = r.1 in
         touch routines p.scope w b (spents vals []) n (merge_target vals target (Named column (GlobalName caret name subs)) ++ ts) (without_last count u) extent.Tree Reads name (last_captured count u) found c
         (read_fits target vals size column caret name subs (without_last count u) (leads_each A S Q (kill_row p target) (without_last count u) a)) j d stand tasks
     sides_fit (Named column x) target found vals size u h j d stand tasks =

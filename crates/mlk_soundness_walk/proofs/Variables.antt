@@ -15,7 +15,6 @@ use Rattle.mlk_machine_jobs.specs.Bindings as bound
 use Rattle.mlk_machine_jobs.specs.Bindings.{covers}
 use Rattle.mlk_machine_jobs.specs.Commands as made
 use Rattle.mlk_machine_jobs.specs.Commands.{in_variable, kill_variable, kill_parts}
-use Rattle.mlk_machine_jobs.specs.Expressions as run
 use Rattle.mlk_machine_jobs.specs.Tasks as task
 use Rattle.mlk_machine_jobs.specs.Tasks.{Task}
 use Rattle.mlk_walk_state.specs.Cases.{holds_some}
@@ -44,7 +43,7 @@ use Rattle.mlk_soundness_walk.specs.Ours.{AreOurs}
 use Rattle.mlk_soundness_walk.proofs.Alone.{Leads, Meets, leads_both, leads_each}
 use Rattle.mlk_soundness_walk.proofs.Commands.{changed_goes}
 use Rattle.mlk_soundness_walk.proofs.Entries.{in_order_same}
-use Rattle.mlk_soundness_walk.proofs.Goes.{count_same, covered_goes}
+use Rattle.mlk_soundness_walk.proofs.Goes.{covered_goes}
 
 or_none : (b : Bool) → b ≡ (b || false)
 or_none true = refl
@@ -100,13 +99,13 @@ module _ (routines : List RoutineTree) (p : Spot) (w : World) (b : Level) (world
         (killed column (bound.Only name) (those.Only name) (only_same name) (without_last 0 u) h)
     after (Named column (LocalName name (sub c t rest))) u h =
         let count : ℕ = count_subs (sub c t rest) in
-        let a : A (without_last count u) = subst (λ z. A (without_last z u)) (count_same (sub c t rest)) (h (Goes (without_last (count_subs (sub c t rest)) u)) (inl refl)) in
+        let a : A (without_last count u) = h (Goes (without_last (count_subs (sub c t rest)) u)) (inl refl) in
         forgotten_fits routines p.scope w b [] n (task.Drop count ∷ ts) u count (drop_fits routines p.scope w b [] n ts (without_last count u) count (go (without_last count u) a))
     after (Named column (GlobalName caret name subs)) u h =
         let r = covered_goes A S Q (checked p extent.Tree Writes name (last_captured (count_subs subs) u) u) p.line caret (without_last (count_subs subs) u) h in
         form routines p.scope w b [] n ts u name (count_subs subs) extent.Tree Writes
-        (subst (λ z. checked p extent.Tree Writes name (last_captured z u) u ≡ None) (count_same subs) r.0)
-        (subst (λ z. Fit [] n ts (without_last z u)) (count_same subs) (go (without_last (count_subs subs) u) r.1))
+        r.0
+        (go (without_last (count_subs subs) u) r.1)
     after (Named column (Lit v)) u h = stays u h
     after (Named column Free) u h = stays u h
     after (Named column (SpecialName x)) u h = stays u h
