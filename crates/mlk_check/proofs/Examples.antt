@@ -53,7 +53,7 @@ use Rattle.mlk_machine_jobs.specs.declared.choice.Choice.TheVariants as choice
 use Rattle.mlk_machine_jobs.specs.Choices.{Stepped, touch_of}
 use Rattle.mlk_machine_jobs.specs.Runs.{machine, begun, blank, seen, next_claim}
 use Rattle.mlk_machine_jobs.specs.Seen.{Clash, ready, HasEnded}
-use Rattle.mlk_numbers.specs.Operators.{fold_between}
+use Rattle.mlk_numbers.specs.Operators.{fold_between, whole}
 use Rattle.mlk_machine_laws.specs.Moments.{IsCoveredAt, IsHeld}
 use Rattle.mlk_machine_laws.specs.Laws.{IsWithoutRing}
 use Rattle.mlk_walk_state.specs.Scope.{is_declared}
@@ -437,7 +437,7 @@ abbrev second : Job
 second = job_of (lone_run bank (steps 4) (begun_with 2 (codes "9")))
 
 pub both_jobs : after bank events [] ≡ Ok (first ∷ second ∷ [])
-unfolding entry_of label_at name_at digits_at digits fold_between same_name is_above in_conflict
+unfolding entry_of label_at name_at digits_at digits fold_between whole same_name is_above in_conflict
 both_jobs = refl
 
 -- The first job stands ready at SET ^ACCT(7,"bal"), and holds ^ACCT(7) once.
@@ -448,11 +448,11 @@ abbrev balance : Touch
 balance = touch_of (codes "ACCT") (codes "7" ∷ codes "bal" ∷ []) Node Writes
 
 first_is_ready : ready first ≡ Some balance
-unfolding digits fold_between same_name is_above
+unfolding digits fold_between whole same_name is_above
 first_is_ready = refl
 
 pub first_holds : count_of first.held account ≡ 1
-unfolding digits fold_between same_name is_above
+unfolding digits fold_between whole same_name is_above
 first_holds = refl
 
 -- The second job stands at LOCK +^ACCT(7). It can't go on, whatever is chosen: it waits for the first one.
@@ -460,13 +460,13 @@ pub second_claims : next_claim second.tasks ≡ Some (record { names = account �
 second_claims = refl
 
 pub second_waits : (c : Choice) → happens bank (first ∷ second ∷ []) 2 (Go c) ≡ Err NotEnabled
-unfolding digits fold_between same_name is_above in_conflict
+unfolding digits fold_between whole same_name is_above in_conflict
 second_waits choice.None = refl
 second_waits (choice.Value v) = refl
 second_waits (choice.Truth b) = refl
 
 pub second_waits_for_first : waits (seen second) (seen first) ≡ true
-unfolding digits fold_between same_name is_above in_conflict
+unfolding digits fold_between whole same_name is_above in_conflict
 second_waits_for_first = refl
 
 -- What the theorem says of this moment: the jobs don't clash, they don't wait for each other in a ring, and the first one
@@ -481,7 +481,7 @@ pub they_do_not_clash : Clash first second → ⊥
 they_do_not_clash = both_are_safe.no_clash first second (inl refl) (inr (inl refl))
 
 pub write_is_covered : IsCoveredAt deposit_rules first balance
-unfolding entry_of label_at name_at digits_at digits fold_between same_name is_above
+unfolding entry_of label_at name_at digits_at digits fold_between whole same_name is_above
 write_is_covered =
     (deposit_keeps_rules.each_job deposit_entry false (codes "7" ∷ codes "5" ∷ []) 1 (begun_with 1 (codes "5")) first up_to_write refl refl).facts.covered balance first_is_ready
 
@@ -534,11 +534,11 @@ abbrev granted : Job
 granted = job_of (lone_run bank (steps 1) second)
 
 pub first_at_its_end : after bank (events ++ events_of 1 to_the_end) [] ≡ Ok (ended ∷ second ∷ [])
-unfolding entry_of label_at name_at digits_at digits fold_between same_name is_above in_conflict
+unfolding entry_of label_at name_at digits_at digits fold_between whole same_name is_above in_conflict
 first_at_its_end = refl
 
 first_has_ended : HasEnded ended
-unfolding digits fold_between same_name is_above
+unfolding digits fold_between whole same_name is_above
 first_has_ended = (refl, refl)
 
 pub holds_nothing : (n : LockName) → Holds (seen ended) n → ⊥
@@ -546,5 +546,5 @@ holds_nothing =
     (deposit_keeps_rules.all_jobs (events ++ events_of 1 to_the_end) (ended ∷ second ∷ []) first_at_its_end).all_end_empty ended (inl refl) first_has_ended
 
 pub second_is_granted : happens bank (ended ∷ second ∷ []) 2 (Go choice.None) ≡ Ok (ended ∷ granted ∷ [])
-unfolding digits fold_between same_name is_above in_conflict
+unfolding digits fold_between whole same_name is_above in_conflict
 second_is_granted = refl

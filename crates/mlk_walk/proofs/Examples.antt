@@ -41,14 +41,13 @@ use Rattle.mlk_cert_parts.specs.declared.names.Own.{Own}
 use Rattle.mlk_cert_parts.specs.declared.block.Point.{Point}
 use Rattle.mlk_cert_parts.specs.declared.block.EntryCert.{EntryCert}
 use Rattle.mlk_cert_lexemes.specs.Texts.{byte_text}
-use Rattle.mlk_numbers.specs.Operators.{fold_between, fold_before}
+use Rattle.mlk_numbers.specs.Operators.{fold_between, fold_before, whole}
 use Rattle.mlk_walk_state.specs.Terms.{same_term}
 use Rattle.mlk_walk_state.specs.Cases.{same_case, includes, leaves_by}
 use Rattle.mlk_walk_state.specs.States.{same_state}
 use Rattle.mlk_walk_exprs.specs.Walks.{too_many, few}
 use Rattle.mlk_walk_state.specs.Scope.{certified, declared}
 use Rattle.mlk_walk_state.specs.Names.{is_among, have, spares}
-use Rattle.mlk_numbers.specs.Operators.{whole}
 use Rattle.mlk_walk.specs.declared.report.Row.{Row}
 use Rattle.mlk_walk.specs.Faults.{fault_cmp}
 use Rattle.mlk_walk.specs.Verdicts.{known, entry_faults, line_faults}
