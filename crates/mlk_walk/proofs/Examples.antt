@@ -53,47 +53,47 @@ use Rattle.mlk_walk.specs.Faults.{fault_cmp}
 use Rattle.mlk_walk.specs.Verdicts.{known, entry_faults, line_faults}
 use Rattle.mlk_walk.specs.Reports.{report}
 
-abbrev callee : Option (List ℕ) → Option (List ℕ) → Callee
+abbrev pub callee : Option (List ℕ) → Option (List ℕ) → Callee
 callee label routine = record { label = label; routine = routine }
 
-abbrev lock_term : Root → List KnownSym → LockTerm
+abbrev pub lock_term : Root → List KnownSym → LockTerm
 lock_term r subs = record { root = r; subs = subs }
 
-abbrev lock_name : Root → List (List ℕ) → LockName
+abbrev pub lock_name : Root → List (List ℕ) → LockName
 lock_name r subs = record { root = r; subs = subs }
 
-abbrev own_item : ℕ → NameSet → Own
+abbrev pub own_item : ℕ → NameSet → Own
 own_item level names = record { level = level; names = names }
 
-abbrev case_of : Test → List LockTerm → List Own → List (List ℕ) → List Test → Case
+abbrev pub case_of : Test → List LockTerm → List Own → List (List ℕ) → List Test → Case
 case_of test held own kept saved = record { test = test; held = held; own = own; kept = kept; saved = saved }
 
-abbrev exit_of : Test → List LockTerm → List (List ℕ) → ExitCase
+abbrev pub exit_of : Test → List LockTerm → List (List ℕ) → ExitCase
 exit_of test held kept = record { test = test; held = held; kept = kept }
 
-abbrev point_of : ℕ → ℕ → List Case → Point
+abbrev pub point_of : ℕ → ℕ → List Case → Point
 point_of number round cases = record { line = number; round = round; cases = cases }
 
-abbrev block : List ℕ → List LockTerm → Option ℕ → Bool → List NameSet → List ExitCase → List Point → EntryCert
+abbrev pub block : List ℕ → List LockTerm → Option ℕ → Bool → List NameSet → List ExitCase → List Point → EntryCert
 block entry need low drops mods exits points = record {
   entry = entry;
   summary = record { need = need; exits = exits; mods = mods; low = low; drops = drops };
   points = points;
 }
 
-abbrev pattern_of : List ℕ → List Element → Extent → Pattern
+abbrev pub pattern_of : List ℕ → List Element → Extent → Pattern
 pattern_of global elements far = record { global = global; elements = elements; extent = far }
 
-abbrev template : Root → List Part → Template
+abbrev pub template : Root → List Part → Template
 template r parts = record { root = r; parts = parts }
 
-abbrev family : LockName → ℕ → Family
+abbrev pub family : LockName → ℕ → Family
 family name rank = record { name = name; rank = rank }
 
-abbrev cover : Pattern → Template → Cover
+abbrev pub cover : Pattern → Template → Cover
 cover pattern lock = record { pattern = pattern; lock = lock; also = None }
 
-abbrev rules_of : List Family → List Cover → List Pattern → List Pattern → List (List ℕ) → RuleLists
+abbrev pub rules_of : List Family → List Cover → List Pattern → List Pattern → List (List ℕ) → RuleLists
 rules_of families covers private readonly entries =
     record { families = families; covers = covers; private = private; readonly = readonly; entries = entries }
 
