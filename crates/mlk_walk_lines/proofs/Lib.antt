@@ -1,3 +1,4 @@
 pub mod Opened
 pub mod FewStates
 pub mod Idle
+mod Turns
