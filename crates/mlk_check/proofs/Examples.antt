@@ -1,7 +1,8 @@
 -- The theorem speaks of real programs: of four worked programs all that it asks for is shown, so every run of theirs keeps the
 -- rules. And what it says of one given run, in which two jobs of one program want the same lock.
-use Rattle.std.proofs.Common.{◌≡◌, refl, sym, ap, subst, ℕ, zero, suc, Bool, true, false, List, [], ◌∷◌, arith, inl, inr, length}
-use Rattle.std.specs.Prelude.{◌≤◌, ◌++◌, Some, None, Ok, Err, codes, Contains}
+use Rattle.std.proofs.Common.{◌≡◌, refl, sym, ap, ◌∙◌, subst, ℕ, zero, suc, Bool, true, false, List, [], ◌∷◌, arith, ⊎_elim, inl, inr, length, eqb-true}
+use Rattle.std.specs.Prelude.{◌≤◌, ◌==◌, ◌++◌, Option, Some, None, Ok, Err, codes, Contains}
+use Rattle.std.proofs.lemmas.Bool.{cases_Bool, and_parts}
 use Rattle.mlk_text.specs.declared.root.Root.{Root}
 use Rattle.mlk_text.specs.declared.root.Root.TheVariants as root
 use Rattle.mlk_names.specs.declared.lock_name.LockName.{LockName}
@@ -22,15 +23,16 @@ use Rattle.mlk_rules.specs.declared.rules.RuleLists.{RuleLists}
 use Rattle.mlk_rules.specs.Ranks.{FamiliesApart}
 use Rattle.mlk_rules.specs.Sound.{IsSound}
 use Rattle.mlk_syntax.specs.Distinct.{AreDistinct}
-use Rattle.mlk_syntax.specs.Trees.{RoutineTree}
-use Rattle.mlk_program.specs.Entries.{lines_in}
+use Rattle.mlk_syntax.specs.Trees.{RoutineTree, ControlTree, CommandTrees, finished, then_for, HeadTree, LineHead, LineTrees, no_lines, line}
+use Rattle.mlk_program.specs.Entries.{same_entry, lines_in}
 use Rattle.mlk_cert_lexemes.specs.Kinds.{IsName, IsTerm}
 use Rattle.mlk_cert_lexemes.specs.Lists.{Each, ascends}
+use Rattle.mlk_cert_parts.specs.declared.block.EntryCert.{EntryCert}
 use Rattle.mlk_cert_parts.specs.declared.case.Case.{Case}
 use Rattle.mlk_cert_parts.specs.declared.names.NameSet.TheVariants.{Only}
 use Rattle.mlk_cert_parts.specs.Limits.{AreTerms, AreMods, IsOwn, AreOwn, AreKept, IsCase, IsPoint, IsCertificate, cases_below}
-use Rattle.mlk_machine_jobs.specs.Calling.{formals_in}
-use Rattle.mlk_machine_jobs.specs.Tasks.{Job, LineTree}
+use Rattle.mlk_machine_jobs.specs.Calling.{formals_in, commands_in}
+use Rattle.mlk_machine_jobs.specs.Tasks.{Task, Job, LineTree, RunCommands}
 use Rattle.mlk_machine_laws.specs.WellFormed.{AreLeveled, LinesReadLocals, lines_of_routine}
 use Rattle.mlk_soundness_walk.specs.Forms.{AreFormed}
 use Rattle.mlk_walk.proofs.Examples.{base_rules, deposit-yes-routines, deposit-yes-blocks, deposit-yes}
@@ -56,7 +58,10 @@ use Rattle.mlk_machine_jobs.specs.Seen.{Clash, ready, HasEnded}
 use Rattle.mlk_numbers.specs.Operators.{fold_between, whole}
 use Rattle.mlk_machine_laws.specs.Moments.{IsCoveredAt, IsHeld}
 use Rattle.mlk_machine_laws.specs.Laws.{IsWithoutRing}
-use Rattle.mlk_walk_state.specs.Scope.{is_declared}
+use Rattle.mlk_walk_state.specs.Scope.{block_at, certified, declared, is_declared}
+use Rattle.mlk_soundness_machine.specs.Listed.{IsInside}
+use Rattle.mlk_soundness_machine.specs.Moments.{begun_by}
+use Rattle.mlk_soundness_machine.specs.Places.{line_number, entry_trees, StandIn, open_round, AreLastOf, AreRoundOf}
 use Rattle.mlk_check.specs.Theorem.{AreSafe, KeepsRules}
 use Rattle.mlk_check.proofs.Theorem.{keeps_rules}
 
@@ -548,3 +553,110 @@ holds_nothing =
 pub second_is_granted : happens bank (ended ∷ second ∷ []) 2 (Go choice.None) ≡ Ok (ended ∷ granted ∷ [])
 unfolding digits fold_between whole same_name is_above in_conflict
 second_is_granted = refl
+
+-- L^LOOP before SET, in its first round. What the theorem says of this moment: the job is on the line of the FOR, and the walk of
+-- its rounds comes to a state whose case describes the job.
+abbrev loop_entry : EntryId
+loop_entry = record { routine = 0; line = 0 }
+
+abbrev loop_rules : RuleLists
+loop_rules = base_rules (codes "L^LOOP" ∷ [])
+
+abbrev looping : Machine Job Choice EntryId
+looping = machine loop-under-lock-routines (is_declared loop-under-lock-routines loop_rules.entries)
+
+abbrev up_to_set : List (Act Choice EntryId)
+up_to_set = steps 13 ++ Go (choice.Truth true) ∷ []
+
+abbrev loop_begun : Job
+loop_begun = job_of (begun loop-under-lock-routines loop_entry 1 false [])
+
+abbrev before_set : Job
+before_set = job_of (lone_run looping up_to_set loop_begun)
+
+-- what is left of the line, and behind it
+abbrev left_in : List Task → CommandTrees
+left_in (RunCommands left block ∷ ts) = left
+left_in ts = finished
+
+abbrev behind_in : List Task → List Task
+behind_in [] = []
+behind_in (t ∷ ts) = ts
+
+abbrev loop_entries : List (EntryId × EntryCert) × List EntryId
+loop_entries = (certified loop-under-lock-routines loop-under-lock-blocks, declared loop-under-lock-routines loop_rules.entries)
+
+pub set_is_walked : IsInside loop-under-lock-routines loop_rules loop_entries (left_in before_set.tasks) no_lines (behind_in before_set.tasks) (begun_by looping up_to_set (loop_begun ∷ []) loop_begun) before_set
+unfolding entry_of label_at name_at digits_at digits fold_between same_name is_above
+set_is_walked = (loop_keeps_rules.each_job loop_entry false [] 1 loop_begun before_set up_to_set refl refl).inside (left_in before_set.tasks) no_lines (behind_in before_set.tasks) refl
+
+-- So it is on line 1, in the rounds of that line's first FOR: that is the only line of L^LOOP with a FOR.
+same_place : (e f : EntryId) → same_entry e f ≡ true → e ≡ f
+same_place e f h =
+    let p = and_parts (e.routine == f.routine) (e.line == f.line) h in
+    ap (λ z. record e { routine = z }) (eqb-true e.routine f.routine p.0) ∙ ap (λ z. record f { line = z }) (eqb-true e.line f.line p.1)
+
+abbrev trees : LineTrees
+trees = entry_trees loop-under-lock-routines loop_entry
+
+abbrev first_head : LineTrees → HeadTree
+first_head no_lines = LineHead 0 0 0 None None finished
+first_head (line head block rest) = head
+
+abbrev second_head : LineTrees → HeadTree
+second_head no_lines = LineHead 0 0 0 None None finished
+second_head (line head block rest) = first_head rest
+
+on_first : (left : CommandTrees) (index column : ℕ) (control : Option ControlTree) → AreLastOf (then_for column index control left) (commands_in (first_head trees)) → index ≡ 1
+on_first left index column control (inl e) = absurd (cc e)
+on_first left index column control (inr (inl e)) = cc e
+on_first left index column control (inr (inr (inl e))) = absurd (cc e)
+on_first left index column control (inr (inr (inr e))) = absurd (cc e)
+
+on_second : (left : CommandTrees) (index column : ℕ) (control : Option ControlTree) → AreLastOf (then_for column index control left) (commands_in (second_head trees)) → ⊥
+on_second left index column control (inl e) = cc e
+on_second left index column control (inr (inl e)) = cc e
+on_second left index column control (inr (inr e)) = cc e
+
+which : (left : CommandTrees) (index : ℕ) (head : HeadTree) (behind : LineTrees) → StandIn (line head no_lines behind) trees → AreRoundOf left index (commands_in head) → (line_number head ≡ 1) × (index ≡ 1)
+which left index head behind (inl e) r =
+    let same : head ≡ first_head trees = ap first_head e in
+    let on : AreRoundOf left index (commands_in (first_head trees)) = subst (λ z. AreRoundOf left index (commands_in z)) same r in
+    (ap line_number same, on_first left index on.0 on.1 on.2)
+which left index head behind (inr (inl i)) r = absurd i
+which left index head behind (inr (inr (inl e))) r =
+    let same : head ≡ second_head trees = ap first_head e in
+    let on : AreRoundOf left index (commands_in (second_head trees)) = subst (λ z. AreRoundOf left index (commands_in z)) same r in
+    absurd (on_second left index on.0 on.1 on.2)
+which left index head behind (inr (inr (inr (inl i)))) r = absurd i
+which left index head behind (inr (inr (inr (inr i)))) r = absurd i
+
+its_entry : (e : EntryId) (b : EntryCert) → block_at loop_entries.0 e ≡ Some b → e ≡ loop_entry
+unfolding certified entry_of label_at name_at
+its_entry e b h =
+    ⊎_elim
+    (λ (k : same_entry e loop_entry ≡ true). same_place e loop_entry k)
+    (λ (k : same_entry e loop_entry ≡ false). let z : None ≡ Some b = (rw k at h) in absurd (cc z))
+    (cases_Bool (same_entry e loop_entry))
+
+not_both : (o : Option CommandTrees) (left : CommandTrees) → o ≡ Some left → o ≡ None → ⊥
+not_both o left e f = let z : Some left ≡ None = sym e ∙ f in cc z
+
+round_is_open : open_round (behind_in before_set.tasks) ≡ Some (left_in before_set.tasks)
+unfolding entry_of label_at name_at digits_at digits fold_between same_name is_above
+round_is_open = refl
+
+pub set_is_in_for : (line_number set_is_walked.comes.on.head ≡ 1) × (set_is_walked.comes.round ≡ 1)
+set_is_in_for = by set_is_walked
+  where
+    by : (i : IsInside loop-under-lock-routines loop_rules loop_entries (left_in before_set.tasks) no_lines (behind_in before_set.tasks) (begun_by looping up_to_set (loop_begun ∷ []) loop_begun) before_set)
+        → (line_number i.comes.on.head ≡ 1) × (i.comes.round ≡ 1)
+    by i =
+        let at_place : StandIn (line i.comes.on.head no_lines i.comes.on.behind) trees =
+        subst (λ z. StandIn (line i.comes.on.head no_lines i.comes.on.behind) (entry_trees loop-under-lock-routines z)) (its_entry i.entry i.certificate i.is_certified) i.comes.on.is_line in
+        ⊎_elim
+        (λ (k : (i.comes.round ≡ 0) × (i.comes.first ≡ commands_in i.comes.on.head) × (open_round (behind_in before_set.tasks) ≡ None)).
+        absurd (not_both (open_round (behind_in before_set.tasks)) (left_in before_set.tasks) round_is_open k.2))
+        (λ (k : AreRoundOf i.comes.first i.comes.round (commands_in i.comes.on.head) × (open_round (behind_in before_set.tasks) ≡ Some i.comes.first)).
+        which i.comes.first i.comes.round i.comes.on.head i.comes.on.behind at_place k.0)
+        i.comes.begins

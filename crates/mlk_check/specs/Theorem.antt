@@ -13,7 +13,7 @@ use Rattle.mlk_machine_jobs.specs.Runs.{machine}
 use Rattle.mlk_machine_laws.specs.Laws.{IsWithoutRing}
 use Rattle.mlk_machine_laws.specs.Moments.{EndsEmpty}
 use Rattle.mlk_cert_parts.specs.declared.block.EntryCert.{EntryCert}
-use Rattle.mlk_walk_state.specs.Scope.{certified, is_declared}
+use Rattle.mlk_walk_state.specs.Scope.{certified, declared, is_declared}
 use Rattle.mlk_soundness_machine.specs.Listed.{FactsSince}
 use Rattle.mlk_soundness_machine.specs.Moments.{AtEachMomentSince}
 
@@ -27,9 +27,10 @@ pub record AreSafe (jobs : List Job) : Type 0 where
 -- Every run of a program keeps its rules.
 -- Of one job alone, begun at a declared entry and granted each claim at any time: at each moment the reference that it stands
 -- ready at is covered by locks that it holds; what it claims is in the order of the ranks; where it has ended by itself it holds
--- nothing; and at each begin of a frame, of a line and of a round of a FOR, a case that the certificate lists there describes it.
+-- nothing; at each begin of a frame, of a line and of a round of a FOR, a case that the certificate lists there describes it; and
+-- inside a line, one that the walk makes of a listed case by the commands done since.
 -- Of any number of jobs begun at declared entries, whatever happens to them in whatever order: at each moment they are safe.
 pub record KeepsRules (routines : List RoutineTree) (rules : RuleLists) (blocks : List EntryCert) : Type 0 where
-  pub each_job : AtEachMomentSince routines (is_declared routines rules.entries) (FactsSince routines rules (certified routines blocks))
+  pub each_job : AtEachMomentSince routines (is_declared routines rules.entries) (FactsSince routines rules (certified routines blocks, declared routines rules.entries))
   pub all_jobs : (events : List (Event Choice EntryId)) (jobs : List Job)
       → after (machine routines (is_declared routines rules.entries)) events [] ≡ Ok jobs → AreSafe jobs

@@ -9,6 +9,7 @@ use Rattle.mlk_names.specs.declared.symbol.Sym.{Sym}
 use Rattle.mlk_names.specs.declared.known_symbol.KnownSym.{KnownSym}
 use Rattle.mlk_names.specs.declared.known_symbol.KnownSym.TheVariants as known
 use Rattle.mlk_names.specs.Symbols.{known_of}
+use Rattle.mlk_program.specs.declared.entry.EntryId.{EntryId}
 use Rattle.mlk_cert_parts.specs.declared.names.NameSet.{NameSet}
 use Rattle.mlk_cert_parts.specs.declared.names.Own.{Own}
 use Rattle.mlk_cert_parts.specs.declared.case.Case.{Case}
@@ -123,7 +124,7 @@ module _ (sc callee : Scope) (w : World) (b : Level) (s : State) (j : Job) (d : 
     (ok : Allowed sc (changes callee.summary given) s)
     (shares : SharesByOwn sc.is_shared callee.is_shared)
     (filled : (x : List ℕ) → refs_of formals given x ≡ true → (own : List Own) → is_own own x ≡ true → callee.is_shared own x ≡ true)
-    (lent : (n : List ℕ) → passes formals given n ≡ true → (own : List Own) → is_own own n ≡ false → callee.is_shared own n ≡ true) (begun : List Job) where
+    (lent : (n : List ℕ) → passes formals given n ≡ true → (own : List Own) → is_own own n ≡ false → callee.is_shared own n ≡ true) (begun : List Job) (entry : EntryId) where
   abbrev pub ch : List NameSet
   ch = changes callee.summary given
 
@@ -150,6 +151,7 @@ module _ (sc callee : Scope) (w : World) (b : Level) (s : State) (j : Job) (d : 
     refs = refs_of formals given;
     snap = λ x. cells (look (front ++ j.bindings) x);
     begun = begun;
+    entry = entry;
   }
 
   abbrev pub level : Level

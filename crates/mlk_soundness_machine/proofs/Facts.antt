@@ -1,5 +1,5 @@
 -- What a job keeps to, by its first task.
-use Rattle.std.proofs.Common.{◌≡◌, ℕ, true, false, List, [], ◌∷◌, Some, None, refl, sym, ap, ◌∙◌, subst}
+use Rattle.std.proofs.Common.{◌≡◌, true, false, List, [], ◌∷◌, ◌++◌, Some, None, refl, sym, ap, ◌∙◌, subst}
 use Rattle.mlk_names.specs.References.{Touch}
 use Rattle.mlk_walk_state.specs.Scope.{Scope, listed}
 use Rattle.mlk_machine_locks.specs.Lists.{Among}
@@ -10,12 +10,14 @@ use Rattle.mlk_machine_jobs.specs.Runs.{next_claim}
 use Rattle.mlk_machine_jobs.specs.Seen.{ready_in}
 use Rattle.mlk_machine_laws.specs.Moments.{IsCoveredAt, EndsEmpty}
 use Rattle.mlk_rules.specs.declared.rules.RuleLists.{RuleLists}
-use Rattle.mlk_syntax.specs.Trees.{CommandTrees, LineTrees}
+use Rattle.mlk_syntax.specs.Trees.{CommandTrees, LineTrees, line}
+use Rattle.mlk_program.specs.Entries.{as_lines}
 use Rattle.mlk_cert_parts.specs.declared.case.Case.{Case}
 use Rattle.mlk_soundness_machine.specs.Described.{World, Level, bare, idle, Stands}
 use Rattle.mlk_soundness_machine.specs.Facts.{Facts}
-use Rattle.mlk_soundness_machine.specs.Listed.{IsListedAt, line_number, round_of}
-use Rattle.mlk_soundness_machine.proofs.Listing.{is_listed_at, begins_lines, begins_commands, starts_listed, no_start, no_line, no_round, Opens}
+use Rattle.mlk_soundness_machine.specs.Listed.{IsAtLine, IsAtRound, IsInside}
+use Rattle.mlk_soundness_machine.specs.Places.{line_number, StandIn, none_follows, open_round, ComesTo}
+use Rattle.mlk_soundness_machine.proofs.Listing.{own_lines, is_at_line, BeginsRound, is_at_round, is_inside, begins_lines, begins_commands, starts_listed, no_start, no_line, no_round, no_command}
 use Rattle.mlk_soundness_machine.specs.Safe.{Keeps, is_quiet, is_plain}
 
 no_touch : (t : Task) (ts : List Task) → is_quiet t ≡ true → ready_in (t ∷ ts) ≡ None
@@ -60,32 +62,50 @@ plain_facts sc w b j t ts e h k = record {
   starts = no_start sc.routines sc.blocks w.begun j (t ∷ ts) e (plain_commands t ts h);
   lines = no_line sc.routines sc.blocks w.begun j (t ∷ ts) e (plain_lines t ts h);
   rounds = no_round sc.routines sc.blocks w.begun j (t ∷ ts) e (plain_commands t ts h);
+  inside = no_command sc.routines sc.rules (sc.blocks, sc.declared_entries) w.begun j (t ∷ ts) e (plain_commands t ts h);
 }
 
 -- where it goes on to a line, and where commands begin
 pub lines_facts : (sc : Scope) (w : World) (b : Level) (j : Job) (l : LineTree) (lines : List LineTree) (ts : List Task) → j.tasks ≡ RunLines (l ∷ lines) ∷ ts
-    → (c : Case) → Among c (listed sc (line_number l.0) 0) → Stands sc w b c (bare (idle j)) → Keeps sc w b j
-lines_facts sc w b j l lines ts e c i d k = record {
+    → (c : Case) → Among c (listed sc (line_number l.0) 0) → (behind : LineTrees) → StandIn (line l.0 l.1 behind) (own_lines sc w) → (others : List LineTree) → lines ≡ as_lines behind ++ others → none_follows others ≡ true
+    → Stands sc w b c (bare (idle j)) → Keeps sc w b j
+lines_facts sc w b j l lines ts e c i behind is others ahead none d k = record {
   facts = quiet_facts sc.rules j (RunLines (l ∷ lines)) ts e refl;
   starts = no_start sc.routines sc.blocks w.begun j (RunLines (l ∷ lines) ∷ ts) e refl;
   lines = λ m more us at.
-      let same : l ≡ m = (let z : RunLines (l ∷ lines) ∷ ts ≡ RunLines (m ∷ more) ∷ us = sym e ∙ at in cc) in
-      subst (λ z. IsListedAt sc.routines sc.blocks (line_number z.0) 0 w.begun j) same (is_listed_at sc w b c (line_number l.0) 0 i j k.marks k.begun d);
+      let z : RunLines (l ∷ lines) ∷ ts ≡ RunLines (m ∷ more) ∷ us = sym e ∙ at in
+      let same : l ≡ m = (let y = z in cc) in
+      let others_same : lines ≡ more = (let y = z in cc) in
+      subst (λ q. IsAtLine sc.routines sc.blocks q more w.begun j) same
+      (subst (λ q. IsAtLine sc.routines sc.blocks l q w.begun j) others_same (is_at_line sc w b c l lines i behind is others ahead none j k.marks k.begun d));
   rounds = no_round sc.routines sc.blocks w.begun j (RunLines (l ∷ lines) ∷ ts) e refl;
+  inside = no_command sc.routines sc.rules (sc.blocks, sc.declared_entries) w.begun j (RunLines (l ∷ lines) ∷ ts) e refl;
 }
 
 pub commands_facts : (sc : Scope) (w : World) (b : Level) (j : Job) (cs : CommandTrees) (block : LineTrees) (ts : List Task) → j.tasks ≡ RunCommands cs block ∷ ts
-    → (number : ℕ) (c : Case) → Opens sc number cs ts c → Stands sc w b c (bare (idle j)) → Keeps sc w b j
-commands_facts sc w b j cs block ts e number c o d k = record {
+    → (c : Case) → ComesTo sc (own_lines sc w) cs block ts c → (open_round ts ≡ Some cs → BeginsRound sc (own_lines sc w) cs block ts c)
+    → Stands sc w b c (bare (idle j)) → Keeps sc w b j
+commands_facts sc w b j cs block ts e c comes round d k = record {
   facts = quiet_facts sc.rules j (RunCommands cs block) ts e refl;
   starts = starts_listed sc w b j k;
   lines = no_line sc.routines sc.blocks w.begun j (RunCommands cs block ∷ ts) e refl;
   rounds = λ rest inner t us at is.
       let z : RunCommands cs block ∷ ts ≡ RunCommands rest inner ∷ t ∷ us = sym e ∙ at in
-      let same : rest ≡ cs = (let y = z in cc) in
+      let same : cs ≡ rest = (let y = z in cc) in
+      let its : block ≡ inner = (let y = z in cc) in
       let behind : ts ≡ t ∷ us = (let y = z in cc) in
-      let r = o.listed t us behind (subst (λ q. round_of t ≡ Some q) same is) in
-      (number, r.0, is_listed_at sc w b c number r.0 r.1 j k.marks k.begun d);
+      let r = round (ap open_round behind ∙ is ∙ ap (λ q. Some q) (sym same)) in
+      subst (λ q. IsAtRound sc.routines sc.blocks q inner (t ∷ us) w.begun j) same
+      (subst (λ q. IsAtRound sc.routines sc.blocks cs q (t ∷ us) w.begun j) its
+      (subst (λ q. IsAtRound sc.routines sc.blocks cs block q w.begun j) behind (is_at_round sc w b cs block ts c r j k.marks k.begun d)));
+  inside = λ left inner us at.
+      let z : RunCommands cs block ∷ ts ≡ RunCommands left inner ∷ us = sym e ∙ at in
+      let same : cs ≡ left = (let y = z in cc) in
+      let its : block ≡ inner = (let y = z in cc) in
+      let behind : ts ≡ us = (let y = z in cc) in
+      subst (λ q. IsInside sc.routines sc.rules (sc.blocks, sc.declared_entries) q inner us w.begun j) same
+      (subst (λ q. IsInside sc.routines sc.rules (sc.blocks, sc.declared_entries) cs q us w.begun j) its
+      (subst (λ q. IsInside sc.routines sc.rules (sc.blocks, sc.declared_entries) cs block q w.begun j) behind (is_inside sc w b cs block ts c comes j k.marks k.begun d)));
 }
 
 touching : (rules : RuleLists) (j : Job) (t : Touch) (ts : List Task) → j.tasks ≡ task.DoTouch t ∷ ts → IsCoveredAt rules j t → Facts rules j
@@ -103,4 +123,5 @@ touch_facts sc w b j t ts e h k = record {
   starts = no_start sc.routines sc.blocks w.begun j (task.DoTouch t ∷ ts) e refl;
   lines = no_line sc.routines sc.blocks w.begun j (task.DoTouch t ∷ ts) e refl;
   rounds = no_round sc.routines sc.blocks w.begun j (task.DoTouch t ∷ ts) e refl;
+  inside = no_command sc.routines sc.rules (sc.blocks, sc.declared_entries) w.begun j (task.DoTouch t ∷ ts) e refl;
 }

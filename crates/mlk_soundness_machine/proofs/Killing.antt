@@ -29,7 +29,7 @@ use Rattle.mlk_soundness_machine.specs.Safe.{SafeFor, KeepsTo}
 use Rattle.mlk_soundness_machine.proofs.Facts.{plain_facts}
 use Rattle.mlk_soundness_machine.proofs.Going.{Next, by_step}
 use Rattle.mlk_soundness_machine.specs.Facts.{Facts}
-use Rattle.mlk_soundness_machine.proofs.Listing.{no_start, no_line, no_round}
+use Rattle.mlk_soundness_machine.proofs.Listing.{no_start, no_line, no_round, no_command}
 use Rattle.mlk_soundness_machine.proofs.Calling.{none_held}
 use Rattle.mlk_soundness_machine.proofs.Changes.{Allowed}
 use Rattle.mlk_soundness_machine.proofs.Steps.{done, unasked}
@@ -74,7 +74,13 @@ module _ (routines : List RoutineTree) (sc : Scope) (w : World) (b : Level) (wor
   }
 
   ended_facts : (begun : List Job) (j : Job) → j.tasks ≡ [] → ((m : LockName) → count_of j.held m ≡ 0) → KeepsTo sc begun j
-  ended_facts begun j e none = record { facts = ended j e none; starts = no_start sc.routines sc.blocks begun j [] e refl; lines = no_line sc.routines sc.blocks begun j [] e refl; rounds = no_round sc.routines sc.blocks begun j [] e refl }
+  ended_facts begun j e none = record {
+    facts = ended j e none;
+    starts = no_start sc.routines sc.blocks begun j [] e refl;
+    lines = no_line sc.routines sc.blocks begun j [] e refl;
+    rounds = no_round sc.routines sc.blocks begun j [] e refl;
+    inside = no_command sc.routines sc.rules (sc.blocks, sc.declared_entries) begun j [] e refl;
+  }
 
   pub ended_safe : (n : ℕ) (begun : List Job) (j : Job) → j.tasks ≡ [] → ((m : LockName) → count_of j.held m ≡ 0) → SafeFor routines (KeepsTo sc) n begun j
   ended_safe zero begun j e none = ended_facts begun j e none

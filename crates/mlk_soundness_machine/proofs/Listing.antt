@@ -1,12 +1,16 @@
--- Where a listed case describes a job: at the begin of a line, and of a round. Elsewhere none is asked for.
-use Rattle.std.proofs.Common.{◌≡◌, ℕ, suc, ◌≤◌, Bool, true, false, List, ◌∷◌, Some, None, sym, ap, ◌∙◌, subst, arith, ◌+◌}
+-- Where a listed case describes a job, and where one that the walk makes of a listed one: at the begin of a line and of a round,
+-- and before each command. Elsewhere none is asked for.
+use Rattle.std.proofs.Common.{◌≡◌, ℕ, Bool, true, false, List, ◌∷◌, ◌++◌, refl, sym, ap, ◌∙◌, subst, ◌+◌}
 use Rattle.std.specs.List.{AllZip}
-use Rattle.mlk_syntax.specs.Trees.{CommandTrees, finished, then_command, then_for, RoutineTree}
+use Rattle.mlk_syntax.specs.Trees.{CommandTrees, RoutineTree, LineTrees, line}
+use Rattle.mlk_rules.specs.declared.rules.RuleLists.{RuleLists}
 use Rattle.mlk_program.specs.declared.entry.EntryId.{EntryId}
+use Rattle.mlk_program.specs.Entries.{as_lines}
 use Rattle.mlk_cert_parts.specs.declared.block.EntryCert.{EntryCert}
 use Rattle.mlk_cert_parts.specs.declared.case.Case.{Case}
 use Rattle.mlk_machine_locks.specs.Lists.{Among}
-use Rattle.mlk_machine_jobs.specs.Tasks.{Task, Job, marks, RunLines, RunCommands}
+use Rattle.mlk_machine_jobs.specs.Calling.{commands_in}
+use Rattle.mlk_machine_jobs.specs.Tasks.{Task, Job, marks, LineTree, RunLines, RunCommands}
 use Rattle.mlk_walk_state.specs.Names.{is_own}
 use Rattle.mlk_walk_state.specs.Scope.{Scope, listed, listed_at}
 use Rattle.mlk_soundness_machine.specs.Described.{World, Level, bare, idle, Stands}
@@ -16,7 +20,8 @@ use Rattle.mlk_machine_laws.specs.Sharing.{is_lent}
 use Rattle.mlk_soundness_machine.specs.Marked.{Begun, AreMarked, Marked}
 use Rattle.mlk_soundness_machine.specs.Reads.{now, times}
 use Rattle.mlk_soundness_machine.proofs.Worlds.{guarded_map, waiting_kept}
-use Rattle.mlk_soundness_machine.specs.Listed.{line_number, IsDescribed, IsListedAt, round_of, IsAtStart, StartListed, GoesListed, RoundListed}
+use Rattle.mlk_soundness_machine.specs.Places.{line_number, entry_trees, StandIn, none_follows, OnLine, AreRoundOf, ComesTo}
+use Rattle.mlk_soundness_machine.specs.Listed.{IsDescribed, IsListedAt, IsAtStart, IsAtLine, IsAtRound, IsInside, StartListed, GoesListed, RoundListed, CommandWalked}
 
 -- what the open blocks and frames, and how the running frame began, add to what is said of a frame
 module _ (sc : Scope) (w : World) (b : Level) (c : Case) (j : Job) (k : AreMarked w b (marks j.tasks)) (u : Begun sc w) (d : Stands sc w b c (bare (idle j))) where
@@ -41,16 +46,20 @@ module _ (sc : Scope) (w : World) (b : Level) (c : Case) (j : Job) (k : AreMarke
     kept = λ n h r. let v = u.values n (d.kept_formal n h) r in d.kept n h v.0 ∙ v.1;
   }
 
+-- the entry is one of the routine that runs
+own_is : (sc : Scope) (w : World) (u : Begun sc w) → w.entry.routine ≡ sc.own
+own_is sc w u = sym (ap (λ (z : Scope). z.own) u.scope)
+
 pub is_listed_at : (sc : Scope) (w : World) (b : Level) (c : Case) (number round : ℕ) → Among c (listed sc number round) → (j : Job) → AreMarked w b (marks j.tasks) → (u : Begun sc w)
     → Stands sc w b c (bare (idle j)) → IsListedAt sc.routines sc.blocks number round w.begun j
 unfolding is_described
 is_listed_at sc w b c number round i j k u d = record {
-  entry = u.entry;
-  running = u.own ∙ sym d.routine;
+  entry = w.entry;
+  running = own_is sc w u ∙ sym d.routine;
   block = u.block;
   is_certified = u.certified;
   case = c;
-  is_listed = subst (λ z. Among c (listed_at z number round)) u.points i;
+  is_listed = subst (λ (z : Scope). Among c (listed_at z.points number round)) u.scope i;
   describes = is_described sc w b c j k u d;
   began = u.began;
 }
@@ -59,6 +68,51 @@ pub is_at_start : (sc : Scope) (w : World) (b : Level) (c : Case) (number : ℕ)
     → Stands sc w b c (bare (idle j)) → line_number u.began.head ≡ number → IsAtStart sc.routines sc.blocks w.begun j
 unfolding is_listed_at
 is_at_start sc w b c number i j k u d same = (number, is_listed_at sc w b c number 0 i j k u d, same)
+
+-- the lines of the world's entry
+abbrev pub own_lines : Scope → World → LineTrees
+own_lines sc w = entry_trees sc.routines w.entry
+
+-- at such a line
+pub is_at_line : (sc : Scope) (w : World) (b : Level) (c : Case) (l : LineTree) (lines : List LineTree) → Among c (listed sc (line_number l.0) 0)
+    → (behind : LineTrees) → StandIn (line l.0 l.1 behind) (own_lines sc w) → (others : List LineTree) → lines ≡ as_lines behind ++ others → none_follows others ≡ true → (j : Job) → AreMarked w b (marks j.tasks) → (u : Begun sc w)
+    → Stands sc w b c (bare (idle j)) → IsAtLine sc.routines sc.blocks l lines w.begun j
+unfolding is_listed_at
+is_at_line sc w b c l lines i behind is others ahead none j k u d = record { at = is_listed_at sc w b c (line_number l.0) 0 i j k u d; behind = behind; is_line = is; others = others; ahead = ahead; no_more = none }
+
+-- A case is listed for rounds that run these commands, on the line on which the job is.
+pub record BeginsRound (sc : Scope) (lines : LineTrees) (rest : CommandTrees) (block : LineTrees) (ts : List Task) (c : Case) : Type 0 where
+  pub on : OnLine lines block ts
+  pub index : ℕ
+  pub runs : AreRoundOf rest index (commands_in on.head)
+  pub is_listed : Among c (listed sc (line_number on.head) index)
+
+pub is_at_round : (sc : Scope) (w : World) (b : Level) (rest : CommandTrees) (block : LineTrees) (ts : List Task) (c : Case) → BeginsRound sc (own_lines sc w) rest block ts c → (j : Job) → AreMarked w b (marks j.tasks) → (u : Begun sc w)
+    → Stands sc w b c (bare (idle j)) → IsAtRound sc.routines sc.blocks rest block ts w.begun j
+unfolding is_listed_at
+is_at_round sc w b rest block ts c r j k u d = record {
+  entry = w.entry;
+  on = r.on;
+  index = r.index;
+  runs = r.runs;
+  at = is_listed_at sc w b c (line_number r.on.head) r.index r.is_listed j k u d;
+  its = refl;
+}
+
+-- where the walk comes to a case
+pub is_inside : (sc : Scope) (w : World) (b : Level) (left : CommandTrees) (block : LineTrees) (ts : List Task) (c : Case) → ComesTo sc (own_lines sc w) left block ts c → (j : Job) → AreMarked w b (marks j.tasks) → (u : Begun sc w)
+    → Stands sc w b c (bare (idle j)) → IsInside sc.routines sc.rules (sc.blocks, sc.declared_entries) left block ts w.begun j
+unfolding is_described
+is_inside sc w b left block ts c r j k u d = record {
+  entry = w.entry;
+  running = own_is sc w u ∙ sym d.routine;
+  certificate = u.block;
+  is_certified = u.certified;
+  case = c;
+  comes = subst (λ z. ComesTo z (own_lines sc w) left block ts c) u.scope r;
+  describes = is_described sc w b c j k u d;
+  began = u.began;
+}
 
 -- where the frame has just begun
 pub starts_listed : (sc : Scope) (w : World) (b : Level) (j : Job) → Marked sc w b (marks j.tasks) → StartListed sc.routines sc.blocks w.begun j
@@ -85,38 +139,6 @@ no_line routines blocks begun j ts e h l lines us at = let z : true ≡ false = 
 pub no_round : (routines : List RoutineTree) (blocks : List (EntryId × EntryCert)) (begun : List Job) (j : Job) (ts : List Task) → j.tasks ≡ ts → begins_commands ts ≡ false → RoundListed routines blocks begun j
 no_round routines blocks begun j ts e h rest block t us at is = let z : true ≡ false = sym (ap begins_commands (sym e ∙ at)) ∙ h in absurd (cc z)
 
--- how many commands and FORs are left on a line
-abbrev pub count_commands : CommandTrees → ℕ
-count_commands finished = 0
-count_commands (then_command c rest) = suc (count_commands rest)
-count_commands (then_for column index control rest) = suc (count_commands rest)
-
--- What stands behind commands: a round of something as long or longer; and if it is of just them, the case is listed for it.
-pub record Opens (sc : Scope) (number : ℕ) (cs : CommandTrees) (ts : List Task) (c : Case) : Type 0 where
-  pub longer : (t : Task) (us : List Task) (rest : CommandTrees) → ts ≡ t ∷ us → round_of t ≡ Some rest → count_commands cs ≤ count_commands rest
-  pub listed : (t : Task) (us : List Task) → ts ≡ t ∷ us → round_of t ≡ Some cs → (round : ℕ) × Among c (listed sc number round)
-
--- no round of just the commands behind one
-pub opens_rest : (sc : Scope) (number : ℕ) (cs rest : CommandTrees) → count_commands cs ≡ suc (count_commands rest) → (ts : List Task) (c d : Case) → Opens sc number cs ts c → Opens sc number rest ts d
-opens_rest sc number cs rest e ts c d o = record {
-  longer = λ t us r at is. let z = o.longer t us r at is in omega (arith, z, e);
-  listed = λ t us at is. let z = o.longer t us rest at is in absurd (omega (arith, z, e));
-}
-
--- the first round's commands, and each further one's
-pub opens_round : (sc : Scope) (number round : ℕ) (rest : CommandTrees) (K : Task) (ts : List Task) (c : Case) → round_of K ≡ Some rest → Among c (listed sc number round) → Opens sc number rest (K ∷ ts) c
-opens_round sc number round rest K ts c is i = record {
-  longer = λ t us r at to.
-      let same : K ≡ t = cc at in
-      let y : Some rest ≡ Some r = sym is ∙ ap round_of same ∙ to in
-      let z : rest ≡ r = cc y in
-      subst (λ q. count_commands rest ≤ count_commands q) z (omega arith);
-  listed = λ t us at to. (round, i);
-}
-
--- no round stands behind a line's commands
-pub opens_line : (sc : Scope) (number : ℕ) (cs : CommandTrees) (K : Task) (ts : List Task) (c : Case) → round_of K ≡ None → Opens sc number cs (K ∷ ts) c
-opens_line sc number cs K ts c none = record {
-  longer = λ t us r at to. let same : K ≡ t = cc at in let z : None ≡ Some r = sym none ∙ ap round_of same ∙ to in absurd (cc z);
-  listed = λ t us at to. let same : K ≡ t = cc at in let z : None ≡ Some cs = sym none ∙ ap round_of same ∙ to in absurd (cc z);
-}
+pub no_command : (routines : List RoutineTree) (rules : RuleLists) (entries : List (EntryId × EntryCert) × List EntryId) (begun : List Job) (j : Job) (ts : List Task) → j.tasks ≡ ts → begins_commands ts ≡ false
+    → CommandWalked routines rules entries begun j
+no_command routines rules entries begun j ts e h left block us at = let z : true ≡ false = sym (ap begins_commands (sym e ∙ at)) ∙ h in absurd (cc z)

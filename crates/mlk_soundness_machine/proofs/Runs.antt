@@ -12,7 +12,7 @@ use Rattle.mlk_machine_jobs.specs.Tasks.{Task, Job}
 use Rattle.mlk_machine_jobs.specs.Runs.{go, aborted, machine, next_claim}
 use Rattle.mlk_cert_parts.specs.declared.block.EntryCert.{EntryCert}
 use Rattle.mlk_soundness_machine.specs.Listed.{FactsSince}
-use Rattle.mlk_soundness_machine.proofs.Listing.{no_start, no_line, no_round}
+use Rattle.mlk_soundness_machine.proofs.Listing.{no_start, no_line, no_round, no_command}
 use Rattle.mlk_soundness_machine.specs.Safe.{SafeFor}
 use Rattle.mlk_soundness_machine.specs.History.{begun_after}
 use Rattle.mlk_soundness_machine.specs.Moments.{where_it_goes, begun_by}
@@ -51,14 +51,15 @@ module _ (routines : List RoutineTree) (declared : EntryId → Bool) (Fact : Lis
       goes_on acts begun j i (aborted j j.tasks) (λ k e g. let f = is_stopped j k j.tasks e in stays_stopped acts (begun_after begun j k) k i f.0 f.1 g) h
 
 -- a job that was stopped keeps to the facts
-pub stopped_facts : (routines : List RoutineTree) (rules : RuleLists) (blocks : List (EntryId × EntryCert)) (begun : List Job) (j : Job) → j.tasks ≡ [] → j.stopped ≡ true → FactsSince routines rules blocks begun j
-stopped_facts routines rules blocks begun j e f = record {
+pub stopped_facts : (routines : List RoutineTree) (rules : RuleLists) (entries : List (EntryId × EntryCert) × List EntryId) (begun : List Job) (j : Job) → j.tasks ≡ [] → j.stopped ≡ true → FactsSince routines rules entries begun j
+stopped_facts routines rules entries begun j e f = record {
   facts = record {
     covered = λ u r. let z : None ≡ Some u = sym (ap ready_in e) ∙ r in cc;
     in_order = λ n i. absurd (subst (λ o. Among n (awaited o)) (ap next_claim e) i);
     ends = λ ended. (let y : true ≡ false = sym f ∙ ended.1 in cc);
   };
-  starts = no_start routines blocks begun j [] e refl;
-  lines = no_line routines blocks begun j [] e refl;
-  rounds = no_round routines blocks begun j [] e refl;
+  starts = no_start routines entries.0 begun j [] e refl;
+  lines = no_line routines entries.0 begun j [] e refl;
+  rounds = no_round routines entries.0 begun j [] e refl;
+  inside = no_command routines rules entries begun j [] e refl;
 }

@@ -10,6 +10,7 @@ use Rattle.mlk_names.specs.declared.symbol.Sym.TheVariants.{Unknown}
 use Rattle.mlk_names.specs.Symbols.{Assignment, StandsFor}
 use Rattle.mlk_cert_parts.specs.declared.names.Own.{Own}
 use Rattle.mlk_cert_parts.specs.declared.case.Case.{Case}
+use Rattle.mlk_program.specs.declared.entry.EntryId.{EntryId}
 use Rattle.mlk_rules.specs.Ranks.{NameHasRank}
 use Rattle.mlk_machine_locks.specs.Counts.{count_of}
 use Rattle.mlk_machine_jobs.specs.Bindings.{Cell, Bindings, Cells, look}
@@ -35,7 +36,7 @@ some_local x symbols = list_any (is_local x) symbols
 
 -- What is fixed while a frame runs: the job's number, how names were bound at its begin, the frames that wait, the values of their cells, and
 -- the values that they have computed; its formals, which of them are another's by reference, and what names had at its begin;
--- and what the job was when each open frame began, the running one first.
+-- what the job was when each open frame began, the running one first; and the entry by which the running one began.
 pub record World : Type 0 where
   pub number : ℕ
   pub back : Bindings
@@ -46,6 +47,7 @@ pub record World : Type 0 where
   pub refs : List ℕ → Bool
   pub snap : List ℕ → Option (List ℕ)
   pub begun : List Job
+  pub entry : EntryId
 
 -- what is fixed while a block runs, or the lines of a frame: the level, how names were bound and which were own at its
 -- begin, and the values of `$TEST` that the frame's open blocks put back, the outermost first

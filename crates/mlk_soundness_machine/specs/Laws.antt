@@ -37,10 +37,10 @@ use Rattle.mlk_soundness_machine.specs.Safe.{SafeFor}
 -- Where each job that begins is safe for each number of steps, the facts hold at each moment of each run of one job.
 abbrev pub SafeAtEachMoment : Type 0
 SafeAtEachMoment =
-    (routines : List RoutineTree) (declared : EntryId → Bool) (rules : RuleLists) (blocks : List (EntryId × EntryCert))
+    (routines : List RoutineTree) (declared : EntryId → Bool) (rules : RuleLists) (entries : List (EntryId × EntryCert) × List EntryId)
     → ((e : EntryId) (test : Bool) (values : List (List ℕ)) (k : ℕ) (first : Job)
-    → (machine routines declared).begin e test values k ≡ Ok first → (n : ℕ) → SafeFor routines (FactsSince routines rules blocks) n (first ∷ []) first)
-    → AtEachMomentSince routines declared (FactsSince routines rules blocks)
+    → (machine routines declared).begin e test values k ≡ Ok first → (n : ℕ) → SafeFor routines (FactsSince routines rules entries) n (first ∷ []) first)
+    → AtEachMomentSince routines declared (FactsSince routines rules entries)
 
 -- Where a case describes a job and its terms cover a reference, so do names that the job holds cover what the reference
 -- stands for.

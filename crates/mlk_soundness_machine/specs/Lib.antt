@@ -3,6 +3,7 @@ pub mod Frames
 pub mod Facts
 pub mod Described
 pub mod History
+pub mod Places
 pub mod Listed
 pub mod Marked
 pub mod Moments

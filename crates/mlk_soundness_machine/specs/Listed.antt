@@ -1,23 +1,26 @@
--- That a listed case describes a job where a frame of it begins, where it goes on to a line, and where a round of a FOR begins.
--- This project's own choice.
-use Rattle.std.specs.Prelude.{◌≡◌, ℕ, ◌+◌, true, false, List, [], ◌∷◌, ◌++◌, map, Option, Some, None}
+-- That a listed case describes a job where a frame of it begins, where it goes on to a line, and where a round of a FOR begins;
+-- and inside a line, before each command, one that the walk makes of a listed case. This project's own choice.
+use Rattle.std.specs.Prelude.{◌≡◌, ℕ, ◌+◌, true, false, List, [], ◌∷◌, ◌++◌, map, Some}
 use Rattle.std.specs.List.{AllZip}
 use Rattle.mlk_names.specs.declared.lock_name.LockName.{LockName}
 use Rattle.mlk_names.specs.declared.term.LockTerm.{LockTerm}
 use Rattle.mlk_rules.specs.declared.rules.RuleLists.{RuleLists}
 use Rattle.mlk_program.specs.declared.entry.EntryId.{EntryId}
-use Rattle.mlk_syntax.specs.Trees.{RoutineTree, CommandTrees, LineTrees, HeadTree, LineHead}
+use Rattle.mlk_program.specs.Entries.{as_lines}
+use Rattle.mlk_syntax.specs.Trees.{RoutineTree, CommandTrees, LineTrees, line}
 use Rattle.mlk_cert_parts.specs.declared.block.EntryCert.{EntryCert}
 use Rattle.mlk_cert_parts.specs.declared.case.Case.{Case}
 use Rattle.mlk_machine_locks.specs.Counts.{count_of}
 use Rattle.mlk_machine_locks.specs.Lists.{Among}
 use Rattle.mlk_machine_jobs.specs.Bindings.{look}
-use Rattle.mlk_machine_jobs.specs.Tasks.{Task, Job, marks, LineTree, RunLines, RunCommands, Parameters, Forever, NextValue, LaterRound}
+use Rattle.mlk_machine_jobs.specs.Calling.{commands_in}
+use Rattle.mlk_machine_jobs.specs.Tasks.{Task, Job, marks, LineTree, RunLines, RunCommands}
 use Rattle.mlk_walk_state.specs.Names.{is_among, is_own}
-use Rattle.mlk_walk_state.specs.Scope.{block_at, listed_at}
+use Rattle.mlk_walk_state.specs.Scope.{block_at, listed_at, scope_with}
 use Rattle.mlk_soundness_machine.specs.Facts.{Facts}
 use Rattle.mlk_soundness_machine.specs.Frames.{Waiting, times_waiting, Binds, Agrees}
 use Rattle.mlk_soundness_machine.specs.History.{block_tests, frame_backs, first_back, is_reference, BeganAt}
+use Rattle.mlk_soundness_machine.specs.Places.{line_number, entry_trees, StandIn, round_of, none_follows, OnLine, AreRoundOf, ComesTo}
 use Rattle.mlk_soundness_machine.specs.Reads.{now, times}
 
 -- The case describes the job: with what other open frames have set aside, each read in its own bindings, its terms stand for
@@ -49,40 +52,63 @@ pub record IsListedAt (routines : List RoutineTree) (blocks : List (EntryId × E
   pub describes : IsDescribed block.summary.need case begun j
   pub began : BeganAt routines entry describes.first
 
--- a line's number
-abbrev pub line_number : HeadTree → ℕ
-line_number (LineHead number level end label formals commands) = number
-
--- what a round of a FOR runs
-abbrev pub round_of : Task → Option CommandTrees
-round_of (Parameters v ps rest block) = Some rest
-round_of (Forever rest block) = Some rest
-round_of (NextValue v rest block) = Some rest
-round_of (LaterRound v ps rest block) = Some rest
-round_of t = None
-
 -- one that is listed at the line of that entry
 abbrev pub IsAtStart : List RoutineTree → List (EntryId × EntryCert) → List Job → Job → Type 0
 IsAtStart routines blocks begun j = (number : ℕ) × (at : IsListedAt routines blocks number 0 begun j) × (line_number at.began.head ≡ number)
 
+-- one that is listed at this line, which is one of that entry's or of a block below them, with the lines that stand behind it
+pub record IsAtLine (routines : List RoutineTree) (blocks : List (EntryId × EntryCert)) (l : LineTree) (lines : List LineTree) (begun : List Job) (j : Job) : Type 0 where
+  pub at : IsListedAt routines blocks (line_number l.0) 0 begun j
+  pub behind : LineTrees
+  pub is_line : StandIn (line l.0 l.1 behind) (entry_trees routines at.entry)
+  pub others : List LineTree
+  pub ahead : lines ≡ as_lines behind ++ others
+  pub no_more : none_follows others ≡ true
+
+-- one that is listed for rounds of a FOR that runs these commands, on the line on which the job is
+pub record IsAtRound (routines : List RoutineTree) (blocks : List (EntryId × EntryCert)) (rest : CommandTrees) (block : LineTrees) (ts : List Task) (begun : List Job) (j : Job) : Type 0 where
+  pub entry : EntryId
+  pub on : OnLine (entry_trees routines entry) block ts
+  pub index : ℕ
+  pub runs : AreRoundOf rest index (commands_in on.head)
+  pub at : IsListedAt routines blocks (line_number on.head) index begun j
+  pub its : at.entry ≡ entry
+
+-- a case describes it to which the walk of the line comes where the job stands
+pub record IsInside (routines : List RoutineTree) (rules : RuleLists) (entries : List (EntryId × EntryCert) × List EntryId) (left : CommandTrees) (block : LineTrees) (ts : List Task) (begun : List Job) (j : Job) : Type 0 where
+  pub entry : EntryId
+  pub running : entry.routine ≡ j.routine
+  pub certificate : EntryCert
+  pub is_certified : block_at entries.0 entry ≡ Some certificate
+  pub case : Case
+  pub comes : ComesTo (scope_with routines rules entries entry certificate) (entry_trees routines entry) left block ts case
+  pub describes : IsDescribed certificate.summary.need case begun j
+  pub began : BeganAt routines entry describes.first
+
 -- where its frame begins, a case that is listed at the entry's line does; where it goes on to a line, one that is listed at the
--- line; and where a round begins, one that is listed for rounds
+-- line; where a round begins, one that is listed for rounds of the FOR; and before each command, one that the walk has there
 abbrev pub StartListed : List RoutineTree → List (EntryId × EntryCert) → List Job → Job → Type 0
 StartListed routines blocks begun j =
     (others : List Job) (commands : CommandTrees) (block : LineTrees) (ts : List Task) → begun ≡ j ∷ others → j.tasks ≡ RunCommands commands block ∷ ts → IsAtStart routines blocks begun j
 
 abbrev pub GoesListed : List RoutineTree → List (EntryId × EntryCert) → List Job → Job → Type 0
 GoesListed routines blocks begun j =
-    (l : LineTree) (lines : List LineTree) (ts : List Task) → j.tasks ≡ RunLines (l ∷ lines) ∷ ts → IsListedAt routines blocks (line_number l.0) 0 begun j
+    (l : LineTree) (lines : List LineTree) (ts : List Task) → j.tasks ≡ RunLines (l ∷ lines) ∷ ts → IsAtLine routines blocks l lines begun j
 
 abbrev pub RoundListed : List RoutineTree → List (EntryId × EntryCert) → List Job → Job → Type 0
 RoundListed routines blocks begun j =
     (rest : CommandTrees) (block : LineTrees) (t : Task) (ts : List Task) → j.tasks ≡ RunCommands rest block ∷ t ∷ ts → round_of t ≡ Some rest
-    → (number round : ℕ) × IsListedAt routines blocks number round begun j
+    → IsAtRound routines blocks rest block (t ∷ ts) begun j
 
--- what one job keeps to at each moment, where these entries are certified with these blocks
-pub record FactsSince (routines : List RoutineTree) (rules : RuleLists) (blocks : List (EntryId × EntryCert)) (begun : List Job) (j : Job) : Type 0 where
+abbrev pub CommandWalked : List RoutineTree → RuleLists → List (EntryId × EntryCert) × List EntryId → List Job → Job → Type 0
+CommandWalked routines rules entries begun j =
+    (left : CommandTrees) (block : LineTrees) (ts : List Task) → j.tasks ≡ RunCommands left block ∷ ts → IsInside routines rules entries left block ts begun j
+
+-- what one job keeps to at each moment, where the entries of the first table are certified with its blocks, and those of the
+-- second are declared
+pub record FactsSince (routines : List RoutineTree) (rules : RuleLists) (entries : List (EntryId × EntryCert) × List EntryId) (begun : List Job) (j : Job) : Type 0 where
   pub facts : Facts rules j
-  pub starts : StartListed routines blocks begun j
-  pub lines : GoesListed routines blocks begun j
-  pub rounds : RoundListed routines blocks begun j
+  pub starts : StartListed routines entries.0 begun j
+  pub lines : GoesListed routines entries.0 begun j
+  pub rounds : RoundListed routines entries.0 begun j
+  pub inside : CommandWalked routines rules entries begun j

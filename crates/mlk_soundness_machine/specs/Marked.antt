@@ -1,30 +1,27 @@
 -- How the world of a running frame came to be, and that the open blocks and frames are what it says. This project's own choice.
 use Rattle.std.specs.Prelude.{◌≡◌, ℕ, ◌+◌, true, false, List, [], ◌∷◌, ◌++◌, map, Some}
 use Rattle.mlk_names.specs.declared.lock_name.LockName.{LockName}
-use Rattle.mlk_program.specs.declared.entry.EntryId.{EntryId}
 use Rattle.mlk_cert_parts.specs.declared.block.EntryCert.{EntryCert}
 use Rattle.mlk_machine_locks.specs.Counts.{count_of}
 use Rattle.mlk_machine_jobs.specs.Bindings.{look}
 use Rattle.mlk_machine_jobs.specs.Tasks.{Job, Mark}
-use Rattle.mlk_walk_state.specs.Scope.{Scope, block_at}
+use Rattle.mlk_walk_state.specs.Scope.{Scope, block_at, scope_with}
 use Rattle.mlk_soundness_machine.specs.Described.{World, Level, Rests}
 use Rattle.mlk_soundness_machine.specs.Frames.{Waiting, times_waiting}
 use Rattle.mlk_soundness_machine.specs.History.{block_tests, frame_backs, first_back, is_reference, BeganAt}
 use Rattle.mlk_soundness_machine.specs.Listed.{IsAtStart}
 use Rattle.mlk_soundness_machine.specs.Reads.{now, times}
 
--- The frame began as that of a certified entry, with the values that the world says; what the job held then was what the entry
--- needs, and what waiting frames have set aside.
+-- The frame began as that of the world's entry, which is certified and has this scope, with the values that the world says; what
+-- the job held then was what the entry needs, and what waiting frames have set aside.
 pub record Begun (sc : Scope) (w : World) : Type 0 where
-  pub entry : EntryId
-  pub own : entry.routine ≡ sc.own
   pub block : EntryCert
-  pub certified : block_at sc.blocks entry ≡ Some block
-  pub points : sc.points ≡ block.points
+  pub certified : block_at sc.blocks w.entry ≡ Some block
+  pub scope : sc ≡ scope_with sc.routines sc.rules (sc.blocks, sc.declared_entries) w.entry block
   pub first : Job
   pub others : List Job
   pub since : w.begun ≡ first ∷ others
-  pub began : BeganAt sc.routines entry first
+  pub began : BeganAt sc.routines w.entry first
   pub back : w.back ≡ first_back w.waiting
   pub values : (x : List ℕ) → w.formals x ≡ true → is_reference first.bindings x ≡ false → (w.refs x ≡ false) × (w.snap x ≡ first.cells (look first.bindings x))
   pub rests : Rests w.waiting

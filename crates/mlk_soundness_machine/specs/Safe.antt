@@ -35,7 +35,7 @@ is_steady t = true
 
 -- what a job keeps to at each moment in a frame of this scope
 abbrev pub KeepsTo : Scope → List Job → Job → Type 0
-KeepsTo sc begun j = FactsSince sc.routines sc.rules sc.blocks begun j
+KeepsTo sc begun j = FactsSince sc.routines sc.rules (sc.blocks, sc.declared_entries) begun j
 
 module _ (routines : List RoutineTree) (Fact : List Job → Job → Type 0) where
   -- the fact holds now, and after each of so many steps, of the job and of what it was when its open frames began

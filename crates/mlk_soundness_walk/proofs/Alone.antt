@@ -1,6 +1,6 @@
 -- Walks of one state.
 use Rattle.std.proofs.Common.{◌≡◌, ℕ, true, false, List, [], ◌∷◌, refl, sym, ◌∙◌, subst, ⊎_elim, inl, map}
-use Rattle.std.specs.Prelude.{◌⊎◌, flat_map}
+use Rattle.std.specs.Prelude.{flat_map}
 use Rattle.mlk_syntax.specs.ExprTrees.{Tree}
 use Rattle.mlk_cert_parts.specs.declared.case.Case.{Case}
 use Rattle.mlk_walk_state.specs.declared.state.State.{State}
@@ -72,6 +72,10 @@ module _ (G : State → Type 0) (S : Case → Type 0) (Q : Quit → Type 0) wher
   leads_few line word s l =
       let e = few_same line word (alone s) (few_clean line word (alone s) l.clean).0 in
       l.going s (subst (λ (w : Walk). Among s w.going) (sym e) (inl refl))
+
+  -- with the states that go on
+  pub leads_there : (F : Walk → Walk) (s : State) → Leads F s G S Q → Leads F s (λ u. G u × Among u (F (alone s)).going) S Q
+  leads_there F s l = record { clean = l.clean; going = λ u i. (l.going u i, i); skips = l.skips; quits = l.quits }
 
   pub leads_stay : (s : State) → Leads (λ w. w) s G S Q → G s
   leads_stay s l = l.going s (inl refl)

@@ -1,29 +1,14 @@
 -- Each certified entry is safe for each number of steps.
-use Rattle.std.proofs.Common.{◌≡◌, ◌<◌, ℕ, zero, suc, List, [], ◌++◌, Option, arith}
+use Rattle.std.proofs.Common.{◌≡◌, ◌<◌, ℕ, zero, suc, List, [], arith}
 use Rattle.mlk_rules.specs.declared.rules.RuleLists.{RuleLists}
 use Rattle.mlk_rules.specs.Sound.{IsSound}
 use Rattle.mlk_rules.proofs.RankLemmas.{one_rank}
-use Rattle.mlk_program.specs.Calls.{in_action}
-use Rattle.mlk_program.specs.declared.entry.EntryId.{EntryId}
-use Rattle.mlk_syntax.specs.Trees.{RoutineTree, LineTrees, ActionTree}
+use Rattle.mlk_syntax.specs.Trees.{RoutineTree}
 use Rattle.mlk_cert_parts.specs.declared.block.EntryCert.{EntryCert}
-use Rattle.mlk_cert_parts.specs.declared.case.Case.{Case}
-use Rattle.mlk_machine_jobs.specs.Commands.{action_parts}
-use Rattle.mlk_machine_jobs.specs.Lines.{skipped, quit}
-use Rattle.mlk_machine_jobs.specs.Tasks.{Task}
-use Rattle.mlk_walk_state.specs.States.{at_rest}
-use Rattle.mlk_walk_state.specs.declared.state.State.{State}
-use Rattle.mlk_walk_exprs.specs.declared.spot.Block.{Block}
-use Rattle.mlk_walk_exprs.specs.declared.walk.Quit.{Quit}
-use Rattle.mlk_walk_lines.specs.Commands.{act}
 use Rattle.mlk_walk.specs.Verdicts.{known}
 use Rattle.mlk_walk.specs.Reports.{report}
-use Rattle.mlk_soundness_machine.specs.Described.{World, Level, IsWorld}
-use Rattle.mlk_soundness_machine.proofs.Values.{Fits}
-use Rattle.mlk_soundness_walk.specs.Entries.{scope, first_level, EntryFits}
+use Rattle.mlk_soundness_walk.specs.Entries.{first_level, EntryFits}
 use Rattle.mlk_soundness_walk.specs.Forms.{AreFormed, ListOnce}
-use Rattle.mlk_soundness_walk.specs.Ours.{AreOurs}
-use Rattle.mlk_soundness_walk.proofs.Alone.{Leads}
 use Rattle.mlk_soundness_walk.proofs.Formed.{entry_lines}
 use Rattle.mlk_soundness_walk.proofs.Framed.{entry_fits}
 use Rattle.mlk_soundness_walk.proofs.Levels.{line_fits}
@@ -34,11 +19,11 @@ module _ (routines : List RoutineTree) (rules : RuleLists) (blocks : List EntryC
   below zero k h = absurd (omega (arith, h))
   below (suc n) k h =
       entry_fits routines rules blocks clean k (lists_once routines rules blocks once) (entry_lines routines rules (known routines rules blocks) formed)
-      (λ e blk at w world p block same deep is lines pass.
+      (λ e blk at w world p block same deep is lines pass are.
       line_fits routines rules (known routines rules blocks) e blk w world sound.apart (one_rank rules.families sound.apart)
       (λ column callee written ours t its target head body more heads. well_of routines rules (known routines rules blocks) t head body more heads formed e blk its column callee written ours target)
       (lists_once routines rules blocks once e blk at) (frames_share routines e e) k (λ i l. below n i (omega (arith, l, h)))
-      block (first_level w) (omega arith) lines pass k (omega arith) p same deep is)
+      block (first_level w) (omega arith) lines pass are k (omega arith) p same deep is)
 
   pub each_entry : (n : ℕ) → EntryFits routines rules (known routines rules blocks) n
   each_entry n = below (suc n) n (omega arith)

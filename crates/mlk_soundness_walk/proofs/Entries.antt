@@ -334,16 +334,16 @@ module _ (routines : List RoutineTree) (rules : RuleLists) (entries : List (Entr
       ok = subst (λ z. Allowed (scope e blk) (changes z given) (without_last (length given) s)) summary_is (allowed (scope e blk) (changes row.called.summary given) (without_last (length given) s) row.changed)
 
       abbrev world : World
-      world = calling.world (scope e blk) its w b (without_last (length given) s) rest d.stands k sole (formals_in head) dist given syms vals passed syms_sole row.needs row.aside put row.taken ok shares filled lent begun
+      world = calling.world (scope e blk) its w b (without_last (length given) s) rest d.stands k sole (formals_in head) dist given syms vals passed syms_sole row.needs row.aside put row.taken ok shares filled lent begun t.entry
 
       is_world : IsWorld its world
-      is_world = calling.call_world (scope e blk) its w b (without_last (length given) s) rest d.stands k sole (formals_in head) dist given syms vals passed syms_sole row.needs row.aside put row.taken ok shares filled lent begun
+      is_world = calling.call_world (scope e blk) its w b (without_last (length given) s) rest d.stands k sole (formals_in head) dist given syms vals passed syms_sole row.needs row.aside put row.taken ok shares filled lent begun t.entry
           refl apart once (subst (λ z. ranks_fault (scope e blk) z row.aside ≡ None) summary_is row.ranked)
 
       begins : Describes its world (first_level world) [] (at_rest (begin_case its.summary (formals_in head)))
-          (calling.called (scope e blk) its w b (without_last (length given) s) rest d.stands k sole (formals_in head) dist given syms vals passed syms_sole row.needs row.aside put row.taken ok shares filled lent begun)
+          (calling.called (scope e blk) its w b (without_last (length given) s) rest d.stands k sole (formals_in head) dist given syms vals passed syms_sole row.needs row.aside put row.taken ok shares filled lent begun t.entry)
       begins = record {
-        stands = calling.call_stands (scope e blk) its w b (without_last (length given) s) rest d.stands k sole (formals_in head) dist given syms vals passed syms_sole row.needs row.aside put row.taken ok shares filled lent begun
+        stands = calling.call_stands (scope e blk) its w b (without_last (length given) s) rest d.stands k sole (formals_in head) dist given syms vals passed syms_sole row.needs row.aside put row.taken ok shares filled lent begun t.entry
             (begin_case its.summary (formals_in head)).own (begin_case its.summary (formals_in head)).kept
             (λ x. own_formals (in_order (formals_in head)) x ∙ in_order_same (formals_in head) x)
             (λ x. at_formals (in_order (formals_in head)) x ∙ own_formals (in_order (formals_in head)) x ∙ in_order_same (formals_in head) x)
@@ -375,21 +375,21 @@ module _ (routines : List RoutineTree) (rules : RuleLists) (entries : List (Entr
           out = subst (λ z. put_terms (formals_in head) (map Some (map (marked ch) syms)) z ≡ Some exit.0) (sym held_is) exit.1
 
           abbrev back : Job
-          back = calling.returned (scope e blk) its w b (without_last (length given) s) rest d.stands k sole (formals_in head) dist given syms vals passed syms_sole row.needs row.aside put row.taken ok shares filled lent begun
+          back = calling.returned (scope e blk) its w b (without_last (length given) s) rest d.stands k sole (formals_in head) dist given syms vals passed syms_sole row.needs row.aside put row.taken ok shares filled lent begun t.entry
               c i f.stands (fine_case c esc) exit.0 out (test_after how s.case.test x.test) kept agrees
 
           left : Stands (scope e blk) w b (record { test = test_after how s.case.test x.test; saved = s.case.saved; held = put_all exit.0 row.aside; own = s.case.own; kept = without ch s.case.kept }) (bare back)
-          left = calling.leave_stands (scope e blk) its w b (without_last (length given) s) rest d.stands k sole (formals_in head) dist given syms vals passed syms_sole row.needs row.aside put row.taken ok shares filled lent begun
+          left = calling.leave_stands (scope e blk) its w b (without_last (length given) s) rest d.stands k sole (formals_in head) dist given syms vals passed syms_sole row.needs row.aside put row.taken ok shares filled lent begun t.entry
               c i f.stands (fine_case c esc) exit.0 out (test_after how s.case.test x.test) kept agrees
 
           guarded_now : (y : List ℕ) → some_local y (map (marked ch) (without_last (length given) s).captured) ≡ true
               → (back.cells (look j.bindings y) ≡ j.cells (look j.bindings y)) × (is_lent j.bindings (look j.bindings y) ≡ false)
           guarded_now y h =
-              let q = calling.in_captured (scope e blk) its w b (without_last (length given) s) rest d.stands k sole (formals_in head) dist given syms vals passed syms_sole row.needs row.aside put row.taken ok shares filled lent begun
+              let q = calling.in_captured (scope e blk) its w b (without_last (length given) s) rest d.stands k sole (formals_in head) dist given syms vals passed syms_sole row.needs row.aside put row.taken ok shares filled lent begun t.entry
               c i f.stands (fine_case c esc) exit.0 out (test_after how s.case.test x.test) kept agrees y h in (
-                calling.guard_value (scope e blk) its w b (without_last (length given) s) rest d.stands k sole (formals_in head) dist given syms vals passed syms_sole row.needs row.aside put row.taken ok shares filled lent begun
+                calling.guard_value (scope e blk) its w b (without_last (length given) s) rest d.stands k sole (formals_in head) dist given syms vals passed syms_sole row.needs row.aside put row.taken ok shares filled lent begun t.entry
                     c i f.stands (fine_case c esc) exit.0 out (test_after how s.case.test x.test) kept agrees y q,
-                calling.guard_behind (scope e blk) its w b (without_last (length given) s) rest d.stands k sole (formals_in head) dist given syms vals passed syms_sole row.needs row.aside put row.taken ok shares filled lent begun
+                calling.guard_behind (scope e blk) its w b (without_last (length given) s) rest d.stands k sole (formals_in head) dist given syms vals passed syms_sole row.needs row.aside put row.taken ok shares filled lent begun t.entry
                     c i f.stands (fine_case c esc) exit.0 out (test_after how s.case.test x.test) kept agrees y q,
               )
 
@@ -480,11 +480,9 @@ module _ (routines : List RoutineTree) (rules : RuleLists) (entries : List (Entr
       -- how its frame begins
       begun_in : (frame : Frame) → begun ≡ to_callee frame ∷ w.begun → Begun its world
       begun_in frame past = record {
-        entry = t.entry;
-        own = refl;
         block = t.block;
         certified = t.certified;
-        points = refl;
+        scope = refl;
         first = to_callee frame;
         others = w.begun;
         since = past;
@@ -498,7 +496,7 @@ module _ (routines : List RoutineTree) (rules : RuleLists) (entries : List (Entr
       goes_in : (m : ℕ) → n ≡ suc m → (frame : Frame) → begun ≡ to_callee frame ∷ w.begun → EndsFit its world m frame j.bindings j.next j.routine ts → Marked (scope e blk) w b (marks ts) → SafeFor routines (KeepsTo its) m begun (to_callee frame)
       unfolding begun_in
       goes_in m same frame past ends k =
-          lower m (subst (λ z. m < z) (sym same) (omega arith)) t.entry t.block t.certified head body lines heads world is_world (λ x. refl) frame j.next j.routine ts ends (to_callee frame) begins refl
+          lower m (subst (λ z. m < z) (sym same) (omega arith)) t.entry t.block t.certified head body lines heads world is_world refl (λ x. refl) frame j.next j.routine ts ends (to_callee frame) begins refl
           (begun_in frame past) refl refl (record { tests = refl; frames = ap (λ z. j.bindings ∷ z) k.marks.frames })
 
     -- the call begins a frame

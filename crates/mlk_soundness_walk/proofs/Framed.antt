@@ -39,14 +39,16 @@ use Rattle.mlk_soundness_machine.proofs.Worlds.{drop_law}
 use Rattle.mlk_soundness_machine.proofs.Values.{Fits}
 use Rattle.mlk_soundness_walk.specs.Ours.{AreLinesOf}
 use Rattle.mlk_soundness_walk.specs.Commands.{Gives}
-use Rattle.mlk_soundness_walk.proofs.Lines.{CommandFits, as_said, listed_for, listed_there, less_stands, EachBlockFits, all_fit, head_fits, lines_fit}
+use Rattle.mlk_soundness_walk.proofs.Lines.{CommandFits, as_said, listed_for, less_stands, EachBlockFits, all_fit, head_fits, lines_fit}
 use Rattle.mlk_soundness_walk.proofs.Entries.{scope, EndsFit, EntryFits, first_line, formals_same}
 use Rattle.mlk_soundness_walk.specs.Entries.{first_level}
 use Rattle.mlk_soundness_walk.specs.Laws.{AllCommands}
 use Rattle.mlk_soundness_walk.proofs.Reported.{clean_entry}
 use Rattle.mlk_soundness_machine.specs.Marked.{Begun, AreMarked}
-use Rattle.mlk_soundness_machine.specs.Listed.{IsAtStart, line_number}
-use Rattle.mlk_soundness_machine.proofs.Listing.{is_at_start}
+use Rattle.mlk_soundness_machine.specs.Listed.{IsAtStart}
+use Rattle.mlk_soundness_machine.specs.Places.{line_number, entry_trees, none_follows}
+use Rattle.mlk_soundness_machine.proofs.Listing.{own_lines, is_at_start}
+use Rattle.mlk_soundness_walk.proofs.Places.{there, AreWithin, lines_behind, first_in}
 
 -- a frame's end that is right leaves by an exit
 pub record LeavesBy (e : LineEnd) (c : Case) : Type 0 where
@@ -81,6 +83,11 @@ pub record Behind (lines : List (HeadTree × LineTrees)) : Type 0 where
   pub tail : List (HeadTree × LineTrees)
   pub are : lines ≡ take_while lacks_formals lines ++ tail
   pub starts : (tail ≡ []) ⊎ ((l : HeadTree × LineTrees) × (more : List (HeadTree × LineTrees)) × (tail ≡ l ∷ more) × (is_some (formals_of l.0) ≡ true))
+
+-- to which no job goes on
+none_past : (tail : List (HeadTree × LineTrees)) → (tail ≡ []) ⊎ ((l : HeadTree × LineTrees) × (more : List (HeadTree × LineTrees)) × (tail ≡ l ∷ more) × (is_some (formals_of l.0) ≡ true)) → none_follows tail ≡ true
+none_past tail (inl e) = subst (λ z. none_follows z ≡ true) (sym e) refl
+none_past tail (inr (l, more, e, h)) = subst (λ z. none_follows z ≡ true) (sym e) h
 
 no_none : {A : Type 0} (o : Option A) → is_none o ≡ false → is_some o ≡ true
 no_none None h = cc h
@@ -167,7 +174,7 @@ starts : (sc : Scope) (w : World) (b : Level) (head : HeadTree) (c : Case) → i
 starts sc w b (LineHead number level at label formals cs) c h j d begun is same marked =
     let r = listed_for (listed sc number 0) c h in
     subst (IsAtStart sc.routines sc.blocks w.begun) (sym is)
-    (is_at_start sc w b r.0 number (listed_there r.0 (listed sc number 0) r.1) j marked begun (less_stands sc w b c r.0 r.2 (bare (idle j)) d.stands) (ap line_number same))
+    (is_at_start sc w b r.0 number (there r.0 (listed sc number 0) r.1) j marked begun (less_stands sc w b c r.0 r.2 (bare (idle j)) d.stands) (ap line_number same))
 
 -- an entry is safe for so many steps where its commands fit
 module _ (routines : List RoutineTree) (rules : RuleLists) (blocks : List EntryCert) (clean : report routines rules blocks ≡ []) where
@@ -180,9 +187,9 @@ module _ (routines : List RoutineTree) (rules : RuleLists) (blocks : List EntryC
   pub entry_fits : (m : ℕ) → ((e : EntryId) (blk : EntryCert) → block_at entries.0 e ≡ Some blk → ListsEachOnce (sc_of e blk)) → ((e : EntryId) (blk : EntryCert) → AreLinesOf (sc_of e blk) 1 true (lines_from (lines_of routines e)))
       → ((e : EntryId) (blk : EntryCert) → block_at entries.0 e ≡ Some blk → (w : World) → IsWorld (sc_of e blk) w → (p : Spot) (block : LineTrees) → p.scope ≡ sc_of e blk → p.level ≡ 1
       → p.block ≡ block_with block (walk_lines (sc_of e blk) OfBlock block).ends → AreLinesOf (sc_of e blk) 2 false block → EachLinePasses (sc_of e blk) OfBlock (walk_lines (sc_of e blk) OfBlock block).ends block
-      → CommandFits routines w (first_level w) p block m)
+      → AreWithin block (own_lines (sc_of e blk) w) → CommandFits routines w (first_level w) p block m)
       → EntryFits routines rules entries m
-  entry_fits m once leveled each e blk at head body lines heads w world formals frame next r ts ends_fit j d tasks begun is same marks =
+  entry_fits m once leveled each e blk at head body lines heads w world of formals frame next r ts ends_fit j d tasks begun is same marks =
       let c = clean_entry routines rules blocks clean e blk at in
       let past = behind lines in
       let pl = placed routines rules entries e head body lines heads past in
@@ -191,8 +198,11 @@ module _ (routines : List RoutineTree) (rules : RuleLists) (blocks : List EntryC
       let all : EachLinePasses (sc_of e blk) around ends (lines_from (lines_of routines e)) = lines_pass (sc_of e blk) (OfFrame (head_after routines e)) (lines_from (lines_of routines e)) (once e blk at) c.lines in
       let passes : EachLinePasses (sc_of e blk) around ends (line head body (lines_from (take_while lacks_formals lines))) = subst (λ z. EachLinePasses (sc_of e blk) around ends (lines_from z)) pl.own all in
       let deep : AreLinesOf (sc_of e blk) 1 true (line head body (lines_from (take_while lacks_formals lines))) = subst (λ z. AreLinesOf (sc_of e blk) 1 true (lines_from z)) pl.own (leveled e blk) in
+      let trees : LineTrees = line head body (lines_from (take_while lacks_formals lines)) in
+      let are : AreWithin trees (own_lines (sc_of e blk) w) =
+      subst (λ z. AreWithin trees (entry_trees routines z)) (sym of) (subst (λ z. AreWithin trees (lines_from z)) (sym pl.own) (λ some i. i)) in
       let fits : EachBlockFits routines (sc_of e blk) w (first_level w) m (line head body (lines_from (take_while lacks_formals lines))) =
-      all_fit routines (sc_of e blk) w (first_level w) m (λ block inside below p same deep is. each e blk at w world p block same deep is inside below) true around ends (line head body (lines_from (take_while lacks_formals lines))) deep passes in
+      all_fit routines (sc_of e blk) w (first_level w) m (λ block inside below its p same deep is. each e blk at w world p block same deep is inside below its) true around ends (line head body (lines_from (take_while lacks_formals lines))) deep passes are in
       let in_list : is_listed (listed (sc_of e blk) (number_of head) 0) (begin_case blk.summary (formals_in head)) ≡ true =
       subst (λ z. is_listed (listed (sc_of e blk) (number_of head) 0) (begin_case blk.summary z) ≡ true) (formals_same routines rules entries e head body lines heads)
       (subst (λ z. is_listed (listed (sc_of e blk) (entry_number z) 0) (begin_case blk.summary (walked.formals_in (line_of_entry routines e))) ≡ true) pl.its
@@ -205,11 +215,11 @@ module _ (routines : List RoutineTree) (rules : RuleLists) (blocks : List EntryC
       (λ y x column f same low right.
       let l = frame_right ends x column f right in
       gives routines rules (known routines rules blocks) (sc_of e blk) w m frame next r ts ends_fit f l.exit (subst (λ z. Among l.exit z.summary.exits) same l.is_its) l.leaves l.stays) in
-      head_fits routines (sc_of e blk) w (first_level w) around ends (once e blk at) m (EndFrame frame w.back next r) refl ts past.tail
+      head_fits routines (sc_of e blk) w (first_level w) around ends (once e blk at) m (EndFrame frame w.back next r) refl ts past.tail (none_past past.tail past.starts)
       (goes_past routines rules entries lines past (head_after routines e) pl.after) at_end
-      true give head body (lines_from (take_while lacks_formals lines)) fits.0 deep.0 passes.0
-      (λ f g. lines_fit routines (sc_of e blk) w (first_level w) around ends (once e blk at) m (EndFrame frame w.back next r) refl ts past.tail
-      (goes_past routines rules entries lines past (head_after routines e) pl.after) at_end true give (lines_from (take_while lacks_formals lines)) fits.1 deep.2 passes.2 f g)
+      true give head body (lines_from (take_while lacks_formals lines)) (first_in head body (lines_from (take_while lacks_formals lines)) (own_lines (sc_of e blk) w) are) fits.0 deep.0 passes.0
+      (λ f g. lines_fit routines (sc_of e blk) w (first_level w) around ends (once e blk at) m (EndFrame frame w.back next r) refl ts past.tail (none_past past.tail past.starts)
+      (goes_past routines rules entries lines past (head_after routines e) pl.after) at_end true give (lines_from (take_while lacks_formals lines)) (lines_behind head body (lines_from (take_while lacks_formals lines)) (own_lines (sc_of e blk) w) are) fits.1 deep.2 passes.2 f g)
       (begin_case blk.summary (formals_in head)) in_list j d
       (tasks ∙ ap (λ z. RunCommands (commands_in head) body ∷ RunLines z ∷ EndFrame frame w.back next r ∷ ts) (past.are ∙ ap (λ z. z ++ past.tail) (sym (listed_back (take_while lacks_formals lines)))))
       (record { marks = marks; begun = begun; starts = starts (sc_of e blk) w (first_level w) head (begin_case blk.summary (formals_in head)) in_list j d begun is same marks })
@@ -221,7 +231,7 @@ module _ (routines : List RoutineTree) (rules : RuleLists) (blocks : List EntryC
     below zero k h = absurd (omega (arith, h))
     below (suc n) k h =
         let all : AllCommands routines rules entries k = fits k (λ i l. below n i (omega (arith, l, h))) in
-        entry_fits k once leveled (λ e blk at w world p block same deep is lines pass. as_said routines w (first_level w) p block k (all e blk at w world p block same deep is lines pass))
+        entry_fits k once leveled (λ e blk at w world p block same deep is lines pass are. as_said routines w (first_level w) p block k (all e blk at w world p block same deep is lines pass are))
 
     pub all_entries : (n : ℕ) → EntryFits routines rules entries n
     all_entries n = below (suc n) n (omega arith)

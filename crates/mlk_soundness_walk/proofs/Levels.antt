@@ -3,12 +3,12 @@ use Rattle.std.proofs.Common.{◌≡◌, ◌<◌, ◌≤◌, ℕ, suc, Bool, tru
 use Rattle.mlk_rules.specs.declared.rules.RuleLists.{RuleLists}
 use Rattle.mlk_rules.specs.Ranks.{FamiliesApart}
 use Rattle.mlk_rules.specs.Laws.{RankedOnce}
-use Rattle.mlk_program.specs.Calls.{in_tree, in_action}
+use Rattle.mlk_program.specs.Calls.{in_tree}
 use Rattle.mlk_program.specs.Entries.{target_of}
 use Rattle.mlk_program.specs.declared.entry.EntryId.{EntryId}
 use Rattle.mlk_syntax.specs.declared.expr.Callee.{Callee}
 use Rattle.mlk_syntax.specs.ExprTrees.{Tree, ActualTree}
-use Rattle.mlk_syntax.specs.Trees.{RoutineTree, Called, HeadTree, LineTrees, no_lines, line, CommandTree, Does, ActionTree, Do}
+use Rattle.mlk_syntax.specs.Trees.{RoutineTree, Called, HeadTree, LineTrees, no_lines, line, CommandTree, Does, Do}
 use Rattle.mlk_cert_parts.specs.declared.block.EntryCert.{EntryCert}
 use Rattle.mlk_cert_parts.specs.declared.case.Case.{Case}
 use Rattle.mlk_machine_jobs.specs.Calling.{formals_in, lines_after}
@@ -24,13 +24,14 @@ use Rattle.mlk_walk_exprs.specs.Spots.{Spot}
 use Rattle.mlk_walk_exprs.specs.declared.spot.Block.{Block}
 use Rattle.mlk_walk_exprs.specs.declared.walk.Quit.{Quit}
 use Rattle.mlk_walk_commands.specs.Arguments.{given_list}
-use Rattle.mlk_walk_lines.specs.Commands.{act, do_block}
+use Rattle.mlk_walk_lines.specs.Commands.{do_block}
 use Rattle.mlk_walk_lines.specs.Endings.{Around, OfBlock}
 use Rattle.mlk_walk_lines.specs.Lines.{block_with, walk_lines}
 use Rattle.mlk_walk_lines.specs.Loops.{one_command}
 use Rattle.mlk_walk_laws.specs.Fewer.{ListsEachOnce}
 use Rattle.mlk_walk_laws.specs.Passing.{EachLinePasses}
 use Rattle.mlk_soundness_machine.specs.Described.{World, Level, Slot, IsWorld}
+use Rattle.mlk_soundness_machine.proofs.Listing.{own_lines}
 use Rattle.mlk_soundness_machine.proofs.Sharing.{SharesByOwn}
 use Rattle.mlk_soundness_machine.proofs.Values.{Fits, FitsValue}
 use Rattle.mlk_soundness_walk.specs.Commands.{Gives}
@@ -42,6 +43,7 @@ use Rattle.mlk_soundness_walk.proofs.Entries.{IsWell}
 use Rattle.mlk_soundness_walk.proofs.Lines.{CommandFits, BlockFits, EachBlockFits}
 use Rattle.mlk_soundness_walk.proofs.Nested.{block_fits}
 use Rattle.mlk_soundness_walk.proofs.Parameters.{Some_case, Some_quit}
+use Rattle.mlk_soundness_walk.proofs.Places.{AreWithin, lines_behind, lines_below}
 use Rattle.mlk_soundness_walk.proofs.Rests.{command_fits}
 
 module _ (routines : List RoutineTree) (rules : RuleLists) (entries : List (EntryId × EntryCert) × List EntryId) (e : EntryId) (blk : EntryCert) (w : World) (world : IsWorld (scope routines rules entries e blk) w)
@@ -58,20 +60,20 @@ module _ (routines : List RoutineTree) (rules : RuleLists) (entries : List (Entr
   spot number level in_block word = record { scope = scope routines rules entries e blk; line = number; level = level; block = in_block; word = word }
 
   -- the commands of one line, given what its block's lines are
-  module _ (block : LineTrees) (b : Level) (pos : 0 < b.level) (leveled : AreLinesOf sc (suc b.level) false block) (passes : EachLinePasses sc OfBlock (walk_lines sc OfBlock block).ends block)
+  module _ (block : LineTrees) (b : Level) (pos : 0 < b.level) (leveled : AreLinesOf sc (suc b.level) false block) (passes : EachLinePasses sc OfBlock (walk_lines sc OfBlock block).ends block) (are : AreWithin block (own_lines sc w))
       (inner : (inside : Level) → inside.level ≡ suc b.level → (m : ℕ) → m ≤ bound → EachBlockFits routines sc w inside m block) where
     abbrev its : Option Block
     its = block_with block (walk_lines sc OfBlock block).ends
 
     in_block : (number level word : ℕ) (S : Case → Type 0) (Q : Quit → Type 0) (m : ℕ) → m ≤ bound → (ts : List Task) (B : State → Type 0) → ((u : State) → B u → Fits routines sc w b [] m ts u)
         → (s : State) → Leads (do_block (spot number level its word) its) s B S Q → Fits routines sc w b [] m (action_parts block (Do []) ++ ts) s
-    in_block number level word S Q m le ts B go s l = by block leveled passes (λ inside eq. inner inside eq m le) l
+    in_block number level word S Q m le ts B go s l = by block leveled passes are (λ inside eq. inner inside eq m le) l
       where
-        by : (body : LineTrees) → AreLinesOf sc (suc b.level) false body → EachLinePasses sc OfBlock (walk_lines sc OfBlock body).ends body
+        by : (body : LineTrees) → AreLinesOf sc (suc b.level) false body → EachLinePasses sc OfBlock (walk_lines sc OfBlock body).ends body → AreWithin body (own_lines sc w)
             → ((inside : Level) → inside.level ≡ suc b.level → EachBlockFits routines sc w inside m body)
             → Leads (do_block (spot number level its word) (block_with body (walk_lines sc OfBlock body).ends)) s B S Q → Fits routines sc w b [] m (action_parts body (Do []) ++ ts) s
-        by no_lines deep pass each h = go s (leads_stay B S Q s h)
-        by (line head inside more) deep pass each h = block_fits routines (spot number level its word) w b world pos shares once m head inside more ts each deep pass s B S Q h go
+        by no_lines deep pass its_lines each h = go s (leads_stay B S Q s h)
+        by (line head inside more) deep pass its_lines each h = block_fits routines (spot number level its word) w b world pos shares once m head inside more ts its_lines each deep pass s B S Q h go
 
     one_fits : (number level word m : ℕ) → level ≡ b.level → m ≤ bound → (may : Bool) (c : CommandTree) → IsOf sc may c → (ts : List Task) (s : State) (A : State → Type 0) (S : Case → Type 0) (Q : Quit → Type 0)
         → Leads (λ v. one_command (spot number level its word) v c) s A S Q
@@ -95,22 +97,22 @@ module _ (routines : List RoutineTree) (rules : RuleLists) (entries : List (Entr
         (command_fits routines here w b world block bound once (λ word k lk. evaluate p.line p.level word k lk) (λ k lk. one_fits p.line p.level p.word k deep lk) m le)
 
   -- the lines of a level
-  pub blocks_fit : (lines : LineTrees) (b : Level) → 0 < b.level → (may : Bool) (around : Around) (ends : List Case) → AreLinesOf sc b.level may lines → EachLinePasses sc around ends lines
+  pub blocks_fit : (lines : LineTrees) (b : Level) → 0 < b.level → (may : Bool) (around : Around) (ends : List Case) → AreLinesOf sc b.level may lines → EachLinePasses sc around ends lines → AreWithin lines (own_lines sc w)
       → (m : ℕ) → m ≤ bound → EachBlockFits routines sc w b m lines
-  blocks_fit no_lines b pos may around ends leveled passes m le = tt
-  blocks_fit (line head block rest) b pos may around ends leveled passes m le = (
-    block_fit block b pos leveled.1 passes.1
+  blocks_fit no_lines b pos may around ends leveled passes are m le = tt
+  blocks_fit (line head block rest) b pos may around ends leveled passes are m le = (
+    block_fit block b pos leveled.1 passes.1 (lines_below head block rest (own_lines sc w) are)
         (λ inside eq k lk.
         let more : 0 < inside.level = (let z = eq in omega (arith, z)) in
-        blocks_fit block inside more false OfBlock (walk_lines sc OfBlock block).ends (subst (λ z. AreLinesOf sc z false block) (sym eq) leveled.1) passes.1 k lk) m le,
-    blocks_fit rest b pos may around ends leveled.2 passes.2 m le,
+        blocks_fit block inside more false OfBlock (walk_lines sc OfBlock block).ends (subst (λ z. AreLinesOf sc z false block) (sym eq) leveled.1) passes.1 (lines_below head block rest (own_lines sc w) are) k lk) m le,
+    blocks_fit rest b pos may around ends leveled.2 passes.2 (lines_behind head block rest (own_lines sc w) are) m le,
   )
 
   -- the commands of a line of the entry
-  pub line_fits : (block : LineTrees) (b : Level) → 0 < b.level → AreLinesOf sc (suc b.level) false block → EachLinePasses sc OfBlock (walk_lines sc OfBlock block).ends block
+  pub line_fits : (block : LineTrees) (b : Level) → 0 < b.level → AreLinesOf sc (suc b.level) false block → EachLinePasses sc OfBlock (walk_lines sc OfBlock block).ends block → AreWithin block (own_lines sc w)
       → (m : ℕ) → m ≤ bound → BlockFits routines sc w b m block
-  line_fits block b pos leveled passes m le =
-      block_fit block b pos leveled passes
+  line_fits block b pos leveled passes are m le =
+      block_fit block b pos leveled passes are
       (λ inside eq k lk.
       let more : 0 < inside.level = (let z = eq in omega (arith, z)) in
-      blocks_fit block inside more false OfBlock (walk_lines sc OfBlock block).ends (subst (λ z. AreLinesOf sc z false block) (sym eq) leveled) passes k lk) m le
+      blocks_fit block inside more false OfBlock (walk_lines sc OfBlock block).ends (subst (λ z. AreLinesOf sc z false block) (sym eq) leveled) passes are k lk) m le

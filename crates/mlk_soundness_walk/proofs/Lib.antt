@@ -5,6 +5,7 @@ pub mod Goes
 pub mod Functions
 pub mod Expressions
 pub mod Turns
+pub mod Places
 pub mod Lines
 pub mod Rounds
 pub mod Commands

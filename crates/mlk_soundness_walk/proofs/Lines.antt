@@ -33,18 +33,21 @@ use Rattle.mlk_walk_lines.specs.Loops.{commands, one_command}
 use Rattle.mlk_walk_lines.specs.Endings.{Around, OfBlock, LineEnd, number_of, into_line, go_on, case_end, quit_end, state_end, level_end}
 use Rattle.mlk_walk_lines.specs.Lines.{next_head, block_with, walk_lines}
 use Rattle.mlk_walk_laws.specs.Fewer.{Among, ListsEachOnce}
-use Rattle.mlk_machine_locks.specs.Lists as places
 use Rattle.mlk_soundness_machine.specs.Safe.{Keeps}
 use Rattle.mlk_soundness_machine.proofs.Facts.{lines_facts, commands_facts}
-use Rattle.mlk_soundness_machine.proofs.Listing.{Opens, opens_rest, opens_line}
+use Rattle.mlk_soundness_machine.specs.Places.{StandIn, none_follows}
+use Rattle.mlk_soundness_machine.proofs.Listing.{own_lines}
 use Rattle.mlk_soundness_machine.proofs.Going.{step}
 use Rattle.mlk_walk_laws.specs.Passing.{IsRight, PassesFromEach, EachLinePasses}
 use Rattle.mlk_walk_laws.proofs.Rounds.{one_keeps, commands_keep}
 use Rattle.mlk_soundness_machine.proofs.Reading.{differs, name_is, name_self}
+use Rattle.mlk_soundness_machine.proofs.Stack.{turned_twice}
 use Rattle.mlk_soundness_machine.proofs.Steps.{done, refused, unasked}
 use Rattle.mlk_soundness_machine.proofs.Values.{Safe, Fits, plain_step}
 use Rattle.mlk_soundness_walk.proofs.Alone.{Leads}
-use Rattle.mlk_soundness_walk.proofs.Alone.{leads_both, leads_stay}
+use Rattle.mlk_soundness_walk.proofs.Alone.{leads_both, leads_stay, leads_there}
+use Rattle.mlk_soundness_walk.proofs.Places.{there, AreWithin, lines_behind, lines_below, first_in, Opens, opens_line, opens_rest, comes_to, begins_round}
+use Rattle.mlk_soundness_walk.specs.Commands.{alone, AreOnLine}
 use Rattle.mlk_soundness_walk.specs.Commands as stated
 use Rattle.mlk_soundness_walk.specs.Ours.{IsOf, AreOf, IsHeadOf, AreLinesOf}
 use Rattle.mlk_soundness_walk.proofs.Ours.{first_of, rest_of}
@@ -86,6 +89,16 @@ none_local x = refl
 pub nothing : (a : Assignment) (ss : List Sym) (values below : List (List ℕ)) → Fills a [] ss values below → values ≡ below
 nothing a [] values below f = f
 nothing a (s ∷ ss) values below f = absurd f
+
+-- a state that describes a job without values of its own has nothing captured
+none_captured : (a : Assignment) (ss : List Sym) (values below : List (List ℕ)) → Fills a [] ss values below → ss ≡ []
+none_captured a [] values below f = refl
+none_captured a (s ∷ ss) values below f = absurd f
+
+pub rests : (sc : Scope) (w : World) (b : Level) (s : State) (j : Job) → Describes sc w b [] s j → s ≡ at_rest s.case
+rests sc w b s j d =
+    let e : s.captured ≡ [] = sym (turned_twice s.captured) ∙ ap reverse (none_captured (now j) (reverse s.captured) j.values w.values d.values) in
+    ap (λ z. record s { captured = z }) e
 
 -- where nothing is captured, a state is its case
 pub at_rest_law : (sc : Scope) (w : World) (b : Level) (u : State) (j : Job) → Describes sc w b [] u j → Describes sc w b [] (at_rest u.case) j
@@ -139,11 +152,6 @@ listed_for (d ∷ cases) c h =
     (λ (u : list_any (includes c) cases ≡ true). let r = listed_for cases c u in (r.0, inr r.1, r.2))
     (or_cases (includes c d) (list_any (includes c) cases) h)
 
--- among the cases, as the machine's crate says it
-pub listed_there : (c : Case) (cases : List Case) → Among c cases → places.Among c cases
-listed_there c [] i = i
-listed_there c (d ∷ cases) i = ⊎_elim (λ e. inl e) (λ k. inr (listed_there c cases k)) i
-
 module _ (routines : List RoutineTree) (w : World) (b : Level) where
   abbrev Fit : Spot → ℕ → List Task → State → Type 0
   Fit p n ts s = Fits routines p.scope w b [] n ts s
@@ -156,7 +164,7 @@ module _ (routines : List RoutineTree) (w : World) (b : Level) where
     pub one : (may : Bool) (c : CommandTree) → IsOf p.scope may c → (ts : List Task) (s : State) (A : State → Type 0) (S : Case → Type 0) (Q : Quit → Type 0) → Leads (λ v. one_command p v c) s A S Q
         → ((u : State) → A u → Fit p n ts u) → ((d : Case) → S d → Fit p n (skipped ts) (at_rest d)) → ((q : Quit) → Q q → Fit p n (quit ts) (at_rest q.case))
         → (may ≡ true → (q : Quit) → Q q → Gives p.scope n (to_end ts) (at_rest q.case)) → Fit p n (command_parts block c ++ ts) s
-    pub loop : (may : Bool) (column index : ℕ) (control : Option ControlTree) (rest : CommandTrees) → AreOf p.scope may (then_for column index control rest) → (ts : List Task) (s : State) (A : State → Type 0) (S : Case → Type 0) (Q : Quit → Type 0)
+    pub loop : (may : Bool) (column index : ℕ) (control : Option ControlTree) (rest : CommandTrees) → AreOf p.scope may (then_for column index control rest) → (ts : List Task) → AreOnLine w p block (then_for column index control rest) ts → (s : State) (A : State → Type 0) (S : Case → Type 0) (Q : Quit → Type 0)
         → Leads (commands p (then_for column index control rest)) s A S Q
         → ((u : State) → A u → Fit p n ts u) → ((d : Case) → S d → Fit p n (skipped ts) (at_rest d)) → ((q : Quit) → Q q → Fit p n (quit ts) (at_rest q.case))
         → Fit p n (for_parts control rest block ∷ ts) s
@@ -164,7 +172,7 @@ module _ (routines : List RoutineTree) (w : World) (b : Level) where
   -- the commands of a line from here on
   abbrev pub RestFits : Spot → LineTrees → CommandTrees → ℕ → Type 1
   RestFits p block cs n =
-      (may : Bool) → AreOf p.scope may cs → (ts : List Task) (s : State) (A : State → Type 0) (S : Case → Type 0) (Q : Quit → Type 0) → Opens p.scope p.line cs ts s.case → Leads (commands p cs) s A S Q
+      (may : Bool) → AreOf p.scope may cs → (ts : List Task) (s : State) (A : State → Type 0) (S : Case → Type 0) (Q : Quit → Type 0) → Opens w p block cs ts s → Leads (commands p cs) s A S Q
       → ((u : State) → A u → Fit p n ts u) → ((d : Case) → S d → Fit p n (skipped ts) (at_rest d)) → ((q : Quit) → Q q → Fit p n (quit ts) (at_rest q.case))
       → (may ≡ true → (q : Quit) → Q q → Gives p.scope n (to_end ts) (at_rest q.case)) → Fit p n (RunCommands cs block ∷ ts) s
 
@@ -173,27 +181,27 @@ module _ (routines : List RoutineTree) (w : World) (b : Level) where
   as_said p block n h = record {
     one = λ may c of ts s A S Q l go skip stop give.
         h.one may c of ts s l.clean (record { going = λ u i. go u (l.going u i); skips = λ d i. skip d (l.skips d i); quits = λ q i. stop q (l.quits q i); gives = λ y q i. give y q (l.quits q i) });
-    loop = λ may column index control rest of ts s A S Q l go skip stop.
-        h.loop may column index control rest of ts s l.clean (record { going = λ u i. go u (l.going u i); skips = λ d i. skip d (l.skips d i); quits = λ q i. stop q (l.quits q i); gives = λ y q i. absurd (false≢true y) });
+    loop = λ may column index control rest of ts on s A S Q l go skip stop.
+        h.loop may column index control rest of ts on s l.clean (record { going = λ u i. go u (l.going u i); skips = λ d i. skip d (l.skips d i); quits = λ q i. stop q (l.quits q i); gives = λ y q i. absurd (false≢true y) });
   }
 
   module _ (p : Spot) (block : LineTrees) (n : ℕ) (once : ListsEachOnce p.scope) (each : CommandFits p block n) (S : Case → Type 0) (Q : Quit → Type 0) (may : Bool) where
-    opened : (cs : CommandTrees) (ts : List Task) (s : State) → Opens p.scope p.line cs ts s.case → Fit p n (next_command cs block ts) s → Fit p n (RunCommands cs block ∷ ts) s
+    opened : (cs : CommandTrees) (ts : List Task) (s : State) → Opens w p block cs ts s → Fit p n (next_command cs block ts) s → Fit p n (RunCommands cs block ∷ ts) s
     opened cs ts s o k j d e =
-        step routines p.scope w b n j (RunCommands cs block) ts e refl (commands_facts p.scope w b j cs block ts e p.line s.case o d.stands) (λ free c.
+        step routines p.scope w b n j (RunCommands cs block) ts e refl (commands_facts p.scope w b j cs block ts e s.case (comes_to w p block cs ts s o (rests p.scope w b s (idle j) d)) (begins_round w p block cs ts s o) d.stands) (λ free c.
         unasked (Safe routines p.scope w b n) c _ (done (Safe routines p.scope w b n) (doing (next_command cs block ts) j) (k (doing (next_command cs block ts) j) d refl)))
 
-    pub commands_fit : (cs : CommandTrees) → AreOf p.scope may cs → (ts : List Task) (s : State) (A : State → Type 0) → Opens p.scope p.line cs ts s.case → Leads (commands p cs) s A S Q
+    pub commands_fit : (cs : CommandTrees) → AreOf p.scope may cs → (ts : List Task) (s : State) (A : State → Type 0) → Opens w p block cs ts s → Leads (commands p cs) s A S Q
         → ((u : State) → A u → Fit p n ts u) → ((d : Case) → S d → Fit p n (skipped ts) (at_rest d)) → ((q : Quit) → Q q → Fit p n (quit ts) (at_rest q.case))
         → (may ≡ true → (q : Quit) → Q q → Gives p.scope n (to_end ts) (at_rest q.case)) → Fit p n (RunCommands cs block ∷ ts) s
     commands_fit finished of ts s A o l go skip stop give = opened finished ts s o (go s (leads_stay A S Q s l))
     commands_fit (then_command c rest) of ts s A o l go skip stop give =
         opened (then_command c rest) ts s o
-        (each.one may c (first_of p.scope may c rest of) (RunCommands rest block ∷ ts) s (λ u. Leads (commands p rest) u A S Q) S Q
-        (leads_both A S Q (λ v. one_command p v c) (commands p rest) (one_keeps p c) (commands_keep p once rest) s l)
-        (λ u m. commands_fit rest (rest_of p.scope may c rest of) ts u A (opens_rest p.scope p.line (then_command c rest) rest refl ts s.case u.case o) m go skip stop give) skip stop give)
+        (each.one may c (first_of p.scope may c rest of) (RunCommands rest block ∷ ts) s (λ u. Leads (commands p rest) u A S Q × Among u (one_command p (alone s) c).going) S Q
+        (leads_there (λ u. Leads (commands p rest) u A S Q) S Q (λ v. one_command p v c) s (leads_both A S Q (λ v. one_command p v c) (commands p rest) (one_keeps p c) (commands_keep p once rest) s l))
+        (λ u m. commands_fit rest (rest_of p.scope may c rest of) ts u A (opens_rest w p block once c rest ts s u o m.1) m.0 go skip stop give) skip stop give)
     commands_fit (then_for column index control rest) of ts s A o l go skip stop give =
-        opened (then_for column index control rest) ts s o (each.loop may column index control rest of ts s A S Q l go skip stop)
+        opened (then_for column index control rest) ts s o (each.loop may column index control rest of ts o.place s A S Q l go skip stop)
 
 -- on each line of a level, commands are safe
 module _ (routines : List RoutineTree) (sc : Scope) (w : World) (b : Level) (n : ℕ) where
@@ -205,14 +213,17 @@ module _ (routines : List RoutineTree) (sc : Scope) (w : World) (b : Level) (n :
   EachBlockFits (line head block rest) = BlockFits block × EachBlockFits rest
 
   -- where they are whatever the line's block is
-  pub all_fit : ((block : LineTrees) → AreLinesOf sc (suc b.level) false block → EachLinePasses sc OfBlock (walk_lines sc OfBlock block).ends block → BlockFits block)
-      → (may : Bool) (around : Around) (ends : List Case) (lines : LineTrees) → AreLinesOf sc b.level may lines → EachLinePasses sc around ends lines → EachBlockFits lines
-  all_fit all may around ends no_lines leveled passes = tt
-  all_fit all may around ends (line head block rest) leveled passes = (all block leveled.1 passes.1, all_fit all may around ends rest leveled.2 passes.2)
+  pub all_fit : ((block : LineTrees) → AreLinesOf sc (suc b.level) false block → EachLinePasses sc OfBlock (walk_lines sc OfBlock block).ends block → AreWithin block (own_lines sc w) → BlockFits block)
+      → (may : Bool) (around : Around) (ends : List Case) (lines : LineTrees) → AreLinesOf sc b.level may lines → EachLinePasses sc around ends lines → AreWithin lines (own_lines sc w) → EachBlockFits lines
+  all_fit all may around ends no_lines leveled passes are = tt
+  all_fit all may around ends (line head block rest) leveled passes are = (
+    all block leveled.1 passes.1 (lines_below head block rest (own_lines sc w) are),
+    all_fit all may around ends rest leveled.2 passes.2 (lines_behind head block rest (own_lines sc w) are),
+  )
 
 -- the lines of a level: E ends it
 module _ (routines : List RoutineTree) (sc : Scope) (w : World) (b : Level) (around : Around) (ends : List Case) (once : ListsEachOnce sc) (n : ℕ)
-    (E : Task) (is : is_end E ≡ true) (ts : List Task) (tail : List task.LineTree)
+    (E : Task) (is : is_end E ≡ true) (ts : List Task) (tail : List task.LineTree) (none : none_follows tail ≡ true)
     (last : ((tail ≡ []) × (next_head around no_lines ≡ None)) ⊎ ((h : HeadTree) × (next_head around no_lines ≡ Some h) × (is_some (formals_of h) ≡ true)))
     (end : (e : LineEnd) (column : ℕ) (c : Case) → e.scope ≡ sc → e.level ≡ b.level → IsRight ends (level_end around e column c) → Fits routines sc w b [] n (E ∷ ts) (at_rest c))
     (may : Bool) (give : may ≡ true → (e : LineEnd) (column : ℕ) (c : Case) → e.scope ≡ sc → e.level ≡ b.level → IsRight ends (level_end around e column c) → stated.Gives routines w b sc n (E ∷ ts) (at_rest c)) where
@@ -252,11 +263,11 @@ module _ (routines : List RoutineTree) (sc : Scope) (w : World) (b : Level) (aro
   end_is lines = rw is refl
 
   -- the commands of a line, begun in a case that is listed at it
-  pub head_fits : (head : HeadTree) (inner more : LineTrees) → BlockFits routines sc w b n inner → IsHeadOf sc b.level may head
+  pub head_fits : (head : HeadTree) (inner more : LineTrees) → StandIn (line head inner more) (own_lines sc w) → BlockFits routines sc w b n inner → IsHeadOf sc b.level may head
       → PassesFromEach sc around (next_head around more) (block_with inner (walk_lines sc OfBlock inner).ends) ends head
       → ((c : Case) → Enters more c → Goes (RunLines (as_lines more ++ tail) ∷ E ∷ ts) (at_rest c))
       → (c : Case) → is_listed (listed sc (number_of head) 0) c ≡ true → Goes (RunCommands (commands_in head) inner ∷ RunLines (as_lines more ++ tail) ∷ E ∷ ts) (at_rest c)
-  head_fits (LineHead number level at label formals cs) inner more fits deep passes later c h j d tasks =
+  head_fits (LineHead number level at label formals cs) inner more is_line fits deep passes later c h j d tasks =
       let r = listed_for (listed sc number 0) c h in
       let p : Spot = record { scope = sc; line = number; level = level; block = block_with inner (walk_lines sc OfBlock inner).ends; word = 1 } in
       let e : LineEnd = record { scope = sc; around = around; next = next_head around more; line = number; level = level; column = at } in
@@ -266,7 +277,7 @@ module _ (routines : List RoutineTree) (sc : Scope) (w : World) (b : Level) (aro
       let Q : Quit → Type 0 = λ q. IsRight ends (quit_end e q) in
       let l : Leads (commands p cs) (at_rest r.0) A S Q = record { clean = g.clean; going = g.going; skips = g.skips; quits = g.quits } in
       let rest : List Task = RunLines (as_lines more ++ tail) ∷ E ∷ ts in
-      commands_fit routines w b p inner n once (fits p refl deep.0 refl) S Q may cs deep.1 rest (at_rest r.0) A (opens_line sc number cs (RunLines (as_lines more ++ tail)) (E ∷ ts) r.0 refl) l
+      commands_fit routines w b p inner n once (fits p refl deep.0 refl) S Q may cs deep.1 rest (at_rest r.0) A (opens_line w p inner (LineHead number level at label formals cs) more is_line refl tail none (E ∷ ts) r.0 r.1 g.clean) l
       (λ u m k f t. later u.case (enters_next e refl deep.0 refl more refl u.case m) k (at_rest_law sc w b u (idle k) f) t)
       (λ x m. later x (enters_next e refl deep.0 refl more refl x m))
       (λ q m. subst (λ z. Goes z (at_rest q.case)) (sym (to_the_end (as_lines more ++ tail))) (end e q.column q.case refl deep.0 m))
@@ -274,21 +285,22 @@ module _ (routines : List RoutineTree) (sc : Scope) (w : World) (b : Level) (aro
       j (less_law sc w b c r.0 r.2 (at_rest c) refl (idle j) d) tasks
 
   -- where the job goes on to a line, a listed case describes it
-  at_line : (head : HeadTree) (inner : LineTrees) (lines : List task.LineTree) (c : Case) → is_listed (listed sc (number_of head) 0) c ≡ true → (j : Job) → Describes sc w b [] (at_rest c) (idle j)
-      → j.tasks ≡ RunLines ((head, inner) ∷ lines) ∷ E ∷ ts → Keeps sc w b j
-  at_line (LineHead number level at label formals cs) inner lines c h j d tasks =
+  at_line : (head : HeadTree) (inner more : LineTrees) → StandIn (line head inner more) (own_lines sc w) → (c : Case) → is_listed (listed sc (number_of head) 0) c ≡ true → (j : Job) → Describes sc w b [] (at_rest c) (idle j)
+      → j.tasks ≡ RunLines ((head, inner) ∷ (as_lines more ++ tail)) ∷ E ∷ ts → Keeps sc w b j
+  at_line (LineHead number level at label formals cs) inner more is_line c h j d tasks =
       let r = listed_for (listed sc number 0) c h in
-      lines_facts sc w b j (LineHead number level at label formals cs, inner) lines (E ∷ ts) tasks r.0 (listed_there r.0 (listed sc number 0) r.1) (less_stands sc w b c r.0 r.2 (bare (idle j)) d.stands)
+      lines_facts sc w b j (LineHead number level at label formals cs, inner) (as_lines more ++ tail) (E ∷ ts) tasks r.0 (there r.0 (listed sc number 0) r.1) more is_line tail refl none (less_stands sc w b c r.0 r.2 (bare (idle j)) d.stands)
 
-  pub lines_fit : (lines : LineTrees) → EachBlockFits routines sc w b n lines → AreLinesOf sc b.level may lines → EachLinePasses sc around ends lines → (c : Case) → Enters lines c → Goes (RunLines (as_lines lines ++ tail) ∷ E ∷ ts) (at_rest c)
-  lines_fit no_lines fits leveled passes c enters j d tasks =
+  pub lines_fit : (lines : LineTrees) → AreWithin lines (own_lines sc w) → EachBlockFits routines sc w b n lines → AreLinesOf sc b.level may lines → EachLinePasses sc around ends lines → (c : Case) → Enters lines c → Goes (RunLines (as_lines lines ++ tail) ∷ E ∷ ts) (at_rest c)
+  lines_fit no_lines are fits leveled passes c enters j d tasks =
       plain_step routines sc w b [] n (E ∷ ts) (at_rest c) (RunLines []) refl j (tasks ∙ ap (λ z. RunLines z ∷ E ∷ ts) enters.0) (λ free x.
       unasked (Safe routines sc w b n) x _ (done (Safe routines sc w b n) (doing (E ∷ ts) j) (end enters.1 enters.2 c enters.3 enters.4 enters.5 (doing (E ∷ ts) j) d refl)))
-  lines_fit (line (LineHead number level at label (Some formals) cs) inner more) fits leveled passes c h j d tasks =
-      step routines sc w b n j (RunLines (as_lines (line (LineHead number level at label (Some formals) cs) inner more) ++ tail)) (E ∷ ts) tasks refl (at_line (LineHead number level at label (Some formals) cs) inner (as_lines more ++ tail) c h j d tasks) (λ free x.
+  lines_fit (line (LineHead number level at label (Some formals) cs) inner more) are fits leveled passes c h j d tasks =
+      step routines sc w b n j (RunLines (as_lines (line (LineHead number level at label (Some formals) cs) inner more) ++ tail)) (E ∷ ts) tasks refl (at_line (LineHead number level at label (Some formals) cs) inner more (first_in (LineHead number level at label (Some formals) cs) inner more (own_lines sc w) are) c h j d tasks) (λ free x.
       unasked (Safe routines sc w b n) x _ (refused (Safe routines sc w b n) _))
-  lines_fit (line (LineHead number level at label None cs) inner more) fits leveled passes c h j d tasks =
+  lines_fit (line (LineHead number level at label None cs) inner more) are fits leveled passes c h j d tasks =
       let i : Job = doing (RunCommands cs inner ∷ RunLines (as_lines more ++ tail) ∷ E ∷ ts) j in
-      step routines sc w b n j (RunLines (as_lines (line (LineHead number level at label None cs) inner more) ++ tail)) (E ∷ ts) tasks refl (at_line (LineHead number level at label None cs) inner (as_lines more ++ tail) c h j d tasks) (λ free x.
+      step routines sc w b n j (RunLines (as_lines (line (LineHead number level at label None cs) inner more) ++ tail)) (E ∷ ts) tasks refl (at_line (LineHead number level at label None cs) inner more (first_in (LineHead number level at label None cs) inner more (own_lines sc w) are) c h j d tasks) (λ free x.
       unasked (Safe routines sc w b n) x _ (done (Safe routines sc w b n) i
-      (head_fits (LineHead number level at label None cs) inner more fits.0 leveled.0 passes.0 (λ f m. lines_fit more fits.1 leveled.2 passes.2 f m) c h i d refl)))
+      (head_fits (LineHead number level at label None cs) inner more (first_in (LineHead number level at label None cs) inner more (own_lines sc w) are) fits.0 leveled.0 passes.0
+      (λ f m. lines_fit more (lines_behind (LineHead number level at label None cs) inner more (own_lines sc w) are) fits.1 leveled.2 passes.2 f m) c h i d refl)))

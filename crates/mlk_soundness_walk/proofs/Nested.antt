@@ -32,6 +32,7 @@ use Rattle.mlk_walk_laws.proofs.Lists.{all_new}
 use Rattle.mlk_walk_laws.specs.Fewer.{ListsEachOnce}
 use Rattle.mlk_soundness_machine.specs.Frames.{Agrees}
 use Rattle.mlk_soundness_machine.specs.Described.{some_local, World, Level, IsWorld, idle, Describes}
+use Rattle.mlk_soundness_machine.proofs.Listing.{own_lines}
 use Rattle.mlk_soundness_machine.proofs.Sharing.{SharesByOwn}
 use Rattle.mlk_soundness_machine.proofs.Reading.{differs}
 use Rattle.mlk_soundness_machine.proofs.Steps.{done, unasked}
@@ -42,6 +43,7 @@ use Rattle.mlk_soundness_machine.proofs.Values.{Safe, Fits}
 use Rattle.mlk_soundness_machine.proofs.Blocks.{inner, begin_stands, end_stands}
 use Rattle.mlk_soundness_walk.specs.Ours.{AreLinesOf}
 use Rattle.mlk_soundness_walk.proofs.Alone.{Leads}
+use Rattle.mlk_soundness_walk.proofs.Places.{AreWithin}
 use Rattle.mlk_soundness_walk.proofs.Lines.{EachBlockFits}
 use Rattle.mlk_soundness_walk.proofs.Lines.{none_local, at_rest_law, lines_fit, Enters}
 
@@ -76,7 +78,7 @@ module _ (routines : List RoutineTree) (p : Spot) (w : World) (b : Level) (world
   abbrev Inside : ℕ → LineTrees → Type 1
   Inside level block = (inside : Level) → inside.level ≡ level → EachBlockFits routines p.scope w inside n block
 
-  module _ (block : LineTrees) (ts : List Task) (each : Inside (suc b.level) block) (leveled : AreLinesOf p.scope (suc b.level) false block) (passes : EachLinePasses p.scope OfBlock (walk_lines p.scope OfBlock block).ends block)
+  module _ (block : LineTrees) (ts : List Task) (are : AreWithin block (own_lines p.scope w)) (each : Inside (suc b.level) block) (leveled : AreLinesOf p.scope (suc b.level) false block) (passes : EachLinePasses p.scope OfBlock (walk_lines p.scope OfBlock block).ends block)
       (next : (d : Case) → Among d (walk_lines p.scope OfBlock block).ends → Fits routines p.scope w b [] n ts (at_rest d)) where
     abbrev ends : List Case
     ends = (walk_lines p.scope OfBlock block).ends
@@ -125,14 +127,14 @@ module _ (routines : List RoutineTree) (p : Spot) (w : World) (b : Level) (world
           unasked (Next routines p.scope w b (task.Block block ∷ ts) m) c _ (done (Next routines p.scope w b (task.Block block ∷ ts) m) to
           (into_level routines p.scope w b level (task.Block block ∷ ts) (RunLines (as_lines block) ∷ E ∷ ts) m to refl refl marked_in (λ marked.
           one_fewer routines p.scope w level n m one_less to
-          (lines_fit routines p.scope w level OfBlock ends once n E refl ts [] (inl (refl, refl)) (λ e column f same deep right. leaves marked e deep column f (last_saved f.saved) refl right)
-          false (λ y. absurd (false≢true y)) block (each level refl) leveled passes (entering s.case) (subst (λ z. Enters routines p.scope w level OfBlock ends once n E refl ts [] (inl (refl, refl)) (λ e column f same deep right. leaves marked e deep column f (last_saved f.saved) refl right) false (λ y. absurd (false≢true y)) z (entering s.case)) (sym is) in_list) (doing (RunLines (as_lines block) ∷ E ∷ ts) j) here (ap (λ z. RunLines z ∷ E ∷ ts) (sym (append-nil (as_lines block)))))))))
+          (lines_fit routines p.scope w level OfBlock ends once n E refl ts [] refl (inl (refl, refl)) (λ e column f same deep right. leaves marked e deep column f (last_saved f.saved) refl right)
+          false (λ y. absurd (false≢true y)) block are (each level refl) leveled passes (entering s.case) (subst (λ z. Enters routines p.scope w level OfBlock ends once n E refl ts [] refl (inl (refl, refl)) (λ e column f same deep right. leaves marked e deep column f (last_saved f.saved) refl right) false (λ y. absurd (false≢true y)) z (entering s.case)) (sym is) in_list) (doing (RunLines (as_lines block) ∷ E ∷ ts) j) here (ap (λ z. RunLines z ∷ E ∷ ts) (sym (append-nil (as_lines block)))))))))
 
   -- DO of a block
-  pub block_fits : (head : HeadTree) (inside more : LineTrees) (ts : List Task) → Inside (suc b.level) (line head inside more) → AreLinesOf p.scope (suc b.level) false (line head inside more)
+  pub block_fits : (head : HeadTree) (inside more : LineTrees) (ts : List Task) → AreWithin (line head inside more) (own_lines p.scope w) → Inside (suc b.level) (line head inside more) → AreLinesOf p.scope (suc b.level) false (line head inside more)
       → EachLinePasses p.scope OfBlock (walk_lines p.scope OfBlock (line head inside more)).ends (line head inside more)
       → (s : State) (A : State → Type 0) (S : Case → Type 0) (Q : Quit → Type 0) → Leads (do_block p (block_with (line head inside more) (walk_lines p.scope OfBlock (line head inside more)).ends)) s A S Q
       → ((u : State) → A u → Fits routines p.scope w b [] n ts u) → Fits routines p.scope w b [] n (task.Block (line head inside more) ∷ ts) s
-  block_fits head inside more ts each leveled passes s A S Q l go j d tasks =
+  block_fits head inside more ts are each leveled passes s A S Q l go j d tasks =
       let r = leads_block A S Q p (record { first = number_of head; ends = (walk_lines p.scope OfBlock (line head inside more)).ends }) s l in
-      enters_block (line head inside more) ts each leveled passes (λ f m. go (at_rest f) (r.1 f m)) s j d head inside more refl r.0 tasks
+      enters_block (line head inside more) ts are each leveled passes (λ f m. go (at_rest f) (r.1 f m)) s j d head inside more refl r.0 tasks

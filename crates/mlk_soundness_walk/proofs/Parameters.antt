@@ -29,7 +29,7 @@ use Rattle.mlk_walk_laws.proofs.Counts.{joined_clean, joined_same}
 use Rattle.mlk_walk_laws.proofs.Walks.{value_keeps}
 use Rattle.mlk_walk_laws.proofs.Rounds.{round_clean, round_same, parameter_keeps, parameters_keep}
 use Rattle.mlk_soundness_machine.specs.Reads.{now}
-use Rattle.mlk_soundness_machine.specs.Listed.{round_of}
+use Rattle.mlk_soundness_machine.specs.Places.{round_of}
 use Rattle.mlk_soundness_machine.specs.Described.{World, Level, Slot, Bare, IsWorld, idle, Describes}
 use Rattle.mlk_soundness_machine.proofs.Worlds.{drop_law}
 use Rattle.mlk_soundness_machine.proofs.Steps.{Comes, done, unasked, of_truth}

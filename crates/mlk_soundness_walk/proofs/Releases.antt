@@ -28,7 +28,7 @@ use Rattle.mlk_soundness_machine.specs.Frames.{times_waiting}
 use Rattle.mlk_soundness_machine.specs.Reads.{now, mentions}
 use Rattle.mlk_soundness_machine.specs.Safe.{Keeps}
 use Rattle.mlk_soundness_machine.specs.Facts.{Facts}
-use Rattle.mlk_soundness_machine.proofs.Listing.{no_start, no_line, no_round}
+use Rattle.mlk_soundness_machine.proofs.Listing.{no_start, no_line, no_round, no_command}
 use Rattle.mlk_rules.specs.declared.rules.RuleLists.{RuleLists}
 use Rattle.mlk_soundness_machine.proofs.Claims.{claims_in_order}
 use Rattle.mlk_soundness_machine.proofs.News.{hold_stands}
@@ -126,4 +126,5 @@ claim_facts sc w b j names timed ts e h marked = record {
   starts = no_start sc.routines sc.blocks w.begun j (task.Claim names timed ∷ ts) e refl;
   lines = no_line sc.routines sc.blocks w.begun j (task.Claim names timed ∷ ts) e refl;
   rounds = no_round sc.routines sc.blocks w.begun j (task.Claim names timed ∷ ts) e refl;
+  inside = no_command sc.routines sc.rules (sc.blocks, sc.declared_entries) w.begun j (task.Claim names timed ∷ ts) e refl;
 }

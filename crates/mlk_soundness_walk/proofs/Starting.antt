@@ -118,6 +118,7 @@ module _ (routines : List RoutineTree) (rules : RuleLists) (blocks : List EntryC
         refs = λ x. false;
         snap = λ x. cells (look (front ++ []) x);
         begun = first ∷ [];
+        entry = e;
       }
 
       is_world : IsWorld sc world
@@ -176,11 +177,9 @@ module _ (routines : List RoutineTree) (rules : RuleLists) (blocks : List EntryC
 
       begun_first : Begun sc world
       begun_first = record {
-        entry = e;
-        own = refl;
         block = blk;
         certified = at;
-        points = refl;
+        scope = refl;
         first = first;
         others = [];
         since = refl;
@@ -193,13 +192,13 @@ module _ (routines : List RoutineTree) (rules : RuleLists) (blocks : List EntryC
 
       first_safe : ((n : ℕ) → EntryFits routines rules (known routines rules blocks) n) → (n : ℕ) → SafeFor routines (KeepsTo sc) n (first ∷ []) first
       unfolding begun_first
-      first_safe each n = each n e blk at head body lines heads world is_world (λ x. refl) NoValue 1 0 [] (ends n) first begins refl begun_first refl refl (record { tests = refl; frames = refl })
+      first_safe each n = each n e blk at head body lines heads world is_world refl (λ x. refl) NoValue 1 0 [] (ends n) first begins refl begun_first refl refl (record { tests = refl; frames = refl })
 
   -- each job that begins is safe for each number of steps
   module _ (distinct : (e : EntryId) (head : HeadTree) (body : LineTrees) (lines : List LineTree) → lines_after routines e ≡ (head, body) ∷ lines → AreDistinct (formals_in head))
       (each : (n : ℕ) → EntryFits routines rules (known routines rules blocks) n) where
     begins_safe : (e : EntryId) (test : Bool) (values : List (List ℕ)) (k : ℕ) (first : Job) → (machine routines (is_declared routines rules.entries)).begin e test values k ≡ Ok first
-        → (n : ℕ) → SafeFor routines (FactsSince routines rules (known routines rules blocks).0) n (first ∷ []) first
+        → (n : ℕ) → SafeFor routines (FactsSince routines rules (known routines rules blocks)) n (first ∷ []) first
     begins_safe e test values k j h n =
         ⊎_elim
         (λ (d : (is_declared routines rules.entries e && is_job_number k) ≡ true).
@@ -215,13 +214,13 @@ module _ (routines : List RoutineTree) (rules : RuleLists) (blocks : List EntryC
         (cases_Bool (is_declared routines rules.entries e && is_job_number k))
       where
         on : (blk : EntryCert) → block_at (known routines rules blocks).0 e ≡ Some blk → has_entry (known routines rules blocks).1 e ≡ true
-            → (ls : List LineTree) → lines_after routines e ≡ ls → entered NoValue e.routine (by_value values) ls [] (blank k test values) ≡ Ok j → SafeFor routines (FactsSince routines rules (known routines rules blocks).0) n (j ∷ []) j
+            → (ls : List LineTree) → lines_after routines e ≡ ls → entered NoValue e.routine (by_value values) ls [] (blank k test values) ≡ Ok j → SafeFor routines (FactsSince routines rules (known routines rules blocks)) n (j ∷ []) j
         on blk at is [] heads f = let z : Err NotEnabled ≡ Ok j = f in absurd (cc z)
         on blk at is ((head, body) ∷ lines) heads f =
             let z : first e blk at is head body lines heads (distinct e head body lines heads) k test values ≡ j = (let y : Ok (first e blk at is head body lines heads (distinct e head body lines heads) k test values) ≡ Ok j = f in cc) in
-            subst (λ i. SafeFor routines (FactsSince routines rules (known routines rules blocks).0) n (i ∷ []) i) z (first_safe e blk at is head body lines heads (distinct e head body lines heads) k test values each n)
+            subst (λ i. SafeFor routines (FactsSince routines rules (known routines rules blocks)) n (i ∷ []) i) z (first_safe e blk at is head body lines heads (distinct e head body lines heads) k test values each n)
 
     -- so at each moment of each run of its own
-    pub each_moment : AtEachMomentSince routines (is_declared routines rules.entries) (FactsSince routines rules (known routines rules blocks).0)
+    pub each_moment : AtEachMomentSince routines (is_declared routines rules.entries) (FactsSince routines rules (known routines rules blocks))
     each_moment e test values k first j acts h run =
-        moments routines (is_declared routines rules.entries) (FactsSince routines rules (known routines rules blocks).0) (stopped_facts routines rules (known routines rules blocks).0) acts (first ∷ []) first j (begins_safe e test values k first h (length acts)) run
+        moments routines (is_declared routines rules.entries) (FactsSince routines rules (known routines rules blocks)) (stopped_facts routines rules (known routines rules blocks)) acts (first ∷ []) first j (begins_safe e test values k first h (length acts)) run

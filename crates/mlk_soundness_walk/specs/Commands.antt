@@ -3,6 +3,7 @@
 use Rattle.std.specs.Prelude.{◌≡◌, ℕ, Bool, true, false, List, [], ◌∷◌, ◌++◌, Option, None}
 use Rattle.mlk_syntax.specs.Trees.{RoutineTree, CommandTree, ControlTree, CommandTrees, then_for, LineTrees}
 use Rattle.mlk_cert_parts.specs.declared.case.Case.{Case}
+use Rattle.mlk_machine_jobs.specs.Calling.{commands_in}
 use Rattle.mlk_machine_jobs.specs.Lines.{skipped, quit, to_end, answered, command_parts, for_parts}
 use Rattle.mlk_machine_jobs.specs.Tasks.{Task, Job}
 use Rattle.mlk_walk_state.specs.Scope.{Scope}
@@ -14,12 +15,20 @@ use Rattle.mlk_walk_exprs.specs.declared.walk.Walk.{Walk}
 use Rattle.mlk_walk_lines.specs.Loops.{commands, one_command}
 use Rattle.mlk_walk_laws.specs.Fewer.{Among, IsClean}
 use Rattle.mlk_soundness_machine.specs.Described.{World, Level, Bare, idle, Describes}
+use Rattle.mlk_soundness_machine.specs.Places.{entry_trees, OnLine, AreLastOf, spot_on}
 use Rattle.mlk_soundness_machine.specs.Safe.{SafeIn, Fit}
 use Rattle.mlk_soundness_walk.specs.Ours.{IsOf, AreOf}
 
 -- the walk of one state at its begin
 abbrev pub alone : State → Walk
 alone s = record { going = s ∷ []; skips = []; quits = []; faults = []; over = false }
+
+-- These commands are the last of a line of the world's entry, or of a block below its lines, and the walk is of that line; behind
+-- them stand these tasks.
+pub record AreOnLine (w : World) (p : Spot) (block : LineTrees) (cs : CommandTrees) (ts : List Task) : Type 0 where
+  pub on : OnLine (entry_trees p.scope.routines w.entry) block ts
+  pub spot : p ≡ spot_on p.scope on.head block
+  pub last : AreLastOf cs (commands_in on.head)
 
 module _ (routines : List RoutineTree) (w : World) (b : Level) where
   -- each job that the state describes, and that has these tasks and no other values of its own, is safe
@@ -43,5 +52,5 @@ module _ (routines : List RoutineTree) (w : World) (b : Level) where
     pub one : (may : Bool) (c : CommandTree) → IsOf p.scope may c → (ts : List Task) (s : State)
         → IsClean (one_command p (alone s) c) → AreSafe p may n ts (one_command p (alone s) c) → IsSafe p n (command_parts block c ++ ts) s
     pub loop : (may : Bool) (column index : ℕ) (control : Option ControlTree) (rest : CommandTrees) → AreOf p.scope may (then_for column index control rest)
-        → (ts : List Task) (s : State) → IsClean (commands p (then_for column index control rest) (alone s))
+        → (ts : List Task) → AreOnLine w p block (then_for column index control rest) ts → (s : State) → IsClean (commands p (then_for column index control rest) (alone s))
         → AreSafe p false n ts (commands p (then_for column index control rest) (alone s)) → IsSafe p n (for_parts control rest block ∷ ts) s

@@ -48,7 +48,7 @@ module _ (routines : List RoutineTree) (rules : RuleLists) (entries : List (Entr
   EntryFits m =
       (e : EntryId) (blk : EntryCert) → block_at entries.0 e ≡ Some blk
       → (head : HeadTree) (body : LineTrees) (lines : List LineTree) → lines_after routines e ≡ (head, body) ∷ lines
-      → (w : World) → IsWorld (scope e blk) w → ((x : List ℕ) → w.formals x ≡ is_among (formals_in head) x)
+      → (w : World) → IsWorld (scope e blk) w → w.entry ≡ e → ((x : List ℕ) → w.formals x ≡ is_among (formals_in head) x)
       → (frame : Frame) (next r : ℕ) (ts : List Task) → EndsFit (scope e blk) w m frame w.back next r ts
       → (j : Job) → Describes (scope e blk) w (first_level w) [] (at_rest (begin_case blk.summary (formals_in head))) (idle j)
       → j.tasks ≡ RunCommands (commands_in head) body ∷ RunLines lines ∷ EndFrame frame w.back next r ∷ ts

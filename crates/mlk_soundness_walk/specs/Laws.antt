@@ -15,6 +15,7 @@ use Rattle.mlk_walk.specs.Reports.{report}
 use Rattle.mlk_walk_laws.specs.Fewer.{ListsEachOnce}
 use Rattle.mlk_walk_laws.specs.Passing.{EachLinePasses}
 use Rattle.mlk_soundness_machine.specs.Described.{World, IsWorld}
+use Rattle.mlk_soundness_machine.specs.Places.{entry_trees, StandIn}
 use Rattle.mlk_soundness_walk.specs.Commands.{CommandsAreSafe}
 use Rattle.mlk_soundness_walk.specs.Entries.{scope, first_level, EntryFits}
 use Rattle.mlk_soundness_walk.specs.Ours.{AreLinesOf}
@@ -27,6 +28,7 @@ AllCommands routines rules entries n =
     → p.block ≡ block_with block (walk_lines (scope routines rules entries e b) OfBlock block).ends
     → AreLinesOf (scope routines rules entries e b) 2 false block
     → EachLinePasses (scope routines rules entries e b) OfBlock (walk_lines (scope routines rules entries e b) OfBlock block).ends block
+    → ((lines : LineTrees) → StandIn lines block → StandIn lines (entry_trees routines w.entry))
     → CommandsAreSafe routines w (first_level w) p block n
 
 -- Where a report has no row, the lines of each certified entry are safe for each number of steps, if the commands of its

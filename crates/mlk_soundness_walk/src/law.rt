@@ -20,7 +20,9 @@ pub fn entries_by_commands()
 /// claim granted at any time: what it touches next is covered by what it holds, what it claims next is in order, and it ends
 /// without a lock; and where a frame of it begins, where it goes on to a line, and where a round of a FOR begins, a case describes
 /// it that the certificate lists for the entry by which the running frame began: `$TEST` and the saved ones, the names bound anew,
-/// the kept names with their values of the frame's begin, and how often it holds each name, over all open frames.
+/// the kept names with their values of the frame's begin, and how often it holds each name, over all open frames. The line is one
+/// of that entry's, or of a block below them, and the FOR stands on it. Before each command of such a line, a case describes it to
+/// which the walk comes there, from one that is listed where the line begins, or the round.
 pub fn one_job()
     ensures { OneJob }
 {}

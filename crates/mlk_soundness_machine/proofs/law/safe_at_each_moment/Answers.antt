@@ -4,5 +4,5 @@ use Rattle.mlk_soundness_machine.proofs.Runs.{moments, stopped_facts}
 use Rattle.mlk_soundness_machine.proofs.law.safe_at_each_moment.Goals as goal
 
 pub returns : goal.returns
-returns c = λ routines declared rules blocks safe e test values k first j acts begins runs.
-    moments routines declared (FactsSince routines rules blocks) (stopped_facts routines rules blocks) acts (first ∷ []) first j (safe e test values k first begins (length acts)) runs
+returns c = λ routines declared rules entries safe e test values k first j acts begins runs.
+    moments routines declared (FactsSince routines rules entries) (stopped_facts routines rules entries) acts (first ∷ []) first j (safe e test values k first begins (length acts)) runs
