@@ -1,13 +1,11 @@
 -- The theorem speaks of real programs: of four worked programs all that it asks for is shown, so every run of theirs keeps the
 -- rules. And what it says of one given run, in which two jobs of one program want the same lock.
-use Rattle.std.proofs.Common.{◌≡◌, refl, sym, ap, ◌∙◌, subst, ℕ, zero, suc, Bool, true, false, List, [], ◌∷◌, arith, ⊎_elim, inl, inr, length, eqb-true}
-use Rattle.std.specs.Prelude.{◌≤◌, ◌==◌, ◌++◌, Option, Some, None, Ok, Err, codes, Contains}
+use Rattle.std.proofs.Common.{◌≡◌, refl, sym, ap, ◌∙◌, subst, ℕ, zero, suc, true, false, List, [], ◌∷◌, arith, ⊎_elim, inl, inr, length, eqb-true}
+use Rattle.std.specs.Prelude.{◌==◌, ◌++◌, Option, Some, None, Ok, Err, codes}
 use Rattle.std.proofs.lemmas.Bool.{cases_Bool, and_parts}
 use Rattle.mlk_text.specs.declared.root.Root.{Root}
 use Rattle.mlk_text.specs.declared.root.Root.TheVariants as root
 use Rattle.mlk_names.specs.declared.lock_name.LockName.{LockName}
-use Rattle.mlk_names.specs.declared.known_symbol.KnownSym.TheVariants as known
-use Rattle.mlk_names.specs.declared.term.LockTerm.{LockTerm}
 use Rattle.mlk_names.specs.LockNames.{Conflict, IsAbove}
 use Rattle.mlk_names.specs.Symbols.{Assignment}
 use Rattle.mlk_names.specs.declared.reference.Reference.{Reference}
@@ -22,18 +20,12 @@ use Rattle.mlk_rules.proofs.Instances.{lock_of_node}
 use Rattle.mlk_rules.specs.declared.rules.RuleLists.{RuleLists}
 use Rattle.mlk_rules.specs.Ranks.{FamiliesApart}
 use Rattle.mlk_rules.specs.Sound.{IsSound}
-use Rattle.mlk_syntax.specs.Distinct.{AreDistinct}
-use Rattle.mlk_syntax.specs.Trees.{RoutineTree, ControlTree, CommandTrees, finished, then_for, HeadTree, LineHead, LineTrees, no_lines, line}
-use Rattle.mlk_program.specs.Entries.{same_entry, lines_in}
-use Rattle.mlk_cert_lexemes.specs.Kinds.{IsName, IsTerm}
-use Rattle.mlk_cert_lexemes.specs.Lists.{Each, ascends}
+use Rattle.mlk_syntax.specs.Trees.{ControlTree, CommandTrees, finished, then_for, HeadTree, LineHead, LineTrees, no_lines, line}
+use Rattle.mlk_program.specs.Entries.{same_entry}
 use Rattle.mlk_cert_parts.specs.declared.block.EntryCert.{EntryCert}
-use Rattle.mlk_cert_parts.specs.declared.case.Case.{Case}
-use Rattle.mlk_cert_parts.specs.declared.names.NameSet.TheVariants.{Only}
-use Rattle.mlk_cert_parts.specs.Limits.{AreTerms, AreMods, IsOwn, AreOwn, AreKept, IsCase, IsPoint, IsCertificate, cases_below}
-use Rattle.mlk_machine_jobs.specs.Calling.{formals_in, commands_in}
-use Rattle.mlk_machine_jobs.specs.Tasks.{Task, Job, LineTree, RunCommands}
-use Rattle.mlk_machine_laws.specs.WellFormed.{AreLeveled, LinesReadLocals, lines_of_routine}
+use Rattle.mlk_cert_parts.specs.Limits.{IsCertificate}
+use Rattle.mlk_machine_jobs.specs.Calling.{commands_in}
+use Rattle.mlk_machine_jobs.specs.Tasks.{Task, Job, RunCommands}
 use Rattle.mlk_soundness_walk.specs.Forms.{AreFormed}
 use Rattle.mlk_walk.proofs.Examples.{base_rules, deposit-yes-routines, deposit-yes-blocks, deposit-yes}
 use Rattle.mlk_walk.proofs.Examples.{wrapper-takes-lock-routines, wrapper-takes-lock-blocks, wrapper-takes-lock}
@@ -41,6 +33,7 @@ use Rattle.mlk_walk.proofs.Examples.{loop-under-lock-routines, loop-under-lock-b
 use Rattle.mlk_walk.proofs.Examples.{timed-lock-block-keeps-test-routines, timed-lock-block-keeps-test-blocks, timed-lock-block-keeps-test}
 use Rattle.std.specs.Fmt.{digits}
 use Rattle.mlk_text.specs.Lexemes.{name_at, entry_of, label_at, digits_at}
+use Rattle.mlk_cert_lexemes.specs.Texts.{byte_text}
 use Rattle.mlk_names.specs.declared.reference.Extent.TheVariants.{Node, Tree}
 use Rattle.mlk_names.specs.declared.reference.Access.TheVariants.{Writes}
 use Rattle.mlk_names.specs.References.{Touch, Touches}
@@ -64,15 +57,7 @@ use Rattle.mlk_soundness_machine.specs.Moments.{begun_by}
 use Rattle.mlk_soundness_machine.specs.Places.{line_number, entry_trees, StandIn, open_round, AreLastOf, AreRoundOf}
 use Rattle.mlk_check.specs.Theorem.{AreSafe, KeepsRules}
 use Rattle.mlk_check.proofs.Theorem.{keeps_rules}
-
--- what each item of a list is, and that a name is not in a list
-each_one : {A : Type 0} (Is : A → Type 0) (xs : List A) → Each Is xs → (a : A) → Contains xs a → Is a
-each_one Is [] h a i = absurd (omega (arith, i.1))
-each_one Is (x ∷ xs) h a (zero, low, same) = subst Is same h.0
-each_one Is (x ∷ xs) h a (suc k, low, same) = each_one Is xs h.1 a (k, omega (arith, low), same)
-
-not_there : (n : List ℕ) (names : List (List ℕ)) → Each (λ m. m ≡ n → ⊥) names → Contains names n → ⊥
-not_there n names h i = each_one (λ m. m ≡ n → ⊥) names h n i refl
+use Rattle.mlk_check.proofs.Tested.{certificate_by, formed_by}
 
 -- The rules: each is well formed, and `^ACCT` is neither `^LOG` nor above or below it.
 abbrev size : Root → ℕ
@@ -103,136 +88,17 @@ apart entries (suc i) (suc (suc j)) d l m = absurd (omega (arith, m))
 sound : (entries : List (List ℕ)) → IsSound (base_rules entries)
 sound entries = record { formed = refl; apart = apart entries }
 
--- Parts of certificates: lists without an item, and with one; a formal's name, which is new at level 1; a point with one case.
-no_terms : AreTerms []
-no_terms = record { each = tt; few = omega arith; order = refl }
-
-no_mods : AreMods []
-no_mods = record { each = tt; few = omega arith; order = refl }
-
-no_own : AreOwn []
-no_own = record { each = tt; few = omega arith; order = refl }
-
-no_kept : AreKept []
-no_kept = record { each = tt; few = omega arith; order = refl }
-
-one_term : (t : LockTerm) → IsTerm t → AreTerms (t ∷ [])
-one_term t h = record { each = (h, tt); few = omega arith; order = refl }
-
-formal : (name : List ℕ) → IsName name → IsOwn (record { level = 1; names = Only name })
-formal name h = (omega arith, omega arith, h)
-
-one_own : (name : List ℕ) → IsName name → AreOwn (record { level = 1; names = Only name } ∷ [])
-one_own name h = record { each = (formal name h, tt); few = omega arith; order = refl }
-
-one_kept : (name : List ℕ) → IsName name → AreKept (name ∷ [])
-one_kept name h = record { each = (h, tt); few = omega arith; order = refl }
-
-one_case : (number round : ℕ) (c : Case) → 1 ≤ number → number ≤ 65535 → round ≤ 255 → IsCase c
-    → IsPoint (record { line = number; round = round; cases = c ∷ [] })
-one_case number round c least most rounds h = record {
-  from_one = least;
-  line = most;
-  round = rounds;
-  each = (h, tt);
-  some_case = omega arith;
-  few = omega arith;
-  order = refl;
-}
-
-two_cases : (number : ℕ) (c d : Case) → 1 ≤ number → number ≤ 65535 → IsCase c → IsCase d → ascends cases_below (c ∷ d ∷ []) ≡ true
-    → IsPoint (record { line = number; round = 0; cases = c ∷ d ∷ [] })
-two_cases number c d least most h g order = record {
-  from_one = least;
-  line = most;
-  round = omega arith;
-  each = (h, (g, tt));
-  some_case = omega arith;
-  few = omega arith;
-  order = order;
-}
-
--- what cases say of the formal ID: it is new at level 1, it is kept, and ^ACCT(ID) is held
-id_own : AreOwn (record { level = 1; names = Only (codes "ID") } ∷ [])
-unfolding name_at
-id_own = one_own (codes "ID") refl
-
-id_kept : AreKept (codes "ID" ∷ [])
-unfolding name_at
-id_kept = one_kept (codes "ID") refl
-
-id_held : AreTerms (record { root = root.Global (codes "ACCT"); subs = known.Local (codes "ID") ∷ [] } ∷ [])
-unfolding name_at
-id_held = one_term (record { root = root.Global (codes "ACCT"); subs = known.Local (codes "ID") ∷ [] }) (refl, (refl, tt))
-
--- QUIT with a value may stand on level 1, and stands nowhere else, since no command of these programs is one
-may : {b : Bool} → b ≡ true → true ≡ true
-may e = refl
-
--- the levels of a routine's lines with their QUITs, the formal list of each of its lines, and what its READs read into
-abbrev Parts : RoutineTree → Type 0
-Parts r =
-    AreLeveled 1 true (lines_of_routine r) × Each (λ (l : LineTree). AreDistinct (formals_in l.0)) (lines_in r) × LinesReadLocals (lines_of_routine r)
-
-formed : (routines : List RoutineTree) → Each Parts routines → AreFormed routines
-formed routines h r i =
-    let p : Parts r = each_one Parts routines h r i in
-    record {
-      levels = p.0;
-      formals = each_one (λ (l : LineTree). AreDistinct (formals_in l.0)) (lines_in r) p.1;
-      reads = p.2;
-    }
-
--- the formal list of one name
-one_name : (name : List ℕ) → AreDistinct (name ∷ [])
-one_name name = ((λ i. not_there name [] tt i), tt)
-
 -- DEP(ID,AMT) LOCK +^ACCT(ID) SET ^ACCT(ID,"bal")=$GET(^ACCT(ID,"bal"))+AMT LOCK -^ACCT(ID) QUIT
 -- One entry that takes its lock, reads and writes what the lock covers, and gives the lock back.
 abbrev deposit_rules : RuleLists
 deposit_rules = base_rules (codes "DEP^BANK" ∷ [])
 
 deposit_formed : AreFormed deposit-yes-routines
-deposit_formed = formed deposit-yes-routines (
-  (
-    ((refl, (may, (may, (may, (may, tt))))), tt, tt),
-    ((no_amount, one_name (codes "AMT")), tt),
-    ((refl, (refl, (refl, (refl, tt)))), tt, tt),
-  ),
-  tt,
-)
-  where
-    no_amount : Contains (codes "AMT" ∷ []) (codes "ID") → ⊥
-    no_amount i = not_there (codes "ID") (codes "AMT" ∷ []) ((λ e. let z : 3 ≡ 2 = ap length e in absurd (omega (arith, z))), tt) i
+deposit_formed = formed_by deposit-yes-routines refl
 
 deposit_certificate : IsCertificate deposit-yes-blocks
-unfolding name_at
-deposit_certificate = record {
-  each = (
-    record {
-      entry = (codes "DEP", codes "BANK", inr refl, refl, refl);
-      summary = record {
-        need = no_terms;
-        low = omega arith;
-        mods = no_mods;
-        each_exit = (record { held = no_terms; kept = record { each = (refl, (refl, tt)); few = omega arith; order = refl } }, tt);
-        few_exits = omega arith;
-        exit_order = refl;
-      };
-      each_point = (
-        one_case 1 0 _ (omega arith) (omega arith) (omega arith) (record {
-          held = no_terms;
-          own = record { each = (formal (codes "AMT") refl, (formal (codes "ID") refl, tt)); few = omega arith; order = refl };
-          kept = record { each = (refl, (refl, tt)); few = omega arith; order = refl };
-        }),
-        tt,
-      );
-      order = refl;
-    },
-    tt,
-  );
-  distinct = (tt, tt);
-}
+unfolding name_at byte_text
+deposit_certificate = certificate_by deposit-yes-blocks refl
 
 pub deposit_keeps_rules : KeepsRules deposit-yes-routines deposit_rules deposit-yes-blocks
 deposit_keeps_rules = keeps_rules deposit-yes-routines deposit_rules deposit-yes-blocks (sound _) deposit_certificate deposit_formed deposit-yes
@@ -241,59 +107,11 @@ deposit_keeps_rules = keeps_rules deposit-yes-routines deposit_rules deposit-yes
 -- GRAB(K) LOCK +^ACCT(K) QUIT
 -- The lock is taken by another entry than the one that writes and gives it back.
 wrapper_formed : AreFormed wrapper-takes-lock-routines
-wrapper_formed = formed wrapper-takes-lock-routines (
-  (
-    ((refl, (may, (may, (may, (may, tt))))), tt, ((refl, (may, (may, tt))), tt, tt)),
-    (one_name (codes "ID"), (one_name (codes "K"), tt)),
-    ((refl, (refl, (refl, (refl, tt)))), tt, ((refl, (refl, tt)), tt, tt)),
-  ),
-  tt,
-)
+wrapper_formed = formed_by wrapper-takes-lock-routines refl
 
 wrapper_certificate : IsCertificate wrapper-takes-lock-blocks
-unfolding name_at
-wrapper_certificate = record {
-  each = (
-    record {
-      entry = (codes "USE", codes "WRAP", inr refl, refl, refl);
-      summary = record {
-        need = no_terms;
-        low = omega arith;
-        mods = no_mods;
-        each_exit = (record { held = no_terms; kept = id_kept }, tt);
-        few_exits = omega arith;
-        exit_order = refl;
-      };
-      each_point = (
-        one_case 1 0 _ (omega arith) (omega arith) (omega arith)
-            (record { held = no_terms; own = id_own; kept = id_kept }),
-        tt,
-      );
-      order = refl;
-    },
-    (
-      record {
-        entry = (codes "GRAB", codes "WRAP", inr refl, refl, refl);
-        summary = record {
-          need = no_terms;
-          low = omega arith;
-          mods = no_mods;
-          each_exit = (record { held = one_term _ (refl, (refl, tt)); kept = one_kept (codes "K") refl }, tt);
-          few_exits = omega arith;
-          exit_order = refl;
-        };
-        each_point = (
-          one_case 2 0 _ (omega arith) (omega arith) (omega arith)
-              (record { held = no_terms; own = one_own (codes "K") refl; kept = one_kept (codes "K") refl }),
-          tt,
-        );
-        order = refl;
-      },
-      tt,
-    ),
-  );
-  distinct = (((λ e. let z : 9 ≡ 8 = ap length e in absurd (omega (arith, z))), tt), (tt, tt));
-}
+unfolding name_at byte_text
+wrapper_certificate = certificate_by wrapper-takes-lock-blocks refl
 
 pub wrapper_keeps_rules : KeepsRules wrapper-takes-lock-routines (base_rules (codes "USE^WRAP" ∷ [])) wrapper-takes-lock-blocks
 wrapper_keeps_rules =
@@ -303,42 +121,11 @@ wrapper_keeps_rules =
 --  LOCK -^LOG QUIT
 -- A FOR whose rounds write under a lock that the line before them takes.
 loop_formed : AreFormed loop-under-lock-routines
-loop_formed = formed loop-under-lock-routines (
-  (
-    ((refl, (may, ((λ e. e), tt))), tt, ((refl, (may, (may, tt))), tt, tt)),
-    (tt, (tt, tt)),
-    ((refl, (refl, tt)), tt, ((refl, (refl, tt)), tt, tt)),
-  ),
-  tt,
-)
+loop_formed = formed_by loop-under-lock-routines refl
 
 loop_certificate : IsCertificate loop-under-lock-blocks
-unfolding name_at
-loop_certificate = record {
-  each = (
-    record {
-      entry = (codes "L", codes "LOOP", inr refl, refl, refl);
-      summary = record {
-        need = no_terms;
-        low = omega arith;
-        mods = record { each = (refl, tt); few = omega arith; order = refl };
-        each_exit = (record { held = no_terms; kept = no_kept }, tt);
-        few_exits = omega arith;
-        exit_order = refl;
-      };
-      each_point = (
-        one_case 1 0 _ (omega arith) (omega arith) (omega arith) (record { held = no_terms; own = no_own; kept = no_kept }),
-        (
-          one_case 1 1 _ (omega arith) (omega arith) (omega arith) (record { held = one_term _ (refl, tt); own = no_own; kept = no_kept }),
-          (one_case 2 0 _ (omega arith) (omega arith) (omega arith) (record { held = one_term _ (refl, tt); own = no_own; kept = no_kept }), tt),
-        ),
-      );
-      order = refl;
-    },
-    tt,
-  );
-  distinct = (tt, tt);
-}
+unfolding name_at byte_text
+loop_certificate = certificate_by loop-under-lock-blocks refl
 
 pub loop_keeps_rules : KeepsRules loop-under-lock-routines (base_rules (codes "L^LOOP" ∷ [])) loop-under-lock-blocks
 loop_keeps_rules =
@@ -350,49 +137,11 @@ loop_keeps_rules =
 --  SET ^ACCT(ID)=1 LOCK -^ACCT(ID) QUIT
 -- Whether a LOCK with a timeout was granted stands in `$TEST`, and the end of the block puts that back.
 timed_formed : AreFormed timed-lock-block-keeps-test-routines
-timed_formed = formed timed-lock-block-keeps-test-routines (
-  (
-    (
-      (refl, (may, (may, tt))),
-      ((refl, ((λ e. e), tt)), tt, tt),
-      ((refl, (may, (may, tt))), tt, ((refl, (may, (may, (may, tt)))), tt, tt)),
-    ),
-    (one_name (codes "ID"), (tt, (tt, tt))),
-    ((refl, (refl, tt)), ((refl, tt), tt, tt), ((refl, (refl, tt)), tt, ((refl, (refl, (refl, tt))), tt, tt))),
-  ),
-  tt,
-)
+timed_formed = formed_by timed-lock-block-keeps-test-routines refl
 
 timed_certificate : IsCertificate timed-lock-block-keeps-test-blocks
-unfolding name_at
-timed_certificate = record {
-  each = (
-    record {
-      entry = (codes "T", codes "BLOCK", inr refl, refl, refl);
-      summary = record {
-        need = no_terms;
-        low = tt;
-        mods = no_mods;
-        each_exit = (record { held = no_terms; kept = id_kept }, (record { held = no_terms; kept = id_kept }, tt));
-        few_exits = omega arith;
-        exit_order = refl;
-      };
-      each_point = (
-        one_case 1 0 _ (omega arith) (omega arith) (omega arith) (record { held = no_terms; own = id_own; kept = id_kept }),
-        (
-          two_cases 2 _ _ (omega arith) (omega arith) (record { held = no_terms; own = id_own; kept = id_kept }) (record { held = id_held; own = id_own; kept = id_kept }) refl,
-          (
-            two_cases 3 _ _ (omega arith) (omega arith) (record { held = no_terms; own = id_own; kept = id_kept }) (record { held = id_held; own = id_own; kept = id_kept }) refl,
-            (one_case 4 0 _ (omega arith) (omega arith) (omega arith) (record { held = id_held; own = id_own; kept = id_kept }), tt),
-          ),
-        ),
-      );
-      order = refl;
-    },
-    tt,
-  );
-  distinct = (tt, tt);
-}
+unfolding name_at byte_text
+timed_certificate = certificate_by timed-lock-block-keeps-test-blocks refl
 
 pub timed_keeps_rules : KeepsRules timed-lock-block-keeps-test-routines (base_rules (codes "T^BLOCK" ∷ [])) timed-lock-block-keeps-test-blocks
 timed_keeps_rules =
@@ -412,7 +161,7 @@ steps zero = []
 steps (suc n) = Go choice.None ∷ steps n
 
 -- the acts of a job, as events of the run
-abbrev events_of : ℕ → List (Act Choice EntryId) → List (Event Choice EntryId)
+abbrev pub events_of : ℕ → List (Act Choice EntryId) → List (Event Choice EntryId)
 events_of k [] = []
 events_of k (a ∷ acts) = record { job = k; act = a } ∷ events_of k acts
 
@@ -425,7 +174,7 @@ events =
     ++ events_of 1 (steps 13 ++ Go (choice.Value (codes "100")) ∷ steps 5)
 
 -- What each job is, by itself: at its begin, and after these acts of its own.
-abbrev job_of : Stepped → Job
+abbrev pub job_of : Stepped → Job
 job_of (Ok j) = j
 job_of (Err why) = blank 0 false []
 
@@ -587,7 +336,7 @@ abbrev loop_entries : List (EntryId × EntryCert) × List EntryId
 loop_entries = (certified loop-under-lock-routines loop-under-lock-blocks, declared loop-under-lock-routines loop_rules.entries)
 
 pub set_is_walked : IsInside loop-under-lock-routines loop_rules loop_entries (left_in before_set.tasks) no_lines (behind_in before_set.tasks) (begun_by looping up_to_set (loop_begun ∷ []) loop_begun) before_set
-unfolding entry_of label_at name_at digits_at digits fold_between same_name is_above
+unfolding entry_of label_at name_at digits_at digits fold_between whole same_name is_above
 set_is_walked = (loop_keeps_rules.each_job loop_entry false [] 1 loop_begun before_set up_to_set refl refl).inside (left_in before_set.tasks) no_lines (behind_in before_set.tasks) refl
 
 -- So it is on line 1, in the rounds of that line's first FOR: that is the only line of L^LOOP with a FOR.
@@ -643,7 +392,7 @@ not_both : (o : Option CommandTrees) (left : CommandTrees) → o ≡ Some left �
 not_both o left e f = let z : Some left ≡ None = sym e ∙ f in cc z
 
 round_is_open : open_round (behind_in before_set.tasks) ≡ Some (left_in before_set.tasks)
-unfolding entry_of label_at name_at digits_at digits fold_between same_name is_above
+unfolding entry_of label_at name_at digits_at digits fold_between whole same_name is_above
 round_is_open = refl
 
 pub set_is_in_for : (line_number set_is_walked.comes.on.head ≡ 1) × (set_is_walked.comes.round ≡ 1)

@@ -2,3 +2,5 @@ pub mod Theorem
 mod Endings
 pub mod Replays
 pub mod Examples
+mod Tested
+mod Hospital

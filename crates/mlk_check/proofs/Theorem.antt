@@ -14,7 +14,7 @@ use Rattle.mlk_soundness_machine.specs.Facts.{Facts}
 use Rattle.mlk_soundness_walk.specs.Forms.{AreFormed}
 use Rattle.mlk_soundness_walk.proofs.Listed.{list_once}
 use Rattle.mlk_soundness_walk.proofs.OneJob.{one_job, each_facts}
-use Rattle.mlk_check.specs.Theorem.{AreSafe, KeepsRules}
+use Rattle.mlk_check.specs.Theorem.{KeepsRules}
 
 pub ok_turned : {A B : Type 0} {P Q : A → Type 0} (r : Result A B) → ((a : A) → P a → Q a) → IfOk r P → IfOk r Q
 ok_turned (Ok a) f h = f a h
