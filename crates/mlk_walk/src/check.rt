@@ -23,10 +23,11 @@ use std::alloc::{AllocError, Global};
 
 /// What a check looks into: a program, its rules, and what is known of its entries.
 #[derive(Clone, Copy, Drop)]
-pub(crate) struct Checks<'a> {
-    pub(crate) program: &'a Program<'a>,
-    pub(crate) rules: &'a Rules,
-    pub(crate) entries: &'a Entries<'a>,
+pub struct Checks<'a> {
+    pub program: &'a Program<'a>,
+    pub rules: &'a Rules,
+    /// those of this program and these rules, and of a certificate
+    pub entries: &'a Entries<'a>,
 }
 
 // The verdict of an entry that is certified by a block.
@@ -58,8 +59,9 @@ fn uncertified(program: &Program, entry: EntryId) -> Fault
     }
 }
 
+/// The faults of an entry, as `check_entry` gives them, by what is known of all entries already.
 #[tactic(auto, unfolding(crate::specs::Verdicts::entry_faults))]
-fn verdict_of(alloc: Global, checks: &Checks<'_>, entry: EntryId) -> Result<Verdict, AllocError>
+pub fn verdict_of(alloc: Global, checks: &Checks<'_>, entry: EntryId) -> Result<Verdict, AllocError>
     ensures { IfOk result (λ v. v ≡ verdict (map routine_of checks.now.program.now) checks.now.rules.now
         checks.now.entries.now entry) }
 {
@@ -75,7 +77,7 @@ fn verdict_of(alloc: Global, checks: &Checks<'_>, entry: EntryId) -> Result<Verd
 /// of the first block that names it.
 ///
 /// Without a block it has the one fault `Code::NoCertificate` at its line, column 1. It looks into the whole
-/// certificate first; `report_of` does so once for all entries.
+/// certificate first; for many entries make `Checks` once, and ask `verdict_of`.
 pub fn check_entry(
     alloc: Global,
     program: &Program<'_>,

@@ -10,7 +10,7 @@ mod missing;
 mod report;
 mod verdict;
 
-pub use check::{check_entry, report_of};
+pub use check::{Checks, check_entry, report_of, verdict_of};
 pub use law::faults_in_order;
 pub use line::{check_line, walk_line};
 pub use missing::missing_entry;

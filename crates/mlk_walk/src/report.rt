@@ -33,7 +33,7 @@ impl Model for Report {
 
 impl Report {
     /// A report without rows.
-    pub(crate) fn new(alloc: Global) -> Report
+    pub fn new(alloc: Global) -> Report
         ensures { result ≡ [] }
     {
         Report {
@@ -56,7 +56,7 @@ impl Report {
     }
 
     /// The faults of an entry, after the others.
-    pub(crate) fn add(&mut self, entry: EntryId, verdict: &Verdict) -> Result<(), AllocError>
+    pub fn add(&mut self, entry: EntryId, verdict: &Verdict) -> Result<(), AllocError>
         ensures { OnOk result (self.new ≡ self.old ++ map (row_of entry) verdict.now) }
     {
         for fault in verdict.iter() {
