@@ -1,6 +1,5 @@
 -- A history after one more event.
-use Rattle.std.proofs.Common.{◌≡◌, ◌<◌, ◌+◌, ℕ, zero, suc, Bool, true, false, List, [], ◌∷◌, ◌++◌, Some, length, map, slice_get, refl, ap, ◌∙◌, sym, arith}
-use Rattle.std.proofs.Math.ListN.{set}
+use Rattle.std.proofs.Common.{◌≡◌, List, [], ◌∷◌, ◌++◌, refl}
 use Rattle.mlk_pool.specs.declared.board.Event.{Event}
 use Rattle.mlk_pool.specs.Histories.{Stage, MayFollow, IsHistory, stages_after, stages_at_end}
 

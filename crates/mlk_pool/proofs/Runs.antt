@@ -1,5 +1,5 @@
 -- What a run is given, by what its parts are given.
-use Rattle.std.proofs.Common.{◌≡◌, ℕ, Bool, true, false, List, [], ◌∷◌, Option, Some, None, map, filter, refl, sym, ap, ◌∙◌, subst, slice_get}
+use Rattle.std.proofs.Common.{◌≡◌, ℕ, List, [], ◌∷◌, Some, filter, refl, sym, ap, ◌∙◌, subst, slice_get}
 use Rattle.std.specs.List.{AllZip}
 use Rattle.mlk_syntax.specs.Trees.{RoutineTree, HeadTree, LineTrees}
 use Rattle.mlk_syntax.specs.Views.{lines_from}

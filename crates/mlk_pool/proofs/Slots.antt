@@ -1,5 +1,5 @@
 -- A board after one of its slots changed.
-use Rattle.std.proofs.Common.{◌≡◌, ◌+◌, ◌*◌, ◌≤◌, ◌<◌, ℕ, zero, suc, replicate, Bool, true, false, nat_lt, ◌==◌, Option, List, [], ◌∷◌, ◌++◌, Vec, Some, length, map, slice_get, sum_by, vec_len, refl, sym, ap, ◌∙◌, arith, subst}
+use Rattle.std.proofs.Common.{◌≡◌, ◌+◌, ◌*◌, ◌≤◌, ◌<◌, ℕ, zero, suc, replicate, Bool, true, false, nat_lt, ◌==◌, List, [], ◌∷◌, ◌++◌, Vec, Some, length, map, slice_get, sum_by, vec_len, refl, sym, ap, ◌∙◌, arith, subst}
 use Rattle.std.proofs.Math.ListN.{set}
 use Rattle.std.proofs.lemmas.Bool.Decides.{nat_tests}
 use Rattle.std.proofs.lemmas.List.{length-set, length-replicate}
@@ -14,8 +14,8 @@ use Rattle.mlk_pool.specs.declared.board.Slot.{Slot}
 use Rattle.mlk_pool.specs.declared.board.Slot.TheVariants.{Open, Claimed, Posted}
 use Rattle.mlk_pool.specs.declared.board.Outcome.TheVariants.{NoMemory}
 use Rattle.mlk_pool.specs.declared.board.Event.{Event}
-use Rattle.mlk_pool.specs.Given.{Given, tasks_of}
-use Rattle.mlk_pool.specs.Histories.{Stage, Unclaimed, ClaimedBy, PostedBy, MayFollow, IsNext, IsHistory, AreAllClaimed, stages_after, stages_at_end}
+use Rattle.mlk_pool.specs.Given.{Given}
+use Rattle.mlk_pool.specs.Histories.{Stage, Unclaimed, MayFollow, IsNext, IsHistory, AreAllClaimed, stages_after, stages_at_end}
 use Rattle.mlk_pool.specs.Boards.{IsSlotOf, IsKept, IsLogOf, events_left, stage_of}
 use Rattle.mlk_pool.proofs.Histories.{history_more, stages_more}
 

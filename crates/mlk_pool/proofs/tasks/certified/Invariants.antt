@@ -1,4 +1,4 @@
-use Rattle.std.proofs.Common.{◌≡◌, ◌++◌, filter, take}
+use Rattle.std.proofs.Common.{◌≡◌, filter, take}
 use Rattle.mlk_pool.specs.Given.{is_certified}
 use Rattle.mlk_pool.proofs.tasks.certified.Given as goal
 

@@ -1,4 +1,4 @@
-use Rattle.std.proofs.Common.{◌≡◌, ◌<◌, ◌∙◌, length, slice_get, refl, sym, ap, arith, nat_lt, map, subst}
+use Rattle.std.proofs.Common.{◌<◌, ◌∙◌, length, slice_get, refl, sym, ap, arith, nat_lt, map, subst}
 use Rattle.std.proofs.lemmas.Option.{slice_get_read}
 use Rattle.mlk_pool.specs.declared.board.Slot.TheVariants.{Open, Claimed}
 use Rattle.mlk_pool.specs.declared.board.Event.TheVariants.{Claim as Claiming}

@@ -1,4 +1,4 @@
-use Rattle.std.proofs.Common.{◌≡◌, Some, nat_lt, slice_get, map, refl, sym, ap, ◌∙◌, arith}
+use Rattle.std.proofs.Common.{◌≡◌, Some, nat_lt, slice_get, refl, sym, ap, ◌∙◌, arith}
 use Rattle.mlk_pool.specs.declared.board.Slot.TheVariants.{Claimed, Posted}
 use Rattle.mlk_pool.specs.declared.board.Event.TheVariants.{Post as Posting}
 use Rattle.mlk_pool.specs.Boards.{stage_of}
