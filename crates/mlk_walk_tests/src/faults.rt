@@ -7,7 +7,6 @@ use mlk_rules::Rules;
 use mlk_text::{Code, Column, LineNumber};
 use mlk_walk::{Verdict, check_entry, check_line, report_of, walk_line};
 use std::alloc::{AllocError, Global};
-use std::host::HostRuntime;
 
 // Whether this is the one fault: the write of `^A("01")` under the lock `^A(1)`.
 fn is_the_write(verdict: &Verdict) -> bool {

@@ -1,0 +1,11 @@
+//! Tests of workers on one board, by the public calls.
+#![tactic(auto)]
+
+#[cfg(test)]
+mod gates;
+#[cfg(test)]
+mod reports;
+#[cfg(test)]
+mod twelve;
+#[cfg(test)]
+mod working;
