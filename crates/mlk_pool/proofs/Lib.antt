@@ -1,4 +1,4 @@
 mod Histories
 mod Runs
 mod Slots
-mod Syncs
+pub mod Syncs

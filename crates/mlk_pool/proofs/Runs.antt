@@ -1,9 +1,7 @@
 -- What a run is given, by what its parts are given.
-use Rattle.std.proofs.Common.{◌≡◌, ℕ, List, [], ◌∷◌, Some, filter, refl, sym, ap, ◌∙◌, subst, slice_get}
+use Rattle.std.proofs.Common.{◌≡◌, ℕ, List, Some, filter, refl, sym, ap, ◌∙◌, subst, slice_get}
 use Rattle.std.specs.List.{AllZip}
-use Rattle.mlk_syntax.specs.Trees.{RoutineTree, HeadTree, LineTrees}
-use Rattle.mlk_syntax.specs.Views.{lines_from}
-use Rattle.mlk_program.specs.Entries.{as_lines}
+use Rattle.mlk_syntax.specs.Trees.{RoutineTree}
 use Rattle.mlk_program.specs.declared.entry.EntryId.{EntryId}
 use Rattle.mlk_rules.specs.declared.rules.RuleLists.{RuleLists}
 use Rattle.mlk_cert_parts.specs.declared.block.EntryCert.{EntryCert}
@@ -78,7 +76,3 @@ pub verdict_of_task : (given : Given) (routines : List RoutineTree) (rules : Rul
     → (entry : EntryId) → slice_get (tasks_of given) task ≡ Some entry → v ≡ verdict_of given entry
 verdict_of_task given routines rules entries task e v are there is entry here =
     is ∙ verdict_given given routines rules entries are e ∙ ap (verdict_of given) (some_same (sym there ∙ here))
-
-pub lines_same : (lines : List (HeadTree × LineTrees)) → as_lines (lines_from lines) ≡ lines
-lines_same [] = refl
-lines_same (l ∷ lines) = ap (λ more. l ∷ more) (lines_same lines)

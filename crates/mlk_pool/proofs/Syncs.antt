@@ -122,7 +122,7 @@ routine = recorded_sync (Routine.the_field).row _ _ (Routine.the_type).to_one (s
 directory : (κ : NamedLft) → IsSync (Directory.the_row κ)
 directory κ = search (crosses, sendable, routine, TableSyncs.the_sync) depth 60 fits 20000
 
-program : (κ : NamedLft) → IsSync (Program.the_row κ)
+pub program : (κ : NamedLft) → IsSync (Program.the_row κ)
 program κ = search (crosses, sendable, directory, SharedSyncs.the_sync, FramesSyncs.the_sync) depth 60 fits 20000
 
 -- what a check looks into

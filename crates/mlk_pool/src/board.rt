@@ -96,17 +96,17 @@ impl<N: Inputs> Board<N> {
     ghost use Rattle.mlk_pool.specs.Histories.{AreAllClaimed, IsNext};
     ghost use Rattle.mlk_pool.specs.Boards.{IsOutcomeOf, IsSlotOf, IsLogOf, stage_of};
 
-    /// A board for so many workers, on which each certified entry of the program is an open task. It has room for all that
-    /// can happen on it.
+    /// A board on which each certified entry of the program is an open task, with room for all that can happen on it. The
+    /// number of workers takes no part in that: it says who may claim.
     pub fn new(
         alloc: Global,
         program: &Program<'_>,
         rules: &Rules,
         certificate: &Certificate,
-        _workers: usize,
+        workers: usize,
     ) -> Result<Board<N>, AllocError>
         requires inputs { AreInputs N.given (map routine_of program.now) rules.now certificate.now }
-        requires workers { _workers ≡ N.given.workers }
+        requires workers { workers ≡ N.given.workers }
         ensures log { IfOk result (λ b. b.log ≡ []) }
         ensures slots { IfOk result (λ b. b.slots ≡ replicate (length (tasks_of N.given)) Open) }
     {

@@ -23,7 +23,7 @@ fn add_lines(routine: usize, lines: &[Line], entries: &mut Vec<EntryId>) -> Resu
     Ok(())
 }
 
-#[tactic(auto, using(crate::proofs::Runs::lines_same))]
+#[tactic(auto, using(mlk_program::proofs::Directories::lines_same))]
 fn add_routine(
     number: usize,
     routine: &Routine,
