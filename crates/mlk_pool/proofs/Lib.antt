@@ -1,0 +1,4 @@
+mod Histories
+mod Runs
+mod Slots
+pub mod Syncs

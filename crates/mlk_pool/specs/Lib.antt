@@ -1,0 +1,5 @@
+pub mod Given
+pub mod Shown
+pub mod Histories
+pub mod Boards
+pub mod Refusals

@@ -1,0 +1,190 @@
+// The report that workers make together.
+
+ghost use Rattle.std.specs.Prelude.{◌≡◌, ◌<◌, ◌++◌, IfOk, IfErr, OnOk, filter, flat_map, map, option_copied};
+ghost use Rattle.std.specs.List.{AllZip};
+ghost use Rattle.std.specs.Option.{ForSome};
+ghost use Rattle.mlk_syntax.specs.Views.{routine_of};
+ghost use Rattle.mlk_walk.specs.Verdicts.{verdict};
+ghost use Rattle.mlk_walk.specs.Reports.{entries_from, is_checked, report, row_of, rows_of};
+ghost use Rattle.mlk_pool.specs.Given.{AreInputs, AreKnown, is_certified};
+ghost use Rattle.mlk_pool.specs.Boards.{IsSlotOf, next_slot};
+ghost use Rattle.mlk_pool.specs.Refusals.{IsShut, IsUnreported};
+
+use crate::board::{Board, Outcome, Slot};
+use crate::gate::Gate;
+use crate::inputs::Inputs;
+use crate::shared::SharedBoard;
+use crate::tasks::{certified, entries_of, is_certified};
+use crate::worker::run_workers;
+use mlk_calls::Entries;
+use mlk_cert::Certificate;
+use mlk_program::{EntryId, Program};
+use mlk_rules::Rules;
+use mlk_text::Failure;
+use mlk_walk::{Checks, Report, verdict_of};
+use std::alloc::{AllocError, Global};
+use std::marker::Brand;
+use std::sync::Wait;
+use std::thread::Threads;
+
+/// Why workers make no report.
+#[derive(Clone, Copy, Debug, Drop, PartialEq, Eq)]
+pub enum PoolFault {
+    /// There are no workers, or more than 64.
+    Workers,
+    /// The gate let nobody pass to this one of the tasks, counted from 0.
+    GateShut(usize),
+}
+
+/// The largest number of workers.
+pub const MOST_WORKERS: usize = 64;
+
+// Adds the rows of an entry after all workers have ended, where it is a task with what stands at it: by the verdict that was
+// posted, else by a walk on the caller's thread. Where the gate was shut it is asked once more.
+#[tactic(auto, using(crate::proofs::Runs::verdict_given))]
+fn settle<N: Inputs, G: Gate>(
+    alloc: Global,
+    checks: &Checks<'_>,
+    entry: EntryId,
+    task: usize,
+    slot: Option<&Slot>,
+    gate: &G,
+    report: &mut Report,
+) -> Result<(), Failure<PoolFault>>
+    requires inputs { AreKnown N.given (map routine_of checks.now.program.now) checks.now.rules.now checks.now.entries.now }
+    requires slot { ForSome slot (λ s. IsSlotOf N.given entry s.now) }
+    ensures ok { OnOk result (report.new ≡ report.old ++ map (row_of entry)
+        (verdict (map routine_of checks.now.program.now) checks.now.rules.now checks.now.entries.now entry)) }
+    ensures refused { IfErr result (IsShut (G.is_open gate.now)) }
+{
+    match slot {
+        Some(Slot::Posted(_, Outcome::Done(verdict))) => report.add(entry, verdict)?,
+        Some(Slot::Posted(_, Outcome::NoMemory)) => return Err(Failure::OutOfMemory),
+        Some(Slot::Posted(_, Outcome::Shut)) if !gate.pass(0, task) => {
+            return Err(Failure::Refused(PoolFault::GateShut(task)));
+        }
+        _ => report.add(entry, &verdict_of(alloc, checks, entry)?)?,
+    }
+    Ok(())
+}
+
+fn is_checked(known: &Entries<'_>, entry: EntryId) -> bool
+    ensures { result ≡ is_checked known.now entry }
+{
+    is_certified(known, entry) || known.is_declared(entry)
+}
+
+// What stands at an entry's task, where it is one, and the slots of the later tasks.
+fn next_slot<'a>(
+    known: &Entries<'_>,
+    entry: EntryId,
+    slots: &'a [Slot],
+) -> (Option<&'a Slot>, &'a [Slot])
+    ensures { (option_copied result.0, result.1.now) ≡ next_slot (is_certified known.now.0 entry) slots.now }
+{
+    match slots.split_first() {
+        Some((slot, later)) if is_certified(known, entry) => (Some(slot), later),
+        _ => (None, slots),
+    }
+}
+
+// The report after all workers have ended.
+fn finished<N: Inputs, G: Gate>(
+    alloc: Global,
+    checks: &Checks<'_>,
+    entries: &[EntryId],
+    slots: &[Slot],
+    gate: &G,
+) -> Result<Report, Failure<PoolFault>>
+    requires inputs { AreKnown N.given (map routine_of checks.now.program.now) checks.now.rules.now checks.now.entries.now }
+    requires slots { AllZip (IsSlotOf N.given) (filter (is_certified checks.now.entries.now.0) entries.now) slots.now }
+    ensures ok { IfOk result (λ r. r ≡ flat_map
+        (rows_of (map routine_of checks.now.program.now) checks.now.rules.now checks.now.entries.now) entries.now) }
+    ensures refused { IfErr result (IsShut (G.is_open gate.now)) }
+{
+    let mut report = Report::new(alloc);
+    let mut left = slots;
+    for entry in entries {
+        let task = slots.len().saturating_sub(left.len());
+        let (slot, later) = next_slot(checks.entries, *entry, left);
+        if is_checked(checks.entries, *entry) {
+            settle::<N, G>(alloc, checks, *entry, task, slot, gate, &mut report)?;
+        }
+        left = later;
+    }
+    Ok(report)
+}
+
+// The report of a run whose checks look into these.
+fn report_with<N: Inputs + Send + Sync, G: Gate + Sync, R: Threads + Wait + Sync>(
+    rt: &R,
+    alloc: Global,
+    checks: &Checks<'_>,
+    workers: usize,
+    gate: &G,
+) -> Result<Report, Failure<PoolFault>>
+    requires inputs { AreKnown N.given (map routine_of checks.now.program.now) checks.now.rules.now checks.now.entries.now }
+    requires workers { workers ≡ N.given.workers }
+    requires one { 0 < workers }
+    ensures ok { IfOk result (λ r. r ≡ flat_map
+        (rows_of (map routine_of checks.now.program.now) checks.now.rules.now checks.now.entries.now)
+        (entries_from 0 (map routine_of checks.now.program.now))) }
+    ensures refused { IfErr result (IsShut (G.is_open gate.now)) }
+{
+    let entries = entries_of(alloc, checks.program)?;
+    let tasks = certified(alloc, checks.entries, entries.as_slice())?;
+    let board: SharedBoard<N> = SharedBoard::new(Board::of(alloc, tasks)?);
+    run_workers(rt, alloc, checks, &board, gate, workers);
+    let slots = board.into_board().into_slots();
+    finished::<N, G>(alloc, checks, entries.as_slice(), slots.as_slice(), gate)
+}
+
+// The report of a run that is given these.
+#[tactic(auto, unfolding(mlk_walk::specs::Reports::report), using(crate::proofs::Runs::known_inputs))]
+fn report_on<N: Inputs + Send + Sync, G: Gate + Sync, R: Threads + Wait + Sync>(
+    rt: &R,
+    alloc: Global,
+    program: &Program<'_>,
+    rules: &Rules,
+    certificate: &Certificate,
+    workers: usize,
+    gate: &G,
+) -> Result<Report, Failure<PoolFault>>
+    requires inputs { AreInputs N.given (map routine_of program.now) rules.now certificate.now }
+    requires workers { workers ≡ N.given.workers }
+    requires one { 0 < workers }
+    ensures ok { IfOk result (λ r. r ≡ report (map routine_of program.now) rules.now certificate.now) }
+    ensures refused { IfErr result (IsShut (G.is_open gate.now)) }
+{
+    let entries = Entries::of(alloc, program, rules, certificate.blocks())?;
+    let checks = Checks {
+        program,
+        rules,
+        entries: &entries,
+    };
+    report_with::<N, G, R>(rt, alloc, &checks, workers, gate)
+}
+
+/// The faults of a program by its rules and a certificate, found by 1 to 64 workers side by side: for each entry that is
+/// declared or certified, in the program's order, those of its verdict. It is `yes` where there are none. It is the same for
+/// every number of workers.
+///
+/// The caller's thread is one of the workers. What no worker has done in the end it does, and where the gate was shut it asks
+/// once more: so the refusal is that of the first task that is still not done.
+pub fn report_by<G: Gate + Sync, R: Threads + Wait + Sync>(
+    rt: &R,
+    alloc: Global,
+    program: &Program<'_>,
+    rules: &Rules,
+    certificate: &Certificate,
+    workers: usize,
+    gate: &G,
+) -> Result<Report, Failure<PoolFault>>
+    ensures exact { IfOk result (λ r. r ≡ report (map routine_of program.now) rules.now certificate.now) }
+    ensures refused { IfErr result (IsUnreported (G.is_open gate.now) workers) }
+{
+    if workers == 0 || workers > MOST_WORKERS {
+        return Err(Failure::Refused(PoolFault::Workers));
+    }
+    report_on::<Brand, G, R>(rt, alloc, program, rules, certificate, workers, gate)
+}
