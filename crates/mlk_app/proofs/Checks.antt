@@ -47,10 +47,10 @@ pub by-rules : (trees : List RoutineTree) (rules_text : List ℕ) (w : Work) (e 
 by-rules trees rules_text w failure.OutOfMemory refused = inl (record {})
 by-rules trees rules_text w (failure.Refused fault) refused = inl refused
 
-pub by-certificate : (trees : List RoutineTree) (rules : RuleLists) (text : List ℕ) (e : Failure CertFault)
-    → IsReading text (Err e) → IsPlaced text e → IsRefusalWith trees rules text (refusal_of_certificate e)
-by-certificate trees rules text failure.OutOfMemory back placed = record {}
-by-certificate trees rules text (failure.Refused fault) back placed = ((λ blocks spelled. back blocks spelled), placed)
+pub by-certificate : (trees : List RoutineTree) (rules : RuleLists) (text : List ℕ) (workers : ℕ) (e : Failure CertFault)
+    → IsReading text (Err e) → IsPlaced text e → IsRefusalWith trees rules text workers (refusal_of_certificate e)
+by-certificate trees rules text workers failure.OutOfMemory back placed = record {}
+by-certificate trees rules text workers (failure.Refused fault) back placed = ((λ blocks spelled. back blocks spelled), placed)
 
 pub err_turned : {A B : Type 0} {P Q : B → Type 0} (r : Result A B) → ((b : B) → P b → Q b) → IfErr r P → IfErr r Q
 err_turned (Ok a) f h = h
@@ -61,15 +61,16 @@ ok_turned (Ok a) f h = f a h
 ok_turned (Err b) f h = h
 
 -- What is refused below is refused above, where what stands before is read.
-pub below : (trees : List RoutineTree) (rules : RuleLists) (blocks : List EntryCert) (text : List ℕ) (r : Refusal) → Spells blocks text
-    → IsRefusalBy trees rules blocks r → IsRefusalWith trees rules text r
-below trees rules blocks text refusal.OutOfMemory spelled refused = record {}
-below trees rules blocks text (refusal.Routine fault) spelled refused = refused
-below trees rules blocks text (refusal.Rules fault) spelled refused = refused
-below trees rules blocks text (refusal.Certificate fault) spelled refused = absurd refused
-below trees rules blocks text (refusal.Entry entry) spelled refused = (blocks, spelled, refused)
-below trees rules blocks text (refusal.GaveUp entry fault) spelled refused = refused
-below trees rules blocks text (refusal.Events fault) spelled refused = refused
+pub below : (trees : List RoutineTree) (rules : RuleLists) (blocks : List EntryCert) (text : List ℕ) (workers : ℕ) (r : Refusal) → Spells blocks text
+    → IsRefusalBy trees rules blocks workers r → IsRefusalWith trees rules text workers r
+below trees rules blocks text workers refusal.OutOfMemory spelled refused = record {}
+below trees rules blocks text workers (refusal.Routine fault) spelled refused = refused
+below trees rules blocks text workers (refusal.Rules fault) spelled refused = refused
+below trees rules blocks text workers (refusal.Certificate fault) spelled refused = absurd refused
+below trees rules blocks text workers (refusal.Entry entry) spelled refused = (blocks, spelled, refused)
+below trees rules blocks text workers refusal.Workers spelled refused = (blocks, spelled, refused.0, refused.1)
+below trees rules blocks text workers (refusal.GaveUp entry fault) spelled refused = refused
+below trees rules blocks text workers (refusal.Events fault) spelled refused = refused
 
 -- Why events are not replayed.
 pub undeclared : (trees : List RoutineTree) (texts : List (List ℕ)) (text : List ℕ) (r : Refusal) → find (is_missing trees) texts ≡ Some text → TellsEntry text r → IsUndeclared trees texts r
@@ -78,6 +79,7 @@ undeclared trees texts text (refusal.Routine fault) first told = told
 undeclared trees texts text (refusal.Rules fault) first told = told
 undeclared trees texts text (refusal.Certificate fault) first told = told
 undeclared trees texts text (refusal.Entry entry) first told = first ∙ ap Some (sym told)
+undeclared trees texts text refusal.Workers first told = told
 undeclared trees texts text (refusal.GaveUp entry fault) first told = told
 undeclared trees texts text (refusal.Events fault) first told = told
 
@@ -93,12 +95,14 @@ unmade-stuck trees rules (refusal.Routine fault) none told = told
 unmade-stuck trees rules (refusal.Rules fault) none told = told
 unmade-stuck trees rules (refusal.Certificate fault) none told = absurd told
 unmade-stuck trees rules (refusal.Entry entry) none told = absurd told
+unmade-stuck trees rules refusal.Workers none told = told
 unmade-stuck trees rules (refusal.GaveUp entry fault) none told = none
 unmade-stuck trees rules (refusal.Events fault) none told = told
 
 -- What is told of the report by what was made.
-pub verify-refused : (trees : List RoutineTree) (rules : RuleLists) (text : List ℕ) (r : Refusal) → IsMade trees rules text → IsRefusalWith trees rules text r → IsRefusalOfWork trees rules work.Verify r
-verify-refused trees rules text r made refused = inr (text, made, refused)
+pub verify-refused : (trees : List RoutineTree) (rules : RuleLists) (text : List ℕ) (workers : ℕ) (r : Refusal) → IsMade trees rules text → IsRefusalWith trees rules text workers r
+    → IsRefusalOfWork trees rules (work.Verify workers) r
+verify-refused trees rules text workers r made refused = inr (text, made, refused)
 
 -- Routines that were read are well formed.
 pub read_formed : (sources : List Source) (trees : List RoutineTree) → AreRead sources trees → AreFormed trees

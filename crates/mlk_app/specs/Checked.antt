@@ -1,5 +1,5 @@
 -- What the check of texts answers. This project's own choice.
-use Rattle.std.specs.Prelude.{◌≡◌, ◌⊎◌, ℕ, List, [], Some, None, find}
+use Rattle.std.specs.Prelude.{◌≡◌, ◌<◌, ◌⊎◌, ℕ, List, [], Some, None, find}
 use Rattle.mlk_text.specs.declared.fault.Fault.{Fault}
 use Rattle.mlk_text.specs.declared.failure.Failure.{Failure}
 use Rattle.mlk_text.specs.declared.failure.Failure.TheVariants as failure
@@ -47,15 +47,15 @@ IsMade trees rules text = (find (is_missing trees) rules.entries ≡ None) × (b
 -- What the texts of rules and of routines come to: the report by the certificate that is given, or by one that is made, or
 -- the text of one that is made, or what is shown of jobs after events.
 abbrev pub IsOutcomeWith : List RoutineTree → RuleLists → Work → Outcome → Type 0
-IsOutcomeWith trees rules (work.Check text) (outcome.Report rows) = IsReportWith trees rules text.items rows
-IsOutcomeWith trees rules (work.Check text) (outcome.Made made) = ⊥
-IsOutcomeWith trees rules (work.Check text) (outcome.Replayed shown) = ⊥
+IsOutcomeWith trees rules (work.Check text workers) (outcome.Report rows) = IsReportWith trees rules text.items rows
+IsOutcomeWith trees rules (work.Check text workers) (outcome.Made made) = ⊥
+IsOutcomeWith trees rules (work.Check text workers) (outcome.Replayed shown) = ⊥
 IsOutcomeWith trees rules work.Make (outcome.Report rows) = ⊥
 IsOutcomeWith trees rules work.Make (outcome.Made made) = IsMade trees rules made.items
 IsOutcomeWith trees rules work.Make (outcome.Replayed shown) = ⊥
-IsOutcomeWith trees rules work.Verify (outcome.Report rows) = (text : List ℕ) × IsMade trees rules text × IsReportWith trees rules text rows
-IsOutcomeWith trees rules work.Verify (outcome.Made made) = ⊥
-IsOutcomeWith trees rules work.Verify (outcome.Replayed shown) = ⊥
+IsOutcomeWith trees rules (work.Verify workers) (outcome.Report rows) = (text : List ℕ) × IsMade trees rules text × IsReportWith trees rules text rows
+IsOutcomeWith trees rules (work.Verify workers) (outcome.Made made) = ⊥
+IsOutcomeWith trees rules (work.Verify workers) (outcome.Replayed shown) = ⊥
 IsOutcomeWith trees rules (work.Replay events) (outcome.Report rows) = ⊥
 IsOutcomeWith trees rules (work.Replay events) (outcome.Made made) = ⊥
 IsOutcomeWith trees rules (work.Replay events) (outcome.Replayed shown) = IsReplayed trees rules events.items shown
@@ -80,6 +80,7 @@ RefusedRules rules_text (refusal.Routine fault) = ⊥
 RefusedRules rules_text (refusal.Rules fault) = RefusesRules rules_text (failure.Refused fault)
 RefusedRules rules_text (refusal.Certificate fault) = ⊥
 RefusedRules rules_text (refusal.Entry entry) = ⊥
+RefusedRules rules_text refusal.Workers = ⊥
 RefusedRules rules_text (refusal.GaveUp entry fault) = ⊥
 RefusedRules rules_text (refusal.Events fault) = ⊥
 
@@ -89,29 +90,37 @@ RefusedLink trees (refusal.Routine fault) = IsLinkFault trees fault
 RefusedLink trees (refusal.Rules fault) = ⊥
 RefusedLink trees (refusal.Certificate fault) = ⊥
 RefusedLink trees (refusal.Entry entry) = ⊥
+RefusedLink trees refusal.Workers = ⊥
 RefusedLink trees (refusal.GaveUp entry fault) = ⊥
 RefusedLink trees (refusal.Events fault) = ⊥
 
--- Why a program has no report: an entry that it lacks. Want of memory says nothing.
-abbrev pub IsRefusalBy : List RoutineTree → RuleLists → List EntryCert → Refusal → Type 0
-IsRefusalBy trees rules blocks refusal.OutOfMemory = Unit {0}
-IsRefusalBy trees rules blocks (refusal.Routine fault) = ⊥
-IsRefusalBy trees rules blocks (refusal.Rules fault) = ⊥
-IsRefusalBy trees rules blocks (refusal.Certificate fault) = ⊥
-IsRefusalBy trees rules blocks (refusal.Entry entry) = missing trees rules blocks ≡ Some entry
-IsRefusalBy trees rules blocks (refusal.GaveUp entry fault) = ⊥
-IsRefusalBy trees rules blocks (refusal.Events fault) = ⊥
+-- no worker, or more than 64
+abbrev pub AreNoneOrTooMany : ℕ → Type 0
+AreNoneOrTooMany workers = (workers ≡ 0) ⊎ (64 < workers)
+
+-- Why a program has no report: an entry that it lacks, else the number of workers. Want of memory says nothing.
+abbrev pub IsRefusalBy : List RoutineTree → RuleLists → List EntryCert → ℕ → Refusal → Type 0
+IsRefusalBy trees rules blocks workers refusal.OutOfMemory = Unit {0}
+IsRefusalBy trees rules blocks workers (refusal.Routine fault) = ⊥
+IsRefusalBy trees rules blocks workers (refusal.Rules fault) = ⊥
+IsRefusalBy trees rules blocks workers (refusal.Certificate fault) = ⊥
+IsRefusalBy trees rules blocks workers (refusal.Entry entry) = missing trees rules blocks ≡ Some entry
+IsRefusalBy trees rules blocks workers refusal.Workers = (missing trees rules blocks ≡ None) × AreNoneOrTooMany workers
+IsRefusalBy trees rules blocks workers (refusal.GaveUp entry fault) = ⊥
+IsRefusalBy trees rules blocks workers (refusal.Events fault) = ⊥
 
 -- It is told of the certificate's text first,
-abbrev pub IsRefusalWith : List RoutineTree → RuleLists → List ℕ → Refusal → Type 0
-IsRefusalWith trees rules text refusal.OutOfMemory = Unit {0}
-IsRefusalWith trees rules text (refusal.Routine fault) = ⊥
-IsRefusalWith trees rules text (refusal.Rules fault) = ⊥
-IsRefusalWith trees rules text (refusal.Certificate fault) = NoCertificate text fault
-IsRefusalWith trees rules text (refusal.Entry entry) =
+abbrev pub IsRefusalWith : List RoutineTree → RuleLists → List ℕ → ℕ → Refusal → Type 0
+IsRefusalWith trees rules text workers refusal.OutOfMemory = Unit {0}
+IsRefusalWith trees rules text workers (refusal.Routine fault) = ⊥
+IsRefusalWith trees rules text workers (refusal.Rules fault) = ⊥
+IsRefusalWith trees rules text workers (refusal.Certificate fault) = NoCertificate text fault
+IsRefusalWith trees rules text workers (refusal.Entry entry) =
     (blocks : List EntryCert) × Spells blocks text × (missing trees rules blocks ≡ Some entry)
-IsRefusalWith trees rules text (refusal.GaveUp entry fault) = ⊥
-IsRefusalWith trees rules text (refusal.Events fault) = ⊥
+IsRefusalWith trees rules text workers refusal.Workers =
+    (blocks : List EntryCert) × Spells blocks text × (missing trees rules blocks ≡ None) × AreNoneOrTooMany workers
+IsRefusalWith trees rules text workers (refusal.GaveUp entry fault) = ⊥
+IsRefusalWith trees rules text workers (refusal.Events fault) = ⊥
 
 -- Why no certificate is made: it has a text that is too long, the program lacks a declared entry, or the maker gave up.
 abbrev pub IsUnmade : List RoutineTree → RuleLists → Refusal → Type 0
@@ -120,15 +129,16 @@ IsUnmade trees rules (refusal.Routine fault) = ⊥
 IsUnmade trees rules (refusal.Rules fault) = ⊥
 IsUnmade trees rules (refusal.Certificate fault) = (fault.code ≡ CertLimit) × (fault.line ≡ 1)
 IsUnmade trees rules (refusal.Entry entry) = find (is_missing trees) rules.entries ≡ Some entry
+IsUnmade trees rules refusal.Workers = ⊥
 IsUnmade trees rules (refusal.GaveUp entry fault) = find (is_missing trees) rules.entries ≡ None
 IsUnmade trees rules (refusal.Events fault) = ⊥
 
 -- It is told of the certificate's text, or of its making, or of the events, first,
 abbrev pub IsRefusalOfWork : List RoutineTree → RuleLists → Work → Refusal → Type 0
-IsRefusalOfWork trees rules (work.Check text) r = IsRefusalWith trees rules text.items r
+IsRefusalOfWork trees rules (work.Check text workers) r = IsRefusalWith trees rules text.items workers r
 IsRefusalOfWork trees rules work.Make r = IsUnmade trees rules r
-IsRefusalOfWork trees rules work.Verify r =
-    IsUnmade trees rules r ⊎ ((text : List ℕ) × IsMade trees rules text × IsRefusalWith trees rules text r)
+IsRefusalOfWork trees rules (work.Verify workers) r =
+    IsUnmade trees rules r ⊎ ((text : List ℕ) × IsMade trees rules text × IsRefusalWith trees rules text workers r)
 IsRefusalOfWork trees rules (work.Replay events) r = IsUnreplayed trees rules events.items r
 
 -- of the rules' text before it,
@@ -147,6 +157,7 @@ IsFirst sources (refusal.Routine fault) = IsFirstRefused sources fault
 IsFirst sources (refusal.Rules fault) = ⊥
 IsFirst sources (refusal.Certificate fault) = ⊥
 IsFirst sources (refusal.Entry entry) = ⊥
+IsFirst sources refusal.Workers = ⊥
 IsFirst sources (refusal.GaveUp entry fault) = ⊥
 IsFirst sources (refusal.Events fault) = ⊥
 
@@ -179,6 +190,7 @@ TellsEntry text (refusal.Routine fault) = ⊥
 TellsEntry text (refusal.Rules fault) = ⊥
 TellsEntry text (refusal.Certificate fault) = ⊥
 TellsEntry text (refusal.Entry entry) = entry ≡ text
+TellsEntry text refusal.Workers = ⊥
 TellsEntry text (refusal.GaveUp entry fault) = ⊥
 TellsEntry text (refusal.Events fault) = ⊥
 
@@ -189,5 +201,6 @@ IsStuck trees (refusal.Routine fault) = ⊥
 IsStuck trees (refusal.Rules fault) = ⊥
 IsStuck trees (refusal.Certificate fault) = ⊥
 IsStuck trees (refusal.Entry entry) = ⊥
+IsStuck trees refusal.Workers = ⊥
 IsStuck trees (refusal.GaveUp entry fault) = Unit {0}
 IsStuck trees (refusal.Events fault) = ⊥

@@ -43,17 +43,17 @@ AreSources holds [] (source ∷ sources) = ⊥
 AreSources holds (path ∷ paths) [] = ⊥
 AreSources holds (path ∷ paths) (source ∷ sources) = IsSource holds path.now source × AreSources holds paths sources
 
--- the text of the certificate, or of the events, where one is named
+-- the text of the certificate, or of the events, where one is named, and the number of workers
 abbrev pub IsWork : Texts → Asked → Work → Type 0
-IsWork holds (asked.Check path) (work.Check text) = holds path.now text.items
-IsWork holds (asked.Check path) work.Make = ⊥
-IsWork holds (asked.Check path) work.Verify = ⊥
-IsWork holds (asked.Check path) (work.Replay text) = ⊥
+IsWork holds (asked.Check path workers) (work.Check text given) = holds path.now text.items × (given ≡ workers)
+IsWork holds (asked.Check path workers) work.Make = ⊥
+IsWork holds (asked.Check path workers) (work.Verify given) = ⊥
+IsWork holds (asked.Check path workers) (work.Replay text) = ⊥
 IsWork holds asked.Make w = w ≡ work.Make
-IsWork holds asked.Verify w = w ≡ work.Verify
-IsWork holds (asked.Replay path) (work.Check text) = ⊥
+IsWork holds (asked.Verify workers) w = w ≡ work.Verify workers
+IsWork holds (asked.Replay path) (work.Check text given) = ⊥
 IsWork holds (asked.Replay path) work.Make = ⊥
-IsWork holds (asked.Replay path) work.Verify = ⊥
+IsWork holds (asked.Replay path) (work.Verify given) = ⊥
 IsWork holds (asked.Replay path) (work.Replay text) = holds path.now text.items
 
 -- the texts are those of the files that a command names
@@ -63,9 +63,9 @@ pub record AreTexts (holds : Texts) (request : Request) (sources : Sources) : Ty
   pub routines : AreSources holds request.routines.items sources.routines.items
 
 abbrev pub work_path : Asked → List (List ℕ)
-work_path (asked.Check path) = path.now ∷ []
+work_path (asked.Check path workers) = path.now ∷ []
 work_path asked.Make = []
-work_path asked.Verify = []
+work_path (asked.Verify workers) = []
 work_path (asked.Replay path) = path.now ∷ []
 
 -- the paths that a command names, in the order of its words

@@ -2,7 +2,7 @@
 use Rattle.std.specs.Prelude.{ℕ, List, [], ◌∷◌, ◌++◌, Option, Some, None, codes, length}
 use Rattle.std.specs.Fmt.{decimal}
 use Rattle.mlk_text.specs.declared.code.Code.{Code}
-use Rattle.mlk_text.specs.declared.code.Code.TheVariants.{EntryMissing, GaveUp, EventForm, NotEnabled, BadChoice, UnknownJob}
+use Rattle.mlk_text.specs.declared.code.Code.TheVariants.{EntryMissing, Workers, GaveUp, EventForm, NotEnabled, BadChoice, UnknownJob}
 use Rattle.mlk_text.specs.declared.fault.Fault.{Fault}
 use Rattle.mlk_text.specs.declared.fault.LeftOut.{LeftOut}
 use Rattle.mlk_text.specs.Codes.{number_of, word_of}
@@ -47,6 +47,10 @@ fault_line f =
 -- `refused entry TEXT 901 EntryMissing`
 abbrev pub missing_line : List ℕ → List ℕ
 missing_line text = codes "refused entry " ++ text ++ space ++ code_text EntryMissing ++ line_end
+
+-- `refused workers 902 Workers`
+abbrev pub workers_line : List ℕ
+workers_line = codes "refused workers " ++ code_text Workers ++ line_end
 
 -- `refused LABEL^ROUTINE line:column 801 GaveUp`
 abbrev pub stuck_line : List ℕ → WalkFault → List ℕ

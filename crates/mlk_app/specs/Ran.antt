@@ -14,7 +14,7 @@ use Rattle.mlk_app.specs.declared.checked.Refusal.{Refusal}
 use Rattle.mlk_app.specs.declared.checked.Refusal.TheVariants as refusal
 use Rattle.mlk_app.specs.declared.program.Answer.{Answer}
 use Rattle.mlk_app.specs.declared.program.Answer.TheVariants as answer
-use Rattle.mlk_app.specs.Printed.{report_text, fault_line, rules_line, certificate_line, missing_line, stuck_line, events_line, file_line}
+use Rattle.mlk_app.specs.Printed.{report_text, fault_line, rules_line, certificate_line, missing_line, workers_line, stuck_line, events_line, file_line}
 use Rattle.mlk_app.specs.Files.{Texts, AreTexts, IsFirstLost, paths_of}
 use Rattle.mlk_cli.specs.CommandLine.{IsRequest, AsksNothing}
 use Rattle.mlk_app.specs.Checked.{IsChecked, IsRefusedBy}
@@ -31,6 +31,7 @@ IsRefusalLine (refusal.Routine fault) line = line ≡ fault_line fault
 IsRefusalLine (refusal.Rules fault) line = line ≡ rules_line fault
 IsRefusalLine (refusal.Certificate fault) line = line ≡ certificate_line fault
 IsRefusalLine (refusal.Entry entry) line = line ≡ missing_line entry
+IsRefusalLine refusal.Workers line = line ≡ workers_line
 IsRefusalLine (refusal.GaveUp entry fault) line = line ≡ stuck_line entry fault
 IsRefusalLine (refusal.Events fault) line = line ≡ events_line fault
 

@@ -26,6 +26,7 @@ IsUndeclared trees texts (refusal.Routine fault) = ⊥
 IsUndeclared trees texts (refusal.Rules fault) = ⊥
 IsUndeclared trees texts (refusal.Certificate fault) = ⊥
 IsUndeclared trees texts (refusal.Entry entry) = find (is_missing trees) texts ≡ Some entry
+IsUndeclared trees texts refusal.Workers = ⊥
 IsUndeclared trees texts (refusal.GaveUp entry fault) = ⊥
 IsUndeclared trees texts (refusal.Events fault) = ⊥
 
@@ -41,6 +42,7 @@ IsStopped routines entries events (refusal.Routine fault) = ⊥
 IsStopped routines entries events (refusal.Rules fault) = ⊥
 IsStopped routines entries events (refusal.Certificate fault) = ⊥
 IsStopped routines entries events (refusal.Entry entry) = ⊥
+IsStopped routines entries events refusal.Workers = ⊥
 IsStopped routines entries events (refusal.GaveUp entry fault) = ⊥
 IsStopped routines entries events (refusal.Events fault) =
     ReplayedFile routines entries events (Err (failure.Refused fault))

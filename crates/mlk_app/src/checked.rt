@@ -1,20 +1,22 @@
 // From the texts of files to a report.
 
-ghost use Rattle.std.specs.Prelude.{◌≡◌, [], map, IfOk, IfErr};
+ghost use Rattle.std.specs.Prelude.{◌≡◌, [], None, map, IfOk, IfErr};
 ghost use Rattle.mlk_syntax.specs.Views.{routine_of};
 ghost use Rattle.mlk_readers.specs.Reading.{AreRead, RefusesFirst};
 ghost use Rattle.mlk_app.specs.Checked.{refusal_of_routine, refusal_of_rules, refusal_of_certificate, refusal_of_events, TellsEntry, IsReportBy, IsReportWith, IsStuck, IsMade, IsUnmade, IsOutcomeWith, IsOutcomeUnder, IsOutcomeOf, IsRefusalBy, IsRefusalWith, IsRefusalOfWork, IsRefusalUnder, IsRefusalOf, IsChecked, IsRefusedBy};
 ghost use Rattle.mlk_cert.specs.Theorem.{Spells};
 ghost use Rattle.mlk_soundness_walk.specs.Forms.{AreFormed};
+ghost use Rattle.mlk_walk.specs.Reports.{missing};
 ghost use Rattle.mlk_app.specs.Ran.{trees_of};
 ghost use Rattle.mlk_app.specs.declared.checked.Refusal.TheVariants as refusal;
 
+use crate::gate::OpenGate;
 use crate::replayed::jobs_text;
 use crate::source::{Sources, Work};
 use mlk_cert::{CertFault, Certificate, Spelled, read_cert};
-use mlk_check::check_all;
 use mlk_machine::EventsFault;
 use mlk_make::{GaveUp, MakeError, Stage, Watch, make_watched};
+use mlk_pool::{PoolFault, report_by};
 use mlk_program::{Program, link};
 use mlk_readers::{Source, read_all};
 use mlk_rules::Rules;
@@ -23,6 +25,7 @@ use mlk_syntax::Routine;
 use mlk_text::{Failure, Fault, Value};
 use mlk_walk::{Report, missing_entry};
 use std::alloc::{AllocError, Global};
+use std::sync::Wait;
 use std::thread::Threads;
 
 /// Why there is no report.
@@ -34,6 +37,8 @@ pub(crate) enum Refusal {
     Certificate(CertFault),
     /// An entry text of the rules or the certificate that the routines lack.
     Entry(Value),
+    /// There are no workers, or more than 64.
+    Workers,
     /// No certificate was made: the text of the entry, and the fault at which the maker gave up.
     GaveUp(Value, mlk_walk_exprs::Fault),
     Events(EventsFault),
@@ -150,55 +155,94 @@ pub(crate) fn lacks(alloc: Global, entry: &[u8]) -> Refusal
     }
 }
 
-fn report_by<W: Watch>(
+// The report of workers on a program that has all entries.
+fn report_on<R: Threads + Wait + Sync>(
+    rt: &R,
     alloc: Global,
     program: &Program<'_>,
     rules: &Rules,
     certificate: &Certificate,
+    workers: u32,
+) -> Result<Report, Refusal>
+    requires formed { AreFormed (map routine_of program.now) }
+    requires named { missing (map routine_of program.now) rules.now certificate.now ≡ None }
+    ensures ok { IfOk result (IsReportBy (map routine_of program.now) rules.now certificate.now) }
+    ensures refused { IfErr result (IsRefusalBy (map routine_of program.now) rules.now certificate.now workers) }
+{
+    // What rules and certificates are by their types.
+    let _ = rules.lists();
+    let _ = certificate.blocks();
+    match report_by(
+        rt,
+        alloc,
+        program,
+        rules,
+        certificate,
+        workers as usize,
+        &OpenGate,
+    ) {
+        Ok(report) => Ok(report),
+        Err(Failure::OutOfMemory) => Err(Refusal::OutOfMemory),
+        Err(Failure::Refused(PoolFault::Workers)) => Err(Refusal::Workers),
+        Err(Failure::Refused(PoolFault::GateShut(_))) => unreachable!(),
+    }
+}
+
+fn report_by_certificate<R: Threads + Wait + Sync, W: Watch>(
+    rt: &R,
+    alloc: Global,
+    program: &Program<'_>,
+    rules: &Rules,
+    certificate: &Certificate,
+    workers: u32,
     watch: &W,
 ) -> Result<Report, Refusal>
     requires { AreFormed (map routine_of program.now) }
     ensures ok { IfOk result (IsReportBy (map routine_of program.now) rules.now certificate.now) }
-    ensures refused { IfErr result (IsRefusalBy (map routine_of program.now) rules.now certificate.now) }
+    ensures refused { IfErr result (IsRefusalBy (map routine_of program.now) rules.now certificate.now workers) }
 {
     if let Some(entry) = missing_entry(program, rules, certificate) {
         return Err(lacks(alloc, entry));
     }
     watch.see(Stage::Checking, 0, 0);
-    Ok(check_all(alloc, program, rules, certificate)?)
+    report_on(rt, alloc, program, rules, certificate, workers)
 }
 
-fn report_with<W: Watch>(
+fn report_with<R: Threads + Wait + Sync, W: Watch>(
+    rt: &R,
     alloc: Global,
     program: &Program<'_>,
     rules: &Rules,
     text: &[u8],
+    workers: u32,
     watch: &W,
 ) -> Result<Report, Refusal>
     requires { AreFormed (map routine_of program.now) }
     ensures ok { IfOk result (IsReportWith (map routine_of program.now) rules.now text.now) }
-    ensures refused { IfErr result (IsRefusalWith (map routine_of program.now) rules.now text.now) }
+    ensures refused { IfErr result (IsRefusalWith (map routine_of program.now) rules.now text.now workers) }
 {
     let certificate = read_cert(alloc, text)?;
-    let report = report_by(alloc, program, rules, &certificate, watch);
+    let report = report_by_certificate(rt, alloc, program, rules, &certificate, workers, watch);
     watch.discard(certificate);
     report
 }
 
 // The report by a certificate that was made, and its text.
-fn report_of<W: Watch>(
+fn report_of<R: Threads + Wait + Sync, W: Watch>(
+    rt: &R,
     alloc: Global,
     program: &Program<'_>,
     rules: &Rules,
     made: &Spelled,
+    workers: u32,
     watch: &W,
 ) -> Result<Report, Refusal>
     requires formed { AreFormed (map routine_of program.now) }
     requires spelled { Spells made.now.certificate made.now.text.items }
     ensures ok { IfOk result (IsReportWith (map routine_of program.now) rules.now made.now.text.items) }
-    ensures refused { IfErr result (IsRefusalWith (map routine_of program.now) rules.now made.now.text.items) }
+    ensures refused { IfErr result (IsRefusalWith (map routine_of program.now) rules.now made.now.text.items workers) }
 {
-    report_by(alloc, program, rules, &made.certificate, watch)
+    report_by_certificate(rt, alloc, program, rules, &made.certificate, workers, watch)
 }
 
 // What is told where the maker gave up.
@@ -231,7 +275,8 @@ fn made<W: Watch>(
     }
 }
 
-fn outcome_with<W: Watch>(
+fn outcome_with<R: Threads + Wait + Sync, W: Watch>(
+    rt: &R,
     alloc: Global,
     program: &Program<'_>,
     rules: &Rules,
@@ -243,17 +288,21 @@ fn outcome_with<W: Watch>(
     ensures refused { IfErr result (IsRefusalOfWork (map routine_of program.now) rules.now work.now) }
 {
     match work {
-        Work::Check(text) => {
-            let report = report_with(alloc, program, rules, text.as_slice(), watch)?;
+        Work::Check {
+            certificate,
+            workers,
+        } => {
+            let text = certificate.as_slice();
+            let report = report_with(rt, alloc, program, rules, text, *workers, watch)?;
             Ok(Outcome::Report(report))
         }
         Work::Make => {
             let Spelled { text, .. } = made(alloc, program, rules, watch)?;
             Ok(Outcome::Made(text))
         }
-        Work::Verify => {
+        Work::Verify { workers } => {
             let made = made(alloc, program, rules, watch)?;
-            let report = report_of(alloc, program, rules, &made, watch)?;
+            let report = report_of(rt, alloc, program, rules, &made, *workers, watch)?;
             watch.discard(made);
             Ok(Outcome::Report(report))
         }
@@ -264,7 +313,8 @@ fn outcome_with<W: Watch>(
     }
 }
 
-fn outcome_under<W: Watch>(
+fn outcome_under<R: Threads + Wait + Sync, W: Watch>(
+    rt: &R,
     alloc: Global,
     program: &Program<'_>,
     rules_text: &[u8],
@@ -276,11 +326,12 @@ fn outcome_under<W: Watch>(
     ensures refused { IfErr result (IsRefusalUnder (map routine_of program.now) rules_text.now work.now) }
 {
     let rules = read_rules(alloc, rules_text)?;
-    outcome_with(alloc, program, &rules, work, watch)
+    outcome_with(rt, alloc, program, &rules, work, watch)
 }
 
 // What routines come to by the text of rules.
-fn outcome_of<W: Watch>(
+fn outcome_of<R: Threads + Wait + Sync, W: Watch>(
+    rt: &R,
     alloc: Global,
     routines: &[Routine],
     rules_text: &[u8],
@@ -292,14 +343,15 @@ fn outcome_of<W: Watch>(
     ensures refused { IfErr result (IsRefusalOf (map routine_of routines.now) rules_text.now work.now) }
 {
     let program = link(alloc, routines)?;
-    let outcome = outcome_under(alloc, &program, rules_text, work, watch);
+    let outcome = outcome_under(rt, alloc, &program, rules_text, work, watch);
     watch.discard(program);
     outcome
 }
 
 /// What texts come to, or the first refusal: of the routines in order, of their linking, of the rules, of the
-/// certificate, or of its making, and of an entry that the routines lack; of events after that entry.
-pub(crate) fn check_texts<R: Threads + Sync, W: Watch>(
+/// certificate, or of its making, of an entry that the routines lack, and of the number of workers; of events after that
+/// entry.
+pub(crate) fn check_texts<R: Threads + Wait + Sync, W: Watch>(
     rt: &R,
     alloc: Global,
     sources: Sources<'_>,
@@ -314,7 +366,14 @@ pub(crate) fn check_texts<R: Threads + Sync, W: Watch>(
         routines: files,
     } = sources;
     let routines = routines_of(rt, alloc, files, watch)?;
-    match outcome_of(alloc, routines.as_slice(), rules.as_slice(), &work, watch) {
+    match outcome_of(
+        rt,
+        alloc,
+        routines.as_slice(),
+        rules.as_slice(),
+        &work,
+        watch,
+    ) {
         Ok(outcome) => Ok(Checked { routines, outcome }),
         Err(refusal) => {
             watch.discard(routines);

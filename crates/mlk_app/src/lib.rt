@@ -3,6 +3,7 @@
 
 mod checked;
 mod file;
+mod gate;
 mod printed;
 mod program;
 mod replayed;

@@ -3,7 +3,7 @@
 ghost use Rattle.std.specs.Prelude.{◌≡◌, ◌++◌, OnOk, IfOk, map, slice_get, option_copied};
 ghost use Rattle.mlk_syntax.specs.Views.{line_of, routine_of};
 ghost use Rattle.mlk_program.specs.Entries.{label_of, text_with};
-ghost use Rattle.mlk_app.specs.Printed.{code_text, place_text, left_out_text, fault_line, missing_line, rules_line, certificate_line, events_code, events_line, stuck_line, file_line, entry_text, fault_text, row_line, row_lines, last_line, report_text};
+ghost use Rattle.mlk_app.specs.Printed.{code_text, place_text, left_out_text, fault_line, missing_line, workers_line, rules_line, certificate_line, events_code, events_line, stuck_line, file_line, entry_text, fault_text, row_line, row_lines, last_line, report_text};
 
 use crate::text::Text;
 use mlk_cert::CertFault;
@@ -69,6 +69,17 @@ pub(crate) fn missing_line(alloc: Global, entry: &Value) -> Result<Text, AllocEr
     text.push(entry.as_bytes())?;
     text.push(b" ")?;
     push_code(&mut text, Code::EntryMissing)?;
+    text.push(b"\n")?;
+    Ok(text)
+}
+
+/// `refused workers 902 Workers`
+pub(crate) fn workers_line(alloc: Global) -> Result<Text, AllocError>
+    ensures { IfOk result (λ t. t ≡ workers_line) }
+{
+    let mut text = Text::new(alloc);
+    text.push(b"refused workers ")?;
+    push_code(&mut text, Code::Workers)?;
     text.push(b"\n")?;
     Ok(text)
 }

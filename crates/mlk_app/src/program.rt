@@ -9,7 +9,7 @@ ghost use Rattle.mlk_app.specs.Ran.{status_of, PrintsReport, PrintsText, PrintsO
 use crate::checked::{Checked, Outcome, Refusal, check_texts};
 use crate::printed::{
     certificate_line, events_line, fault_line, file_line, missing_line, report_text, rules_line,
-    stuck_line,
+    stuck_line, workers_line,
 };
 use crate::source::{FileError, Files, read_files};
 use crate::text::Text;
@@ -19,6 +19,7 @@ use mlk_syntax::Routine;
 use mlk_walk::Report;
 use std::alloc::{AllocError, Global};
 use std::io::{self, ErrorKind, Write};
+use std::sync::Wait;
 use std::thread::Threads;
 
 const YES: u8 = 0;
@@ -96,6 +97,7 @@ fn refusal_line(alloc: Global, refusal: &Refusal) -> Result<Text, AllocError>
         Refusal::Rules(fault) => rules_line(alloc, fault),
         Refusal::Certificate(fault) => certificate_line(alloc, fault),
         Refusal::Entry(entry) => missing_line(alloc, entry),
+        Refusal::Workers => workers_line(alloc),
         Refusal::GaveUp(entry, fault) => stuck_line(alloc, entry, fault),
         Refusal::Events(fault) => events_line(alloc, fault),
     }
@@ -120,7 +122,7 @@ fn unread_answer(alloc: Global, path: &str) -> Answer
 }
 
 // What is answered to a request, from the texts of the files.
-fn answer_request<R: Threads + Sync, F: Files, W: Watch>(
+fn answer_request<R: Threads + Wait + Sync, F: Files, W: Watch>(
     rt: &R,
     alloc: Global,
     request: &Request<'_>,
@@ -139,7 +141,7 @@ fn answer_request<R: Threads + Sync, F: Files, W: Watch>(
     }
 }
 
-fn answer_words<R: Threads + Sync, F: Files, W: Watch>(
+fn answer_words<R: Threads + Wait + Sync, F: Files, W: Watch>(
     rt: &R,
     alloc: Global,
     words: &[String],
@@ -224,9 +226,9 @@ pub fn wrong_words<E: Write>(error: &io::Error, err: &mut E) -> u8
 /// Does what the words ask for, of which the first is the program's name, and answers the status: 0 for `yes`,
 /// a certificate or jobs, 1 for `no`, 2 for refused input, 3 for want of memory or a file that can't be read or written.
 ///
-/// The texts of routines are read side by side, by these threads. Reports go to `out`, all else to `err`; a fault of `err`
-/// changes nothing.
-pub fn run<R: Threads + Sync, F: Files, O: Write, E: Write>(
+/// The texts of routines are read side by side, by these threads, and the lines of entries are walked so by the workers that
+/// the words ask for. Reports go to `out`, all else to `err`; a fault of `err` changes nothing.
+pub fn run<R: Threads + Wait + Sync, F: Files, O: Write, E: Write>(
     rt: &R,
     alloc: Global,
     words: &[String],
@@ -241,7 +243,7 @@ pub fn run<R: Threads + Sync, F: Files, O: Write, E: Write>(
 
 /// Does what `run` does, and tells how far it has come as it goes. Before anything is written, it tells that it is at its
 /// end.
-pub fn run_watched<R: Threads + Sync, F: Files, W: Watch, O: Write, E: Write>(
+pub fn run_watched<R: Threads + Wait + Sync, F: Files, W: Watch, O: Write, E: Write>(
     rt: &R,
     alloc: Global,
     words: &[String],

@@ -35,12 +35,12 @@ pub(crate) enum FileError<'a> {
 /// What is to be done with the texts.
 #[derive(Drop, Debug)]
 pub(crate) enum Work {
-    /// the check by this text of a certificate
-    Check(Vec<u8>),
+    /// the check by this text of a certificate, and by so many workers
+    Check { certificate: Vec<u8>, workers: u32 },
     /// a certificate is made
     Make,
-    /// the check by the certificate that is made
-    Verify,
+    /// the check by the certificate that is made, and by so many workers
+    Verify { workers: u32 },
     /// the events of this text are replayed
     Replay(Vec<u8>),
 }
@@ -129,7 +129,7 @@ fn read_sources<'a, F: Files>(
     Ok(sources)
 }
 
-// The text of the certificate, or of the events, where one is named.
+// The text of the certificate, or of the events, where one is named, and the number of workers.
 fn read_work<'a, F: Files>(
     alloc: Global,
     files: &F,
@@ -139,9 +139,15 @@ fn read_work<'a, F: Files>(
     ensures lost { IfErr result (LosesFirst (F.holds files.now) (F.lacks files.now) (work_path asked.now)) }
 {
     match asked {
-        Asked::Check(path) => Ok(Work::Check(read_file(alloc, files, *path)?)),
+        Asked::Check {
+            certificate,
+            workers,
+        } => Ok(Work::Check {
+            certificate: read_file(alloc, files, *certificate)?,
+            workers: *workers,
+        }),
         Asked::Make => Ok(Work::Make),
-        Asked::Verify => Ok(Work::Verify),
+        Asked::Verify { workers } => Ok(Work::Verify { workers: *workers }),
         Asked::Replay(path) => Ok(Work::Replay(read_file(alloc, files, *path)?)),
     }
 }

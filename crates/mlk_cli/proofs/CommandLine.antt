@@ -1,11 +1,13 @@
 -- What the words of a command line ask for.
-use Rattle.std.proofs.Common.{◌≡◌, ◌∙◌, sym, List, [], ◌∷◌, Bool, true, false, not, Some, None, refl, codes, option_map}
-use Rattle.clap.specs.Words.{Text, Row, all_of, first_of, is_simple, subcommand_of}
+use Rattle.std.proofs.Common.{◌≡◌, ◌∙◌, sym, subst, ℕ, ◌<◌, ◌^◌, List, [], ◌∷◌, Bool, true, false, not, Option, Some, None, Result, Ok, Err, refl, codes, option_map, slice_index, arith}
+use Rattle.std.specs.Str.Parse.{ParsesUnsigned, IsNumeral, digits_value, without_leading_plus}
+use Rattle.clap.specs.Matches.{ReadsOne}
+use Rattle.clap.specs.Words.{Text, Row, all_of, first_of, is_simple, one_of, subcommand_of}
 use Rattle.clap.specs.Takes.{takes}
 use Rattle.clap.proofs.OnLiterals.{clap_on_literals}
 use Rattle.mlk_cli.specs.declared.words.Asked.{Asked}
 use Rattle.mlk_cli.specs.declared.words.Asked.TheVariants as asked
-use Rattle.mlk_cli.specs.CommandLine.{mlock_app, IsAsked}
+use Rattle.mlk_cli.specs.CommandLine.{mlock_app, IsAsked, IsNumber, AreWorkers, GivesWorkers}
 
 pub not-true : (b : Bool) → not b ≡ true → b ≡ false
 not-true true h = cc h
@@ -16,9 +18,12 @@ pub is-exact : is_simple mlock_app ≡ true
 unfolding clap_on_literals
 is-exact = refl
 
--- examples: words, and the paths that they give
+-- examples: words, and what they give
 abbrev words : List Text
 words = codes "mlock" ∷ codes "check" ∷ codes "r" ∷ codes "c" ∷ codes "A.m" ∷ codes "B.m" ∷ []
+
+abbrev workers_words : List Text
+workers_words = codes "mlock" ∷ codes "verify" ∷ codes "r" ∷ codes "A.m" ∷ codes "--workers" ∷ codes "64" ∷ codes "B.m" ∷ []
 
 abbrev replay_words : List Text
 replay_words = codes "mlock" ∷ codes "replay" ∷ codes "r" ∷ codes "e" ∷ codes "A.m" ∷ []
@@ -39,6 +44,18 @@ reads_events : option_map (λ p. first_of (codes "EVENTS") p.1) (subcommand_of m
 unfolding clap_on_literals
 reads_events = refl
 
+reads_workers : option_map (λ p. one_of (codes "workers") p.1) (subcommand_of mlock_app workers_words) ≡ Some (Some (codes "64"))
+unfolding clap_on_literals
+reads_workers = refl
+
+reads_routines_around : option_map (λ p. all_of (codes "ROUTINE") p.1) (subcommand_of mlock_app workers_words) ≡ Some (Some (codes "A.m" ∷ codes "B.m" ∷ []))
+unfolding clap_on_literals
+reads_routines_around = refl
+
+reads_four_workers : option_map (λ p. one_of (codes "workers") p.1) (subcommand_of mlock_app words) ≡ Some (Some (codes "4"))
+unfolding clap_on_literals
+reads_four_workers = refl
+
 -- words that are taken, and words that are not
 takes_words : takes mlock_app words ≡ true
 unfolding clap_on_literals
@@ -56,16 +73,87 @@ takes_no_events : takes mlock_app (codes "mlock" ∷ codes "replay" ∷ codes "r
 unfolding clap_on_literals
 takes_no_events = refl
 
--- A command of another name asks for nothing, nor does a check without the path of a certificate, or a replay without
--- that of events.
+takes_workers : takes mlock_app workers_words ≡ true
+unfolding clap_on_literals
+takes_workers = refl
+
+takes_no_workers : takes mlock_app (codes "mlock" ∷ codes "verify" ∷ codes "r" ∷ codes "A.m" ∷ codes "--workers=0" ∷ []) ≡ true
+unfolding clap_on_literals
+takes_no_workers = refl
+
+takes_no_more_bits : takes mlock_app (codes "mlock" ∷ codes "verify" ∷ codes "r" ∷ codes "A.m" ∷ codes "--workers" ∷ codes "4294967296" ∷ []) ≡ false
+unfolding clap_on_literals
+takes_no_more_bits = refl
+
+takes_no_empty_number : takes mlock_app (codes "mlock" ∷ codes "verify" ∷ codes "r" ∷ codes "A.m" ∷ codes "--workers" ∷ [] ∷ []) ≡ false
+unfolding clap_on_literals
+takes_no_empty_number = refl
+
+takes_workers_once : takes mlock_app (codes "mlock" ∷ codes "verify" ∷ codes "r" ∷ codes "A.m" ∷ codes "--workers=1" ∷ codes "--workers=1" ∷ []) ≡ false
+unfolding clap_on_literals
+takes_workers_once = refl
+
+makes_without_workers : takes mlock_app (codes "mlock" ∷ codes "make" ∷ codes "r" ∷ codes "A.m" ∷ codes "--workers=1" ∷ []) ≡ false
+unfolding clap_on_literals
+makes_without_workers = refl
+
+replays_without_workers : takes mlock_app (codes "mlock" ∷ codes "replay" ∷ codes "r" ∷ codes "e" ∷ codes "A.m" ∷ codes "--workers=1" ∷ []) ≡ false
+unfolding clap_on_literals
+replays_without_workers = refl
+
+-- a number of workers, after a plus and zeros
+plus_and_zeros : IsNumber (codes "+004") 4
+plus_and_zeros = ((omega arith, (omega arith, (omega arith, (omega arith, tt)))), refl, omega arith)
+
+some_same : {X : Type 0} {x y : X} → Some x ≡ Some y → x ≡ y
+some_same e = cc
+
+-- a number of workers is what is read of the text that a command was given
+pub gives-workers : (E : Type 0) (gives : List ℕ → Result ℕ E → Type 0) (rows : List Row) (given : Option Text) (read : Option ℕ)
+    → given ≡ one_of (codes "workers") rows
+    → (given ≡ None → read ≡ None) → ((text : List ℕ) → given ≡ Some text → ReadsOne gives text read)
+    → ((text : List ℕ) (r : Result ℕ E) → gives text r → ParsesUnsigned 32 10 text r)
+    → GivesWorkers rows read
+gives-workers E gives rows None read is none some parses =
+    subst (GivesWorkers rows) (sym (none refl)) (λ workers h. let bad = is ∙ h.1 in cc bad)
+gives-workers E gives rows (Some text) None is none some parses = λ workers h.
+    let refused = some text refl in
+    let same : text ≡ h.0 = some_same (is ∙ h.1) in
+    let small : digits_value 10 (without_leading_plus h.0) < 2 ^ 32 = subst (λ n. n < 2 ^ 32) (sym h.2.1) h.2.2 in
+    parses text (Err refused.0) refused.1 (subst (λ t. IsNumeral 10 (without_leading_plus t) × (digits_value 10 (without_leading_plus t) < 2 ^ 32)) (sym same) (h.2.0, small))
+gives-workers E gives rows (Some text) (Some workers) is none some parses =
+    let parsed = parses text (Ok workers) (some text refl) in
+    (text, sym is, (parsed.0.0, sym parsed.1, subst (λ n. n < 2 ^ 32) (sym parsed.1) parsed.0.1))
+
+-- the two begin with other letters
+verify-not-replay : codes "verify" ≡ codes "replay" → ⊥
+verify-not-replay e = let bad : ◌≡◌ {A = ℕ} 114 118 = first (codes "replay") (sym e) in omega arith
+  where
+    first : (text : Text) → text ≡ codes "verify" → slice_index text 0 ≡ 118
+    first text is = rw is refl
+
+-- A command of another name asks for nothing, nor does a check without the path of a certificate or a number of workers,
+-- a check by a certificate that is made without a number of workers, or a replay without the path of events.
 pub asks-nothing : (name : Text) (rows : List Row) → (name ≡ codes "make" → ⊥) → (name ≡ codes "verify" → ⊥) → (name ≡ codes "replay" → ⊥) → None ≡ first_of (codes "CERT") rows → (a : Asked) → IsAsked name rows a → ⊥
-asks-nothing name rows no-make no-verify no-replay none (asked.Check path) h = let bad = none ∙ h.1 in cc bad
+asks-nothing name rows no-make no-verify no-replay none (asked.Check path workers) h = let bad = none ∙ h.1 in cc bad
 asks-nothing name rows no-make no-verify no-replay none asked.Make h = no-make h
-asks-nothing name rows no-make no-verify no-replay none asked.Verify h = no-verify h
+asks-nothing name rows no-make no-verify no-replay none (asked.Verify workers) h = no-verify h.0
 asks-nothing name rows no-make no-verify no-replay none (asked.Replay path) h = no-replay h.0
 
+pub checks-nothing : (name : Text) (rows : List Row) → (name ≡ codes "make" → ⊥) → (name ≡ codes "verify" → ⊥) → (name ≡ codes "replay" → ⊥) → ((workers : ℕ) → AreWorkers rows workers → ⊥) → (a : Asked) → IsAsked name rows a → ⊥
+checks-nothing name rows no-make no-verify no-replay none (asked.Check path workers) h = none workers h.2
+checks-nothing name rows no-make no-verify no-replay none asked.Make h = no-make h
+checks-nothing name rows no-make no-verify no-replay none (asked.Verify workers) h = no-verify h.0
+checks-nothing name rows no-make no-verify no-replay none (asked.Replay path) h = no-replay h.0
+
+pub verifies-nothing : (name : Text) (rows : List Row) → name ≡ codes "verify" → ((workers : ℕ) → AreWorkers rows workers → ⊥) → (a : Asked) → IsAsked name rows a → ⊥
+verifies-nothing name rows is none (asked.Check path workers) h = let bad = sym is ∙ h.0 in cc bad
+verifies-nothing name rows is none asked.Make h = let bad = sym is ∙ h in cc bad
+verifies-nothing name rows is none (asked.Verify workers) h = none workers h.1
+verifies-nothing name rows is none (asked.Replay path) h = verify-not-replay (sym is ∙ h.0)
+
 pub replays-nothing : (name : Text) (rows : List Row) → (name ≡ codes "make" → ⊥) → (name ≡ codes "verify" → ⊥) → name ≡ codes "replay" → None ≡ first_of (codes "EVENTS") rows → (a : Asked) → IsAsked name rows a → ⊥
-replays-nothing name rows no-make no-verify is none (asked.Check path) h = let bad = sym is ∙ h.0 in cc bad
+replays-nothing name rows no-make no-verify is none (asked.Check path workers) h = let bad = sym is ∙ h.0 in cc bad
 replays-nothing name rows no-make no-verify is none asked.Make h = no-make h
-replays-nothing name rows no-make no-verify is none asked.Verify h = no-verify h
+replays-nothing name rows no-make no-verify is none (asked.Verify workers) h = no-verify h.0
 replays-nothing name rows no-make no-verify is none (asked.Replay path) h = let bad = none ∙ h.1 in cc bad

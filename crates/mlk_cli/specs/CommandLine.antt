@@ -1,11 +1,13 @@
 -- The command line, by what `clap` makes of its words. This project's own choice.
 use Rattle.std.specs.Borrow.{Bor}
-use Rattle.std.specs.Prelude.{ℕ, ◌≡◌, List, Option, Some, None, codes, true, map, string_bytes, String}
+use Rattle.std.specs.Prelude.{ℕ, ◌≡◌, ◌<◌, ◌^◌, List, [], ◌∷◌, Option, Some, None, codes, pos, true, map, string_bytes, String}
+use Rattle.std.specs.Str.Parse.{IsNumeral, digits_value, without_leading_plus}
 use Rattle.clap.specs.Lexer.{usize_max}
-use Rattle.clap.specs.Words.{App, Row, Rule, Text, all_of, first_of, new_app, new_rule, subcommand_of, with_rule, with_subcommand}
+use Rattle.clap.specs.Words.{App, Row, Rule, Text, all_of, first_of, new_app, new_rule, one_of, subcommand_of, with_rule, with_subcommand}
 use Rattle.clap.specs.Simple.{on_top}
 use Rattle.clap.specs.Takes.{takes}
 use Rattle.clap.specs.declared.builder.action.ArgAction.TheVariants.{Set, Append}
+use Rattle.clap.specs.declared.builder.value_parser.ValueParser.TheVariants as value_parser
 use Rattle.mlk_cli.specs.declared.words.Asked.{Asked}
 use Rattle.mlk_cli.specs.declared.words.Asked.TheVariants as asked
 use Rattle.mlk_cli.specs.declared.words.Request.{Request}
@@ -20,17 +22,21 @@ path_rule id = record (new_rule id) { required = true; action = Some Set }
 abbrev pub routines_rule : Rule
 routines_rule = record (new_rule (codes "ROUTINE")) { required = true; action = Some Append; range = Some (record { start_inclusive = 1; end_inclusive = usize_max }) }
 
--- `check RULES CERT ROUTINE..`
+-- `--workers N`, a number of 32 bits, which is 4 where it is left out
+abbrev pub workers_rule : Rule
+workers_rule = record (new_rule (codes "workers")) { long = Some (codes "workers"); value_names = 1; defaults = codes "4" ∷ []; parser = Some (value_parser.Signed (pos 0) (pos 4294967295)) }
+
+-- `check RULES CERT ROUTINE..`, and how many workers
 abbrev pub check_app : App
-check_app = with_rule (with_rule (with_rule (new_app (codes "check")) (path_rule (codes "RULES"))) (path_rule (codes "CERT"))) routines_rule
+check_app = with_rule (with_rule (with_rule (with_rule (new_app (codes "check")) (path_rule (codes "RULES"))) (path_rule (codes "CERT"))) routines_rule) workers_rule
 
 -- `make RULES ROUTINE..`
 abbrev pub make_app : App
 make_app = with_rule (with_rule (new_app (codes "make")) (path_rule (codes "RULES"))) routines_rule
 
--- `verify RULES ROUTINE..`
+-- `verify RULES ROUTINE..`, and how many workers
 abbrev pub verify_app : App
-verify_app = with_rule (with_rule (new_app (codes "verify")) (path_rule (codes "RULES"))) routines_rule
+verify_app = with_rule (with_rule (with_rule (new_app (codes "verify")) (path_rule (codes "RULES"))) routines_rule) workers_rule
 
 -- `replay RULES EVENTS ROUTINE..`
 abbrev pub replay_app : App
@@ -44,11 +50,23 @@ no_command_app = on_top (λ s. record s { subcommand_required = true; has_versio
 abbrev pub mlock_app : App
 mlock_app = with_subcommand (with_subcommand (with_subcommand (with_subcommand no_command_app check_app.top) make_app.top) verify_app.top) replay_app.top
 
+-- the text is a number of 32 bits in decimal digits, before which a plus may stand
+abbrev pub IsNumber : Text → ℕ → Type 0
+IsNumber text number = IsNumeral 10 (without_leading_plus text) × (digits_value 10 (without_leading_plus text) ≡ number) × (number < 2 ^ 32)
+
+-- how many workers a command was given
+abbrev pub AreWorkers : List Row → ℕ → Type 0
+AreWorkers rows workers = (text : Text) × (one_of (codes "workers") rows ≡ Some text) × IsNumber text workers
+
+abbrev pub GivesWorkers : List Row → Option ℕ → Type 0
+GivesWorkers rows None = (workers : ℕ) → AreWorkers rows workers → ⊥
+GivesWorkers rows (Some workers) = AreWorkers rows workers
+
 -- what the command of a name is to do, by what it was given
 abbrev pub IsAsked : Text → List Row → Asked → Type 0
-IsAsked name rows (asked.Check path) = (name ≡ codes "check") × (first_of (codes "CERT") rows ≡ Some path.now)
+IsAsked name rows (asked.Check certificate workers) = (name ≡ codes "check") × (first_of (codes "CERT") rows ≡ Some certificate.now) × AreWorkers rows workers
 IsAsked name rows asked.Make = name ≡ codes "make"
-IsAsked name rows asked.Verify = name ≡ codes "verify"
+IsAsked name rows (asked.Verify workers) = (name ≡ codes "verify") × AreWorkers rows workers
 IsAsked name rows (asked.Replay path) = (name ≡ codes "replay") × (first_of (codes "EVENTS") rows ≡ Some path.now)
 
 abbrev pub GivesAsked : Text → List Row → Option Asked → Type 0
@@ -59,22 +77,22 @@ GivesAsked name rows (Some a) = IsAsked name rows a
 abbrev pub bytes_of : List (Bor (List ℕ)) → List Text
 bytes_of paths = map (λ path. path.now) paths
 
--- the request has the paths that the command of a name was given
+-- the request has the paths, and the number of workers, that the command of a name was given
 pub record IsGiven (name : Text) (rows : List Row) (request : Request) : Type 0 where
   pub asked : IsAsked name rows request.asked
   pub rules : first_of (codes "RULES") rows ≡ Some request.rules.now
   pub routines : all_of (codes "ROUTINE") rows ≡ Some (bytes_of request.routines.items)
 
--- what a command's own matches give: nothing where no request has these paths
+-- what a command's own matches give: nothing where they are those of no request
 abbrev pub GivesPaths : Text → List Row → Option Request → Type 0
 GivesPaths name rows None = (request : Request) → IsGiven name rows request → ⊥
 GivesPaths name rows (Some request) = IsGiven name rows request
 
--- the command that was met was given the paths of the request
+-- the command that was met was given what the request has
 abbrev pub IsMet : Option (Text × List Row) → Request → Type 0
 IsMet met request = (name : Text) × (rows : List Row) × (met ≡ Some (name, rows)) × IsGiven name rows request
 
--- what the command that was met gives: nothing where it was given those of no request
+-- what the command that was met gives: nothing where it was given what no request has
 abbrev pub GivesRequest : Option (Text × List Row) → Option Request → Type 0
 GivesRequest met None = (request : Request) → IsMet met request → ⊥
 GivesRequest met (Some request) = IsMet met request
@@ -86,7 +104,7 @@ texts_of words = map string_bytes words
 abbrev pub Asks : {A : Type 0} → List (String A) → Option Request → Type 0
 Asks words asked = GivesRequest (subcommand_of mlock_app (texts_of words)) asked
 
--- The words name a command and give it the paths of the request, as `clap` reads them.
+-- The words name a command and give it the paths and the number of workers of the request, as `clap` reads them.
 abbrev pub IsRequest : {A : Type 0} → List (String A) → Request → Type 0
 IsRequest words request = IsMet (subcommand_of mlock_app (texts_of words)) request
 

@@ -5,21 +5,21 @@ ghost use Rattle.clap.specs.Words.{app_of, rule_of, found_of, rows_of, kind_of, 
 ghost use Rattle.clap.specs.Takes.{takes};
 ghost use Rattle.clap.specs.declared.error.kind.ErrorKind.TheVariants.{OutOfMemory};
 ghost use Rattle.clap.specs.Simple.{subcommand_rows_of};
-ghost use Rattle.mlk_cli.specs.CommandLine.{path_rule, routines_rule, check_app, make_app, verify_app, replay_app, no_command_app, mlock_app, GivesAsked, GivesPaths, GivesRequest, texts_of, Asks, IsRequest, LacksRequest};
+ghost use Rattle.mlk_cli.specs.CommandLine.{path_rule, routines_rule, workers_rule, check_app, make_app, verify_app, replay_app, no_command_app, mlock_app, GivesWorkers, GivesAsked, GivesPaths, GivesRequest, texts_of, Asks, IsRequest, LacksRequest};
 
 use clap::error::ErrorKind;
-use clap::{Arg, ArgAction, ArgMatches, Command, Error};
+use clap::{Arg, ArgAction, ArgMatches, Command, Error, value_parser};
 use std::alloc::{AllocError, Global};
 
 /// What is to be done with routines and rules.
 #[derive(Drop, Debug)]
 pub enum Asked<'a> {
-    /// the check by the certificate at this path
-    Check(&'a str),
+    /// the check by the certificate at this path, and by so many workers
+    Check { certificate: &'a str, workers: u32 },
     /// a certificate is made
     Make,
-    /// the check by the certificate that is made
-    Verify,
+    /// the check by the certificate that is made, and by so many workers
+    Verify { workers: u32 },
     /// the events at this path are replayed
     Replay(&'a str),
 }
@@ -46,6 +46,8 @@ const CERT_HELP: &str = "The certificate: for each line, the locks that are held
 
 const ROUTINE_HELP: &str =
     "Routine texts, one routine a file; the file's name up to its last dot is the routine's";
+
+const WORKERS_HELP: &str = "How many workers walk entries side by side, 1 to 64";
 
 const CHECK_HELP: &str = "Checks routines against a rule file and a certificate";
 
@@ -112,6 +114,19 @@ fn routines<'a>(alloc: Global) -> Arg<'a>
         .num_args(1..)
 }
 
+// The number of workers, of which the range is not looked at here.
+fn workers<'a>(alloc: Global) -> Arg<'a>
+    ensures rule { rule_of result ≡ workers_rule }
+    ensures local { result.global ≡ false }
+{
+    Arg::new(alloc, "workers")
+        .long("workers")
+        .value_name("N")
+        .value_parser(value_parser!(u32))
+        .default_value("4")
+        .help(WORKERS_HELP)
+}
+
 fn check_command<'a>(alloc: Global) -> Result<Command<'a>, AllocError>
     ensures { IfOk result (λ c. app_of c ≡ check_app) }
 {
@@ -120,7 +135,8 @@ fn check_command<'a>(alloc: Global) -> Result<Command<'a>, AllocError>
         .long_about(CHECK_MORE)
         .arg(path(alloc, "RULES", RULES_HELP))?
         .arg(path(alloc, "CERT", CERT_HELP))?
-        .arg(routines(alloc))
+        .arg(routines(alloc))?
+        .arg(workers(alloc))
 }
 
 fn make_command<'a>(alloc: Global) -> Result<Command<'a>, AllocError>
@@ -140,7 +156,8 @@ fn verify_command<'a>(alloc: Global) -> Result<Command<'a>, AllocError>
         .about(VERIFY_HELP)
         .long_about(VERIFY_MORE)
         .arg(path(alloc, "RULES", RULES_HELP))?
-        .arg(routines(alloc))
+        .arg(routines(alloc))?
+        .arg(workers(alloc))
 }
 
 fn replay_command<'a>(alloc: Global) -> Result<Command<'a>, AllocError>
@@ -181,6 +198,13 @@ fn grammar<'a>(alloc: Global) -> Result<Command<'a>, AllocError>
     with_command(app, replay_command(alloc)?)
 }
 
+// How many workers a command was given.
+fn workers_of(matches: &ArgMatches<'_>) -> Option<u32>
+    ensures { GivesWorkers (rows_of (found_of matches.now)) result }
+{
+    matches.get_one::<u32>("workers")
+}
+
 // What the command of this name is to do.
 fn asked_by<'a>(name: &str, matches: &ArgMatches<'a>) -> Option<Asked<'a>>
     ensures { GivesAsked name.now (rows_of (found_of matches.now)) result }
@@ -189,7 +213,10 @@ fn asked_by<'a>(name: &str, matches: &ArgMatches<'a>) -> Option<Asked<'a>>
         return Some(Asked::Make);
     }
     if name == "verify" {
-        return Some(Asked::Verify);
+        let Some(workers) = workers_of(matches) else {
+            return None;
+        };
+        return Some(Asked::Verify { workers });
     }
     if name == "replay" {
         let Some(path) = matches.get_str("EVENTS") else {
@@ -200,13 +227,19 @@ fn asked_by<'a>(name: &str, matches: &ArgMatches<'a>) -> Option<Asked<'a>>
     if name != "check" {
         return None;
     }
-    let Some(path) = matches.get_str("CERT") else {
+    let Some(certificate) = matches.get_str("CERT") else {
         return None;
     };
-    Some(Asked::Check(path))
+    let Some(workers) = workers_of(matches) else {
+        return None;
+    };
+    Some(Asked::Check {
+        certificate,
+        workers,
+    })
 }
 
-// What the command of this name, with the paths that it was given, asks for.
+// What the command of this name asks for, by what it was given.
 fn given<'a>(
     alloc: Global,
     name: &str,

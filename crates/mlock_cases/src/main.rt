@@ -10,6 +10,7 @@ use bstr::ByteSlice;
 use mlk_app::{Files, run};
 use std::alloc::Global;
 use std::io::{self, ErrorKind, Read, Write};
+use std::sync::Wait;
 use std::thread::Threads;
 
 // What stands before the words of a command line.
@@ -64,7 +65,7 @@ impl Case<'_> {
     }
 
     // Adds what it answers.
-    fn answer<R: Threads + Sync>(
+    fn answer<R: Threads + Wait + Sync>(
         &self,
         rt: &R,
         alloc: Global,

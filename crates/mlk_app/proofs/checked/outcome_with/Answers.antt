@@ -10,5 +10,6 @@ returns-in_err-report-in-Verify-clause-refused g c =
     let trees = map routine_of c.args.program.now in
     let made = c.in_ok-made-in-Verify.made in
     let r = c.in_err-report-in-Verify.field-0.0 in
-    let refused : IsRefusalOfWork trees c.args.rules.now work.Verify r = verify-refused trees c.args.rules.now made.text.items r c.in_ok-made-in-Verify.ensures.ok c.in_err-report-in-Verify.ensures.refused in
+    let workers = c.in-Verify.workers in
+    let refused : IsRefusalOfWork trees c.args.rules.now (work.Verify workers) r = verify-refused trees c.args.rules.now made.text.items workers r c.in_ok-made-in-Verify.ensures.ok c.in_err-report-in-Verify.ensures.refused in
     grind rules

@@ -1,0 +1,13 @@
+use Rattle.std.proofs.Common.{◌∙◌, ap, ap₂}
+use Rattle.std.proofs.lemmas.Result.{IfOk-weaker}
+use Rattle.clap.specs.Simple.{app_of_fields}
+use Rattle.clap.specs.Words.{with_rule}
+use Rattle.mlk_cli.proofs.words.check_command.Goals as goal
+
+pub returns : goal.returns
+returns c =
+    let start = ap app_of_fields c.long_about.ensures ∙ ap app_of_fields c.about.ensures ∙ c.new.ensures.app in
+    let one = c.in_ok-arg.ensures.shape c.path.ensures.local ∙ ap₂ with_rule start c.path.ensures.rule in
+    let two = c.in_ok-arg-2.ensures.shape c.path-2.ensures.local ∙ ap₂ with_rule one c.path-2.ensures.rule in
+    let three = c.in_ok-arg-3.ensures.shape c.routines.ensures.local ∙ ap₂ with_rule two c.routines.ensures.rule in
+    IfOk-weaker c.arg-4.result _ _ (λ made h. h.shape c.workers.ensures.local ∙ ap₂ with_rule three c.workers.ensures.rule) c.arg-4.ensures
