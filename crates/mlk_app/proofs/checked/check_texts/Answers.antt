@@ -7,8 +7,8 @@ use Rattle.mlk_app.proofs.checked.check_texts.Goals as goal
 
 pub outcome_of-requires : goal.outcome_of-requires
 outcome_of-requires g c =
-    subst (λ l. AreFormed (map routine_of l)) (sym c.as_slice.ensures.value)
-    (read_formed c.args.sources.routines.items (map routine_of c.in_ok-routines.routines.items) c.in_ok-routines.ensures.ok)
+    let formed = read_formed c.args.sources.routines.items (map routine_of c.in_ok-routines.routines.items) c.in_ok-routines.ensures.ok in
+    (c.type_bounds.sync-R, subst (λ l. AreFormed (map routine_of l)) (sym c.as_slice.ensures.value) formed)
 
 pub returns-clause-refused : goal.returns-clause-refused
 returns-clause-refused g c =

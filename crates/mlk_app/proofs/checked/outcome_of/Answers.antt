@@ -11,7 +11,7 @@ returns-in_err-program-clause-refused g c =
     grind rules
 
 pub outcome_under-outcome-requires : goal.outcome_under-outcome-requires
-outcome_under-outcome-requires g c = subst (λ l. AreFormed (map routine_of l)) (sym c.in_ok-program.ensures.same) c.requires
+outcome_under-outcome-requires g c = (c.type_bounds.sync-R, subst (λ l. AreFormed (map routine_of l)) (sym c.in_ok-program.ensures.same) c.requires)
 
 pub returns-clause-ok : goal.returns-clause-ok
 returns-clause-ok g c =
