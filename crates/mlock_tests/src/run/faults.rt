@@ -4,6 +4,7 @@ use super::{CERT, CHECK, Memory, RULES, TAKE, texts};
 use mlk_app::{Files, run};
 use std::alloc::{AllocError, Global};
 use std::io::{self, ErrorKind, Write};
+use std::sync::Wait;
 use std::test::Fail;
 use std::thread::Threads;
 
@@ -45,7 +46,11 @@ impl Files for Broken<'_> {
 }
 
 // Whether the words are refused with a text that tells why, and nothing is printed.
-fn is_usage<R: Threads + Sync>(rt: &R, alloc: Global, words: &[&str]) -> Result<bool, AllocError> {
+fn is_usage<R: Threads + Wait + Sync>(
+    rt: &R,
+    alloc: Global,
+    words: &[&str],
+) -> Result<bool, AllocError> {
     let words = texts(alloc, words)?;
     let mut out: Vec<u8> = Vec::new(alloc);
     let mut err: Vec<u8> = Vec::new(alloc);
