@@ -70,7 +70,7 @@ fn wrong_words(rt: HostRuntime) -> Result<(), Fail> {
         ["mlock", "check", "rules.toml", "cert"].as_slice(),
         [
             "mlock",
-            "check",
+            "replay",
             "--workers",
             "2",
             "rules.toml",
