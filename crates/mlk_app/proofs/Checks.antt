@@ -15,14 +15,14 @@ use Rattle.mlk_cert_parts.specs.declared.block.EntryCert.{EntryCert}
 use Rattle.mlk_cert.specs.Theorem.{Spells, IsReading}
 use Rattle.mlk_cert.specs.Refusals.{IsPlaced}
 use Rattle.mlk_make.specs.Missing.{is_missing}
-use Rattle.mlk_readers.specs.declared.source.Source.{Source}
+use Rattle.mlk_pool.specs.declared.source.Source.{Source}
 use Rattle.mlk_names.proofs.ListLemmas.{contains_cases}
 use Rattle.mlk_machine_laws.specs.WellFormed.{IsWellFormed}
 use Rattle.mlk_routine_laws.proofs.ReadTrees.{well-formed}
 use Rattle.mlk_soundness_walk.specs.Forms.{AreFormed}
-use Rattle.mlk_readers.specs.Reading.{AreRead, RefusesFirst}
-use Rattle.mlk_app.specs.declared.source.Work.{Work}
-use Rattle.mlk_app.specs.declared.source.Work.TheVariants as work
+use Rattle.mlk_pool.specs.Reading.{AreRead, RefusesFirst}
+use Rattle.mlk_app.specs.declared.checked.Task.{Task}
+use Rattle.mlk_app.specs.declared.checked.Task.TheVariants as task
 use Rattle.mlk_app.specs.declared.checked.Refusal.{Refusal}
 use Rattle.mlk_app.specs.declared.checked.Refusal.TheVariants as refusal
 use Rattle.mlk_syntax.specs.declared.routine.Routine.{Routine}
@@ -30,27 +30,22 @@ use Rattle.mlk_program.specs.declared.entry.EntryId.{EntryId}
 use Rattle.mlk_machine.specs.declared.fault.EventsFault.{EventsFault}
 use Rattle.mlk_machine.specs.Files.{ReplayedFile}
 use Rattle.mlk_app.specs.Replayed.{IsUndeclared, IsStopped}
-use Rattle.mlk_app.specs.Checked.{IsFirst, IsStuck, IsUnmade, IsMade, IsRefusalOfWork, IsRefusalBy, IsRefusalWith, IsRefusalUnder, IsRefusalOf, refusal_of_routine, refusal_of_rules, refusal_of_certificate, refusal_of_events, TellsEntry}
+use Rattle.mlk_app.specs.Checked.{IsFirst, IsStuck, IsUnmade, IsMade, IsRefusalOfTask, IsRefusalBy, IsRefusalWith, IsRefusalUnder, IsRefusalOf, refusal_of_routine, refusal_of_rules, refusal_of_certificate, refusal_of_events, TellsEntry}
 
 -- what is refused, as a refusal of the texts
 pub by-routine : (sources : List Source) (e : Failure Fault) → RefusesFirst sources e → IsFirst sources (refusal_of_routine e)
 by-routine sources failure.OutOfMemory refused = record {}
 by-routine sources (failure.Refused fault) refused = refused
 
-pub by-link : (trees : List RoutineTree) (rules_text : List ℕ) (w : Work) (e : Failure Fault) → IfRefused e (IsLinkFault trees)
+pub by-link : (trees : List RoutineTree) (rules_text : List ℕ) (w : Task) (e : Failure Fault) → IfRefused e (IsLinkFault trees)
     → IsRefusalOf trees rules_text w (refusal_of_routine e)
 by-link trees rules_text w failure.OutOfMemory refused = inl (record {})
 by-link trees rules_text w (failure.Refused fault) refused = inl refused
 
-pub by-rules : (trees : List RoutineTree) (rules_text : List ℕ) (w : Work) (e : Failure RulesFault) → RefusesRules rules_text e
+pub by-rules : (trees : List RoutineTree) (rules_text : List ℕ) (w : Task) (e : Failure RulesFault) → RefusesRules rules_text e
     → IsRefusalUnder trees rules_text w (refusal_of_rules e)
 by-rules trees rules_text w failure.OutOfMemory refused = inl (record {})
 by-rules trees rules_text w (failure.Refused fault) refused = inl refused
-
-pub by-certificate : (trees : List RoutineTree) (rules : RuleLists) (text : List ℕ) (workers : ℕ) (e : Failure CertFault)
-    → IsReading text (Err e) → IsPlaced text e → IsRefusalWith trees rules text workers (refusal_of_certificate e)
-by-certificate trees rules text workers failure.OutOfMemory back placed = record {}
-by-certificate trees rules text workers (failure.Refused fault) back placed = ((λ blocks spelled. back blocks spelled), placed)
 
 pub err_turned : {A B : Type 0} {P Q : B → Type 0} (r : Result A B) → ((b : B) → P b → Q b) → IfErr r P → IfErr r Q
 err_turned (Ok a) f h = h
@@ -101,7 +96,7 @@ unmade-stuck trees rules (refusal.Events fault) none told = told
 
 -- What is told of the report by what was made.
 pub verify-refused : (trees : List RoutineTree) (rules : RuleLists) (text : List ℕ) (workers : ℕ) (r : Refusal) → IsMade trees rules text → IsRefusalWith trees rules text workers r
-    → IsRefusalOfWork trees rules (work.Verify workers) r
+    → IsRefusalOfTask trees rules (task.Verify workers) r
 verify-refused trees rules text workers r made refused = inr (text, made, refused)
 
 -- Routines that were read are well formed.

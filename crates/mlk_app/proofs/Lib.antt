@@ -2,5 +2,3 @@ pub mod Paths
 pub mod Sources
 pub mod Checks
 pub mod Saying
-pub mod Printing
-pub mod Chunks

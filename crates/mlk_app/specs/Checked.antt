@@ -1,11 +1,11 @@
 -- What the check of texts answers. This project's own choice.
-use Rattle.std.specs.Prelude.{◌≡◌, ◌<◌, ◌⊎◌, ℕ, List, [], Some, None, find}
+use Rattle.std.specs.Prelude.{◌≡◌, ◌⊎◌, ℕ, List, Some, None, find}
 use Rattle.mlk_text.specs.declared.fault.Fault.{Fault}
 use Rattle.mlk_text.specs.declared.failure.Failure.{Failure}
 use Rattle.mlk_text.specs.declared.failure.Failure.TheVariants as failure
 use Rattle.mlk_syntax.specs.Trees.{RoutineTree}
-use Rattle.mlk_readers.specs.declared.source.Source.{Source}
-use Rattle.mlk_readers.specs.Reading.{AreRead, IsFirstRefused}
+use Rattle.mlk_pool.specs.declared.source.Source.{Source}
+use Rattle.mlk_pool.specs.Reading.{AreRead, IsFirstRefused}
 use Rattle.mlk_program.specs.Program.{IsProgram, IsLinkFault}
 use Rattle.mlk_rules.specs.declared.rules.RuleLists.{RuleLists}
 use Rattle.mlk_rules_file.specs.RuleSections.{SaysRules, RefusesRules}
@@ -13,65 +13,69 @@ use Rattle.mlk_rules_file.specs.declared.read.fault.RulesFault.{RulesFault}
 use Rattle.mlk_cert_parts.specs.declared.block.EntryCert.{EntryCert}
 use Rattle.mlk_cert.specs.declared.read.fault.CertFault.{CertFault}
 use Rattle.mlk_cert.specs.Theorem.{Spells}
-use Rattle.mlk_cert.specs.Refusals.{IsRefusal}
 use Rattle.mlk_text.specs.declared.code.Code.TheVariants.{CertLimit}
 use Rattle.mlk_make.specs.Missing.{is_missing}
 use Rattle.mlk_walk.specs.declared.report.Row.{Row}
-use Rattle.mlk_walk.specs.Reports.{report, missing}
-use Rattle.mlk_check.specs.Theorem.{KeepsRules}
+use Rattle.mlk_walk.specs.Reports.{missing}
+use Rattle.mlk_pool.specs.declared.error.CheckError.TheVariants as error
+use Rattle.mlk_pool.specs.Headline.{IsReportBy, OfBlocks, Verified, NoCertificate, AreTooFewOrMany, IsUnverified}
 use Rattle.mlk_machine.specs.declared.fault.EventsFault.{EventsFault}
 use Rattle.mlk_app.specs.Replayed.{IsReplayed, IsUnreplayed}
 use Rattle.mlk_app.specs.declared.source.Sources.{Sources}
 use Rattle.mlk_app.specs.declared.source.Work.{Work}
 use Rattle.mlk_app.specs.declared.source.Work.TheVariants as work
+use Rattle.mlk_app.specs.declared.checked.Task.{Task}
+use Rattle.mlk_app.specs.declared.checked.Task.TheVariants as task
 use Rattle.mlk_app.specs.declared.checked.Outcome.{Outcome}
 use Rattle.mlk_app.specs.declared.checked.Outcome.TheVariants as outcome
 use Rattle.mlk_app.specs.declared.checked.Refusal.{Refusal}
 use Rattle.mlk_app.specs.declared.checked.Refusal.TheVariants as refusal
 
--- The report of a program by rules and a certificate's blocks, whose entries it has. Where it has no row, every run of the
--- program keeps the rules.
-pub record IsReportBy (trees : List RoutineTree) (rules : RuleLists) (blocks : List EntryCert) (rows : List Row) : Type 0 where
-  pub named : missing trees rules blocks ≡ None
-  pub are : rows ≡ report trees rules blocks
-  pub kept : rows ≡ [] → KeepsRules trees rules blocks
-
--- the same by the certificate that a text spells, by the rules that a text says, and of trees that make a program
+-- the report by the certificate that a text spells
 abbrev pub IsReportWith : List RoutineTree → RuleLists → List ℕ → List Row → Type 0
-IsReportWith trees rules text rows = (blocks : List EntryCert) × Spells blocks text × IsReportBy trees rules blocks rows
+IsReportWith trees rules text rows = OfBlocks text (λ blocks. IsReportBy trees rules blocks rows)
 
 -- A text is the one of a certificate, made of a program that has all declared entries. Nothing else is promised of it.
 abbrev pub IsMade : List RoutineTree → RuleLists → List ℕ → Type 0
 IsMade trees rules text = (find (is_missing trees) rules.entries ≡ None) × (blocks : List EntryCert) × Spells blocks text
 
--- What the texts of rules and of routines come to: the report by the certificate that is given, or by one that is made, or
--- the text of one that is made, or what is shown of jobs after events.
-abbrev pub IsOutcomeWith : List RoutineTree → RuleLists → Work → Outcome → Type 0
-IsOutcomeWith trees rules (work.Check text workers) (outcome.Report rows) = IsReportWith trees rules text.items rows
-IsOutcomeWith trees rules (work.Check text workers) (outcome.Made made) = ⊥
-IsOutcomeWith trees rules (work.Check text workers) (outcome.Replayed shown) = ⊥
-IsOutcomeWith trees rules work.Make (outcome.Report rows) = ⊥
-IsOutcomeWith trees rules work.Make (outcome.Made made) = IsMade trees rules made.items
-IsOutcomeWith trees rules work.Make (outcome.Replayed shown) = ⊥
-IsOutcomeWith trees rules (work.Verify workers) (outcome.Report rows) = (text : List ℕ) × IsMade trees rules text × IsReportWith trees rules text rows
-IsOutcomeWith trees rules (work.Verify workers) (outcome.Made made) = ⊥
-IsOutcomeWith trees rules (work.Verify workers) (outcome.Replayed shown) = ⊥
-IsOutcomeWith trees rules (work.Replay events) (outcome.Report rows) = ⊥
-IsOutcomeWith trees rules (work.Replay events) (outcome.Made made) = ⊥
-IsOutcomeWith trees rules (work.Replay events) (outcome.Replayed shown) = IsReplayed trees rules events.items shown
+-- What the texts of rules and of routines come to: the text of a certificate that is made, or the report by one that is made,
+-- or what is shown of jobs after events.
+abbrev pub IsOutcomeWith : List RoutineTree → RuleLists → Task → Outcome → Type 0
+IsOutcomeWith trees rules task.Make (outcome.Report rows) = ⊥
+IsOutcomeWith trees rules task.Make (outcome.Made made) = IsMade trees rules made.items
+IsOutcomeWith trees rules task.Make (outcome.Replayed shown) = ⊥
+IsOutcomeWith trees rules (task.Verify workers) (outcome.Report rows) = (text : List ℕ) × IsMade trees rules text × IsReportWith trees rules text rows
+IsOutcomeWith trees rules (task.Verify workers) (outcome.Made made) = ⊥
+IsOutcomeWith trees rules (task.Verify workers) (outcome.Replayed shown) = ⊥
+IsOutcomeWith trees rules (task.Replay events) (outcome.Report rows) = ⊥
+IsOutcomeWith trees rules (task.Replay events) (outcome.Made made) = ⊥
+IsOutcomeWith trees rules (task.Replay events) (outcome.Replayed shown) = IsReplayed trees rules events.items shown
 
-abbrev pub IsOutcomeUnder : List RoutineTree → List ℕ → Work → Outcome → Type 0
-IsOutcomeUnder trees rules_text w o = (rules : RuleLists) × SaysRules rules_text rules × IsOutcomeWith trees rules w o
+abbrev pub IsOutcomeUnder : List RoutineTree → List ℕ → Task → Outcome → Type 0
+IsOutcomeUnder trees rules_text t o = (rules : RuleLists) × SaysRules rules_text rules × IsOutcomeWith trees rules t o
 
-abbrev pub IsOutcomeOf : List RoutineTree → List ℕ → Work → Outcome → Type 0
-IsOutcomeOf trees rules_text w o = IsProgram trees × IsOutcomeUnder trees rules_text w o
+abbrev pub IsOutcomeOf : List RoutineTree → List ℕ → Task → Outcome → Type 0
+IsOutcomeOf trees rules_text t o = IsProgram trees × IsOutcomeUnder trees rules_text t o
+
+abbrev pub IsDone : List Source → List ℕ → Task → List RoutineTree → Outcome → Type 0
+IsDone sources rules_text t trees o = AreRead sources trees × IsOutcomeOf trees rules_text t o
+
+-- the report by the certificate that is given
+abbrev pub IsVerified : List Source → List ℕ → List ℕ → List RoutineTree → Outcome → Type 0
+IsVerified sources rules_text cert_text trees (outcome.Report rows) = Verified sources rules_text cert_text trees rows
+IsVerified sources rules_text cert_text trees (outcome.Made made) = ⊥
+IsVerified sources rules_text cert_text trees (outcome.Replayed shown) = ⊥
+
+-- What texts come to.
+abbrev pub IsCheckedBy : List Source → List ℕ → Work → List RoutineTree → Outcome → Type 0
+IsCheckedBy sources rules_text (work.Check text workers) trees o = IsVerified sources rules_text text.items trees o
+IsCheckedBy sources rules_text work.Make trees o = IsDone sources rules_text task.Make trees o
+IsCheckedBy sources rules_text (work.Verify workers) trees o = IsDone sources rules_text (task.Verify workers) trees o
+IsCheckedBy sources rules_text (work.Replay events) trees o = IsDone sources rules_text (task.Replay events) trees o
 
 abbrev pub IsChecked : Sources → List RoutineTree → Outcome → Type 0
-IsChecked sources trees o = AreRead sources.routines.items trees × IsOutcomeOf trees sources.rules.items sources.work o
-
--- No certificate has the text.
-abbrev pub NoCertificate : List ℕ → CertFault → Type 0
-NoCertificate text fault = ((blocks : List EntryCert) → Spells blocks text → ⊥) × IsRefusal text fault
+IsChecked sources trees o = IsCheckedBy sources.routines.items sources.rules.items sources.work trees o
 
 -- the refusal of rules, and of the linking of trees. Want of memory says nothing.
 abbrev pub RefusedRules : List ℕ → Refusal → Type 0
@@ -94,10 +98,6 @@ RefusedLink trees refusal.Workers = ⊥
 RefusedLink trees (refusal.GaveUp entry fault) = ⊥
 RefusedLink trees (refusal.Events fault) = ⊥
 
--- no worker, or more than 64
-abbrev pub AreNoneOrTooMany : ℕ → Type 0
-AreNoneOrTooMany workers = (workers ≡ 0) ⊎ (64 < workers)
-
 -- Why a program has no report: an entry that it lacks, else the number of workers. Want of memory says nothing.
 abbrev pub IsRefusalBy : List RoutineTree → RuleLists → List EntryCert → ℕ → Refusal → Type 0
 IsRefusalBy trees rules blocks workers refusal.OutOfMemory = Unit {0}
@@ -105,7 +105,7 @@ IsRefusalBy trees rules blocks workers (refusal.Routine fault) = ⊥
 IsRefusalBy trees rules blocks workers (refusal.Rules fault) = ⊥
 IsRefusalBy trees rules blocks workers (refusal.Certificate fault) = ⊥
 IsRefusalBy trees rules blocks workers (refusal.Entry entry) = missing trees rules blocks ≡ Some entry
-IsRefusalBy trees rules blocks workers refusal.Workers = (missing trees rules blocks ≡ None) × AreNoneOrTooMany workers
+IsRefusalBy trees rules blocks workers refusal.Workers = (missing trees rules blocks ≡ None) × AreTooFewOrMany workers
 IsRefusalBy trees rules blocks workers (refusal.GaveUp entry fault) = ⊥
 IsRefusalBy trees rules blocks workers (refusal.Events fault) = ⊥
 
@@ -118,7 +118,7 @@ IsRefusalWith trees rules text workers (refusal.Certificate fault) = NoCertifica
 IsRefusalWith trees rules text workers (refusal.Entry entry) =
     (blocks : List EntryCert) × Spells blocks text × (missing trees rules blocks ≡ Some entry)
 IsRefusalWith trees rules text workers refusal.Workers =
-    (blocks : List EntryCert) × Spells blocks text × (missing trees rules blocks ≡ None) × AreNoneOrTooMany workers
+    (blocks : List EntryCert) × Spells blocks text × (missing trees rules blocks ≡ None) × AreTooFewOrMany workers
 IsRefusalWith trees rules text workers (refusal.GaveUp entry fault) = ⊥
 IsRefusalWith trees rules text workers (refusal.Events fault) = ⊥
 
@@ -133,22 +133,21 @@ IsUnmade trees rules refusal.Workers = ⊥
 IsUnmade trees rules (refusal.GaveUp entry fault) = find (is_missing trees) rules.entries ≡ None
 IsUnmade trees rules (refusal.Events fault) = ⊥
 
--- It is told of the certificate's text, or of its making, or of the events, first,
-abbrev pub IsRefusalOfWork : List RoutineTree → RuleLists → Work → Refusal → Type 0
-IsRefusalOfWork trees rules (work.Check text workers) r = IsRefusalWith trees rules text.items workers r
-IsRefusalOfWork trees rules work.Make r = IsUnmade trees rules r
-IsRefusalOfWork trees rules (work.Verify workers) r =
+-- It is told of the making of a certificate, or of the events, first,
+abbrev pub IsRefusalOfTask : List RoutineTree → RuleLists → Task → Refusal → Type 0
+IsRefusalOfTask trees rules task.Make r = IsUnmade trees rules r
+IsRefusalOfTask trees rules (task.Verify workers) r =
     IsUnmade trees rules r ⊎ ((text : List ℕ) × IsMade trees rules text × IsRefusalWith trees rules text workers r)
-IsRefusalOfWork trees rules (work.Replay events) r = IsUnreplayed trees rules events.items r
+IsRefusalOfTask trees rules (task.Replay events) r = IsUnreplayed trees rules events.items r
 
 -- of the rules' text before it,
-abbrev pub IsRefusalUnder : List RoutineTree → List ℕ → Work → Refusal → Type 0
-IsRefusalUnder trees rules_text w r =
-    RefusedRules rules_text r ⊎ ((rules : RuleLists) × SaysRules rules_text rules × IsRefusalOfWork trees rules w r)
+abbrev pub IsRefusalUnder : List RoutineTree → List ℕ → Task → Refusal → Type 0
+IsRefusalUnder trees rules_text t r =
+    RefusedRules rules_text r ⊎ ((rules : RuleLists) × SaysRules rules_text rules × IsRefusalOfTask trees rules t r)
 
 -- and of the linking of the trees before both.
-abbrev pub IsRefusalOf : List RoutineTree → List ℕ → Work → Refusal → Type 0
-IsRefusalOf trees rules_text w r = RefusedLink trees r ⊎ (IsProgram trees × IsRefusalUnder trees rules_text w r)
+abbrev pub IsRefusalOf : List RoutineTree → List ℕ → Task → Refusal → Type 0
+IsRefusalOf trees rules_text t r = RefusedLink trees r ⊎ (IsProgram trees × IsRefusalUnder trees rules_text t r)
 
 -- the refusal of a routine's reading
 abbrev pub IsFirst : List Source → Refusal → Type 0
@@ -161,10 +160,30 @@ IsFirst sources refusal.Workers = ⊥
 IsFirst sources (refusal.GaveUp entry fault) = ⊥
 IsFirst sources (refusal.Events fault) = ⊥
 
--- Why texts have no report: it is told of a routine that is not read, else of what all routines make.
+-- Why a task is not done: it is told of a routine that is not read, else of what all routines make.
+abbrev pub IsUndone : List Source → List ℕ → Task → Refusal → Type 0
+IsUndone sources rules_text t r = IsFirst sources r ⊎ ((trees : List RoutineTree) × AreRead sources trees × IsRefusalOf trees rules_text t r)
+
+-- Why texts have no report by the certificate that is given. The gate of the workers is always open.
+abbrev pub IsUnverifiedBy : List Source → List ℕ → List ℕ → ℕ → Refusal → Type 0
+IsUnverifiedBy sources rules_text cert_text workers refusal.OutOfMemory = Unit {0}
+IsUnverifiedBy sources rules_text cert_text workers (refusal.Routine fault) = IsUnverified (Unit {0}) workers sources rules_text cert_text (error.Routine fault)
+IsUnverifiedBy sources rules_text cert_text workers (refusal.Rules fault) = IsUnverified (Unit {0}) workers sources rules_text cert_text (error.Rules fault)
+IsUnverifiedBy sources rules_text cert_text workers (refusal.Certificate fault) = IsUnverified (Unit {0}) workers sources rules_text cert_text (error.Certificate fault)
+IsUnverifiedBy sources rules_text cert_text workers (refusal.Entry entry) = IsUnverified (Unit {0}) workers sources rules_text cert_text (error.Entry entry)
+IsUnverifiedBy sources rules_text cert_text workers refusal.Workers = IsUnverified (Unit {0}) workers sources rules_text cert_text error.Workers
+IsUnverifiedBy sources rules_text cert_text workers (refusal.GaveUp entry fault) = ⊥
+IsUnverifiedBy sources rules_text cert_text workers (refusal.Events fault) = ⊥
+
+-- Why texts come to nothing.
+abbrev pub IsRefusedFor : List Source → List ℕ → Work → Refusal → Type 0
+IsRefusedFor sources rules_text (work.Check text workers) r = IsUnverifiedBy sources rules_text text.items workers r
+IsRefusedFor sources rules_text work.Make r = IsUndone sources rules_text task.Make r
+IsRefusedFor sources rules_text (work.Verify workers) r = IsUndone sources rules_text (task.Verify workers) r
+IsRefusedFor sources rules_text (work.Replay events) r = IsUndone sources rules_text (task.Replay events) r
+
 abbrev pub IsRefusedBy : Sources → Refusal → Type 0
-IsRefusedBy sources r = IsFirst sources.routines.items r ⊎ ((trees : List RoutineTree)
-    × AreRead sources.routines.items trees × IsRefusalOf trees sources.rules.items sources.work r)
+IsRefusedBy sources r = IsRefusedFor sources.routines.items sources.rules.items sources.work r
 
 -- the same of what a reader refuses
 abbrev pub refusal_of_routine : Failure Fault → Refusal

@@ -14,7 +14,8 @@ use Rattle.mlk_app.specs.declared.checked.Refusal.{Refusal}
 use Rattle.mlk_app.specs.declared.checked.Refusal.TheVariants as refusal
 use Rattle.mlk_app.specs.declared.program.Answer.{Answer}
 use Rattle.mlk_app.specs.declared.program.Answer.TheVariants as answer
-use Rattle.mlk_app.specs.Printed.{report_text, fault_line, rules_line, certificate_line, missing_line, workers_line, stuck_line, events_line, file_line}
+use Rattle.mlk_pool.specs.Texts.{report_text}
+use Rattle.mlk_app.specs.Printed.{fault_line, rules_line, certificate_line, missing_line, workers_line, stuck_line, events_line, file_line}
 use Rattle.mlk_app.specs.Files.{Texts, AreTexts, IsFirstLost, paths_of}
 use Rattle.mlk_cli.specs.CommandLine.{IsRequest, AsksNothing}
 use Rattle.mlk_app.specs.Checked.{IsChecked, IsRefusedBy}

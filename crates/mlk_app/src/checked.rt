@@ -1,29 +1,28 @@
 // From the texts of files to a report.
 
-ghost use Rattle.std.specs.Prelude.{◌≡◌, [], None, map, IfOk, IfErr};
+ghost use Rattle.std.specs.Prelude.{◌≡◌, map, IfOk, IfErr};
 ghost use Rattle.mlk_syntax.specs.Views.{routine_of};
-ghost use Rattle.mlk_readers.specs.Reading.{AreRead, RefusesFirst};
-ghost use Rattle.mlk_app.specs.Checked.{refusal_of_routine, refusal_of_rules, refusal_of_certificate, refusal_of_events, TellsEntry, IsReportBy, IsReportWith, IsStuck, IsMade, IsUnmade, IsOutcomeWith, IsOutcomeUnder, IsOutcomeOf, IsRefusalBy, IsRefusalWith, IsRefusalOfWork, IsRefusalUnder, IsRefusalOf, IsChecked, IsRefusedBy};
+ghost use Rattle.mlk_app.specs.Checked.{refusal_of_routine, refusal_of_rules, refusal_of_certificate, refusal_of_events, TellsEntry, IsReportWith, IsStuck, IsMade, IsUnmade, IsOutcomeWith, IsOutcomeUnder, IsOutcomeOf, IsRefusalBy, IsRefusalWith, IsRefusalOfTask, IsRefusalUnder, IsRefusalOf, IsDone, IsUndone, IsVerified, IsUnverifiedBy, IsChecked, IsRefusedBy};
 ghost use Rattle.mlk_cert.specs.Theorem.{Spells};
 ghost use Rattle.mlk_soundness_walk.specs.Forms.{AreFormed};
-ghost use Rattle.mlk_walk.specs.Reports.{missing};
+ghost use Rattle.mlk_pool.specs.Headline.{IsReportBy};
 ghost use Rattle.mlk_app.specs.Ran.{trees_of};
 ghost use Rattle.mlk_app.specs.declared.checked.Refusal.TheVariants as refusal;
 
 use crate::gate::OpenGate;
 use crate::replayed::jobs_text;
 use crate::source::{Sources, Work};
-use mlk_cert::{CertFault, Certificate, Spelled, read_cert};
+use mlk_cert::{CertFault, Certificate, Spelled};
 use mlk_machine::EventsFault;
-use mlk_make::{GaveUp, MakeError, Stage, Watch, make_watched};
-use mlk_pool::{PoolFault, report_by};
+use mlk_make::{GaveUp, MakeError, make_watched};
+use mlk_pool::{CheckError, Source, read_routines, verify_program, verify_watched};
 use mlk_program::{Program, link};
-use mlk_readers::{Source, read_all};
 use mlk_rules::Rules;
 use mlk_rules_file::{RulesFault, read_rules};
 use mlk_syntax::Routine;
 use mlk_text::{Failure, Fault, Value};
-use mlk_walk::{Report, missing_entry};
+use mlk_walk::Report;
+use mlk_watch::Watch;
 use std::alloc::{AllocError, Global};
 use std::sync::Wait;
 use std::thread::Threads;
@@ -96,6 +95,17 @@ impl From<Failure<EventsFault>> for Refusal {
     }
 }
 
+/// What is to be done where no certificate is given.
+#[derive(Drop)]
+pub(crate) enum Task {
+    /// a certificate is made
+    Make,
+    /// the check by the certificate that is made, and by so many workers
+    Verify { workers: u32 },
+    /// the events of this text are replayed
+    Replay(Vec<u8>),
+}
+
 /// What texts come to.
 #[derive(Drop)]
 pub(crate) enum Outcome {
@@ -113,38 +123,6 @@ pub(crate) struct Checked {
     pub outcome: Outcome,
 }
 
-// How many texts are read at once, so that it is seen how far the reading has come, and that it ends where one is refused.
-const AT_ONCE: usize = 256;
-
-// The routines of these texts, which are given back once all are read.
-fn routines_of<R: Threads + Sync, W: Watch>(
-    rt: &R,
-    alloc: Global,
-    sources: Vec<Source<'_>>,
-    watch: &W,
-) -> Result<Vec<Routine>, Failure<Fault>>
-    ensures ok { IfOk result (λ r. AreRead sources.entry.items (map routine_of r.items)) }
-    ensures refused { IfErr result (RefusesFirst sources.entry.items) }
-{
-    let count = sources.len();
-    let mut routines = Vec::new(alloc);
-    let mut done = 0;
-    while done < count {
-        watch.see(Stage::Reading, done, count);
-        let (_, left) = sources.as_slice().split_at(done);
-        let (next, _) = left.split_at(left.len().min(AT_ONCE));
-        match read_all(rt, alloc, next) {
-            Ok(mut read) => routines.append(&mut read)?,
-            Err(failure) => {
-                watch.discard(routines);
-                return Err(failure);
-            }
-        }
-        done += next.len();
-    }
-    Ok(routines)
-}
-
 /// What is told of an entry that the routines lack.
 pub(crate) fn lacks(alloc: Global, entry: &[u8]) -> Refusal
     ensures { TellsEntry entry.now result }
@@ -152,39 +130,6 @@ pub(crate) fn lacks(alloc: Global, entry: &[u8]) -> Refusal
     match Vec::from_slice(alloc, entry) {
         Ok(text) => Refusal::Entry(Value::new(text)),
         Err(_) => Refusal::OutOfMemory,
-    }
-}
-
-// The report of workers on a program that has all entries.
-fn report_on<R: Threads + Wait + Sync>(
-    rt: &R,
-    alloc: Global,
-    program: &Program<'_>,
-    rules: &Rules,
-    certificate: &Certificate,
-    workers: u32,
-) -> Result<Report, Refusal>
-    requires formed { AreFormed (map routine_of program.now) }
-    requires named { missing (map routine_of program.now) rules.now certificate.now ≡ None }
-    ensures ok { IfOk result (IsReportBy (map routine_of program.now) rules.now certificate.now) }
-    ensures refused { IfErr result (IsRefusalBy (map routine_of program.now) rules.now certificate.now workers) }
-{
-    // What rules and certificates are by their types.
-    let _ = rules.lists();
-    let _ = certificate.blocks();
-    match report_by(
-        rt,
-        alloc,
-        program,
-        rules,
-        certificate,
-        workers as usize,
-        &OpenGate,
-    ) {
-        Ok(report) => Ok(report),
-        Err(Failure::OutOfMemory) => Err(Refusal::OutOfMemory),
-        Err(Failure::Refused(PoolFault::Workers)) => Err(Refusal::Workers),
-        Err(Failure::Refused(PoolFault::GateShut(_))) => unreachable!(),
     }
 }
 
@@ -201,30 +146,22 @@ fn report_by_certificate<R: Threads + Wait + Sync, W: Watch>(
     ensures ok { IfOk result (IsReportBy (map routine_of program.now) rules.now certificate.now) }
     ensures refused { IfErr result (IsRefusalBy (map routine_of program.now) rules.now certificate.now workers) }
 {
-    if let Some(entry) = missing_entry(program, rules, certificate) {
-        return Err(lacks(alloc, entry));
+    match verify_program(
+        rt,
+        alloc,
+        program,
+        rules,
+        certificate,
+        workers as usize,
+        &OpenGate,
+        watch,
+    ) {
+        Ok(report) => Ok(report),
+        Err(CheckError::OutOfMemory) => Err(Refusal::OutOfMemory),
+        Err(CheckError::Entry(entry)) => Err(Refusal::Entry(entry)),
+        Err(CheckError::Workers) => Err(Refusal::Workers),
+        Err(_) => unreachable!(),
     }
-    watch.see(Stage::Checking, 0, 0);
-    report_on(rt, alloc, program, rules, certificate, workers)
-}
-
-fn report_with<R: Threads + Wait + Sync, W: Watch>(
-    rt: &R,
-    alloc: Global,
-    program: &Program<'_>,
-    rules: &Rules,
-    text: &[u8],
-    workers: u32,
-    watch: &W,
-) -> Result<Report, Refusal>
-    requires { AreFormed (map routine_of program.now) }
-    ensures ok { IfOk result (IsReportWith (map routine_of program.now) rules.now text.now) }
-    ensures refused { IfErr result (IsRefusalWith (map routine_of program.now) rules.now text.now workers) }
-{
-    let certificate = read_cert(alloc, text)?;
-    let report = report_by_certificate(rt, alloc, program, rules, &certificate, workers, watch);
-    watch.discard(certificate);
-    report
 }
 
 // The report by a certificate that was made, and its text.
@@ -280,33 +217,25 @@ fn outcome_with<R: Threads + Wait + Sync, W: Watch>(
     alloc: Global,
     program: &Program<'_>,
     rules: &Rules,
-    work: &Work,
+    task: &Task,
     watch: &W,
 ) -> Result<Outcome, Refusal>
     requires { AreFormed (map routine_of program.now) }
-    ensures ok { IfOk result (IsOutcomeWith (map routine_of program.now) rules.now work.now) }
-    ensures refused { IfErr result (IsRefusalOfWork (map routine_of program.now) rules.now work.now) }
+    ensures ok { IfOk result (IsOutcomeWith (map routine_of program.now) rules.now task.now) }
+    ensures refused { IfErr result (IsRefusalOfTask (map routine_of program.now) rules.now task.now) }
 {
-    match work {
-        Work::Check {
-            certificate,
-            workers,
-        } => {
-            let text = certificate.as_slice();
-            let report = report_with(rt, alloc, program, rules, text, *workers, watch)?;
-            Ok(Outcome::Report(report))
-        }
-        Work::Make => {
+    match task {
+        Task::Make => {
             let Spelled { text, .. } = made(alloc, program, rules, watch)?;
             Ok(Outcome::Made(text))
         }
-        Work::Verify { workers } => {
+        Task::Verify { workers } => {
             let made = made(alloc, program, rules, watch)?;
             let report = report_of(rt, alloc, program, rules, &made, *workers, watch)?;
             watch.discard(made);
             Ok(Outcome::Report(report))
         }
-        Work::Replay(events) => {
+        Task::Replay(events) => {
             let text = jobs_text(alloc, program, rules, events.as_slice())?;
             Ok(Outcome::Replayed(text))
         }
@@ -318,15 +247,15 @@ fn outcome_under<R: Threads + Wait + Sync, W: Watch>(
     alloc: Global,
     program: &Program<'_>,
     rules_text: &[u8],
-    work: &Work,
+    task: &Task,
     watch: &W,
 ) -> Result<Outcome, Refusal>
     requires { AreFormed (map routine_of program.now) }
-    ensures ok { IfOk result (IsOutcomeUnder (map routine_of program.now) rules_text.now work.now) }
-    ensures refused { IfErr result (IsRefusalUnder (map routine_of program.now) rules_text.now work.now) }
+    ensures ok { IfOk result (IsOutcomeUnder (map routine_of program.now) rules_text.now task.now) }
+    ensures refused { IfErr result (IsRefusalUnder (map routine_of program.now) rules_text.now task.now) }
 {
     let rules = read_rules(alloc, rules_text)?;
-    outcome_with(rt, alloc, program, &rules, work, watch)
+    outcome_with(rt, alloc, program, &rules, task, watch)
 }
 
 // What routines come to by the text of rules.
@@ -335,17 +264,76 @@ fn outcome_of<R: Threads + Wait + Sync, W: Watch>(
     alloc: Global,
     routines: &[Routine],
     rules_text: &[u8],
-    work: &Work,
+    task: &Task,
     watch: &W,
 ) -> Result<Outcome, Refusal>
     requires { AreFormed (map routine_of routines.now) }
-    ensures ok { IfOk result (IsOutcomeOf (map routine_of routines.now) rules_text.now work.now) }
-    ensures refused { IfErr result (IsRefusalOf (map routine_of routines.now) rules_text.now work.now) }
+    ensures ok { IfOk result (IsOutcomeOf (map routine_of routines.now) rules_text.now task.now) }
+    ensures refused { IfErr result (IsRefusalOf (map routine_of routines.now) rules_text.now task.now) }
 {
     let program = link(alloc, routines)?;
-    let outcome = outcome_under(rt, alloc, &program, rules_text, work, watch);
+    let outcome = outcome_under(rt, alloc, &program, rules_text, task, watch);
     watch.discard(program);
     outcome
+}
+
+// What is made of the texts of a program.
+fn done<R: Threads + Wait + Sync, W: Watch>(
+    rt: &R,
+    alloc: Global,
+    files: Vec<Source<'_>>,
+    rules: &[u8],
+    task: &Task,
+    watch: &W,
+) -> Result<Checked, Refusal>
+    ensures ok { IfOk result (λ c. IsDone files.entry.items rules.now task.now (trees_of c) c.outcome) }
+    ensures refused { IfErr result (IsUndone files.entry.items rules.now task.now) }
+{
+    let routines = read_routines(rt, alloc, files, watch)?;
+    match outcome_of(rt, alloc, routines.as_slice(), rules, task, watch) {
+        Ok(outcome) => Ok(Checked { routines, outcome }),
+        Err(refusal) => {
+            watch.discard(routines);
+            Err(refusal)
+        }
+    }
+}
+
+// The report on the texts of a program by the certificate that is given.
+fn verified<R: Threads + Wait + Sync, W: Watch>(
+    rt: &R,
+    alloc: Global,
+    files: Vec<Source<'_>>,
+    rules: &[u8],
+    certificate: &[u8],
+    workers: u32,
+    watch: &W,
+) -> Result<Checked, Refusal>
+    ensures ok { IfOk result (λ c. IsVerified files.entry.items rules.now certificate.now (trees_of c) c.outcome) }
+    ensures refused { IfErr result (IsUnverifiedBy files.entry.items rules.now certificate.now workers) }
+{
+    match verify_watched(
+        rt,
+        alloc,
+        files,
+        rules,
+        certificate,
+        workers as usize,
+        &OpenGate,
+        watch,
+    ) {
+        Ok(report) => Ok(Checked {
+            routines: report.routines,
+            outcome: Outcome::Report(report.rows),
+        }),
+        Err(CheckError::OutOfMemory) => Err(Refusal::OutOfMemory),
+        Err(CheckError::Routine(fault)) => Err(Refusal::Routine(fault)),
+        Err(CheckError::Rules(fault)) => Err(Refusal::Rules(fault)),
+        Err(CheckError::Certificate(fault)) => Err(Refusal::Certificate(fault)),
+        Err(CheckError::Entry(entry)) => Err(Refusal::Entry(entry)),
+        Err(CheckError::Workers) => Err(Refusal::Workers),
+        Err(CheckError::GateShut(_)) => unreachable!(),
+    }
 }
 
 /// What texts come to, or the first refusal: of the routines in order, of their linking, of the rules, of the
@@ -365,19 +353,19 @@ pub(crate) fn check_texts<R: Threads + Wait + Sync, W: Watch>(
         rules,
         routines: files,
     } = sources;
-    let routines = routines_of(rt, alloc, files, watch)?;
-    match outcome_of(
-        rt,
-        alloc,
-        routines.as_slice(),
-        rules.as_slice(),
-        &work,
-        watch,
-    ) {
-        Ok(outcome) => Ok(Checked { routines, outcome }),
-        Err(refusal) => {
-            watch.discard(routines);
-            Err(refusal)
+    let rules = rules.as_slice();
+    match work {
+        Work::Check {
+            certificate,
+            workers,
+        } => {
+            let text = certificate.as_slice();
+            verified(rt, alloc, files, rules, text, workers, watch)
         }
+        Work::Make => done(rt, alloc, files, rules, &Task::Make, watch),
+        Work::Verify { workers } => {
+            done(rt, alloc, files, rules, &Task::Verify { workers }, watch)
+        }
+        Work::Replay(events) => done(rt, alloc, files, rules, &Task::Replay(events), watch),
     }
 }

@@ -8,9 +8,8 @@ mod printed;
 mod program;
 mod replayed;
 mod source;
-mod text;
 
 pub use file::{LONGEST_FILE, read_whole};
-pub use mlk_make::{Stage, Unwatched, Watch};
+pub use mlk_watch::{Stage, Unwatched, Watch};
 pub use program::{run, run_watched, wrong_words};
 pub use source::Files;

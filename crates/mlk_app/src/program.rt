@@ -8,15 +8,15 @@ ghost use Rattle.mlk_app.specs.Ran.{status_of, PrintsReport, PrintsText, PrintsO
 
 use crate::checked::{Checked, Outcome, Refusal, check_texts};
 use crate::printed::{
-    certificate_line, events_line, fault_line, file_line, missing_line, report_text, rules_line,
-    stuck_line, workers_line,
+    certificate_line, events_line, fault_line, file_line, missing_line, rules_line, stuck_line,
+    workers_line,
 };
 use crate::source::{FileError, Files, read_files};
-use crate::text::Text;
 use mlk_cli::{Request, UsageError, read_request};
-use mlk_make::{Unwatched, Watch};
+use mlk_pool::{Text, report_text};
 use mlk_syntax::Routine;
 use mlk_walk::Report;
+use mlk_watch::{Unwatched, Watch};
 use std::alloc::{AllocError, Global};
 use std::io::{self, ErrorKind, Write};
 use std::sync::Wait;

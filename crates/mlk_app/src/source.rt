@@ -6,7 +6,7 @@ ghost use Rattle.mlk_app.specs.Files.{IsFileName, IsNameStem, IsPathStem, IsSour
 ghost use Rattle.mlk_cli.specs.CommandLine.{bytes_of};
 
 use mlk_cli::{Asked, Request};
-use mlk_readers::Source;
+use mlk_pool::Source;
 use std::alloc::Global;
 use std::io::{self, ErrorKind};
 

@@ -14,8 +14,6 @@ mod rounds;
 mod settle;
 mod stop;
 mod walk;
-mod watch;
 
 pub use rounds::{make, make_watched};
 pub use stop::{GaveUp, MakeError};
-pub use watch::{Stage, Unwatched, Watch};

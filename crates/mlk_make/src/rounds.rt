@@ -10,13 +10,13 @@ use crate::finish::finish;
 use crate::maker::{Ground, Maker};
 use crate::missing::first_missing;
 use crate::stop::{GaveUp, MakeError};
-use crate::watch::{Stage, Unwatched, Watch};
 use mlk_calls::Entries;
 use mlk_cert::Spelled;
 use mlk_program::{EntryId, Program};
 use mlk_rules::{Rules, entries};
 use mlk_syntax::Line;
 use mlk_text::{Failure, Value};
+use mlk_watch::{Stage, Unwatched, Watch};
 use std::alloc::{AllocError, Global};
 
 /// How many rounds are made.

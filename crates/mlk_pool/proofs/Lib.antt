@@ -1,4 +1,9 @@
+mod Chunks
+mod Firsts
+mod Formed
 mod Histories
+mod Printing
 mod Runs
+mod Sends
 mod Slots
 pub mod Syncs

@@ -1,5 +1,11 @@
+pub mod Reading
+pub mod Answers
 pub mod Given
 pub mod Shown
 pub mod Histories
 pub mod Boards
 pub mod Refusals
+pub mod Errors
+pub mod Headline
+pub mod Steps
+pub mod Texts

@@ -1,9 +1,13 @@
 -- Why workers make no report. This project's own choice.
-use Rattle.std.specs.Prelude.{ℕ, ◌≡◌, ◌<◌, ◌⊎◌}
+use Rattle.std.specs.Prelude.{ℕ, ◌≡◌, ◌<◌, ◌≤◌, ◌⊎◌}
 use Rattle.mlk_text.specs.declared.failure.Failure.{Failure}
 use Rattle.mlk_text.specs.declared.failure.Failure.TheVariants as failure
 use Rattle.mlk_pool.specs.declared.report.PoolFault.{PoolFault}
 use Rattle.mlk_pool.specs.declared.report.PoolFault.TheVariants as fault
+
+-- There may be 1 to 64 workers.
+abbrev pub AreAllowed : ℕ → Type 0
+AreAllowed workers = (0 < workers) × (workers ≤ 64)
 
 -- The gate was shut before a task, where it is not open. Want of memory says nothing.
 abbrev pub IsShut : Type 0 → Failure PoolFault → Type 0

@@ -1,17 +1,30 @@
-//! A board of tasks that workers share, and the report that they make together.
+//! A board of tasks that workers share, and the report that they make together on the texts of a program.
 #![tactic(auto)]
 
 mod board;
+mod error;
 mod gate;
 mod inputs;
+mod readers;
+mod reading;
+mod rendering;
 mod report;
 mod shared;
+mod source;
 mod tasks;
+mod text;
+mod verification;
 mod worker;
 
 pub use board::{Board, Claim, Event, Outcome, Slot};
+pub use error::CheckError;
 pub use gate::Gate;
 pub use inputs::Inputs;
+pub use reading::read_routines;
+pub use rendering::{render, report_text};
 pub use report::{MOST_WORKERS, PoolFault, report_by};
 pub use shared::SharedBoard;
+pub use source::Source;
+pub use text::Text;
+pub use verification::{Report, verify, verify_program, verify_watched};
 pub use worker::work;

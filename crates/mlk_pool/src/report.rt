@@ -1,14 +1,16 @@
 // The report that workers make together.
 
-ghost use Rattle.std.specs.Prelude.{◌≡◌, ◌<◌, ◌++◌, IfOk, IfErr, OnOk, filter, flat_map, map, option_copied};
+ghost use Rattle.std.specs.Prelude.{◌≡◌, ◌<◌, ◌++◌, [], IfOk, IfErr, OnOk, filter, flat_map, map, option_copied};
 ghost use Rattle.std.specs.List.{AllZip};
 ghost use Rattle.std.specs.Option.{ForSome};
 ghost use Rattle.mlk_syntax.specs.Views.{routine_of};
 ghost use Rattle.mlk_walk.specs.Verdicts.{verdict};
 ghost use Rattle.mlk_walk.specs.Reports.{entries_from, is_checked, report, row_of, rows_of};
+ghost use Rattle.mlk_soundness_walk.specs.Forms.{AreFormed};
+ghost use Rattle.mlk_check.specs.Theorem.{KeepsRules};
 ghost use Rattle.mlk_pool.specs.Given.{AreInputs, AreKnown, is_certified};
 ghost use Rattle.mlk_pool.specs.Boards.{IsSlotOf, next_slot};
-ghost use Rattle.mlk_pool.specs.Refusals.{IsShut, IsUnreported};
+ghost use Rattle.mlk_pool.specs.Refusals.{AreAllowed, IsShut, IsUnreported};
 
 use crate::board::{Board, Outcome, Slot};
 use crate::gate::Gate;
@@ -22,6 +24,7 @@ use mlk_program::{EntryId, Program};
 use mlk_rules::Rules;
 use mlk_text::Failure;
 use mlk_walk::{Checks, Report, verdict_of};
+use mlk_watch::{Unwatched, Watch};
 use std::alloc::{AllocError, Global};
 use std::marker::Brand;
 use std::sync::Wait;
@@ -116,12 +119,13 @@ fn finished<N: Inputs, G: Gate>(
 }
 
 // The report of a run whose checks look into these.
-fn report_with<N: Inputs + Send + Sync, G: Gate + Sync, R: Threads + Wait + Sync>(
+fn report_with<N: Inputs + Send + Sync, G: Gate + Sync, W: Watch, R: Threads + Wait + Sync>(
     rt: &R,
     alloc: Global,
     checks: &Checks<'_>,
     workers: usize,
     gate: &G,
+    watch: &W,
 ) -> Result<Report, Failure<PoolFault>>
     requires inputs { AreKnown N.given (map routine_of checks.now.program.now) checks.now.rules.now checks.now.entries.now }
     requires workers { workers ≡ N.given.workers }
@@ -134,14 +138,14 @@ fn report_with<N: Inputs + Send + Sync, G: Gate + Sync, R: Threads + Wait + Sync
     let entries = entries_of(alloc, checks.program)?;
     let tasks = certified(alloc, checks.entries, entries.as_slice())?;
     let board: SharedBoard<N> = SharedBoard::new(Board::of(alloc, tasks)?);
-    run_workers(rt, alloc, checks, &board, gate, workers);
+    run_workers(rt, alloc, checks, &board, gate, watch, workers);
     let slots = board.into_board().into_slots();
     finished::<N, G>(alloc, checks, entries.as_slice(), slots.as_slice(), gate)
 }
 
 // The report of a run that is given these.
 #[tactic(auto, unfolding(mlk_walk::specs::Reports::report), using(crate::proofs::Runs::known_inputs))]
-fn report_on<N: Inputs + Send + Sync, G: Gate + Sync, R: Threads + Wait + Sync>(
+fn report_on<N: Inputs + Send + Sync, G: Gate + Sync, W: Watch, R: Threads + Wait + Sync>(
     rt: &R,
     alloc: Global,
     program: &Program<'_>,
@@ -149,6 +153,7 @@ fn report_on<N: Inputs + Send + Sync, G: Gate + Sync, R: Threads + Wait + Sync>(
     certificate: &Certificate,
     workers: usize,
     gate: &G,
+    watch: &W,
 ) -> Result<Report, Failure<PoolFault>>
     requires inputs { AreInputs N.given (map routine_of program.now) rules.now certificate.now }
     requires workers { workers ≡ N.given.workers }
@@ -162,12 +167,41 @@ fn report_on<N: Inputs + Send + Sync, G: Gate + Sync, R: Threads + Wait + Sync>(
         rules,
         entries: &entries,
     };
-    report_with::<N, G, R>(rt, alloc, &checks, workers, gate)
+    report_with::<N, G, W, R>(rt, alloc, &checks, workers, gate, watch)
+}
+
+/// What `report_by` reports, and how far the work has come is told as it goes.
+pub(crate) fn report_watched<G: Gate + Sync, W: Watch, R: Threads + Wait + Sync>(
+    rt: &R,
+    alloc: Global,
+    program: &Program<'_>,
+    rules: &Rules,
+    certificate: &Certificate,
+    workers: usize,
+    gate: &G,
+    watch: &W,
+) -> Result<Report, Failure<PoolFault>>
+    ensures exact { IfOk result (λ r. r ≡ report (map routine_of program.now) rules.now certificate.now) }
+    ensures safe { IfOk result (λ r. r ≡ [] → AreFormed (map routine_of program.now)
+        → KeepsRules (map routine_of program.now) rules.now certificate.now) }
+    ensures allowed { IfOk result (λ _. AreAllowed workers) }
+    ensures refused { IfErr result (IsUnreported (G.is_open gate.now) workers) }
+{
+    // What rules and certificates are by their types.
+    let _ = rules.lists();
+    let _ = certificate.blocks();
+    if workers == 0 || workers > MOST_WORKERS {
+        return Err(Failure::Refused(PoolFault::Workers));
+    }
+    report_on::<Brand, G, W, R>(rt, alloc, program, rules, certificate, workers, gate, watch)
 }
 
 /// The faults of a program by its rules and a certificate, found by 1 to 64 workers side by side: for each entry that is
 /// declared or certified, in the program's order, those of its verdict. It is `yes` where there are none. It is the same for
 /// every number of workers.
+///
+/// After a `yes`, every run of any number of jobs begun at the declared entries keeps the rules, whoever made the
+/// certificate. Routines that were read are well formed.
 ///
 /// The caller's thread is one of the workers. What no worker has done in the end it does, and where the gate was shut it asks
 /// once more: so the refusal is that of the first task that is still not done.
@@ -181,10 +215,19 @@ pub fn report_by<G: Gate + Sync, R: Threads + Wait + Sync>(
     gate: &G,
 ) -> Result<Report, Failure<PoolFault>>
     ensures exact { IfOk result (λ r. r ≡ report (map routine_of program.now) rules.now certificate.now) }
+    ensures safe { IfOk result (λ r. r ≡ [] → AreFormed (map routine_of program.now)
+        → KeepsRules (map routine_of program.now) rules.now certificate.now) }
+    ensures allowed { IfOk result (λ _. AreAllowed workers) }
     ensures refused { IfErr result (IsUnreported (G.is_open gate.now) workers) }
 {
-    if workers == 0 || workers > MOST_WORKERS {
-        return Err(Failure::Refused(PoolFault::Workers));
-    }
-    report_on::<Brand, G, R>(rt, alloc, program, rules, certificate, workers, gate)
+    report_watched(
+        rt,
+        alloc,
+        program,
+        rules,
+        certificate,
+        workers,
+        gate,
+        &Unwatched,
+    )
 }

@@ -14,6 +14,7 @@ use mlk_cert::Certificate;
 use mlk_program::{EntryId, Program};
 use mlk_rules::Rules;
 use mlk_walk::{Checks, verdict_of};
+use mlk_watch::{Stage, Unwatched, Watch};
 use std::alloc::{AllocError, Global};
 use std::sync::Wait;
 use std::thread;
@@ -30,23 +31,27 @@ fn walked<N: Inputs>(alloc: Global, checks: &Checks<'_>, claim: &Claim<N>) -> Ou
     }
 }
 
-// Claims, asks the gate, walks, posts and tells the gate, until no task is left to claim.
-fn work_on<N: Inputs, G: Gate, R: Wait>(
+// Claims, asks the gate, walks, posts and tells the gate, until no task is left to claim. As tasks are claimed in their
+// order, the number of each tells how many all workers together have claimed before it.
+fn work_on<N: Inputs, G: Gate, W: Watch, R: Wait>(
     rt: &R,
     alloc: Global,
     checks: &Checks<'_>,
     board: &SharedBoard<N>,
     gate: &G,
+    watch: &W,
     worker: usize,
 )
     requires inputs { AreKnown N.given (map routine_of checks.now.program.now) checks.now.rules.now checks.now.entries.now }
     requires worker { worker < N.given.workers }
 {
-    for _ in 0..board.task_count() {
+    let count = board.task_count();
+    for _ in 0..count {
         let Some(claim) = board.claim(rt, worker) else {
             break;
         };
         let task = claim.task();
+        watch.see(Stage::Checking, task, count);
         if gate.pass(worker, task) {
             let outcome = walked(alloc, checks, &claim);
             board.post(rt, claim, outcome);
@@ -81,17 +86,24 @@ pub fn work<N: Inputs, G: Gate, R: Wait>(
         rules,
         entries: &entries,
     };
-    work_on(rt, alloc, &checks, board, gate, worker);
+    work_on(rt, alloc, &checks, board, gate, &Unwatched, worker);
 }
 
-/// Lets so many workers run, and waits for them. The caller's thread is worker 0; a thread that can't be started is left
-/// out, and the others do what it would have done.
-pub(crate) fn run_workers<'x, N: Inputs + Send + Sync, G: Gate + Sync, R: Threads + Wait + Sync>(
+/// Lets so many workers run, and waits for them. The caller's thread is worker 0, and it alone is watched; a thread that
+/// can't be started is left out, and the others do what it would have done.
+pub(crate) fn run_workers<
+    'x,
+    N: Inputs + Send + Sync,
+    G: Gate + Sync,
+    W: Watch,
+    R: Threads + Wait + Sync,
+>(
     rt: &'x R,
     alloc: Global,
     checks: &'x Checks<'x>,
     board: &'x SharedBoard<N>,
     gate: &'x G,
+    watch: &W,
     workers: usize,
 )
     requires inputs { AreKnown N.given (map routine_of checks.now.program.now) checks.now.rules.now checks.now.entries.now }
@@ -110,10 +122,10 @@ pub(crate) fn run_workers<'x, N: Inputs + Send + Sync, G: Gate + Sync, R: Thread
                     move ||
                         requires { (worker < N.given.workers)
                             × AreKnown N.given (map routine_of checks.now.program.now) checks.now.rules.now checks.now.entries.now }
-                    { work_on(rt, alloc, checks, board, gate, worker) },
+                    { work_on(rt, alloc, checks, board, gate, &Unwatched, worker) },
                 );
             }
-            work_on(rt, alloc, checks, board, gate, 0);
+            work_on(rt, alloc, checks, board, gate, watch, 0);
         },
     );
 }

@@ -46,7 +46,7 @@ impl<'a> Progress<'a> {
                     "\r\x1b[Kmaking a certificate, round {round}: routine {done} of {of}"
                 )
             }
-            Stage::Checking => eprint!(self.rt; "\r\x1b[Kchecking"),
+            Stage::Checking => eprint!(self.rt; "\r\x1b[Kchecking: entry {done} of {of}"),
         };
         self.is_shown.set(true);
         self.due.set(moment_after(self.rt, NEXT_SHOWN));

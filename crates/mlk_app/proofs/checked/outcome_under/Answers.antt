@@ -6,7 +6,7 @@ use Rattle.mlk_app.proofs.checked.outcome_under.Goals as goal
 
 pub returns-in_err-rules-clause-refused : goal.returns-in_err-rules-clause-refused
 returns-in_err-rules-clause-refused g c =
-    let refused = by-rules (map routine_of c.args.program.now) c.args.rules_text.now c.args.work.now c.in_err-rules.field-0.0 c.in_err-rules.ensures.refused in
+    let refused = by-rules (map routine_of c.args.program.now) c.args.rules_text.now c.args.task.now c.in_err-rules.field-0.0 c.in_err-rules.ensures.refused in
     grind rules
 
 pub returns-clause-ok : goal.returns-clause-ok

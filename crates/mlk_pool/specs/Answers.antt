@@ -1,0 +1,26 @@
+-- What readers answer who read texts side by side. It only serves private clauses.
+use Rattle.std.specs.Prelude.{◌≡◌, List, ◌∷◌, ◌++◌, Result, Ok, Err, map}
+use Rattle.mlk_text.specs.declared.fault.Fault.{Fault}
+use Rattle.mlk_text.specs.declared.failure.Failure.{Failure}
+use Rattle.mlk_text.specs.declared.failure.Failure.TheVariants as failure
+use Rattle.mlk_syntax.specs.declared.routine.Routine.{Routine}
+use Rattle.mlk_syntax.specs.Views.{routine_of}
+use Rattle.mlk_routine.specs.Refusals.{NoRoutine, Places}
+use Rattle.mlk_pool.specs.declared.source.Source.{Source}
+use Rattle.mlk_pool.specs.Reading.{IsRead}
+
+-- the routine of a text, or why it is none
+abbrev pub IsAnswer : Source → Result Routine (Failure Fault) → Type 0
+IsAnswer source (Ok routine) = IsRead source (routine_of routine)
+IsAnswer source (Err failure) = NoRoutine source.stem.now source.text.items failure × Places source.stem.now source.text.items failure
+
+-- the first failure, before which all is read
+pub record IsFirst (answers : List (Result Routine (Failure Fault))) (failure : Failure Fault) : Type 0 where
+  pub read : List Routine
+  pub after : List (Result Routine (Failure Fault))
+  pub cut : answers ≡ map Ok read ++ Err failure ∷ after
+
+-- the failure that is told. Want of memory says nothing.
+abbrev pub IsFirstError : List (Result Routine (Failure Fault)) → Failure Fault → Type 0
+IsFirstError answers failure.OutOfMemory = Unit {0}
+IsFirstError answers (failure.Refused fault) = IsFirst answers (failure.Refused fault)

@@ -1,0 +1,179 @@
+// From the texts of a program to its report.
+
+ghost use Rattle.std.specs.Prelude.{map, IfOk, IfErr};
+ghost use Rattle.mlk_syntax.specs.Views.{routine_of};
+ghost use Rattle.mlk_soundness_walk.specs.Forms.{AreFormed};
+ghost use Rattle.mlk_pool.specs.Headline.{IsReportBy, Verified, IsUnreportedBy, IsUnverified};
+ghost use Rattle.mlk_pool.specs.Refusals.{AreAllowed};
+ghost use Rattle.mlk_pool.specs.Steps.{IsReportUnder, IsReportOf, IsUnreportedUnder, IsUnreportedOf};
+
+use crate::error::{CheckError, lacks};
+use crate::gate::Gate;
+use crate::reading::read_routines;
+use crate::report::report_watched;
+use crate::source::Source;
+use mlk_cert::{Certificate, read_cert};
+use mlk_program::{Program, link};
+use mlk_rules::Rules;
+use mlk_rules_file::read_rules;
+use mlk_syntax::Routine;
+use mlk_walk::missing_entry;
+use mlk_watch::{Unwatched, Watch};
+use std::alloc::Global;
+use std::sync::Wait;
+use std::thread::Threads;
+
+/// A report on the texts of a program: its routines, and the faults of its entries.
+#[derive(Drop)]
+pub struct Report {
+    pub routines: Vec<Routine>,
+    pub rows: mlk_walk::Report,
+}
+
+/// The report of a program by its rules and a certificate, made by 1 to 64 workers side by side.
+pub fn verify_program<G: Gate + Sync, W: Watch, R: Threads + Wait + Sync>(
+    rt: &R,
+    alloc: Global,
+    program: &Program<'_>,
+    rules: &Rules,
+    certificate: &Certificate,
+    workers: usize,
+    gate: &G,
+    watch: &W,
+) -> Result<mlk_walk::Report, CheckError>
+    requires { AreFormed (map routine_of program.now) }
+    ensures ok { IfOk result (IsReportBy (map routine_of program.now) rules.now certificate.now) }
+    ensures allowed { IfOk result (λ _. AreAllowed workers) }
+    ensures refused { IfErr result (IsUnreportedBy (G.is_open gate.now) workers (map routine_of program.now) rules.now certificate.now) }
+{
+    if let Some(entry) = missing_entry(program, rules, certificate) {
+        return Err(lacks(alloc, entry));
+    }
+    let rows = report_watched(rt, alloc, program, rules, certificate, workers, gate, watch)?;
+    Ok(rows)
+}
+
+// The report of a program by the texts of rules and of a certificate.
+fn rows_under<G: Gate + Sync, W: Watch, R: Threads + Wait + Sync>(
+    rt: &R,
+    alloc: Global,
+    program: &Program<'_>,
+    rules_text: &[u8],
+    cert_text: &[u8],
+    workers: usize,
+    gate: &G,
+    watch: &W,
+) -> Result<mlk_walk::Report, CheckError>
+    requires { AreFormed (map routine_of program.now) }
+    ensures ok { IfOk result (IsReportUnder (map routine_of program.now) rules_text.now cert_text.now) }
+    ensures allowed { IfOk result (λ _. AreAllowed workers) }
+    ensures refused { IfErr result (IsUnreportedUnder (G.is_open gate.now) workers (map routine_of program.now) rules_text.now cert_text.now) }
+{
+    let rules = read_rules(alloc, rules_text)?;
+    let certificate = read_cert(alloc, cert_text)?;
+    let rows = verify_program(
+        rt,
+        alloc,
+        program,
+        &rules,
+        &certificate,
+        workers,
+        gate,
+        watch,
+    );
+    watch.discard(certificate);
+    rows
+}
+
+// The report of the program that these routines make.
+fn rows_of<G: Gate + Sync, W: Watch, R: Threads + Wait + Sync>(
+    rt: &R,
+    alloc: Global,
+    routines: &[Routine],
+    rules_text: &[u8],
+    cert_text: &[u8],
+    workers: usize,
+    gate: &G,
+    watch: &W,
+) -> Result<mlk_walk::Report, CheckError>
+    requires { AreFormed (map routine_of routines.now) }
+    ensures ok { IfOk result (IsReportOf (map routine_of routines.now) rules_text.now cert_text.now) }
+    ensures allowed { IfOk result (λ _. AreAllowed workers) }
+    ensures refused { IfErr result (IsUnreportedOf (G.is_open gate.now) workers (map routine_of routines.now) rules_text.now cert_text.now) }
+{
+    let program = link(alloc, routines)?;
+    let rows = rows_under(
+        rt, alloc, &program, rules_text, cert_text, workers, gate, watch,
+    );
+    watch.discard(program);
+    rows
+}
+
+/// Does what `verify` does, and tells how far it has come as it goes.
+pub fn verify_watched<G: Gate + Sync, W: Watch, R: Threads + Wait + Sync>(
+    rt: &R,
+    alloc: Global,
+    sources: Vec<Source<'_>>,
+    rules: &[u8],
+    certificate: &[u8],
+    workers: usize,
+    gate: &G,
+    watch: &W,
+) -> Result<Report, CheckError>
+    ensures ok { IfOk result (λ r. Verified sources.entry.items rules.now certificate.now (map routine_of r.routines.items) r.rows) }
+    ensures allowed { IfOk result (λ _. AreAllowed workers) }
+    ensures refused { IfErr result (IsUnverified (G.is_open gate.now) workers sources.entry.items rules.now certificate.now) }
+{
+    let routines = read_routines(rt, alloc, sources, watch)?;
+    match rows_of(
+        rt,
+        alloc,
+        routines.as_slice(),
+        rules,
+        certificate,
+        workers,
+        gate,
+        watch,
+    ) {
+        Ok(rows) => Ok(Report { routines, rows }),
+        Err(error) => {
+            watch.discard(routines);
+            Err(error)
+        }
+    }
+}
+
+/// The report on the texts of a program: of its routines, each with the stem of its file's name, of its rules and of a
+/// certificate. The texts of routines are read side by side, and 1 to 64 workers check the entries side by side; the report
+/// is the same for every number of them.
+///
+/// Where it has no row, in every run of any number of jobs begun at the declared entries no two jobs stand ready at
+/// references that overlap and of which one writes, no job that ended by itself holds a lock, and no jobs wait for each
+/// other's locks in a ring.
+///
+/// The first refusal is told: of the routines in order, of their linking, of the rules, of the certificate, of an entry
+/// that the program lacks, of the number of workers, or of the first task that the gate lets nobody walk.
+pub fn verify<G: Gate + Sync, R: Threads + Wait + Sync>(
+    rt: &R,
+    alloc: Global,
+    sources: Vec<Source<'_>>,
+    rules: &[u8],
+    certificate: &[u8],
+    workers: usize,
+    gate: &G,
+) -> Result<Report, CheckError>
+    ensures ok { IfOk result (λ r. Verified sources.entry.items rules.now certificate.now (map routine_of r.routines.items) r.rows) }
+    ensures allowed { IfOk result (λ _. AreAllowed workers) }
+    ensures refused { IfErr result (IsUnverified (G.is_open gate.now) workers sources.entry.items rules.now certificate.now) }
+{
+    verify_watched(
+        rt,
+        alloc,
+        sources,
+        rules,
+        certificate,
+        workers,
+        gate,
+        &Unwatched,
+    )
+}
