@@ -1,0 +1,110 @@
+#!/usr/bin/env python3
+"""Refuses memory, threads, reads and writes of the program, one call after the other, and looks at what it answers.
+
+    sweeps.py PROGRAM
+
+For each of some command lines over examples/, with one worker and with four where that can be said, the calls of each kind
+are counted. Then the program is run once for each of them, and that one call is refused; or it and all later ones. Whatever
+was refused, the answer must be the usual one, or status 3, a line of `error memory` or `error file PATH` on
+standard error, and on standard output a beginning of the usual text. Where threads are refused it must be the usual one.
+The library that refuses (refuse.c) needs a C compiler; where there is none, nothing is tried, and that is said.
+"""
+import concurrent.futures
+import os
+import pathlib
+import shutil
+import subprocess
+import sys
+import tempfile
+
+TOP = pathlib.Path(__file__).resolve().parent.parent
+WARD = ['examples/ward/rules.toml', 'examples/ward/ADMIT.m']
+TRANSFER = ['examples/transfer/rules.toml', 'examples/transfer/BANK.m']
+# What is run, and whether it takes workers.
+COMMANDS = [
+    (['verify', *WARD], True),
+    (['verify', *TRANSFER], True),
+    (['make', *TRANSFER], False),
+    (['check', 'examples/ward/rules.toml', 'examples/ward/ward.cert', 'examples/ward/ADMIT.m'], True),
+    (['check', 'examples/transfer/rules.toml', 'examples/transfer/bank.cert', 'examples/transfer/BANK.m'], True),
+    (['replay', 'examples/night/rules.toml', 'examples/night/ring', 'examples/night/WARD.m'], False),
+]
+KINDS = ('memory', 'thread', 'read', 'write')
+ERRORS = ('error memory\n', 'error file ')
+
+
+def command_lines():
+    for words, takes_workers in COMMANDS:
+        if takes_workers:
+            for workers in '1', '4':
+                yield [words[0], '--workers', workers, *words[1:]]
+        else:
+            yield words
+
+
+class Sweep:
+    """The runs of one program with calls refused."""
+
+    def __init__(self, program, library, folder):
+        self.program, self.library, self.folder = program, library, folder
+
+    def run(self, words, **settings):
+        """Status, standard output and standard error of a run."""
+        env = {'PATH': os.environ['PATH'], 'LD_PRELOAD': str(self.library), **settings}
+        done = subprocess.run([self.program, *words], cwd=TOP, env=env, stdout=subprocess.PIPE, stderr=subprocess.PIPE, text=True)
+        return done.returncode, done.stdout, done.stderr
+
+    def calls(self, words, kind):
+        """How many calls of a kind a run makes."""
+        file = self.folder / 'count'
+        self.run(words, REFUSED=kind, COUNT=str(file))
+        return int(file.read_text())
+
+    def is_right(self, usual, kind, answer):
+        """Whether an answer is one that may be given where something was refused."""
+        if answer == usual:
+            return True
+        status, out, error = answer
+        return kind != 'thread' and status == 3 and usual[1].startswith(out) and error.startswith(ERRORS) and error.count('\n') == 1
+
+    def tried(self, words, usual, kind, number, on):
+        """What is wrong with the answer where this call is refused, and those after it where that goes on."""
+        answer = self.run(words, REFUSED=kind, AT=str(number), ON=on)
+        if self.is_right(usual, kind, answer):
+            return None
+        return f"mlock {' '.join(words)}\n  {kind} {number}{' and on' if on == '1' else ''} refused: {answer}"
+
+    def all(self, workers):
+        """The number of runs, and what is wrong with some of them."""
+        runs = []
+        for words in command_lines():
+            usual = self.run(words)
+            for kind in KINDS:
+                for number in range(1, self.calls(words, kind) + 1):
+                    runs += [(words, usual, kind, number, on) for on in ('0', '1')]
+        wrong = [it for it in workers.map(lambda run: self.tried(*run), runs) if it]
+        return len(runs), wrong
+
+
+def main():
+    if len(sys.argv) != 2:
+        sys.exit(__doc__)
+    program = pathlib.Path(sys.argv[1]).resolve()
+    compiler = next(filter(shutil.which, ('cc', 'gcc', 'clang')), None)
+    if compiler is None:
+        print('sweeps: nothing was tried, since there is no C compiler')
+        return
+    with tempfile.TemporaryDirectory() as folder:
+        folder = pathlib.Path(folder)
+        library = folder / 'refuse.so'
+        subprocess.run([compiler, '-O2', '-shared', '-fPIC', '-o', library, TOP / 'tools/refuse.c', '-ldl'], check=True)
+        with concurrent.futures.ThreadPoolExecutor(os.cpu_count()) as workers:
+            count, wrong = Sweep(program, library, folder).all(workers)
+    for text in wrong:
+        print(text)
+    print(f'sweeps: {count - len(wrong)} passed, {len(wrong)} failed')
+    sys.exit(1 if wrong else 0)
+
+
+if __name__ == '__main__':
+    main()
