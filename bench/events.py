@@ -109,4 +109,5 @@ def main():
     (words.folder / "events").write_text("".join(line + "\n" for line in written(words.kind, words.count, words.jobs)))
 
 
-main()
+if __name__ == "__main__":
+    main()

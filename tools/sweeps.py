@@ -9,15 +9,14 @@ was refused, the answer must be the usual one, or status 3, a line of `error mem
 standard error, and on standard output a beginning of the usual text. Where threads are refused it must be the usual one.
 The library that refuses (refuse.c) needs a C compiler; where there is none, nothing is tried, and that is said.
 """
-import concurrent.futures
-import os
 import pathlib
 import shutil
 import subprocess
 import sys
 import tempfile
 
-TOP = pathlib.Path(__file__).resolve().parent.parent
+from running import TOP, answer, tell, wrong_of
+
 WARD = ['examples/ward/rules.toml', 'examples/ward/ADMIT.m']
 TRANSFER = ['examples/transfer/rules.toml', 'examples/transfer/BANK.m']
 # What is run, and whether it takes workers.
@@ -50,9 +49,7 @@ class Sweep:
 
     def run(self, words, **settings):
         """Status, standard output and standard error of a run."""
-        env = {'PATH': os.environ['PATH'], 'LD_PRELOAD': str(self.library), **settings}
-        done = subprocess.run([self.program, *words], cwd=TOP, env=env, stdout=subprocess.PIPE, stderr=subprocess.PIPE, text=True)
-        return done.returncode, done.stdout, done.stderr
+        return answer(self.program, words, LD_PRELOAD=str(self.library), **settings)
 
     def calls(self, words, kind):
         """How many calls of a kind a run makes."""
@@ -60,21 +57,21 @@ class Sweep:
         self.run(words, REFUSED=kind, COUNT=str(file))
         return int(file.read_text())
 
-    def is_right(self, usual, kind, answer):
+    def is_right(self, usual, kind, given):
         """Whether an answer is one that may be given where something was refused."""
-        if answer == usual:
+        if given == usual:
             return True
-        status, out, error = answer
+        status, out, error = given
         return kind != 'thread' and status == 3 and usual[1].startswith(out) and error.startswith(ERRORS) and error.count('\n') == 1
 
     def tried(self, words, usual, kind, number, on):
         """What is wrong with the answer where this call is refused, and those after it where that goes on."""
-        answer = self.run(words, REFUSED=kind, AT=str(number), ON=on)
-        if self.is_right(usual, kind, answer):
+        given = self.run(words, REFUSED=kind, AT=str(number), ON=on)
+        if self.is_right(usual, kind, given):
             return None
-        return f"mlock {' '.join(words)}\n  {kind} {number}{' and on' if on == '1' else ''} refused: {answer}"
+        return f"mlock {' '.join(words)}\n  {kind} {number}{' and on' if on == '1' else ''} refused: {tuple(given)}"
 
-    def all(self, workers):
+    def all(self):
         """The number of runs, and what is wrong with some of them."""
         runs = []
         for words in command_lines():
@@ -82,8 +79,7 @@ class Sweep:
             for kind in KINDS:
                 for number in range(1, self.calls(words, kind) + 1):
                     runs += [(words, usual, kind, number, on) for on in ('0', '1')]
-        wrong = [it for it in workers.map(lambda run: self.tried(*run), runs) if it]
-        return len(runs), wrong
+        return len(runs), wrong_of(runs, lambda run: self.tried(*run))
 
 
 def main():
@@ -98,12 +94,8 @@ def main():
         folder = pathlib.Path(folder)
         library = folder / 'refuse.so'
         subprocess.run([compiler, '-O2', '-shared', '-fPIC', '-o', library, TOP / 'tools/refuse.c', '-ldl'], check=True)
-        with concurrent.futures.ThreadPoolExecutor(os.cpu_count()) as workers:
-            count, wrong = Sweep(program, library, folder).all(workers)
-    for text in wrong:
-        print(text)
-    print(f'sweeps: {count - len(wrong)} passed, {len(wrong)} failed')
-    sys.exit(1 if wrong else 0)
+        count, wrong = Sweep(program, library, folder).all()
+    sys.exit(tell('sweeps', count, wrong))
 
 
 if __name__ == '__main__':

@@ -8,10 +8,16 @@ use Rattle.mlk_pool.specs.declared.source.Source.{Source}
 use Rattle.mlk_app.specs.declared.source.Sources.{Sources}
 use Rattle.mlk_app.specs.declared.source.Work.{Work}
 use Rattle.mlk_app.specs.declared.source.Work.TheVariants as work
+use Rattle.mlk_cert.specs.declared.format.CertFormat.{CertFormat}
+use Rattle.mlk_cert.specs.declared.format.CertFormat.TheVariants as format
 use Rattle.mlk_cli.specs.CommandLine.{bytes_of}
 use Rattle.mlk_cli.specs.declared.words.Asked.{Asked}
 use Rattle.mlk_cli.specs.declared.words.Asked.TheVariants as asked
+use Rattle.mlk_cli.specs.declared.words.Format.{Format}
+use Rattle.mlk_cli.specs.declared.words.Format.TheVariants as named
+use Rattle.mlk_cli.specs.declared.words.ProgramRequest.{ProgramRequest}
 use Rattle.mlk_cli.specs.declared.words.Request.{Request}
+use Rattle.mlk_cli.specs.declared.words.Request.TheVariants as request
 
 -- no byte is this one
 abbrev pub Lacks : ℕ → List ℕ → Type 0
@@ -43,34 +49,43 @@ AreSources holds [] (source ∷ sources) = ⊥
 AreSources holds (path ∷ paths) [] = ⊥
 AreSources holds (path ∷ paths) (source ∷ sources) = IsSource holds path.now source × AreSources holds paths sources
 
--- the text of the certificate, or of the events, where one is named, and the number of workers
+-- the format of certificates that the words name
+abbrev pub cert_format : Format → CertFormat
+cert_format named.First = format.First
+cert_format named.Second = format.Second
+
+-- the text of the certificate, or of the events, where one is named, and the number of workers or the format
 abbrev pub IsWork : Texts → Asked → Work → Type 0
 IsWork holds (asked.Check path workers) (work.Check text given) = holds path.now text.items × (given ≡ workers)
-IsWork holds (asked.Check path workers) work.Make = ⊥
+IsWork holds (asked.Check path workers) (work.Make format) = ⊥
 IsWork holds (asked.Check path workers) (work.Verify given) = ⊥
 IsWork holds (asked.Check path workers) (work.Replay text) = ⊥
-IsWork holds asked.Make w = w ≡ work.Make
+IsWork holds (asked.Make format) w = w ≡ work.Make (cert_format format)
 IsWork holds (asked.Verify workers) w = w ≡ work.Verify workers
 IsWork holds (asked.Replay path) (work.Check text given) = ⊥
-IsWork holds (asked.Replay path) work.Make = ⊥
+IsWork holds (asked.Replay path) (work.Make format) = ⊥
 IsWork holds (asked.Replay path) (work.Verify given) = ⊥
 IsWork holds (asked.Replay path) (work.Replay text) = holds path.now text.items
 
--- the texts are those of the files that a command names
-pub record AreTexts (holds : Texts) (request : Request) (sources : Sources) : Type 0 where
-  pub rules : holds request.rules.now sources.rules.items
-  pub work : IsWork holds request.asked sources.work
-  pub routines : AreSources holds request.routines.items sources.routines.items
+-- the texts are those of the files of a program that a command names
+pub record AreTexts (holds : Texts) (program : ProgramRequest) (sources : Sources) : Type 0 where
+  pub rules : holds program.rules.now sources.rules.items
+  pub work : IsWork holds program.asked sources.work
+  pub routines : AreSources holds program.routines.items sources.routines.items
 
 abbrev pub work_path : Asked → List (List ℕ)
 work_path (asked.Check path workers) = path.now ∷ []
-work_path asked.Make = []
+work_path (asked.Make format) = []
 work_path (asked.Verify workers) = []
 work_path (asked.Replay path) = path.now ∷ []
 
 -- the paths that a command names, in the order of its words
+abbrev pub program_paths : ProgramRequest → List (List ℕ)
+program_paths program = program.rules.now ∷ (work_path program.asked ++ bytes_of program.routines.items)
+
 abbrev pub paths_of : Request → List (List ℕ)
-paths_of request = request.rules.now ∷ (work_path request.asked ++ bytes_of request.routines.items)
+paths_of (request.Program program) = program_paths program
+paths_of (request.Convert certificate format) = certificate.now ∷ []
 
 -- each of these paths has a text
 abbrev pub AreHeld : Texts → List (List ℕ) → Type 0

@@ -6,35 +6,55 @@ use Rattle.mlk_syntax.specs.Trees.{RoutineTree}
 use Rattle.mlk_syntax.specs.Views.{routine_of}
 use Rattle.mlk_walk.specs.declared.report.Row.{Row}
 use Rattle.mlk_app.specs.declared.source.Sources.{Sources}
+use Rattle.mlk_cli.specs.declared.words.ProgramRequest.{ProgramRequest}
 use Rattle.mlk_cli.specs.declared.words.Request.{Request}
+use Rattle.mlk_cli.specs.declared.words.Request.TheVariants as request
+use Rattle.mlk_text.specs.declared.failure.Failure.TheVariants as failure
+use Rattle.mlk_cert.specs.declared.format.CertFormat.{CertFormat}
+use Rattle.mlk_cert.specs.declared.read.fault.CertFault.{CertFault}
+use Rattle.mlk_pool.specs.declared.error.CheckError.{CheckError}
+use Rattle.mlk_pool.specs.declared.error.CheckError.TheVariants as error
 use Rattle.mlk_app.specs.declared.checked.Checked.{Checked}
-use Rattle.mlk_app.specs.declared.checked.Outcome.{Outcome}
-use Rattle.mlk_app.specs.declared.checked.Outcome.TheVariants as outcome
-use Rattle.mlk_app.specs.declared.checked.Refusal.{Refusal}
-use Rattle.mlk_app.specs.declared.checked.Refusal.TheVariants as refusal
+use Rattle.mlk_app.specs.declared.checked.CheckedOutcome.{CheckedOutcome}
+use Rattle.mlk_app.specs.declared.checked.CheckedOutcome.TheVariants as outcome
+use Rattle.mlk_app.specs.declared.checked.NoReport.{NoReport}
+use Rattle.mlk_app.specs.declared.checked.NoReport.TheVariants as refusal
 use Rattle.mlk_app.specs.declared.program.Answer.{Answer}
 use Rattle.mlk_app.specs.declared.program.Answer.TheVariants as answer
 use Rattle.mlk_pool.specs.Texts.{report_text}
 use Rattle.mlk_app.specs.Printed.{fault_line, rules_line, certificate_line, missing_line, workers_line, stuck_line, events_line, file_line}
-use Rattle.mlk_app.specs.Files.{Texts, AreTexts, IsFirstLost, paths_of}
+use Rattle.mlk_app.specs.Files.{Texts, AreTexts, IsFirstLost, cert_format, paths_of}
 use Rattle.mlk_cli.specs.CommandLine.{IsRequest, AsksNothing}
 use Rattle.mlk_app.specs.Checked.{IsChecked, IsRefusedBy}
+use Rattle.mlk_app.specs.Converted.{IsConverted, IsUnconverted}
 
 -- 0 for `yes`, 1 for `no`
 abbrev pub status_of : List Row → ℕ
 status_of [] = 0
 status_of (r ∷ rows) = 1
 
+-- the line of what the check itself refuses
+abbrev pub IsErrorLine : CheckError → List ℕ → Type 0
+IsErrorLine error.OutOfMemory line = ⊥
+IsErrorLine (error.Routine fault) line = line ≡ fault_line fault
+IsErrorLine (error.Rules fault) line = line ≡ rules_line fault
+IsErrorLine (error.Certificate fault) line = line ≡ certificate_line fault
+IsErrorLine (error.Entry entry) line = line ≡ missing_line entry
+IsErrorLine error.Workers line = line ≡ workers_line
+IsErrorLine (error.GateShut task) line = ⊥
+
 -- the line of a refusal
-abbrev pub IsRefusalLine : Refusal → List ℕ → Type 0
-IsRefusalLine refusal.OutOfMemory line = ⊥
-IsRefusalLine (refusal.Routine fault) line = line ≡ fault_line fault
-IsRefusalLine (refusal.Rules fault) line = line ≡ rules_line fault
-IsRefusalLine (refusal.Certificate fault) line = line ≡ certificate_line fault
-IsRefusalLine (refusal.Entry entry) line = line ≡ missing_line entry
-IsRefusalLine refusal.Workers line = line ≡ workers_line
+abbrev pub IsRefusalLine : NoReport → List ℕ → Type 0
+IsRefusalLine (refusal.Check e) line = IsErrorLine e line
 IsRefusalLine (refusal.GaveUp entry fault) line = line ≡ stuck_line entry fault
 IsRefusalLine (refusal.Events fault) line = line ≡ events_line fault
+
+-- the gate was open
+abbrev pub IsOfOpenGate : CheckError → Type 0
+IsOfOpenGate e = (task : ℕ) → e ≡ error.GateShut task → ⊥
+
+abbrev pub IsNotShut : NoReport → Type 0
+IsNotShut r = (task : ℕ) → r ≡ refusal.Check (error.GateShut task) → ⊥
 
 -- the trees of what was read
 abbrev pub trees_of : Checked → List RoutineTree
@@ -57,12 +77,12 @@ PrintsText shown (answer.Usage text) = ⊥
 PrintsText shown answer.OutOfMemory = Unit {0}
 
 -- what is printed of an outcome, and the status: a certificate is printed as it is, and so is what is shown of jobs
-abbrev pub IsPrinted : List RoutineTree → Outcome → List ℕ → ℕ → Type 0
+abbrev pub IsPrinted : List RoutineTree → CheckedOutcome → List ℕ → ℕ → Type 0
 IsPrinted trees (outcome.Report rows) text status = (text ≡ report_text trees rows) × (status ≡ status_of rows)
 IsPrinted trees (outcome.Made made) text status = (text ≡ made.items) × (status ≡ 0)
 IsPrinted trees (outcome.Replayed shown) text status = (text ≡ shown) × (status ≡ 0)
 
-abbrev pub PrintsOutcome : List RoutineTree → Outcome → Answer → Type 0
+abbrev pub PrintsOutcome : List RoutineTree → CheckedOutcome → Answer → Type 0
 PrintsOutcome trees o (answer.Report text status) = IsPrinted trees o text status
 PrintsOutcome trees o (answer.Refused line) = ⊥
 PrintsOutcome trees o (answer.Unread line) = ⊥
@@ -73,12 +93,20 @@ abbrev pub Prints : Checked → Answer → Type 0
 Prints checked a = PrintsOutcome (trees_of checked) checked.outcome a
 
 -- the line of a refusal, where memory doesn't run out
-abbrev pub TellsRefusal : Refusal → Answer → Type 0
+abbrev pub TellsRefusal : NoReport → Answer → Type 0
 TellsRefusal r (answer.Report text status) = ⊥
 TellsRefusal r (answer.Refused line) = IsRefusalLine r line
 TellsRefusal r (answer.Unread line) = ⊥
 TellsRefusal r (answer.Usage text) = ⊥
 TellsRefusal r answer.OutOfMemory = Unit {0}
+
+-- the line of a certificate's fault, where memory doesn't run out
+abbrev pub TellsFault : CertFault → Answer → Type 0
+TellsFault fault (answer.Report text status) = ⊥
+TellsFault fault (answer.Refused line) = line ≡ certificate_line fault
+TellsFault fault (answer.Unread line) = ⊥
+TellsFault fault (answer.Usage text) = ⊥
+TellsFault fault answer.OutOfMemory = Unit {0}
 
 -- the line of a path that can't be read, where memory doesn't run out
 abbrev pub TellsUnread : List ℕ → Answer → Type 0
@@ -88,22 +116,45 @@ TellsUnread path (answer.Unread line) = line ≡ file_line path
 TellsUnread path (answer.Usage text) = ⊥
 TellsUnread path answer.OutOfMemory = Unit {0}
 
--- what the texts at the paths come to
-pub record IsReported (holds : Texts) (request : Request) (text : List ℕ) (status : ℕ) : Type 0 where
+-- what the texts at the paths of a program come to
+pub record IsProgramReported (holds : Texts) (program : ProgramRequest) (text : List ℕ) (status : ℕ) : Type 0 where
   pub sources : Sources
-  pub texts : AreTexts holds request sources
+  pub texts : AreTexts holds program sources
   pub trees : List RoutineTree
-  pub outcome : Outcome
+  pub outcome : CheckedOutcome
   pub answered : IsChecked sources trees outcome
   pub printed : IsPrinted trees outcome text status
 
--- the refusal of the texts at the paths
-pub record IsRefusedThere (holds : Texts) (request : Request) (line : List ℕ) : Type 0 where
+-- the refusal of the texts at the paths of a program
+pub record IsProgramRefused (holds : Texts) (program : ProgramRequest) (line : List ℕ) : Type 0 where
   pub sources : Sources
-  pub texts : AreTexts holds request sources
-  pub refusal : Refusal
+  pub texts : AreTexts holds program sources
+  pub refusal : NoReport
   pub refused : IsRefusedBy sources refusal
   pub told : IsRefusalLine refusal line
+
+-- the text in this format of the certificate whose text stands at the path
+pub record IsConvertedThere (holds : Texts) (path : List ℕ) (format : CertFormat) (text : List ℕ) : Type 0 where
+  pub given : List ℕ
+  pub held : holds path given
+  pub converted : IsConverted format given text
+
+-- the refusal of the text at the path, or of the one in this format
+pub record IsUnconvertedThere (holds : Texts) (path : List ℕ) (format : CertFormat) (line : List ℕ) : Type 0 where
+  pub given : List ℕ
+  pub held : holds path given
+  pub fault : CertFault
+  pub refused : IsUnconverted format given (failure.Refused fault)
+  pub told : line ≡ certificate_line fault
+
+-- what the texts at the paths of a request come to: a certificate is printed as it is
+abbrev pub IsReported : Texts → Request → List ℕ → ℕ → Type 0
+IsReported holds (request.Program program) text status = IsProgramReported holds program text status
+IsReported holds (request.Convert certificate format) text status = IsConvertedThere holds certificate.now (cert_format format) text × (status ≡ 0)
+
+abbrev pub IsRefusedThere : Texts → Request → List ℕ → Type 0
+IsRefusedThere holds (request.Program program) line = IsProgramRefused holds program line
+IsRefusedThere holds (request.Convert certificate format) line = IsUnconvertedThere holds certificate.now (cert_format format) line
 
 -- the first path that can't be read
 pub record IsUnread (holds : Texts) (lacks : List ℕ → Type 0) (request : Request) (line : List ℕ) : Type 0 where

@@ -12,40 +12,41 @@ use Rattle.mlk_machine.specs.Running.{Running}
 use Rattle.mlk_machine.specs.Systems.{jobs_in, routines_in}
 use Rattle.mlk_machine.specs.Files.{ReplayedFile}
 use Rattle.mlk_machine_view.specs.Printed.{system_text}
-use Rattle.mlk_app.specs.declared.checked.Refusal.{Refusal}
-use Rattle.mlk_app.specs.declared.checked.Refusal.TheVariants as refusal
+use Rattle.mlk_machine.specs.declared.fault.EventsFault.{EventsFault}
+use Rattle.mlk_text.specs.declared.failure.Failure.{Failure}
+use Rattle.mlk_pool.specs.declared.error.CheckError.TheVariants as error
+use Rattle.mlk_app.specs.declared.checked.NoReport.{NoReport}
+use Rattle.mlk_app.specs.declared.checked.NoReport.TheVariants as refusal
 
 -- each text names an entry: these
 abbrev pub AreDeclared : List RoutineTree → List (List ℕ) → List EntryId → Type 0
 AreDeclared trees texts entries = map Some entries ≡ map (entry_by trees) texts
 
--- the first text that names none. Want of memory says nothing.
-abbrev pub IsUndeclared : List RoutineTree → List (List ℕ) → Refusal → Type 0
-IsUndeclared trees texts refusal.OutOfMemory = Unit {0}
-IsUndeclared trees texts (refusal.Routine fault) = ⊥
-IsUndeclared trees texts (refusal.Rules fault) = ⊥
-IsUndeclared trees texts (refusal.Certificate fault) = ⊥
-IsUndeclared trees texts (refusal.Entry entry) = find (is_missing trees) texts ≡ Some entry
-IsUndeclared trees texts refusal.Workers = ⊥
-IsUndeclared trees texts (refusal.GaveUp entry fault) = ⊥
-IsUndeclared trees texts (refusal.Events fault) = ⊥
+-- what want of memory is told as
+abbrev pub no_memory : NoReport
+no_memory = refusal.Check error.OutOfMemory
+
+-- what is told of an entry that is lacking, unless memory runs out
+abbrev pub TellsEntry : List ℕ → NoReport → Type 0
+TellsEntry entry r = (r ≡ no_memory) ⊎ (r ≡ refusal.Check (error.Entry entry))
+
+-- The first text that names none is told, unless memory runs out.
+abbrev pub IsUndeclared : List RoutineTree → List (List ℕ) → NoReport → Type 0
+IsUndeclared trees texts r = (r ≡ no_memory) ⊎ ((entry : List ℕ) × (find (is_missing trees) texts ≡ Some entry) × (r ≡ refusal.Check (error.Entry entry)))
 
 -- There is a system after all lines of a file of events, and the text is what is shown of it.
 abbrev pub IsShown : List Routine → List EntryId → List ℕ → List ℕ → Type 0
 IsShown routines entries events text =
     (s : Running) × ReplayedFile routines entries events (Ok s) × (text ≡ system_text (routines_in s) (jobs_in s))
 
--- There is none: this is the line at which that stops, and why.
-abbrev pub IsStopped : List Routine → List EntryId → List ℕ → Refusal → Type 0
-IsStopped routines entries events refusal.OutOfMemory = Unit {0}
-IsStopped routines entries events (refusal.Routine fault) = ⊥
-IsStopped routines entries events (refusal.Rules fault) = ⊥
-IsStopped routines entries events (refusal.Certificate fault) = ⊥
-IsStopped routines entries events (refusal.Entry entry) = ⊥
-IsStopped routines entries events refusal.Workers = ⊥
-IsStopped routines entries events (refusal.GaveUp entry fault) = ⊥
-IsStopped routines entries events (refusal.Events fault) =
-    ReplayedFile routines entries events (Err (failure.Refused fault))
+-- what is refused of events
+abbrev pub refusal_of_events : Failure EventsFault → NoReport
+refusal_of_events failure.OutOfMemory = no_memory
+refusal_of_events (failure.Refused fault) = refusal.Events fault
+
+-- There is none: the line at which that stops, and why, is told.
+abbrev pub IsStopped : List Routine → List EntryId → List ℕ → NoReport → Type 0
+IsStopped routines entries events r = (e : Failure EventsFault) × ReplayedFile routines entries events (Err e) × (r ≡ refusal_of_events e)
 
 -- the jobs run these routines, from the declared entries
 pub record IsReplayed (trees : List RoutineTree) (rules : RuleLists) (events text : List ℕ) : Type 0 where
@@ -55,7 +56,7 @@ pub record IsReplayed (trees : List RoutineTree) (rules : RuleLists) (events tex
   pub declared : AreDeclared trees rules.entries entries
   pub shown : IsShown routines entries events text
 
-pub record IsStoppedThere (trees : List RoutineTree) (rules : RuleLists) (events : List ℕ) (r : Refusal) : Type 0 where
+pub record IsStoppedThere (trees : List RoutineTree) (rules : RuleLists) (events : List ℕ) (r : NoReport) : Type 0 where
   pub routines : List Routine
   pub are : map routine_of routines ≡ trees
   pub entries : List EntryId
@@ -63,5 +64,5 @@ pub record IsStoppedThere (trees : List RoutineTree) (rules : RuleLists) (events
   pub stopped : IsStopped routines entries events r
 
 -- Why nothing is shown: the first declared entry that the routines lack, before what is wrong with the events.
-abbrev pub IsUnreplayed : List RoutineTree → RuleLists → List ℕ → Refusal → Type 0
+abbrev pub IsUnreplayed : List RoutineTree → RuleLists → List ℕ → NoReport → Type 0
 IsUnreplayed trees rules events r = IsUndeclared trees rules.entries r ⊎ IsStoppedThere trees rules events r

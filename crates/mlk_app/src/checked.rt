@@ -2,25 +2,25 @@
 
 ghost use Rattle.std.specs.Prelude.{◌≡◌, map, IfOk, IfErr};
 ghost use Rattle.mlk_syntax.specs.Views.{routine_of};
-ghost use Rattle.mlk_app.specs.Checked.{refusal_of_routine, refusal_of_rules, refusal_of_certificate, refusal_of_events, TellsEntry, IsReportWith, IsStuck, IsMade, IsUnmade, IsOutcomeWith, IsOutcomeUnder, IsOutcomeOf, IsRefusalBy, IsRefusalWith, IsRefusalOfTask, IsRefusalUnder, IsRefusalOf, IsDone, IsUndone, IsVerified, IsUnverifiedBy, IsChecked, IsRefusedBy};
+ghost use Rattle.mlk_app.specs.Checked.{IsReportWith, IsStuck, IsMade, IsUnmade, IsOutcomeWith, IsOutcomeUnder, IsOutcomeOf, IsRefusalBy, IsRefusalWith, IsRefusalOfTask, IsRefusalUnder, IsRefusalOf, IsDone, IsUndone, IsVerified, IsUnverifiedBy, IsChecked, IsRefusedBy};
 ghost use Rattle.mlk_cert.specs.Theorem.{Spells};
 ghost use Rattle.mlk_soundness_walk.specs.Forms.{AreFormed};
 ghost use Rattle.mlk_pool.specs.Headline.{IsReportBy};
 ghost use Rattle.mlk_app.specs.Ran.{trees_of};
-ghost use Rattle.mlk_app.specs.declared.checked.Refusal.TheVariants as refusal;
+ghost use Rattle.mlk_app.specs.Replayed.{no_memory, refusal_of_events};
 
 use crate::gate::OpenGate;
 use crate::replayed::jobs_text;
 use crate::source::{Sources, Work};
-use mlk_cert::{CertFault, Certificate, Spelled};
+use mlk_cert::{CertFormat, Certificate, Spelled};
 use mlk_machine::EventsFault;
 use mlk_make::{GaveUp, MakeError, make_watched};
 use mlk_pool::{CheckError, Source, read_routines, verify_program, verify_watched};
 use mlk_program::{Program, link};
 use mlk_rules::Rules;
-use mlk_rules_file::{RulesFault, read_rules};
+use mlk_rules_file::read_rules;
 use mlk_syntax::Routine;
-use mlk_text::{Failure, Fault, Value};
+use mlk_text::{Failure, Value};
 use mlk_walk::Report;
 use mlk_watch::Watch;
 use std::alloc::{AllocError, Global};
@@ -29,77 +29,38 @@ use std::thread::Threads;
 
 /// Why there is no report.
 #[derive(Drop, Debug)]
-pub(crate) enum Refusal {
-    OutOfMemory,
-    Routine(Fault),
-    Rules(RulesFault),
-    Certificate(CertFault),
-    /// An entry text of the rules or the certificate that the routines lack.
-    Entry(Value),
-    /// There are no workers, or more than 64.
-    Workers,
+pub(crate) enum NoReport {
+    /// What the check itself answers, at a gate that is always open.
+    Check(CheckError),
     /// No certificate was made: the text of the entry, and the fault at which the maker gave up.
     GaveUp(Value, mlk_walk_exprs::Fault),
     Events(EventsFault),
 }
 
-impl From<AllocError> for Refusal {
-    ghost from_gives = { λ _ r. r ≡ refusal.OutOfMemory };
+impl From<AllocError> for NoReport {
+    ghost from_gives = { λ _ r. r ≡ no_memory };
 
-    fn from(_e: AllocError) -> Refusal {
-        Refusal::OutOfMemory
+    fn from(_e: AllocError) -> NoReport {
+        NoReport::Check(CheckError::OutOfMemory)
     }
 }
 
-impl From<Failure<Fault>> for Refusal {
-    ghost from_gives = { λ e r. r ≡ refusal_of_routine e };
-
-    fn from(error: Failure<Fault>) -> Refusal {
-        match error {
-            Failure::OutOfMemory => Refusal::OutOfMemory,
-            Failure::Refused(fault) => Refusal::Routine(fault),
-        }
-    }
-}
-
-impl From<Failure<RulesFault>> for Refusal {
-    ghost from_gives = { λ e r. r ≡ refusal_of_rules e };
-
-    fn from(error: Failure<RulesFault>) -> Refusal {
-        match error {
-            Failure::OutOfMemory => Refusal::OutOfMemory,
-            Failure::Refused(fault) => Refusal::Rules(fault),
-        }
-    }
-}
-
-impl From<Failure<CertFault>> for Refusal {
-    ghost from_gives = { λ e r. r ≡ refusal_of_certificate e };
-
-    fn from(error: Failure<CertFault>) -> Refusal {
-        match error {
-            Failure::OutOfMemory => Refusal::OutOfMemory,
-            Failure::Refused(fault) => Refusal::Certificate(fault),
-        }
-    }
-}
-
-impl From<Failure<EventsFault>> for Refusal {
+impl From<Failure<EventsFault>> for NoReport {
     ghost from_gives = { λ e r. r ≡ refusal_of_events e };
 
-    fn from(error: Failure<EventsFault>) -> Refusal {
+    fn from(error: Failure<EventsFault>) -> NoReport {
         match error {
-            Failure::OutOfMemory => Refusal::OutOfMemory,
-            Failure::Refused(fault) => Refusal::Events(fault),
+            Failure::OutOfMemory => NoReport::Check(CheckError::OutOfMemory),
+            Failure::Refused(fault) => NoReport::Events(fault),
         }
     }
 }
 
 /// What is to be done where no certificate is given.
 #[derive(Drop)]
-pub(crate) enum Task {
-    /// a certificate is made
-    Make,
+pub(crate) enum WantedTask {
+    /// a certificate is made, and its text has this format
+    Make { format: CertFormat },
     /// the check by the certificate that is made, and by so many workers
     Verify { workers: u32 },
     /// the events of this text are replayed
@@ -108,29 +69,19 @@ pub(crate) enum Task {
 
 /// What texts come to.
 #[derive(Drop)]
-pub(crate) enum Outcome {
+pub(crate) enum CheckedOutcome {
     Report(Report),
     /// the text of the certificate that was made
     Made(Vec<u8>),
     /// what is shown of the jobs
-    Replayed(mlk_cert_lexemes::Text),
+    Replayed(mlk_cert_lexemes::WrittenText),
 }
 
 /// The routines of a program, and what is made of it.
 #[derive(Drop)]
 pub(crate) struct Checked {
     pub routines: Vec<Routine>,
-    pub outcome: Outcome,
-}
-
-/// What is told of an entry that the routines lack.
-pub(crate) fn lacks(alloc: Global, entry: &[u8]) -> Refusal
-    ensures { TellsEntry entry.now result }
-{
-    match Vec::from_slice(alloc, entry) {
-        Ok(text) => Refusal::Entry(Value::new(text)),
-        Err(_) => Refusal::OutOfMemory,
-    }
+    pub outcome: CheckedOutcome,
 }
 
 fn report_by_certificate<R: Threads + Wait + Sync, W: Watch>(
@@ -141,7 +92,7 @@ fn report_by_certificate<R: Threads + Wait + Sync, W: Watch>(
     certificate: &Certificate,
     workers: u32,
     watch: &W,
-) -> Result<Report, Refusal>
+) -> Result<Report, NoReport>
     requires { AreFormed (map routine_of program.now) }
     ensures ok { IfOk result (IsReportBy (map routine_of program.now) rules.now certificate.now) }
     ensures refused { IfErr result (IsRefusalBy (map routine_of program.now) rules.now certificate.now workers) }
@@ -157,10 +108,7 @@ fn report_by_certificate<R: Threads + Wait + Sync, W: Watch>(
         watch,
     ) {
         Ok(report) => Ok(report),
-        Err(CheckError::OutOfMemory) => Err(Refusal::OutOfMemory),
-        Err(CheckError::Entry(entry)) => Err(Refusal::Entry(entry)),
-        Err(CheckError::Workers) => Err(Refusal::Workers),
-        Err(_) => unreachable!(),
+        Err(error) => Err(NoReport::Check(error)),
     }
 }
 
@@ -173,7 +121,7 @@ fn report_of<R: Threads + Wait + Sync, W: Watch>(
     made: &Spelled,
     workers: u32,
     watch: &W,
-) -> Result<Report, Refusal>
+) -> Result<Report, NoReport>
     requires formed { AreFormed (map routine_of program.now) }
     requires spelled { Spells made.now.certificate made.now.text.items }
     ensures ok { IfOk result (IsReportWith (map routine_of program.now) rules.now made.now.text.items) }
@@ -183,31 +131,36 @@ fn report_of<R: Threads + Wait + Sync, W: Watch>(
 }
 
 // What is told where the maker gave up.
-fn stuck(alloc: Global, program: &Program<'_>, place: GaveUp) -> Refusal
-    ensures { IsStuck (map routine_of program.now) result }
+fn stuck(alloc: Global, program: &Program<'_>, place: GaveUp) -> NoReport
+    ensures { IsStuck place result }
 {
     match program.text_of(alloc, place.entry) {
-        Ok(text) => Refusal::GaveUp(Value::new(text.unwrap_or(Vec::new(alloc))), place.fault),
-        Err(AllocError) => Refusal::OutOfMemory,
+        Ok(text) => NoReport::GaveUp(Value::new(text.unwrap_or(Vec::new(alloc))), place.fault),
+        Err(AllocError) => NoReport::Check(CheckError::OutOfMemory),
     }
 }
 
-// The certificate that is made, and its text.
+// The certificate that is made, and its text in a format.
 fn made<W: Watch>(
     alloc: Global,
     program: &Program<'_>,
     rules: &Rules,
+    format: CertFormat,
     watch: &W,
-) -> Result<Spelled, Refusal>
-    ensures ok { IfOk result (λ s. IsMade (map routine_of program.now) rules.now s.text.items) }
+) -> Result<Spelled, NoReport>
+    ensures ok { IfOk result (λ s. IsMade (map routine_of program.now) rules.now format s.text.items) }
     ensures spells { IfOk result (λ s. Spells s.certificate s.text.items) }
     ensures refused { IfErr result (IsUnmade (map routine_of program.now) rules.now) }
 {
-    match make_watched(alloc, program, rules, watch) {
+    match make_watched(alloc, program, rules, format, watch) {
         Ok(made) => Ok(made),
-        Err(Failure::OutOfMemory) => Err(Refusal::OutOfMemory),
-        Err(Failure::Refused(MakeError::EntryMissing(text))) => Err(Refusal::Entry(text)),
-        Err(Failure::Refused(MakeError::TooLong(fault))) => Err(Refusal::Certificate(fault)),
+        Err(Failure::OutOfMemory) => Err(NoReport::Check(CheckError::OutOfMemory)),
+        Err(Failure::Refused(MakeError::EntryMissing(text))) => {
+            Err(NoReport::Check(CheckError::Entry(text)))
+        }
+        Err(Failure::Refused(MakeError::TooLong(fault))) => {
+            Err(NoReport::Check(CheckError::Certificate(fault)))
+        }
         Err(Failure::Refused(MakeError::GaveUp(place))) => Err(stuck(alloc, program, place)),
     }
 }
@@ -217,27 +170,27 @@ fn outcome_with<R: Threads + Wait + Sync, W: Watch>(
     alloc: Global,
     program: &Program<'_>,
     rules: &Rules,
-    task: &Task,
+    task: &WantedTask,
     watch: &W,
-) -> Result<Outcome, Refusal>
+) -> Result<CheckedOutcome, NoReport>
     requires { AreFormed (map routine_of program.now) }
     ensures ok { IfOk result (IsOutcomeWith (map routine_of program.now) rules.now task.now) }
     ensures refused { IfErr result (IsRefusalOfTask (map routine_of program.now) rules.now task.now) }
 {
     match task {
-        Task::Make => {
-            let Spelled { text, .. } = made(alloc, program, rules, watch)?;
-            Ok(Outcome::Made(text))
+        WantedTask::Make { format } => {
+            let Spelled { text, .. } = made(alloc, program, rules, *format, watch)?;
+            Ok(CheckedOutcome::Made(text))
         }
-        Task::Verify { workers } => {
-            let made = made(alloc, program, rules, watch)?;
+        WantedTask::Verify { workers } => {
+            let made = made(alloc, program, rules, CertFormat::First, watch)?;
             let report = report_of(rt, alloc, program, rules, &made, *workers, watch)?;
             watch.discard(made);
-            Ok(Outcome::Report(report))
+            Ok(CheckedOutcome::Report(report))
         }
-        Task::Replay(events) => {
+        WantedTask::Replay(events) => {
             let text = jobs_text(alloc, program, rules, events.as_slice())?;
-            Ok(Outcome::Replayed(text))
+            Ok(CheckedOutcome::Replayed(text))
         }
     }
 }
@@ -247,15 +200,17 @@ fn outcome_under<R: Threads + Wait + Sync, W: Watch>(
     alloc: Global,
     program: &Program<'_>,
     rules_text: &[u8],
-    task: &Task,
+    task: &WantedTask,
     watch: &W,
-) -> Result<Outcome, Refusal>
+) -> Result<CheckedOutcome, NoReport>
     requires { AreFormed (map routine_of program.now) }
     ensures ok { IfOk result (IsOutcomeUnder (map routine_of program.now) rules_text.now task.now) }
     ensures refused { IfErr result (IsRefusalUnder (map routine_of program.now) rules_text.now task.now) }
 {
-    let rules = read_rules(alloc, rules_text)?;
-    outcome_with(rt, alloc, program, &rules, task, watch)
+    match read_rules(alloc, rules_text) {
+        Ok(rules) => outcome_with(rt, alloc, program, &rules, task, watch),
+        Err(failure) => Err(NoReport::Check(CheckError::from(failure))),
+    }
 }
 
 // What routines come to by the text of rules.
@@ -264,17 +219,21 @@ fn outcome_of<R: Threads + Wait + Sync, W: Watch>(
     alloc: Global,
     routines: &[Routine],
     rules_text: &[u8],
-    task: &Task,
+    task: &WantedTask,
     watch: &W,
-) -> Result<Outcome, Refusal>
+) -> Result<CheckedOutcome, NoReport>
     requires { AreFormed (map routine_of routines.now) }
     ensures ok { IfOk result (IsOutcomeOf (map routine_of routines.now) rules_text.now task.now) }
     ensures refused { IfErr result (IsRefusalOf (map routine_of routines.now) rules_text.now task.now) }
 {
-    let program = link(alloc, routines)?;
-    let outcome = outcome_under(rt, alloc, &program, rules_text, task, watch);
-    watch.discard(program);
-    outcome
+    match link(alloc, routines) {
+        Ok(program) => {
+            let outcome = outcome_under(rt, alloc, &program, rules_text, task, watch);
+            watch.discard(program);
+            outcome
+        }
+        Err(failure) => Err(NoReport::Check(CheckError::from(failure))),
+    }
 }
 
 // What is made of the texts of a program.
@@ -283,13 +242,16 @@ fn done<R: Threads + Wait + Sync, W: Watch>(
     alloc: Global,
     files: Vec<Source<'_>>,
     rules: &[u8],
-    task: &Task,
+    task: &WantedTask,
     watch: &W,
-) -> Result<Checked, Refusal>
+) -> Result<Checked, NoReport>
     ensures ok { IfOk result (λ c. IsDone files.entry.items rules.now task.now (trees_of c) c.outcome) }
     ensures refused { IfErr result (IsUndone files.entry.items rules.now task.now) }
 {
-    let routines = read_routines(rt, alloc, files, watch)?;
+    let routines = match read_routines(rt, alloc, files, watch) {
+        Ok(routines) => routines,
+        Err(failure) => return Err(NoReport::Check(CheckError::from(failure))),
+    };
     match outcome_of(rt, alloc, routines.as_slice(), rules, task, watch) {
         Ok(outcome) => Ok(Checked { routines, outcome }),
         Err(refusal) => {
@@ -308,7 +270,7 @@ fn verified<R: Threads + Wait + Sync, W: Watch>(
     certificate: &[u8],
     workers: u32,
     watch: &W,
-) -> Result<Checked, Refusal>
+) -> Result<Checked, NoReport>
     ensures ok { IfOk result (λ c. IsVerified files.entry.items rules.now certificate.now (trees_of c) c.outcome) }
     ensures refused { IfErr result (IsUnverifiedBy files.entry.items rules.now certificate.now workers) }
 {
@@ -324,15 +286,9 @@ fn verified<R: Threads + Wait + Sync, W: Watch>(
     ) {
         Ok(report) => Ok(Checked {
             routines: report.routines,
-            outcome: Outcome::Report(report.rows),
+            outcome: CheckedOutcome::Report(report.rows),
         }),
-        Err(CheckError::OutOfMemory) => Err(Refusal::OutOfMemory),
-        Err(CheckError::Routine(fault)) => Err(Refusal::Routine(fault)),
-        Err(CheckError::Rules(fault)) => Err(Refusal::Rules(fault)),
-        Err(CheckError::Certificate(fault)) => Err(Refusal::Certificate(fault)),
-        Err(CheckError::Entry(entry)) => Err(Refusal::Entry(entry)),
-        Err(CheckError::Workers) => Err(Refusal::Workers),
-        Err(CheckError::GateShut(_)) => unreachable!(),
+        Err(error) => Err(NoReport::Check(error)),
     }
 }
 
@@ -344,7 +300,7 @@ pub(crate) fn check_texts<R: Threads + Wait + Sync, W: Watch>(
     alloc: Global,
     sources: Sources<'_>,
     watch: &W,
-) -> Result<Checked, Refusal>
+) -> Result<Checked, NoReport>
     ensures ok { IfOk result (λ c. IsChecked sources.entry (trees_of c) c.outcome) }
     ensures refused { IfErr result (IsRefusedBy sources.entry) }
 {
@@ -362,10 +318,19 @@ pub(crate) fn check_texts<R: Threads + Wait + Sync, W: Watch>(
             let text = certificate.as_slice();
             verified(rt, alloc, files, rules, text, workers, watch)
         }
-        Work::Make => done(rt, alloc, files, rules, &Task::Make, watch),
-        Work::Verify { workers } => {
-            done(rt, alloc, files, rules, &Task::Verify { workers }, watch)
+        Work::Make { format } => {
+            done(rt, alloc, files, rules, &WantedTask::Make { format }, watch)
         }
-        Work::Replay(events) => done(rt, alloc, files, rules, &Task::Replay(events), watch),
+        Work::Verify { workers } => {
+            done(
+                rt,
+                alloc,
+                files,
+                rules,
+                &WantedTask::Verify { workers },
+                watch,
+            )
+        }
+        Work::Replay(events) => done(rt, alloc, files, rules, &WantedTask::Replay(events), watch),
     }
 }

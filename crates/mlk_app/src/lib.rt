@@ -1,7 +1,9 @@
-//! What `mlock` does: it reads the files that the command line names, checks them or replays events, and says what it found.
+//! What `mlock` does: it reads the files that the command line names, checks them, replays events or converts a certificate,
+//! and says what it found.
 #![tactic(auto)]
 
 mod checked;
+mod converted;
 mod file;
 mod gate;
 mod printed;

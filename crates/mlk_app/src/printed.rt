@@ -6,12 +6,12 @@ ghost use Rattle.mlk_app.specs.Printed.{left_out_text, fault_line, missing_line,
 use mlk_cert::CertFault;
 use mlk_machine::{EventsFault, EventsRefusal};
 use mlk_machine_locks::Refusal;
-use mlk_pool::Text;
+use mlk_pool::ReportText;
 use mlk_rules_file::RulesFault;
 use mlk_text::{Code, Fault, LeftOut, Value};
 use std::alloc::{AllocError, Global};
 
-fn push_left_out(text: &mut Text, what: &Option<LeftOut>) -> Result<(), AllocError>
+fn push_left_out(text: &mut ReportText, what: &Option<LeftOut>) -> Result<(), AllocError>
     ensures { OnOk result (text.new ≡ text.old ++ left_out_text what.now) }
 {
     if let Some(what) = what {
@@ -22,10 +22,10 @@ fn push_left_out(text: &mut Text, what: &Option<LeftOut>) -> Result<(), AllocErr
 }
 
 /// `refused ROUTINE line:column CODE NAME`
-pub(crate) fn fault_line(alloc: Global, fault: &Fault) -> Result<Text, AllocError>
+pub(crate) fn fault_line(alloc: Global, fault: &Fault) -> Result<ReportText, AllocError>
     ensures { IfOk result (λ t. t ≡ fault_line fault.now) }
 {
-    let mut text = Text::new(alloc);
+    let mut text = ReportText::new(alloc);
     text.push(b"refused ")?;
     text.push(fault.place.routine.as_bytes())?;
     text.push(b" ")?;
@@ -38,10 +38,10 @@ pub(crate) fn fault_line(alloc: Global, fault: &Fault) -> Result<Text, AllocErro
 }
 
 /// `refused entry TEXT 901 EntryMissing`
-pub(crate) fn missing_line(alloc: Global, entry: &Value) -> Result<Text, AllocError>
+pub(crate) fn missing_line(alloc: Global, entry: &Value) -> Result<ReportText, AllocError>
     ensures { IfOk result (λ t. t ≡ missing_line entry.now) }
 {
-    let mut text = Text::new(alloc);
+    let mut text = ReportText::new(alloc);
     text.push(b"refused entry ")?;
     text.push(entry.as_bytes())?;
     text.push(b" ")?;
@@ -51,10 +51,10 @@ pub(crate) fn missing_line(alloc: Global, entry: &Value) -> Result<Text, AllocEr
 }
 
 /// `refused workers 902 Workers`
-pub(crate) fn workers_line(alloc: Global) -> Result<Text, AllocError>
+pub(crate) fn workers_line(alloc: Global) -> Result<ReportText, AllocError>
     ensures { IfOk result (λ t. t ≡ workers_line) }
 {
-    let mut text = Text::new(alloc);
+    let mut text = ReportText::new(alloc);
     text.push(b"refused workers ")?;
     text.push_code(Code::Workers)?;
     text.push(b"\n")?;
@@ -66,10 +66,10 @@ pub(crate) fn stuck_line(
     alloc: Global,
     entry: &Value,
     fault: &mlk_walk_exprs::Fault,
-) -> Result<Text, AllocError>
+) -> Result<ReportText, AllocError>
     ensures { IfOk result (λ t. t ≡ stuck_line entry.now fault.now) }
 {
-    let mut text = Text::new(alloc);
+    let mut text = ReportText::new(alloc);
     text.push(b"refused ")?;
     text.push(entry.as_bytes())?;
     text.push(b" ")?;
@@ -81,10 +81,10 @@ pub(crate) fn stuck_line(
 }
 
 /// `refused rules SECTION INDEX CODE NAME`
-pub(crate) fn rules_line(alloc: Global, fault: &RulesFault) -> Result<Text, AllocError>
+pub(crate) fn rules_line(alloc: Global, fault: &RulesFault) -> Result<ReportText, AllocError>
     ensures { IfOk result (λ t. t ≡ rules_line fault.now) }
 {
-    let mut text = Text::new(alloc);
+    let mut text = ReportText::new(alloc);
     text.push(b"refused rules ")?;
     text.push(fault.section.word())?;
     text.push(b" ")?;
@@ -96,10 +96,10 @@ pub(crate) fn rules_line(alloc: Global, fault: &RulesFault) -> Result<Text, Allo
 }
 
 /// `refused cert LINE CODE NAME`
-pub(crate) fn certificate_line(alloc: Global, fault: &CertFault) -> Result<Text, AllocError>
+pub(crate) fn certificate_line(alloc: Global, fault: &CertFault) -> Result<ReportText, AllocError>
     ensures { IfOk result (λ t. t ≡ certificate_line fault.now) }
 {
-    let mut text = Text::new(alloc);
+    let mut text = ReportText::new(alloc);
     text.push(b"refused cert ")?;
     text.push_number(fault.line.number() as usize)?;
     text.push(b" ")?;
@@ -120,10 +120,10 @@ fn events_code(why: EventsRefusal) -> Code
 }
 
 /// `refused line LINE CODE NAME`
-pub(crate) fn events_line(alloc: Global, fault: &EventsFault) -> Result<Text, AllocError>
+pub(crate) fn events_line(alloc: Global, fault: &EventsFault) -> Result<ReportText, AllocError>
     ensures { IfOk result (λ t. t ≡ events_line fault.now) }
 {
-    let mut text = Text::new(alloc);
+    let mut text = ReportText::new(alloc);
     text.push(b"refused line ")?;
     text.push_number(fault.line.number() as usize)?;
     text.push(b" ")?;
@@ -133,10 +133,10 @@ pub(crate) fn events_line(alloc: Global, fault: &EventsFault) -> Result<Text, Al
 }
 
 /// `error file PATH`
-pub(crate) fn file_line(alloc: Global, path: &str) -> Result<Text, AllocError>
+pub(crate) fn file_line(alloc: Global, path: &str) -> Result<ReportText, AllocError>
     ensures { IfOk result (λ t. t ≡ file_line path.now) }
 {
-    let mut text = Text::new(alloc);
+    let mut text = ReportText::new(alloc);
     text.push(b"error file ")?;
     text.push(path.as_bytes())?;
     text.push(b"\n")?;

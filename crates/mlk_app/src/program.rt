@@ -4,17 +4,21 @@ ghost use Rattle.std.specs.Prelude.{◌≡◌, ◌≢◌, ◌⊎◌, IfOk, OnOk,
 ghost use Rattle.mlk_syntax.specs.Views.{routine_of};
 ghost use Rattle.std.specs.IoError.{error_kind};
 ghost use Rattle.std.specs.Io.KnownBytes.{Appends};
-ghost use Rattle.mlk_app.specs.Ran.{status_of, PrintsReport, PrintsText, PrintsOutcome, Prints, IsRefusalLine, TellsRefusal, TellsUnread, Answers, AnswersWords, IsSaid, Ran};
+ghost use Rattle.mlk_cli.specs.declared.words.Request.TheVariants as wanted;
+ghost use Rattle.mlk_app.specs.Ran.{status_of, PrintsReport, PrintsText, PrintsOutcome, Prints, IsErrorLine, IsRefusalLine, IsOfOpenGate, IsNotShut, TellsRefusal, TellsFault, TellsUnread, Answers, AnswersWords, IsSaid, Ran};
 
-use crate::checked::{Checked, Outcome, Refusal, check_texts};
+use crate::checked::{Checked, CheckedOutcome, NoReport, check_texts};
+use crate::converted::converted;
 use crate::printed::{
     certificate_line, events_line, fault_line, file_line, missing_line, rules_line, stuck_line,
     workers_line,
 };
-use crate::source::{FileError, Files, read_files};
-use mlk_cli::{Request, UsageError, read_request};
-use mlk_pool::{Text, report_text};
+use crate::source::{FileError, Files, cert_format, read_file, read_files};
+use mlk_cert::CertFault;
+use mlk_cli::{Format, ProgramRequest, Request, UsageError, read_request};
+use mlk_pool::{CheckError, ReportText, report_text};
 use mlk_syntax::Routine;
+use mlk_text::Failure;
 use mlk_walk::Report;
 use mlk_watch::{Unwatched, Watch};
 use std::alloc::{AllocError, Global};
@@ -34,11 +38,11 @@ const FAILED: u8 = 3;
 #[derive(Drop, Debug)]
 enum Answer {
     /// The text of a report, of a certificate or of jobs, and the status that it ends with.
-    Report(Text, u8),
+    Report(ReportText, u8),
     /// The line that tells why the input is refused.
-    Refused(Text),
+    Refused(ReportText),
     /// The line that tells which file can't be read.
-    Unread(Text),
+    Unread(ReportText),
     /// `clap`'s text, where the words ask for nothing.
     Usage(String),
     OutOfMemory,
@@ -62,20 +66,20 @@ fn report_answer(alloc: Global, routines: &[Routine], report: &Report) -> Answer
 fn text_answer(alloc: Global, bytes: &[u8]) -> Answer
     ensures { PrintsText bytes.now result }
 {
-    let mut text = Text::new(alloc);
+    let mut text = ReportText::new(alloc);
     match text.push(bytes) {
         Ok(()) => Answer::Report(text, YES),
         Err(AllocError) => Answer::OutOfMemory,
     }
 }
 
-fn outcome_answer(alloc: Global, routines: &[Routine], outcome: Outcome) -> Answer
+fn outcome_answer(alloc: Global, routines: &[Routine], outcome: CheckedOutcome) -> Answer
     ensures { PrintsOutcome (map routine_of routines.now) outcome result }
 {
     match outcome {
-        Outcome::Report(report) => report_answer(alloc, routines, &report),
-        Outcome::Made(text) => Answer::Report(Text::of(text), YES),
-        Outcome::Replayed(text) => text_answer(alloc, text.as_bytes()),
+        CheckedOutcome::Report(report) => report_answer(alloc, routines, &report),
+        CheckedOutcome::Made(text) => Answer::Report(ReportText::of(text), YES),
+        CheckedOutcome::Replayed(text) => text_answer(alloc, text.as_bytes()),
     }
 }
 
@@ -88,25 +92,46 @@ fn answer_of<W: Watch>(alloc: Global, checked: Checked, watch: &W) -> Answer
     answer
 }
 
-fn refusal_line(alloc: Global, refusal: &Refusal) -> Result<Text, AllocError>
-    ensures { IfOk result (IsRefusalLine refusal.now) }
+fn error_line(alloc: Global, error: &CheckError) -> Result<ReportText, AllocError>
+    requires { IsOfOpenGate error.now }
+    ensures { IfOk result (IsErrorLine error.now) }
 {
-    match refusal {
-        Refusal::OutOfMemory => Err(AllocError),
-        Refusal::Routine(fault) => fault_line(alloc, fault),
-        Refusal::Rules(fault) => rules_line(alloc, fault),
-        Refusal::Certificate(fault) => certificate_line(alloc, fault),
-        Refusal::Entry(entry) => missing_line(alloc, entry),
-        Refusal::Workers => workers_line(alloc),
-        Refusal::GaveUp(entry, fault) => stuck_line(alloc, entry, fault),
-        Refusal::Events(fault) => events_line(alloc, fault),
+    match error {
+        CheckError::OutOfMemory => Err(AllocError),
+        CheckError::Routine(fault) => fault_line(alloc, fault),
+        CheckError::Rules(fault) => rules_line(alloc, fault),
+        CheckError::Certificate(fault) => certificate_line(alloc, fault),
+        CheckError::Entry(entry) => missing_line(alloc, entry),
+        CheckError::Workers => workers_line(alloc),
+        CheckError::GateShut(_) => unreachable!(),
     }
 }
 
-fn refusal_answer(alloc: Global, refusal: &Refusal) -> Answer
+fn refusal_line(alloc: Global, refusal: &NoReport) -> Result<ReportText, AllocError>
+    requires { IsNotShut refusal.now }
+    ensures { IfOk result (IsRefusalLine refusal.now) }
+{
+    match refusal {
+        NoReport::Check(error) => error_line(alloc, error),
+        NoReport::GaveUp(entry, fault) => stuck_line(alloc, entry, fault),
+        NoReport::Events(fault) => events_line(alloc, fault),
+    }
+}
+
+fn refusal_answer(alloc: Global, refusal: &NoReport) -> Answer
+    requires { IsNotShut refusal.now }
     ensures { TellsRefusal refusal.now result }
 {
     match refusal_line(alloc, refusal) {
+        Ok(line) => Answer::Refused(line),
+        Err(AllocError) => Answer::OutOfMemory,
+    }
+}
+
+fn fault_answer(alloc: Global, fault: &CertFault) -> Answer
+    ensures { TellsFault fault.now result }
+{
+    match certificate_line(alloc, fault) {
         Ok(line) => Answer::Refused(line),
         Err(AllocError) => Answer::OutOfMemory,
     }
@@ -121,6 +146,47 @@ fn unread_answer(alloc: Global, path: &str) -> Answer
     }
 }
 
+// What is answered to a request for a program, from the texts of its files.
+fn answer_program<R: Threads + Wait + Sync, F: Files, W: Watch>(
+    rt: &R,
+    alloc: Global,
+    program: &ProgramRequest<'_>,
+    files: &F,
+    watch: &W,
+) -> Answer
+    ensures { Answers (F.holds files.now) (F.lacks files.now) (wanted.Program program.now) result }
+{
+    match read_files(alloc, files, program) {
+        Ok(sources) => match check_texts(rt, alloc, sources, watch) {
+            Ok(checked) => answer_of(alloc, checked, watch),
+            Err(refusal) => refusal_answer(alloc, &refusal),
+        },
+        Err(FileError::OutOfMemory) => Answer::OutOfMemory,
+        Err(FileError::Unread(path)) => unread_answer(alloc, path),
+    }
+}
+
+// What is answered where a certificate is to be converted, from its text.
+fn answer_conversion<F: Files, W: Watch>(
+    alloc: Global,
+    certificate: &str,
+    format: Format,
+    files: &F,
+    watch: &W,
+) -> Answer
+    ensures { Answers (F.holds files.now) (F.lacks files.now) (wanted.Convert certificate.entry format) result }
+{
+    match read_file(alloc, files, certificate) {
+        Ok(text) => match converted(alloc, text.as_slice(), cert_format(format), watch) {
+            Ok(text) => Answer::Report(ReportText::of(text), YES),
+            Err(Failure::OutOfMemory) => Answer::OutOfMemory,
+            Err(Failure::Refused(fault)) => fault_answer(alloc, &fault),
+        },
+        Err(FileError::OutOfMemory) => Answer::OutOfMemory,
+        Err(FileError::Unread(path)) => unread_answer(alloc, path),
+    }
+}
+
 // What is answered to a request, from the texts of the files.
 fn answer_request<R: Threads + Wait + Sync, F: Files, W: Watch>(
     rt: &R,
@@ -131,13 +197,12 @@ fn answer_request<R: Threads + Wait + Sync, F: Files, W: Watch>(
 ) -> Answer
     ensures { Answers (F.holds files.now) (F.lacks files.now) request.now result }
 {
-    match read_files(alloc, files, request) {
-        Ok(sources) => match check_texts(rt, alloc, sources, watch) {
-            Ok(checked) => answer_of(alloc, checked, watch),
-            Err(refusal) => refusal_answer(alloc, &refusal),
-        },
-        Err(FileError::OutOfMemory) => Answer::OutOfMemory,
-        Err(FileError::Unread(path)) => unread_answer(alloc, path),
+    match request {
+        Request::Program(program) => answer_program(rt, alloc, program, files, watch),
+        Request::Convert {
+            certificate,
+            format,
+        } => answer_conversion(alloc, *certificate, *format, files, watch),
     }
 }
 
@@ -163,14 +228,14 @@ fn tell<E: Write>(err: &mut E, line: &[u8]) {
     let _ = err.flush();
 }
 
-fn write<O: Write>(out: &mut O, text: &Text) -> io::Result<()>
+fn write<O: Write>(out: &mut O, text: &ReportText) -> io::Result<()>
     ensures { OnOk result (Appends (O.contents out.old) (O.contents out.new) text.now) }
 {
     out.write_all(text.as_bytes())?;
     out.flush()
 }
 
-fn print<O: Write, E: Write>(out: &mut O, err: &mut E, text: &Text, status: u8) -> u8
+fn print<O: Write, E: Write>(out: &mut O, err: &mut E, text: &ReportText, status: u8) -> u8
     ensures { (result ≡ 3) ⊎ ((result ≡ status) × Appends (O.contents out.old) (O.contents out.new) text.now) }
 {
     match write(out, text) {

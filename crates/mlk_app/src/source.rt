@@ -2,10 +2,11 @@
 
 ghost use Rattle.std.specs.Prelude.{◌≡◌, ◌≢◌, List, ℕ, IfOk, IfErr, length};
 ghost use Rattle.std.specs.IoError.{error_kind};
-ghost use Rattle.mlk_app.specs.Files.{IsFileName, IsNameStem, IsPathStem, IsSource, AreSources, IsWork, AreTexts, work_path, paths_of, Loses, LosesFirst};
+ghost use Rattle.mlk_app.specs.Files.{IsFileName, IsNameStem, IsPathStem, IsSource, AreSources, IsWork, AreTexts, cert_format, work_path, program_paths, Loses, LosesFirst};
 ghost use Rattle.mlk_cli.specs.CommandLine.{bytes_of};
 
-use mlk_cli::{Asked, Request};
+use mlk_cert::CertFormat;
+use mlk_cli::{Asked, Format, ProgramRequest};
 use mlk_pool::Source;
 use std::alloc::Global;
 use std::io::{self, ErrorKind};
@@ -37,8 +38,8 @@ pub(crate) enum FileError<'a> {
 pub(crate) enum Work {
     /// the check by this text of a certificate, and by so many workers
     Check { certificate: Vec<u8>, workers: u32 },
-    /// a certificate is made
-    Make,
+    /// a certificate is made, and its text has this format
+    Make { format: CertFormat },
     /// the check by the certificate that is made, and by so many workers
     Verify { workers: u32 },
     /// the events of this text are replayed
@@ -78,7 +79,8 @@ fn stem_of(path: &str) -> &str
     name_stem(file_name(path))
 }
 
-fn read_file<'a, F: Files>(
+/// The text of the file at a path.
+pub(crate) fn read_file<'a, F: Files>(
     alloc: Global,
     files: &F,
     path: &'a str,
@@ -129,7 +131,17 @@ fn read_sources<'a, F: Files>(
     Ok(sources)
 }
 
-// The text of the certificate, or of the events, where one is named, and the number of workers.
+/// The format of certificates that the words name.
+pub(crate) fn cert_format(format: Format) -> CertFormat
+    ensures { result ≡ cert_format format }
+{
+    match format {
+        Format::First => CertFormat::First,
+        Format::Second => CertFormat::Second,
+    }
+}
+
+// The text of the certificate, or of the events, where one is named, and the number of workers or the format.
 fn read_work<'a, F: Files>(
     alloc: Global,
     files: &F,
@@ -146,20 +158,22 @@ fn read_work<'a, F: Files>(
             certificate: read_file(alloc, files, *certificate)?,
             workers: *workers,
         }),
-        Asked::Make => Ok(Work::Make),
+        Asked::Make { format } => Ok(Work::Make {
+            format: cert_format(*format),
+        }),
         Asked::Verify { workers } => Ok(Work::Verify { workers: *workers }),
         Asked::Replay(path) => Ok(Work::Replay(read_file(alloc, files, *path)?)),
     }
 }
 
-/// Reads all files, in the order of the words.
+/// Reads all files of a program, in the order of the words.
 pub(crate) fn read_files<'a, F: Files>(
     alloc: Global,
     files: &F,
-    request: &Request<'a>,
+    request: &ProgramRequest<'a>,
 ) -> Result<Sources<'a>, FileError<'a>>
     ensures ok { IfOk result (AreTexts (F.holds files.now) request.now) }
-    ensures lost { IfErr result (LosesFirst (F.holds files.now) (F.lacks files.now) (paths_of request.now)) }
+    ensures lost { IfErr result (LosesFirst (F.holds files.now) (F.lacks files.now) (program_paths request.now)) }
 {
     let rules = read_file(alloc, files, request.rules)?;
     let work = read_work(alloc, files, &request.asked)?;

@@ -1,5 +1,5 @@
 -- Exits that leave no lock held need no actuals.
-use Rattle.std.proofs.Common.{◌≡◌, ◌∙◌, ℕ, Bool, true, false, List, [], ◌∷◌, Option, Some, map, length, refl, ap, arith, ltb-false}
+use Rattle.std.proofs.Common.{◌≡◌, ◌∙◌, ℕ, false, List, [], ◌∷◌, Option, length, refl, ap, arith, ltb-false}
 use Rattle.std.specs.Prelude.{option_map, option_and_then}
 use Rattle.std.specs.List.{list_any}
 use Rattle.std.proofs.lemmas.Bool.{or_parts}
@@ -8,7 +8,7 @@ use Rattle.mlk_names.specs.declared.term.LockTerm.{LockTerm}
 use Rattle.mlk_cert_parts.specs.declared.case.ExitCase.{ExitCase}
 use Rattle.mlk_walk_state.specs.declared.state.State.{State}
 use Rattle.mlk_walk_state.specs.Lists.{all_some}
-use Rattle.mlk_walk_state.specs.Terms.{put_all, put_terms}
+use Rattle.mlk_walk_state.specs.Terms.{add_terms, put_terms}
 use Rattle.mlk_walk_state.specs.Cases.{holds_some}
 use Rattle.mlk_calls.specs.declared.call.Calling.{Calling}
 use Rattle.mlk_calls.specs.Calls.{test_after, leave, SameEnds}
@@ -21,7 +21,7 @@ no_terms formals given others (t ∷ ts) h = absurd (omega (arith, ltb-false 0 (
 module _ (how : Calling) (formals : List (List ℕ)) (given others : List (Option Sym)) (aside : List LockTerm) (s : State) where
   same_leave : (e : ExitCase) → holds_some e.held ≡ false → leave how formals given aside s e ≡ leave how formals others aside s e
   same_leave e h = ap (option_map (λ (terms : List LockTerm).
-      record s { case = record s.case { test = test_after how s.case.test e.test; held = put_all terms aside } })) (no_terms formals given others e.held h)
+      record s { case = record s.case { test = test_after how s.case.test e.test; held = add_terms terms aside } })) (no_terms formals given others e.held h)
 
   same_all : (es : List ExitCase) → list_any (λ (e : ExitCase). holds_some e.held) es ≡ false
       → all_some (leave how formals given aside s) es ≡ all_some (leave how formals others aside s) es

@@ -1,4 +1,4 @@
--- Worked rows: what is asked of one state, by computation.
+-- Worked examples: what is asked of one state, by computation.
 use Rattle.std.proofs.Common.{◌≡◌, ℕ, List, [], ◌∷◌, refl}
 use Rattle.std.specs.Prelude.{codes, Option, Some, None, Bool, true, false, Result, Ok, Err}
 use Rattle.std.specs.Fmt.{digits}

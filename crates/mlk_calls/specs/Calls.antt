@@ -5,6 +5,7 @@ use Rattle.std.specs.Prelude.{◌≡◌, option_map, option_and_then, Result, Ok
 use Rattle.std.specs.List.{list_all}
 use Rattle.mlk_text.specs.declared.code.Code.{Code}
 use Rattle.mlk_text.specs.declared.code.Code.TheVariants.{RankOrder, NeedMissing, SummaryShort, NoCertificate, UnknownSubscript, DropsFrame}
+use Rattle.mlk_text.specs.Lexemes.{or_else}
 use Rattle.mlk_syntax.specs.declared.expr.Callee.{Callee}
 use Rattle.mlk_syntax.specs.ExprTrees.{ActualTree, Given, ByRef, Missing}
 use Rattle.mlk_syntax.specs.Trees.{HeadTree, LineTrees}
@@ -19,10 +20,10 @@ use Rattle.mlk_cert_parts.specs.declared.names.NameSet.{NameSet}
 use Rattle.mlk_cert_parts.specs.declared.names.NameSet.TheVariants.{Only}
 use Rattle.mlk_cert_parts.specs.declared.block.Summary.{Summary}
 use Rattle.mlk_walk_state.specs.Lists.{all_some}
-use Rattle.mlk_walk_state.specs.Terms.{put_all, all_taken, first_missing, rank_of, put_terms}
+use Rattle.mlk_walk_state.specs.Terms.{add_terms, all_taken, first_missing, rank_of, put_terms}
 use Rattle.mlk_walk_state.specs.Cases.{holds_some}
 use Rattle.mlk_walk_state.specs.declared.state.State.{State}
-use Rattle.mlk_calls.specs.declared.call.Target.{Target}
+use Rattle.mlk_calls.specs.declared.call.KnownCallee.{KnownCallee}
 use Rattle.mlk_calls.specs.declared.call.Calling.{Calling}
 use Rattle.mlk_calls.specs.declared.call.Calling.TheVariants.{ByDo, Extrinsic}
 use Rattle.mlk_walk_state.specs.States.{last_captured, without_last}
@@ -40,7 +41,7 @@ pub record Called : Type 0 where
   pub formals : List (List ℕ)
   pub summary : Summary
 
-abbrev pub called_of : Target → Called
+abbrev pub called_of : KnownCallee → Called
 called_of t = record { formals = t.formals.now; summary = t.summary.now }
 
 abbrev pub formals_in : Option (HeadTree × LineTrees) → List (List ℕ)
@@ -65,8 +66,8 @@ lent_set (ByRef column name) = Only name ∷ []
 lent_set (Given t) = []
 lent_set Missing = []
 
-abbrev pub changes : Summary → List ActualTree → List NameSet
-changes summary given = summary.mods ++ flat_map lent_set given
+abbrev pub changed_by_call : Summary → List ActualTree → List NameSet
+changed_by_call summary given = summary.mods ++ flat_map lent_set given
 
 -- a term that is set aside has a rank below all that the callee claims; without a rank it is below `-` alone
 abbrev pub ranks_below : Option ℕ → Option ℕ → Bool
@@ -80,7 +81,7 @@ all_below families low terms = list_all (λ t. ranks_below low (rank_of families
 -- the state after an exit: what was set aside and the exit's terms are held
 abbrev pub leave : Calling → List (List ℕ) → List (Option Sym) → List LockTerm → State → ExitCase → Option State
 leave how formals given aside s x = option_map
-    (λ terms. record s { case = record s.case { test = test_after how s.case.test x.test; held = put_all terms aside } })
+    (λ terms. record s { case = record s.case { test = test_after how s.case.test x.test; held = add_terms terms aside } })
     (put_terms formals given x.held)
 
 -- With these actuals or those, the exits leave the same states. For private clauses alone.
@@ -109,10 +110,6 @@ ranks_fault sc summary aside =
     else if summary.drops && holds_some aside then Some DropsFrame
     else if summary.drops && not sc.summary.drops then Some SummaryShort
     else None
-
-abbrev pub or_else : Option Code → Option Code → Option Code
-or_else None next = next
-or_else (Some code) next = Some code
 
 abbrev pub call_fault : Scope → Summary → List NameSet → List LockTerm → State → Option Code
 call_fault sc summary changed aside s = or_else (change_fault sc changed s) (ranks_fault sc summary aside)
@@ -143,7 +140,7 @@ call_changing sc how callee changed actuals s =
 abbrev pub call_known : Scope → Calling → Option Called → List ActualTree → List Sym → State → Result (List State) Code
 call_known sc how None given actuals s = Err NoCertificate
 call_known sc how (Some callee) given actuals s =
-    call_changing sc how callee (changes callee.summary given) actuals s
+    call_changing sc how callee (changed_by_call callee.summary given) actuals s
 
 -- A call with this list of actuals, whose symbols were captured last. First 713 without a certificate. An actual that is
 -- left out, passed by reference, or past the list's end is unknown.
@@ -158,7 +155,7 @@ callee_summary sc callee = option_map (λ (c : Called). c.summary) (called sc ca
 
 abbrev pub changes_by : Option Summary → List ActualTree → List NameSet
 changes_by None given = []
-changes_by (Some summary) given = changes summary given
+changes_by (Some summary) given = changed_by_call summary given
 
 abbrev pub missing_by : Option Called → List Sym → List LockTerm → Option LockTerm
 missing_by None actuals held = None

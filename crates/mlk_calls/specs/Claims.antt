@@ -8,7 +8,7 @@ use Rattle.mlk_names.specs.declared.term.LockTerm.{LockTerm}
 use Rattle.mlk_rules.specs.declared.family.Family.{Family}
 use Rattle.mlk_cert_parts.specs.declared.case.Test.TheVariants.{Zero, One}
 use Rattle.mlk_walk_state.specs.declared.state.State.{State}
-use Rattle.mlk_walk_state.specs.Terms.{put_all, taken, is_within, rank_of}
+use Rattle.mlk_walk_state.specs.Terms.{add_terms, taken, is_within, rank_of}
 use Rattle.mlk_walk_state.specs.States.{holding, tested}
 use Rattle.mlk_walk_state.specs.Scope.{Scope}
 
@@ -59,7 +59,7 @@ claim_refused sc timed held terms = first_refused (claim_fault sc timed held) 0 
 
 -- a claim that is granted adds to what is held
 abbrev pub held_too : List LockTerm → State → State
-held_too terms s = holding (put_all terms s.case.held) s
+held_too terms s = holding (add_terms terms s.case.held) s
 
 -- An untimed claim that is granted adds to what is held; a timed one is granted and `$TEST` is 1, or not and it is 0.
 abbrev pub granted : Bool → List LockTerm → State → List State

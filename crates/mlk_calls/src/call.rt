@@ -9,22 +9,22 @@ ghost use Rattle.mlk_cert_parts.specs.declared.case.ExitCase.{ExitCase as exit_c
 ghost use Rattle.mlk_walk_state.specs.Cases.{holds_some};
 ghost use Rattle.mlk_walk_state.specs.Lists.{all_some};
 ghost use Rattle.mlk_walk_state.specs.Refusals.{AnswersOf};
-ghost use Rattle.mlk_walk_state.specs.Terms.{put_term, put_terms, put_all};
+ghost use Rattle.mlk_walk_state.specs.Terms.{put_term, put_terms, add_terms};
 ghost use Rattle.mlk_calls.specs.Changes.{marked};
 ghost use Rattle.mlk_walk_state.specs.Scope.{scope_of};
 ghost use Rattle.mlk_walk_state.specs.States.{last_captured, without_last};
 ghost use Rattle.mlk_calls.specs.Changes.{changed_state};
-ghost use Rattle.mlk_calls.specs.Calls.{Called, formals_in, called, lent_set, changes, callee_summary, changes_by, missing_need, ranks_below, all_below, leave, SameEnds, after_call, ranks_fault, call_fault, set_aside, call_changing, at_call, at_job, test_after, called_of};
+ghost use Rattle.mlk_calls.specs.Calls.{Called, formals_in, called, lent_set, changed_by_call, callee_summary, changes_by, missing_need, ranks_below, all_below, leave, SameEnds, after_call, ranks_fault, call_fault, set_aside, call_changing, at_call, at_job, test_after, called_of};
 
 use crate::changing::{change_fault, changed_case, mark_all};
 use crate::claim::is_low_enough;
-use mlk_cert::{Case, ExitCase, NameSet, Shared, Summary, Test};
+use mlk_cert_parts::{Case, ExitCase, NameSet, Shared, Summary, Test};
 use mlk_names::{LockTerm, Sym, substitute};
 use mlk_rules::Rules;
 use mlk_syntax::{Actual, Callee, Line};
 use mlk_text::{Code, Failure, List, Name, copy_of};
 use mlk_walk_state::{
-    Refusal, Scope, State, before_last, copies, copy_case, last_of, put_all, rank, take_all,
+    RefusedState, Scope, State, before_last, copies, copy_case, last_of, put_all, rank, take_all,
 };
 use std::alloc::{AllocError, Global};
 
@@ -39,7 +39,7 @@ pub enum Calling {
 
 // What is known of a callee.
 #[derive(Clone, Copy, Drop)]
-pub(crate) struct Target<'a> {
+pub(crate) struct KnownCallee<'a> {
     pub(crate) formals: &'a [Name],
     pub(crate) summary: &'a Summary,
 }
@@ -57,13 +57,13 @@ fn formals_of<'a>(line: Option<&'a Line>) -> &'a [Name]
 }
 
 // What is known of a callee that has a certificate.
-pub(crate) fn called<'a>(scope: &Scope<'a>, callee: &Callee) -> Option<Target<'a>>
+pub(crate) fn called<'a>(scope: &Scope<'a>, callee: &Callee) -> Option<KnownCallee<'a>>
     ensures { option_map called_of result ≡ called (scope_of scope.now) callee.now }
 {
     let entry = scope.program.target(scope.entry.routine(), callee)?;
     let summary = scope.entries.summary(entry)?;
     let formals = formals_of(scope.program.line(entry));
-    Some(Target { formals, summary })
+    Some(KnownCallee { formals, summary })
 }
 
 // The name that an actual passes by reference.
@@ -200,7 +200,7 @@ fn call_fault(
 // What is held but for the callee's needs.
 fn set_aside(
     alloc: Global,
-    target: &Target,
+    target: &KnownCallee,
     actuals: &[Sym],
     held: &Shared<LockTerm>,
 ) -> Result<Shared<LockTerm>, Failure<Code>>
@@ -235,7 +235,7 @@ fn held_after(
     aside: &Shared<LockTerm>,
     terms: &[LockTerm],
 ) -> Result<Shared<LockTerm>, AllocError>
-    ensures { IfOk result (λ h. h ≡ put_all terms.now aside.now) }
+    ensures { IfOk result (λ h. h ≡ add_terms terms.now aside.now) }
 {
     if terms.is_empty() {
         return aside.clone();
@@ -263,7 +263,7 @@ fn leave(
         held: held_after(alloc, aside, terms.as_slice())?,
         own: state.case.own.clone()?,
         kept: state.case.kept.clone()?,
-        saved: copy_of(&state.case.saved)?,
+        saved: state.case.saved.clone()?,
     };
     let captured = copy_of(&state.captured)?;
     Ok(Some(State { case, captured }))
@@ -341,7 +341,7 @@ fn given_at_end(
 fn after_call(
     alloc: Global,
     how: Calling,
-    target: &Target,
+    target: &KnownCallee,
     names: &[NameSet],
     aside: &Shared<LockTerm>,
     count: usize,
@@ -374,7 +374,7 @@ fn call_changing(
     alloc: Global,
     scope: &Scope,
     how: Calling,
-    target: &Target,
+    target: &KnownCallee,
     names: &[NameSet],
     count: usize,
     state: &State,
@@ -396,12 +396,12 @@ fn call_target(
     alloc: Global,
     scope: &Scope,
     how: Calling,
-    target: &Target,
+    target: &KnownCallee,
     given: &[Actual],
     state: &State,
 ) -> Result<Vec<State>, Failure<Code>>
     ensures { Answers (λ v. v.items) result (call_changing (scope_of scope.now) how (called_of target.now)
-        (changes target.now.summary.now (actual_trees given.now))
+        (changed_by_call target.now.summary.now (actual_trees given.now))
         (last_captured (length (actual_trees given.now)) state.now)
         (without_last (length (actual_trees given.now)) state.now)) }
 {
@@ -436,12 +436,12 @@ pub fn at_call(
     callee: &Callee,
     given: &[Actual],
     state: State,
-) -> Result<Vec<State>, Failure<Refusal>>
+) -> Result<Vec<State>, Failure<RefusedState>>
     ensures { AnswersOf state (λ v. v.items) result
         (at_call (scope_of scope.now) how callee.now (actual_trees given.now) state) }
 {
     let Some(target) = called(scope, callee) else {
-        return Err(Failure::Refused(Refusal {
+        return Err(Failure::Refused(RefusedState {
             code: Code::NoCertificate,
             state,
         }));
@@ -449,7 +449,7 @@ pub fn at_call(
     match call_target(alloc, scope, how, &target, given, &state) {
         Ok(states) => Ok(states),
         Err(Failure::OutOfMemory) => Err(Failure::OutOfMemory),
-        Err(Failure::Refused(code)) => Err(Failure::Refused(Refusal { code, state })),
+        Err(Failure::Refused(code)) => Err(Failure::Refused(RefusedState { code, state })),
     }
 }
 
@@ -460,7 +460,7 @@ pub fn at_job(
     callee: &Callee,
     given: &[Actual],
     state: State,
-) -> Result<State, Failure<Refusal>>
+) -> Result<State, Failure<RefusedState>>
     ensures { AnswersOf state (λ s. s) result
         (at_job (scope_of scope.now) callee.now (actual_trees given.now) state) }
 {
@@ -469,7 +469,7 @@ pub fn at_job(
         None => false,
     };
     if !begun {
-        return Err(Failure::Refused(Refusal {
+        return Err(Failure::Refused(RefusedState {
             code: Code::NoCertificate,
             state,
         }));

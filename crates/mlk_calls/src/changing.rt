@@ -7,10 +7,10 @@ ghost use Rattle.mlk_walk_state.specs.Scope.{scope_of};
 ghost use Rattle.mlk_calls.specs.Changes.{marked, without_kept, changed_state, change_fault, change, short_names};
 ghost use Rattle.mlk_walk_state.specs.Refusals.{AnswersOf};
 
-use mlk_cert::{Case, NameSet};
+use mlk_cert_parts::{Case, NameSet};
 use mlk_names::Sym;
 use mlk_text::{Code, Failure, List, copy_of};
-use mlk_walk_state::{Refusal, Scope, State, have, may_change, mention, take_out};
+use mlk_walk_state::{RefusedState, Scope, State, have, may_change, mention, take_out};
 use std::alloc::{AllocError, Global};
 
 fn mark(changed: &[NameSet], symbol: &Sym) -> Result<Sym, AllocError>
@@ -117,11 +117,11 @@ pub fn change(
     scope: &Scope,
     names: &[NameSet],
     state: State,
-) -> Result<State, Failure<Refusal>>
+) -> Result<State, Failure<RefusedState>>
     ensures { AnswersOf state (λ s. s) result (change (scope_of scope.now) names.now state) }
 {
     if let Some(code) = change_fault(scope, names, &state) {
-        return Err(Failure::Refused(Refusal { code, state }));
+        return Err(Failure::Refused(RefusedState { code, state }));
     }
     Ok(changed(alloc, names, state)?)
 }

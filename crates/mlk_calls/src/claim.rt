@@ -6,11 +6,11 @@ ghost use Rattle.mlk_walk_state.specs.Refusals.{AnswersOf};
 ghost use Rattle.mlk_walk_state.specs.Scope.{scope_of};
 ghost use Rattle.mlk_calls.specs.Claims.{is_low_enough, is_below, order_fault, claim_fault, claim_refused, held_too, release_all, release_one};
 
-use mlk_cert::Shared;
+use mlk_cert_parts::Shared;
 use mlk_names::LockTerm;
 use mlk_rules::Rules;
 use mlk_text::{Code, Failure};
-use mlk_walk_state::{Refusal, Scope, State, copies, is_within, put_all, rank, take_one};
+use mlk_walk_state::{RefusedState, Scope, State, copies, is_within, put_all, rank, take_one};
 use std::alloc::{AllocError, Global};
 
 /// Whether the second of two least ranks is not below the first; none is above every rank.
@@ -153,11 +153,15 @@ pub fn claimed(alloc: Global, terms: &[LockTerm], state: State) -> Result<State,
 }
 
 /// The release of all locks. It is refused where the walked entry's summary does not say that it may drop them (712).
-pub fn release_all(alloc: Global, scope: &Scope, state: State) -> Result<State, Failure<Refusal>>
+pub fn release_all(
+    alloc: Global,
+    scope: &Scope,
+    state: State,
+) -> Result<State, Failure<RefusedState>>
     ensures { AnswersOf state (λ s. s) result (release_all (scope_of scope.now) state) }
 {
     if !scope.block.summary.drops {
-        return Err(Failure::Refused(Refusal {
+        return Err(Failure::Refused(RefusedState {
             code: Code::SummaryShort,
             state,
         }));
@@ -166,11 +170,15 @@ pub fn release_all(alloc: Global, scope: &Scope, state: State) -> Result<State, 
 }
 
 /// The release of a term: it is held once less. It is refused where it is not held (706).
-pub fn release_one(alloc: Global, term: &LockTerm, state: State) -> Result<State, Failure<Refusal>>
+pub fn release_one(
+    alloc: Global,
+    term: &LockTerm,
+    state: State,
+) -> Result<State, Failure<RefusedState>>
     ensures { AnswersOf state (λ s. s) result (release_one term.now state) }
 {
     let Some(held) = take_one(copies(alloc, state.case.held.as_slice())?, term) else {
-        return Err(Failure::Refused(Refusal {
+        return Err(Failure::Refused(RefusedState {
             code: Code::NotHeld,
             state,
         }));

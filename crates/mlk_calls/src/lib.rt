@@ -11,6 +11,6 @@ pub use changing::{change, change_in_place, changed, is_allowed, short_names};
 pub use claim::{claimed, may_take, release_all, release_one};
 pub use mend::{call_changes, callee_summary, missing_need};
 pub use mlk_walk_state::{
-    Entries, Refusal, Scope, State, copy_case, is_among, is_exit, is_listed, is_own, is_same_own,
-    mention, symbol_of, truth_of,
+    Entries, RefusedState, Scope, State, copy_case, is_among, is_exit, is_listed, is_own,
+    is_same_own, mention, symbol_of, truth_of,
 };

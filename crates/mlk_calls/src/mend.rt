@@ -5,8 +5,8 @@ ghost use Rattle.mlk_syntax.specs.ExprTrees.{actual_trees};
 ghost use Rattle.mlk_walk_state.specs.Scope.{scope_of};
 ghost use Rattle.mlk_calls.specs.Calls.{called_of, callee_summary, changes_by, missing_by, missing_need};
 
-use crate::call::{Target, called, changes, lent, passed, put_terms};
-use mlk_cert::{NameSet, Summary};
+use crate::call::{KnownCallee, called, changes, lent, passed, put_terms};
+use mlk_cert_parts::{NameSet, Summary};
 use mlk_names::{LockTerm, Sym};
 use mlk_syntax::{Actual, Callee};
 use mlk_walk_state::{Scope, State, copies, first_missing, last_of};
@@ -40,7 +40,7 @@ pub fn call_changes(
 
 fn missing_of(
     alloc: Global,
-    target: &Target,
+    target: &KnownCallee,
     actuals: &[Sym],
     held: &[LockTerm],
 ) -> Result<Option<LockTerm>, AllocError>

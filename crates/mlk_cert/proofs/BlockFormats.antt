@@ -5,26 +5,26 @@ use Rattle.std.specs.Fmt.{decimal}
 use Rattle.mlk_text.specs.Reading.{◌>>=◌, with}
 use Rattle.mlk_text.specs.Lexemes.{byte_at, digits}
 use Rattle.mlk_text.proofs.Readers.{then_some, with_some}
-use Rattle.mlk_cert_parts.specs.declared.case.Case.{Case}
 use Rattle.mlk_cert_parts.specs.declared.case.ExitCase.{ExitCase}
 use Rattle.mlk_cert_parts.specs.declared.block.Point.{Point}
 use Rattle.mlk_cert_parts.specs.declared.block.Summary.{Summary}
 use Rattle.mlk_cert_parts.specs.declared.block.EntryCert.{EntryCert}
 use Rattle.mlk_cert_lexemes.specs.Lists.{Each, flat, ascends}
 use Rattle.mlk_cert_lexemes.specs.Texts.{listed, term_text}
-use Rattle.mlk_cert_parts.specs.Texts.{names_text, case_text, exit_text, exit_line, place_text, case_line, point_text, low_text, drops_text, summary_text}
-use Rattle.mlk_cert_lexemes.specs.Kinds.{IsTerm, IsEntry}
-use Rattle.mlk_cert_parts.specs.Limits.{IsLow, IsSummary, IsPoint, IsBlock, points_below}
+use Rattle.mlk_cert_parts.specs.Texts.{names_text, case_text, exit_text, exit_line, place_text, point_text, low_text, drops_text, summary_text}
+use Rattle.mlk_cert_lexemes.specs.Kinds.{IsTerm, IsEntryText}
+use Rattle.mlk_cert_parts.specs.Limits.{IsLow, IsSummary, IsPoint, points_below}
 use Rattle.mlk_cert_parts.specs.Checks.{fit_terms, fit_mods, fits_exit, fit_exits, fit_points, fits}
 use Rattle.mlk_cert_lexemes.specs.Reading.{word_at, number_at, positive, listed_at, term_at, part_at, entry_at}
 use Rattle.mlk_cert_parts.specs.Reading.{names_at, exit_at, case_at}
-use Rattle.mlk_cert.specs.Blocks.{fit, rest_at, worded_at, low_at, drops_at, exits_at, summary_of, summary_at, Listed, place_at, listed_of, listed_case_at, fits_listed, grouped, points_at, block_of, block_at}
+use Rattle.mlk_cert.specs.Blocks.{fit, rest_at, worded_at, low_at, drops_at, exits_at, summary_of, summary_at, Listed, place_at, listed_of, listed_case_at, fits_listed, grouped, points_at, ReadsPoints, block_of, block_at}
 use Rattle.mlk_cert_lexemes.proofs.Formats.{Format, Anything, byte-is, part-is, part-back, both_true, both_back}
 use Rattle.mlk_cert_lexemes.proofs.NumberFormats.{number-format, positive-is, not-zero}
 use Rattle.mlk_cert_lexemes.proofs.NameFormats.{NoName}
 use Rattle.mlk_cert_lexemes.proofs.TermFormats.{EndsTerms, EndsNames, terms-format}
 use Rattle.mlk_cert_lexemes.proofs.EntryFormats.{entry_text, entry-format}
 use Rattle.mlk_cert_parts.proofs.CaseFormats.{HasNames, HasCase, HasExit, NoSign, mods-format, exit-format, case-format}
+use Rattle.mlk_cert_lexemes.proofs.Room.{no-longer}
 use Rattle.mlk_cert.proofs.LineFormats.{fit-is, rest-format, worded-is, worded-back, low-format, drops-format, IsDrops, EndsLow}
 use Rattle.mlk_cert.proofs.Grouping.{listed_text, listed_line, lines_of, points-text, HasCases, grouped-lines, grouped-cases, grouped-back}
 use Rattle.mlk_cert.proofs.Goods.{terms-good, terms-fit, mods-good, mods-has, GoodExit, exits-good, exits-has, few-exits, exits-fit, GoodListed, points-good, points-has}
@@ -36,7 +36,7 @@ exit-rest = rest-format exit_text HasExit EndsNames exit_at exit-format fits_exi
 abbrev AreExits : List ExitCase → Type 0
 AreExits es = Each GoodExit es × (fit_exits es ≡ true)
 
-abbrev NoExit : List ℕ → Type 0
+abbrev pub NoExit : List ℕ → Type 0
 NoExit ys = word_at (codes "exit ") ys ≡ None
 
 exits-is : (es : List ExitCase) (xs ys : List ℕ) → exits_at xs ≡ Some (es, ys) → (xs ≡ flat exit_line es ++ ys) × AreExits es
@@ -128,7 +128,7 @@ place-is p xs ys h =
       b.1,
     )
 
-place-back : (p : ℕ × ℕ) (ys : List ℕ) → 1 ≤ p.0 → p.0 ≤ 65535 → p.1 ≤ 255 → digits ys ≡ 0 → place_at (place_text p.0 p.1 ++ ys) ≡ Some (p, ys)
+pub place-back : (p : ℕ × ℕ) (ys : List ℕ) → 1 ≤ p.0 → p.0 ≤ 65535 → p.1 ≤ 255 → digits ys ≡ 0 → place_at (place_text p.0 p.1 ++ ys) ≡ Some (p, ys)
 unfolding place_at
 place-back p ys from to round none =
     rw (append_assoc (decimal p.0) (46 ∷ decimal p.1) ys)
@@ -200,55 +200,78 @@ pub points-format : Format (flat point_text) ArePoints NoPoint points_at
 points-format = record { sound = points-is; complete = points-back }
 
 -- blocks
-entry-rest : Format (rest_of entry_text) (λ e. IsEntry e × (fits e ≡ true)) Anything (rest_at entry_at fits)
-entry-rest = rest-format entry_text IsEntry NoName entry_at entry-format fits (λ n. refl)
+entry-rest : Format (rest_of entry_text) (λ e. IsEntryText e × (fits e ≡ true)) Anything (rest_at entry_at fits)
+entry-rest = rest-format entry_text IsEntryText NoName entry_at entry-format fits (λ n. refl)
 
 -- what ends a block
 abbrev pub EndsBlock : List ℕ → Type 0
 EndsBlock ys = NoExit ys × NoPoint ys
 
--- a block without its word
-abbrev pub body_text : EntryCert → List ℕ
-body_text b = rest_of entry_text b.entry ++ (summary_text b.summary ++ flat point_text b.points)
-
-block-parts : (b : EntryCert) (ys : List ℕ) → body_text b ++ ys ≡ rest_of entry_text b.entry ++ (summary_text b.summary ++ (flat point_text b.points ++ ys))
-block-parts b ys = append_assoc (rest_of entry_text b.entry) (summary_text b.summary ++ flat point_text b.points) ys ∙ ap (λ z. rest_of entry_text b.entry ++ z) (append_assoc (summary_text b.summary) (flat point_text b.points) ys)
-
-block-is : (b : EntryCert) (xs ys : List ℕ) → block_at xs ≡ Some (b, ys) → (xs ≡ body_text b ++ ys) × IsBlock b
-unfolding block_at
-block-is b xs ys h =
-    let e = then_some (rest_at entry_at fits xs) _ (b, ys) h in
-    let s = then_some (summary_at e.0.1) _ (b, ys) e.2 in
-    let p = with_some (block_of e.0.0 s.0.0) (points_at s.0.1) b ys s.2 in
-    let a = entry-rest.sound e.0.0 xs e.0.1 e.1 in
-    let c = summary-is s.0.0 e.0.1 s.0.1 s.1 in
-    let d = points-is p.0 s.0.1 ys p.1 in
-    let made = block_of e.0.0 s.0.0 p.0 in
-    let P : EntryCert → Type 0 = λ z. (xs ≡ body_text z ++ ys) × IsBlock z in
-    subst P (sym p.2) (
-      a.0 ∙ ap (λ z. rest_of entry_text e.0.0 ++ z) (c.0 ∙ ap (λ z. summary_text s.0.0 ++ z) d.0) ∙ sym (block-parts made ys),
-      record { entry = a.1.0; summary = c.1; each_point = d.1.each; order = d.1.order },
-    )
-
 at-no-exit : (m : List ℕ) → NoExit (codes "at " ++ m)
 unfolding word_at
 at-no-exit m = refl
 
-points-no-exit : (ps : List Point) (ys : List ℕ) → Each IsPoint ps → NoExit ys → NoExit (flat point_text ps ++ ys)
-points-no-exit [] ys is none = none
-points-no-exit (p ∷ ps) ys is none = go p.cases is.0.some_case
-  where
-    go : (cs : List Case) → 1 ≤ length cs → NoExit ((flat (case_line p.line p.round) cs ++ flat point_text ps) ++ ys)
-    go [] some = absurd (omega arith)
-    go (c ∷ cs) some = at-no-exit _
+-- lines of points are no lines of exits
+pub lines-no-exit : {A : Type 0} (text : A → List ℕ) (items : List A) (ys : List ℕ) → NoExit ys → NoExit (flat (λ a. codes "at " ++ text a) items ++ ys)
+lines-no-exit text [] ys none = none
+lines-no-exit text (a ∷ items) ys none = at-no-exit _
 
-block-back : (b : EntryCert) (ys : List ℕ) → IsBlock b → EndsBlock ys → block_at (body_text b ++ ys) ≡ Some (b, ys)
+pub points-no-exit : (ps : List Point) (ys : List ℕ) → ArePoints ps → NoExit ys → NoExit (flat point_text ps ++ ys)
+points-no-exit ps ys is none = ap (λ z. word_at (codes "exit ") (z ++ ys)) (sym (points-text ps)) ∙ lines-no-exit (λ l. listed_text l ++ 10 ∷ []) (lines_of ps) ys none
+
+-- a block whose points are such
+pub record IsBlockWith (Is : List Point → Type 0) (b : EntryCert) : Type 0 where
+  pub entry : IsEntryText b.entry
+  pub summary : IsSummary b.summary
+  pub points : Is b.points
+
+-- a block without its word
+abbrev pub body_text : (Point → List ℕ) → EntryCert → List ℕ
+body_text point b = rest_of entry_text b.entry ++ (summary_text b.summary ++ flat point b.points)
+
+module _ (point : Point → List ℕ) (Is : List Point → Type 0) (points : ReadsPoints) (f : Format (flat point) Is NoPoint points) where
+  block-parts : (b : EntryCert) (ys : List ℕ) → body_text point b ++ ys ≡ rest_of entry_text b.entry ++ (summary_text b.summary ++ (flat point b.points ++ ys))
+  block-parts b ys = append_assoc (rest_of entry_text b.entry) (summary_text b.summary ++ flat point b.points) ys ∙ ap (λ z. rest_of entry_text b.entry ++ z) (append_assoc (summary_text b.summary) (flat point b.points) ys)
+
+  block-is : (b : EntryCert) (xs ys : List ℕ) → block_at points xs ≡ Some (b, ys) → (xs ≡ body_text point b ++ ys) × IsBlockWith Is b
+  unfolding block_at
+  block-is b xs ys h =
+      let e = then_some (rest_at entry_at fits xs) _ (b, ys) h in
+      let s = then_some (summary_at e.0.1) _ (b, ys) e.2 in
+      let p = with_some (block_of e.0.0 s.0.0) (points s.0.1) b ys s.2 in
+      let a = entry-rest.sound e.0.0 xs e.0.1 e.1 in
+      let c = summary-is s.0.0 e.0.1 s.0.1 s.1 in
+      let d = f.sound p.0 s.0.1 ys p.1 in
+      let made = block_of e.0.0 s.0.0 p.0 in
+      let P : EntryCert → Type 0 = λ z. (xs ≡ body_text point z ++ ys) × IsBlockWith Is z in
+      subst P (sym p.2) (
+        a.0 ∙ ap (λ z. rest_of entry_text e.0.0 ++ z) (c.0 ∙ ap (λ z. summary_text s.0.0 ++ z) d.0) ∙ sym (block-parts made ys),
+        record { entry = a.1.0; summary = c.1; points = d.1 },
+      )
+
+  module _ (apart : (ps : List Point) (ys : List ℕ) → Is ps → NoExit ys → NoExit (flat point ps ++ ys)) where
+    block-back : (b : EntryCert) (ys : List ℕ) → IsBlockWith Is b → EndsBlock ys → block_at points (body_text point b ++ ys) ≡ Some (b, ys)
+    unfolding block_at
+    block-back b ys is ends =
+        rw (block-parts b ys)
+        (rw (entry-rest.complete b.entry (summary_text b.summary ++ (flat point b.points ++ ys)) (is.entry, refl) tt)
+        (rw (summary-back b.summary (flat point b.points ++ ys) is.summary (apart b.points ys is.points ends.0))
+        (rw (f.complete b.points ys is.points ends.1) refl)))
+
+    pub block-format : Format (body_text point) (IsBlockWith Is) EndsBlock (block_at points)
+    block-format = record { sound = block-is; complete = block-back }
+
+-- points that are read leave no more than there was
+abbrev pub Shortens : ReadsPoints → Type 0
+Shortens points = (ps : List Point) (xs ys : List ℕ) → points xs ≡ Some (ps, ys) → length ys ≤ length xs
+
+pub block-room : (points : ReadsPoints) → Shortens points → (b : EntryCert) (xs ys : List ℕ) → block_at points xs ≡ Some (b, ys) → length ys ≤ length xs
 unfolding block_at
-block-back b ys is ends =
-    rw (block-parts b ys)
-    (rw (entry-rest.complete b.entry (summary_text b.summary ++ (flat point_text b.points ++ ys)) (is.entry, refl) tt)
-    (rw (summary-back b.summary (flat point_text b.points ++ ys) is.summary (points-no-exit b.points ys is.each_point ends.0))
-    (rw (points-back b.points ys (record { each = is.each_point; order = is.order }) ends.1) refl)))
-
-pub block-format : Format body_text IsBlock EndsBlock block_at
-block-format = record { sound = block-is; complete = block-back }
+block-room points room b xs ys h =
+    let e = then_some (rest_at entry_at fits xs) _ (b, ys) h in
+    let s = then_some (summary_at e.0.1) _ (b, ys) e.2 in
+    let p = with_some (block_of e.0.0 s.0.0) (points s.0.1) b ys s.2 in
+    let a = no-longer (rest_of entry_text e.0.0) xs e.0.1 (entry-rest.sound e.0.0 xs e.0.1 e.1).0 in
+    let c = no-longer (summary_text s.0.0) e.0.1 s.0.1 (summary-is s.0.0 e.0.1 s.0.1 s.1).0 in
+    let d = room p.0 s.0.1 ys p.1 in
+    omega arith

@@ -1,5 +1,5 @@
 -- Loops over blocks.
-use Rattle.std.proofs.Common.{◌≡◌, ◌<◌, ℕ, ◌++◌, List, [], ◌∷◌, length, map, Some, None, Bool, true, false, not, refl, sym, ap, ◌∙◌, inl, inr, nat_eq, Global}
+use Rattle.std.proofs.Common.{◌≡◌, ◌<◌, ℕ, ◌++◌, List, [], ◌∷◌, length, map, Some, None, Bool, true, false, not, refl, sym, ap, ◌∙◌, inl, inr, nat_eq, Global, arith, length-append}
 use Rattle.std.specs.Prelude.{Option, ◌⊎◌, ◌&&◌, ◌||◌, codes, bytes_eq, Vec}
 use Rattle.std.specs.Cmp.Lexicographic.{pointwise}
 use Rattle.std.specs.List.{list_any}
@@ -12,13 +12,12 @@ use Rattle.mlk_text.specs.Failures.{FailsOn}
 use Rattle.mlk_text.specs.Reading.{◌>>=◌, with, put, many}
 use Rattle.mlk_text.proofs.Readers.{then_some, with_some, many_goes, many_fails}
 use Rattle.mlk_cert_parts.specs.declared.block.EntryCert.{EntryCert}
-use Rattle.mlk_cert_parts.specs.Limits.{IsBlock}
 use Rattle.mlk_cert_parts.specs.Checks.{has_text, are_distinct, entries, fit_blocks, fits}
 use Rattle.mlk_cert_lexemes.specs.Reading.{word_at, entry_at}
-use Rattle.mlk_cert.specs.Blocks.{fit, rest_at, summary_at, points_at, block_of, block_at, new_entry_at, new_block_at}
-use Rattle.mlk_cert_lexemes.proofs.Formats.{both_true, both_back}
-use Rattle.mlk_cert.proofs.Loops.{put-nil, line-shorter}
-use Rattle.mlk_cert.proofs.BlockFormats.{body_text, EndsBlock, block-format}
+use Rattle.mlk_cert.specs.Blocks.{fit, rest_at, summary_at, block_of, block_at, new_entry_at, new_block_at, ReadsPoints}
+use Rattle.mlk_cert_lexemes.proofs.Formats.{both_true, both_back, word-is}
+use Rattle.mlk_cert.proofs.Loops.{put-nil}
+use Rattle.mlk_cert.proofs.BlockFormats.{Shortens, block-room}
 use Rattle.mlk_cert.proofs.LineFormats.{fit-is}
 
 -- the texts that a set holds
@@ -27,38 +26,38 @@ seen-text [] v = refl
 seen-text (k ∷ ks) v = ap (λ b. pointwise nat_eq v.items k.items || b) (seen-text ks v)
 
 -- a new block is a block, and its entry is new
-pub new-some : (texts : List (List ℕ)) (xs : List ℕ) (b : EntryCert) (ys : List ℕ) → new_block_at texts xs ≡ Some (b, ys) → (block_at xs ≡ Some (b, ys)) × (not (has_text texts b.entry) ≡ true)
+pub new-some : (points : ReadsPoints) (texts : List (List ℕ)) (xs : List ℕ) (b : EntryCert) (ys : List ℕ) → new_block_at points texts xs ≡ Some (b, ys) → (block_at points xs ≡ Some (b, ys)) × (not (has_text texts b.entry) ≡ true)
 unfolding new_block_at new_entry_at block_at
-new-some texts xs b ys h =
+new-some points texts xs b ys h =
     let e = then_some (rest_at entry_at fits xs >>= fit (λ t. not (has_text texts t))) _ (b, ys) h in
     let r = then_some (rest_at entry_at fits xs) (fit (λ t. not (has_text texts t))) e.0 e.1 in
     let f = fit-is (λ t. not (has_text texts t)) r.0 e.0 r.2 in
     let s = then_some (summary_at e.0.1) _ (b, ys) e.2 in
-    let p = with_some (block_of e.0.0 s.0.0) (points_at s.0.1) b ys s.2 in
+    let p = with_some (block_of e.0.0 s.0.0) (points s.0.1) b ys s.2 in
     (rw (r.1 ∙ ap (λ z. Some z) f.0) e.2, ap (λ z. not (has_text texts z.entry)) p.2 ∙ f.1)
 
 -- where there is no new block, there is none, or its entry is not new
-pub new-none : (texts : List (List ℕ)) (xs : List ℕ) → new_block_at texts xs ≡ None → (block_at xs ≡ None) ⊎ ((b : EntryCert) × (ys : List ℕ) × (block_at xs ≡ Some (b, ys)) × (not (has_text texts b.entry) ≡ false))
+pub new-none : (points : ReadsPoints) (texts : List (List ℕ)) (xs : List ℕ) → new_block_at points texts xs ≡ None → (block_at points xs ≡ None) ⊎ ((b : EntryCert) × (ys : List ℕ) × (block_at points xs ≡ Some (b, ys)) × (not (has_text texts b.entry) ≡ false))
 unfolding new_block_at new_entry_at block_at
-new-none texts xs h = go (rest_at entry_at fits xs) h
+new-none points texts xs h = go (rest_at entry_at fits xs) h
   where
     rest : List ℕ → List ℕ → Option (EntryCert × List ℕ)
-    rest entry m = summary_at m >>= λ s. with (block_of entry s.0) (points_at s.1)
+    rest entry m = summary_at m >>= λ s. with (block_of entry s.0) (points s.1)
 
-    stale : (entry m : List ℕ) → not (has_text texts entry) ≡ false → (o : Option (EntryCert × List ℕ)) → (summary_at m >>= λ s. with (block_of entry s.0) (points_at s.1)) ≡ o
+    stale : (entry m : List ℕ) → not (has_text texts entry) ≡ false → (o : Option (EntryCert × List ℕ)) → (summary_at m >>= λ s. with (block_of entry s.0) (points s.1)) ≡ o
         → (o ≡ None) ⊎ ((b : EntryCert) × (ys : List ℕ) × (o ≡ Some (b, ys)) × (not (has_text texts b.entry) ≡ false))
     stale entry m old None is = inl refl
     stale entry m old (Some r) is =
         let s = then_some (summary_at m) _ r is in
-        let p = with_some (block_of entry s.0.0) (points_at s.0.1) r.0 r.1 s.2 in
+        let p = with_some (block_of entry s.0.0) (points s.0.1) r.0 r.1 s.2 in
         inr (r.0, r.1, refl, ap (λ z. not (has_text texts z.entry)) p.2 ∙ old)
 
-    go : (o : Option (List ℕ × List ℕ)) → (◌>>=◌ {B = EntryCert × List ℕ} (o >>= fit (λ t. not (has_text texts t))) (λ e. summary_at e.1 >>= λ s. with (block_of e.0 s.0) (points_at s.1))) ≡ None
-        → ((o >>= λ e. summary_at e.1 >>= λ s. with (block_of e.0 s.0) (points_at s.1)) ≡ None) ⊎ ((b : EntryCert) × (ys : List ℕ) × ((o >>= λ e. summary_at e.1 >>= λ s. with (block_of e.0 s.0) (points_at s.1)) ≡ Some (b, ys)) × (not (has_text texts b.entry) ≡ false))
+    go : (o : Option (List ℕ × List ℕ)) → (◌>>=◌ {B = EntryCert × List ℕ} (o >>= fit (λ t. not (has_text texts t))) (λ e. summary_at e.1 >>= λ s. with (block_of e.0 s.0) (points s.1))) ≡ None
+        → ((o >>= λ e. summary_at e.1 >>= λ s. with (block_of e.0 s.0) (points s.1)) ≡ None) ⊎ ((b : EntryCert) × (ys : List ℕ) × ((o >>= λ e. summary_at e.1 >>= λ s. with (block_of e.0 s.0) (points s.1)) ≡ Some (b, ys)) × (not (has_text texts b.entry) ≡ false))
     go None h = inl refl
     go (Some e) h = elim (cases_Bool (not (has_text texts e.0))) [
       | inl new ↦ inl (rw new at h)
-      | inr old ↦ stale e.0 e.1 old (summary_at e.1 >>= λ s. with (block_of e.0 s.0) (points_at s.1)) refl
+      | inr old ↦ stale e.0 e.1 old (summary_at e.1 >>= λ s. with (block_of e.0 s.0) (points s.1)) refl
     ]
 
 -- texts of which none stands twice, and one more
@@ -66,7 +65,7 @@ or_assoc : (a b c : Bool) → (a || (b || c)) ≡ ((a || b) || c)
 or_assoc true b c = refl
 or_assoc false b c = refl
 
-has-append : (xs ys : List (List ℕ)) (t : List ℕ) → has_text (xs ++ ys) t ≡ (has_text xs t || has_text ys t)
+pub has-append : (xs ys : List (List ℕ)) (t : List ℕ) → has_text (xs ++ ys) t ≡ (has_text xs t || has_text ys t)
 has-append [] ys t = refl
 has-append (x ∷ xs) ys t = ap (λ b. bytes_eq t x || b) (has-append xs ys t) ∙ or_assoc (bytes_eq t x) (has_text xs t) (has_text ys t)
 
@@ -83,7 +82,7 @@ distinct-front (x ∷ xs) ys h =
 pub blocks-closed : (bs cs : List EntryCert) → fit_blocks (bs ++ cs) ≡ true → fit_blocks bs ≡ true
 blocks-closed bs cs h = distinct-front (entries bs) (entries cs) (ap are_distinct (sym (map-append (λ b. b.entry) bs cs)) ∙ h)
 
-bytes-turned : (a b : List ℕ) → bytes_eq a b ≡ bytes_eq b a
+pub bytes-turned : (a b : List ℕ) → bytes_eq a b ≡ bytes_eq b a
 bytes-turned a b = go (bytes_eq a b) (bytes_eq b a) refl refl
   where
     go : (s t : Bool) → bytes_eq a b ≡ s → bytes_eq b a ≡ t → s ≡ t
@@ -112,8 +111,12 @@ blocks-step bs b h = ap are_distinct (map-append (λ c. c.entry) bs (b ∷ [])) 
 pub entries-push : (bs : List EntryCert) (b : EntryCert) → entries (bs ++ b ∷ []) ≡ entries bs ++ b.entry ∷ []
 entries-push bs b = map-append (λ c. c.entry) bs (b ∷ [])
 
-pub block-shorter : (xs m : List ℕ) (b : EntryCert) (ys : List ℕ) → word_at (codes "entry ") xs ≡ Some (codes "entry ", m) → block_at m ≡ Some (b, ys) → length ys < length xs
-block-shorter xs m b ys h k = line-shorter body_text IsBlock EndsBlock block_at block-format 101 (codes "ntry ") (codes "entry ") xs m b ys h k
+pub block-shorter : (points : ReadsPoints) → Shortens points → (xs m : List ℕ) (b : EntryCert) (ys : List ℕ) → word_at (codes "entry ") xs ≡ Some (codes "entry ", m) → block_at points m ≡ Some (b, ys) → length ys < length xs
+block-shorter points room xs m b ys h k =
+    let w = ap length (word-is (codes "entry ") (codes "entry ") xs m h).0 in
+    let l = length-append (codes "entry ") m in
+    let r = block-room points room b m ys k in
+    omega arith
 
 fails-late : (front : List EntryCert) (o : Option (List EntryCert × List ℕ)) → fit_blocks front ≡ false → (put front o >>= fit fit_blocks) ≡ None
 fails-late front None bad = refl
@@ -122,16 +125,16 @@ fails-late front (Some r) bad = elim (cases_Bool (fit_blocks (front ++ r.0))) [
   | inr e ↦ rw e refl
 ]
 
-pub blocks_refused : {R : Type 0} (front : List EntryCert) (n : ℕ) (xs : List ℕ) (whole : Option (List EntryCert × List ℕ)) (m : List ℕ) (e : Failure R)
-    → fit_blocks front ≡ true → word_at (codes "entry ") xs ≡ Some (codes "entry ", m) → FailsOn e (new_block_at (entries front) m) → length xs < n
-    → put front (many (word_at (codes "entry ")) (λ _. block_at) n xs) ≡ put [] whole → FailsOn e (whole >>= fit fit_blocks)
-blocks_refused front n xs whole m OutOfMemory good is one less h = tt
-blocks_refused front n xs whole m (Refused r) good is one less h = elim (new-none (entries front) m one) [
+pub blocks_refused : {R : Type 0} (points : ReadsPoints) → Shortens points → (front : List EntryCert) (n : ℕ) (xs : List ℕ) (whole : Option (List EntryCert × List ℕ)) (m : List ℕ) (e : Failure R)
+    → fit_blocks front ≡ true → word_at (codes "entry ") xs ≡ Some (codes "entry ", m) → FailsOn e (new_block_at points (entries front) m) → length xs < n
+    → put front (many (word_at (codes "entry ")) (λ _. block_at points) n xs) ≡ put [] whole → FailsOn e (whole >>= fit fit_blocks)
+blocks_refused points room front n xs whole m OutOfMemory good is one less h = tt
+blocks_refused points room front n xs whole m (Refused r) good is one less h = elim (new-none points (entries front) m one) [
   | inl none ↦
-      let gone = sym (put-nil whole) ∙ many_fails (word_at (codes "entry ")) (λ _. block_at) front n xs (put [] whole) (codes "entry ") m is none less h in
+      let gone = sym (put-nil whole) ∙ many_fails (word_at (codes "entry ")) (λ _. block_at points) front n xs (put [] whole) (codes "entry ") m is none less h in
       rw gone refl
   | inr some ↦
-      let next = many_goes (word_at (codes "entry ")) (λ _. block_at) front n xs (put [] whole) (codes "entry ") m some.0 some.1 is some.2 (block-shorter xs m some.0 some.1 is some.2) less h in
+      let next = many_goes (word_at (codes "entry ")) (λ _. block_at points) front n xs (put [] whole) (codes "entry ") m some.0 some.1 is some.2 (block-shorter points room xs m some.0 some.1 is some.2) less h in
       let bad = blocks-step front some.0 good ∙ some.3 in
-      ap (λ o. o >>= fit fit_blocks) (sym (put-nil whole) ∙ sym next.2) ∙ fails-late (front ++ some.0 ∷ []) (many (word_at (codes "entry ")) (λ _. block_at) next.0 some.1) bad
+      ap (λ o. o >>= fit fit_blocks) (sym (put-nil whole) ∙ sym next.2) ∙ fails-late (front ++ some.0 ∷ []) (many (word_at (codes "entry ")) (λ _. block_at points) next.0 some.1) bad
 ]

@@ -11,8 +11,8 @@ use Rattle.mlk_cert_parts.specs.declared.names.NameSet.TheVariants.{Only, AllBut
 use Rattle.mlk_cert_parts.specs.declared.names.Own.{Own}
 use Rattle.mlk_cert_parts.specs.declared.block.Point.{Point}
 use Rattle.mlk_cert_lexemes.specs.Lists.{Each, ascends, below}
-use Rattle.mlk_cert_lexemes.specs.Kinds.{IsName, IsTerm, terms_upto}
-use Rattle.mlk_cert_parts.specs.Limits.{IsNameSet, IsOwn, AreTerms, AreMods, AreOwn, AreKept, IsCase, IsExit, IsPoint, AreDistinct, names_below, own_below, exits_below, cases_below}
+use Rattle.mlk_cert_lexemes.specs.Kinds.{ReadsAsName, IsTerm, terms_upto}
+use Rattle.mlk_cert_parts.specs.Limits.{IsNameSet, IsOwn, AreTerms, AreMods, AreOwn, AreKept, IsCase, IsExit, IsPoint, TextsDiffer, names_below, own_below, exits_below, cases_below}
 use Rattle.mlk_cert_parts.specs.Checks.{ascends_inside, ascend_inside, ascend_inside_own, fit_terms, fit_mods, fit_own, fit_kept, fits_case, fits_exit, fit_exits, fit_cases, each_fits, has_text, are_distinct}
 use Rattle.mlk_cert.specs.Blocks.{Listed}
 use Rattle.mlk_cert_parts.proofs.CaseFormats.{HasNames, HasOwn, HasCase, HasExit}
@@ -71,7 +71,7 @@ own-good os is h =
 own-has : (os : List Own) → AreOwn os → Each HasOwn os × (fit_own os ≡ true)
 own-has os a = let s = owns-has os a.each in (s.0, both_back _ _ (le-leb _ _ a.few) (both_back _ _ s.1 a.order))
 
-kept-good : (ns : List (List ℕ)) → Each IsName ns → fit_kept ns ≡ true → AreKept ns
+kept-good : (ns : List (List ℕ)) → Each ReadsAsName ns → fit_kept ns ≡ true → AreKept ns
 kept-good ns is h = let t = both_true (nat_le (length ns) 64) (ascends below ns) h in record { each = is; few = leb-true _ _ t.0; order = t.1 }
 
 kept-fit : (ns : List (List ℕ)) → AreKept ns → fit_kept ns ≡ true
@@ -116,11 +116,11 @@ exits-fit es few order = both_back _ _ (le-leb _ _ few) order
 abbrev pub GoodListed : Listed → Type 0
 GoodListed l = ((1 ≤ l.0) × (l.0 ≤ 65535) × (l.1 ≤ 255) × HasCase l.2) × (fits_case l.2 ≡ true)
 
-each-front : {A : Type 0} (Is : A → Type 0) (xs ys : List A) → Each Is (xs ++ ys) → Each Is xs × Each Is ys
+pub each-front : {A : Type 0} (Is : A → Type 0) (xs ys : List A) → Each Is (xs ++ ys) → Each Is xs × Each Is ys
 each-front Is [] ys is = (tt, is)
 each-front Is (x ∷ xs) ys is = let r = each-front Is xs ys is.1 in ((is.0, r.0), r.1)
 
-each-join : {A : Type 0} (Is : A → Type 0) (xs ys : List A) → Each Is xs → Each Is ys → Each Is (xs ++ ys)
+pub each-join : {A : Type 0} (Is : A → Type 0) (xs ys : List A) → Each Is xs → Each Is ys → Each Is (xs ++ ys)
 each-join Is [] ys is js = js
 each-join Is (x ∷ xs) ys is js = (is.0, each-join Is xs ys is.1 js)
 
@@ -186,12 +186,12 @@ apart-back text (u ∷ texts) is = or_back _ _ (other (bytes_eq text u) refl) (a
     other true e = absurd (is.0 (sym ((bytes_eq-Decides text u).0 e)))
     other false e = refl
 
-pub distinct-good : (texts : List (List ℕ)) → are_distinct texts ≡ true → AreDistinct texts
+pub distinct-good : (texts : List (List ℕ)) → are_distinct texts ≡ true → TextsDiffer texts
 distinct-good [] h = tt
 distinct-good (t ∷ texts) h =
     let b = both_true (not (has_text texts t)) (are_distinct texts) h in
     (apart-good t texts (not_true _ b.0), distinct-good texts b.1)
 
-pub distinct-back : (texts : List (List ℕ)) → AreDistinct texts → are_distinct texts ≡ true
+pub distinct-back : (texts : List (List ℕ)) → TextsDiffer texts → are_distinct texts ≡ true
 distinct-back [] is = refl
 distinct-back (t ∷ texts) is = both_back _ _ (true_not _ (apart-back t texts is.0)) (distinct-back texts is.1)

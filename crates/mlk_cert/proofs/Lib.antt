@@ -9,3 +9,10 @@ pub mod BlockLoops
 pub mod MemoryLemmas
 pub mod ReadAgain
 pub mod Equal
+pub mod Tables
+pub mod NumberedFormats
+pub mod SecondFormat
+pub mod BothFormats
+pub mod NumberedLoops
+pub mod NamedTexts
+pub mod WrittenTexts

@@ -12,6 +12,7 @@ use Rattle.mlk_cert_parts.specs.Checks.{fits_case}
 use Rattle.mlk_cert_lexemes.specs.Reading.{word_at}
 use Rattle.mlk_cert_parts.specs.Reading.{case_at}
 use Rattle.mlk_cert.specs.Blocks.{points_at, body_at}
+use Rattle.mlk_cert.specs.Numbered.{listed_points_at}
 use Rattle.mlk_cert_parts.proofs.CaseFormats.{case-format}
 use Rattle.mlk_cert_lexemes.proofs.Formats.{both_true, both_back}
 use Rattle.mlk_cert.proofs.Goods.{case-good, case-has}
@@ -56,13 +57,13 @@ point-kept p found text rest b is read same = (
 pub point-refused : (p : Point) (text : List ℕ) → text ≡ flat point_text (p ∷ []) → points_at text ≡ None → IsTrue false ↔ IsPoint p
 point-refused p text is none = (λ t. cc t, λ good. let k : ◌≡◌ {A = Option (List Point × List ℕ)} None (Some (p ∷ [], [])) = sym none ∙ point-again p text is good in cc k)
 
-pub blocks-kept : (bs found : List EntryCert) (xs : List ℕ) (b : Bool) → xs ≡ flat block_text bs ++ end_line → body_at xs ≡ Some found → (IsTrue b ↔ (found ≡ bs)) → IsTrue b ↔ IsCertificate bs
+pub blocks-kept : (bs found : List EntryCert) (xs : List ℕ) (b : Bool) → xs ≡ flat block_text bs ++ end_line → body_at (listed_points_at None) xs ≡ Some found → (IsTrue b ↔ (found ≡ bs)) → IsTrue b ↔ IsCertificate bs
 blocks-kept bs found xs b is read same = (
   λ t. subst (λ z. IsCertificate z) (same.0 t) (body-is found xs read).0,
   λ good. same.1 (same_Some found bs (sym read ∙ body-back bs xs is good)),
 )
 
-pub blocks-refused : (bs : List EntryCert) (xs : List ℕ) → xs ≡ flat block_text bs ++ end_line → body_at xs ≡ None → IsTrue false ↔ IsCertificate bs
+pub blocks-refused : (bs : List EntryCert) (xs : List ℕ) → xs ≡ flat block_text bs ++ end_line → body_at (listed_points_at None) xs ≡ None → IsTrue false ↔ IsCertificate bs
 blocks-refused bs xs is none = (λ t. cc t, λ good. let k : ◌≡◌ {A = Option (List EntryCert)} None (Some bs) = sym none ∙ body-back bs xs is good in cc k)
 
 pub one-block : (b : EntryCert) → IsCertificate (b ∷ []) → IsBlock b

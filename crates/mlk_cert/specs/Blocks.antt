@@ -107,24 +107,28 @@ points_at xs = with (grouped []) (worded_at (codes "at ") (rest_at listed_case_a
 abbrev pub block_of : List ℕ → Summary → List Point → EntryCert
 block_of entry summary points = record { entry = entry; summary = summary; points = points }
 
+-- how the points of a block are read
+abbrev pub ReadsPoints : Type 0
+ReadsPoints = List ℕ → Option (List Point × List ℕ)
+
 -- a block after its word
-unfoldable pub block_at : List ℕ → Option (EntryCert × List ℕ)
-block_at xs =
+unfoldable pub block_at : ReadsPoints → List ℕ → Option (EntryCert × List ℕ)
+block_at points xs =
     rest_at entry_at fits xs >>= λ entry.
     summary_at entry.1 >>= λ summary.
-    with (block_of entry.0 summary.0) (points_at summary.1)
+    with (block_of entry.0 summary.0) (points summary.1)
 
-unfoldable pub blocks_at : List ℕ → Option (List EntryCert × List ℕ)
-blocks_at xs = worded_at (codes "entry ") block_at xs >>= fit fit_blocks
+unfoldable pub blocks_at : ReadsPoints → List ℕ → Option (List EntryCert × List ℕ)
+blocks_at points xs = worded_at (codes "entry ") (block_at points) xs >>= fit fit_blocks
 
 -- nothing is left
 abbrev pub finished : List EntryCert → List ℕ → Option (List EntryCert)
 finished blocks [] = Some blocks
 finished blocks (b ∷ xs) = None
 
--- what stands behind the head line
-unfoldable pub body_at : List ℕ → Option (List EntryCert)
-body_at xs = blocks_at xs >>= λ blocks. word_at end_line blocks.1 >>= λ end. finished blocks.0 end.1
+-- the blocks up to the end
+unfoldable pub body_at : ReadsPoints → List ℕ → Option (List EntryCert)
+body_at points xs = blocks_at points xs >>= λ blocks. word_at end_line blocks.1 >>= λ end. finished blocks.0 end.1
 
 -- the text stands above the last, where there is one
 abbrev pub above_last : Option (List ℕ) → List ℕ → Bool
@@ -150,11 +154,11 @@ unfoldable pub new_entry_at : List (List ℕ) → List ℕ → Option (List ℕ 
 new_entry_at texts xs = rest_at entry_at fits xs >>= fit (λ e. not (has_text texts e))
 
 -- a block whose entry is new
-unfoldable pub new_block_at : List (List ℕ) → List ℕ → Option (EntryCert × List ℕ)
-new_block_at texts xs =
+unfoldable pub new_block_at : ReadsPoints → List (List ℕ) → List ℕ → Option (EntryCert × List ℕ)
+new_block_at points texts xs =
     new_entry_at texts xs >>= λ entry.
     summary_at entry.1 >>= λ summary.
-    with (block_of entry.0 summary.0) (points_at summary.1)
+    with (block_of entry.0 summary.0) (points summary.1)
 
 -- the text of the last case of the last point
 abbrev pub last_case_text : List Point → Option (List ℕ)

@@ -9,7 +9,7 @@ use Rattle.mlk_cert.specs.Refusals.{lines_in}
 
 -- the codes of certificates without that of the head line
 abbrev pub is_later : Code → Bool
-is_later code = nat_le 602 (number_of code) && nat_le (number_of code) 606
+is_later code = nat_le 602 (number_of code) && nat_le (number_of code) 607
 
 -- whether a line ends here or later
 abbrev pub has_line : List ℕ → Bool

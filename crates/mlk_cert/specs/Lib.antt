@@ -6,3 +6,6 @@ pub mod Memories
 pub mod Faults
 pub mod Refusals
 pub mod Making
+pub mod Second
+pub mod Numbered
+pub mod Named

@@ -3,11 +3,9 @@ use Rattle.std.specs.Prelude.{ℕ, ◌≡◌, List, insert}
 use Rattle.std.specs.List.{prefix_len}
 use Rattle.mlk_text.specs.declared.failure.Failure.{Failure}
 use Rattle.mlk_text.specs.declared.failure.Failure.TheVariants.{OutOfMemory, Refused}
-use Rattle.mlk_names.specs.declared.term.LockTerm.{LockTerm}
 use Rattle.mlk_cert_parts.specs.declared.case.Case.{Case}
 use Rattle.mlk_cert_parts.specs.declared.block.Point.{Point}
 use Rattle.mlk_cert_lexemes.specs.Lists.{below}
-use Rattle.mlk_cert_lexemes.specs.Texts.{term_text}
 use Rattle.mlk_cert_parts.specs.Texts.{case_text}
 
 -- it is what was given, which is such
@@ -22,10 +20,6 @@ GivesBack Is given (Refused back) = (back ≡ given) × (Is given → ⊥)
 -- how many cases stand before the first whose text is not below this text
 abbrev pub before : List Case → List ℕ → ℕ
 before cases text = prefix_len (λ c. below (case_text c) text) cases
-
--- how many terms stand before the first whose text is not below this one's
-abbrev pub terms_before : List LockTerm → LockTerm → ℕ
-terms_before terms t = prefix_len (λ u. below (term_text u) (term_text t)) terms
 
 -- the point with one more case, before the first whose text is not below its own
 abbrev pub with_more : Point → Case → Point

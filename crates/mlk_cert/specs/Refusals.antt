@@ -1,5 +1,5 @@
 -- What a refusal of a certificate's text says.
-use Rattle.std.specs.Prelude.{ℕ, suc, ◌≡◌, ◌<◌, ◌≤◌, ◌+◌, ◌==◌, ◌&&◌, ◌↔◌, ◌++◌, nat_le, if◌then◌else◌, Bool, true, List, [], ◌∷◌, length}
+use Rattle.std.specs.Prelude.{ℕ, suc, ◌≡◌, ◌<◌, ◌≤◌, ◌+◌, ◌==◌, ◌&&◌, ◌↔◌, ◌++◌, nat_le, if◌then◌else◌, ◌⊎◌, Bool, true, List, [], ◌∷◌, length}
 use Rattle.mlk_text.specs.Codes.{number_of}
 use Rattle.mlk_text.specs.declared.code.Code.{Code}
 use Rattle.mlk_text.specs.declared.code.Code.TheVariants.{Head, CertLimit, NoEnd}
@@ -8,21 +8,22 @@ use Rattle.mlk_text.specs.declared.failure.Failure.TheVariants.{OutOfMemory, Ref
 use Rattle.mlk_cert.specs.declared.read.fault.CertFault.{CertFault}
 use Rattle.mlk_cert_parts.specs.Texts.{head_line}
 use Rattle.mlk_cert_parts.specs.Limits.{longest}
+use Rattle.mlk_cert.specs.Second.{second_head}
 
 -- the codes of certificates
 abbrev pub is_refusal : Code → Bool
-is_refusal code = nat_le 601 (number_of code) && nat_le (number_of code) 606
+is_refusal code = nat_le 601 (number_of code) && nat_le (number_of code) 607
 
 -- how many lines end in a text
 abbrev pub lines_in : List ℕ → ℕ
 lines_in [] = 0
 lines_in (b ∷ xs) = if b == 10 then suc (lines_in xs) else lines_in xs
 
--- the text begins with the head line
+-- the text begins with the head line of a format
 abbrev pub HasHead : List ℕ → Type 0
-HasHead text = (rest : List ℕ) × (text ≡ head_line ++ rest)
+HasHead text = (rest : List ℕ) × ((text ≡ head_line ++ rest) ⊎ (text ≡ second_head ++ rest))
 
--- A refusal has one of the six codes, and stands on a line of the text or the one after its last. A limit at line 1 is
+-- A refusal has one of the seven codes, and stands on a line of the text or the one after its last. A limit at line 1 is
 -- told exactly where the text is too long, and else a missing head line exactly where there is none, at line 1. Where
 -- the text ends too soon, the line is the number of whole lines.
 pub record IsRefusal (text : List ℕ) (fault : CertFault) : Type 0 where

@@ -3,27 +3,18 @@
 
 ghost use Rattle.std.specs.Prelude.{◌≡◌, ◌↔◌, ◌≤◌, IsTrue, IfOk, IfErr, length};
 ghost use Rattle.mlk_cert_parts.specs.Limits.{IsCase, IsPoint, IsBlock, IsCertificate};
-ghost use Rattle.mlk_cert_parts.specs.Texts.{case_text};
 ghost use Rattle.mlk_cert.specs.Making.{Made, GivesBack, before, with_more};
 
-use crate::certificate::Certificate;
+use crate::named::text_of;
 use crate::read::case::case;
 use crate::read::memory::Memories;
 use crate::read::points::points;
 use crate::read::whole::body;
-use mlk_cert_lexemes::{Text, both, is_below, push_flat};
-use mlk_cert_parts::{Case, EntryCert, Point, push_case, same};
+use mlk_cert_lexemes::{WrittenText, both, is_below, push_flat};
+use mlk_cert_parts::{Case, Certificate, EntryCert, Point, same};
 use mlk_text::{Failure, List};
 use std::alloc::{AllocError, Global};
 use std::slice;
-
-fn text_of(alloc: Global, case: &Case) -> Result<Text, AllocError>
-    ensures { IfOk result (λ t. t ≡ case_text case.now) }
-{
-    let mut text = Text::new(alloc);
-    push_case(&mut text, case)?;
-    Ok(text)
-}
 
 fn is_case(alloc: Global, made: &Case) -> Result<bool, AllocError>
     ensures { IfOk result (λ b. IsTrue b ↔ IsCase made.now) }
@@ -43,7 +34,7 @@ fn is_case(alloc: Global, made: &Case) -> Result<bool, AllocError>
 fn is_point(alloc: Global, made: &Point) -> Result<bool, AllocError>
     ensures { IfOk result (λ b. IsTrue b ↔ IsPoint made.now) }
 {
-    let mut text = Text::new(alloc);
+    let mut text = WrittenText::new(alloc);
     push_flat(&mut text, slice::from_ref(made))?;
     match points(alloc, text.as_bytes()) {
         Ok((found, _)) => Ok(same(slice::from_ref(made), found.as_slice())),
@@ -55,10 +46,10 @@ fn is_point(alloc: Global, made: &Point) -> Result<bool, AllocError>
 fn are_certificate(alloc: Global, made: &[EntryCert]) -> Result<bool, AllocError>
     ensures { IfOk result (λ b. IsTrue b ↔ IsCertificate made.now) }
 {
-    let mut text = Text::new(alloc);
+    let mut text = WrittenText::new(alloc);
     push_flat(&mut text, made)?;
     text.push(b"end\n")?;
-    match body(alloc, text.as_bytes()) {
+    match body(alloc, None, text.as_bytes()) {
         Ok(found) => Ok(same(made, found.as_slice())),
         Err(Failure::OutOfMemory) => Err(AllocError),
         Err(Failure::Refused(_)) => Ok(false),

@@ -1,21 +1,23 @@
-//! Certificates: what is said of jobs at each point of a routine, and the one text that says it.
+//! Certificates: what is said of jobs at each point of a routine, and the text that says it, in two formats.
 #![tactic(auto)]
 
-mod certificate;
 mod checked;
+mod format;
 mod law;
-mod order;
+mod named;
+mod number;
 mod read;
 mod spelled;
+mod table;
 mod write;
 
-pub use certificate::Certificate;
 pub use checked::{block_of, case_of, certificate_of, point_of, with_case};
-pub use law::{one_certificate, read_back};
+pub use format::CertFormat;
+pub use law::{one_certificate, one_reading, one_text, read_back};
 pub use mlk_cert_parts::{
-    Case, EntryCert, ExitCase, NameSet, Own, Point, Shared, Summary, Test, included, limit,
+    Case, Certificate, EntryCert, ExitCase, NameSet, Own, Point, Shared, Summary, Test, included,
+    limit, place_of_term,
 };
-pub use order::place_of_term;
 pub use read::{CertFault, read_cert};
 pub use spelled::{Spelled, spell};
-pub use write::{WriteFault, write_cert};
+pub use write::{WriteFault, write_cert, write_cert2};

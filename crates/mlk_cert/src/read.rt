@@ -2,10 +2,12 @@
 
 mod block;
 pub(crate) mod case;
+mod cases;
 mod fault;
 mod fit;
 mod line;
 pub(crate) mod memory;
+mod numbered;
 pub(crate) mod points;
 pub(crate) mod whole;
 

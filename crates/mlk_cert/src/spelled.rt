@@ -5,10 +5,9 @@ ghost use Rattle.mlk_cert_parts.specs.Texts.{certificate_text};
 ghost use Rattle.mlk_cert.specs.Theorem.{Spells};
 ghost use Rattle.mlk_cert.specs.Writing.{IsUnspelled};
 
-use crate::certificate::Certificate;
 use crate::read::{CertFault, read_cert};
 use crate::write::certificate_text;
-use mlk_cert_parts::EntryCert;
+use mlk_cert_parts::{Certificate, EntryCert};
 use mlk_text::Failure;
 use std::alloc::Global;
 

@@ -4,14 +4,15 @@ ghost use Rattle.std.specs.Prelude.{◌≡◌, ◌++◌, ◌≤◌, OnOk, IfOk, 
 ghost use Rattle.std.specs.Io.KnownBytes.{Appends};
 ghost use Rattle.mlk_cert_parts.specs.Limits.{longest};
 ghost use Rattle.mlk_cert_parts.specs.Texts.{certificate_text};
-ghost use Rattle.mlk_cert.specs.Writing.{IsUnwritten};
+ghost use Rattle.mlk_cert.specs.Writing.{IsWritten, IsUnwritten, IsTextUnwritten};
+ghost use Rattle.mlk_cert.specs.declared.format.CertFormat.TheVariants.{First, Second};
 
-use crate::certificate::Certificate;
 use crate::read::CertFault;
 use crate::read::whole::at_first;
-use mlk_cert_lexemes::{Text, push_flat};
-use mlk_cert_parts::EntryCert;
+use crate::table::{case_texts, numbered_text};
+use mlk_cert_lexemes::{WrittenText, push_flat};
 use mlk_cert_parts::limit::LONGEST_TEXT;
+use mlk_cert_parts::{Certificate, EntryCert};
 use mlk_text::{Code, Failure};
 use std::alloc::{AllocError, Global};
 use std::io;
@@ -30,35 +31,64 @@ pub enum WriteFault {
 }
 
 /// The text of blocks.
-pub(crate) fn certificate_text(alloc: Global, blocks: &[EntryCert]) -> Result<Text, AllocError>
+pub(crate) fn certificate_text(
+    alloc: Global,
+    blocks: &[EntryCert],
+) -> Result<WrittenText, AllocError>
     ensures { IfOk result (λ t. t ≡ certificate_text blocks.now) }
 {
-    let mut text = Text::new(alloc);
+    let mut text = WrittenText::new(alloc);
     text.push(b"mlock-cert 1\n")?;
     push_flat(&mut text, blocks)?;
     text.push(b"end\n")?;
     Ok(text)
 }
 
-/// Writes the one text of a certificate, all of it or nothing of it where that is too long.
+// Writes a text, all of it or nothing of it where it is too long.
+fn write_text<W: Write>(text: &[u8], writer: &mut W) -> Result<(), Failure<WriteFault>>
+    ensures written { OnOk result (Appends (W.contents writer.old) (W.contents writer.new) text.now) }
+    ensures short { OnOk result (length text.now ≤ longest) }
+    ensures refused { IfErr result (IsTextUnwritten text.now writer.old writer.new) }
+{
+    if text.len() > LONGEST_TEXT {
+        return Err(Failure::Refused(WriteFault::TooLong(at_first(Code::CertLimit))));
+    }
+    match writer.write_all(text) {
+        Ok(()) => Ok(()),
+        Err(error) => Err(Failure::Refused(WriteFault::Io(error))),
+    }
+}
+
+/// Writes the text of a certificate in the first format, all of it or nothing of it where that is too long.
 pub fn write_cert<W: Write>(
     alloc: Global,
     certificate: &Certificate,
     writer: &mut W,
 ) -> Result<(), Failure<WriteFault>>
     // What is written without a fault is the text.
-    ensures written { OnOk result (Appends (W.contents writer.old) (W.contents writer.new)
-        (certificate_text certificate.now)) }
-    ensures short { OnOk result (length (certificate_text certificate.now) ≤ longest) }
+    ensures written { OnOk result (IsWritten First certificate.now (W.contents writer.old) (W.contents writer.new)) }
     // A text that is too long is a fault at its first line, and nothing of it was written.
-    ensures refused { IfErr result (IsUnwritten certificate.now writer.old writer.new) }
+    ensures refused { IfErr result (IsUnwritten First certificate.now writer.old writer.new) }
 {
     let text = certificate_text(alloc, certificate.blocks())?;
-    if text.as_bytes().len() > LONGEST_TEXT {
+    write_text(text.as_bytes(), writer)
+}
+
+/// Writes the text of a certificate in the second format, all of it or nothing of it where that is too long.
+pub fn write_cert2<W: Write>(
+    alloc: Global,
+    certificate: &Certificate,
+    writer: &mut W,
+) -> Result<(), Failure<WriteFault>>
+    // What is written without a fault is the text.
+    ensures written { OnOk result (IsWritten Second certificate.now (W.contents writer.old) (W.contents writer.new)) }
+    // A text that is too long is a fault at its first line, and nothing of it was written.
+    ensures refused { IfErr result (IsUnwritten Second certificate.now writer.old writer.new) }
+{
+    let texts = case_texts(alloc, certificate.blocks())?;
+    if texts.len() > LONGEST_TEXT {
         return Err(Failure::Refused(WriteFault::TooLong(at_first(Code::CertLimit))));
     }
-    match writer.write_all(text.as_bytes()) {
-        Ok(()) => Ok(()),
-        Err(error) => Err(Failure::Refused(WriteFault::Io(error))),
-    }
+    let text = numbered_text(alloc, &texts, certificate.blocks())?;
+    write_text(text.as_bytes(), writer)
 }

@@ -7,7 +7,7 @@ use Rattle.std.proofs.lemmas.List.{drop_all}
 use Rattle.mlk_text.specs.Lexemes.{byte_at, name_at, name_bytes, is_name_byte, is_letter}
 use Rattle.mlk_text.proofs.Readers.{pair_parts}
 use Rattle.mlk_cert_lexemes.specs.Texts.{name_text}
-use Rattle.mlk_cert_lexemes.specs.Kinds.{IsName}
+use Rattle.mlk_cert_lexemes.specs.Kinds.{ReadsAsName}
 use Rattle.mlk_cert_lexemes.proofs.Formats.{Format}
 
 name-is : (text xs ys : List ℕ) → name_at xs ≡ Some (text, ys) → xs ≡ text ++ ys
@@ -33,20 +33,20 @@ name-rest b xs =
     let short : length (take (name_bytes xs) xs) ≤ name_bytes xs = omega (arith, length-take (name_bytes xs) xs) in
     rw (take_all (name_bytes xs) (take (name_bytes xs) xs) short) (rw (drop_all (name_bytes xs) (take (name_bytes xs) xs) short) refl)
 
-name-again : (b : ℕ) (xs : List ℕ) → ((is_letter b || (b == 37)) && nat_le (name_bytes xs) 30) ≡ true → IsName (b ∷ take (name_bytes xs) xs)
+name-again : (b : ℕ) (xs : List ℕ) → ((is_letter b || (b == 37)) && nat_le (name_bytes xs) 30) ≡ true → ReadsAsName (b ∷ take (name_bytes xs) xs)
 unfolding name_at
 name-again b xs e =
     let n : name_bytes (take (name_bytes xs) xs) ≡ name_bytes xs = ap name_bytes (sym (append-nil (take (name_bytes xs) xs))) ∙ bytes-front xs [] refl in
     rw n (rw e (name-rest b xs))
 
 -- a name is one name to its end
-name-whole : (text xs ys : List ℕ) → name_at xs ≡ Some (text, ys) → IsName text
+name-whole : (text xs ys : List ℕ) → name_at xs ≡ Some (text, ys) → ReadsAsName text
 unfolding name_at
 name-whole text [] ys h = cc h
 name-whole text (b ∷ xs) ys h = elim (cases_Bool ((is_letter b || (b == 37)) && nat_le (name_bytes xs) 30)) [
   | inr e ↦ cc (rw e at h)
   | inl e ↦ let p = pair_parts (b ∷ take (name_bytes xs) xs) text (drop (name_bytes xs) xs) ys (rw e at h) in
-      subst IsName p.0 (name-again b xs e)
+      subst ReadsAsName p.0 (name-again b xs e)
 ]
 
 bytes-within : (xs : List ℕ) → name_bytes xs ≤ length xs
@@ -93,14 +93,14 @@ name-front n (b ∷ xs) ys zs h none =
 abbrev pub NoName : List ℕ → Type 0
 NoName ys = name_bytes ys ≡ 0
 
-pub name-format : Format name_text IsName NoName name_at
+pub name-format : Format name_text ReadsAsName NoName name_at
 name-format = record {
   sound = λ n xs ys h. (name-is n xs ys h, name-whole n xs ys h);
   complete = λ n ys is none. name-front n n [] ys is none;
 }
 
 -- a name begins with `%` or a letter
-pub name-first : (c : ℕ) (n ys : List ℕ) → (is_letter c || (c == 37)) ≡ false → IsName n → byte_at c (n ++ ys) ≡ None
+pub name-first : (c : ℕ) (n ys : List ℕ) → (is_letter c || (c == 37)) ≡ false → ReadsAsName n → byte_at c (n ++ ys) ≡ None
 unfolding name_at
 name-first c [] ys other is = cc is
 name-first c (b ∷ n) ys other is = elim (cases_Bool (b == c)) [

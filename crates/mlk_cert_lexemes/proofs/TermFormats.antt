@@ -13,7 +13,7 @@ use Rattle.mlk_names.specs.declared.known_symbol.KnownSym.TheVariants as known
 use Rattle.mlk_names.specs.declared.term.LockTerm.{LockTerm}
 use Rattle.mlk_cert_lexemes.specs.Lists.{Each, flat, more}
 use Rattle.mlk_cert_lexemes.specs.Texts.{listed, hex, is_plain, byte_text, constant_text, symbol_text, subs_text, root_text, term_text, name_text}
-use Rattle.mlk_cert_lexemes.specs.Kinds.{IsName, IsValue, IsSymbol, IsRoot, IsTerm}
+use Rattle.mlk_cert_lexemes.specs.Kinds.{ReadsAsName, HasBytes, IsSymbol, IsNamedRoot, IsTerm}
 use Rattle.mlk_cert_lexemes.specs.Reading.{hex_value, escaped_at, piece_at, keep, constant_at, list_at, listed_at, job_by, symbol_by, symbol_at, subs_by, subs_at, term_of, term_at}
 use Rattle.mlk_cert_lexemes.proofs.Formats.{Format, Anything, byte-is, flat-is, flat-back, list-is, list-back, listed-format}
 use Rattle.mlk_cert_lexemes.proofs.NameFormats.{NoName, name-format, name-first}
@@ -142,26 +142,26 @@ closing-none ys h = h
 abbrev pub NoQuote : List ℕ → Type 0
 NoQuote ys = byte_at 34 ys ≡ None
 
-pub constant-is : (v xs ys : List ℕ) → constant_at xs ≡ Some (v, ys) → (xs ≡ constant_text v ++ ys) × IsValue v
+pub constant-is : (v xs ys : List ℕ) → constant_at xs ≡ Some (v, ys) → (xs ≡ constant_text v ++ ys) × HasBytes v
 unfolding constant_at
 constant-is v xs ys h =
     let o = then_some (byte_at 34 xs) _ (v, ys) h in
     let r = then_some (many piece_at keep (suc (length o.0.1)) o.0.1) _ (v, ys) o.2 in
     let c = with_some _ (byte_at 34 r.0.1) v ys r.2 in
     let s = flat-is byte_text (λ b. b < 256) Anything piece_at piece-format _ r.0.0 o.0.1 r.0.1 r.1 in
-    let P : List ℕ → Type 0 = λ l. (xs ≡ constant_text l ++ ys) × IsValue l in
+    let P : List ℕ → Type 0 = λ l. (xs ≡ constant_text l ++ ys) × HasBytes l in
     subst P (sym c.2) (
       (byte-is 34 o.0.0 xs o.0.1 o.1).0 ∙ ap (λ l. 34 ∷ l) (s.0 ∙ ap (λ l. flat byte_text r.0.0 ++ l) (byte-is 34 c.0 r.0.1 ys c.1).0 ∙ sym (append_assoc (flat byte_text r.0.0) (34 ∷ []) ys)),
       s.1,
     )
 
-pub constant-back : (v ys : List ℕ) → IsValue v → NoQuote ys → constant_at (constant_text v ++ ys) ≡ Some (v, ys)
+pub constant-back : (v ys : List ℕ) → HasBytes v → NoQuote ys → constant_at (constant_text v ++ ys) ≡ Some (v, ys)
 unfolding constant_at
 constant-back v ys is none =
     let assoc = append_assoc (flat byte_text v) (34 ∷ []) ys in
     rw assoc (rw (flat-back byte_text (λ b. b < 256) Anything piece_at piece-format byte-room (λ _. tt) (suc (length (flat byte_text v ++ 34 ∷ ys))) v (34 ∷ ys) is (closing-none ys none) (omega arith)) refl)
 
-pub constant-format : Format constant_text IsValue NoQuote constant_at
+pub constant-format : Format constant_text HasBytes NoQuote constant_at
 constant-format = record { sound = constant-is; complete = constant-back }
 
 -- what ends a subscript
@@ -230,20 +230,20 @@ subs-back (s ∷ subs) ys (is, others) none =
     = append_assoc (symbol_text s) (more 44 symbol_text subs ++ 41 ∷ []) ys ∙ ap (λ z. symbol_text s ++ z) (append_assoc (more 44 symbol_text subs) (41 ∷ []) ys) in
     rw assoc (rw (list-back symbol_text IsSymbol EndsSymbol symbol_at symbol-format 44 (λ n. (refl, refl)) s subs (41 ∷ ys) is others (refl, refl) refl) refl)
 
-root-is : (r : Root) (xs ys : List ℕ) → root_at xs ≡ Some (r, ys) → (xs ≡ root_text r ++ ys) × IsRoot r
+root-is : (r : Root) (xs ys : List ℕ) → root_at xs ≡ Some (r, ys) → (xs ≡ root_text r ++ ys) × IsNamedRoot r
 unfolding root_at
 root-is r xs ys h = go (byte_at 94 xs) refl h
   where
-    go : (o : Option (ℕ × List ℕ)) → byte_at 94 xs ≡ o → root_by xs o ≡ Some (r, ys) → (xs ≡ root_text r ++ ys) × IsRoot r
+    go : (o : Option (ℕ × List ℕ)) → byte_at 94 xs ≡ o → root_by xs o ≡ Some (r, ys) → (xs ≡ root_text r ++ ys) × IsNamedRoot r
     go None is h = let n = with_some root.Local (name_at xs) r ys h in
-        let P : Root → Type 0 = λ l. (xs ≡ root_text l ++ ys) × IsRoot l in
+        let P : Root → Type 0 = λ l. (xs ≡ root_text l ++ ys) × IsNamedRoot l in
         subst P (sym n.2) (name-format.sound n.0 xs ys n.1)
     go (Some c) is h = let n = with_some root.Global (name_at c.1) r ys h in
         let s = name-format.sound n.0 c.1 ys n.1 in
-        let P : Root → Type 0 = λ l. (xs ≡ root_text l ++ ys) × IsRoot l in
+        let P : Root → Type 0 = λ l. (xs ≡ root_text l ++ ys) × IsNamedRoot l in
         subst P (sym n.2) ((byte-is 94 c.0 xs c.1 is).0 ∙ ap (λ l. 94 ∷ l) s.0, s.1)
 
-root-back : (r : Root) (ys : List ℕ) → IsRoot r → NoName ys → root_at (root_text r ++ ys) ≡ Some (r, ys)
+root-back : (r : Root) (ys : List ℕ) → IsNamedRoot r → NoName ys → root_at (root_text r ++ ys) ≡ Some (r, ys)
 unfolding root_at
 root-back (root.Global name) ys is none = rw (name-format.complete name ys is none) refl
 root-back (root.Local name) ys is none = rw (name-first 94 name ys refl is) (rw (name-format.complete name ys is none) refl)
@@ -278,7 +278,7 @@ term-format = record { sound = term-is; complete = term-back }
 term-first : (t : LockTerm) (ys : List ℕ) → IsTerm t → byte_at 45 (term_text t ++ ys) ≡ None
 term-first t ys is = go t.root is.0
   where
-    go : (r : Root) → IsRoot r → byte_at 45 ((root_text r ++ subs_text t.subs) ++ ys) ≡ None
+    go : (r : Root) → IsNamedRoot r → byte_at 45 ((root_text r ++ subs_text t.subs) ++ ys) ≡ None
     go (root.Global name) is = refl
     go (root.Local name) is = ap (byte_at 45) (append_assoc name (subs_text t.subs) ys) ∙ name-first 45 name (subs_text t.subs ++ ys) refl is
 
@@ -293,5 +293,5 @@ terms-format = listed-format term_text IsTerm EndsTerm term_at term-format (λ n
 abbrev pub EndsNames : List ℕ → Type 0
 EndsNames ys = NoName ys × (byte_at 59 ys ≡ None)
 
-pub kept-format : Format (listed name_text) (Each IsName) EndsNames (listed_at name_at)
-kept-format = listed-format name_text IsName NoName name_at name-format (λ n. refl) (λ n ys is. name-first 45 n ys refl is)
+pub kept-format : Format (listed name_text) (Each ReadsAsName) EndsNames (listed_at name_at)
+kept-format = listed-format name_text ReadsAsName NoName name_at name-format (λ n. refl) (λ n ys is. name-first 45 n ys refl is)

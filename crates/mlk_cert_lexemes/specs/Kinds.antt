@@ -10,33 +10,33 @@ use Rattle.mlk_cert_lexemes.specs.Lists.{Each, upto}
 use Rattle.mlk_cert_lexemes.specs.Texts.{term_text}
 
 -- a name, and nothing after it
-abbrev pub IsName : List ℕ → Type 0
-IsName name = name_at name ≡ Some (name, [])
+abbrev pub ReadsAsName : List ℕ → Type 0
+ReadsAsName name = name_at name ≡ Some (name, [])
 
 -- bytes are below 256
-abbrev pub IsValue : List ℕ → Type 0
-IsValue value = Each (λ b. b < 256) value
+abbrev pub HasBytes : List ℕ → Type 0
+HasBytes value = Each (λ b. b < 256) value
 
 abbrev pub IsSymbol : KnownSym → Type 0
-IsSymbol (known.Const value) = IsValue value
-IsSymbol (known.Local name) = IsName name
+IsSymbol (known.Const value) = HasBytes value
+IsSymbol (known.Local name) = ReadsAsName name
 IsSymbol known.Job = Unit {0}
 
-abbrev pub IsRoot : Root → Type 0
-IsRoot (root.Global name) = IsName name
-IsRoot (root.Local name) = IsName name
+abbrev pub IsNamedRoot : Root → Type 0
+IsNamedRoot (root.Global name) = ReadsAsName name
+IsNamedRoot (root.Local name) = ReadsAsName name
 
 abbrev pub IsTerm : LockTerm → Type 0
-IsTerm t = IsRoot t.root × Each IsSymbol t.subs
+IsTerm t = IsNamedRoot t.root × Each IsSymbol t.subs
 
 -- terms stand in the order of their texts, and may repeat
 abbrev pub terms_upto : LockTerm → LockTerm → Bool
 terms_upto t u = upto (term_text t) (term_text u)
 
 -- a label: a name, digits, or nothing
-abbrev pub IsLabel : List ℕ → Type 0
-IsLabel label = (are_digits label ≡ true) ⊎ IsName label
+abbrev pub IsLabelOrNothing : List ℕ → Type 0
+IsLabelOrNothing label = (are_digits label ≡ true) ⊎ ReadsAsName label
 
 -- an entry's text: a label, `^`, and a routine's name
-abbrev pub IsEntry : List ℕ → Type 0
-IsEntry text = (label routine : List ℕ) × IsLabel label × IsName routine × (text ≡ label ++ 94 ∷ routine)
+abbrev pub IsEntryText : List ℕ → Type 0
+IsEntryText text = (label routine : List ℕ) × IsLabelOrNothing label × ReadsAsName routine × (text ≡ label ++ 94 ∷ routine)

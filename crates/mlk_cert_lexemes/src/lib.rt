@@ -10,5 +10,5 @@ mod written;
 
 pub use lexeme::{constant, counted, entry, front_of, is_below, is_upto, number, word_of};
 pub use list::{Item, both, items, listed};
-pub use text::Text;
+pub use text::WrittenText;
 pub use written::{Written, push_flat, push_joined, push_listed, push_more};

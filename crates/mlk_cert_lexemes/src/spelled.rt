@@ -4,7 +4,7 @@ ghost use Rattle.std.specs.Prelude.{◌≡◌, ◌++◌, ◌<◌, OnOk};
 ghost use Rattle.mlk_cert_lexemes.specs.Texts.{hex, byte_text, constant_text, subs_text};
 
 use crate::lexeme::is_plain;
-use crate::text::Text;
+use crate::text::WrittenText;
 use crate::written::{Written, push_more};
 use mlk_names::{KnownSym, LockTerm, Root};
 use mlk_text::{Name, Value};
@@ -22,7 +22,7 @@ fn hex(digit: u8) -> u8
 }
 
 #[tactic(auto, unfolding(crate::specs::Texts::byte_text))]
-fn push_value_byte(text: &mut Text, byte: u8) -> Result<(), AllocError>
+fn push_value_byte(text: &mut WrittenText, byte: u8) -> Result<(), AllocError>
     ensures { OnOk result (text.new ≡ text.old ++ byte_text byte) }
 {
     if is_plain(byte) {
@@ -38,7 +38,7 @@ fn push_value_byte(text: &mut Text, byte: u8) -> Result<(), AllocError>
     Ok(())
 }
 
-fn push_value(text: &mut Text, value: &[u8]) -> Result<(), AllocError>
+fn push_value(text: &mut WrittenText, value: &[u8]) -> Result<(), AllocError>
     ensures { OnOk result (text.new ≡ text.old ++ constant_text value.now) }
 {
     text.push_byte(b'"')?;
@@ -54,7 +54,7 @@ impl Written for Value {
 
     ghost written = { constant_text };
 
-    fn push_to(&self, text: &mut Text) -> Result<(), AllocError> {
+    fn push_to(&self, text: &mut WrittenText) -> Result<(), AllocError> {
         push_value(text, self.as_bytes())
     }
 }
@@ -64,7 +64,7 @@ impl Written for Name {
 
     ghost written = { name_text };
 
-    fn push_to(&self, text: &mut Text) -> Result<(), AllocError> {
+    fn push_to(&self, text: &mut WrittenText) -> Result<(), AllocError> {
         text.push(self.as_bytes())
     }
 }
@@ -74,7 +74,7 @@ impl Written for KnownSym {
 
     ghost written = { symbol_text };
 
-    fn push_to(&self, text: &mut Text) -> Result<(), AllocError> {
+    fn push_to(&self, text: &mut WrittenText) -> Result<(), AllocError> {
         match self {
             KnownSym::Const(value) => value.push_to(text),
             KnownSym::Local(name) => text.push(name.as_bytes()),
@@ -88,7 +88,7 @@ impl Written for Root {
 
     ghost written = { root_text };
 
-    fn push_to(&self, text: &mut Text) -> Result<(), AllocError> {
+    fn push_to(&self, text: &mut WrittenText) -> Result<(), AllocError> {
         match self {
             Root::Global(name) => {
                 text.push_byte(b'^')?;
@@ -99,7 +99,7 @@ impl Written for Root {
     }
 }
 
-fn push_subs(text: &mut Text, subs: &[KnownSym]) -> Result<(), AllocError>
+fn push_subs(text: &mut WrittenText, subs: &[KnownSym]) -> Result<(), AllocError>
     ensures { OnOk result (text.new ≡ text.old ++ subs_text subs.now) }
 {
     let Some((first, others)) = subs.split_first() else {
@@ -117,7 +117,7 @@ impl Written for LockTerm {
 
     ghost written = { term_text };
 
-    fn push_to(&self, text: &mut Text) -> Result<(), AllocError> {
+    fn push_to(&self, text: &mut WrittenText) -> Result<(), AllocError> {
         self.root.push_to(text)?;
         push_subs(text, self.subs.as_slice())?;
         Ok(())

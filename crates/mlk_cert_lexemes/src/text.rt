@@ -8,7 +8,7 @@ use std::marker::Model;
 
 /// A text that is put together piece by piece.
 #[derive(Drop)]
-pub struct Text {
+pub struct WrittenText {
     bytes: Vec<u8>,
 }
 
@@ -23,7 +23,7 @@ fn make_room(bytes: &mut Vec<u8>) -> Result<(), AllocError>
     bytes.reserve(1)
 }
 
-impl Model for Text {
+impl Model for WrittenText {
     ghost use Rattle.std.specs.Prelude.{List, ℕ};
 
     ghost Value = { List ℕ };
@@ -31,12 +31,12 @@ impl Model for Text {
     ghost view = { λ t. t.bytes.items };
 }
 
-impl Text {
+impl WrittenText {
     /// A text without a byte.
-    pub fn new(alloc: Global) -> Text
+    pub fn new(alloc: Global) -> WrittenText
         ensures { result ≡ [] }
     {
-        Text {
+        WrittenText {
             bytes: Vec::new(alloc),
         }
     }

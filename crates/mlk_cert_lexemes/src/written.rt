@@ -4,7 +4,7 @@ ghost use Rattle.std.specs.Prelude.{◌≡◌, ◌++◌, OnOk, ℕ, List};
 ghost use Rattle.mlk_cert_lexemes.specs.Lists.{flat, more, joined};
 ghost use Rattle.mlk_cert_lexemes.specs.Texts.{listed};
 
-use crate::text::Text;
+use crate::text::WrittenText;
 use std::alloc::AllocError;
 
 /// What has one text.
@@ -12,12 +12,16 @@ pub trait Written {
     ghost written: { Self → List ℕ };
 
     /// The text at the end of another.
-    fn push_to(&self, text: &mut Text) -> Result<(), AllocError>
+    fn push_to(&self, text: &mut WrittenText) -> Result<(), AllocError>
         ensures { OnOk result (text.new ≡ text.old ++ written self.now) };
 }
 
 /// Items, each after this byte.
-pub fn push_more<T: Written>(text: &mut Text, between: u8, items: &[T]) -> Result<(), AllocError>
+pub fn push_more<T: Written>(
+    text: &mut WrittenText,
+    between: u8,
+    items: &[T],
+) -> Result<(), AllocError>
     ensures { OnOk result (text.new ≡ text.old ++ more between T.written items.now) }
 {
     for item in items {
@@ -28,7 +32,11 @@ pub fn push_more<T: Written>(text: &mut Text, between: u8, items: &[T]) -> Resul
 }
 
 /// Items with this byte between them.
-pub fn push_joined<T: Written>(text: &mut Text, between: u8, items: &[T]) -> Result<(), AllocError>
+pub fn push_joined<T: Written>(
+    text: &mut WrittenText,
+    between: u8,
+    items: &[T],
+) -> Result<(), AllocError>
     ensures { OnOk result (text.new ≡ text.old ++ joined between T.written items.now) }
 {
     let Some((first, others)) = items.split_first() else {
@@ -40,7 +48,7 @@ pub fn push_joined<T: Written>(text: &mut Text, between: u8, items: &[T]) -> Res
 }
 
 /// A list on a line: items with `;` between them, or `-` where there are none.
-pub fn push_listed<T: Written>(text: &mut Text, items: &[T]) -> Result<(), AllocError>
+pub fn push_listed<T: Written>(text: &mut WrittenText, items: &[T]) -> Result<(), AllocError>
     ensures { OnOk result (text.new ≡ text.old ++ listed T.written items.now) }
 {
     let Some((first, others)) = items.split_first() else {
@@ -53,7 +61,7 @@ pub fn push_listed<T: Written>(text: &mut Text, items: &[T]) -> Result<(), Alloc
 }
 
 /// Items, one after another.
-pub fn push_flat<T: Written>(text: &mut Text, items: &[T]) -> Result<(), AllocError>
+pub fn push_flat<T: Written>(text: &mut WrittenText, items: &[T]) -> Result<(), AllocError>
     ensures { OnOk result (text.new ≡ text.old ++ flat T.written items.now) }
 {
     for item in items {

@@ -16,7 +16,7 @@ use Rattle.mlk_cert_parts.specs.declared.names.Own.{Own}
 use Rattle.mlk_cert_lexemes.specs.Lists.{Each, flat, more}
 use Rattle.mlk_cert_lexemes.specs.Texts.{listed, term_text, name_text}
 use Rattle.mlk_cert_parts.specs.Texts.{names_text, own_text, sign, sign_text, saved_text, case_text, exit_text}
-use Rattle.mlk_cert_lexemes.specs.Kinds.{IsName, IsTerm}
+use Rattle.mlk_cert_lexemes.specs.Kinds.{ReadsAsName, IsTerm}
 use Rattle.mlk_cert_lexemes.specs.Reading.{keep, list_at, listed_at, term_at, number_at, positive, part_at}
 use Rattle.mlk_cert_parts.specs.Reading.{inside_by, names_by, names_at, own_of, own_at, sign_at, signs_by, saved_by, saved_at, exit_of, exit_at, case_of, case_at}
 use Rattle.mlk_cert_lexemes.proofs.Formats.{Format, Anything, byte-is, flat-is, flat-back, list-is, list-back, listed-format, part-is, part-back}
@@ -26,8 +26,8 @@ use Rattle.mlk_cert_lexemes.proofs.TermFormats.{EndsTerms, EndsNames, terms-form
 
 -- names that are names, in any order
 abbrev pub HasNames : NameSet → Type 0
-HasNames (Only name) = IsName name
-HasNames (AllBut names) = Each IsName names
+HasNames (Only name) = ReadsAsName name
+HasNames (AllBut names) = Each ReadsAsName names
 
 names-is : (n : NameSet) (xs ys : List ℕ) → names_at xs ≡ Some (n, ys) → (xs ≡ names_text n ++ ys) × HasNames n
 unfolding names_at
@@ -41,7 +41,7 @@ names-is n xs ys h = go (byte_at 126 xs) refl h
     inside m front None is h =
         let l = then_some (list_at name_at 44 m) _ (n, ys) h in
         let c = with_some _ (byte_at 41 l.0.1) n ys l.2 in
-        let r = list-is name_text IsName NoName name_at name-format 44 l.0.0 m l.0.1 l.1 in
+        let r = list-is name_text ReadsAsName NoName name_at name-format 44 l.0.0 m l.0.1 l.1 in
         let assoc : ((r.0 ++ more 44 name_text r.1) ++ codes ")") ++ ys ≡ r.0 ++ (more 44 name_text r.1 ++ 41 ∷ ys)
         = append_assoc (r.0 ++ more 44 name_text r.1) (codes ")") ys ∙ append_assoc r.0 (more 44 name_text r.1) (41 ∷ ys) in
         let P : NameSet → Type 0 = λ z. xs ≡ names_text z ++ ys in (
@@ -68,7 +68,7 @@ names-back (AllBut (n ∷ names)) ys (is, others) none =
     = append_assoc (n ++ more 44 name_text names) (codes ")") ys ∙ append_assoc n (more 44 name_text names) (41 ∷ ys) in
     rw assoc
     (rw (name-first 41 n (more 44 name_text names ++ 41 ∷ ys) refl is)
-    (rw (list-back name_text IsName NoName name_at name-format 44 (λ m. refl) n names (41 ∷ ys) is others refl refl) refl))
+    (rw (list-back name_text ReadsAsName NoName name_at name-format 44 (λ m. refl) n names (41 ∷ ys) is others refl refl) refl))
 
 pub names-format : Format names_text HasNames NoName names_at
 names-format = record { sound = names-is; complete = names-back }
@@ -199,11 +199,11 @@ saved-format = record { sound = saved-is; complete = saved-back }
 pub record HasCase (c : Case) : Type 0 where
   pub held : Each IsTerm c.held
   pub own : Each HasOwn c.own
-  pub kept : Each IsName c.kept
+  pub kept : Each ReadsAsName c.kept
 
 pub record HasExit (e : ExitCase) : Type 0 where
   pub held : Each IsTerm e.held
-  pub kept : Each IsName e.kept
+  pub kept : Each ReadsAsName e.kept
 
 -- a text of parts, before what follows
 exit-parts : (e : ExitCase) (ys : List ℕ) → exit_text e ++ ys ≡ codes "T=" ++ (sign_text e.test ++ (codes " H=" ++ (listed term_text e.held ++ (codes " K=" ++ (listed name_text e.kept ++ ys)))))
@@ -221,7 +221,7 @@ exit-is e xs ys h =
     let k = with_some (exit_of t.0.0 l.0.0) (part_at (codes " K=") (listed_at name_at) l.0.1) e ys l.2 in
     let a = part-is sign_text IsSign Anything sign_at sign-format (codes "T=") t.0.0 xs t.0.1 t.1 in
     let b = part-is (listed term_text) (Each IsTerm) EndsTerms (listed_at term_at) terms-format (codes " H=") l.0.0 t.0.1 l.0.1 l.1 in
-    let c = part-is (listed name_text) (Each IsName) EndsNames (listed_at name_at) kept-format (codes " K=") k.0 l.0.1 ys k.1 in
+    let c = part-is (listed name_text) (Each ReadsAsName) EndsNames (listed_at name_at) kept-format (codes " K=") k.0 l.0.1 ys k.1 in
     let made = exit_of t.0.0 l.0.0 k.0 in
     let P : ExitCase → Type 0 = λ z. (xs ≡ exit_text z ++ ys) × HasExit z in
     subst P (sym k.2) (
@@ -235,7 +235,7 @@ exit-back e ys is ends =
     rw (exit-parts e ys)
     (rw (part-back sign_text IsSign Anything sign_at sign-format (codes "T=") e.test (codes " H=" ++ (listed term_text e.held ++ (codes " K=" ++ (listed name_text e.kept ++ ys)))) tt tt)
     (rw (part-back (listed term_text) (Each IsTerm) EndsTerms (listed_at term_at) terms-format (codes " H=") e.held (codes " K=" ++ (listed name_text e.kept ++ ys)) is.held ((refl, refl), refl))
-    (rw (part-back (listed name_text) (Each IsName) EndsNames (listed_at name_at) kept-format (codes " K=") e.kept ys is.kept ends) refl)))
+    (rw (part-back (listed name_text) (Each ReadsAsName) EndsNames (listed_at name_at) kept-format (codes " K=") e.kept ys is.kept ends) refl)))
 
 pub exit-format : Format exit_text HasExit EndsNames exit_at
 exit-format = record { sound = exit-is; complete = exit-back }
@@ -251,7 +251,7 @@ case-is c xs ys h =
     let a = part-is sign_text IsSign Anything sign_at sign-format (codes "T=") t.0.0 xs t.0.1 t.1 in
     let b = part-is (listed term_text) (Each IsTerm) EndsTerms (listed_at term_at) terms-format (codes " H=") l.0.0 t.0.1 l.0.1 l.1 in
     let d = part-is (listed own_text) (Each HasOwn) EndsNames (listed_at own_at) owns-format (codes " O=") o.0.0 l.0.1 o.0.1 o.1 in
-    let e = part-is (listed name_text) (Each IsName) EndsNames (listed_at name_at) kept-format (codes " K=") k.0.0 o.0.1 k.0.1 k.1 in
+    let e = part-is (listed name_text) (Each ReadsAsName) EndsNames (listed_at name_at) kept-format (codes " K=") k.0.0 o.0.1 k.0.1 k.1 in
     let f = part-is saved_text (Each IsSign) NoSign saved_at saved-format (codes " S=") s.0 k.0.1 ys s.1 in
     let made = case_of t.0.0 l.0.0 o.0.0 k.0.0 s.0 in
     let P : Case → Type 0 = λ z. (xs ≡ case_text z ++ ys) × HasCase z in
@@ -268,7 +268,7 @@ case-back c ys is ends =
     (rw (part-back sign_text IsSign Anything sign_at sign-format (codes "T=") c.test (codes " H=" ++ (listed term_text c.held ++ (codes " O=" ++ (listed own_text c.own ++ (codes " K=" ++ (listed name_text c.kept ++ (codes " S=" ++ (saved_text c.saved ++ ys)))))))) tt tt)
     (rw (part-back (listed term_text) (Each IsTerm) EndsTerms (listed_at term_at) terms-format (codes " H=") c.held (codes " O=" ++ (listed own_text c.own ++ (codes " K=" ++ (listed name_text c.kept ++ (codes " S=" ++ (saved_text c.saved ++ ys)))))) is.held ((refl, refl), refl))
     (rw (part-back (listed own_text) (Each HasOwn) EndsNames (listed_at own_at) owns-format (codes " O=") c.own (codes " K=" ++ (listed name_text c.kept ++ (codes " S=" ++ (saved_text c.saved ++ ys)))) is.own (refl, refl))
-    (rw (part-back (listed name_text) (Each IsName) EndsNames (listed_at name_at) kept-format (codes " K=") c.kept (codes " S=" ++ (saved_text c.saved ++ ys)) is.kept (refl, refl))
+    (rw (part-back (listed name_text) (Each ReadsAsName) EndsNames (listed_at name_at) kept-format (codes " K=") c.kept (codes " S=" ++ (saved_text c.saved ++ ys)) is.kept (refl, refl))
     (rw (part-back saved_text (Each IsSign) NoSign saved_at saved-format (codes " S=") c.saved ys (are-signs c.saved) ends) refl)))))
 
 pub case-format : Format case_text HasCase NoSign case_at

@@ -3,3 +3,4 @@ pub mod Texts
 pub mod Limits
 pub mod Reading
 pub mod Checks
+pub mod TermOrder

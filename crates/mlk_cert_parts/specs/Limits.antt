@@ -11,7 +11,7 @@ use Rattle.mlk_cert_parts.specs.declared.block.Point.{Point}
 use Rattle.mlk_cert_parts.specs.declared.block.Summary.{Summary}
 use Rattle.mlk_cert_parts.specs.declared.block.EntryCert.{EntryCert}
 use Rattle.mlk_cert_lexemes.specs.Lists.{Each, ascends, below}
-use Rattle.mlk_cert_lexemes.specs.Kinds.{IsName, IsEntry, IsTerm, terms_upto}
+use Rattle.mlk_cert_lexemes.specs.Kinds.{ReadsAsName, IsEntryText, IsTerm, terms_upto}
 use Rattle.mlk_cert_parts.specs.Texts.{names_text, case_text, exit_text}
 
 -- a text has at most 64 MiB
@@ -34,8 +34,8 @@ pub record AreTerms (terms : List LockTerm) : Type 0 where
 
 -- the names inside parentheses: they ascend and don't repeat
 abbrev pub IsNameSet : NameSet → Type 0
-IsNameSet (Only name) = IsName name
-IsNameSet (AllBut names) = Each IsName names × (ascends below names ≡ true)
+IsNameSet (Only name) = ReadsAsName name
+IsNameSet (AllBut names) = Each ReadsAsName names × (ascends below names ≡ true)
 
 -- names that may change: at most 1,024, ascending, none twice
 pub record AreMods (mods : List NameSet) : Type 0 where
@@ -55,7 +55,7 @@ pub record AreOwn (own : List Own) : Type 0 where
 
 -- kept names: at most 64, ascending, none twice
 pub record AreKept (kept : List (List ℕ)) : Type 0 where
-  pub each : Each IsName kept
+  pub each : Each ReadsAsName kept
   pub few : length kept ≤ 64
   pub order : ascends below kept ≡ true
 
@@ -104,17 +104,17 @@ abbrev pub points_below : Point → Point → Bool
 points_below p q = nat_lt p.line q.line || ((p.line == q.line) && nat_lt p.round q.round)
 
 pub record IsBlock (b : EntryCert) : Type 0 where
-  pub entry : IsEntry b.entry
+  pub entry : IsEntryText b.entry
   pub summary : IsSummary b.summary
   pub each_point : Each IsPoint b.points
   pub order : ascends points_below b.points ≡ true
 
 -- no text stands twice
-abbrev pub AreDistinct : List (List ℕ) → Type 0
-AreDistinct [] = Unit {0}
-AreDistinct (t ∷ texts) = Each (λ u. u ≡ t → ⊥) texts × AreDistinct texts
+abbrev pub TextsDiffer : List (List ℕ) → Type 0
+TextsDiffer [] = Unit {0}
+TextsDiffer (t ∷ texts) = Each (λ u. u ≡ t → ⊥) texts × TextsDiffer texts
 
 -- What is a certificate: blocks of entries, no entry's text twice.
 pub record IsCertificate (blocks : List EntryCert) : Type 0 where
   pub each : Each IsBlock blocks
-  pub distinct : AreDistinct (map (λ b. b.entry) blocks)
+  pub distinct : TextsDiffer (map (λ b. b.entry) blocks)

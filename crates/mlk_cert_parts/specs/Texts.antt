@@ -79,9 +79,13 @@ summary_text s =
     line (codes "need ") (listed term_text s.need)
     ++ (line (codes "low ") (low_text s.low) ++ (line (codes "drops ") (drops_text s.drops) ++ (line (codes "mods ") (listed names_text s.mods) ++ flat exit_line s.exits)))
 
+-- the block of an entry, its points with these texts
+abbrev pub block_with : (Point → List ℕ) → EntryCert → List ℕ
+block_with point b = line (codes "entry ") b.entry ++ (summary_text b.summary ++ flat point b.points)
+
 -- the block of an entry
 abbrev pub block_text : EntryCert → List ℕ
-block_text b = line (codes "entry ") b.entry ++ (summary_text b.summary ++ flat point_text b.points)
+block_text b = block_with point_text b
 
 -- the first line
 abbrev pub head_line : List ℕ

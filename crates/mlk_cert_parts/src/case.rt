@@ -1,9 +1,12 @@
 // Cases: what is said of a job.
 
+ghost use Rattle.std.specs.Prelude.{◌≡◌, IfOk};
+
 use crate::names::Own;
 use crate::shared::Shared;
 use mlk_names::LockTerm;
-use mlk_text::{List, Name};
+use mlk_text::Name;
+use std::alloc::AllocError;
 
 /// What is said of `$TEST`.
 #[derive(Clone, Copy, Debug, PartialEq, Eq)]
@@ -21,7 +24,7 @@ pub enum Test {
 pub struct Case {
     pub test: Test,
     /// What is said of the `$TEST` of each open block, the outermost first.
-    pub saved: List<Test>,
+    pub saved: Shared<Test>,
     /// The locks that this call holds, each as often as it holds them.
     pub held: Shared<LockTerm>,
     /// The names that were made new since the call began, and still are.
@@ -38,4 +41,18 @@ pub struct ExitCase {
     pub held: Shared<LockTerm>,
     /// The names that have the values of the call's begin.
     pub kept: Shared<Name>,
+}
+
+/// A case that is equal to this one, and shares its lists.
+#[inline(always)]
+pub fn copy_case(case: &Case) -> Result<Case, AllocError>
+    ensures { IfOk result (λ c. c ≡ case.now) }
+{
+    Ok(Case {
+        test: case.test,
+        held: case.held.clone()?,
+        own: case.own.clone()?,
+        kept: case.kept.clone()?,
+        saved: case.saved.clone()?,
+    })
 }

@@ -3,6 +3,9 @@
 /// The most bytes of a text: 64 MiB.
 pub const LONGEST_TEXT: usize = 67_108_864;
 
+/// The greatest number of a case; a text has no room for as many.
+pub const GREATEST_CASE: u32 = 67_108_864;
+
 /// The most terms of a list.
 pub const MOST_TERMS: usize = 16;
 

@@ -3,4 +3,5 @@
 mod entry;
 mod line;
 
+pub use entry::{push_front, push_place};
 pub use line::push_case;

@@ -10,4 +10,6 @@ mod reading;
 #[cfg(test)]
 mod refusals;
 #[cfg(test)]
+mod second;
+#[cfg(test)]
 mod writing;

@@ -19,7 +19,7 @@ fn case(alloc: Global, kept: &[u8]) -> Result<Case, AllocError> {
         held: Shared::new(alloc, Vec::new(alloc))?,
         own: Shared::new(alloc, Vec::new(alloc))?,
         kept: Shared::new(alloc, names)?,
-        saved: List::new(alloc),
+        saved: Shared::new(alloc, Vec::new(alloc))?,
     })
 }
 

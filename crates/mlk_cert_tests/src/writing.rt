@@ -48,7 +48,7 @@ fn long_case(alloc: Global, signs: usize) -> Result<Case, AllocError> {
         held: Shared::new(alloc, Vec::new(alloc))?,
         own: Shared::new(alloc, Vec::new(alloc))?,
         kept: Shared::new(alloc, Vec::new(alloc))?,
-        saved: List::of(saved),
+        saved: Shared::new(alloc, saved)?,
     })
 }
 

@@ -12,7 +12,7 @@ use Rattle.mlk_names.specs.declared.reference.Reference.{Reference}
 use Rattle.mlk_names.proofs.OverlapLemmas.{may_touch}
 use Rattle.mlk_rules.specs.declared.cover.Cover.{Cover}
 use Rattle.mlk_rules.specs.declared.pattern.Element.TheVariants as element
-use Rattle.mlk_rules.specs.declared.template.Part.TheVariants.{Place}
+use Rattle.mlk_rules.specs.declared.template.TemplatePart.TheVariants.{Place}
 use Rattle.mlk_rules.specs.declared.template.Template.{Template}
 use Rattle.mlk_rules.specs.Coverage.{HoldLocks, HoldsLock, Satisfies}
 use Rattle.mlk_rules.specs.Patterns.{MayMeet}
@@ -45,7 +45,7 @@ use Rattle.mlk_machine_locks.specs.Systems.{Machine, Event, Act, Begin, Go, afte
 use Rattle.mlk_machine_locks.specs.declared.refusal.Refusal.TheVariants.{NotEnabled}
 use Rattle.mlk_machine_jobs.specs.declared.choice.Choice.{Choice}
 use Rattle.mlk_machine_jobs.specs.declared.choice.Choice.TheVariants as choice
-use Rattle.mlk_machine_jobs.specs.Choices.{Stepped, touch_of}
+use Rattle.mlk_machine_jobs.specs.Choices.{Stepped, touch_at}
 use Rattle.mlk_machine_jobs.specs.Runs.{machine, begun, blank, seen, next_claim}
 use Rattle.mlk_machine_jobs.specs.Seen.{Clash, ready, HasEnded}
 use Rattle.mlk_numbers.specs.Operators.{fold_between, whole}
@@ -199,7 +199,7 @@ abbrev account : LockName
 account = record { root = root.Global (codes "ACCT"); subs = codes "7" ∷ [] }
 
 abbrev balance : Touch
-balance = touch_of (codes "ACCT") (codes "7" ∷ codes "bal" ∷ []) Node Writes
+balance = touch_at (codes "ACCT") (codes "7" ∷ codes "bal" ∷ []) Node Writes
 
 first_is_ready : ready first ≡ Some balance
 unfolding digits fold_between whole same_name is_above

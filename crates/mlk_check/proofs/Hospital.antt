@@ -20,7 +20,7 @@ use Rattle.mlk_names.specs.declared.known_symbol.KnownSym.TheVariants as known
 use Rattle.mlk_names.specs.declared.reference.Extent.TheVariants as extent
 use Rattle.mlk_names.specs.LockNames.{Conflict}
 use Rattle.mlk_rules.specs.declared.pattern.Element.TheVariants as element
-use Rattle.mlk_rules.specs.declared.template.Part.TheVariants as part_of
+use Rattle.mlk_rules.specs.declared.template.TemplatePart.TheVariants as part_of
 use Rattle.mlk_rules.specs.declared.rules.RuleLists.{RuleLists}
 use Rattle.mlk_rules.specs.Ranks.{FamiliesApart}
 use Rattle.mlk_rules.specs.Sound.{IsSound}
@@ -48,7 +48,7 @@ use Rattle.mlk_machine_locks.specs.Waiting.{waits}
 use Rattle.mlk_machine_locks.specs.Systems.{Machine, Event, Act, Begin, Go, after, lone_run}
 use Rattle.mlk_machine_jobs.specs.declared.choice.Choice.{Choice}
 use Rattle.mlk_machine_jobs.specs.declared.choice.Choice.TheVariants as choice
-use Rattle.mlk_machine_jobs.specs.Choices.{Stepped, touch_of}
+use Rattle.mlk_machine_jobs.specs.Choices.{Stepped, touch_at}
 use Rattle.mlk_machine_jobs.specs.Runs.{machine, begun, seen, next_claim}
 use Rattle.mlk_machine_jobs.specs.Seen.{ready, state, silent_step}
 use Rattle.mlk_machine_jobs.specs.Tasks.{Job}
@@ -514,7 +514,7 @@ both_jobs = refl
 
 -- The first job stands ready at SET ^WARD("C1","bed",1), and the second one at its claim of both wards, for which it waits.
 abbrev bed : Touch
-bed = touch_of (codes "WARD") (codes "C1" ∷ codes "bed" ∷ codes "1" ∷ []) extent.Node Writes
+bed = touch_at (codes "WARD") (codes "C1" ∷ codes "bed" ∷ codes "1" ∷ []) extent.Node Writes
 
 first_is_ready : ready first ≡ Some bed
 unfolding digits fold_between fold_before whole same_name is_above

@@ -2,6 +2,7 @@
 use Rattle.std.proofs.Common.{◌≡◌, ◌∙◌, ◌≢◌, ◌<◌, ◌==◌, ◌&&◌, ◌||◌, ◌++◌, ℕ, zero, suc, Bool, false, List, [], ◌∷◌, map, Option, Some, None, Ok, refl, sym, ap, subst, inl, inr, arith}
 use Rattle.std.specs.Prelude.{codes, option_and_then}
 use Rattle.std.proofs.lemmas.Bool.{cases_Bool, false_from_ne_true, eqb-true, ne_eqb}
+use Rattle.mlk_names.specs.Lists.{Among}
 use Rattle.mlk_names.specs.declared.lock_name.LockName.{LockName}
 use Rattle.mlk_names.specs.References.{Touch}
 use Rattle.mlk_rules.specs.declared.rules.RuleLists.{RuleLists}
@@ -13,7 +14,6 @@ use Rattle.mlk_program.specs.Entries.{entry_by}
 use Rattle.mlk_cert_lexemes.specs.Lists.{flat}
 use Rattle.mlk_cert_lexemes.specs.Texts.{line}
 use Rattle.mlk_cert_parts.specs.declared.block.EntryCert.{EntryCert}
-use Rattle.mlk_machine_locks.specs.Lists.{Among}
 use Rattle.mlk_machine_locks.specs.Laws.{has_ring_of}
 use Rattle.mlk_machine_locks.specs.Systems.{after}
 use Rattle.mlk_machine_jobs.specs.Tasks.{Job}

@@ -14,7 +14,7 @@ use Rattle.mlk_names.specs.declared.term.LockTerm.{LockTerm}
 use Rattle.mlk_syntax.specs.Distinct as formals
 use Rattle.mlk_syntax.specs.Trees.{RoutineTree, CommandTrees, finished, then_command, then_for, HeadTree, LineHead, LineTrees, no_lines, line}
 use Rattle.mlk_program.specs.Entries.{lines_in}
-use Rattle.mlk_cert_lexemes.specs.Kinds.{IsName, IsSymbol, IsRoot, IsTerm, IsEntry, IsLabel, terms_upto}
+use Rattle.mlk_cert_lexemes.specs.Kinds.{ReadsAsName, IsSymbol, IsNamedRoot, IsTerm, IsEntryText, IsLabelOrNothing, terms_upto}
 use Rattle.mlk_cert_lexemes.specs.Lists.{Each, ascends, below}
 use Rattle.mlk_cert_parts.specs.declared.case.Case.{Case}
 use Rattle.mlk_cert_parts.specs.declared.case.ExitCase.{ExitCase}
@@ -24,7 +24,7 @@ use Rattle.mlk_cert_parts.specs.declared.names.Own.{Own}
 use Rattle.mlk_cert_parts.specs.declared.block.Point.{Point}
 use Rattle.mlk_cert_parts.specs.declared.block.Summary.{Summary}
 use Rattle.mlk_cert_parts.specs.declared.block.EntryCert.{EntryCert}
-use Rattle.mlk_cert_parts.specs.Limits.{AreTerms, IsNameSet, AreMods, IsOwn, AreOwn, AreKept, IsCase, IsExit, IsLow, IsSummary, IsPoint, IsBlock, IsCertificate, AreDistinct}
+use Rattle.mlk_cert_parts.specs.Limits.{AreTerms, IsNameSet, AreMods, IsOwn, AreOwn, AreKept, IsCase, IsExit, IsLow, IsSummary, IsPoint, IsBlock, IsCertificate, TextsDiffer}
 use Rattle.mlk_cert_parts.specs.Limits.{names_below, own_below, cases_below, exits_below, points_below}
 use Rattle.mlk_machine_jobs.specs.Calling.{formals_in}
 use Rattle.mlk_machine_jobs.specs.Tasks.{LineTree}
@@ -48,7 +48,7 @@ is_whole name None = false
 abbrev is_name : List ℕ → Bool
 is_name name = is_whole name (name_at name)
 
-name_by : (name : List ℕ) → is_name name ≡ true → IsName name
+name_by : (name : List ℕ) → is_name name ≡ true → ReadsAsName name
 name_by name = on (name_at name)
   where
     on : (o : Option (List ℕ × List ℕ)) → is_whole name o ≡ true → o ≡ Some (name, [])
@@ -71,7 +71,7 @@ abbrev is_root : Root → Bool
 is_root (root.Global name) = is_name name
 is_root (root.Local name) = is_name name
 
-root_by : (r : Root) → is_root r ≡ true → IsRoot r
+root_by : (r : Root) → is_root r ≡ true → IsNamedRoot r
 root_by (root.Global name) e = name_by name e
 root_by (root.Local name) e = name_by name e
 
@@ -97,7 +97,7 @@ is_name_set (AllBut names) = list_all is_name names && ascends below names
 
 name_set_by : (n : NameSet) → is_name_set n ≡ true → IsNameSet n
 name_set_by (Only name) e = name_by name e
-name_set_by (AllBut names) e = let p = and_parts (list_all is_name names) (ascends below names) e in (each_by IsName is_name name_by names p.0, p.1)
+name_set_by (AllBut names) e = let p = and_parts (list_all is_name names) (ascends below names) e in (each_by ReadsAsName is_name name_by names p.0, p.1)
 
 abbrev are_mods : List NameSet → Bool
 are_mods mods = list_all is_name_set mods && (nat_le (length mods) 1024 && ascends names_below mods)
@@ -133,7 +133,7 @@ kept_by : (kept : List (List ℕ)) → are_kept kept ≡ true → AreKept kept
 kept_by kept e =
     let p = and_parts (list_all is_name kept) (nat_le (length kept) 64 && ascends below kept) e in
     let q = and_parts (nat_le (length kept) 64) (ascends below kept) p.1 in
-    record { each = each_by IsName is_name name_by kept p.0; few = at_most (length kept) 64 q.0; order = q.1 }
+    record { each = each_by ReadsAsName is_name name_by kept p.0; few = at_most (length kept) 64 q.0; order = q.1 }
 
 -- cases, exits, points
 abbrev is_case : Case → Bool
@@ -215,17 +215,17 @@ parts_of (b ∷ text) = if b == 94 then ([], text) else (b ∷ (parts_of text).0
 abbrev is_label : List ℕ → Bool
 is_label label = are_digits label || is_name label
 
-label_by : (label : List ℕ) → is_label label ≡ true → IsLabel label
+label_by : (label : List ℕ) → is_label label ≡ true → IsLabelOrNothing label
 label_by label e = on (are_digits label) refl e
   where
-    on : (b : Bool) → are_digits label ≡ b → (b || is_name label) ≡ true → IsLabel label
+    on : (b : Bool) → are_digits label ≡ b → (b || is_name label) ≡ true → IsLabelOrNothing label
     on true is h = inl is
     on false is h = inr (name_by label h)
 
 abbrev is_entry : List ℕ → Bool
 is_entry text = is_label (parts_of text).0 && (is_name (parts_of text).1 && bytes_eq text ((parts_of text).0 ++ 94 ∷ (parts_of text).1))
 
-entry_by : (text : List ℕ) → is_entry text ≡ true → IsEntry text
+entry_by : (text : List ℕ) → is_entry text ≡ true → IsEntryText text
 entry_by text e =
     let a = and_parts (is_label (parts_of text).0) (is_name (parts_of text).1 && bytes_eq text ((parts_of text).0 ++ 94 ∷ (parts_of text).1)) e in
     let b = and_parts (is_name (parts_of text).1) (bytes_eq text ((parts_of text).0 ++ 94 ∷ (parts_of text).1)) a.1 in
@@ -257,7 +257,7 @@ abbrev are_distinct : List (List ℕ) → Bool
 are_distinct [] = true
 are_distinct (t ∷ texts) = list_all (differs t) texts && are_distinct texts
 
-distinct_by : (texts : List (List ℕ)) → are_distinct texts ≡ true → AreDistinct texts
+distinct_by : (texts : List (List ℕ)) → are_distinct texts ≡ true → TextsDiffer texts
 distinct_by [] e = tt
 distinct_by (t ∷ texts) e =
     let p = and_parts (list_all (differs t) texts) (are_distinct texts) e in

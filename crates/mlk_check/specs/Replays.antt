@@ -1,6 +1,7 @@
 -- What a replay shows of a program that keeps its rules, in the words of the contracts of the calls that show it. This
 -- project's own.
 use Rattle.std.specs.Prelude.{◌≡◌, ◌≢◌, ℕ, false, List, [], ◌++◌, map, Some, Ok, codes, option_and_then}
+use Rattle.mlk_names.specs.Lists.{Among}
 use Rattle.mlk_names.specs.declared.lock_name.LockName.{LockName}
 use Rattle.mlk_names.specs.References.{Touch}
 use Rattle.mlk_rules.specs.declared.rules.RuleLists.{RuleLists}
@@ -12,7 +13,6 @@ use Rattle.mlk_program.specs.Entries.{entry_by}
 use Rattle.mlk_cert_lexemes.specs.Lists.{flat}
 use Rattle.mlk_cert_lexemes.specs.Texts.{line}
 use Rattle.mlk_cert_parts.specs.declared.block.EntryCert.{EntryCert}
-use Rattle.mlk_machine_locks.specs.Lists.{Among}
 use Rattle.mlk_machine_locks.specs.Laws.{has_ring_of}
 use Rattle.mlk_machine_jobs.specs.Tasks.{Job}
 use Rattle.mlk_machine_jobs.specs.Runs.{seen}

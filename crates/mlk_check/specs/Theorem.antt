@@ -1,10 +1,10 @@
 -- What a `yes` means: what holds in every run of a program whose report has no row. This project's own choice; what a run is
 -- stands in `Runs` of mlk_machine_jobs and `Systems` of mlk_machine_locks.
 use Rattle.std.specs.Prelude.{◌≡◌, List, [], Ok}
+use Rattle.mlk_names.specs.Lists.{Among}
 use Rattle.mlk_rules.specs.declared.rules.RuleLists.{RuleLists}
 use Rattle.mlk_syntax.specs.Trees.{RoutineTree}
 use Rattle.mlk_program.specs.declared.entry.EntryId.{EntryId}
-use Rattle.mlk_machine_locks.specs.Lists.{Among}
 use Rattle.mlk_machine_locks.specs.Systems.{Event, after}
 use Rattle.mlk_machine_jobs.specs.declared.choice.Choice.{Choice}
 use Rattle.mlk_machine_jobs.specs.Tasks.{Job}

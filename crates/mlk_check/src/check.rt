@@ -6,7 +6,7 @@ ghost use Rattle.mlk_walk.specs.Reports.{report};
 ghost use Rattle.mlk_soundness_walk.specs.Forms.{AreFormed};
 ghost use Rattle.mlk_check.specs.Theorem.{KeepsRules};
 
-use mlk_cert::Certificate;
+use mlk_cert_parts::Certificate;
 use mlk_program::Program;
 use mlk_rules::Rules;
 use mlk_walk::{Report, report_of};

@@ -1,5 +1,6 @@
 -- What the words of a command line ask for.
-use Rattle.std.proofs.Common.{◌≡◌, ◌∙◌, sym, subst, ℕ, ◌<◌, ◌^◌, List, [], ◌∷◌, Bool, true, false, not, Option, Some, None, Result, Ok, Err, refl, codes, option_map, slice_index, arith}
+use Rattle.std.specs.Borrow.{Bor}
+use Rattle.std.proofs.Common.{◌≡◌, ◌∙◌, sym, ap, subst, ℕ, ◌<◌, ◌^◌, List, [], ◌∷◌, Bool, true, false, not, Option, Some, None, Result, Ok, Err, refl, codes, option_map, slice_index, arith}
 use Rattle.std.specs.Str.Parse.{ParsesUnsigned, IsNumeral, digits_value, without_leading_plus}
 use Rattle.clap.specs.Matches.{ReadsOne}
 use Rattle.clap.specs.Words.{Text, Row, all_of, first_of, is_simple, one_of, subcommand_of}
@@ -7,7 +8,12 @@ use Rattle.clap.specs.Takes.{takes}
 use Rattle.clap.proofs.OnLiterals.{clap_on_literals}
 use Rattle.mlk_cli.specs.declared.words.Asked.{Asked}
 use Rattle.mlk_cli.specs.declared.words.Asked.TheVariants as asked
-use Rattle.mlk_cli.specs.CommandLine.{mlock_app, IsAsked, IsNumber, AreWorkers, GivesWorkers}
+use Rattle.mlk_cli.specs.declared.words.Format.{Format}
+use Rattle.mlk_cli.specs.declared.words.Format.TheVariants.{First, Second}
+use Rattle.mlk_cli.specs.declared.words.Request.{Request}
+use Rattle.mlk_cli.specs.declared.words.Request.TheVariants as request
+use Rattle.mlk_cli.specs.declared.words.ProgramRequest.{ProgramRequest}
+use Rattle.mlk_cli.specs.CommandLine.{mlock_app, IsAsked, IsNumber, IsNumberOf, AreWorkers, IsFormat, IsConversion, IsProgramGiven, IsGiven, GivesNumber}
 
 pub not-true : (b : Bool) → not b ≡ true → b ≡ false
 not-true true h = cc h
@@ -27,6 +33,15 @@ workers_words = codes "mlock" ∷ codes "verify" ∷ codes "r" ∷ codes "A.m" �
 
 abbrev replay_words : List Text
 replay_words = codes "mlock" ∷ codes "replay" ∷ codes "r" ∷ codes "e" ∷ codes "A.m" ∷ []
+
+abbrev convert_words : List Text
+convert_words = codes "mlock" ∷ codes "convert" ∷ codes "c" ∷ []
+
+abbrev first_words : List Text
+first_words = codes "mlock" ∷ codes "convert" ∷ codes "--format=1" ∷ codes "c" ∷ []
+
+abbrev make_words : List Text
+make_words = codes "mlock" ∷ codes "make" ∷ codes "r" ∷ codes "A.m" ∷ []
 
 reads_rules : option_map (λ p. first_of (codes "RULES") p.1) (subcommand_of mlock_app words) ≡ Some (Some (codes "r"))
 unfolding clap_on_literals
@@ -55,6 +70,22 @@ reads_routines_around = refl
 reads_four_workers : option_map (λ p. one_of (codes "workers") p.1) (subcommand_of mlock_app words) ≡ Some (Some (codes "4"))
 unfolding clap_on_literals
 reads_four_workers = refl
+
+reads_converted : option_map (λ p. first_of (codes "CERT") p.1) (subcommand_of mlock_app first_words) ≡ Some (Some (codes "c"))
+unfolding clap_on_literals
+reads_converted = refl
+
+reads_format : option_map (λ p. one_of (codes "format") p.1) (subcommand_of mlock_app first_words) ≡ Some (Some (codes "1"))
+unfolding clap_on_literals
+reads_format = refl
+
+converts_to_second : option_map (λ p. one_of (codes "format") p.1) (subcommand_of mlock_app convert_words) ≡ Some (Some (codes "2"))
+unfolding clap_on_literals
+converts_to_second = refl
+
+makes_first : option_map (λ p. one_of (codes "format") p.1) (subcommand_of mlock_app make_words) ≡ Some (Some (codes "1"))
+unfolding clap_on_literals
+makes_first = refl
 
 -- words that are taken, and words that are not
 takes_words : takes mlock_app words ≡ true
@@ -101,6 +132,22 @@ replays_without_workers : takes mlock_app (codes "mlock" ∷ codes "replay" ∷ 
 unfolding clap_on_literals
 replays_without_workers = refl
 
+takes_format : takes mlock_app first_words ≡ true
+unfolding clap_on_literals
+takes_format = refl
+
+takes_no_third : takes mlock_app (codes "mlock" ∷ codes "convert" ∷ codes "--format" ∷ codes "3" ∷ codes "c" ∷ []) ≡ false
+unfolding clap_on_literals
+takes_no_third = refl
+
+takes_one_certificate : takes mlock_app (codes "mlock" ∷ codes "convert" ∷ codes "c" ∷ codes "d" ∷ []) ≡ false
+unfolding clap_on_literals
+takes_one_certificate = refl
+
+verifies_without_format : takes mlock_app (codes "mlock" ∷ codes "verify" ∷ codes "r" ∷ codes "A.m" ∷ codes "--format=2" ∷ []) ≡ false
+unfolding clap_on_literals
+verifies_without_format = refl
+
 -- a number of workers, after a plus and zeros
 plus_and_zeros : IsNumber (codes "+004") 4
 plus_and_zeros = ((omega arith, (omega arith, (omega arith, (omega arith, tt)))), refl, omega arith)
@@ -108,22 +155,37 @@ plus_and_zeros = ((omega arith, (omega arith, (omega arith, (omega arith, tt))))
 some_same : {X : Type 0} {x y : X} → Some x ≡ Some y → x ≡ y
 some_same e = cc
 
--- a number of workers is what is read of the text that a command was given
-pub gives-workers : (E : Type 0) (gives : List ℕ → Result ℕ E → Type 0) (rows : List Row) (given : Option Text) (read : Option ℕ)
-    → given ≡ one_of (codes "workers") rows
+-- the number of an option is what is read of the text that a command was given
+pub gives-number : (option : Text) (E : Type 0) (gives : List ℕ → Result ℕ E → Type 0) (rows : List Row) (given : Option Text) (read : Option ℕ)
+    → given ≡ one_of option rows
     → (given ≡ None → read ≡ None) → ((text : List ℕ) → given ≡ Some text → ReadsOne gives text read)
     → ((text : List ℕ) (r : Result ℕ E) → gives text r → ParsesUnsigned 32 10 text r)
-    → GivesWorkers rows read
-gives-workers E gives rows None read is none some parses =
-    subst (GivesWorkers rows) (sym (none refl)) (λ workers h. let bad = is ∙ h.1 in cc bad)
-gives-workers E gives rows (Some text) None is none some parses = λ workers h.
+    → GivesNumber option rows read
+gives-number option E gives rows None read is none some parses =
+    subst (GivesNumber option rows) (sym (none refl)) (λ number h. let bad = is ∙ h.1 in cc bad)
+gives-number option E gives rows (Some text) None is none some parses = λ number h.
     let refused = some text refl in
     let same : text ≡ h.0 = some_same (is ∙ h.1) in
     let small : digits_value 10 (without_leading_plus h.0) < 2 ^ 32 = subst (λ n. n < 2 ^ 32) (sym h.2.1) h.2.2 in
     parses text (Err refused.0) refused.1 (subst (λ t. IsNumeral 10 (without_leading_plus t) × (digits_value 10 (without_leading_plus t) < 2 ^ 32)) (sym same) (h.2.0, small))
-gives-workers E gives rows (Some text) (Some workers) is none some parses =
-    let parsed = parses text (Ok workers) (some text refl) in
+gives-number option E gives rows (Some text) (Some number) is none some parses =
+    let parsed = parses text (Ok number) (some text refl) in
     (text, sym is, (parsed.0.0, sym parsed.1, subst (λ n. n < 2 ^ 32) (sym parsed.1) parsed.0.1))
+
+-- an option has one number
+one-number : (option : Text) (rows : List Row) (m n : ℕ) → IsNumberOf option rows m → IsNumberOf option rows n → m ≡ n
+one-number option rows m n g h =
+    let same : g.0 ≡ h.0 = some_same (sym g.1 ∙ h.1) in
+    sym g.2.1 ∙ ap (λ t. digits_value 10 (without_leading_plus t)) same ∙ h.2.1
+
+-- without a number, and with another one than 1 and 2, there is no format
+pub no-format : (rows : List Row) → ((number : ℕ) → IsNumberOf (codes "format") rows number → ⊥) → (f : Format) → IsFormat rows f → ⊥
+no-format rows none First h = none 1 h
+no-format rows none Second h = none 2 h
+
+pub other-format : (rows : List Row) (n : ℕ) → IsNumberOf (codes "format") rows n → (n ≡ 1 → ⊥) → (n ≡ 2 → ⊥) → (f : Format) → IsFormat rows f → ⊥
+other-format rows n is not-first not-second First h = not-first (one-number (codes "format") rows n 1 is h)
+other-format rows n is not-first not-second Second h = not-second (one-number (codes "format") rows n 2 is h)
 
 -- the two begin with other letters
 verify-not-replay : codes "verify" ≡ codes "replay" → ⊥
@@ -133,27 +195,52 @@ verify-not-replay e = let bad : ◌≡◌ {A = ℕ} 114 118 = first (codes "repl
     first text is = rw is refl
 
 -- A command of another name asks for nothing, nor does a check without the path of a certificate or a number of workers,
--- a check by a certificate that is made without a number of workers, or a replay without the path of events.
+-- a certificate that is made without a format, a check by it without a number of workers, or a replay without the path of
+-- events.
 pub asks-nothing : (name : Text) (rows : List Row) → (name ≡ codes "make" → ⊥) → (name ≡ codes "verify" → ⊥) → (name ≡ codes "replay" → ⊥) → None ≡ first_of (codes "CERT") rows → (a : Asked) → IsAsked name rows a → ⊥
 asks-nothing name rows no-make no-verify no-replay none (asked.Check path workers) h = let bad = none ∙ h.1 in cc bad
-asks-nothing name rows no-make no-verify no-replay none asked.Make h = no-make h
+asks-nothing name rows no-make no-verify no-replay none (asked.Make format) h = no-make h.0
 asks-nothing name rows no-make no-verify no-replay none (asked.Verify workers) h = no-verify h.0
 asks-nothing name rows no-make no-verify no-replay none (asked.Replay path) h = no-replay h.0
 
 pub checks-nothing : (name : Text) (rows : List Row) → (name ≡ codes "make" → ⊥) → (name ≡ codes "verify" → ⊥) → (name ≡ codes "replay" → ⊥) → ((workers : ℕ) → AreWorkers rows workers → ⊥) → (a : Asked) → IsAsked name rows a → ⊥
 checks-nothing name rows no-make no-verify no-replay none (asked.Check path workers) h = none workers h.2
-checks-nothing name rows no-make no-verify no-replay none asked.Make h = no-make h
+checks-nothing name rows no-make no-verify no-replay none (asked.Make format) h = no-make h.0
 checks-nothing name rows no-make no-verify no-replay none (asked.Verify workers) h = no-verify h.0
 checks-nothing name rows no-make no-verify no-replay none (asked.Replay path) h = no-replay h.0
 
+pub makes-nothing : (name : Text) (rows : List Row) → name ≡ codes "make" → ((format : Format) → IsFormat rows format → ⊥) → (a : Asked) → IsAsked name rows a → ⊥
+makes-nothing name rows is none (asked.Check path workers) h = let bad = sym is ∙ h.0 in cc bad
+makes-nothing name rows is none (asked.Make format) h = none format h.1
+makes-nothing name rows is none (asked.Verify workers) h = let bad = sym is ∙ h.0 in cc bad
+makes-nothing name rows is none (asked.Replay path) h = let bad = sym is ∙ h.0 in cc bad
+
 pub verifies-nothing : (name : Text) (rows : List Row) → name ≡ codes "verify" → ((workers : ℕ) → AreWorkers rows workers → ⊥) → (a : Asked) → IsAsked name rows a → ⊥
 verifies-nothing name rows is none (asked.Check path workers) h = let bad = sym is ∙ h.0 in cc bad
-verifies-nothing name rows is none asked.Make h = let bad = sym is ∙ h in cc bad
+verifies-nothing name rows is none (asked.Make format) h = let bad = sym is ∙ h.0 in cc bad
 verifies-nothing name rows is none (asked.Verify workers) h = none workers h.1
 verifies-nothing name rows is none (asked.Replay path) h = verify-not-replay (sym is ∙ h.0)
 
 pub replays-nothing : (name : Text) (rows : List Row) → (name ≡ codes "make" → ⊥) → (name ≡ codes "verify" → ⊥) → name ≡ codes "replay" → None ≡ first_of (codes "EVENTS") rows → (a : Asked) → IsAsked name rows a → ⊥
 replays-nothing name rows no-make no-verify is none (asked.Check path workers) h = let bad = sym is ∙ h.0 in cc bad
-replays-nothing name rows no-make no-verify is none asked.Make h = no-make h
+replays-nothing name rows no-make no-verify is none (asked.Make format) h = no-make h.0
 replays-nothing name rows no-make no-verify is none (asked.Verify workers) h = no-verify h.0
 replays-nothing name rows no-make no-verify is none (asked.Replay path) h = let bad = none ∙ h.1 in cc bad
+
+-- `convert` asks for nothing of a program,
+no-program : (name : Text) (rows : List Row) → name ≡ codes "convert" → (a : Asked) → IsAsked name rows a → ⊥
+no-program name rows is (asked.Check path workers) h = let bad = sym is ∙ h.0 in cc bad
+no-program name rows is (asked.Make format) h = let bad = sym is ∙ h.0 in cc bad
+no-program name rows is (asked.Verify workers) h = let bad = sym is ∙ h.0 in cc bad
+no-program name rows is (asked.Replay path) h = let bad = sym is ∙ h.0 in cc bad
+
+-- and without a path or a format for nothing; another command for no conversion.
+pub converts-nothing : (name : Text) (rows : List Row) → name ≡ codes "convert" → ((certificate : Bor (List ℕ)) (format : Format) → IsConversion rows certificate format → ⊥)
+    → (r : Request) → IsGiven name rows r → ⊥
+converts-nothing name rows is none (request.Program program) h = no-program name rows is program.asked h.asked
+converts-nothing name rows is none (request.Convert certificate format) h = none certificate format h.1
+
+pub no-request : (name : Text) (rows : List Row) → (name ≡ codes "convert" → ⊥) → ((program : ProgramRequest) → IsProgramGiven name rows program → ⊥)
+    → (r : Request) → IsGiven name rows r → ⊥
+no-request name rows no-convert none (request.Program program) h = none program h
+no-request name rows no-convert none (request.Convert certificate format) h = no-convert h.0

@@ -10,7 +10,11 @@ use Rattle.clap.specs.declared.builder.action.ArgAction.TheVariants.{Set, Append
 use Rattle.clap.specs.declared.builder.value_parser.ValueParser.TheVariants as value_parser
 use Rattle.mlk_cli.specs.declared.words.Asked.{Asked}
 use Rattle.mlk_cli.specs.declared.words.Asked.TheVariants as asked
+use Rattle.mlk_cli.specs.declared.words.Format.{Format}
+use Rattle.mlk_cli.specs.declared.words.Format.TheVariants.{First, Second}
+use Rattle.mlk_cli.specs.declared.words.ProgramRequest.{ProgramRequest}
 use Rattle.mlk_cli.specs.declared.words.Request.{Request}
+use Rattle.mlk_cli.specs.declared.words.Request.TheVariants as request
 use Rattle.mlk_cli.specs.declared.words.UsageError.{UsageError}
 use Rattle.mlk_cli.specs.declared.words.UsageError.TheVariants as usage
 
@@ -26,13 +30,17 @@ routines_rule = record (new_rule (codes "ROUTINE")) { required = true; action = 
 abbrev pub workers_rule : Rule
 workers_rule = record (new_rule (codes "workers")) { long = Some (codes "workers"); value_names = 1; defaults = codes "4" ∷ []; parser = Some (value_parser.Signed (pos 0) (pos 4294967295)) }
 
+-- `--format N`, 1 or 2, which is this text where it is left out
+abbrev pub format_rule : Text → Rule
+format_rule usual = record (new_rule (codes "format")) { long = Some (codes "format"); value_names = 1; defaults = usual ∷ []; parser = Some (value_parser.Signed (pos 1) (pos 2)) }
+
 -- `check RULES CERT ROUTINE..`, and how many workers
 abbrev pub check_app : App
 check_app = with_rule (with_rule (with_rule (with_rule (new_app (codes "check")) (path_rule (codes "RULES"))) (path_rule (codes "CERT"))) routines_rule) workers_rule
 
--- `make RULES ROUTINE..`
+-- `make RULES ROUTINE..`, and the format of the certificate, the first where it is left out
 abbrev pub make_app : App
-make_app = with_rule (with_rule (new_app (codes "make")) (path_rule (codes "RULES"))) routines_rule
+make_app = with_rule (with_rule (with_rule (new_app (codes "make")) (path_rule (codes "RULES"))) routines_rule) (format_rule (codes "1"))
 
 -- `verify RULES ROUTINE..`, and how many workers
 abbrev pub verify_app : App
@@ -42,30 +50,47 @@ verify_app = with_rule (with_rule (with_rule (new_app (codes "verify")) (path_ru
 abbrev pub replay_app : App
 replay_app = with_rule (with_rule (with_rule (new_app (codes "replay")) (path_rule (codes "RULES"))) (path_rule (codes "EVENTS"))) routines_rule
 
+-- `convert CERT`, and the format that it is to have, the second where it is left out
+abbrev pub convert_app : App
+convert_app = with_rule (with_rule (new_app (codes "convert")) (path_rule (codes "CERT"))) (format_rule (codes "2"))
+
 -- `mlock` before it has a command
 abbrev pub no_command_app : App
 no_command_app = on_top (λ s. record s { subcommand_required = true; has_version = true }) (new_app (codes "mlock"))
 
 -- `mlock` and one of its commands
 abbrev pub mlock_app : App
-mlock_app = with_subcommand (with_subcommand (with_subcommand (with_subcommand no_command_app check_app.top) make_app.top) verify_app.top) replay_app.top
+mlock_app = with_subcommand (with_subcommand (with_subcommand (with_subcommand (with_subcommand no_command_app check_app.top) make_app.top) verify_app.top) replay_app.top) convert_app.top
 
 -- the text is a number of 32 bits in decimal digits, before which a plus may stand
 abbrev pub IsNumber : Text → ℕ → Type 0
 IsNumber text number = IsNumeral 10 (without_leading_plus text) × (digits_value 10 (without_leading_plus text) ≡ number) × (number < 2 ^ 32)
 
+-- the number that a command was given by the option of this name
+abbrev pub IsNumberOf : Text → List Row → ℕ → Type 0
+IsNumberOf option rows number = (text : Text) × (one_of option rows ≡ Some text) × IsNumber text number
+
+abbrev pub GivesNumber : Text → List Row → Option ℕ → Type 0
+GivesNumber option rows None = (number : ℕ) → IsNumberOf option rows number → ⊥
+GivesNumber option rows (Some number) = IsNumberOf option rows number
+
 -- how many workers a command was given
 abbrev pub AreWorkers : List Row → ℕ → Type 0
-AreWorkers rows workers = (text : Text) × (one_of (codes "workers") rows ≡ Some text) × IsNumber text workers
+AreWorkers rows workers = IsNumberOf (codes "workers") rows workers
 
-abbrev pub GivesWorkers : List Row → Option ℕ → Type 0
-GivesWorkers rows None = (workers : ℕ) → AreWorkers rows workers → ⊥
-GivesWorkers rows (Some workers) = AreWorkers rows workers
+-- the format that a command was given
+abbrev pub IsFormat : List Row → Format → Type 0
+IsFormat rows First = IsNumberOf (codes "format") rows 1
+IsFormat rows Second = IsNumberOf (codes "format") rows 2
 
--- what the command of a name is to do, by what it was given
+abbrev pub GivesFormat : List Row → Option Format → Type 0
+GivesFormat rows None = (format : Format) → IsFormat rows format → ⊥
+GivesFormat rows (Some format) = IsFormat rows format
+
+-- what the command of a name is to do with a program, by what it was given
 abbrev pub IsAsked : Text → List Row → Asked → Type 0
 IsAsked name rows (asked.Check certificate workers) = (name ≡ codes "check") × (first_of (codes "CERT") rows ≡ Some certificate.now) × AreWorkers rows workers
-IsAsked name rows asked.Make = name ≡ codes "make"
+IsAsked name rows (asked.Make format) = (name ≡ codes "make") × IsFormat rows format
 IsAsked name rows (asked.Verify workers) = (name ≡ codes "verify") × AreWorkers rows workers
 IsAsked name rows (asked.Replay path) = (name ≡ codes "replay") × (first_of (codes "EVENTS") rows ≡ Some path.now)
 
@@ -77,25 +102,42 @@ GivesAsked name rows (Some a) = IsAsked name rows a
 abbrev pub bytes_of : List (Bor (List ℕ)) → List Text
 bytes_of paths = map (λ path. path.now) paths
 
--- the request has the paths, and the number of workers, that the command of a name was given
-pub record IsGiven (name : Text) (rows : List Row) (request : Request) : Type 0 where
-  pub asked : IsAsked name rows request.asked
-  pub rules : first_of (codes "RULES") rows ≡ Some request.rules.now
-  pub routines : all_of (codes "ROUTINE") rows ≡ Some (bytes_of request.routines.items)
+-- the request has the paths, and the number of workers or the format, that the command of a name was given
+pub record IsProgramGiven (name : Text) (rows : List Row) (program : ProgramRequest) : Type 0 where
+  pub asked : IsAsked name rows program.asked
+  pub rules : first_of (codes "RULES") rows ≡ Some program.rules.now
+  pub routines : all_of (codes "ROUTINE") rows ≡ Some (bytes_of program.routines.items)
+
+abbrev pub GivesProgram : Text → List Row → Option ProgramRequest → Type 0
+GivesProgram name rows None = (program : ProgramRequest) → IsProgramGiven name rows program → ⊥
+GivesProgram name rows (Some program) = IsProgramGiven name rows program
+
+-- the path of the certificate, and the format that it is to have
+abbrev pub IsConversion : List Row → Bor (List ℕ) → Format → Type 0
+IsConversion rows certificate format = (first_of (codes "CERT") rows ≡ Some certificate.now) × IsFormat rows format
+
+abbrev pub GivesConversion : List Row → Option (Bor (List ℕ) × Format) → Type 0
+GivesConversion rows None = (certificate : Bor (List ℕ)) (format : Format) → IsConversion rows certificate format → ⊥
+GivesConversion rows (Some c) = IsConversion rows c.0 c.1
+
+-- the request is what the command of a name was given
+abbrev pub IsGiven : Text → List Row → Request → Type 0
+IsGiven name rows (request.Program program) = IsProgramGiven name rows program
+IsGiven name rows (request.Convert certificate format) = (name ≡ codes "convert") × IsConversion rows certificate format
 
 -- what a command's own matches give: nothing where they are those of no request
 abbrev pub GivesPaths : Text → List Row → Option Request → Type 0
-GivesPaths name rows None = (request : Request) → IsGiven name rows request → ⊥
-GivesPaths name rows (Some request) = IsGiven name rows request
+GivesPaths name rows None = (asked : Request) → IsGiven name rows asked → ⊥
+GivesPaths name rows (Some asked) = IsGiven name rows asked
 
 -- the command that was met was given what the request has
 abbrev pub IsMet : Option (Text × List Row) → Request → Type 0
-IsMet met request = (name : Text) × (rows : List Row) × (met ≡ Some (name, rows)) × IsGiven name rows request
+IsMet met asked = (name : Text) × (rows : List Row) × (met ≡ Some (name, rows)) × IsGiven name rows asked
 
 -- what the command that was met gives: nothing where it was given what no request has
 abbrev pub GivesRequest : Option (Text × List Row) → Option Request → Type 0
-GivesRequest met None = (request : Request) → IsMet met request → ⊥
-GivesRequest met (Some request) = IsMet met request
+GivesRequest met None = (asked : Request) → IsMet met asked → ⊥
+GivesRequest met (Some asked) = IsMet met asked
 
 abbrev pub texts_of : {A : Type 0} → List (String A) → List Text
 texts_of words = map string_bytes words
@@ -104,13 +146,14 @@ texts_of words = map string_bytes words
 abbrev pub Asks : {A : Type 0} → List (String A) → Option Request → Type 0
 Asks words asked = GivesRequest (subcommand_of mlock_app (texts_of words)) asked
 
--- The words name a command and give it the paths and the number of workers of the request, as `clap` reads them.
+-- The words name a command and give it the paths, and the number of workers or the format, of the request, as `clap` reads
+-- them.
 abbrev pub IsRequest : {A : Type 0} → List (String A) → Request → Type 0
-IsRequest words request = IsMet (subcommand_of mlock_app (texts_of words)) request
+IsRequest words asked = IsMet (subcommand_of mlock_app (texts_of words)) asked
 
 -- `clap` does not take the words, or they are those of no request.
 abbrev pub AsksNothing : {A : Type 0} → List (String A) → Type 0
-AsksNothing words = takes mlock_app (texts_of words) ≡ true → (request : Request) → IsRequest words request → ⊥
+AsksNothing words = takes mlock_app (texts_of words) ≡ true → (asked : Request) → IsRequest words asked → ⊥
 
 -- Why there is no request. Want of memory says nothing.
 abbrev pub LacksRequest : {A : Type 0} → List (String A) → UsageError → Type 0

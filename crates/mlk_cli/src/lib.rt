@@ -3,4 +3,4 @@
 
 mod words;
 
-pub use words::{Asked, Request, UsageError, read_request};
+pub use words::{Asked, Format, ProgramRequest, Request, UsageError, read_request};

@@ -5,31 +5,50 @@ ghost use Rattle.clap.specs.Words.{app_of, rule_of, found_of, rows_of, kind_of, 
 ghost use Rattle.clap.specs.Takes.{takes};
 ghost use Rattle.clap.specs.declared.error.kind.ErrorKind.TheVariants.{OutOfMemory};
 ghost use Rattle.clap.specs.Simple.{subcommand_rows_of};
-ghost use Rattle.mlk_cli.specs.CommandLine.{path_rule, routines_rule, workers_rule, check_app, make_app, verify_app, replay_app, no_command_app, mlock_app, GivesWorkers, GivesAsked, GivesPaths, GivesRequest, texts_of, Asks, IsRequest, LacksRequest};
+ghost use Rattle.mlk_cli.specs.CommandLine.{path_rule, routines_rule, workers_rule, format_rule, check_app, make_app, verify_app, replay_app, convert_app, no_command_app, mlock_app, GivesNumber, GivesFormat, GivesAsked, GivesProgram, GivesConversion, GivesPaths, GivesRequest, texts_of, Asks, IsRequest, LacksRequest};
 
+use clap::builder::ValueParser;
 use clap::error::ErrorKind;
 use clap::{Arg, ArgAction, ArgMatches, Command, Error, value_parser};
 use std::alloc::{AllocError, Global};
+
+/// The format of a certificate's text.
+#[derive(Clone, Copy, Debug, PartialEq, Eq)]
+pub enum Format {
+    First,
+    Second,
+}
 
 /// What is to be done with routines and rules.
 #[derive(Drop, Debug)]
 pub enum Asked<'a> {
     /// the check by the certificate at this path, and by so many workers
     Check { certificate: &'a str, workers: u32 },
-    /// a certificate is made
-    Make,
+    /// a certificate is made, and its text has this format
+    Make { format: Format },
     /// the check by the certificate that is made, and by so many workers
     Verify { workers: u32 },
     /// the events at this path are replayed
     Replay(&'a str),
 }
 
-/// What `mlock` is asked for, with the paths of the rules and the routines.
+/// What is asked for of a program, with the paths of its rules and its routines.
 #[derive(Drop, Debug)]
-pub struct Request<'a> {
+pub struct ProgramRequest<'a> {
     pub asked: Asked<'a>,
     pub rules: &'a str,
     pub routines: Vec<&'a str>,
+}
+
+/// What `mlock` is asked for.
+#[derive(Drop, Debug)]
+pub enum Request<'a> {
+    Program(ProgramRequest<'a>),
+    /// the text in this format of the certificate at this path
+    Convert {
+        certificate: &'a str,
+        format: Format,
+    },
 }
 
 /// Why the words ask for nothing.
@@ -49,6 +68,9 @@ const ROUTINE_HELP: &str =
 
 const WORKERS_HELP: &str = "How many workers walk entries side by side, 1 to 64";
 
+const FORMAT_HELP: &str =
+    "The format of the text: 1, in which each point has its cases in full, or 2, in which it has their numbers";
+
 const CHECK_HELP: &str = "Checks routines against a rule file and a certificate";
 
 const CHECK_MORE: &str = "Checks routines against a rule file and a certificate.
@@ -63,7 +85,8 @@ const MAKE_HELP: &str = "Makes a certificate of routines";
 const MAKE_MORE: &str = "Makes a certificate of routines
 
 Prints the certificate of the declared entries and of all that they call, by which `mlock check` finds as few faults as
-the maker could reach. It is a text to read, to keep beside the routines, and to mend by hand.
+the maker could reach. It is a text to read, to keep beside the routines, and to mend by hand. In format 2 the cases stand
+in front, each once, and points name them by numbers; `mlock convert` makes either format of the other.
 
 Status: 0 made, 2 refused input or given up, 3 want of memory or a file that can't be read or written.";
 
@@ -88,6 +111,16 @@ for each that waits for another; and `ring yes` where jobs wait for each other i
 
 Status: 0 replayed, 2 refused input or an event that can't happen, 3 want of memory or a file that can't be read or
 written.";
+
+const CONVERT_HELP: &str = "Writes a certificate in another format";
+
+const CONVERT_MORE: &str = "Writes a certificate in another format
+
+Prints the same certificate: it may be in either format, and what is printed is in the one that is asked for. In format 1
+each point has its cases in full; in format 2 they stand in front, each once, and points name them by numbers. A
+certificate has one text in each format.
+
+Status: 0 written, 2 refused input, 3 want of memory or a file that can't be read or written.";
 
 // The program's version, and the logic that it is proved in. Whether a build was proved is not for the program to say: the
 // script that starts it knows.
@@ -127,6 +160,19 @@ fn workers<'a>(alloc: Global) -> Arg<'a>
         .help(WORKERS_HELP)
 }
 
+// The format of a certificate, of which this is the one where the words say nothing.
+fn format_option<'a>(alloc: Global, usual: &'a str) -> Arg<'a>
+    ensures rule { rule_of result ≡ format_rule usual.entry.now }
+    ensures local { result.global ≡ false }
+{
+    Arg::new(alloc, "format")
+        .long("format")
+        .value_name("N")
+        .value_parser(ValueParser::Signed(1, 2))
+        .default_value(usual)
+        .help(FORMAT_HELP)
+}
+
 fn check_command<'a>(alloc: Global) -> Result<Command<'a>, AllocError>
     ensures { IfOk result (λ c. app_of c ≡ check_app) }
 {
@@ -146,7 +192,8 @@ fn make_command<'a>(alloc: Global) -> Result<Command<'a>, AllocError>
         .about(MAKE_HELP)
         .long_about(MAKE_MORE)
         .arg(path(alloc, "RULES", RULES_HELP))?
-        .arg(routines(alloc))
+        .arg(routines(alloc))?
+        .arg(format_option(alloc, "1"))
 }
 
 fn verify_command<'a>(alloc: Global) -> Result<Command<'a>, AllocError>
@@ -169,6 +216,16 @@ fn replay_command<'a>(alloc: Global) -> Result<Command<'a>, AllocError>
         .arg(path(alloc, "RULES", RULES_HELP))?
         .arg(path(alloc, "EVENTS", EVENTS_HELP))?
         .arg(routines(alloc))
+}
+
+fn convert_command<'a>(alloc: Global) -> Result<Command<'a>, AllocError>
+    ensures { IfOk result (λ c. app_of c ≡ convert_app) }
+{
+    Command::new(alloc, "convert")
+        .about(CONVERT_HELP)
+        .long_about(CONVERT_MORE)
+        .arg(path(alloc, "CERT", CERT_HELP))?
+        .arg(format_option(alloc, "2"))
 }
 
 // `mlock` before it has a command.
@@ -195,25 +252,40 @@ fn grammar<'a>(alloc: Global) -> Result<Command<'a>, AllocError>
     let app = with_command(without_commands(alloc), check_command(alloc)?)?;
     let app = with_command(app, make_command(alloc)?)?;
     let app = with_command(app, verify_command(alloc)?)?;
-    with_command(app, replay_command(alloc)?)
+    let app = with_command(app, replay_command(alloc)?)?;
+    with_command(app, convert_command(alloc)?)
 }
 
-// How many workers a command was given.
-fn workers_of(matches: &ArgMatches<'_>) -> Option<u32>
-    ensures { GivesWorkers (rows_of (found_of matches.now)) result }
+// The number that a command was given by the option of this name.
+fn number_of(matches: &ArgMatches<'_>, option: &str) -> Option<u32>
+    ensures { GivesNumber option.now (rows_of (found_of matches.now)) result }
 {
-    matches.get_one::<u32>("workers")
+    matches.get_one::<u32>(option)
 }
 
-// What the command of this name is to do.
+// The format that a command was given.
+fn format_of(matches: &ArgMatches<'_>) -> Option<Format>
+    ensures { GivesFormat (rows_of (found_of matches.now)) result }
+{
+    match number_of(matches, "format") {
+        Some(1) => Some(Format::First),
+        Some(2) => Some(Format::Second),
+        _ => None,
+    }
+}
+
+// What the command of this name is to do with a program.
 fn asked_by<'a>(name: &str, matches: &ArgMatches<'a>) -> Option<Asked<'a>>
     ensures { GivesAsked name.now (rows_of (found_of matches.now)) result }
 {
     if name == "make" {
-        return Some(Asked::Make);
+        let Some(format) = format_of(matches) else {
+            return None;
+        };
+        return Some(Asked::Make { format });
     }
     if name == "verify" {
-        let Some(workers) = workers_of(matches) else {
+        let Some(workers) = number_of(matches, "workers") else {
             return None;
         };
         return Some(Asked::Verify { workers });
@@ -230,7 +302,7 @@ fn asked_by<'a>(name: &str, matches: &ArgMatches<'a>) -> Option<Asked<'a>>
     let Some(certificate) = matches.get_str("CERT") else {
         return None;
     };
-    let Some(workers) = workers_of(matches) else {
+    let Some(workers) = number_of(matches, "workers") else {
         return None;
     };
     Some(Asked::Check {
@@ -239,13 +311,13 @@ fn asked_by<'a>(name: &str, matches: &ArgMatches<'a>) -> Option<Asked<'a>>
     })
 }
 
-// What the command of this name asks for, by what it was given.
-fn given<'a>(
+// What the command of this name asks for of a program, by what it was given.
+fn program_of<'a>(
     alloc: Global,
     name: &str,
     matches: &ArgMatches<'a>,
-) -> Result<Option<Request<'a>>, AllocError>
-    ensures { IfOk result (GivesPaths name.now (rows_of (found_of matches.now))) }
+) -> Result<Option<ProgramRequest<'a>>, AllocError>
+    ensures { IfOk result (GivesProgram name.now (rows_of (found_of matches.now))) }
 {
     let Some(asked) = asked_by(name, matches) else {
         return Ok(None);
@@ -257,11 +329,47 @@ fn given<'a>(
         return Ok(None);
     };
     let routines = Vec::from_slice(alloc, paths)?;
-    Ok(Some(Request {
+    Ok(Some(ProgramRequest {
         asked,
         rules,
         routines,
     }))
+}
+
+// The certificate that is to be written in another format, and that format.
+fn conversion_of<'a>(matches: &ArgMatches<'a>) -> Option<(&'a str, Format)>
+    ensures { GivesConversion (rows_of (found_of matches.now)) result }
+{
+    let Some(certificate) = matches.get_str("CERT") else {
+        return None;
+    };
+    let Some(format) = format_of(matches) else {
+        return None;
+    };
+    Some((certificate, format))
+}
+
+// What the command of this name asks for, by what it was given.
+fn given<'a>(
+    alloc: Global,
+    name: &str,
+    matches: &ArgMatches<'a>,
+) -> Result<Option<Request<'a>>, AllocError>
+    ensures { IfOk result (GivesPaths name.now (rows_of (found_of matches.now))) }
+{
+    if name == "convert" {
+        let Some((certificate, format)) = conversion_of(matches) else {
+            return Ok(None);
+        };
+        return Ok(Some(Request::Convert {
+            certificate,
+            format,
+        }));
+    }
+    let Some(program) = program_of(alloc, name, matches)? else {
+        return Ok(None);
+    };
+    Ok(Some(Request::Program(program)))
 }
 
 fn request_of<'a>(

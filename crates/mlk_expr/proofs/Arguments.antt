@@ -9,8 +9,8 @@ use Rattle.mlk_text.proofs.Readers.{then_some, pair_parts, with_some, After, aft
 use Rattle.mlk_syntax.specs.ExprTrees.{Tree, ActualTree, Given, ByRef, Missing}
 use Rattle.mlk_syntax.specs.declared.expr.Callee.{Callee}
 use Rattle.mlk_syntax.specs.declared.expr.Function.{Function}
-use Rattle.mlk_expr.specs.declared.scope.Allows.TheVariants.{NoTouches}
-use Rattle.mlk_expr.specs.declared.scope.Passing.TheVariants.{ByReference}
+use Rattle.mlk_expr.specs.declared.context.Allows.TheVariants.{NoTouches}
+use Rattle.mlk_expr.specs.declared.context.Passing.TheVariants.{ByReference}
 use Rattle.mlk_expr.specs.Touches.{may_stand}
 use Rattle.mlk_expr_tokens.specs.Lexemes.{column_of, lent_at, is_missing, starts_reference}
 use Rattle.mlk_expr.specs.Grammar.{has_subscript, asks_subscript}

@@ -8,7 +8,7 @@ use Rattle.mlk_text.proofs.Lexemes.{byte-is}
 use Rattle.mlk_syntax.specs.declared.expr.Function.{Function}
 use Rattle.mlk_syntax.specs.ExprTrees.{Tree, ActualTree, Given, ByRef, Missing}
 use Rattle.mlk_expr_tokens.specs.Lexemes.{column_of, lent_by, lent_at, is_missing, starts_reference, ends}
-use Rattle.mlk_expr.specs.declared.scope.Allows.TheVariants.{NoTouches}
+use Rattle.mlk_expr.specs.declared.context.Allows.TheVariants.{NoTouches}
 use Rattle.mlk_expr.specs.Touches.{may_stand, Standing}
 use Rattle.mlk_expr.specs.Grammar.{AreNext, IsPlaced, IsSubs, IsActual, IsActuals, AreArguments, IsChoice, IsCallee}
 use Rattle.mlk_expr.proofs.Followed as followed

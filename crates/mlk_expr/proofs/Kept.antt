@@ -11,10 +11,10 @@ use Rattle.mlk_syntax.specs.declared.expr.Function.{Function}
 use Rattle.mlk_syntax.specs.declared.expr.Special.{Special}
 use Rattle.mlk_expr_tokens.specs.declared.lexeme.Kind.{Kind}
 use Rattle.mlk_expr_tokens.specs.declared.lexeme.Kind.TheVariants as kind
-use Rattle.mlk_expr.specs.declared.scope.Allows.{Allows}
-use Rattle.mlk_expr.specs.declared.scope.Allows.TheVariants.{Everything}
-use Rattle.mlk_expr.specs.declared.scope.Passing.{Passing}
-use Rattle.mlk_expr.specs.declared.scope.Passing.TheVariants.{ByReference, ByValue}
+use Rattle.mlk_expr.specs.declared.context.Allows.{Allows}
+use Rattle.mlk_expr.specs.declared.context.Allows.TheVariants.{Everything}
+use Rattle.mlk_expr.specs.declared.context.Passing.{Passing}
+use Rattle.mlk_expr.specs.declared.context.Passing.TheVariants.{ByReference, ByValue}
 use Rattle.mlk_syntax.specs.ExprTrees.{Tree, Lit, LocalName, GlobalName, Prefixed, PatternText, Func, Selected, CallOf, ActualTree, Given, ByRef, Missing, trees_from, subs_from, links_from, choices_from, actuals_from}
 use Rattle.mlk_expr.specs.Touches.{globals_may, calls_may, may_stand, trees_may, subs_may, links_may, choices_may, actual_may, actuals_may, passes, given_stand}
 use Rattle.mlk_expr_tokens.specs.Words.{special_of, function_of, is_select}

@@ -16,7 +16,7 @@ pub mod Kept
 pub mod Whole
 pub mod Examples
 pub mod Loops
-pub mod Scopes
+pub mod Contexts
 pub mod Labels
 pub mod Steps
 pub mod Places

@@ -11,8 +11,8 @@ use Rattle.mlk_syntax.specs.declared.expr.Special.{Special}
 use Rattle.mlk_expr_tokens.specs.declared.lexeme.Kind.{Kind}
 use Rattle.mlk_expr_tokens.specs.declared.lexeme.Kind.TheVariants as kind
 use Rattle.mlk_syntax.specs.ExprTrees.{Tree, Lit, Free, LocalName, GlobalName, SpecialName, Prefixed, Chain, PatternText, Func, Selected, BareCall, CallOf}
-use Rattle.mlk_expr.specs.declared.scope.Allows.TheVariants.{Everything}
-use Rattle.mlk_expr.specs.declared.scope.Passing.TheVariants.{ByReference}
+use Rattle.mlk_expr.specs.declared.context.Allows.TheVariants.{Everything}
+use Rattle.mlk_expr.specs.declared.context.Passing.TheVariants.{ByReference}
 use Rattle.mlk_expr_tokens.specs.Words.{special_of, function_of, is_select}
 use Rattle.mlk_expr_tokens.specs.Lexemes.{column_of, kind_of, numeral_at}
 use Rattle.mlk_expr.specs.Grammar.{named}

@@ -13,8 +13,8 @@ use Rattle.mlk_text.specs.declared.failure.Failure.{Failure}
 use Rattle.mlk_expr.specs.declared.refusal.Offence.{Offence}
 use Rattle.mlk_text.specs.declared.failure.Failure.TheVariants.{OutOfMemory, Refused}
 use Rattle.mlk_syntax.specs.ExprTrees.{Tree, LocalName, GlobalName, CallOf, Func, ActualTree, subs_from, trees_from, actuals_from, sub_of}
-use Rattle.mlk_expr.specs.declared.scope.Allows.{Allows}
-use Rattle.mlk_expr.specs.declared.scope.Passing.TheVariants.{ByReference}
+use Rattle.mlk_expr.specs.declared.context.Allows.{Allows}
+use Rattle.mlk_expr.specs.declared.context.Passing.TheVariants.{ByReference}
 use Rattle.mlk_expr.specs.Touches.{globals_may}
 use Rattle.mlk_expr_tokens.specs.Words.{is_select, function_of}
 use Rattle.mlk_expr_tokens.specs.Lexemes.{column_of, kind_of, count_at, starts_reference}

@@ -5,7 +5,7 @@ use Rattle.std.proofs.lemmas.Bool.{cases_Bool}
 use Rattle.mlk_text.specs.Lexemes.{byte_at}
 use Rattle.mlk_text.proofs.Lexemes.{byte-is}
 use Rattle.mlk_text.proofs.Readers.{After, after-one, after_then, Exact}
-use Rattle.mlk_expr.specs.declared.scope.Passing.TheVariants.{ByReference}
+use Rattle.mlk_expr.specs.declared.context.Passing.TheVariants.{ByReference}
 use Rattle.mlk_syntax.specs.ExprTrees.{ActualTree}
 use Rattle.mlk_expr_tokens.specs.Lexemes.{starts_reference}
 use Rattle.mlk_expr.proofs.Followed.{IsPattern, IsChain, IsActuals, IsAtom, IsReference, IsActualList}

@@ -10,15 +10,15 @@ use Rattle.mlk_syntax.specs.declared.expr.Function.TheVariants as function
 use Rattle.mlk_syntax.specs.ExprTrees.{Tree, Lit, Free, LocalName, GlobalName, SpecialName, Prefixed, Chain, PatternText}
 use Rattle.mlk_syntax.specs.ExprTrees.{Func, Selected, BareCall, CallOf, sub, ActualTree, Given, ByRef, Missing, trees_from}
 use Rattle.mlk_syntax.specs.ExprTrees.{subs_from, links_from, choices_from, actuals_from}
-use Rattle.mlk_expr.specs.declared.scope.Allows.{Allows}
-use Rattle.mlk_expr.specs.declared.scope.Allows.TheVariants.{NoTouches}
-use Rattle.mlk_expr.specs.declared.scope.Passing.{Passing}
+use Rattle.mlk_expr.specs.declared.context.Allows.{Allows}
+use Rattle.mlk_expr.specs.declared.context.Allows.TheVariants.{NoTouches}
+use Rattle.mlk_expr.specs.declared.context.Passing.{Passing}
 use Rattle.mlk_expr.specs.Touches.{may_stand, subs_stand, given_stand, Standing}
 use Rattle.mlk_expr_tokens.specs.Words.{special_of, function_of, is_select}
 use Rattle.mlk_expr_tokens.specs.Lexemes.{is_match, starts_reference}
 use Rattle.mlk_text.specs.Places.{column_at}
 use Rattle.mlk_text.specs.Spellings.{IsName, IsLabel, IsWord}
-use Rattle.mlk_expr.specs.Spellings.{IsNumber, IsQuoted, IsCount, IsCodes, op_text, unary_text}
+use Rattle.mlk_expr.specs.Spellings.{IsNumber, IsStringLiteral, IsCount, IsCodes, op_text, unary_text}
 
 -- how a thing is written, where its text begins in this column
 abbrev pub Spelled : Type 0 → Type 1
@@ -44,7 +44,7 @@ IsEnclosed inner s = s ≡ 40 ∷ (inner ++ 41 ∷ [])
 -- Standard: pattern match, patatom.
 abbrev pub IsMatcher : (List ℕ → Type 0) → List ℕ → Type 0
 IsMatcher Deep s = IsCodes s
-    ⊎ ((value : List ℕ) × IsQuoted value s)
+    ⊎ ((value : List ℕ) × IsStringLiteral value s)
     ⊎ ((inner : List ℕ) × (choices : List (List ℕ)) × IsEnclosed inner s
     × IsList (λ at choice t. (t ≡ choice) × Deep choice) 0 choices inner)
 
@@ -149,7 +149,7 @@ IsCallee None None s = ⊥
 -- no case here is left out: indirection, naked references, structured system variables, other functions and special
 -- variables, external calls, environments.
 abbrev pub IsPlain : Spelled Tree → (List ℕ → Type 0) → ℕ → Tree → List ℕ → Type 0
-IsPlain Atom Pattern at (Lit value) s = IsCanonical s value ⊎ IsQuoted value s
+IsPlain Atom Pattern at (Lit value) s = IsCanonical s value ⊎ IsStringLiteral value s
 IsPlain Atom Pattern at Free s = IsNumber s × ((value : List ℕ) → IsCanonical s value → ⊥)
 IsPlain Atom Pattern at (LocalName name subs) s = (part : List ℕ) × (items : List (ℕ × Tree))
     × (s ≡ name ++ part) × IsName name × IsSubs (IsChain Atom Pattern) (at + length name) items part

@@ -14,11 +14,11 @@ use Rattle.mlk_expr_tokens.specs.declared.lexeme.Kind.TheVariants as kind
 use Rattle.mlk_syntax.specs.ExprTrees.{Tree, Lit, Free, LocalName, GlobalName, SpecialName, Prefixed, PatternText, Func}
 use Rattle.mlk_syntax.specs.ExprTrees.{Selected, BareCall, CallOf, ActualTree, Given, ByRef, Missing, trees_from, subs_from}
 use Rattle.mlk_syntax.specs.ExprTrees.{choices_from, actuals_from}
-use Rattle.mlk_expr.specs.declared.scope.Allows.{Allows}
-use Rattle.mlk_expr.specs.declared.scope.Allows.TheVariants.{Everything, NoTouches}
-use Rattle.mlk_expr.specs.declared.scope.Scope.{Scope}
-use Rattle.mlk_expr.specs.declared.scope.Passing.{Passing}
-use Rattle.mlk_expr.specs.declared.scope.Passing.TheVariants.{ByReference}
+use Rattle.mlk_expr.specs.declared.context.Allows.{Allows}
+use Rattle.mlk_expr.specs.declared.context.Allows.TheVariants.{Everything, NoTouches}
+use Rattle.mlk_expr.specs.declared.context.Context.{Context}
+use Rattle.mlk_expr.specs.declared.context.Passing.{Passing}
+use Rattle.mlk_expr.specs.declared.context.Passing.TheVariants.{ByReference}
 use Rattle.mlk_expr.specs.Touches.{globals_may, calls_may, may_stand, lends}
 use Rattle.mlk_expr_tokens.specs.Words.{special_of, function_of, is_select}
 use Rattle.mlk_expr_tokens.specs.Lexemes.{column_of, kind_of, op_at, is_match, numeral_at, count_at, pattern_codes_at}
@@ -234,16 +234,16 @@ atom_at end (suc k) xs =
     operand_with Everything end (atom_at end k) (quietly (chain_with (atom_at end k) (pattern_at k))) (pattern_at k) xs
 
 -- the same where a reader is
-unfoldable pub atom_in : Scope → Reader Tree
+unfoldable pub atom_in : Context → Reader Tree
 atom_in here xs = kept (may_stand here.allows) (atom_at here.end here.left xs)
 
-abbrev pub nested_in : Scope → Reader Tree
+abbrev pub nested_in : Context → Reader Tree
 nested_in here xs = chain_with (atom_in here) (pattern_at here.left) xs
 
-abbrev pub quiet : Scope → Scope
+abbrev pub quiet : Context → Context
 quiet here = record { end = here.end; left = here.left; allows = NoTouches }
 
-abbrev pub operand_in : Scope → Reader Tree
+abbrev pub operand_in : Context → Reader Tree
 operand_in here xs = operand_with here.allows here.end (atom_in here) (nested_in (quiet here)) (pattern_at here.left) xs
 
 -- an expression that nests at most so deep
@@ -274,19 +274,19 @@ unfoldable pub expr_at : ℕ → Reader Tree
 expr_at end xs = nested_at end 64 xs >>= ended
 
 -- the same where a reader is
-unfoldable pub expr_in : Scope → Reader Tree
+unfoldable pub expr_in : Context → Reader Tree
 expr_in here xs = nested_in here xs >>= ended
 
-abbrev pub reference_by : Scope → List ℕ → Option (ℕ × List ℕ) → Option (Tree × List ℕ)
+abbrev pub reference_by : Context → List ℕ → Option (ℕ × List ℕ) → Option (Tree × List ℕ)
 reference_by here xs (Some caret) = global_with true here.end (column_of here.end xs) (nested_in here) caret.1
 reference_by here xs None = if starts_reference xs then local_with here.end (nested_in here) xs else None
 
-unfoldable pub reference_in : Scope → Reader Tree
+unfoldable pub reference_in : Context → Reader Tree
 reference_in here xs = reference_by here xs (byte_at 94 xs)
 
-abbrev pub list_by : Passing → Scope → Option (ℕ × List ℕ) → Option (List ActualTree × List ℕ)
+abbrev pub list_by : Passing → Context → Option (ℕ × List ℕ) → Option (List ActualTree × List ℕ)
 list_by passing here None = None
 list_by passing here (Some open') = actuals_with passing here.end (nested_in here) open'.1
 
-unfoldable pub actual_list_in : Passing → Scope → Reader (List ActualTree)
+unfoldable pub actual_list_in : Passing → Context → Reader (List ActualTree)
 actual_list_in passing here xs = list_by passing here (byte_at 40 xs)

@@ -28,8 +28,8 @@ IsNumber text = (before after mantissa exponent : List ℕ) × IsNumeral before 
     × (text ≡ mantissa ++ exponent)
 
 -- A text in quotes, with each quote inside doubled. Standard: string literals.
-abbrev pub IsQuoted : List ℕ → List ℕ → Type 0
-IsQuoted value s = (s ≡ 34 ∷ (doubled value ++ 34 ∷ [])) × (is_text value ≡ true)
+abbrev pub IsStringLiteral : List ℕ → List ℕ → Type 0
+IsStringLiteral value s = (s ≡ 34 ∷ (doubled value ++ 34 ∷ [])) × (is_text value ≡ true)
 
 -- The count of a pattern atom: digits, or a point with digits or none on either side. Standard: pattern match,
 -- repcount.

@@ -5,7 +5,7 @@ use Rattle.mlk_text.specs.Lexemes.{is_digit, is_name_byte}
 use Rattle.mlk_text.specs.Places.{column_at}
 use Rattle.mlk_text.specs.Codes.{number_of}
 use Rattle.mlk_text.specs.declared.fault.Fault.{Fault}
-use Rattle.mlk_expr.specs.declared.scope.Passing.{Passing}
+use Rattle.mlk_expr.specs.declared.context.Passing.{Passing}
 use Rattle.mlk_syntax.specs.declared.expr.Callee.{Callee}
 use Rattle.mlk_expr.specs.Touches.{lends}
 use Rattle.mlk_text.specs.declared.failure.Failure.{Failure}

@@ -2,10 +2,10 @@
 -- little of that order; which places these are is this project's own choice.
 use Rattle.std.specs.Prelude.{ℕ, ◌≡◌, ◌&&◌, Bool, true, false, List}
 use Rattle.std.specs.List.{list_all}
-use Rattle.mlk_expr.specs.declared.scope.Allows.{Allows}
-use Rattle.mlk_expr.specs.declared.scope.Allows.TheVariants as allows
-use Rattle.mlk_expr.specs.declared.scope.Passing.{Passing}
-use Rattle.mlk_expr.specs.declared.scope.Passing.TheVariants as passing
+use Rattle.mlk_expr.specs.declared.context.Allows.{Allows}
+use Rattle.mlk_expr.specs.declared.context.Allows.TheVariants as allows
+use Rattle.mlk_expr.specs.declared.context.Passing.{Passing}
+use Rattle.mlk_expr.specs.declared.context.Passing.TheVariants as passing
 use Rattle.mlk_syntax.specs.ExprTrees.{Tree, Lit, Free, LocalName, GlobalName, SpecialName, Prefixed, Chain, PatternText}
 use Rattle.mlk_syntax.specs.ExprTrees.{Func, Selected, BareCall, CallOf, Trees, no_trees, tree, Subs, no_subs, sub, Links}
 use Rattle.mlk_syntax.specs.ExprTrees.{no_links, link, Choices, no_choices, choice, ActualTree, Given, ByRef, Missing}

@@ -5,8 +5,8 @@ ghost use Rattle.mlk_text.specs.Codes.{number_of};
 ghost use Rattle.mlk_text.specs.Failures.{IsLike};
 ghost use Rattle.mlk_expr.specs.Theorem.{may_tell, Faults};
 
+use crate::context::Passing;
 use crate::refusal::{Offence, Wrong};
-use crate::scope::Passing;
 use mlk_text::{Code, Column, Failure, Fault, LeftOut, LineNumber, Place, Value};
 use std::alloc::Global;
 

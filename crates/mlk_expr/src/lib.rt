@@ -1,6 +1,7 @@
 //! The expressions of M: their trees, and the readers that are exact for their grammar.
 #![tactic(auto)]
 
+mod context;
 mod fault;
 mod law;
 mod named;
@@ -9,8 +10,8 @@ mod pattern;
 mod public;
 mod read;
 mod refusal;
-mod scope;
 
+pub use context::{Allows, Passing};
 pub use law::one_tree;
 pub use mlk_syntax::{Actual, Callee, Expr, Function, Special, Subscript};
 pub use mlk_text::{Op, Relation, UnaryOp};
@@ -18,4 +19,3 @@ pub use named::{read_callee, read_label, read_name};
 pub use public::{
     read_actuals, read_actuals_where, read_expr, read_expr_where, read_ref, read_ref_where,
 };
-pub use scope::{Allows, Passing};

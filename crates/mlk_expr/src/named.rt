@@ -1,13 +1,13 @@
 // The readers of names, labels and what calls name, as they stand in commands.
 
 ghost use Rattle.std.specs.Prelude.{◌≡◌, ◌≤◌, length, IfOk, IfErr};
-ghost use Rattle.mlk_expr.specs.declared.scope.Passing.TheVariants.{ByReference};
+ghost use Rattle.mlk_expr.specs.declared.context.Passing.TheVariants.{ByReference};
 ghost use Rattle.mlk_expr.specs.Grammar.{IsNameText, IsLabelText, IsCalleeText};
 ghost use Rattle.mlk_expr.specs.Theorem.{LabelEnds, CalleeEnds, Stands, Only, Refuses, Faults};
 
+use crate::context::Passing;
 use crate::fault::located;
 use crate::part::{callee, label, plain_name};
-use crate::scope::Passing;
 use mlk_syntax::Callee;
 use mlk_text::{Failure, Fault, Name};
 use std::alloc::Global;

@@ -10,10 +10,10 @@ ghost use Rattle.mlk_expr.specs.Grammar.{named, has_subscript, asks_subscript};
 ghost use Rattle.mlk_expr.specs.Reading.{where_may, number_of, callee_at};
 ghost use Rattle.mlk_expr.specs.Touches.{globals_may};
 
+use crate::context::Allows;
 use crate::refusal::{
     Offence, Wrong, no_global, no_label, no_name, no_number, no_routine, refused,
 };
-use crate::scope::Allows;
 use mlk_expr_tokens::numeral::numeral_at;
 use mlk_numbers::canonical;
 use mlk_syntax::{Callee, Expr, Function};

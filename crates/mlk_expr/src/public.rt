@@ -7,15 +7,15 @@ ghost use Rattle.mlk_expr.specs.Grammar.{IsExprWhere, IsReferenceWhere, IsActual
 ghost use Rattle.mlk_expr.specs.Reading.{expr_in, reference_in, actual_list_in};
 ghost use Rattle.mlk_text.specs.Failures.{Reads};
 ghost use Rattle.mlk_expr.specs.Theorem.{ExprEnds, ReferenceEnds, ListEnds, Stands, Only, Refuses, Faults};
-ghost use Rattle.mlk_expr.specs.declared.scope.Passing.TheVariants.{ByReference};
+ghost use Rattle.mlk_expr.specs.declared.context.Passing.TheVariants.{ByReference};
 
+use crate::context::{Allows, Context, Passing};
 use crate::fault::located;
 use crate::part::global_name;
 use crate::read::actuals::actuals;
 use crate::read::chain;
 use crate::read::names::{local, subscripts};
 use crate::refusal::{Offence, Wrong, no_end, no_operand, refused};
-use crate::scope::{Allows, Passing, Scope};
 use mlk_expr_tokens::lexeme::{column_of, may_end, starts_reference};
 use mlk_syntax::{Actual, Expr};
 use mlk_text::lexeme::byte_of;
@@ -28,12 +28,12 @@ const DEEPEST: u8 = 64;
 #[inline(always)]
 fn expr<'a>(
     alloc: Global,
-    scope: &Scope,
+    context: &Context,
     bytes: &'a [u8],
 ) -> Result<(Expr, &'a [u8]), Failure<Offence>>
-    ensures { Reads (λ x. (tree_of x.0, x.1.now)) result (expr_in scope.now bytes.now) }
+    ensures { Reads (λ x. (tree_of x.0, x.1.now)) result (expr_in context.now bytes.now) }
 {
-    let (tree, rest) = chain(alloc, scope, bytes)?;
+    let (tree, rest) = chain(alloc, context, bytes)?;
     if !may_end(rest) {
         return Err(no_end(rest));
     }
@@ -44,35 +44,38 @@ fn expr<'a>(
 #[inline(always)]
 fn reference<'a>(
     alloc: Global,
-    scope: &Scope,
+    context: &Context,
     bytes: &'a [u8],
 ) -> Result<(Expr, &'a [u8]), Failure<Offence>>
-    ensures { Reads (λ x. (tree_of x.0, x.1.now)) result (reference_in scope.now bytes.now) }
+    ensures { Reads (λ x. (tree_of x.0, x.1.now)) result (reference_in context.now bytes.now) }
 {
     if let Some(after) = byte_of(b'^', bytes) {
         let (name, rest) = global_name(alloc, Allows::Everything, bytes, after)?;
-        let (subs, rest) = subscripts(alloc, scope, rest)?;
-        return Ok((Expr::Global(column_of(scope.end, bytes), name, subs), rest));
+        let (subs, rest) = subscripts(alloc, context, rest)?;
+        return Ok((
+            Expr::Global(column_of(context.end, bytes), name, subs),
+            rest,
+        ));
     }
     if !starts_reference(bytes) {
         return Err(no_operand(bytes));
     }
-    local(alloc, scope, bytes)
+    local(alloc, context, bytes)
 }
 
 #[tactic(auto, unfolding(crate::specs::Reading::actual_list_in))]
 fn actual_list<'a>(
     alloc: Global,
-    scope: &Scope,
+    context: &Context,
     passing: Passing,
     bytes: &'a [u8],
 ) -> Result<(Vec<Actual>, &'a [u8]), Failure<Offence>>
-    ensures { Reads (λ x. (actual_trees x.0.items, x.1.now)) result (actual_list_in passing scope.now bytes.now) }
+    ensures { Reads (λ x. (actual_trees x.0.items, x.1.now)) result (actual_list_in passing context.now bytes.now) }
 {
     let Some(after) = byte_of(b'(', bytes) else {
         return Err(refused(Wrong::Form, bytes));
     };
-    actuals(alloc, scope, passing, after)
+    actuals(alloc, context, passing, after)
 }
 
 /// The expression that begins at this byte of a line, and the byte after it.
@@ -101,12 +104,12 @@ pub fn read_expr_where(
     ensures fault { IfErr result (λ e. Faults ByReference line.now at e) }
 {
     let (_, bytes) = line.split_at(at);
-    let scope = Scope {
+    let context = Context {
         end: line.len() + 1,
         left: DEEPEST,
         allows,
     };
-    match expr(alloc, &scope, bytes) {
+    match expr(alloc, &context, bytes) {
         Ok((tree, rest)) => Ok((tree, line.len() - rest.len())),
         Err(refusal) => Err(located(alloc, Passing::ByReference, line, at, refusal)),
     }
@@ -138,12 +141,12 @@ pub fn read_ref_where(
     ensures fault { IfErr result (λ e. Faults ByReference line.now at e) }
 {
     let (_, bytes) = line.split_at(at);
-    let scope = Scope {
+    let context = Context {
         end: line.len() + 1,
         left: DEEPEST - 1,
         allows,
     };
-    match reference(alloc, &scope, bytes) {
+    match reference(alloc, &context, bytes) {
         Ok((tree, rest)) => Ok((tree, line.len() - rest.len())),
         Err(refusal) => Err(located(alloc, Passing::ByReference, line, at, refusal)),
     }
@@ -181,12 +184,12 @@ pub fn read_actuals_where(
     ensures fault { IfErr result (λ e. Faults passing line.now at e) }
 {
     let (_, bytes) = line.split_at(at);
-    let scope = Scope {
+    let context = Context {
         end: line.len() + 1,
         left: DEEPEST - 1,
         allows,
     };
-    match actual_list(alloc, &scope, passing, bytes) {
+    match actual_list(alloc, &context, passing, bytes) {
         Ok((given, rest)) => Ok((given, line.len() - rest.len())),
         Err(refusal) => Err(located(alloc, passing, line, at, refusal)),
     }

@@ -11,12 +11,12 @@ pub mod actuals;
 mod functions;
 pub mod names;
 
+use crate::context::Context;
 use crate::part::{number, text};
 use crate::pattern::pattern;
 use crate::read::functions::dollar;
 use crate::read::names::{global, local};
 use crate::refusal::{Offence, Wrong, no_end, no_operand, refused, too_deep};
-use crate::scope::Scope;
 use mlk_expr_tokens::lexeme::{Kind, is_match, kind_of, may_go_on, op_at};
 use mlk_syntax::Expr;
 use mlk_text::lexeme::byte_of;
@@ -28,16 +28,16 @@ use std::alloc::Global;
 #[cycle(reading)]
 pub(crate) fn chain<'a>(
     alloc: Global,
-    scope: &Scope,
+    context: &Context,
     bytes: &'a [u8],
 ) -> Result<(Expr, &'a [u8]), Failure<Offence>>
-    ensures { Reads (λ x. (tree_of x.0, x.1.now)) result (nested_in scope.now bytes.now) }
+    ensures { Reads (λ x. (tree_of x.0, x.1.now)) result (nested_in context.now bytes.now) }
 {
-    let (first, rest) = atom(alloc, scope, bytes)?;
+    let (first, rest) = atom(alloc, context, bytes)?;
     if !may_go_on(rest) {
         return Ok((first, rest));
     }
-    going_on(alloc, scope, first, rest)
+    going_on(alloc, context, first, rest)
 }
 
 // The same in a function of its own, so that the place of its result is cleared only where it is called.
@@ -45,28 +45,28 @@ pub(crate) fn chain<'a>(
 #[inline(always)]
 fn going_on<'a>(
     alloc: Global,
-    scope: &Scope,
+    context: &Context,
     first: Expr,
     bytes: &'a [u8],
 ) -> Result<(Expr, &'a [u8]), Failure<Offence>>
     ensures { Reads (λ x. (tree_of x.0, x.1.now)) result
-        (going_on (atom_in scope.now) (pattern_at scope.now.left) (tree_of first) bytes.now) }
+        (going_on (atom_in context.now) (pattern_at context.now.left) (tree_of first) bytes.now) }
 {
-    chain_after(alloc, scope, first, bytes)
+    chain_after(alloc, context, first, bytes)
 }
 
 // The expression that goes on after its first operand.
 #[cycle(reading)]
 fn chain_after<'a>(
     alloc: Global,
-    scope: &Scope,
+    context: &Context,
     first: Expr,
     bytes: &'a [u8],
 ) -> Result<(Expr, &'a [u8]), Failure<Offence>>
     ensures { Reads (λ x. (tree_of x.0, x.1.now)) result
-        (going_on (atom_in scope.now) (pattern_at scope.now.left) (tree_of first) bytes.now) }
+        (going_on (atom_in context.now) (pattern_at context.now.left) (tree_of first) bytes.now) }
 {
-    let (links, rest) = match chain_rest(alloc, scope, bytes) {
+    let (links, rest) = match chain_rest(alloc, context, bytes) {
         Ok(read) => read,
         Err(failure) => return Err(giving_up(first, failure)),
     };
@@ -79,17 +79,17 @@ fn chain_after<'a>(
 #[cycle(reading)]
 fn chain_rest<'a>(
     alloc: Global,
-    scope: &Scope,
+    context: &Context,
     bytes: &'a [u8],
 ) -> Result<(Vec<(Op, Expr)>, &'a [u8]), Failure<Offence>>
     ensures { Reads (λ x. (links x.0.items, x.1.now)) result
-        (many op_at (linked (atom_in scope.now) (pattern_at scope.now.left)) (suc (length bytes.now)) bytes.now) }
+        (many op_at (linked (atom_in context.now) (pattern_at context.now.left)) (suc (length bytes.now)) bytes.now) }
 {
     let mut found = Vec::new(alloc);
     let mut rest = bytes;
     while let Some((op, after)) = op_at(rest) {
         make_room(&mut found)?;
-        let (item, after) = right(alloc, scope, op, after)?;
+        let (item, after) = right(alloc, context, op, after)?;
         found.push_reserved((op, item));
         rest = after;
     }
@@ -100,18 +100,18 @@ fn chain_rest<'a>(
 #[cycle(reading)]
 fn right<'a>(
     alloc: Global,
-    scope: &Scope,
+    context: &Context,
     op: Op,
     after: &'a [u8],
 ) -> Result<(Expr, &'a [u8]), Failure<Offence>>
     ensures { Reads (λ x. (tree_of x.0, x.1.now)) result
-        (right_by (atom_in scope.now) (pattern_at scope.now.left) (is_match op) after.now) }
+        (right_by (atom_in context.now) (pattern_at context.now.left) (is_match op) after.now) }
 {
     if is_match(op) {
-        let (text, rest) = pattern(alloc, scope.left, after)?;
+        let (text, rest) = pattern(alloc, context.left, after)?;
         return Ok((Expr::Pattern(Value::of(alloc, text)?), rest));
     }
-    atom(alloc, scope, after)
+    atom(alloc, context, after)
 }
 
 // An expression and a closing parenthesis.
@@ -119,12 +119,12 @@ fn right<'a>(
 #[inline(always)]
 fn enclosed<'a>(
     alloc: Global,
-    scope: &Scope,
+    context: &Context,
     bytes: &'a [u8],
 ) -> Result<(Expr, &'a [u8]), Failure<Offence>>
-    ensures { Reads (λ x. (tree_of x.0, x.1.now)) result (enclosed_with (nested_in scope.now) bytes.now) }
+    ensures { Reads (λ x. (tree_of x.0, x.1.now)) result (enclosed_with (nested_in context.now) bytes.now) }
 {
-    let (inner, rest) = chain(alloc, scope, bytes)?;
+    let (inner, rest) = chain(alloc, context, bytes)?;
     let Some(rest) = byte_of(b')', rest) else {
         return Err(no_end(rest));
     };
@@ -135,13 +135,13 @@ fn enclosed<'a>(
 #[cycle(reading)]
 fn prefixed<'a>(
     alloc: Global,
-    scope: &Scope,
+    context: &Context,
     op: UnaryOp,
     bytes: &'a [u8],
 ) -> Result<(Expr, &'a [u8]), Failure<Offence>>
-    ensures { Reads (λ x. (tree_of x.0, x.1.now)) result (with (Prefixed op) (atom_in scope.now bytes.now)) }
+    ensures { Reads (λ x. (tree_of x.0, x.1.now)) result (with (Prefixed op) (atom_in context.now bytes.now)) }
 {
-    let (operand, rest) = atom(alloc, scope, bytes)?;
+    let (operand, rest) = atom(alloc, context, bytes)?;
     Ok((Expr::Unary(op, Box::new(alloc, operand)?), rest))
 }
 
@@ -150,23 +150,23 @@ fn prefixed<'a>(
 #[inline(always)]
 fn signed<'a>(
     alloc: Global,
-    scope: &Scope,
+    context: &Context,
     op: UnaryOp,
     bytes: &'a [u8],
 ) -> Result<(Expr, &'a [u8]), Failure<Offence>>
-    ensures { Reads (λ x. (tree_of x.0, x.1.now)) result (with (Prefixed op) (atom_in scope.now bytes.now)) }
+    ensures { Reads (λ x. (tree_of x.0, x.1.now)) result (with (Prefixed op) (atom_in context.now bytes.now)) }
 {
-    prefixed(alloc, scope, op, bytes)
+    prefixed(alloc, context, op, bytes)
 }
 
 #[cycle(reading)]
 #[inline(always)]
 fn operand<'a>(
     alloc: Global,
-    scope: &Scope,
+    context: &Context,
     bytes: &'a [u8],
 ) -> Result<(Expr, &'a [u8]), Failure<Offence>>
-    ensures { Reads (λ x. (tree_of x.0, x.1.now)) result (operand_in scope.now bytes.now) }
+    ensures { Reads (λ x. (tree_of x.0, x.1.now)) result (operand_in context.now bytes.now) }
 {
     let Some((first, after)) = bytes.split_first() else {
         return Err(refused(Wrong::Form, bytes));
@@ -174,11 +174,11 @@ fn operand<'a>(
     match kind_of(*first) {
         Kind::Numeral => number(alloc, bytes),
         Kind::Quote => text(alloc, after),
-        Kind::Letter => local(alloc, scope, bytes),
-        Kind::Caret => global(alloc, scope, bytes, after),
-        Kind::Dollar => dollar(alloc, scope, bytes, after),
-        Kind::Open => enclosed(alloc, scope, after),
-        Kind::Prefix(op) => signed(alloc, scope, op, after),
+        Kind::Letter => local(alloc, context, bytes),
+        Kind::Caret => global(alloc, context, bytes, after),
+        Kind::Dollar => dollar(alloc, context, bytes, after),
+        Kind::Open => enclosed(alloc, context, after),
+        Kind::Prefix(op) => signed(alloc, context, op, after),
         Kind::Other => Err(no_operand(bytes)),
     }
 }
@@ -188,17 +188,17 @@ fn operand<'a>(
 #[inline(always)]
 pub(crate) fn atom<'a>(
     alloc: Global,
-    scope: &Scope,
+    context: &Context,
     bytes: &'a [u8],
 ) -> Result<(Expr, &'a [u8]), Failure<Offence>>
-    ensures { Reads (λ x. (tree_of x.0, x.1.now)) result (atom_in scope.now bytes.now) }
+    ensures { Reads (λ x. (tree_of x.0, x.1.now)) result (atom_in context.now bytes.now) }
 {
-    if scope.left == 0 {
-        return Err(too_deep(scope.allows, bytes));
+    if context.left == 0 {
+        return Err(too_deep(context.allows, bytes));
     }
-    let deeper = Scope {
-        left: scope.left - 1,
-        ..*scope
+    let deeper = Context {
+        left: context.left - 1,
+        ..*context
     };
     operand(alloc, &deeper, bytes)
 }

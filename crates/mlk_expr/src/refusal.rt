@@ -3,7 +3,7 @@
 ghost use Rattle.std.specs.Prelude.{◌≡◌};
 ghost use Rattle.mlk_text.specs.Failures.{IsRefused, IsLike};
 
-use crate::scope::{Allows, Passing};
+use crate::context::{Allows, Passing};
 use mlk_expr_tokens::lexeme::{Kind, count_at, kind_of};
 use mlk_expr_tokens::numeral::mantissa_len;
 use mlk_expr_tokens::words::{function_of, is_select, special_of};

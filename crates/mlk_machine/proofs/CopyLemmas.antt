@@ -4,7 +4,7 @@ use Rattle.std.specs.Prelude.{reverse, slice_get, take}
 use Rattle.std.proofs.lemmas.List.{length-map}
 use Rattle.indexmap.proofs.ReorderLemmas.{map-reverse}
 use Rattle.mlk_machine_jobs.specs.declared.binding.Binder.{Binder}
-use Rattle.mlk_machine_jobs.specs.declared.cell.Table.{Table}
+use Rattle.mlk_machine_jobs.specs.declared.cell.CellTable.{CellTable}
 use Rattle.mlk_machine_jobs.specs.declared.job.Job.{Job as JobIn}
 use Rattle.mlk_machine_jobs.specs.declared.pending.Pending.{Pending}
 use Rattle.mlk_machine_jobs.specs.declared.pending.Pending.TheVariants as pending
@@ -65,26 +65,26 @@ same_nested bs count n ps qs h k =
     (map-reverse shown_of ps ∙ ap reverse (sym h) ∙ sym (map-reverse shown_of qs)) (nested_to bs count n (reverse ps) k))
 
 -- tables
-pub same_table : (t u : Table) → ((n : List ℕ) → in_table u n ≡ in_table t n) → values_in u ≡ values_in t
+pub same_table : (t u : CellTable) → ((n : List ℕ) → in_table u n ≡ in_table t n) → values_in u ≡ values_in t
 same_table t u h i n = h n i
 
 abbrev value_by : List ℕ → Option (List ℕ → Option (List ℕ)) → Option (List ℕ)
 value_by n None = None
 value_by n (Some f) = f n
 
-at_shown : (ts : List Table) (g : ℕ) (n : List ℕ) → value_in n (slice_get ts g) ≡ value_by n (slice_get (map values_in ts) g)
+at_shown : (ts : List CellTable) (g : ℕ) (n : List ℕ) → value_in n (slice_get ts g) ≡ value_by n (slice_get (map values_in ts) g)
 at_shown [] zero n = refl
 at_shown [] (suc g) n = refl
 at_shown (t ∷ ts) zero n = refl
 at_shown (t ∷ ts) (suc g) n = at_shown ts g n
 
-same_values : (ts us : List Table) → map values_in us ≡ map values_in ts → value_at us ≡ value_at ts
+same_values : (ts us : List CellTable) → map values_in us ≡ map values_in ts → value_at us ≡ value_at ts
 same_values ts us h i c =
     (at_shown us c.generation c.name
     ∙ ap (λ (l : List (List ℕ → Option (List ℕ))). value_by c.name (slice_get l c.generation)) h
     ∙ sym (at_shown ts c.generation c.name)) i
 
-same_count : (ts us : List Table) → map values_in us ≡ map values_in ts → length us ≡ length ts
+same_count : (ts us : List CellTable) → map values_in us ≡ map values_in ts → length us ≡ length ts
 same_count ts us h = sym (length-map us values_in) ∙ ap length h ∙ length-map ts values_in
 
 -- A copy is the same job, and as sound.

@@ -8,7 +8,7 @@ use Rattle.mlk_text.specs.Lexemes.{digits, byte_at}
 use Rattle.mlk_text.proofs.Readers.{then_some, pair_parts, with_some}
 use Rattle.mlk_cert_lexemes.specs.Lists.{flat, more}
 use Rattle.mlk_cert_lexemes.specs.Texts.{byte_text, constant_text}
-use Rattle.mlk_cert_lexemes.specs.Kinds.{IsValue, IsEntry}
+use Rattle.mlk_cert_lexemes.specs.Kinds.{HasBytes, IsEntryText}
 use Rattle.mlk_cert_lexemes.specs.Reading.{word_at, number_at, positive, constant_at, next, entry_at}
 use Rattle.mlk_cert_lexemes.proofs.Formats.{Format, Anything, byte-is, word-is, word-back, more-is, more-back}
 use Rattle.mlk_cert_lexemes.proofs.NumberFormats.{number-format, positive-is, not-zero}
@@ -56,7 +56,7 @@ test-back false ys = refl
 
 -- a job that begins
 head-is : (k : ℕ) (e : List ℕ) (t : Bool) (xs ys : List ℕ) → head_at xs ≡ Some ((k, e, t), ys)
-    → (xs ≡ decimal k ++ 32 ∷ (e ++ 32 ∷ (test_digit t ∷ ys))) × IsJob k × IsEntry e
+    → (xs ≡ decimal k ++ 32 ∷ (e ++ 32 ∷ (test_digit t ∷ ys))) × IsJob k × IsEntryText e
 unfolding head_at
 head-is k e t xs ys h =
     let j = then_some (job_at xs) _ ((k, e, t), ys) h in
@@ -68,7 +68,7 @@ head-is k e t xs ys h =
     let two = entry-format.sound n.0.0 a.0.1 n.0.1 n.1 in
     let three = test-is s.0 b.0.1 ys s.1 in
     let P : ℕ × List ℕ × Bool → Type 0 =
-    λ z. (xs ≡ decimal z.0 ++ 32 ∷ (z.1 ++ 32 ∷ (test_digit z.2 ∷ ys))) × IsJob z.0 × IsEntry z.1 in
+    λ z. (xs ≡ decimal z.0 ++ 32 ∷ (z.1 ++ 32 ∷ (test_digit z.2 ∷ ys))) × IsJob z.0 × IsEntryText z.1 in
     subst P (sym s.2) (
       one.0
           ∙ ap (λ l. decimal j.0.0 ++ l) ((byte-is 32 a.0.0 j.0.1 a.0.1 a.1).0
@@ -84,7 +84,7 @@ begin-is o xs ys h =
     let d = then_some (head_at xs) _ (o, ys) h in
     let m = with_some (beginning_of d.0.0) (many (byte_at 32) (next constant_at) (suc (length d.0.1)) d.0.1) o ys d.2 in
     let one = head-is d.0.0.0 d.0.0.1 d.0.0.2 xs d.0.1 d.1 in
-    let two = more-is constant_text IsValue NoQuote constant_at constant-format 32 (suc (length d.0.1)) m.0 d.0.1 ys m.1 in
+    let two = more-is constant_text HasBytes NoQuote constant_at constant-format 32 (suc (length d.0.1)) m.0 d.0.1 ys m.1 in
     let P : Order → Type 0 = λ z. (codes "begin " ++ xs ≡ order_text z ++ ys) × IsOrder z in
     let assoc : (decimal d.0.0.0 ++ 32 ∷ (d.0.0.1 ++ 32 ∷ (test_digit d.0.0.2 ∷ more 32 constant_text m.0))) ++ ys
     ≡ decimal d.0.0.0 ++ 32 ∷ (d.0.0.1 ++ 32 ∷ (test_digit d.0.0.2 ∷ (more 32 constant_text m.0 ++ ys))) =
@@ -110,7 +110,7 @@ begin-back b zs is =
     (rw (job-back b.job (32 ∷ (b.entry ++ 32 ∷ (test_digit b.test ∷ after))) is.job refl)
     (rw (entry-format.complete b.entry (32 ∷ (test_digit b.test ∷ after)) is.entry refl)
     (rw (test-back b.test after)
-    (rw (more-back constant_text IsValue NoQuote constant_at constant-format 32 (λ n. refl) (suc (length after)) b.values ys
+    (rw (more-back constant_text HasBytes NoQuote constant_at constant-format 32 (λ n. refl) (suc (length after)) b.values ys
     is.values refl refl (omega arith)) refl))))
 
 -- a step
@@ -240,7 +240,7 @@ go-chosen : (k : ℕ) (xs : List ℕ) → IsJob k → go_at (decimal k ++ 32 ∷
 unfolding go_at
 go-chosen k xs is = rw (job-back k (32 ∷ xs) is refl) refl
 
-value-back : (k : ℕ) (v zs : List ℕ) → IsValue v → chosen_at k (constant_text v ++ 10 ∷ zs) ≡ Some (GoValue k v, 10 ∷ zs)
+value-back : (k : ℕ) (v zs : List ℕ) → HasBytes v → chosen_at k (constant_text v ++ 10 ∷ zs) ≡ Some (GoValue k v, 10 ∷ zs)
 unfolding chosen_at
 value-back k v zs is =
     let tail : List ℕ = (flat byte_text v ++ 34 ∷ []) ++ 10 ∷ zs in

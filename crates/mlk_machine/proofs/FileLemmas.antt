@@ -12,7 +12,7 @@ use Rattle.mlk_machine.specs.EventTexts.{line_text, file_text}
 use Rattle.mlk_machine.specs.EventReading.{line_at}
 use Rattle.mlk_machine.proofs.EventFormats.{line-format}
 use Rattle.mlk_machine.proofs.LineLemmas.{line-shorter}
-use Rattle.mlk_machine.specs.Files.{Asked, asked, AsksFor, Says, IsFirstOther}
+use Rattle.mlk_machine.specs.Files.{Asked, asked, AsksFor, SaysEvents, IsFirstOther}
 use Rattle.mlk_machine.specs.InstructionViews.{asked_by, asked_at}
 
 -- what was read at the front of a file
@@ -106,7 +106,7 @@ read_more routines bytes rest after asks line next a so h e =
     }
 
 pub read_all : (routines : List RoutineTree) (bytes rest : List ℕ) (asks : List Asked) (line : ℕ)
-    → SoFar routines bytes rest asks line → rest ≡ [] → Says routines bytes asks
+    → SoFar routines bytes rest asks line → rest ≡ [] → SaysEvents routines bytes asks
 read_all routines bytes rest asks line so e = record {
   orders = so.orders;
   whole = so.whole ∙ ap (λ l. file_text so.orders ++ l) e ∙ append-nil (file_text so.orders);

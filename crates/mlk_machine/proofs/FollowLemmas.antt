@@ -20,7 +20,7 @@ use Rattle.mlk_machine.specs.declared.fault.EventsRefusal.{EventsRefusal}
 use Rattle.mlk_machine.specs.declared.fault.EventsRefusal.TheVariants as refusal
 use Rattle.mlk_machine.specs.declared.instruction.Instruction.{Instruction}
 use Rattle.mlk_machine.specs.InstructionViews.{asked_of}
-use Rattle.mlk_machine.specs.Files.{Asked, GoesOn, Says, IsFirstOther, made, then_next, in_turn, StopsSo, FollowedSo, IsRefusedAt, IsStopped, ReplayedFile}
+use Rattle.mlk_machine.specs.Files.{Asked, GoesOn, SaysEvents, IsFirstOther, made, then_next, in_turn, StopsSo, FollowedSo, IsRefusedAt, IsStopped, ReplayedFile}
 
 -- What is left says what the whole says, where the first of it has this number.
 pub record Half (first now : Running) (all left : List Asked) (line : ℕ) : Type 0 where
@@ -99,7 +99,7 @@ module _ (program : List Routine) (entries : List EntryId) (bytes : List ℕ) wh
       form_of (refusal.Refused r) line h = absurd (cc (h.0))
 
   pub all_followed : (asks : List Asked) (s t : Running)
-      → s ≡ record { program = program; entries = entries; jobs = [] } → IsSame s t → Says (map routine_of program) bytes asks
+      → s ≡ record { program = program; entries = entries; jobs = [] } → IsSame s t → SaysEvents (map routine_of program) bytes asks
       → FollowedSo (machine_of s) (routines_in s) asks (jobs_in s) (jobs_in t) (Ok tt)
       → ReplayedFile program entries bytes (Ok t)
   all_followed asks s t e same says h =
@@ -113,7 +113,7 @@ module _ (program : List Routine) (entries : List EntryId) (bytes : List ℕ) wh
       begun_so r e h = sym (ap (λ (r : Running). in_turn (machine_of r) (routines_in r) 1 asks (jobs_in r)) e) ∙ h
 
   pub follow_stopped : (asks : List Asked) (s : Running) (new : List Job) (why : Failure EventsFault)
-      → s ≡ record { program = program; entries = entries; jobs = [] } → Says (map routine_of program) bytes asks
+      → s ≡ record { program = program; entries = entries; jobs = [] } → SaysEvents (map routine_of program) bytes asks
       → FollowedSo (machine_of s) (routines_in s) asks (jobs_in s) new (Err why)
       → ReplayedFile program entries bytes (Err why)
   follow_stopped asks s new OutOfMemory e says h = tt

@@ -1,7 +1,7 @@
 -- What a copy of a job keeps: of a task what the definition sees of it, of an end all, of a table its values. It serves
 -- clauses of calls that are not public. This project's own.
 use Rattle.std.specs.Prelude.{ℕ, Bool, List, Option}
-use Rattle.mlk_machine_jobs.specs.declared.cell.Table.{Table}
+use Rattle.mlk_machine_jobs.specs.declared.cell.CellTable.{CellTable}
 use Rattle.mlk_machine_jobs.specs.declared.pending.Back.{Back}
 use Rattle.mlk_machine_jobs.specs.declared.pending.Frame.{Frame}
 use Rattle.mlk_machine_jobs.specs.declared.pending.Pending.{Pending}
@@ -20,5 +20,5 @@ shown_of (pending.Task t) = ToDo (task_of t)
 shown_of (pending.EndBlock back test) = BlockEnd back test
 shown_of (pending.EndFrame frame back routine) = FrameEnd frame back routine
 
-abbrev pub values_in : Table → List ℕ → Option (List ℕ)
+abbrev pub values_in : CellTable → List ℕ → Option (List ℕ)
 values_in t n = in_table t n

@@ -4,7 +4,7 @@ use Rattle.std.specs.Prelude.{ℕ, ◌≤◌, Bool, true, false, List, [], ◌�
 use Rattle.std.specs.Fmt.{decimal}
 use Rattle.mlk_cert_lexemes.specs.Lists.{Each, flat, more}
 use Rattle.mlk_cert_lexemes.specs.Texts.{constant_text}
-use Rattle.mlk_cert_lexemes.specs.Kinds.{IsValue, IsEntry}
+use Rattle.mlk_cert_lexemes.specs.Kinds.{HasBytes, IsEntryText}
 use Rattle.mlk_machine.specs.declared.order.Beginning.{Beginning}
 use Rattle.mlk_machine.specs.declared.order.Order.{Order}
 use Rattle.mlk_machine.specs.declared.order.Order.TheVariants.{Begin, Go, GoValue, GoTruth, Run, Abort}
@@ -50,13 +50,13 @@ file_text orders = flat line_text orders
 -- numbers, entries and values that can be written
 pub record IsBeginning (b : Beginning) : Type 0 where
   pub job : IsJob b.job
-  pub entry : IsEntry b.entry
-  pub values : Each IsValue b.values
+  pub entry : IsEntryText b.entry
+  pub values : Each HasBytes b.values
 
 abbrev pub IsOrder : Order → Type 0
 IsOrder (Begin b) = IsBeginning b
 IsOrder (Go job) = IsJob job
-IsOrder (GoValue job value) = IsJob job × IsValue value
+IsOrder (GoValue job value) = IsJob job × HasBytes value
 IsOrder (GoTruth job truth) = IsJob job
 IsOrder (Run job) = IsJob job
 IsOrder (Abort job) = IsJob job

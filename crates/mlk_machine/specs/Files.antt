@@ -45,7 +45,7 @@ abbrev pub AsksFor : List RoutineTree → Order → Asked → Type 0
 AsksFor routines o a = IsOrder o × (asked routines o ≡ Some a)
 
 -- What the lines of a file ask for.
-pub record Says (routines : List RoutineTree) (bytes : List ℕ) (asks : List Asked) : Type 0 where
+pub record SaysEvents (routines : List RoutineTree) (bytes : List ℕ) (asks : List Asked) : Type 0 where
   pub orders : List Order
   pub whole : bytes ≡ file_text orders
   pub each : EachPair (AsksFor routines) orders asks
@@ -98,14 +98,14 @@ IsRefusedAt routines bytes (Refused fault) = (fault.why ≡ refusal.Form) × IsF
 abbrev pub IsStopped : List Routine → List EntryId → List ℕ → ℕ → EventsRefusal → Type 0
 IsStopped program entries bytes line refusal.Form = IsFirstOther (map routine_of program) bytes line
 IsStopped program entries bytes line (refusal.Refused why) =
-    (asks : List Asked) × Says (map routine_of program) bytes asks
+    (asks : List Asked) × SaysEvents (map routine_of program) bytes asks
     × StopsSo (in_turn (machine_in program entries) (map routine_of program) 1 asks []) line (refusal.Refused why)
 
 -- What is left after all lines of a file, from no jobs on; or the line at which that stops, and why.
 abbrev pub ReplayedFile : List Routine → List EntryId → List ℕ → Result Running (Failure EventsFault) → Type 0
 ReplayedFile program entries bytes (Ok s) =
     (s.program ≡ program) × (s.entries ≡ entries)
-    × ((asks : List Asked) × Says (map routine_of program) bytes asks
+    × ((asks : List Asked) × SaysEvents (map routine_of program) bytes asks
     × (in_turn (machine_in program entries) (map routine_of program) 1 asks [] ≡ Ok (jobs_in s)))
 ReplayedFile program entries bytes (Err OutOfMemory) = Unit {0}
 ReplayedFile program entries bytes (Err (Refused fault)) = IsStopped program entries bytes fault.line fault.why

@@ -6,7 +6,7 @@ ghost use Rattle.mlk_machine_jobs.specs.Sound.{Sound};
 ghost use Rattle.mlk_machine_jobs.specs.TaskViews.{lock_task, task_of};
 ghost use Rattle.mlk_machine.specs.Copies.{shown_of, values_in};
 
-use mlk_machine_jobs::{Job, LockTask, Pending, Table, Task};
+use mlk_machine_jobs::{CellTable, Job, LockTask, Pending, Task};
 use mlk_text::copy_of;
 use std::alloc::{AllocError, Global};
 
@@ -61,13 +61,16 @@ fn copy_pending<'a>(alloc: Global, pending: &[Pending<'a>]) -> Result<Vec<Pendin
 }
 
 #[tactic(auto, using(crate::proofs::CopyLemmas::same_table))]
-fn copy_table<'a>(table: &Table<'a>) -> Result<Table<'a>, AllocError>
+fn copy_table<'a>(table: &CellTable<'a>) -> Result<CellTable<'a>, AllocError>
     ensures { IfOk result (λ copy. values_in copy ≡ values_in table.now) }
 {
     table.copy()
 }
 
-fn copy_tables<'a>(alloc: Global, tables: &[Table<'a>]) -> Result<Vec<Table<'a>>, AllocError>
+fn copy_tables<'a>(
+    alloc: Global,
+    tables: &[CellTable<'a>],
+) -> Result<Vec<CellTable<'a>>, AllocError>
     ensures { IfOk result (λ copies. map values_in copies.items ≡ map values_in tables.now) }
 {
     let mut copies = Vec::with_capacity(alloc, tables.len())?;

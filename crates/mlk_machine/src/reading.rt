@@ -3,7 +3,7 @@
 ghost use Rattle.std.specs.Prelude.{◌≡◌, IfOk, IfErr, map};
 ghost use Rattle.mlk_text.specs.Failures.{Reads};
 ghost use Rattle.mlk_syntax.specs.Views.{routine_of};
-ghost use Rattle.mlk_machine.specs.Files.{Says, IsRefusedAt};
+ghost use Rattle.mlk_machine.specs.Files.{SaysEvents, IsRefusedAt};
 ghost use Rattle.mlk_machine.specs.InstructionViews.{asked_of, asked_at};
 
 use crate::fault::{EventsFault, EventsRefusal};
@@ -35,7 +35,7 @@ pub(crate) fn read_events(
     program: &Program,
     bytes: &[u8],
 ) -> Result<Vec<Instruction>, Failure<EventsFault>>
-    ensures read { IfOk result (λ found. Says (map routine_of program.now) bytes.now (map asked_of found.items)) }
+    ensures read { IfOk result (λ found. SaysEvents (map routine_of program.now) bytes.now (map asked_of found.items)) }
     ensures refused { IfErr result (λ e. IsRefusedAt (map routine_of program.now) bytes.now e) }
 {
     let mut found = Vec::new(alloc);

@@ -21,9 +21,9 @@ use Rattle.mlk_machine_jobs.specs.Tasks.{Task, Job, NoValue}
 use Rattle.mlk_machine_jobs.specs.Tasks.{RunLines, RunCommands, Parameters, Forever, NextValue, FirstRound, LaterRound, EndBlock, EndFrame}
 use Rattle.mlk_machine_jobs.specs.Commands.{action_parts}
 use Rattle.mlk_machine_jobs.specs.Choices.{Stepped, without_choice, dropped, doing}
-use Rattle.mlk_machine_jobs.specs.Locking.{if_free, granted, claimed, held_more, tested}
+use Rattle.mlk_machine_jobs.specs.Locking.{if_free, granted, claim_step, held_more, tested}
 use Rattle.mlk_machine_jobs.specs.Lines.{to_end, chosen, tasks_if}
-use Rattle.mlk_machine_jobs.specs.Calling.{frame_of, called_if, lines_after}
+use Rattle.mlk_machine_jobs.specs.Calling.{call_frame, called_if, lines_after}
 use Rattle.mlk_machine_jobs.specs.Advance.{advance}
 use Rattle.mlk_machine_jobs.specs.Runs.{blank, by_value, formals_at, begun, aborted, seen, is_job_number, machine}
 use Rattle.mlk_machine_jobs.specs.Laws.{HeldApart, NumbersDistinct, OneRunOfMany, LeavingOut, ChangesOne, RingsAreFound, EndedStays}
@@ -61,7 +61,7 @@ steps routines free c j (task.LockNamed sign names timed ∷ ts) = unasked free 
 steps routines free c j (task.Claim names timed ∷ ts) = of_claim free j c names timed ts
 steps routines free c j (task.Release names ∷ ts) = of_release free j c _ names refl refl
 steps routines free c j (task.ReleaseAll ∷ ts) = of_release_all free j c _ refl refl
-steps routines free c j (task.Call extrinsic callee given ∷ ts) = unasked free j c _ (of_call free j routines (frame_of extrinsic j) _ given ts j refl refl)
+steps routines free c j (task.Call extrinsic callee given ∷ ts) = unasked free j c _ (of_call free j routines (call_frame extrinsic j) _ given ts j refl refl)
 steps routines free c j (task.CallIf callee given ∷ ts) = of_condition free j c j (λ t i. called_if t routines (target_of routines i.routine callee) given ts i) (λ t. of_call_if free j t routines (target_of routines j.routine callee) given ts (dropped 1 j) refl refl)
 steps routines free c j (task.Block lines ∷ ts) = unasked free j c _ (same free j _ refl refl)
 steps routines free c j (RunLines lines ∷ ts) = unasked free j c _ (of_line free j lines ts)
@@ -90,8 +90,8 @@ granted_more free more f names j i h = on _ refl
         rw (all_more free more f names p.0, p.1) e
 
 claim_more : (free more : LockName → Bool) → ((n : LockName) → free n ≡ true → more n ≡ true) → (c : Choice)
-    → (names : List LockName) (timed : Bool) (j i : Job) → claimed free c names timed j ≡ Ok i
-    → claimed more c names timed j ≡ Ok i
+    → (names : List LockName) (timed : Bool) (j i : Job) → claim_step free c names timed j ≡ Ok i
+    → claim_step more c names timed j ≡ Ok i
 claim_more free more f choice.None names false j i h = granted_more free more f names j i h
 claim_more free more f (choice.Value v) names false j i h = asked (granted free names j) h
   where

@@ -16,8 +16,9 @@ use Rattle.mlk_program.specs.declared.entry.EntryId.{EntryId}
 use Rattle.mlk_machine_jobs.specs.declared.choice.Choice.{Choice}
 use Rattle.mlk_machine_jobs.specs.declared.choice.Choice.TheVariants as choice
 use Rattle.mlk_machine_jobs.specs.Tasks.{Task, Job, LineTree, Frame, NoValue, AwaitsValue, HasValue, EndFrame}
-use Rattle.mlk_machine_jobs.specs.Choices.{Stepped, without_choice, with_value, with_truth, with_last, truth_of, by_truth, is_one, is_zero, given_or_asked, fetched, touched, dropped, doing}
-use Rattle.mlk_machine_jobs.specs.Locking.{claimed, timed_claim, if_free}
+use Rattle.mlk_numbers.specs.Operators.{truth_of_text}
+use Rattle.mlk_machine_jobs.specs.Choices.{Stepped, without_choice, with_value, with_truth, with_last, truth_or_asked, by_truth, given_or_asked, fetched, touched, dropped, doing}
+use Rattle.mlk_machine_jobs.specs.Locking.{claim_step, timed_claim, if_free}
 use Rattle.mlk_machine_jobs.specs.Lines.{selected, chosen, next_line, answered}
 use Rattle.mlk_machine_jobs.specs.Calling.{entered, called, called_if, frame_end}
 
@@ -65,17 +66,12 @@ module _ (free : LockName → Bool) (j : Job) where
   of_last [] f h i e = cc
   of_last (v ∷ vs) f h i e = h v i e
 
-  of_if : (b : Bool) (s t : Stepped) → Keeps s → Keeps t → Keeps (if b then s else t)
-  of_if true s t p q i e = p i e
-  of_if false s t p q i e = q i e
-
-  of_known : (c : Choice) (v : List ℕ) (f : Bool → Stepped) → ((t : Bool) → Keeps (f t)) → Keeps (truth_of c v f)
-  of_known c v f h =
-      of_if (is_one v) _ _ (unasked c (f true) (h true))
-      (of_if (is_zero v) _ _ (unasked c (f false) (h false)) (of_truth c f h))
+  of_known : (c : Choice) (o : Option Bool) (f : Bool → Stepped) → ((t : Bool) → Keeps (f t)) → Keeps (truth_or_asked c o f)
+  of_known c None f h = of_truth c f h
+  of_known c (Some t) f h = unasked c (f t) (h t)
 
   pub of_condition : (c : Choice) (k : Job) (f : Bool → Job → Stepped) → ((t : Bool) → Keeps (f t (dropped 1 k))) → Keeps (by_truth c k f)
-  of_condition c k f h = of_last k.values _ (λ v. of_known c v (λ t. f t (dropped 1 k)) h)
+  of_condition c k f h = of_last k.values _ (λ v. of_known c (truth_of_text v) (λ t. f t (dropped 1 k)) h)
 
   pub of_result : (c : Choice) (o : Option (List ℕ)) (f : List ℕ → Stepped) → ((v : List ℕ) → Keeps (f v)) → Keeps (given_or_asked c o f)
   of_result c None f h = of_value c f h
@@ -145,7 +141,7 @@ module _ (free : LockName → Bool) (j : Job) where
           when_done k (record { number = n; holds = subst P (sym h) (all_added free names j.held a) })
 
   pub of_claim : (c : Choice) (names : List LockName) (timed : Bool) (ts : List Task)
-      → Keeps (claimed free c names timed (doing ts j))
+      → Keeps (claim_step free c names timed (doing ts j))
   of_claim c names false ts = unasked c _ (granted names _ refl refl)
   of_claim c names true ts = of_truth c _ (λ t. elim t as (λ t. Keeps (timed_claim free names t (doing ts j))) [
     | true ↦ granted names _ refl refl

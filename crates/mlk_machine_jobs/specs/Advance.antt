@@ -11,17 +11,17 @@ use Rattle.mlk_machine_jobs.specs.declared.choice.Choice.{Choice}
 use Rattle.mlk_machine_jobs.specs.Bindings.{Fresh, look, killed}
 use Rattle.mlk_numbers.specs.Operators.{fold_before, fold_between}
 use Rattle.mlk_machine_jobs.specs.Tasks as task
-use Rattle.mlk_machine_jobs.specs.Tasks.{Task, Job, NoValue}
+use Rattle.mlk_machine_jobs.specs.Tasks.{Task, Job}
 use Rattle.mlk_machine_jobs.specs.Tasks.{RunLines, RunCommands, Parameters, Forever, NextValue, FirstRound, LaterRound, EndBlock, EndFrame}
 use Rattle.mlk_machine_jobs.specs.Expressions.{parts_of}
 use Rattle.mlk_machine_jobs.specs.Commands.{action_parts, count_in}
 use Rattle.mlk_machine_jobs.specs.Choices.{Stepped, without_choice, with_value, with_truth, pushed, dropped, last_values, doing, with_last}
-use Rattle.mlk_machine_jobs.specs.Choices.{by_truth, same_truth, test_text, given_or_asked, fetched, stored, touch_of, touched}
+use Rattle.mlk_machine_jobs.specs.Choices.{by_truth, same_truth, test_text, given_or_asked, fetched, stored, touch_at, touched}
 use Rattle.mlk_machine_jobs.specs.Assigning.{assignments, count_parts, merge_source, merge_target}
-use Rattle.mlk_machine_jobs.specs.Locking.{count_all, names_of, by_sign, tested, claimed}
+use Rattle.mlk_machine_jobs.specs.Locking.{count_all, names_of, by_sign, tested, claim_step}
 use Rattle.mlk_machine_jobs.specs.Lines.{skipped, to_end, quit, answered, tasks_if, selected, chosen, next_line, next_command}
 use Rattle.mlk_machine_jobs.specs.Lines.{parameter_parts, first_round, later_round}
-use Rattle.mlk_machine_jobs.specs.Calling.{frame_of, called, called_if, back_to, frame_end}
+use Rattle.mlk_machine_jobs.specs.Calling.{call_frame, called, called_if, back_to, frame_end}
 
 -- What a job's first task makes of it, where these names are free. The tasks after it are `ts`.
 abbrev pub advance : List RoutineTree → (LockName → Bool) → Choice → Job → List Task → Stepped
@@ -41,7 +41,7 @@ advance routines free c j (task.Drop n ∷ ts) = without_choice c (Ok (doing ts 
 advance routines free c j (task.Select choices ∷ ts) = without_choice c (selected choices ts j)
 advance routines free c j (task.Selected value others ∷ ts) = by_truth c j (chosen value others ts)
 advance routines free c j (task.FormReference name n e a ∷ ts) =
-    without_choice c (Ok (doing (task.DoTouch (touch_of name (last_values n j) e a) ∷ ts) (dropped n j)))
+    without_choice c (Ok (doing (task.DoTouch (touch_at name (last_values n j) e a) ∷ ts) (dropped n j)))
 advance routines free c j (task.DoTouch touch ∷ ts) = touched c touch.access j ts
 advance routines free c j (task.Store name value ∷ ts) = without_choice c (Ok (doing ts (stored name value j)))
 advance routines free c j (task.StoreAny name ∷ ts) = with_value c (λ v. Ok (doing ts (stored name v j)))
@@ -68,12 +68,12 @@ advance routines free c j (task.Conditionally action block ∷ ts) =
 advance routines free c j (task.LockNamed sign names timed ∷ ts) = without_choice c
     (Ok (doing (by_sign sign (names_of (last_values (count_all names) j) names) timed ++ ts)
     (dropped (count_all names) j)))
-advance routines free c j (task.Claim names timed ∷ ts) = claimed free c names timed (doing ts j)
+advance routines free c j (task.Claim names timed ∷ ts) = claim_step free c names timed (doing ts j)
 advance routines free c j (task.Release names ∷ ts) =
     without_choice c (Ok (doing ts (record j { held = all_lowered names j.held })))
 advance routines free c j (task.ReleaseAll ∷ ts) = without_choice c (Ok (doing ts (record j { held = [] })))
 advance routines free c j (task.Call extrinsic callee given ∷ ts) =
-    without_choice c (called routines (frame_of extrinsic j) (target_of routines j.routine callee) given ts j)
+    without_choice c (called routines (call_frame extrinsic j) (target_of routines j.routine callee) given ts j)
 advance routines free c j (task.CallIf callee given ∷ ts) =
     by_truth c j (λ t i. called_if t routines (target_of routines i.routine callee) given ts i)
 advance routines free c j (task.Block lines ∷ ts) =

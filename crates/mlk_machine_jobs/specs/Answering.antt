@@ -6,9 +6,9 @@ abbrev pub awaits : Task → Bool
 awaits (EndFrame (AwaitsValue test) back next routine) = true
 awaits t = false
 
-abbrev pub with_value : Task → Task
-with_value (EndFrame (AwaitsValue test) back next routine) = EndFrame (HasValue test) back next routine
-with_value t = t
+abbrev pub given_value : Task → Task
+given_value (EndFrame (AwaitsValue test) back next routine) = EndFrame (HasValue test) back next routine
+given_value t = t
 
 abbrev pub keeps_value : List Task → Bool
 keeps_value [] = false
@@ -16,4 +16,4 @@ keeps_value (t ∷ ts) = awaits t
 
 abbrev pub value_kept : List Task → List Task
 value_kept [] = []
-value_kept (t ∷ ts) = with_value t ∷ ts
+value_kept (t ∷ ts) = given_value t ∷ ts

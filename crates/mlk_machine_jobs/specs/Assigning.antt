@@ -7,7 +7,7 @@ use Rattle.mlk_syntax.specs.Trees.{VariableTree, Named, TargetTree, SetWhole, Se
 use Rattle.mlk_machine_jobs.specs.Tasks as task
 use Rattle.mlk_machine_jobs.specs.Tasks.{Task}
 use Rattle.mlk_machine_jobs.specs.Commands.{count_in}
-use Rattle.mlk_machine_jobs.specs.Choices.{touch_of}
+use Rattle.mlk_machine_jobs.specs.Choices.{touch_at}
 
 -- The assignments of SET, from left to right, of a value and the values that the targets need: a target that is part of
 -- a global is read, and then written; a local that is assigned a part may have any value then. Nothing is kept of what
@@ -15,11 +15,11 @@ use Rattle.mlk_machine_jobs.specs.Choices.{touch_of}
 abbrev pub assigned : List ℕ → List (List ℕ) → TargetTree → List Task
 assigned value subs (SetWhole (Named column (LocalName name no_subs))) = task.Store name value ∷ []
 assigned value subs (SetWhole (Named column (GlobalName caret name ss))) =
-    task.DoTouch (touch_of name subs extent.Node Writes) ∷ []
+    task.DoTouch (touch_at name subs extent.Node Writes) ∷ []
 assigned value subs (SetPart part (Named column (LocalName name no_subs)) arguments) = task.StoreAny name ∷ []
 assigned value subs (SetPart part (Named column (GlobalName caret name ss)) arguments) =
-    task.DoTouch (touch_of name subs extent.Node Reads) ∷ task.Drop 1
-    ∷ task.DoTouch (touch_of name subs extent.Node Writes) ∷ []
+    task.DoTouch (touch_at name subs extent.Node Reads) ∷ task.Drop 1
+    ∷ task.DoTouch (touch_at name subs extent.Node Writes) ∷ []
 assigned value subs v = []
 
 abbrev pub subs_of_target : TargetTree → ℕ
@@ -42,7 +42,7 @@ assignments value needs (t ∷ ts) =
 -- MERGE, of the subscripts of both sides: the tree on the right is read, then the left one is written. What a local
 -- without subscripts is merged with may have any value.
 abbrev pub merge_source : List (List ℕ) → VariableTree → List Task
-merge_source subs (Named column (GlobalName caret name ss)) = task.DoTouch (touch_of name subs extent.Tree Reads) ∷ []
+merge_source subs (Named column (GlobalName caret name ss)) = task.DoTouch (touch_at name subs extent.Tree Reads) ∷ []
 merge_source subs v = []
 
 abbrev pub merge_target : List (List ℕ) → VariableTree → VariableTree → List Task
@@ -50,8 +50,8 @@ merge_target subs (Named column (LocalName name no_subs)) (Named c (GlobalName c
     task.StoreLast name ∷ []
 merge_target subs (Named column (LocalName name no_subs)) v = task.StoreAny name ∷ []
 merge_target subs (Named column (GlobalName caret name ss)) (Named c (GlobalName d other ts)) =
-    task.Drop 1 ∷ task.DoTouch (touch_of name subs extent.Tree Writes) ∷ []
+    task.Drop 1 ∷ task.DoTouch (touch_at name subs extent.Tree Writes) ∷ []
 merge_target subs (Named column (GlobalName caret name ss)) v =
-    task.DoTouch (touch_of name subs extent.Tree Writes) ∷ []
+    task.DoTouch (touch_at name subs extent.Tree Writes) ∷ []
 merge_target subs v (Named c (GlobalName caret other ss)) = task.Drop 1 ∷ []
 merge_target subs v w = []

@@ -9,12 +9,9 @@ pub data Names : Type 0 where
   Only : (name : List ℕ) → Names
   AllBut : (names : List (List ℕ)) → Names
 
-abbrev pub is_among : List (List ℕ) → List ℕ → Bool
-is_among names n = list_any (bytes_eq n) names
-
 abbrev pub covers : Names → List ℕ → Bool
 covers (Only name) n = bytes_eq name n
-covers (AllBut names) n = not (is_among names n)
+covers (AllBut names) n = not (list_any (bytes_eq n) names)
 
 -- A cell: which NEW or call made it, and the name that it was made for. What nothing made has generation 0: each name
 -- has such a cell.
@@ -48,8 +45,8 @@ Cells = Cell → Option (List ℕ)
 abbrev pub no_values : Cells
 no_values c = None
 
-abbrev pub put : Cell → List ℕ → Cells → Cells
-put cell value cells c = if same_cell cell c then Some value else cells c
+abbrev pub put_value : Cell → List ℕ → Cells → Cells
+put_value cell value cells c = if same_cell cell c then Some value else cells c
 
 -- cells of this generation and of later ones are forgotten: nothing is bound to them any more
 abbrev pub forgotten : ℕ → Cells → Cells

@@ -7,7 +7,7 @@ use Rattle.mlk_syntax.specs.Trees.{HeadTree, LineHead, CommandTrees, RoutineTree
 use Rattle.mlk_program.specs.declared.entry.EntryId.{EntryId}
 use Rattle.mlk_program.specs.Entries.{lines_in}
 use Rattle.mlk_machine_jobs.specs.declared.choice.Choice.{Choice}
-use Rattle.mlk_machine_jobs.specs.Bindings.{Only, Binder, Fresh, ByReference, Bindings, Cells, look, put, forgotten}
+use Rattle.mlk_machine_jobs.specs.Bindings.{Only, Binder, Fresh, ByReference, Bindings, Cells, look, put_value, forgotten}
 use Rattle.mlk_machine_jobs.specs.Tasks.{Task, Job, LineTree, Frame, NoValue, AwaitsValue, HasValue, RunLines, RunCommands, EndFrame}
 use Rattle.mlk_machine_jobs.specs.Choices.{Stepped, without_choice, with_value, last_values, pushed, dropped, doing}
 use Rattle.mlk_machine_jobs.specs.Locking.{tested}
@@ -35,7 +35,7 @@ binders caller g (f ∷ formals) given =
 -- The cell of a formal that is given a value has that value.
 abbrev pub with_actuals : ℕ → List (List ℕ) → List ActualTree → List (List ℕ) → Cells → Cells
 with_actuals g (f ∷ formals) (Given t ∷ given) (v ∷ values) cells =
-    with_actuals g formals given values (put (record { generation = g; name = f }) v cells)
+    with_actuals g formals given values (put_value (record { generation = g; name = f }) v cells)
 with_actuals g (f ∷ formals) (ByRef column name ∷ given) values cells = with_actuals g formals given values cells
 with_actuals g (f ∷ formals) (Missing ∷ given) values cells = with_actuals g formals given values cells
 with_actuals g formals given values cells = cells
@@ -62,9 +62,9 @@ lines_after routines e = from_its_own (slice_get routines e.routine)
     from_its_own None = []
     from_its_own (Some tree) = drop e.line (lines_in tree)
 
-abbrev pub frame_of : Bool → Job → Frame
-frame_of true j = AwaitsValue j.test
-frame_of false j = NoValue
+abbrev pub call_frame : Bool → Job → Frame
+call_frame true j = AwaitsValue j.test
+call_frame false j = NoValue
 
 -- A call: the formals are bound, the lines run, and at the frame's end all is as it was.
 abbrev pub entered : Frame → ℕ → List ActualTree → List LineTree → List Task → Job → Stepped

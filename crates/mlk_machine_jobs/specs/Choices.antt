@@ -1,6 +1,6 @@
 -- What a step makes of a job, and which choice it asks. Which values and truths are known is this project's own choice:
 -- any other is asked for.
-use Rattle.std.specs.Prelude.{ℕ, Bool, true, false, if◌then◌else◌, List, [], ◌∷◌, take, drop, reverse, bytes_eq, codes}
+use Rattle.std.specs.Prelude.{ℕ, Bool, true, false, List, [], ◌∷◌, take, drop, reverse, codes}
 use Rattle.std.specs.Prelude.{Option, Some, None, Result, Ok, Err}
 use Rattle.mlk_machine_locks.specs.declared.refusal.Refusal.{Refusal}
 use Rattle.mlk_machine_locks.specs.declared.refusal.Refusal.TheVariants.{NotEnabled, BadChoice}
@@ -10,7 +10,8 @@ use Rattle.mlk_names.specs.declared.reference.Access.{Access}
 use Rattle.mlk_names.specs.declared.reference.Access.TheVariants.{Reads, Writes}
 use Rattle.mlk_machine_jobs.specs.declared.choice.Choice.{Choice}
 use Rattle.mlk_machine_jobs.specs.declared.choice.Choice.TheVariants as choice
-use Rattle.mlk_machine_jobs.specs.Bindings.{look, put}
+use Rattle.mlk_numbers.specs.Operators.{truth_of_text}
+use Rattle.mlk_machine_jobs.specs.Bindings.{look, put_value}
 use Rattle.mlk_machine_jobs.specs.Tasks.{Task, Job}
 
 -- what a step makes of a job, or why it can't be
@@ -53,22 +54,14 @@ abbrev pub with_last : List (List ℕ) → (List ℕ → Stepped) → Stepped
 with_last [] f = Err NotEnabled
 with_last (v ∷ vs) f = f v
 
--- Truth: `0` and `1` are known, any other value is asked for.
-abbrev pub is_zero : List ℕ → Bool
-is_zero v = bytes_eq v (codes "0")
-
-abbrev pub is_one : List ℕ → Bool
-is_one v = bytes_eq v (codes "1")
-
-abbrev pub truth_of : Choice → List ℕ → (Bool → Stepped) → Stepped
-truth_of c v f =
-    if is_one v then without_choice c (f true)
-    else if is_zero v then without_choice c (f false)
-    else with_truth c f
+-- a known truth, or any
+abbrev pub truth_or_asked : Choice → Option Bool → (Bool → Stepped) → Stepped
+truth_or_asked c (Some truth) f = without_choice c (f truth)
+truth_or_asked c None f = with_truth c f
 
 -- the truth of the last value, which is used up
 abbrev pub by_truth : Choice → Job → (Bool → Job → Stepped) → Stepped
-by_truth c j f = with_last j.values (λ v. truth_of c v (λ t. f t (dropped 1 j)))
+by_truth c j f = with_last j.values (λ v. truth_or_asked c (truth_of_text v) (λ t. f t (dropped 1 j)))
 
 abbrev pub same_truth : Bool → Bool → Bool
 same_truth true b = b
@@ -89,11 +82,11 @@ fetched j ts None = Err NotEnabled
 fetched j ts (Some value) = Ok (doing ts (pushed value j))
 
 abbrev pub stored : List ℕ → List ℕ → Job → Job
-stored name value j = record j { cells = put (look j.bindings name) value j.cells }
+stored name value j = record j { cells = put_value (look j.bindings name) value j.cells }
 
 -- A concrete reference, of subscripts that were computed.
-abbrev pub touch_of : List ℕ → List (List ℕ) → Extent → Access → Touch
-touch_of name subs e a =
+abbrev pub touch_at : List ℕ → List (List ℕ) → Extent → Access → Touch
+touch_at name subs e a =
     record { region = record { node = record { root = name; subs = subs }; extent = e }; access = a }
 
 -- a touch that reads gives any value

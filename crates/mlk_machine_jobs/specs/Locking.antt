@@ -58,6 +58,6 @@ abbrev pub timed_claim : (LockName → Bool) → List LockName → Bool → Job 
 timed_claim free names true j = granted free names (tested true j)
 timed_claim free names false j = Ok (tested false j)
 
-abbrev pub claimed : (LockName → Bool) → Choice → List LockName → Bool → Job → Stepped
-claimed free c names false j = without_choice c (granted free names j)
-claimed free c names true j = with_truth c (λ t. timed_claim free names t j)
+abbrev pub claim_step : (LockName → Bool) → Choice → List LockName → Bool → Job → Stepped
+claim_step free c names false j = without_choice c (granted free names j)
+claim_step free c names true j = with_truth c (λ t. timed_claim free names t j)

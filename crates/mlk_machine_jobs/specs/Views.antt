@@ -6,7 +6,7 @@ use Rattle.mlk_machine_jobs.specs.declared.binding.Names.TheVariants as names
 use Rattle.mlk_machine_jobs.specs.declared.binding.Cell.{Cell as CellIn}
 use Rattle.mlk_machine_jobs.specs.declared.binding.Binder.{Binder as BinderIn}
 use Rattle.mlk_machine_jobs.specs.declared.binding.Binder.TheVariants as binder
-use Rattle.mlk_machine_jobs.specs.declared.cell.Table.{Table}
+use Rattle.mlk_machine_jobs.specs.declared.cell.CellTable.{CellTable}
 use Rattle.mlk_machine_jobs.specs.Bindings.{Names, Only, AllBut, Cell, Binder, Fresh, ByReference, Bindings, Cells, covers, same_cell}
 
 abbrev pub names_of : NamesIn → Names
@@ -30,18 +30,18 @@ bound_by (Fresh g names) n = if covers names n then Some (record { generation = 
 bound_by (ByReference formal cell) n = if bytes_eq formal n then Some cell else None
 
 -- The values of one generation, and of all: what has no table has no values.
-abbrev pub in_table : Table → List ℕ → Option (List ℕ)
+abbrev pub in_table : CellTable → List ℕ → Option (List ℕ)
 in_table t n = lookup (λ k. bytes_eq n k.now) t.values.entries
 
 -- this value, or none, is put at a name
-abbrev pub Puts : List ℕ → Option (List ℕ) → Table → Table → Type 0
-Puts name value old new = (n : List ℕ) → in_table new n ≡ (if bytes_eq name n then value else in_table old n)
+abbrev pub PutsValue : List ℕ → Option (List ℕ) → CellTable → CellTable → Type 0
+PutsValue name value old new = (n : List ℕ) → in_table new n ≡ (if bytes_eq name n then value else in_table old n)
 
-abbrev pub value_in : List ℕ → Option Table → Option (List ℕ)
+abbrev pub value_in : List ℕ → Option CellTable → Option (List ℕ)
 value_in n None = None
 value_in n (Some t) = in_table t n
 
-abbrev pub value_at : List Table → Cells
+abbrev pub value_at : List CellTable → Cells
 value_at tables c = value_in c.name (slice_get tables c.generation)
 
 -- a cell is left without a value

@@ -1,9 +1,9 @@
 // What a step asks for, and what it is given.
 
-ghost use Rattle.std.specs.Prelude.{◌≡◌, List, ℕ, Bool, true, false, Some, None, Ok, if◌then◌else◌};
+ghost use Rattle.std.specs.Prelude.{◌≡◌, List, ℕ, Bool, Ok};
 ghost use Rattle.mlk_machine_locks.specs.Systems.{and_then};
 ghost use Rattle.mlk_machine_jobs.specs.Tasks.{Job};
-ghost use Rattle.mlk_machine_jobs.specs.Choices.{Stepped, without_choice, with_value, with_truth, is_one, is_zero};
+ghost use Rattle.mlk_machine_jobs.specs.Choices.{Stepped, without_choice, with_value, with_truth};
 
 use crate::choice::Choice;
 use mlk_machine_locks::Refusal;
@@ -36,16 +36,5 @@ pub fn asked_truth(choice: &Choice) -> Result<bool, Refusal>
     match choice {
         Choice::Truth(truth) => Ok(*truth),
         Choice::None | Choice::Value(_) => Err(Refusal::BadChoice),
-    }
-}
-
-/// The truth of a value, where that is known.
-pub fn known_truth(value: &Value) -> Option<bool>
-    ensures { result ≡ (if is_one value.now then Some true else if is_zero value.now then Some false else None) }
-{
-    match value.as_bytes() {
-        b"1" => Some(true),
-        b"0" => Some(false),
-        _ => None,
     }
 }

@@ -1,7 +1,8 @@
 // Local names, and the cells that they are bound to.
 
 ghost use Rattle.std.specs.Prelude.{◌≡◌, ◌∷◌, bytes_eq, List, ℕ, option_map};
-ghost use Rattle.mlk_machine_jobs.specs.Bindings.{is_among, covers, same_cell, look};
+ghost use Rattle.std.specs.List.{list_any};
+ghost use Rattle.mlk_machine_jobs.specs.Bindings.{covers, same_cell, look};
 ghost use Rattle.mlk_machine_jobs.specs.Views.{names_of, cell_of, binder_of, bindings_of, bound_by};
 
 use mlk_text::Name;
@@ -35,9 +36,8 @@ fn is_same(first: &[u8], second: &[u8]) -> bool
     first == second
 }
 
-#[tactic(auto, unfolding(crate::specs::Bindings::is_among))]
 fn is_among(names: &[Name], name: &[u8]) -> bool
-    ensures { result ≡ is_among names.now name.now }
+    ensures { result ≡ list_any (bytes_eq name.now) names.now }
 {
     names.iter().any(|other| is_same(name, other.as_bytes()))
 }

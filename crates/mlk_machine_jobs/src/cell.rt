@@ -1,9 +1,9 @@
 // What cells hold.
 
 ghost use Rattle.std.specs.Prelude.{◌≡◌, ◌<◌, ℕ, suc, List, length, Some, None, option_copied, slice_get, IfOk, OnOk, OnErr, min, map, not, if◌then◌else◌};
-ghost use Rattle.mlk_machine_jobs.specs.Bindings.{put, forgotten};
+ghost use Rattle.mlk_machine_jobs.specs.Bindings.{put_value, forgotten};
 ghost use Rattle.mlk_machine_jobs.specs.Killing.{is_taken, without_taken};
-ghost use Rattle.mlk_machine_jobs.specs.Views.{names_of, bindings_of, cell_of, in_table, value_at, Puts, without};
+ghost use Rattle.mlk_machine_jobs.specs.Views.{names_of, bindings_of, cell_of, in_table, value_at, PutsValue, without};
 
 use crate::binding::{Binder, Cell, Names};
 use crate::kill::is_taken;
@@ -13,26 +13,26 @@ use std::alloc::{AllocError, Global};
 
 /// The values of the cells of one generation, each by its name.
 #[derive(Drop)]
-pub struct Table<'a> {
+pub struct CellTable<'a> {
     values: IndexMap<&'a [u8], Value>,
 }
 
-impl<'a> Table<'a> {
+impl<'a> CellTable<'a> {
     /// A table without values.
-    pub fn new(alloc: Global) -> Table<'a>
+    pub fn new(alloc: Global) -> CellTable<'a>
         ensures { (n : List ℕ) → in_table result n ≡ None }
     {
-        Table {
+        CellTable {
             values: IndexMap::new(alloc),
         }
     }
 
     /// A table with the same values.
     #[tactic(auto, using(crate::proofs::CellLemmas::same_entries))]
-    pub fn copy(&self) -> Result<Table<'a>, AllocError>
+    pub fn copy(&self) -> Result<CellTable<'a>, AllocError>
         ensures { IfOk result (λ copy. (n : List ℕ) → in_table copy n ≡ in_table self.now n) }
     {
-        Ok(Table {
+        Ok(CellTable {
             values: self.values.clone()?,
         })
     }
@@ -46,7 +46,7 @@ impl<'a> Table<'a> {
 
     /// Gives a name a value.
     pub fn put(&mut self, name: &'a [u8], value: Value) -> Result<(), AllocError>
-        ensures ok { OnOk result (Puts name.now (Some value) self.old self.new) }
+        ensures ok { OnOk result (PutsValue name.now (Some value) self.old self.new) }
         ensures err { OnErr result ((n : List ℕ) → in_table self.new n ≡ in_table self.old n) }
     {
         let Ok(_) = self.values.insert(name, value) else {
@@ -57,7 +57,7 @@ impl<'a> Table<'a> {
 
     // Takes the value of a name away. It takes no memory.
     fn remove(&mut self, name: &[u8])
-        ensures { Puts name.now None self.old self.new }
+        ensures { PutsValue name.now None self.old self.new }
     {
         let _ = self.values.swap_remove(name);
     }
@@ -92,14 +92,14 @@ impl<'a> Table<'a> {
     }
 }
 
-fn table_at<'t, 'a>(tables: &'t [Table<'a>], generation: usize) -> Option<&'t Table<'a>>
+fn table_at<'t, 'a>(tables: &'t [CellTable<'a>], generation: usize) -> Option<&'t CellTable<'a>>
     ensures { option_copied result ≡ slice_get tables.now generation }
 {
     tables.get(generation)
 }
 
 /// What a cell holds, if it has a value: the tables are of one generation each, from 0. It takes no memory.
-pub fn value_of<'t>(tables: &'t [Table], cell: Cell) -> Option<&'t Value>
+pub fn value_of<'t>(tables: &'t [CellTable], cell: Cell) -> Option<&'t Value>
     ensures { option_copied result ≡ value_at tables.now (cell_of cell.entry) }
 {
     let Some(table) = table_at(tables, cell.generation) else {
@@ -111,13 +111,13 @@ pub fn value_of<'t>(tables: &'t [Table], cell: Cell) -> Option<&'t Value>
 /// Gives a cell a value.
 #[tactic(auto, using(crate::proofs::CellLemmas::values_put, crate::proofs::CellLemmas::values_same))]
 pub fn store<'a>(
-    tables: &mut Vec<Table<'a>>,
+    tables: &mut Vec<CellTable<'a>>,
     cell: Cell<'a>,
     value: Value,
 ) -> Result<(), AllocError>
     requires { cell.generation < length tables.old.items }
     ensures values { OnOk result (value_at tables.new.items
-        ≡ put (cell_of cell.entry) value (value_at tables.old.items)) }
+        ≡ put_value (cell_of cell.entry) value (value_at tables.old.items)) }
     ensures err { OnErr result (value_at tables.new.items ≡ value_at tables.old.items) }
     ensures len { length tables.new.items ≡ length tables.old.items }
 {
@@ -126,7 +126,7 @@ pub fn store<'a>(
 
 /// Leaves a cell without a value. It takes no memory.
 #[tactic(auto, using(crate::proofs::CellLemmas::values_cleared))]
-pub fn clear(tables: &mut Vec<Table>, cell: Cell)
+pub fn clear(tables: &mut Vec<CellTable>, cell: Cell)
     requires { cell.generation < length tables.old.items }
     ensures values { value_at tables.new.items ≡ without (cell_of cell.entry) (value_at tables.old.items) }
     ensures len { length tables.new.items ≡ length tables.old.items }
@@ -136,7 +136,7 @@ pub fn clear(tables: &mut Vec<Table>, cell: Cell)
 
 /// Takes the values of the cells away that KILL takes. It takes no memory.
 pub(crate) fn leave_out(
-    tables: &mut Vec<Table>,
+    tables: &mut Vec<CellTable>,
     binders: &[Binder],
     names: Names,
     shared: &[Cell],
@@ -155,7 +155,7 @@ pub(crate) fn leave_out(
 
 /// Forgets the cells of this generation and of later ones.
 #[tactic(auto, using(crate::proofs::CellLemmas::values_forgotten))]
-pub fn forget(tables: &mut Vec<Table>, next: usize)
+pub fn forget(tables: &mut Vec<CellTable>, next: usize)
     ensures values { value_at tables.new.items ≡ forgotten next (value_at tables.old.items) }
     ensures len { length tables.new.items ≡ min next (length tables.old.items) }
 {
@@ -164,12 +164,12 @@ pub fn forget(tables: &mut Vec<Table>, next: usize)
 
 /// One more generation, whose cells have no values.
 #[tactic(auto, using(crate::proofs::CellLemmas::values_added))]
-pub fn add_generation(alloc: Global, tables: &mut Vec<Table>) -> Result<(), AllocError>
+pub fn add_generation(alloc: Global, tables: &mut Vec<CellTable>) -> Result<(), AllocError>
     ensures values { value_at tables.new.items ≡ value_at tables.old.items }
     ensures len { OnOk result (length tables.new.items ≡ suc (length tables.old.items)) }
     ensures err { OnErr result (length tables.new.items ≡ length tables.old.items) }
 {
-    let Ok(()) = tables.push(Table::new(alloc)) else {
+    let Ok(()) = tables.push(CellTable::new(alloc)) else {
         return Err(AllocError);
     };
     Ok(())

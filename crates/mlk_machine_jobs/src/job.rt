@@ -8,7 +8,7 @@ ghost use Rattle.mlk_machine_jobs.specs.Runs.{aborted, seen};
 ghost use Rattle.mlk_machine_jobs.specs.Seen.{ready};
 
 use crate::binding::Binder;
-use crate::cell::Table;
+use crate::cell::CellTable;
 use crate::pending::Pending;
 use crate::stack::Stack;
 use crate::task::{LockTask, Task, ValueTask};
@@ -27,7 +27,7 @@ pub struct Job<'a> {
     /// the newest last
     pub binders: Vec<Binder<'a>>,
     /// the values of cells, by generation
-    pub tables: Vec<Table<'a>>,
+    pub tables: Vec<CellTable<'a>>,
     pub values: Stack,
     pub held: Held,
     /// the next one last

@@ -15,9 +15,9 @@ mod stack;
 mod task;
 mod touch;
 
-pub use asking::{asked_truth, asked_value, known_truth, not_asked};
+pub use asking::{asked_truth, asked_value, not_asked};
 pub use binding::{Binder, Cell, Names, look};
-pub use cell::{Table, add_generation, forget};
+pub use cell::{CellTable, add_generation, forget};
 pub use choice::Choice;
 pub use job::Job;
 pub use law::{

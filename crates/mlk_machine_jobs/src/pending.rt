@@ -4,7 +4,7 @@ ghost use Rattle.std.specs.Prelude.{◌≡◌, ◌≤◌, ◌||◌, ◌++◌, �
 ghost use Rattle.std.specs.Vec.{vec_capacity};
 ghost use Rattle.mlk_machine_jobs.specs.declared.binding.Binder.{Binder};
 ghost use Rattle.mlk_machine_jobs.specs.declared.pending.Pending.{Pending};
-ghost use Rattle.mlk_machine_jobs.specs.Answering.{awaits, with_value, keeps_value, value_kept};
+ghost use Rattle.mlk_machine_jobs.specs.Answering.{awaits, given_value, keeps_value, value_kept};
 ghost use Rattle.mlk_machine_jobs.specs.Lines.{is_round, is_lines, is_end, skipped, to_end, quit_from, quit};
 ghost use Rattle.mlk_machine_jobs.specs.JobViews.{pending_of, tasks_of};
 ghost use Rattle.mlk_machine_jobs.specs.Sound.{Stands};
@@ -199,7 +199,7 @@ fn awaits(pending: &Pending) -> bool
 
 // The same end, where the frame has its value then.
 fn with_value(pending: Pending) -> Pending
-    ensures same { (binders : List Binder) → pending_of binders result ≡ with_value (pending_of binders pending.entry) }
+    ensures same { (binders : List Binder) → pending_of binders result ≡ given_value (pending_of binders pending.entry) }
     ensures stands { (binders : List Binder) (n : ℕ) (ps : List Pending)
         → Stands binders n (ps ++ pending.entry ∷ []) → Stands binders n (ps ++ result ∷ []) }
 {

@@ -12,7 +12,7 @@ use Rattle.mlk_machine_jobs.specs.Tasks.{Job, Store, KillNames}
 use Rattle.mlk_machine_jobs.specs.Choices.{Stepped}
 use Rattle.mlk_machine_jobs.specs.Runs.{blank, begun, machine}
 use Rattle.mlk_machine_jobs.proofs.Trees.{at_label, unlabelled, commands, lines, routine, first_entry}
-use Rattle.mlk_machine_laws.specs.Outside.{changes}
+use Rattle.mlk_machine_laws.specs.Outside.{changes_name}
 use Rattle.mlk_machine_laws.specs.Scopes.{count_open, GoesThrough}
 use Rattle.mlk_machine_laws.specs.Sharing.{binds}
 
@@ -97,15 +97,15 @@ bound_as_before : (after_steps 8).bindings ≡ []
 bound_as_before = refl
 
 -- A name that is bound in front is another variable, and is not changed; one that is not is.
-changes_the_new_one : (changes (Store (codes "X") (codes "5") ∷ []) (codes "X") && not (binds (Fresh 2 (Only (codes "X")) ∷ []) (codes "X"))) ≡ false
+changes_the_new_one : (changes_name (Store (codes "X") (codes "5") ∷ []) (codes "X") && not (binds (Fresh 2 (Only (codes "X")) ∷ []) (codes "X"))) ≡ false
 changes_the_new_one = refl
 
-changes_the_old_one : (changes (Store (codes "X") (codes "5") ∷ []) (codes "X") && not (binds (Fresh 2 (Only (codes "Y")) ∷ []) (codes "X"))) ≡ true
+changes_the_old_one : (changes_name (Store (codes "X") (codes "5") ∷ []) (codes "X") && not (binds (Fresh 2 (Only (codes "Y")) ∷ []) (codes "X"))) ≡ true
 changes_the_old_one = refl
 
 -- KILL (Y)
-kills_all_others : changes (KillNames (AllBut (codes "Y" ∷ [])) ∷ []) (codes "X") ≡ true
+kills_all_others : changes_name (KillNames (AllBut (codes "Y" ∷ [])) ∷ []) (codes "X") ≡ true
 kills_all_others = refl
 
-kills_not_the_listed : changes (KillNames (AllBut (codes "Y" ∷ [])) ∷ []) (codes "Y") ≡ false
+kills_not_the_listed : changes_name (KillNames (AllBut (codes "Y" ∷ [])) ∷ []) (codes "Y") ≡ false
 kills_not_the_listed = refl

@@ -13,13 +13,14 @@ use Rattle.mlk_syntax.specs.Trees.{RoutineTree, HeadTree, LineHead, LineTrees}
 use Rattle.mlk_program.specs.declared.entry.EntryId.{EntryId}
 use Rattle.mlk_machine_jobs.specs.declared.choice.Choice.{Choice}
 use Rattle.mlk_machine_jobs.specs.declared.choice.Choice.TheVariants as choice
-use Rattle.mlk_machine_jobs.specs.Bindings.{Names, covers, Bindings, Fresh, look, put, killed, forgotten}
+use Rattle.mlk_machine_jobs.specs.Bindings.{Names, covers, Bindings, Fresh, look, put_value, killed, forgotten}
 use Rattle.mlk_machine_jobs.specs.Tasks.{Task, Job, LineTree, Frame, NoValue, AwaitsValue, HasValue, Mark, BlockMark, FrameMark, marks}
-use Rattle.mlk_machine_jobs.specs.Choices.{Stepped, last_values, without_choice, with_value, with_truth, with_last, truth_of, by_truth, is_one, is_zero, given_or_asked, fetched, touched, dropped, doing}
-use Rattle.mlk_machine_jobs.specs.Locking.{claimed, timed_claim, if_free}
+use Rattle.mlk_numbers.specs.Operators.{truth_of_text}
+use Rattle.mlk_machine_jobs.specs.Choices.{Stepped, last_values, without_choice, with_value, with_truth, with_last, truth_or_asked, by_truth, given_or_asked, fetched, touched, dropped, doing}
+use Rattle.mlk_machine_jobs.specs.Locking.{claim_step, timed_claim, if_free}
 use Rattle.mlk_machine_jobs.specs.Lines.{selected, chosen, next_line}
 use Rattle.mlk_machine_jobs.specs.Calling.{binders, with_actuals, count_given, formals_in, lines_after, entered, called, called_if}
-use Rattle.mlk_machine_laws.specs.Outside.{changes}
+use Rattle.mlk_machine_laws.specs.Outside.{changes_name}
 
 -- what an open block or frame puts back
 pub record Kept : Type 0 where
@@ -43,9 +44,9 @@ kept ts = map kept_by (marks ts)
 -- leaves cells of names without a value; it makes names new.
 pub data Bound (j i : Job) : Type 0 where
   untouched : i.bindings ≡ j.bindings → i.next ≡ j.next → i.cells ≡ j.cells → Bound j i
-  stores : (name value : List ℕ) → changes j.tasks name ≡ true → i.bindings ≡ j.bindings → i.next ≡ j.next
-      → i.cells ≡ put (look j.bindings name) value j.cells → Bound j i
-  kills : (names : Names) → ((n : List ℕ) → changes j.tasks n ≡ covers names n) → i.bindings ≡ j.bindings → i.next ≡ j.next
+  stores : (name value : List ℕ) → changes_name j.tasks name ≡ true → i.bindings ≡ j.bindings → i.next ≡ j.next
+      → i.cells ≡ put_value (look j.bindings name) value j.cells → Bound j i
+  kills : (names : Names) → ((n : List ℕ) → changes_name j.tasks n ≡ covers names n) → i.bindings ≡ j.bindings → i.next ≡ j.next
       → i.cells ≡ killed j.bindings names j.cells → Bound j i
   news : (names : Names) → i.bindings ≡ Fresh j.next names ∷ j.bindings → i.next ≡ suc j.next → i.cells ≡ j.cells
       → Bound j i
@@ -106,13 +107,12 @@ module _ (routines : List RoutineTree) (j : Job) where
   of_if true s t p q i e = p i e
   of_if false s t p q i e = q i e
 
-  pub of_known : (c : Choice) (v : List ℕ) (f : Bool → Stepped) → ((t : Bool) → Moves (f t)) → Moves (truth_of c v f)
-  of_known c v f h =
-      of_if (is_one v) _ _ (unasked c (f true) (h true))
-      (of_if (is_zero v) _ _ (unasked c (f false) (h false)) (of_truth c f h))
+  pub of_known : (c : Choice) (o : Option Bool) (f : Bool → Stepped) → ((t : Bool) → Moves (f t)) → Moves (truth_or_asked c o f)
+  of_known c None f h = of_truth c f h
+  of_known c (Some t) f h = unasked c (f t) (h t)
 
   pub of_condition : (c : Choice) (k : Job) (f : Bool → Job → Stepped) → ((t : Bool) → Moves (f t (dropped 1 k))) → Moves (by_truth c k f)
-  of_condition c k f h = of_last k.values _ (λ v. of_known c v (λ t. f t (dropped 1 k)) h)
+  of_condition c k f h = of_last k.values _ (λ v. of_known c (truth_of_text v) (λ t. f t (dropped 1 k)) h)
 
   pub of_result : (c : Choice) (o : Option (List ℕ)) (f : List ℕ → Stepped) → ((v : List ℕ) → Moves (f v)) → Moves (given_or_asked c o f)
   of_result c None f h = of_value c f h
@@ -146,7 +146,7 @@ module _ (routines : List RoutineTree) (j : Job) where
   of_grant false k d x y z = refused NotEnabled
 
   pub of_claim : (c : Choice) (names : List LockName) (timed : Bool) (free : LockName → Bool) (ts : List Task) → marks ts ≡ marks j.tasks
-      → Moves (claimed free c names timed (doing ts j))
+      → Moves (claim_step free c names timed (doing ts j))
   of_claim c names false free ts e = unasked c _ (of_grant (list_all free names && has_room names j.held) _ e refl refl refl)
   of_claim c names true free ts e = of_truth c _ (λ t. elim t as (λ t. Moves (timed_claim free names t (doing ts j))) [
     | true ↦ of_grant (list_all free names && has_room names j.held) _ e refl refl refl

@@ -5,6 +5,7 @@ use Rattle.std.specs.Prelude.{◌&&◌, nat_lt, if◌then◌else◌, codes, Ok, 
 use Rattle.std.specs.Fmt.{decimal}
 use Rattle.std.proofs.lemmas.Bool.{cases_Bool, and_parts, eqb-true}
 use Rattle.mlk_text.specs.declared.root.Root.TheVariants as root
+use Rattle.mlk_names.specs.Lists.{Among}
 use Rattle.mlk_names.specs.declared.lock_name.LockName.{LockName}
 use Rattle.mlk_names.specs.declared.term.LockTerm.{LockTerm}
 use Rattle.mlk_names.specs.declared.reference.Reference.{Reference}
@@ -17,7 +18,6 @@ use Rattle.mlk_rules.specs.declared.family.Family.{Family}
 use Rattle.mlk_rules.specs.Coverage.{IsCovered, OfCover, HoldsLock, Satisfies}
 use Rattle.mlk_rules.specs.Sound.{IsSound}
 use Rattle.mlk_machine_locks.specs.NameTests.{is_above, same_name}
-use Rattle.mlk_machine_locks.specs.Lists.{Among}
 use Rattle.mlk_machine_locks.specs.Systems.{Machine, Event, after, Act, Begin, Go, Abort, and_then, lone_run}
 use Rattle.mlk_machine_locks.specs.declared.refusal.Refusal.{Refusal}
 use Rattle.mlk_machine_locks.specs.declared.refusal.Refusal.TheVariants.{NotEnabled, BadChoice}

@@ -17,10 +17,10 @@ use Rattle.mlk_machine_jobs.specs.Tasks.{RunLines, RunCommands, Parameters, Fore
 use Rattle.mlk_machine_jobs.specs.Choices.{doing, same_truth}
 use Rattle.mlk_machine_jobs.specs.Locking.{tested}
 use Rattle.mlk_machine_jobs.specs.Lines.{tasks_if, chosen, answered, is_end, is_round, is_lines, from_first, skipped, to_end, quit, quit_from}
-use Rattle.mlk_machine_jobs.specs.Calling.{frame_of, back_to, called_if, frame_end}
+use Rattle.mlk_machine_jobs.specs.Calling.{call_frame, back_to, called_if, frame_end}
 use Rattle.mlk_machine_jobs.specs.Advance.{advance}
 use Rattle.mlk_machine_jobs.specs.Runs.{aborted}
-use Rattle.mlk_machine_laws.specs.Outside.{changes}
+use Rattle.mlk_machine_laws.specs.Outside.{changes_name}
 use Rattle.mlk_machine_laws.proofs.Plain.{Plain, expressions, actions, assigns, merged_source, merged_target, signed, rounds_of, round_first, round_later, next_commands}
 use Rattle.mlk_machine_laws.proofs.Kept.{test_in, kept_by, kept, Bound, untouched, stores, kills, news, as_block, stays, opens, ends, halts, Moves, done, refused, same, unasked, of_value, of_truth, of_last, of_condition, of_result, of_fetch, of_touch, of_select, of_choice, of_line, of_claim, of_call, of_call_if}
 
@@ -212,7 +212,7 @@ pub run_if : (b : Bool) (xs ts : List Task) → Plain xs → marks (tasks_if b x
 run_if true xs ts p = p ts
 run_if false xs ts p = refl
 
-own_test : (extrinsic : Bool) (j : Job) (t : Bool) → test_in (frame_of extrinsic j) ≡ Some t → j.test ≡ t
+own_test : (extrinsic : Bool) (j : Job) (t : Bool) → test_in (call_frame extrinsic j) ≡ Some t → j.test ≡ t
 own_test true j t h = cc
 own_test false j t h = cc
 
@@ -248,7 +248,7 @@ moves routines free c j (task.DoTouch touch ∷ ts) e = of_touch routines j c to
 moves routines free c j (task.Store name value ∷ ts) e = unasked routines j c _ (done routines j _ (stays (sym (ap kept e)) (stores name value (rw e (own_name name)) refl refl refl)))
 moves routines free c j (task.StoreAny name ∷ ts) e = of_value routines j c _ (λ v. done routines j _ (stays (sym (ap kept e)) (stores name v (rw e (own_name name)) refl refl refl)))
 moves routines free c j (task.StoreLast name ∷ ts) e = unasked routines j c _ (of_last routines j j.values _ (λ v. done routines j _ (stays (sym (ap kept e)) (stores name v (rw e (own_name name)) refl refl refl))))
-moves routines free c j (task.KillNames names ∷ ts) e = unasked routines j c _ (done routines j _ (stays (sym (ap kept e)) (kills names (λ n. ap (λ l. changes l n) e) refl refl refl)))
+moves routines free c j (task.KillNames names ∷ ts) e = unasked routines j c _ (done routines j _ (stays (sym (ap kept e)) (kills names (λ n. ap (λ l. changes_name l n) e) refl refl refl)))
 moves routines free c j (task.NewNames names ∷ ts) e = unasked routines j c _ (done routines j _ (stays (sym (ap kept e)) (news names refl refl refl)))
 moves routines free c j (task.Assign targets ∷ ts) e = unasked routines j c _ (of_last routines j j.values _ (λ v. same routines j _ (assigns v targets _ ts ∙ sym (ap marks e)) refl refl refl))
 moves routines free c j (task.Merge target source ∷ ts) e = unasked routines j c _ (same routines j _ (merged _ target source ts ∙ sym (ap marks e)) refl refl refl)
@@ -260,7 +260,7 @@ moves routines free c j (task.LockNamed sign names timed ∷ ts) e = unasked rou
 moves routines free c j (task.Claim names timed ∷ ts) e = of_claim routines j c names timed free ts (sym (ap marks e))
 moves routines free c j (task.Release names ∷ ts) e = unasked routines j c _ (same routines j _ (sym (ap marks e)) refl refl refl)
 moves routines free c j (task.ReleaseAll ∷ ts) e = unasked routines j c _ (same routines j _ (sym (ap marks e)) refl refl refl)
-moves routines free c j (task.Call extrinsic callee given ∷ ts) e = unasked routines j c _ (of_call routines j (frame_of extrinsic j) _ given ts j (sym (ap marks e)) refl refl refl (own_test extrinsic j))
+moves routines free c j (task.Call extrinsic callee given ∷ ts) e = unasked routines j c _ (of_call routines j (call_frame extrinsic j) _ given ts j (sym (ap marks e)) refl refl refl (own_test extrinsic j))
 moves routines free c j (task.CallIf callee given ∷ ts) e = of_condition routines j c j (λ t i. called_if t routines (target_of routines i.routine callee) given ts i) (λ t. of_call_if routines j t (target_of routines j.routine callee) given ts (sym (ap marks e)))
 moves routines free c j (task.Block lines ∷ ts) e = unasked routines j c _ (done routines j _ (opens (Some j.test) (ap (λ ks. record { back = j.bindings; next = j.next; test = Some j.test } ∷ ks) (sym (ap kept e))) (λ t h. cc) (as_block refl refl refl)))
 moves routines free c j (task.RunLines lines ∷ ts) e = unasked routines j c _ (of_line routines j lines ts (sym (ap marks e)))

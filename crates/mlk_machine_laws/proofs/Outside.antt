@@ -4,12 +4,12 @@ use Rattle.std.specs.Prelude.{◌==◌, ◌&&◌, not, nat_lt}
 use Rattle.std.proofs.lemmas.Bool.{cases_Bool, and_from, ne_eqb}
 use Rattle.mlk_syntax.specs.ExprTrees.{ActualTree, Given, ByRef, Missing}
 use Rattle.mlk_syntax.specs.Trees.{RoutineTree}
-use Rattle.mlk_machine_jobs.specs.Bindings.{Names, covers, Cell, same_cell, is_named, Fresh, ByReference, Bindings, Cells, look, put, killed, forgotten}
+use Rattle.mlk_machine_jobs.specs.Bindings.{Names, covers, Cell, same_cell, is_named, Fresh, ByReference, Bindings, Cells, look, put_value, killed, forgotten}
 use Rattle.mlk_machine_jobs.specs.Tasks.{Job}
 use Rattle.mlk_machine_jobs.specs.Calling.{with_actuals, formals_in}
 use Rattle.mlk_machine_laws.specs.Tidy.{Below}
 use Rattle.mlk_machine_laws.specs.Sharing.{binds, is_lent}
-use Rattle.mlk_machine_laws.specs.Outside.{changes}
+use Rattle.mlk_machine_laws.specs.Outside.{changes_name}
 use Rattle.mlk_machine_laws.specs.Laws.{OutsideIsKept}
 use Rattle.mlk_machine_laws.proofs.Kept.{kept, untouched, stores, kills, news, as_block, as_frame, Move, stays, opens, ends, halts}
 use Rattle.mlk_machine_laws.proofs.Moves.{moves}
@@ -23,7 +23,7 @@ below_behind g [] back h = h
 below_behind g (Fresh k names ∷ front) back h = below_behind g front back h.1
 below_behind g (ByReference f c ∷ front) back h = below_behind g front back h.1
 
-put_later : (c d : Cell) (v : List ℕ) (cells : Cells) → d.generation < c.generation → put c v cells d ≡ cells d
+put_later : (c d : Cell) (v : List ℕ) (cells : Cells) → d.generation < c.generation → put_value c v cells d ≡ cells d
 put_later c d v cells l =
     let e : (c.generation == d.generation) ≡ false = ne_eqb c.generation d.generation (λ z. omega (arith, z, l)) in
     rw e refl
@@ -34,7 +34,7 @@ actuals_before g [] given values cells c l = refl
 actuals_before g (f ∷ fs) [] values cells c l = refl
 actuals_before g (f ∷ fs) (Given t ∷ given) [] cells c l = refl
 actuals_before g (f ∷ fs) (Given t ∷ given) (v ∷ values) cells c l =
-    actuals_before g fs given values (put (record { generation = g; name = f }) v cells) c l
+    actuals_before g fs given values (put_value (record { generation = g; name = f }) v cells) c l
     ∙ put_later (record { generation = g; name = f }) c v cells l
 actuals_before g (f ∷ fs) (ByRef column name ∷ given) values cells c l = actuals_before g fs given values cells c l
 actuals_before g (f ∷ fs) (Missing ∷ given) values cells c l = actuals_before g fs given values cells c l
@@ -44,24 +44,24 @@ not_forgotten g cells c l = let e : nat_lt c.generation g ≡ true = grind (arit
 
 -- A name whose cell a step changes is bound there as itself, where nothing is lent.
 module _ (j : Job) (o : Ordered j.bindings) (front back : Bindings) (e : j.bindings ≡ front ++ back) (n : List ℕ)
-    (lent : is_lent j.bindings (look back n) ≡ false) (other : (changes j.tasks n && not (binds front n)) ≡ false) where
-  not_this : {A : Type 0} → (m : List ℕ) → look j.bindings m ≡ look back n → changes j.tasks m ≡ true → A
+    (lent : is_lent j.bindings (look back n) ≡ false) (other : (changes_name j.tasks n && not (binds front n)) ≡ false) where
+  not_this : {A : Type 0} → (m : List ℕ) → look j.bindings m ≡ look back n → changes_name j.tasks m ≡ true → A
   not_this m same h =
       let p = shares j.bindings o front back e m n same lent in
-      let a : changes j.tasks n ≡ true = subst (λ k. changes j.tasks k ≡ true) p.0 h in
+      let a : changes_name j.tasks n ≡ true = subst (λ k. changes_name j.tasks k ≡ true) p.0 h in
       let b : binds front n ≡ false = subst (λ k. binds front k ≡ false) p.0 p.1 in
       let c : not (binds front n) ≡ true = rw b refl in
-      differs (changes j.tasks n && not (binds front n)) (and_from (changes j.tasks n) (not (binds front n)) a c) other
+      differs (changes_name j.tasks n && not (binds front n)) (and_from (changes_name j.tasks n) (not (binds front n)) a c) other
 
-  put_elsewhere : (name value : List ℕ) → changes j.tasks name ≡ true
-      → put (look j.bindings name) value j.cells (look back n) ≡ j.cells (look back n)
+  put_elsewhere : (name value : List ℕ) → changes_name j.tasks name ≡ true
+      → put_value (look j.bindings name) value j.cells (look back n) ≡ j.cells (look back n)
   put_elsewhere name value h =
       ⊎_elim
       (λ (u : same_cell (look j.bindings name) (look back n) ≡ true). not_this name (same_is (look j.bindings name) (look back n) u) h)
       (λ (u : same_cell (look j.bindings name) (look back n) ≡ false). rw u refl)
       (cases_Bool (same_cell (look j.bindings name) (look back n)))
 
-  killed_elsewhere : (names : Names) → ((m : List ℕ) → changes j.tasks m ≡ covers names m)
+  killed_elsewhere : (names : Names) → ((m : List ℕ) → changes_name j.tasks m ≡ covers names m)
       → killed j.bindings names j.cells (look back n) ≡ j.cells (look back n)
   killed_elsewhere names h =
       kept_other j.bindings names j.cells (look back n)

@@ -1,13 +1,13 @@
 -- Where claims follow the ranks, the ranks of what is waited for would rise round a ring without end.
 use Rattle.std.proofs.Common.{◌≡◌, ℕ, zero, suc, ◌+◌, ◌<◌, ◌≤◌, List, [], ◌∷◌, length, ap, arith, inl, inr}
 use Rattle.std.specs.Prelude.{slice_index_or}
+use Rattle.mlk_names.specs.Lists.{Among}
 use Rattle.mlk_names.specs.declared.lock_name.LockName.{LockName}
 use Rattle.mlk_names.specs.LockNames.{Conflict}
 use Rattle.mlk_names.proofs.NameLemmas.{conflict_above}
 use Rattle.mlk_rules.specs.declared.family.Family.{Family}
 use Rattle.mlk_rules.specs.Ranks.{NameHasRank, FamiliesApart}
 use Rattle.mlk_rules.proofs.RankLemmas.{one_rank}
-use Rattle.mlk_machine_locks.specs.Lists.{Among}
 use Rattle.mlk_machine_locks.specs.Rings.{IsRing}
 use Rattle.mlk_machine_locks.specs.Waiting.{View, Holds}
 use Rattle.mlk_machine_locks.specs.Laws.{Waits, AreApart}

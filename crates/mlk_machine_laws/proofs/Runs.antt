@@ -4,9 +4,9 @@ use Rattle.std.proofs.Common.{◌≡◌, ◌<◌, ◌^◌, ℕ, Bool, true, List
 use Rattle.std.specs.Prelude.{◌&&◌, nat_lt}
 use Rattle.std.proofs.lemmas.Bool.{false_from_ne_true, cases_Bool, and_parts, ltb-true}
 use Rattle.std.proofs.lemmas.Fmt.{decimal_injective}
+use Rattle.mlk_names.specs.Lists.{Among}
 use Rattle.mlk_rules.proofs.Apart.{covered_apart}
 use Rattle.mlk_rules.proofs.SoundLemmas.{by_job}
-use Rattle.mlk_machine_locks.specs.Lists.{Among}
 use Rattle.mlk_machine_locks.specs.Systems.{Event, after}
 use Rattle.mlk_machine_locks.specs.Laws.{has_ring_of}
 use Rattle.mlk_machine_locks.specs.declared.refusal.Refusal.TheVariants.{NotEnabled}

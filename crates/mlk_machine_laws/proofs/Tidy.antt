@@ -9,7 +9,7 @@ use Rattle.mlk_syntax.specs.Trees.{RoutineTree}
 use Rattle.mlk_program.specs.declared.entry.EntryId.{EntryId}
 use Rattle.mlk_machine_jobs.specs.declared.choice.Choice.{Choice}
 use Rattle.mlk_machine_jobs.specs.declared.choice.Choice.TheVariants as choice
-use Rattle.mlk_machine_jobs.specs.Bindings.{Names, covers, Cell, Fresh, ByReference, Bindings, Cells, look, put, killed, forgotten, same_cell, is_named, is_spared}
+use Rattle.mlk_machine_jobs.specs.Bindings.{Names, covers, Cell, Fresh, ByReference, Bindings, Cells, look, put_value, killed, forgotten, same_cell, is_named, is_spared}
 use Rattle.mlk_machine_jobs.specs.Tasks.{Job, NoValue, Mark, BlockMark, FrameMark, marks}
 use Rattle.mlk_machine_jobs.specs.Calling.{binder, binders, with_actuals, next_actual, later_actuals, lines_after, formals_in}
 use Rattle.mlk_machine_jobs.specs.Choices.{Stepped, without_choice, doing}
@@ -36,7 +36,7 @@ below_more g k le (ByReference f c ∷ bs) h = let a = h.0 in (omega (arith, a, 
 pub other_cell : (c d : Cell) → c.generation < d.generation → same_cell c d ≡ false
 other_cell c d l = let e : (c.generation == d.generation) ≡ false = ne_eqb c.generation d.generation (λ z. omega (arith, z, l)) in rw e refl
 
-pub put_other : (c d : Cell) (v : List ℕ) (cells : Cells) → c.generation < d.generation → put c v cells d ≡ cells d
+pub put_other : (c d : Cell) (v : List ℕ) (cells : Cells) → c.generation < d.generation → put_value c v cells d ≡ cells d
 put_other c d v cells l = rw (other_cell c d l) refl
 
 killed_unset : (bs : Bindings) (names : Names) (cells : Cells) (c : Cell) → cells c ≡ None → killed bs names cells c ≡ None
@@ -64,7 +64,7 @@ actuals_elsewhere g [] given values cells c l = refl
 actuals_elsewhere g (f ∷ fs) [] values cells c l = refl
 actuals_elsewhere g (f ∷ fs) (Given t ∷ given) [] cells c l = refl
 actuals_elsewhere g (f ∷ fs) (Given t ∷ given) (v ∷ values) cells c l =
-    actuals_elsewhere g fs given values (put (record { generation = g; name = f }) v cells) c l
+    actuals_elsewhere g fs given values (put_value (record { generation = g; name = f }) v cells) c l
     ∙ put_other (record { generation = g; name = f }) c v cells (omega (arith, l))
 actuals_elsewhere g (f ∷ fs) (ByRef column name ∷ given) values cells c l = actuals_elsewhere g fs given values cells c l
 actuals_elsewhere g (f ∷ fs) (Missing ∷ given) values cells c l = actuals_elsewhere g fs given values cells c l
@@ -93,7 +93,7 @@ given_by bs n cells ks i b m x e nested older unset =
 stay_tidy : (j i : Job) → Tidied j → kept i.tasks ≡ kept j.tasks → Bound j i → Tidied i
 stay_tidy j i t e (untouched b n x) = given_by j.bindings j.next j.cells (kept j.tasks) i b n x e t.nested t.older t.unset
 stay_tidy j i t e (stores name value h b n x) =
-    given_by j.bindings j.next (put (look j.bindings name) value j.cells) (kept j.tasks) i b n x e t.nested t.older
+    given_by j.bindings j.next (put_value (look j.bindings name) value j.cells) (kept j.tasks) i b n x e t.nested t.older
     (λ c l. put_other (look j.bindings name) c value j.cells (let y = below_look j.next j.bindings name t.older in omega (arith, y, l)) ∙ t.unset c l)
 stay_tidy j i t e (kills names h b n x) =
     given_by j.bindings j.next (killed j.bindings names j.cells) (kept j.tasks) i b n x e t.nested t.older

@@ -1,8 +1,8 @@
 -- What follows for runs of any number of jobs.
 use Rattle.std.specs.Prelude.{◌≡◌, ℕ, Bool, true, false, List, [], Ok}
+use Rattle.mlk_names.specs.Lists.{Among}
 use Rattle.mlk_rules.specs.declared.rules.RuleLists.{RuleLists}
 use Rattle.mlk_rules.specs.Sound.{IsSound}
-use Rattle.mlk_machine_locks.specs.Lists.{Among}
 use Rattle.mlk_machine_locks.specs.Rings.{IsRing, HasRing}
 use Rattle.mlk_machine_locks.specs.Systems.{Event, after}
 use Rattle.mlk_machine_locks.specs.Laws.{Waits, has_ring_of}

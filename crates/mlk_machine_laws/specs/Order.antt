@@ -1,11 +1,11 @@
 -- The order in which a job claims locks. This project's own choice: where all jobs keep to one order of ranks, and need
 -- not wait for what lies below a lock of their own, none can wait for another that waits for it.
 use Rattle.std.specs.Prelude.{◌⊎◌, ℕ, ◌<◌, List}
+use Rattle.mlk_names.specs.Lists.{Among}
 use Rattle.mlk_names.specs.declared.lock_name.LockName.{LockName}
 use Rattle.mlk_names.specs.LockNames.{IsAbove}
 use Rattle.mlk_rules.specs.declared.family.Family.{Family}
 use Rattle.mlk_rules.specs.Ranks.{NameHasRank}
-use Rattle.mlk_machine_locks.specs.Lists.{Among}
 use Rattle.mlk_machine_locks.specs.Waiting.{View, Holds, awaited}
 
 -- The name is one that the job holds, or lies below one: nobody else can hold what conflicts with it.

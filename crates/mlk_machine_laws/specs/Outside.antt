@@ -11,12 +11,12 @@ use Rattle.mlk_machine_jobs.specs.Runs.{go}
 use Rattle.mlk_machine_laws.specs.Sharing.{binds, is_lent}
 
 -- the next step stores a value in the name, or takes its value away
-abbrev pub changes : List Task → List ℕ → Bool
-changes (Store name value ∷ ts) n = bytes_eq name n
-changes (StoreAny name ∷ ts) n = bytes_eq name n
-changes (StoreLast name ∷ ts) n = bytes_eq name n
-changes (KillNames names ∷ ts) n = covers names n
-changes ts n = false
+abbrev pub changes_name : List Task → List ℕ → Bool
+changes_name (Store name value ∷ ts) n = bytes_eq name n
+changes_name (StoreAny name ∷ ts) n = bytes_eq name n
+changes_name (StoreLast name ∷ ts) n = bytes_eq name n
+changes_name (KillNames names ∷ ts) n = covers names n
+changes_name ts n = false
 
 -- Of the binders that a step leaves as they were, each name keeps its value in that step, but where some formal is bound
 -- to its cell by reference, or where the step changes that very name and nothing in front binds it.
@@ -24,5 +24,5 @@ abbrev pub KeepsOutside : List RoutineTree → Job → Type 0
 KeepsOutside routines j =
     (front after back : Bindings) (n : List ℕ) (free : LockName → Bool) (c : Choice) (i : Job)
     → go routines free c j ≡ Ok i → j.bindings ≡ front ++ back → i.bindings ≡ after ++ back
-    → is_lent j.bindings (look back n) ≡ false → (changes j.tasks n && not (binds front n)) ≡ false
+    → is_lent j.bindings (look back n) ≡ false → (changes_name j.tasks n && not (binds front n)) ≡ false
     → i.cells (look back n) ≡ j.cells (look back n)

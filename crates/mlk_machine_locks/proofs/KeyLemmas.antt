@@ -6,9 +6,9 @@ use Rattle.std.proofs.lemmas.Bool.{and_parts, and_from, or_left, or_right, lt-lt
 use Rattle.std.proofs.lemmas.Slice.Eq.{bytes_eq-Decides}
 use Rattle.std.specs.Prelude.{bytes_eq}
 use Rattle.mlk_text.specs.declared.root.Root.{Root}
+use Rattle.mlk_names.specs.Lists.{Among}
 use Rattle.mlk_names.specs.declared.lock_name.LockName.{LockName}
 use Rattle.mlk_names.specs.LockNames.{Conflict}
-use Rattle.mlk_machine_locks.specs.Lists.{Among}
 use Rattle.mlk_machine_locks.specs.Counts.{Counts, count_of}
 use Rattle.mlk_machine_locks.specs.NameTests.{are_first, same_name}
 use Rattle.mlk_machine_locks.specs.Keys.{root_key, deeper, itself, keys_from, keys_of, asked_from, asked_of, is_under}

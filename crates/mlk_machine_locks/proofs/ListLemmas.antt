@@ -3,7 +3,8 @@ use Rattle.std.proofs.Common.{◌≡◌, ◌<◌, ◌≤◌, Bool, true, cond, L
 use Rattle.std.specs.Prelude.{◌⊎◌, ◌||◌}
 use Rattle.std.specs.List.{list_any}
 use Rattle.std.proofs.lemmas.Bool.{cases_Bool, or_cases, or_left, or_right}
-use Rattle.mlk_machine_locks.specs.Lists.{Among, is_some_there}
+use Rattle.mlk_names.specs.Lists.{Among}
+use Rattle.mlk_machine_locks.specs.Lists.{is_some_there}
 
 pub one_there : {X : Type 0} (xs : List X) → is_some_there xs ≡ true → (x : X) × Among x xs
 one_there [] h = cc

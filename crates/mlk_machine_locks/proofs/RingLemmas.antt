@@ -1,7 +1,7 @@
 -- Taking away those that wait for none of the rest finds a ring where there is one.
 use Rattle.std.proofs.Common.{◌≡◌, ◌↔◌, ℕ, zero, suc, ◌≤◌, Bool, true, List, [], ◌∷◌, length, refl, sym, ap, ◌∙◌, subst, arith, inl, inr}
 use Rattle.std.specs.List.{list_any}
-use Rattle.mlk_machine_locks.specs.Lists.{Among}
+use Rattle.mlk_names.specs.Lists.{Among}
 use Rattle.mlk_machine_locks.specs.Rings.{IsRing, HasRing, waiting, left_after, left, has_ring}
 use Rattle.mlk_machine_locks.proofs.ListLemmas.{one_there, there, any_from, any_to, in_filter, into_filter, filter_shrinks}
 

@@ -6,13 +6,14 @@ use Rattle.std.proofs.lemmas.List.{length-set, length-append, reverse-append}
 use Rattle.std.proofs.lemmas.List.Sums.{sum_by-set}
 use Rattle.std.specs.List.{list_any, slice_get, sum_by}
 use Rattle.std.proofs.lemmas.Option.{slice_get_within, slice_get-get_or, slice_get_read, get_or_from_slice_get}
+use Rattle.mlk_names.specs.Lists.{Among}
 use Rattle.mlk_machine_locks.specs.declared.ring.Mark.{Mark}
 use Rattle.mlk_machine_locks.specs.declared.ring.Mark.TheVariants.{New, OnPath, Free}
 use Rattle.mlk_machine_locks.specs.declared.ring.Stop.{Stop}
 use Rattle.mlk_names.specs.declared.lock_name.LockName.{LockName}
 use Rattle.mlk_machine_locks.specs.Counts.{excludes}
 use Rattle.mlk_machine_locks.specs.Waiting.{View, awaited, waits, waits_as}
-use Rattle.mlk_machine_locks.specs.Lists.{Among, is_some_there}
+use Rattle.mlk_machine_locks.specs.Lists.{is_some_there}
 use Rattle.mlk_machine_locks.specs.Rings.{left, has_ring}
 use Rattle.mlk_machine_locks.specs.Searches.{is_free, is_new, IsFree, FreeAt, AreFree, WaitsFreely, Waits, WaitsAt, IsNext, IsStop, Leads, IsPath, places, IsMet, Searching, weight}
 use Rattle.mlk_machine_locks.proofs.RingLemmas.{left_within, left_each, ring_is_found}

@@ -3,15 +3,15 @@ use Rattle.std.proofs.Common.{◌≡◌, ℕ, Bool, true, false, List, [], ◌�
 use Rattle.std.specs.Prelude.{◌≢◌, ◌⊎◌, ◌==◌, ◌&&◌, not, Result, Ok, Err}
 use Rattle.std.specs.List.{list_any}
 use Rattle.std.proofs.lemmas.Bool.{cases_Bool, or_parts, and_cases, not-true, not-false, eqb-true, eqb-false, eq-eqb, ne_eqb, true≢false}
+use Rattle.mlk_names.specs.Lists.{Among}
 use Rattle.mlk_names.specs.declared.lock_name.LockName.{LockName}
 use Rattle.mlk_names.specs.LockNames.{Conflict}
 use Rattle.mlk_machine_locks.specs.declared.refusal.Refusal.{Refusal}
 use Rattle.mlk_machine_locks.specs.declared.refusal.Refusal.TheVariants.{NotEnabled}
-use Rattle.mlk_machine_locks.specs.Lists.{Among}
 use Rattle.mlk_machine_locks.specs.Counts.{excludes}
 use Rattle.mlk_machine_locks.specs.Waiting.{Holds}
 use Rattle.mlk_machine_locks.specs.Systems.{Machine, IsMachine, Act, Begin, Go, Abort, Event, and_then, number, is_free, is_used, changed, joined, happens, after, alone, lone_run, acts_of, IsAlone}
-use Rattle.mlk_machine_locks.specs.Laws.{AreApart, AreDistinct, HeldApart, NumbersDistinct, OneRunOfMany}
+use Rattle.mlk_machine_locks.specs.Laws.{AreApart, NumbersDiffer, HeldApart, NumbersDistinct, OneRunOfMany}
 use Rattle.mlk_machine_locks.proofs.Answered.{done_then}
 use Rattle.mlk_machine_locks.proofs.NameLemmas.{excludes_if}
 
@@ -46,7 +46,7 @@ acts_other k e es h = let t : (e.job == k) ≡ false = ne_eqb e.job k h in rw t 
 module _ {J C E : Type 0} (m : Machine J C E) (is : IsMachine m) where
   -- each number is that of one job
   abbrev Distinct : List J → Type 0
-  Distinct = AreDistinct m.view
+  Distinct = NumbersDiffer m.view
 
   abbrev Unused : ℕ → List J → Type 0
   Unused k jobs = (j : J) → Among j jobs → number m j ≢ k

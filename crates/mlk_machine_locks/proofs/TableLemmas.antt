@@ -5,10 +5,10 @@ use Rattle.std.specs.List.{list_any, slice_get}
 use Rattle.std.specs.Map.{lookup}
 use Rattle.std.proofs.lemmas.Bool.{cases_Bool, cases_lt, and_parts, eqb-true, eqb-false}
 use Rattle.std.proofs.lemmas.Option.{slice_get_within}
+use Rattle.mlk_names.specs.Lists.{Among}
 use Rattle.mlk_names.specs.declared.lock_name.LockName.{LockName}
 use Rattle.mlk_machine_locks.specs.declared.holders.Holders.{Holders}
 use Rattle.mlk_machine_locks.specs.declared.table.LockTable.{LockTable}
-use Rattle.mlk_machine_locks.specs.Lists.{Among}
 use Rattle.mlk_machine_locks.specs.NameTests.{same_name}
 use Rattle.mlk_machine_locks.specs.Counts.{Counts, count_of, excludes}
 use Rattle.mlk_machine_locks.specs.Keys.{deeper, itself, keys_from, keys_of, asked_from, asked_of, is_under}

@@ -1,8 +1,8 @@
 -- What holds of jobs that share locks.
 use Rattle.std.specs.Prelude.{◌≡◌, ◌≢◌, ◌↔◌, ℕ, suc, ◌<◌, Bool, true, List, [], ◌∷◌, Ok, ◌==◌, not, filter}
+use Rattle.mlk_names.specs.Lists.{Among}
 use Rattle.mlk_names.specs.declared.lock_name.LockName.{LockName}
 use Rattle.mlk_names.specs.LockNames.{IsAbove, Conflict}
-use Rattle.mlk_machine_locks.specs.Lists.{Among}
 use Rattle.mlk_machine_locks.specs.NameTests.{is_above, in_conflict, same_name}
 use Rattle.mlk_machine_locks.specs.Counts.{Counts, count_of, raised, lowered, excludes}
 use Rattle.mlk_machine_locks.specs.Rings.{HasRing, has_ring}
@@ -49,14 +49,14 @@ abbrev pub RingsAreFound : {X : Type 0} → (X → View) → Type 0
 RingsAreFound {X} view = (jobs : List X) → (has_ring_of view jobs ≡ true) ↔ HasRing (Waits view) jobs
 
 -- No number is that of two jobs.
-abbrev pub AreDistinct : {X : Type 0} → (X → View) → List X → Type 0
-AreDistinct view [] = Unit {0}
-AreDistinct {X} view (x ∷ xs) = ((y : X) → Among y xs → (view y).number ≢ (view x).number) × AreDistinct view xs
+abbrev pub NumbersDiffer : {X : Type 0} → (X → View) → List X → Type 0
+NumbersDiffer view [] = Unit {0}
+NumbersDiffer {X} view (x ∷ xs) = ((y : X) → Among y xs → (view y).number ≢ (view x).number) × NumbersDiffer view xs
 
 -- In each run the numbers of the jobs are distinct.
 abbrev pub NumbersDistinct : {J C E : Type 0} → Machine J C E → Type 0
 NumbersDistinct {J} {C} {E} m =
-    (events : List (Event C E)) (jobs : List J) → after m events [] ≡ Ok jobs → AreDistinct m.view jobs
+    (events : List (Event C E)) (jobs : List J) → after m events [] ≡ Ok jobs → NumbersDiffer m.view jobs
 
 -- No name that one job holds conflicts with one that another holds.
 abbrev pub AreApart : {X : Type 0} → (X → View) → List X → Type 0

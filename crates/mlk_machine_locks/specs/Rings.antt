@@ -2,7 +2,8 @@
 -- is not a cycle in a graph of one arrow from each, and the set need not be one cycle. This project's own.
 use Rattle.std.specs.Prelude.{ℕ, zero, suc, Bool, List, length, filter}
 use Rattle.std.specs.List.{list_any}
-use Rattle.mlk_machine_locks.specs.Lists.{Among, is_some_there}
+use Rattle.mlk_names.specs.Lists.{Among}
+use Rattle.mlk_machine_locks.specs.Lists.{is_some_there}
 
 -- A set given by what it asks of its members.
 pub record IsRing {X : Type 0} (WaitsFor : X → X → Type 0) (xs : List X) (In : X → Type 0) : Type 0 where

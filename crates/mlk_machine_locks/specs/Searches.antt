@@ -2,10 +2,10 @@
 -- that it follows. Jobs are named by their places. This project's own.
 use Rattle.std.specs.Prelude.{⊤, ◌≡◌, ◌≢◌, ◌⊎◌, ◌+◌, ℕ, Bool, true, false, Some, List, [], ◌∷◌, length, map}
 use Rattle.std.specs.List.{slice_get, sum_by}
+use Rattle.mlk_names.specs.Lists.{Among}
 use Rattle.mlk_machine_locks.specs.declared.ring.Mark.{Mark}
 use Rattle.mlk_machine_locks.specs.declared.ring.Mark.TheVariants.{New, OnPath, Free}
 use Rattle.mlk_machine_locks.specs.declared.ring.Stop.{Stop}
-use Rattle.mlk_machine_locks.specs.Lists.{Among}
 use Rattle.mlk_machine_locks.specs.Rings.{left}
 
 -- it is in no ring

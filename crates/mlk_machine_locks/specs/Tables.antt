@@ -2,10 +2,10 @@
 use Rattle.std.specs.Prelude.{◌≡◌, ◌⊎◌, ℕ, ◌<◌, ◌==◌, Bool, true, false, ◌&&◌, not, List, Some, length}
 use Rattle.std.specs.List.{list_any, slice_get}
 use Rattle.std.specs.Map.{lookup}
+use Rattle.mlk_names.specs.Lists.{Among}
 use Rattle.mlk_names.specs.declared.lock_name.LockName.{LockName}
 use Rattle.mlk_machine_locks.specs.declared.holders.Holders.{Holders}
 use Rattle.mlk_machine_locks.specs.declared.table.LockTable.{LockTable}
-use Rattle.mlk_machine_locks.specs.Lists.{Among}
 use Rattle.mlk_machine_locks.specs.Counts.{excludes}
 use Rattle.mlk_machine_locks.specs.Keys.{keys_of, asked_of, is_under}
 use Rattle.mlk_machine_locks.specs.Waiting.{View, Holds, awaited}

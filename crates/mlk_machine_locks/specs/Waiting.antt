@@ -2,9 +2,9 @@
 -- name that conflicts with one that it claims; a claim with a timeout goes on without them, so it never waits.
 use Rattle.std.specs.Prelude.{◌≢◌, ℕ, ◌<◌, ◌==◌, Bool, ◌&&◌, not, if◌then◌else◌, List, [], Option, Some, None}
 use Rattle.std.specs.List.{list_any}
+use Rattle.mlk_names.specs.Lists.{Among}
 use Rattle.mlk_names.specs.declared.lock_name.LockName.{LockName}
 use Rattle.mlk_names.specs.LockNames.{Conflict}
-use Rattle.mlk_machine_locks.specs.Lists.{Among}
 use Rattle.mlk_machine_locks.specs.Counts.{Counts, count_of, excludes}
 
 -- all names of one argument of LOCK, which are claimed in one step

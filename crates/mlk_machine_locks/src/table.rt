@@ -2,8 +2,8 @@
 
 ghost use Rattle.std.specs.Prelude.{◌≡◌, ◌<◌, ℕ, true, false, IfOk, OnOk};
 ghost use Rattle.std.specs.List.{list_any, list_all};
+ghost use Rattle.mlk_names.specs.Lists.{Among};
 ghost use Rattle.mlk_names.specs.declared.lock_name.LockName.{LockName as LockNameOf};
-ghost use Rattle.mlk_machine_locks.specs.Lists.{Among};
 ghost use Rattle.mlk_machine_locks.specs.Counts.{count_of};
 ghost use Rattle.mlk_machine_locks.specs.Keys.{keys_of, asked_of};
 ghost use Rattle.mlk_machine_locks.specs.Waiting.{is_free_among};

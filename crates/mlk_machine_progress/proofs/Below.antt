@@ -16,13 +16,13 @@ use Rattle.mlk_machine_jobs.specs.declared.choice.Choice.{Choice}
 use Rattle.mlk_machine_jobs.specs.Bindings.{Bindings}
 use Rattle.mlk_machine_jobs.specs.Tasks as task
 use Rattle.mlk_machine_jobs.specs.Tasks.{Task, Job, LineTree, Frame, NoValue, AwaitsValue, HasValue}
-use Rattle.mlk_machine_jobs.specs.Tasks.{RunLines, RunCommands, Parameters, Forever, NextValue, FirstRound, LaterRound, EndBlock, EndFrame}
+use Rattle.mlk_machine_jobs.specs.Tasks.{RunLines, FirstRound, LaterRound, EndFrame}
 use Rattle.mlk_machine_jobs.specs.Commands.{count_in, action_parts}
 use Rattle.mlk_machine_jobs.specs.Assigning.{count_parts}
 use Rattle.mlk_machine_jobs.specs.Choices.{Stepped, without_choice, fetched, touched, doing, dropped}
-use Rattle.mlk_machine_jobs.specs.Locking.{count_all, tested, claimed, timed_claim, if_free}
+use Rattle.mlk_machine_jobs.specs.Locking.{count_all, tested, claim_step, timed_claim, if_free}
 use Rattle.mlk_machine_jobs.specs.Lines.{to_end, selected, chosen, next_line, tasks_if, answered}
-use Rattle.mlk_machine_jobs.specs.Calling.{count_given, entered, called, called_if, frame_of, frame_end, lines_after}
+use Rattle.mlk_machine_jobs.specs.Calling.{count_given, entered, called, called_if, call_frame, frame_end, lines_after}
 use Rattle.mlk_machine_jobs.specs.Advance.{advance}
 use Rattle.mlk_machine_progress.specs.Progress.{uses}
 use Rattle.mlk_machine_progress.specs.Laws.{UsesNoMore}
@@ -75,7 +75,7 @@ module _ (n : ℕ) (vs : List (List ℕ)) where
   of_grant true k e = none k e
   of_grant false k e = refused (Below n vs) NotEnabled
 
-  of_claim : (c : Choice) (names : List LockName) (timed : Bool) (free : LockName → Bool) (j : Job) → j.values ≡ drop n vs → Leaves (claimed free c names timed j)
+  of_claim : (c : Choice) (names : List LockName) (timed : Bool) (free : LockName → Bool) (j : Job) → j.values ≡ drop n vs → Leaves (claim_step free c names timed j)
   of_claim c names false free j e = unasked (Below n vs) c _ (of_grant (list_all free names && has_room names j.held) _ e)
   of_claim c names true free j e = of_truth (Below n vs) c _ (λ t. elim t as (λ t. Leaves (timed_claim free names t j)) [
     | true ↦ of_grant (list_all free names && has_room names j.held) _ e
@@ -137,7 +137,7 @@ module _ (routines : List RoutineTree) (free : LockName → Bool) (c : Choice) (
   below (task.Claim names timed) ts = of_claim 0 j.values c names timed free (doing ts j) refl
   below (task.Call extrinsic callee given) ts =
       unasked (Below (count_given given) j.values) c _
-      (of_call (count_given given) j.values routines (frame_of extrinsic j) (target_of routines j.routine callee) given ts j refl)
+      (of_call (count_given given) j.values routines (call_frame extrinsic j) (target_of routines j.routine callee) given ts j refl)
   below (task.CallIf callee given) ts =
       of_condition (Below (suc (count_given given)) j.values) c j (λ t i. called_if t routines (target_of routines i.routine callee) given ts i)
       (λ t. of_call_if (suc (count_given given)) j.values routines t (target_of routines j.routine callee) given ts (dropped 1 j) (after_one (count_given given) j.values))

@@ -20,9 +20,9 @@ use Rattle.mlk_machine_jobs.specs.Tasks.{Task, Job, LineTree, Frame, NoValue, Aw
 use Rattle.mlk_machine_jobs.specs.Tasks.{RunLines, RunCommands, Parameters, Forever, NextValue, FirstRound, LaterRound, EndBlock, EndFrame}
 use Rattle.mlk_machine_jobs.specs.Commands.{action_parts}
 use Rattle.mlk_machine_jobs.specs.Choices.{fetched, touched, doing, dropped, same_truth}
-use Rattle.mlk_machine_jobs.specs.Locking.{tested, claimed, timed_claim, if_free}
+use Rattle.mlk_machine_jobs.specs.Locking.{tested, claim_step, timed_claim, if_free}
 use Rattle.mlk_machine_jobs.specs.Lines.{skipped, to_end, selected, chosen, next_line, tasks_if, answered}
-use Rattle.mlk_machine_jobs.specs.Calling.{entered, called, called_if, frame_of, frame_end, lines_after}
+use Rattle.mlk_machine_jobs.specs.Calling.{entered, called, called_if, call_frame, frame_end, lines_after}
 use Rattle.mlk_machine_jobs.specs.Advance.{advance}
 use Rattle.mlk_machine_jobs.specs.Runs.{machine, is_job_number, blank, by_value, formals_at, aborted}
 use Rattle.mlk_machine_progress.proofs.Found.{AreFound, found_left, found_right, AreFoundAt, found_as_lines, AllFind, find_skipped, find_to_end, find_quit, entry_found}
@@ -67,7 +67,7 @@ module _ (routines : List RoutineTree) (p : IsProgram routines) where
   of_grant true k s = now k s
   of_grant false k s = refused FindsAll NotEnabled
 
-  of_claim : (c : Choice) (names : List LockName) (timed : Bool) (free : LockName → Bool) (j : Job) → FindsAll j → Each FindsAll (claimed free c names timed j)
+  of_claim : (c : Choice) (names : List LockName) (timed : Bool) (free : LockName → Bool) (j : Job) → FindsAll j → Each FindsAll (claim_step free c names timed j)
   of_claim c names false free j s = unasked FindsAll c _ (of_grant (list_all free names && has_room names j.held) _ s)
   of_claim c names true free j s = of_truth FindsAll c _ (λ t. elim t as (λ t. Each FindsAll (timed_claim free names t j)) [
     | true ↦ of_grant (list_all free names && has_room names j.held) _ s
@@ -139,7 +139,7 @@ module _ (routines : List RoutineTree) (p : IsProgram routines) where
   knows free c j (task.Release names ∷ ts) (h, f) = unasked FindsAll c _ (now _ f)
   knows free c j (task.ReleaseAll ∷ ts) (h, f) = unasked FindsAll c _ (now _ f)
   knows free c j (task.Call extrinsic callee given ∷ ts) (h, f) =
-      unasked FindsAll c _ (of_call (frame_of extrinsic j) (target_of routines j.routine callee) given ts j f)
+      unasked FindsAll c _ (of_call (call_frame extrinsic j) (target_of routines j.routine callee) given ts j f)
   knows free c j (task.CallIf callee given ∷ ts) (h, f) =
       of_condition FindsAll c j (λ t i. called_if t routines (target_of routines i.routine callee) given ts i)
       (λ t. of_call_if t (target_of routines j.routine callee) given ts (dropped 1 j) f)

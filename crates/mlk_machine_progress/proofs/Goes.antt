@@ -13,14 +13,15 @@ use Rattle.mlk_program.specs.Entries.{target_of}
 use Rattle.mlk_machine_jobs.specs.declared.choice.Choice.{Choice}
 use Rattle.mlk_machine_jobs.specs.declared.choice.Choice.TheVariants as choice
 use Rattle.mlk_machine_jobs.specs.Tasks as task
-use Rattle.mlk_machine_jobs.specs.Tasks.{Task, Job, LineTree, Frame, NoValue, AwaitsValue, HasValue}
+use Rattle.mlk_machine_jobs.specs.Tasks.{Task, Job, Frame, NoValue, AwaitsValue, HasValue}
 use Rattle.mlk_machine_jobs.specs.Tasks.{RunLines, RunCommands, Parameters, Forever, NextValue, FirstRound, LaterRound, EndBlock, EndFrame}
 use Rattle.mlk_machine_jobs.specs.Commands.{action_parts}
-use Rattle.mlk_machine_jobs.specs.Choices.{Stepped, without_choice, with_value, with_truth, with_last, truth_of, by_truth, is_one, is_zero}
+use Rattle.mlk_numbers.specs.Operators.{truth_of_text}
+use Rattle.mlk_machine_jobs.specs.Choices.{Stepped, without_choice, with_value, with_truth, with_last, truth_or_asked, by_truth}
 use Rattle.mlk_machine_jobs.specs.Choices.{given_or_asked, fetched, touched, doing, dropped}
-use Rattle.mlk_machine_jobs.specs.Locking.{tested, claimed, if_free}
+use Rattle.mlk_machine_jobs.specs.Locking.{tested, claim_step, if_free}
 use Rattle.mlk_machine_jobs.specs.Lines.{chosen, tasks_if}
-use Rattle.mlk_machine_jobs.specs.Calling.{called, called_if, frame_of, frame_end}
+use Rattle.mlk_machine_jobs.specs.Calling.{called, called_if, call_frame, frame_end}
 use Rattle.mlk_machine_jobs.specs.Advance.{advance}
 use Rattle.mlk_machine_progress.specs.Progress.{is_granted, can_go, claiming}
 use Rattle.mlk_machine_progress.specs.Laws.{JobsGoOn, ClaimsAreGranted}
@@ -54,17 +55,12 @@ with_last_one : (vs : List (List ℕ)) → 1 ≤ length vs → (f : List ℕ →
 with_last_one [] l f m = absurd (omega (arith, l))
 with_last_one (v ∷ vs) l f m = m v
 
-either : (b : Bool) (f g : Choice → Stepped) → MakesBySome f → MakesBySome g → MakesBySome (λ c. if b then f c else g c)
-either true f g m n = m
-either false f g m n = n
-
-by_value : (v : List ℕ) (f : Bool → Stepped) → ((t : Bool) → Makes (f t)) → MakesBySome (λ c. truth_of c v f)
-by_value v f m =
-    either (is_one v) (λ c. without_choice c (f true)) (λ c. if is_zero v then without_choice c (f false) else with_truth c f) (silent (f true) (m true))
-    (either (is_zero v) (λ c. without_choice c (f false)) (λ c. with_truth c f) (silent (f false) (m false)) (decided f (m true)))
+truth_known : (o : Option Bool) (f : Bool → Stepped) → ((t : Bool) → Makes (f t)) → MakesBySome (λ c. truth_or_asked c o f)
+truth_known None f m = decided f (m true)
+truth_known (Some t) f m = silent (f t) (m t)
 
 by_condition : (j : Job) (f : Bool → Job → Stepped) → 1 ≤ length j.values → ((t : Bool) → Makes (f t (dropped 1 j))) → MakesBySome (λ c. by_truth c j f)
-by_condition j f l m = with_one j.values l (λ c v. truth_of c v (λ t. f t (dropped 1 j))) (λ v. by_value v (λ t. f t (dropped 1 j)) m)
+by_condition j f l m = with_one j.values l (λ c v. truth_or_asked c (truth_of_text v) (λ t. f t (dropped 1 j))) (λ v. truth_known (truth_of_text v) (λ t. f t (dropped 1 j)) m)
 
 folded : (o : Option (List ℕ)) (f : List ℕ → Stepped) → ((v : List ℕ) → Makes (f v)) → MakesBySome (λ c. given_or_asked c o f)
 folded None f m = asked f (m [])
@@ -142,7 +138,7 @@ module _ (routines : List RoutineTree) where
   goes free j (task.Claim names true ∷ ts) s f h = (choice.Truth false, (_, refl))
   goes free j (task.Release names ∷ ts) s f h = makes _
   goes free j (task.ReleaseAll ∷ ts) s f h = makes _
-  goes free j (task.Call extrinsic callee given ∷ ts) s f h = silent _ (calls (frame_of extrinsic j) j.routine callee f.0 given ts j)
+  goes free j (task.Call extrinsic callee given ∷ ts) s f h = silent _ (calls (call_frame extrinsic j) j.routine callee f.0 given ts j)
   goes free j (task.CallIf callee given ∷ ts) s f h =
       by_condition j (λ t i. called_if t routines (target_of routines i.routine callee) given ts i) (omega (arith, s.1))
       (λ t. calls_if t j.routine callee f.0 given ts (dropped 1 j))
@@ -193,12 +189,12 @@ jobs_go_on routines declared p e test values k first j acts b r = record {
 
 -- Claims.
 at_claim : (routines : List RoutineTree) (free : LockName → Bool) (j : Job) (names : List LockName) (timed : Bool) (ts : List Task) → is_granted free j names ≡ true
-    → Makes (claimed free (claiming timed) names timed (doing ts j))
+    → Makes (claim_step free (claiming timed) names timed (doing ts j))
 at_claim routines free j names false ts h = grants _ _ h
 at_claim routines free j names true ts h = grants _ _ h
 
 not_at_claim : (routines : List RoutineTree) (free : LockName → Bool) (j : Job) (names : List LockName) (timed : Bool) (ts : List Task) → is_granted free j names ≡ false
-    → Each Never (claimed free (claiming timed) names timed (doing ts j))
+    → Each Never (claim_step free (claiming timed) names timed (doing ts j))
 not_at_claim routines free j names false ts h = never_granted _ _ h
 not_at_claim routines free j names true ts h = never_granted _ _ h
 

@@ -8,7 +8,8 @@ use Rattle.mlk_program.specs.declared.entry.EntryId.{EntryId}
 use Rattle.mlk_machine_jobs.specs.declared.choice.Choice.{Choice}
 use Rattle.mlk_machine_jobs.specs.declared.choice.Choice.TheVariants as choice
 use Rattle.mlk_machine_jobs.specs.Tasks.{Job}
-use Rattle.mlk_machine_jobs.specs.Choices.{Stepped, without_choice, with_value, with_truth, with_last, truth_of, by_truth, is_one, is_zero, given_or_asked, dropped}
+use Rattle.mlk_numbers.specs.Operators.{truth_of_text}
+use Rattle.mlk_machine_jobs.specs.Choices.{Stepped, without_choice, with_value, with_truth, with_last, truth_or_asked, by_truth, given_or_asked, dropped}
 use Rattle.mlk_machine_jobs.specs.Runs.{machine, go, aborted}
 use Rattle.mlk_machine_laws.specs.Moments.{AtEachMoment}
 
@@ -47,13 +48,12 @@ module _ (P : Job → Type 0) where
   of_if true s t p q i e = p i e
   of_if false s t p q i e = q i e
 
-  pub of_known : (c : Choice) (v : List ℕ) (f : Bool → Stepped) → ((t : Bool) → Each (f t)) → Each (truth_of c v f)
-  of_known c v f h =
-      of_if (is_one v) _ _ (unasked c (f true) (h true))
-      (of_if (is_zero v) _ _ (unasked c (f false) (h false)) (of_truth c f h))
+  pub of_known : (c : Choice) (o : Option Bool) (f : Bool → Stepped) → ((t : Bool) → Each (f t)) → Each (truth_or_asked c o f)
+  of_known c None f h = of_truth c f h
+  of_known c (Some t) f h = unasked c (f t) (h t)
 
   pub of_condition : (c : Choice) (k : Job) (f : Bool → Job → Stepped) → ((t : Bool) → Each (f t (dropped 1 k))) → Each (by_truth c k f)
-  of_condition c k f h = of_last k.values _ (λ v. of_known c v (λ t. f t (dropped 1 k)) h)
+  of_condition c k f h = of_last k.values _ (λ v. of_known c (truth_of_text v) (λ t. f t (dropped 1 k)) h)
 
   pub of_result : (c : Choice) (o : Option (List ℕ)) (f : List ℕ → Stepped) → ((v : List ℕ) → Each (f v)) → Each (given_or_asked c o f)
   of_result c None f h = of_value c f h

@@ -21,9 +21,9 @@ use Rattle.mlk_machine_jobs.specs.Tasks.{RunLines, RunCommands, Parameters, Fore
 use Rattle.mlk_machine_jobs.specs.Commands.{count_in, action_parts}
 use Rattle.mlk_machine_jobs.specs.Assigning.{count_parts}
 use Rattle.mlk_machine_jobs.specs.Choices.{fetched, touched, doing, dropped, same_truth}
-use Rattle.mlk_machine_jobs.specs.Locking.{count_all, tested, claimed, timed_claim, if_free}
+use Rattle.mlk_machine_jobs.specs.Locking.{count_all, tested, claim_step, timed_claim, if_free}
 use Rattle.mlk_machine_jobs.specs.Lines.{is_end, to_end, selected, chosen, next_line, tasks_if, answered}
-use Rattle.mlk_machine_jobs.specs.Calling.{count_given, commands_in, entered, called, called_if, frame_of, frame_end, lines_after}
+use Rattle.mlk_machine_jobs.specs.Calling.{count_given, commands_in, entered, called, called_if, call_frame, frame_end, lines_after}
 use Rattle.mlk_machine_jobs.specs.Advance.{advance}
 use Rattle.mlk_machine_jobs.specs.Runs.{machine, is_job_number, blank, by_value, formals_at, aborted}
 use Rattle.mlk_machine_progress.specs.Progress.{given_by, value_of, AreEnough}
@@ -74,7 +74,7 @@ of_grant true k s = now k s
 of_grant false k s = refused Suited NotEnabled
 
 of_claim : (c : Choice) (names : List LockName) (timed : Bool) (free : LockName → Bool) (j : Job) → Suits (length j.values) j.tasks
-    → Each Suited (claimed free c names timed j)
+    → Each Suited (claim_step free c names timed j)
 of_claim c names false free j s = unasked Suited c _ (of_grant (list_all free names && has_room names j.held) _ s)
 of_claim c names true free j s = of_truth Suited c _ (λ t. elim t as (λ t. Each Suited (timed_claim free names t j)) [
   | true ↦ of_grant (list_all free names && has_room names j.held) _ s
@@ -99,7 +99,7 @@ of_call routines frame None given ts j n s e = refused Suited NotEnabled
 of_call routines frame (Some x) given ts j n s e = of_entered frame x.routine given (lines_after routines x) ts j n s e
 
 frame_suits : (extrinsic : Bool) (j : Job) (n : ℕ) (ts : List Task) → Fits ts → needs ts ≡ value_of extrinsic + n → (back : Bindings) (next routine : ℕ)
-    → Suits n (EndFrame (frame_of extrinsic j) back next routine ∷ ts)
+    → Suits n (EndFrame (call_frame extrinsic j) back next routine ∷ ts)
 frame_suits true j n ts f e back next routine = ((omega (arith, e), (λ z. cc), f), omega (arith, e))
 frame_suits false j n ts f e back next routine = ((omega arith, (λ z. cc), f), omega (arith, e))
 
@@ -167,7 +167,7 @@ goes routines free c j (task.Release names ∷ ts) ((b, r, f), e) = unasked Suit
 goes routines free c j (task.ReleaseAll ∷ ts) ((b, r, f), e) = unasked Suited c _ (now _ (f, omega (arith, e)))
 goes routines free c j (task.Call extrinsic callee given ∷ ts) ((b, r, f), e) =
     let n : ℕ = needs ts - value_of extrinsic in
-    unasked Suited c _ (of_call routines (frame_of extrinsic j) (target_of routines j.routine callee) given ts j n
+    unasked Suited c _ (of_call routines (call_frame extrinsic j) (target_of routines j.routine callee) given ts j n
     (frame_suits extrinsic j n ts f (omega (arith, b))) (omega (arith, e)))
 goes routines free c j (task.CallIf callee given ∷ ts) ((b, r, f), e) =
     of_condition Suited c j (λ t i. called_if t routines (target_of routines i.routine callee) given ts i)

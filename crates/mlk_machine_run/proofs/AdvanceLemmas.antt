@@ -23,7 +23,8 @@ use Rattle.mlk_machine_jobs.specs.declared.task.LineTask.TheVariants as a_line
 use Rattle.mlk_machine_jobs.specs.Tasks as task
 use Rattle.mlk_machine_jobs.specs.Tasks.{Task, Job, LineTree, Frame}
 use Rattle.mlk_machine_jobs.specs.Bindings.{look}
-use Rattle.mlk_machine_jobs.specs.Choices.{Stepped, without_choice, with_last, truth_of, doing, dropped, fetched, touched}
+use Rattle.mlk_numbers.specs.Operators.{truth_of_text}
+use Rattle.mlk_machine_jobs.specs.Choices.{Stepped, without_choice, with_last, truth_or_asked, doing, dropped, fetched, touched}
 use Rattle.mlk_machine_jobs.specs.Lines.{to_end, selected, chosen, next_line}
 use Rattle.mlk_machine_jobs.specs.Calling as calling
 use Rattle.mlk_machine_jobs.specs.Calling.{called, called_if, entered, lines_after}
@@ -58,7 +59,7 @@ called_again : (routines : List RoutineTree) (frame : Frame) (e : Option EntryId
 called_again routines frame None given us ts j = refl
 called_again routines frame (Some e) given us ts j = entered_again frame e.routine given (lines_after routines e) us ts j
 
-frame_again : (extrinsic : Bool) (us : List Task) (j : Job) → calling.frame_of extrinsic (doing us j) ≡ calling.frame_of extrinsic j
+frame_again : (extrinsic : Bool) (us : List Task) (j : Job) → calling.call_frame extrinsic (doing us j) ≡ calling.call_frame extrinsic j
 frame_again true us j = refl
 frame_again false us j = refl
 
@@ -73,8 +74,8 @@ next_again ((LineHead n level end label None commands, block) ∷ lines) us ts j
 next_again ((LineHead n level end label (Some formals) commands, block) ∷ lines) us ts j = refl
 
 same_tested : (vs : List (List ℕ)) (c : Choice) (f g : Bool → Stepped) → ((t : Bool) → f t ≡ g t)
-    → with_last vs (λ v. truth_of c v f) ≡ with_last vs (λ v. truth_of c v g)
-same_tested vs c f g h = ap (λ (k : Bool → Stepped). with_last vs (λ v. truth_of c v k)) (λ i t. h t i)
+    → with_last vs (λ v. truth_or_asked c (truth_of_text v) f) ≡ with_last vs (λ v. truth_or_asked c (truth_of_text v) g)
+same_tested vs c f g h = ap (λ (k : Bool → Stepped). with_last vs (λ v. truth_or_asked c (truth_of_text v) k)) (λ i t. h t i)
 
 -- the tasks that a job has meanwhile say nothing
 pub again : (routines : List RoutineTree) (free : LockName → Bool) (c : Choice) (j : Job) (us : List Task) (t : Task)
@@ -111,7 +112,7 @@ again routines free c j us task.ReleaseAll ts = refl
 again routines free c j us (task.Call extrinsic callee given) ts =
     ap (without_choice c) (
     ap (λ (f : Frame). called routines f (target_of routines j.routine callee) given ts (doing us j)) (frame_again extrinsic us j)
-    ∙ called_again routines (calling.frame_of extrinsic j) (target_of routines j.routine callee) given us ts j
+    ∙ called_again routines (calling.call_frame extrinsic j) (target_of routines j.routine callee) given us ts j
     )
 again routines free c j us (task.CallIf callee given) ts =
     same_tested j.values c _ _ (λ t. called_if_again t routines (target_of routines j.routine callee) given us ts j)

@@ -1,6 +1,6 @@
 -- Frames that begin: their lines, the binders of their formals, and the values of those.
 use Rattle.std.proofs.Common.{◌≡◌, ◌∙◌, ◌<◌, ◌≤◌, ◌==◌, ℕ, zero, suc, Bool, true, false, List, [], ◌∷◌, ◌++◌, length, take, drop, map, reverse, Some, None, Ok, Err, refl, sym, ap, subst, arith, inl, inr, append_assoc, append-nil}
-use Rattle.std.specs.Prelude.{if◌then◌else◌, bytes_eq, slice_get}
+use Rattle.std.specs.Prelude.{Option, if◌then◌else◌, bytes_eq, slice_get}
 use Rattle.std.proofs.lemmas.Bool.{cases_Bool}
 use Rattle.std.proofs.lemmas.Bool.Decides.{nat_tests}
 use Rattle.std.proofs.lemmas.List.{reverse-append, reverse-reverse, take-append-le, take_all, length-append, length-reverse}
@@ -13,16 +13,17 @@ use Rattle.mlk_syntax.specs.Views.{line_of, routine_of}
 use Rattle.mlk_program.specs.declared.entry.EntryId.{EntryId}
 use Rattle.mlk_machine_jobs.specs.declared.choice.Choice.{Choice}
 use Rattle.mlk_machine_jobs.specs.declared.binding.Binder.{Binder as BinderIn}
-use Rattle.mlk_machine_jobs.specs.declared.cell.Table.{Table}
+use Rattle.mlk_machine_jobs.specs.declared.cell.CellTable.{CellTable}
 use Rattle.mlk_machine_jobs.specs.declared.job.Job.{Job as JobIn}
 use Rattle.mlk_machine_jobs.specs.declared.pending.Back.{Back}
 use Rattle.mlk_machine_jobs.specs.declared.pending.Frame.{Frame as FrameIn}
 use Rattle.mlk_machine_jobs.specs.declared.pending.Pending.{Pending}
 use Rattle.mlk_machine_jobs.specs.declared.pending.Pending.TheVariants as pending
 use Rattle.mlk_machine_jobs.specs.declared.task.Task.{Task as TaskIn}
-use Rattle.mlk_machine_jobs.specs.Bindings.{Only, Cell, Cells, no_values, Binder, Fresh, ByReference, Bindings, put, look}
+use Rattle.mlk_machine_jobs.specs.Bindings.{Only, Cell, Cells, no_values, Binder, Fresh, ByReference, Bindings, put_value, look}
 use Rattle.mlk_machine_jobs.specs.Tasks.{Task, Job, LineTree, Frame, RunLines, RunCommands, EndFrame}
-use Rattle.mlk_machine_jobs.specs.Choices.{Stepped, last_values, dropped, is_one, is_zero, without_choice, with_truth, with_last, truth_of}
+use Rattle.mlk_numbers.specs.Operators.{truth_of_text}
+use Rattle.mlk_machine_jobs.specs.Choices.{Stepped, last_values, dropped, without_choice, with_truth, with_last, truth_or_asked}
 use Rattle.mlk_machine_jobs.specs.Calling.{next_actual, later_actuals, binder, binders, with_actuals, count_given, formals_in, commands_in, lines_after, entered}
 use Rattle.mlk_machine_jobs.specs.Runs.{blank, by_value}
 use Rattle.mlk_machine_jobs.specs.Views.{binder_of, bindings_of, in_table, value_in, value_at}
@@ -107,7 +108,7 @@ abbrev own_cells : ℕ → Held → Cells → Cells
 own_cells g held cells c = if g == c.generation then held c.name else cells c
 
 put_own : (g : ℕ) (f v : List ℕ) (held : Held) (cells : Cells) (c : Cell)
-    → put (record { generation = g; name = f }) v (own_cells g held cells) c ≡ own_cells g (with_held f v held) cells c
+    → put_value (record { generation = g; name = f }) v (own_cells g held cells) c ≡ own_cells g (with_held f v held) cells c
 put_own g f v held cells c = elim (cases_Bool (g == c.generation)) [
   | inl e ↦ rw e refl
   | inr e ↦ rw e refl
@@ -136,7 +137,7 @@ zero_suc k = grind (arith, nat_tests)
 suc_zero : (k : ℕ) → (suc k == 0) ≡ false
 suc_zero k = grind (arith, nat_tests)
 
-last_in : (ts : List Table) (t : Table) (k : ℕ) (n : List ℕ)
+last_in : (ts : List CellTable) (t : CellTable) (k : ℕ) (n : List ℕ)
     → value_in n (slice_get (ts ++ t ∷ []) k)
     ≡ (if length ts == k then in_table t n else value_in n (slice_get ts k))
 last_in [] t zero n = refl
@@ -144,21 +145,21 @@ last_in [] t (suc k) n = rw (zero_suc k) refl
 last_in (x ∷ ts) t zero n = rw (suc_zero (length ts)) refl
 last_in (x ∷ ts) t (suc k) n = rw (suc_suc (length ts) k) (last_in ts t k n)
 
-past_in : (ts : List Table) (k : ℕ) (n : List ℕ) → (length ts == k) ≡ true → value_in n (slice_get ts k) ≡ None
+past_in : (ts : List CellTable) (k : ℕ) (n : List ℕ) → (length ts == k) ≡ true → value_in n (slice_get ts k) ≡ None
 past_in [] k n h = refl
 past_in (x ∷ ts) zero n h = absurd (grind (arith, nat_tests))
 past_in (x ∷ ts) (suc k) n h = past_in ts k n (sym (suc_suc (length ts) k) ∙ h)
 
-no_own : (ts : List Table) (c : Cell) → value_at ts c ≡ own_cells (length ts) nothing (value_at ts) c
+no_own : (ts : List CellTable) (c : Cell) → value_at ts c ≡ own_cells (length ts) nothing (value_at ts) c
 no_own ts c = elim (cases_Bool (length ts == c.generation)) [
   | inl e ↦ rw e (past_in ts c.generation c.name e)
   | inr e ↦ rw e refl
 ]
 
-pub table_added : (ts : List Table) (t : Table) → value_at (ts ++ t ∷ []) ≡ own_cells (length ts) (in_table t) (value_at ts)
+pub table_added : (ts : List CellTable) (t : CellTable) → value_at (ts ++ t ∷ []) ≡ own_cells (length ts) (in_table t) (value_at ts)
 table_added ts t = one_function _ _ (λ c. last_in ts t c.generation c.name)
 
-pub table_filled : (ts : List Table) (t : Table) (fs : List (List ℕ)) (given : List ActualTree) (vs : List (List ℕ)) (held : Held)
+pub table_filled : (ts : List CellTable) (t : CellTable) (fs : List (List ℕ)) (given : List ActualTree) (vs : List (List ℕ)) (held : Held)
     → ((n : List ℕ) → held n ≡ None) → in_table t ≡ filled fs given vs held
     → value_at (ts ++ t ∷ []) ≡ with_actuals (length ts) fs given vs (value_at ts)
 table_filled ts t fs given vs held none e =
@@ -272,45 +273,25 @@ begun_nested cs c n ps frame back own lines commands w h =
 
 -- a call by the truth of the last value
 pub no_condition : (c : Choice) (vs : List (List ℕ)) (f : Bool → Stepped) → None ≡ slice_get vs 0
-    → with_last vs (λ v. truth_of c v f) ≡ Err NotEnabled
+    → with_last vs (λ v. truth_or_asked c (truth_of_text v) f) ≡ Err NotEnabled
 no_condition c [] f h = refl
 no_condition c (v ∷ vs) f h = absurd (cc)
-
-known_at : (c : Choice) (v : List ℕ) (b : Bool) (f : Bool → Stepped)
-    → Some b ≡ (if is_one v then Some true else if is_zero v then Some false else None)
-    → truth_of c v f ≡ without_choice c (f b)
-known_at c v b f h = elim (cases_Bool (is_one v)) [
-  | inl e ↦ let s : Some b ≡ Some true = rw e at h in let i : b ≡ true = cc in rw (e, i) refl
-  | inr e ↦ elim (cases_Bool (is_zero v)) [
-    | inl d ↦ let s : Some b ≡ Some false = rw (e, d) at h in let i : b ≡ false = cc in rw (e, d, i) refl
-    | inr d ↦ let s : Some b ≡ None = rw (e, d) at h in absurd (cc)
-  ]
-]
-
-asked_at : (c : Choice) (v : List ℕ) (f : Bool → Stepped)
-    → None ≡ (if is_one v then Some true else if is_zero v then Some false else None)
-    → truth_of c v f ≡ with_truth c f
-asked_at c v f h = elim (cases_Bool (is_one v)) [
-  | inl e ↦ let s : None ≡ Some true = rw e at h in absurd (cc)
-  | inr e ↦ elim (cases_Bool (is_zero v)) [
-    | inl d ↦ let s : None ≡ Some false = rw (e, d) at h in absurd (cc)
-    | inr d ↦ rw (e, d) refl
-  ]
-]
 
 first_value : (vs : List (List ℕ)) (v : List ℕ) (f : List ℕ → Stepped) → Some v ≡ slice_get vs 0 → with_last vs f ≡ f v
 first_value [] v f h = absurd (cc)
 first_value (w ∷ vs) v f h = let e : Some v ≡ Some w = h in let i : v ≡ w = cc in rw i refl
 
 pub known_condition : (c : Choice) (vs : List (List ℕ)) (v : List ℕ) (b : Bool) (f : Bool → Stepped) → Some v ≡ slice_get vs 0
-    → Some b ≡ (if is_one v then Some true else if is_zero v then Some false else None)
-    → with_last vs (λ v. truth_of c v f) ≡ without_choice c (f b)
-known_condition c vs v b f h k = first_value vs v (λ v. truth_of c v f) h ∙ known_at c v b f k
+    → Some b ≡ truth_of_text v → with_last vs (λ v. truth_or_asked c (truth_of_text v) f) ≡ without_choice c (f b)
+known_condition c vs v b f h k =
+    first_value vs v (λ v. truth_or_asked c (truth_of_text v) f) h
+    ∙ ap (λ (o : Option Bool). truth_or_asked c o f) (sym k)
 
 pub asked_condition : (c : Choice) (vs : List (List ℕ)) (v : List ℕ) (f : Bool → Stepped) → Some v ≡ slice_get vs 0
-    → None ≡ (if is_one v then Some true else if is_zero v then Some false else None)
-    → with_last vs (λ v. truth_of c v f) ≡ with_truth c f
-asked_condition c vs v f h k = first_value vs v (λ v. truth_of c v f) h ∙ asked_at c v f k
+    → None ≡ truth_of_text v → with_last vs (λ v. truth_or_asked c (truth_of_text v) f) ≡ with_truth c f
+asked_condition c vs v f h k =
+    first_value vs v (λ v. truth_or_asked c (truth_of_text v) f) h
+    ∙ ap (λ (o : Option Bool). truth_or_asked c o f) (sym k)
 
 -- a call at a line
 pub entered_at : (frame : Frame) (r : ℕ) (given : List ActualTree) (l : LineTree) (lines : List LineTree) (ts : List Task) (j : Job)
@@ -385,7 +366,7 @@ first_begun k test frame r l lines found cells j vs h e d =
     })) (sym (values_used vs))
     ∙ sym (entered_at frame r (by_value vs) l lines [] (blank k test vs))
 
-pub first_table : (ts : List Table) (t : Table) (fs vs : List (List ℕ)) (held : Held) → length ts ≡ 1 → value_at ts ≡ no_values
+pub first_table : (ts : List CellTable) (t : CellTable) (fs vs : List (List ℕ)) (held : Held) → length ts ≡ 1 → value_at ts ≡ no_values
     → ((n : List ℕ) → held n ≡ None) → in_table t ≡ filled_first fs vs held
     → value_at (ts ++ t ∷ []) ≡ with_actuals 1 fs (by_value vs) vs no_values
 first_table ts t fs vs held n c none e =
@@ -394,12 +375,12 @@ first_table ts t fs vs held n c none e =
     ∙ ap (λ (z : Cells). with_actuals 1 fs (by_value vs) vs z) c
 
 -- a job before its first frame
-one_empty : (t : Table) → ((n : List ℕ) → in_table t n ≡ None) → (k : ℕ) (n : List ℕ)
+one_empty : (t : CellTable) → ((n : List ℕ) → in_table t n ≡ None) → (k : ℕ) (n : List ℕ)
     → value_in n (slice_get (t ∷ []) k) ≡ None
 one_empty t h zero n = h n
 one_empty t h (suc k) n = refl
 
-pub blank_job : (k : ℕ) (test : Bool) (bs : List BinderIn) (ts : List Table) (t : Table) (vs : List (List ℕ)) (held : Counts)
+pub blank_job : (k : ℕ) (test : Bool) (bs : List BinderIn) (ts : List CellTable) (t : CellTable) (vs : List (List ℕ)) (held : Counts)
     (ps : List Pending) → bs ≡ [] → ts ≡ t ∷ [] → ((n : List ℕ) → in_table t n ≡ None) → vs ≡ [] → held ≡ [] → ps ≡ []
     → record {
       number = k;

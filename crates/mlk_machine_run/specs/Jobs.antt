@@ -1,8 +1,8 @@
 -- Jobs that run together. This project's own.
 use Rattle.std.specs.Prelude.{◌≡◌, ◌⊎◌, ◌<◌, ◌==◌, ℕ, List, [], ◌∷◌, Option, IfSome, length, map, position}
+use Rattle.mlk_names.specs.Lists.{Among}
 use Rattle.mlk_names.specs.declared.lock_name.LockName.{LockName}
 use Rattle.mlk_machine_locks.specs.declared.table.LockTable.{LockTable}
-use Rattle.mlk_machine_locks.specs.Lists.{Among}
 use Rattle.mlk_machine_locks.specs.Tables.{Covers}
 use Rattle.mlk_machine_locks.specs.Waiting.{View, Holds}
 use Rattle.mlk_machine_jobs.specs.declared.job.Job.{Job as JobIn}

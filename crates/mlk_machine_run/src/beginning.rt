@@ -11,7 +11,7 @@ ghost use Rattle.mlk_machine_jobs.specs.Sound.{Sound};
 use crate::call::lines_after;
 use crate::formals::{binders, fill_first};
 use crate::frame::{Begin, begin_frame};
-use mlk_machine_jobs::{Frame, Job, Stack, Table};
+use mlk_machine_jobs::{CellTable, Frame, Job, Stack};
 use mlk_machine_locks::{Held, Refusal};
 use mlk_machine_tasks::formals_in;
 use mlk_program::{EntryId, Program};
@@ -27,7 +27,7 @@ fn blank<'a>(alloc: Global, number: u32, test: bool) -> Result<Job<'a>, AllocErr
     ensures sound { IfOk result (λ j. Sound j) }
 {
     let mut tables = Vec::new(alloc);
-    let Ok(()) = tables.push(Table::new(alloc)) else {
+    let Ok(()) = tables.push(CellTable::new(alloc)) else {
         return Err(AllocError);
     };
     Ok(Job {
@@ -75,7 +75,7 @@ fn begin_first<'a>(
         formals,
         &[],
     )?;
-    let mut table = Table::new(alloc);
+    let mut table = CellTable::new(alloc);
     fill_first(&mut table, formals, values)?;
     begin_frame(job, begin, found, table)?;
     Ok(())

@@ -15,10 +15,11 @@ ghost use Rattle.mlk_machine_run.specs.Frames.{owed};
 
 use crate::formals::{binders, count_given, fill};
 use crate::frame::{Begin, begin_frame};
-use mlk_machine_jobs::{Calling, Choice, Frame, Job, Table, asked_truth, known_truth};
+use mlk_machine_jobs::{Calling, CellTable, Choice, Frame, Job, asked_truth};
 use mlk_machine_locks::Refusal;
 use mlk_machine_steps::{nothing_asked, or_refused};
 use mlk_machine_tasks::formals_in;
+use mlk_numbers::known_truth;
 use mlk_program::{EntryId, Program};
 use mlk_syntax::{Actual, Callee, Line};
 use mlk_text::Failure;
@@ -81,7 +82,7 @@ fn bind<'a>(
         formals,
         given,
     )?;
-    let mut table = Table::new(alloc);
+    let mut table = CellTable::new(alloc);
     fill(
         &mut table,
         formals,
@@ -172,7 +173,7 @@ pub(crate) fn call<'a>(
 ) -> Result<(), Failure<Refusal>>
     requires { Sound job.old }
     ensures answer { Answers (λ _. job_of job.new) result (without_choice choice.now
-        (called (map routine_of program.now) (calls.frame_of (is_extrinsic calling) (job_of job.old))
+        (called (map routine_of program.now) (calls.call_frame (is_extrinsic calling) (job_of job.old))
         (target_of (map routine_of program.now) (job_of job.old).routine callee.now) (actual_trees given.now)
         (job_of job.old).tasks (job_of job.old))) }
     ensures stays { OnErr result (job_of job.new ≡ job_of job.old) }

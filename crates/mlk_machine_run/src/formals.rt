@@ -6,7 +6,7 @@ ghost use Rattle.mlk_machine_jobs.specs.Calling.{next_actual, later_actuals, bin
 ghost use Rattle.mlk_machine_jobs.specs.Views.{binder_of, bindings_of, in_table};
 ghost use Rattle.mlk_machine_run.specs.Frames.{is_given, filled, filled_first};
 
-use mlk_machine_jobs::{Binder, Names, Table, look};
+use mlk_machine_jobs::{Binder, CellTable, Names, look};
 use mlk_syntax::Actual;
 use mlk_text::{Name, Value};
 use std::alloc::{AllocError, Global};
@@ -92,7 +92,7 @@ pub(crate) fn count_given(given: &[Actual]) -> usize
 
 /// The formals that are given a value have it.
 pub(crate) fn fill<'a>(
-    table: &mut Table<'a>,
+    table: &mut CellTable<'a>,
     formals: &'a [Name],
     given: &[Actual],
     values: &[Value],
@@ -122,7 +122,7 @@ pub(crate) fn fill<'a>(
 
 /// The first formals have these values.
 pub(crate) fn fill_first<'a>(
-    table: &mut Table<'a>,
+    table: &mut CellTable<'a>,
     formals: &'a [Name],
     values: &[Value],
 ) -> Result<(), AllocError>

@@ -9,7 +9,7 @@ ghost use Rattle.mlk_machine_jobs.specs.Sound.{Sound, HaveTables, IsWithin, AreN
 ghost use Rattle.mlk_machine_jobs.specs.Views.{binder_of, bindings_of, value_at};
 ghost use Rattle.mlk_machine_run.specs.Frames.{begun_tasks, frame_begun};
 
-use mlk_machine_jobs::{Back, Binder, Frame, Job, LineTask, Pending, Table, Task};
+use mlk_machine_jobs::{Back, Binder, CellTable, Frame, Job, LineTask, Pending, Task};
 use mlk_machine_tasks::line_rest;
 use mlk_syntax::Line;
 use std::alloc::AllocError;
@@ -54,7 +54,7 @@ pub(crate) fn begin_frame<'a>(
     job: &mut Job<'a>,
     begin: Begin<'a>,
     found: Vec<Binder<'a>>,
-    table: Table<'a>,
+    table: CellTable<'a>,
 ) -> Result<(), AllocError>
     requires { Sound job.old }
     ensures job { OnOk result (job_of job.new ≡ frame_begun (frame_of begin.entry.frame) begin.entry.routine

@@ -8,7 +8,7 @@ use Rattle.mlk_machine_jobs.specs.declared.choice.Choice.{Choice}
 use Rattle.mlk_machine_jobs.specs.declared.choice.Choice.TheVariants as choice
 use Rattle.mlk_machine_jobs.specs.Tasks.{Job}
 use Rattle.mlk_machine_jobs.specs.Choices.{without_choice}
-use Rattle.mlk_machine_jobs.specs.Locking.{granted, claimed}
+use Rattle.mlk_machine_jobs.specs.Locking.{granted, claim_step}
 use Rattle.mlk_machine_steps.specs.Steps.{granted_if, claim_if}
 
 pub granted_by : (free : LockName → Bool) (names : List LockName) (j : Job) (b : Bool) → list_all free names ≡ b
@@ -20,7 +20,7 @@ granted_by free names j true e = elim (cases_Bool (has_room names j.held)) [
 granted_by free names j false e = rw e refl
 
 pub claimed_by : (free : LockName → Bool) (c : Choice) (names : List LockName) (timed b : Bool) (j : Job)
-    → list_all free names ≡ b → claimed free c names timed j ≡ claim_if b c names timed j
+    → list_all free names ≡ b → claim_step free c names timed j ≡ claim_if b c names timed j
 claimed_by free c names false b j e = ap (without_choice c) (sym (granted_by free names j b e))
 claimed_by free choice.None names true b j e = refl
 claimed_by free (choice.Value value) names true b j e = refl

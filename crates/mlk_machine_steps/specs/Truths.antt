@@ -1,11 +1,11 @@
 -- The truth that a step is taken by. This project's own.
-use Rattle.std.specs.Prelude.{ℕ, Bool, true, false, if◌then◌else◌, List, [], ◌∷◌, Option, Some, None, Result, Ok, Err}
+use Rattle.std.specs.Prelude.{ℕ, Bool, true, false, List, [], ◌∷◌, Option, Some, None, Result, Ok, Err}
 use Rattle.mlk_syntax.specs.ExprTrees.{Tree, Choices}
 use Rattle.mlk_machine_locks.specs.declared.refusal.Refusal.{Refusal}
 use Rattle.mlk_machine_locks.specs.declared.refusal.Refusal.TheVariants.{NotEnabled, BadChoice}
 use Rattle.mlk_machine_jobs.specs.declared.choice.Choice.{Choice}
 use Rattle.mlk_machine_jobs.specs.declared.choice.Choice.TheVariants as choice
-use Rattle.mlk_machine_jobs.specs.Choices.{is_one, is_zero}
+use Rattle.mlk_numbers.specs.Operators.{truth_of_text}
 use Rattle.mlk_machine_jobs.specs.Tasks.{Task, Evaluate, Select}
 
 abbrev pub truth_chosen : Choice → Result Bool Refusal
@@ -23,9 +23,9 @@ truth_or c (Some truth) = truth_known c truth
 truth_or c None = truth_chosen c
 
 -- the truth of the last of these values
-abbrev pub truth_in : Choice → List (List ℕ) → Result Bool Refusal
-truth_in c [] = Err NotEnabled
-truth_in c (v ∷ vs) = truth_or c (if is_one v then Some true else if is_zero v then Some false else None)
+abbrev pub step_truth : Choice → List (List ℕ) → Result Bool Refusal
+step_truth c [] = Err NotEnabled
+step_truth c (v ∷ vs) = truth_or c (truth_of_text v)
 
 -- what comes after a condition of `$SELECT`
 abbrev pub part_chosen : Tree → Choices → Bool → Task

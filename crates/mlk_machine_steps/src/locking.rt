@@ -6,7 +6,7 @@ ghost use Rattle.mlk_names.specs.declared.lock_name.LockName.{LockName};
 ghost use Rattle.mlk_text.specs.Failures.{Answers};
 ghost use Rattle.mlk_syntax.specs.Views.{variable_of};
 ghost use Rattle.mlk_machine_jobs.specs.Choices.{without_choice, doing, dropped, last_values};
-ghost use Rattle.mlk_machine_jobs.specs.Locking.{count_all, names_of, by_sign, claimed};
+ghost use Rattle.mlk_machine_jobs.specs.Locking.{count_all, names_of, by_sign, claim_step};
 ghost use Rattle.mlk_machine_locks.specs.Counts as counts;
 ghost use Rattle.mlk_machine_steps.specs.Steps.{held_if, claim_if};
 ghost use Rattle.mlk_machine_jobs.specs.JobViews.{job_of, releasing, holding_nothing, KeepsPending};
@@ -117,7 +117,7 @@ pub fn claim(
     are_free: bool,
 ) -> Result<(), Failure<Refusal>>
     ensures answer { (free : LockName → Bool) → list_all free names.now ≡ are_free
-        → Answers (λ _. job_of job.new) result (claimed free choice.now names.now timed (job_of job.old)) }
+        → Answers (λ _. job_of job.new) result (claim_step free choice.now names.now timed (job_of job.old)) }
     ensures stays { OnErr result (job_of job.new ≡ job_of job.old) }
     ensures room { OnErr result (KeepsPending job.old job.new) }
     ensures sound { Sound job.old → Sound job.new }

@@ -3,7 +3,7 @@
 ghost use Rattle.std.specs.Prelude.{◌≡◌, ◌∷◌, OnErr, Ok};
 ghost use Rattle.mlk_text.specs.Failures.{Answers};
 ghost use Rattle.mlk_machine_jobs.specs.Tasks.{DoTouch};
-ghost use Rattle.mlk_machine_jobs.specs.Choices.{without_choice, touched, touch_of, last_values, dropped, doing};
+ghost use Rattle.mlk_machine_jobs.specs.Choices.{without_choice, touched, touch_at, last_values, dropped, doing};
 ghost use Rattle.mlk_machine_jobs.specs.JobViews.{job_of, KeepsPending};
 ghost use Rattle.mlk_machine_jobs.specs.Sound.{Sound};
 
@@ -26,7 +26,7 @@ pub fn form_reference<'a>(
     access: Access,
 ) -> Result<(), Failure<Refusal>>
     ensures answer { Answers (λ _. job_of job.new) result (without_choice choice.now
-        (Ok (doing (DoTouch (touch_of name.now (last_values count (job_of job.old)) extent access)
+        (Ok (doing (DoTouch (touch_at name.now (last_values count (job_of job.old)) extent access)
         ∷ (job_of job.old).tasks) (dropped count (job_of job.old))))) }
     ensures stays { OnErr result (job_of job.new ≡ job_of job.old) }
     ensures room { OnErr result (KeepsPending job.old job.new) }

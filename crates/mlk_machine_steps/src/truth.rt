@@ -11,12 +11,13 @@ ghost use Rattle.mlk_machine_jobs.specs.Locking.{tested};
 ghost use Rattle.mlk_machine_jobs.specs.JobViews.{job_of, KeepsPending};
 ghost use Rattle.mlk_machine_jobs.specs.Sound.{Sound};
 ghost use Rattle.mlk_machine_jobs.specs.TaskViews.{Adds, block_of};
-ghost use Rattle.mlk_machine_steps.specs.Truths.{truth_chosen, truth_known, truth_in, part_chosen};
+ghost use Rattle.mlk_machine_steps.specs.Truths.{truth_chosen, truth_known, step_truth, part_chosen};
 
 use crate::ask::or_refused;
-use mlk_machine_jobs::{Choice, Job, Task, ValueTask, known_truth};
+use mlk_machine_jobs::{Choice, Job, Task, ValueTask};
 use mlk_machine_locks::Refusal;
 use mlk_machine_tasks::{action_parts, add};
+use mlk_numbers::known_truth;
 use mlk_syntax::{Action, Expr, Line};
 use mlk_text::Failure;
 use std::alloc::{AllocError, Global};
@@ -44,7 +45,7 @@ fn truth_known(choice: &Choice, truth: bool) -> Result<bool, Refusal>
 // The truth of the last value.
 #[tactic(auto, using(crate::proofs::TruthLemmas::no_truth, crate::proofs::TruthLemmas::the_truth))]
 fn last_truth(job: &Job, choice: &Choice) -> Result<bool, Refusal>
-    ensures { result ≡ truth_in choice.now (job_of job.now).values }
+    ensures { result ≡ step_truth choice.now (job_of job.now).values }
 {
     let Some(value) = job.values.at(0) else {
         return Err(Refusal::NotEnabled);

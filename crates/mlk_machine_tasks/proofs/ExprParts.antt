@@ -5,9 +5,9 @@ use Rattle.mlk_text.specs.declared.operator.Op.{Op}
 use Rattle.mlk_syntax.specs.ExprTrees.{Tree, Lit, Free, LocalName, GlobalName, SpecialName, Prefixed, Chain, PatternText, Func, Selected, BareCall, CallOf, Links, no_links, link, ActualTree, Given, ByRef, Missing, actuals_from, as_list}
 use Rattle.mlk_machine_jobs.specs.Tasks.{Evaluate, ApplyBinary, AskValue}
 use Rattle.mlk_machine_jobs.specs.Expressions.{operation, each_actual}
-use Rattle.mlk_machine_tasks.specs.PartViews.{is_pattern}
+use Rattle.mlk_machine_tasks.specs.PartViews.{is_pattern_text}
 
-pub pattern_operation : (op : Op) (t : Tree) → is_pattern t ≡ true → operation (link op t no_links) ≡ AskValue 1 ∷ []
+pub pattern_operation : (op : Op) (t : Tree) → is_pattern_text t ≡ true → operation (link op t no_links) ≡ AskValue 1 ∷ []
 pattern_operation op (Lit value) h = absurd (false≢true h)
 pattern_operation op Free h = absurd (false≢true h)
 pattern_operation op (LocalName name subs) h = absurd (false≢true h)
@@ -21,7 +21,7 @@ pattern_operation op (Selected cs) h = absurd (false≢true h)
 pattern_operation op (BareCall column callee) h = absurd (false≢true h)
 pattern_operation op (CallOf column callee given) h = absurd (false≢true h)
 
-pub other_operation : (op : Op) (t : Tree) → is_pattern t ≡ false
+pub other_operation : (op : Op) (t : Tree) → is_pattern_text t ≡ false
     → operation (link op t no_links) ≡ Evaluate t ∷ ApplyBinary op ∷ []
 other_operation op (Lit value) h = refl
 other_operation op Free h = refl

@@ -5,7 +5,7 @@ use Rattle.mlk_names.specs.declared.reference.Access.TheVariants.{Reads, Writes}
 use Rattle.mlk_syntax.specs.ExprTrees.{GlobalName}
 use Rattle.mlk_syntax.specs.Trees.{VariableTree, Named}
 use Rattle.mlk_machine_jobs.specs.Tasks.{Task, Drop, Store, StoreAny, StoreLast, DoTouch}
-use Rattle.mlk_machine_jobs.specs.Choices.{touch_of}
+use Rattle.mlk_machine_jobs.specs.Choices.{touch_at}
 
 -- the name of a global
 abbrev pub global_name : VariableTree → Option (List ℕ)
@@ -15,12 +15,12 @@ global_name v = None
 -- a node is read, and then written
 abbrev pub read_and_written : List ℕ → List (List ℕ) → List Task
 read_and_written name subs =
-    DoTouch (touch_of name subs extent.Node Reads) ∷ Drop 1 ∷ DoTouch (touch_of name subs extent.Node Writes) ∷ []
+    DoTouch (touch_at name subs extent.Node Reads) ∷ Drop 1 ∷ DoTouch (touch_at name subs extent.Node Writes) ∷ []
 
 -- of the name of a local without subscripts, and of a global, where there are any
 abbrev pub whole_assigned : List ℕ → List (List ℕ) → Option (List ℕ) → Option (List ℕ) → List Task
 whole_assigned value subs (Some name) global = Store name value ∷ []
-whole_assigned value subs None (Some name) = DoTouch (touch_of name subs extent.Node Writes) ∷ []
+whole_assigned value subs None (Some name) = DoTouch (touch_at name subs extent.Node Writes) ∷ []
 whole_assigned value subs None None = []
 
 abbrev pub part_assigned : List (List ℕ) → Option (List ℕ) → Option (List ℕ) → List Task
@@ -31,7 +31,7 @@ part_assigned subs None None = []
 -- the tree of a global is read
 abbrev pub source_read : List (List ℕ) → Option (List ℕ) → List Task
 source_read subs None = []
-source_read subs (Some name) = DoTouch (touch_of name subs extent.Tree Reads) ∷ []
+source_read subs (Some name) = DoTouch (touch_at name subs extent.Tree Reads) ∷ []
 
 -- what a local is merged with: the tree that was read, or any value
 abbrev pub into_local : List ℕ → Bool → List Task
@@ -45,7 +45,7 @@ unread false = []
 
 abbrev pub tree_written : List (List ℕ) → Option (List ℕ) → List Task
 tree_written subs None = []
-tree_written subs (Some name) = DoTouch (touch_of name subs extent.Tree Writes) ∷ []
+tree_written subs (Some name) = DoTouch (touch_at name subs extent.Tree Writes) ∷ []
 
 -- MERGE into a local without subscripts, or else into a global, where a tree was read or not
 abbrev pub merged_into : List (List ℕ) → Option (List ℕ) → Option (List ℕ) → Bool → List Task

@@ -38,9 +38,9 @@ abbrev pub named_function : Function → Option Function
 named_function f = if takes_name f then Some f else None
 
 -- a pattern stands after `?` alone
-abbrev pub is_pattern : Tree → Bool
-is_pattern (PatternText text) = true
-is_pattern _ = false
+abbrev pub is_pattern_text : Tree → Bool
+is_pattern_text (PatternText text) = true
+is_pattern_text _ = false
 
 -- an extrinsic call with these actuals
 abbrev pub called_with : Callee → List ActualTree → List Task

@@ -3,7 +3,7 @@
 ghost use Rattle.std.specs.Prelude.{◌≡◌, ◌∷◌, [], IfOk, OnOk, map, min, ◌^◌, ◌-◌, is_some, option_map};
 ghost use Rattle.mlk_syntax.specs.Views.{variable_of, target_of};
 ghost use Rattle.mlk_machine_jobs.specs.Tasks.{DoTouch};
-ghost use Rattle.mlk_machine_jobs.specs.Choices.{touch_of};
+ghost use Rattle.mlk_machine_jobs.specs.Choices.{touch_at};
 ghost use Rattle.mlk_machine_jobs.specs.Assigning.{subs_of_target, parts_in, count_parts, assigned, assignments};
 ghost use Rattle.mlk_machine_jobs.specs.Locking.{by_sign};
 ghost use Rattle.mlk_machine_jobs.specs.TaskViews.{Adds};
@@ -28,7 +28,7 @@ pub fn concrete(
     extent: Extent,
     access: Access,
 ) -> Result<Touch, AllocError>
-    ensures { IfOk result (λ t. view.touch_of t ≡ touch_of name.now values.now extent access) }
+    ensures { IfOk result (λ t. view.touch_of t ≡ touch_at name.now values.now extent access) }
 {
     let mut subs = Subscripts::new(alloc);
     let mut left = values;
@@ -53,7 +53,7 @@ pub(crate) fn touch<'a>(
     extent: Extent,
     access: Access,
 ) -> Result<(), AllocError>
-    ensures { OnOk result (Adds (DoTouch (touch_of name.now subs.now extent access) ∷ []) parts.old.items parts.new.items) }
+    ensures { OnOk result (Adds (DoTouch (touch_at name.now subs.now extent access) ∷ []) parts.old.items parts.new.items) }
 {
     let reference = concrete(alloc, name, subs, extent, access)?;
     add(parts, Task::Value(ValueTask::DoTouch(reference)))?;

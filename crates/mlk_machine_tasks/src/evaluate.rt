@@ -4,7 +4,7 @@ ghost use Rattle.std.specs.Prelude.{◌≡◌, ◌∷◌, [], OnOk, option_map};
 ghost use Rattle.mlk_syntax.specs.ExprTrees.{tree_of, actual_of, actual_trees, link, no_links};
 ghost use Rattle.mlk_machine_jobs.specs.Expressions.{function_parts, takes_name, operation, each_actual, parts_of};
 ghost use Rattle.mlk_machine_jobs.specs.TaskViews.{Adds};
-ghost use Rattle.mlk_machine_tasks.specs.PartViews.{args_of, links_of, is_pattern, called_with, extrinsic_parts, values_with};
+ghost use Rattle.mlk_machine_tasks.specs.PartViews.{args_of, links_of, is_pattern_text, called_with, extrinsic_parts, values_with};
 
 use crate::adding::add;
 use crate::expr::{
@@ -18,7 +18,7 @@ use mlk_text::Op;
 use std::alloc::AllocError;
 
 fn is_pattern(operand: &Expr) -> bool
-    ensures { result ≡ is_pattern (tree_of operand.now) }
+    ensures { result ≡ is_pattern_text (tree_of operand.now) }
 {
     match operand {
         Expr::Pattern(_) => true,

@@ -15,7 +15,7 @@ use mlk_syntax::{
 use std::alloc::AllocError;
 
 /// What is replaced by tasks.
-pub(crate) trait Part {
+pub(crate) trait Expanded {
     ghost use Rattle.std.specs.Prelude.{List, OnOk};
     ghost use Rattle.mlk_machine_jobs.specs.Tasks.{Task};
     ghost use Rattle.mlk_machine_jobs.specs.TaskViews.{Adds};
@@ -29,7 +29,7 @@ pub(crate) trait Part {
 }
 
 /// Adds the tasks of each of these.
-pub(crate) fn add_all<'a, P: Part>(
+pub(crate) fn add_all<'a, P: Expanded>(
     parts: &mut Vec<Task<'a>>,
     items: &'a [P],
 ) -> Result<(), AllocError>
@@ -41,7 +41,7 @@ pub(crate) fn add_all<'a, P: Part>(
     Ok(())
 }
 
-impl Part for Variable {
+impl Expanded for Variable {
     ghost tasks = { λ v. in_variable (variable_of v) };
 
     fn add_to<'a>(&'a self, parts: &mut Vec<Task<'a>>) -> Result<(), AllocError> {
@@ -49,7 +49,7 @@ impl Part for Variable {
     }
 }
 
-impl Part for Call {
+impl Expanded for Call {
     ghost tasks = { λ c. job_parts (call_of c) };
 
     fn add_to<'a>(&'a self, parts: &mut Vec<Task<'a>>) -> Result<(), AllocError> {
@@ -57,7 +57,7 @@ impl Part for Call {
     }
 }
 
-impl Part for DoArgument {
+impl Expanded for DoArgument {
     ghost tasks = { λ d. do_parts (do_of d) };
 
     fn add_to<'a>(&'a self, parts: &mut Vec<Task<'a>>) -> Result<(), AllocError> {
@@ -65,7 +65,7 @@ impl Part for DoArgument {
     }
 }
 
-impl Part for KillArgument {
+impl Expanded for KillArgument {
     ghost tasks = { λ k. kill_parts (kill_of k) };
 
     fn add_to<'a>(&'a self, parts: &mut Vec<Task<'a>>) -> Result<(), AllocError> {
@@ -73,7 +73,7 @@ impl Part for KillArgument {
     }
 }
 
-impl Part for NewArgument {
+impl Expanded for NewArgument {
     ghost tasks = { λ n. new_parts (new_of n) };
 
     fn add_to<'a>(&'a self, parts: &mut Vec<Task<'a>>) -> Result<(), AllocError> {
@@ -81,7 +81,7 @@ impl Part for NewArgument {
     }
 }
 
-impl Part for LockArgument {
+impl Expanded for LockArgument {
     ghost tasks = { λ l. lock_parts (lock_of l) };
 
     fn add_to<'a>(&'a self, parts: &mut Vec<Task<'a>>) -> Result<(), AllocError> {
@@ -89,7 +89,7 @@ impl Part for LockArgument {
     }
 }
 
-impl Part for MergeArgument {
+impl Expanded for MergeArgument {
     ghost tasks = { λ m. merge_parts (merge_of m) };
 
     fn add_to<'a>(&'a self, parts: &mut Vec<Task<'a>>) -> Result<(), AllocError> {
@@ -97,7 +97,7 @@ impl Part for MergeArgument {
     }
 }
 
-impl Part for ReadArgument {
+impl Expanded for ReadArgument {
     ghost tasks = { λ r. read_parts (read_of r) };
 
     fn add_to<'a>(&'a self, parts: &mut Vec<Task<'a>>) -> Result<(), AllocError> {
@@ -105,7 +105,7 @@ impl Part for ReadArgument {
     }
 }
 
-impl Part for Target {
+impl Expanded for Target {
     ghost tasks = { λ t. target_parts (target_of t) };
 
     fn add_to<'a>(&'a self, parts: &mut Vec<Task<'a>>) -> Result<(), AllocError> {
@@ -113,7 +113,7 @@ impl Part for Target {
     }
 }
 
-impl Part for SetArgument {
+impl Expanded for SetArgument {
     ghost tasks = { λ s. set_parts (set_of s) };
 
     fn add_to<'a>(&'a self, parts: &mut Vec<Task<'a>>) -> Result<(), AllocError> {
@@ -121,7 +121,7 @@ impl Part for SetArgument {
     }
 }
 
-impl Part for WriteArgument {
+impl Expanded for WriteArgument {
     ghost tasks = { λ w. write_parts (write_of w) };
 
     fn add_to<'a>(&'a self, parts: &mut Vec<Task<'a>>) -> Result<(), AllocError> {

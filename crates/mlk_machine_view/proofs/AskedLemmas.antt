@@ -1,7 +1,6 @@
 -- What a step without a choice shows of a job.
-use Rattle.std.proofs.Common.{◌≡◌, ◌∙◌, ◌++◌, ℕ, suc, Bool, true, false, List, [], ◌∷◌, drop, Option, Some, None, Ok, refl, ap, inl, inr}
+use Rattle.std.proofs.Common.{◌≡◌, ◌∙◌, ◌++◌, ℕ, suc, Bool, true, false, List, [], ◌∷◌, drop, Option, Some, None, Ok, refl, ap}
 use Rattle.std.specs.Prelude.{is_some}
-use Rattle.std.proofs.lemmas.Bool.{cases_Bool}
 use Rattle.mlk_text.specs.declared.operator.Op.{Op}
 use Rattle.mlk_text.specs.declared.operator.UnaryOp.{UnaryOp}
 use Rattle.mlk_syntax.specs.declared.expr.Callee.{Callee}
@@ -12,18 +11,18 @@ use Rattle.mlk_program.specs.declared.entry.EntryId.{EntryId}
 use Rattle.mlk_program.specs.Entries.{target_of}
 use Rattle.mlk_machine_jobs.specs.declared.choice.Choice.TheVariants as chosen
 use Rattle.mlk_machine_jobs.specs.Bindings.{Bindings, look}
-use Rattle.mlk_numbers.specs.Operators.{fold_before, fold_between}
+use Rattle.mlk_numbers.specs.Operators.{truth_of_text, fold_before, fold_between}
 use Rattle.mlk_machine_jobs.specs.Tasks as task
 use Rattle.mlk_machine_jobs.specs.Tasks.{Task, Job, LineTree, Frame, NoValue, AwaitsValue, HasValue, RunLines, EndFrame}
-use Rattle.mlk_machine_jobs.specs.Choices.{Stepped, given_or_asked, with_last, by_truth, dropped, fetched, is_one, is_zero}
+use Rattle.mlk_machine_jobs.specs.Choices.{Stepped, given_or_asked, with_last, truth_or_asked, by_truth, dropped, fetched}
 use Rattle.mlk_machine_jobs.specs.Choices.{doing, pushed, stored, last_values}
 use Rattle.mlk_machine_jobs.specs.Commands.{action_parts}
 use Rattle.mlk_machine_jobs.specs.Assigning.{assignments, count_parts}
 use Rattle.mlk_machine_jobs.specs.Locking.{tested}
 use Rattle.mlk_machine_jobs.specs.Lines.{tasks_if, chosen as part_chosen, next_line}
-use Rattle.mlk_machine_jobs.specs.Calling.{frame_of, called, called_if, entered, lines_after, back_to, frame_end}
+use Rattle.mlk_machine_jobs.specs.Calling.{call_frame, called, called_if, entered, lines_after, back_to, frame_end}
 use Rattle.mlk_machine_jobs.specs.Seen.{State, Silent, asks, state_in}
-use Rattle.mlk_machine_view.specs.Asked.{if_enabled, if_known, by_value, by_last, by_unary, by_binary, by_last_truth, by_target, by_lines, by_frame, has_choices}
+use Rattle.mlk_machine_view.specs.Asked.{if_enabled, if_known, by_value, by_last, by_unary, by_binary, by_known_truth, by_last_truth, by_target, by_lines, by_frame, has_choices}
 
 fetched_asks : (j : Job) (ts : List Task) (o : Option (List ℕ)) → asks (fetched j ts o) ≡ by_value o
 fetched_asks j ts None = refl
@@ -50,22 +49,22 @@ binary_asks op [] f = refl
 binary_asks op (b ∷ []) f = refl
 binary_asks op (b ∷ a ∷ vs) f = known_asks (fold_between op a b) f
 
-truth_in_values : (vs : List (List ℕ)) (j : Job) (f : Bool → Job → Stepped) → j.values ≡ vs
-    → asks (by_truth chosen.None j f)
-    ≡ by_last_truth vs (asks (f true (dropped 1 j))) (asks (f false (dropped 1 j)))
-truth_in_values [] j f h = rw h refl
-truth_in_values (v ∷ vs) j f h = elim (cases_Bool (is_one v)) [
-  | inl e ↦ rw (h, e) refl
-  | inr e ↦ elim (cases_Bool (is_zero v)) [
-    | inl d ↦ rw (h, e, d) refl
-    | inr d ↦ rw (h, e, d) refl
-  ]
-]
+one_truth_asks : (o : Option Bool) (f : Bool → Stepped)
+    → asks (truth_or_asked chosen.None o f) ≡ by_known_truth o (asks (f true)) (asks (f false))
+one_truth_asks None f = refl
+one_truth_asks (Some true) f = refl
+one_truth_asks (Some false) f = refl
+
+last_truth_asks : (vs : List (List ℕ)) (f : Bool → Stepped)
+    → asks (with_last vs (λ v. truth_or_asked chosen.None (truth_of_text v) f))
+    ≡ by_last_truth vs (asks (f true)) (asks (f false))
+last_truth_asks [] f = refl
+last_truth_asks (v ∷ vs) f = one_truth_asks (truth_of_text v) f
 
 truth_asks : (j : Job) (f : Bool → Job → Stepped)
     → asks (by_truth chosen.None j f)
     ≡ by_last_truth j.values (asks (f true (dropped 1 j))) (asks (f false (dropped 1 j)))
-truth_asks j f = truth_in_values j.values j f refl
+truth_asks j f = last_truth_asks j.values (λ t. f t (dropped 1 j))
 
 entered_asks : (frame : Frame) (r : ℕ) (given : List ActualTree) (ls : List LineTree) (ts : List Task) (j : Job)
     → asks (entered frame r given ls ts j) ≡ if_enabled (is_some_there ls)
@@ -126,7 +125,7 @@ module _ (routines : List RoutineTree) (j : Job) (ts : List Task) where
       → state_in routines j (task.Call extrinsic callee given ∷ ts)
       ≡ by_target routines (target_of routines j.routine callee)
   call_shows extrinsic callee given =
-      called_asks routines (frame_of extrinsic j) (target_of routines j.routine callee) given ts j
+      called_asks routines (call_frame extrinsic j) (target_of routines j.routine callee) given ts j
 
   pub call_if_shows : (callee : Callee) (given : List ActualTree)
       → state_in routines j (task.CallIf callee given ∷ ts)

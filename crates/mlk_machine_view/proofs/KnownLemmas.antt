@@ -1,6 +1,6 @@
 -- Which operators have a known result.
 use Rattle.std.proofs.Common.{◌≡◌, ◌∙◌, ℕ, ℤ, zero, suc, pos, negsuc, true, false, List, ◌++◌, Option, Some, None, refl, sym, ap, subst, inl, inr, arith}
-use Rattle.std.specs.Prelude.{◌+◌, ◌<◌, ◌^◌, neg_ℤ, unsigned_abs, nat_le, length, is_some, if◌then◌else◌}
+use Rattle.std.specs.Prelude.{◌+◌, ◌<◌, ◌^◌, neg_ℤ, unsigned_abs, nat_le, length, is_some, bytes_eq, codes}
 use Rattle.std.specs.Fmt.{signed_decimal}
 use Rattle.std.proofs.lemmas.Bool.{cases_Bool, lt-leb}
 use Rattle.std.proofs.lemmas.List.{length-append}
@@ -10,8 +10,7 @@ use Rattle.mlk_text.specs.declared.operator.Op.{Op}
 use Rattle.mlk_text.specs.declared.operator.Op.TheVariants.{Concatenate}
 use Rattle.mlk_text.specs.declared.operator.UnaryOp.TheVariants.{Plus, Minus, Not}
 use Rattle.mlk_numbers.proofs.Folds.{folded-short}
-use Rattle.mlk_numbers.specs.Operators.{if_joined, fold_before, fold_between}
-use Rattle.mlk_machine_jobs.specs.Choices.{is_one, is_zero}
+use Rattle.mlk_numbers.specs.Operators.{if_joined, truth_of_text, fold_before, fold_between}
 use Rattle.mlk_numbers.proofs.Operators.{folds_are}
 
 -- what is found, or not
@@ -39,14 +38,11 @@ some_minus a (Some z) h =
 some_minus a None h = none_found (fold_before Minus a) (λ t e. let i = (folds_are.before Minus a t).0 e in h i.0 i.1)
 
 pub truth_known : (a : List ℕ)
-    → is_some (if is_one a then Some true else if is_zero a then Some false else None) ≡ is_some (fold_before Not a)
+    → is_some (truth_of_text a) ≡ is_some (fold_before Not a)
 unfolding fold_before
-truth_known a = elim (cases_Bool (is_one a)) [
-  | inl e ↦ elim (cases_Bool (is_zero a)) [
-    | inl d ↦ rw (e, d) refl
-    | inr d ↦ rw (e, d) refl
-  ]
-  | inr e ↦ elim (cases_Bool (is_zero a)) [
+truth_known a = elim (cases_Bool (bytes_eq a (codes "0"))) [
+  | inl e ↦ rw e refl
+  | inr e ↦ elim (cases_Bool (bytes_eq a (codes "1"))) [
     | inl d ↦ rw (e, d) refl
     | inr d ↦ rw (e, d) refl
   ]

@@ -7,8 +7,7 @@ use Rattle.mlk_syntax.specs.Trees.{RoutineTree}
 use Rattle.mlk_machine_locks.specs.Lists.{is_some_there}
 use Rattle.mlk_program.specs.declared.entry.EntryId.{EntryId}
 use Rattle.mlk_program.specs.Entries.{formals_of}
-use Rattle.mlk_numbers.specs.Operators.{fold_before, fold_between}
-use Rattle.mlk_machine_jobs.specs.Choices.{is_one, is_zero}
+use Rattle.mlk_numbers.specs.Operators.{truth_of_text, fold_before, fold_between}
 use Rattle.mlk_machine_jobs.specs.Tasks.{LineTree, Frame, NoValue, AwaitsValue, HasValue}
 use Rattle.mlk_machine_jobs.specs.Calling.{lines_after}
 use Rattle.mlk_machine_jobs.specs.Seen.{State, AsksChoice, Stuck, Silent}
@@ -47,9 +46,14 @@ has_choices no_choices = false
 has_choices (choice condition value rest) = true
 
 -- a truth, and what comes where it is true and where it is false
+abbrev pub by_known_truth : Option Bool → State → State → State
+by_known_truth None one other = AsksChoice
+by_known_truth (Some true) one other = one
+by_known_truth (Some false) one other = other
+
 abbrev pub by_last_truth : List (List ℕ) → State → State → State
 by_last_truth [] one other = Stuck
-by_last_truth (v ∷ values) one other = if is_one v then one else if is_zero v then other else AsksChoice
+by_last_truth (v ∷ values) one other = by_known_truth (truth_of_text v) one other
 
 -- a call
 abbrev pub by_target : List RoutineTree → Option EntryId → State

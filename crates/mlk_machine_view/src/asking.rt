@@ -9,7 +9,8 @@ ghost use Rattle.mlk_machine_view.specs.StateViews.{state_of};
 
 use crate::known::{is_known_before, is_known_between};
 use crate::shown::State;
-use mlk_machine_jobs::{Frame, Job, known_truth};
+use mlk_machine_jobs::{Frame, Job};
+use mlk_numbers::known_truth;
 use mlk_syntax::Expr;
 use mlk_text::{Name, Op, UnaryOp};
 

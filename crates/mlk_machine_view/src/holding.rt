@@ -5,7 +5,7 @@ ghost use Rattle.mlk_machine_view.specs.StateTexts.{ascending, holds_text};
 ghost use Rattle.mlk_machine_view.specs.Spelling.{holding_of};
 
 use crate::spelling::text_of;
-use mlk_cert_lexemes::{Text, Written, push_listed};
+use mlk_cert_lexemes::{Written, WrittenText, push_listed};
 use mlk_machine_locks::Held;
 use mlk_names::LockName;
 use std::alloc::{AllocError, Global};
@@ -13,7 +13,7 @@ use std::alloc::{AllocError, Global};
 // A name that is held, as text, and how often.
 #[derive(Drop)]
 struct Holding {
-    name: Text,
+    name: WrittenText,
     count: u32,
 }
 
@@ -22,7 +22,7 @@ impl Written for Holding {
 
     ghost written = { holding_text };
 
-    fn push_to(&self, text: &mut Text) -> Result<(), AllocError> {
+    fn push_to(&self, text: &mut WrittenText) -> Result<(), AllocError> {
         text.push(self.name.as_bytes())?;
         text.push_byte(b'*')?;
         text.push_number(self.count)?;
@@ -61,7 +61,11 @@ fn sort(holdings: &mut Vec<Holding>) -> Result<(), AllocError>
 
 /// What a job holds: names in the order of their texts, each with its count.
 #[tactic(auto, using(crate::proofs::HeldLemmas::held_as_texts))]
-pub(crate) fn push_held(alloc: Global, text: &mut Text, held: &Held) -> Result<(), AllocError>
+pub(crate) fn push_held(
+    alloc: Global,
+    text: &mut WrittenText,
+    held: &Held,
+) -> Result<(), AllocError>
     ensures { OnOk result (text.new ≡ text.old ++ holds_text held.now) }
 {
     let mut holdings = holdings(alloc, held.entries())?;

@@ -7,8 +7,7 @@ ghost use Rattle.mlk_numbers.specs.Operators.{fold_before, fold_between};
 ghost use Rattle.mlk_text.specs.declared.operator.Op.TheVariants as operator;
 ghost use Rattle.mlk_text.specs.declared.operator.UnaryOp.TheVariants.{Plus, Minus};
 
-use mlk_machine_jobs::known_truth;
-use mlk_numbers::{fold_number, whole};
+use mlk_numbers::{fold_number, known_truth, whole};
 use mlk_text::{Op, UnaryOp, Value};
 
 // The longest text that is known of two that are joined.

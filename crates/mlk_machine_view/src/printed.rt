@@ -18,14 +18,14 @@ use crate::shown::State;
 use crate::spelling::push_names;
 use crate::touch::push_touch;
 use crate::wait::waits;
-use mlk_cert_lexemes::Text;
+use mlk_cert_lexemes::WrittenText;
 use mlk_machine_jobs::Job;
 use mlk_names::LockName;
 use mlk_program::Program;
 use std::alloc::{AllocError, Global};
 
 // The names of a claim, and whether there is a timeout.
-fn push_claim(text: &mut Text, names: &[LockName], timed: bool) -> Result<(), AllocError>
+fn push_claim(text: &mut WrittenText, names: &[LockName], timed: bool) -> Result<(), AllocError>
     ensures { OnOk result (text.new ≡ text.old ++ claim_text names.now timed) }
 {
     push_names(text, names)?;
@@ -36,7 +36,7 @@ fn push_claim(text: &mut Text, names: &[LockName], timed: bool) -> Result<(), Al
 }
 
 // What a job does next.
-fn push_state(text: &mut Text, state: State) -> Result<(), AllocError>
+fn push_state(text: &mut WrittenText, state: State) -> Result<(), AllocError>
     ensures { OnOk result (text.new ≡ text.old ++ state_text (state_of state.entry)) }
 {
     match state {
@@ -58,7 +58,12 @@ fn push_state(text: &mut Text, state: State) -> Result<(), AllocError>
 }
 
 // The line of a job.
-fn push_job(alloc: Global, text: &mut Text, program: &Program, job: &Job) -> Result<(), AllocError>
+fn push_job(
+    alloc: Global,
+    text: &mut WrittenText,
+    program: &Program,
+    job: &Job,
+) -> Result<(), AllocError>
     ensures { OnOk result (text.new ≡ text.old ++ job_line (map routine_of program.now) (job_of job.now)) }
 {
     text.push(b"job ")?;
@@ -74,7 +79,7 @@ fn push_job(alloc: Global, text: &mut Text, program: &Program, job: &Job) -> Res
 /// The lines of jobs.
 pub(crate) fn push_jobs<'a>(
     alloc: Global,
-    text: &mut Text,
+    text: &mut WrittenText,
     program: &Program<'a>,
     jobs: &[Job<'a>],
 ) -> Result<(), AllocError>
@@ -87,7 +92,7 @@ pub(crate) fn push_jobs<'a>(
 }
 
 // The line of two jobs.
-fn push_pair(text: &mut Text, word: &[u8], pair: &(u32, u32)) -> Result<(), AllocError>
+fn push_pair(text: &mut WrittenText, word: &[u8], pair: &(u32, u32)) -> Result<(), AllocError>
     ensures { OnOk result (text.new ≡ text.old ++ pair_line word.now pair.now) }
 {
     text.push(word)?;
@@ -99,7 +104,7 @@ fn push_pair(text: &mut Text, word: &[u8], pair: &(u32, u32)) -> Result<(), Allo
 }
 
 // The lines of two jobs each.
-fn push_pairs(text: &mut Text, word: &[u8], pairs: &[(u32, u32)]) -> Result<(), AllocError>
+fn push_pairs(text: &mut WrittenText, word: &[u8], pairs: &[(u32, u32)]) -> Result<(), AllocError>
     ensures { OnOk result (text.new ≡ text.old ++ flat (pair_line word.now) pairs.now) }
 {
     for pair in pairs {
@@ -111,7 +116,7 @@ fn push_pairs(text: &mut Text, word: &[u8], pairs: &[(u32, u32)]) -> Result<(), 
 /// The lines of jobs that clash.
 pub(crate) fn push_clashes<'a>(
     alloc: Global,
-    text: &mut Text,
+    text: &mut WrittenText,
     jobs: &[Job<'a>],
 ) -> Result<(), AllocError>
     ensures { OnOk result (text.new ≡ text.old ++ clash_lines (map job_of jobs.now)) }
@@ -124,7 +129,7 @@ pub(crate) fn push_clashes<'a>(
 /// The lines of jobs that wait.
 pub(crate) fn push_waits<'a>(
     alloc: Global,
-    text: &mut Text,
+    text: &mut WrittenText,
     jobs: &[Job<'a>],
 ) -> Result<(), AllocError>
     ensures { OnOk result (text.new ≡ text.old ++ waits_lines (map job_of jobs.now)) }
@@ -135,7 +140,7 @@ pub(crate) fn push_waits<'a>(
 }
 
 /// The line that says whether some of the jobs wait in a ring.
-pub(crate) fn push_ring(text: &mut Text, has_ring: bool) -> Result<(), AllocError>
+pub(crate) fn push_ring(text: &mut WrittenText, has_ring: bool) -> Result<(), AllocError>
     ensures { OnOk result (text.new ≡ text.old ++ line (codes "ring ") (ring_text has_ring)) }
 {
     if has_ring {

@@ -6,13 +6,13 @@ ghost use Rattle.mlk_cert_lexemes.specs.Texts.{constant_text, listed};
 ghost use Rattle.mlk_machine_view.specs.StateTexts.{name_text};
 ghost use Rattle.mlk_machine_view.specs.Spelling.{constants_in};
 
-use mlk_cert_lexemes::{Text, Written, push_more};
+use mlk_cert_lexemes::{Written, WrittenText, push_more};
 use mlk_names::LockName;
 use mlk_text::Value;
 use std::alloc::{AllocError, Global};
 
 /// Values: none, or in parentheses with commas between them.
-pub(crate) fn push_values(text: &mut Text, values: &[Value]) -> Result<(), AllocError>
+pub(crate) fn push_values(text: &mut WrittenText, values: &[Value]) -> Result<(), AllocError>
     ensures { OnOk result (text.new ≡ text.old ++ constants_in constant_text values.now) }
 {
     let Some((first, others)) = values.split_first() else {
@@ -26,7 +26,7 @@ pub(crate) fn push_values(text: &mut Text, values: &[Value]) -> Result<(), Alloc
 }
 
 // A lock name.
-fn push_name(text: &mut Text, name: &LockName) -> Result<(), AllocError>
+fn push_name(text: &mut WrittenText, name: &LockName) -> Result<(), AllocError>
     ensures { OnOk result (text.new ≡ text.old ++ name_text name.now) }
 {
     name.root.push_to(text)?;
@@ -35,16 +35,16 @@ fn push_name(text: &mut Text, name: &LockName) -> Result<(), AllocError>
 }
 
 /// A lock name's text.
-pub(crate) fn text_of(alloc: Global, name: &LockName) -> Result<Text, AllocError>
+pub(crate) fn text_of(alloc: Global, name: &LockName) -> Result<WrittenText, AllocError>
     ensures { IfOk result (λ text. text ≡ name_text name.now) }
 {
-    let mut text = Text::new(alloc);
+    let mut text = WrittenText::new(alloc);
     push_name(&mut text, name)?;
     Ok(text)
 }
 
 // Lock names, each after a semicolon.
-fn push_more_names(text: &mut Text, names: &[LockName]) -> Result<(), AllocError>
+fn push_more_names(text: &mut WrittenText, names: &[LockName]) -> Result<(), AllocError>
     ensures { OnOk result (text.new ≡ text.old ++ more 59 name_text names.now) }
 {
     for name in names {
@@ -55,7 +55,7 @@ fn push_more_names(text: &mut Text, names: &[LockName]) -> Result<(), AllocError
 }
 
 /// Lock names with semicolons between them, or `-` where there are none.
-pub(crate) fn push_names(text: &mut Text, names: &[LockName]) -> Result<(), AllocError>
+pub(crate) fn push_names(text: &mut WrittenText, names: &[LockName]) -> Result<(), AllocError>
     ensures { OnOk result (text.new ≡ text.old ++ listed name_text names.now) }
 {
     let Some((first, others)) = names.split_first() else {

@@ -5,18 +5,18 @@ ghost use Rattle.mlk_machine.specs.Systems.{jobs_in, routines_in};
 ghost use Rattle.mlk_machine_view.specs.Printed.{system_text};
 
 use crate::printed::{push_clashes, push_jobs, push_ring, push_waits};
-use mlk_cert_lexemes::Text;
+use mlk_cert_lexemes::WrittenText;
 use mlk_machine::System;
 use std::alloc::{AllocError, Global};
 
 /// What is shown of a system: a line for each job, in the order in which they began, with what it does next and what it
 /// holds; a line for each two that clash, and for each that waits for another; and whether some wait in a ring.
 #[tactic(auto, using(crate::proofs::PrintedLemmas::system_written))]
-pub fn system_text(alloc: Global, system: &System) -> Result<Text, AllocError>
+pub fn system_text(alloc: Global, system: &System) -> Result<WrittenText, AllocError>
     ensures { IfOk result (λ text. text ≡ system_text (routines_in system.now) (jobs_in system.now)) }
 {
     let jobs = system.jobs();
-    let mut text = Text::new(alloc);
+    let mut text = WrittenText::new(alloc);
     push_jobs(alloc, &mut text, system.program(), jobs)?;
     push_clashes(alloc, &mut text, jobs)?;
     push_waits(alloc, &mut text, jobs)?;

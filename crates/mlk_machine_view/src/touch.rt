@@ -7,14 +7,14 @@ ghost use Rattle.mlk_machine_jobs.specs.TaskViews.{touch_of};
 ghost use Rattle.mlk_machine_view.specs.StateTexts.{access_text, extent_text, node_text, touch_text};
 
 use crate::spelling::push_values;
-use mlk_cert_lexemes::Text;
+use mlk_cert_lexemes::WrittenText;
 use mlk_machine_jobs::Touch;
 use mlk_names::{Access, Extent};
 use mlk_text::Name;
 use std::alloc::AllocError;
 
 // A global.
-fn push_global(text: &mut Text, name: &Name) -> Result<(), AllocError>
+fn push_global(text: &mut WrittenText, name: &Name) -> Result<(), AllocError>
     ensures { OnOk result (text.new ≡ text.old ++ root_text (Global name.now)) }
 {
     text.push_byte(b'^')?;
@@ -23,7 +23,7 @@ fn push_global(text: &mut Text, name: &Name) -> Result<(), AllocError>
 }
 
 // A node of a global.
-fn push_node(text: &mut Text, touch: &Touch) -> Result<(), AllocError>
+fn push_node(text: &mut WrittenText, touch: &Touch) -> Result<(), AllocError>
     ensures { OnOk result (text.new ≡ text.old ++ node_text (touch_of touch.now).region.node) }
 {
     push_global(text, &touch.root)?;
@@ -32,7 +32,7 @@ fn push_node(text: &mut Text, touch: &Touch) -> Result<(), AllocError>
 }
 
 // Whether all below a node is reached.
-fn push_extent(text: &mut Text, extent: Extent) -> Result<(), AllocError>
+fn push_extent(text: &mut WrittenText, extent: Extent) -> Result<(), AllocError>
     ensures { OnOk result (text.new ≡ text.old ++ extent_text extent) }
 {
     match extent {
@@ -42,7 +42,7 @@ fn push_extent(text: &mut Text, extent: Extent) -> Result<(), AllocError>
 }
 
 // Whether a node is read or written.
-fn push_access(text: &mut Text, access: Access) -> Result<(), AllocError>
+fn push_access(text: &mut WrittenText, access: Access) -> Result<(), AllocError>
     ensures { OnOk result (text.new ≡ text.old ++ access_text access) }
 {
     match access {
@@ -52,7 +52,7 @@ fn push_access(text: &mut Text, access: Access) -> Result<(), AllocError>
 }
 
 /// What a job is ready to touch.
-pub(crate) fn push_touch(text: &mut Text, touch: &Touch) -> Result<(), AllocError>
+pub(crate) fn push_touch(text: &mut WrittenText, touch: &Touch) -> Result<(), AllocError>
     ensures { OnOk result (text.new ≡ text.old ++ touch_text (touch_of touch.now)) }
 {
     push_node(text, touch)?;

@@ -18,11 +18,6 @@ IsUnspelled (error.EntryMissing text) = ⊥
 IsUnspelled (error.TooLong fault) = (fault.code ≡ CertLimit) × (fault.line ≡ 1)
 IsUnspelled (error.GaveUp place) = Unit {0}
 
--- want of memory says nothing
-abbrev pub IfRefused : Failure MakeError → (MakeError → Type 0) → Type 0
-IfRefused failure.OutOfMemory Is = Unit {0}
-IfRefused (failure.Refused e) Is = Is e
-
 -- Why no certificate is made: the first of these entry texts that the program lacks, where it lacks one; else its text is
 -- too long, which is a limit at its first line, or the maker gave up. Of want of memory nothing is said.
 abbrev pub IsUnmade : List RoutineTree → List (List ℕ) → Failure MakeError → Type 0

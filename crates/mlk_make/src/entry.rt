@@ -9,7 +9,7 @@ use mlk_cert::{Case, NameSet, Own, Shared, Test};
 use mlk_make_drafts::{At, Draft};
 use mlk_program::{EntryId, Program};
 use mlk_syntax::Line;
-use mlk_text::{Code, Column, Failure, List, Name};
+use mlk_text::{Code, Column, Failure, Name};
 use mlk_walk_commands::in_order;
 use mlk_walk_exprs::Fault;
 use mlk_walk_lines::Around;
@@ -40,7 +40,7 @@ fn begin_case(ground: &Ground<'_>, draft: &Draft) -> Result<Case, AllocError> {
         held: Shared::new(alloc, Vec::from_clones(alloc, need)?)?,
         own: Shared::new(alloc, own)?,
         kept: Shared::new(alloc, names.into_vec())?,
-        saved: List::new(alloc),
+        saved: Shared::new(alloc, Vec::new(alloc))?,
     })
 }
 

@@ -1,12 +1,15 @@
 // The certificate of what is known.
 
 ghost use Rattle.std.specs.Prelude.{IfOk, IfErr};
-ghost use Rattle.mlk_cert.specs.Theorem.{Spells};
-ghost use Rattle.mlk_make.specs.Missing.{IsUnspelled, IfRefused};
+ghost use Rattle.mlk_text.specs.Failures.{IfRefused};
+ghost use Rattle.mlk_cert.specs.declared.format.CertFormat.TheVariants.{First};
+ghost use Rattle.mlk_make.specs.Missing.{IsUnspelled};
+ghost use Rattle.mlk_make.specs.Texts.{SpellsIn};
 
 use crate::maker::Maker;
 use crate::stop::{GaveUp, MakeError};
-use mlk_cert::{CertFault, EntryCert, Spelled, spell};
+use crate::text::text_in;
+use mlk_cert::{CertFault, CertFormat, EntryCert, Spelled, certificate_of, spell};
 use mlk_program::EntryId;
 use mlk_text::{Code, Column, Failure, LineNumber};
 use mlk_walk_exprs::Fault;
@@ -20,13 +23,10 @@ fn blocks(alloc: Global, maker: Maker) -> Result<Vec<EntryCert>, AllocError> {
     Ok(all)
 }
 
-// What is told where blocks are refused as a certificate. No such blocks are known but those whose text is too long.
-fn refused(fault: CertFault) -> MakeError
+// What is told where blocks are no certificate. No such blocks are known.
+fn no_certificate() -> MakeError
     ensures { IsUnspelled result }
 {
-    if fault.code == Code::CertLimit && fault.line.number() == 1 {
-        return MakeError::TooLong(fault);
-    }
     MakeError::GaveUp(GaveUp {
         entry: EntryId::new(0, 0),
         fault: Fault {
@@ -37,14 +37,61 @@ fn refused(fault: CertFault) -> MakeError
     })
 }
 
-/// The certificate of all entries of which something is known, and its text.
-pub(crate) fn finish(alloc: Global, maker: Maker) -> Result<Spelled, Failure<MakeError>>
-    ensures spells { IfOk result (λ s. Spells s.certificate s.text.items) }
+// What is told where blocks are refused by their text.
+fn refused(fault: CertFault) -> MakeError
+    ensures { IsUnspelled result }
+{
+    if fault.code == Code::CertLimit && fault.line.number() == 1 {
+        return MakeError::TooLong(fault);
+    }
+    no_certificate()
+}
+
+// The certificate of blocks, and its text in the first format, of which it is read.
+#[tactic(auto, using(crate::proofs::FirstText::first_text))]
+fn spelled(alloc: Global, made: Vec<EntryCert>) -> Result<Spelled, Failure<MakeError>>
+    ensures spells { IfOk result (λ s. SpellsIn First s.certificate s.text.items) }
     ensures refused { IfErr result (λ e. IfRefused e IsUnspelled) }
 {
-    match spell(alloc, blocks(alloc, maker)?) {
+    match spell(alloc, made) {
         Ok(made) => Ok(made),
         Err(Failure::OutOfMemory) => Err(Failure::OutOfMemory),
         Err(Failure::Refused(fault)) => Err(Failure::Refused(refused(fault))),
+    }
+}
+
+// The certificate of blocks, and its text in a format, which is then written of it.
+fn written(
+    alloc: Global,
+    made: Vec<EntryCert>,
+    format: CertFormat,
+) -> Result<Spelled, Failure<MakeError>>
+    ensures spells { IfOk result (λ s. SpellsIn format s.certificate s.text.items) }
+    ensures refused { IfErr result (λ e. IfRefused e IsUnspelled) }
+{
+    match certificate_of(alloc, made) {
+        Ok(certificate) => match text_in(alloc, &certificate, format) {
+            Ok(text) => Ok(Spelled { certificate, text }),
+            Err(Failure::OutOfMemory) => Err(Failure::OutOfMemory),
+            Err(Failure::Refused(fault)) => Err(Failure::Refused(MakeError::TooLong(fault))),
+        },
+        Err(Failure::OutOfMemory) => Err(Failure::OutOfMemory),
+        Err(Failure::Refused(_)) => Err(Failure::Refused(no_certificate())),
+    }
+}
+
+/// The certificate of all entries of which something is known, and its text in a format.
+pub(crate) fn finish(
+    alloc: Global,
+    maker: Maker,
+    format: CertFormat,
+) -> Result<Spelled, Failure<MakeError>>
+    ensures spells { IfOk result (λ s. SpellsIn format s.certificate s.text.items) }
+    ensures refused { IfErr result (λ e. IfRefused e IsUnspelled) }
+{
+    let made = blocks(alloc, maker)?;
+    match format {
+        CertFormat::First => spelled(alloc, made),
+        CertFormat::Second => written(alloc, made, format),
     }
 }

@@ -13,7 +13,9 @@ mod probe;
 mod rounds;
 mod settle;
 mod stop;
+mod text;
 mod walk;
 
 pub use rounds::{make, make_watched};
 pub use stop::{GaveUp, MakeError};
+pub use text::text_in;

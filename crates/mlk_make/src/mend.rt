@@ -3,7 +3,7 @@
 use crate::maker::{Ground, Maker};
 use crate::need::is_needed;
 use crate::stop::Stop;
-use crate::walk::{Site, Target};
+use crate::walk::{CalledEntry, Site};
 use mlk_cert::{Case, ExitCase, NameSet};
 use mlk_make_drafts::{At, Draft, Listing, add_exit, add_mods, drop_all, lower, widen};
 use mlk_names::LockTerm;
@@ -53,7 +53,7 @@ fn is_here(line: &Line, point: LineNumber) -> bool {
 }
 
 // The entry that is called in a column.
-fn called(targets: &[Target], column: Column) -> Option<EntryId> {
+fn called(targets: &[CalledEntry], column: Column) -> Option<EntryId> {
     for target in targets {
         if target.column == column && !target.begins {
             return Some(target.entry);
@@ -67,7 +67,7 @@ fn add_called(
     ground: &Ground<'_>,
     maker: &mut Maker,
     draft: &Draft,
-    targets: &[Target],
+    targets: &[CalledEntry],
     fault: Fault,
 ) -> Result<bool, Failure<Stop>> {
     if fault.code != Code::NoCertificate {
@@ -89,7 +89,7 @@ fn add_needs(
     maker: &mut Maker,
     draft: &mut Draft,
     site: Site<'_>,
-    targets: &[Target],
+    targets: &[CalledEntry],
     fault: Fault,
     terms: Vec<LockTerm>,
 ) -> Result<bool, Failure<Stop>> {
@@ -146,7 +146,7 @@ fn mend_one(
     maker: &mut Maker,
     draft: &mut Draft,
     site: Site<'_>,
-    targets: &[Target],
+    targets: &[CalledEntry],
     fault: Fault,
     mend: Mend,
 ) -> Result<bool, Failure<Stop>> {
@@ -180,7 +180,7 @@ pub(crate) fn mend_all(
     maker: &mut Maker,
     draft: &mut Draft,
     site: Site<'_>,
-    targets: &[Target],
+    targets: &[CalledEntry],
     faults: Vec<(LineFault, Mend)>,
 ) -> Result<bool, Failure<Stop>> {
     let mut again = false;

@@ -3,7 +3,7 @@
 use crate::maker::{Ground, Maker};
 use crate::news::are_made_new;
 use crate::probe::{Probe, is_reached};
-use crate::walk::{Site, Target};
+use crate::walk::{CalledEntry, Site};
 use mlk_calls::{is_among, is_own};
 use mlk_cert::{Case, NameSet, Own};
 use mlk_make_drafts::{At, Draft, rounds_in};
@@ -133,7 +133,7 @@ pub(crate) fn is_needed(
     maker: &Maker,
     draft: &Draft,
     site: Site<'_>,
-    targets: &[Target],
+    targets: &[CalledEntry],
     fault: Fault,
     terms: &[LockTerm],
 ) -> Result<bool, AllocError> {

@@ -4,7 +4,7 @@
 
 use crate::maker::{Ground, Maker};
 use crate::need::are_kept;
-use crate::walk::{Site, Target, walk_site};
+use crate::walk::{CalledEntry, Site, walk_site};
 use mlk_calls::{copy_case, is_among};
 use mlk_cert::limit::MOST_CASES;
 use mlk_cert::{Case, EntryCert, NameSet, Own, Point, Shared};
@@ -20,7 +20,7 @@ use std::slice;
 #[derive(Clone, Copy, Drop)]
 pub(crate) struct Probe<'a> {
     pub(crate) site: Site<'a>,
-    pub(crate) targets: &'a [Target],
+    pub(crate) targets: &'a [CalledEntry],
     pub(crate) fault: Fault,
     pub(crate) names: &'a [Name],
     /// those of the names that are own in truth

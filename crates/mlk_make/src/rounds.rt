@@ -1,9 +1,11 @@
 // The maker's rounds.
 
 ghost use Rattle.std.specs.Prelude.{◌≡◌, IfOk, IfErr, None, find, map};
+ghost use Rattle.mlk_text.specs.Failures.{IfRefused};
 ghost use Rattle.mlk_syntax.specs.Views.{routine_of};
-ghost use Rattle.mlk_cert.specs.Theorem.{Spells};
-ghost use Rattle.mlk_make.specs.Missing.{is_missing, IsUnmade, IsUnspelled, IfRefused};
+ghost use Rattle.mlk_cert.specs.declared.format.CertFormat.TheVariants.{First};
+ghost use Rattle.mlk_make.specs.Missing.{is_missing, IsUnmade, IsUnspelled};
+ghost use Rattle.mlk_make.specs.Texts.{SpellsIn};
 
 use crate::entry::walk_entry;
 use crate::finish::finish;
@@ -11,7 +13,7 @@ use crate::maker::{Ground, Maker};
 use crate::missing::first_missing;
 use crate::stop::{GaveUp, MakeError};
 use mlk_calls::Entries;
-use mlk_cert::Spelled;
+use mlk_cert::{CertFormat, Spelled};
 use mlk_program::{EntryId, Program};
 use mlk_rules::{Rules, entries};
 use mlk_syntax::Line;
@@ -92,9 +94,10 @@ fn certify<W: Watch>(
     alloc: Global,
     program: &Program<'_>,
     rules: &Rules,
+    format: CertFormat,
     watch: &W,
 ) -> Result<Spelled, Failure<MakeError>>
-    ensures spells { IfOk result (λ s. Spells s.certificate s.text.items) }
+    ensures spells { IfOk result (λ s. SpellsIn format s.certificate s.text.items) }
     ensures refused { IfErr result (λ e. IfRefused e IsUnspelled) }
 {
     let declared = Entries::of(alloc, program, rules, &[])?;
@@ -105,14 +108,14 @@ fn certify<W: Watch>(
         declared: &declared,
     };
     match walked(&ground, watch) {
-        Ok(maker) => finish(alloc, maker),
+        Ok(maker) => finish(alloc, maker, format),
         Err(Failure::OutOfMemory) => Err(Failure::OutOfMemory),
         Err(Failure::Refused(place)) => Err(Failure::Refused(MakeError::GaveUp(place))),
     }
 }
 
-/// Makes a certificate of the declared entries, and of all that they reach by calls, and its text. Its entries are in the
-/// program's order.
+/// Makes a certificate of the declared entries, and of all that they reach by calls, and its text in the first format. Its
+/// entries are in the program's order.
 ///
 /// Their summaries begin empty. In each round every entry is walked, in order, until its lists grow no more: what would
 /// mend a fault is put in, where it can be. A further round is made while one changes something; 64 are too many. What was
@@ -123,22 +126,23 @@ pub fn make(
     rules: &Rules,
 ) -> Result<Spelled, Failure<MakeError>>
     // It keeps to all limits, and the text is its own. None is made where the program lacks a declared entry:
-    ensures spells { IfOk result (λ s. Spells s.certificate s.text.items) }
+    ensures spells { IfOk result (λ s. SpellsIn First s.certificate s.text.items) }
     ensures made { IfOk result (λ s. find (is_missing (map routine_of program.now)) rules.now.entries ≡ None) }
     // then that is told, and nothing else is told so.
     ensures refused { IfErr result (IsUnmade (map routine_of program.now) rules.now.entries) }
 {
-    make_watched(alloc, program, rules, &Unwatched)
+    make_watched(alloc, program, rules, CertFormat::First, &Unwatched)
 }
 
-/// What `make` makes, and how far it has come is told as it goes.
+/// What `make` makes, with its text in a format, and how far it has come is told as it goes.
 pub fn make_watched<W: Watch>(
     alloc: Global,
     program: &Program<'_>,
     rules: &Rules,
+    format: CertFormat,
     watch: &W,
 ) -> Result<Spelled, Failure<MakeError>>
-    ensures spells { IfOk result (λ s. Spells s.certificate s.text.items) }
+    ensures spells { IfOk result (λ s. SpellsIn format s.certificate s.text.items) }
     ensures made { IfOk result (λ s. find (is_missing (map routine_of program.now)) rules.now.entries ≡ None) }
     ensures refused { IfErr result (IsUnmade (map routine_of program.now) rules.now.entries) }
 {
@@ -146,5 +150,5 @@ pub fn make_watched<W: Watch>(
         let text = Value::of(alloc, text)?;
         return Err(Failure::Refused(MakeError::EntryMissing(text)));
     }
-    certify(alloc, program, rules, watch)
+    certify(alloc, program, rules, format, watch)
 }

@@ -3,7 +3,7 @@
 use crate::maker::{Ground, Maker, has_changed};
 use crate::mend::mend_all;
 use crate::stop::Stop;
-use crate::walk::{Site, Target, Walked, targets_of, walk_site};
+use crate::walk::{CalledEntry, Site, Walked, targets_of, walk_site};
 use mlk_make_drafts::Draft;
 use mlk_syntax::Line;
 use mlk_text::{Code, Column, Failure};
@@ -21,7 +21,7 @@ struct Turn {
     ends: bool,
 }
 
-fn add_callees(draft: &mut Draft, targets: &[Target]) -> Result<(), Failure<Stop>> {
+fn add_callees(draft: &mut Draft, targets: &[CalledEntry]) -> Result<(), Failure<Stop>> {
     for target in targets {
         if !target.begins {
             draft.callees.insert(target.entry)?;
@@ -36,7 +36,7 @@ fn walk_line(
     maker: &Maker,
     draft: &Draft,
     site: Site<'_>,
-    targets: &[Target],
+    targets: &[CalledEntry],
 ) -> Result<Walked, AllocError> {
     let inner = draft
         .lists
@@ -59,7 +59,7 @@ fn walk_once(
     maker: &mut Maker,
     draft: &mut Draft,
     site: Site<'_>,
-    targets: &[Target],
+    targets: &[CalledEntry],
 ) -> Result<Turn, Failure<Stop>> {
     add_callees(draft, targets)?;
     draft.take(ground.alloc, site.line)?;
@@ -91,7 +91,7 @@ fn without_first(lines: &[Line]) -> &[Line] {
 }
 
 // Whether a line calls an entry whose summary has changed since the walked one was walked.
-fn asks_anew(maker: &Maker, draft: &Draft, targets: &[Target]) -> bool {
+fn asks_anew(maker: &Maker, draft: &Draft, targets: &[CalledEntry]) -> bool {
     let Some(walked) = draft.walked else {
         return true;
     };
@@ -107,7 +107,7 @@ fn walk_if_due(
     maker: &mut Maker,
     draft: &mut Draft,
     site: Site<'_>,
-    targets: &[Target],
+    targets: &[CalledEntry],
     due: bool,
 ) -> Result<Turn, Failure<Stop>> {
     if due {

@@ -23,7 +23,7 @@ pub(crate) struct Site<'a> {
 
 /// What a call in a line names: where the call stands, its entry, and whether a job begins there.
 #[derive(Clone, Copy, Debug, Drop)]
-pub(crate) struct Target {
+pub(crate) struct CalledEntry {
     pub(crate) column: Column,
     pub(crate) entry: EntryId,
     pub(crate) begins: bool,
@@ -61,13 +61,13 @@ pub(crate) fn targets_of(
     ground: &Ground<'_>,
     routine: usize,
     line: &Line,
-) -> Result<Vec<Target>, AllocError> {
+) -> Result<Vec<CalledEntry>, AllocError> {
     let mut begun = BTreeSet::new(ground.alloc);
     add_all_begun(&mut begun, &line.commands)?;
     let mut targets = Vec::new(ground.alloc);
     for call in calls_of(ground.alloc, &line.commands)? {
         if let Some(entry) = ground.program.target(routine, call.callee) {
-            targets.push(Target {
+            targets.push(CalledEntry {
                 column: call.column,
                 entry,
                 begins: begun.contains(&call.column),
@@ -90,7 +90,7 @@ fn summed(
     alloc: Global,
     maker: &Maker,
     draft: &Draft,
-    targets: &[Target],
+    targets: &[CalledEntry],
 ) -> Result<Vec<EntryCert>, AllocError> {
     let mut blocks = Vec::new(alloc);
     for target in targets {
@@ -115,7 +115,7 @@ fn declared(
     alloc: Global,
     maker: &Maker,
     draft: &Draft,
-    targets: &[Target],
+    targets: &[CalledEntry],
 ) -> Result<List<Value>, AllocError> {
     let mut texts = List::new(alloc);
     push_declared(&mut texts, draft)?;
@@ -146,7 +146,7 @@ fn declared_rules(
     alloc: Global,
     maker: &Maker,
     draft: &Draft,
-    targets: &[Target],
+    targets: &[CalledEntry],
 ) -> Result<Option<Rules>, AllocError> {
     let entries = declared(alloc, maker, draft, targets)?;
     declaring(alloc, entries)
@@ -205,7 +205,7 @@ pub(crate) fn walk_site(
     block: &EntryCert,
     own: &[Own],
     site: Site<'_>,
-    targets: &[Target],
+    targets: &[CalledEntry],
     inner: List<Case>,
 ) -> Result<Walked, AllocError> {
     let blocks = summed(ground.alloc, maker, draft, targets)?;

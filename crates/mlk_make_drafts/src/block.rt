@@ -3,7 +3,7 @@
 use crate::draft::{Draft, round_number};
 use crate::lists::{At, Lists};
 use crate::order::cases_in_order;
-use mlk_cert::{Case, EntryCert, ExitCase, Point, Shared, Summary};
+use mlk_cert_parts::{Case, EntryCert, ExitCase, Point, Shared, Summary};
 use mlk_text::List;
 use std::alloc::{AllocError, Global};
 
@@ -31,7 +31,7 @@ fn case_of(alloc: Global, exit: ExitCase) -> Result<Case, AllocError> {
         held: exit.held,
         own: Shared::new(alloc, Vec::new(alloc))?,
         kept: exit.kept,
-        saved: List::new(alloc),
+        saved: Shared::new(alloc, Vec::new(alloc))?,
     })
 }
 

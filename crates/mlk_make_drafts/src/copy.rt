@@ -1,7 +1,7 @@
 // Copies of what blocks hold.
 
 use mlk_calls::copy_case;
-use mlk_cert::{Case, EntryCert, ExitCase, Summary};
+use mlk_cert_parts::{Case, EntryCert, ExitCase, Summary};
 use mlk_text::List;
 use std::alloc::{AllocError, Global};
 

@@ -3,7 +3,7 @@
 use crate::hand::rounds_in;
 use crate::lists::{At, Listing, Lists};
 use crate::summary::{add_needs, empty_summary};
-use mlk_cert::{EntryCert, Point};
+use mlk_cert_parts::{EntryCert, Point};
 use mlk_names::LockTerm;
 use mlk_program::EntryId;
 use mlk_syntax::Line;

@@ -2,8 +2,8 @@
 
 use crate::copy::copy_cases;
 use mlk_calls::is_listed;
-use mlk_cert::Case;
-use mlk_cert::limit::{MOST_CASES, MOST_KEPT, MOST_OWN, MOST_TERMS};
+use mlk_cert_parts::Case;
+use mlk_cert_parts::limit::{MOST_CASES, MOST_KEPT, MOST_OWN, MOST_TERMS};
 use mlk_syntax::Line;
 use mlk_text::{LineNumber, List};
 use std::alloc::{AllocError, Global};

@@ -2,8 +2,8 @@
 
 ghost use Rattle.std.specs.Prelude.{◌≤◌, IfOk, length};
 
-use mlk_cert::{Case, NameSet, Test};
-use mlk_cert_lexemes::{Text, Written};
+use mlk_cert_lexemes::{Written, WrittenText};
+use mlk_cert_parts::{Case, NameSet, Test};
 use mlk_text::{List, Name};
 use mlk_walk_commands::in_order;
 use std::alloc::{AllocError, Global};
@@ -77,10 +77,10 @@ fn are_told_apart(cases: &[Case]) -> bool {
 }
 
 // Cases, each after its text.
-fn with_texts(alloc: Global, cases: Vec<Case>) -> Result<Vec<(Text, Case)>, AllocError> {
+fn with_texts(alloc: Global, cases: Vec<Case>) -> Result<Vec<(WrittenText, Case)>, AllocError> {
     let mut all = Vec::new(alloc);
     for case in cases {
-        let mut text = Text::new(alloc);
+        let mut text = WrittenText::new(alloc);
         case.push_to(&mut text)?;
         all.push((text, case))?;
     }

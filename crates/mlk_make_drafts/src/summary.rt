@@ -3,8 +3,8 @@
 use crate::lists::Listing;
 use crate::order::{place_of_set, set_in_order};
 use mlk_calls::is_exit;
-use mlk_cert::limit::{MOST_EXITS, MOST_MODS, MOST_TERMS};
-use mlk_cert::{Case, ExitCase, NameSet, Shared, Summary, place_of_term};
+use mlk_cert_parts::limit::{MOST_EXITS, MOST_MODS, MOST_TERMS};
+use mlk_cert_parts::{Case, ExitCase, NameSet, Shared, Summary, place_of_term};
 use mlk_names::LockTerm;
 use mlk_text::List;
 use std::alloc::{AllocError, Global};
@@ -32,7 +32,7 @@ pub fn add_exit(
         held: exit.held.clone()?,
         own: Shared::new(alloc, Vec::new(alloc))?,
         kept: exit.kept.clone()?,
-        saved: List::new(alloc),
+        saved: Shared::new(alloc, Vec::new(alloc))?,
     };
     if is_exit(summary.exits.as_slice(), &case) {
         return Ok(Listing::Known);

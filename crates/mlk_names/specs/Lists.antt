@@ -1,5 +1,10 @@
--- Lists that begin other lists.
-use Rattle.std.specs.Prelude.{◌≡◌, List, ◌++◌}
+-- What stands in a list, and lists that begin other lists. This project's own.
+use Rattle.std.specs.Prelude.{◌≡◌, ◌⊎◌, List, [], ◌∷◌, ◌++◌}
+
+-- it is one of these
+abbrev pub Among : {A : Type 0} → A → List A → Type 0
+Among a [] = ⊥
+Among a (b ∷ bs) = (a ≡ b) ⊎ Among a bs
 
 -- the second list is the first with some tail after it
 pub record Begins {X : Type 0} (xs ys : List X) : Type 0 where

@@ -1,7 +1,7 @@
 -- What operators make of texts that are known: the one exact result, or none. Standard: operators, canonic numeric
 -- values. That only whole numbers of at most 15 digits and texts of at most 255 bytes are computed is this project's own
 -- choice. That they are the results that `Folding` relates is a law.
-use Rattle.std.specs.Prelude.{ℕ, ℤ, pos, neg_ℤ, ◌&&◌, ◌==◌, nat_le, if◌then◌else◌, List, [], ◌∷◌, ◌++◌, length, Option, Some, None}
+use Rattle.std.specs.Prelude.{ℕ, ℤ, pos, neg_ℤ, Bool, true, false, ◌&&◌, ◌==◌, nat_le, if◌then◌else◌, List, [], ◌∷◌, ◌++◌, length, Option, Some, None}
 use Rattle.std.specs.Prelude.{option_map, option_and_then, bytes_eq, codes}
 use Rattle.std.specs.Fmt.{signed_decimal}
 use Rattle.mlk_numbers.specs.Numbers.{number_of_digits}
@@ -35,6 +35,13 @@ of_numbers op (Some x) (Some y) = option_map signed_decimal (folded op x y)
 unfoldable pub fold_between : Op → List ℕ → List ℕ → Option (List ℕ)
 fold_between Concatenate a b = if_joined (a ++ b)
 fold_between op a b = of_numbers op (whole a) (whole b)
+
+-- the truth of a text: `0` is false and `1` is true; of any other nothing is known
+abbrev pub truth_of_text : List ℕ → Option Bool
+truth_of_text a =
+    if bytes_eq a (codes "0") then Some false
+    else if bytes_eq a (codes "1") then Some true
+    else None
 
 -- `'` has a known result for `0` and `1` alone
 abbrev pub opposite : List ℕ → Option (List ℕ)

@@ -4,7 +4,9 @@
 mod folding;
 mod law;
 mod numeral;
+mod truth;
 
 pub use folding::{fold, fold_number, fold_unary, whole};
 pub use law::{both_read, folds_are, literals_canonical, one_canonical, one_text, one_whole};
 pub use numeral::canonical;
+pub use truth::known_truth;

@@ -33,8 +33,8 @@ use Rattle.mlk_syntax.specs.contracts.command.Control as Control
 use Rattle.mlk_syntax.specs.contracts.command.Commands as Commands
 use Rattle.mlk_syntax.specs.contracts.routine.Line as Line
 use Rattle.mlk_syntax.specs.contracts.routine.Routine as Routine
-use Rattle.mlk_program.proofs.table.Table.TheSendSync as TableSyncs
-use Rattle.mlk_program.proofs.shared.Shared.TheSendSync as SharedSyncs
+use Rattle.mlk_program.proofs.table.NamePlaces.TheSendSync as TableSyncs
+use Rattle.mlk_program.proofs.shared.SharedNames.TheSendSync as SharedSyncs
 use Rattle.mlk_program.proofs.frames.Frames.TheSendSync as FramesSyncs
 use Rattle.mlk_program.specs.contracts.directory.Directory as Directory
 use Rattle.mlk_program.specs.contracts.program.Program as Program

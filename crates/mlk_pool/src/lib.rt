@@ -25,6 +25,6 @@ pub use rendering::{render, report_text};
 pub use report::{MOST_WORKERS, PoolFault, report_by};
 pub use shared::SharedBoard;
 pub use source::Source;
-pub use text::Text;
+pub use text::ReportText;
 pub use verification::{Report, verify, verify_program, verify_watched};
 pub use worker::work;

@@ -6,7 +6,7 @@ ghost use Rattle.mlk_syntax.specs.Views.{line_of, routine_of};
 ghost use Rattle.mlk_program.specs.Entries.{label_of, text_with};
 ghost use Rattle.mlk_pool.specs.Texts.{entry_text, fault_text, row_line, row_lines, last_line, report_text};
 
-use crate::text::Text;
+use crate::text::ReportText;
 use crate::verification::Report;
 use mlk_program::EntryId;
 use mlk_syntax::{Line, Routine};
@@ -16,7 +16,7 @@ use std::alloc::{AllocError, Global};
 use std::io::{self, Write};
 
 // A routine's line of the first level, counted from 0, as an entry.
-fn push_entry_of(text: &mut Text, routine: &Routine, line: &Line) -> Result<(), AllocError>
+fn push_entry_of(text: &mut ReportText, routine: &Routine, line: &Line) -> Result<(), AllocError>
     ensures { OnOk result (text.new ≡ text.old ++ text_with (label_of (line_of line.now).0) routine.now.name) }
 {
     if let Some(label) = line.label.as_ref() {
@@ -39,7 +39,7 @@ fn line_at(lines: &[Line], place: usize) -> Option<&Line>
 }
 
 #[tactic(auto, using(crate::proofs::Printing::entry_none, crate::proofs::Printing::line_none, crate::proofs::Printing::line_some))]
-fn push_entry(text: &mut Text, routines: &[Routine], entry: EntryId) -> Result<(), AllocError>
+fn push_entry(text: &mut ReportText, routines: &[Routine], entry: EntryId) -> Result<(), AllocError>
     ensures { OnOk result (text.new ≡ text.old ++ entry_text (map routine_of routines.now) entry) }
 {
     let Some(routine) = routine_at(routines, entry.routine()) else {
@@ -51,7 +51,7 @@ fn push_entry(text: &mut Text, routines: &[Routine], entry: EntryId) -> Result<(
     }
 }
 
-fn push_fault(text: &mut Text, fault: &mlk_walk_exprs::Fault) -> Result<(), AllocError>
+fn push_fault(text: &mut ReportText, fault: &mlk_walk_exprs::Fault) -> Result<(), AllocError>
     ensures { OnOk result (text.new ≡ text.old ++ fault_text fault.now) }
 {
     text.push(b" ")?;
@@ -62,14 +62,14 @@ fn push_fault(text: &mut Text, fault: &mlk_walk_exprs::Fault) -> Result<(), Allo
     Ok(())
 }
 
-fn push_row(text: &mut Text, routines: &[Routine], row: &Row) -> Result<(), AllocError>
+fn push_row(text: &mut ReportText, routines: &[Routine], row: &Row) -> Result<(), AllocError>
     ensures { OnOk result (text.new ≡ text.old ++ row_line (map routine_of routines.now) row.now) }
 {
     push_entry(text, routines, row.entry)?;
     push_fault(text, &row.fault)
 }
 
-fn push_rows(text: &mut Text, routines: &[Routine], rows: &[Row]) -> Result<(), AllocError>
+fn push_rows(text: &mut ReportText, routines: &[Routine], rows: &[Row]) -> Result<(), AllocError>
     ensures { OnOk result (text.new ≡ text.old ++ row_lines (map routine_of routines.now) rows.now) }
 {
     for row in rows {
@@ -78,7 +78,7 @@ fn push_rows(text: &mut Text, routines: &[Routine], rows: &[Row]) -> Result<(), 
     Ok(())
 }
 
-fn push_last(text: &mut Text, rows: &[Row]) -> Result<(), AllocError>
+fn push_last(text: &mut ReportText, rows: &[Row]) -> Result<(), AllocError>
     ensures { OnOk result (text.new ≡ text.old ++ last_line rows.now) }
 {
     if rows.is_empty() {
@@ -96,10 +96,10 @@ pub fn report_text(
     alloc: Global,
     routines: &[Routine],
     rows: &mlk_walk::Report,
-) -> Result<Text, AllocError>
+) -> Result<ReportText, AllocError>
     ensures { IfOk result (λ t. t ≡ report_text (map routine_of routines.now) rows.now) }
 {
-    let mut text = Text::new(alloc);
+    let mut text = ReportText::new(alloc);
     push_rows(&mut text, routines, rows.rows())?;
     push_last(&mut text, rows.rows())?;
     Ok(text)
@@ -122,7 +122,7 @@ pub fn render<W: Write>(
     }
 }
 
-fn written<W: Write>(text: &Text, writer: &mut W) -> io::Result<()>
+fn written<W: Write>(text: &ReportText, writer: &mut W) -> io::Result<()>
     ensures { OnOk result (Appends (W.contents writer.old) (W.contents writer.new) text.now) }
 {
     writer.write_all(text.as_bytes())?;

@@ -10,11 +10,11 @@ use std::marker::Model;
 
 /// A text that is put together piece by piece.
 #[derive(Drop, Debug)]
-pub struct Text {
+pub struct ReportText {
     bytes: Vec<u8>,
 }
 
-impl Model for Text {
+impl Model for ReportText {
     ghost use Rattle.std.specs.Prelude.{List, ℕ};
 
     ghost Value = { List ℕ };
@@ -22,21 +22,21 @@ impl Model for Text {
     ghost view = { λ t. t.bytes.items };
 }
 
-impl Text {
+impl ReportText {
     /// A text without a byte.
-    pub fn new(alloc: Global) -> Text
+    pub fn new(alloc: Global) -> ReportText
         ensures { result ≡ [] }
     {
-        Text {
+        ReportText {
             bytes: Vec::new(alloc),
         }
     }
 
     /// The text of these bytes.
-    pub fn of(bytes: Vec<u8>) -> Text
+    pub fn of(bytes: Vec<u8>) -> ReportText
         ensures { result ≡ bytes.items }
     {
-        Text { bytes }
+        ReportText { bytes }
     }
 
     /// Its bytes.

@@ -5,7 +5,6 @@ use Rattle.std.specs.Option.{option_eq}
 use Rattle.std.proofs.lemmas.Bool.Decides.{nat_tests}
 use Rattle.mlk_text.specs.declared.failure.Failure.{Failure}
 use Rattle.mlk_text.specs.declared.failure.Failure.TheVariants.{OutOfMemory, Refused}
-use Rattle.mlk_program.specs.Linking.{IfRefused}
 use Rattle.std.specs.List.{list_any}
 use Rattle.std.proofs.Math.Seq.{take-suc}
 use Rattle.std.proofs.lemmas.List.{map-append, length-map}
@@ -14,6 +13,7 @@ use Rattle.std.proofs.lemmas.Slice.Eq.{bytes_eq-Decides}
 use Rattle.std.proofs.lemmas.List.Elements.{Contains-append_right, Contains-append_cases}
 use Rattle.mlk_text.specs.declared.code.Code.TheVariants.{RoutineTwice}
 use Rattle.mlk_text.specs.declared.fault.Fault.{Fault}
+use Rattle.mlk_text.specs.Failures.{IfRefused}
 use Rattle.mlk_syntax.specs.declared.routine.Routine.{Routine}
 use Rattle.mlk_syntax.specs.Views.{routine_of}
 use Rattle.mlk_syntax.specs.Distinct.{AreDistinct}

@@ -15,7 +15,7 @@ use Rattle.mlk_program.specs.Program.{filled_by, passed_by, calls_of, calls_at, 
 use Rattle.mlk_program.specs.Linking.{placed_in}
 use Rattle.mlk_program.specs.Frames.{NameAt, Kept, same_name, is_kept, is_passed, answers, Learns, entry_name, fillings, part_name, passings, past_of, part_at, part_with, part_of, lines_left_in, passed_in_lines, passed_from}
 use Rattle.mlk_program.specs.declared.entry.EntryId.{EntryId}
-use Rattle.mlk_program.specs.declared.part.Part.{Part}
+use Rattle.mlk_program.specs.declared.part.RoutinePart.{RoutinePart}
 use Rattle.mlk_program.proofs.EntryLines.{lines_some, lines_none}
 
 -- the formals of an entry
@@ -40,7 +40,7 @@ or_both a b c d h k = rw (h, k) refl
 no_later : (left last : ℕ) → last ≤ left → nat_le last left ≡ true
 no_later left last h = grind (arith, nat_tests)
 
-hit : (part : Part) (name n : List ℕ) (left : ℕ) → part.left ≤ left
+hit : (part : RoutinePart) (name n : List ℕ) (left : ℕ) → part.left ≤ left
     → answers (part.routine, part.past, name) left (part_name part n) ≡ bytes_eq name n
 hit part name n left h = rw (same_number part.routine, same_number part.past, no_later left part.left h) (and_true (bytes_eq name n))
   where
@@ -48,12 +48,12 @@ hit part name n left h = rw (same_number part.routine, same_number part.past, no
     and_true true = refl
     and_true false = refl
 
-hits : (part : Part) (name : List ℕ) (left : ℕ) → part.left ≤ left → (names : List (List ℕ))
+hits : (part : RoutinePart) (name : List ℕ) (left : ℕ) → part.left ≤ left → (names : List (List ℕ))
     → list_any (answers (part.routine, part.past, name) left) (map (part_name part) names) ≡ list_any (bytes_eq name) names
 hits part name left h [] = refl
 hits part name left h (n ∷ names) = or_both _ _ _ _ (hit part name n left h) (hits part name left h names)
 
-misses : (q : NameAt) (left : ℕ) (part : Part) → ((n : List ℕ) → answers q left (part_name part n) ≡ false) → (names : List (List ℕ))
+misses : (q : NameAt) (left : ℕ) (part : RoutinePart) → ((n : List ℕ) → answers q left (part_name part n) ≡ false) → (names : List (List ℕ))
     → list_any (answers q left) (map (part_name part) names) ≡ false
 misses q left part h [] = refl
 misses q left part h (n ∷ names) = rw (h n) (misses q left part h names)
@@ -62,18 +62,18 @@ and_false : (b : Bool) → (b && false) ≡ false
 and_false true = refl
 and_false false = refl
 
-other_routine : (r m past left : ℕ) (name n : List ℕ) (part : Part) → (r == part.routine) ≡ false
+other_routine : (r m past left : ℕ) (name n : List ℕ) (part : RoutinePart) → (r == part.routine) ≡ false
     → answers (r, past, name) left (part_name part n) ≡ false
 other_routine r m past left name n part h = rw h refl
 
-other_part : (r past left : ℕ) (name n : List ℕ) (part : Part) → (past == part.past) ≡ false
+other_part : (r past left : ℕ) (name n : List ℕ) (part : RoutinePart) → (past == part.past) ≡ false
     → answers (r, past, name) left (part_name part n) ≡ false
 other_part r past left name n part h = rw (h, and_false (r == part.routine)) refl
 
 is_less : (a b : ℕ) → a < b → nat_le b a ≡ false
 is_less a b h = grind (arith, nat_tests)
 
-earlier_line : (q : NameAt) (left : ℕ) (n : List ℕ) (part : Part) → left < part.left → answers q left (part_name part n) ≡ false
+earlier_line : (q : NameAt) (left : ℕ) (n : List ℕ) (part : RoutinePart) → left < part.left → answers q left (part_name part n) ≡ false
 earlier_line q left n part h = rw (is_less left part.left h) (and_false (same_name q (part_name part n).0))
 
 -- what other routines pass answers for none of one
@@ -188,7 +188,7 @@ abbrev up_to : List Line → List Line
 up_to [] = []
 up_to (l ∷ later) = l ∷ take_while line_lacks later
 
-abbrev name_in : ℕ → Part → List ℕ → NameAt
+abbrev name_in : ℕ → RoutinePart → List ℕ → NameAt
 name_in r part name = (r, part.past, name)
 
 drop_within : (n : ℕ) (lines : List Line) → length (drop n lines) ≤ length lines

@@ -20,7 +20,7 @@ use Rattle.mlk_program.proofs.SharedNames.{received_more, trees_snoc, trees_leng
 use Rattle.mlk_syntax.specs.Trees.{RoutineTree}
 use Rattle.mlk_program.specs.Program.{PlacedCall, calls_from, filled_by, passed_by, lent_by, received_by, received_at, received_with, of_entry, called_formals, is_by_reference, passed_with}
 use Rattle.mlk_program.specs.Frames.{NameAt, Kept, same_name, is_kept, is_passed, answers, Learns, LearnsCalls, entry_name, formal_name, fillings, part_name, passings, passed_at, passed_by_list, filled_at, filled_by_list, filled_in, formals_of_entry, formals_known, passed_in_lines, passed_from}
-use Rattle.mlk_program.specs.declared.part.Part.{Part}
+use Rattle.mlk_program.specs.declared.part.RoutinePart.{RoutinePart}
 
 or_moved : (a b c : Bool) → ((a || b) || c) ≡ (a || (b || c))
 or_moved true b c = refl
@@ -70,17 +70,17 @@ fillings_both : (rs : List RoutineTree) (a b : List PlacedCall) → fillings rs 
 fillings_both rs a b = ap (map entry_name) (flat_map-append (filled_by rs) a b)
     ∙ map_append entry_name (flat_map (filled_by rs) a) (flat_map (filled_by rs) b)
 
-passings_both : (part : Part) (a b : List PlacedCall) → passings part (a ++ b) ≡ passings part a ++ passings part b
+passings_both : (part : RoutinePart) (a b : List PlacedCall) → passings part (a ++ b) ≡ passings part a ++ passings part b
 passings_both part a b = ap (map (part_name part)) (flat_map-append passed_by a b)
     ∙ map_append (part_name part) (flat_map passed_by a) (flat_map passed_by b)
 
-pub learns_calls : (rs : List RoutineTree) (part : Part) (a b : List PlacedCall) (old mid new : Kept) → LearnsCalls rs part a old mid
+pub learns_calls : (rs : List RoutineTree) (part : RoutinePart) (a b : List PlacedCall) (old mid new : Kept) → LearnsCalls rs part a old mid
     → LearnsCalls rs part b mid new → LearnsCalls rs part (a ++ b) old new
 learns_calls rs part a b old mid new h k = rw (fillings_both rs a b, passings_both part a b)
     (learns_both (fillings rs a) (fillings rs b) (passings part a) (passings part b) old mid new h k)
 
 -- the calls of one item more
-module _ {A : Type 0} (calls : A → List PlacedCall) (rs : List RoutineTree) (part : Part) (items : List A) (i : ℕ) (x : A)
+module _ {A : Type 0} (calls : A → List PlacedCall) (rs : List RoutineTree) (part : RoutinePart) (items : List A) (i : ℕ) (x : A)
     (low : i < length items) (is : x ≡ get_or items i x) where
   pub learns_next : (old mid new : Kept) → LearnsCalls rs part (flat_map calls (take i items)) old mid
       → LearnsCalls rs part (calls x) mid new → LearnsCalls rs part (flat_map calls (take (i + 1) items)) old new
@@ -115,7 +115,7 @@ none_received (f ∷ formals) (Missing ∷ given) h = none_received formals give
 none_received (f ∷ formals) (ByRef column name ∷ given) h = cc h
 
 -- one actual more
-pub passed_next : (part : Part) (given : List Actual) (i : ℕ) (a : Actual) (old mid new : Kept) → i < length given
+pub passed_next : (part : RoutinePart) (given : List Actual) (i : ℕ) (a : Actual) (old mid new : Kept) → i < length given
     → a ≡ get_or given i a → Learns [] (passed_by_list part (actual_trees (take i given))) old mid
     → Learns [] (passed_at part (actual_of a)) mid new → Learns [] (passed_by_list part (actual_trees (take (i + 1) given))) old new
 passed_next part given i a old mid new low is h k =
@@ -201,7 +201,7 @@ any_actual : (given : List Actual) → list_any is_by_reference (actual_trees gi
 any_actual [] = refl
 any_actual (a ∷ given) = ap (λ b. is_by_reference (actual_of a) || b) (any_actual given)
 
-module _ (rs : List RoutineTree) (part : Part) (line : ℕ) (site : CallSite) where
+module _ (rs : List RoutineTree) (part : RoutinePart) (line : ℕ) (site : CallSite) where
   abbrev called : Option (Option (List (List ℕ)))
   called = called_formals rs part.routine site.callee.now
 

@@ -8,7 +8,7 @@ use Rattle.mlk_syntax.specs.declared.routine.Line.{Line}
 use Rattle.mlk_syntax.specs.declared.routine.Routine.{Routine}
 use Rattle.mlk_syntax.specs.Trees.{RoutineTree}
 use Rattle.mlk_program.specs.declared.entry.EntryId.{EntryId}
-use Rattle.mlk_program.specs.declared.part.Part.{Part}
+use Rattle.mlk_program.specs.declared.part.RoutinePart.{RoutinePart}
 use Rattle.mlk_program.specs.declared.frames.NameAt.{NameAt as Key}
 use Rattle.mlk_program.specs.Entries.{target_of, line_of_entry, formals_of}
 use Rattle.mlk_program.specs.Program.{PlacedCall, filled_by, passed_by, lent_by, received_by, received_at, received_with, of_entry, called_formals}
@@ -90,19 +90,19 @@ filled_in routines own callee given = map entry_name
 abbrev pub fillings : List RoutineTree → List PlacedCall → List NameAt
 fillings routines calls = map entry_name (flat_map (filled_by routines) calls)
 
-abbrev pub part_name : Part → List ℕ → NameAt × ℕ
+abbrev pub part_name : RoutinePart → List ℕ → NameAt × ℕ
 part_name part name = ((part.routine, part.past, name), part.left)
 
-abbrev pub passed_at : Part → ActualTree → List (NameAt × ℕ)
+abbrev pub passed_at : RoutinePart → ActualTree → List (NameAt × ℕ)
 passed_at part a = map (part_name part) (lent_by a)
 
-abbrev pub passed_by_list : Part → List ActualTree → List (NameAt × ℕ)
+abbrev pub passed_by_list : RoutinePart → List ActualTree → List (NameAt × ℕ)
 passed_by_list part given = map (part_name part) (flat_map lent_by given)
 
-abbrev pub passings : Part → List PlacedCall → List (NameAt × ℕ)
+abbrev pub passings : RoutinePart → List PlacedCall → List (NameAt × ℕ)
 passings part calls = map (part_name part) (flat_map passed_by calls)
 
-abbrev pub LearnsCalls : List RoutineTree → Part → List PlacedCall → Kept → Kept → Type 0
+abbrev pub LearnsCalls : List RoutineTree → RoutinePart → List PlacedCall → Kept → Kept → Type 0
 LearnsCalls routines part calls old new = Learns (fillings routines calls) (passings part calls) old new
 
 -- How many lines come after a part, of which these lines are what follows one of it.
@@ -110,7 +110,7 @@ abbrev pub past_of : List Line → ℕ
 past_of [] = 0
 past_of (l ∷ later) = if line_lacks l then past_of later else suc (length later)
 
-abbrev pub part_at : ℕ → List Line → Part
+abbrev pub part_at : ℕ → List Line → RoutinePart
 part_at r later = record { routine = r; past = past_of later; left = suc (length later) }
 
 -- what all calls in the lines of a routine fill and pass, and in those of routines, from this one on
@@ -127,9 +127,9 @@ abbrev pub lines_left_in : ℕ → Option Routine → List Line
 lines_left_in n None = []
 lines_left_in n (Some routine) = drop n routine.lines.items
 
-abbrev pub part_with : ℕ → List Line → Part
+abbrev pub part_with : ℕ → List Line → RoutinePart
 part_with r [] = record { routine = r; past = 0; left = 0 }
 part_with r (l ∷ later) = part_at r later
 
-abbrev pub part_of : List Routine → EntryId → Part
+abbrev pub part_of : List Routine → EntryId → RoutinePart
 part_of routines e = part_with e.routine (lines_left_in e.line (slice_get routines e.routine))

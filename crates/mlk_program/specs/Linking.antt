@@ -1,20 +1,12 @@
 -- What linking keeps on its way through the routines. For private clauses alone. This project's own.
 use Rattle.std.specs.Prelude.{ℕ, ◌≡◌, ◌||◌, List, [], ◌∷◌, ◌++◌, flat_map, bytes_eq}
 use Rattle.std.specs.List.{list_any}
-use Rattle.mlk_text.specs.declared.failure.Failure.{Failure}
-use Rattle.mlk_text.specs.declared.failure.Failure.TheVariants.{OutOfMemory, Refused}
-use Rattle.mlk_text.specs.declared.fault.Fault.{Fault}
 use Rattle.mlk_syntax.specs.declared.routine.Line.{Line}
 use Rattle.mlk_syntax.specs.Views.{line_of}
 use Rattle.mlk_syntax.specs.Trees.{RoutineTree}
 use Rattle.mlk_program.specs.declared.call.CallSite.{CallSite}
 use Rattle.mlk_program.specs.Found.{site_of}
 use Rattle.mlk_program.specs.Program.{PlacedCall, AreResolved, shared_by, placed, calls_in}
-
--- what holds of a refusal, unless memory ran out
-abbrev pub IfRefused : Failure Fault → (Fault → Type 0) → Type 0
-IfRefused OutOfMemory P = Unit {0}
-IfRefused (Refused fault) P = P fault
 
 -- these names are added
 abbrev pub Gains : List (List ℕ) → List (List ℕ) → List (List ℕ) → Type 0

@@ -7,8 +7,8 @@ ghost use Rattle.mlk_program.specs.Frames.{part_of};
 ghost use Rattle.mlk_program.specs.Tables.{trees, AreTables, AreLater, first_of, later_lines, later_of};
 
 use crate::entry::EntryId;
-use crate::part::Part;
-use crate::table::Table;
+use crate::part::RoutinePart;
+use crate::table::NamePlaces;
 use mlk_syntax::{Callee, Line, Routine};
 use mlk_text::{Name, spelling};
 use std::alloc::{AllocError, Global};
@@ -18,8 +18,8 @@ use std::marker::Model;
 #[derive(Drop)]
 pub(crate) struct Directory<'a> {
     routines: &'a [Routine],
-    names: Table<'a>,
-    labels: Vec<Table<'a>>,
+    names: NamePlaces<'a>,
+    labels: Vec<NamePlaces<'a>>,
     /// of each line of each routine, how many of its entry come after it
     later: Vec<Vec<usize>>,
 }
@@ -43,12 +43,15 @@ impl<'a> Model for Directory<'a> {
 }
 
 // The tables of the routines' labels.
-fn label_tables<'a>(alloc: Global, routines: &'a [Routine]) -> Result<Vec<Table<'a>>, AllocError>
+fn label_tables<'a>(
+    alloc: Global,
+    routines: &'a [Routine],
+) -> Result<Vec<NamePlaces<'a>>, AllocError>
     ensures { IfOk result (λ v. AreTables routines.now v.items) }
 {
     let mut tables = Vec::new(alloc);
     for routine in routines {
-        let Ok(()) = tables.push(Table::of(alloc, routine.lines.as_slice())?) else {
+        let Ok(()) = tables.push(NamePlaces::of(alloc, routine.lines.as_slice())?) else {
             return Err(AllocError);
         };
     }
@@ -148,7 +151,7 @@ impl<'a> Directory<'a> {
     {
         Ok(Directory {
             routines,
-            names: Table::of(alloc, routines)?,
+            names: NamePlaces::of(alloc, routines)?,
             labels: label_tables(alloc, routines)?,
             later: later_in_routines(alloc, routines)?,
         })
@@ -276,10 +279,10 @@ impl<'a> Directory<'a> {
 
     /// The part of an entry's line.
     #[tactic(auto, using(crate::proofs::EntryParts::part_some, crate::proofs::EntryParts::part_none, crate::proofs::EntryParts::part_past, crate::proofs::EntryParts::part_counted))]
-    pub(crate) fn part_of(&self, entry: EntryId) -> Part
+    pub(crate) fn part_of(&self, entry: EntryId) -> RoutinePart
         ensures { result ≡ part_of self.now entry }
     {
-        let none = Part {
+        let none = RoutinePart {
             routine: entry.routine,
             past: 0,
             left: 0,
@@ -294,7 +297,7 @@ impl<'a> Directory<'a> {
         let Some(later) = self.later(entry) else {
             return none;
         };
-        Part {
+        RoutinePart {
             routine: entry.routine,
             past: lines_after(others, later).len(),
             left: left.len(),

@@ -1,7 +1,7 @@
 // Why routines make no program.
 
+ghost use Rattle.mlk_text.specs.Failures.{IfRefused};
 ghost use Rattle.mlk_program.specs.Program.{IsFaultAt};
-ghost use Rattle.mlk_program.specs.Linking.{IfRefused};
 
 use mlk_text::{Code, Column, Failure, Fault, LineNumber, Name, Place, Value};
 use std::alloc::Global;

@@ -14,7 +14,7 @@ use crate::call::CallSite;
 use crate::directory::{Directory, item, lacks_formals};
 use crate::entry::EntryId;
 use crate::found::in_commands;
-use crate::part::Part;
+use crate::part::RoutinePart;
 use indexmap::{IndexMap, IndexSet};
 use mlk_syntax::{Actual, Line, Routine};
 use mlk_text::{LineNumber, Name};
@@ -118,7 +118,7 @@ impl<'a> Frames<'a> {
     }
 
     /// Whether a name is passed in a line, or a later one of its part. It takes no memory.
-    pub(crate) fn has_passed(&self, part: Part, name: &[u8]) -> bool
+    pub(crate) fn has_passed(&self, part: RoutinePart, name: &[u8]) -> bool
         ensures { result ≡ is_passed self.now.1 (part.routine, part.past, name.now) part.left }
     {
         let key = NameAt {
@@ -146,7 +146,7 @@ impl<'a> Frames<'a> {
         Ok(())
     }
 
-    fn pass(&mut self, part: Part, name: &'a [u8]) -> Result<(), AllocError>
+    fn pass(&mut self, part: RoutinePart, name: &'a [u8]) -> Result<(), AllocError>
         ensures { OnOk result
             (Learns [] (((part.routine, part.past, name.now), part.left) ∷ []) self.old self.new) }
     {
@@ -165,7 +165,11 @@ impl<'a> Frames<'a> {
     }
 }
 
-fn pass_by<'a>(frames: &mut Frames<'a>, part: Part, actual: &'a Actual) -> Result<(), AllocError>
+fn pass_by<'a>(
+    frames: &mut Frames<'a>,
+    part: RoutinePart,
+    actual: &'a Actual,
+) -> Result<(), AllocError>
     ensures { OnOk result (Learns [] (passed_at part (actual_of actual.now)) frames.old frames.new) }
 {
     match actual {
@@ -190,7 +194,11 @@ fn fill_by<'a>(
 }
 
 // Adds the names that an actual list passes in a line of a part.
-fn pass_all<'a>(frames: &mut Frames<'a>, part: Part, given: &'a [Actual]) -> Result<(), AllocError>
+fn pass_all<'a>(
+    frames: &mut Frames<'a>,
+    part: RoutinePart,
+    given: &'a [Actual],
+) -> Result<(), AllocError>
     ensures { OnOk result (Learns [] (passed_by_list part (actual_trees given.now)) frames.old frames.new) }
 {
     for actual in given {
@@ -242,7 +250,7 @@ fn fill_called<'a>(
 fn add_call<'a>(
     frames: &mut Frames<'a>,
     directory: &Directory<'a>,
-    part: Part,
+    part: RoutinePart,
     line: LineNumber,
     site: &CallSite<'a>,
 ) -> Result<(), AllocError>
@@ -262,7 +270,7 @@ fn add_call<'a>(
 fn add_calls<'a>(
     frames: &mut Frames<'a>,
     directory: &Directory<'a>,
-    part: Part,
+    part: RoutinePart,
     line: LineNumber,
     found: &[CallSite<'a>],
 ) -> Result<(), AllocError>
@@ -282,7 +290,7 @@ fn add_line<'a>(
     frames: &mut Frames<'a>,
     alloc: Global,
     directory: &Directory<'a>,
-    part: Part,
+    part: RoutinePart,
     line: &'a Line,
 ) -> Result<(), AllocError>
     ensures { OnOk result (LearnsCalls (trees directory.now) part (placed_in part.routine line.now)
@@ -300,7 +308,7 @@ fn add_block<'a>(
     frames: &mut Frames<'a>,
     alloc: Global,
     directory: &Directory<'a>,
-    part: Part,
+    part: RoutinePart,
     lines: &'a [Line],
 ) -> Result<(), AllocError>
     ensures { OnOk result (LearnsCalls (trees directory.now) part (flat_map (placed_in part.routine) lines.now)
@@ -326,7 +334,7 @@ fn add_lines<'a>(
     let mut left = lines;
     let mut past: usize = 0;
     while let Some((line, before)) = left.split_last() {
-        let part = Part {
+        let part = RoutinePart {
             routine,
             past,
             left: lines.len() - before.len(),

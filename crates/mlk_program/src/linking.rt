@@ -1,6 +1,7 @@
 // Linking.
 
 ghost use Rattle.std.specs.Prelude.{◌≡◌, flat_map, IfOk, OnOk, IfErr, Some, None, true, map, not, option_map};
+ghost use Rattle.mlk_text.specs.Failures.{IfRefused};
 ghost use Rattle.mlk_syntax.specs.ExprTrees.{actual_trees};
 ghost use Rattle.mlk_syntax.specs.Views.{line_of, routine_of};
 ghost use Rattle.mlk_syntax.specs.Distinct.{AreDistinct};
@@ -8,7 +9,7 @@ ghost use Rattle.mlk_program.specs.Entries.{name_of, entries_among, formals_of};
 ghost use Rattle.mlk_program.specs.Program.{takes, called_formals, call_fault, shared_by, AreTooMany, IsTwice, IsPastLimit, IsCallFault, IsFirstFault, calls_of, shared_with, name_at, IsProgram, IsLinkFault};
 ghost use Rattle.mlk_program.specs.Found.{site_of, given_of};
 ghost use Rattle.mlk_program.specs.Tables.{trees};
-ghost use Rattle.mlk_program.specs.Linking.{IfRefused, Gains, Links, placed_at, placed_in};
+ghost use Rattle.mlk_program.specs.Linking.{Gains, Links, placed_at, placed_in};
 
 use crate::call::CallSite;
 use crate::directory::Directory;
@@ -16,7 +17,7 @@ use crate::fault::refusal;
 use crate::found::in_commands;
 use crate::frames::Frames;
 use crate::program::Program;
-use crate::shared::Shared;
+use crate::shared::SharedNames;
 use mlk_syntax::{Actual, Callee, Line, Rare, Routine};
 use mlk_text::{Code, Column, Failure, Fault, LineNumber, List, Name};
 use std::alloc::{AllocError, Global};
@@ -132,7 +133,7 @@ fn fitting_formals<'a>(
 
 // Adds the names that an actual list shares with these formals.
 fn share<'a>(
-    shared: &mut Shared<'a>,
+    shared: &mut SharedNames<'a>,
     formals: &'a Rare<List<Name>>,
     actuals: &'a Option<Vec<Actual>>,
 ) -> Result<(), AllocError>
@@ -155,7 +156,7 @@ fn link_call<'a>(
     directory: &Directory<'a>,
     at: &At<'a>,
     site: &CallSite<'a>,
-    shared: &mut Shared<'a>,
+    shared: &mut SharedNames<'a>,
 ) -> Result<(), Failure<Fault>>
     requires { name_at (trees directory.now) at.now.routine ≡ at.now.name.now }
     ensures ok { OnOk result (Links (trees directory.now) (placed_at at.now.routine at.now.line site.now)
@@ -174,7 +175,7 @@ fn link_calls<'a>(
     directory: &Directory<'a>,
     at: &At<'a>,
     found: &[CallSite<'a>],
-    shared: &mut Shared<'a>,
+    shared: &mut SharedNames<'a>,
 ) -> Result<(), Failure<Fault>>
     requires { name_at (trees directory.now) at.now.routine ≡ at.now.name.now }
     ensures ok { OnOk result (Links (trees directory.now) (flat_map (placed_at at.now.routine at.now.line) found.now)
@@ -197,7 +198,7 @@ fn link_line<'a>(
     routine: usize,
     name: &'a Name,
     line: &'a Line,
-    shared: &mut Shared<'a>,
+    shared: &mut SharedNames<'a>,
 ) -> Result<(), Failure<Fault>>
     requires { name_at (trees directory.now) routine ≡ name.now }
     ensures ok { OnOk result (Links (trees directory.now) (placed_in routine line.now) shared.old shared.new) }
@@ -231,7 +232,7 @@ fn link_lines<'a>(
     routine: usize,
     name: &'a Name,
     lines: &'a [Line],
-    shared: &mut Shared<'a>,
+    shared: &mut SharedNames<'a>,
 ) -> Result<(), Failure<Fault>>
     requires { name_at (trees directory.now) routine ≡ name.now }
     ensures ok { OnOk result (Links (trees directory.now) (flat_map (placed_in routine) lines.now)
@@ -249,7 +250,7 @@ fn link_lines<'a>(
 fn link_routines<'a>(
     alloc: Global,
     directory: &Directory<'a>,
-    shared: &mut Shared<'a>,
+    shared: &mut SharedNames<'a>,
 ) -> Result<(), Failure<Fault>>
     ensures ok { OnOk result (Links (trees directory.now) (calls_of (trees directory.now)) shared.old shared.new) }
     ensures refused { IfErr result (λ e. IfRefused e (IsFirstFault (trees directory.now)
@@ -280,7 +281,7 @@ pub fn link<'a>(alloc: Global, routines: &'a [Routine]) -> Result<Program<'a>, F
     let directory = Directory::of(alloc, routines)?;
     check_distinct(alloc, &directory)?;
     check_limits(alloc, routines)?;
-    let mut shared = Shared::new(alloc);
+    let mut shared = SharedNames::new(alloc);
     link_routines(alloc, &directory, &mut shared)?;
     let frames = Frames::of(alloc, &directory)?;
     Ok(Program {

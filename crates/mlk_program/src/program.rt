@@ -8,7 +8,7 @@ ghost use Rattle.mlk_program.specs.Program.{is_shared, is_shared_in};
 use crate::directory::Directory;
 use crate::entry::EntryId;
 use crate::frames::Frames;
-use crate::shared::Shared;
+use crate::shared::SharedNames;
 use mlk_syntax::{Callee, Line, Routine};
 use mlk_text::Name;
 use std::alloc::{AllocError, Global};
@@ -18,7 +18,7 @@ use std::marker::Model;
 #[derive(Drop)]
 pub struct Program<'a> {
     pub(crate) directory: Directory<'a>,
-    pub(crate) shared: Shared<'a>,
+    pub(crate) shared: SharedNames<'a>,
     pub(crate) frames: Frames<'a>,
 }
 

@@ -15,11 +15,11 @@ use std::marker::Model;
 
 /// Names that some call passes by reference, and formals that receive one.
 #[derive(Drop)]
-pub(crate) struct Shared<'a> {
+pub(crate) struct SharedNames<'a> {
     names: IndexSet<&'a [u8]>,
 }
 
-impl<'a> Model for Shared<'a> {
+impl<'a> Model for SharedNames<'a> {
     ghost use Rattle.std.specs.Prelude.{List, ℕ, map};
 
     ghost Value = { List (List ℕ) };
@@ -27,11 +27,11 @@ impl<'a> Model for Shared<'a> {
     ghost view = { λ s. map (λ k. k.now) s.names.keys };
 }
 
-impl<'a> Shared<'a> {
-    pub(crate) fn new(alloc: Global) -> Shared<'a>
+impl<'a> SharedNames<'a> {
+    pub(crate) fn new(alloc: Global) -> SharedNames<'a>
         ensures { result ≡ [] }
     {
-        Shared {
+        SharedNames {
             names: IndexSet::new(alloc),
         }
     }

@@ -44,11 +44,11 @@ impl Labelled for Line {
 
 /// Names, each with the place of the first item that has it, counted from 0.
 #[derive(Drop)]
-pub(crate) struct Table<'a> {
+pub(crate) struct NamePlaces<'a> {
     places: IndexMap<&'a [u8], usize>,
 }
 
-impl<'a> Model for Table<'a> {
+impl<'a> Model for NamePlaces<'a> {
     ghost use Rattle.std.specs.Prelude.{List, ℕ, map};
 
     ghost Value = { List (List ℕ × ℕ) };
@@ -56,11 +56,11 @@ impl<'a> Model for Table<'a> {
     ghost view = { λ t. map (λ p. (p.0.now, p.1)) t.places.entries };
 }
 
-impl<'a> Table<'a> {
-    fn new(alloc: Global) -> Table<'a>
+impl<'a> NamePlaces<'a> {
+    fn new(alloc: Global) -> NamePlaces<'a>
         ensures { result ≡ [] }
     {
-        Table {
+        NamePlaces {
             places: IndexMap::new(alloc),
         }
     }
@@ -96,10 +96,13 @@ impl<'a> Table<'a> {
     }
 
     /// The table of these items.
-    pub(crate) fn of<T: Labelled>(alloc: Global, items: &'a [T]) -> Result<Table<'a>, AllocError>
+    pub(crate) fn of<T: Labelled>(
+        alloc: Global,
+        items: &'a [T],
+    ) -> Result<NamePlaces<'a>, AllocError>
         ensures { IfOk result (IsTableOf T.label items.now) }
     {
-        let mut table = Table::new(alloc);
+        let mut table = NamePlaces::new(alloc);
         for (i, item) in items.iter().enumerate() {
             table.add_label(item, i)?;
         }

@@ -16,7 +16,7 @@ use Rattle.mlk_routine_arguments.specs.Ends.{is_stop, is_bare_end, StopEnds}
 use Rattle.mlk_routine_arguments.specs.CommandWords.{has_any}
 use Rattle.mlk_routine_arguments.specs.CommandGrammar.{IsValue, ArePerhaps, IsQuit, AreArgumentsOf}
 use Rattle.mlk_routine_arguments.specs.Begins.{front_begins, expr_begins}
-use Rattle.mlk_expr.specs.declared.scope.Allows.TheVariants.{Everything}
+use Rattle.mlk_expr.specs.declared.context.Allows.TheVariants.{Everything}
 use Rattle.mlk_routine_arguments.specs.Kinds.{kind, halts_or_hangs, Means, IsActionOf, ActionEnds, halting}
 use Rattle.mlk_routine_arguments.proofs.Bytes.{AfterByte}
 use Rattle.mlk_routine_arguments.proofs.Sequences.{Turned}

@@ -6,11 +6,12 @@ use Rattle.std.specs.Borrow.{Bor}
 use Rattle.mlk_text.specs.declared.failure.Failure.{Failure}
 use Rattle.mlk_text.specs.declared.failure.Failure.TheVariants.{OutOfMemory, Refused}
 use Rattle.mlk_text.specs.declared.fault.Fault.{Fault}
+use Rattle.mlk_text.specs.Failures.{IfRefused}
 use Rattle.mlk_routine.specs.declared.line.Before.{Before}
 use Rattle.mlk_syntax.specs.Trees.{HeadTree, LineHead}
 use Rattle.mlk_routine_arguments.specs.Told.{IsRefusal}
 use Rattle.mlk_routine_arguments.specs.Faults.{IsLineFault}
-use Rattle.mlk_routine.specs.Refusals.{IfRefused, IsOfLine}
+use Rattle.mlk_routine.specs.Refusals.{IsOfLine}
 use Rattle.mlk_routine.specs.RoutineGrammar.{AreLines, IsLine, labels_of, level_of, reaches, is_line_byte}
 use Rattle.mlk_syntax.specs.Distinct.{AreDistinct}
 use Rattle.mlk_routine.specs.Lines.{has_name, label_of, is_in, is_labelled, FitsAfter, IsLineOnly, IsWithLine, NoLine, Follow, AllPlain, AreHeads, AreHeadsOnly, NoHeads, texts_of}

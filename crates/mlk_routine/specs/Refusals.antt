@@ -7,6 +7,7 @@ use Rattle.mlk_text.specs.declared.code.Code.TheVariants.{RoutineName, TooLarge}
 use Rattle.mlk_text.specs.declared.failure.Failure.{Failure}
 use Rattle.mlk_text.specs.declared.failure.Failure.TheVariants.{OutOfMemory, Refused}
 use Rattle.mlk_text.specs.declared.fault.Fault.{Fault}
+use Rattle.mlk_text.specs.Failures.{IfRefused}
 use Rattle.mlk_routine_arguments.specs.Faults.{IsLineFault}
 use Rattle.mlk_syntax.specs.Trees.{RoutineTree}
 use Rattle.mlk_routine.specs.RoutineGrammar.{percent, IsRoutine}
@@ -15,11 +16,6 @@ use Rattle.mlk_routine.specs.RoutineGrammar.{percent, IsRoutine}
 abbrev pub NoRoutine : List ℕ → List ℕ → Failure Fault → Type 0
 NoRoutine stem text OutOfMemory = Unit {0}
 NoRoutine stem text (Refused fault) = (tree : RoutineTree) → IsRoutine stem tree text → ⊥
-
--- what holds of a refusal, unless memory ran out
-abbrev pub IfRefused : Failure Fault → (Fault → Type 0) → Type 0
-IfRefused OutOfMemory P = Unit {0}
-IfRefused (Refused fault) P = P fault
 
 -- A fault of this code, at the first byte of the routine of this name.
 pub record IsOfWhole (code : Code) (routine : List ℕ) (fault : Fault) : Type 0 where

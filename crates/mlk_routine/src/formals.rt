@@ -8,7 +8,7 @@ ghost use Rattle.mlk_routine_arguments.specs.Faults.{IsLineFault, IsFaulty};
 ghost use Rattle.mlk_routine_arguments.specs.Ends.{AnyEnds};
 ghost use Rattle.mlk_routine.specs.Lines.{has_name, IsUnseen, IsFormalList};
 
-use crate::seen::Seen;
+use crate::seen::SeenNames;
 use mlk_expr::read_name;
 use mlk_routine_arguments::{has, other_form, refused};
 use mlk_text::{Code, Failure, Fault, List, Name};
@@ -41,7 +41,7 @@ fn name(alloc: Global, line: &[u8], at: usize) -> Result<(Name, usize), Failure<
 // The formal here, which is none of those seen, and the byte after it.
 fn formal<'a>(
     alloc: Global,
-    seen: &mut Seen<'a>,
+    seen: &mut SeenNames<'a>,
     line: &'a [u8],
     at: usize,
 ) -> Result<(Name, usize), Failure<Fault>>
@@ -73,7 +73,7 @@ pub(crate) fn formals(
     if has(line, at + 1, b')') {
         return Ok((names, at + 2));
     }
-    let mut seen = Seen::new(alloc);
+    let mut seen = SeenNames::new(alloc);
     let mut next = at + 1;
     loop {
         let (name, end) = formal(alloc, &mut seen, line, next)?;

@@ -12,7 +12,7 @@ ghost use Rattle.mlk_routine.specs.Lines.{FitsAfter, head_of, IsLineOnly, IsWith
 use crate::front::{Front, before_commands};
 use crate::label::label;
 use crate::reach::reaches_block;
-use crate::seen::Seen;
+use crate::seen::SeenNames;
 use crate::tail::tail;
 use bstr::ByteSlice;
 use mlk_routine_arguments::refused;
@@ -25,7 +25,7 @@ const MOST_LEVELS: usize = 15;
 /// What is known of the lines before a line.
 #[derive(Drop)]
 pub(crate) struct Before<'a> {
-    labels: Seen<'a>,
+    labels: SeenNames<'a>,
     /// the level of the last one, 0 where there is none
     level: usize,
     /// whether a DO without arguments stands on the last one
@@ -40,7 +40,7 @@ impl<'a> Before<'a> {
         ensures reaches { result.reaches ≡ true }
     {
         Before {
-            labels: Seen::new(alloc),
+            labels: SeenNames::new(alloc),
             level: 0,
             reaches: true,
         }

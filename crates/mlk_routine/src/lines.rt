@@ -1,9 +1,10 @@
 // The lines of a text, as they follow each other.
 
 ghost use Rattle.std.specs.Prelude.{◌≤◌, map, length, IfOk, IfErr};
+ghost use Rattle.mlk_text.specs.Failures.{IfRefused};
 ghost use Rattle.mlk_routine_arguments.specs.Told.{IsRefusal};
 ghost use Rattle.mlk_routine.specs.Lines.{head_of, AreHeadsOnly, NoHeads, texts_of};
-ghost use Rattle.mlk_routine.specs.Refusals.{IfRefused, IsOfLine};
+ghost use Rattle.mlk_routine.specs.Refusals.{IsOfLine};
 
 use crate::line::{Before, line};
 use crate::place::in_line;

@@ -1,9 +1,10 @@
 // Why a routine was not read, and where.
 
 ghost use Rattle.std.specs.Prelude.{◌≡◌};
+ghost use Rattle.mlk_text.specs.Failures.{IfRefused};
 ghost use Rattle.mlk_routine_arguments.specs.Told.{IsRefusal};
 ghost use Rattle.mlk_routine_arguments.specs.Faults.{IsLineFault, IsFaulty};
-ghost use Rattle.mlk_routine.specs.Refusals.{IfRefused, IsOfWhole};
+ghost use Rattle.mlk_routine.specs.Refusals.{IsOfWhole};
 
 use mlk_text::{Code, Column, Failure, Fault, LeftOut, LineNumber, Place, Value};
 use std::alloc::Global;

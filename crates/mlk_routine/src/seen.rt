@@ -8,16 +8,16 @@ use std::collections::HashSet;
 
 /// Names that stood before, as the text has them.
 #[derive(Drop)]
-pub(crate) struct Seen<'a> {
+pub(crate) struct SeenNames<'a> {
     texts: HashSet<&'a [u8]>,
 }
 
-impl<'a> Seen<'a> {
+impl<'a> SeenNames<'a> {
     /// No names.
-    pub(crate) fn new(alloc: Global) -> Seen<'a>
+    pub(crate) fn new(alloc: Global) -> SeenNames<'a>
         ensures { (q : List ℕ) → has_name q result.texts.keys ≡ false }
     {
-        Seen {
+        SeenNames {
             texts: HashSet::new(alloc),
         }
     }

@@ -7,13 +7,13 @@ use Rattle.mlk_text.specs.declared.failure.Failure.{Failure}
 use Rattle.mlk_text.specs.declared.failure.Failure.TheVariants.{OutOfMemory, Refused}
 use Rattle.mlk_text.specs.declared.fault.Fault.{Fault}
 use Rattle.mlk_text.specs.Lexemes.{is_digit}
-use Rattle.mlk_expr.specs.declared.scope.Allows.TheVariants.{Everything, NoTouches}
-use Rattle.mlk_expr.specs.declared.scope.Passing.TheVariants.{ByReference}
+use Rattle.mlk_expr.specs.declared.context.Allows.TheVariants.{Everything, NoTouches}
+use Rattle.mlk_expr.specs.declared.context.Passing.TheVariants.{ByReference}
 use Rattle.mlk_syntax.specs.declared.expr.Callee.{Callee}
 use Rattle.mlk_syntax.specs.ExprTrees.{Tree, Free, ActualTree}
 use Rattle.mlk_expr.specs.Grammar.{Spelled, IsExprWhere}
 use Rattle.mlk_expr.specs.Theorem.{Stands, ExprEnds, label_ends, callee_ends}
-use Rattle.mlk_expr.proofs.Scopes.{given-anything}
+use Rattle.mlk_expr.proofs.Contexts.{given-anything}
 use Rattle.mlk_syntax.specs.Trees.{CallTree, Called, DoTree, DoCall}
 use Rattle.mlk_routine_arguments.specs.Told.{Found, Nowhere, Denied, first_of, byte_at}
 use Rattle.mlk_routine_arguments.specs.Ends.{Lacks, CallEnds, DoEnds}

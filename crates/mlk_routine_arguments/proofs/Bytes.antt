@@ -1,7 +1,7 @@
 -- A byte at a place, and what stands after it.
 use Rattle.std.proofs.Common.{◌≡◌, ◌<◌, ◌+◌, ℕ, zero, suc, List, [], ◌∷◌, ◌++◌, length, drop, Some, None, refl, sym, ap, ◌∙◌, arith, subst, add-one, length-drop}
 use Rattle.std.specs.Prelude.{Option}
-use Rattle.mlk_expr.specs.declared.scope.Allows.{Allows}
+use Rattle.mlk_expr.specs.declared.context.Allows.{Allows}
 use Rattle.mlk_syntax.specs.ExprTrees.{Tree}
 use Rattle.mlk_expr.specs.Grammar.{Spelled, IsExprWhere}
 use Rattle.mlk_expr.specs.Theorem.{Stands, ExprEnds}

@@ -7,7 +7,7 @@ use Rattle.mlk_text.specs.declared.fault.Fault.{Fault}
 use Rattle.mlk_text.specs.Lexemes.{is_letter}
 use Rattle.mlk_text.specs.Spellings.{IsName}
 use Rattle.mlk_text.proofs.Spelled.{name-parts}
-use Rattle.mlk_expr.specs.declared.scope.Allows.TheVariants.{Everything}
+use Rattle.mlk_expr.specs.declared.context.Allows.TheVariants.{Everything}
 use Rattle.mlk_syntax.specs.ExprTrees.{Tree, Lit, Free, LocalName, GlobalName, SpecialName, Prefixed, Chain, PatternText, Func, Selected, BareCall, CallOf}
 use Rattle.mlk_expr_tokens.specs.Lexemes.{starts_reference}
 use Rattle.mlk_expr.specs.Grammar.{IsPlain, IsPattern, IsAtom, IsReference}

@@ -2,8 +2,8 @@
 use Rattle.std.proofs.Common.{◌≡◌, ◌≤◌, ◌+◌, ℕ, suc, List, [], ◌∷◌, ◌++◌, length, drop, Some, None, true, false, inl, inr, refl, sym, ap, ◌∙◌, arith, subst, add-one}
 use Rattle.std.specs.Prelude.{Option, ◌⊎◌}
 use Rattle.std.proofs.lemmas.Option.{same_Some}
-use Rattle.mlk_expr.specs.declared.scope.Allows.{Allows}
-use Rattle.mlk_expr.specs.declared.scope.Allows.TheVariants.{Everything, NoTouches, NoCalls}
+use Rattle.mlk_expr.specs.declared.context.Allows.{Allows}
+use Rattle.mlk_expr.specs.declared.context.Allows.TheVariants.{Everything, NoTouches, NoCalls}
 use Rattle.mlk_syntax.specs.ExprTrees.{Tree}
 use Rattle.mlk_expr_tokens.specs.Lexemes.{starts_reference}
 use Rattle.mlk_expr.specs.Grammar.{IsExprWhere}

@@ -3,7 +3,7 @@ use Rattle.mlk_text.proofs.Spelled.{name-parts}
 use Rattle.std.proofs.Common.{◌≡◌, ◌+◌, ℕ, suc, List, [], ◌∷◌, ◌++◌, length, drop, Some, Bool, true, false, refl, sym, ap, ◌∙◌, arith, subst}
 use Rattle.std.specs.Prelude.{◌||◌, ◌==◌}
 use Rattle.std.proofs.lemmas.Option.{same_Some}
-use Rattle.mlk_expr.specs.declared.scope.Allows.TheVariants.{Everything, NoCalls}
+use Rattle.mlk_expr.specs.declared.context.Allows.TheVariants.{Everything, NoCalls}
 use Rattle.mlk_expr_tokens.specs.Lexemes.{starts_reference}
 use Rattle.mlk_expr.specs.Grammar.{IsNameText}
 use Rattle.mlk_syntax.specs.Trees.{VariableTree, KillTree, KillOne, KillAllBut, MergeTree, MergeInto, NewTree, NewOne, NewAllBut}

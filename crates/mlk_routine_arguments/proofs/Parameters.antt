@@ -1,7 +1,7 @@
 -- The parameters of FOR.
 use Rattle.std.proofs.Common.{◌≡◌, ◌≤◌, ◌+◌, ℕ, suc, List, [], ◌∷◌, ◌++◌, length, Some, None, refl, sym, ap, ◌∙◌, arith, subst, append-nil}
 use Rattle.std.specs.Prelude.{Option}
-use Rattle.mlk_expr.specs.declared.scope.Allows.TheVariants.{Everything}
+use Rattle.mlk_expr.specs.declared.context.Allows.TheVariants.{Everything}
 use Rattle.mlk_expr_tokens.specs.Lexemes.{ends}
 use Rattle.mlk_syntax.specs.ExprTrees.{Tree}
 use Rattle.mlk_expr.specs.Theorem.{Stands, ExprEnds}

@@ -4,10 +4,10 @@ use Rattle.std.proofs.Common.{◌≡◌, ◌<◌, ◌≤◌, ◌+◌, ◌-◌, �
 use Rattle.std.specs.Prelude.{Option}
 use Rattle.std.proofs.lemmas.Bool.{cases_Bool}
 use Rattle.mlk_text.specs.Lexemes.{label_at, name_at}
-use Rattle.mlk_expr.specs.declared.scope.Allows.{Allows}
-use Rattle.mlk_expr.specs.declared.scope.Allows.TheVariants.{Everything, NoCalls, NoTouches}
-use Rattle.mlk_expr.specs.declared.scope.Passing.{Passing}
-use Rattle.mlk_expr.specs.declared.scope.Passing.TheVariants.{ByReference, ByValue}
+use Rattle.mlk_expr.specs.declared.context.Allows.{Allows}
+use Rattle.mlk_expr.specs.declared.context.Allows.TheVariants.{Everything, NoCalls, NoTouches}
+use Rattle.mlk_expr.specs.declared.context.Passing.{Passing}
+use Rattle.mlk_expr.specs.declared.context.Passing.TheVariants.{ByReference, ByValue}
 use Rattle.mlk_syntax.specs.ExprTrees.{Tree, ActualTree}
 use Rattle.mlk_expr.specs.Reading.{expr_at, reference_at, actual_list_at, callee_at}
 use Rattle.mlk_expr.specs.Grammar.{Spelled, IsExpr, IsReference, IsActualList, IsExprWhere, IsReferenceWhere, IsActualListWhere, IsNameText, IsLabelText, IsCalleeText, IsList, AreNext}

@@ -8,7 +8,7 @@ use Rattle.std.proofs.lemmas.Option.{same_Some}
 use Rattle.mlk_text.specs.Lexemes.{is_letter, word_at}
 use Rattle.mlk_text.specs.Spellings.{IsWord}
 use Rattle.mlk_text.proofs.Spelled.{word-reads, word-spelled}
-use Rattle.mlk_expr.specs.declared.scope.Allows.TheVariants.{Everything, NoCalls}
+use Rattle.mlk_expr.specs.declared.context.Allows.TheVariants.{Everything, NoCalls}
 use Rattle.mlk_syntax.specs.ExprTrees.{Tree}
 use Rattle.mlk_expr.specs.Grammar.{IsExprWhere, AreNext, IsList}
 use Rattle.mlk_expr.specs.Theorem.{Stands, ExprEnds}

@@ -6,10 +6,10 @@ use Rattle.std.proofs.lemmas.Bool.{cases_Bool}
 use Rattle.std.proofs.lemmas.Bool.Decides.{nat_tests}
 use Rattle.mlk_text.specs.Lexemes.{is_digit}
 use Rattle.mlk_text.specs.Spellings.{IsName, IsLabel}
-use Rattle.mlk_expr.specs.declared.scope.Allows.{Allows}
-use Rattle.mlk_expr.specs.declared.scope.Allows.TheVariants.{Everything, NoCalls, NoTouches}
-use Rattle.mlk_expr.specs.declared.scope.Passing.{Passing}
-use Rattle.mlk_expr.specs.declared.scope.Passing.TheVariants.{ByReference, ByValue}
+use Rattle.mlk_expr.specs.declared.context.Allows.{Allows}
+use Rattle.mlk_expr.specs.declared.context.Allows.TheVariants.{Everything, NoCalls, NoTouches}
+use Rattle.mlk_expr.specs.declared.context.Passing.{Passing}
+use Rattle.mlk_expr.specs.declared.context.Passing.TheVariants.{ByReference, ByValue}
 use Rattle.mlk_syntax.specs.ExprTrees.{Tree}
 use Rattle.mlk_expr_tokens.specs.Lexemes.{starts_reference}
 use Rattle.mlk_expr.specs.Grammar.{Spelled, IsExpr, IsReference, IsExprWhere, IsNameText, IsCallee}

@@ -4,13 +4,13 @@ use Rattle.mlk_text.specs.Places.{column_at}
 use Rattle.std.specs.Prelude.{ℕ, suc, ◌≡◌, ◌<◌, ◌≤◌, ◌+◌, ◌⊎◌, ◌==◌, ◌&&◌, ◌||◌, is_some, Bool, true, false, List, []}
 use Rattle.std.specs.Prelude.{◌∷◌, ◌++◌, length, Option, Some, None, codes}
 use Rattle.std.specs.List.{list_all}
-use Rattle.mlk_expr.specs.declared.scope.Allows.{Allows}
-use Rattle.mlk_expr.specs.declared.scope.Allows.TheVariants.{Everything, NoCalls, NoTouches}
-use Rattle.mlk_expr.specs.declared.scope.Passing.{Passing}
-use Rattle.mlk_expr.specs.declared.scope.Passing.TheVariants.{ByReference, ByValue}
+use Rattle.mlk_expr.specs.declared.context.Allows.{Allows}
+use Rattle.mlk_expr.specs.declared.context.Allows.TheVariants.{Everything, NoCalls, NoTouches}
+use Rattle.mlk_expr.specs.declared.context.Passing.{Passing}
+use Rattle.mlk_expr.specs.declared.context.Passing.TheVariants.{ByReference, ByValue}
 use Rattle.mlk_syntax.specs.ExprTrees.{Tree, LocalName, ActualTree}
 use Rattle.mlk_expr_tokens.specs.Words.{is_either}
-use Rattle.mlk_expr.specs.Spellings.{IsQuoted}
+use Rattle.mlk_expr.specs.Spellings.{IsStringLiteral}
 use Rattle.mlk_expr.specs.Grammar.{Spelled, IsList, AreNext, IsEnclosed, IsExprWhere, IsReferenceWhere}
 use Rattle.mlk_expr.specs.Grammar.{IsActualListWhere, IsCalleeText, IsNameText}
 use Rattle.mlk_syntax.specs.declared.command.Sign.{Sign}
@@ -148,7 +148,7 @@ IsFormat at (Some t) s = Both (λ n r. list_all is_mark r ≡ true) (After 63 (�
 
 -- Standard: READ. Left out: READ into a global.
 abbrev pub IsRead : ℕ → ReadTree → List ℕ → Type 0
-IsRead at (ReadText prompt) s = IsQuoted prompt s
+IsRead at (ReadText prompt) s = IsStringLiteral prompt s
 IsRead at (ReadFormat tab) s = IsFormat at tab s
 IsRead at (ReadLine v most timeout) s = Both (λ n r. IsLocal n v r)
     (Both (λ n r. IsAfter 35 Everything n most r) (λ n r. IsTimeout NoCalls n timeout r)) at s

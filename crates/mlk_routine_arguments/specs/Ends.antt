@@ -3,7 +3,7 @@ use Rattle.std.specs.Prelude.{ℕ, ◌≡◌, ◌≢◌, ◌⊎◌, ◌==◌, �
 use Rattle.std.specs.Prelude.{Some, None, if◌then◌else◌, ◌++◌}
 use Rattle.std.specs.List.{list_all}
 use Rattle.mlk_syntax.specs.ExprTrees.{Tree, ActualTree}
-use Rattle.mlk_expr.specs.Spellings.{IsQuoted}
+use Rattle.mlk_expr.specs.Spellings.{IsStringLiteral}
 use Rattle.mlk_syntax.specs.declared.expr.Callee.{Callee}
 use Rattle.mlk_expr.specs.Theorem.{ExprEnds, ReferenceEnds, CalleeEnds, LabelEnds}
 use Rattle.mlk_routine_arguments.specs.Told.{first_of}
@@ -167,7 +167,7 @@ CommandEnd (Does column condition action) rest = StopEnds (has_arguments action)
 
 -- a text in quotes, and what may stand after it: no quote
 abbrev pub IsPrompt : ℕ → List ℕ → List ℕ → Type 0
-IsPrompt at prompt s = IsQuoted prompt s
+IsPrompt at prompt s = IsStringLiteral prompt s
 
 abbrev pub PromptEnds : List ℕ → List ℕ → Type 0
 PromptEnds prompt rest = Lacks 34 rest

@@ -4,8 +4,8 @@ ghost use Rattle.std.specs.Prelude.{◌≡◌, ◌≤◌, length, option_map, So
 ghost use Rattle.mlk_syntax.specs.ExprTrees.{actual_trees};
 ghost use Rattle.mlk_expr.specs.Grammar.{IsCalleeText};
 ghost use Rattle.mlk_expr.specs.Theorem.{CalleeEnds};
-ghost use Rattle.mlk_expr.specs.declared.scope.Allows.TheVariants.{Everything, NoTouches};
-ghost use Rattle.mlk_expr.specs.declared.scope.Passing.TheVariants.{ByReference};
+ghost use Rattle.mlk_expr.specs.declared.context.Allows.TheVariants.{Everything, NoTouches};
+ghost use Rattle.mlk_expr.specs.declared.context.Passing.TheVariants.{ByReference};
 ghost use Rattle.mlk_routine_arguments.specs.Told.{Found, Told, byte_at};
 ghost use Rattle.mlk_routine_arguments.specs.Ends.{GivenEnds, CalledEnds, CallEnds, DoEnds, JobEnds};
 ghost use Rattle.mlk_syntax.specs.Views.{call_of, do_of};

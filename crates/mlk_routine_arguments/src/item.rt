@@ -9,7 +9,7 @@ ghost use Rattle.mlk_routine_arguments.specs.CommandGrammar.{AreEnclosed, IsOneO
 ghost use Rattle.mlk_expr.specs.Grammar.{IsList, IsExprWhere, IsNameText};
 ghost use Rattle.mlk_syntax.specs.ExprTrees.{Tree, tree_of};
 ghost use Rattle.mlk_expr.specs.Theorem.{ExprEnds, LabelEnds};
-ghost use Rattle.mlk_expr.specs.declared.scope.Allows.TheVariants.{Everything};
+ghost use Rattle.mlk_expr.specs.declared.context.Allows.TheVariants.{Everything};
 
 use crate::fault::refused;
 use crate::part::{expression, has, name};

@@ -13,7 +13,7 @@ ghost use Rattle.mlk_routine_arguments.specs.Stops.{variable_stop, lock_stop, re
 ghost use Rattle.mlk_routine_arguments.specs.Begins.{do_begins, job_begins, kill_begins, merge_begins, new_begins};
 ghost use Rattle.mlk_routine_arguments.specs.Begins.{parameter_begins, variable_begins, lock_begins, read_begins, write_begins};
 ghost use Rattle.mlk_routine_arguments.specs.Begins.{target_begins, set_begins};
-ghost use Rattle.mlk_expr.specs.declared.scope.Allows.TheVariants.{Everything, NoTouches};
+ghost use Rattle.mlk_expr.specs.declared.context.Allows.TheVariants.{Everything, NoTouches};
 
 use crate::call::{do_argument, job_argument};
 use crate::changes::{kill, merge, new};

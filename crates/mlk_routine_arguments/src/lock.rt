@@ -2,7 +2,7 @@
 
 ghost use Rattle.std.specs.Prelude.{◌≡◌, ◌≤◌, length, map, option_map, IfOk};
 ghost use Rattle.mlk_syntax.specs.ExprTrees.{tree_of};
-ghost use Rattle.mlk_expr.specs.declared.scope.Allows.TheVariants.{NoTouches};
+ghost use Rattle.mlk_expr.specs.declared.context.Allows.TheVariants.{NoTouches};
 ghost use Rattle.mlk_routine_arguments.specs.Told.{Found, Told, byte_at};
 ghost use Rattle.mlk_routine_arguments.specs.Ends.{IsSign, SignEnds, OneEnds, VariableEnds, TimeoutEnds, LockEnds};
 ghost use Rattle.mlk_syntax.specs.Views.{variable_of, lock_of};

@@ -1,7 +1,7 @@
 // The arguments of SET.
 
 ghost use Rattle.std.specs.Prelude.{◌≡◌, ◌<◌, ◌≤◌, ℕ, List, length, map, Some, IfOk};
-ghost use Rattle.mlk_expr.specs.declared.scope.Allows.TheVariants.{NoCalls};
+ghost use Rattle.mlk_expr.specs.declared.context.Allows.TheVariants.{NoCalls};
 ghost use Rattle.mlk_syntax.specs.ExprTrees.{Tree, tree_of, trees};
 ghost use Rattle.mlk_expr.specs.Grammar.{AreNext, IsExprWhere};
 ghost use Rattle.mlk_expr.specs.Theorem.{ExprEnds};

@@ -17,7 +17,7 @@ use Rattle.mlk_names.specs.Lists.{Begins}
 use Rattle.mlk_names.proofs.ListLemmas.{begins_past}
 use Rattle.mlk_rules.specs.declared.pattern.Element.TheVariants.{Variable}
 use Rattle.mlk_rules.specs.declared.pattern.Pattern.{Pattern}
-use Rattle.mlk_rules.specs.declared.template.Part.TheVariants.{Place}
+use Rattle.mlk_rules.specs.declared.template.TemplatePart.TheVariants.{Place}
 use Rattle.mlk_rules.specs.declared.template.Template.{Template}
 use Rattle.mlk_rules.specs.declared.family.Family.{Family}
 use Rattle.mlk_rules.specs.Patterns.{Suits, SurelyLies, SurelyAbove}

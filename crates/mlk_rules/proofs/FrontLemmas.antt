@@ -13,7 +13,7 @@ use Rattle.mlk_names.proofs.ListLemmas.{begins_past, begins_cons, begins_head, b
 use Rattle.mlk_names.proofs.OverlapLemmas.{free_meets, subs_meet_not_below}
 use Rattle.mlk_rules.specs.declared.pattern.Element.{Element}
 use Rattle.mlk_rules.specs.declared.pattern.Element.TheVariants as element
-use Rattle.mlk_rules.specs.declared.template.Part.{Part}
+use Rattle.mlk_rules.specs.declared.template.TemplatePart.{TemplatePart}
 use Rattle.mlk_rules.specs.Patterns.{Takes, Suits, StaysIn}
 use Rattle.mlk_rules.specs.Coverage.{before_missing, symbol_at}
 use Rattle.mlk_rules.specs.Fronts.{symbol_of, SubsLie, SubsAbove, BeginsCut}
@@ -124,17 +124,17 @@ above_cons e es s ss h = (
       record { front = m.0; rest = k.rest; is = m.1; suits = m.2 },
 )
 
-pub cut_no_parts : (h : KnownSym) (hs xs : List KnownSym) (ps : List Part) (subs : List Sym) → xs ≡ h ∷ hs → length ps ≡ 0 → BeginsCut xs ps subs → ⊥
+pub cut_no_parts : (h : KnownSym) (hs xs : List KnownSym) (ps : List TemplatePart) (subs : List Sym) → xs ≡ h ∷ hs → length ps ≡ 0 → BeginsCut xs ps subs → ⊥
 cut_no_parts h hs xs [] subs i e k =
     let P : List KnownSym → Type 0 = λ ys. Begins ys [] in begins_past h hs (subst P i k)
 cut_no_parts h hs xs (p ∷ ps) subs i e k = absurd (omega arith)
 
-pub cut_cons : (h : KnownSym) (hs : List KnownSym) (p : Part) (ps : List Part) (subs : List Sym) → symbol_at subs p ≡ Some h → BeginsCut hs ps subs ↔ BeginsCut (h ∷ hs) (p ∷ ps) subs
+pub cut_cons : (h : KnownSym) (hs : List KnownSym) (p : TemplatePart) (ps : List TemplatePart) (subs : List Sym) → symbol_at subs p ≡ Some h → BeginsCut hs ps subs ↔ BeginsCut (h ∷ hs) (p ∷ ps) subs
 cut_cons h hs p ps subs e =
     let more : List KnownSym = before_missing (map (symbol_at subs) ps) in
     rw e (λ k. begins_cons h h hs more refl k, λ k. begins_tail h h hs more k)
 
-pub cut_head : (h : KnownSym) (hs : List KnownSym) (p : Part) (ps : List Part) (subs : List Sym) → BeginsCut (h ∷ hs) (p ∷ ps) subs → symbol_at subs p ≡ Some h
+pub cut_head : (h : KnownSym) (hs : List KnownSym) (p : TemplatePart) (ps : List TemplatePart) (subs : List Sym) → BeginsCut (h ∷ hs) (p ∷ ps) subs → symbol_at subs p ≡ Some h
 cut_head h hs p ps subs k = at (symbol_at subs p) k
   where
     at : (o : Option KnownSym) → Begins (h ∷ hs) (before_missing (o ∷ map (symbol_at subs) ps)) → o ≡ Some h

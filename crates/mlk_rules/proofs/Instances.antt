@@ -20,8 +20,8 @@ use Rattle.mlk_names.specs.References.{GlobalNode, Touch, Touches, InRegion, Rea
 use Rattle.mlk_names.proofs.ListLemmas.{begins_none, begins_past, begins_head, begins_tail, begins_cons, begins_itself}
 use Rattle.mlk_names.proofs.NameLemmas.{above_one}
 use Rattle.mlk_names.proofs.TermLemmas.{one_value}
-use Rattle.mlk_rules.specs.declared.template.Part.{Part}
-use Rattle.mlk_rules.specs.declared.template.Part.TheVariants.{Literal, Place}
+use Rattle.mlk_rules.specs.declared.template.TemplatePart.{TemplatePart}
+use Rattle.mlk_rules.specs.declared.template.TemplatePart.TheVariants.{Literal, Place}
 use Rattle.mlk_rules.specs.declared.template.Template.{Template}
 use Rattle.mlk_rules.specs.Coverage.{before_missing, value_at, lock_at, symbol_at, cut_template}
 use Rattle.mlk_rules.specs.Laws.{LocksOfNodes}
@@ -54,13 +54,13 @@ module _ (a : Assignment) (symbols : List Sym) (values all : List (List ℕ)) (s
       let P : Sym → Type 0 = λ y. StandsFor a y w.0 in
       (w.0, begins_at values all k w.0 begin w.1, subst P (known_is x s f) w.2)
 
-  part_value : (p : Part) (s : KnownSym) → symbol_at symbols p ≡ Some s → (v : List ℕ) × (value_at all p ≡ Some v) × StandsFor a (sym_of s) v
+  part_value : (p : TemplatePart) (s : KnownSym) → symbol_at symbols p ≡ Some s → (v : List ℕ) × (value_at all p ≡ Some v) × StandsFor a (sym_of s) v
   part_value (Literal value) s e =
       let d : known.Const value ≡ s = cc in
       let P : KnownSym → Type 0 = λ x. StandsFor a (sym_of x) value in (value, refl, subst P d refl)
   part_value (Place k) s e = at_place k s (slice_get symbols k) refl e
 
-  cut_begins : (ps : List Part) (hs : List KnownSym) (vs : List (List ℕ)) → Begins hs (before_missing (map (symbol_at symbols) ps)) → AllZip (λ s v. StandsFor a (sym_of s) v) hs vs → Begins vs (before_missing (map (value_at all) ps))
+  cut_begins : (ps : List TemplatePart) (hs : List KnownSym) (vs : List (List ℕ)) → Begins hs (before_missing (map (symbol_at symbols) ps)) → AllZip (λ s v. StandsFor a (sym_of s) v) hs vs → Begins vs (before_missing (map (value_at all) ps))
   cut_begins ps [] [] b z = begins_none (before_missing (map (value_at all) ps))
   cut_begins ps [] (v ∷ vs) b z = absurd z
   cut_begins ps (h ∷ hs) [] b z = absurd z

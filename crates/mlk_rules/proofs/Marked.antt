@@ -20,8 +20,8 @@ use Rattle.mlk_names.specs.Terms.{Mentions}
 use Rattle.mlk_rules.specs.declared.pattern.Element.{Element}
 use Rattle.mlk_rules.specs.declared.pattern.Element.TheVariants as element
 use Rattle.mlk_rules.specs.declared.pattern.Pattern.{Pattern}
-use Rattle.mlk_rules.specs.declared.template.Part.{Part}
-use Rattle.mlk_rules.specs.declared.template.Part.TheVariants.{Literal, Place}
+use Rattle.mlk_rules.specs.declared.template.TemplatePart.{TemplatePart}
+use Rattle.mlk_rules.specs.declared.template.TemplatePart.TheVariants.{Literal, Place}
 use Rattle.mlk_rules.specs.declared.template.Template.{Template}
 use Rattle.mlk_rules.specs.declared.cover.Cover.{Cover}
 use Rattle.mlk_rules.specs.declared.rules.RuleLists.{RuleLists}
@@ -117,7 +117,7 @@ module _ (n : List ℕ) where
   got (Unknown ∷ ss) zero = inl refl
   got (s ∷ ss) (suc k) = got ss k
 
-  part_got : (ss : List Sym) (p : Part) → (symbol_at (map (mark n) ss) p ≡ symbol_at ss p) ⊎ ((symbol_at (map (mark n) ss) p ≡ None) × (symbol_at ss p ≡ Some (known.Local n)))
+  part_got : (ss : List Sym) (p : TemplatePart) → (symbol_at (map (mark n) ss) p ≡ symbol_at ss p) ⊎ ((symbol_at (map (mark n) ss) p ≡ None) × (symbol_at ss p ≡ Some (known.Local n)))
   part_got ss (Literal value) = inl refl
   part_got ss (Place k) = got ss k
 
@@ -129,7 +129,7 @@ module _ (n : List ℕ) where
   ]
   not_it known.Job other = refl
 
-  cut_same : (hs : List KnownSym) (ps : List Part) (ss : List Sym) → (Contains hs (known.Local n) → ⊥)
+  cut_same : (hs : List KnownSym) (ps : List TemplatePart) (ss : List Sym) → (Contains hs (known.Local n) → ⊥)
       → begins hs (before_missing (map (symbol_at (map (mark n) ss)) ps)) ≡ begins hs (before_missing (map (symbol_at ss) ps))
   cut_same [] ps ss other = refl
   cut_same (h ∷ hs) [] ss other = refl

@@ -11,7 +11,7 @@ use Rattle.mlk_rules.specs.declared.pattern.Pattern.{Pattern}
 use Rattle.mlk_rules.specs.declared.rules.RuleLists.{RuleLists}
 use Rattle.mlk_rules.specs.Ranks.{FamiliesApart}
 use Rattle.mlk_text.specs.Spellings.{is_name}
-use Rattle.mlk_rules.specs.Sound.{is_job, is_family, is_pattern, is_cover, IsSound}
+use Rattle.mlk_rules.specs.Sound.{is_job, is_family, is_sound_pattern, is_cover, IsSound}
 use Rattle.mlk_rules.specs.Laws.{PrivateByJob}
 use Rattle.mlk_rules.proofs.Computing.{in_front, in_rest, all_decides}
 
@@ -50,7 +50,7 @@ job_in (element.Literal value ∷ es) n h = in_rest (element.Literal value) elem
 job_in (element.Variable ∷ es) n h = in_rest element.Variable element.Job es (job_in es n h)
 job_in (element.Job ∷ es) n h = in_front element.Job es
 
-pub job_once : (p : Pattern) → is_pattern 1 p ≡ true → Contains p.elements element.Job
+pub job_once : (p : Pattern) → is_sound_pattern 1 p ≡ true → Contains p.elements element.Job
 job_once p h =
     let parts = and_parts (is_name p.global) (count_by is_job p.elements == 1) h in
     job_in p.elements 0 (eqb-true (count_by is_job p.elements) 1 parts.1)
@@ -60,9 +60,9 @@ pub by_job : (rules : RuleLists) → IsSound rules → PrivateByJob rules
 by_job rules sound p is =
     let families = list_all is_family rules.families in
     let covers = list_all is_cover rules.covers in
-    let private = list_all (is_pattern 1) rules.private in
-    let readonly = list_all (is_pattern 0) rules.readonly in
+    let private = list_all (is_sound_pattern 1) rules.private in
+    let readonly = list_all (is_sound_pattern 0) rules.readonly in
     let others = (and_parts families (covers && (private && readonly)) sound.formed).1 in
     let last = (and_parts covers (private && readonly) others).1 in
     let each = (and_parts private readonly last).0 in
-    job_once p ((all_decides (is_pattern 1) (λ q. is_pattern 1 q ≡ true) (λ q. (λ e. e, λ e. e)) rules.private).0 each p is)
+    job_once p ((all_decides (is_sound_pattern 1) (λ q. is_sound_pattern 1 q ≡ true) (λ q. (λ e. e, λ e. e)) rules.private).0 each p is)

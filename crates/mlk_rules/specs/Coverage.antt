@@ -17,8 +17,8 @@ use Rattle.mlk_names.specs.Terms.{IsPrefix}
 use Rattle.mlk_names.specs.References.{GlobalNode}
 use Rattle.mlk_rules.specs.declared.pattern.Element.TheVariants as element
 use Rattle.mlk_rules.specs.declared.pattern.Pattern.{Pattern}
-use Rattle.mlk_rules.specs.declared.template.Part.{Part}
-use Rattle.mlk_rules.specs.declared.template.Part.TheVariants.{Literal, Place}
+use Rattle.mlk_rules.specs.declared.template.TemplatePart.{TemplatePart}
+use Rattle.mlk_rules.specs.declared.template.TemplatePart.TheVariants.{Literal, Place}
 use Rattle.mlk_rules.specs.declared.template.Template.{Template}
 use Rattle.mlk_rules.specs.declared.cover.Cover.{Cover}
 use Rattle.mlk_rules.specs.declared.rules.RuleLists.{RuleLists}
@@ -31,7 +31,7 @@ before_missing (None ∷ xs) = []
 before_missing (Some x ∷ xs) = x ∷ before_missing xs
 
 -- a part of a rule's lock at a node, which may have no subscript at its place
-abbrev pub value_at : List (List ℕ) → Part → Option (List ℕ)
+abbrev pub value_at : List (List ℕ) → TemplatePart → Option (List ℕ)
 value_at subs (Literal value) = Some value
 value_at subs (Place k) = slice_get subs k
 
@@ -40,7 +40,7 @@ abbrev pub lock_at : Template → GlobalNode → LockName
 lock_at lock n = record { root = lock.root; subs = before_missing (map (value_at n.subs) lock.parts) }
 
 -- a part of a rule's lock at a reference, whose subscript at its place may be absent or unknown
-abbrev pub symbol_at : List Sym → Part → Option KnownSym
+abbrev pub symbol_at : List Sym → TemplatePart → Option KnownSym
 symbol_at subs (Literal value) = Some (known.Const value)
 symbol_at subs (Place k) = option_and_then known_of (slice_get subs k)
 

@@ -10,7 +10,7 @@ use Rattle.mlk_names.specs.declared.reference.Extent.{Extent}
 use Rattle.mlk_names.specs.Lists.{Begins}
 use Rattle.mlk_rules.specs.declared.pattern.Element.{Element}
 use Rattle.mlk_rules.specs.declared.pattern.Element.TheVariants as element
-use Rattle.mlk_rules.specs.declared.template.Part.{Part}
+use Rattle.mlk_rules.specs.declared.template.TemplatePart.{TemplatePart}
 use Rattle.mlk_rules.specs.Patterns.{Suits, StaysIn}
 use Rattle.mlk_rules.specs.Coverage.{before_missing, symbol_at}
 
@@ -44,5 +44,5 @@ abbrev pub Gained : (List LockTerm → Type 0) → List LockTerm → List LockTe
 Gained P old new = (ts : List LockTerm) × (new ≡ old ++ ts) × P ts
 
 -- the symbols begin the subscripts of a rule's lock at a reference with these subscripts
-abbrev pub BeginsCut : List KnownSym → List Part → List Sym → Type 0
+abbrev pub BeginsCut : List KnownSym → List TemplatePart → List Sym → Type 0
 BeginsCut symbols parts subs = Begins symbols (before_missing (map (symbol_at subs) parts))

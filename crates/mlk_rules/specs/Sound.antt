@@ -27,8 +27,8 @@ abbrev pub is_family : Family → Bool
 is_family f = is_root f.name.root && nat_le f.rank 999999
 
 -- a name, and `$J` so often
-abbrev pub is_pattern : ℕ → Pattern → Bool
-is_pattern jobs p = is_name p.global && (count_by is_job p.elements == jobs)
+abbrev pub is_sound_pattern : ℕ → Pattern → Bool
+is_sound_pattern jobs p = is_name p.global && (count_by is_job p.elements == jobs)
 
 -- a second lock, where there is one, of a name
 abbrev pub has_root : Option Template → Bool
@@ -37,14 +37,14 @@ has_root (Some lock) = is_root lock.root
 
 -- no `$J`, and locks of names
 abbrev pub is_cover : Cover → Bool
-is_cover c = is_pattern 0 c.pattern && (is_root c.lock.root && has_root c.also)
+is_cover c = is_sound_pattern 0 c.pattern && (is_root c.lock.root && has_root c.also)
 
 -- `$J` stands once in each private pattern, and in no other
 abbrev pub are_formed : RuleLists → Bool
 are_formed rules =
     list_all is_family rules.families
     && (list_all is_cover rules.covers
-    && (list_all (is_pattern 1) rules.private && list_all (is_pattern 0) rules.readonly))
+    && (list_all (is_sound_pattern 1) rules.private && list_all (is_sound_pattern 0) rules.readonly))
 
 -- Each rule is well formed, and no two families meet.
 pub record IsSound (rules : RuleLists) : Type 0 where

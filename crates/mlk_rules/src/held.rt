@@ -8,7 +8,7 @@ ghost use Rattle.mlk_rules.specs.Fronts.{BeginsCut};
 
 use crate::cover::Cover;
 use crate::lent::Lent;
-use crate::template::{Part, Template};
+use crate::template::{Template, TemplatePart};
 use mlk_names::{Access, KnownSym, LockTerm, Sym};
 
 // Whether the symbol is this known one.
@@ -25,12 +25,14 @@ fn is_known_as(symbol: &Sym, known: &KnownSym) -> bool
 }
 
 // Whether the part of a rule's lock at the subscripts is this symbol.
-fn stands_at(known: &KnownSym, part: &Part, symbols: &[Sym]) -> bool
+fn stands_at(known: &KnownSym, part: &TemplatePart, symbols: &[Sym]) -> bool
     ensures { IsTrue result ↔ (symbol_at symbols.now part.now ≡ Some known.now) }
 {
     match part {
-        Part::Literal(value) => { matches!(known, KnownSym::Const(constant) if constant == value) }
-        Part::Place(place) => match symbols.get(*place) {
+        TemplatePart::Literal(value) => {
+            matches!(known, KnownSym::Const(constant) if constant == value)
+        }
+        TemplatePart::Place(place) => match symbols.get(*place) {
             Some(symbol) => is_known_as(symbol, known),
             None => false,
         },
@@ -38,7 +40,7 @@ fn stands_at(known: &KnownSym, part: &Part, symbols: &[Sym]) -> bool
 }
 
 // Whether the symbols begin the subscripts of a rule's lock, up to the first that is absent or unknown.
-fn begins_cut(known: &[KnownSym], parts: &[Part], symbols: &[Sym]) -> bool
+fn begins_cut(known: &[KnownSym], parts: &[TemplatePart], symbols: &[Sym]) -> bool
     ensures { IsTrue result ↔ BeginsCut known.now parts.now symbols.now }
 {
     let mut known = known;

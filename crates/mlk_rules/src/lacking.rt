@@ -9,25 +9,25 @@ use crate::held::{holds_lock, is_satisfied};
 use crate::lent::Lent;
 use crate::meet::may_meet;
 use crate::rules::Rules;
-use crate::template::{Part, Template};
+use crate::template::{Template, TemplatePart};
 use mlk_names::{Access, KnownSym, LockTerm, Reference, Sym, TermSubs};
 use mlk_text::{Subscripts, copy_of};
 use std::alloc::{AllocError, Global};
 
 // The part of a rule's lock at the subscripts, where it is there and known.
-fn part_at(part: &Part, symbols: &[Sym]) -> Result<Option<KnownSym>, AllocError>
+fn part_at(part: &TemplatePart, symbols: &[Sym]) -> Result<Option<KnownSym>, AllocError>
     ensures { IfOk result (λ found. found ≡ symbol_at symbols.now part.now) }
 {
     match part {
-        Part::Literal(value) => Ok(Some(KnownSym::Const(value.copy()?))),
-        Part::Place(place) => match symbols.get(*place) {
+        TemplatePart::Literal(value) => Ok(Some(KnownSym::Const(value.copy()?))),
+        TemplatePart::Place(place) => match symbols.get(*place) {
             Some(symbol) => symbol.to_known(),
             None => Ok(None),
         },
     }
 }
 
-fn cut_subs(alloc: Global, parts: &[Part], symbols: &[Sym]) -> Result<TermSubs, AllocError>
+fn cut_subs(alloc: Global, parts: &[TemplatePart], symbols: &[Sym]) -> Result<TermSubs, AllocError>
     ensures { IfOk result (λ l. l ≡ before_missing (map (symbol_at symbols.now) parts.now)) }
 {
     let mut items = Vec::new(alloc);

@@ -31,4 +31,4 @@ pub use pattern::{Element, Pattern};
 pub use rank::rank_of;
 pub use rules::{RuleLists, Rules, entries};
 pub use sound::first_meeting;
-pub use template::{Part, Template};
+pub use template::{Template, TemplatePart};

@@ -6,7 +6,7 @@ ghost use Rattle.mlk_text.specs.Spellings.{is_name};
 ghost use Rattle.mlk_names.specs.LockNames.{Conflict};
 ghost use Rattle.mlk_rules.specs.declared.family.Family.{Family as family};
 ghost use Rattle.mlk_rules.specs.Ranks.{FamiliesApart, IsFirstMeeting};
-ghost use Rattle.mlk_rules.specs.Sound.{is_root, is_job, is_family, is_pattern, has_root, is_cover, are_formed, IsSound};
+ghost use Rattle.mlk_rules.specs.Sound.{is_root, is_job, is_family, is_sound_pattern, has_root, is_cover, are_formed, IsSound};
 
 use crate::cover::Cover;
 use crate::family::Family;
@@ -43,7 +43,7 @@ fn jobs_in(elements: &[Element]) -> usize
 }
 
 fn is_pattern(jobs: usize, pattern: &Pattern) -> bool
-    ensures { result ≡ is_pattern jobs pattern.now }
+    ensures { result ≡ is_sound_pattern jobs pattern.now }
 {
     is_name(pattern.global.as_bytes()) && jobs_in(pattern.elements.as_slice()) == jobs
 }
@@ -77,7 +77,7 @@ fn are_covers(covers: &[Cover]) -> bool
 }
 
 fn are_patterns(jobs: usize, patterns: &[Pattern]) -> bool
-    ensures { result ≡ list_all (is_pattern jobs) patterns.now }
+    ensures { result ≡ list_all (is_sound_pattern jobs) patterns.now }
 {
     patterns.iter().all(|pattern| is_pattern(jobs, pattern))
 }

@@ -5,7 +5,7 @@ use mlk_text::{List, Value};
 
 /// A subscript of a rule's lock.
 #[derive(Clone, Drop, Debug)]
-pub enum Part {
+pub enum TemplatePart {
     /// this value
     Literal(Value),
     /// the subscript at this place of a node, counted from 0
@@ -16,5 +16,5 @@ pub enum Part {
 #[derive(Clone, Drop, Debug)]
 pub struct Template {
     pub root: Root,
-    pub parts: List<Part>,
+    pub parts: List<TemplatePart>,
 }

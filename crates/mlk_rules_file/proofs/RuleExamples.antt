@@ -8,28 +8,28 @@ use Rattle.mlk_text.specs.declared.code.Code.TheVariants as code
 use Rattle.mlk_text.specs.declared.root.Root.TheVariants as root
 use Rattle.mlk_names.specs.declared.reference.Extent.TheVariants.{Node, Tree}
 use Rattle.mlk_rules.specs.declared.pattern.Element.TheVariants as element
-use Rattle.mlk_rules.specs.declared.template.Part.TheVariants.{Place}
+use Rattle.mlk_rules.specs.declared.template.TemplatePart.TheVariants.{Place}
 use Rattle.mlk_rules_file.specs.declared.read.fault.Section.TheVariants.{File, Lock, Cover, Private, Readonly, Entry}
-use Rattle.mlk_rules_file.specs.declared.read.kinds.Item.TheVariants.{Literal, Variable, Job}
+use Rattle.mlk_rules_file.specs.declared.read.kinds.SpelledItem.TheVariants.{Literal, Variable, Job}
 use Rattle.mlk_rules_file.specs.RuleAnswers.{refused}
 use Rattle.mlk_numbers.specs.Canonical.{canonical_text}
-use Rattle.mlk_rules_file.specs.RuleNumbers.{numeral_len, number_at}
+use Rattle.mlk_rules_file.specs.RuleNumbers.{numeral_len, literal_value_at}
 use Rattle.mlk_rules_file.specs.RuleTexts.{item_at, list_of, parts_of, spelling_of, pattern_of, is_entry}
 use Rattle.mlk_rules_file.specs.RuleKinds.{is_pattern, is_template}
 use Rattle.mlk_rules_file.specs.RuleSections.{section_of, family_of, cover_of, rule_pattern_of, entry_of, lists_of}
 
 -- numbers
-half : number_at (codes "00.50,x") ≡ Some (codes ".5", codes ",x")
-unfolding number_at numeral_len canonical_text
+half : literal_value_at (codes "00.50,x") ≡ Some (codes ".5", codes ",x")
+unfolding literal_value_at numeral_len canonical_text
 half = refl
 
-no_number : number_at (codes "...)") ≡ None
-unfolding number_at numeral_len canonical_text
+no_number : literal_value_at (codes "...)") ≡ None
+unfolding literal_value_at numeral_len canonical_text
 no_number = refl
 
 -- patterns: two that are spelled well, and three that are not
 a_pattern : pattern_of (codes "^ACCT(id,-05,$J,...)") ≡ Some (record { root = root.Global (codes "ACCT"); items = Variable (codes "id") ∷ Literal (codes "-5") ∷ Job ∷ []; extent = Tree })
-unfolding item_at number_at numeral_len canonical_text list_of parts_of root_at spelling_of many name_at
+unfolding item_at literal_value_at numeral_len canonical_text list_of parts_of root_at spelling_of many name_at
 a_pattern = refl
 
 a_pattern_of_dots : pattern_of (codes "^G(...)") ≡ Some (record { root = root.Global (codes "G"); items = []; extent = Tree })
@@ -44,7 +44,7 @@ no_local_pattern : pattern_of (codes "G(x)") ≡ None
 no_local_pattern = refl
 
 no_dots_before : pattern_of (codes "^G(...,x)") ≡ None
-unfolding item_at number_at numeral_len canonical_text list_of parts_of root_at spelling_of name_at
+unfolding item_at literal_value_at numeral_len canonical_text list_of parts_of root_at spelling_of name_at
 no_dots_before = refl
 
 -- entries

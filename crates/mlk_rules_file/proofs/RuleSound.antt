@@ -15,7 +15,7 @@ use Rattle.mlk_text.specs.declared.root.Root.TheVariants as root
 use Rattle.mlk_rules.specs.declared.pattern.Element.{Element}
 use Rattle.mlk_rules.specs.declared.pattern.Element.TheVariants as element
 use Rattle.mlk_rules.specs.declared.pattern.Pattern.{Pattern}
-use Rattle.mlk_rules.specs.declared.template.Part.{Part}
+use Rattle.mlk_rules.specs.declared.template.TemplatePart.{TemplatePart}
 use Rattle.mlk_rules.specs.declared.template.Template.{Template}
 use Rattle.mlk_rules.specs.declared.family.Family.{Family}
 use Rattle.mlk_rules.specs.declared.cover.Cover.{Cover}
@@ -25,8 +25,8 @@ use Rattle.mlk_rules.specs.Sound as sound
 use Rattle.mlk_rules.proofs.SoundLemmas.{all_each}
 use Rattle.mlk_rules_file.specs.declared.read.fault.Section.{Section}
 use Rattle.mlk_rules_file.specs.declared.read.fault.Section.TheVariants.{File, Lock, Cover as CoverSection, Private, Readonly, Entry}
-use Rattle.mlk_rules_file.specs.declared.read.kinds.Item.{Item}
-use Rattle.mlk_rules_file.specs.declared.read.kinds.Item.TheVariants.{Literal, Variable, Job}
+use Rattle.mlk_rules_file.specs.declared.read.kinds.SpelledItem.{SpelledItem}
+use Rattle.mlk_rules_file.specs.declared.read.kinds.SpelledItem.TheVariants.{Literal, Variable, Job}
 use Rattle.mlk_rules_file.specs.declared.read.kinds.Spelling.{Spelling}
 use Rattle.mlk_rules_file.specs.RuleAnswers.{Answer, next}
 use Rattle.mlk_rules_file.specs.RuleTexts.{parts_of, spelling, spelling_of, pattern_of}
@@ -58,29 +58,29 @@ patterned_root text s h =
     let c = then_some (byte_at 94 text) _ s h in name_is s.root (spelled_root text s c.2)
 
 -- how often `$J` stands
-no_job : (items : List Item) → is_jobless items ≡ true → count_by sound.is_job (elements_of items) ≡ 0
+no_job : (items : List SpelledItem) → is_jobless items ≡ true → count_by sound.is_job (elements_of items) ≡ 0
 no_job [] h = refl
 no_job (Literal v ∷ items) h = no_job items h
 no_job (Variable n ∷ items) h = no_job items h
 no_job (Job ∷ items) h = cc h
 
-same_count : (items : List Item) → count_by sound.is_job (elements_of items) ≡ count_by is_own items
+same_count : (items : List SpelledItem) → count_by sound.is_job (elements_of items) ≡ count_by is_own items
 same_count [] = refl
 same_count (Literal v ∷ items) = same_count items
 same_count (Variable n ∷ items) = same_count items
 same_count (Job ∷ items) =
     let f : Element → ℕ = λ e. cond (sound.is_job e) 1 0 in
-    let g : Item → ℕ = λ i. cond (is_own i) 1 0 in
+    let g : SpelledItem → ℕ = λ i. cond (is_own i) 1 0 in
     sum_by-cons f element.Job (elements_of items) ∙ ap (λ n. 1 + n) (same_count items) ∙ sym (sum_by-cons g Job items)
 
-never : (items : List Item) → is_jobless items ≡ true → (count_by sound.is_job (elements_of items) == 0) ≡ true
+never : (items : List SpelledItem) → is_jobless items ≡ true → (count_by sound.is_job (elements_of items) == 0) ≡ true
 never items h = rw (no_job items h) refl
 
-once : (items : List Item) → has_one_job items ≡ true → (count_by sound.is_job (elements_of items) == 1) ≡ true
+once : (items : List SpelledItem) → has_one_job items ≡ true → (count_by sound.is_job (elements_of items) == 1) ≡ true
 once items h = ap (λ n. n == 1) (same_count items) ∙ h
 
 -- a pattern of its parts, with `$J` so often
-formed_pattern : (n : ℕ) (s : Spelling) → is_name (name_of s.root) ≡ true → (count_by sound.is_job (elements_of s.items) == n) ≡ true → sound.is_pattern n (pattern s) ≡ true
+formed_pattern : (n : ℕ) (s : Spelling) → is_name (name_of s.root) ≡ true → (count_by sound.is_job (elements_of s.items) == n) ≡ true → sound.is_sound_pattern n (pattern s) ≡ true
 formed_pattern n s name jobs = rw (name, jobs) refl
 
 -- families
@@ -116,14 +116,14 @@ family_formed k d f h = at (family_keys (as_table d)) h
     ]
 
 -- the root of a lock is that of its spelling
-rooted : (s : Spelling) (t : Template) (o : Option (List Part)) → sound.is_root s.root ≡ true → option_map (template s) o ≡ Some t → sound.is_root t.root ≡ true
+rooted : (s : Spelling) (t : Template) (o : Option (List TemplatePart)) → sound.is_root s.root ≡ true → option_map (template s) o ≡ Some t → sound.is_root t.root ≡ true
 rooted s t None root h = cc h
 rooted s t (Some parts) root h =
     let is : template s parts ≡ t = same_Some (template s parts) t h in
     subst (λ (u : Template). sound.is_root u.root ≡ true) is root
 
 -- the same of a second lock
-second_rooted : (items : List Item) (a : Option Spelling) → ((s : Spelling) → a ≡ Some s → sound.is_root s.root ≡ true)
+second_rooted : (items : List SpelledItem) (a : Option Spelling) → ((s : Spelling) → a ≡ Some s → sound.is_root s.root ≡ true)
     → (t : Template) → second_template items a ≡ Some (Some t) → sound.is_root t.root ≡ true
 second_rooted items None roots t h = cc h
 second_rooted items (Some s) roots t h = by (template_of items s) refl h
@@ -144,7 +144,7 @@ cover_formed : (k : ℕ) (d : Data) (c : Cover) → cover_of k d ≡ Ok c → so
 unfolding cover_of is_pattern
 cover_formed k d c h = at (cover_keys (as_table d)) h
   where
-    placed : (p : Spelling) (o : Option Template) (q : Option (Option Template)) → sound.is_pattern 0 (pattern p) ≡ true
+    placed : (p : Spelling) (o : Option Template) (q : Option (Option Template)) → sound.is_sound_pattern 0 (pattern p) ≡ true
         → ((t : Template) → o ≡ Some t → sound.is_root t.root ≡ true) → ((t : Template) → q ≡ Some (Some t) → sound.is_root t.root ≡ true)
         → cover_of_locks k p o q ≡ Ok c → sound.is_cover c ≡ true
     placed p None q one first second i = cc i
@@ -183,22 +183,22 @@ cover_formed k d c h = at (cover_keys (as_table d)) h
     ]
 
 -- patterns by themselves, whose section asks for `$J` so often
-pattern_formed : (section : Section) (n : ℕ) → ((items : List Item) → has_its_job section items ≡ true → (count_by sound.is_job (elements_of items) == n) ≡ true)
-    → (k : ℕ) (d : Data) (p : Pattern) → rule_pattern_of section k d ≡ Ok p → sound.is_pattern n p ≡ true
+pattern_formed : (section : Section) (n : ℕ) → ((items : List SpelledItem) → has_its_job section items ≡ true → (count_by sound.is_job (elements_of items) == n) ≡ true)
+    → (k : ℕ) (d : Data) (p : Pattern) → rule_pattern_of section k d ≡ Ok p → sound.is_sound_pattern n p ≡ true
 unfolding rule_pattern_of is_pattern
 pattern_formed section n jobs k d p h = at (text_key section (codes "global") (as_table d)) h
   where
-    of_kind : (text : List ℕ) (o : Option Spelling) → pattern_of text ≡ o → pattern_with section k o ≡ Ok p → sound.is_pattern n p ≡ true
+    of_kind : (text : List ℕ) (o : Option Spelling) → pattern_of text ≡ o → pattern_with section k o ≡ Ok p → sound.is_sound_pattern n p ≡ true
     of_kind text None is i = cc i
     of_kind text (Some s) is i = elim (cases_Bool (is_pattern section s)) [
       | inr e ↦ cc (rw e at i)
       | inl e ↦
           let same = same_Ok (pattern s) p (rw e at i) in
           let own = (and_parts (has_its_job section s.items) (is_distinct s.items) e).0 in
-          subst (λ q. sound.is_pattern n q ≡ true) same (formed_pattern n s (patterned_root text s is) (jobs s.items own))
+          subst (λ q. sound.is_sound_pattern n q ≡ true) same (formed_pattern n s (patterned_root text s is) (jobs s.items own))
     ]
 
-    at : (o : Option (List ℕ)) → pattern_at section k o ≡ Ok p → sound.is_pattern n p ≡ true
+    at : (o : Option (List ℕ)) → pattern_at section k o ≡ Ok p → sound.is_sound_pattern n p ≡ true
     at None i = cc i
     at (Some text) i = elim (cases_Bool (is_long (pattern_of text))) [
       | inl e ↦ cc (rw e at i)
@@ -234,8 +234,8 @@ formed ms r h = elim (cases_Bool (has_only File ms)) [
       (all_of entry_of Entry ms) r (rw e at h) in
       let families = section_formed family_of Lock ms sound.is_family family_formed r.families four.0 in
       let covers = section_formed cover_of CoverSection ms sound.is_cover cover_formed r.covers four.1 in
-      let private = section_formed (rule_pattern_of Private) Private ms (sound.is_pattern 1) (pattern_formed Private 1 once) r.private four.2 in
-      let readonly = section_formed (rule_pattern_of Readonly) Readonly ms (sound.is_pattern 0) (pattern_formed Readonly 0 never) r.readonly four.3 in
+      let private = section_formed (rule_pattern_of Private) Private ms (sound.is_sound_pattern 1) (pattern_formed Private 1 once) r.private four.2 in
+      let readonly = section_formed (rule_pattern_of Readonly) Readonly ms (sound.is_sound_pattern 0) (pattern_formed Readonly 0 never) r.readonly four.3 in
       rw (families, covers, private, readonly) refl
 ]
 

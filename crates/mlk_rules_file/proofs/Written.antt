@@ -22,10 +22,10 @@ use Rattle.mlk_text.specs.declared.root.Root.{Root}
 use Rattle.mlk_text.specs.declared.root.Root.TheVariants as root
 use Rattle.mlk_names.specs.declared.reference.Extent.{Extent}
 use Rattle.mlk_names.specs.declared.reference.Extent.TheVariants.{Node, Tree}
-use Rattle.mlk_rules_file.specs.declared.read.kinds.Item.{Item}
-use Rattle.mlk_rules_file.specs.declared.read.kinds.Item.TheVariants.{Literal, Variable, Job}
+use Rattle.mlk_rules_file.specs.declared.read.kinds.SpelledItem.{SpelledItem}
+use Rattle.mlk_rules_file.specs.declared.read.kinds.SpelledItem.TheVariants.{Literal, Variable, Job}
 use Rattle.mlk_rules_file.specs.declared.read.kinds.Spelling.{Spelling}
-use Rattle.mlk_rules_file.specs.RuleNumbers.{fraction_len, numeral_len, valued, number_at, negative, negative_at}
+use Rattle.mlk_rules_file.specs.RuleNumbers.{fraction_len, numeral_len, valued, literal_value_at, negative, negative_at}
 use Rattle.mlk_rules_file.specs.RuleTexts.{quoted, job, item_at, comma_at, end_of, ended, list_of, parts_of, spelling, spelling_of, pattern_of, is_entry}
 use Rattle.mlk_rules_file.specs.RuleGrammar.{IsItem, IsMore, closing, IsParts, IsSpelled, IsSpelledPattern, IsEntryText, AreWritten}
 use Rattle.mlk_rules_file.proofs.Quotes.{quoted-sound, quoted-complete}
@@ -90,14 +90,14 @@ numeral_size before after text ys h end = elim h.spelled [
       rw whole (omega (arith, size, fraction, many))
 ]
 
-number_complete : (text value ys : List ℕ) → IsCanonical text value → Ends ys → number_at (text ++ ys) ≡ Some (value, ys)
-unfolding number_at
+number_complete : (text value ys : List ℕ) → IsCanonical text value → Ends ys → literal_value_at (text ++ ys) ≡ Some (value, ys)
+unfolding literal_value_at
 number_complete text value ys h end =
     let size = numeral_size h.before h.after text ys h.numeral end in
     rw size (rw (drop-append_seam text ys, take-append_seam text ys) (rw (canonical-complete text value h) refl))
 
-number_sound : (value xs ys : List ℕ) → number_at xs ≡ Some (value, ys) → (text : List ℕ) × IsCanonical text value × (xs ≡ text ++ ys)
-unfolding number_at
+number_sound : (value xs ys : List ℕ) → literal_value_at xs ≡ Some (value, ys) → (text : List ℕ) × IsCanonical text value × (xs ≡ text ++ ys)
+unfolding literal_value_at
 number_sound value xs ys h = go (canonical_text (take (numeral_len xs) xs)) refl h
   where
     go : (o : Option (List ℕ)) → canonical_text (take (numeral_len xs) xs) ≡ o → valued (drop (numeral_len xs) xs) o ≡ Some (value, ys) → (text : List ℕ) × IsCanonical text value × (xs ≡ text ++ ys)
@@ -135,7 +135,7 @@ not_started b c h other = elim (cases_Bool (b == c)) [
 ]
 
 -- items
-item_complete : (i : Item) (text ys : List ℕ) → IsItem i text → Ends ys → item_at (text ++ ys) ≡ Some (i, ys)
+item_complete : (i : SpelledItem) (text ys : List ℕ) → IsItem i text → Ends ys → item_at (text ++ ys) ≡ Some (i, ys)
 unfolding item_at
 item_complete Job text ys h end = rw h refl
 item_complete (Variable name) text ys (is, good) end = rw is (go name good (name-reads name ys good (ends_name ys end)))
@@ -152,14 +152,14 @@ item_complete (Literal value) text ys (inr (inl h)) end =
     let first = number_first h.before h.after text h.numeral in
     go first.0 first.1 first.2 first.3 (number_complete text value ys h end)
   where
-    go : (b : ℕ) (rest : List ℕ) → text ≡ b ∷ rest → starts_number b ≡ true → number_at (text ++ ys) ≡ Some (value, ys) → item_at (text ++ ys) ≡ Some (Literal value, ys)
+    go : (b : ℕ) (rest : List ℕ) → text ≡ b ∷ rest → starts_number b ≡ true → literal_value_at (text ++ ys) ≡ Some (value, ys) → item_at (text ++ ys) ≡ Some (Literal value, ys)
     go b rest is starts read =
-        let read' : number_at (b ∷ (rest ++ ys)) ≡ Some (value, ys) = subst (λ l. number_at (l ++ ys) ≡ Some (value, ys)) is read in
+        let read' : literal_value_at (b ∷ (rest ++ ys)) ≡ Some (value, ys) = subst (λ l. literal_value_at (l ++ ys) ≡ Some (value, ys)) is read in
         rw is (rw (not_started b 36 starts refl, not_started b 45 starts refl, not_started b 34 starts refl, starts) (rw read' refl))
 item_complete (Literal value) text ys (inr (inr (number, canonical, h, same, is))) end =
     rw is (rw (number_complete number canonical ys h end) (ap (λ v. Some (Literal v, ys)) (sym same)))
 
-item_sound : (i : Item) (xs ys : List ℕ) → item_at xs ≡ Some (i, ys) → (text : List ℕ) × IsItem i text × (xs ≡ text ++ ys)
+item_sound : (i : SpelledItem) (xs ys : List ℕ) → item_at xs ≡ Some (i, ys) → (text : List ℕ) × IsItem i text × (xs ≡ text ++ ys)
 unfolding item_at
 item_sound i [] ys h = cc h
 item_sound i (b ∷ xs) ys h = elim (cases_Bool (b == 36)) [
@@ -169,7 +169,7 @@ item_sound i (b ∷ xs) ys h = elim (cases_Bool (b == 36)) [
   | inr e ↦ elim (cases_Bool (b == 45)) [
     | inl f ↦
         let w = with_some Literal (negative_at xs) i ys (rw (e, f) at h) in
-        let u = with_some negative (number_at xs) w.0 ys w.1 in
+        let u = with_some negative (literal_value_at xs) w.0 ys w.1 in
         let n = number_sound u.0 xs ys u.1 in
         (45 ∷ n.0, subst (λ j. IsItem j (45 ∷ n.0)) (sym w.2) (inr (inr (n.0, u.0, n.1, u.2, refl))), ap (λ c. c ∷ xs) (eqb-true b 45 f) ∙ ap (λ l. 45 ∷ l) n.2)
     | inr f ↦ elim (cases_Bool (b == 34)) [
@@ -179,7 +179,7 @@ item_sound i (b ∷ xs) ys h = elim (cases_Bool (b == 36)) [
           (text, subst (λ j. IsItem j text) (sym w.2) (inl refl), ap (λ c. c ∷ xs) (eqb-true b 34 q) ∙ ap (λ l. 34 ∷ l) ((quoted-sound w.0 xs ys w.1).0 ∙ sym (append_assoc (doubled w.0) (34 ∷ []) ys)))
       | inr q ↦ elim (cases_Bool ((b == 46) || is_digit b)) [
         | inl g ↦
-            let w = with_some Literal (number_at (b ∷ xs)) i ys (rw (e, f, q, g) at h) in
+            let w = with_some Literal (literal_value_at (b ∷ xs)) i ys (rw (e, f, q, g) at h) in
             let n = number_sound w.0 (b ∷ xs) ys w.1 in
             (n.0, subst (λ j. IsItem j n.0) (sym w.2) (inr (inl n.1)), n.2)
         | inr g ↦
@@ -192,10 +192,10 @@ item_sound i (b ∷ xs) ys h = elim (cases_Bool (b == 36)) [
 
 -- no item begins with `...`
 no_item : item_at (codes "...)") ≡ None
-unfolding item_at number_at numeral_len canonical_text
+unfolding item_at literal_value_at numeral_len canonical_text
 no_item = refl
 
-no_item_there : (i : Item) (xs ys : List ℕ) → item_at xs ≡ Some (i, ys) → bytes_eq xs (codes "...)") ≡ false
+no_item_there : (i : SpelledItem) (xs ys : List ℕ) → item_at xs ≡ Some (i, ys) → bytes_eq xs (codes "...)") ≡ false
 no_item_there i xs ys h = elim (cases_Bool (bytes_eq xs (codes "...)"))) [
   | inl e ↦
       let is : xs ≡ codes "...)" = (bytes_eq-Decides xs (codes "...)")).0 e in
@@ -204,7 +204,7 @@ no_item_there i xs ys h = elim (cases_Bool (bytes_eq xs (codes "...)"))) [
 ]
 
 -- an item as it is read, with what it leaves
-abbrev Reads : Item → List ℕ → List ℕ → Type 0
+abbrev Reads : SpelledItem → List ℕ → List ℕ → Type 0
 Reads i xs ys = item_at xs ≡ Some (i, ys)
 
 reads_exact : Exact item_at Reads
@@ -226,7 +226,7 @@ comma-takes c xs ys h = elim (cases_Bool (bytes_eq xs (codes ",...)"))) [
   | inr e ↦ byte-takes 44 c xs ys (rw e at h)
 ]
 
-more_sound : (items : List Item) (xs ys : List ℕ) → Many comma_at (λ _. Reads) items xs ys → (more : List ℕ) × IsMore items more × (xs ≡ more ++ ys)
+more_sound : (items : List SpelledItem) (xs ys : List ℕ) → Many comma_at (λ _. Reads) items xs ys → (more : List ℕ) × IsMore items more × (xs ≡ more ++ ys)
 more_sound [] xs ys h = ([], refl, h.0)
 more_sound (i ∷ items) xs ys (c, m, n, is, one, rest) =
     let first = item_sound i m n one in
@@ -240,12 +240,12 @@ end_stops : (e : Extent) → comma_at (closing e) ≡ None
 end_stops Node = refl
 end_stops Tree = refl
 
-more_ends : (items : List Item) (more : List ℕ) (e : Extent) → IsMore items more → Ends (more ++ closing e)
+more_ends : (items : List SpelledItem) (more : List ℕ) (e : Extent) → IsMore items more → Ends (more ++ closing e)
 more_ends [] more Node h = rw h ([], inr refl)
 more_ends [] more Tree h = rw h (codes "...)", inl refl)
 more_ends (i ∷ items) more e (one, others, is, rest, same) = rw same ((one ++ others) ++ closing e, inl refl)
 
-more_complete : (items : List Item) (more : List ℕ) (e : Extent) → IsMore items more → Many comma_at (λ _. Reads) items (more ++ closing e) (closing e)
+more_complete : (items : List SpelledItem) (more : List ℕ) (e : Extent) → IsMore items more → Many comma_at (λ _. Reads) items (more ++ closing e) (closing e)
 more_complete [] more e h = rw h (refl, end_stops e)
 more_complete (i ∷ items) more e (one, others, is, rest, same) =
     let after : List ℕ = others ++ closing e in
@@ -272,10 +272,10 @@ end_closes : (e : Extent) → end_of (closing e) ≡ Some e
 end_closes Node = refl
 end_closes Tree = refl
 
-abbrev AreParts : List Item × Extent → List ℕ → Type 0
+abbrev AreParts : List SpelledItem × Extent → List ℕ → Type 0
 AreParts p text = IsParts p.0 p.1 text
 
-parts_sound : (text : List ℕ) (p : List Item × Extent) → parts_of text ≡ Some p → AreParts p text
+parts_sound : (text : List ℕ) (p : List SpelledItem × Extent) → parts_of text ≡ Some p → AreParts p text
 unfolding parts_of list_of
 parts_sound [] p h = subst (λ q. AreParts q []) (same_Some ([], Node) p h) refl
 parts_sound (b ∷ xs) p h = elim (cases_Bool (b == 40)) [
@@ -298,7 +298,7 @@ parts_sound (b ∷ xs) p h = elim (cases_Bool (b == 40)) [
   ]
 ]
 
-parts_complete : (items : List Item) (e : Extent) (text : List ℕ) → IsParts items e text → parts_of text ≡ Some (items, e)
+parts_complete : (items : List SpelledItem) (e : Extent) (text : List ℕ) → IsParts items e text → parts_of text ≡ Some (items, e)
 unfolding parts_of list_of
 parts_complete [] Node text h = rw h refl
 parts_complete [] Tree text h = rw h refl
@@ -309,7 +309,7 @@ parts_complete (i ∷ items) e text (one, more, is, rest, same) =
     (separated-exact comma_at item_at Reads comma-takes reads_exact).complete (i ∷ items) (one ++ after) (closing e) (i, items, after, read, more_complete items more e rest, refl) in
     rw same (rw (no_item_there i (one ++ after) after read) (rw all (rw (end_closes e) refl)))
 
-parts_stop : (items : List Item) (e : Extent) (text : List ℕ) → IsParts items e text → stops is_name_byte text ≡ true
+parts_stop : (items : List SpelledItem) (e : Extent) (text : List ℕ) → IsParts items e text → stops is_name_byte text ≡ true
 parts_stop [] Node text h = rw h refl
 parts_stop [] Tree text h = rw h refl
 parts_stop (i ∷ items) e text (one, more, is, rest, same) = rw same refl

@@ -8,15 +8,15 @@ use Rattle.mlk_numbers.specs.Numbers.{IsCanonical}
 use Rattle.mlk_text.specs.declared.root.Root.TheVariants as root
 use Rattle.mlk_names.specs.declared.reference.Extent.{Extent}
 use Rattle.mlk_names.specs.declared.reference.Extent.TheVariants.{Node, Tree}
-use Rattle.mlk_rules_file.specs.declared.read.kinds.Item.{Item}
-use Rattle.mlk_rules_file.specs.declared.read.kinds.Item.TheVariants.{Literal, Variable, Job}
+use Rattle.mlk_rules_file.specs.declared.read.kinds.SpelledItem.{SpelledItem}
+use Rattle.mlk_rules_file.specs.declared.read.kinds.SpelledItem.TheVariants.{Literal, Variable, Job}
 use Rattle.mlk_rules_file.specs.declared.read.kinds.Spelling.{Spelling}
 use Rattle.mlk_rules_file.specs.RuleNumbers.{negative}
 use Rattle.mlk_rules_file.specs.RuleTexts.{spelling_of, pattern_of, is_entry}
 
 -- a text in quotes, in which each quote stands twice
-abbrev pub IsQuoted : List ℕ → List ℕ → Type 0
-IsQuoted value text = text ≡ 34 ∷ (doubled value ++ 34 ∷ [])
+abbrev pub IsQuotedText : List ℕ → List ℕ → Type 0
+IsQuotedText value text = text ≡ 34 ∷ (doubled value ++ 34 ∷ [])
 
 -- a number after a minus
 abbrev pub IsNegative : List ℕ → List ℕ → Type 0
@@ -24,13 +24,13 @@ IsNegative value text =
     (number canonical : List ℕ) × IsCanonical number canonical × (value ≡ negative canonical) × (text ≡ 45 ∷ number)
 
 -- a literal is written in quotes, or as a number, whose value is its canonical text; a variable as its name
-abbrev pub IsItem : Item → List ℕ → Type 0
-IsItem (Literal value) text = IsQuoted value text ⊎ (IsCanonical text value ⊎ IsNegative value text)
+abbrev pub IsItem : SpelledItem → List ℕ → Type 0
+IsItem (Literal value) text = IsQuotedText value text ⊎ (IsCanonical text value ⊎ IsNegative value text)
 IsItem (Variable name) text = (text ≡ name) × IsName name
 IsItem Job text = text ≡ codes "$J"
 
 -- more items, each after a comma
-abbrev pub IsMore : List Item → List ℕ → Type 0
+abbrev pub IsMore : List SpelledItem → List ℕ → Type 0
 IsMore [] text = text ≡ []
 IsMore (i ∷ items) text = (one more : List ℕ) × IsItem i one × IsMore items more × (text ≡ 44 ∷ (one ++ more))
 
@@ -40,7 +40,7 @@ closing Node = codes ")"
 closing Tree = codes ",...)"
 
 -- what stands after a root: nothing, or items in parentheses
-abbrev pub IsParts : List Item → Extent → List ℕ → Type 0
+abbrev pub IsParts : List SpelledItem → Extent → List ℕ → Type 0
 IsParts [] Node text = text ≡ []
 IsParts [] Tree text = text ≡ codes "(...)"
 IsParts (i ∷ items) extent text =

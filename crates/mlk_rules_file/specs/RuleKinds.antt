@@ -9,13 +9,13 @@ use Rattle.mlk_names.specs.declared.reference.Extent.TheVariants.{Node, Tree}
 use Rattle.mlk_rules.specs.declared.pattern.Element.{Element}
 use Rattle.mlk_rules.specs.declared.pattern.Element.TheVariants as element
 use Rattle.mlk_rules.specs.declared.pattern.Pattern.{Pattern}
-use Rattle.mlk_rules.specs.declared.template.Part.{Part}
-use Rattle.mlk_rules.specs.declared.template.Part.TheVariants as part
+use Rattle.mlk_rules.specs.declared.template.TemplatePart.{TemplatePart}
+use Rattle.mlk_rules.specs.declared.template.TemplatePart.TheVariants as part
 use Rattle.mlk_rules.specs.declared.template.Template.{Template}
 use Rattle.mlk_rules_file.specs.declared.read.fault.Section.{Section}
 use Rattle.mlk_rules_file.specs.declared.read.fault.Section.TheVariants.{File, Lock, Cover, Private, Readonly, Entry}
-use Rattle.mlk_rules_file.specs.declared.read.kinds.Item.{Item}
-use Rattle.mlk_rules_file.specs.declared.read.kinds.Item.TheVariants.{Literal, Variable, Job}
+use Rattle.mlk_rules_file.specs.declared.read.kinds.SpelledItem.{SpelledItem}
+use Rattle.mlk_rules_file.specs.declared.read.kinds.SpelledItem.TheVariants.{Literal, Variable, Job}
 use Rattle.mlk_rules_file.specs.declared.read.kinds.Spelling.{Spelling}
 
 -- more than 8 items; `...` is none
@@ -29,16 +29,16 @@ is_node Node = true
 is_node Tree = false
 
 -- literals alone
-abbrev pub is_literal : Item → Bool
+abbrev pub is_literal : SpelledItem → Bool
 is_literal (Literal v) = true
 is_literal (Variable n) = false
 is_literal Job = false
 
-abbrev pub is_literals : List Item → Bool
+abbrev pub is_literals : List SpelledItem → Bool
 is_literals items = list_all is_literal items
 
 -- their values
-abbrev pub values_of : List Item → List (List ℕ)
+abbrev pub values_of : List SpelledItem → List (List ℕ)
 values_of [] = []
 values_of (Literal v ∷ items) = v ∷ values_of items
 values_of (Variable n ∷ items) = values_of items
@@ -52,41 +52,41 @@ abbrev pub family_name : Spelling → LockName
 family_name s = record { root = s.root; subs = values_of s.items }
 
 -- `$J`
-abbrev pub is_own : Item → Bool
+abbrev pub is_own : SpelledItem → Bool
 is_own (Literal v) = false
 is_own (Variable n) = false
 is_own Job = true
 
 -- no `$J`
-abbrev pub is_jobless : List Item → Bool
+abbrev pub is_jobless : List SpelledItem → Bool
 is_jobless items = list_all (λ i. not (is_own i)) items
 
 -- `$J` once
-abbrev pub has_one_job : List Item → Bool
+abbrev pub has_one_job : List SpelledItem → Bool
 has_one_job items = count_by is_own items == 1
 
 -- the variable of this name is among the items
-abbrev pub is_item : List ℕ → Item → Bool
+abbrev pub is_item : List ℕ → SpelledItem → Bool
 is_item name (Literal v) = false
 is_item name (Variable n) = bytes_eq name n
 is_item name Job = false
 
-abbrev pub has_variable : List ℕ → List Item → Bool
+abbrev pub has_variable : List ℕ → List SpelledItem → Bool
 has_variable name items = list_any (is_item name) items
 
 -- the item is no variable of the others
-abbrev pub is_new : Item → List Item → Bool
+abbrev pub is_new : SpelledItem → List SpelledItem → Bool
 is_new (Literal v) items = true
 is_new (Variable n) items = not (has_variable n items)
 is_new Job items = true
 
 -- no variable stands twice
-abbrev pub is_distinct : List Item → Bool
+abbrev pub is_distinct : List SpelledItem → Bool
 is_distinct [] = true
 is_distinct (i ∷ items) = is_new i items && is_distinct items
 
 -- `$J` stands once in a private pattern, and in no other
-abbrev pub has_its_job : Section → List Item → Bool
+abbrev pub has_its_job : Section → List SpelledItem → Bool
 has_its_job Private items = has_one_job items
 has_its_job File items = is_jobless items
 has_its_job Lock items = is_jobless items
@@ -99,7 +99,7 @@ unfoldable pub is_pattern : Section → Spelling → Bool
 is_pattern section s = has_its_job section s.items && is_distinct s.items
 
 -- its elements
-abbrev pub elements_of : List Item → List Element
+abbrev pub elements_of : List SpelledItem → List Element
 elements_of [] = []
 elements_of (Literal v ∷ items) = element.Literal v ∷ elements_of items
 elements_of (Variable n ∷ items) = element.Variable ∷ elements_of items
@@ -118,38 +118,38 @@ unfoldable pub is_template : Spelling → Bool
 is_template s = is_jobless s.items && is_node s.extent
 
 -- the place of a variable in a pattern, counted from 0
-abbrev pub place_of : List ℕ → List Item → Option ℕ
+abbrev pub place_of : List ℕ → List SpelledItem → Option ℕ
 place_of name items = position (is_item name) items
 
 -- the part that an item of a lock is, beside a pattern
-abbrev pub placed : Option ℕ → Option Part
+abbrev pub placed : Option ℕ → Option TemplatePart
 placed None = None
 placed (Some k) = Some (part.Place k)
 
-abbrev pub part_of : List Item → Item → Option Part
+abbrev pub part_of : List SpelledItem → SpelledItem → Option TemplatePart
 part_of items (Literal v) = Some (part.Literal v)
 part_of items (Variable n) = placed (place_of n items)
 part_of items Job = None
 
 -- parts before those that were found
-abbrev pub before : List Part → Option (List Part) → Option (List Part)
+abbrev pub before : List TemplatePart → Option (List TemplatePart) → Option (List TemplatePart)
 before front None = None
 before front (Some parts) = Some (front ++ parts)
 
-abbrev pub part_before : Option Part → Option (List Part) → Option (List Part)
+abbrev pub part_before : Option TemplatePart → Option (List TemplatePart) → Option (List TemplatePart)
 part_before None parts = None
 part_before (Some p) parts = before (p ∷ []) parts
 
 -- the parts of a lock, where the pattern has all its variables
-abbrev pub parts_of : List Item → List Item → Option (List Part)
+abbrev pub parts_of : List SpelledItem → List SpelledItem → Option (List TemplatePart)
 parts_of items [] = Some []
 parts_of items (i ∷ others) = part_before (part_of items i) (parts_of items others)
 
-abbrev pub template : Spelling → List Part → Template
+abbrev pub template : Spelling → List TemplatePart → Template
 template s parts = record { root = s.root; parts = parts }
 
 -- a lock beside a pattern of these items
-abbrev pub template_of : List Item → Spelling → Option Template
+abbrev pub template_of : List SpelledItem → Spelling → Option Template
 template_of items s = option_map (template s) (parts_of items s.items)
 
 -- the same of a second lock, which a cover may lack
@@ -161,6 +161,6 @@ abbrev pub is_long_second : Option (Option Spelling) → Bool
 is_long_second None = false
 is_long_second (Some s) = is_long s
 
-abbrev pub second_template : List Item → Option Spelling → Option (Option Template)
+abbrev pub second_template : List SpelledItem → Option Spelling → Option (Option Template)
 second_template items None = Some None
 second_template items (Some s) = option_map Some (template_of items s)

@@ -19,12 +19,12 @@ valued ys None = None
 valued ys (Some value) = Some (value, ys)
 
 -- the value of the literal at the front, its canonical text
-unfoldable pub number_at : List ℕ → Option (List ℕ × List ℕ)
-number_at xs = valued (drop (numeral_len xs) xs) (canonical_text (take (numeral_len xs) xs))
+unfoldable pub literal_value_at : List ℕ → Option (List ℕ × List ℕ)
+literal_value_at xs = valued (drop (numeral_len xs) xs) (canonical_text (take (numeral_len xs) xs))
 
 -- the value of a number after a minus
 abbrev pub negative : List ℕ → List ℕ
 negative v = if bytes_eq v (48 ∷ []) then v else 45 ∷ v
 
 abbrev pub negative_at : List ℕ → Option (List ℕ × List ℕ)
-negative_at xs = with negative (number_at xs)
+negative_at xs = with negative (literal_value_at xs)

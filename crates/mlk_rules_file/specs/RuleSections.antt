@@ -170,13 +170,13 @@ unfoldable pub entry_of : ℕ → Data → Answer (List ℕ)
 entry_of k d = entry_at k (text_key Entry (codes "label") (as_table d))
 
 -- what stands before others
-abbrev pub put : {A : Type 0} → List A → Answer (List A) → Answer (List A)
-put front others = answer_map (λ xs. front ++ xs) others
+abbrev pub put_first : {A : Type 0} → List A → Answer (List A) → Answer (List A)
+put_first front others = answer_map (λ xs. front ++ xs) others
 
 -- what each element is, of which the first has this index
 abbrev pub each : {A : Type 0} → (ℕ → Data → Answer A) → ℕ → Items → Answer (List A)
 each read k no_items = Ok []
-each read k (item d ds) = next (read k d) (λ x. put (x ∷ []) (each read (suc k) ds))
+each read k (item d ds) = next (read k d) (λ x. put_first (x ∷ []) (each read (suc k) ds))
 
 -- how many
 abbrev pub count : Items → ℕ

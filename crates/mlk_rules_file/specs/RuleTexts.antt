@@ -6,10 +6,10 @@ use Rattle.mlk_text.specs.Lexemes.{is_digit, byte_at, name_at, root_at, entry_of
 use Rattle.mlk_text.specs.declared.root.Root.{Root}
 use Rattle.mlk_names.specs.declared.reference.Extent.{Extent}
 use Rattle.mlk_names.specs.declared.reference.Extent.TheVariants.{Node, Tree}
-use Rattle.mlk_rules_file.specs.declared.read.kinds.Item.{Item}
-use Rattle.mlk_rules_file.specs.declared.read.kinds.Item.TheVariants.{Literal, Variable, Job}
+use Rattle.mlk_rules_file.specs.declared.read.kinds.SpelledItem.{SpelledItem}
+use Rattle.mlk_rules_file.specs.declared.read.kinds.SpelledItem.TheVariants.{Literal, Variable, Job}
 use Rattle.mlk_rules_file.specs.declared.read.kinds.Spelling.{Spelling}
-use Rattle.mlk_rules_file.specs.RuleNumbers.{number_at, negative_at}
+use Rattle.mlk_rules_file.specs.RuleNumbers.{literal_value_at, negative_at}
 
 -- A text in quotes, which may have any byte; a quote inside stands twice.
 unfoldable mutual
@@ -24,16 +24,16 @@ unfoldable mutual
   closed (b ∷ xs) = if b == 34 then put (34 ∷ []) (quoted xs) else Some ([], b ∷ xs)
 
 -- The item at the front: `$J`, a number after a minus, a text in quotes, a number, or a variable.
-abbrev pub job : ℕ → Item
+abbrev pub job : ℕ → SpelledItem
 job j = Job
 
-unfoldable pub item_at : List ℕ → Option (Item × List ℕ)
+unfoldable pub item_at : List ℕ → Option (SpelledItem × List ℕ)
 item_at [] = None
 item_at (b ∷ xs) =
     if b == 36 then with job (byte_at 74 xs)
     else if b == 45 then with Literal (negative_at xs)
     else if b == 34 then with Literal (quoted xs)
-    else if (b == 46) || is_digit b then with Literal (number_at (b ∷ xs))
+    else if (b == 46) || is_digit b then with Literal (literal_value_at (b ∷ xs))
     else with Variable (name_at (b ∷ xs))
 
 -- a comma, unless `...` ends the list after it
@@ -45,22 +45,22 @@ abbrev pub end_of : List ℕ → Option Extent
 end_of xs = if bytes_eq xs (codes ")") then Some Node else if bytes_eq xs (codes ",...)") then Some Tree else None
 
 -- items up to their end
-abbrev pub ended : List Item × List ℕ → Option (List Item × Extent)
+abbrev pub ended : List SpelledItem × List ℕ → Option (List SpelledItem × Extent)
 ended r = end_of r.1 >>= λ extent. Some (r.0, extent)
 
 -- one or more items, of which `...` may be the last, up to the closing parenthesis, which ends the text
-unfoldable pub list_of : List ℕ → Option (List Item × Extent)
+unfoldable pub list_of : List ℕ → Option (List SpelledItem × Extent)
 list_of xs =
     if bytes_eq xs (codes "...)") then Some ([], Tree)
     else (separated comma_at item_at xs >>= ended)
 
 -- what is after a root: nothing, or a list in parentheses
-unfoldable pub parts_of : List ℕ → Option (List Item × Extent)
+unfoldable pub parts_of : List ℕ → Option (List SpelledItem × Extent)
 parts_of [] = Some ([], Node)
 parts_of (b ∷ xs) = if b == 40 then list_of xs else None
 
 -- a spelling of its parts
-abbrev pub spelling : Root → List Item × Extent → Spelling
+abbrev pub spelling : Root → List SpelledItem × Extent → Spelling
 spelling r p = record { root = r; items = p.0; extent = p.1 }
 
 -- the text as a lock name

@@ -24,7 +24,7 @@ use Rattle.mlk_machine_jobs.specs.Calling.{binders, with_actuals}
 use Rattle.mlk_walk_state.specs.declared.state.State.{State}
 use Rattle.mlk_walk_state.specs.Names.{has, have, is_own, is_among, without}
 use Rattle.mlk_walk_state.specs.Scope.{Scope}
-use Rattle.mlk_walk_state.specs.Terms.{all_taken, put_all, put_terms, is_such}
+use Rattle.mlk_walk_state.specs.Terms.{all_taken, add_terms, put_terms, is_such}
 use Rattle.std.proofs.lemmas.Bool.Decides.{nat_tests}
 use Rattle.mlk_cert_parts.specs.declared.block.Summary.{Summary}
 use Rattle.mlk_rules.specs.Ranks.{NameHasRank, FamiliesApart}
@@ -32,7 +32,7 @@ use Rattle.mlk_rules.specs.Laws.{RankedOnce}
 use Rattle.mlk_walk_state.specs.Cases.{holds_some}
 use Rattle.mlk_calls.specs.Claims.{is_low_enough}
 use Rattle.mlk_soundness_machine.proofs.Ranks.{ranked_below}
-use Rattle.mlk_calls.specs.Calls.{changes, lent_set, all_below, ranks_fault}
+use Rattle.mlk_calls.specs.Calls.{changed_by_call, lent_set, all_below, ranks_fault}
 use Rattle.mlk_calls.specs.Changes.{marked}
 use Rattle.mlk_machine_laws.specs.Sharing.{is_lent}
 use Rattle.mlk_machine_laws.specs.Tidy.{Below}
@@ -121,12 +121,12 @@ module _ (sc callee : Scope) (w : World) (b : Level) (s : State) (j : Job) (d : 
     (formals : List (List ℕ)) (dist : AreDistinct formals) (given : List ActualTree) (syms : List Sym) (vals : List (List ℕ)) (passed : Passed (now j) given syms vals)
     (syms_sole : (x : List ℕ) → some_local x syms ≡ true → is_lent j.bindings (look j.bindings x) ≡ false)
     (needs aside : List LockTerm) (put : put_terms formals (map Some syms) callee.summary.need ≡ Some needs) (taken : all_taken needs s.case.held ≡ Some aside)
-    (ok : Allowed sc (changes callee.summary given) s)
+    (ok : Allowed sc (changed_by_call callee.summary given) s)
     (shares : SharesByOwn sc.is_shared callee.is_shared)
     (filled : (x : List ℕ) → refs_of formals given x ≡ true → (own : List Own) → is_own own x ≡ true → callee.is_shared own x ≡ true)
     (lent : (n : List ℕ) → passes formals given n ≡ true → (own : List Own) → is_own own n ≡ false → callee.is_shared own n ≡ true) (begun : List Job) (entry : EntryId) where
   abbrev pub ch : List NameSet
-  ch = changes callee.summary given
+  ch = changed_by_call callee.summary given
 
   abbrev pub front : Bindings
   front = binders j.bindings j.next formals given
@@ -370,7 +370,7 @@ module _ (sc callee : Scope) (w : World) (b : Level) (s : State) (j : Job) (d : 
     returned = record i { bindings = j.bindings; next = j.next; cells = after; routine = j.routine; test = truth }
 
     abbrev pub ended : Case
-    ended = record { test = test; saved = s.case.saved; held = put_all terms aside; own = s.case.own; kept = without ch s.case.kept }
+    ended = record { test = test; saved = s.case.saved; held = add_terms terms aside; own = s.case.own; kept = without ch s.case.kept }
 
     back_value : (x : List ℕ) → after (look j.bindings x) ≡ i.cells (look j.bindings x)
     back_value x = not_forgotten j.next i.cells (look j.bindings x) (below_look j.next j.bindings x d.older)

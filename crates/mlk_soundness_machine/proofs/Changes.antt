@@ -7,7 +7,7 @@ use Rattle.mlk_cert_parts.specs.declared.names.NameSet.{NameSet}
 use Rattle.mlk_cert_parts.specs.declared.names.NameSet.TheVariants.{Only, AllBut}
 use Rattle.mlk_cert_parts.specs.declared.names.Own.{Own}
 use Rattle.mlk_syntax.specs.Trees.{RoutineTree}
-use Rattle.mlk_machine_jobs.specs.Bindings.{look, put, same_cell}
+use Rattle.mlk_machine_jobs.specs.Bindings.{look, put_value, same_cell}
 use Rattle.mlk_machine_jobs.specs.Tasks as task
 use Rattle.mlk_machine_jobs.specs.Tasks.{Task, Job}
 use Rattle.mlk_machine_jobs.specs.Choices.{dropped, doing, stored}
@@ -62,7 +62,7 @@ have_it name = or_left (bytes_eq name name) false (name_self name)
 module _ (routines : List RoutineTree) (sc : Scope) (w : World) (b : Level) (k : IsWorld sc w) (slots : List Slot) (n : ℕ) (ts : List Task) (s : State)
     (name : List ℕ) (h : Allowed sc (Only name ∷ []) s) where
   store_law : (j : Job) (v : List ℕ) → Describes sc w b slots s (idle j) → Describes sc w b slots (changed_state (Only name ∷ []) s) (idle (stored name v j))
-  store_law j v d = change_law sc w b slots s (idle j) d k (Only name ∷ []) (put (look j.bindings name) v j.cells)
+  store_law j v d = change_law sc w b slots s (idle j) d k (Only name ∷ []) (put_value (look j.bindings name) v j.cells)
       (λ e. ⊎_elim
       (λ (u : same_cell (look j.bindings name) e ≡ true). inr (name, have_it name, same_is (look j.bindings name) e u))
       (λ (u : same_cell (look j.bindings name) e ≡ false). inl (rw u refl))

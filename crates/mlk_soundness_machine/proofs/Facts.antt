@@ -1,8 +1,8 @@
 -- What a job keeps to, by its first task.
 use Rattle.std.proofs.Common.{◌≡◌, true, false, List, [], ◌∷◌, ◌++◌, Some, None, refl, sym, ap, ◌∙◌, subst}
+use Rattle.mlk_names.specs.Lists.{Among}
 use Rattle.mlk_names.specs.References.{Touch}
 use Rattle.mlk_walk_state.specs.Scope.{Scope, listed}
-use Rattle.mlk_machine_locks.specs.Lists.{Among}
 use Rattle.mlk_machine_locks.specs.Waiting.{awaited}
 use Rattle.mlk_machine_jobs.specs.Tasks as task
 use Rattle.mlk_machine_jobs.specs.Tasks.{Task, Job, LineTree, RunLines, RunCommands}
@@ -18,7 +18,7 @@ use Rattle.mlk_soundness_machine.specs.Facts.{Facts}
 use Rattle.mlk_soundness_machine.specs.Listed.{IsAtLine, IsAtRound, IsInside}
 use Rattle.mlk_soundness_machine.specs.Places.{line_number, StandIn, none_follows, open_round, ComesTo}
 use Rattle.mlk_soundness_machine.proofs.Listing.{own_lines, is_at_line, BeginsRound, is_at_round, is_inside, begins_lines, begins_commands, starts_listed, no_start, no_line, no_round, no_command}
-use Rattle.mlk_soundness_machine.specs.Safe.{Keeps, is_quiet, is_plain}
+use Rattle.mlk_soundness_machine.specs.Safe.{KeepsIn, is_quiet, is_plain}
 
 no_touch : (t : Task) (ts : List Task) → is_quiet t ≡ true → ready_in (t ∷ ts) ≡ None
 no_touch (task.DoTouch touch) ts h = cc
@@ -56,7 +56,7 @@ plain_commands : (t : Task) (ts : List Task) → is_plain t ≡ true → begins_
 plain_commands (RunCommands rest block) ts h = cc
 plain_commands t ts h = refl
 
-pub plain_facts : (sc : Scope) (w : World) (b : Level) (j : Job) (t : Task) (ts : List Task) → j.tasks ≡ t ∷ ts → is_plain t ≡ true → Keeps sc w b j
+pub plain_facts : (sc : Scope) (w : World) (b : Level) (j : Job) (t : Task) (ts : List Task) → j.tasks ≡ t ∷ ts → is_plain t ≡ true → KeepsIn sc w b j
 plain_facts sc w b j t ts e h k = record {
   facts = quiet_facts sc.rules j t ts e (plain_quiet t h);
   starts = no_start sc.routines sc.blocks w.begun j (t ∷ ts) e (plain_commands t ts h);
@@ -68,7 +68,7 @@ plain_facts sc w b j t ts e h k = record {
 -- where it goes on to a line, and where commands begin
 pub lines_facts : (sc : Scope) (w : World) (b : Level) (j : Job) (l : LineTree) (lines : List LineTree) (ts : List Task) → j.tasks ≡ RunLines (l ∷ lines) ∷ ts
     → (c : Case) → Among c (listed sc (line_number l.0) 0) → (behind : LineTrees) → StandIn (line l.0 l.1 behind) (own_lines sc w) → (others : List LineTree) → lines ≡ as_lines behind ++ others → none_follows others ≡ true
-    → Stands sc w b c (bare (idle j)) → Keeps sc w b j
+    → Stands sc w b c (bare (idle j)) → KeepsIn sc w b j
 lines_facts sc w b j l lines ts e c i behind is others ahead none d k = record {
   facts = quiet_facts sc.rules j (RunLines (l ∷ lines)) ts e refl;
   starts = no_start sc.routines sc.blocks w.begun j (RunLines (l ∷ lines) ∷ ts) e refl;
@@ -84,7 +84,7 @@ lines_facts sc w b j l lines ts e c i behind is others ahead none d k = record {
 
 pub commands_facts : (sc : Scope) (w : World) (b : Level) (j : Job) (cs : CommandTrees) (block : LineTrees) (ts : List Task) → j.tasks ≡ RunCommands cs block ∷ ts
     → (c : Case) → ComesTo sc (own_lines sc w) cs block ts c → (open_round ts ≡ Some cs → BeginsRound sc (own_lines sc w) cs block ts c)
-    → Stands sc w b c (bare (idle j)) → Keeps sc w b j
+    → Stands sc w b c (bare (idle j)) → KeepsIn sc w b j
 commands_facts sc w b j cs block ts e c comes round d k = record {
   facts = quiet_facts sc.rules j (RunCommands cs block) ts e refl;
   starts = starts_listed sc w b j k;
@@ -117,7 +117,7 @@ touching rules j t ts e h = record {
   ends = not_ended j (task.DoTouch t) ts e;
 }
 
-pub touch_facts : (sc : Scope) (w : World) (b : Level) (j : Job) (t : Touch) (ts : List Task) → j.tasks ≡ task.DoTouch t ∷ ts → IsCoveredAt sc.rules j t → Keeps sc w b j
+pub touch_facts : (sc : Scope) (w : World) (b : Level) (j : Job) (t : Touch) (ts : List Task) → j.tasks ≡ task.DoTouch t ∷ ts → IsCoveredAt sc.rules j t → KeepsIn sc w b j
 touch_facts sc w b j t ts e h k = record {
   facts = touching sc.rules j t ts e h;
   starts = no_start sc.routines sc.blocks w.begun j (task.DoTouch t ∷ ts) e refl;

@@ -13,7 +13,7 @@ use Rattle.mlk_walk_state.specs.Scope.{Scope}
 use Rattle.mlk_soundness_machine.specs.Described.{World, Level}
 use Rattle.mlk_soundness_machine.specs.History.{count_frames, open_frames, begun_since}
 use Rattle.mlk_soundness_machine.specs.Marked.{Marked}
-use Rattle.mlk_soundness_machine.specs.Safe.{SafeFor, SafeIn, Keeps, KeepsTo, is_steady}
+use Rattle.mlk_soundness_machine.specs.Safe.{SafeFor, SafeIn, KeepsIn, KeepsTo, is_steady}
 use Rattle.mlk_soundness_machine.proofs.Steps.{Comes}
 use Rattle.mlk_soundness_machine.proofs.Stays.{AreOpen, stays}
 
@@ -60,7 +60,7 @@ module _ (routines : List RoutineTree) (sc : Scope) (w : World) (b : Level) wher
   Next ts n i = Marked sc w b (marks ts) → SafeFor routines (KeepsTo sc) n (begun_since w.begun (count_frames (marks ts)) i) i
 
   -- one step, after which the job is safe for one step less
-  pub by_step : (n : ℕ) (j : Job) (ts : List Task) → j.tasks ≡ ts → Keeps sc w b j
+  pub by_step : (n : ℕ) (j : Job) (ts : List Task) → j.tasks ≡ ts → KeepsIn sc w b j
       → ((m : ℕ) → n ≡ suc m → (free : LockName → Bool) (c : Choice) → Comes (Next ts m) (advance routines free c j ts)) → Safe n j
   by_step zero j ts e f h k = f k
   by_step (suc m) j ts e f h k = (
@@ -79,20 +79,20 @@ module _ (routines : List RoutineTree) (sc : Scope) (w : World) (b : Level) wher
       (h i e (marked_same sc w b (marks i.tasks) (marks (t ∷ ts)) o k))
 
   -- after which it is safe for as many steps
-  pub step : (n : ℕ) (j : Job) (t : Task) (ts : List Task) → j.tasks ≡ t ∷ ts → is_steady t ≡ true → Keeps sc w b j
+  pub step : (n : ℕ) (j : Job) (t : Task) (ts : List Task) → j.tasks ≡ t ∷ ts → is_steady t ≡ true → KeepsIn sc w b j
       → ((free : LockName → Bool) (c : Choice) → Comes (Safe n) (advance routines free c j (t ∷ ts))) → Safe n j
   step n j t ts e is f h = by_step n j (t ∷ ts) e f (λ m k free c.
       steady free c j t ts is m (advance routines free c j (t ∷ ts)) refl (λ i r. less m i (subst (λ z. Safe z i) k (h free c i r))))
 
   -- one step, for one more
-  pub down : (m : ℕ) (j : Job) (t : Task) (ts : List Task) → j.tasks ≡ t ∷ ts → is_steady t ≡ true → Keeps sc w b j
+  pub down : (m : ℕ) (j : Job) (t : Task) (ts : List Task) → j.tasks ≡ t ∷ ts → is_steady t ≡ true → KeepsIn sc w b j
       → ((free : LockName → Bool) (c : Choice) → Comes (Safe m) (advance routines free c j (t ∷ ts))) → Safe (suc m) j
   down m j t ts e is f h = by_step (suc m) j (t ∷ ts) e f (λ k same free c.
       steady free c j t ts is k (advance routines free c j (t ∷ ts)) refl
       (subst (λ z. Comes (Safe z) (advance routines free c j (t ∷ ts))) (let z : m ≡ k = cc same in z) (h free c)))
 
   -- a frame's end, after which the job is in the frame that waited for it
-  pub end_step : (n : ℕ) (j : Job) (frame : Frame) (back : Bindings) (next r : ℕ) (ts : List Task) → j.tasks ≡ EndFrame frame back next r ∷ ts → Keeps sc w b j
+  pub end_step : (n : ℕ) (j : Job) (frame : Frame) (back : Bindings) (next r : ℕ) (ts : List Task) → j.tasks ≡ EndFrame frame back next r ∷ ts → KeepsIn sc w b j
       → ((free : LockName → Bool) (c : Choice) → Comes (λ i. (i.tasks ≡ ts) × SafeFor routines (KeepsTo sc) n (drop 1 w.begun) i) (advance routines free c j (EndFrame frame back next r ∷ ts))) → Safe n j
   end_step n j frame back next r ts e f h = by_step n j (EndFrame frame back next r ∷ ts) e f (λ m is free c i to k.
       let g = h free c i to in

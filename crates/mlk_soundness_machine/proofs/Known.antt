@@ -1,10 +1,10 @@
 -- What is known of the value of an expression. This project's own choice.
-use Rattle.std.specs.Prelude.{◌≡◌, ℕ, Bool, true, false, List, Option, Some, None}
+use Rattle.std.specs.Prelude.{◌≡◌, ℕ, Bool, List, Option, Some, None}
 use Rattle.mlk_names.specs.declared.symbol.Sym.{Sym}
 use Rattle.mlk_names.specs.declared.symbol.Sym.TheVariants as sym
 use Rattle.mlk_names.specs.Symbols.{Assignment, StandsFor}
 use Rattle.mlk_syntax.specs.ExprTrees.{Tree}
-use Rattle.mlk_machine_jobs.specs.Choices.{is_one, is_zero}
+use Rattle.mlk_numbers.specs.Operators.{truth_of_text}
 use Rattle.mlk_walk_state.specs.declared.state.State.{State}
 use Rattle.mlk_walk_state.specs.Scope.{Scope}
 use Rattle.mlk_walk_state.specs.Symbols.{symbol_of, truth_in}
@@ -18,8 +18,7 @@ IsConstant sym.Unknown v = Unit {0}
 
 abbrev pub IsTruth : Option Bool → List ℕ → Type 0
 IsTruth None v = Unit {0}
-IsTruth (Some true) v = is_one v ≡ true
-IsTruth (Some false) v = is_zero v ≡ true
+IsTruth (Some t) v = truth_of_text v ≡ Some t
 
 -- what is known of a value by a symbol, which rests on the names that are shared
 pub record KnowsBy (sc : Scope) (s : State) (by : (List ℕ → Bool) → Sym) (a : Assignment) (v : List ℕ) : Type 0 where

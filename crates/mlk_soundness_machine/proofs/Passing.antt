@@ -13,7 +13,7 @@ use Rattle.mlk_names.specs.Actuals.{local_at}
 use Rattle.mlk_cert_parts.specs.declared.names.NameSet.{NameSet}
 use Rattle.mlk_syntax.specs.Distinct.{AreDistinct}
 use Rattle.mlk_syntax.specs.ExprTrees.{ActualTree, Given, ByRef, Missing}
-use Rattle.mlk_machine_jobs.specs.Bindings.{Cell, same_cell, Bindings, Cells, look, put}
+use Rattle.mlk_machine_jobs.specs.Bindings.{Cell, same_cell, Bindings, Cells, look, put_value}
 use Rattle.mlk_machine_jobs.specs.Calling.{next_actual, later_actuals, binder, binders, with_actuals}
 use Rattle.mlk_walk_state.specs.Names.{has, is_among, have}
 use Rattle.mlk_calls.specs.Calls.{lent_set}
@@ -189,9 +189,9 @@ module _ (g : ℕ) where
   with_other (f ∷ fs) (Given t ∷ given) [] cells x h = refl
   with_other (f ∷ fs) (Given t ∷ given) (v ∷ vs) cells x h =
       let p = or_parts (bytes_eq x f) (is_among fs x) h in
-      with_other fs given vs (put (record { generation = g; name = f }) v cells) x p.1 ∙ past p.0
+      with_other fs given vs (put_value (record { generation = g; name = f }) v cells) x p.1 ∙ past p.0
     where
-      past : bytes_eq x f ≡ false → put (record { generation = g; name = f }) v cells (record { generation = g; name = x }) ≡ cells (record { generation = g; name = x })
+      past : bytes_eq x f ≡ false → put_value (record { generation = g; name = f }) v cells (record { generation = g; name = x }) ≡ cells (record { generation = g; name = x })
       past e =
           ⊎_elim
           (λ (u : same_cell (record { generation = g; name = f }) (record { generation = g; name = x }) ≡ true).
@@ -237,9 +237,9 @@ module _ (g : ℕ) where
       here (Given t ∷ given) [] vs p e = absurd p
       here (Given t ∷ given) (s ∷ ss) [] p e = absurd p
       here (Given t ∷ given) (s ∷ ss) (v ∷ vs) p e =
-          (refl, stands_value a s r v e p.0 ∙ sym (with_other fs given vs (put (record { generation = g; name = f }) v cells) f (distinct_among f fs dist.0) ∙ at))
+          (refl, stands_value a s r v e p.0 ∙ sym (with_other fs given vs (put_value (record { generation = g; name = f }) v cells) f (distinct_among f fs dist.0) ∙ at))
         where
-          at : put (record { generation = g; name = f }) v cells (record { generation = g; name = f }) ≡ Some v
+          at : put_value (record { generation = g; name = f }) v cells (record { generation = g; name = f }) ≡ Some v
           at = let u = same_self (record { generation = g; name = f }) in rw u refl
       here (ByRef column name ∷ given) [] vs p e = absurd p
       here (ByRef column name ∷ given) (s ∷ ss) vs p e = absurd (none s p.0 e)
@@ -260,7 +260,7 @@ module _ (g : ℕ) where
       there [] (s ∷ ss) vs p e more = absurd p
       there (Given t ∷ given) [] vs p e more = absurd p
       there (Given t ∷ given) (s ∷ ss) [] p e more = absurd p
-      there (Given t ∷ given) (s ∷ ss) (v ∷ vs) p e more = more given ss vs (put (record { generation = g; name = f }) v cells) p.1 e
+      there (Given t ∷ given) (s ∷ ss) (v ∷ vs) p e more = more given ss vs (put_value (record { generation = g; name = f }) v cells) p.1 e
       there (ByRef column name ∷ given) [] vs p e more = absurd p
       there (ByRef column name ∷ given) (s ∷ ss) vs p e more = more given ss vs cells p.1 e
       there (Missing ∷ given) [] vs p e more = absurd p

@@ -1,5 +1,6 @@
 -- A job that is safe for any number of steps keeps to the facts at each moment of each run of its own.
 use Rattle.std.proofs.Common.{◌≡◌, Bool, true, false, List, [], ◌∷◌, length, Some, None, Ok, Err, refl, sym, ap, ◌∙◌, subst}
+use Rattle.mlk_names.specs.Lists.{Among}
 use Rattle.mlk_rules.specs.declared.rules.RuleLists.{RuleLists}
 use Rattle.mlk_program.specs.declared.entry.EntryId.{EntryId}
 use Rattle.mlk_syntax.specs.Trees.{RoutineTree}
@@ -16,7 +17,6 @@ use Rattle.mlk_soundness_machine.proofs.Listing.{no_start, no_line, no_round, no
 use Rattle.mlk_soundness_machine.specs.Safe.{SafeFor}
 use Rattle.mlk_soundness_machine.specs.History.{begun_after}
 use Rattle.mlk_soundness_machine.specs.Moments.{where_it_goes, begun_by}
-use Rattle.mlk_machine_locks.specs.Lists.{Among}
 use Rattle.mlk_machine_locks.specs.Waiting.{awaited}
 use Rattle.mlk_machine_jobs.specs.Seen.{ready_in}
 

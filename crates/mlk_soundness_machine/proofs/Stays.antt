@@ -9,13 +9,14 @@ use Rattle.mlk_machine_locks.specs.Counts.{has_room}
 use Rattle.mlk_machine_locks.specs.declared.refusal.Refusal.TheVariants.{NotEnabled}
 use Rattle.mlk_syntax.specs.ExprTrees.{Tree, Choices, no_choices, choice as condition}
 use Rattle.mlk_syntax.specs.Trees.{RoutineTree, LineHead}
+use Rattle.mlk_numbers.specs.Operators.{truth_of_text}
 use Rattle.mlk_machine_jobs.specs.Commands.{action_parts}
 use Rattle.mlk_machine_jobs.specs.declared.choice.Choice.{Choice}
 use Rattle.mlk_machine_jobs.specs.Tasks as task
-use Rattle.mlk_machine_jobs.specs.Tasks.{Task, Job, LineTree, Frame, NoValue, AwaitsValue, HasValue, Mark, BlockMark, FrameMark, marks}
+use Rattle.mlk_machine_jobs.specs.Tasks.{Task, Job, LineTree, NoValue, AwaitsValue, HasValue, Mark, marks}
 use Rattle.mlk_machine_jobs.specs.Tasks.{RunLines, RunCommands, Parameters, Forever, NextValue, FirstRound, LaterRound, EndBlock, EndFrame}
 use Rattle.mlk_machine_jobs.specs.Choices.{Stepped, doing, dropped, by_truth, fetched, touched, same_truth}
-use Rattle.mlk_machine_jobs.specs.Locking.{tested, claimed, timed_claim, if_free}
+use Rattle.mlk_machine_jobs.specs.Locking.{tested, claim_step, timed_claim, if_free}
 use Rattle.mlk_machine_jobs.specs.Lines.{tasks_if, selected, chosen, answered, to_end, next_line}
 use Rattle.mlk_machine_jobs.specs.Advance.{advance}
 use Rattle.mlk_machine_laws.proofs.Plain.{expressions, actions, assigns, signed, rounds_of, round_first, round_later, next_commands}
@@ -92,7 +93,7 @@ module _ (us : List Task) where
 
   module _ (j : Job) where
     of_condition : (c : Choice) (f : Bool → Job → Stepped) → ((t : Bool) → Comes Has (f t (dropped 1 j))) → Comes Has (by_truth c j f)
-    of_condition c f h = of_last Has j.values _ (λ v more e. of_known Has c v (λ t. f t (dropped 1 j)) (λ t y n. h t))
+    of_condition c f h = of_last Has j.values _ (λ v more e. of_known Has c (truth_of_text v) (λ t. f t (dropped 1 j)) (λ t k. h t))
 
     of_fetch : (o : Option (List ℕ)) → Comes Has (fetched j us o)
     of_fetch None = refused Has NotEnabled
@@ -119,7 +120,7 @@ module _ (us : List Task) where
     of_grant true k e = with_tasks k e
     of_grant false k e = refused Has NotEnabled
 
-    of_claim : (c : Choice) (names : List LockName) (timed : Bool) (free : LockName → Bool) → Comes Has (claimed free c names timed (doing us j))
+    of_claim : (c : Choice) (names : List LockName) (timed : Bool) (free : LockName → Bool) → Comes Has (claim_step free c names timed (doing us j))
     of_claim c names false free = unasked Has c _ (of_grant (list_all free names && has_room names j.held) _ refl)
     of_claim c names true free = of_truth Has c _ (λ t. elim t as (λ t. Comes Has (timed_claim free names t (doing us j))) [
       | true ↦ of_grant (list_all free names && has_room names j.held) _ refl

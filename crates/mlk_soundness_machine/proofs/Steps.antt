@@ -1,11 +1,10 @@
 -- What a step comes to.
-use Rattle.std.proofs.Common.{◌≡◌, ℕ, Bool, true, false, List, [], ◌∷◌, Option, Some, None, Ok, Err, refl, sym, ◌∙◌, subst, ⊎_elim}
-use Rattle.std.proofs.lemmas.Bool.{cases_Bool}
+use Rattle.std.proofs.Common.{◌≡◌, ℕ, Bool, List, [], ◌∷◌, Option, Some, None, Ok, Err, refl, subst}
 use Rattle.mlk_machine_locks.specs.declared.refusal.Refusal.{Refusal}
 use Rattle.mlk_machine_jobs.specs.declared.choice.Choice.{Choice}
 use Rattle.mlk_machine_jobs.specs.declared.choice.Choice.TheVariants as choice
 use Rattle.mlk_machine_jobs.specs.Tasks.{Job}
-use Rattle.mlk_machine_jobs.specs.Choices.{Stepped, without_choice, with_value, with_truth, with_last, truth_of, is_one, is_zero, given_or_asked}
+use Rattle.mlk_machine_jobs.specs.Choices.{Stepped, without_choice, with_value, with_truth, with_last, truth_or_asked, given_or_asked}
 
 module _ (P : Job → Type 0) where
   -- whatever the step comes to has P
@@ -43,13 +42,7 @@ module _ (P : Job → Type 0) where
   of_result c None f h = of_value c f (λ v. h v (λ u e. cc))
   of_result c (Some v) f h = unasked c (f v) (h v (λ u e. cc))
 
-  -- a truth, which a value that is `0` or `1` has
-  pub of_known : (c : Choice) (v : List ℕ) (f : Bool → Stepped) → ((t : Bool) → (is_one v ≡ true → t ≡ true) → (is_zero v ≡ true → is_one v ≡ false → t ≡ false) → Comes (f t)) → Comes (truth_of c v f)
-  of_known c v f h i e =
-      ⊎_elim
-      (λ (u : is_one v ≡ true). unasked c (f true) (h true (λ k. refl) (λ k n. let z : true ≡ false = sym u ∙ n in cc)) i (rw u at e))
-      (λ (u : is_one v ≡ false). ⊎_elim
-      (λ (w : is_zero v ≡ true). unasked c (f false) (h false (λ k. let z : true ≡ false = sym k ∙ u in cc) (λ k n. refl)) i (rw (u, w) at e))
-      (λ (w : is_zero v ≡ false). of_truth c f (λ t. h t (λ k. let z : true ≡ false = sym k ∙ u in cc) (λ k n. let z : true ≡ false = sym k ∙ w in cc)) i (rw (u, w) at e))
-      (cases_Bool (is_zero v)))
-      (cases_Bool (is_one v))
+  -- a truth, which is the known one
+  pub of_known : (c : Choice) (o : Option Bool) (f : Bool → Stepped) → ((t : Bool) → ((u : Bool) → o ≡ Some u → t ≡ u) → Comes (f t)) → Comes (truth_or_asked c o f)
+  of_known c None f h = of_truth c f (λ t. h t (λ u e. cc))
+  of_known c (Some t) f h = unasked c (f t) (h t (λ u e. cc))

@@ -13,9 +13,9 @@ use Rattle.mlk_names.specs.declared.known_symbol.KnownSym.{KnownSym}
 use Rattle.mlk_names.specs.declared.known_symbol.KnownSym.TheVariants as known
 use Rattle.mlk_names.specs.Symbols.{Assignment, known_of}
 use Rattle.mlk_names.specs.Actuals.{put_in}
-use Rattle.mlk_cert.specs.Making.{terms_before}
+use Rattle.mlk_cert_parts.specs.TermOrder.{terms_before}
 use Rattle.mlk_walk_state.specs.Lists.{all_some}
-use Rattle.mlk_walk_state.specs.Terms.{same_term, put, put_all, taken, all_taken, is_such, mention_such, all_known, put_term, put_terms}
+use Rattle.mlk_walk_state.specs.Terms.{same_term, add_term, add_terms, taken, all_taken, is_such, mention_such, all_known, put_term, put_terms}
 use Rattle.mlk_walk_state.proofs.TermTests.{same_term_decides}
 use Rattle.mlk_soundness_machine.specs.Reads.{value_of, name_of, one_at, times, mentions}
 use Rattle.mlk_soundness_machine.proofs.Reading.{differs, name_is, name_self, of_subs, mentions_first, mentions_later}
@@ -33,7 +33,7 @@ times_append : (a : Assignment) (xs ys : List LockTerm) (m : LockName) → times
 times_append a [] ys m = omega arith
 times_append a (t ∷ xs) ys m = let e = times_append a xs ys m in omega (arith, e)
 
-pub times_put : (a : Assignment) (t : LockTerm) (held : List LockTerm) (m : LockName) → times a (put t held) m ≡ one_at (name_of a t) m + times a held m
+pub times_put : (a : Assignment) (t : LockTerm) (held : List LockTerm) (m : LockName) → times a (add_term t held) m ≡ one_at (name_of a t) m + times a held m
 times_put a t held m =
     let i = terms_before held t in
     let e = times_append a (take i held) (t ∷ drop i held) m in
@@ -41,9 +41,9 @@ times_put a t held m =
     let g : times a (take i held ++ drop i held) m ≡ times a held m = ap (λ z. times a z m) (take-append-drop i held) in
     omega (arith, e, f, g)
 
-pub times_put_all : (a : Assignment) (ts held : List LockTerm) (m : LockName) → times a (put_all ts held) m ≡ times a ts m + times a held m
+pub times_put_all : (a : Assignment) (ts held : List LockTerm) (m : LockName) → times a (add_terms ts held) m ≡ times a ts m + times a held m
 times_put_all a [] held m = omega arith
-times_put_all a (t ∷ ts) held m = let e = times_put_all a ts (put t held) m in let f = times_put a t held m in omega (arith, e, f)
+times_put_all a (t ∷ ts) held m = let e = times_put_all a ts (add_term t held) m in let f = times_put a t held m in omega (arith, e, f)
 
 mentions_append : (x : List ℕ) (xs ys : List LockTerm) → mentions x (xs ++ ys) ≡ true → (mentions x xs ≡ true) ⊎ (mentions x ys ≡ true)
 mentions_append x [] ys h = inr h
@@ -57,7 +57,7 @@ append_mentions x (t ∷ xs) ys (inl h) =
     ⊎_elim (λ u. mentions_first x t (xs ++ ys) u) (λ u. mentions_later x t (xs ++ ys) (append_mentions x xs ys (inl u))) (mentions_cases x t xs h)
 append_mentions x (t ∷ xs) ys (inr h) = mentions_later x t (xs ++ ys) (append_mentions x xs ys (inr h))
 
-pub mentions_put : (x : List ℕ) (t : LockTerm) (held : List LockTerm) → mentions x (put t held) ≡ true → (of_subs x t.subs ≡ true) ⊎ (mentions x held ≡ true)
+pub mentions_put : (x : List ℕ) (t : LockTerm) (held : List LockTerm) → mentions x (add_term t held) ≡ true → (of_subs x t.subs ≡ true) ⊎ (mentions x held ≡ true)
 mentions_put x t held h =
     let i = terms_before held t in
     let back : (mentions x (take i held) ≡ true) ⊎ (mentions x (drop i held) ≡ true) → mentions x held ≡ true = (λ k. subst (λ z. mentions x z ≡ true) (take-append-drop i held) (append_mentions x (take i held) (drop i held) k)) in
@@ -66,13 +66,13 @@ mentions_put x t held h =
     (λ u. ⊎_elim (λ v. inl v) (λ v. inr (back (inr v))) (mentions_cases x t (drop i held) u))
     (mentions_append x (take i held) (t ∷ drop i held) h)
 
-pub mentions_put_all : (x : List ℕ) (ts held : List LockTerm) → mentions x (put_all ts held) ≡ true → (mentions x ts ≡ true) ⊎ (mentions x held ≡ true)
+pub mentions_put_all : (x : List ℕ) (ts held : List LockTerm) → mentions x (add_terms ts held) ≡ true → (mentions x ts ≡ true) ⊎ (mentions x held ≡ true)
 mentions_put_all x [] held h = inr h
 mentions_put_all x (t ∷ ts) held h =
     ⊎_elim
     (λ u. inl (mentions_later x t ts u))
     (λ u. ⊎_elim (λ v. inl (mentions_first x t ts v)) (λ v. inr v) (mentions_put x t held u))
-    (mentions_put_all x ts (put t held) h)
+    (mentions_put_all x ts (add_term t held) h)
 
 -- one less
 lt_suc : (x y : ℕ) → nat_lt (suc x) (suc y) ≡ nat_lt x y

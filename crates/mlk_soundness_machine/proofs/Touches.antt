@@ -16,7 +16,7 @@ use Rattle.mlk_syntax.specs.Trees.{RoutineTree}
 use Rattle.mlk_machine_locks.proofs.NameLemmas.{same_self}
 use Rattle.mlk_machine_jobs.specs.Tasks as task
 use Rattle.mlk_machine_jobs.specs.Tasks.{Task, Job}
-use Rattle.mlk_machine_jobs.specs.Choices.{pushed, dropped, doing, last_values, touch_of, touched}
+use Rattle.mlk_machine_jobs.specs.Choices.{pushed, dropped, doing, last_values, touch_at, touched}
 use Rattle.mlk_walk_state.specs.declared.state.State.{State}
 use Rattle.mlk_walk_state.specs.Scope.{Scope}
 use Rattle.mlk_walk_state.specs.States.{last_captured, without_last}
@@ -40,7 +40,7 @@ referring extent access name subs = record { root = name; subs = subs; extent = 
 module _ (rules : RuleLists) (sc : Scope) (w : World) (b : Level) where
   -- what a described job touches is covered where the walk finds nothing wrong with it
   pub is_covered : (c : Case) (j : Job) → Stands sc w b c (bare (idle j)) → (e : Extent) (a : Access) (name : List ℕ) (subs : List Sym) (vals : List (List ℕ)) → AllZip (StandsFor (now j)) subs vals
-      → answer rules c.held (referring e a name subs) ≡ None → IsCoveredAt rules j (touch_of name vals e a)
+      → answer rules c.held (referring e a name subs) ≡ None → IsCoveredAt rules j (touch_at name vals e a)
   is_covered c j d e a name subs vals stand h = record {
     values = now j;
     own = refl;
@@ -86,10 +86,10 @@ module _ (routines : List RoutineTree) (sc : Scope) (w : World) (b : Level) (slo
 
   -- a touch that is covered
   pub touch : (e : Extent) (a : Access) (name : List ℕ) (subs : List Sym) (vals : List (List ℕ)) → answer sc.rules s.case.held (referring e a name subs) ≡ None → FitsAfter a
-      → (j : Job) → Describes sc w b slots s (idle j) → AllZip (StandsFor (now j)) subs vals → j.tasks ≡ task.DoTouch (touch_of name vals e a) ∷ ts → Safe routines sc w b n j
+      → (j : Job) → Describes sc w b slots s (idle j) → AllZip (StandsFor (now j)) subs vals → j.tasks ≡ task.DoTouch (touch_at name vals e a) ∷ ts → Safe routines sc w b n j
   touch e a name subs vals h k j d stand tasks =
-      step routines sc w b n j (task.DoTouch (touch_of name vals e a)) ts tasks refl
-      (touch_facts sc w b j (touch_of name vals e a) ts tasks (is_covered sc.rules sc w b s.case j d.stands e a name subs vals stand h))
+      step routines sc w b n j (task.DoTouch (touch_at name vals e a)) ts tasks refl
+      (touch_facts sc w b j (touch_at name vals e a) ts tasks (is_covered sc.rules sc w b s.case j d.stands e a name subs vals stand h))
       (λ free c. by a k c)
     where
       by : (a : Access) → FitsAfter a → (c : _) → Comes (Safe routines sc w b n) (touched c a j ts)
@@ -103,7 +103,7 @@ pub form : (routines : List RoutineTree) (sc : Scope) (w : World) (b : Level) (s
     → FitsAfter routines sc w b slots n ts (without_last count s) a
     → Fits routines sc w b (kepts count slots) n (task.FormReference name count e a ∷ ts) s
 form routines sc w b slots n ts s name count e a h k j d tasks =
-    let i : Job = doing (task.DoTouch (touch_of name (last_values count j) e a) ∷ ts) (dropped count j) in
+    let i : Job = doing (task.DoTouch (touch_at name (last_values count j) e a) ∷ ts) (dropped count j) in
     plain_step routines sc w b slots n (ts) s (task.FormReference name count e a) refl j tasks (λ free c.
     unasked (Safe routines sc w b n) c _ (done (Safe routines sc w b n) i
     (touch routines sc w b slots n ts (without_last count s) e a name (last_captured count s) (last_values count j) h k i

@@ -1,6 +1,6 @@
 -- Values: what each task of an expression leaves on a job's stack.
 use Rattle.std.proofs.Common.{◌≡◌, ℕ, Bool, true, false, List, ◌∷◌, ◌++◌, drop, Option, Some, None, Ok, refl, sym, ap, ◌∙◌, subst, ⊎_elim}
-use Rattle.std.specs.Prelude.{codes, not, option_map, ◌&&◌}
+use Rattle.std.specs.Prelude.{bytes_eq, codes, if◌then◌else◌, not, option_map, ◌&&◌}
 use Rattle.std.specs.Fmt.{decimal}
 use Rattle.std.proofs.lemmas.Bool.{cases_Bool, and_parts}
 use Rattle.std.proofs.lemmas.Slice.Eq.{bytes_eq-Decides}
@@ -20,13 +20,13 @@ use Rattle.mlk_machine_jobs.specs.declared.choice.Choice.{Choice}
 use Rattle.mlk_machine_jobs.specs.Bindings.{look}
 use Rattle.mlk_machine_jobs.specs.Tasks as task
 use Rattle.mlk_machine_jobs.specs.Tasks.{Task, Job}
-use Rattle.mlk_numbers.specs.Operators.{fold_before, fold_between, opposite}
+use Rattle.mlk_numbers.specs.Operators.{truth_of_text, fold_before, fold_between, opposite}
 use Rattle.mlk_machine_jobs.specs.Expressions.{parts_of}
-use Rattle.mlk_machine_jobs.specs.Choices.{pushed, dropped, doing, fetched, is_one, is_zero, test_text}
+use Rattle.mlk_machine_jobs.specs.Choices.{pushed, dropped, doing, fetched, test_text}
 use Rattle.mlk_machine_jobs.specs.Advance.{advance}
 use Rattle.mlk_walk_state.specs.declared.state.State.{State}
 use Rattle.mlk_walk_state.specs.Scope.{Scope}
-use Rattle.mlk_walk_state.specs.Symbols.{constant_if, before_symbol, after_constant, between_symbols, local_symbol, symbol_of, truth_of_text, truth_of_symbol, before_truth, truth_in}
+use Rattle.mlk_walk_state.specs.Symbols.{constant_if, before_symbol, after_constant, between_symbols, local_symbol, symbol_of, truth_of_symbol, before_truth, truth_in}
 use Rattle.mlk_walk_state.specs.Cases.{known_test}
 use Rattle.mlk_soundness_machine.specs.Frames.{Agrees}
 use Rattle.mlk_soundness_machine.specs.Reads.{now}
@@ -86,15 +86,23 @@ between_stands w op known.Job t r h = tt
 between_stands w op known.Unknown t r h = tt
 
 -- truths
-text_truth : (v : List ℕ) → IsTruth (truth_of_text v) v
-text_truth v =
-    ⊎_elim
-    (λ (u : is_zero v ≡ true). rw u u)
-    (λ (u : is_zero v ≡ false). ⊎_elim (λ (k : is_one v ≡ true). rw (u, k) k) (λ (k : is_one v ≡ false). rw (u, k) tt) (cases_Bool (is_one v)))
-    (cases_Bool (is_zero v))
+truth_is : (o : Option Bool) (v : List ℕ) → truth_of_text v ≡ o → IsTruth o v
+truth_is None v h = tt
+truth_is (Some t) v h = h
+
+text_of_truth : (v : List ℕ) (t : Bool) → truth_of_text v ≡ Some t → v ≡ test_text t
+text_of_truth v t h = on (bytes_eq v (codes "0")) refl (bytes_eq v (codes "1")) refl t h
+  where
+    on : (x : Bool) → bytes_eq v (codes "0") ≡ x → (y : Bool) → bytes_eq v (codes "1") ≡ y → (t : Bool)
+        → (if x then Some false else if y then Some true else None) ≡ Some t → v ≡ test_text t
+    on true e y d true h = cc
+    on true e y d false h = (bytes_eq-Decides v (codes "0")).0 e
+    on false e true d true h = (bytes_eq-Decides v (codes "1")).0 d
+    on false e true d false h = cc
+    on false e false d t h = cc
 
 pub symbol_truth : (s : Sym) (v : List ℕ) → IsConstant s v → IsTruth (truth_of_symbol s) v
-symbol_truth (known.Const c) v h = subst (IsTruth (truth_of_text c)) (sym h) (text_truth c)
+symbol_truth (known.Const c) v h = subst (IsTruth (truth_of_text c)) (sym h) (truth_is (truth_of_text c) c refl)
 symbol_truth (known.Local n) v h = tt
 symbol_truth known.Job v h = tt
 symbol_truth known.Unknown v h = tt
@@ -103,13 +111,11 @@ not_truth : (o : Option Bool) (a r : List ℕ) → IsTruth o a → ((u : List �
 unfolding fold_before
 not_truth None a r h k = tt
 not_truth (Some true) a r h k =
-    let e : a ≡ codes "1" = (bytes_eq-Decides a (codes "1")).0 h in
-    let f : r ≡ codes "0" = k (codes "0") (subst (λ z. opposite z ≡ Some (codes "0")) (sym e) refl) in
-    subst (λ z. is_zero z ≡ true) (sym f) refl
+    let e : r ≡ codes "0" = k (codes "0") (subst (λ z. opposite z ≡ Some (codes "0")) (sym (text_of_truth a true h)) refl) in
+    subst (λ z. truth_of_text z ≡ Some false) (sym e) refl
 not_truth (Some false) a r h k =
-    let e : a ≡ codes "0" = (bytes_eq-Decides a (codes "0")).0 h in
-    let f : r ≡ codes "1" = k (codes "1") (subst (λ z. opposite z ≡ Some (codes "1")) (sym e) refl) in
-    subst (λ z. is_one z ≡ true) (sym f) refl
+    let e : r ≡ codes "1" = k (codes "1") (subst (λ z. opposite z ≡ Some (codes "1")) (sym (text_of_truth a false h)) refl) in
+    subst (λ z. truth_of_text z ≡ Some true) (sym e) refl
 
 prefixed_truth : (op : UnaryOp) (s : Sym) (o : Option Bool) (a r : List ℕ) → IsTruth o a → IsConstant s r → ((u : List ℕ) → fold_before op a ≡ Some u → r ≡ u) → IsTruth (before_truth op s o) r
 prefixed_truth Not s o a r h i k = not_truth o a r h k
@@ -155,7 +161,7 @@ module _ (routines : List RoutineTree) (sc : Scope) (w : World) (b : Level) wher
     literal value k = expand (Lit value) (λ j d e. plain_step (task.Push value) refl j e (λ free c.
         unasked (Safe n) c (Ok (doing ts (pushed value j))) (done (Safe n) (doing ts (pushed value j))
         (k (doing ts (pushed value j)) value j.values (push_law sc w b slots s (idle j) d value) refl
-        (record { symbol = record { constant = λ shared. refl; stands = refl }; truth = text_truth value }) refl))))
+        (record { symbol = record { constant = λ shared. refl; stands = refl }; truth = truth_is (truth_of_text value) value refl }) refl))))
 
     -- a local without subscripts
     local_knows : (name : List ℕ) (j : Job) (v : List ℕ) → j.cells (look j.bindings name) ≡ Some v → (shared : List ℕ → Bool)

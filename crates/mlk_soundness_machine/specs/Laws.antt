@@ -16,7 +16,7 @@ use Rattle.mlk_cert_parts.specs.declared.names.NameSet.{NameSet}
 use Rattle.mlk_program.specs.declared.entry.EntryId.{EntryId}
 use Rattle.mlk_syntax.specs.Trees.{RoutineTree}
 use Rattle.mlk_machine_jobs.specs.Bindings.{Cell, Cells, look}
-use Rattle.mlk_machine_jobs.specs.Choices.{touch_of}
+use Rattle.mlk_machine_jobs.specs.Choices.{touch_at}
 use Rattle.mlk_machine_jobs.specs.Runs.{machine, seen}
 use Rattle.mlk_machine_jobs.specs.Tasks.{Job}
 use Rattle.mlk_machine_laws.specs.Moments.{IsCoveredAt}
@@ -50,7 +50,7 @@ DescribedIsCovered =
     → (extent : Extent) (access : Access) (name : List ℕ) (subs : List Sym) (values : List (List ℕ))
     → AllZip (StandsFor (now j)) subs values
     → answer rules c.held (record { root = name; subs = subs; extent = extent; access = access }) ≡ None
-    → IsCoveredAt rules j (touch_of name values extent access)
+    → IsCoveredAt rules j (touch_at name values extent access)
 
 -- Where a case describes a job and allows the claim of a term, the name that the term stands for is at or below one that
 -- the job holds, or its rank is above those of all that it holds, over all open frames.

@@ -2,6 +2,7 @@
 -- and inside a line, before each command, one that the walk makes of a listed case. This project's own choice.
 use Rattle.std.specs.Prelude.{◌≡◌, ℕ, ◌+◌, true, false, List, [], ◌∷◌, ◌++◌, map, Some}
 use Rattle.std.specs.List.{AllZip}
+use Rattle.mlk_names.specs.Lists.{Among}
 use Rattle.mlk_names.specs.declared.lock_name.LockName.{LockName}
 use Rattle.mlk_names.specs.declared.term.LockTerm.{LockTerm}
 use Rattle.mlk_rules.specs.declared.rules.RuleLists.{RuleLists}
@@ -11,7 +12,6 @@ use Rattle.mlk_syntax.specs.Trees.{RoutineTree, CommandTrees, LineTrees, line}
 use Rattle.mlk_cert_parts.specs.declared.block.EntryCert.{EntryCert}
 use Rattle.mlk_cert_parts.specs.declared.case.Case.{Case}
 use Rattle.mlk_machine_locks.specs.Counts.{count_of}
-use Rattle.mlk_machine_locks.specs.Lists.{Among}
 use Rattle.mlk_machine_jobs.specs.Bindings.{look}
 use Rattle.mlk_machine_jobs.specs.Calling.{commands_in}
 use Rattle.mlk_machine_jobs.specs.Tasks.{Task, Job, marks, LineTree, RunLines, RunCommands}

@@ -1,12 +1,12 @@
 -- Where on the lines of an entry a job stands, and to which cases the walk comes there. This project's own choice; the walk is
 -- `commands` of mlk_walk_lines.
 use Rattle.std.specs.Prelude.{◌≡◌, ◌⊎◌, ℕ, List, [], ◌∷◌, ◌++◌, Bool, true, Option, Some, None, is_some}
+use Rattle.mlk_names.specs.Lists.{Among}
 use Rattle.mlk_syntax.specs.Trees.{RoutineTree, CommandTree, ControlTree, CommandTrees, finished, then_command, then_for, HeadTree, LineHead, LineTrees, no_lines, line}
 use Rattle.mlk_syntax.specs.Views.{lines_from}
 use Rattle.mlk_program.specs.declared.entry.EntryId.{EntryId}
 use Rattle.mlk_program.specs.Entries.{as_lines, formals_of, lines_of}
 use Rattle.mlk_cert_parts.specs.declared.case.Case.{Case}
-use Rattle.mlk_machine_locks.specs.Lists.{Among}
 use Rattle.mlk_machine_jobs.specs.Calling.{commands_in}
 use Rattle.mlk_machine_jobs.specs.Tasks.{Task, LineTree, RunLines, Parameters, Forever, NextValue, LaterRound}
 use Rattle.mlk_walk_state.specs.States.{at_rest}

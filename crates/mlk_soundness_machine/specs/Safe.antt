@@ -44,8 +44,8 @@ module _ (routines : List RoutineTree) (Fact : List Job → Job → Type 0) wher
   SafeFor (suc n) begun j = Fact begun j × ((free : LockName → Bool) (c : Choice) (i : Job) → go routines free c j ≡ Ok i → SafeFor n (begun_after begun j i) i)
 
 -- where the blocks and frames that are open are what is fixed, the job keeps to it, and is safe
-abbrev pub Keeps : Scope → World → Level → Job → Type 0
-Keeps sc w b j = Marked sc w b (marks j.tasks) → KeepsTo sc w.begun j
+abbrev pub KeepsIn : Scope → World → Level → Job → Type 0
+KeepsIn sc w b j = Marked sc w b (marks j.tasks) → KeepsTo sc w.begun j
 
 abbrev pub SafeIn : List RoutineTree → Scope → World → Level → ℕ → Job → Type 0
 SafeIn routines sc w b n j = Marked sc w b (marks j.tasks) → SafeFor routines (KeepsTo sc) n w.begun j

@@ -1,6 +1,7 @@
 -- Commands: what each does, from left to right.
 use Rattle.std.proofs.Common.{◌≡◌, ℕ, ◌+◌, Bool, true, false, List, [], ◌∷◌, ◌++◌, reverse, map, Option, Some, None, refl, sym, ap, subst, inl, inr}
 use Rattle.std.specs.Prelude.{flat_map, if◌then◌else◌}
+use Rattle.mlk_names.specs.Lists.{Among}
 use Rattle.mlk_syntax.specs.ExprTrees.{Tree, ActualTree, actuals_from, as_list}
 use Rattle.mlk_syntax.specs.Trees.{RoutineTree, WriteTree, WriteValue, WriteCharacter, WriteFormat}
 use Rattle.mlk_program.specs.Calls.{in_tree, in_actual, in_actuals, in_given, in_write}
@@ -21,11 +22,10 @@ use Rattle.mlk_walk_exprs.specs.declared.walk.Quit.{Quit}
 use Rattle.mlk_walk_exprs.specs.Walks.{Outcome, Goes, Skips, Quits, each, few}
 use Rattle.mlk_walk_exprs.specs.Spots.{Spot}
 use Rattle.mlk_walk_exprs.specs.Expressions.{value}
-use Rattle.mlk_walk_commands.specs.Arguments.{write_argument, given_list, given_in, if_argument, by_truth}
+use Rattle.mlk_walk_commands.specs.Arguments.{write_argument, given_list, given_in, if_argument, if_outcomes}
 use Rattle.mlk_walk_lines.specs.Commands.{in_turn, if_row, else_row, swapped, quit_row}
-use Rattle.mlk_walk_laws.specs.Fewer.{Among}
 use Rattle.mlk_walk_laws.proofs.Counts.{few_keeps}
-use Rattle.mlk_walk_laws.proofs.Rows.{both, each_keeps}
+use Rattle.mlk_walk_laws.proofs.Transfers.{both, each_keeps}
 use Rattle.mlk_walk_laws.proofs.Walks.{value_keeps, if_argument_keeps, turns_keep}
 use Rattle.mlk_soundness_machine.specs.Frames.{Agrees}
 use Rattle.mlk_soundness_machine.specs.Reads.{now}
@@ -128,7 +128,7 @@ module _ (routines : List RoutineTree) (p : Spot) (w : World) (b : Level) (world
     Else true u = S (state.tested One u).case
     Else false u = A (at_rest (state.tested Zero u).case)
 
-    if_ways : (t : Test) (u : State) → ((o : Outcome) → Among o (by_truth (known_test t) u) → Meets A S Q o) → (x : Bool) → Agrees t x → May x u
+    if_ways : (t : Test) (u : State) → ((o : Outcome) → Among o (if_outcomes (known_test t) u) → Meets A S Q o) → (x : Bool) → Agrees t x → May x u
     if_ways Any u h true a = h (Goes (state.tested One u)) (inl refl)
     if_ways Any u h false a = h (Skips (state.tested Zero u).case) (inr (inl refl))
     if_ways One u h true a = h (Goes (state.tested One u)) (inl refl)
@@ -136,7 +136,7 @@ module _ (routines : List RoutineTree) (p : Spot) (w : World) (b : Level) (world
     if_ways Zero u h true a = differs true refl a
     if_ways Zero u h false a = h (Skips (state.tested Zero u).case) (inl refl)
 
-    else_ways : (t : Test) (u : State) → ((o : Outcome) → Among o (map swapped (by_truth (known_test t) u)) → Meets A S Q o) → (x : Bool) → Agrees t x → Else x u
+    else_ways : (t : Test) (u : State) → ((o : Outcome) → Among o (map swapped (if_outcomes (known_test t) u)) → Meets A S Q o) → (x : Bool) → Agrees t x → Else x u
     else_ways Any u h true a = h (Skips (state.tested One u).case) (inl refl)
     else_ways Any u h false a = h (Goes (at_rest (state.tested Zero u).case)) (inr (inl refl))
     else_ways One u h true a = h (Skips (state.tested One u).case) (inl refl)

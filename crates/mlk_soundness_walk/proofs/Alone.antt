@@ -1,6 +1,7 @@
 -- Walks of one state.
 use Rattle.std.proofs.Common.{◌≡◌, ℕ, true, false, List, [], ◌∷◌, refl, sym, ◌∙◌, subst, ⊎_elim, inl, map}
 use Rattle.std.specs.Prelude.{flat_map}
+use Rattle.mlk_names.specs.Lists.{Among}
 use Rattle.mlk_syntax.specs.ExprTrees.{Tree}
 use Rattle.mlk_cert_parts.specs.declared.case.Case.{Case}
 use Rattle.mlk_walk_state.specs.declared.state.State.{State}
@@ -8,12 +9,12 @@ use Rattle.mlk_walk_state.specs.Scope.{Scope}
 use Rattle.mlk_walk_state.specs.Symbols.{truth_in}
 use Rattle.mlk_walk_exprs.specs.declared.walk.Walk.{Walk}
 use Rattle.mlk_walk_exprs.specs.declared.walk.Quit.{Quit}
-use Rattle.mlk_walk_exprs.specs.Walks.{Outcome, Goes, Skips, Quits, Refused, put_all, with_states, each, each_changed, few, joined}
+use Rattle.mlk_walk_exprs.specs.Walks.{Outcome, Goes, Skips, Quits, Refused, put_states, with_states, each, each_changed, few, joined}
 use Rattle.mlk_walk_exprs.specs.Expressions.{agrees, by_condition}
-use Rattle.mlk_walk_laws.specs.Fewer.{Among, IsClean, IsPart}
+use Rattle.mlk_walk_laws.specs.Fewer.{IsClean, IsPart}
 use Rattle.mlk_soundness_walk.specs.Commands.{alone}
 use Rattle.mlk_walk_laws.proofs.Lists.{in_flat, all_old, all_new}
-use Rattle.mlk_walk_laws.proofs.Rows.{Keeps, all_back, going_new, skips_new, quits_new, clean_with}
+use Rattle.mlk_walk_laws.proofs.Transfers.{Keeps, all_back, going_new, skips_new, quits_new, clean_with}
 use Rattle.mlk_walk_laws.proofs.Counts.{few_clean, few_same, ways_clean, ways_same, joined_same, first_of, second_of, false_of, first_clean}
 
 -- The walk of a piece from one state: nothing is wrong, and all that it comes to is as said.
@@ -98,11 +99,11 @@ module _ (G : State → Type 0) (S : Case → Type 0) (Q : Quit → Type 0) wher
     whole = ways_same sc t run other one two (alone s) opened.0
 
     both_are : joined (first_of sc t run other one two (alone s)).going (second_of sc t run other one two (alone s))
-        ≡ with_states (put_all (second_of sc t run other one two (alone s)).going (first_of sc t run other one two (alone s)).going) (second_of sc t run other one two (alone s))
+        ≡ with_states (put_states (second_of sc t run other one two (alone s)).going (first_of sc t run other one two (alone s)).going) (second_of sc t run other one two (alone s))
     both_are = joined_same (first_of sc t run other one two (alone s)).going (second_of sc t run other one two (alone s)) opened.1.goes_on
 
     all_is : by_condition sc t run other (alone s)
-        ≡ with_states (put_all (second_of sc t run other one two (alone s)).going (first_of sc t run other one two (alone s)).going) (second_of sc t run other one two (alone s))
+        ≡ with_states (put_states (second_of sc t run other one two (alone s)).going (first_of sc t run other one two (alone s)).going) (second_of sc t run other one two (alone s))
     all_is = whole ∙ both_are
 
     pub leads_true : agrees true (truth_in sc t s) ≡ true → Leads run s G S Q

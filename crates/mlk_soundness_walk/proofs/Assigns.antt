@@ -14,7 +14,6 @@ use Rattle.mlk_machine_jobs.specs.Tasks.{Task, Job}
 use Rattle.mlk_machine_jobs.specs.Choices.{doing, dropped}
 use Rattle.std.proofs.Math.Seq.{drop-append_seam, take-append_seam}
 use Rattle.mlk_machine_jobs.specs.Commands as made
-use Rattle.mlk_walk_commands.specs.Variables.{subs_of, name_in}
 use Rattle.mlk_walk_commands.specs.Arguments.{variable_in, assign, assign_all}
 use Rattle.mlk_walk_laws.proofs.Walks.{assigned_keeps, all_assigned_keep}
 use Rattle.mlk_soundness_walk.proofs.Sets.{subs_same, subs_values}
@@ -22,7 +21,7 @@ use Rattle.mlk_machine_jobs.specs.Assigning.{assigned, assignments, subs_of_targ
 use Rattle.mlk_walk_state.specs.declared.state.State.{State}
 use Rattle.mlk_walk_state.specs.Scope.{Scope}
 use Rattle.mlk_syntax.specs.declared.command.Part.{Part}
-use Rattle.mlk_machine_jobs.specs.Choices.{touch_of}
+use Rattle.mlk_machine_jobs.specs.Choices.{touch_at}
 use Rattle.mlk_calls.specs.Changes.{changed_state}
 use Rattle.mlk_walk_exprs.specs.declared.walk.Quit.{Quit}
 use Rattle.mlk_walk_exprs.specs.Walks.{Goes, each}
@@ -30,7 +29,7 @@ use Rattle.mlk_walk_exprs.specs.Spots.{Spot}
 use Rattle.mlk_walk_exprs.specs.References.{checked}
 use Rattle.mlk_walk_commands.specs.Variables.{count_in, change_at}
 use Rattle.mlk_walk_commands.specs.Arguments.{symbols_at, read_part, write_variable}
-use Rattle.mlk_walk_laws.proofs.Rows.{each_keeps}
+use Rattle.mlk_walk_laws.proofs.Transfers.{each_keeps}
 use Rattle.mlk_soundness_machine.specs.Reads.{now}
 use Rattle.mlk_soundness_machine.specs.Described.{World, Level, Slot, Spent, Fills, IsWorld, idle, Describes}
 use Rattle.mlk_soundness_machine.proofs.Worlds.{drop_law}
@@ -124,12 +123,12 @@ module _ (routines : List RoutineTree) (p : Spot) (w : World) (b : Level) (world
       let i = covered_goes (λ u. Leads (each (write_variable p from v)) u A S Q) S Q (checked p Node Reads name (symbols_at from (count_subs ss) s) s) p.line caret s
       (leads_each (λ u. Leads (each (write_variable p from v)) u A S Q) S Q (read_part p from v) s m) in
       let r = covered_goes A S Q (checked p Node Writes name (symbols_at from (count_subs ss) s) s) p.line caret s (leads_each A S Q (write_variable p from v) s i.1) in
-      touch routines p.scope w b slots n (task.Drop 1 ∷ task.DoTouch (touch_of name subs Node Writes) ∷ us) s Node Reads name (symbols_at from (count_subs ss) s) subs i.0
+      touch routines p.scope w b slots n (task.Drop 1 ∷ task.DoTouch (touch_at name subs Node Writes) ∷ us) s Node Reads name (symbols_at from (count_subs ss) s) subs i.0
       (λ j' v' d' e' tasks'.
-      plain_step routines p.scope w b slots n (task.DoTouch (touch_of name subs Node Writes) ∷ us) s (task.Drop 1) refl j' tasks' (λ free c.
-      unasked (Safe routines p.scope w b n) c _ (done (Safe routines p.scope w b n) (doing (task.DoTouch (touch_of name subs Node Writes) ∷ us) (dropped 1 j'))
+      plain_step routines p.scope w b slots n (task.DoTouch (touch_at name subs Node Writes) ∷ us) s (task.Drop 1) refl j' tasks' (λ free c.
+      unasked (Safe routines p.scope w b n) c _ (done (Safe routines p.scope w b n) (doing (task.DoTouch (touch_at name subs Node Writes) ∷ us) (dropped 1 j'))
       (let less : Describes p.scope w b slots s (idle (dropped 1 j')) = drop_law p.scope w b None slots s (idle j') d' v' (drop 1 j'.values) e' in
-      touch routines p.scope w b slots n us s Node Writes name (symbols_at from (count_subs ss) s) subs r.0 (k s r.1) (doing (task.DoTouch (touch_of name subs Node Writes) ∷ us) (dropped 1 j')) less (zip s (dropped 1 j') less) refl))))
+      touch routines p.scope w b slots n us s Node Writes name (symbols_at from (count_subs ss) s) subs r.0 (k s r.1) (doing (task.DoTouch (touch_at name subs Node Writes) ∷ us) (dropped 1 j')) less (zip s (dropped 1 j') less) refl))))
       j d (zip s j d) e
   part_fits part (Named column x) args zip s A l k =
       let m = leads_both A S Q (each (read_part p from (Named column x))) (each (write_variable p from (Named column x))) (each_keeps (read_part p from (Named column x))) (each_keeps (write_variable p from (Named column x))) s l in

@@ -1,6 +1,8 @@
 -- Calls: what the walk of one says, and that a job goes into the callee and comes back.
 use Rattle.std.proofs.Common.{◌≡◌, ℕ, suc, List, [], ◌∷◌, ◌++◌, length, reverse, map, Option, Some, None, Ok, Err, refl, sym, ap, ◌∙◌, subst, inl, inr}
 use Rattle.std.specs.Prelude.{◌⊎◌, option_map, option_and_then, Result}
+use Rattle.mlk_text.specs.Lexemes.{or_else}
+use Rattle.mlk_names.specs.Lists.{Among}
 use Rattle.mlk_names.specs.declared.term.LockTerm.{LockTerm}
 use Rattle.mlk_names.specs.declared.symbol.Sym.{Sym}
 use Rattle.mlk_names.specs.Symbols.{Assignment}
@@ -14,14 +16,13 @@ use Rattle.mlk_machine_jobs.specs.Calling.{count_given}
 use Rattle.mlk_walk_state.specs.declared.state.State.{State}
 use Rattle.mlk_walk_state.specs.Scope.{Scope}
 use Rattle.mlk_walk_state.specs.Lists.{all_some}
-use Rattle.mlk_walk_state.specs.Terms.{put_all, all_taken, put_terms}
+use Rattle.mlk_walk_state.specs.Terms.{add_terms, all_taken, put_terms}
 use Rattle.mlk_calls.specs.declared.call.Calling.{Calling}
 use Rattle.mlk_calls.specs.Changes.{marked, changed_state, change_fault, unless}
 use Rattle.mlk_calls.specs.Calls as walked
-use Rattle.mlk_calls.specs.Calls.{Called, test_after, changes, leave, or_unknown, after_call, ranks_fault, or_else, call_fault, or_missing, needs_taken, with_aside, call_known}
+use Rattle.mlk_calls.specs.Calls.{Called, test_after, changed_by_call, leave, or_unknown, after_call, ranks_fault, call_fault, or_missing, needs_taken, with_aside, call_known}
 use Rattle.mlk_walk_exprs.specs.declared.walk.Quit.{Quit}
 use Rattle.mlk_walk_exprs.specs.Walks.{Outcome, Goes, Refused, all_placed}
-use Rattle.mlk_walk_laws.specs.Fewer.{Among}
 use Rattle.mlk_walk_laws.proofs.Lists.{in_map}
 use Rattle.mlk_soundness_machine.specs.Described.{Slot, Kept, Blank, Fills}
 use Rattle.mlk_soundness_machine.proofs.Stack.{back_one}
@@ -36,12 +37,12 @@ pub record CallRow (sc : Scope) (how : Calling) (callee : Callee) (given : List 
   pub aside : List LockTerm
   pub put : put_terms called.formals (map Some syms) called.summary.need ≡ Some needs
   pub taken : all_taken needs s.case.held ≡ Some aside
-  pub changed : change_fault sc (changes called.summary given) s ≡ None
+  pub changed : change_fault sc (changed_by_call called.summary given) s ≡ None
   pub ranked : ranks_fault sc called.summary aside ≡ None
   pub exits : (x : ExitCase) → Among x called.summary.exits
-      → (terms : List LockTerm) × (put_terms called.formals (map Some (map (marked (changes called.summary given)) syms)) x.held ≡ Some terms)
-      × G (record (changed_state (changes called.summary given) s) {
-        case = record (changed_state (changes called.summary given) s).case { test = test_after how s.case.test x.test; held = put_all terms aside };
+      → (terms : List LockTerm) × (put_terms called.formals (map Some (map (marked (changed_by_call called.summary given)) syms)) x.held ≡ Some terms)
+      × G (record (changed_state (changed_by_call called.summary given) s) {
+        case = record (changed_state (changed_by_call called.summary given) s).case { test = test_after how s.case.test x.test; held = add_terms terms aside };
       })
 
 each_some : {A B : Type 0} (by : A → Option B) (items : List A) (found : List B) → all_some by items ≡ Some found → (a : A) → Among a items → (b : B) × (by a ≡ Some b) × Among b found
@@ -85,27 +86,27 @@ module _ (G : State → Type 0) (S : Case → Type 0) (Q : Quit → Type 0) (lin
         on (Some c) e f = needed (put_terms c.formals (map Some syms) c.summary.need) refl f
           where
             ch : List NameSet
-            ch = changes c.summary given
+            ch = changed_by_call c.summary given
 
             needed : (o : Option (List LockTerm)) → put_terms c.formals (map Some syms) c.summary.need ≡ o
-                → Fine (with_aside sc how c (changes c.summary given) syms s (needs_taken s.case.held o)) → CallRow sc how callee given syms s G
+                → Fine (with_aside sc how c (changed_by_call c.summary given) syms s (needs_taken s.case.held o)) → CallRow sc how callee given syms s G
             needed None k f = absurd (not_fine _ f)
             needed (Some needs) k f = aside (all_taken needs s.case.held) refl f
               where
-                aside : (o : Option (List LockTerm)) → all_taken needs s.case.held ≡ o → Fine (with_aside sc how c (changes c.summary given) syms s (or_missing o)) → CallRow sc how callee given syms s G
+                aside : (o : Option (List LockTerm)) → all_taken needs s.case.held ≡ o → Fine (with_aside sc how c (changed_by_call c.summary given) syms s (or_missing o)) → CallRow sc how callee given syms s G
                 aside None l f = absurd (not_fine _ f)
-                aside (Some rest) l f = faulted (call_fault sc c.summary (changes c.summary given) rest s) refl f
+                aside (Some rest) l f = faulted (call_fault sc c.summary (changed_by_call c.summary given) rest s) refl f
                   where
-                    faulted : (o : Option Code) → call_fault sc c.summary (changes c.summary given) rest s ≡ o
-                        → Fine (unless o (after_call how c syms (changes c.summary given) rest s)) → CallRow sc how callee given syms s G
+                    faulted : (o : Option Code) → call_fault sc c.summary (changed_by_call c.summary given) rest s ≡ o
+                        → Fine (unless o (after_call how c syms (changed_by_call c.summary given) rest s)) → CallRow sc how callee given syms s G
                     faulted (Some code) m f = absurd (not_fine code f)
-                    faulted None m f = left (all_some (leave how c.formals (map Some (map (marked (changes c.summary given)) syms)) rest (changed_state (changes c.summary given) s)) c.summary.exits) refl f
+                    faulted None m f = left (all_some (leave how c.formals (map Some (map (marked (changed_by_call c.summary given)) syms)) rest (changed_state (changed_by_call c.summary given) s)) c.summary.exits) refl f
                       where
-                        left : (o : Option (List State)) → all_some (leave how c.formals (map Some (map (marked (changes c.summary given)) syms)) rest (changed_state (changes c.summary given) s)) c.summary.exits ≡ o
+                        left : (o : Option (List State)) → all_some (leave how c.formals (map Some (map (marked (changed_by_call c.summary given)) syms)) rest (changed_state (changed_by_call c.summary given) s)) c.summary.exits ≡ o
                             → Fine (or_unknown o) → CallRow sc how callee given syms s G
                         left None q f = absurd (not_fine _ f)
                         left (Some states) q f =
-                            let n = no_fault (change_fault sc (changes c.summary given) s) (ranks_fault sc c.summary rest) m in
+                            let n = no_fault (change_fault sc (changed_by_call c.summary given) s) (ranks_fault sc c.summary rest) m in
                             record {
                               called = c;
                               is = e;
@@ -115,25 +116,25 @@ module _ (G : State → Type 0) (S : Case → Type 0) (Q : Quit → Type 0) (lin
                               taken = l;
                               changed = n.0;
                               ranked = n.1;
-                              exits = λ x i. (let r = each_some (leave how c.formals (map Some (map (marked (changes c.summary given)) syms)) rest (changed_state (changes c.summary given) s)) c.summary.exits states q x i in
+                              exits = λ x i. (let r = each_some (leave how c.formals (map Some (map (marked (changed_by_call c.summary given)) syms)) rest (changed_state (changed_by_call c.summary given) s)) c.summary.exits states q x i in
                                   exit x r.0 r.1 (fine_each states f r.0 r.2));
                             }
                           where
-                            exit : (x : ExitCase) (t : State) → leave how c.formals (map Some (map (marked (changes c.summary given)) syms)) rest (changed_state (changes c.summary given) s) x ≡ Some t → G t
-                                → (terms : List LockTerm) × (put_terms c.formals (map Some (map (marked (changes c.summary given)) syms)) x.held ≡ Some terms)
-                                × G (record (changed_state (changes c.summary given) s) {
-                                  case = record (changed_state (changes c.summary given) s).case { test = test_after how s.case.test x.test; held = put_all terms rest };
+                            exit : (x : ExitCase) (t : State) → leave how c.formals (map Some (map (marked (changed_by_call c.summary given)) syms)) rest (changed_state (changed_by_call c.summary given) s) x ≡ Some t → G t
+                                → (terms : List LockTerm) × (put_terms c.formals (map Some (map (marked (changed_by_call c.summary given)) syms)) x.held ≡ Some terms)
+                                × G (record (changed_state (changed_by_call c.summary given) s) {
+                                  case = record (changed_state (changed_by_call c.summary given) s).case { test = test_after how s.case.test x.test; held = add_terms terms rest };
                                 })
-                            exit x t u g = by (put_terms c.formals (map Some (map (marked (changes c.summary given)) syms)) x.held) refl u
+                            exit x t u g = by (put_terms c.formals (map Some (map (marked (changed_by_call c.summary given)) syms)) x.held) refl u
                               where
-                                by : (o : Option (List LockTerm)) → put_terms c.formals (map Some (map (marked (changes c.summary given)) syms)) x.held ≡ o
-                                    → option_map (λ terms. record (changed_state (changes c.summary given) s) { case = record (changed_state (changes c.summary given) s).case { test = test_after how s.case.test x.test; held = put_all terms rest } }) o ≡ Some t
-                                    → (terms : List LockTerm) × (put_terms c.formals (map Some (map (marked (changes c.summary given)) syms)) x.held ≡ Some terms)
-                                    × G (record (changed_state (changes c.summary given) s) {
-                                      case = record (changed_state (changes c.summary given) s).case { test = test_after how s.case.test x.test; held = put_all terms rest };
+                                by : (o : Option (List LockTerm)) → put_terms c.formals (map Some (map (marked (changed_by_call c.summary given)) syms)) x.held ≡ o
+                                    → option_map (λ terms. record (changed_state (changed_by_call c.summary given) s) { case = record (changed_state (changed_by_call c.summary given) s).case { test = test_after how s.case.test x.test; held = add_terms terms rest } }) o ≡ Some t
+                                    → (terms : List LockTerm) × (put_terms c.formals (map Some (map (marked (changed_by_call c.summary given)) syms)) x.held ≡ Some terms)
+                                    × G (record (changed_state (changed_by_call c.summary given) s) {
+                                      case = record (changed_state (changed_by_call c.summary given) s).case { test = test_after how s.case.test x.test; held = add_terms terms rest };
                                     })
                                 by None y z = let v : None ≡ Some t = z in absurd (cc v)
-                                by (Some terms) y z = (terms, y, (let v : record (changed_state (changes c.summary given) s) { case = record (changed_state (changes c.summary given) s).case { test = test_after how s.case.test x.test; held = put_all terms rest } } ≡ t = cc z in subst G (sym v) g))
+                                by (Some terms) y z = (terms, y, (let v : record (changed_state (changed_by_call c.summary given) s) { case = record (changed_state (changed_by_call c.summary given) s).case { test = test_after how s.case.test x.test; held = add_terms terms rest } } ≡ t = cc z in subst G (sym v) g))
 
 -- the actuals: their symbols were captured last, and those by value have values
 abbrev pub given_slots : List ActualTree → List Slot → List Slot

@@ -31,7 +31,7 @@ use Rattle.mlk_walk_exprs.specs.declared.walk.Quit.{Quit as Quitting}
 use Rattle.mlk_walk_commands.specs.Arguments.{set_argument, write_argument, do_argument, do_row, job_argument, kill_argument, given_list}
 use Rattle.mlk_walk_lines.specs.Commands.{act, command, stay, do_block}
 use Rattle.mlk_walk_laws.proofs.Counts.{few_keeps}
-use Rattle.mlk_walk_laws.proofs.Rows.{stays, each_keeps}
+use Rattle.mlk_walk_laws.proofs.Transfers.{stays, each_keeps}
 use Rattle.mlk_walk_laws.proofs.Walks.{value_keeps, set_keeps, write_keeps, do_keeps, job_keeps, kill_keeps, acts_keep, conditioned_keeps}
 use Rattle.mlk_soundness_machine.specs.Described.{World, Level, Slot, IsWorld, idle, Describes}
 use Rattle.mlk_soundness_machine.proofs.Sharing.{SharesByOwn}

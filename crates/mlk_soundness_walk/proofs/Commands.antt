@@ -1,7 +1,7 @@
 -- Commands: SET of a local, and IF of one condition; a postconditional.
 use Rattle.std.proofs.Common.{◌≡◌, ℕ, ◌-◌, Bool, true, false, List, [], ◌∷◌, ◌++◌, drop, Option, Some, None, Ok, refl, sym, ap, ◌∙◌, subst, ⊎_elim, inl, inr}
-use Rattle.std.specs.Prelude.{◌⊎◌, if◌then◌else◌, codes}
-use Rattle.std.proofs.lemmas.Slice.Eq.{bytes_eq-Decides}
+use Rattle.std.specs.Prelude.{◌⊎◌, if◌then◌else◌}
+use Rattle.mlk_names.specs.Lists.{Among}
 use Rattle.mlk_soundness_walk.proofs.Lines.{at_rest_law}
 use Rattle.mlk_text.specs.declared.code.Code.{Code}
 use Rattle.mlk_syntax.specs.ExprTrees.{Tree, LocalName, no_subs}
@@ -11,9 +11,10 @@ use Rattle.mlk_cert_parts.specs.declared.case.Test.{Test}
 use Rattle.mlk_cert_parts.specs.declared.case.Test.TheVariants.{Zero, One}
 use Rattle.mlk_cert_parts.specs.declared.names.NameSet.{NameSet}
 use Rattle.mlk_cert_parts.specs.declared.names.NameSet.TheVariants.{Only}
+use Rattle.mlk_numbers.specs.Operators.{truth_of_text}
 use Rattle.mlk_machine_jobs.specs.Tasks as task
 use Rattle.mlk_machine_jobs.specs.Tasks.{Task, Job}
-use Rattle.mlk_machine_jobs.specs.Choices.{dropped, doing, is_one, is_zero, by_truth, same_truth}
+use Rattle.mlk_machine_jobs.specs.Choices.{dropped, doing, same_truth}
 use Rattle.mlk_machine_jobs.specs.Locking.{tested}
 use Rattle.mlk_machine_jobs.specs.Commands.{set_parts, if_parts}
 use Rattle.mlk_machine_jobs.specs.Lines.{skipped}
@@ -29,8 +30,7 @@ use Rattle.mlk_walk_exprs.specs.Expressions.{value}
 use Rattle.mlk_walk_commands.specs.Variables.{change_at}
 use Rattle.mlk_walk_commands.specs.Arguments.{forget, set_argument, if_argument}
 use Rattle.mlk_walk_commands.specs.Arguments as walked
-use Rattle.mlk_walk_laws.specs.Fewer.{Among}
-use Rattle.mlk_walk_laws.proofs.Rows.{both, each_keeps, changed_keeps}
+use Rattle.mlk_walk_laws.proofs.Transfers.{both, each_keeps, changed_keeps}
 use Rattle.mlk_walk_laws.proofs.Walks.{value_keeps}
 use Rattle.mlk_soundness_machine.specs.Frames.{Agrees}
 use Rattle.mlk_soundness_machine.specs.Described.{World, Level, Slot, IsWorld, idle, Describes}
@@ -111,26 +111,25 @@ module _ (routines : List RoutineTree) (p : Spot) (w : World) (b : Level) (world
   }
 
   -- what IF's row says, by the truth that a value has
-  ways : (u : State) (A : State → Type 0) (o : Option Bool) (v : List ℕ) → IsTruth o v → ((x : Outcome) → Among x (walked.by_truth o u) → Meets A S Q x)
-      → (x : Bool) → (is_one v ≡ true → x ≡ true) → (is_zero v ≡ true → is_one v ≡ false → x ≡ false)
+  ways : (u : State) (A : State → Type 0) (o : Option Bool) (v : List ℕ) → IsTruth o v → ((x : Outcome) → Among x (walked.if_outcomes o u) → Meets A S Q x)
+      → (x : Bool) → ((t : Bool) → truth_of_text v ≡ Some t → x ≡ t)
       → ((x ≡ true) × A (state.tested One u)) ⊎ ((x ≡ false) × S (state.tested Zero u).case)
-  ways u A None v truth h true one naught = inl (refl, h (Goes (state.tested One u)) (inl refl))
-  ways u A None v truth h false one naught = inr (refl, h (Skips (state.tested Zero u).case) (inr (inl refl)))
-  ways u A (Some true) v truth h x one naught = inl (one truth, h (Goes (state.tested One u)) (inl refl))
-  ways u A (Some false) v truth h x one naught =
-      inr (naught truth (subst (λ z. is_one z ≡ false) (sym ((bytes_eq-Decides v (codes "0")).0 truth)) refl), h (Skips (state.tested Zero u).case) (inl refl))
+  ways u A None v truth h true same = inl (refl, h (Goes (state.tested One u)) (inl refl))
+  ways u A None v truth h false same = inr (refl, h (Skips (state.tested Zero u).case) (inr (inl refl)))
+  ways u A (Some true) v truth h x same = inl (same true truth, h (Goes (state.tested One u)) (inl refl))
+  ways u A (Some false) v truth h x same = inr (same false truth, h (Skips (state.tested Zero u).case) (inl refl))
 
   pub if_one : (t : Tree) → AreOurs p.scope (in_tree t) → (ts : List Task) (s : State) (A : State → Type 0) → Leads (if_argument p t) s A S Q
       → ((u : State) → A u → Fit n ts u) → ((c : Case) → S c → Fit n (skipped ts) (at_rest c)) → Fit n (if_parts t ++ ts) s
   if_one t ours ts s A l go skip =
-      let row : State → List Outcome = λ u. walked.by_truth (truth_in p.scope t u) u in
+      let row : State → List Outcome = λ u. walked.if_outcomes (truth_in p.scope t u) u in
       evaluate t ours [] (task.SetTest ∷ task.SkipIf false ∷ ts) s (λ u. Leads (each row) u A S Q)
       (leads_both A S Q (value p t) (each row) (value_keeps p t) (each_keeps row) s l)
       (λ u m j v more d e knows tasks.
       plain_step routines p.scope w b [] n (task.SkipIf false ∷ ts) u task.SetTest refl j tasks (λ free c.
       of_last (Safe routines p.scope w b n) j.values _ (λ y rest ey.
       let same : y ≡ v = (let z : y ∷ rest ≡ v ∷ more = sym ey ∙ e in cc) in
-      of_known (Safe routines p.scope w b n) c y _ (λ x one naught.
+      of_known (Safe routines p.scope w b n) c (truth_of_text y) _ (λ x is_known.
       let less : Describes p.scope w b [] u (idle (dropped 1 j)) = subst (λ z. Describes p.scope w b [] u (record (idle j) { values = z })) (sym (ap (drop 1) e)) (drop_law p.scope w b None [] u (idle j) d v more e) in
       let i : Job = doing (task.SkipIf false ∷ ts) (tested x (dropped 1 j)) in
       done (Safe routines p.scope w b n) i
@@ -142,5 +141,4 @@ module _ (routines : List RoutineTree) (p : Spot) (w : World) (b : Level) (world
       (λ (k : (x ≡ false) × S (state.tested Zero u).case).
       skip (state.tested Zero u).case k.1 (doing (if same_truth false x then skipped ts else ts) i)
       (at_rest_law p.scope w b (state.tested Zero u) (idle (tested x (dropped 1 j))) (tested_law u (dropped 1 j) Zero x k.0 less)) (ap (λ z. if same_truth false z then skipped ts else ts) k.0))
-      (ways u A (truth_in p.scope t u) v knows.truth (leads_each A S Q row u m) x (λ h. one (subst (λ z. is_one z ≡ true) (sym same) h))
-      (λ h k. naught (subst (λ z. is_zero z ≡ true) (sym same) h) (subst (λ z. is_one z ≡ false) (sym same) k)))))))))))
+      (ways u A (truth_in p.scope t u) v knows.truth (leads_each A S Q row u m) x (λ t h. is_known t (ap truth_of_text same ∙ h)))))))))))

@@ -2,6 +2,7 @@
 use Rattle.std.proofs.Common.{◌≡◌, ℕ, suc, Bool, true, false, List, [], ◌∷◌, ◌++◌, length, reverse, drop, Option, Some, None, Ok, Err, refl, sym, ap, ◌∙◌, subst, arith, inl, append_assoc}
 use Rattle.std.specs.Prelude.{if◌then◌else◌}
 use Rattle.mlk_text.specs.declared.code.Code.TheVariants.{NoCertificate}
+use Rattle.mlk_names.specs.Lists.{Among}
 use Rattle.mlk_syntax.specs.declared.expr.Callee.{Callee}
 use Rattle.mlk_syntax.specs.ExprTrees.{Tree, ActualTree, Given, ByRef, Missing, Actuals, actuals_from, as_list}
 use Rattle.mlk_syntax.specs.Trees.{RoutineTree, CallTree, Called, DoTree, DoCall}
@@ -25,9 +26,8 @@ use Rattle.mlk_walk_exprs.specs.Walks.{Outcome, Goes, Refused, each, placed}
 use Rattle.mlk_walk_exprs.specs.Spots.{Spot}
 use Rattle.mlk_walk_exprs.specs.Expressions.{capture_actuals, by_condition, value}
 use Rattle.mlk_walk_commands.specs.Arguments.{do_argument, do_row, job_argument, job_row, forget_given, given_list, capture_given}
-use Rattle.mlk_walk_laws.specs.Fewer.{Among}
 use Rattle.mlk_walk_laws.proofs.Counts.{ways_keep}
-use Rattle.mlk_walk_laws.proofs.Rows.{both, each_keeps, changed_keeps}
+use Rattle.mlk_walk_laws.proofs.Transfers.{both, each_keeps, changed_keeps}
 use Rattle.mlk_walk_laws.proofs.Walks.{value_keeps, actuals_keep}
 use Rattle.mlk_soundness_machine.specs.Reads.{now}
 use Rattle.mlk_soundness_machine.specs.Described.{some_local, World, Level, Slot, Fills, idle, Describes}

@@ -2,6 +2,7 @@
 use Rattle.std.proofs.Common.{◌≡◌, ℕ, zero, suc, ◌<◌, Bool, true, false, List, [], ◌∷◌, ◌++◌, length, drop, reverse, map, Option, Some, None, Ok, refl, sym, ap, ◌∙◌, subst, arith, ⊎_elim, inl, inr, ◌+◌}
 use Rattle.std.specs.Prelude.{◌||◌, ◌&&◌, option_map, option_and_then, slice_get}
 use Rattle.std.proofs.lemmas.Bool.{cases_Bool, or_cases, and_parts, ne_eqb}
+use Rattle.mlk_names.specs.Lists.{Among}
 use Rattle.mlk_names.specs.declared.term.LockTerm.{LockTerm}
 use Rattle.mlk_names.specs.declared.symbol.Sym.{Sym}
 use Rattle.mlk_rules.specs.declared.rules.RuleLists.{RuleLists}
@@ -52,15 +53,14 @@ use Rattle.mlk_walk_state.specs.States.{at_rest, last_captured, without_last}
 use Rattle.mlk_walk_state.specs.Scope.{Scope, block_at}
 use Rattle.mlk_walk_state.specs.Names.{is_own, is_among, without}
 use Rattle.mlk_walk_state.specs.Cases.{leaves_by, says_no_more}
-use Rattle.mlk_walk_state.specs.Terms.{put_terms, put_all, mention_such}
+use Rattle.mlk_walk_state.specs.Terms.{put_terms, add_terms, mention_such}
 use Rattle.mlk_calls.specs.Changes.{marked, changed_state}
 use Rattle.mlk_calls.specs.Calls as walked
-use Rattle.mlk_calls.specs.Calls.{Called, changes, ranks_fault, test_after}
+use Rattle.mlk_calls.specs.Calls.{Called, changed_by_call, ranks_fault, test_after}
 use Rattle.mlk_calls.specs.declared.call.Calling.{Calling}
 use Rattle.mlk_calls.specs.declared.call.Calling.TheVariants as by
 use Rattle.mlk_walk_lines.specs.Endings.{escapes}
 use Rattle.mlk_walk.specs.Verdicts.{begin_case}
-use Rattle.mlk_walk_laws.specs.Fewer.{Among}
 use Rattle.mlk_machine_laws.specs.Sharing.{is_lent}
 use Rattle.mlk_soundness_machine.specs.Frames.{Agrees, times_waiting}
 use Rattle.mlk_soundness_machine.specs.Reads.{now, mentions, times}
@@ -330,8 +330,8 @@ module _ (routines : List RoutineTree) (rules : RuleLists) (entries : List (Entr
       put : put_terms (formals_in head) (map Some syms) its.summary.need ≡ Some row.needs
       put = subst (λ z. put_terms z (map Some syms) its.summary.need ≡ Some row.needs) formals_are (subst (λ z. put_terms row.called.formals (map Some syms) z.need ≡ Some row.needs) summary_is row.put)
 
-      ok : Allowed (scope e blk) (changes its.summary given) (without_last (length given) s)
-      ok = subst (λ z. Allowed (scope e blk) (changes z given) (without_last (length given) s)) summary_is (allowed (scope e blk) (changes row.called.summary given) (without_last (length given) s) row.changed)
+      ok : Allowed (scope e blk) (changed_by_call its.summary given) (without_last (length given) s)
+      ok = subst (λ z. Allowed (scope e blk) (changed_by_call z given) (without_last (length given) s)) summary_is (allowed (scope e blk) (changed_by_call row.called.summary given) (without_last (length given) s) row.changed)
 
       abbrev world : World
       world = calling.world (scope e blk) its w b (without_last (length given) s) rest d.stands k sole (formals_in head) dist given syms vals passed syms_sole row.needs row.aside put row.taken ok shares filled lent begun t.entry
@@ -354,18 +354,18 @@ module _ (routines : List RoutineTree) (rules : RuleLists) (entries : List (Entr
       }
 
       abbrev ch : List NameSet
-      ch = changes its.summary given
+      ch = changed_by_call its.summary given
 
       module _ (m : ℕ) (same : n ≡ suc m) where
         module _ (c : Case) (x : ExitCase) (among : Among x its.summary.exits) (leaves : leaves_by c x ≡ true) (esc : mention_such (escapes c) c.held ≡ false)
             (i : Job) (f : Describes its world (first_level world) [] (at_rest c) (idle i)) (kept : Bool) (agrees : Agrees (test_after how s.case.test x.test) kept) where
           exit : (terms : List LockTerm) × (put_terms (formals_in head) (map Some (map (marked ch) syms)) x.held ≡ Some terms)
-              × G (record (changed_state ch (without_last (length given) s)) { case = record (changed_state ch (without_last (length given) s)).case { test = test_after how s.case.test x.test; held = put_all terms row.aside } })
+              × G (record (changed_state ch (without_last (length given) s)) { case = record (changed_state ch (without_last (length given) s)).case { test = test_after how s.case.test x.test; held = add_terms terms row.aside } })
           exit =
-              let P : Summary → Type 0 = λ z. (y : ExitCase) → Among y z.exits → (terms : List LockTerm) × (put_terms row.called.formals (map Some (map (marked (changes z given)) syms)) y.held ≡ Some terms)
-              × G (record (changed_state (changes z given) (without_last (length given) s)) { case = record (changed_state (changes z given) (without_last (length given) s)).case { test = test_after how s.case.test y.test; held = put_all terms row.aside } }) in
+              let P : Summary → Type 0 = λ z. (y : ExitCase) → Among y z.exits → (terms : List LockTerm) × (put_terms row.called.formals (map Some (map (marked (changed_by_call z given)) syms)) y.held ≡ Some terms)
+              × G (record (changed_state (changed_by_call z given) (without_last (length given) s)) { case = record (changed_state (changed_by_call z given) (without_last (length given) s)).case { test = test_after how s.case.test y.test; held = add_terms terms row.aside } }) in
               let R : List (List ℕ) → Type 0 = λ z. (terms : List LockTerm) × (put_terms z (map Some (map (marked ch) syms)) x.held ≡ Some terms)
-              × G (record (changed_state ch (without_last (length given) s)) { case = record (changed_state ch (without_last (length given) s)).case { test = test_after how s.case.test x.test; held = put_all terms row.aside } }) in
+              × G (record (changed_state ch (without_last (length given) s)) { case = record (changed_state ch (without_last (length given) s)).case { test = test_after how s.case.test x.test; held = add_terms terms row.aside } }) in
               subst R formals_are (subst P summary_is row.exits x among)
 
           held_is : c.held ≡ x.held
@@ -378,7 +378,7 @@ module _ (routines : List RoutineTree) (rules : RuleLists) (entries : List (Entr
           back = calling.returned (scope e blk) its w b (without_last (length given) s) rest d.stands k sole (formals_in head) dist given syms vals passed syms_sole row.needs row.aside put row.taken ok shares filled lent begun t.entry
               c i f.stands (fine_case c esc) exit.0 out (test_after how s.case.test x.test) kept agrees
 
-          left : Stands (scope e blk) w b (record { test = test_after how s.case.test x.test; saved = s.case.saved; held = put_all exit.0 row.aside; own = s.case.own; kept = without ch s.case.kept }) (bare back)
+          left : Stands (scope e blk) w b (record { test = test_after how s.case.test x.test; saved = s.case.saved; held = add_terms exit.0 row.aside; own = s.case.own; kept = without ch s.case.kept }) (bare back)
           left = calling.leave_stands (scope e blk) its w b (without_last (length given) s) rest d.stands k sole (formals_in head) dist given syms vals passed syms_sole row.needs row.aside put row.taken ok shares filled lent begun t.entry
               c i f.stands (fine_case c esc) exit.0 out (test_after how s.case.test x.test) kept agrees
 
@@ -396,7 +396,7 @@ module _ (routines : List RoutineTree) (rules : RuleLists) (entries : List (Entr
           number_same : back.number ≡ j.number
           number_same = left.numbered ∙ sym d.stands.numbered
 
-          after : Describes (scope e blk) w b slots (record (changed_state ch (without_last (length given) s)) { case = record (changed_state ch (without_last (length given) s)).case { test = test_after how s.case.test x.test; held = put_all exit.0 row.aside } }) (idle back)
+          after : Describes (scope e blk) w b slots (record (changed_state ch (without_last (length given) s)) { case = record (changed_state ch (without_last (length given) s)).case { test = test_after how s.case.test x.test; held = add_terms exit.0 row.aside } }) (idle back)
           after = record {
             stands = left;
             captured_sole = λ y h. (guarded_now y h).1;
@@ -413,7 +413,7 @@ module _ (routines : List RoutineTree) (rules : RuleLists) (entries : List (Entr
 
         -- what follows the call
         abbrev Ends : State → ExitCase → List LockTerm → State
-        Ends u x terms = record (changed_state ch (without_last (length given) u)) { case = record (changed_state ch (without_last (length given) u)).case { test = test_after how u.case.test x.test; held = put_all terms row.aside } }
+        Ends u x terms = record (changed_state ch (without_last (length given) u)) { case = record (changed_state ch (without_last (length given) u)).case { test = test_after how u.case.test x.test; held = add_terms terms row.aside } }
 
         left_test : (c : Case) (x : ExitCase) → leaves_by c x ≡ true → (i : Job) → Describes its world (first_level world) [] (at_rest c) (idle i) → Agrees x.test i.test
         left_test c x leaves i f = less_test c.test x.test i.test (same_held c x leaves).1 f.stands.test

@@ -16,9 +16,10 @@ use Rattle.mlk_syntax.specs.ExprTrees.{Subs, no_subs, sub, Links, no_links, link
 use Rattle.mlk_syntax.specs.Trees.{RoutineTree, Called}
 use Rattle.mlk_program.specs.Calls.{in_tree, in_trees, in_subs, in_links, in_choices, in_actuals}
 use Rattle.mlk_cert_parts.specs.declared.case.Case.{Case}
+use Rattle.mlk_numbers.specs.Operators.{truth_of_text}
 use Rattle.mlk_machine_jobs.specs.Tasks as task
 use Rattle.mlk_machine_jobs.specs.Tasks.{Task, Job}
-use Rattle.mlk_machine_jobs.specs.Choices.{pushed, dropped, doing, is_one, is_zero}
+use Rattle.mlk_machine_jobs.specs.Choices.{pushed, dropped, doing}
 use Rattle.mlk_machine_jobs.specs.Lines.{chosen}
 use Rattle.mlk_machine_jobs.specs.Expressions as run
 use Rattle.mlk_machine_jobs.specs.Expressions.{parts_of, each_sub, each_tree, each_actual, operation, function_parts, takes_name}
@@ -31,10 +32,10 @@ use Rattle.mlk_walk_exprs.specs.declared.reference.Use.TheVariants.{ItsValue}
 use Rattle.mlk_walk_exprs.specs.Walks.{each}
 use Rattle.mlk_walk_exprs.specs.Spots.{Spot}
 use Rattle.mlk_walk_exprs.specs.References.{use_of, read_fault, read_last}
-use Rattle.mlk_walk_exprs.specs.Expressions.{agrees, by_condition, with_value, capture, forget_subs, extrinsic, evaluate, evaluate_all, evaluate_choices, capture_subs, capture_actual, capture_actuals, evaluate_links}
+use Rattle.mlk_walk_exprs.specs.Expressions.{agrees, by_condition, with_symbol_of, capture, forget_subs, extrinsic, evaluate, evaluate_all, evaluate_choices, capture_subs, capture_actual, capture_actuals, evaluate_links}
 use Rattle.mlk_walk_commands.specs.Arguments.{given_list}
 use Rattle.mlk_walk_laws.proofs.Counts.{ways_keep}
-use Rattle.mlk_walk_laws.proofs.Rows.{each_keeps, capture_keeps, both}
+use Rattle.mlk_walk_laws.proofs.Transfers.{each_keeps, capture_keeps, both}
 use Rattle.mlk_walk_laws.proofs.Walks.{extrinsic_keeps, forgotten_keeps, evaluated_keeps, all_keep, captured_keep, linked_keep, chosen_keep, one_given_keeps, given_keep}
 use Rattle.mlk_soundness_machine.specs.Reads.{now}
 use Rattle.mlk_soundness_machine.specs.Described.{World, Level, Slot, Kept, Bare, Blank, idle, Describes}
@@ -269,7 +270,7 @@ module _ (routines : List RoutineTree) (p : Spot) (w : World) (b : Level) (S : C
           evaluate_fits t (ours_left p.scope (in_tree t) (in_subs rest) ours) slots (each_sub rest ++ ts) s (λ u. Leads (capture p.scope t) u B S Q)
           (leads_both B S Q (evaluate p ItsValue t) (capture p.scope t) (evaluated_keeps p ItsValue t) (capture_keeps p.scope t) s whole)
           (λ u m j v more d e knows tasks.
-          subs_fit rest (ours_right p.scope (in_tree t) (in_subs rest) ours) (Kept ∷ slots) ts (with_value p.scope t u) A (leads_mapped B S Q (with_value p.scope t) u m) k j
+          subs_fit rest (ours_right p.scope (in_tree t) (in_subs rest) ours) (Kept ∷ slots) ts (with_symbol_of p.scope t u) A (leads_mapped B S Q (with_symbol_of p.scope t) u m) k j
           (capture_law p.scope w b None slots u (idle j) d v more e (symbol_in p.scope t u) knows.symbol.stands (λ x i. local_unshared (p.scope.is_shared u.case.own) t x i))
           tasks)
 
@@ -322,10 +323,9 @@ module _ (routines : List RoutineTree) (p : Spot) (w : World) (b : Level) (S : C
           plain_step routines p.scope w b (Bare None ∷ slots) n ts u (task.Selected v rest) refl i at (λ free' c'.
           of_last (Safe routines p.scope w b n) i.values _ (λ y below ey.
           let same : y ≡ x = (let z : y ∷ below ≡ x ∷ more = sym ey ∙ g in cc) in
-          of_known (Safe routines p.scope w b n) c' y _ (λ z one naught.
+          of_known (Safe routines p.scope w b n) c' (truth_of_text y) _ (λ z is_known.
           let less : Describes p.scope w b slots u (idle (dropped 1 i)) = subst (λ q. Describes p.scope w b slots u (record (idle i) { values = q })) (sym (ap (drop 1) g)) (drop_law p.scope w b None slots u (idle i) f x more g) in
-          let may : agrees z (truth_in p.scope t u) ≡ true = truth_agrees (truth_in p.scope t u) x knows.truth z (λ h. one (subst (λ q. is_one q ≡ true) (sym same) h))
-          (λ h h'. naught (subst (λ q. is_zero q ≡ true) (sym same) h) (subst (λ q. is_one q ≡ false) (sym same) h')) in
+          let may : agrees z (truth_in p.scope t u) ≡ true = truth_agrees (truth_in p.scope t u) x knows.truth z (λ q h. is_known q (ap truth_of_text same ∙ h)) in
           way_fits t v rest slots ts u A
           (λ h. evaluate_fits v (ours_left p.scope (in_tree v) (in_choices rest) there) slots ts u A h (λ x a. to_any v slots ts x (k x a)))
           (λ h. choices_fit rest (ours_right p.scope (in_tree v) (in_choices rest) there) slots ts u A h k) m z may i less))))
@@ -341,7 +341,7 @@ module _ (routines : List RoutineTree) (p : Spot) (w : World) (b : Level) (S : C
           evaluate_fits t (ours_left p.scope (in_tree t) (in_actuals rest) ours) slots (each_actual (as_list rest) ++ ts) s (λ u. Leads (capture p.scope t) u B S Q)
           (leads_both B S Q (evaluate p ItsValue t) (capture p.scope t) (evaluated_keeps p ItsValue t) (capture_keeps p.scope t) s whole)
           (λ u m j v more d e knows tasks.
-          actuals_fit rest (ours_right p.scope (in_tree t) (in_actuals rest) ours) (Kept ∷ slots) ts (with_value p.scope t u) A (leads_mapped B S Q (with_value p.scope t) u m) k j
+          actuals_fit rest (ours_right p.scope (in_tree t) (in_actuals rest) ours) (Kept ∷ slots) ts (with_symbol_of p.scope t u) A (leads_mapped B S Q (with_symbol_of p.scope t) u m) k j
           (capture_law p.scope w b None slots u (idle j) d v more e (symbol_in p.scope t u) knows.symbol.stands (λ x i. local_unshared (p.scope.is_shared u.case.own) t x i))
           tasks)
       actuals_fit (actual (ByRef column name) rest) ours slots ts s A l k =

@@ -3,6 +3,7 @@ use Rattle.std.proofs.Common.{◌≡◌, ℕ, zero, suc, ◌+◌, ◌<◌, Bool,
 use Rattle.std.specs.Prelude.{◌⊎◌, ◌&&◌, if◌then◌else◌, take_while, slice_get, is_none}
 use Rattle.std.specs.List.{prefix_len}
 use Rattle.std.proofs.lemmas.Bool.{cases_Bool, or_cases}
+use Rattle.mlk_names.specs.Lists.{Among}
 use Rattle.mlk_syntax.specs.Trees.{RoutineTree, HeadTree, LineTrees, no_lines, line, LineHead}
 use Rattle.mlk_syntax.specs.Views.{lines_from}
 use Rattle.mlk_program.specs.Entries.{as_lines, formals_of, lacks_formals}
@@ -12,7 +13,6 @@ use Rattle.mlk_cert_parts.specs.declared.case.ExitCase.{ExitCase}
 use Rattle.mlk_walk_state.specs.Cases.{leaves_by, is_exit, holds_some}
 use Rattle.mlk_walk_state.specs.Terms.{mention_such}
 use Rattle.mlk_walk_lines.specs.Endings.{LineEnd, Faulty, Passes, frame_end, escapes}
-use Rattle.mlk_walk_laws.specs.Fewer.{Among}
 use Rattle.mlk_walk_laws.specs.Passing.{IsRight}
 use Rattle.std.specs.Prelude.{option_map, option_and_then}
 use Rattle.mlk_program.specs.declared.entry.EntryId.{EntryId}
@@ -48,7 +48,7 @@ use Rattle.mlk_soundness_machine.specs.Marked.{Begun, AreMarked}
 use Rattle.mlk_soundness_machine.specs.Listed.{IsAtStart}
 use Rattle.mlk_soundness_machine.specs.Places.{line_number, entry_trees, none_follows}
 use Rattle.mlk_soundness_machine.proofs.Listing.{own_lines, is_at_start}
-use Rattle.mlk_soundness_walk.proofs.Places.{there, AreWithin, lines_behind, first_in}
+use Rattle.mlk_soundness_walk.proofs.Places.{AreWithin, lines_behind, first_in}
 
 -- a frame's end that is right leaves by an exit
 pub record LeavesBy (e : LineEnd) (c : Case) : Type 0 where
@@ -174,7 +174,7 @@ starts : (sc : Scope) (w : World) (b : Level) (head : HeadTree) (c : Case) → i
 starts sc w b (LineHead number level at label formals cs) c h j d begun is same marked =
     let r = listed_for (listed sc number 0) c h in
     subst (IsAtStart sc.routines sc.blocks w.begun) (sym is)
-    (is_at_start sc w b r.0 number (there r.0 (listed sc number 0) r.1) j marked begun (less_stands sc w b c r.0 r.2 (bare (idle j)) d.stands) (ap line_number same))
+    (is_at_start sc w b r.0 number r.1 j marked begun (less_stands sc w b c r.0 r.2 (bare (idle j)) d.stands) (ap line_number same))
 
 -- an entry is safe for so many steps where its commands fit
 module _ (routines : List RoutineTree) (rules : RuleLists) (blocks : List EntryCert) (clean : report routines rules blocks ≡ []) where

@@ -24,7 +24,7 @@ use Rattle.mlk_walk_exprs.specs.Walks.{Outcome, each}
 use Rattle.mlk_walk_exprs.specs.Spots.{Spot}
 use Rattle.mlk_walk_exprs.specs.References.{use_of, checked, read_fault, read_last}
 use Rattle.mlk_walk_exprs.specs.Expressions.{forget_subs, capture_subs, evaluate_all}
-use Rattle.mlk_walk_laws.proofs.Rows.{each_keeps, both}
+use Rattle.mlk_walk_laws.proofs.Transfers.{each_keeps, both}
 use Rattle.mlk_walk_laws.proofs.Walks.{captured_keep, forgotten_keeps, all_keep}
 use Rattle.mlk_soundness_machine.specs.Described.{World, Level, Slot, Bare}
 use Rattle.mlk_soundness_machine.proofs.Stack.{kepts}

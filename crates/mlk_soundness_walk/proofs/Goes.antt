@@ -1,12 +1,12 @@
 -- Rows that are not refused.
 use Rattle.std.proofs.Common.{◌≡◌, ℕ, Option, Some, None, refl, inl}
 use Rattle.mlk_text.specs.declared.code.Code.{Code}
+use Rattle.mlk_names.specs.Lists.{Among}
 use Rattle.mlk_cert_parts.specs.declared.case.Case.{Case}
 use Rattle.mlk_walk_state.specs.declared.state.State.{State}
 use Rattle.mlk_walk_exprs.specs.declared.walk.Quit.{Quit}
 use Rattle.mlk_walk_exprs.specs.Walks.{Outcome, Goes, Refused}
 use Rattle.mlk_walk_exprs.specs.References.{covered_or}
-use Rattle.mlk_walk_laws.specs.Fewer.{Among}
 use Rattle.mlk_soundness_walk.proofs.Alone.{Meets}
 
 -- what a row answers where nothing is wrong

@@ -29,7 +29,7 @@ use Rattle.mlk_walk_commands.specs.Arguments.{in_time_or_not, read_row, read_var
 use Rattle.mlk_walk_commands.specs.Variables.{capture_variable}
 use Rattle.mlk_walk_lines.specs.Commands.{in_turn}
 use Rattle.mlk_walk_laws.proofs.Counts.{few_keeps}
-use Rattle.mlk_walk_laws.proofs.Rows.{each_keeps, both}
+use Rattle.mlk_walk_laws.proofs.Transfers.{each_keeps, both}
 use Rattle.mlk_walk_laws.proofs.Walks.{variable_keeps, if_keeps, read_argument_keeps, turns_keep}
 use Rattle.mlk_soundness_machine.specs.Described.{World, Level, Slot, IsWorld, idle, Describes}
 use Rattle.mlk_soundness_machine.proofs.Changes as changes

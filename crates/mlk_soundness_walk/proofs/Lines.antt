@@ -4,6 +4,7 @@ use Rattle.std.specs.Prelude.{◌⊎◌, is_some}
 use Rattle.std.specs.List.{list_any, AllZip}
 use Rattle.std.proofs.lemmas.Bool.{cases_Bool, or_cases, or_left, or_right, false≢true}
 use Rattle.std.specs.Prelude.{Contains, bytes_eq}
+use Rattle.mlk_names.specs.Lists.{Among}
 use Rattle.mlk_names.specs.declared.symbol.Sym.{Sym}
 use Rattle.mlk_names.specs.Symbols.{Assignment}
 use Rattle.mlk_names.proofs.ListLemmas.{contains_cases}
@@ -32,8 +33,8 @@ use Rattle.mlk_walk_exprs.specs.Spots.{Spot}
 use Rattle.mlk_walk_lines.specs.Loops.{commands, one_command}
 use Rattle.mlk_walk_lines.specs.Endings.{Around, OfBlock, LineEnd, number_of, into_line, go_on, case_end, quit_end, state_end, level_end}
 use Rattle.mlk_walk_lines.specs.Lines.{next_head, block_with, walk_lines}
-use Rattle.mlk_walk_laws.specs.Fewer.{Among, ListsEachOnce}
-use Rattle.mlk_soundness_machine.specs.Safe.{Keeps}
+use Rattle.mlk_walk_laws.specs.Fewer.{ListsEachOnce}
+use Rattle.mlk_soundness_machine.specs.Safe.{KeepsIn}
 use Rattle.mlk_soundness_machine.proofs.Facts.{lines_facts, commands_facts}
 use Rattle.mlk_soundness_machine.specs.Places.{StandIn, none_follows}
 use Rattle.mlk_soundness_machine.proofs.Listing.{own_lines}
@@ -46,7 +47,7 @@ use Rattle.mlk_soundness_machine.proofs.Steps.{done, refused, unasked}
 use Rattle.mlk_soundness_machine.proofs.Values.{Safe, Fits, plain_step}
 use Rattle.mlk_soundness_walk.proofs.Alone.{Leads}
 use Rattle.mlk_soundness_walk.proofs.Alone.{leads_both, leads_stay, leads_there}
-use Rattle.mlk_soundness_walk.proofs.Places.{there, AreWithin, lines_behind, lines_below, first_in, Opens, opens_line, opens_rest, comes_to, begins_round}
+use Rattle.mlk_soundness_walk.proofs.Places.{AreWithin, lines_behind, lines_below, first_in, Opens, opens_line, opens_rest, comes_to, begins_round}
 use Rattle.mlk_soundness_walk.specs.Commands.{alone, AreOnLine}
 use Rattle.mlk_soundness_walk.specs.Commands as stated
 use Rattle.mlk_soundness_walk.specs.Ours.{IsOf, AreOf, IsHeadOf, AreLinesOf}
@@ -286,10 +287,10 @@ module _ (routines : List RoutineTree) (sc : Scope) (w : World) (b : Level) (aro
 
   -- where the job goes on to a line, a listed case describes it
   at_line : (head : HeadTree) (inner more : LineTrees) → StandIn (line head inner more) (own_lines sc w) → (c : Case) → is_listed (listed sc (number_of head) 0) c ≡ true → (j : Job) → Describes sc w b [] (at_rest c) (idle j)
-      → j.tasks ≡ RunLines ((head, inner) ∷ (as_lines more ++ tail)) ∷ E ∷ ts → Keeps sc w b j
+      → j.tasks ≡ RunLines ((head, inner) ∷ (as_lines more ++ tail)) ∷ E ∷ ts → KeepsIn sc w b j
   at_line (LineHead number level at label formals cs) inner more is_line c h j d tasks =
       let r = listed_for (listed sc number 0) c h in
-      lines_facts sc w b j (LineHead number level at label formals cs, inner) (as_lines more ++ tail) (E ∷ ts) tasks r.0 (there r.0 (listed sc number 0) r.1) more is_line tail refl none (less_stands sc w b c r.0 r.2 (bare (idle j)) d.stands)
+      lines_facts sc w b j (LineHead number level at label formals cs, inner) (as_lines more ++ tail) (E ∷ ts) tasks r.0 r.1 more is_line tail refl none (less_stands sc w b c r.0 r.2 (bare (idle j)) d.stands)
 
   pub lines_fit : (lines : LineTrees) → AreWithin lines (own_lines sc w) → EachBlockFits routines sc w b n lines → AreLinesOf sc b.level may lines → EachLinePasses sc around ends lines → (c : Case) → Enters lines c → Goes (RunLines (as_lines lines ++ tail) ∷ E ∷ ts) (at_rest c)
   lines_fit no_lines are fits leveled passes c enters j d tasks =

@@ -4,6 +4,7 @@ use Rattle.std.proofs.Common.{◌≡◌, ℕ, zero, suc, Bool, true, false, List
 use Rattle.std.specs.Prelude.{◌==◌, nat_lt, not, Contains}
 use Rattle.std.proofs.lemmas.Bool.{cases_Bool, and_parts, and_from}
 use Rattle.std.proofs.lemmas.Bool.Decides.{nat_tests}
+use Rattle.mlk_names.specs.Lists.{Among}
 use Rattle.mlk_cert_lexemes.specs.Lists.{Each, ascends, upto}
 use Rattle.mlk_cert_parts.specs.declared.case.Case.{Case}
 use Rattle.mlk_cert_parts.specs.declared.block.EntryCert.{EntryCert}
@@ -11,7 +12,7 @@ use Rattle.mlk_cert_parts.specs.Limits.{cases_below, IsPoint, IsBlock, IsCertifi
 use Rattle.mlk_cert_parts.specs.Texts.{case_text}
 use Rattle.mlk_walk_state.specs.declared.state.State.{State}
 use Rattle.mlk_walk_state.specs.States.{at_rest}
-use Rattle.mlk_walk_laws.specs.Fewer.{Among, AreDistinct}
+use Rattle.mlk_walk_laws.specs.Fewer.{StatesDiffer}
 use Rattle.mlk_soundness_walk.specs.Forms.{ListOnce}
 
 -- what each item of a list is
@@ -95,7 +96,7 @@ rest : (c : Case) (ds : List Case) → ascends cases_below (c ∷ ds) ≡ true �
 rest c [] up = refl
 rest c (d ∷ ds) up = (and_parts (cases_below c d) (ascends cases_below (d ∷ ds)) up).1
 
-once : (cases : List Case) → ascends cases_below cases ≡ true → AreDistinct (map at_rest cases)
+once : (cases : List Case) → ascends cases_below cases ≡ true → StatesDiffer (map at_rest cases)
 once [] up = tt
 once (c ∷ cases) up = (alone c cases up, once cases (rest c cases up))
 

@@ -5,6 +5,7 @@ use Rattle.std.specs.Prelude.{◌&&◌, flat_map, is_some, option_and_then, Resu
 use Rattle.std.specs.List.{list_all}
 use Rattle.mlk_text.specs.declared.code.Code.{Code}
 use Rattle.mlk_text.specs.declared.code.Code.TheVariants.{NotHeld, SummaryShort, UnknownSubscript}
+use Rattle.mlk_names.specs.Lists.{Among}
 use Rattle.mlk_names.specs.declared.lock_name.LockName.{LockName}
 use Rattle.mlk_names.specs.declared.term.LockTerm.{LockTerm}
 use Rattle.mlk_rules.specs.Ranks.{FamiliesApart}
@@ -37,12 +38,11 @@ use Rattle.mlk_walk_exprs.specs.declared.walk.Quit.{Quit}
 use Rattle.mlk_walk_exprs.specs.declared.walk.Walk.{Walk}
 use Rattle.mlk_walk_commands.specs.Locks as walked
 use Rattle.mlk_walk_commands.specs.Locks.{capture_names, count_names, names_fault, unless_unknown, known_names, terms_of, is_timed, column_at}
-use Rattle.mlk_walk_commands.specs.Locks.{given_back, give_back, granted, claimed, claim, claim_after, lock_terms, lock_row, lock_argument, release}
+use Rattle.mlk_walk_commands.specs.Locks.{given_back, give_back, granted, claim_outcomes, claim, claim_after, lock_terms, lock_row, lock_argument, release}
 use Rattle.mlk_walk_commands.specs.Variables.{column_in, capture_variable}
 use Rattle.mlk_walk_lines.specs.Commands.{act}
-use Rattle.mlk_walk_laws.specs.Fewer.{Among}
 use Rattle.mlk_walk_laws.proofs.Counts.{few_keeps}
-use Rattle.mlk_walk_laws.proofs.Rows.{each_keeps, both}
+use Rattle.mlk_walk_laws.proofs.Transfers.{each_keeps, both}
 use Rattle.mlk_walk_laws.proofs.Walks.{variable_keeps, names_keep, if_keeps, lock_keeps}
 use Rattle.mlk_soundness_machine.specs.Described.{some_local, World, Level, Slot, Kept, IsWorld, idle, Describes}
 use Rattle.mlk_soundness_machine.specs.Reads.{now}
@@ -84,7 +84,7 @@ module _ (p : Spot) (A : State → Type 0) (S : Case → Type 0) (Q : Quit → T
       → (claim_refused p.scope timed s.case.held terms ≡ None) × AllMeet (granted held_too timed terms s)
   claim_goes timed names terms s h = on (claim_refused p.scope timed s.case.held terms) refl h
     where
-      on : (o : Option (ℕ × Code)) → claim_refused p.scope timed s.case.held terms ≡ o → AllMeet (claimed held_too p timed names terms s o)
+      on : (o : Option (ℕ × Code)) → claim_refused p.scope timed s.case.held terms ≡ o → AllMeet (claim_outcomes held_too p timed names terms s o)
           → (claim_refused p.scope timed s.case.held terms ≡ None) × AllMeet (granted held_too timed terms s)
       on None e h = (e, h)
       on (Some found) e h = absurd (h (Refused p.line (column_at names found.0) found.1) (inl refl))
@@ -163,7 +163,7 @@ module _ (routines : List RoutineTree) (p : Spot) (w : World) (b : Level) (world
             done IsSafe (tested false (doing ts j))
             (held (state.tested Zero s) (g (Goes (state.tested Zero s)) (inr (inl refl))) (tested false j) (tested_law routines p w b world S Q n evaluate s j Zero false refl d))
 
-        by : (x : Bool) → AllMeet p A S Q (granted held_too x terms s) → (free : LockName → Bool) (c : _) → Comes IsSafe (run.claimed free c names x (doing ts j))
+        by : (x : Bool) → AllMeet p A S Q (granted held_too x terms s) → (free : LockName → Bool) (c : _) → Comes IsSafe (run.claim_step free c names x (doing ts j))
         by false g free c =
             unasked IsSafe c _ (came (list_all free names && has_room names j.held) (held_more names (doing ts j)) (held (held_too terms s) (g (Goes (held_too terms s)) (inl refl)) (held_more names j) after))
         by true g free c = of_truth IsSafe c _ (λ x. in_time x g free)

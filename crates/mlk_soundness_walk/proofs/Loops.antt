@@ -1,6 +1,7 @@
 -- FOR with parameters, within the commands of a line.
 use Rattle.std.proofs.Common.{◌≡◌, ◌≤◌, ℕ, Bool, true, false, List, [], ◌∷◌, map, Option, Some, refl, sym, ap, ◌∙◌, subst}
 use Rattle.std.proofs.lemmas.Bool.{false≢true}
+use Rattle.mlk_names.specs.Lists.{Among}
 use Rattle.mlk_syntax.specs.ExprTrees.{Tree}
 use Rattle.mlk_syntax.specs.Trees.{RoutineTree, CommandTrees, then_for, ControlTree, Runs, ParameterTree, LineTrees}
 use Rattle.mlk_cert_parts.specs.declared.case.Case.{Case}
@@ -16,9 +17,9 @@ use Rattle.mlk_walk_exprs.specs.Walks.{few, begin}
 use Rattle.mlk_walk_exprs.specs.Spots.{Spot}
 use Rattle.mlk_walk_exprs.specs.Expressions.{value}
 use Rattle.mlk_walk_lines.specs.Loops.{controlled, and_faults, ended_in, quit_in, and_states, at_word, commands}
-use Rattle.mlk_walk_laws.specs.Fewer.{Among, AreDistinct, IsClean, ListsEachOnce}
+use Rattle.mlk_walk_laws.specs.Fewer.{StatesDiffer, IsClean, ListsEachOnce}
 use Rattle.mlk_walk_laws.proofs.Lists.{in_map, all_new, all_old, all_distinct}
-use Rattle.mlk_walk_laws.proofs.Rows.{Tells}
+use Rattle.mlk_walk_laws.proofs.Transfers.{Tells}
 use Rattle.mlk_walk_laws.proofs.Counts.{few_clean, few_same}
 use Rattle.mlk_walk_laws.proofs.Rounds.{commands_keep, each_alone, controlled_keeps, states_clean, states_same, loop_open, loop_same}
 use Rattle.mlk_soundness_machine.specs.Described.{World, Level, Slot, IsWorld}
@@ -41,13 +42,13 @@ module _ (p : Spot) (column index : ℕ) (control : Option ControlTree) (rest : 
   abbrev pub inner : Walk
   inner = commands p rest (begin (listed p.scope p.line index))
 
-  distinct : AreDistinct inner.going
+  distinct : StatesDiffer inner.going
   distinct = (commands_keep p once rest).apart (begin cs) (once p.line index)
 
   tells : Tells inner
   tells = (commands_keep p once rest).tells (begin cs) (λ e h. false≢true e)
 
-  pub ended_apart : AreDistinct (ended_in inner)
+  pub ended_apart : StatesDiffer (ended_in inner)
   ended_apart = all_distinct (map at_rest inner.skips) inner.going distinct
 
   abbrev run : Walk → Walk

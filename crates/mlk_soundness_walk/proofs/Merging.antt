@@ -4,6 +4,7 @@ use Rattle.std.specs.Prelude.{flat_map}
 use Rattle.std.specs.List.{AllZip}
 use Rattle.std.proofs.lemmas.List.{reverse-append}
 use Rattle.std.proofs.Math.Seq.{drop-append_seam, take-append_seam}
+use Rattle.mlk_names.specs.Lists.{Among}
 use Rattle.mlk_names.specs.Symbols.{StandsFor}
 use Rattle.mlk_names.specs.declared.reference.Extent.TheVariants as extent
 use Rattle.mlk_names.specs.declared.reference.Access.TheVariants.{Reads, Writes}
@@ -14,7 +15,7 @@ use Rattle.mlk_program.specs.Calls.{in_merge}
 use Rattle.mlk_cert_parts.specs.declared.case.Case.{Case}
 use Rattle.mlk_cert_parts.specs.declared.names.NameSet.TheVariants as those
 use Rattle.mlk_machine_jobs.specs.Assigning.{merge_source, merge_target}
-use Rattle.mlk_machine_jobs.specs.Choices.{doing, dropped, last_values, touch_of}
+use Rattle.mlk_machine_jobs.specs.Choices.{doing, dropped, last_values, touch_at}
 use Rattle.mlk_machine_jobs.specs.Commands as made
 use Rattle.mlk_machine_jobs.specs.Commands.{in_variable, merge_parts}
 use Rattle.mlk_machine_jobs.specs.Tasks as task
@@ -32,8 +33,7 @@ use Rattle.mlk_walk_commands.specs.Arguments.{kill_row, merge_from, merge_argume
 use Rattle.mlk_walk_commands.specs.Variables as variable
 use Rattle.mlk_walk_commands.specs.Variables.{capture_variable}
 use Rattle.mlk_walk_lines.specs.Commands.{in_turn}
-use Rattle.mlk_walk_laws.specs.Fewer.{Among}
-use Rattle.mlk_walk_laws.proofs.Rows.{both, each_keeps}
+use Rattle.mlk_walk_laws.proofs.Transfers.{both, each_keeps}
 use Rattle.mlk_walk_laws.proofs.Walks.{variable_keeps, merge_keeps}
 use Rattle.mlk_soundness_machine.specs.Reads.{now}
 use Rattle.mlk_soundness_machine.specs.Described.{some_local, World, Level, Slot, Bare, Fills, IsWorld, idle, Describes}
@@ -110,7 +110,7 @@ is_global v = false
 -- what is written where nothing was read
 abbrev alone_parts : List (List ℕ) → VariableTree → List Task
 alone_parts vals (Named column (LocalName name no_subs)) = task.StoreAny name ∷ []
-alone_parts vals (Named column (GlobalName caret name subs)) = task.DoTouch (touch_of name vals extent.Tree Writes) ∷ []
+alone_parts vals (Named column (GlobalName caret name subs)) = task.DoTouch (touch_at name vals extent.Tree Writes) ∷ []
 alone_parts vals v = []
 
 alone_same : (vals : List (List ℕ)) (target source : VariableTree) → is_global source ≡ false → merge_target vals target source ≡ alone_parts vals target

@@ -3,6 +3,7 @@ use Rattle.std.proofs.Common.{◌≡◌, ℕ, suc, ◌<◌, Bool, true, false, L
 use Rattle.std.specs.Prelude.{◌||◌, ◌&&◌, ◌==◌, if◌then◌else◌}
 use Rattle.std.specs.List.{list_any, AllZip}
 use Rattle.std.proofs.lemmas.Bool.{cases_Bool, false≢true}
+use Rattle.mlk_names.specs.Lists.{Among}
 use Rattle.mlk_syntax.specs.Trees.{RoutineTree, HeadTree, LineTrees, line}
 use Rattle.mlk_program.specs.Entries.{as_lines}
 use Rattle.mlk_cert_parts.specs.declared.case.Case.{Case}
@@ -26,7 +27,6 @@ use Rattle.mlk_walk_lines.specs.Commands.{entering, enters, block_ends, do_block
 use Rattle.mlk_walk_lines.specs.Endings.{OfBlock, LineEnd, number_of, block_end, escapes_block}
 use Rattle.mlk_walk_lines.specs.Endings as ending
 use Rattle.mlk_walk_lines.specs.Lines.{block_with, walk_lines}
-use Rattle.mlk_walk_laws.specs.Fewer.{Among}
 use Rattle.mlk_walk_laws.specs.Passing.{IsRight, EachLinePasses}
 use Rattle.mlk_walk_laws.proofs.Lists.{all_new}
 use Rattle.mlk_walk_laws.specs.Fewer.{ListsEachOnce}

@@ -3,6 +3,7 @@ use Rattle.std.proofs.Common.{◌≡◌, ◌≤◌, ℕ, zero, suc, Bool, true, 
 use Rattle.std.specs.Prelude.{if◌then◌else◌, flat_map}
 use Rattle.std.proofs.lemmas.Bool.{cases_Bool}
 use Rattle.mlk_text.specs.declared.code.Code.TheVariants.{CaseNotListed}
+use Rattle.mlk_names.specs.Lists.{Among}
 use Rattle.mlk_syntax.specs.ExprTrees.{Tree}
 use Rattle.mlk_syntax.specs.Trees.{RoutineTree, CommandTrees, LineTrees, ParameterTree, Once, Endless, Limited}
 use Rattle.mlk_cert_parts.specs.declared.case.Case.{Case}
@@ -22,9 +23,9 @@ use Rattle.mlk_walk_exprs.specs.Spots.{Spot}
 use Rattle.mlk_walk_exprs.specs.Expressions.{value}
 use Rattle.mlk_walk_commands.specs.Variables.{change_at}
 use Rattle.mlk_walk_lines.specs.Loops.{Rounds, begin_round, round_or_after, after_round, parameter, parameters}
-use Rattle.mlk_walk_laws.specs.Fewer.{Among, AreDistinct, IsClean}
+use Rattle.mlk_walk_laws.specs.Fewer.{StatesDiffer, IsClean}
 use Rattle.mlk_walk_laws.proofs.Lists.{all_old, all_new}
-use Rattle.mlk_walk_laws.proofs.Rows.{Keeps, both, each_keeps}
+use Rattle.mlk_walk_laws.proofs.Transfers.{Keeps, both, each_keeps}
 use Rattle.mlk_walk_laws.proofs.Counts.{joined_clean, joined_same}
 use Rattle.mlk_walk_laws.proofs.Walks.{value_keeps}
 use Rattle.mlk_walk_laws.proofs.Rounds.{round_clean, round_same, parameter_keeps, parameters_keep}
@@ -76,7 +77,7 @@ or_after p cases s G h =
     absurd (h (Refused p.line p.word CaseNotListed) (subst (λ b. Among (Refused p.line p.word CaseNotListed) (if b then Goes s ∷ [] else Refused p.line p.word CaseNotListed ∷ [])) (sym e) (inl refl))))
     (cases_Bool (is_listed cases s.case))
 
-module _ (routines : List RoutineTree) (p : Spot) (w : World) (b : Level) (world : IsWorld p.scope w) (column : ℕ) (name : List ℕ) (cases : List Case) (ended : List State) (apart : AreDistinct ended)
+module _ (routines : List RoutineTree) (p : Spot) (w : World) (b : Level) (world : IsWorld p.scope w) (column : ℕ) (name : List ℕ) (cases : List Case) (ended : List State) (apart : StatesDiffer ended)
     (rest : CommandTrees) (block : LineTrees) (ts : List Task) (n : ℕ)
     (evaluate : (m : ℕ) → m ≤ n → (t : Tree) → AreOurs p.scope (in_tree t) → (slots : List Slot) (us : List Task) (s : State) (A : State → Type 0) → Leads (value p t) s A Some_case Some_quit
     → ((u : State) → A u → FitsValue routines p.scope w b t slots m us u) → Fits routines p.scope w b slots m (task.Evaluate t ∷ us) s) where

@@ -1,9 +1,9 @@
 -- Places on lines: where the walk begins, after one more command, and in the rounds of a FOR.
 use Rattle.std.proofs.Common.{◌≡◌, ℕ, suc, ◌≤◌, true, List, [], ◌∷◌, ◌++◌, Option, Some, None, refl, sym, ap, ◌∙◌, subst, arith, ⊎_elim, inl, inr}
+use Rattle.mlk_names.specs.Lists.{Among}
 use Rattle.mlk_syntax.specs.Trees.{CommandTree, ControlTree, CommandTrees, finished, then_command, then_for, HeadTree, LineTrees, line}
 use Rattle.mlk_program.specs.Entries.{as_lines}
 use Rattle.mlk_cert_parts.specs.declared.case.Case.{Case}
-use Rattle.mlk_machine_locks.specs.Lists as places
 use Rattle.mlk_machine_jobs.specs.Calling.{commands_in}
 use Rattle.mlk_machine_jobs.specs.Tasks.{Task, LineTree, RunLines}
 use Rattle.mlk_walk_state.specs.declared.state.State.{State}
@@ -13,18 +13,13 @@ use Rattle.mlk_walk_exprs.specs.declared.walk.Walk.{Walk}
 use Rattle.mlk_walk_exprs.specs.Spots.{Spot}
 use Rattle.mlk_walk_exprs.specs.Walks.{begin}
 use Rattle.mlk_walk_lines.specs.Loops.{commands, one_command}
-use Rattle.mlk_walk_laws.specs.Fewer.{Among, IsClean, IsPart, ListsEachOnce}
+use Rattle.mlk_walk_laws.specs.Fewer.{IsClean, IsPart, ListsEachOnce}
 use Rattle.mlk_walk_laws.proofs.Rounds.{one_keeps, commands_keep}
 use Rattle.mlk_soundness_machine.specs.Described.{World}
 use Rattle.mlk_soundness_machine.specs.Places.{line_number, entry_trees, StandIn, next_lines, none_follows, round_of, open_round, AreLastOf, AreRoundOf, BeginsWith, followed, spot_on, ComesTo}
 use Rattle.mlk_soundness_machine.proofs.Listing.{own_lines, BeginsRound}
 use Rattle.mlk_soundness_walk.specs.Commands.{alone, AreOnLine}
 use Rattle.mlk_soundness_walk.proofs.Alone.{alone_part}
-
--- one of a list, as the machine's crate says it
-pub there : {A : Type 0} (a : A) (xs : List A) → Among a xs → places.Among a xs
-there a [] i = i
-there a (x ∷ xs) i = ⊎_elim (λ e. inl e) (λ k. inr (there a xs k)) i
 
 -- what stands in these lines stands in those; so does what stands in the block of the first, or behind it
 abbrev pub AreWithin : LineTrees → LineTrees → Type 0
@@ -164,8 +159,8 @@ module _ (w : World) (p : Spot) (block : LineTrees) where
     its_line : p.line ≡ line_number o.place.on.head
     its_line = ap (λ (q : Spot). q.line) o.place.spot
 
-    listed_there : places.Among o.case (listed p.scope (line_number o.place.on.head) o.round)
-    listed_there = subst (λ n. places.Among o.case (listed p.scope n o.round)) its_line (there o.case (listed p.scope p.line o.round) o.is_listed)
+    listed_there : Among o.case (listed p.scope (line_number o.place.on.head) o.round)
+    listed_there = subst (λ n. Among o.case (listed p.scope n o.round)) its_line o.is_listed
 
     pub comes_to : s ≡ at_rest s.case → ComesTo p.scope (own_lines p.scope w) cs block ts s.case
     comes_to rests = record {
@@ -177,9 +172,9 @@ module _ (w : World) (p : Spot) (block : LineTrees) where
       is_listed = listed_there;
       done = o.done;
       stands = o.stands;
-      goes_on = subst (λ q. places.Among (at_rest s.case) (commands q (followed o.done finished) (begin (o.case ∷ []))).going) o.place.spot
-          (subst (λ x. places.Among x (commands p (followed o.done finished) (begin (o.case ∷ []))).going) rests
-          (there s (commands p (followed o.done finished) (begin (o.case ∷ []))).going o.goes_on));
+      goes_on = subst (λ q. Among (at_rest s.case) (commands q (followed o.done finished) (begin (o.case ∷ []))).going) o.place.spot
+          (subst (λ x. Among x (commands p (followed o.done finished) (begin (o.case ∷ []))).going) rests
+          o.goes_on);
     }
 
     -- where a round runs just these commands, none is done
@@ -200,6 +195,6 @@ module _ (w : World) (p : Spot) (block : LineTrees) where
           on = o.place.on;
           index = o.round;
           runs = subst (λ z. AreRoundOf z o.round (commands_in o.place.on.head)) e k.0;
-          is_listed = subst (λ c. places.Among c (listed p.scope (line_number o.place.on.head) o.round)) (sym (only_case e)) listed_there;
+          is_listed = subst (λ c. Among c (listed p.scope (line_number o.place.on.head) o.round)) (sym (only_case e)) listed_there;
         })
         o.begins

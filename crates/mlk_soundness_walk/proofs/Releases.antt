@@ -2,13 +2,13 @@
 use Rattle.std.proofs.Common.{◌≡◌, ℕ, ◌+◌, Bool, true, false, List, [], ◌∷◌, Option, Some, None, refl, sym, ap, ◌∙◌, subst, arith, ⊎_elim}
 use Rattle.std.specs.Prelude.{◌⊎◌, if◌then◌else◌}
 use Rattle.mlk_text.specs.declared.code.Code.{Code}
+use Rattle.mlk_names.specs.Lists.{Among}
 use Rattle.mlk_names.specs.declared.lock_name.LockName.{LockName}
 use Rattle.mlk_names.specs.declared.term.LockTerm.{LockTerm}
 use Rattle.mlk_names.specs.Symbols.{Assignment}
 use Rattle.mlk_rules.specs.Ranks.{FamiliesApart}
 use Rattle.mlk_rules.specs.Laws.{RankedOnce}
 use Rattle.mlk_machine_locks.specs.Counts.{all_raised, all_lowered}
-use Rattle.mlk_machine_locks.specs.Lists.{Among}
 use Rattle.mlk_machine_locks.specs.Waiting.{awaited}
 use Rattle.mlk_machine_jobs.specs.Bindings.{Bindings, look}
 use Rattle.mlk_machine_jobs.specs.Locking.{held_more}
@@ -19,14 +19,14 @@ use Rattle.mlk_machine_jobs.specs.Tasks.{Task, Job}
 use Rattle.mlk_walk_state.specs.declared.state.State.{State}
 use Rattle.mlk_walk_state.specs.Scope.{Scope}
 use Rattle.mlk_walk_state.specs.States.{holding}
-use Rattle.mlk_walk_state.specs.Terms.{put_all, all_taken}
+use Rattle.mlk_walk_state.specs.Terms.{add_terms, all_taken}
 use Rattle.mlk_calls.specs.Claims.{or_here, first_refused, claim_fault, held_too}
 use Rattle.mlk_machine_laws.specs.Order.{IsOwn, IsAboveAll}
 use Rattle.mlk_machine_laws.specs.Sharing.{is_lent}
 use Rattle.mlk_soundness_machine.specs.Described.{World, Level, Slot, IsWorld, idle, Describes}
 use Rattle.mlk_soundness_machine.specs.Frames.{times_waiting}
 use Rattle.mlk_soundness_machine.specs.Reads.{now, mentions}
-use Rattle.mlk_soundness_machine.specs.Safe.{Keeps}
+use Rattle.mlk_soundness_machine.specs.Safe.{KeepsIn}
 use Rattle.mlk_soundness_machine.specs.Facts.{Facts}
 use Rattle.mlk_soundness_machine.proofs.Listing.{no_start, no_line, no_round, no_command}
 use Rattle.mlk_rules.specs.declared.rules.RuleLists.{RuleLists}
@@ -47,7 +47,7 @@ module _ (sc : Scope) (w : World) (b : Level) (slots : List Slot) (s : State) (j
   pub held_law : (terms : List LockTerm) (names : List LockName) → AreNamed (now j) j.bindings terms names → Describes sc w b slots (held_too terms s) (idle (held_more names j))
   held_law terms names r = record {
     stands =
-        hold_stands sc w b s.case j d.stands (put_all terms s.case.held) (all_raised names j.held)
+        hold_stands sc w b s.case j d.stands (add_terms terms s.case.held) (all_raised names j.held)
         (λ m. let a = times_put_all (now j) terms s.case.held m in let e = raised_times (now j) terms names r.named j.held m in let c = d.stands.counts m in omega (arith, a, e, c))
         (λ x h. ⊎_elim (λ u. names_defined (now j) x terms names r.named u) (λ u. d.stands.defined x u) (mentions_put_all x terms s.case.held h))
         (λ x h. ⊎_elim (λ u. r.sole x u) (λ u. d.stands.held_sole x u) (mentions_put_all x terms s.case.held h));
@@ -120,7 +120,7 @@ claiming rules j names timed ts e h = record {
     by n false k i = h k n i
 
 pub claim_facts : (sc : Scope) (w : World) (b : Level) (j : Job) (names : List LockName) (timed : Bool) (ts : List Task) → j.tasks ≡ task.Claim names timed ∷ ts
-    → (timed ≡ false → (n : LockName) → Among n names → IsOwn (seen j) n ⊎ IsAboveAll sc.rules.families (seen j) n) → Keeps sc w b j
+    → (timed ≡ false → (n : LockName) → Among n names → IsOwn (seen j) n ⊎ IsAboveAll sc.rules.families (seen j) n) → KeepsIn sc w b j
 claim_facts sc w b j names timed ts e h marked = record {
   facts = claiming sc.rules j names timed ts e h;
   starts = no_start sc.routines sc.blocks w.begun j (task.Claim names timed ∷ ts) e refl;

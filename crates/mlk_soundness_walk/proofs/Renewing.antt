@@ -6,6 +6,7 @@ use Rattle.std.proofs.Math.Bool.{or-false}
 use Rattle.std.proofs.lemmas.Bool.{cases_Bool, or_right}
 use Rattle.std.proofs.lemmas.Bool.Decides.{Decides-eqb}
 use Rattle.std.proofs.lemmas.List.Folds.{list_any-append}
+use Rattle.mlk_names.specs.Lists.{Among}
 use Rattle.mlk_cert_lexemes.specs.Lists.{Each}
 use Rattle.mlk_text.specs.declared.code.Code.TheVariants.{Pinned}
 use Rattle.mlk_syntax.specs.Trees.{RoutineTree, CallTree, NewTree, NewOne, NewAllBut, New, LineTrees}
@@ -32,7 +33,6 @@ use Rattle.mlk_walk_exprs.specs.declared.walk.Quit.{Quit}
 use Rattle.mlk_walk_commands.specs.Arguments.{new_all_but, new_argument}
 use Rattle.mlk_walk_commands.specs.News.{in_order, is_before, put_own, with_own, owned, renew}
 use Rattle.mlk_walk_lines.specs.Commands.{act}
-use Rattle.mlk_walk_laws.specs.Fewer.{Among}
 use Rattle.mlk_walk_laws.proofs.Walks.{new_keeps}
 use Rattle.mlk_soundness_machine.specs.Reads.{now}
 use Rattle.mlk_soundness_machine.specs.Described.{some_local, World, Level, Slot, Fills, own_at, idle, Describes}

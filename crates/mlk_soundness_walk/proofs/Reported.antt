@@ -6,6 +6,7 @@ use Rattle.std.specs.declared.cmp.Ordering.{Ordering}
 use Rattle.std.specs.declared.cmp.Ordering.TheVariants.{Less, Equal, Greater}
 use Rattle.std.proofs.lemmas.Bool.{cases_Bool, and_parts, or_left, or_right}
 use Rattle.mlk_text.specs.declared.code.Code.TheVariants.{NoCertificate}
+use Rattle.mlk_names.specs.Lists.{Among}
 use Rattle.mlk_syntax.specs.Trees.{RoutineTree, HeadTree, LineTrees}
 use Rattle.mlk_program.specs.Entries.{same_entry, lines_in, label_of, is_label, line_named, entry_by, has_label, line_of_entry}
 use Rattle.mlk_program.specs.Laws.{IsEntryOf}
@@ -21,7 +22,6 @@ use Rattle.mlk_walk_exprs.specs.declared.walk.Fault.{Fault}
 use Rattle.mlk_walk.specs.Faults.{fault_cmp, put_fault, put_faults}
 use Rattle.mlk_walk.specs.Verdicts.{fault_at, known, verdict, entry_faults, faults_with, all_faults, own_faults, begin_faults, need_faults, exit_faults, entry_number, entry_walk, fault_in}
 use Rattle.mlk_walk.specs.Reports.{is_entry, entry_at, line_entries, entries_from, is_checked, row_of, rows_of, report}
-use Rattle.mlk_walk_laws.specs.Fewer.{Among}
 use Rattle.mlk_soundness_walk.specs.Clean.{IsCleanEntry}
 
 -- lists that are empty

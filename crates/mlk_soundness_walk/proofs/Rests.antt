@@ -1,6 +1,7 @@
 -- Commands one after another, and the rounds of FOR: from single commands and the values of expressions.
 use Rattle.std.proofs.Common.{◌≡◌, ◌≤◌, ℕ, zero, suc, ◌+◌, ◌-◌, Bool, true, false, List, [], ◌∷◌, ◌++◌, Option, Some, None, refl, subst, arith}
 use Rattle.std.proofs.lemmas.Bool.{false≢true}
+use Rattle.mlk_names.specs.Lists.{Among}
 use Rattle.mlk_syntax.specs.ExprTrees.{Tree}
 use Rattle.mlk_syntax.specs.Trees.{RoutineTree, CommandTree, ControlTree, Runs, CommandTrees, finished, then_command, then_for, LineTrees}
 use Rattle.mlk_program.specs.Calls.{in_tree, in_commands}
@@ -16,7 +17,7 @@ use Rattle.mlk_walk_exprs.specs.Spots.{Spot}
 use Rattle.mlk_walk_exprs.specs.declared.walk.Quit.{Quit}
 use Rattle.mlk_walk_exprs.specs.declared.walk.Walk.{Walk}
 use Rattle.mlk_walk_lines.specs.Loops.{at_word, commands, one_command, ended_in, quit_in}
-use Rattle.mlk_walk_laws.specs.Fewer.{Among, ListsEachOnce}
+use Rattle.mlk_walk_laws.specs.Fewer.{ListsEachOnce}
 use Rattle.mlk_walk_laws.proofs.Rounds.{one_keeps, commands_keep}
 use Rattle.mlk_soundness_machine.specs.Described.{World, Level, Slot, IsWorld, idle}
 use Rattle.mlk_walk_state.specs.Scope.{Scope}

@@ -2,6 +2,7 @@
 use Rattle.std.proofs.Common.{◌≡◌, ◌≤◌, ℕ, zero, suc, true, false, List, [], ◌∷◌, map, None, refl, sym, ◌∙◌, subst, arith, ⊎_elim, inl}
 use Rattle.std.specs.Prelude.{if◌then◌else◌, flat_map}
 use Rattle.std.proofs.lemmas.Bool.{cases_Bool, false≢true}
+use Rattle.mlk_names.specs.Lists.{Among}
 use Rattle.mlk_syntax.specs.Trees.{RoutineTree, CommandTrees, then_for, LineTrees}
 use Rattle.mlk_cert_parts.specs.declared.case.Case.{Case}
 use Rattle.mlk_machine_jobs.specs.Tasks.{Task, RunCommands, Forever}
@@ -16,9 +17,9 @@ use Rattle.mlk_walk_exprs.specs.declared.walk.Quit.{Quit}
 use Rattle.mlk_walk_exprs.specs.Walks.{Refused, each, with_states, begin, few}
 use Rattle.mlk_walk_exprs.specs.Spots.{Spot}
 use Rattle.mlk_walk_lines.specs.Loops.{begin_round, after_round, controlled, and_faults, ended_in, quit_in, and_states, at_word, commands}
-use Rattle.mlk_walk_laws.specs.Fewer.{Among, AreDistinct, IsClean, ListsEachOnce}
+use Rattle.mlk_walk_laws.specs.Fewer.{StatesDiffer, IsClean, ListsEachOnce}
 use Rattle.mlk_walk_laws.proofs.Lists.{in_map, in_flat, all_new, all_old}
-use Rattle.mlk_walk_laws.proofs.Rows.{Tells, each_keeps, all_back}
+use Rattle.mlk_walk_laws.proofs.Transfers.{Tells, each_keeps, all_back}
 use Rattle.mlk_walk_laws.proofs.Counts.{few_clean, few_same}
 use Rattle.mlk_walk_laws.proofs.Rounds.{commands_keep, each_alone, round_clean, round_same, states_clean, states_same, loop_open, loop_same}
 use Rattle.mlk_soundness_machine.specs.Described.{World, Level, idle}
@@ -46,7 +47,7 @@ module _ (p : Spot) (column index : ℕ) (rest : CommandTrees) (once : ListsEach
   abbrev inner : Walk
   inner = commands p rest (begin (listed p.scope p.line index))
 
-  distinct : AreDistinct inner.going
+  distinct : StatesDiffer inner.going
   distinct = (commands_keep p once rest).apart (begin cs) (once p.line index)
 
   tells : Tells inner

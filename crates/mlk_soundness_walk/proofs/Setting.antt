@@ -11,7 +11,6 @@ use Rattle.mlk_machine_jobs.specs.Tasks as task
 use Rattle.mlk_machine_jobs.specs.Tasks.{Task, Job}
 use Rattle.mlk_machine_jobs.specs.Choices.{doing, dropped, last_values}
 use Rattle.mlk_machine_jobs.specs.Expressions.{each_sub}
-use Rattle.mlk_machine_jobs.specs.Expressions as run
 use Rattle.mlk_machine_jobs.specs.Commands.{target_parts, set_parts}
 use Rattle.mlk_machine_jobs.specs.Assigning.{assignments, subs_of_target, parts_in, count_parts}
 use Rattle.mlk_walk_state.specs.declared.state.State.{State}
@@ -22,7 +21,7 @@ use Rattle.mlk_walk_exprs.specs.Spots.{Spot}
 use Rattle.mlk_walk_exprs.specs.Expressions.{capture_subs, value}
 use Rattle.mlk_walk_commands.specs.Variables.{count_in}
 use Rattle.mlk_walk_commands.specs.Arguments.{variable_in, capture_targets, assign_all, count_from, count_targets, forget, set_argument}
-use Rattle.mlk_walk_laws.proofs.Rows.{both, changed_keeps}
+use Rattle.mlk_walk_laws.proofs.Transfers.{both, changed_keeps}
 use Rattle.mlk_walk_laws.proofs.Walks.{value_keeps, targets_keep, all_assigned_keep}
 use Rattle.mlk_soundness_machine.specs.Reads.{now}
 use Rattle.mlk_soundness_machine.specs.Described.{some_local, World, Level, Slot, Bare, Fills, IsWorld, idle, Describes}

@@ -3,6 +3,7 @@ use Rattle.std.proofs.Common.{◌≡◌, ℕ, Bool, true, false, ◌+◌, List, 
 use Rattle.std.specs.Prelude.{◌&&◌, if◌then◌else◌, nat_lt, length}
 use Rattle.std.specs.List.{list_any}
 use Rattle.std.proofs.lemmas.Bool.{cases_Bool, and_parts, or_left, or_right}
+use Rattle.mlk_names.specs.Lists.{Among}
 use Rattle.mlk_syntax.specs.Distinct.{AreDistinct}
 use Rattle.mlk_syntax.specs.ExprTrees.{ActualTree}
 use Rattle.mlk_syntax.specs.Trees.{RoutineTree, HeadTree, LineTrees}
@@ -30,7 +31,6 @@ use Rattle.mlk_walk_commands.specs.News.{in_order}
 use Rattle.mlk_walk_exprs.specs.declared.walk.Fault.{Fault}
 use Rattle.mlk_walk.specs.Verdicts.{known, begin_case, leaves_some}
 use Rattle.mlk_walk.specs.Reports.{report}
-use Rattle.mlk_walk_laws.specs.Fewer.{Among}
 use Rattle.mlk_soundness_machine.specs.Described.{some_local, World, IsWorld, idle, Describes}
 use Rattle.mlk_soundness_machine.specs.Listed.{FactsSince}
 use Rattle.mlk_soundness_machine.specs.Reads.{now, times, mentions}

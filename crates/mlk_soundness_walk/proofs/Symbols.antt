@@ -1,7 +1,6 @@
 -- Symbols of expressions: which of them are locals, and operands.
 use Rattle.std.proofs.Common.{◌≡◌, ℕ, Bool, true, false, List, ◌∷◌, Option, Some, None, refl, sym, subst, inl, inr}
-use Rattle.std.specs.Prelude.{◌⊎◌, codes}
-use Rattle.std.proofs.lemmas.Slice.Eq.{bytes_eq-Decides}
+use Rattle.std.specs.Prelude.{◌⊎◌}
 use Rattle.mlk_names.specs.declared.symbol.Sym.{Sym}
 use Rattle.mlk_names.specs.declared.symbol.Sym.TheVariants as known
 use Rattle.mlk_text.specs.declared.operator.Op.{Op}
@@ -10,9 +9,8 @@ use Rattle.mlk_syntax.specs.declared.expr.Special.TheVariants as special
 use Rattle.mlk_syntax.specs.ExprTrees.{Tree, Lit, Free, LocalName, GlobalName, SpecialName, Prefixed, Chain, PatternText, Func, Selected, BareCall, CallOf}
 use Rattle.mlk_syntax.specs.ExprTrees.{Subs, no_subs, sub, Links, no_links, link}
 use Rattle.mlk_machine_jobs.specs.Tasks as task
-use Rattle.mlk_machine_jobs.specs.Choices.{is_one, is_zero}
 use Rattle.mlk_machine_jobs.specs.Expressions.{operation}
-use Rattle.mlk_numbers.specs.Operators.{fold_before, fold_between}
+use Rattle.mlk_numbers.specs.Operators.{truth_of_text, fold_before, fold_between}
 use Rattle.mlk_walk_state.specs.Symbols.{local_symbol, before_symbol, after_constant, between_symbols, constant_if, chain_symbol, symbol_of}
 use Rattle.mlk_walk_exprs.specs.Expressions.{agrees}
 use Rattle.mlk_soundness_machine.specs.Described.{is_local}
@@ -92,10 +90,8 @@ with_subs shared name column t rest = by (shared name)
     by false = refl
 
 -- the truth that a condition has may be the one that the walk knows
-pub truth_agrees : (o : Option Bool) (v : List ℕ) → IsTruth o v → (x : Bool) → (is_one v ≡ true → x ≡ true) → (is_zero v ≡ true → is_one v ≡ false → x ≡ false) → agrees x o ≡ true
-truth_agrees None v h true one naught = refl
-truth_agrees None v h false one naught = refl
-truth_agrees (Some true) v h true one naught = refl
-truth_agrees (Some true) v h false one naught = one h
-truth_agrees (Some false) v h true one naught = sym (naught h (subst (λ z. is_one z ≡ false) (sym ((bytes_eq-Decides v (codes "0")).0 h)) refl))
-truth_agrees (Some false) v h false one naught = refl
+pub truth_agrees : (o : Option Bool) (v : List ℕ) → IsTruth o v → (x : Bool) → ((t : Bool) → truth_of_text v ≡ Some t → x ≡ t) → agrees x o ≡ true
+truth_agrees None v h true same = refl
+truth_agrees None v h false same = refl
+truth_agrees (Some true) v h x same = subst (λ z. agrees z (Some true) ≡ true) (sym (same true h)) refl
+truth_agrees (Some false) v h x same = subst (λ z. agrees z (Some false) ≡ true) (sym (same false h)) refl

@@ -10,7 +10,8 @@ use Rattle.mlk_machine_jobs.specs.Tasks.{Task, Job}
 use Rattle.mlk_names.specs.declared.lock_name.LockName.{LockName}
 use Rattle.mlk_machine_jobs.specs.declared.choice.Choice.{Choice}
 use Rattle.mlk_machine_jobs.specs.Advance.{advance}
-use Rattle.mlk_machine_jobs.specs.Choices.{Stepped, by_truth, dropped, is_one, is_zero}
+use Rattle.mlk_numbers.specs.Operators.{truth_of_text}
+use Rattle.mlk_machine_jobs.specs.Choices.{Stepped, by_truth, dropped}
 use Rattle.mlk_machine_jobs.specs.Commands.{evaluated, evaluated_if}
 use Rattle.mlk_walk_state.specs.declared.state.State.{State}
 use Rattle.mlk_walk_state.specs.Symbols.{truth_in}
@@ -21,7 +22,7 @@ use Rattle.mlk_walk_exprs.specs.Spots.{Spot}
 use Rattle.mlk_walk_exprs.specs.Expressions.{agrees, by_condition, value, value_if}
 use Rattle.mlk_walk_lines.specs.Commands.{in_turn}
 use Rattle.mlk_walk_laws.proofs.Counts.{few_keeps, ways_keep}
-use Rattle.mlk_walk_laws.proofs.Rows.{Keeps, both}
+use Rattle.mlk_walk_laws.proofs.Transfers.{Keeps, both}
 use Rattle.mlk_walk_laws.proofs.Walks.{value_keeps, turns_keep}
 use Rattle.mlk_soundness_machine.specs.Described.{World, Level, Slot, idle, Describes}
 use Rattle.mlk_soundness_machine.proofs.Worlds.{drop_law}
@@ -86,10 +87,9 @@ module _ (routines : List RoutineTree) (p : Spot) (w : World) (b : Level) (S : C
           close k free c i (advance routines free c i (T ∷ ts)) refl (subst (Comes (P k)) (sym (reduces free c i))
           (of_last (P k) i.values _ (λ y below ey.
           let same : y ≡ x = (let z : y ∷ below ≡ x ∷ more = sym ey ∙ g in cc) in
-          of_known (P k) c y _ (λ z first naught.
+          of_known (P k) c (truth_of_text y) _ (λ z is_known.
           let less : Describes p.scope w b slots u (idle (dropped 1 i)) = subst (λ q. Describes p.scope w b slots u (record (idle i) { values = q })) (sym (ap (drop 1) g)) (drop_law p.scope w b None slots u (idle i) d x more g) in
-          let may : agrees z (truth_in p.scope t u) ≡ true = truth_agrees (truth_in p.scope t u) x knows.truth z (λ h. first (subst (λ q. is_one q ≡ true) (sym same) h))
-          (λ h l. naught (subst (λ q. is_zero q ≡ true) (sym same) h) (subst (λ q. is_one q ≡ false) (sym same) l)) in
+          let may : agrees z (truth_in p.scope t u) ≡ true = truth_agrees (truth_in p.scope t u) x knows.truth z (λ q h. is_known q (ap truth_of_text same ∙ h)) in
           pick k is u m z may (dropped 1 i) less)))))
 
       pub condition_fits : AreOurs p.scope (in_tree t) → (s : State) → Leads (λ v. by_condition p.scope t run other (value p t v)) s A S Q → Fit slots n (task.Evaluate t ∷ T ∷ ts) s

@@ -1,7 +1,8 @@
 -- KILL: a variable, and all locals but some; and HALT.
-use Rattle.std.proofs.Common.{◌≡◌, ℕ, Bool, true, false, List, [], ◌∷◌, ◌++◌, None, refl, sym, ap, ◌∙◌, subst, inl, append_assoc}
+use Rattle.std.proofs.Common.{◌≡◌, ℕ, Bool, true, false, List, [], ◌∷◌, ◌++◌, refl, sym, ap, ◌∙◌, subst, inl, append_assoc}
 use Rattle.std.specs.Prelude.{◌||◌, not, if◌then◌else◌, bytes_eq}
 use Rattle.mlk_text.specs.declared.code.Code.TheVariants.{HeldAtEnd, SummaryShort}
+use Rattle.mlk_names.specs.Lists.{Among}
 use Rattle.mlk_names.specs.declared.reference.Extent.TheVariants as extent
 use Rattle.mlk_names.specs.declared.reference.Access.TheVariants.{Writes}
 use Rattle.mlk_syntax.specs.ExprTrees.{Tree, Lit, Free, LocalName, GlobalName, SpecialName, Prefixed, Chain, PatternText, Func, Selected, BareCall, CallOf, no_subs, sub, count_subs}
@@ -30,8 +31,7 @@ use Rattle.mlk_walk_commands.specs.Arguments.{kill_argument, kill_all_but, kill_
 use Rattle.mlk_walk_commands.specs.News.{in_order}
 use Rattle.mlk_walk_commands.specs.Variables.{capture_variable, change_at}
 use Rattle.mlk_walk_lines.specs.Commands.{halt_row}
-use Rattle.mlk_walk_laws.specs.Fewer.{Among}
-use Rattle.mlk_walk_laws.proofs.Rows.{each_keeps}
+use Rattle.mlk_walk_laws.proofs.Transfers.{each_keeps}
 use Rattle.mlk_walk_laws.proofs.Walks.{variable_keeps}
 use Rattle.mlk_soundness_machine.specs.Described.{World, Level, Slot, IsWorld}
 use Rattle.mlk_soundness_machine.proofs.Killing.{kill_fits, halt_fits}

@@ -2,8 +2,7 @@
 -- passes by reference is shared, and no case is listed twice at a place.
 use Rattle.std.proofs.Common.{◌≡◌, ℕ, zero, suc, Bool, true, false, List, [], ◌∷◌, map, drop, Option, Some, None, refl, sym, ap, ◌∙◌, subst, arith, ⊎_elim}
 use Rattle.std.specs.Prelude.{◌⊎◌, Contains, bytes_eq, find, flat_map, zip, slice_get, option_map, option_and_then}
-use Rattle.std.specs.List.{list_any}
-use Rattle.std.proofs.lemmas.Bool.{cases_Bool, or_cases, or_left, or_right}
+use Rattle.std.proofs.lemmas.Bool.{cases_Bool, or_cases}
 use Rattle.std.proofs.lemmas.List.Elements.{Contains-append_left, Contains-append_right}
 use Rattle.mlk_names.proofs.ListLemmas.{contains_cases}
 use Rattle.mlk_rules.specs.declared.rules.RuleLists.{RuleLists}
@@ -24,10 +23,10 @@ use Rattle.mlk_walk_state.proofs.EntryTables.{tables_are}
 use Rattle.mlk_walk_state.proofs.Shared.{shares_by_own}
 use Rattle.mlk_walk_commands.specs.Arguments.{given_list}
 use Rattle.mlk_walk.specs.Verdicts.{known}
-use Rattle.mlk_walk_laws.specs.Fewer.{AreDistinct, ListsEachOnce}
+use Rattle.mlk_walk_laws.specs.Fewer.{StatesDiffer, ListsEachOnce}
 use Rattle.mlk_machine_laws.specs.Sharing.{FormalsDiffer}
 use Rattle.mlk_soundness_machine.proofs.Passing.{is_reference, refs_of, refers_to, passes}
-use Rattle.mlk_soundness_machine.proofs.Reading.{differs, name_is, name_self}
+use Rattle.mlk_soundness_machine.proofs.Reading.{differs, name_is}
 use Rattle.mlk_soundness_machine.proofs.Sharing.{SharesByOwn}
 use Rattle.mlk_soundness_walk.specs.Entries.{scope}
 use Rattle.mlk_soundness_walk.specs.Forms.{AreFormed, ListOnce}
@@ -50,10 +49,10 @@ left_in (suc n) [] a i = i
 left_in (suc n) (x ∷ xs) a i = let r = left_in n xs a i in (suc r.0, omega (arith, r.1), r.2)
 
 -- no case is listed twice at a place
-once_at : (number round : ℕ) (points : List Point) → ((p : Point) → Contains points p → AreDistinct (map at_rest p.cases)) → AreDistinct (map at_rest (listed_at points number round))
+once_at : (number round : ℕ) (points : List Point) → ((p : Point) → Contains points p → StatesDiffer (map at_rest p.cases)) → StatesDiffer (map at_rest (listed_at points number round))
 once_at number round points h = on (find (is_at number round) points) refl
   where
-    on : (o : Option Point) → find (is_at number round) points ≡ o → AreDistinct (map at_rest (cases_of o))
+    on : (o : Option Point) → find (is_at number round) points ≡ o → StatesDiffer (map at_rest (cases_of o))
     on None e = tt
     on (Some p) e = h p (found_in (is_at number round) points p e)
 

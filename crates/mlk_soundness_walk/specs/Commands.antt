@@ -1,6 +1,7 @@
 -- That commands are safe for so many steps, where the walk finds nothing wrong with them. This project's own choice; the
 -- laws of this crate speak of it.
 use Rattle.std.specs.Prelude.{◌≡◌, ℕ, Bool, true, false, List, [], ◌∷◌, ◌++◌, Option, None}
+use Rattle.mlk_names.specs.Lists.{Among}
 use Rattle.mlk_syntax.specs.Trees.{RoutineTree, CommandTree, ControlTree, CommandTrees, then_for, LineTrees}
 use Rattle.mlk_cert_parts.specs.declared.case.Case.{Case}
 use Rattle.mlk_machine_jobs.specs.Calling.{commands_in}
@@ -13,7 +14,7 @@ use Rattle.mlk_walk_exprs.specs.Spots.{Spot}
 use Rattle.mlk_walk_exprs.specs.declared.walk.Quit.{Quit}
 use Rattle.mlk_walk_exprs.specs.declared.walk.Walk.{Walk}
 use Rattle.mlk_walk_lines.specs.Loops.{commands, one_command}
-use Rattle.mlk_walk_laws.specs.Fewer.{Among, IsClean}
+use Rattle.mlk_walk_laws.specs.Fewer.{IsClean}
 use Rattle.mlk_soundness_machine.specs.Described.{World, Level, Bare, idle, Describes}
 use Rattle.mlk_soundness_machine.specs.Places.{entry_trees, OnLine, AreLastOf, spot_on}
 use Rattle.mlk_soundness_machine.specs.Safe.{SafeIn, Fit}

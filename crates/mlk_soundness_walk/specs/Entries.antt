@@ -1,6 +1,7 @@
 -- The lines of a certified entry: that they are safe for so many steps, if its ends are. This project's own choice; the laws
 -- of this crate speak of it.
 use Rattle.std.specs.Prelude.{◌≡◌, ◌⊎◌, ℕ, Bool, true, false, List, [], ◌∷◌, Some, None}
+use Rattle.mlk_names.specs.Lists.{Among}
 use Rattle.mlk_rules.specs.declared.rules.RuleLists.{RuleLists}
 use Rattle.mlk_program.specs.declared.entry.EntryId.{EntryId}
 use Rattle.mlk_syntax.specs.Trees.{RoutineTree, HeadTree, LineTrees}
@@ -17,7 +18,6 @@ use Rattle.mlk_walk_state.specs.States.{at_rest}
 use Rattle.mlk_walk_state.specs.Terms.{mention_such}
 use Rattle.mlk_walk_lines.specs.Endings.{escapes}
 use Rattle.mlk_walk.specs.Verdicts.{begin_case}
-use Rattle.mlk_walk_laws.specs.Fewer.{Among}
 use Rattle.mlk_soundness_machine.specs.Described.{World, Level, Slot, Bare, IsWorld, idle, Describes}
 use Rattle.mlk_soundness_machine.specs.Safe.{SafeFor, SafeIn, KeepsTo}
 use Rattle.mlk_soundness_machine.specs.Marked.{Begun, AreMarked}

@@ -5,7 +5,7 @@ use Rattle.mlk_syntax.specs.Trees.{RoutineTree}
 use Rattle.mlk_cert_parts.specs.declared.block.EntryCert.{EntryCert}
 use Rattle.mlk_cert_parts.specs.declared.block.Point.{Point}
 use Rattle.mlk_walk_state.specs.States.{at_rest}
-use Rattle.mlk_walk_laws.specs.Fewer.{AreDistinct}
+use Rattle.mlk_walk_laws.specs.Fewer.{StatesDiffer}
 use Rattle.mlk_machine_laws.specs.WellFormed.{IsWellFormed}
 
 -- each routine is well formed
@@ -14,4 +14,4 @@ AreFormed routines = (r : RoutineTree) → Contains routines r → IsWellFormed 
 
 -- no case is listed twice at one point
 abbrev pub ListOnce : List EntryCert → Type 0
-ListOnce blocks = (b : EntryCert) → Contains blocks b → (p : Point) → Contains b.points p → AreDistinct (map at_rest p.cases)
+ListOnce blocks = (b : EntryCert) → Contains blocks b → (p : Point) → Contains b.points p → StatesDiffer (map at_rest p.cases)

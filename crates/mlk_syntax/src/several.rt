@@ -6,7 +6,7 @@ use std::marker::Model;
 
 // Where the items stand: a single one in place.
 #[derive(Drop)]
-pub(crate) enum Items<T> {
+pub(crate) enum OneOrMore<T> {
     One([T; 1]),
     More(Vec<T>),
 }
@@ -14,7 +14,7 @@ pub(crate) enum Items<T> {
 /// One or more items. A single one, as there mostly is, takes no memory beside the list itself. A contract sees the list of them.
 #[derive(Drop)]
 pub struct Several<T> {
-    items: Items<T>,
+    items: OneOrMore<T>,
 }
 
 impl<T> Model for Several<T> {
@@ -35,7 +35,7 @@ impl<T> Several<T> {
         ensures { result ≡ item ∷ [] }
     {
         Several {
-            items: Items::One([item]),
+            items: OneOrMore::One([item]),
         }
     }
 
@@ -44,7 +44,7 @@ impl<T> Several<T> {
         ensures { result ≡ items.items }
     {
         Several {
-            items: Items::More(items),
+            items: OneOrMore::More(items),
         }
     }
 
@@ -53,8 +53,8 @@ impl<T> Several<T> {
         ensures { result.now ≡ self.now }
     {
         match &self.items {
-            Items::One(item) => item.as_slice(),
-            Items::More(items) => items.as_slice(),
+            OneOrMore::One(item) => item.as_slice(),
+            OneOrMore::More(items) => items.as_slice(),
         }
     }
 }

@@ -3,7 +3,7 @@ use Rattle.std.proofs.Common.{◌≡◌, ℕ, Option, Some, None, refl, sym, ap,
 use Rattle.std.specs.Prelude.{◌==◌, if◌then◌else◌}
 use Rattle.std.proofs.lemmas.Option.{same_Some}
 use Rattle.mlk_text.specs.declared.code.Code.{Code}
-use Rattle.mlk_text.specs.declared.code.Code.TheVariants.{ExprForm, ExprLeftOut, ExprDeep, NameLong, Byte, LineForm, LabelTwice, LevelJump, UnknownCommand, CommandLeftOut, ArgumentForm, Spacing, BlockUnreached, TooLarge, RoutineName, RoutineTwice, UnknownLabel, Arity, TooMany, Toml, Key, Pattern, TemplateVariable, FamiliesMeet, RulesLimit, NotEnabled, BadChoice, UnknownJob, EventForm, Head, Form, Order, EntryTwice, CertLimit, NoEnd, Unruled, Uncovered, ReadOnly, NotPrivate, Pinned, NotHeld, Unranked, RankOrder, HeldAtEnd, CaseNotListed, NeedMissing, SummaryShort, NoCertificate, SharedName, UnknownSubscript, FallsIntoFormals, TooManyCases, NameEscapes, DropsFrame, GaveUp, EntryMissing, Workers, GateShut}
+use Rattle.mlk_text.specs.declared.code.Code.TheVariants.{ExprForm, ExprLeftOut, ExprDeep, NameLong, Byte, LineForm, LabelTwice, LevelJump, UnknownCommand, CommandLeftOut, ArgumentForm, Spacing, BlockUnreached, TooLarge, RoutineName, RoutineTwice, UnknownLabel, Arity, TooMany, Toml, Key, Pattern, TemplateVariable, FamiliesMeet, RulesLimit, NotEnabled, BadChoice, UnknownJob, EventForm, Head, Form, Order, EntryTwice, CertLimit, NoEnd, CaseUnused, Unruled, Uncovered, ReadOnly, NotPrivate, Pinned, NotHeld, Unranked, RankOrder, HeldAtEnd, CaseNotListed, NeedMissing, SummaryShort, NoCertificate, SharedName, UnknownSubscript, FallsIntoFormals, TooManyCases, NameEscapes, DropsFrame, GaveUp, EntryMissing, Workers, GateShut}
 use Rattle.mlk_text.specs.Codes.{number_of}
 
 -- the code of a number
@@ -44,6 +44,7 @@ code_of n =
     if n == 604 then Some EntryTwice else
     if n == 605 then Some CertLimit else
     if n == 606 then Some NoEnd else
+    if n == 607 then Some CaseUnused else
     if n == 701 then Some Unruled else
     if n == 702 then Some Uncovered else
     if n == 703 then Some ReadOnly else
@@ -106,6 +107,7 @@ code_of-number Order = refl
 code_of-number EntryTwice = refl
 code_of-number CertLimit = refl
 code_of-number NoEnd = refl
+code_of-number CaseUnused = refl
 code_of-number Unruled = refl
 code_of-number Uncovered = refl
 code_of-number ReadOnly = refl

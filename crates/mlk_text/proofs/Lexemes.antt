@@ -4,7 +4,7 @@ use Rattle.std.specs.Prelude.{Option, ◌==◌, ◌&&◌, ◌||◌, nat_le, ◌�
 use Rattle.std.proofs.lemmas.Bool.{cases_Bool, eqb-true}
 use Rattle.std.proofs.lemmas.Bool.Decides.{nat_tests}
 use Rattle.mlk_text.specs.Reading.{put, separated, Separated, Leaves, Shortens}
-use Rattle.mlk_text.specs.Lexemes.{is_letter, is_text_byte, is_text, name_bytes, digits, byte_at, name_at, digits_at, is_exact, canonical, exactly, number_at, doubled, inside, closing, literal_at, IsNumber, IsQuoted, IsLiteral, IsList, IsSubs, list_at, few, subs_by, subs_at}
+use Rattle.mlk_text.specs.Lexemes.{is_letter, is_text_byte, is_text, name_bytes, digits, byte_at, name_at, digits_at, is_exact, canonical, exactly, exact_digits_at, doubled, inside, closing, literal_at, IsNumber, IsQuoted, IsLiteral, IsList, IsSubs, list_at, few, subs_by, subs_at}
 use Rattle.mlk_text.proofs.Readers.{then_some, pair_parts, with_some, After, after-self, after-one, after_then, after_length, Exact, Takes, separated-exact}
 
 pub byte-is : (b c : ℕ) (xs ys : List ℕ) → byte_at b xs ≡ Some (c, ys) → xs ≡ b ∷ ys
@@ -53,8 +53,8 @@ exactly-some r value ys h = elim (cases_Bool (is_exact r.0)) [
   | inr e ↦ cc (rw e at h)
 ]
 
-pub number-exact : Exact number_at IsNumber
-unfolding number_at
+pub number-exact : Exact exact_digits_at IsNumber
+unfolding exact_digits_at
 number-exact = record {
   sound = λ value xs ys h.
       let d = then_some (digits_at xs) exactly (value, ys) h in

@@ -1,7 +1,7 @@
 -- The numbers of the codes, and the names that are printed after them. This project's own choice.
 use Rattle.std.specs.Prelude.{◌≡◌, ℕ, List, codes}
 use Rattle.mlk_text.specs.declared.code.Code.{Code}
-use Rattle.mlk_text.specs.declared.code.Code.TheVariants.{ExprForm, ExprLeftOut, ExprDeep, NameLong, Byte, LineForm, LabelTwice, LevelJump, UnknownCommand, CommandLeftOut, ArgumentForm, Spacing, BlockUnreached, TooLarge, RoutineName, RoutineTwice, UnknownLabel, Arity, TooMany, Toml, Key, Pattern, TemplateVariable, FamiliesMeet, RulesLimit, NotEnabled, BadChoice, UnknownJob, EventForm, Head, Form, Order, EntryTwice, CertLimit, NoEnd, Unruled, Uncovered, ReadOnly, NotPrivate, Pinned, NotHeld, Unranked, RankOrder, HeldAtEnd, CaseNotListed, NeedMissing, SummaryShort, NoCertificate, SharedName, UnknownSubscript, FallsIntoFormals, TooManyCases, NameEscapes, DropsFrame, GaveUp, EntryMissing, Workers, GateShut}
+use Rattle.mlk_text.specs.declared.code.Code.TheVariants.{ExprForm, ExprLeftOut, ExprDeep, NameLong, Byte, LineForm, LabelTwice, LevelJump, UnknownCommand, CommandLeftOut, ArgumentForm, Spacing, BlockUnreached, TooLarge, RoutineName, RoutineTwice, UnknownLabel, Arity, TooMany, Toml, Key, Pattern, TemplateVariable, FamiliesMeet, RulesLimit, NotEnabled, BadChoice, UnknownJob, EventForm, Head, Form, Order, EntryTwice, CertLimit, NoEnd, CaseUnused, Unruled, Uncovered, ReadOnly, NotPrivate, Pinned, NotHeld, Unranked, RankOrder, HeldAtEnd, CaseNotListed, NeedMissing, SummaryShort, NoCertificate, SharedName, UnknownSubscript, FallsIntoFormals, TooManyCases, NameEscapes, DropsFrame, GaveUp, EntryMissing, Workers, GateShut}
 
 abbrev pub number_of : Code → ℕ
 number_of ExprForm = 101
@@ -39,6 +39,7 @@ number_of Order = 603
 number_of EntryTwice = 604
 number_of CertLimit = 605
 number_of NoEnd = 606
+number_of CaseUnused = 607
 number_of Unruled = 701
 number_of Uncovered = 702
 number_of ReadOnly = 703
@@ -103,6 +104,7 @@ word_of Order = codes "Order"
 word_of EntryTwice = codes "EntryTwice"
 word_of CertLimit = codes "Limit"
 word_of NoEnd = codes "NoEnd"
+word_of CaseUnused = codes "CaseUnused"
 word_of Unruled = codes "Unruled"
 word_of Uncovered = codes "Uncovered"
 word_of ReadOnly = codes "ReadOnly"

@@ -13,6 +13,11 @@ abbrev pub IsRefused : {E : Type 0} → Failure E → Type 0
 IsRefused OutOfMemory = ⊥
 IsRefused (Refused e) = Unit {0}
 
+-- what holds of the reason, unless memory ran out
+abbrev pub IfRefused : {E : Type 0} → Failure E → (E → Type 0) → Type 0
+IfRefused OutOfMemory Is = Unit {0}
+IfRefused (Refused e) Is = Is e
+
 -- both are want of memory, or neither is
 abbrev pub IsLike : {E F : Type 0} → Failure E → Failure F → Type 0
 IsLike OutOfMemory OutOfMemory = Unit {0}

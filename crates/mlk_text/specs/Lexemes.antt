@@ -106,8 +106,8 @@ abbrev pub exactly : List ℕ × List ℕ → Option (List ℕ × List ℕ)
 exactly r = if is_exact r.0 then Some (canonical r.0, r.1) else None
 
 -- the value of the digits at the front
-unfoldable pub number_at : List ℕ → Option (List ℕ × List ℕ)
-number_at xs = digits_at xs >>= exactly
+unfoldable pub exact_digits_at : List ℕ → Option (List ℕ × List ℕ)
+exact_digits_at xs = digits_at xs >>= exactly
 
 -- A text in which each quote stands twice (ISO/IEC 11756, strlit).
 abbrev pub twice : ℕ → List ℕ
@@ -133,7 +133,7 @@ unfoldable mutual
 -- the value of the literal at the front
 unfoldable pub literal_at : List ℕ → Option (List ℕ × List ℕ)
 literal_at [] = None
-literal_at (b ∷ xs) = if b == 34 then inside xs else number_at (b ∷ xs)
+literal_at (b ∷ xs) = if b == 34 then inside xs else exact_digits_at (b ∷ xs)
 
 -- a number: its canonical text is the value
 abbrev pub IsNumber : List ℕ → List ℕ → List ℕ → Type 0

@@ -77,6 +77,8 @@ pub enum Code {
     CertLimit = 605,
     /// 606: a certificate that ends before its end line
     NoEnd = 606,
+    /// 607: a case in front of a certificate that no point names
+    CaseUnused = 607,
     /// 701: a reference that surely lies in no rule
     Unruled = 701,
     /// 702: a cover rule may be met and a lock that it asks for is not held
@@ -173,6 +175,7 @@ impl Code {
             Code::EntryTwice => b"EntryTwice",
             Code::CertLimit => b"Limit",
             Code::NoEnd => b"NoEnd",
+            Code::CaseUnused => b"CaseUnused",
             Code::Unruled => b"Unruled",
             Code::Uncovered => b"Uncovered",
             Code::ReadOnly => b"ReadOnly",

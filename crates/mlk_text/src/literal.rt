@@ -3,7 +3,7 @@
 ghost use Rattle.std.specs.Prelude.{◌≡◌, ◌≤◌, ◌∷◌, [], suc, length, nat_le, ◌&&◌};
 ghost use Rattle.mlk_text.specs.Reading.{put};
 ghost use Rattle.mlk_text.specs.Plain.{plain_bytes};
-ghost use Rattle.mlk_text.specs.Lexemes.{zeros, to_last, digits_at, number_at, inside, literal_at, list_at, subs_at, canonical, canonical_of, is_exact};
+ghost use Rattle.mlk_text.specs.Lexemes.{zeros, to_last, digits_at, exact_digits_at, inside, literal_at, list_at, subs_at, canonical, canonical_of, is_exact};
 ghost use Rattle.mlk_text.specs.Failures.{Reads};
 
 use crate::failure::Failure;
@@ -43,9 +43,9 @@ fn is_exact(digits: &[u8], kept: &[u8]) -> bool
 }
 
 /// The value of the digits at the front, and what is after them.
-#[tactic(auto, unfolding(crate::specs::Lexemes::number_at, crate::specs::Lexemes::digits_at, crate::specs::Lexemes::canonical, crate::specs::Lexemes::is_exact))]
+#[tactic(auto, unfolding(crate::specs::Lexemes::exact_digits_at, crate::specs::Lexemes::digits_at, crate::specs::Lexemes::canonical, crate::specs::Lexemes::is_exact))]
 fn number(alloc: Global, bytes: &[u8]) -> Result<(Value, &[u8]), Failure<NotThere>>
-    ensures { Reads (λ x. (x.0, x.1.now)) result (number_at bytes.now) }
+    ensures { Reads (λ x. (x.0, x.1.now)) result (exact_digits_at bytes.now) }
 {
     let n = digits(bytes);
     if n == 0 {

@@ -44,6 +44,7 @@ impl Code {
             Code::EntryTwice => "two blocks of a certificate with one entry text",
             Code::CertLimit => "a certificate past one of its limits",
             Code::NoEnd => "a certificate that ends before its end line",
+            Code::CaseUnused => "a case in front of a certificate that no point names",
             Code::Unruled => "a reference that surely lies in no rule",
             Code::Uncovered => "a cover rule may be met and a lock that it asks for is not held",
             Code::ReadOnly => "a write that may meet a readonly rule",

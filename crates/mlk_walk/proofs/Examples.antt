@@ -24,8 +24,8 @@ use Rattle.mlk_names.specs.declared.reference.Extent.TheVariants as extent
 use Rattle.mlk_rules.specs.declared.pattern.Element.{Element}
 use Rattle.mlk_rules.specs.declared.pattern.Element.TheVariants as element
 use Rattle.mlk_rules.specs.declared.pattern.Pattern.{Pattern}
-use Rattle.mlk_rules.specs.declared.template.Part.{Part}
-use Rattle.mlk_rules.specs.declared.template.Part.TheVariants as part_of
+use Rattle.mlk_rules.specs.declared.template.TemplatePart.{TemplatePart}
+use Rattle.mlk_rules.specs.declared.template.TemplatePart.TheVariants as part_of
 use Rattle.mlk_rules.specs.declared.template.Template.{Template}
 use Rattle.mlk_rules.specs.declared.cover.Cover.{Cover}
 use Rattle.mlk_rules.specs.declared.family.Family.{Family}
@@ -84,7 +84,7 @@ block entry need low drops mods exits points = record {
 abbrev pub pattern_of : List ℕ → List Element → Extent → Pattern
 pattern_of global elements far = record { global = global; elements = elements; extent = far }
 
-abbrev pub template : Root → List Part → Template
+abbrev pub template : Root → List TemplatePart → Template
 template r parts = record { root = r; parts = parts }
 
 abbrev pub family : LockName → ℕ → Family

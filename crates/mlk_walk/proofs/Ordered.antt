@@ -10,9 +10,10 @@ use Rattle.std.proofs.lemmas.Map.Lookups.{exact_unsigned}
 use Rattle.mlk_text.specs.declared.code.Code.{Code}
 use Rattle.mlk_text.specs.Codes.{number_of}
 use Rattle.mlk_text.proofs.CodeLemmas.{number_of-one}
+use Rattle.mlk_names.specs.Lists.{Among}
 use Rattle.mlk_walk_exprs.specs.declared.walk.Fault.{Fault}
 use Rattle.mlk_walk.specs.Faults.{fault_cmp, put_fault, ascending}
-use Rattle.mlk_walk.specs.Laws.{Among, IsAscending, FaultsInOrder}
+use Rattle.mlk_walk.specs.Laws.{IsAscending, FaultsInOrder}
 
 fault_total : IsTotalOrder fault_cmp
 unfolding fault_cmp

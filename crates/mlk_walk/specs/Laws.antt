@@ -1,12 +1,9 @@
 -- What a verdict is: the faults of its entry as a set, each once, in order.
 use Rattle.std.specs.Prelude.{◌≡◌, ◌↔◌, ◌⊎◌, List, [], ◌∷◌}
 use Rattle.std.specs.declared.cmp.Ordering.TheVariants.{Less}
+use Rattle.mlk_names.specs.Lists.{Among}
 use Rattle.mlk_walk_exprs.specs.declared.walk.Fault.{Fault}
 use Rattle.mlk_walk.specs.Faults.{fault_cmp, ascending}
-
-abbrev pub Among : Fault → List Fault → Type 0
-Among f [] = ⊥
-Among f (g ∷ faults) = (f ≡ g) ⊎ Among f faults
 
 -- each is below the next, so none stands twice
 abbrev pub IsAscending : List Fault → Type 0

@@ -1,7 +1,8 @@
 -- The report of a program: of each entry that is certified or declared, in the program's order, the faults of its
 -- verdict. This project's own choice.
 use Rattle.std.specs.Prelude.{ℕ, suc, Bool, ◌||◌, ◌==◌, if◌then◌else◌, List, [], ◌∷◌, ◌++◌, map, flat_map, is_some, is_none, find}
-use Rattle.std.specs.Prelude.{Option, Some, None}
+use Rattle.std.specs.Prelude.{Option}
+use Rattle.mlk_text.specs.Lexemes.{or_else}
 use Rattle.mlk_syntax.specs.Trees.{RoutineTree, HeadTree, LineTrees}
 use Rattle.mlk_program.specs.declared.entry.EntryId.{EntryId}
 use Rattle.mlk_program.specs.Entries.{lines_in, has_label, entry_by}
@@ -46,10 +47,6 @@ report routines rules blocks = flat_map (rows_of routines rules (known routines 
 -- The first entry text of the rules, else of the certificate, that names no entry of the program.
 abbrev pub is_missing : List RoutineTree → List ℕ → Bool
 is_missing routines text = is_none (entry_by routines text)
-
-abbrev pub or_else : Option (List ℕ) → Option (List ℕ) → Option (List ℕ)
-or_else None other = other
-or_else (Some text) other = Some text
 
 abbrev pub block_text : EntryCert → List ℕ
 block_text b = b.entry

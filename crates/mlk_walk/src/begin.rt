@@ -7,9 +7,9 @@ ghost use Rattle.mlk_walk_state.specs.Scope.{scope_of};
 ghost use Rattle.mlk_walk.specs.Verdicts.{own_formal, begin_case, begin_faults, need_faults, leaves_some, exit_faults, own_faults};
 
 use mlk_calls::{Scope, is_listed};
-use mlk_cert::{Case, ExitCase, NameSet, Own, Shared, Summary, Test};
+use mlk_cert_parts::{Case, ExitCase, NameSet, Own, Shared, Summary, Test};
 use mlk_names::LockTerm;
-use mlk_text::{Code, Column, LineNumber, List, Name};
+use mlk_text::{Code, Column, LineNumber, Name};
 use mlk_walk_commands::in_order;
 use mlk_walk_exprs::{Fault, Faults, Mend};
 use std::alloc::{AllocError, Global};
@@ -38,7 +38,7 @@ fn begin_case(alloc: Global, summary: &Summary, formals: &[Name]) -> Result<Case
         held: Shared::new(alloc, Vec::from_clones(alloc, summary.need.as_slice())?)?,
         own: Shared::new(alloc, own)?,
         kept: Shared::new(alloc, names.into_vec())?,
-        saved: List::new(alloc),
+        saved: Shared::new(alloc, Vec::new(alloc))?,
     })
 }
 

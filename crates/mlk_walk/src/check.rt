@@ -13,7 +13,7 @@ use crate::entry::{number_of, walk_entry};
 use crate::report::Report;
 use crate::verdict::Verdict;
 use mlk_calls::{Entries, Scope};
-use mlk_cert::{Certificate, EntryCert};
+use mlk_cert_parts::{Certificate, EntryCert};
 use mlk_program::{EntryId, Program};
 use mlk_rules::Rules;
 use mlk_syntax::{Line, Routine};

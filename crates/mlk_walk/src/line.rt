@@ -9,7 +9,7 @@ use crate::check::Checks;
 use crate::entry::walk_all;
 use crate::verdict::Verdict;
 use mlk_calls::{Entries, Scope};
-use mlk_cert::{Certificate, EntryCert};
+use mlk_cert_parts::{Certificate, EntryCert};
 use mlk_program::{EntryId, Program};
 use mlk_rules::Rules;
 use mlk_text::LineNumber;

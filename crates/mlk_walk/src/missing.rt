@@ -4,7 +4,7 @@ ghost use Rattle.std.specs.Prelude.{◌≡◌, option_map, find, map};
 ghost use Rattle.mlk_syntax.specs.Views.{routine_of};
 ghost use Rattle.mlk_walk.specs.Reports.{is_missing, block_text, missing};
 
-use mlk_cert::{Certificate, EntryCert};
+use mlk_cert_parts::{Certificate, EntryCert};
 use mlk_program::Program;
 use mlk_rules::{Rules, entries};
 use mlk_text::Value;

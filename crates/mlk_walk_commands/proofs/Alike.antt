@@ -9,7 +9,7 @@ use Rattle.mlk_walk_state.specs.declared.state.State.{State}
 use Rattle.mlk_walk_state.specs.States.{same_state}
 use Rattle.mlk_walk_state.proofs.CaseTests.{same_decides}
 use Rattle.mlk_walk_exprs.specs.declared.walk.Walk.{Walk}
-use Rattle.mlk_walk_exprs.specs.Walks.{Outcome, Goes, Skips, Quits, Refused, put, add, add_all, with_states, each, is_large, too_many, overfull, few}
+use Rattle.mlk_walk_exprs.specs.Walks.{Outcome, Goes, Skips, Quits, Refused, put_state, add, add_all, with_states, each, is_large, too_many, overfull, few}
 
 -- more states are too many where those before them are
 nat_more : (n : ℕ) → nat_lt 16 n ≡ true → nat_lt 16 (suc n) ≡ true
@@ -30,7 +30,7 @@ by_large : (ss : List State) → list_any is_large ss ≡ true → too_many ss �
 unfolding too_many
 by_large ss h = ⊎_elim (λ (e : nat_lt 16 (length ss) ≡ true). rw e refl) (λ (e : nat_lt 16 (length ss) ≡ false). rw e h) (cases_Bool (nat_lt 16 (length ss)))
 
-too_many_more : (ss : List State) (s : State) → too_many ss ≡ true → too_many (put s ss) ≡ true
+too_many_more : (ss : List State) (s : State) → too_many ss ≡ true → too_many (put_state s ss) ≡ true
 unfolding too_many
 too_many_more ss s h = ⊎_elim
     (λ (e : list_any (same_state s) ss ≡ true). rw e h)
@@ -53,7 +53,7 @@ among (t ∷ ss) s h e = ⊎_elim
     ⊎_elim (λ (l : is_large t ≡ true). rw l refl) (λ (l : is_large t ≡ false). rw l (among ss s h f)) (cases_Bool (is_large t)))
     (cases_Bool (same_state s t))
 
-large_put : (ss : List State) (s : State) → is_large s ≡ true → too_many (put s ss) ≡ true
+large_put : (ss : List State) (s : State) → is_large s ≡ true → too_many (put_state s ss) ≡ true
 large_put ss s h = ⊎_elim
     (λ (e : list_any (same_state s) ss ≡ true). rw e (by_large ss (among ss s h e)))
     (λ (e : list_any (same_state s) ss ≡ false). rw e (by_large (ss ++ s ∷ []) (any_last ss s h)))
@@ -100,8 +100,8 @@ rows_alike f g h [] = tt
 rows_alike f g h (s ∷ ss) = append_alike (f s) (g s) (flat_map f ss) (flat_map g ss) (h s) (rows_alike f g h ss)
 
 module _ (w v : Walk) (a : Alike w v) where
-  put_same : (s : State) → AlikeStates w.going v.going → AlikeStates (put s w.going) (put s v.going)
-  put_same s (inl e) = inl (ap (put s) e)
+  put_same : (s : State) → AlikeStates w.going v.going → AlikeStates (put_state s w.going) (put_state s v.going)
+  put_same s (inl e) = inl (ap (put_state s) e)
   put_same s (inr (f, g)) = inr (too_many_more w.going s f, too_many_more v.going s g)
 
   add_same : (o : Outcome) → Alike (add o w) (add o v)

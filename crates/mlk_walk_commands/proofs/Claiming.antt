@@ -13,25 +13,25 @@ use Rattle.mlk_syntax.specs.Trees.{VariableTree}
 use Rattle.mlk_names.specs.declared.term.LockTerm.{LockTerm}
 use Rattle.mlk_cert_parts.specs.declared.case.Test.TheVariants.{One}
 use Rattle.mlk_cert_lexemes.specs.Lists.{below}
-use Rattle.mlk_cert.specs.Making.{terms_before}
+use Rattle.mlk_cert_parts.specs.TermOrder.{terms_before}
 use Rattle.mlk_cert_lexemes.specs.Texts.{term_text}
 use Rattle.mlk_walk_state.specs.declared.state.State.{State}
 use Rattle.mlk_walk_state.specs.States.{holding, tested, without_last, last_captured}
-use Rattle.mlk_walk_state.specs.Terms.{put, put_all}
+use Rattle.mlk_walk_state.specs.Terms.{add_term, add_terms}
 use Rattle.mlk_calls.specs.Claims.{held_too, claim_refused, release_all}
 use Rattle.mlk_walk_exprs.specs.declared.walk.Walk.{Walk}
 use Rattle.mlk_walk_exprs.specs.Walks.{Goes, is_large, each, few}
 use Rattle.mlk_walk_exprs.specs.Spots.{Spot}
 use Rattle.mlk_walk_commands.specs.Holding.{held_quickly}
-use Rattle.mlk_walk_commands.specs.Locks.{count_names, terms_of, granted, claimed, claim, claim_after, by_sign, lock_terms, lock_row}
+use Rattle.mlk_walk_commands.specs.Locks.{count_names, terms_of, granted, claim_outcomes, claim, claim_after, by_sign, lock_terms, lock_row}
 use Rattle.mlk_walk_commands.proofs.Alike.{AllAlike, all_same, each_alike}
 
-length_put : (t : LockTerm) (held : List LockTerm) → length (put t held) ≡ length held + 1
+length_put : (t : LockTerm) (held : List LockTerm) → length (add_term t held) ≡ length held + 1
 length_put t held = length-insert held (terms_before held t) t (prefix_len-le-length (λ u. below (term_text u) (term_text t)) held)
 
-length_all : (ts held : List LockTerm) → length (put_all ts held) ≡ length ts + length held
+length_all : (ts held : List LockTerm) → length (add_terms ts held) ≡ length ts + length held
 length_all [] held = sym (zero-add (length held))
-length_all (t ∷ ts) held = let a = length_all ts (put t held) in let b = length_put t held in omega (arith, a, b)
+length_all (t ∷ ts) held = let a = length_all ts (add_term t held) in let b = length_put t held in omega (arith, a, b)
 
 more_than : (n m k : ℕ) → nat_lt 16 n ≡ true → k ≡ n + m → nat_lt 16 k ≡ true
 more_than n m k h e = grind (arith, nat_tests)
@@ -48,7 +48,7 @@ module _ (terms : List LockTerm) (s : State) where
   held_alike = ⊎_elim
       (λ (e : nat_lt 16 (length terms) ≡ true). inr (
         rw e (large_if (terms ++ s.case.held) s (more_than (length terms) (length s.case.held) (length (terms ++ s.case.held)) e (length-append terms s.case.held))),
-        large_if (put_all terms s.case.held) s (more_than (length terms) (length s.case.held) (length (put_all terms s.case.held)) e (length_all terms s.case.held)),
+        large_if (add_terms terms s.case.held) s (more_than (length terms) (length s.case.held) (length (add_terms terms s.case.held)) e (length_all terms s.case.held)),
       ))
       (λ (e : nat_lt 16 (length terms) ≡ false). inl (rw e refl))
       (cases_Bool (nat_lt 16 (length terms)))
@@ -69,9 +69,9 @@ module _ (p : Spot) (timed : Bool) (names : List VariableTree) where
   claim_alike : (terms : List LockTerm) (s : State) → AllAlike (claim held_quickly p timed names terms s) (claim held_too p timed names terms s)
   claim_alike terms s = by (claim_refused p.scope timed s.case.held terms)
     where
-      by : (r : Option (ℕ × Code)) → AllAlike (claimed held_quickly p timed names terms s r) (claimed held_too p timed names terms s r)
+      by : (r : Option (ℕ × Code)) → AllAlike (claim_outcomes held_quickly p timed names terms s r) (claim_outcomes held_too p timed names terms s r)
       by None = granted_alike terms s timed
-      by (Some refused) = all_same (claimed held_too p timed names terms s (Some refused))
+      by (Some refused) = all_same (claim_outcomes held_too p timed names terms s (Some refused))
 
   after_alike : (terms : List LockTerm) (r : Result State Code) → AllAlike (claim_after held_quickly p timed names terms r) (claim_after held_too p timed names terms r)
   after_alike terms (Ok s) = claim_alike terms s

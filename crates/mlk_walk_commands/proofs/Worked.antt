@@ -12,7 +12,7 @@ use Rattle.mlk_names.specs.declared.known_symbol.KnownSym.TheVariants as known
 use Rattle.mlk_names.specs.declared.term.LockTerm.{LockTerm}
 use Rattle.mlk_names.specs.declared.reference.Extent.TheVariants as extent
 use Rattle.mlk_rules.specs.declared.pattern.Element.TheVariants.{Variable}
-use Rattle.mlk_rules.specs.declared.template.Part.TheVariants.{Place}
+use Rattle.mlk_rules.specs.declared.template.TemplatePart.TheVariants.{Place}
 use Rattle.mlk_cert_parts.specs.declared.case.Test.{Test}
 use Rattle.mlk_cert_parts.specs.declared.case.Test.TheVariants.{Any}
 use Rattle.mlk_cert_parts.specs.declared.case.Case.{Case}

@@ -12,7 +12,7 @@ use Rattle.mlk_names.specs.declared.reference.Extent.TheVariants as extent
 use Rattle.mlk_cert_parts.specs.declared.names.NameSet.{NameSet}
 use Rattle.mlk_calls.specs.Changes.{change_fault, changed_state, unless}
 use Rattle.mlk_walk_exprs.specs.declared.walk.Walk.{Walk}
-use Rattle.mlk_walk_exprs.specs.Walks.{each, each_changed, placed, put_all, with_states}
+use Rattle.mlk_walk_exprs.specs.Walks.{each, each_changed, placed, put_states, with_states}
 use Rattle.mlk_walk_exprs.specs.Spots.{Spot}
 use Rattle.mlk_walk_exprs.specs.References.{touch}
 use Rattle.mlk_walk_exprs.proofs.Passing.{all_change, all_stay, is_nothing}
@@ -34,7 +34,7 @@ module _ (p : Spot) (from column : ℕ) (w : Walk) where
 
 -- a local with subscripts, of which nothing is known
 pub local_stays : (p : Spot) (column : ℕ) (name : List ℕ) (w : Walk) (subs : List Subscript) (first : Subscript) (others : List Subscript)
-    → subs ≡ first ∷ others → each (change_local p column name (subs_from (sub_trees subs))) w ≡ with_states (put_all w.going []) w
+    → subs ≡ first ∷ others → each (change_local p column name (subs_from (sub_trees subs))) w ≡ with_states (put_states w.going []) w
 local_stays p column name w subs first others is =
     ap (λ z. each (change_local p column name (subs_from (sub_trees z))) w) is ∙ all_stay w
 

@@ -174,10 +174,10 @@ abbrev pub job_argument : Spot → CallTree → Walk → Walk
 job_argument p call w = each (job_row p call) (capture_given p call w)
 
 -- IF: `$TEST` is the argument's truth; a false one skips the rest of the line
-abbrev pub by_truth : Option Bool → State → List Outcome
-by_truth None s = Goes (tested One s) ∷ Skips (tested Zero s).case ∷ []
-by_truth (Some true) s = Goes (tested One s) ∷ []
-by_truth (Some false) s = Skips (tested Zero s).case ∷ []
+abbrev pub if_outcomes : Option Bool → State → List Outcome
+if_outcomes None s = Goes (tested One s) ∷ Skips (tested Zero s).case ∷ []
+if_outcomes (Some true) s = Goes (tested One s) ∷ []
+if_outcomes (Some false) s = Skips (tested Zero s).case ∷ []
 
 abbrev pub if_argument : Spot → Tree → Walk → Walk
-if_argument p t w = each (λ s. by_truth (truth_in p.scope t s) s) (value p t w)
+if_argument p t w = each (λ s. if_outcomes (truth_in p.scope t s) s) (value p t w)

@@ -120,12 +120,12 @@ module _ (hold : List LockTerm → State → State) where
   granted true terms s = Goes (tested One (hold terms s)) ∷ Goes (tested Zero s) ∷ []
 
   -- a claim of terms, each at the column of its name
-  abbrev pub claimed : Spot → Bool → List VariableTree → List LockTerm → State → Option (ℕ × Code) → List Outcome
-  claimed p timed names terms s None = granted timed terms s
-  claimed p timed names terms s (Some refused) = Refused p.line (column_at names refused.0) refused.1 ∷ []
+  abbrev pub claim_outcomes : Spot → Bool → List VariableTree → List LockTerm → State → Option (ℕ × Code) → List Outcome
+  claim_outcomes p timed names terms s None = granted timed terms s
+  claim_outcomes p timed names terms s (Some refused) = Refused p.line (column_at names refused.0) refused.1 ∷ []
 
   abbrev pub claim : Spot → Bool → List VariableTree → List LockTerm → State → List Outcome
-  claim p timed names terms s = claimed p timed names terms s (claim_refused p.scope timed s.case.held terms)
+  claim p timed names terms s = claim_outcomes p timed names terms s (claim_refused p.scope timed s.case.held terms)
 
   -- the release of all locks, a step of its own, is refused at the word; then the names are claimed
   abbrev pub claim_after : Spot → Bool → List VariableTree → List LockTerm → Result State Code → List Outcome

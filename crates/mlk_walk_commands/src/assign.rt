@@ -15,7 +15,7 @@ use crate::variable::{capture_variable, change_local, change_locals, count_of};
 use mlk_calls::State;
 use mlk_names::{Access, Extent, Sym};
 use mlk_syntax::{Expr, SetArgument, Target, Variable};
-use mlk_walk_exprs::{Row, Spot, Touch, Walk, covered_or, each, forget, value, values};
+use mlk_walk_exprs::{Spot, Touch, Transfer, Walk, covered_or, each, forget, value, values};
 use std::alloc::AllocError;
 
 fn variable_in(target: &Target) -> &Variable
@@ -100,7 +100,7 @@ impl<'a> TouchAt<'a> {
     }
 }
 
-impl<'a> Row for TouchAt<'a> {
+impl<'a> Transfer for TouchAt<'a> {
     ghost outcomes = { λ r s. touch (spot_of r.spot.now) r.touch.extent r.touch.access r.touch.column
         r.touch.name.now (symbols_at r.from r.count s) s };
 
@@ -119,7 +119,7 @@ struct ReadPart<'a> {
     variable: &'a Variable,
 }
 
-impl<'a> Row for ReadPart<'a> {
+impl<'a> Transfer for ReadPart<'a> {
     ghost outcomes = { λ r s. read_part (spot_of r.spot.now) r.from (variable_of r.variable.now) s };
 
     fn make(&self, state: State, walk: &mut Walk) -> Result<(), AllocError> {
@@ -132,13 +132,13 @@ impl<'a> Row for ReadPart<'a> {
                     column: *column,
                     name,
                 };
-                let row = TouchAt {
+                let transfer = TouchAt {
                     spot,
                     touch,
                     from: self.from,
                     count: subscripts.len(),
                 };
-                row.make(state, walk)
+                transfer.make(state, walk)
             }
             _ => walk.go(state),
         }
@@ -156,12 +156,12 @@ fn read_target<'a>(
     match target {
         Target::Whole(_) => Ok(()),
         Target::Part(_, variable, _) => {
-            let row = ReadPart {
+            let transfer = ReadPart {
                 spot,
                 from,
                 variable,
             };
-            each(spot.alloc, &row, walk)
+            each(spot.alloc, &transfer, walk)
         }
     }
 }
@@ -174,7 +174,7 @@ struct Write<'a> {
     variable: &'a Variable,
 }
 
-impl<'a> Row for Write<'a> {
+impl<'a> Transfer for Write<'a> {
     ghost outcomes = { λ r s. write_variable (spot_of r.spot.now) r.from (variable_of r.variable.now) s };
 
     #[tactic(auto, using(crate::proofs::Opened::counted, crate::proofs::Opened::local_written, crate::proofs::Opened::global_written))]
@@ -188,13 +188,13 @@ impl<'a> Row for Write<'a> {
                     column: *column,
                     name,
                 };
-                let row = TouchAt {
+                let transfer = TouchAt {
                     spot,
                     touch,
                     from: self.from,
                     count: subscripts.len(),
                 };
-                row.make(state, walk)
+                transfer.make(state, walk)
             }
             Expr::Local(name, subscripts) => {
                 change_local(spot, self.variable.column, name, subscripts, state, walk)
@@ -223,24 +223,24 @@ fn write_in_each<'a>(
                 column: *column,
                 name,
             };
-            let row = TouchAt {
+            let transfer = TouchAt {
                 spot,
                 touch,
                 from,
                 count: subscripts.len(),
             };
-            row.make_in_each(walk)
+            transfer.make_in_each(walk)
         }
         Expr::Local(name, subscripts) => {
             change_locals(spot, variable.column, name, subscripts, walk)
         }
         _ => {
-            let row = Write {
+            let transfer = Write {
                 spot,
                 from,
                 variable,
             };
-            each(spot.alloc, &row, walk)
+            each(spot.alloc, &transfer, walk)
         }
     }
 }

@@ -13,7 +13,7 @@ use mlk_calls::{Calling, State, at_job};
 use mlk_syntax::{Actual, Call, DoArgument, Expr};
 use mlk_text::Failure;
 use mlk_walk_exprs::{
-    CallRow, Mend, Row, Spot, Walk, capture_actuals, each, forget, value, where_it_holds,
+    CallTransfer, Mend, Spot, Transfer, Walk, capture_actuals, each, forget, value, where_it_holds,
 };
 use std::alloc::AllocError;
 
@@ -46,18 +46,18 @@ struct Calls<'a> {
     call: &'a Call,
 }
 
-impl<'a> Row for Calls<'a> {
+impl<'a> Transfer for Calls<'a> {
     ghost outcomes = { λ r s. do_row (spot_of r.spot.now) (call_of r.call.now) s };
 
     fn make(&self, state: State, walk: &mut Walk) -> Result<(), AllocError> {
-        let row = CallRow {
+        let transfer = CallTransfer {
             spot: self.spot,
             how: Calling::ByDo,
             column: self.call.column,
             callee: &self.call.callee,
             given: given_of(self.call),
         };
-        row.make(state, walk)
+        transfer.make(state, walk)
     }
 }
 
@@ -107,7 +107,7 @@ struct Begins<'a> {
     call: &'a Call,
 }
 
-impl<'a> Row for Begins<'a> {
+impl<'a> Transfer for Begins<'a> {
     ghost outcomes = { λ r s. job_row (spot_of r.spot.now) (call_of r.call.now) s };
 
     fn make(&self, state: State, walk: &mut Walk) -> Result<(), AllocError> {
@@ -131,9 +131,9 @@ pub fn job_argument<'a>(
     ensures { OnOk result (walk.new ≡ job_argument (spot_of spot.now) (call_of argument.now) walk.old) }
 {
     capture_given(spot, argument, walk)?;
-    let row = Begins {
+    let transfer = Begins {
         spot,
         call: argument,
     };
-    each(spot.alloc, &row, walk)
+    each(spot.alloc, &transfer, walk)
 }

@@ -6,12 +6,12 @@ ghost use Rattle.mlk_walk_state.specs.declared.state.State.{State};
 ghost use Rattle.mlk_walk_state.specs.Symbols.{truth_in};
 ghost use Rattle.mlk_walk_exprs.specs.Spots.{spot_of};
 ghost use Rattle.mlk_walk_exprs.specs.Walks.{Outcome};
-ghost use Rattle.mlk_walk_commands.specs.Arguments.{by_truth, if_argument};
+ghost use Rattle.mlk_walk_commands.specs.Arguments.{if_outcomes, if_argument};
 
 use mlk_calls::{State, truth_of};
-use mlk_cert::Test;
+use mlk_cert_parts::Test;
 use mlk_syntax::Expr;
-use mlk_walk_exprs::{Row, Spot, Walk, each, value};
+use mlk_walk_exprs::{Spot, Transfer, Walk, each, value};
 use std::alloc::AllocError;
 
 // `$TEST` is the condition's truth; where it may be false, the rest of the line is skipped.
@@ -21,9 +21,9 @@ struct ByTruth<'a> {
     condition: &'a Expr,
 }
 
-impl<'a> Row for ByTruth<'a> {
+impl<'a> Transfer for ByTruth<'a> {
     ghost outcomes = { λ r s.
-        by_truth (truth_in (spot_of r.spot.now).scope (tree_of r.condition.now) s) s };
+        if_outcomes (truth_in (spot_of r.spot.now).scope (tree_of r.condition.now) s) s };
 
     fn make(&self, state: State, walk: &mut Walk) -> Result<(), AllocError> {
         match truth_of(self.spot.alloc, self.spot.scope, &state, self.condition)? {
@@ -48,9 +48,9 @@ pub fn if_argument<'a>(
     ensures { OnOk result (walk.new ≡ if_argument (spot_of spot.now) (tree_of argument.now) walk.old) }
 {
     value(spot, argument, walk)?;
-    let row = ByTruth {
+    let transfer = ByTruth {
         spot,
         condition: argument,
     };
-    each(spot.alloc, &row, walk)
+    each(spot.alloc, &transfer, walk)
 }

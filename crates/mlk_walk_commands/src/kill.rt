@@ -10,11 +10,11 @@ ghost use Rattle.mlk_walk_commands.specs.Arguments.{kill_row, kill_all_but, kill
 use crate::order::in_order;
 use crate::variable::{capture_variable, change_all, change_local};
 use mlk_calls::State;
-use mlk_cert::NameSet;
+use mlk_cert_parts::NameSet;
 use mlk_names::{Access, Extent};
 use mlk_syntax::{Expr, KillArgument, Variable};
 use mlk_text::{List, Name};
-use mlk_walk_exprs::{Row, Spot, Touch, TouchLast, Walk, each};
+use mlk_walk_exprs::{Spot, Touch, TouchLast, Transfer, Walk, each};
 use std::alloc::AllocError;
 
 /// A variable is killed, whose subscripts were captured last.
@@ -24,7 +24,7 @@ pub(crate) struct Kill<'a> {
     pub(crate) variable: &'a Variable,
 }
 
-impl<'a> Row for Kill<'a> {
+impl<'a> Transfer for Kill<'a> {
     ghost outcomes = { λ r s. kill_row (spot_of r.spot.now) (variable_of r.variable.now) s };
 
     #[tactic(auto, using(crate::proofs::Opened::counted, crate::proofs::Opened::local_killed, crate::proofs::Opened::global_killed))]
@@ -38,12 +38,12 @@ impl<'a> Row for Kill<'a> {
                     column: *column,
                     name,
                 };
-                let row = TouchLast {
+                let transfer = TouchLast {
                     spot,
                     touch,
                     count: subscripts.len(),
                 };
-                row.make(state, walk)
+                transfer.make(state, walk)
             }
             Expr::Local(name, subscripts) => {
                 let state = state.without_last(subscripts.len());

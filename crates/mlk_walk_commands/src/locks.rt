@@ -13,12 +13,12 @@ ghost use Rattle.mlk_walk_commands.specs.Locks.{known_names, is_timed, column_at
 
 use crate::names::{capture_names, count_names, names_fault, terms_of};
 use mlk_calls::{State, claimed, may_take, release_all, release_one};
-use mlk_cert::{Shared, Test};
+use mlk_cert_parts::{Shared, Test};
 use mlk_names::LockTerm;
 use mlk_rules::rank_of;
 use mlk_syntax::{Expr, LockArgument, Sign, Variable};
 use mlk_text::{Code, Column, Failure, copy_of};
-use mlk_walk_exprs::{Mend, Row, Spot, Walk, each, last_of, value_if};
+use mlk_walk_exprs::{Mend, Spot, Transfer, Walk, each, last_of, value_if};
 use std::alloc::{AllocError, Global};
 
 // The subscripts of names, which were captured last, are known.
@@ -28,7 +28,7 @@ struct Known<'a> {
     argument: &'a LockArgument,
 }
 
-impl<'a> Row for Known<'a> {
+impl<'a> Transfer for Known<'a> {
     ghost outcomes = { λ r s. known_names (spot_of r.spot.now) (map variable_of r.argument.now.names.items) s };
 
     fn make(&self, state: State, walk: &mut Walk) -> Result<(), AllocError> {
@@ -236,7 +236,7 @@ struct Locks<'a> {
     argument: &'a LockArgument,
 }
 
-impl<'a> Row for Locks<'a> {
+impl<'a> Transfer for Locks<'a> {
     ghost outcomes = { λ r s. lock_row held_quickly (spot_of r.spot.now) r.argument.now.sign
         (is_timed (option_map tree_of r.argument.now.timeout)) (map variable_of r.argument.now.names.items) s };
 
@@ -281,7 +281,7 @@ pub struct Release<'a> {
     pub spot: &'a Spot<'a>,
 }
 
-impl<'a> Row for Release<'a> {
+impl<'a> Transfer for Release<'a> {
     ghost outcomes = { λ r s. release (spot_of r.spot.now) s };
 
     fn make(&self, state: State, walk: &mut Walk) -> Result<(), AllocError> {

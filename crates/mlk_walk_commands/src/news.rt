@@ -10,19 +10,19 @@ ghost use Rattle.mlk_walk_commands.specs.News.{renewed, with_own, renew};
 ghost use Rattle.mlk_walk_commands.specs.Arguments.{new_all_but, new_argument};
 
 use crate::order::{in_order, put_own};
-use mlk_calls::{Refusal, State, changed, mention};
-use mlk_cert::{NameSet, Own, Shared};
+use mlk_calls::{RefusedState, State, changed, mention};
+use mlk_cert_parts::{NameSet, Own, Shared};
 use mlk_syntax::NewArgument;
 use mlk_text::{Code, Column, Failure, List, Name, copy_of};
-use mlk_walk_exprs::{Mend, Row, Spot, Walk, each};
+use mlk_walk_exprs::{Mend, Spot, Transfer, Walk, each};
 use std::alloc::{AllocError, Global};
 
 // What changes by being made new: while a held term mentions one of the names that is refused. A summary need not list it.
-fn renewed(alloc: Global, names: &[NameSet], state: State) -> Result<State, Failure<Refusal>>
+fn renewed(alloc: Global, names: &[NameSet], state: State) -> Result<State, Failure<RefusedState>>
     ensures { AnswersOf state (λ s. s) result (renewed names.now state) }
 {
     if mention(names, state.case.held.as_slice()) {
-        return Err(Failure::Refused(Refusal {
+        return Err(Failure::Refused(RefusedState {
             code: Code::Pinned,
             state,
         }));
@@ -47,7 +47,7 @@ struct Renewal<'a> {
     names: &'a NameSet,
 }
 
-impl<'a> Row for Renewal<'a> {
+impl<'a> Transfer for Renewal<'a> {
     ghost outcomes = { λ r s. renew (spot_of r.spot.now) r.column r.names.now s };
 
     fn make(&self, state: State, walk: &mut Walk) -> Result<(), AllocError> {
@@ -78,12 +78,12 @@ fn renew<'a>(
 ) -> Result<(), AllocError>
     ensures { OnOk result (walk.new ≡ each (renew (spot_of spot.now) column names.now) walk.old) }
 {
-    let row = Renewal {
+    let transfer = Renewal {
         spot,
         column,
         names,
     };
-    each(spot.alloc, &row, walk)
+    each(spot.alloc, &transfer, walk)
 }
 
 /// All locals but these are made new, at the column of the word.

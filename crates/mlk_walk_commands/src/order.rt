@@ -11,7 +11,7 @@ ghost use Rattle.mlk_cert_parts.specs.Limits.{names_below, own_below};
 ghost use Rattle.mlk_walk_commands.specs.News.{in_order, is_before, put_own};
 
 use mlk_calls::is_same_own;
-use mlk_cert::{NameSet, Own};
+use mlk_cert_parts::{NameSet, Own};
 use mlk_text::{List, Name, copy_of};
 use std::alloc::{AllocError, Global};
 use std::collections::BTreeSet;

@@ -11,10 +11,10 @@ ghost use Rattle.mlk_walk_commands.specs.Arguments.{in_time_or_not, read_row, re
 use crate::kill::Kill;
 use crate::variable::{capture_variable, change_local, count_of};
 use mlk_calls::State;
-use mlk_cert::Test;
+use mlk_cert_parts::Test;
 use mlk_names::{Access, Extent};
 use mlk_syntax::{Expr, MergeArgument, ReadArgument, Variable, WriteArgument};
-use mlk_walk_exprs::{Row, Spot, Touch, TouchLast, Walk, each, value, value_if};
+use mlk_walk_exprs::{Spot, Touch, TouchLast, Transfer, Walk, each, value, value_if};
 use std::alloc::AllocError;
 
 // With a timeout `$TEST` is 1 or 0.
@@ -23,7 +23,7 @@ struct InTime<'a> {
     timeout: Option<&'a Expr>,
 }
 
-impl<'a> Row for InTime<'a> {
+impl<'a> Transfer for InTime<'a> {
     ghost outcomes = { λ r s. in_time_or_not (option_map tree_of (option_copied r.timeout)) s };
 
     fn make(&self, state: State, walk: &mut Walk) -> Result<(), AllocError> {
@@ -45,7 +45,7 @@ struct Read<'a> {
     variable: &'a Variable,
 }
 
-impl<'a> Row for Read<'a> {
+impl<'a> Transfer for Read<'a> {
     ghost outcomes = { λ r s. read_row (spot_of r.spot.now) (variable_of r.variable.now) s };
 
     #[tactic(auto, using(crate::proofs::Opened::counted, crate::proofs::Opened::local_read))]
@@ -109,7 +109,7 @@ struct ReadTree<'a> {
     variable: &'a Variable,
 }
 
-impl<'a> Row for ReadTree<'a> {
+impl<'a> Transfer for ReadTree<'a> {
     ghost outcomes = { λ r s. merge_from (spot_of r.spot.now) (variable_of r.variable.now) s };
 
     #[tactic(auto, using(crate::proofs::Opened::counted, crate::proofs::Opened::local_merged, crate::proofs::Opened::global_merged))]
@@ -122,12 +122,12 @@ impl<'a> Row for ReadTree<'a> {
                     column: *column,
                     name,
                 };
-                let row = TouchLast {
+                let transfer = TouchLast {
                     spot: self.spot,
                     touch,
                     count: subscripts.len(),
                 };
-                row.make(state, walk)
+                transfer.make(state, walk)
             }
             _ => walk.go(state.without_last(count_of(self.variable))),
         }

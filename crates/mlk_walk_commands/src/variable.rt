@@ -11,11 +11,11 @@ ghost use Rattle.mlk_walk_exprs.specs.Spots.{spot_of};
 ghost use Rattle.mlk_walk_exprs.specs.Walks.{Outcome, add_all, each, each_changed};
 ghost use Rattle.mlk_walk_commands.specs.Variables.{subs_of, name_in, count_in, capture_variable, change_at, change_local};
 
-use mlk_calls::{Refusal, State, change, change_in_place, is_allowed, short_names};
-use mlk_cert::NameSet;
+use mlk_calls::{RefusedState, State, change, change_in_place, is_allowed, short_names};
+use mlk_cert_parts::NameSet;
 use mlk_syntax::{Expr, Subscript, Variable};
 use mlk_text::{Code, Column, Failure, Name};
-use mlk_walk_exprs::{Mend, Row, Spot, Walk, capture_subs, each};
+use mlk_walk_exprs::{Mend, Spot, Transfer, Walk, capture_subs, each};
 use std::alloc::AllocError;
 use std::slice;
 
@@ -60,7 +60,7 @@ pub struct Change<'a> {
 
 impl<'a> Change<'a> {
     // What would mend a refused change: that the summary lists the names.
-    fn mend(&self, refusal: &Refusal) -> Result<Mend, AllocError> {
+    fn mend(&self, refusal: &RefusedState) -> Result<Mend, AllocError> {
         let spot = self.spot;
         match refusal.code {
             Code::SummaryShort => {
@@ -72,7 +72,7 @@ impl<'a> Change<'a> {
         }
     }
 
-    fn changed(&self, state: State) -> Result<State, Failure<Refusal>>
+    fn changed(&self, state: State) -> Result<State, Failure<RefusedState>>
         ensures { AnswersOf state (λ s. s) result
             (change (spot_of self.now.spot.now).scope (self.now.names.now ∷ []) state) }
     {
@@ -116,7 +116,7 @@ impl<'a> Change<'a> {
     }
 }
 
-impl<'a> Row for Change<'a> {
+impl<'a> Transfer for Change<'a> {
     ghost outcomes = { λ r s. change_at (spot_of r.spot.now) r.column r.names.now s };
 
     fn make(&self, state: State, walk: &mut Walk) -> Result<(), AllocError> {
@@ -187,10 +187,10 @@ pub(crate) fn change_local(
         return walk.go(state);
     }
     let names = NameSet::Only(name.copy()?);
-    let row = Change {
+    let transfer = Change {
         spot,
         column,
         names: &names,
     };
-    row.make(state, walk)
+    transfer.make(state, walk)
 }

@@ -24,7 +24,7 @@ use Rattle.mlk_walk_state.specs.States.{without_last, with_symbol}
 use Rattle.mlk_walk_exprs.specs.Walks.{each, each_changed}
 use Rattle.mlk_walk_exprs.specs.Spots.{Spot}
 use Rattle.mlk_walk_exprs.specs.References.{use_of, read_last}
-use Rattle.mlk_walk_exprs.specs.Expressions.{with_value, forget_subs, extrinsic, evaluate, evaluate_all, capture_subs, evaluate_links, evaluate_choices, capture_actuals}
+use Rattle.mlk_walk_exprs.specs.Expressions.{with_symbol_of, forget_subs, extrinsic, evaluate, evaluate_all, capture_subs, evaluate_links, evaluate_choices, capture_actuals}
 
 tree_unary : (op : UnaryOp) (b : Box Expr Global) → tree_of (rust.Unary op b) ≡ Prefixed op (tree_of b.value)
 tree_unary op b = ap tree_of (sym (rolls-Unary op b))
@@ -61,8 +61,8 @@ module _ (sc : Scope) (name : List ℕ) (s : State) where
   no_subscripts (x ∷ xs) h = absurd (omega (arith, eqb-true (length (x ∷ xs)) 0 h))
 
   pub local_captured : (v : Vec Subscript Global) → nat_eq (length v.items) 0 ≡ true
-      → with_value sc (tree_of (rust.Local name v)) s ≡ with_symbol (local_symbol (sc.is_shared s.case.own name) name no_subs) s
-  local_captured v h = ap (λ (t : Tree). with_value sc t s) (tree_local name v) ∙ no_subscripts v.items h
+      → with_symbol_of sc (tree_of (rust.Local name v)) s ≡ with_symbol (local_symbol (sc.is_shared s.case.own name) name no_subs) s
+  local_captured v h = ap (λ (t : Tree). with_symbol_of sc t s) (tree_local name v) ∙ no_subscripts v.items h
 
 module _ (p : Spot) (how : Use) (w : Walk) where
   pub local_opens : (name : List ℕ) (v : Vec Subscript Global) → evaluate p how (tree_of (rust.Local name v)) w

@@ -1,4 +1,4 @@
--- Rows that let every state go on.
+-- Transfer functions that let every state go on.
 use Rattle.std.proofs.Common.{◌≡◌, ◌-◌, arith, length, take, Bool, true, ℕ, List, [], ◌∷◌, ◌++◌, map, refl, ap, ◌∙◌, Option, None, Some}
 use Rattle.std.specs.Prelude.{flat_map, is_none}
 use Rattle.std.specs.List.{list_all}
@@ -12,14 +12,14 @@ use Rattle.mlk_walk_state.specs.declared.state.State.{State}
 use Rattle.mlk_walk_state.specs.States.{last_captured, without_last}
 use Rattle.mlk_walk_exprs.specs.declared.walk.Walk.{Walk}
 use Rattle.mlk_walk_exprs.specs.declared.reference.Use.{Use}
-use Rattle.mlk_walk_exprs.specs.Walks.{Outcome, Goes, add, add_all, put_all, with_states, each, each_changed}
+use Rattle.mlk_walk_exprs.specs.Walks.{Outcome, Goes, add, add_all, put_states, with_states, each, each_changed}
 use Rattle.mlk_walk_exprs.specs.Spots.{Spot}
 use Rattle.mlk_walk_exprs.specs.References.{checked, covered_or, touch, read_fault, read_last}
 
 module _ (allows : State → Bool) (row : State → List Outcome) (change : State → State)
     (goes : (s : State) → allows s ≡ true → row s ≡ Goes (change s) ∷ []) where
   all_go : (ss : List State) (w : Walk) → list_all allows ss ≡ true
-      → add_all (flat_map row ss) w ≡ with_states (put_all (map change ss) w.going) w
+      → add_all (flat_map row ss) w ≡ with_states (put_states (map change ss) w.going) w
   all_go [] w h = refl
   all_go (s ∷ ss) w h =
       let parts = and_parts (allows s) (list_all allows ss) h in
@@ -37,11 +37,11 @@ all_true : (ss : List State) → list_all (λ s. true) ss ≡ true
 all_true [] = refl
 all_true (s ∷ ss) = all_true ss
 
-all_same : (w : Walk) → each_changed (λ s. s) w ≡ with_states (put_all w.going []) w
-all_same w = ap (λ ss. with_states (put_all ss []) w) (map-id w.going)
+all_same : (w : Walk) → each_changed (λ s. s) w ≡ with_states (put_states w.going []) w
+all_same w = ap (λ ss. with_states (put_states ss []) w) (map-id w.going)
 
--- a row that does nothing
-pub all_stay : (w : Walk) → each (λ s. Goes s ∷ []) w ≡ with_states (put_all w.going []) w
+-- a transfer function that does nothing
+pub all_stay : (w : Walk) → each (λ s. Goes s ∷ []) w ≡ with_states (put_states w.going []) w
 all_stay w = all_change (λ s. true) (λ s. Goes s ∷ []) (λ s. s) (λ s h. refl) w (all_true w.going) ∙ all_same w
 
 none_less : (n : ℕ) → n - 0 ≡ n
@@ -57,8 +57,8 @@ all_kept (s ∷ ss) =
     ∙ ap (λ (ts : List State). s ∷ ts) (all_kept ss)
 
 -- no captured symbol is forgotten
-pub none_forgotten : (w : Walk) → each_changed (without_last 0) w ≡ with_states (put_all w.going []) w
-none_forgotten w = ap (λ (ss : List State). with_states (put_all ss []) w) (all_kept w.going)
+pub none_forgotten : (w : Walk) → each_changed (without_last 0) w ≡ with_states (put_states w.going []) w
+none_forgotten w = ap (λ (ss : List State). with_states (put_states ss []) w) (all_kept w.going)
 
 -- a use with the subscripts that were captured last, which is covered in all
 pub all_read : (p : Spot) (how : Use) (column : ℕ) (name : List ℕ) (count : ℕ) (w : Walk)
@@ -71,7 +71,7 @@ all_read p how column name count =
 -- a touch that is covered in all
 pub all_touch : (p : Spot) (extent : Extent) (access : Access) (column : ℕ) (name : List ℕ) (symbols : State → List Sym) (w : Walk)
     → list_all (λ s. is_none (checked p extent access name (symbols s) s)) w.going ≡ true
-    → each (λ s. touch p extent access column name (symbols s) s) w ≡ with_states (put_all w.going []) w
+    → each (λ s. touch p extent access column name (symbols s) s) w ≡ with_states (put_states w.going []) w
 all_touch p extent access column name symbols w h =
     all_change (λ s. is_none (checked p extent access name (symbols s) s)) (λ s. touch p extent access column name (symbols s) s) (λ s. s)
     (λ s e. ap (λ f. covered_or f p.line column s) (is_nothing (checked p extent access name (symbols s) s) e)) w h

@@ -5,7 +5,7 @@ use Rattle.std.proofs.lemmas.Bool.Decides.{Decides-and, Decides-like}
 use Rattle.std.proofs.lemmas.Slice.Eq.{slice_eq-Decides}
 use Rattle.mlk_names.specs.declared.symbol.Sym.{Sym}
 use Rattle.mlk_names.specs.contracts.symbol.SymPartialEq.TheImpl as sym_eq
-use Rattle.mlk_cert.proofs.Equal.{case-equal}
+use Rattle.mlk_cert_parts.proofs.EqualCases.{case-equal}
 use Rattle.mlk_walk_state.specs.declared.state.State.{State}
 use Rattle.mlk_walk_state.specs.contracts.state.StatePartialEq.TheImpl as state_eq
 

@@ -1,6 +1,6 @@
 -- Expressions, from left to right: what their references and calls make of states. Standard: expressions, `$SELECT`,
 -- extrinsic functions, actual lists; a reference's subscripts come before its touch.
-use Rattle.std.specs.Prelude.{ℕ, Bool, true, false, not, if◌then◌else◌, List, [], ◌∷◌, map, filter, fold, suc, zero, Option, Some, None}
+use Rattle.std.specs.Prelude.{ℕ, Bool, true, false, not, if◌then◌else◌, List, [], ◌∷◌, map, filter, fold, Option, Some, None}
 use Rattle.mlk_syntax.specs.declared.expr.Callee.{Callee}
 use Rattle.mlk_syntax.specs.ExprTrees.{Tree, Lit, Free, LocalName, GlobalName, SpecialName, Prefixed, Chain, PatternText}
 use Rattle.mlk_syntax.specs.ExprTrees.{Func, Selected, BareCall, CallOf, Trees, no_trees, tree, Subs, no_subs, sub, Links}
@@ -38,11 +38,11 @@ by_condition sc t run other w =
     both_ways run (where_it_may_be true sc t w.going) other (where_it_may_be false sc t w.going) w
 
 -- an evaluated expression's symbol is captured
-abbrev pub with_value : Scope → Tree → State → State
-with_value sc t s = with_symbol (symbol_in sc t s) s
+abbrev pub with_symbol_of : Scope → Tree → State → State
+with_symbol_of sc t s = with_symbol (symbol_in sc t s) s
 
 abbrev pub capture : Scope → Tree → Walk → Walk
-capture sc t w = with_states (map (with_value sc t) w.going) w
+capture sc t w = with_states (map (with_symbol_of sc t) w.going) w
 
 abbrev pub capture_unknown : Walk → Walk
 capture_unknown w = with_states (map (with_symbol Unknown) w.going) w

@@ -17,12 +17,12 @@ pub data Outcome : Type 0 where
   Refused : (line column : ℕ) → (code : Code) → Outcome
 
 -- one more state, where it isn't there yet
-abbrev pub put : State → List State → List State
-put s ss = if list_any (same_state s) ss then ss else ss ++ s ∷ []
+abbrev pub put_state : State → List State → List State
+put_state s ss = if list_any (same_state s) ss then ss else ss ++ s ∷ []
 
 -- these states, each once, after those
-abbrev pub put_all : List State → List State → List State
-put_all new ss = fold (λ found s. put s found) ss new
+abbrev pub put_states : List State → List State → List State
+put_states new ss = fold (λ found s. put_state s found) ss new
 
 abbrev pub with_fault : ℕ → ℕ → Code → Walk → Walk
 with_fault line column code w = record w { faults = w.faults ++ record { line = line; column = column; code = code } ∷ [] }
@@ -30,7 +30,7 @@ with_fault line column code w = record w { faults = w.faults ++ record { line = 
 -- A walk has come to so much: the states that go on, none twice; what skipped and what quit; what was refused; and
 -- whether the line is over, since it had more states than it may have.
 abbrev pub add : Outcome → Walk → Walk
-add (Goes s) w = record w { going = put s w.going }
+add (Goes s) w = record w { going = put_state s w.going }
 add (Skips c) w = record w { skips = w.skips ++ c ∷ [] }
 add (Quits column c) w = record w { quits = w.quits ++ record { column = column; case = c } ∷ [] }
 add (Refused line column code) w = with_fault line column code w
@@ -42,13 +42,13 @@ add_all os w = fold (λ found o. add o found) w os
 abbrev pub with_states : List State → Walk → Walk
 with_states ss w = record w { going = ss }
 
--- a row of the walk, at each state that goes on
+-- a transfer function, at each state that goes on
 abbrev pub each : (State → List Outcome) → Walk → Walk
 each row w = add_all (flat_map row w.going) (with_states [] w)
 
 -- each state changed, and then each once
 abbrev pub each_changed : (State → State) → Walk → Walk
-each_changed change w = with_states (put_all (map change w.going) []) w
+each_changed change w = with_states (put_states (map change w.going) []) w
 
 -- the walk of a line or of a round at its begin, from the cases that are listed for it
 abbrev pub begin : List Case → Walk
@@ -70,7 +70,7 @@ few line word w = if too_many w.going then overfull line word w else w
 
 -- these states beside those that go on, unless the line is over
 abbrev pub joined : List State → Walk → Walk
-joined ss w = if w.over then w else with_states (put_all w.going ss) w
+joined ss w = if w.over then w else with_states (put_states w.going ss) w
 
 -- Two ways, one after the other: the states of the one wait while the other is walked. Where the first has more states
 -- than it may have, the line is over and the other is not walked.
@@ -85,7 +85,7 @@ abbrev pub joins : List (List State) → Walk → Walk
 joins [] w = w
 joins (states ∷ waiting) w = joined states (joins waiting w)
 
--- what a row of one state answers, at a place
+-- what a transfer function makes of one state, at a place
 abbrev pub placed : ℕ → ℕ → Result State Code → List Outcome
 placed line column (Ok s) = Goes s ∷ []
 placed line column (Err code) = Refused line column code ∷ []

@@ -7,11 +7,11 @@ ghost use Rattle.mlk_calls.specs.Calls.{at_call};
 ghost use Rattle.mlk_walk_exprs.specs.Walks.{Outcome, add_all, all_placed};
 ghost use Rattle.mlk_walk_exprs.specs.Spots.{spot_of};
 
-use crate::row::Row;
 use crate::spot::Spot;
+use crate::transfer::Transfer;
 use crate::walk::{Mend, Walk};
 use mlk_calls::{
-    Calling, Refusal, State, at_call, call_changes, callee_summary, missing_need, short_names,
+    Calling, RefusedState, State, at_call, call_changes, callee_summary, missing_need, short_names,
 };
 use mlk_syntax::{Actual, Callee};
 use mlk_text::{Code, Column, Failure};
@@ -19,7 +19,7 @@ use std::alloc::AllocError;
 
 /// A call of a callee, at a column, with these actuals, whose symbols were captured last.
 #[derive(Clone, Copy, Drop)]
-pub struct CallRow<'a> {
+pub struct CallTransfer<'a> {
     pub spot: &'a Spot<'a>,
     pub how: Calling,
     pub column: Column,
@@ -27,7 +27,7 @@ pub struct CallRow<'a> {
     pub given: &'a [Actual],
 }
 
-impl<'a> CallRow<'a> {
+impl<'a> CallTransfer<'a> {
     // What would mend a call that the walked entry's summary does not allow.
     fn wider_summary(&self, state: &State) -> Result<Mend, AllocError> {
         let spot = self.spot;
@@ -53,7 +53,7 @@ impl<'a> CallRow<'a> {
         Ok(Mend::Locks(locks))
     }
 
-    fn mend(&self, refusal: &Refusal) -> Result<Mend, AllocError> {
+    fn mend(&self, refusal: &RefusedState) -> Result<Mend, AllocError> {
         match refusal.code {
             Code::NeedMissing => self.missing_lock(&refusal.state),
             Code::SummaryShort => self.wider_summary(&refusal.state),
@@ -62,7 +62,7 @@ impl<'a> CallRow<'a> {
     }
 }
 
-impl<'a> Row for CallRow<'a> {
+impl<'a> Transfer for CallTransfer<'a> {
     ghost outcomes = { λ r s. all_placed r.spot.now.line r.column
         (at_call (spot_of r.spot.now).scope r.how r.callee.now (actual_trees r.given.now) s) };
 

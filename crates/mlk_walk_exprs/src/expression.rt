@@ -8,13 +8,13 @@ ghost use Rattle.mlk_walk_state.specs.Symbols.{local_symbol};
 ghost use Rattle.mlk_walk_exprs.specs.Walks.{each};
 ghost use Rattle.mlk_walk_exprs.specs.References.{read_last};
 ghost use Rattle.mlk_walk_exprs.specs.Spots.{spot_of};
-ghost use Rattle.mlk_walk_exprs.specs.Expressions.{with_value, capture, capture_unknown, forget_subs, extrinsic, evaluate, evaluate_all, capture_subs, evaluate_links, evaluate_choices, where_chosen, passed_over, capture_actual, capture_actuals, value, value_if, values};
+ghost use Rattle.mlk_walk_exprs.specs.Expressions.{with_symbol_of, capture, capture_unknown, forget_subs, extrinsic, evaluate, evaluate_all, capture_subs, evaluate_links, evaluate_choices, where_chosen, passed_over, capture_actual, capture_actuals, value, value_if, values};
 
-use crate::call::CallRow;
+use crate::call::CallTransfer;
 use crate::condition::{join_all, where_it_holds};
 use crate::reference::{ReadLast, Use, use_of};
-use crate::row::{each, forget};
 use crate::spot::Spot;
+use crate::transfer::{each, forget};
 use crate::walk::Walk;
 use mlk_calls::{Calling, State, symbol_of};
 use mlk_names::Sym;
@@ -38,7 +38,7 @@ fn capture_local(spot: &Spot, name: &Name, state: &mut State) -> Result<(), Allo
 // they stay.
 #[inline(always)]
 fn capture_value(spot: &Spot, expression: &Expr, state: &mut State) -> Result<(), AllocError>
-    ensures { OnOk result (state.new ≡ with_value (scope_of spot.now.scope.now) (tree_of expression.now) state.old) }
+    ensures { OnOk result (state.new ≡ with_symbol_of (scope_of spot.now.scope.now) (tree_of expression.now) state.old) }
 {
     match expression {
         Expr::Lit(value) => state.captured.push(Sym::Const(value.copy()?)),
@@ -96,14 +96,14 @@ fn read<'a>(
 ) -> Result<(), AllocError>
     ensures { OnOk result (walk.new ≡ each (read_last (spot_of spot.now) how column name.now count) walk.old) }
 {
-    let row = ReadLast {
+    let transfer = ReadLast {
         spot,
         how,
         column,
         name,
         count,
     };
-    row.make_in_each(walk)
+    transfer.make_in_each(walk)
 }
 
 fn extrinsic<'a>(
@@ -115,14 +115,14 @@ fn extrinsic<'a>(
 ) -> Result<(), AllocError>
     ensures { OnOk result (walk.new ≡ extrinsic (spot_of spot.now) column callee.now (actual_trees given.now) walk.old) }
 {
-    let row = CallRow {
+    let transfer = CallTransfer {
         spot,
         how: Calling::Extrinsic,
         column,
         callee,
         given,
     };
-    each(spot.alloc, &row, walk)?;
+    each(spot.alloc, &transfer, walk)?;
     walk.few(spot.alloc, spot.line, spot.word)
 }
 

@@ -5,16 +5,16 @@ mod call;
 mod condition;
 mod expression;
 mod reference;
-mod row;
 mod spot;
+mod transfer;
 mod walk;
 
-pub use call::CallRow;
+pub use call::CallTransfer;
 pub use condition::{Sides, join_all, split_by, where_it_holds};
 pub use expression::{
     capture, capture_actuals, capture_subs, capture_unknown, evaluate, value, value_if, values,
 };
 pub use reference::{ReadLast, Touch, TouchLast, Use, covered_or, last_of, use_of};
-pub use row::{Row, each, forget};
 pub use spot::{Block, Spot};
+pub use transfer::{Transfer, each, forget};
 pub use walk::{Fault, Faults, Found, Mend, Quit, Walk, put, put_all, too_many};

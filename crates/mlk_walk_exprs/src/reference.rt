@@ -10,8 +10,8 @@ ghost use Rattle.mlk_walk_exprs.specs.Walks.{Outcome, add_all, each};
 ghost use Rattle.mlk_walk_exprs.specs.References.{use_of, reference, checked, covered_or, touch_last, read_fault, read_last, all_but_last};
 ghost use Rattle.mlk_walk_exprs.specs.Spots.{spot_of};
 
-use crate::row::{Row, each, forget};
 use crate::spot::Spot;
+use crate::transfer::{Transfer, each, forget};
 use crate::walk::{Mend, Walk};
 use mlk_calls::State;
 use mlk_names::{Access, Extent, LockTerm, Reference, Sym};
@@ -191,7 +191,7 @@ pub struct TouchLast<'a> {
     pub count: usize,
 }
 
-impl<'a> Row for TouchLast<'a> {
+impl<'a> Transfer for TouchLast<'a> {
     ghost outcomes = { λ r s. touch_last (spot_of r.spot.now) r.touch.extent r.touch.access r.touch.column
         r.touch.name.now r.count s };
 
@@ -286,7 +286,7 @@ impl<'a> ReadLast<'a> {
     }
 }
 
-impl<'a> Row for ReadLast<'a> {
+impl<'a> Transfer for ReadLast<'a> {
     ghost outcomes = { λ r s. read_last (spot_of r.spot.now) r.how r.column r.name.now r.count s };
 
     fn make(&self, state: State, walk: &mut Walk) -> Result<(), AllocError> {

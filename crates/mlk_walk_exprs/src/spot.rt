@@ -1,7 +1,7 @@
 // Where in a line the walk stands.
 
 use mlk_calls::Scope;
-use mlk_cert::Case;
+use mlk_cert_parts::Case;
 use mlk_text::{Column, LineNumber, List};
 use std::alloc::Global;
 

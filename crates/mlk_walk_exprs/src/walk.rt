@@ -2,11 +2,11 @@
 
 ghost use Rattle.std.specs.Prelude.{◌≡◌, ◌↔◌, IsTrue, ◌∷◌, ◌++◌, [], IfOk, MatchOption, OnOk, map};
 ghost use Rattle.mlk_walk_state.specs.States.{same_state};
-ghost use Rattle.mlk_walk_exprs.specs.Walks.{Goes, Skips, Quits, Refused, add, add_all, put, put_all, is_large, too_many, few, joined, with_states};
+ghost use Rattle.mlk_walk_exprs.specs.Walks.{Goes, Skips, Quits, Refused, add, add_all, put_state, put_states, is_large, too_many, few, joined, with_states};
 ghost use Rattle.std.specs.List.{list_any};
 
 use mlk_calls::State;
-use mlk_cert::{Case, ExitCase, NameSet};
+use mlk_cert_parts::{Case, ExitCase, NameSet};
 use mlk_names::LockTerm;
 use mlk_text::{Code, Column, LineNumber, List};
 use std::alloc::{AllocError, Global};
@@ -129,7 +129,7 @@ fn is_among(states: &[State], state: &State) -> bool
 /// One more state, where it isn't there yet.
 #[inline(always)]
 pub fn put(states: &mut List<State>, state: State) -> Result<(), AllocError>
-    ensures { OnOk result (states.new ≡ put state states.old) }
+    ensures { OnOk result (states.new ≡ put_state state states.old) }
 {
     if is_among(states.as_slice(), &state) {
         return Ok(());
@@ -140,7 +140,7 @@ pub fn put(states: &mut List<State>, state: State) -> Result<(), AllocError>
 // Whether none of the states is there twice.
 #[inline(always)]
 fn are_distinct(states: &[State]) -> bool
-    ensures { IsTrue result → put_all states.now [] ≡ states.now }
+    ensures { IsTrue result → put_states states.now [] ≡ states.now }
 {
     let mut left = states;
     while let Some((last, before)) = left.split_last() {
@@ -154,7 +154,7 @@ fn are_distinct(states: &[State]) -> bool
 
 /// These states, each once, after those.
 pub fn put_all(states: List<State>, new: Vec<State>) -> Result<List<State>, AllocError>
-    ensures { IfOk result (λ all. all ≡ put_all new.items states) }
+    ensures { IfOk result (λ all. all ≡ put_states new.items states) }
 {
     let mut all = states;
     for state in new {
@@ -205,7 +205,7 @@ impl Walk {
     /// These states go on, each once, where none does: those that went on, changed in place.
     #[inline(always)]
     pub fn resume(&mut self, alloc: Global, states: Vec<State>) -> Result<(), AllocError>
-        ensures { OnOk result (self.new ≡ with_states (put_all states.items []) self.old) }
+        ensures { OnOk result (self.new ≡ with_states (put_states states.items []) self.old) }
     {
         self.going = if are_distinct(states.as_slice()) {
             List::of(states)
@@ -217,7 +217,7 @@ impl Walk {
 
     /// The states that go on, each once.
     pub fn once(&mut self, alloc: Global) -> Result<(), AllocError>
-        ensures { OnOk result (self.new ≡ with_states (put_all self.old.going []) self.old) }
+        ensures { OnOk result (self.new ≡ with_states (put_states self.old.going []) self.old) }
     {
         let states = self.take_going(alloc);
         self.resume(alloc, states.into_vec())

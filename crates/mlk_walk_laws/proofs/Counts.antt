@@ -5,17 +5,18 @@ use Rattle.std.specs.List.{list_any}
 use Rattle.std.proofs.lemmas.Bool.{cases_Bool, cases_lt, true≢false}
 use Rattle.std.proofs.lemmas.Bool.Decides.{nat_tests}
 use Rattle.std.proofs.lemmas.List.{length-append}
+use Rattle.mlk_names.specs.Lists.{Among}
 use Rattle.mlk_syntax.specs.ExprTrees.{Tree}
 use Rattle.mlk_text.specs.declared.code.Code.TheVariants.{TooManyCases}
 use Rattle.mlk_walk_state.specs.declared.state.State.{State}
 use Rattle.mlk_walk_state.specs.Symbols.{truth_in}
 use Rattle.mlk_walk_state.specs.Scope.{Scope}
 use Rattle.mlk_walk_exprs.specs.declared.walk.Walk.{Walk}
-use Rattle.mlk_walk_exprs.specs.Walks.{put_all, with_states, is_large, too_many, few, overfull, joined}
+use Rattle.mlk_walk_exprs.specs.Walks.{put_states, with_states, is_large, too_many, few, overfull, joined}
 use Rattle.mlk_walk_exprs.specs.Expressions.{agrees, where_it_may_be, by_condition}
-use Rattle.mlk_walk_laws.specs.Fewer.{Among, AreDistinct, IsClean, IsPart}
+use Rattle.mlk_walk_laws.specs.Fewer.{StatesDiffer, IsClean, IsPart}
 use Rattle.mlk_walk_laws.proofs.Lists.{in_front, in_back, in_either, all_old, all_new, all_from, all_distinct}
-use Rattle.mlk_walk_laws.proofs.Rows.{Keeps, Tells, clean_without, part_with, not_empty, Added, added_none, added_with, added_both, added_if}
+use Rattle.mlk_walk_laws.proofs.Transfers.{Keeps, Tells, clean_without, part_with, not_empty, Added, added_none, added_with, added_both, added_if}
 
 -- a list at one of its items
 pub record Cut (s : State) (ss : List State) : Type 0 where
@@ -35,7 +36,7 @@ beside s t xs ys k h =
     (in_either t xs (s ∷ ys) h)
 
 -- states that are told apart, all among others, are no more than those
-no_more : (ss ts : List State) → AreDistinct ss → ((s : State) → Among s ss → Among s ts) → length ss ≤ length ts
+no_more : (ss ts : List State) → StatesDiffer ss → ((s : State) → Among s ss → Among s ts) → length ss ≤ length ts
 no_more [] ts d more = omega arith
 no_more (s ∷ ss) ts d more =
     let c = cut_at s ts (more s (inl refl)) in
@@ -59,7 +60,7 @@ all_small : (ss : List State) → ((s : State) → Among s ss → is_large s ≡
 all_small [] h = refl
 all_small (s ∷ ss) h = ap (λ b. b || list_any is_large ss) (h s (inl refl)) ∙ all_small ss (λ t i. h t (inr i))
 
-few_of_few : (ss ts : List State) → AreDistinct ss → ((s : State) → Among s ss → Among s ts) → too_many ts ≡ false → too_many ss ≡ false
+few_of_few : (ss ts : List State) → StatesDiffer ss → ((s : State) → Among s ss → Among s ts) → too_many ts ≡ false → too_many ss ≡ false
 unfolding too_many
 few_of_few ss ts d more h =
     let less = no_more ss ts d more in
@@ -84,7 +85,7 @@ pub few_same : (line word : ℕ) (w : Walk) → too_many w.going ≡ false → f
 unfolding few
 few_same line word w e = rw e refl
 
-few_apart : (line word : ℕ) (w : Walk) → AreDistinct w.going → AreDistinct (few line word w).going
+few_apart : (line word : ℕ) (w : Walk) → StatesDiffer w.going → StatesDiffer (few line word w).going
 unfolding few
 few_apart line word w d =
     ⊎_elim (λ (e : too_many w.going ≡ true). rw e tt) (λ (e : too_many w.going ≡ false). rw e d) (cases_Bool (too_many w.going))
@@ -114,34 +115,34 @@ few_keeps line word = record {
 }
 
 -- what a walk comes to, beside states that waited
-pub beside_others : (ss ts : List State) (v w : Walk) → IsPart v w → ((s : State) → Among s ss → Among s ts) → AreDistinct ss
-    → IsPart (with_states (put_all v.going ss) v) (with_states (put_all w.going ts) w)
-beside_others ss ts v w i more d = part_with v w (put_all v.going ss) (put_all w.going ts) i
+pub beside_others : (ss ts : List State) (v w : Walk) → IsPart v w → ((s : State) → Among s ss → Among s ts) → StatesDiffer ss
+    → IsPart (with_states (put_states v.going ss) v) (with_states (put_states w.going ts) w)
+beside_others ss ts v w i more d = part_with v w (put_states v.going ss) (put_states w.going ts) i
     (λ s r. ⊎_elim (λ (l : Among s ss). all_old s w.going ts (more s l)) (λ (m : Among s v.going). all_new s w.going ts (i.going s m)) (all_from s v.going ss r))
     (all_distinct v.going ss d)
 
 pub joined_adds : (ss : List State) (w : Walk) → Added w (joined ss w)
-joined_adds ss w = added_if w.over w w (with_states (put_all w.going ss) w) (record { skips = λ c h. h; quits = λ q h. h }) (added_none w (put_all w.going ss))
+joined_adds ss w = added_if w.over w w (with_states (put_states w.going ss) w) (record { skips = λ c h. h; quits = λ q h. h }) (added_none w (put_states w.going ss))
 
 pub joined_clean : (ss : List State) (w : Walk) → IsClean (joined ss w) → IsClean w
 joined_clean ss w h =
-    ⊎_elim (λ (e : w.over ≡ true). subst IsClean (ap (λ b. if b then w else with_states (put_all w.going ss) w) e) h)
-    (λ (e : w.over ≡ false). clean_without (put_all w.going ss) w (subst IsClean (ap (λ b. if b then w else with_states (put_all w.going ss) w) e) h)) (cases_Bool w.over)
+    ⊎_elim (λ (e : w.over ≡ true). subst IsClean (ap (λ b. if b then w else with_states (put_states w.going ss) w) e) h)
+    (λ (e : w.over ≡ false). clean_without (put_states w.going ss) w (subst IsClean (ap (λ b. if b then w else with_states (put_states w.going ss) w) e) h)) (cases_Bool w.over)
 
-pub joined_same : (ss : List State) (w : Walk) → w.over ≡ false → joined ss w ≡ with_states (put_all w.going ss) w
-joined_same ss w e = ap (λ b. if b then w else with_states (put_all w.going ss) w) e
+pub joined_same : (ss : List State) (w : Walk) → w.over ≡ false → joined ss w ≡ with_states (put_states w.going ss) w
+joined_same ss w e = ap (λ b. if b then w else with_states (put_states w.going ss) w) e
 
-pub joined_apart : (ss : List State) (w : Walk) → AreDistinct ss → AreDistinct w.going → AreDistinct (joined ss w).going
+pub joined_apart : (ss : List State) (w : Walk) → StatesDiffer ss → StatesDiffer w.going → StatesDiffer (joined ss w).going
 joined_apart ss w d k =
-    ⊎_elim (λ (e : w.over ≡ true). subst (λ (z : Walk). AreDistinct z.going) (sym (ap (λ b. if b then w else with_states (put_all w.going ss) w) e)) k)
-    (λ (e : w.over ≡ false). subst (λ (z : Walk). AreDistinct z.going) (sym (joined_same ss w e)) (all_distinct w.going ss d)) (cases_Bool w.over)
+    ⊎_elim (λ (e : w.over ≡ true). subst (λ (z : Walk). StatesDiffer z.going) (sym (ap (λ b. if b then w else with_states (put_states w.going ss) w) e)) k)
+    (λ (e : w.over ≡ false). subst (λ (z : Walk). StatesDiffer z.going) (sym (joined_same ss w e)) (all_distinct w.going ss d)) (cases_Bool w.over)
 
 pub joined_tells : (ss : List State) (w : Walk) → Tells w → Tells (joined ss w)
 joined_tells ss w t =
-    ⊎_elim (λ (e : w.over ≡ true). subst Tells (sym (ap (λ b. if b then w else with_states (put_all w.going ss) w) e)) t)
+    ⊎_elim (λ (e : w.over ≡ true). subst Tells (sym (ap (λ b. if b then w else with_states (put_states w.going ss) w) e)) t)
     (λ (e : w.over ≡ false). subst Tells (sym (joined_same ss w e)) t) (cases_Bool w.over)
 
-pub joined_part : (ss ts : List State) (v w : Walk) → IsPart v w → IsClean w → ((s : State) → Among s ss → Among s ts) → AreDistinct ss
+pub joined_part : (ss ts : List State) (v w : Walk) → IsPart v w → IsClean w → ((s : State) → Among s ss → Among s ts) → StatesDiffer ss
     → IsPart (joined ss v) (joined ts w)
 joined_part ss ts v w i h more d =
     let a = joined_same ss v i.clean.goes_on in
@@ -164,7 +165,7 @@ from_filter f s (t ∷ ss) h =
     (λ (e : f t ≡ false). let m = from_filter f s ss (rw e at h) in (inr m.0, m.1))
     (cases_Bool (f t))
 
-pub filter_distinct : (f : State → Bool) (ss : List State) → AreDistinct ss → AreDistinct (filter f ss)
+pub filter_distinct : (f : State → Bool) (ss : List State) → StatesDiffer ss → StatesDiffer (filter f ss)
 filter_distinct f [] d = tt
 filter_distinct f (s ∷ ss) d =
     ⊎_elim (λ (e : f s ≡ true). rw e ((λ r. d.0 (from_filter f s ss r).0), filter_distinct f ss d.1))
@@ -202,15 +203,15 @@ module _ (sc : Scope) (t : Tree) (run other : Walk → Walk) (one : Keeps run) (
   pub first_clean : (w : Walk) → IsClean (second_of w) → IsClean (first_of w)
   first_clean w h = clean_without (false_of w) (first_of w) (two.back (with_states (false_of w) (first_of w)) h)
 
-  ways_apart : (w : Walk) → AreDistinct w.going → AreDistinct (by_condition sc t run other w).going
+  ways_apart : (w : Walk) → StatesDiffer w.going → StatesDiffer (by_condition sc t run other w).going
   ways_apart w d =
       let f = one.apart (with_states (true_of w) w) (filter_distinct (λ s. agrees true (truth_in sc t s)) w.going d) in
       let g = two.apart (with_states (false_of w) (first_of w)) (filter_distinct (λ s. agrees false (truth_in sc t s)) w.going d) in
       ⊎_elim
       (λ (e : (first_of w).over ≡ true).
-      subst (λ (z : Walk). AreDistinct z.going) (sym (ap (λ b. if b then first_of w else joined (first_of w).going (second_of w)) e)) f)
+      subst (λ (z : Walk). StatesDiffer z.going) (sym (ap (λ b. if b then first_of w else joined (first_of w).going (second_of w)) e)) f)
       (λ (e : (first_of w).over ≡ false).
-      subst (λ (z : Walk). AreDistinct z.going) (sym (ways_same w e)) (joined_apart (first_of w).going (second_of w) f g))
+      subst (λ (z : Walk). StatesDiffer z.going) (sym (ways_same w e)) (joined_apart (first_of w).going (second_of w) f g))
       (cases_Bool (first_of w).over)
 
   ways_tell : (w : Walk) → Tells w → Tells (by_condition sc t run other w)

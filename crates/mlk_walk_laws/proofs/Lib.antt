@@ -1,5 +1,5 @@
 pub mod Lists
-pub mod Rows
+pub mod Transfers
 pub mod Counts
 pub mod Walks
 pub mod Rounds

@@ -3,11 +3,12 @@ use Rattle.std.proofs.Common.{◌≡◌, true, false, List, [], ◌∷◌, ◌++
 use Rattle.std.specs.Prelude.{◌⊎◌, ◌||◌, flat_map}
 use Rattle.std.specs.List.{list_any}
 use Rattle.std.proofs.lemmas.Bool.{cases_Bool, false≢true}
+use Rattle.mlk_names.specs.Lists.{Among}
 use Rattle.mlk_walk_state.specs.declared.state.State.{State}
 use Rattle.mlk_walk_state.specs.States.{same_state}
 use Rattle.mlk_walk_state.proofs.CaseTests.{same_decides}
-use Rattle.mlk_walk_exprs.specs.Walks.{put, put_all}
-use Rattle.mlk_walk_laws.specs.Fewer.{Among, AreDistinct}
+use Rattle.mlk_walk_exprs.specs.Walks.{put_state, put_states}
+use Rattle.mlk_walk_laws.specs.Fewer.{StatesDiffer}
 
 -- lists one after another
 pub in_front : {A : Type 0} (a : A) (xs ys : List A) → Among a xs → Among a (xs ++ ys)
@@ -62,12 +63,12 @@ there_found s (t ∷ ss) (inr h) =
     ⊎_elim (λ (e : same_state s t ≡ true). rw e refl) (λ (e : same_state s t ≡ false). rw e (there_found s ss h)) (cases_Bool (same_state s t))
 
 -- one more state
-pub put_old : (s t : State) (ss : List State) → Among s ss → Among s (put t ss)
+pub put_old : (s t : State) (ss : List State) → Among s ss → Among s (put_state t ss)
 put_old s t ss h =
     ⊎_elim (λ (e : list_any (same_state t) ss ≡ true). rw e h)
     (λ (e : list_any (same_state t) ss ≡ false). rw e (in_front s ss (t ∷ []) h)) (cases_Bool (list_any (same_state t) ss))
 
-pub put_new : (s : State) (ss : List State) → Among s (put s ss)
+pub put_new : (s : State) (ss : List State) → Among s (put_state s ss)
 put_new s ss =
     ⊎_elim (λ (e : list_any (same_state s) ss ≡ true). rw e (found_there s ss e))
     (λ (e : list_any (same_state s) ss ≡ false). rw e (in_back s ss (s ∷ []) (inl refl))) (cases_Bool (list_any (same_state s) ss))
@@ -76,7 +77,7 @@ in_one : (s t : State) → Among s (t ∷ []) → s ≡ t
 in_one s t (inr h) = absurd h
 in_one s t (inl e) = e
 
-pub put_from : (s t : State) (ss : List State) → Among s (put t ss) → Among s ss ⊎ (s ≡ t)
+pub put_from : (s t : State) (ss : List State) → Among s (put_state t ss) → Among s ss ⊎ (s ≡ t)
 put_from s t ss h =
     ⊎_elim (λ (e : list_any (same_state t) ss ≡ true). inl (rw e at h))
     (λ (e : list_any (same_state t) ss ≡ false). ⊎_elim (λ (l : Among s ss). inl l) (λ (r : Among s (t ∷ [])). inr (in_one s t r)) (in_either s ss (t ∷ []) (rw e at h)))
@@ -85,32 +86,32 @@ put_from s t ss h =
 apart_with : (s t : State) (ss : List State) → (Among s ss → ⊥) → (s ≡ t → ⊥) → Among s (ss ++ t ∷ []) → ⊥
 apart_with s t ss h k i = ⊎_elim (λ (l : Among s ss). h l) (λ (r : Among s (t ∷ [])). k (in_one s t r)) (in_either s ss (t ∷ []) i)
 
-with_last : (s : State) (ss : List State) → (Among s ss → ⊥) → AreDistinct ss → AreDistinct (ss ++ s ∷ [])
+with_last : (s : State) (ss : List State) → (Among s ss → ⊥) → StatesDiffer ss → StatesDiffer (ss ++ s ∷ [])
 with_last s [] h d = ((λ x. x), tt)
 with_last s (t ∷ ss) h d = (apart_with t s ss d.0 (λ e. h (inl (sym e))), with_last s ss (λ i. h (inr i)) d.1)
 
-pub put_distinct : (s : State) (ss : List State) → AreDistinct ss → AreDistinct (put s ss)
+pub put_distinct : (s : State) (ss : List State) → StatesDiffer ss → StatesDiffer (put_state s ss)
 put_distinct s ss d =
     ⊎_elim (λ (e : list_any (same_state s) ss ≡ true). rw e d)
     (λ (e : list_any (same_state s) ss ≡ false). rw e (with_last s ss (λ i. false≢true (sym e ∙ there_found s ss i)) d))
     (cases_Bool (list_any (same_state s) ss))
 
 -- more states
-pub all_old : (s : State) (new ss : List State) → Among s ss → Among s (put_all new ss)
+pub all_old : (s : State) (new ss : List State) → Among s ss → Among s (put_states new ss)
 all_old s [] ss h = h
-all_old s (t ∷ new) ss h = all_old s new (put t ss) (put_old s t ss h)
+all_old s (t ∷ new) ss h = all_old s new (put_state t ss) (put_old s t ss h)
 
-pub all_new : (s : State) (new ss : List State) → Among s new → Among s (put_all new ss)
+pub all_new : (s : State) (new ss : List State) → Among s new → Among s (put_states new ss)
 all_new s [] ss h = absurd h
-all_new s (t ∷ new) ss (inl e) = all_old s new (put t ss) (subst (λ z. Among s (put z ss)) e (put_new s ss))
-all_new s (t ∷ new) ss (inr h) = all_new s new (put t ss) h
+all_new s (t ∷ new) ss (inl e) = all_old s new (put_state t ss) (subst (λ z. Among s (put_state z ss)) e (put_new s ss))
+all_new s (t ∷ new) ss (inr h) = all_new s new (put_state t ss) h
 
-pub all_from : (s : State) (new ss : List State) → Among s (put_all new ss) → Among s ss ⊎ Among s new
+pub all_from : (s : State) (new ss : List State) → Among s (put_states new ss) → Among s ss ⊎ Among s new
 all_from s [] ss h = inl h
 all_from s (t ∷ new) ss h =
-    ⊎_elim (λ (l : Among s (put t ss)). ⊎_elim (λ (o : Among s ss). inl o) (λ (e : s ≡ t). inr (inl e)) (put_from s t ss l))
-    (λ (r : Among s new). inr (inr r)) (all_from s new (put t ss) h)
+    ⊎_elim (λ (l : Among s (put_state t ss)). ⊎_elim (λ (o : Among s ss). inl o) (λ (e : s ≡ t). inr (inl e)) (put_from s t ss l))
+    (λ (r : Among s new). inr (inr r)) (all_from s new (put_state t ss) h)
 
-pub all_distinct : (new ss : List State) → AreDistinct ss → AreDistinct (put_all new ss)
+pub all_distinct : (new ss : List State) → StatesDiffer ss → StatesDiffer (put_states new ss)
 all_distinct [] ss d = d
-all_distinct (t ∷ new) ss d = all_distinct new (put t ss) (put_distinct t ss d)
+all_distinct (t ∷ new) ss d = all_distinct new (put_state t ss) (put_distinct t ss d)

@@ -2,6 +2,7 @@
 use Rattle.std.proofs.Common.{◌≡◌, true, false, List, [], ◌∷◌, ◌++◌, map, refl, ap, sym, ◌∙◌, inl, inr, ⊎_elim, subst, Option}
 use Rattle.std.specs.Prelude.{if◌then◌else◌}
 use Rattle.std.proofs.lemmas.Bool.{cases_Bool, false≢true}
+use Rattle.mlk_names.specs.Lists.{Among}
 use Rattle.mlk_cert_parts.specs.declared.case.Case.{Case}
 use Rattle.mlk_syntax.specs.Trees.{HeadTree, LineHead, LineTrees, no_lines, line}
 use Rattle.mlk_walk_state.specs.Scope.{Scope, listed}
@@ -12,10 +13,10 @@ use Rattle.mlk_walk_exprs.specs.Spots.{Spot}
 use Rattle.mlk_walk_lines.specs.Loops.{commands}
 use Rattle.mlk_walk_lines.specs.Endings.{Ended, Ending, Faulty, Leaves, Passes, Around, OfBlock, LineEnd, number_of, state_end, case_end, quit_end, endings, add_ending, add_endings, faults_of, at_end}
 use Rattle.mlk_walk_lines.specs.Lines.{next_head, block_with, head_walk, line_walk, found_in, walk_lines}
-use Rattle.mlk_walk_laws.specs.Fewer.{Among, IsClean, IsPart, ListsEachOnce}
+use Rattle.mlk_walk_laws.specs.Fewer.{IsClean, IsPart, ListsEachOnce}
 use Rattle.mlk_walk_laws.specs.Passing.{IsRight, GoesWell, PassesFromEach, EachLinePasses, LinesPass}
 use Rattle.mlk_walk_laws.proofs.Lists.{in_front, in_back, in_map}
-use Rattle.mlk_walk_laws.proofs.Rows.{Tells, not_empty}
+use Rattle.mlk_walk_laws.proofs.Transfers.{Tells, not_empty}
 use Rattle.mlk_walk_laws.proofs.Rounds.{commands_keep, each_alone, no_first, no_second}
 
 abbrev NotFaulty : Ending → Type 0

@@ -2,6 +2,7 @@
 use Rattle.std.proofs.Common.{◌≡◌, true, false, List, [], ◌∷◌, ◌++◌, map, refl, ap, sym, ◌∙◌, inl, inr, ⊎_elim, subst, Option, None, Some}
 use Rattle.std.specs.Prelude.{if◌then◌else◌}
 use Rattle.std.proofs.lemmas.Bool.{cases_Bool, true≢false, false≢true}
+use Rattle.mlk_names.specs.Lists.{Among}
 use Rattle.mlk_cert_parts.specs.declared.case.Case.{Case}
 use Rattle.mlk_syntax.specs.Trees.{CommandTree, Does, ParameterTree, Once, Endless, Limited, ControlTree, Runs, CommandTrees, finished, then_command, then_for}
 use Rattle.mlk_cert_parts.specs.declared.names.NameSet.TheVariants.{Only}
@@ -10,14 +11,14 @@ use Rattle.mlk_walk_state.specs.States.{at_rest}
 use Rattle.mlk_walk_state.specs.Scope.{listed}
 use Rattle.mlk_walk_exprs.specs.declared.walk.Walk.{Walk}
 use Rattle.mlk_walk_exprs.specs.declared.walk.Fault.{Fault}
-use Rattle.mlk_walk_exprs.specs.Walks.{Outcome, put_all, with_states, few, each, begin}
+use Rattle.mlk_walk_exprs.specs.Walks.{Outcome, put_states, with_states, few, each, begin}
 use Rattle.mlk_walk_exprs.specs.Spots.{Spot}
 use Rattle.mlk_walk_exprs.specs.Expressions.{value}
 use Rattle.mlk_walk_commands.specs.Variables.{change_at}
 use Rattle.mlk_walk_lines.specs.Loops.{Rounds, begin_round, round_or_after, after_round, step_variable, step_again, limited, parameter, parameters, controlled, and_faults, ended_in, quit_in, and_states, over_too, after_rounds, at_word, one_command, commands}
-use Rattle.mlk_walk_laws.specs.Fewer.{Among, AreDistinct, IsClean, IsPart, ListsEachOnce, FewerCases, EachAlone}
+use Rattle.mlk_walk_laws.specs.Fewer.{StatesDiffer, IsClean, IsPart, ListsEachOnce, FewerCases, EachAlone}
 use Rattle.mlk_walk_laws.proofs.Lists.{all_old, all_new, all_from, all_distinct, in_map}
-use Rattle.mlk_walk_laws.proofs.Rows.{Keeps, Tells, both, stays, each_keeps, clean_without, part_with, added_none, added_both, added_if}
+use Rattle.mlk_walk_laws.proofs.Transfers.{Keeps, Tells, both, stays, each_keeps, clean_without, part_with, added_none, added_both, added_if}
 use Rattle.mlk_walk_laws.proofs.Counts.{few_keeps, joined_part, joined_clean, joined_apart, joined_tells, joined_adds}
 use Rattle.mlk_walk_laws.proofs.Walks.{command_keeps, value_part}
 
@@ -30,7 +31,7 @@ round_clean ended w h =
     ⊎_elim (λ (e : w.over ≡ true). subst IsClean (ap (λ b. if b then w else with_states ended w) e) h)
     (λ (e : w.over ≡ false). clean_without ended w (subst IsClean (round_same ended w e) h)) (cases_Bool w.over)
 
-pub round_keeps : (ended : List State) → AreDistinct ended → Keeps (after_round ended)
+pub round_keeps : (ended : List State) → StatesDiffer ended → Keeps (after_round ended)
 round_keeps ended d = record {
   adds = λ w. added_if w.over w w (with_states ended w) (record { skips = λ c h. h; quits = λ q h. h }) (added_none w ended);
   back = round_clean ended;
@@ -38,8 +39,8 @@ round_keeps ended d = record {
       ⊎_elim (λ (e : w.over ≡ true). subst Tells (sym (ap (λ b. if b then w else with_states ended w) e)) t)
       (λ (e : w.over ≡ false). subst Tells (sym (round_same ended w e)) t) (cases_Bool w.over);
   apart = λ w k.
-      ⊎_elim (λ (e : w.over ≡ true). subst (λ (z : Walk). AreDistinct z.going) (sym (ap (λ b. if b then w else with_states ended w) e)) k)
-      (λ (e : w.over ≡ false). subst (λ (z : Walk). AreDistinct z.going) (sym (round_same ended w e)) d) (cases_Bool w.over);
+      ⊎_elim (λ (e : w.over ≡ true). subst (λ (z : Walk). StatesDiffer z.going) (sym (ap (λ b. if b then w else with_states ended w) e)) k)
+      (λ (e : w.over ≡ false). subst (λ (z : Walk). StatesDiffer z.going) (sym (round_same ended w e)) d) (cases_Bool w.over);
   part = λ v w i h.
       let c = round_clean ended w h in
       let a = round_same ended v i.clean.goes_on in
@@ -47,7 +48,7 @@ round_keeps ended d = record {
       rw (a, b) (part_with v w ended ended i (λ s r. r) d);
 }
 
-module _ (p : Spot) (r : Rounds) (d : AreDistinct r.ended) where
+module _ (p : Spot) (r : Rounds) (d : StatesDiffer r.ended) where
   pub again_keeps : Keeps (step_again p r)
   again_keeps =
       both (λ w. step_variable p r (after_round r.ended w)) (each (begin_round p r.cases))
@@ -94,7 +95,7 @@ module _ (p : Spot) (r : Rounds) (d : AreDistinct r.ended) where
   parameters_keep [] = stays
   parameters_keep (q ∷ qs) = both (λ w. parameter p r w q) (parameters p r qs) (parameter_keeps q) (parameters_keep qs)
 
-pub controlled_keeps : (p : Spot) (control : Option ControlTree) (cases : List Case) (ended : List State) → AreDistinct ended → Keeps (controlled p control cases ended)
+pub controlled_keeps : (p : Spot) (control : Option ControlTree) (cases : List Case) (ended : List State) → StatesDiffer ended → Keeps (controlled p control cases ended)
 controlled_keeps p None cases ended d =
     both (λ w. after_round ended (each (begin_round p cases) w)) (each (begin_round p cases))
     (both (each (begin_round p cases)) (after_round ended) (each_keeps (begin_round p cases)) (round_keeps ended d)) (each_keeps (begin_round p cases))
@@ -128,35 +129,35 @@ faults_keep faults = record {
 }
 
 -- states beside those that go on
-pub states_same : (ss : List State) (w : Walk) → w.over ≡ false → and_states ss w ≡ with_states (put_all ss w.going) w
-states_same ss w e = ap (λ b. if b then w else with_states (put_all ss w.going) w) e
+pub states_same : (ss : List State) (w : Walk) → w.over ≡ false → and_states ss w ≡ with_states (put_states ss w.going) w
+states_same ss w e = ap (λ b. if b then w else with_states (put_states ss w.going) w) e
 
 pub states_clean : (ss : List State) (w : Walk) → IsClean (and_states ss w) → IsClean w
 states_clean ss w h =
-    ⊎_elim (λ (e : w.over ≡ true). subst IsClean (ap (λ b. if b then w else with_states (put_all ss w.going) w) e) h)
-    (λ (e : w.over ≡ false). clean_without (put_all ss w.going) w (subst IsClean (states_same ss w e) h)) (cases_Bool w.over)
+    ⊎_elim (λ (e : w.over ≡ true). subst IsClean (ap (λ b. if b then w else with_states (put_states ss w.going) w) e) h)
+    (λ (e : w.over ≡ false). clean_without (put_states ss w.going) w (subst IsClean (states_same ss w e) h)) (cases_Bool w.over)
 
 pub states_keep : (ss : List State) → Keeps (and_states ss)
 states_keep ss = record {
-  adds = λ w. added_if w.over w w (with_states (put_all ss w.going) w) (record { skips = λ c h. h; quits = λ q h. h }) (added_none w (put_all ss w.going));
+  adds = λ w. added_if w.over w w (with_states (put_states ss w.going) w) (record { skips = λ c h. h; quits = λ q h. h }) (added_none w (put_states ss w.going));
   back = states_clean ss;
   tells = λ w t.
-      ⊎_elim (λ (e : w.over ≡ true). subst Tells (sym (ap (λ b. if b then w else with_states (put_all ss w.going) w) e)) t)
+      ⊎_elim (λ (e : w.over ≡ true). subst Tells (sym (ap (λ b. if b then w else with_states (put_states ss w.going) w) e)) t)
       (λ (e : w.over ≡ false). subst Tells (sym (states_same ss w e)) t) (cases_Bool w.over);
   apart = λ w d.
-      ⊎_elim (λ (e : w.over ≡ true). subst (λ (z : Walk). AreDistinct z.going) (sym (ap (λ b. if b then w else with_states (put_all ss w.going) w) e)) d)
-      (λ (e : w.over ≡ false). subst (λ (z : Walk). AreDistinct z.going) (sym (states_same ss w e)) (all_distinct ss w.going d)) (cases_Bool w.over);
+      ⊎_elim (λ (e : w.over ≡ true). subst (λ (z : Walk). StatesDiffer z.going) (sym (ap (λ b. if b then w else with_states (put_states ss w.going) w) e)) d)
+      (λ (e : w.over ≡ false). subst (λ (z : Walk). StatesDiffer z.going) (sym (states_same ss w e)) (all_distinct ss w.going d)) (cases_Bool w.over);
   part = λ v w i h.
       let c = states_clean ss w h in
       let a = states_same ss v i.clean.goes_on in
       let b = states_same ss w c.goes_on in
-      rw (a, b) (part_with v w (put_all ss v.going) (put_all ss w.going) i
+      rw (a, b) (part_with v w (put_states ss v.going) (put_states ss w.going) i
       (λ s r. ⊎_elim (λ (l : Among s v.going). all_old s ss w.going (i.going s l)) (λ (m : Among s ss). all_new s ss w.going m) (all_from s ss v.going r))
       (all_distinct ss v.going i.distinct));
 }
 
 -- FOR, given what its rounds come to
-module _ (p : Spot) (control : Option ControlTree) (cases : List Case) (inner : Walk) (d : AreDistinct inner.going) (told : Tells inner) where
+module _ (p : Spot) (control : Option ControlTree) (cases : List Case) (inner : Walk) (d : StatesDiffer inner.going) (told : Tells inner) where
   abbrev pub inside : Walk → Walk
   inside w = few p.line p.word (and_states (quit_in inner) (controlled p control cases (ended_in inner) (and_faults inner.faults w)))
 
@@ -190,13 +191,13 @@ module _ (p : Spot) (control : Option ControlTree) (cases : List Case) (inner : 
       (cases_Bool inner.over))
       (cases_Bool w.over)
 
-  loop_apart : (w : Walk) → AreDistinct w.going → AreDistinct (after_rounds p control cases inner w).going
+  loop_apart : (w : Walk) → StatesDiffer w.going → StatesDiffer (after_rounds p control cases inner w).going
   loop_apart w k =
-      ⊎_elim (λ (e : w.over ≡ true). subst (λ (z : Walk). AreDistinct z.going) (sym (ap (λ b. if b then w else rest_of w) e)) k)
+      ⊎_elim (λ (e : w.over ≡ true). subst (λ (z : Walk). StatesDiffer z.going) (sym (ap (λ b. if b then w else rest_of w) e)) k)
       (λ (e : w.over ≡ false).
-      subst (λ (z : Walk). AreDistinct z.going) (sym (ap (λ b. if b then w else rest_of w) e))
-      (⊎_elim (λ (f : inner.over ≡ true). subst (λ (z : Walk). AreDistinct z.going) (sym (ap (λ b. if b then over_too (and_faults inner.faults w) else inside w) f)) tt)
-      (λ (f : inner.over ≡ false). subst (λ (z : Walk). AreDistinct z.going) (sym (ap (λ b. if b then over_too (and_faults inner.faults w) else inside w) f)) (inside_keeps.apart w k))
+      subst (λ (z : Walk). StatesDiffer z.going) (sym (ap (λ b. if b then w else rest_of w) e))
+      (⊎_elim (λ (f : inner.over ≡ true). subst (λ (z : Walk). StatesDiffer z.going) (sym (ap (λ b. if b then over_too (and_faults inner.faults w) else inside w) f)) tt)
+      (λ (f : inner.over ≡ false). subst (λ (z : Walk). StatesDiffer z.going) (sym (ap (λ b. if b then over_too (and_faults inner.faults w) else inside w) f)) (inside_keeps.apart w k))
       (cases_Bool inner.over)))
       (cases_Bool w.over)
 

@@ -3,6 +3,7 @@ use Rattle.std.proofs.Common.{◌≡◌, ℕ, ◌+◌, true, false, Bool, List, 
 use Rattle.std.specs.Prelude.{◌||◌}
 use Rattle.std.specs.List.{list_any}
 use Rattle.std.proofs.lemmas.Bool.{cases_Bool, false≢true}
+use Rattle.mlk_names.specs.Lists.{Among}
 use Rattle.mlk_syntax.specs.declared.expr.Callee.{Callee}
 use Rattle.mlk_syntax.specs.ExprTrees.{Tree, Lit, Free, LocalName, GlobalName, SpecialName, Prefixed, Chain, PatternText, Func, Selected, BareCall, CallOf}
 use Rattle.mlk_syntax.specs.ExprTrees.{Trees, no_trees, tree, Subs, no_subs, sub, Links, no_links, link, Choices, no_choices, choice}
@@ -27,11 +28,10 @@ use Rattle.mlk_walk_exprs.specs.References.{use_of, read_last}
 use Rattle.mlk_walk_exprs.specs.Expressions.{forget_subs, extrinsic, evaluate, evaluate_all, capture_subs, evaluate_links, evaluate_choices, capture_actual, capture_actuals, capture, by_condition, value, value_if, values, conditioned}
 use Rattle.mlk_walk_commands.specs.Variables.{subs_of, name_in, count_in, capture_variable}
 use Rattle.mlk_walk_commands.specs.Locks.{capture_names, known_names, lock_row, is_timed, lock_argument, release}
-use Rattle.mlk_walk_commands.specs.Arguments.{variable_in, arguments_in, capture_target, capture_targets, read_target, read_part, write_variable, assign, assign_all, set_argument, kill_row, kill_argument, new_argument, in_time_or_not, read_row, read_variable, read_argument, merge_from, merge_argument, write_argument, capture_given, given_in, do_row, forget_given, do_argument, job_row, job_argument, by_truth, if_argument, forget, count_targets}
+use Rattle.mlk_walk_commands.specs.Arguments.{variable_in, arguments_in, capture_target, capture_targets, read_target, read_part, write_variable, assign, assign_all, set_argument, kill_row, kill_argument, new_argument, in_time_or_not, read_row, read_variable, read_argument, merge_from, merge_argument, write_argument, capture_given, given_in, do_row, forget_given, do_argument, job_row, job_argument, if_outcomes, if_argument, forget, count_targets}
 use Rattle.mlk_walk_lines.specs.Commands.{turn, in_turn, if_row, else_row, enters, enter_row, block_ends, some_enter, do_block, halt_row, quit_row, do_calls, if_all, kill_each, lock_each, new_each, act, stay, command}
-use Rattle.mlk_walk_laws.specs.Fewer.{Among}
 use Rattle.mlk_walk_laws.proofs.Lists.{all_distinct}
-use Rattle.mlk_walk_laws.proofs.Rows.{Keeps, both, stays, each_keeps, changed_keeps, capture_keeps, unknown_keeps, clean_without, part_with, added_none, added_both}
+use Rattle.mlk_walk_laws.proofs.Transfers.{Keeps, both, stays, each_keeps, changed_keeps, capture_keeps, unknown_keeps, clean_without, part_with, added_none, added_both}
 use Rattle.mlk_walk_laws.proofs.Counts.{few_keeps, ways_keep}
 
 -- parts one after the other, each of a walk
@@ -203,7 +203,7 @@ pub job_keeps : (p : Spot) (call : CallTree) → Keeps (job_argument p call)
 job_keeps p call = both (capture_given p call) (each (job_row p call)) (actuals_keep p call) (each_keeps (job_row p call))
 
 pub if_argument_keeps : (p : Spot) (t : Tree) → Keeps (if_argument p t)
-if_argument_keeps p t = both (value p t) (each (λ s. by_truth (truth_in p.scope t s) s)) (value_keeps p t) (each_keeps (λ s. by_truth (truth_in p.scope t s) s))
+if_argument_keeps p t = both (value p t) (each (λ s. if_outcomes (truth_in p.scope t s) s)) (value_keeps p t) (each_keeps (λ s. if_outcomes (truth_in p.scope t s) s))
 
 -- arguments in turn
 pub turns_keep : {A : Type 0} (row : Spot → A → Walk → Walk) (p : Spot) → ((a : A) → Keeps (row p a)) → (arguments : List A) → Keeps (in_turn row p arguments)

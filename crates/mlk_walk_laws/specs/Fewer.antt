@@ -1,6 +1,7 @@
 -- Walks of fewer cases. That a walk finds nothing wrong is said of all cases that are listed at a line; a job is in one
 -- of them. This project's own.
 use Rattle.std.specs.Prelude.{◌≡◌, ◌⊎◌, ℕ, false, List, [], ◌∷◌, map}
+use Rattle.mlk_names.specs.Lists.{Among}
 use Rattle.mlk_cert_parts.specs.declared.case.Case.{Case}
 use Rattle.mlk_syntax.specs.Trees.{CommandTrees}
 use Rattle.mlk_walk_state.specs.declared.state.State.{State}
@@ -12,14 +13,10 @@ use Rattle.mlk_walk_exprs.specs.Walks.{begin}
 use Rattle.mlk_walk_exprs.specs.Spots.{Spot}
 use Rattle.mlk_walk_lines.specs.Loops.{commands}
 
-abbrev pub Among : {A : Type 0} → A → List A → Type 0
-Among a [] = ⊥
-Among a (b ∷ bs) = (a ≡ b) ⊎ Among a bs
-
 -- none of the states twice
-abbrev pub AreDistinct : List State → Type 0
-AreDistinct [] = Unit {0}
-AreDistinct (s ∷ ss) = (Among s ss → ⊥) × AreDistinct ss
+abbrev pub StatesDiffer : List State → Type 0
+StatesDiffer [] = Unit {0}
+StatesDiffer (s ∷ ss) = (Among s ss → ⊥) × StatesDiffer ss
 
 -- nothing wrong was found, and the line is not over
 pub record IsClean (w : Walk) : Type 0 where
@@ -33,11 +30,11 @@ pub record IsPart (v w : Walk) : Type 0 where
   pub going : (s : State) → Among s v.going → Among s w.going
   pub skips : (c : Case) → Among c v.skips → Among c w.skips
   pub quits : (q : Quit) → Among q v.quits → Among q w.quits
-  pub distinct : AreDistinct v.going
+  pub distinct : StatesDiffer v.going
 
 -- no case is listed twice at one place, as in each certificate
 abbrev pub ListsEachOnce : Scope → Type 0
-ListsEachOnce sc = (number round : ℕ) → AreDistinct (map at_rest (listed sc number round))
+ListsEachOnce sc = (number round : ℕ) → StatesDiffer (map at_rest (listed sc number round))
 
 -- Where the walk of commands from some states finds nothing wrong, the walk from fewer of them finds nothing wrong, and
 -- comes to nothing else.

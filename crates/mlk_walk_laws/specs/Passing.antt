@@ -1,6 +1,7 @@
 -- What it means that nothing wrong is found in an entry's lines: from each case that is listed at a line, all that the line
 -- comes to goes well at its end. This project's own.
 use Rattle.std.specs.Prelude.{◌≡◌, List, [], ◌∷◌, Option}
+use Rattle.mlk_names.specs.Lists.{Among}
 use Rattle.mlk_cert_parts.specs.declared.case.Case.{Case}
 use Rattle.mlk_syntax.specs.Trees.{HeadTree, LineHead, LineTrees, no_lines, line}
 use Rattle.mlk_walk_state.specs.declared.state.State.{State}
@@ -12,7 +13,7 @@ use Rattle.mlk_walk_exprs.specs.Walks.{begin}
 use Rattle.mlk_walk_lines.specs.Loops.{commands}
 use Rattle.mlk_walk_lines.specs.Endings.{Ending, Faulty, Leaves, Passes, Around, OfBlock, LineEnd, state_end, case_end, quit_end}
 use Rattle.mlk_walk_lines.specs.Lines.{next_head, block_with, walk_lines}
-use Rattle.mlk_walk_laws.specs.Fewer.{Among, IsClean, ListsEachOnce}
+use Rattle.mlk_walk_laws.specs.Fewer.{IsClean, ListsEachOnce}
 
 -- nothing is refused, and a block ends in one of the cases in which it may end
 abbrev pub IsRight : List Case → Ending → Type 0

@@ -8,55 +8,55 @@ use Rattle.std.proofs.lemmas.List.{take-append-le, length-take-le, take_all, len
 use Rattle.mlk_walk_state.specs.declared.state.State.{State}
 use Rattle.mlk_walk_state.specs.States.{same_state}
 use Rattle.mlk_walk_exprs.specs.declared.walk.Walk.{Walk}
-use Rattle.mlk_walk_exprs.specs.Walks.{put, put_all, with_states, is_large, too_many, few, joined}
+use Rattle.mlk_walk_exprs.specs.Walks.{put_state, put_states, with_states, is_large, too_many, few, joined}
 use Rattle.mlk_walk_lines.specs.Counting.{counted}
 
 -- one more state leaves those before it where they are
-put_longer : (s : State) (ss : List State) → length ss ≤ length (put s ss)
+put_longer : (s : State) (ss : List State) → length ss ≤ length (put_state s ss)
 put_longer s ss =
     ⊎_elim (λ (e : list_any (same_state s) ss ≡ true). rw e (omega arith))
     (λ (e : list_any (same_state s) ss ≡ false). rw e (rw (length-append ss (s ∷ [])) (omega arith)))
     (cases_Bool (list_any (same_state s) ss))
 
-put_first : (n : ℕ) (s : State) (ss : List State) → n ≤ length ss → take n (put s ss) ≡ take n ss
+put_first : (n : ℕ) (s : State) (ss : List State) → n ≤ length ss → take n (put_state s ss) ≡ take n ss
 put_first n s ss h =
     ⊎_elim (λ (e : list_any (same_state s) ss ≡ true). rw e refl)
     (λ (e : list_any (same_state s) ss ≡ false). rw e (take-append-le n ss (s ∷ []) h))
     (cases_Bool (list_any (same_state s) ss))
 
-pub all_first : (n : ℕ) (new ss : List State) → n ≤ length ss → take n (put_all new ss) ≡ take n ss
+pub all_first : (n : ℕ) (new ss : List State) → n ≤ length ss → take n (put_states new ss) ≡ take n ss
 all_first n [] ss h = refl
 all_first n (s ∷ new) ss h =
     let longer = put_longer s ss in
-    all_first n new (put s ss) (omega (arith, longer)) ∙ put_first n s ss h
+    all_first n new (put_state s ss) (omega (arith, longer)) ∙ put_first n s ss h
 
 -- so the first of all are those of the first and the others
-first_of_all : (n : ℕ) (new ss : List State) → take n (put_all new (take n ss)) ≡ take n (put_all new ss)
+first_of_all : (n : ℕ) (new ss : List State) → take n (put_states new (take n ss)) ≡ take n (put_states new ss)
 first_of_all n new ss =
     ⊎_elim
     (λ (h : n < length ss).
     all_first n new (take n ss) (let e = length-take-le n ss (omega arith) in omega (arith, e))
     ∙ take_all n (take n ss) (let e = length-take-le n ss (omega arith) in omega (arith, e))
     ∙ sym (all_first n new ss (omega arith)))
-    (λ (h : length ss ≤ n). ap (λ z. take n (put_all new z)) (take_all n ss h))
+    (λ (h : length ss ≤ n). ap (λ z. take n (put_states new z)) (take_all n ss h))
     (cases_lt n (length ss))
 
 -- one more state, and one that is left out since there are many
-put_last : (s : State) (done states : List State) → put_all (done ++ s ∷ []) states ≡ put s (put_all done states)
+put_last : (s : State) (done states : List State) → put_states (done ++ s ∷ []) states ≡ put_state s (put_states done states)
 put_last s [] states = refl
-put_last s (t ∷ done) states = put_last s done (put t states)
+put_last s (t ∷ done) states = put_last s done (put_state t states)
 
-pub one_more : (s : State) (done states a b : List State) → take 17 a ≡ take 17 (put_all done states) → b ≡ put s a
-    → take 17 b ≡ take 17 (put_all (done ++ s ∷ []) states)
+pub one_more : (s : State) (done states a b : List State) → take 17 a ≡ take 17 (put_states done states) → b ≡ put_state s a
+    → take 17 b ≡ take 17 (put_states (done ++ s ∷ []) states)
 one_more s done states a b h e =
-    ap (take 17) e ∙ sym (first_of_all 17 (s ∷ []) a) ∙ ap (λ z. take 17 (put s z)) h ∙ first_of_all 17 (s ∷ []) (put_all done states)
+    ap (take 17) e ∙ sym (first_of_all 17 (s ∷ []) a) ∙ ap (λ z. take 17 (put_state s z)) h ∙ first_of_all 17 (s ∷ []) (put_states done states)
     ∙ ap (take 17) (sym (put_last s done states))
 
-pub no_more : (s : State) (done states a : List State) → take 17 a ≡ take 17 (put_all done states) → nat_lt 16 (length a) ≡ true
-    → take 17 a ≡ take 17 (put_all (done ++ s ∷ []) states)
+pub no_more : (s : State) (done states a : List State) → take 17 a ≡ take 17 (put_states done states) → nat_lt 16 (length a) ≡ true
+    → take 17 a ≡ take 17 (put_states (done ++ s ∷ []) states)
 no_more s done states a h m =
     let above = ltb-true 16 (length a) m in
-    sym (put_first 17 s a (omega (arith, above))) ∙ one_more s done states a (put s a) h refl
+    sym (put_first 17 s a (omega (arith, above))) ∙ one_more s done states a (put_state s a) h refl
 
 -- lists with the same first states
 pub with_alike : (ss ts : List State) (w : Walk) → take 17 ss ≡ take 17 ts → counted (with_states ss w) ≡ counted (with_states ts w)
@@ -81,11 +81,11 @@ module _ (aside : List State) where
   over_stays : (w : Walk) → w.over ≡ true → beside w ≡ w
   over_stays w e = ap (λ b. if b then w else joined w.going (with_states aside w)) e
 
-  all_beside : (w : Walk) → w.over ≡ false → beside w ≡ with_states (put_all aside w.going) w
+  all_beside : (w : Walk) → w.over ≡ false → beside w ≡ with_states (put_states aside w.going) w
   all_beside w e = ap (λ b. if b then w else joined w.going (with_states aside w)) e
-      ∙ ap (λ b. if b then with_states aside w else with_states (put_all aside w.going) w) e
+      ∙ ap (λ b. if b then with_states aside w else with_states (put_states aside w.going) w) e
 
-  first_beside : (w : Walk) → w.over ≡ false → counted (beside w) ≡ counted (with_states (put_all aside (counted w).going) w)
+  first_beside : (w : Walk) → w.over ≡ false → counted (beside w) ≡ counted (with_states (put_states aside (counted w).going) w)
   unfolding counted
   first_beside w e = ap counted (all_beside w e) ∙ ap (λ z. with_states z w) (sym (first_of_all 17 aside w.going))
 
@@ -96,7 +96,7 @@ module _ (aside : List State) where
       ⊎_elim
       (λ (e : w.over ≡ true). ap counted (over_stays v (o ∙ e)) ∙ h ∙ sym (ap counted (over_stays w e)))
       (λ (e : w.over ≡ false).
-      first_beside v (o ∙ e) ∙ ap (λ z. counted (with_states (put_all aside z.going) z)) h ∙ sym (first_beside w e))
+      first_beside v (o ∙ e) ∙ ap (λ z. counted (with_states (put_states aside z.going) z)) h ∙ sym (first_beside w e))
       (cases_Bool w.over)
 
 -- whether there are too many is told by the first

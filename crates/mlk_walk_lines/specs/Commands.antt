@@ -12,12 +12,12 @@ use Rattle.mlk_walk_state.specs.declared.state.State.{State}
 use Rattle.mlk_walk_state.specs.States.{at_rest}
 use Rattle.mlk_walk_exprs.specs.declared.walk.Walk.{Walk}
 use Rattle.mlk_walk_exprs.specs.declared.spot.Block.{Block}
-use Rattle.mlk_walk_exprs.specs.Walks.{Outcome, Goes, Skips, Quits, Refused, each, few, put_all, with_states}
+use Rattle.mlk_walk_exprs.specs.Walks.{Outcome, Goes, Skips, Quits, Refused, each, few, put_states, with_states}
 use Rattle.mlk_walk_exprs.specs.Spots.{Spot}
 use Rattle.mlk_walk_exprs.specs.Expressions.{value, value_if, conditioned}
 use Rattle.mlk_walk_commands.specs.Locks.{lock_argument, release}
 use Rattle.mlk_walk_commands.specs.Arguments.{set_argument, kill_argument, kill_all_but, new_argument, new_all_but, read_argument}
-use Rattle.mlk_walk_commands.specs.Arguments.{merge_argument, write_argument, do_argument, job_argument, if_argument, by_truth}
+use Rattle.mlk_walk_commands.specs.Arguments.{merge_argument, write_argument, do_argument, job_argument, if_argument, if_outcomes}
 
 -- Arguments in turn, each a command of its own: after each it is asked whether there are too many states.
 abbrev pub turn : {A : Type 0} → (Spot → A → Walk → Walk) → Spot → Walk → A → Walk
@@ -28,7 +28,7 @@ in_turn row p arguments w = fold (turn row p) w arguments
 
 -- IF without arguments skips where `$TEST` is 0, ELSE where it is 1; where it is not known, it is known then.
 abbrev pub if_row : State → List Outcome
-if_row s = by_truth (known_test s.case.test) s
+if_row s = if_outcomes (known_test s.case.test) s
 
 abbrev pub swapped : Outcome → Outcome
 swapped (Goes s) = Skips s.case
@@ -52,7 +52,7 @@ enter_row p b s = if enters p b s then [] else Refused b.first 1 CaseNotListed �
 
 abbrev pub block_ends : Bool → Block → List State
 block_ends false b = []
-block_ends true b = put_all (map at_rest b.ends) []
+block_ends true b = put_states (map at_rest b.ends) []
 
 abbrev pub some_enter : Spot → Block → Walk → Bool
 some_enter p b w = list_any (enters p b) w.going

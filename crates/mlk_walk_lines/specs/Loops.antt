@@ -14,7 +14,7 @@ use Rattle.mlk_walk_state.specs.States.{at_rest}
 use Rattle.mlk_walk_exprs.specs.declared.walk.Walk.{Walk}
 use Rattle.mlk_walk_exprs.specs.declared.walk.Fault.{Fault}
 use Rattle.mlk_walk_exprs.specs.declared.walk.Quit.{Quit}
-use Rattle.mlk_walk_exprs.specs.Walks.{Outcome, Goes, Refused, each, few, put_all, joined, with_states, begin}
+use Rattle.mlk_walk_exprs.specs.Walks.{Outcome, Goes, Refused, each, few, put_states, joined, with_states, begin}
 use Rattle.mlk_walk_exprs.specs.Spots.{Spot}
 use Rattle.mlk_walk_exprs.specs.Expressions.{value}
 use Rattle.mlk_walk_commands.specs.Variables.{change_at}
@@ -79,7 +79,7 @@ and_faults faults w = record w { faults = w.faults ++ faults }
 
 -- What the rounds come to, walked from the cases that are listed for them: those that ended, and those that quit.
 abbrev pub ended_in : Walk → List State
-ended_in inner = put_all (map at_rest inner.skips) inner.going
+ended_in inner = put_states (map at_rest inner.skips) inner.going
 
 abbrev pub quit_in : Walk → List State
 quit_in inner = map (λ (q : Quit). at_rest q.case) inner.quits
@@ -87,7 +87,7 @@ quit_in inner = map (λ (q : Quit). at_rest q.case) inner.quits
 -- FOR, given what its rounds come to. After it come the last parameter's cases and those that quit: that is the line's
 -- end. Where the rounds have too many states, the line is over.
 abbrev pub and_states : List State → Walk → Walk
-and_states ss w = if w.over then w else with_states (put_all ss w.going) w
+and_states ss w = if w.over then w else with_states (put_states ss w.going) w
 
 abbrev pub over_too : Walk → Walk
 over_too w = record w { going = []; over = true }

@@ -14,19 +14,19 @@ ghost use Rattle.mlk_walk_lines.specs.Counting.{counted};
 use crate::argument::{conditions_in_turn, in_turn};
 use crate::block::do_block;
 use mlk_calls::State;
-use mlk_cert::Test;
+use mlk_cert_parts::Test;
 use mlk_names::LockTerm;
 use mlk_syntax::{Action, DoArgument, Expr, KillArgument, LockArgument, NewArgument};
 use mlk_text::{Code, List};
 use mlk_walk_commands::{Release, kill_all_but, new_all_but};
-use mlk_walk_exprs::{Mend, Row, Spot, Walk, each, value_if};
+use mlk_walk_exprs::{Mend, Spot, Transfer, Walk, each, value_if};
 use std::alloc::{AllocError, Global};
 
 // IF without arguments: where `$TEST` is 0 the rest of the line is skipped; where it is not known, it is known then.
 #[derive(Clone, Copy, Drop)]
 struct IfTest;
 
-impl Row for IfTest {
+impl Transfer for IfTest {
     ghost outcomes = { λ r s. if_row s };
 
     fn make(&self, state: State, walk: &mut Walk) -> Result<(), AllocError> {
@@ -48,7 +48,7 @@ struct ElseTest {
     alloc: Global,
 }
 
-impl Row for ElseTest {
+impl Transfer for ElseTest {
     ghost outcomes = { λ r s. else_row s };
 
     fn make(&self, state: State, walk: &mut Walk) -> Result<(), AllocError> {
@@ -76,11 +76,11 @@ pub(crate) fn holds_some(held: &[LockTerm]) -> bool
 
 // HALT: nothing may be held, and the summary says that all may be released. No case goes on.
 #[derive(Clone, Copy, Drop)]
-struct HaltRow<'a> {
+struct HaltTransfer<'a> {
     spot: &'a Spot<'a>,
 }
 
-impl<'a> Row for HaltRow<'a> {
+impl<'a> Transfer for HaltTransfer<'a> {
     ghost outcomes = { λ r s. halt_row (spot_of r.spot.now) s };
 
     fn make(&self, state: State, walk: &mut Walk) -> Result<(), AllocError> {
@@ -97,11 +97,11 @@ impl<'a> Row for HaltRow<'a> {
 
 // QUIT: what it ends stands with the line.
 #[derive(Clone, Copy, Drop)]
-struct QuitRow<'a> {
+struct QuitTransfer<'a> {
     spot: &'a Spot<'a>,
 }
 
-impl<'a> Row for QuitRow<'a> {
+impl<'a> Transfer for QuitTransfer<'a> {
     ghost outcomes = { λ r s. quit_row (spot_of r.spot.now) s };
 
     fn make(&self, state: State, walk: &mut Walk) -> Result<(), AllocError> {
@@ -183,7 +183,7 @@ fn quit_action<'a>(
     ensures { OnOk result (walk.new ≡ act (spot_of spot.now) (tree.Quit (option_map (λ b. tree_of b.value) given.now)) walk.old) }
 {
     value_if(spot, given.as_deref(), walk)?;
-    each(spot.alloc, &QuitRow { spot }, walk)
+    each(spot.alloc, &QuitTransfer { spot }, walk)
 }
 
 /// What a command does, without its postconditional. Of more states than 17 the first 17 may go on alone, so it has to be
@@ -199,7 +199,7 @@ pub(crate) fn act<'a>(
     match action {
         Action::Do(calls) => do_action(spot, calls, walk),
         Action::Else => each(spot.alloc, &ElseTest { alloc: spot.alloc }, walk),
-        Action::Halt => each(spot.alloc, &HaltRow { spot }, walk),
+        Action::Halt => each(spot.alloc, &HaltTransfer { spot }, walk),
         Action::Hang(times) => in_turn(spot, times, walk),
         Action::If(conditions) => if_action(spot, conditions, walk),
         Action::Job(calls) => in_turn(spot, calls, walk),

@@ -4,23 +4,29 @@ ghost use Rattle.std.specs.Prelude.{◌≡◌, IfOk, OnOk, flat_map, length, map
 ghost use Rattle.std.specs.List.{list_any};
 ghost use Rattle.mlk_walk_state.specs.States.{at_rest};
 ghost use Rattle.mlk_walk_exprs.specs.Spots.{spot_of};
-ghost use Rattle.mlk_walk_exprs.specs.Walks.{add_all, put_all};
+ghost use Rattle.mlk_walk_exprs.specs.Walks.{add_all, put_states};
 ghost use Rattle.mlk_walk_lines.specs.Commands.{entering, enters, enter_row, block_ends, do_block};
 ghost use Rattle.mlk_walk_lines.specs.Counting.{counted};
 
 use mlk_calls::{State, is_listed};
-use mlk_cert::Case;
+use mlk_cert_parts::{Case, Shared};
 use mlk_text::{Code, Column, List};
 use mlk_walk_exprs::{Block, Mend, Spot, Walk, put};
 use std::alloc::{AllocError, Global};
 
 // The case with its `$TEST` saved.
-fn entering(case: Case) -> Result<Case, AllocError>
+fn entering(alloc: Global, case: Case) -> Result<Case, AllocError>
     ensures { IfOk result (λ c. c ≡ entering case) }
 {
-    let mut case = case;
-    case.saved.push(case.test)?;
-    Ok(case)
+    let mut saved = Vec::from_slice(alloc, case.saved.as_slice())?;
+    saved.push(case.test)?;
+    Ok(Case {
+        test: case.test,
+        held: case.held,
+        own: case.own,
+        kept: case.kept,
+        saved: Shared::new(alloc, saved)?,
+    })
 }
 
 // A state enters the block, or is refused at the block's first line.
@@ -28,7 +34,7 @@ fn enter(spot: &Spot, block: &Block, state: State, walk: &mut Walk) -> Result<bo
     ensures enters { IfOk result (λ e. e ≡ enters (spot_of spot.now) block.now state) }
     ensures walk { OnOk result (walk.new ≡ add_all (enter_row (spot_of spot.now) block.now state) walk.old) }
 {
-    let case = entering(state.case)?;
+    let case = entering(spot.alloc, state.case)?;
     if is_listed(spot.scope.listed(block.first, 0), &case) {
         return Ok(true);
     }
@@ -65,7 +71,7 @@ pub(crate) fn are_many(states: &[State]) -> bool
 
 // The states in which the block may end; of more than 17 the first 17, which are too many already.
 fn ends_of(alloc: Global, block: &Block) -> Result<List<State>, AllocError>
-    ensures { IfOk result (λ s. take 17 s ≡ take 17 (put_all (map at_rest block.now.ends) [])) }
+    ensures { IfOk result (λ s. take 17 s ≡ take 17 (put_states (map at_rest block.now.ends) [])) }
 {
     let mut ends = List::new(alloc);
     let cases = block.ends.as_slice();

@@ -4,7 +4,7 @@ ghost use Rattle.std.specs.Prelude.{◌≡◌, IfOk, OnOk, None, Some, fold, map
 ghost use Rattle.mlk_syntax.specs.Views.{parameter_of, control_of, command_of, commands_of};
 ghost use Rattle.mlk_walk_state.specs.States.{at_rest};
 ghost use Rattle.mlk_walk_exprs.specs.Spots.{spot_of};
-ghost use Rattle.mlk_walk_exprs.specs.Walks.{begin, put_all};
+ghost use Rattle.mlk_walk_exprs.specs.Walks.{begin, put_states};
 ghost use Rattle.mlk_walk_lines.specs.Counting.{counted};
 ghost use Rattle.mlk_walk_lines.specs.Loops.{rounds_of, parameters, controlled, and_faults, and_states, over_too, after_rounds, at_word, one_command, commands};
 
@@ -12,9 +12,9 @@ use crate::block::are_many;
 use crate::conditioned::perform;
 use crate::rounds::{Rounds, after_round, begin_rounds, parameter};
 use mlk_calls::State;
-use mlk_cert::{Case, NameSet};
+use mlk_cert_parts::{Case, NameSet};
 use mlk_syntax::{Command, Commands, Control, Parameter};
-use mlk_text::{Column, List, copy_of};
+use mlk_text::{Column, List};
 use mlk_walk_exprs::{Faults, Quit, Spot, Walk, put, put_all};
 use std::alloc::{AllocError, Global};
 
@@ -59,7 +59,7 @@ fn add_faults(faults: Faults, walk: &mut Walk) -> Result<(), AllocError>
 // These states too, each once; of more than 17 some may be left out, since 17 are too many already.
 #[tactic(auto, using(crate::proofs::FewStates::no_more))]
 fn put_few(states: List<State>, new: Vec<State>) -> Result<List<State>, AllocError>
-    ensures { IfOk result (λ all. take 17 all ≡ take 17 (put_all new.items states)) }
+    ensures { IfOk result (λ all. take 17 all ≡ take 17 (put_states new.items states)) }
 {
     let mut all = states;
     for state in new {
@@ -232,7 +232,7 @@ pub(crate) fn begin(alloc: Global, cases: &[Case]) -> Result<Walk, AllocError>
         let held = case.held.clone()?;
         let own = case.own.clone()?;
         let kept = case.kept.clone()?;
-        let saved = copy_of(&case.saved)?;
+        let saved = case.saved.clone()?;
         going.push(State {
             case: Case {
                 test: case.test,

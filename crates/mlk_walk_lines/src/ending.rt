@@ -3,7 +3,7 @@
 ghost use Rattle.std.specs.Prelude.{◌≡◌, [], OnOk};
 ghost use Rattle.mlk_walk_lines.specs.Endings.{Faulty, Leaves, add_ending};
 
-use mlk_cert::Case;
+use mlk_cert_parts::Case;
 use mlk_text::{Code, Column, LineNumber, List};
 use mlk_walk_exprs::{Fault, Faults, Mend};
 use std::alloc::{AllocError, Global};

@@ -12,7 +12,7 @@ use crate::ending::Ends;
 use crate::found::LineFaults;
 use crate::line_end::{Around, LineEnd};
 use mlk_calls::Scope;
-use mlk_cert::Case;
+use mlk_cert_parts::Case;
 use mlk_syntax::Line;
 use mlk_text::{Column, List};
 use mlk_walk_exprs::{Block, Spot};

@@ -10,10 +10,10 @@ ghost use Rattle.mlk_walk_lines.specs.Endings.{end_of, around_of, head_of, into_
 use crate::action::holds_some;
 use crate::ending::Ends;
 use mlk_calls::{Scope, State, is_among, is_exit, is_listed, is_own, mention};
-use mlk_cert::{Case, ExitCase, Own, Shared, Test};
+use mlk_cert_parts::{Case, ExitCase, Own, Shared, Test};
 use mlk_names::{KnownSym, LockTerm};
 use mlk_syntax::Line;
-use mlk_text::{Code, Column, LineNumber, List, Name, copy_of};
+use mlk_text::{Code, Column, LineNumber, Name, copy_of};
 use mlk_walk_exprs::{Mend, Quit, Walk};
 use std::alloc::{AllocError, Global};
 use std::slice;
@@ -74,13 +74,14 @@ fn left_own(alloc: Global, level: usize, own: &[Own]) -> Result<Vec<Own>, AllocE
 }
 
 // The last of the saved tests, and those before it.
-fn split_last(saved: List<Test>) -> Option<(Test, List<Test>)>
-    ensures last { option_map (λ p. p.0) result ≡ last_saved saved }
-    ensures before { IfSome result (λ p. p.1 ≡ before_last saved) }
+fn split_last(saved: &[Test]) -> Option<(Test, &[Test])>
+    ensures last { option_map (λ p. p.0) result ≡ last_saved saved.now }
+    ensures before { IfSome result (λ p. p.1.now ≡ before_last saved.now) }
 {
-    let mut tests = saved.into_vec();
-    let last = tests.pop()?;
-    Some((last, List::of(tests)))
+    match saved.split_last() {
+        None => None,
+        Some((last, before)) => Some((*last, before)),
+    }
 }
 
 // The case after its block, where this was its saved `$TEST`, and these were saved before.
@@ -88,7 +89,7 @@ fn restored(
     alloc: Global,
     level: usize,
     test: Test,
-    saved: List<Test>,
+    saved: Shared<Test>,
     case: Case,
 ) -> Result<Case, AllocError>
     requires { saved ≡ before_last case.saved }
@@ -187,9 +188,10 @@ impl<'a> LineEnd<'a> {
         ensures { OnOk result (ends.new
             ≡ add_ending ends.old (block_end (end_of self.now) column case (last_saved case.saved))) }
     {
-        let Some((test, saved)) = split_last(copy_of(&case.saved)?) else {
+        let Some((test, before)) = split_last(case.saved.as_slice()) else {
             return Ok(());
         };
+        let saved = Shared::new(self.alloc, Vec::from_slice(self.alloc, before)?)?;
         if some_escape(self.level, &case) {
             return ends.refuse(self.line, column, Code::NameEscapes, Mend::Nothing);
         }

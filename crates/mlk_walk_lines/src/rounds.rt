@@ -9,11 +9,11 @@ ghost use Rattle.mlk_text.specs.declared.code.Code.TheVariants.{CaseNotListed};
 ghost use Rattle.mlk_walk_lines.specs.Loops.{rounds_of, begin_round, round_or_after, after_round, step_variable, step_again, limited, parameter};
 
 use mlk_calls::{State, is_listed};
-use mlk_cert::{Case, NameSet};
+use mlk_cert_parts::{Case, NameSet};
 use mlk_syntax::Parameter;
 use mlk_text::{Code, Column, List};
 use mlk_walk_commands::Change;
-use mlk_walk_exprs::{Mend, Row, Spot, Walk, each, value};
+use mlk_walk_exprs::{Mend, Spot, Transfer, Walk, each, value};
 use std::alloc::{AllocError, Global};
 
 /// Of a FOR, whose word's column stands in the spot: its variable with the column of its name, which FOR of its line it
@@ -42,7 +42,7 @@ pub(crate) struct BeginRound<'a> {
     pub(crate) cases: &'a [Case],
 }
 
-impl<'a> Row for BeginRound<'a> {
+impl<'a> Transfer for BeginRound<'a> {
     ghost outcomes = { λ r s. begin_round (spot_of r.spot.now) r.cases.now s };
 
     fn make(&self, state: State, walk: &mut Walk) -> Result<(), AllocError> {
@@ -61,7 +61,7 @@ struct RoundOrAfter<'a> {
     cases: &'a [Case],
 }
 
-impl<'a> Row for RoundOrAfter<'a> {
+impl<'a> Transfer for RoundOrAfter<'a> {
     ghost outcomes = { λ r s. round_or_after (spot_of r.spot.now) r.cases.now s };
 
     fn make(&self, state: State, walk: &mut Walk) -> Result<(), AllocError> {
@@ -118,8 +118,8 @@ pub(crate) fn begin_rounds<'a>(
 ) -> Result<(), AllocError>
     ensures { OnOk result (walk.new ≡ each (begin_round (spot_of spot.now) cases.now) walk.old) }
 {
-    let row = BeginRound { spot, index, cases };
-    each(spot.alloc, &row, walk)
+    let transfer = BeginRound { spot, index, cases };
+    each(spot.alloc, &transfer, walk)
 }
 
 // After each round the variable changes, and a further round begins.
@@ -145,12 +145,12 @@ fn round_or_after<'a>(
         (step_variable (spot_of spot.now) (rounds_of rounds.now) walk.old)) }
 {
     step_variable(spot, rounds, walk)?;
-    let row = RoundOrAfter {
+    let transfer = RoundOrAfter {
         spot,
         index: rounds.index,
         cases: rounds.cases,
     };
-    each(spot.alloc, &row, walk)
+    each(spot.alloc, &transfer, walk)
 }
 
 fn limited<'a>(spot: &'a Spot<'a>, rounds: &Rounds<'a>, walk: &mut Walk) -> Result<(), AllocError>

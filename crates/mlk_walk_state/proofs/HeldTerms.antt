@@ -8,7 +8,7 @@ use Rattle.mlk_names.specs.declared.term.LockTerm.{LockTerm}
 use Rattle.mlk_cert_lexemes.specs.Lists.{ascends, upto, below}
 use Rattle.mlk_cert_lexemes.specs.Kinds.{terms_upto}
 use Rattle.mlk_cert_lexemes.specs.Texts.{term_text}
-use Rattle.mlk_walk_state.specs.Terms.{same_term, put, put_all, taken}
+use Rattle.mlk_walk_state.specs.Terms.{same_term, add_term, add_terms, taken}
 use Rattle.mlk_walk_state.specs.Laws.{one_if, count_of, HeldAre}
 use Rattle.mlk_walk_state.proofs.TermTests.{same_term_decides}
 
@@ -54,21 +54,21 @@ module _ (t : LockTerm) where
   stands_after u h = not_above (upto (term_text t) (term_text u)) h
 
   -- where it is put: before the first of these, or after it
-  put_first : (u : LockTerm) (us : List LockTerm) → below (term_text u) (term_text t) ≡ false → put t (u ∷ us) ≡ t ∷ u ∷ us
+  put_first : (u : LockTerm) (us : List LockTerm) → below (term_text u) (term_text t) ≡ false → add_term t (u ∷ us) ≡ t ∷ u ∷ us
   put_first u us h = rw h refl
 
-  put_later : (u : LockTerm) (us : List LockTerm) → below (term_text u) (term_text t) ≡ true → put t (u ∷ us) ≡ u ∷ put t us
+  put_later : (u : LockTerm) (us : List LockTerm) → below (term_text u) (term_text t) ≡ true → add_term t (u ∷ us) ≡ u ∷ add_term t us
   put_later u us h = rw (h, one-add) refl
 
-  after_first : (u : LockTerm) (us : List LockTerm) → terms_upto u t ≡ true → ascends terms_upto (u ∷ us) ≡ true → ascends terms_upto (put t us) ≡ true
-      → ascends terms_upto (u ∷ put t us) ≡ true
+  after_first : (u : LockTerm) (us : List LockTerm) → terms_upto u t ≡ true → ascends terms_upto (u ∷ us) ≡ true → ascends terms_upto (add_term t us) ≡ true
+      → ascends terms_upto (u ∷ add_term t us) ≡ true
   after_first u [] h k o = and_from (terms_upto u t) true h refl
   after_first u (v ∷ vs) h k o =
       let p = and_parts (terms_upto u v) (ascends terms_upto (v ∷ vs)) k in
       ⊎_elim
       (λ (e : below (term_text v) (term_text t) ≡ true).
       let q = put_later v vs e in
-      ap (λ z. ascends terms_upto (u ∷ z)) q ∙ and_from (terms_upto u v) (ascends terms_upto (v ∷ put t vs)) p.0 (ap (ascends terms_upto) (sym q) ∙ o))
+      ap (λ z. ascends terms_upto (u ∷ z)) q ∙ and_from (terms_upto u v) (ascends terms_upto (v ∷ add_term t vs)) p.0 (ap (ascends terms_upto) (sym q) ∙ o))
       (λ (e : below (term_text v) (term_text t) ≡ false).
       let q = put_first v vs e in
       ap (λ z. ascends terms_upto (u ∷ z)) q ∙ and_from (terms_upto u t) (ascends terms_upto (t ∷ v ∷ vs)) h (ap (ascends terms_upto) (sym q) ∙ o))
@@ -78,7 +78,7 @@ module _ (t : LockTerm) where
   tail_ascends u [] h = refl
   tail_ascends u (v ∷ vs) h = (and_parts (terms_upto u v) (ascends terms_upto (v ∷ vs)) h).1
 
-  in_order : (held : List LockTerm) → ascends terms_upto held ≡ true → ascends terms_upto (put t held) ≡ true
+  in_order : (held : List LockTerm) → ascends terms_upto held ≡ true → ascends terms_upto (add_term t held) ≡ true
   in_order [] h = refl
   in_order (u ∷ us) h =
       ⊎_elim
@@ -88,15 +88,15 @@ module _ (t : LockTerm) where
       ap (ascends terms_upto) (put_first u us e) ∙ and_from (terms_upto t u) (ascends terms_upto (u ∷ us)) (stands_after u e) h)
       (cases_Bool (below (term_text u) (term_text t)))
 
-  length_put : (held : List LockTerm) → length (put t held) ≡ 1 + length held
+  length_put : (held : List LockTerm) → length (add_term t held) ≡ 1 + length held
   length_put [] = omega arith
   length_put (u ∷ us) =
       let n = length_put us in
-      ⊎_elim (λ (e : below (term_text u) (term_text t) ≡ true). let a : length (put t (u ∷ us)) ≡ suc (length (put t us)) = ap length (put_later u us e) in omega (arith, a, n))
-      (λ (e : below (term_text u) (term_text t) ≡ false). let a : length (put t (u ∷ us)) ≡ suc (suc (length us)) = ap length (put_first u us e) in omega (arith, a))
+      ⊎_elim (λ (e : below (term_text u) (term_text t) ≡ true). let a : length (add_term t (u ∷ us)) ≡ suc (length (add_term t us)) = ap length (put_later u us e) in omega (arith, a, n))
+      (λ (e : below (term_text u) (term_text t) ≡ false). let a : length (add_term t (u ∷ us)) ≡ suc (suc (length us)) = ap length (put_first u us e) in omega (arith, a))
       (cases_Bool (below (term_text u) (term_text t)))
 
-  count_put : (u : LockTerm) (held : List LockTerm) → count_of u (put t held) ≡ count_of u held + one_if (same_term u t)
+  count_put : (u : LockTerm) (held : List LockTerm) → count_of u (add_term t held) ≡ count_of u held + one_if (same_term u t)
   count_put u [] = omega arith
   count_put u (v ∷ vs) =
       let n = count_put u vs in
@@ -104,7 +104,7 @@ module _ (t : LockTerm) where
       (λ (e : below (term_text v) (term_text t) ≡ false). ap (count_of u) (put_first v vs e) ∙ turned_sum (one_if (same_term u t)) (one_if (same_term u v) + count_of u vs))
       (cases_Bool (below (term_text v) (term_text t)))
     where
-      added : (k : ℕ) → count_of u (put t vs) ≡ count_of u vs + one_if (same_term u t) → k + count_of u (put t vs) ≡ (k + count_of u vs) + one_if (same_term u t)
+      added : (k : ℕ) → count_of u (add_term t vs) ≡ count_of u vs + one_if (same_term u t) → k + count_of u (add_term t vs) ≡ (k + count_of u vs) + one_if (same_term u t)
       added k n = omega (arith, n)
 
       turned_sum : (k n : ℕ) → k + n ≡ n + k
@@ -159,9 +159,9 @@ module _ (t : LockTerm) where
       of None e g s later = let k = later e in rw s (omega (arith, k))
       of (Some r) e g s later = let k : Some (v ∷ r) ≡ None = rw e at g in absurd (cc k)
 
-length_put_all : (terms held : List LockTerm) → length (put_all terms held) ≡ length terms + length held
+length_put_all : (terms held : List LockTerm) → length (add_terms terms held) ≡ length terms + length held
 length_put_all [] held = omega arith
-length_put_all (t ∷ terms) held = let n = length_put t held in let m = length_put_all terms (put t held) in omega (arith, n, m)
+length_put_all (t ∷ terms) held = let n = length_put t held in let m = length_put_all terms (add_term t held) in omega (arith, n, m)
 
 pub held_are : HeldAre
 held_are = record { of_put = count_put; of_taken = count_taken; of_none = count_none; of_all = length_put_all; ordered = in_order }

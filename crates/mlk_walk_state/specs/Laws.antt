@@ -13,7 +13,7 @@ use Rattle.mlk_cert_parts.specs.declared.names.Own.{Own}
 use Rattle.mlk_cert_parts.specs.declared.names.NameSet.{NameSet}
 use Rattle.mlk_cert_parts.specs.declared.names.NameSet.TheVariants.{Only, AllBut}
 use Rattle.mlk_walk_state.specs.declared.state.State.{State}
-use Rattle.mlk_walk_state.specs.Terms.{same_term, rank_of, put, put_all, taken}
+use Rattle.mlk_walk_state.specs.Terms.{same_term, rank_of, add_term, add_terms, taken}
 use Rattle.mlk_walk_state.specs.Names.{has, is_own, may_change}
 use Rattle.mlk_walk_state.specs.Cases.{same_case, includes}
 use Rattle.mlk_walk_state.specs.States.{same_state}
@@ -50,11 +50,11 @@ count_of t [] = 0
 count_of t (h ∷ held) = one_if (same_term t h) + count_of t held
 
 pub record HeldAre : Type 0 where
-  pub of_put : (t u : LockTerm) (held : List LockTerm) → count_of u (put t held) ≡ count_of u held + one_if (same_term u t)
+  pub of_put : (t u : LockTerm) (held : List LockTerm) → count_of u (add_term t held) ≡ count_of u held + one_if (same_term u t)
   pub of_taken : (t u : LockTerm) (held rest : List LockTerm) → taken t held ≡ Some rest → count_of u held ≡ count_of u rest + one_if (same_term u t)
   pub of_none : (t : LockTerm) (held : List LockTerm) → taken t held ≡ None → count_of t held ≡ 0
-  pub of_all : (terms held : List LockTerm) → length (put_all terms held) ≡ length terms + length held
-  pub ordered : (t : LockTerm) (held : List LockTerm) → ascends terms_upto held ≡ true → ascends terms_upto (put t held) ≡ true
+  pub of_all : (terms held : List LockTerm) → length (add_terms terms held) ≡ length terms + length held
+  pub ordered : (t : LockTerm) (held : List LockTerm) → ascends terms_upto held ≡ true → ascends terms_upto (add_term t held) ≡ true
 
 -- Where all names but some may change, each of them may.
 abbrev pub AllButAllows : Type 0

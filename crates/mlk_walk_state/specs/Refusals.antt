@@ -4,14 +4,14 @@ use Rattle.mlk_text.specs.declared.code.Code.{Code}
 use Rattle.mlk_text.specs.declared.failure.Failure.{Failure}
 use Rattle.mlk_text.specs.declared.failure.Failure.TheVariants.{OutOfMemory, Refused}
 use Rattle.mlk_walk_state.specs.declared.state.State.{State}
-use Rattle.mlk_walk_state.specs.declared.state.Refusal.{Refusal}
+use Rattle.mlk_walk_state.specs.declared.state.RefusedState.{RefusedState}
 
 -- want of memory says nothing; a refusal has the definition's code, and the state as it was given
-abbrev pub RefusedAs : {Y : Type 0} → State → Failure Refusal → Result Y Code → Type 0
+abbrev pub RefusedAs : {Y : Type 0} → State → Failure RefusedState → Result Y Code → Type 0
 RefusedAs s OutOfMemory answer = Unit {0}
 RefusedAs s (Refused r) answer = (answer ≡ Err r.code) × (r.state ≡ s)
 
 -- What is answered of a state is what the definition gives.
-abbrev pub AnswersOf : {X Y : Type 0} → State → (X → Y) → Result X (Failure Refusal) → Result Y Code → Type 0
+abbrev pub AnswersOf : {X Y : Type 0} → State → (X → Y) → Result X (Failure RefusedState) → Result Y Code → Type 0
 AnswersOf s view (Ok x) answer = answer ≡ Ok (view x)
 AnswersOf s view (Err e) answer = RefusedAs s e answer

@@ -1,6 +1,6 @@
 -- What is known of an expression without running anything, read off its tree: its symbol and its truth. Standard:
 -- expressions, truth values, `$JOB`, `$TEST`; what counts as known is this project's own choice.
-use Rattle.std.specs.Prelude.{ℕ, Bool, true, false, not, if◌then◌else◌, List, Option, Some, None, option_map, bytes_eq, codes}
+use Rattle.std.specs.Prelude.{ℕ, Bool, true, false, not, List, Option, Some, None, option_map}
 use Rattle.mlk_text.specs.declared.operator.Op.{Op}
 use Rattle.mlk_text.specs.declared.operator.UnaryOp.{UnaryOp}
 use Rattle.mlk_text.specs.declared.operator.UnaryOp.TheVariants.{Plus, Minus, Not}
@@ -14,7 +14,7 @@ use Rattle.mlk_cert_parts.specs.declared.case.Test.{Test}
 use Rattle.mlk_walk_state.specs.declared.state.State.{State}
 use Rattle.mlk_walk_state.specs.Scope.{Scope}
 use Rattle.mlk_walk_state.specs.Cases.{known_test}
-use Rattle.mlk_numbers.specs.Operators.{fold_before, fold_between}
+use Rattle.mlk_numbers.specs.Operators.{truth_of_text, fold_before, fold_between}
 
 abbrev pub constant_if : Option (List ℕ) → Sym
 constant_if None = Unknown
@@ -68,10 +68,6 @@ abbrev mutual
   pub chain_symbol : (List ℕ → Bool) → Sym → Links → Sym
   chain_symbol shared s no_links = s
   chain_symbol shared s (link op t rest) = chain_symbol shared (between_symbols op s (symbol_of shared t)) rest
-
--- `0` is false and `1` is true; nothing is said of other values
-abbrev pub truth_of_text : List ℕ → Option Bool
-truth_of_text v = if bytes_eq v (codes "0") then Some false else (if bytes_eq v (codes "1") then Some true else None)
 
 abbrev pub truth_of_symbol : Sym → Option Bool
 truth_of_symbol (Const v) = truth_of_text v

@@ -9,7 +9,7 @@ use Rattle.mlk_names.specs.declared.term.LockTerm.{LockTerm}
 use Rattle.mlk_names.specs.Symbols.{known_of}
 use Rattle.mlk_names.specs.Actuals.{put_in}
 use Rattle.mlk_cert_parts.specs.declared.names.NameSet.{NameSet}
-use Rattle.mlk_cert.specs.Making.{terms_before}
+use Rattle.mlk_cert_parts.specs.TermOrder.{terms_before}
 use Rattle.mlk_rules.specs.declared.family.Family.{Family}
 use Rattle.mlk_rules.specs.Computed.{same_root, same_symbol, is_prefix}
 use Rattle.mlk_rules.specs.Ranks.{constant_term}
@@ -26,12 +26,12 @@ unfoldable pub same_term : LockTerm → LockTerm → Bool
 same_term t u = same_root t.root u.root && same_known t.subs u.subs
 
 -- a term stands before the first whose text is not below its own
-abbrev pub put : LockTerm → List LockTerm → List LockTerm
-put t held = insert held (terms_before held t) t
+abbrev pub add_term : LockTerm → List LockTerm → List LockTerm
+add_term t held = insert held (terms_before held t) t
 
-abbrev pub put_all : List LockTerm → List LockTerm → List LockTerm
-put_all [] held = held
-put_all (t ∷ ts) held = put_all ts (put t held)
+abbrev pub add_terms : List LockTerm → List LockTerm → List LockTerm
+add_terms [] held = held
+add_terms (t ∷ ts) held = add_terms ts (add_term t held)
 
 -- one less of a term, or none where it isn't held
 abbrev pub taken : LockTerm → List LockTerm → Option (List LockTerm)

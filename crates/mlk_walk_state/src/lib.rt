@@ -14,8 +14,9 @@ pub use law::{
     all_but_allows, held_are, includes_decides, rank_is, same_decides, shares_by_own, tables_are,
 };
 pub use listed::{is_exit, is_listed};
+pub use mlk_cert_parts::copy_case;
 pub use names::{have, is_among, is_own, is_same_own, may_change, take_out};
 pub use scope::{Entries, Scope};
-pub use state::{Refusal, State, before_last, copy_case, last_of};
+pub use state::{RefusedState, State, before_last, last_of};
 pub use symbol::{symbol_of, truth_of};
 pub use term::{copies, first_missing, is_within, mention, put_all, rank, take_all, take_one};

@@ -7,7 +7,7 @@ ghost use Rattle.mlk_walk_state.specs.Cases.{says_no_more, pairwise, includes, i
 
 use crate::names::are_among;
 use crate::term::is_same;
-use mlk_cert::{Case, ExitCase, Test, included};
+use mlk_cert_parts::{Case, ExitCase, Test, included};
 use mlk_names::LockTerm;
 
 fn includes(case: &Case, listed: &Case) -> bool

@@ -6,7 +6,7 @@ ghost use Rattle.mlk_cert_parts.specs.declared.names.Own.{Own as item};
 ghost use Rattle.mlk_walk_state.specs.Cases.{same_own};
 ghost use Rattle.mlk_walk_state.specs.Names.{is_among, has, have, is_own, spares, may_change, without};
 
-use mlk_cert::{NameSet, Own, Shared};
+use mlk_cert_parts::{NameSet, Own, Shared};
 use mlk_text::Name;
 use std::alloc::{AllocError, Global};
 

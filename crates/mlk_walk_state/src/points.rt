@@ -8,7 +8,7 @@ ghost use Rattle.mlk_walk_state.specs.Ends.{IsEnd};
 ghost use Rattle.mlk_walk_state.specs.Points.{is_before, is_upto, cases_there};
 ghost use Rattle.mlk_walk_state.specs.Scope.{is_at, is_earlier, listed_at};
 
-use mlk_cert::{Case, Point};
+use mlk_cert_parts::{Case, Point};
 use mlk_text::LineNumber;
 
 fn is_below(point: &Point, other: &Point) -> bool

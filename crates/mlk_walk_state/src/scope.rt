@@ -13,7 +13,7 @@ use crate::points::{
     are_earlier, are_earlier_in_order, are_in_order, cases_ahead, cases_at, from_line,
 };
 use indexmap::{IndexMap, IndexSet};
-use mlk_cert::{Case, EntryCert, Own, Point, Summary};
+use mlk_cert_parts::{Case, EntryCert, Own, Point, Summary};
 use mlk_program::{EntryId, Program};
 use mlk_rules::{Rules, entries};
 use mlk_text::{LineNumber, Name, Value};

@@ -3,7 +3,7 @@
 ghost use Rattle.std.specs.Prelude.{◌≡◌, ◌-◌, [], IfOk, length, take, drop};
 ghost use Rattle.mlk_walk_state.specs.States.{at_rest, without_last, holding, tested};
 
-use mlk_cert::{Case, Shared, Test};
+use mlk_cert_parts::{Case, Shared, Test, copy_case};
 use mlk_names::{LockTerm, Sym};
 use mlk_text::{Code, List, copy_of};
 use std::alloc::{AllocError, Global};
@@ -18,23 +18,9 @@ pub struct State {
 
 /// Why a state is refused, and the state as it was.
 #[derive(Drop)]
-pub struct Refusal {
+pub struct RefusedState {
     pub code: Code,
     pub state: State,
-}
-
-/// A case that is equal to this one, and shares its lists.
-#[inline(always)]
-pub fn copy_case(case: &Case) -> Result<Case, AllocError>
-    ensures { IfOk result (λ c. c ≡ case.now) }
-{
-    Ok(Case {
-        test: case.test,
-        held: case.held.clone()?,
-        own: case.own.clone()?,
-        kept: case.kept.clone()?,
-        saved: copy_of(&case.saved)?,
-    })
 }
 
 /// The last so many of the symbols, or all where there are fewer.

@@ -3,16 +3,16 @@
 ghost use Rattle.std.specs.Prelude.{◌≡◌, IfOk, true, drop};
 ghost use Rattle.mlk_syntax.specs.ExprTrees.{tree_of, links, links_from, subs_from, sub_trees};
 ghost use Rattle.mlk_walk_state.specs.Scope.{scope_of};
-ghost use Rattle.mlk_walk_state.specs.Symbols.{local_symbol, before_symbol, between_symbols, symbol_in, truth_in, chain_in, truth_of_symbol, truth_of_text};
+ghost use Rattle.mlk_walk_state.specs.Symbols.{local_symbol, before_symbol, between_symbols, symbol_in, truth_in, chain_in, truth_of_symbol};
 ghost use Rattle.mlk_walk_state.specs.Cases.{known_test};
 
 use crate::scope::Scope;
 use crate::state::State;
-use mlk_cert::Test;
+use mlk_cert_parts::Test;
 use mlk_names::Sym;
-use mlk_numbers::{fold, fold_unary};
+use mlk_numbers::{fold, fold_unary, known_truth};
 use mlk_syntax::{Expr, Special, Subscript};
-use mlk_text::{Name, Op, UnaryOp, Value};
+use mlk_text::{Name, Op, UnaryOp};
 use std::alloc::{AllocError, Global};
 
 fn before_symbol(alloc: Global, op: UnaryOp, operand: Sym) -> Result<Sym, AllocError>
@@ -112,21 +112,11 @@ pub fn symbol_of(
     }
 }
 
-fn truth_of_text(value: &Value) -> Option<bool>
-    ensures { result ≡ truth_of_text value.now }
-{
-    match value.as_bytes() {
-        b"0" => Some(false),
-        b"1" => Some(true),
-        _ => None,
-    }
-}
-
 fn truth_of_symbol(symbol: &Sym) -> Option<bool>
     ensures { result ≡ truth_of_symbol symbol.now }
 {
     match symbol {
-        Sym::Const(value) => truth_of_text(value),
+        Sym::Const(value) => known_truth(value),
         _ => None,
     }
 }
@@ -153,7 +143,7 @@ pub fn truth_of(
 {
     match expression {
         Expr::Special(Special::Test) => Ok(known_test(state.case.test)),
-        Expr::Lit(value) => Ok(truth_of_text(value)),
+        Expr::Lit(value) => Ok(known_truth(value)),
         Expr::Unary(UnaryOp::Not, operand) => {
             let truth = truth_of(alloc, scope, state, operand)?;
             Ok(truth.map(|known| !known))

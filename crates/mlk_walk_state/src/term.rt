@@ -4,10 +4,10 @@ ghost use Rattle.std.specs.Prelude.{◌≡◌, ◌↔◌, ◌<◌, IsTrue, OnOk,
 ghost use Rattle.std.specs.List.{list_any};
 ghost use Rattle.mlk_rules.specs.Computed.{is_prefix};
 ghost use Rattle.mlk_walk_state.specs.Names.{have};
-ghost use Rattle.mlk_walk_state.specs.Terms.{same_term, put, put_all, taken, all_taken, first_missing, is_such, mention, is_within, rank_of};
+ghost use Rattle.mlk_walk_state.specs.Terms.{same_term, add_term, add_terms, taken, all_taken, first_missing, is_such, mention, is_within, rank_of};
 
 use crate::names::have;
-use mlk_cert::{NameSet, place_of_term};
+use mlk_cert_parts::{NameSet, place_of_term};
 use mlk_names::{KnownSym, LockTerm, prefix};
 use mlk_rules::{Rules, rank_of};
 use mlk_text::copy_of;
@@ -120,7 +120,7 @@ pub fn first_missing(
 }
 
 fn put(alloc: Global, held: &mut Vec<LockTerm>, term: LockTerm) -> Result<(), AllocError>
-    ensures { OnOk result (held.new.items ≡ put term held.old.items) }
+    ensures { OnOk result (held.new.items ≡ add_term term held.old.items) }
 {
     let place = place_of_term(alloc, held.as_slice(), &term)?;
     held.insert(place, term)?;
@@ -133,7 +133,7 @@ pub fn put_all(
     held: &[LockTerm],
     terms: &[LockTerm],
 ) -> Result<Vec<LockTerm>, AllocError>
-    ensures { IfOk result (λ v. v.items ≡ put_all terms.now held.now) }
+    ensures { IfOk result (λ v. v.items ≡ add_terms terms.now held.now) }
 {
     let mut all = copies(alloc, held)?;
     let mut left = terms;

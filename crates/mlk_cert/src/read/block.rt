@@ -1,23 +1,24 @@
 // Blocks of entries, read.
 
-ghost use Rattle.std.specs.Prelude.{◌≡◌, ◌++◌, ◌∷◌, [], List, ℕ, IfOk, OnOk, map, codes, not, true};
+ghost use Rattle.std.specs.Prelude.{◌≡◌, ◌++◌, ◌∷◌, [], List, ℕ, IfOk, OnOk, map, option_map, codes, not, true};
 ghost use Rattle.mlk_text.specs.Failures.{Reads};
 ghost use Rattle.mlk_cert_parts.specs.Checks.{has_text, fits};
 ghost use Rattle.mlk_cert_lexemes.specs.Reading.{entry_at};
-ghost use Rattle.mlk_cert.specs.Blocks.{rest_at, summary_at, points_at, block_at, new_entry_at, new_block_at, blocks_at};
+ghost use Rattle.mlk_cert.specs.Blocks.{rest_at, summary_at, block_at, new_entry_at, new_block_at, blocks_at};
+ghost use Rattle.mlk_cert.specs.Numbered.{listed_points_at};
 
-use crate::read::fault::{Refusal, other_form};
+use crate::read::fault::{BlockFault, other_form};
 use crate::read::fit::Fit;
 use crate::read::line::{drops_line, exits, line_end, low_line, mods_line, need_line};
-use crate::read::points::points;
+use crate::read::points::listed_points;
 use indexmap::IndexSet;
 use mlk_cert_lexemes::{entry, word_of};
-use mlk_cert_parts::{EntryCert, Summary};
+use mlk_cert_parts::{Case, EntryCert, Summary};
 use mlk_text::{Code, Failure, Value};
 use std::alloc::{AllocError, Global};
 
 #[tactic(auto, unfolding(crate::specs::Blocks::rest_at))]
-fn entry_line(alloc: Global, bytes: &[u8]) -> Result<(Value, &[u8]), Failure<Refusal>>
+fn entry_line(alloc: Global, bytes: &[u8]) -> Result<(Value, &[u8]), Failure<BlockFault>>
     ensures { Reads (λ x. (x.0, x.1.now)) result (rest_at entry_at fits bytes.now) }
 {
     match entry(alloc, bytes) {
@@ -28,7 +29,7 @@ fn entry_line(alloc: Global, bytes: &[u8]) -> Result<(Value, &[u8]), Failure<Ref
 }
 
 #[tactic(auto, unfolding(crate::specs::Blocks::summary_at))]
-fn summary(alloc: Global, bytes: &[u8]) -> Result<(Summary, &[u8]), Failure<Refusal>>
+fn summary(alloc: Global, bytes: &[u8]) -> Result<(Summary, &[u8]), Failure<BlockFault>>
     ensures { Reads (λ x. (x.0, x.1.now)) result (summary_at bytes.now) }
 {
     let (need, rest) = need_line(alloc, bytes)?;
@@ -63,7 +64,7 @@ fn new_entry<'a>(
     alloc: Global,
     seen: &mut IndexSet<Vec<u8>>,
     bytes: &'a [u8],
-) -> Result<(Value, &'a [u8]), Failure<Refusal>>
+) -> Result<(Value, &'a [u8]), Failure<BlockFault>>
     ensures read { Reads (λ x. (x.0, x.1.now)) result (new_entry_at (map (λ k. k.items) seen.old.keys) bytes.now) }
     ensures keys { IfOk result (λ x. map (λ k. k.items) seen.new.keys ≡ map (λ k. k.items) seen.old.keys ++ x.0 ∷ []) }
 {
@@ -72,7 +73,7 @@ fn new_entry<'a>(
     if new {
         return Ok((entry, rest));
     }
-    Err(Failure::Refused(Refusal {
+    Err(Failure::Refused(BlockFault {
         code: Code::EntryTwice,
         left: bytes.len(),
     }))
@@ -82,16 +83,18 @@ fn new_entry<'a>(
 #[tactic(auto, unfolding(crate::specs::Blocks::new_block_at))]
 fn block<'a>(
     alloc: Global,
+    cases: Option<&[Case]>,
     seen: &mut IndexSet<Vec<u8>>,
     bytes: &'a [u8],
-) -> Result<(EntryCert, &'a [u8]), Failure<Refusal>>
-    ensures read { Reads (λ x. (x.0, x.1.now)) result (new_block_at (map (λ k. k.items) seen.old.keys) bytes.now) }
+) -> Result<(EntryCert, &'a [u8]), Failure<BlockFault>>
+    ensures read { Reads (λ x. (x.0, x.1.now)) result (new_block_at (listed_points_at (option_map (λ x. x.now)
+        cases.entry)) (map (λ k. k.items) seen.old.keys) bytes.now) }
     ensures keys { IfOk result (λ x. map (λ k. k.items) seen.new.keys ≡ map
         (λ k. k.items) seen.old.keys ++ x.0.entry ∷ []) }
 {
     let (entry, rest) = new_entry(alloc, seen, bytes)?;
     let (summary, rest) = summary(alloc, rest)?;
-    let (points, rest) = points(alloc, rest)?;
+    let (points, rest) = listed_points(alloc, cases, rest)?;
     let block = EntryCert {
         entry,
         summary,
@@ -100,18 +103,20 @@ fn block<'a>(
     Ok((block, rest))
 }
 
-/// The blocks at the front, and what is left after them.
-pub(crate) fn blocks(
+/// The blocks at the front, and what is left after them; their points name these cases, where there are any.
+pub(crate) fn blocks<'a>(
     alloc: Global,
-    bytes: &[u8],
-) -> Result<(Vec<EntryCert>, &[u8]), Failure<Refusal>>
-    ensures { Reads (λ x. (x.0.items, x.1.now)) result (blocks_at bytes.now) }
+    cases: Option<&[Case]>,
+    bytes: &'a [u8],
+) -> Result<(Vec<EntryCert>, &'a [u8]), Failure<BlockFault>>
+    ensures { Reads (λ x. (x.0.items, x.1.now)) result (blocks_at (listed_points_at (option_map (λ x. x.now)
+        cases.entry)) bytes.now) }
 {
     let mut seen: IndexSet<Vec<u8>> = IndexSet::new(alloc);
     let mut found: Vec<EntryCert> = Vec::new(alloc);
     let mut rest = bytes;
     while let Some(after) = word_of(b"entry ", rest) {
-        let (item, after) = block(alloc, &mut seen, after)?;
+        let (item, after) = block(alloc, cases, &mut seen, after)?;
         found.push(item)?;
         rest = after;
     }

@@ -10,7 +10,7 @@ ghost use Rattle.mlk_cert_lexemes.specs.Reading.{keep, part_at, listed_at, term_
 ghost use Rattle.mlk_cert_parts.specs.Reading.{sign_at, saved_at, own_at, names_at, exit_at, case_at};
 
 use crate::read::fit::{Fit, fit_both, fit_of};
-use crate::read::memory::{Memories, Memory};
+use crate::read::memory::{Memories, Memory, NoTests};
 use mlk_cert_lexemes::{front_of, listed, word_of};
 use mlk_cert_parts::limit::{MOST_KEPT, MOST_MODS, MOST_OWN, MOST_TERMS};
 use mlk_cert_parts::{
@@ -18,7 +18,7 @@ use mlk_cert_parts::{
 };
 use mlk_names::LockTerm;
 use mlk_text::lexeme::byte_of;
-use mlk_text::{Failure, List, Name, NotThere};
+use mlk_text::{Failure, Name, NotThere};
 use std::alloc::Global;
 
 fn sign(bytes: &[u8]) -> Option<(Test, &[u8])>
@@ -54,17 +54,21 @@ fn more_signs(
 }
 
 #[tactic(auto, unfolding(mlk_cert_parts::specs::Reading::saved_at))]
-fn saved(alloc: Global, bytes: &[u8]) -> Result<(List<Test>, &[u8]), Failure<NotThere>>
+fn saved<'a>(
+    alloc: Global,
+    none: &mut NoTests,
+    bytes: &'a [u8],
+) -> Result<(Shared<Test>, &'a [u8]), Failure<NotThere>>
     ensures { Reads (λ x. (x.0, x.1.now)) result (saved_at bytes.now) }
 {
     if let Some(rest) = byte_of(b'-', bytes) {
-        return Ok((List::new(alloc), rest));
+        return Ok((none.list(alloc)?, rest));
     }
     let Some((first, rest)) = sign(bytes) else {
         return Err(Failure::Refused(NotThere));
     };
     let (found, rest) = more_signs(alloc, first, rest)?;
-    Ok((List::of(found), rest))
+    Ok((Shared::new(alloc, found)?, rest))
 }
 
 /// The terms of a list.
@@ -193,13 +197,17 @@ fn kept_part<'a>(
 }
 
 #[tactic(auto, unfolding(mlk_cert_lexemes::specs::Reading::part_at))]
-fn saved_part(alloc: Global, bytes: &[u8]) -> Result<(List<Test>, &[u8]), Failure<NotThere>>
+fn saved_part<'a>(
+    alloc: Global,
+    none: &mut NoTests,
+    bytes: &'a [u8],
+) -> Result<(Shared<Test>, &'a [u8]), Failure<NotThere>>
     ensures { Reads (λ x. (x.0, x.1.now)) result (part_at (codes " S=") saved_at bytes.now) }
 {
     let Some(rest) = word_of(b" S=", bytes) else {
         return Err(Failure::Refused(NotThere));
     };
-    let (found, rest) = saved(alloc, rest)?;
+    let (found, rest) = saved(alloc, none, rest)?;
     Ok((found, rest))
 }
 
@@ -237,7 +245,7 @@ pub(crate) fn case<'a>(
     let (held, first, rest) = held_part(alloc, &mut memories.held, rest)?;
     let (own, second, rest) = own_part(alloc, &mut memories.own, rest)?;
     let (kept, third, rest) = kept_part(alloc, &mut memories.kept, rest)?;
-    let (saved, rest) = saved_part(alloc, rest)?;
+    let (saved, rest) = saved_part(alloc, &mut memories.no_tests, rest)?;
     let case = Case {
         test,
         held,

@@ -16,7 +16,7 @@ pub struct CertFault {
 
 /// A fault behind the head line, and how many bytes are left at its place.
 #[derive(Drop, Debug)]
-pub(crate) struct Refusal {
+pub(crate) struct BlockFault {
     pub code: Code,
     pub left: usize,
     ghost known: { is_later code ≡ true },
@@ -34,15 +34,15 @@ fn has_line(bytes: &[u8]) -> bool
 }
 
 /// The fault of a line that has another form: that, or where the line does not end that the text ends too soon.
-pub(crate) fn other_form(bytes: &[u8]) -> Refusal {
+pub(crate) fn other_form(bytes: &[u8]) -> BlockFault {
     let left = bytes.len();
     if has_line(bytes) {
-        return Refusal {
+        return BlockFault {
             code: Code::Form,
             left,
         };
     }
-    Refusal {
+    BlockFault {
         code: Code::NoEnd,
         left,
     }

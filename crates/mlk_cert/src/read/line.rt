@@ -10,7 +10,7 @@ ghost use Rattle.mlk_cert_parts.specs.Reading.{names_at, exit_at};
 ghost use Rattle.mlk_cert.specs.Blocks.{ended, rest_at, low_at, drops_at, after_at, above_last, next_exit_fits, exits_at};
 
 use crate::read::case::{exit, mods, terms};
-use crate::read::fault::{Refusal, other_form};
+use crate::read::fault::{BlockFault, other_form};
 use crate::read::fit::{Fit, fit_both, fit_of};
 use crate::read::memory::Memories;
 use mlk_cert_lexemes::{front_of, is_below, number, word_of};
@@ -28,7 +28,7 @@ pub(crate) fn line_end<'a, T: Drop>(
     fit: Fit,
     rest: &'a [u8],
     line: &[u8],
-) -> Result<(T, &'a [u8]), Failure<Refusal>>
+) -> Result<(T, &'a [u8]), Failure<BlockFault>>
     ensures { Reads (λ x. (x.0, x.1.now)) result (ended value (passes fit) rest.now) }
 {
     let Some(after) = byte_of(b'\n', rest) else {
@@ -37,11 +37,11 @@ pub(crate) fn line_end<'a, T: Drop>(
     let left = line.len();
     match fit {
         Fit::Yes => Ok((value, after)),
-        Fit::Limit => Err(Failure::Refused(Refusal {
+        Fit::Limit => Err(Failure::Refused(BlockFault {
             code: Code::CertLimit,
             left,
         })),
-        Fit::Order => Err(Failure::Refused(Refusal {
+        Fit::Order => Err(Failure::Refused(BlockFault {
             code: Code::Order,
             left,
         })),
@@ -53,7 +53,7 @@ pub(crate) fn line_end<'a, T: Drop>(
 pub(crate) fn need_line(
     alloc: Global,
     bytes: &[u8],
-) -> Result<(List<LockTerm>, &[u8]), Failure<Refusal>>
+) -> Result<(List<LockTerm>, &[u8]), Failure<BlockFault>>
     ensures { Reads (λ x. (x.0, x.1.now)) result (part_at (codes "need ") (rest_at
         (listed_at term_at) fit_terms) bytes.now) }
 {
@@ -82,7 +82,7 @@ fn low(bytes: &[u8]) -> Option<(Option<u32>, &[u8])>
 
 /// The line of the least rank.
 #[tactic(auto, unfolding(mlk_cert_lexemes::specs::Reading::part_at, crate::specs::Blocks::rest_at))]
-pub(crate) fn low_line(bytes: &[u8]) -> Result<(Option<u32>, &[u8]), Failure<Refusal>>
+pub(crate) fn low_line(bytes: &[u8]) -> Result<(Option<u32>, &[u8]), Failure<BlockFault>>
     ensures { Reads (λ x. (x.0, x.1.now)) result (part_at (codes "low ") (rest_at low_at fits) bytes.now) }
 {
     let Some(rest) = word_of(b"low ", bytes) else {
@@ -109,7 +109,7 @@ fn drops(bytes: &[u8]) -> Option<(bool, &[u8])>
 
 /// The line that says whether all locks may be released.
 #[tactic(auto, unfolding(mlk_cert_lexemes::specs::Reading::part_at, crate::specs::Blocks::rest_at))]
-pub(crate) fn drops_line(bytes: &[u8]) -> Result<(bool, &[u8]), Failure<Refusal>>
+pub(crate) fn drops_line(bytes: &[u8]) -> Result<(bool, &[u8]), Failure<BlockFault>>
     ensures { Reads (λ x. (x.0, x.1.now)) result (part_at (codes "drops ") (rest_at drops_at fits) bytes.now) }
 {
     let Some(rest) = word_of(b"drops ", bytes) else {
@@ -126,7 +126,7 @@ pub(crate) fn drops_line(bytes: &[u8]) -> Result<(bool, &[u8]), Failure<Refusal>
 pub(crate) fn mods_line(
     alloc: Global,
     bytes: &[u8],
-) -> Result<(List<NameSet>, &[u8]), Failure<Refusal>>
+) -> Result<(List<NameSet>, &[u8]), Failure<BlockFault>>
     ensures { Reads (λ x. (x.0, x.1.now)) result (part_at (codes "mods ") (rest_at
         (listed_at names_at) fit_mods) bytes.now) }
 {
@@ -158,7 +158,7 @@ fn exit_line<'a>(
     count: usize,
     last: Option<&[u8]>,
     bytes: &'a [u8],
-) -> Result<((ExitCase, &'a [u8]), &'a [u8]), Failure<Refusal>>
+) -> Result<((ExitCase, &'a [u8]), &'a [u8]), Failure<BlockFault>>
     ensures read { Reads (λ x. (x.0.0, x.1.now)) result (after_at exit_at fits_exit (next_exit_fits count
         (option_map (λ x. x.now) last.entry)) bytes.now) }
     ensures text { IfOk result (λ x. x.0.1.now ≡ exit_text x.0.0) }
@@ -179,7 +179,7 @@ fn exit_line<'a>(
 pub(crate) fn exits(
     alloc: Global,
     bytes: &[u8],
-) -> Result<(List<ExitCase>, &[u8]), Failure<Refusal>>
+) -> Result<(List<ExitCase>, &[u8]), Failure<BlockFault>>
     ensures { Reads (λ x. (x.0, x.1.now)) result (exits_at bytes.now) }
 {
     let mut found: Vec<ExitCase> = Vec::new(alloc);

@@ -1,14 +1,14 @@
 // Lists that stand on many lines, and are kept once.
 
-ghost use Rattle.std.specs.Prelude.{◌≡◌, ◌++◌, ◌∷◌, IfOk, IfSome, List, Bool};
+ghost use Rattle.std.specs.Prelude.{◌≡◌, ◌++◌, ◌∷◌, [], IfOk, IfSome, List, Bool};
 ghost use Rattle.mlk_cert.specs.Memories.{Remembers, Recalls};
 
 use mlk_cert_lexemes::{Item, word_of};
-use mlk_cert_parts::{Own, Shared};
+use mlk_cert_parts::{Own, Shared, Test};
 use mlk_names::LockTerm;
 use mlk_text::Name;
 use mlk_text::lexeme::byte_of;
-use std::alloc::AllocError;
+use std::alloc::{AllocError, Global};
 use std::marker::Model;
 
 /// What lists hold that are kept once: whether such a list keeps to its limits.
@@ -87,12 +87,47 @@ impl<'a, T: Limited> Memory<'a, T> {
     }
 }
 
+/// The list of no saved test, which most cases have, made once.
+#[derive(Drop)]
+pub(crate) struct NoTests {
+    list: Option<Shared<Test>>,
+}
+
+impl Model for NoTests {
+    ghost use Rattle.std.specs.Prelude.{ℕ, IfSome, ◌≡◌, []};
+
+    ghost Value = { ℕ };
+
+    ghost view = { λ _. 0 };
+
+    ghost invariant = { λ n. IfSome n.list (λ l. l ≡ []) };
+}
+
+impl NoTests {
+    pub fn new() -> NoTests {
+        NoTests { list: None }
+    }
+
+    /// The list.
+    pub fn list(&mut self, alloc: Global) -> Result<Shared<Test>, AllocError>
+        ensures { IfOk result (λ l. l ≡ []) }
+    {
+        if let Some(list) = &self.list {
+            return list.clone();
+        }
+        let list = Shared::new(alloc, Vec::new(alloc))?;
+        self.list = Some(list.clone()?);
+        Ok(list)
+    }
+}
+
 /// The last lists of a case.
 #[derive(Drop)]
 pub(crate) struct Memories<'a> {
     pub held: Memory<'a, LockTerm>,
     pub own: Memory<'a, Own>,
     pub kept: Memory<'a, Name>,
+    pub no_tests: NoTests,
 }
 
 impl<'a> Memories<'a> {
@@ -101,6 +136,7 @@ impl<'a> Memories<'a> {
             held: Memory::new(),
             own: Memory::new(),
             kept: Memory::new(),
+            no_tests: NoTests::new(),
         }
     }
 }

@@ -7,12 +7,14 @@ ghost use Rattle.mlk_cert.specs.Fitting.{passes};
 ghost use Rattle.mlk_cert_lexemes.specs.Lists.{last_of};
 ghost use Rattle.mlk_cert_parts.specs.Texts.{case_text};
 ghost use Rattle.mlk_cert.specs.Blocks.{place_at, listed_case_at, fits_listed, after_at, add_case, point_of, with_case, next_case_fits, points_at};
+ghost use Rattle.mlk_cert.specs.Numbered.{listed_points_at};
 
 use crate::read::case::case;
-use crate::read::fault::{Refusal, other_form};
+use crate::read::fault::{BlockFault, other_form};
 use crate::read::fit::{Fit, fit_both, fit_of};
 use crate::read::line::{is_above, line_end};
 use crate::read::memory::Memories;
+use crate::read::numbered::numbered_points;
 use mlk_cert_lexemes::{counted, front_of, number, word_of};
 use mlk_cert_parts::limit::{GREATEST_LINE, GREATEST_ROUND, MOST_CASES};
 use mlk_cert_parts::{Case, Point};
@@ -20,8 +22,9 @@ use mlk_text::lexeme::byte_of;
 use mlk_text::{Failure, LineNumber, List};
 use std::alloc::{AllocError, Global};
 
+/// The place of a point.
 #[tactic(auto, unfolding(crate::specs::Blocks::place_at))]
-fn place(bytes: &[u8]) -> Option<((u32, u32), &[u8])>
+pub(crate) fn place(bytes: &[u8]) -> Option<((u32, u32), &[u8])>
     ensures { option_map (λ x. (x.0, x.1.now)) result ≡ place_at bytes.now }
 {
     let Some((line, rest)) = counted(GREATEST_LINE, bytes) else {
@@ -70,7 +73,7 @@ fn at_line<'a>(
     point: Option<&Point>,
     last: Option<&[u8]>,
     bytes: &'a [u8],
-) -> Result<((u32, u32, Case), &'a [u8], &'a [u8]), Failure<Refusal>>
+) -> Result<((u32, u32, Case), &'a [u8], &'a [u8]), Failure<BlockFault>>
     ensures read { Reads (λ x. (x.0, x.2.now)) result (after_at listed_case_at fits_listed
         (λ l. next_case_fits (option_copied point.entry) (option_map (λ x. x.now) last.entry) l.0 l.1
         (case_text l.2)) bytes.now) }
@@ -137,7 +140,10 @@ fn add(alloc: Global, points: &mut Vec<Point>, listed: (u32, u32, Case)) -> Resu
 }
 
 /// The points at the front, and what is left after them.
-pub(crate) fn points(alloc: Global, bytes: &[u8]) -> Result<(List<Point>, &[u8]), Failure<Refusal>>
+pub(crate) fn points(
+    alloc: Global,
+    bytes: &[u8],
+) -> Result<(List<Point>, &[u8]), Failure<BlockFault>>
     ensures { Reads (λ x. (x.0, x.1.now)) result (points_at bytes.now) }
 {
     let mut found: Vec<Point> = Vec::new(alloc);
@@ -157,4 +163,18 @@ pub(crate) fn points(alloc: Global, bytes: &[u8]) -> Result<(List<Point>, &[u8])
         rest = after;
     }
     Ok((List::of(found), rest))
+}
+
+/// The points at the front, with their cases or with the numbers of these, and what is left after them.
+pub(crate) fn listed_points<'a>(
+    alloc: Global,
+    cases: Option<&[Case]>,
+    bytes: &'a [u8],
+) -> Result<(List<Point>, &'a [u8]), Failure<BlockFault>>
+    ensures { Reads (λ x. (x.0, x.1.now)) result (listed_points_at (option_map (λ x. x.now) cases.entry) bytes.now) }
+{
+    match cases {
+        None => points(alloc, bytes),
+        Some(cases) => numbered_points(alloc, cases, bytes),
+    }
 }

@@ -1,19 +1,22 @@
 // A whole certificate, read.
 
-ghost use Rattle.std.specs.Prelude.{◌≡◌, ◌≤◌, ◌+◌, length, IfOk, IfErr, List};
+ghost use Rattle.std.specs.Prelude.{◌≡◌, ◌≤◌, ◌+◌, length, option_map, IfOk, IfErr, List};
 ghost use Rattle.mlk_text.specs.Failures.{Reads};
 ghost use Rattle.mlk_cert_parts.specs.Limits.{longest};
 ghost use Rattle.mlk_cert.specs.Faults.{IsLater, at_first};
 ghost use Rattle.mlk_cert.specs.Blocks.{blocks_at, finished, body_at};
+ghost use Rattle.mlk_cert.specs.Numbered.{listed_points_at, all_named, second_body_at, body_in, head_at};
 ghost use Rattle.mlk_cert.specs.Theorem.{Spells, IsReading};
 ghost use Rattle.mlk_cert.specs.Refusals.{IsPlaced, lines_in};
 
-use crate::certificate::Certificate;
+use crate::format::CertFormat;
+use crate::named::unnamed;
 use crate::read::block::blocks;
-use crate::read::fault::{CertFault, Refusal, other_form};
+use crate::read::cases::cases;
+use crate::read::fault::{BlockFault, CertFault, other_form};
 use mlk_cert_lexemes::word_of;
-use mlk_cert_parts::EntryCert;
 use mlk_cert_parts::limit::LONGEST_TEXT;
+use mlk_cert_parts::{Case, Certificate, EntryCert};
 use mlk_text::{Code, Failure, LineNumber};
 use std::alloc::Global;
 
@@ -32,7 +35,7 @@ fn lines_in(bytes: &[u8]) -> u32
 }
 
 // A fault behind the head line, and its line; where the text ends too soon, the number of whole lines.
-fn fault_at(bytes: &[u8], refusal: Refusal) -> CertFault
+fn fault_at(bytes: &[u8], refusal: BlockFault) -> CertFault
     requires { length bytes.now ≤ longest }
     ensures { IsLater bytes.now result }
 {
@@ -47,11 +50,11 @@ fn fault_at(bytes: &[u8], refusal: Refusal) -> CertFault
 }
 
 // Nothing stands after the last line.
-fn finished(found: Vec<EntryCert>, after: &[u8]) -> Result<Vec<EntryCert>, Failure<Refusal>>
+fn finished(found: Vec<EntryCert>, after: &[u8]) -> Result<Vec<EntryCert>, Failure<BlockFault>>
     ensures { Reads (λ x. x.items) result (finished found.items after.now) }
 {
     let None = after.split_first() else {
-        return Err(Failure::Refused(Refusal {
+        return Err(Failure::Refused(BlockFault {
             code: Code::Form,
             left: after.len(),
         }));
@@ -59,16 +62,92 @@ fn finished(found: Vec<EntryCert>, after: &[u8]) -> Result<Vec<EntryCert>, Failu
     Ok(found)
 }
 
-/// The blocks behind the head line, up to the end.
+/// The blocks up to the end; their points name these cases, where there are any.
 #[tactic(auto, unfolding(crate::specs::Blocks::body_at))]
-pub(crate) fn body(alloc: Global, bytes: &[u8]) -> Result<Vec<EntryCert>, Failure<Refusal>>
-    ensures { Reads (λ x. x.items) result (body_at bytes.now) }
+pub(crate) fn body(
+    alloc: Global,
+    cases: Option<&[Case]>,
+    bytes: &[u8],
+) -> Result<Vec<EntryCert>, Failure<BlockFault>>
+    ensures { Reads (λ x. x.items) result (body_at (listed_points_at (option_map (λ x. x.now) cases.entry)) bytes.now) }
 {
-    let (found, rest) = blocks(alloc, bytes)?;
+    let (found, rest) = blocks(alloc, cases, bytes)?;
     let Some(after) = word_of(b"end\n", rest) else {
         return Err(Failure::Refused(other_form(rest)));
     };
     finished(found, after)
+}
+
+// How many bytes are left after so many lines.
+fn left_after(lines: usize, bytes: &[u8]) -> usize {
+    let mut passed: usize = 0;
+    let mut left = bytes.len();
+    for b in bytes {
+        if passed >= lines {
+            return left;
+        }
+        left = left.saturating_sub(1);
+        if *b == b'\n' {
+            passed = passed.saturating_add(1);
+        }
+    }
+    left
+}
+
+// The blocks, where points have each of the cases.
+fn all_named(
+    alloc: Global,
+    cases: &[Case],
+    found: Vec<EntryCert>,
+    bytes: &[u8],
+) -> Result<Vec<EntryCert>, Failure<BlockFault>>
+    ensures { Reads (λ x. x.items) result (all_named cases.now found.items) }
+{
+    match unnamed(alloc, cases, found.as_slice())? {
+        None => Ok(found),
+        Some(place) => Err(Failure::Refused(BlockFault {
+            code: Code::CaseUnused,
+            left: left_after(place, bytes),
+        })),
+    }
+}
+
+// The cases in front, and the blocks up to the end, whose points name them.
+#[tactic(auto, unfolding(crate::specs::Numbered::second_body_at))]
+fn second_body(alloc: Global, bytes: &[u8]) -> Result<Vec<EntryCert>, Failure<BlockFault>>
+    ensures { Reads (λ x. x.items) result (second_body_at bytes.now) }
+{
+    let (found, rest) = cases(alloc, bytes)?;
+    let listed = body(alloc, Some(found.as_slice()), rest)?;
+    let listed = all_named(alloc, found.as_slice(), listed, bytes)?;
+    Ok(listed)
+}
+
+// The blocks behind the head line of a format.
+fn body_in(
+    alloc: Global,
+    format: CertFormat,
+    bytes: &[u8],
+) -> Result<Vec<EntryCert>, Failure<BlockFault>>
+    ensures { Reads (λ x. x.items) result (body_in format bytes.now) }
+{
+    match format {
+        CertFormat::First => body(alloc, None, bytes),
+        CertFormat::Second => second_body(alloc, bytes),
+    }
+}
+
+// The format that the head line tells, and what is left after that line.
+fn head(bytes: &[u8]) -> Option<(CertFormat, &[u8])>
+    ensures { option_map (λ x. (x.0, x.1.now)) result ≡ head_at bytes.now }
+{
+    if let Some(rest) = word_of(b"mlock-cert 1\n", bytes) {
+        return Some((CertFormat::First, rest));
+    }
+    let Some(rest) = word_of(b"mlock-cert 2\n", bytes) else {
+        return None;
+    };
+    Some((CertFormat::Second, rest))
 }
 
 /// The fault of a whole text, at its first line.
@@ -79,7 +158,7 @@ pub(crate) fn at_first(code: Code) -> CertFault
     CertFault { code, line }
 }
 
-/// The certificate of a text.
+/// The certificate of a text, in either format.
 pub fn read_cert(alloc: Global, bytes: &[u8]) -> Result<Certificate, Failure<CertFault>>
     // What is read has this text.
     ensures ok { IfOk result (λ c. Spells c bytes.now) }
@@ -91,10 +170,10 @@ pub fn read_cert(alloc: Global, bytes: &[u8]) -> Result<Certificate, Failure<Cer
     if bytes.len() > LONGEST_TEXT {
         return Err(Failure::Refused(at_first(Code::CertLimit)));
     }
-    let Some(rest) = word_of(b"mlock-cert 1\n", bytes) else {
+    let Some((format, rest)) = head(bytes) else {
         return Err(Failure::Refused(at_first(Code::Head)));
     };
-    match body(alloc, rest) {
+    match body_in(alloc, format, rest) {
         Ok(found) => Ok(Certificate::of(found)),
         Err(Failure::OutOfMemory) => Err(Failure::OutOfMemory),
         Err(Failure::Refused(refusal)) => Err(Failure::Refused(fault_at(rest, refusal))),

@@ -2,12 +2,12 @@
 
 ghost use Rattle.std.specs.Prelude.{◌≡◌, ◌++◌, ◌∷◌, OnOk, codes};
 ghost use Rattle.mlk_cert_lexemes.specs.Texts.{line, listed, term_text};
-ghost use Rattle.mlk_cert_parts.specs.Texts.{names_text, exit_line, case_line, point_text, low_text, drops_text, summary_text, block_text};
+ghost use Rattle.mlk_cert_parts.specs.Texts.{names_text, exit_line, place_text, case_line, point_text, low_text, drops_text, summary_text, block_text};
 
 use crate::block::{EntryCert, Point, Summary};
 use crate::case::{Case, ExitCase};
 use crate::write::line::{push_case, push_exit};
-use mlk_cert_lexemes::{Text, Written, push_flat, push_listed};
+use mlk_cert_lexemes::{Written, WrittenText, push_flat, push_listed};
 use std::alloc::AllocError;
 
 impl Written for ExitCase {
@@ -15,20 +15,33 @@ impl Written for ExitCase {
 
     ghost written = { exit_line };
 
-    fn push_to(&self, text: &mut Text) -> Result<(), AllocError> {
+    fn push_to(&self, text: &mut WrittenText) -> Result<(), AllocError> {
         text.push(b"exit ")?;
         push_exit(text, self)?;
         text.push_byte(b'\n')
     }
 }
 
-fn push_case_line(text: &mut Text, line: u32, round: u32, case: &Case) -> Result<(), AllocError>
-    ensures { OnOk result (text.new ≡ text.old ++ case_line line round case.now) }
+/// The place of a point.
+pub fn push_place(text: &mut WrittenText, line: u32, round: u32) -> Result<(), AllocError>
+    ensures { OnOk result (text.new ≡ text.old ++ place_text line round) }
 {
-    text.push(b"at ")?;
     text.push_number(line)?;
     text.push_byte(b'.')?;
     text.push_number(round)?;
+    Ok(())
+}
+
+fn push_case_line(
+    text: &mut WrittenText,
+    line: u32,
+    round: u32,
+    case: &Case,
+) -> Result<(), AllocError>
+    ensures { OnOk result (text.new ≡ text.old ++ case_line line round case.now) }
+{
+    text.push(b"at ")?;
+    push_place(text, line, round)?;
     text.push_byte(b' ')?;
     push_case(text, case)?;
     text.push_byte(b'\n')?;
@@ -40,7 +53,7 @@ impl Written for Point {
 
     ghost written = { point_text };
 
-    fn push_to(&self, text: &mut Text) -> Result<(), AllocError> {
+    fn push_to(&self, text: &mut WrittenText) -> Result<(), AllocError> {
         for case in self.cases.as_slice() {
             push_case_line(text, self.line.number(), self.round, case)?;
         }
@@ -48,7 +61,7 @@ impl Written for Point {
     }
 }
 
-fn push_low(text: &mut Text, low: Option<u32>) -> Result<(), AllocError>
+fn push_low(text: &mut WrittenText, low: Option<u32>) -> Result<(), AllocError>
     ensures { OnOk result (text.new ≡ text.old ++ low_text low) }
 {
     match low {
@@ -57,7 +70,7 @@ fn push_low(text: &mut Text, low: Option<u32>) -> Result<(), AllocError>
     }
 }
 
-fn push_drops(text: &mut Text, drops: bool) -> Result<(), AllocError>
+fn push_drops(text: &mut WrittenText, drops: bool) -> Result<(), AllocError>
     ensures { OnOk result (text.new ≡ text.old ++ drops_text drops) }
 {
     if drops {
@@ -68,7 +81,7 @@ fn push_drops(text: &mut Text, drops: bool) -> Result<(), AllocError>
 }
 
 // What a caller must hold, and the least rank.
-fn push_need(text: &mut Text, summary: &Summary) -> Result<(), AllocError>
+fn push_need(text: &mut WrittenText, summary: &Summary) -> Result<(), AllocError>
     ensures { OnOk result (text.new ≡ text.old ++ (line (codes "need ")
         (listed term_text summary.now.need) ++ line (codes "low ") (low_text summary.now.low))) }
 {
@@ -81,7 +94,7 @@ fn push_need(text: &mut Text, summary: &Summary) -> Result<(), AllocError>
 }
 
 // Whether all locks may be released, and the names that may change.
-fn push_changes(text: &mut Text, summary: &Summary) -> Result<(), AllocError>
+fn push_changes(text: &mut WrittenText, summary: &Summary) -> Result<(), AllocError>
     ensures { OnOk result (text.new ≡ text.old ++ (line (codes "drops ")
         (drops_text summary.now.drops) ++ line (codes "mods ") (listed names_text summary.now.mods))) }
 {
@@ -93,7 +106,7 @@ fn push_changes(text: &mut Text, summary: &Summary) -> Result<(), AllocError>
     Ok(())
 }
 
-fn push_summary(text: &mut Text, summary: &Summary) -> Result<(), AllocError>
+fn push_summary(text: &mut WrittenText, summary: &Summary) -> Result<(), AllocError>
     ensures { OnOk result (text.new ≡ text.old ++ summary_text summary.now) }
 {
     push_need(text, summary)?;
@@ -102,16 +115,24 @@ fn push_summary(text: &mut Text, summary: &Summary) -> Result<(), AllocError>
     Ok(())
 }
 
+/// The lines of a block before its points.
+pub fn push_front(text: &mut WrittenText, block: &EntryCert) -> Result<(), AllocError>
+    ensures { OnOk result (text.new ≡ text.old ++ (line (codes "entry ") block.now.entry ++ summary_text block.now.summary)) }
+{
+    text.push(b"entry ")?;
+    text.push(block.entry.as_bytes())?;
+    text.push(b"\n")?;
+    push_summary(text, &block.summary)?;
+    Ok(())
+}
+
 impl Written for EntryCert {
     ghost use Rattle.mlk_cert_parts.specs.Texts.{block_text};
 
     ghost written = { block_text };
 
-    fn push_to(&self, text: &mut Text) -> Result<(), AllocError> {
-        text.push(b"entry ")?;
-        text.push(self.entry.as_bytes())?;
-        text.push(b"\n")?;
-        push_summary(text, &self.summary)?;
+    fn push_to(&self, text: &mut WrittenText) -> Result<(), AllocError> {
+        push_front(text, self)?;
         push_flat(text, self.points.as_slice())?;
         Ok(())
     }

@@ -6,7 +6,7 @@ ghost use Rattle.mlk_cert_parts.specs.Texts.{names_text, own_text, sign, sign_te
 
 use crate::case::{Case, ExitCase, Test};
 use crate::names::{NameSet, Own};
-use mlk_cert_lexemes::{Text, Written, push_flat, push_joined, push_listed};
+use mlk_cert_lexemes::{Written, WrittenText, push_flat, push_joined, push_listed};
 use mlk_names::LockTerm;
 use mlk_text::Name;
 use std::alloc::AllocError;
@@ -16,7 +16,7 @@ impl Written for NameSet {
 
     ghost written = { names_text };
 
-    fn push_to(&self, text: &mut Text) -> Result<(), AllocError> {
+    fn push_to(&self, text: &mut WrittenText) -> Result<(), AllocError> {
         match self {
             NameSet::Only(name) => text.push(name.as_bytes()),
             NameSet::AllBut(names) => {
@@ -33,7 +33,7 @@ impl Written for Own {
 
     ghost written = { own_text };
 
-    fn push_to(&self, text: &mut Text) -> Result<(), AllocError> {
+    fn push_to(&self, text: &mut WrittenText) -> Result<(), AllocError> {
         text.push_number(self.level)?;
         text.push_byte(b':')?;
         self.names.push_to(text)?;
@@ -56,12 +56,12 @@ impl Written for Test {
 
     ghost written = { sign_text };
 
-    fn push_to(&self, text: &mut Text) -> Result<(), AllocError> {
+    fn push_to(&self, text: &mut WrittenText) -> Result<(), AllocError> {
         text.push_byte(sign(*self))
     }
 }
 
-fn push_saved(text: &mut Text, tests: &[Test]) -> Result<(), AllocError>
+fn push_saved(text: &mut WrittenText, tests: &[Test]) -> Result<(), AllocError>
     ensures { OnOk result (text.new ≡ text.old ++ saved_text tests.now) }
 {
     let Some((first, others)) = tests.split_first() else {
@@ -74,7 +74,7 @@ fn push_saved(text: &mut Text, tests: &[Test]) -> Result<(), AllocError>
 }
 
 // What is said of `$TEST`, and the held locks.
-fn push_front(text: &mut Text, test: Test, held: &[LockTerm]) -> Result<(), AllocError>
+fn push_front(text: &mut WrittenText, test: Test, held: &[LockTerm]) -> Result<(), AllocError>
     ensures { OnOk result (text.new ≡ text.old ++ (codes "T=" ++ (sign test ∷
         (codes " H=" ++ listed term_text held.now)))) }
 {
@@ -86,7 +86,7 @@ fn push_front(text: &mut Text, test: Test, held: &[LockTerm]) -> Result<(), Allo
 }
 
 /// The case of an exit.
-pub(crate) fn push_exit(text: &mut Text, exit: &ExitCase) -> Result<(), AllocError>
+pub(crate) fn push_exit(text: &mut WrittenText, exit: &ExitCase) -> Result<(), AllocError>
     ensures { OnOk result (text.new ≡ text.old ++ exit_text exit.now) }
 {
     push_front(text, exit.test, exit.held.as_slice())?;
@@ -96,7 +96,7 @@ pub(crate) fn push_exit(text: &mut Text, exit: &ExitCase) -> Result<(), AllocErr
 }
 
 // New and kept names.
-fn push_names(text: &mut Text, own: &[Own], kept: &[Name]) -> Result<(), AllocError>
+fn push_names(text: &mut WrittenText, own: &[Own], kept: &[Name]) -> Result<(), AllocError>
     ensures { OnOk result (text.new ≡ text.old ++ (codes " O=" ++ (listed own_text own.now ++
         (codes " K=" ++ listed name_text kept.now)))) }
 {
@@ -108,7 +108,7 @@ fn push_names(text: &mut Text, own: &[Own], kept: &[Name]) -> Result<(), AllocEr
 }
 
 /// A case.
-pub fn push_case(text: &mut Text, case: &Case) -> Result<(), AllocError>
+pub fn push_case(text: &mut WrittenText, case: &Case) -> Result<(), AllocError>
     ensures { OnOk result (text.new ≡ text.old ++ case_text case.now) }
 {
     push_front(text, case.test, case.held.as_slice())?;
@@ -123,7 +123,7 @@ impl Written for Case {
 
     ghost written = { case_text };
 
-    fn push_to(&self, text: &mut Text) -> Result<(), AllocError> {
+    fn push_to(&self, text: &mut WrittenText) -> Result<(), AllocError> {
         push_case(text, self)
     }
 }

@@ -9,10 +9,10 @@ ghost use Rattle.mlk_expr.specs.Reading.{next, nested_in, list_with, actual_with
 ghost use Rattle.mlk_expr.specs.Touches.{calls_may};
 ghost use Rattle.mlk_text.specs.Failures.{Reads};
 
+use crate::context::{Context, Passing};
 use crate::part::{callee, list_room, name};
 use crate::read::chain;
 use crate::refusal::{Offence, Wrong, no_actual, no_actuals_end, no_call, refused};
-use crate::scope::{Passing, Scope};
 use mlk_expr_tokens::lexeme::{column_of, is_missing};
 use mlk_syntax::{Actual, Expr};
 use mlk_text::lexeme::byte_of;
@@ -23,18 +23,18 @@ use std::alloc::Global;
 #[cycle(reading)]
 fn actual<'a>(
     alloc: Global,
-    scope: &Scope,
+    context: &Context,
     passing: Passing,
     bytes: &'a [u8],
 ) -> Result<(Actual, &'a [u8]), Failure<Offence>>
     ensures { Reads (λ x. (actual_of x.0, x.1.now)) result
-        (actual_with passing scope.now.end (nested_in scope.now) bytes.now) }
+        (actual_with passing context.now.end (nested_in context.now) bytes.now) }
 {
     if let Some(after) = byte_of(b'.', bytes) {
         match name(alloc, after) {
             Ok(_) if !passing.lends() => return Err(refused(Wrong::Lent, bytes)),
             Ok((name, rest)) => {
-                return Ok((Actual::ByRef(column_of(scope.end, bytes), name), rest));
+                return Ok((Actual::ByRef(column_of(context.end, bytes), name), rest));
             }
             Err(Failure::OutOfMemory) => return Err(Failure::OutOfMemory),
             Err(Failure::Refused(_)) => {}
@@ -43,7 +43,7 @@ fn actual<'a>(
     if is_missing(bytes) {
         return Ok((Actual::Missing, bytes));
     }
-    match chain(alloc, scope, bytes) {
+    match chain(alloc, context, bytes) {
         Ok((value, rest)) => Ok((Actual::Value(value), rest)),
         Err(refusal) => Err(no_actual(passing, refusal, bytes)),
     }
@@ -54,16 +54,16 @@ fn actual<'a>(
 #[cycle(reading)]
 fn some_actuals<'a>(
     alloc: Global,
-    scope: &Scope,
+    context: &Context,
     passing: Passing,
     bytes: &'a [u8],
 ) -> Result<(Vec<Actual>, &'a [u8]), Failure<Offence>>
     ensures { Reads (λ x. (actual_trees x.0.items, x.1.now)) result
-        (list_with (actual_with passing scope.now.end (nested_in scope.now)) bytes.now) }
+        (list_with (actual_with passing context.now.end (nested_in context.now)) bytes.now) }
 {
-    let (first, rest) = actual(alloc, scope, passing, bytes)?;
+    let (first, rest) = actual(alloc, context, passing, bytes)?;
     let room = list_room(alloc, rest)?;
-    let (found, rest) = actuals_rest(alloc, scope, passing, room, first, rest)?;
+    let (found, rest) = actuals_rest(alloc, context, passing, room, first, rest)?;
     let Some(rest) = byte_of(b')', rest) else {
         return Err(no_actuals_end(&found, rest));
     };
@@ -75,23 +75,23 @@ fn some_actuals<'a>(
 #[cycle(reading)]
 pub(crate) fn actuals<'a>(
     alloc: Global,
-    scope: &Scope,
+    context: &Context,
     passing: Passing,
     bytes: &'a [u8],
 ) -> Result<(Vec<Actual>, &'a [u8]), Failure<Offence>>
     ensures { Reads (λ x. (actual_trees x.0.items, x.1.now)) result
-        (actuals_with passing scope.now.end (nested_in scope.now) bytes.now) }
+        (actuals_with passing context.now.end (nested_in context.now) bytes.now) }
 {
     if let Some(rest) = byte_of(b')', bytes) {
         return Ok((Vec::new(alloc), rest));
     }
-    some_actuals(alloc, scope, passing, bytes)
+    some_actuals(alloc, context, passing, bytes)
 }
 
 #[cycle(reading)]
 fn actuals_rest<'a>(
     alloc: Global,
-    scope: &Scope,
+    context: &Context,
     passing: Passing,
     room: Vec<Actual>,
     first: Actual,
@@ -101,7 +101,7 @@ fn actuals_rest<'a>(
     requires spare { vec_len room < vec_capacity room }
     ensures { Reads (λ x. (actual_trees x.0.items, x.1.now)) result
         (put (actual_of first ∷ [])
-        (many (byte_at 44) (next (actual_with passing scope.now.end (nested_in scope.now)))
+        (many (byte_at 44) (next (actual_with passing context.now.end (nested_in context.now)))
         (suc (length bytes.now)) bytes.now)) }
 {
     let mut found = room;
@@ -109,7 +109,7 @@ fn actuals_rest<'a>(
     let mut rest = bytes;
     while let Some(after) = byte_of(b',', rest) {
         make_room(&mut found)?;
-        let (item, after) = actual(alloc, scope, passing, after)?;
+        let (item, after) = actual(alloc, context, passing, after)?;
         found.push_reserved(item);
         rest = after;
     }
@@ -121,22 +121,22 @@ fn actuals_rest<'a>(
 #[cycle(reading)]
 pub(crate) fn call<'a>(
     alloc: Global,
-    scope: &Scope,
+    context: &Context,
     whole: &[u8],
     bytes: &'a [u8],
 ) -> Result<(Expr, &'a [u8]), Failure<Offence>>
     ensures { Reads (λ x. (tree_of x.0, x.1.now)) result
-        (call_with (calls_may scope.now.allows) scope.now.end (nested_in scope.now) (column_of scope.now.end whole.now) bytes.now) }
+        (call_with (calls_may context.now.allows) context.now.end (nested_in context.now) (column_of context.now.end whole.now) bytes.now) }
 {
-    if !scope.allows.calls() {
+    if !context.allows.calls() {
         return Err(no_call(whole));
     }
     let (callee, rest) = callee(alloc, bytes)?;
     let boxed = Box::new(alloc, callee)?;
-    let column = column_of(scope.end, whole);
+    let column = column_of(context.end, whole);
     let Some(after) = byte_of(b'(', rest) else {
         return Ok((Expr::Call(column, boxed, None), rest));
     };
-    let (given, rest) = actuals(alloc, scope, Passing::ByReference, after)?;
+    let (given, rest) = actuals(alloc, context, Passing::ByReference, after)?;
     Ok((Expr::Call(column, boxed, Some(given)), rest))
 }

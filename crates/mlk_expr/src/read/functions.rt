@@ -10,13 +10,13 @@ ghost use Rattle.mlk_expr.specs.Reading.{dollar_with, atom_in, quiet};
 ghost use Rattle.mlk_expr.specs.Touches.{calls_may};
 ghost use Rattle.mlk_text.specs.Failures.{Reads};
 
+use crate::context::{Allows, Context};
 use crate::part::{asks_subscript, has_subscript, list_room, named};
 use crate::read::actuals::call;
 use crate::read::{atom, chain};
 use crate::refusal::{
     Offence, Wrong, no_arguments_end, no_end, no_function, no_operand, no_word, refused,
 };
-use crate::scope::{Allows, Scope};
 use mlk_expr_tokens::lexeme::starts_reference;
 use mlk_expr_tokens::words::{function_of, is_select, special_of};
 use mlk_syntax::{Expr, Function};
@@ -29,14 +29,14 @@ use std::alloc::Global;
 #[cycle(reading)]
 fn exprs<'a>(
     alloc: Global,
-    scope: &Scope,
+    context: &Context,
     bytes: &'a [u8],
 ) -> Result<(Vec<Expr>, &'a [u8]), Failure<Offence>>
-    ensures { Reads (λ x. (trees x.0.items, x.1.now)) result (list_with (nested_in scope.now) bytes.now) }
+    ensures { Reads (λ x. (trees x.0.items, x.1.now)) result (list_with (nested_in context.now) bytes.now) }
 {
-    let (first, rest) = chain(alloc, scope, bytes)?;
+    let (first, rest) = chain(alloc, context, bytes)?;
     let room = list_room(alloc, rest)?;
-    let (found, rest) = exprs_rest(alloc, scope, room, first, rest)?;
+    let (found, rest) = exprs_rest(alloc, context, room, first, rest)?;
     let Some(rest) = byte_of(b')', rest) else {
         return Err(no_end(rest));
     };
@@ -46,7 +46,7 @@ fn exprs<'a>(
 #[cycle(reading)]
 fn exprs_rest<'a>(
     alloc: Global,
-    scope: &Scope,
+    context: &Context,
     room: Vec<Expr>,
     first: Expr,
     bytes: &'a [u8],
@@ -54,14 +54,14 @@ fn exprs_rest<'a>(
     requires empty { room.items ≡ [] }
     requires spare { vec_len room < vec_capacity room }
     ensures { Reads (λ x. (trees x.0.items, x.1.now)) result
-        (put (tree_of first ∷ []) (many (byte_at 44) (next (nested_in scope.now)) (suc (length bytes.now)) bytes.now)) }
+        (put (tree_of first ∷ []) (many (byte_at 44) (next (nested_in context.now)) (suc (length bytes.now)) bytes.now)) }
 {
     let mut found = room;
     found.push_reserved(first);
     let mut rest = bytes;
     while let Some(after) = byte_of(b',', rest) {
         make_room(&mut found)?;
-        let (item, after) = chain(alloc, scope, after)?;
+        let (item, after) = chain(alloc, context, after)?;
         found.push_reserved(item);
         rest = after;
     }
@@ -72,7 +72,7 @@ fn exprs_rest<'a>(
 #[cycle(reading)]
 fn others<'a>(
     alloc: Global,
-    scope: &Scope,
+    context: &Context,
     most: usize,
     room: Vec<Expr>,
     first: Expr,
@@ -82,7 +82,7 @@ fn others<'a>(
     requires spare { vec_len room < vec_capacity room }
     ensures { Reads (λ x. (trees x.0.items, x.1.now)) result
         (few (suc most) (put (tree_of first ∷ [])
-        (many (byte_at 44) (next (nested_in scope.now)) (suc (length bytes.now)) bytes.now))) }
+        (many (byte_at 44) (next (nested_in context.now)) (suc (length bytes.now)) bytes.now))) }
 {
     let mut found = room;
     found.push_reserved(first);
@@ -92,7 +92,7 @@ fn others<'a>(
             return Err(refused(Wrong::Form, rest));
         }
         make_room(&mut found)?;
-        let (item, after) = chain(alloc, scope, after)?;
+        let (item, after) = chain(alloc, context, after)?;
         found.push_reserved(item);
         rest = after;
     }
@@ -104,27 +104,27 @@ fn others<'a>(
 #[cycle(reading)]
 fn arguments<'a>(
     alloc: Global,
-    scope: &Scope,
+    context: &Context,
     function: Function,
     bytes: &'a [u8],
 ) -> Result<(Vec<Expr>, &'a [u8]), Failure<Offence>>
     ensures { Reads (λ x. (trees x.0.items, x.1.now)) result
-        (arguments_with (atom_in scope.now) (nested_in scope.now) (nested_in (quiet scope.now)) function bytes.now) }
+        (arguments_with (atom_in context.now) (nested_in context.now) (nested_in (quiet context.now)) function bytes.now) }
 {
     let Some(most) = named(function) else {
-        return exprs(alloc, scope, bytes);
+        return exprs(alloc, context, bytes);
     };
     if !starts_reference(bytes) {
         return Err(no_operand(bytes));
     }
-    let (first, rest) = atom(alloc, scope, bytes)?;
+    let (first, rest) = atom(alloc, context, bytes)?;
     if asks_subscript(function) && !has_subscript(&first) {
         return Err(giving_up(first, refused(Wrong::Form, rest)));
     }
     let room = list_room(alloc, rest)?;
-    let quiet = Scope {
+    let quiet = Context {
         allows: Allows::NoTouches,
-        ..*scope
+        ..*context
     };
     let (args, rest) = others(alloc, &quiet, most, room, first, rest)?;
     let Some(rest) = byte_of(b')', rest) else {
@@ -137,16 +137,16 @@ fn arguments<'a>(
 #[cycle(reading)]
 fn choice<'a>(
     alloc: Global,
-    scope: &Scope,
+    context: &Context,
     bytes: &'a [u8],
 ) -> Result<((Expr, Expr), &'a [u8]), Failure<Offence>>
-    ensures { Reads (λ x. (choice_of x.0, x.1.now)) result (choice_with (nested_in scope.now) bytes.now) }
+    ensures { Reads (λ x. (choice_of x.0, x.1.now)) result (choice_with (nested_in context.now) bytes.now) }
 {
-    let (condition, rest) = chain(alloc, scope, bytes)?;
+    let (condition, rest) = chain(alloc, context, bytes)?;
     let Some(rest) = byte_of(b':', rest) else {
         return Err(giving_up(condition, no_end(rest)));
     };
-    match chain(alloc, scope, rest) {
+    match chain(alloc, context, rest) {
         Ok((value, rest)) => Ok(((condition, value), rest)),
         Err(failure) => Err(giving_up(condition, failure)),
     }
@@ -157,14 +157,14 @@ fn choice<'a>(
 #[cycle(reading)]
 fn choices<'a>(
     alloc: Global,
-    scope: &Scope,
+    context: &Context,
     bytes: &'a [u8],
 ) -> Result<(Vec<(Expr, Expr)>, &'a [u8]), Failure<Offence>>
-    ensures { Reads (λ x. (choices x.0.items, x.1.now)) result (list_with (choice_with (nested_in scope.now)) bytes.now) }
+    ensures { Reads (λ x. (choices x.0.items, x.1.now)) result (list_with (choice_with (nested_in context.now)) bytes.now) }
 {
-    let (first, rest) = choice(alloc, scope, bytes)?;
+    let (first, rest) = choice(alloc, context, bytes)?;
     let room = list_room(alloc, rest)?;
-    let (found, rest) = choices_rest(alloc, scope, room, first, rest)?;
+    let (found, rest) = choices_rest(alloc, context, room, first, rest)?;
     let Some(rest) = byte_of(b')', rest) else {
         return Err(no_end(rest));
     };
@@ -174,7 +174,7 @@ fn choices<'a>(
 #[cycle(reading)]
 fn choices_rest<'a>(
     alloc: Global,
-    scope: &Scope,
+    context: &Context,
     room: Vec<(Expr, Expr)>,
     first: (Expr, Expr),
     bytes: &'a [u8],
@@ -183,14 +183,14 @@ fn choices_rest<'a>(
     requires spare { vec_len room < vec_capacity room }
     ensures { Reads (λ x. (choices x.0.items, x.1.now)) result
         (put (choice_of first ∷ [])
-        (many (byte_at 44) (next (choice_with (nested_in scope.now))) (suc (length bytes.now)) bytes.now)) }
+        (many (byte_at 44) (next (choice_with (nested_in context.now))) (suc (length bytes.now)) bytes.now)) }
 {
     let mut found = room;
     found.push_reserved(first);
     let mut rest = bytes;
     while let Some(after) = byte_of(b',', rest) {
         make_room(&mut found)?;
-        let (item, after) = choice(alloc, scope, after)?;
+        let (item, after) = choice(alloc, context, after)?;
         found.push_reserved(item);
         rest = after;
     }
@@ -202,22 +202,22 @@ fn choices_rest<'a>(
 #[cycle(reading)]
 fn function<'a>(
     alloc: Global,
-    scope: &Scope,
+    context: &Context,
     whole: &[u8],
     word: &[u8],
     bytes: &'a [u8],
 ) -> Result<(Expr, &'a [u8]), Failure<Offence>>
     ensures { Reads (λ x. (tree_of x.0, x.1.now)) result
-        (function_with (atom_in scope.now) (nested_in scope.now) (nested_in (quiet scope.now)) word.now bytes.now) }
+        (function_with (atom_in context.now) (nested_in context.now) (nested_in (quiet context.now)) word.now bytes.now) }
 {
     if is_select(word) {
-        let (choices, rest) = choices(alloc, scope, bytes)?;
+        let (choices, rest) = choices(alloc, context, bytes)?;
         return Ok((Expr::Select(choices), rest));
     }
     let Some(function) = function_of(word) else {
         return Err(no_function(whole, word));
     };
-    let (args, rest) = arguments(alloc, scope, function, bytes)?;
+    let (args, rest) = arguments(alloc, context, function, bytes)?;
     Ok((Expr::Func(function, args), rest))
 }
 
@@ -227,20 +227,20 @@ fn function<'a>(
 #[inline(always)]
 pub(crate) fn dollar<'a>(
     alloc: Global,
-    scope: &Scope,
+    context: &Context,
     whole: &[u8],
     bytes: &'a [u8],
 ) -> Result<(Expr, &'a [u8]), Failure<Offence>>
     ensures { Reads (λ x. (tree_of x.0, x.1.now)) result
-        (dollar_with (calls_may scope.now.allows) scope.now.end (atom_in scope.now) (nested_in scope.now)
-        (nested_in (quiet scope.now)) (column_of scope.now.end whole.now) bytes.now) }
+        (dollar_with (calls_may context.now.allows) context.now.end (atom_in context.now) (nested_in context.now)
+        (nested_in (quiet context.now)) (column_of context.now.end whole.now) bytes.now) }
 {
     if let Some(rest) = byte_of(b'$', bytes) {
-        return call(alloc, scope, whole, rest);
+        return call(alloc, context, whole, rest);
     }
     let (word, rest) = word_at(bytes);
     if let Some(after) = byte_of(b'(', rest) {
-        return function(alloc, scope, whole, word, after);
+        return function(alloc, context, whole, word, after);
     }
     let Some(special) = special_of(word) else {
         return Err(no_word(whole, bytes));

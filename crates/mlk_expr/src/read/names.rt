@@ -9,10 +9,10 @@ ghost use Rattle.mlk_expr.specs.Reading.{few, next, nested_in, list_with, placed
 ghost use Rattle.mlk_expr.specs.Touches.{globals_may};
 ghost use Rattle.mlk_text.specs.Failures.{Reads};
 
+use crate::context::Context;
 use crate::part::{global_name, list_room, name};
 use crate::read::chain;
 use crate::refusal::{Offence, Wrong, no_end, refused};
-use crate::scope::Scope;
 use mlk_expr_tokens::lexeme::column_of;
 use mlk_syntax::{Expr, Subscript};
 use mlk_text::lexeme::byte_of;
@@ -23,13 +23,13 @@ use std::alloc::Global;
 #[cycle(reading)]
 fn subscript<'a>(
     alloc: Global,
-    scope: &Scope,
+    context: &Context,
     bytes: &'a [u8],
 ) -> Result<(Subscript, &'a [u8]), Failure<Offence>>
-    ensures { Reads (λ x. (sub_of x.0, x.1.now)) result (placed scope.now.end (nested_in scope.now) bytes.now) }
+    ensures { Reads (λ x. (sub_of x.0, x.1.now)) result (placed context.now.end (nested_in context.now) bytes.now) }
 {
-    let column = column_of(scope.end, bytes);
-    let (value, rest) = chain(alloc, scope, bytes)?;
+    let column = column_of(context.end, bytes);
+    let (value, rest) = chain(alloc, context, bytes)?;
     Ok((Subscript { column, value }, rest))
 }
 
@@ -38,15 +38,15 @@ fn subscript<'a>(
 #[cycle(reading)]
 fn subs<'a>(
     alloc: Global,
-    scope: &Scope,
+    context: &Context,
     bytes: &'a [u8],
 ) -> Result<(Vec<Subscript>, &'a [u8]), Failure<Offence>>
     ensures { Reads (λ x. (sub_trees x.0.items, x.1.now)) result
-        (few 32 (list_with (placed scope.now.end (nested_in scope.now)) bytes.now)) }
+        (few 32 (list_with (placed context.now.end (nested_in context.now)) bytes.now)) }
 {
-    let (first, rest) = subscript(alloc, scope, bytes)?;
+    let (first, rest) = subscript(alloc, context, bytes)?;
     let room = list_room(alloc, rest)?;
-    let (found, rest) = subs_rest(alloc, scope, room, first, rest)?;
+    let (found, rest) = subs_rest(alloc, context, room, first, rest)?;
     let Some(rest) = byte_of(b')', rest) else {
         return Err(no_end(rest));
     };
@@ -56,7 +56,7 @@ fn subs<'a>(
 #[cycle(reading)]
 fn subs_rest<'a>(
     alloc: Global,
-    scope: &Scope,
+    context: &Context,
     room: Vec<Subscript>,
     first: Subscript,
     bytes: &'a [u8],
@@ -65,7 +65,7 @@ fn subs_rest<'a>(
     requires spare { vec_len room < vec_capacity room }
     ensures { Reads (λ x. (sub_trees x.0.items, x.1.now)) result
         (few 32 (put (sub_of first ∷ [])
-        (many (byte_at 44) (next (placed scope.now.end (nested_in scope.now))) (suc (length bytes.now)) bytes.now))) }
+        (many (byte_at 44) (next (placed context.now.end (nested_in context.now))) (suc (length bytes.now)) bytes.now))) }
 {
     let mut found = room;
     found.push_reserved(first);
@@ -75,7 +75,7 @@ fn subs_rest<'a>(
             return Err(refused(Wrong::Form, rest));
         }
         make_room(&mut found)?;
-        let (item, after) = subscript(alloc, scope, after)?;
+        let (item, after) = subscript(alloc, context, after)?;
         found.push_reserved(item);
         rest = after;
     }
@@ -87,13 +87,13 @@ fn subs_rest<'a>(
 #[inline(always)]
 fn some_subs<'a>(
     alloc: Global,
-    scope: &Scope,
+    context: &Context,
     bytes: &'a [u8],
 ) -> Result<(Vec<Subscript>, &'a [u8]), Failure<Offence>>
     ensures { Reads (λ x. (sub_trees x.0.items, x.1.now)) result
-        (few 32 (list_with (placed scope.now.end (nested_in scope.now)) bytes.now)) }
+        (few 32 (list_with (placed context.now.end (nested_in context.now)) bytes.now)) }
 {
-    subs(alloc, scope, bytes)
+    subs(alloc, context, bytes)
 }
 
 /// The subscripts at the front, which may be none, and what is after them.
@@ -102,15 +102,15 @@ fn some_subs<'a>(
 #[inline(always)]
 pub(crate) fn subscripts<'a>(
     alloc: Global,
-    scope: &Scope,
+    context: &Context,
     bytes: &'a [u8],
 ) -> Result<(Vec<Subscript>, &'a [u8]), Failure<Offence>>
-    ensures { Reads (λ x. (sub_trees x.0.items, x.1.now)) result (subs_with scope.now.end (nested_in scope.now) bytes.now) }
+    ensures { Reads (λ x. (sub_trees x.0.items, x.1.now)) result (subs_with context.now.end (nested_in context.now) bytes.now) }
 {
     let Some(rest) = byte_of(b'(', bytes) else {
         return Ok((Vec::new(alloc), bytes));
     };
-    some_subs(alloc, scope, rest)
+    some_subs(alloc, context, rest)
 }
 
 /// A local with its subscripts.
@@ -118,13 +118,13 @@ pub(crate) fn subscripts<'a>(
 #[inline(always)]
 pub(crate) fn local<'a>(
     alloc: Global,
-    scope: &Scope,
+    context: &Context,
     bytes: &'a [u8],
 ) -> Result<(Expr, &'a [u8]), Failure<Offence>>
-    ensures { Reads (λ x. (tree_of x.0, x.1.now)) result (local_with scope.now.end (nested_in scope.now) bytes.now) }
+    ensures { Reads (λ x. (tree_of x.0, x.1.now)) result (local_with context.now.end (nested_in context.now) bytes.now) }
 {
     let (name, rest) = name(alloc, bytes)?;
-    let (subs, rest) = subscripts(alloc, scope, rest)?;
+    let (subs, rest) = subscripts(alloc, context, rest)?;
     Ok((Expr::Local(name, subs), rest))
 }
 
@@ -133,14 +133,17 @@ pub(crate) fn local<'a>(
 #[inline(always)]
 pub(crate) fn global<'a>(
     alloc: Global,
-    scope: &Scope,
+    context: &Context,
     whole: &[u8],
     bytes: &'a [u8],
 ) -> Result<(Expr, &'a [u8]), Failure<Offence>>
     ensures { Reads (λ x. (tree_of x.0, x.1.now)) result
-        (global_with (globals_may scope.now.allows) scope.now.end (column_of scope.now.end whole.now) (nested_in scope.now) bytes.now) }
+        (global_with (globals_may context.now.allows) context.now.end (column_of context.now.end whole.now) (nested_in context.now) bytes.now) }
 {
-    let (name, rest) = global_name(alloc, scope.allows, whole, bytes)?;
-    let (subs, rest) = subscripts(alloc, scope, rest)?;
-    Ok((Expr::Global(column_of(scope.end, whole), name, subs), rest))
+    let (name, rest) = global_name(alloc, context.allows, whole, bytes)?;
+    let (subs, rest) = subscripts(alloc, context, rest)?;
+    Ok((
+        Expr::Global(column_of(context.end, whole), name, subs),
+        rest,
+    ))
 }

@@ -9,35 +9,40 @@ ghost use Rattle.mlk_rules_file.specs.RuleSections.{cover_placed, cover_kinds, c
 
 use crate::read::fault::{RulesFault, Section, refused};
 use crate::read::kinds::{
-    Item, Spelling, is_item, is_long, is_long_second, is_pattern, is_second_template, is_template,
+    SpelledItem, Spelling, is_item, is_long, is_long_second, is_pattern, is_second_template,
+    is_template,
 };
 use crate::read::pattern::pattern;
 use crate::read::spelling::{spelled_name, spelled_pattern};
 use crate::read::tables::cover_keys;
-use mlk_rules::{Cover, Part, Template};
+use mlk_rules::{Cover, Template, TemplatePart};
 use mlk_text::{Code, Failure, List, Name, copy_of};
 use std::alloc::{AllocError, Global};
 
-fn place_of(name: &Name, items: &[Item]) -> Option<usize>
+fn place_of(name: &Name, items: &[SpelledItem]) -> Option<usize>
     ensures { result ≡ place_of name.now items.now }
 {
     items.iter().position(|item| is_item(name, item))
 }
 
-fn part_of(items: &[Item], item: &Item) -> Result<Option<Part>, AllocError>
+fn part_of(items: &[SpelledItem], item: &SpelledItem) -> Result<Option<TemplatePart>, AllocError>
     ensures { IfOk result (λ p. p ≡ part_of items.now item.now) }
 {
     match item {
-        Item::Literal(value) => Ok(Some(Part::Literal(value.copy()?))),
-        Item::Variable(name) => match place_of(name, items) {
-            Some(place) => Ok(Some(Part::Place(place))),
+        SpelledItem::Literal(value) => Ok(Some(TemplatePart::Literal(value.copy()?))),
+        SpelledItem::Variable(name) => match place_of(name, items) {
+            Some(place) => Ok(Some(TemplatePart::Place(place))),
             None => Ok(None),
         },
-        Item::Job => Ok(None),
+        SpelledItem::Job => Ok(None),
     }
 }
 
-fn parts_of(alloc: Global, items: &[Item], lock: &[Item]) -> Result<Option<List<Part>>, AllocError>
+fn parts_of(
+    alloc: Global,
+    items: &[SpelledItem],
+    lock: &[SpelledItem],
+) -> Result<Option<List<TemplatePart>>, AllocError>
     ensures { IfOk result (λ p. p ≡ parts_of items.now lock.now) }
 {
     let mut found = Vec::new(alloc);
@@ -51,7 +56,11 @@ fn parts_of(alloc: Global, items: &[Item], lock: &[Item]) -> Result<Option<List<
 }
 
 // The lock of a spelling, where the pattern has its variables.
-fn template_of(alloc: Global, items: &[Item], s: &Spelling) -> Result<Option<Template>, AllocError>
+fn template_of(
+    alloc: Global,
+    items: &[SpelledItem],
+    s: &Spelling,
+) -> Result<Option<Template>, AllocError>
     ensures { IfOk result (λ t. t ≡ template_of items.now s.now) }
 {
     let Some(parts) = parts_of(alloc, items, s.items.as_slice())? else {
@@ -66,7 +75,7 @@ fn template_of(alloc: Global, items: &[Item], s: &Spelling) -> Result<Option<Tem
 // The same of a second lock, which a cover may lack.
 fn second_template(
     alloc: Global,
-    items: &[Item],
+    items: &[SpelledItem],
     second: &Option<Spelling>,
 ) -> Result<Option<Option<Template>>, AllocError>
     ensures { IfOk result (λ t. t ≡ second_template items.now second.now) }

@@ -7,7 +7,7 @@ ghost use Rattle.mlk_rules_file.specs.RuleKinds.{values_of, family_name};
 ghost use Rattle.mlk_rules_file.specs.RuleSections.{rank_of, family_by, family_of};
 
 use crate::read::fault::{RulesFault, Section, refused};
-use crate::read::kinds::{Item, Spelling, is_family_name, is_long};
+use crate::read::kinds::{SpelledItem, Spelling, is_family_name, is_long};
 use crate::read::spelling::spelled_name;
 use crate::read::tables::family_keys;
 use mlk_names::LockName;
@@ -16,14 +16,14 @@ use mlk_text::limit::GREATEST_RANK;
 use mlk_text::{Code, Failure, Subscripts, Value, copy_of};
 use std::alloc::{AllocError, Global};
 
-fn push_values(found: &mut Vec<Value>, items: &[Item]) -> Result<(), AllocError>
+fn push_values(found: &mut Vec<Value>, items: &[SpelledItem]) -> Result<(), AllocError>
     ensures { OnOk result (found.new.items ≡ found.old.items ++ values_of items.now) }
 {
     for item in items {
         match item {
-            Item::Literal(value) => found.push(value.copy()?)?,
-            Item::Variable(_) => {}
-            Item::Job => {}
+            SpelledItem::Literal(value) => found.push(value.copy()?)?,
+            SpelledItem::Variable(_) => {}
+            SpelledItem::Job => {}
         }
     }
     Ok(())

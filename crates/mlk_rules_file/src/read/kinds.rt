@@ -12,7 +12,7 @@ pub const MOST_ITEMS: usize = 8;
 
 /// What stands between the parentheses of a name or a pattern.
 #[derive(Drop, Debug)]
-pub enum Item {
+pub enum SpelledItem {
     Literal(Value),
     Variable(Name),
     Job,
@@ -22,7 +22,7 @@ pub enum Item {
 #[derive(Drop, Debug)]
 pub struct Spelling {
     pub root: Root,
-    pub items: List<Item>,
+    pub items: List<SpelledItem>,
     pub extent: Extent,
 }
 
@@ -55,56 +55,58 @@ fn is_node(extent: Extent) -> bool
     }
 }
 
-fn is_literals(items: &[Item]) -> bool
+fn is_literals(items: &[SpelledItem]) -> bool
     ensures { result ≡ is_literals items.now }
 {
-    items.iter().all(|item| matches!(item, Item::Literal(_)))
+    items
+        .iter()
+        .all(|item| matches!(item, SpelledItem::Literal(_)))
 }
 
-fn is_jobless(items: &[Item]) -> bool
+fn is_jobless(items: &[SpelledItem]) -> bool
     ensures { result ≡ is_jobless items.now }
 {
-    items.iter().all(|item| !matches!(item, Item::Job))
+    items.iter().all(|item| !matches!(item, SpelledItem::Job))
 }
 
-fn has_one_job(items: &[Item]) -> bool
+fn has_one_job(items: &[SpelledItem]) -> bool
     ensures { result ≡ has_one_job items.now }
 {
     items
         .iter()
-        .filter(|item| matches!(*item, Item::Job))
+        .filter(|item| matches!(*item, SpelledItem::Job))
         .count()
         == 1
 }
 
 /// Whether the item is the variable of this name.
-pub fn is_item(name: &Name, item: &Item) -> bool
+pub fn is_item(name: &Name, item: &SpelledItem) -> bool
     ensures { result ≡ is_item name.now item.now }
 {
     match item {
-        Item::Literal(_) => false,
-        Item::Variable(n) => name == n,
-        Item::Job => false,
+        SpelledItem::Literal(_) => false,
+        SpelledItem::Variable(n) => name == n,
+        SpelledItem::Job => false,
     }
 }
 
-fn has_variable(name: &Name, items: &[Item]) -> bool
+fn has_variable(name: &Name, items: &[SpelledItem]) -> bool
     ensures { result ≡ has_variable name.now items.now }
 {
     items.iter().any(|item| is_item(name, item))
 }
 
-fn is_new(item: &Item, others: &[Item]) -> bool
+fn is_new(item: &SpelledItem, others: &[SpelledItem]) -> bool
     ensures { result ≡ is_new item.now others.now }
 {
     match item {
-        Item::Literal(_) => true,
-        Item::Variable(n) => !has_variable(n, others),
-        Item::Job => true,
+        SpelledItem::Literal(_) => true,
+        SpelledItem::Variable(n) => !has_variable(n, others),
+        SpelledItem::Job => true,
     }
 }
 
-fn is_distinct(items: &[Item]) -> bool
+fn is_distinct(items: &[SpelledItem]) -> bool
     ensures { result ≡ is_distinct items.now }
 {
     let mut left = items;
@@ -117,7 +119,7 @@ fn is_distinct(items: &[Item]) -> bool
     true
 }
 
-fn has_its_job(section: Section, items: &[Item]) -> bool
+fn has_its_job(section: Section, items: &[SpelledItem]) -> bool
     ensures { result ≡ has_its_job section items.now }
 {
     match section {

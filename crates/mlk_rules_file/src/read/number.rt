@@ -2,7 +2,7 @@
 
 ghost use Rattle.std.specs.Prelude.{◌≡◌, ◌≤◌, ◌∷◌, [], length, bytes_eq, IfOk};
 ghost use Rattle.mlk_text.specs.Failures.{Reads};
-ghost use Rattle.mlk_rules_file.specs.RuleNumbers.{fraction_len, numeral_len, number_at, negative, negative_at};
+ghost use Rattle.mlk_rules_file.specs.RuleNumbers.{fraction_len, numeral_len, literal_value_at, negative, negative_at};
 
 use mlk_numbers::canonical;
 use mlk_text::lexeme::digits;
@@ -32,9 +32,9 @@ fn numeral_len(bytes: &[u8]) -> usize
 }
 
 /// The value of the number at the front, and what is after it.
-#[tactic(auto, unfolding(crate::specs::RuleNumbers::number_at))]
+#[tactic(auto, unfolding(crate::specs::RuleNumbers::literal_value_at))]
 pub fn number(alloc: Global, bytes: &[u8]) -> Result<(Value, &[u8]), Failure<NotThere>>
-    ensures { Reads (λ x. (x.0, x.1.now)) result (number_at bytes.now) }
+    ensures { Reads (λ x. (x.0, x.1.now)) result (literal_value_at bytes.now) }
 {
     let (text, rest) = bytes.split_at(numeral_len(bytes));
     match canonical(alloc, text)? {

@@ -7,7 +7,7 @@ ghost use Rattle.mlk_rules_file.specs.RuleKinds.{elements_of, name_of, pattern};
 ghost use Rattle.mlk_rules_file.specs.RuleSections.{pattern_by, rule_pattern_of};
 
 use crate::read::fault::{RulesFault, Section, refused};
-use crate::read::kinds::{Item, Spelling, is_long, is_pattern};
+use crate::read::kinds::{SpelledItem, Spelling, is_long, is_pattern};
 use crate::read::spelling::spelled_pattern;
 use crate::read::tables::text_key;
 use mlk_names::Root;
@@ -15,14 +15,14 @@ use mlk_rules::{Element, Pattern};
 use mlk_text::{Code, Failure, List, Name};
 use std::alloc::{AllocError, Global};
 
-fn push_elements(found: &mut Vec<Element>, items: &[Item]) -> Result<(), AllocError>
+fn push_elements(found: &mut Vec<Element>, items: &[SpelledItem]) -> Result<(), AllocError>
     ensures { OnOk result (found.new.items ≡ found.old.items ++ elements_of items.now) }
 {
     for item in items {
         match item {
-            Item::Literal(value) => found.push(Element::Literal(value.copy()?))?,
-            Item::Variable(_) => found.push(Element::Variable)?,
-            Item::Job => found.push(Element::Job)?,
+            SpelledItem::Literal(value) => found.push(Element::Literal(value.copy()?))?,
+            SpelledItem::Variable(_) => found.push(Element::Variable)?,
+            SpelledItem::Job => found.push(Element::Job)?,
         }
     }
     Ok(())

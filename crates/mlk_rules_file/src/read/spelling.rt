@@ -4,7 +4,7 @@ ghost use Rattle.std.specs.Prelude.{◌≡◌, bytes_eq, IfOk, option_map};
 ghost use Rattle.mlk_text.specs.Failures.{Reads};
 ghost use Rattle.mlk_rules_file.specs.RuleTexts.{item_at, comma_at, end_of, list_of, parts_of, spelling_of, pattern_of};
 
-use crate::read::kinds::{Item, Spelling};
+use crate::read::kinds::{SpelledItem, Spelling};
 use crate::read::number::{negative_number, number};
 use crate::read::quoted::quoted;
 use mlk_names::Extent;
@@ -20,7 +20,7 @@ fn is_same(bytes: &[u8], text: &[u8]) -> bool
 }
 
 #[tactic(auto, unfolding(crate::specs::RuleTexts::item_at))]
-fn item(alloc: Global, bytes: &[u8]) -> Result<(Item, &[u8]), Failure<NotThere>>
+fn item(alloc: Global, bytes: &[u8]) -> Result<(SpelledItem, &[u8]), Failure<NotThere>>
     ensures { Reads (λ x. (x.0, x.1.now)) result (item_at bytes.now) }
 {
     let Some((first, after)) = bytes.split_first() else {
@@ -30,22 +30,22 @@ fn item(alloc: Global, bytes: &[u8]) -> Result<(Item, &[u8]), Failure<NotThere>>
         let Some(rest) = byte_of(b'J', after) else {
             return Err(Failure::Refused(NotThere));
         };
-        return Ok((Item::Job, rest));
+        return Ok((SpelledItem::Job, rest));
     }
     if *first == b'-' {
         let (value, rest) = negative_number(alloc, after)?;
-        return Ok((Item::Literal(value), rest));
+        return Ok((SpelledItem::Literal(value), rest));
     }
     if *first == b'"' {
         let (value, rest) = quoted(alloc, after)?;
-        return Ok((Item::Literal(value), rest));
+        return Ok((SpelledItem::Literal(value), rest));
     }
     if *first == b'.' || is_digit(*first) {
         let (value, rest) = number(alloc, bytes)?;
-        return Ok((Item::Literal(value), rest));
+        return Ok((SpelledItem::Literal(value), rest));
     }
     let (variable, rest) = name(alloc, bytes)?;
-    Ok((Item::Variable(variable), rest))
+    Ok((SpelledItem::Variable(variable), rest))
 }
 
 fn comma(bytes: &[u8]) -> Option<&[u8]>
@@ -63,7 +63,7 @@ struct PatternItems;
 impl Items for PatternItems {
     ghost use Rattle.mlk_rules_file.specs.RuleTexts.{item_at, comma_at};
 
-    type Item = Item;
+    type Item = SpelledItem;
 
     type Reason = NotThere;
 
@@ -77,7 +77,7 @@ impl Items for PatternItems {
         &self,
         alloc: Global,
         bytes: &'a [u8],
-    ) -> Result<(Item, &'a [u8]), Failure<NotThere>> {
+    ) -> Result<(SpelledItem, &'a [u8]), Failure<NotThere>> {
         item(alloc, bytes)
     }
 
@@ -99,7 +99,7 @@ fn end(bytes: &[u8]) -> Option<Extent>
 }
 
 #[tactic(auto, unfolding(crate::specs::RuleTexts::list_of))]
-fn list(alloc: Global, bytes: &[u8]) -> Result<(List<Item>, Extent), Failure<NotThere>>
+fn list(alloc: Global, bytes: &[u8]) -> Result<(List<SpelledItem>, Extent), Failure<NotThere>>
     ensures { Reads (λ x. x) result (list_of bytes.now) }
 {
     if is_same(bytes, b"...)") {
@@ -113,7 +113,7 @@ fn list(alloc: Global, bytes: &[u8]) -> Result<(List<Item>, Extent), Failure<Not
 }
 
 #[tactic(auto, unfolding(crate::specs::RuleTexts::parts_of))]
-fn parts(alloc: Global, bytes: &[u8]) -> Result<(List<Item>, Extent), Failure<NotThere>>
+fn parts(alloc: Global, bytes: &[u8]) -> Result<(List<SpelledItem>, Extent), Failure<NotThere>>
     ensures { Reads (λ x. x) result (parts_of bytes.now) }
 {
     let Some((first, after)) = bytes.split_first() else {

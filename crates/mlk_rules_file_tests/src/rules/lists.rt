@@ -2,7 +2,7 @@
 
 use super::help::name;
 use mlk_names::{Extent, LockName, Root};
-use mlk_rules_file::{Cover, Element, Family, Part, Pattern, RuleLists, Rules, Template};
+use mlk_rules_file::{Cover, Element, Family, Pattern, RuleLists, Rules, Template, TemplatePart};
 use mlk_text::{List, Subscripts};
 use std::alloc::{AllocError, Global};
 use std::test::Fail;
@@ -26,7 +26,7 @@ fn lock(alloc: Global) -> Result<Template, AllocError> {
     let root = Root::Global(name(alloc, b"ACCT")?);
     Ok(Template {
         root,
-        parts: one(alloc, Part::Place(0))?,
+        parts: one(alloc, TemplatePart::Place(0))?,
     })
 }
 

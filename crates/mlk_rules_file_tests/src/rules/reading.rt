@@ -2,7 +2,7 @@
 
 use super::help::{BASE, family_with};
 use mlk_names::{Extent, Root};
-use mlk_rules_file::{Cover, Element, Family, Part, Pattern, entries, read_rules};
+use mlk_rules_file::{Cover, Element, Family, Pattern, TemplatePart, entries, read_rules};
 use mlk_text::Value;
 use std::test::Fail;
 
@@ -27,16 +27,16 @@ fn has_element(elements: &[Element], i: usize, text: &[u8]) -> bool {
     }
 }
 
-fn has_place(parts: &[Part], i: usize, place: usize) -> bool {
+fn has_place(parts: &[TemplatePart], i: usize, place: usize) -> bool {
     match parts.get(i) {
-        Some(Part::Place(k)) => *k == place,
+        Some(TemplatePart::Place(k)) => *k == place,
         _ => false,
     }
 }
 
-fn has_part(parts: &[Part], i: usize, text: &[u8]) -> bool {
+fn has_part(parts: &[TemplatePart], i: usize, text: &[u8]) -> bool {
     match parts.get(i) {
-        Some(Part::Literal(v)) => v.as_bytes() == text,
+        Some(TemplatePart::Literal(v)) => v.as_bytes() == text,
         _ => false,
     }
 }

@@ -1,16 +1,13 @@
-use Rattle.std.proofs.Common.{inr, rules}
-use Rattle.std.specs.Prelude.{map}
-use Rattle.mlk_syntax.specs.Views.{routine_of}
-use Rattle.mlk_app.proofs.Checks.{by-rules, ok_turned, err_turned}
+use Rattle.std.proofs.Common.{ap, inl, inr}
+use Rattle.mlk_app.specs.declared.checked.NoReport.TheVariants as refusal
+use Rattle.mlk_app.proofs.Checks.{ok_turned, err_turned}
 use Rattle.mlk_app.proofs.checked.outcome_under.Goals as goal
 
-pub returns-in_err-rules-clause-refused : goal.returns-in_err-rules-clause-refused
-returns-in_err-rules-clause-refused g c =
-    let refused = by-rules (map routine_of c.args.program.now) c.args.rules_text.now c.args.task.now c.in_err-rules.field-0.0 c.in_err-rules.ensures.refused in
-    grind rules
+pub returns-in-Err-clause-refused : goal.returns-in-Err-clause-refused
+returns-in-Err-clause-refused g c = inl (c.in-Err.failure, c.in-Err.ensures.refused, ap refusal.Check c.from.ensures)
 
-pub returns-clause-ok : goal.returns-clause-ok
-returns-clause-ok g c = ok_turned c.outcome_with.result (λ r h. (c.in_ok-rules.rules, c.in_ok-rules.ensures.ok, h)) c.outcome_with.ensures.ok
+pub returns-in-Ok-clause-ok : goal.returns-in-Ok-clause-ok
+returns-in-Ok-clause-ok g c = ok_turned c.outcome_with.result (λ o h. (c.in-Ok.rules, c.in-Ok.ensures.ok, h)) c.outcome_with.ensures.ok
 
-pub returns-clause-refused : goal.returns-clause-refused
-returns-clause-refused g c = err_turned c.outcome_with.result (λ r h. inr (c.in_ok-rules.rules, c.in_ok-rules.ensures.ok, h)) c.outcome_with.ensures.refused
+pub returns-in-Ok-clause-refused : goal.returns-in-Ok-clause-refused
+returns-in-Ok-clause-refused g c = err_turned c.outcome_with.result (λ r h. inr (c.in-Ok.rules, c.in-Ok.ensures.ok, h)) c.outcome_with.ensures.refused

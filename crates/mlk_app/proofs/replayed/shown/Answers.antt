@@ -1,10 +1,11 @@
-use Rattle.std.proofs.Common.{rules}
-use Rattle.mlk_app.proofs.Checks.{by-events}
+use Rattle.std.proofs.Common.{refl, rules}
+use Rattle.mlk_app.specs.Replayed.{IsStopped, refusal_of_events}
 use Rattle.mlk_app.proofs.replayed.shown.Goals as goal
 
 pub returns-in_err-system-clause-refused : goal.returns-in_err-system-clause-refused
 returns-in_err-system-clause-refused c =
-    let refused = by-events c.args.program.now c.args.entries.now c.args.events.now c.in_err-system.field-0.0 c.in_err-system.ensures in
+    let e = c.in_err-system.field-0.0 in
+    let stopped : IsStopped c.args.program.now c.args.entries.now c.args.events.now (refusal_of_events e) = (e, c.in_err-system.ensures, refl) in
     grind rules
 
 pub returns-clause-ok : goal.returns-clause-ok

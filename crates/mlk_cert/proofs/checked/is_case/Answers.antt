@@ -1,6 +1,6 @@
 use Rattle.std.proofs.Common.{◌∙◌}
 use Rattle.mlk_cert.proofs.ReadAgain.{case-kept, case-refused}
-use Rattle.mlk_cert.proofs.Equal.{case-equal}
+use Rattle.mlk_cert_parts.proofs.EqualCases.{case-equal}
 use Rattle.mlk_cert.proofs.checked.is_case.Goals as goal
 
 pub same-equal-requires : goal.same-equal-requires

@@ -1,4 +1,4 @@
-use Rattle.mlk_cert.proofs.Whole.{one-certificate}
+use Rattle.mlk_cert.proofs.BothFormats.{one-certificate}
 use Rattle.mlk_cert.proofs.law.one_certificate.Goals as goal
 
 pub returns : goal.returns

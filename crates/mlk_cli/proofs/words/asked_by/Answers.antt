@@ -2,11 +2,14 @@ use Rattle.std.proofs.Common.{◌∙◌, sym, ap, codes, rules}
 use Rattle.std.specs.Prelude.{option_map}
 use Rattle.clap.specs.Words.{found_of, rows_of}
 use Rattle.clap.proofs.WalkLemmas.{first_value-rows}
-use Rattle.mlk_cli.proofs.CommandLine.{asks-nothing, checks-nothing, verifies-nothing, replays-nothing}
+use Rattle.mlk_cli.proofs.CommandLine.{asks-nothing, checks-nothing, makes-nothing, verifies-nothing, replays-nothing}
 use Rattle.mlk_cli.proofs.words.asked_by.Goals as goal
 
 pub returns-in_default : goal.returns-in_default
-returns-in_default c = verifies-nothing c.args.name.now (rows_of (found_of c.args.matches.now)) (grind rules) c.in_default.ensures
+returns-in_default c = makes-nothing c.args.name.now (rows_of (found_of c.args.matches.now)) (grind rules) c.in_default.ensures
+
+pub returns-in_default-number_of : goal.returns-in_default-number_of
+returns-in_default-number_of c = verifies-nothing c.args.name.now (rows_of (found_of c.args.matches.now)) (grind rules) c.in_default-number_of.ensures
 
 pub returns-in_default-get_str : goal.returns-in_default-get_str
 returns-in_default-get_str c =
@@ -23,11 +26,11 @@ returns-in_default-get_str-2 c =
     let found = found_of c.args.matches.now in
     asks-nothing c.args.name.now (rows_of found) (grind rules) (grind rules) (grind rules) (c.in_default-get_str-2.ensures ∙ first_value-rows found (codes "CERT"))
 
-pub returns-in_default-workers_of : goal.returns-in_default-workers_of
-returns-in_default-workers_of c =
-    checks-nothing c.args.name.now (rows_of (found_of c.args.matches.now)) (grind rules) (grind rules) (grind rules) c.in_default-workers_of.ensures
+pub returns-in_default-number_of-2 : goal.returns-in_default-number_of-2
+returns-in_default-number_of-2 c =
+    checks-nothing c.args.name.now (rows_of (found_of c.args.matches.now)) (grind rules) (grind rules) (grind rules) c.in_default-number_of-2.ensures
 
 pub returns : goal.returns
 returns c =
     let found = found_of c.args.matches.now in
-    (grind rules, sym (first_value-rows found (codes "CERT")) ∙ sym c.get_str-2.ensures ∙ ap (option_map (λ s. s.now)) c.in-Some-get_str-2.is, c.in-Some-workers_of.ensures)
+    (grind rules, sym (first_value-rows found (codes "CERT")) ∙ sym c.get_str-2.ensures ∙ ap (option_map (λ s. s.now)) c.in-Some-get_str-2.is, c.in-Some-number_of-2.ensures)

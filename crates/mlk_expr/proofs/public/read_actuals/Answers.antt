@@ -1,10 +1,10 @@
-use Rattle.mlk_expr.specs.declared.scope.Allows.TheVariants.{Everything}
-use Rattle.mlk_expr.specs.declared.scope.Passing.TheVariants.{ByReference}
+use Rattle.mlk_expr.specs.declared.context.Allows.TheVariants.{Everything}
+use Rattle.mlk_expr.specs.declared.context.Passing.TheVariants.{ByReference}
 use Rattle.mlk_syntax.specs.ExprTrees.{actual_trees}
 use Rattle.mlk_expr.specs.Touches.{given_stand}
 use Rattle.mlk_expr.specs.Grammar.{IsActualList}
 use Rattle.mlk_expr.specs.Theorem.{ListEnds}
-use Rattle.mlk_expr.proofs.Scopes.{given-anything, only-freely, refuses-freely, if_ok, if_err}
+use Rattle.mlk_expr.proofs.Contexts.{given-anything, only-freely, refuses-freely, if_ok, if_err}
 use Rattle.mlk_expr.proofs.public.read_actuals.Goals as goal
 
 pub returns-clause-only : goal.returns-clause-only

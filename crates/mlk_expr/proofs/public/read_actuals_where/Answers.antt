@@ -6,7 +6,7 @@ use Rattle.mlk_expr.specs.Theorem.{ListEnds}
 use Rattle.mlk_expr.proofs.Followed as followed
 use Rattle.mlk_expr.specs.Reading.{actual_list_in}
 use Rattle.mlk_text.specs.Failures.{FailsOn}
-use Rattle.mlk_expr.proofs.Scopes.{actual_list_in-exact, same-standing}
+use Rattle.mlk_expr.proofs.Contexts.{actual_list_in-exact, same-standing}
 use Rattle.mlk_expr.proofs.Places.{rest-within, stands, only, refuses}
 use Rattle.mlk_expr.proofs.Joined.{same-list}
 use Rattle.mlk_expr.proofs.public.read_actuals_where.Goals as goal

@@ -1,9 +1,9 @@
-use Rattle.mlk_expr.specs.declared.scope.Allows.TheVariants.{Everything}
+use Rattle.mlk_expr.specs.declared.context.Allows.TheVariants.{Everything}
 use Rattle.mlk_syntax.specs.ExprTrees.{tree_of}
 use Rattle.mlk_expr.specs.Touches.{may_stand}
 use Rattle.mlk_expr.specs.Grammar.{IsExpr}
 use Rattle.mlk_expr.specs.Theorem.{ExprEnds}
-use Rattle.mlk_expr.proofs.Scopes.{everything, only-freely, refuses-freely, if_ok, if_err}
+use Rattle.mlk_expr.proofs.Contexts.{everything, only-freely, refuses-freely, if_ok, if_err}
 use Rattle.mlk_expr.proofs.public.read_expr.Goals as goal
 
 pub returns-clause-only : goal.returns-clause-only

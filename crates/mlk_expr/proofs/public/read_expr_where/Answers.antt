@@ -6,7 +6,7 @@ use Rattle.mlk_expr.specs.Theorem.{ExprEnds}
 use Rattle.mlk_expr.proofs.Followed as followed
 use Rattle.mlk_expr.specs.Reading.{expr_in}
 use Rattle.mlk_text.specs.Failures.{FailsOn}
-use Rattle.mlk_expr.proofs.Scopes.{expr_in-exact, same-standing}
+use Rattle.mlk_expr.proofs.Contexts.{expr_in-exact, same-standing}
 use Rattle.mlk_expr.proofs.Places.{rest-within, stands, only, refuses}
 use Rattle.mlk_expr.proofs.Joined.{same-expr}
 use Rattle.mlk_expr.proofs.public.read_expr_where.Goals as goal

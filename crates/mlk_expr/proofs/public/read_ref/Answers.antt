@@ -1,9 +1,9 @@
-use Rattle.mlk_expr.specs.declared.scope.Allows.TheVariants.{Everything}
+use Rattle.mlk_expr.specs.declared.context.Allows.TheVariants.{Everything}
 use Rattle.mlk_syntax.specs.ExprTrees.{tree_of}
 use Rattle.mlk_expr.specs.Touches.{subs_stand}
 use Rattle.mlk_expr.specs.Grammar.{IsReference}
 use Rattle.mlk_expr.specs.Theorem.{ReferenceEnds}
-use Rattle.mlk_expr.proofs.Scopes.{subs-anything, only-freely, refuses-freely, if_ok, if_err}
+use Rattle.mlk_expr.proofs.Contexts.{subs-anything, only-freely, refuses-freely, if_ok, if_err}
 use Rattle.mlk_expr.proofs.public.read_ref.Goals as goal
 
 pub returns-clause-only : goal.returns-clause-only

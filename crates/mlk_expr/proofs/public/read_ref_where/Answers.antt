@@ -6,7 +6,7 @@ use Rattle.mlk_expr.specs.Theorem.{ReferenceEnds}
 use Rattle.mlk_expr.proofs.Followed as followed
 use Rattle.mlk_expr.specs.Reading.{reference_in}
 use Rattle.mlk_text.specs.Failures.{FailsOn}
-use Rattle.mlk_expr.proofs.Scopes.{reference_in-exact, same-standing}
+use Rattle.mlk_expr.proofs.Contexts.{reference_in-exact, same-standing}
 use Rattle.mlk_expr.proofs.Places.{rest-within, stands, only, refuses}
 use Rattle.mlk_expr.proofs.Joined.{same-reference}
 use Rattle.mlk_expr.proofs.public.read_ref_where.Goals as goal

@@ -3,7 +3,7 @@ use Rattle.std.proofs.lemmas.List.{length-append}
 use Rattle.mlk_syntax.specs.Views.{line_of}
 use Rattle.std.specs.Prelude.{map}
 use Rattle.mlk_machine_jobs.specs.declared.binding.Binder.{Binder}
-use Rattle.mlk_machine_jobs.specs.declared.cell.Table.{Table}
+use Rattle.mlk_machine_jobs.specs.declared.cell.CellTable.{CellTable}
 use Rattle.mlk_machine_jobs.specs.declared.pending.Pending.{Pending}
 use Rattle.mlk_machine_jobs.specs.Sound.{AreNested, Stands}
 use Rattle.mlk_machine_jobs.specs.Views.{bindings_of, value_at}
@@ -15,8 +15,8 @@ use Rattle.mlk_machine_run.proofs.frame.begin_frame.Goals as goal
 pub returns-clause-job : goal.returns-clause-job
 returns-clause-job c =
     let tables : c.push_reserved.new.self.items ≡ c.args.job.now.tables.items ++ c.args.table ∷ [] =
-    c.push_reserved.ensures.items ∙ ap (λ (ts : List Table). ts ++ c.args.table ∷ []) c.in_ok-reserve-2.ensures.items in
-    ap (λ (ts : List Table). record (job_of c.args.job.now) {
+    c.push_reserved.ensures.items ∙ ap (λ (ts : List CellTable). ts ++ c.args.table ∷ []) c.in_ok-reserve-2.ensures.items in
+    ap (λ (ts : List CellTable). record (job_of c.args.job.now) {
       routine = c.args.begin.routine;
       bindings = bindings_of c.add_binders.new.binders.items;
       next = length ts;
@@ -39,7 +39,7 @@ returns-clause-sound c = λ have.
     let binders : c.add_binders.new.binders.items ≡ c.args.job.now.binders.items ++ reverse c.args.found.items =
     c.add_binders.ensures ∙ ap (λ (bs : List Binder). bs ++ reverse c.args.found.items) c.in_ok-reserve.ensures.items in
     let tables : length c.push_reserved.new.self.items ≡ suc (length c.args.job.now.tables.items) =
-    ap length (c.push_reserved.ensures.items ∙ ap (λ (ts : List Table). ts ++ c.args.table ∷ []) c.in_ok-reserve-2.ensures.items)
+    ap length (c.push_reserved.ensures.items ∙ ap (λ (ts : List CellTable). ts ++ c.args.table ∷ []) c.in_ok-reserve-2.ensures.items)
     ∙ omega (arith, length-append c.args.job.now.tables.items (c.args.table ∷ [])) in
     subst (λ (bs : List Binder). Stands bs (length c.push_reserved.new.self.items) c.add_pending.new.pending.items) (sym binders)
     (subst (λ (n : ℕ). Stands (c.args.job.now.binders.items ++ reverse c.args.found.items) n c.add_pending.new.pending.items)

@@ -2,9 +2,9 @@ use Rattle.std.proofs.Common.{◌≡◌, ◌∙◌, ◌==◌, Bool, List, map, l
 use Rattle.std.proofs.lemmas.Option.{slice_get_read}
 use Rattle.std.specs.Prelude.{slice_set, position}
 use Rattle.std.specs.List.{list_all}
+use Rattle.mlk_names.specs.Lists.{Among}
 use Rattle.mlk_names.specs.declared.lock_name.LockName.{LockName}
 use Rattle.mlk_text.specs.Failures.{Answers}
-use Rattle.mlk_machine_locks.specs.Lists.{Among}
 use Rattle.mlk_machine_locks.specs.Tables.{IsFound, Covers}
 use Rattle.mlk_machine_locks.specs.Waiting.{is_free_among}
 use Rattle.mlk_machine_locks.specs.Systems.{and_then}

@@ -5,7 +5,7 @@ use Rattle.mlk_routine.specs.Lines.{IsLabelPart, LabelPartEnds}
 use Rattle.mlk_routine_arguments.proofs.Sequences.{turned_found, turned_nowhere}
 use Rattle.mlk_routine_arguments.proofs.Outcomes.{denies}
 use Rattle.mlk_routine_arguments.proofs.LineFaults.{expr_fault}
-use Rattle.mlk_expr.specs.declared.scope.Passing.TheVariants.{ByReference}
+use Rattle.mlk_expr.specs.declared.context.Passing.TheVariants.{ByReference}
 use Rattle.mlk_routine.proofs.Labels.{a_label}
 use Rattle.mlk_routine.proofs.label.label.Goals as goal
 

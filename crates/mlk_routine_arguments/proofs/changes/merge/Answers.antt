@@ -1,6 +1,6 @@
 use Rattle.std.proofs.Common.{refl}
 use Rattle.std.proofs.lemmas.Result.{err_from_is_err_and}
-use Rattle.mlk_expr.specs.declared.scope.Allows.TheVariants.{NoCalls}
+use Rattle.mlk_expr.specs.declared.context.Allows.TheVariants.{NoCalls}
 use Rattle.mlk_routine_arguments.specs.Ends.{VariableEnds}
 use Rattle.mlk_syntax.specs.Views.{variable_of}
 use Rattle.mlk_routine_arguments.specs.CommandGrammar.{IsVariable}

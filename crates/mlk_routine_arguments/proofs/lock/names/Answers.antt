@@ -1,5 +1,5 @@
 use Rattle.std.proofs.Common.{map, subst}
-use Rattle.mlk_expr.specs.declared.scope.Allows.TheVariants.{Everything}
+use Rattle.mlk_expr.specs.declared.context.Allows.TheVariants.{Everything}
 use Rattle.mlk_routine_arguments.specs.Told.{Told, byte_at}
 use Rattle.mlk_routine_arguments.specs.Ends.{OneEnds, VariableEnds}
 use Rattle.mlk_syntax.specs.Views.{variable_of}

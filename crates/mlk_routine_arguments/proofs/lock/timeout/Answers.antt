@@ -1,7 +1,7 @@
 use Rattle.std.proofs.Common.{◌≡◌, inl, inr, refl}
 use Rattle.std.specs.Prelude.{◌⊎◌}
 use Rattle.std.proofs.lemmas.Result.{err_from_is_err_and}
-use Rattle.mlk_expr.specs.declared.scope.Allows.TheVariants.{NoTouches, NoCalls}
+use Rattle.mlk_expr.specs.declared.context.Allows.TheVariants.{NoTouches, NoCalls}
 use Rattle.mlk_syntax.specs.ExprTrees.{tree_of}
 use Rattle.mlk_syntax.specs.declared.command.Sign.TheVariants as sign
 use Rattle.mlk_expr.specs.Grammar.{IsExprWhere}

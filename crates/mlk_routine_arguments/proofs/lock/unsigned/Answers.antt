@@ -1,6 +1,6 @@
 use Rattle.std.proofs.Common.{◌≡◌, map, sym, ap, subst, ◌∙◌}
 use Rattle.std.proofs.lemmas.Simd.{map-map}
-use Rattle.mlk_expr.specs.declared.scope.Allows.TheVariants.{NoTouches}
+use Rattle.mlk_expr.specs.declared.context.Allows.TheVariants.{NoTouches}
 use Rattle.mlk_routine_arguments.specs.declared.items.Unsigned.{Unsigned}
 use Rattle.mlk_routine_arguments.specs.Told.{Found, byte_at}
 use Rattle.mlk_routine_arguments.specs.Ends.{OneEnds, VariableEnds}

@@ -1,7 +1,7 @@
 use Rattle.std.proofs.Common.{◌≡◌, map, refl, sym, ap, subst, ◌∙◌}
 use Rattle.std.proofs.lemmas.Result.{err_from_is_err_and}
 use Rattle.std.proofs.lemmas.Simd.{map-map}
-use Rattle.mlk_expr.specs.declared.scope.Allows.TheVariants.{NoCalls}
+use Rattle.mlk_expr.specs.declared.context.Allows.TheVariants.{NoCalls}
 use Rattle.mlk_syntax.specs.ExprTrees.{tree_of, trees}
 use Rattle.mlk_expr.specs.Grammar.{AreNext, IsExprWhere, IsList}
 use Rattle.mlk_expr.specs.Theorem.{ExprEnds}

@@ -1,7 +1,7 @@
 use Rattle.std.proofs.Common.{◌≡◌, ◌∷◌, [], sym, rules}
 use Rattle.mlk_syntax.specs.ExprTrees.{sub_trees, subs_from}
 use Rattle.mlk_walk_exprs.specs.Spots.{spot_of}
-use Rattle.mlk_walk_exprs.specs.Walks.{each, put_all, with_states}
+use Rattle.mlk_walk_exprs.specs.Walks.{each, put_states, with_states}
 use Rattle.mlk_walk_commands.specs.Variables.{change_local}
 use Rattle.mlk_walk_commands.proofs.Steps.{carried}
 use Rattle.mlk_walk_commands.proofs.Written.{local_stays}
@@ -13,6 +13,6 @@ returns-in-Some c =
     let first = c.in-Some.field-0.0.now in
     let others = c.in-Some.field-0.1.now in
     let is : c.args.subscripts.now ≡ first ∷ others = search rules in
-    carried c.once.result c.once.new.self (with_states (put_all c.args.walk.now.going []) c.args.walk.now)
+    carried c.once.result c.once.new.self (with_states (put_states c.args.walk.now.going []) c.args.walk.now)
     (each (change_local p c.args.column c.args.name.now (subs_from (sub_trees c.args.subscripts.now))) c.args.walk.now) c.once.ensures
     (sym (local_stays p c.args.column c.args.name.now c.args.walk.now c.args.subscripts.now first others is))

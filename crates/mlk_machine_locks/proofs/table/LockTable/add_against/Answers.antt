@@ -1,5 +1,5 @@
 use Rattle.std.proofs.Common.{ℕ}
-use Rattle.mlk_machine_locks.specs.Lists.{Among}
+use Rattle.mlk_names.specs.Lists.{Among}
 use Rattle.mlk_machine_locks.specs.Keys.{asked_from, asked_of}
 use Rattle.mlk_machine_locks.specs.Tables.{IsListed}
 use Rattle.mlk_machine_locks.proofs.TableLemmas.{one_done, two_done, next_asked, last_asked, on_ok, both_ok}

@@ -1,5 +1,5 @@
 use Rattle.std.proofs.Common.{rules, subst}
-use Rattle.mlk_machine_locks.specs.Lists.{Among}
+use Rattle.mlk_names.specs.Lists.{Among}
 use Rattle.mlk_machine_locks.proofs.TableLemmas.{listed_added, among_first}
 use Rattle.mlk_machine_locks.proofs.table.LockTable.add_listed.Goals as goal
 

@@ -1,7 +1,7 @@
 use Rattle.std.proofs.Common.{ℕ, length}
 use Rattle.std.specs.Prelude.{◌⊎◌}
+use Rattle.mlk_names.specs.Lists.{Among}
 use Rattle.mlk_names.specs.declared.lock_name.LockName.{LockName}
-use Rattle.mlk_machine_locks.specs.Lists.{Among}
 use Rattle.mlk_machine_locks.specs.Keys.{asked_of}
 use Rattle.mlk_machine_locks.specs.Tables.{IsListed}
 use Rattle.mlk_machine_locks.proofs.table.LockTable.against.Given as goal

@@ -1,7 +1,7 @@
 use Rattle.std.proofs.Common.{◌≡◌, ◌+◌, drop}
 use Rattle.toml.specs.View.{items_view}
-use Rattle.mlk_rules_file.specs.RuleSections.{put, each, entry_of}
+use Rattle.mlk_rules_file.specs.RuleSections.{put_first, each, entry_of}
 use Rattle.mlk_rules_file.proofs.read.sections.entries.Given as goal
 
 abbrev pub invariant-loop-i : goal.invariant-loop-i
-invariant-loop-i l = put l.found.items (each entry_of (l.i + 1) (items_view (drop l.i l.values))) ≡ each entry_of 1 (items_view l.values)
+invariant-loop-i l = put_first l.found.items (each entry_of (l.i + 1) (items_view (drop l.i l.values))) ≡ each entry_of 1 (items_view l.values)

@@ -1,0 +1,144 @@
+// Points that name cases by their numbers, read line by line.
+
+ghost use Rattle.std.specs.Prelude.{◌≡◌, ◌++◌, ◌-◌, IfOk, OnOk, option_copied, option_to_list, slice_get, length};
+ghost use Rattle.mlk_text.specs.Failures.{Reads};
+ghost use Rattle.mlk_cert.specs.Fitting.{passes};
+ghost use Rattle.mlk_cert.specs.Blocks.{after_at};
+ghost use Rattle.mlk_cert.specs.Numbered.{are_upto, numbers_at, fits_numbers, numbered_point_at, fits_numbered_point, next_place_fits, cases_by, point_by, numbered_points_at};
+
+use crate::number::CaseNumber;
+use crate::read::fault::{BlockFault, other_form};
+use crate::read::fit::{Fit, fit_both, fit_of};
+use crate::read::line::line_end;
+use crate::read::points::place;
+use mlk_cert_lexemes::{items, word_of};
+use mlk_cert_parts::limit::MOST_CASES;
+use mlk_cert_parts::{Case, Point, copy_case};
+use mlk_text::lexeme::byte_of;
+use mlk_text::{Failure, LineNumber, List, NotThere};
+use std::alloc::{AllocError, Global};
+
+fn are_upto(most: usize, numbers: &[CaseNumber]) -> bool
+    ensures { result ≡ are_upto most numbers.now }
+{
+    for number in numbers {
+        if number.number() as usize > most {
+            return false;
+        }
+    }
+    true
+}
+
+// The numbers of a point, where there are so many cases, and whether they keep to their limits.
+#[tactic(auto, unfolding(crate::specs::Numbered::numbers_at))]
+fn numbers(
+    alloc: Global,
+    most: usize,
+    bytes: &[u8],
+) -> Result<(Vec<CaseNumber>, Fit, &[u8]), Failure<NotThere>>
+    ensures read { Reads (λ x. (x.0.items, x.2.now)) result (numbers_at most bytes.now) }
+    ensures fit { IfOk result (λ x. passes x.1 ≡ fits_numbers x.0.items) }
+{
+    let (found, ordered, rest) = items::<CaseNumber>(alloc, b';', bytes)?;
+    if !are_upto(most, found.as_slice()) {
+        return Err(Failure::Refused(NotThere));
+    }
+    let fit = fit_of(found.len() <= MOST_CASES, ordered);
+    Ok((found, fit, rest))
+}
+
+// Whether a point at this place may stand next.
+fn next_fit(point: Option<&Point>, line: u32, round: u32) -> Fit
+    ensures { passes result ≡ next_place_fits (option_copied point.entry) line round }
+{
+    let Some(point) = point else {
+        return Fit::Yes;
+    };
+    fit_of(
+        true,
+        point.line.number() < line || (point.line.number() == line && point.round < round),
+    )
+}
+
+// The rest of the line of a point, after this point, where there are so many cases.
+#[tactic(auto, unfolding(crate::specs::Blocks::after_at, crate::specs::Numbered::numbered_point_at))]
+fn numbered_point<'a>(
+    alloc: Global,
+    most: usize,
+    point: Option<&Point>,
+    bytes: &'a [u8],
+) -> Result<((u32, u32, List<CaseNumber>), &'a [u8]), Failure<BlockFault>>
+    ensures { Reads (λ x. (x.0, x.1.now)) result (after_at (numbered_point_at most) fits_numbered_point
+        (λ p. next_place_fits (option_copied point.entry) p.0 p.1) bytes.now) }
+{
+    let Some(((line, round), rest)) = place(bytes) else {
+        return Err(Failure::Refused(other_form(bytes)));
+    };
+    let Some(start) = byte_of(b' ', rest) else {
+        return Err(Failure::Refused(other_form(bytes)));
+    };
+    match numbers(alloc, most, start) {
+        Ok((found, fit, rest)) => {
+            let fit = fit_both(fit, next_fit(point, line, round));
+            line_end((line, round, List::of(found)), fit, rest, bytes)
+        }
+        Err(Failure::OutOfMemory) => Err(Failure::OutOfMemory),
+        Err(Failure::Refused(_)) => Err(Failure::Refused(other_form(bytes))),
+    }
+}
+
+// One more case: that with this number, where there is one.
+fn add_case(found: &mut Vec<Case>, cases: &[Case], number: CaseNumber) -> Result<(), AllocError>
+    ensures { OnOk result (found.new.items ≡ found.old.items ++ option_to_list (slice_get cases.now (number - 1))) }
+{
+    let Some(case) = cases.get(number.place()) else {
+        return Ok(());
+    };
+    found.push(copy_case(case)?)?;
+    Ok(())
+}
+
+// The cases with these numbers.
+fn cases_by(alloc: Global, cases: &[Case], numbers: &[CaseNumber]) -> Result<Vec<Case>, AllocError>
+    ensures { IfOk result (λ v. v.items ≡ cases_by cases.now numbers.now) }
+{
+    let mut found = Vec::with_capacity(alloc, numbers.len())?;
+    for number in numbers {
+        add_case(&mut found, cases, *number)?;
+    }
+    Ok(found)
+}
+
+fn point_by(
+    alloc: Global,
+    cases: &[Case],
+    numbered: (u32, u32, List<CaseNumber>),
+) -> Result<Point, AllocError>
+    ensures { IfOk result (λ p. p ≡ point_by cases.now numbered) }
+{
+    let (line, round, numbers) = numbered;
+    let cases = cases_by(alloc, cases, numbers.as_slice())?;
+    Ok(Point {
+        line: LineNumber::new(line),
+        round,
+        cases: List::of(cases),
+    })
+}
+
+/// The points at the front, which name these cases, and what is left after them.
+pub(crate) fn numbered_points<'a>(
+    alloc: Global,
+    cases: &[Case],
+    bytes: &'a [u8],
+) -> Result<(List<Point>, &'a [u8]), Failure<BlockFault>>
+    ensures { Reads (λ x. (x.0, x.1.now)) result (numbered_points_at cases.now bytes.now) }
+{
+    let mut found: Vec<Point> = Vec::new(alloc);
+    let mut rest = bytes;
+    while let Some(after) = word_of(b"at ", rest) {
+        let (numbered, after) = numbered_point(alloc, cases.len(), found.as_slice().last(), after)?;
+        found.push(point_by(alloc, cases, numbered)?)?;
+        rest = after;
+    }
+    Ok((List::of(found), rest))
+}

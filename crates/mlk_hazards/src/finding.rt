@@ -1,0 +1,57 @@
+// The hazards of routines.
+
+use crate::block::add_blocks;
+use crate::hazard::{Hazard, HazardAt};
+use crate::names::add_names;
+use mlk_survey_trees::{Mention, MentionAt, mentions_of};
+use mlk_syntax::Routine;
+use mlk_text::push_sparing;
+use std::alloc::{AllocError, Global};
+
+// Adds the hazards of a mention.
+fn add_mention<'a>(
+    hazards: &mut Vec<HazardAt<'a>>,
+    mention: &MentionAt<'a>,
+) -> Result<(), AllocError> {
+    match mention.mention {
+        Mention::SkippedCall(column) => push_sparing(
+            hazards,
+            HazardAt {
+                position: mention.at(column),
+                hazard: Hazard::SkippedCall,
+            },
+        ),
+        Mention::Lock(argument) => add_names(hazards, mention, argument),
+        Mention::Begin | Mention::Global(_, _) | Mention::Call(_, _) | Mention::Unlock => Ok(()),
+    }
+}
+
+/// The hazards of these routines, which mention this, in the order of their places.
+pub fn hazards_in<'a>(
+    alloc: Global,
+    routines: &[&'a Routine],
+    mentions: &[MentionAt<'a>],
+) -> Result<Vec<HazardAt<'a>>, AllocError> {
+    let mut hazards = Vec::new(alloc);
+    for mention in mentions {
+        add_mention(&mut hazards, mention)?;
+    }
+    for routine in routines {
+        add_blocks(&mut hazards, routine)?;
+    }
+    hazards.sort_by(|hazard, other| hazard.position.cmp(&other.position))?;
+    Ok(hazards)
+}
+
+/// The hazards of these routines, in the order of their places.
+pub fn hazards_of<'a>(
+    alloc: Global,
+    routines: &'a [Routine],
+) -> Result<Vec<HazardAt<'a>>, AllocError> {
+    let mut lent = Vec::with_capacity(alloc, routines.len())?;
+    for routine in routines {
+        push_sparing(&mut lent, routine)?;
+    }
+    let mentions = mentions_of(alloc, lent.as_slice())?;
+    hazards_in(alloc, lent.as_slice(), mentions.as_slice())
+}

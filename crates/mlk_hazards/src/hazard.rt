@@ -1,0 +1,47 @@
+// Places where a system may differ from the model that a `yes` speaks of.
+
+use mlk_survey_trees::Position;
+
+/// Why a place is one where a system may differ.
+#[derive(Clone, Copy, Drop, PartialEq, Eq)]
+pub enum Hazard {
+    /// an extrinsic call right of `&`, `!`, `'&` or `'!`: it may not run
+    SkippedCall,
+    /// two names of a LOCK argument without sign that may be one name: it may be counted once
+    PerhapsOneName,
+    /// a name that stands twice in one LOCK argument
+    RepeatedName,
+    /// a block that ends directly before a line with a formal list: its end may be an error
+    BlockBeforeFormals,
+}
+
+impl Hazard {
+    /// The word that is printed.
+    pub fn word(self) -> &'static str {
+        match self {
+            Hazard::SkippedCall => "SkippedCall",
+            Hazard::PerhapsOneName => "PerhapsOneName",
+            Hazard::RepeatedName => "RepeatedName",
+            Hazard::BlockBeforeFormals => "BlockBeforeFormals",
+        }
+    }
+
+    /// What to do.
+    pub fn advice(self) -> &'static str {
+        match self {
+            Hazard::SkippedCall => {
+                "call it in a SET of its own before, or compile with gtm_boolean=1"
+            }
+            Hazard::PerhapsOneName => "use LOCK +(..), or names that surely differ",
+            Hazard::RepeatedName => "name it once",
+            Hazard::BlockBeforeFormals => "put a line with QUIT between them",
+        }
+    }
+}
+
+/// A place where a system may differ, and why.
+#[derive(Clone, Copy, Drop)]
+pub struct HazardAt<'a> {
+    pub position: Position<'a>,
+    pub hazard: Hazard,
+}

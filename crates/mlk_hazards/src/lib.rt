@@ -1,0 +1,10 @@
+//! Places in routines where a real system may differ from the model that a `yes` speaks of.
+#![tactic(auto)]
+
+mod block;
+mod finding;
+mod hazard;
+mod names;
+
+pub use finding::{hazards_in, hazards_of};
+pub use hazard::{Hazard, HazardAt};

@@ -1,4 +1,0 @@
-use Rattle.mlk_machine_jobs.proofs.cell.Table.put.Goals as goal
-
-pub returns-clause-ok : goal.returns-clause-ok
-returns-clause-ok c n = c.in-Ok.ensures.updates.0 (record (c.args.name) { now = n })

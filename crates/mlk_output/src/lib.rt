@@ -1,0 +1,14 @@
+//! Reports and refusals for other programs: as one JSON object, and as SARIF 2.1.0, which build servers read.
+#![tactic(auto)]
+
+mod json;
+mod meaning;
+mod notice;
+mod row;
+mod sarif;
+mod shown;
+
+pub use json::{notice_json, report_json};
+pub use notice::{Notice, Place};
+pub use row::Inputs;
+pub use sarif::{notice_sarif, report_sarif};

@@ -1,0 +1,22 @@
+// What is told where there is no report.
+
+use mlk_text::{Code, Column, LineNumber};
+
+/// A place in a file.
+#[derive(Clone, Copy, Debug, Drop)]
+pub struct Place<'a> {
+    /// the file's path, as the command line has it
+    pub path: &'a str,
+    pub line: LineNumber,
+    /// the column, where one is told
+    pub column: Option<Column>,
+}
+
+/// Why there is no report.
+#[derive(Clone, Copy, Debug, Drop)]
+pub struct Notice<'a> {
+    pub code: Code,
+    /// the line that the program tells on the error stream, without its end
+    pub line: &'a [u8],
+    pub place: Option<Place<'a>>,
+}

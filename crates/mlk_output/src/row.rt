@@ -1,0 +1,54 @@
+// A row of a report, as it is told to other programs.
+
+use crate::shown::{Shown, bytes_shown};
+use mlk_program::EntryId;
+use mlk_syntax::Routine;
+use std::alloc::{AllocError, Global};
+
+/// What a report is about: the routines of a program, and the path of the file of each, in their order.
+#[derive(Clone, Copy, Drop)]
+pub struct Inputs<'a> {
+    pub routines: &'a [Routine],
+    pub paths: &'a [&'a str],
+}
+
+impl<'a> Inputs<'a> {
+    /// The path of the file that an entry is in.
+    pub(crate) fn path(&self, entry: EntryId) -> &'a str {
+        match self.paths.get(entry.routine()) {
+            Some(path) => path,
+            None => "",
+        }
+    }
+
+    /// The name of the routine that an entry is in.
+    pub(crate) fn routine(&self, alloc: Global, entry: EntryId) -> Result<String, AllocError> {
+        match self.routines.get(entry.routine()) {
+            Some(routine) => bytes_shown(alloc, routine.name.as_bytes()),
+            None => Ok(String::new(alloc)),
+        }
+    }
+
+    // The label of an entry, which has none where it is a routine's first line.
+    fn label(&self, entry: EntryId) -> &'a [u8] {
+        let Some(routine) = self.routines.get(entry.routine()) else {
+            return b"";
+        };
+        match routine.lines.as_slice().get(entry.line()) {
+            Some(line) => match line.label.as_ref() {
+                Some(label) => label.as_bytes(),
+                None => b"",
+            },
+            None => b"",
+        }
+    }
+
+    /// `LABEL^ROUTINE`.
+    pub(crate) fn entry(&self, alloc: Global, entry: EntryId) -> Result<String, AllocError> {
+        let routine = self.routine(alloc, entry)?;
+        let label = Shown {
+            bytes: self.label(entry),
+        };
+        format!(in alloc; "{}^{}", label, routine)
+    }
+}

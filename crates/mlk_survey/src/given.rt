@@ -1,0 +1,163 @@
+// The routines that are given, and their labels.
+
+use crate::refused::RefusedRoutine;
+use indexmap::{IndexMap, IndexSet};
+use mlk_syntax::{Callee, Line, Routine};
+use std::alloc::{AllocError, Global};
+
+/// What a call names: a routine, and its label, which is empty where the first line is called.
+#[derive(Clone, Copy, Drop, PartialEq, Eq, PartialOrd, Ord, Hash)]
+pub struct CalledLabel<'a> {
+    pub routine: &'a [u8],
+    pub label: &'a [u8],
+}
+
+impl<'a> CalledLabel<'a> {
+    /// What a call names that stands in a routine.
+    pub(crate) fn of(routine: &'a [u8], callee: &'a Callee) -> CalledLabel<'a> {
+        let called = match &callee.routine {
+            None => routine,
+            Some(name) => name.as_bytes(),
+        };
+        let label: &'a [u8] = match &callee.label {
+            None => b"",
+            Some(label) => label.as_bytes(),
+        };
+        CalledLabel {
+            routine: called,
+            label,
+        }
+    }
+}
+
+/// What a call lacks.
+#[derive(Clone, Copy, Drop, PartialEq, Eq)]
+pub enum Lack {
+    /// the routine is not given
+    Routine,
+    /// the routine was read and has no such line
+    Label,
+}
+
+// What became of a routine that is given.
+#[derive(Clone, Copy, Drop)]
+enum Reading {
+    Read,
+    Refused,
+}
+
+// The names of the routines that are given.
+#[derive(Drop)]
+struct Routines<'a> {
+    names: IndexMap<&'a [u8], Reading>,
+}
+
+impl<'a> Routines<'a> {
+    fn of(
+        alloc: Global,
+        routines: &[&'a Routine],
+        refused: &[RefusedRoutine<'a>],
+    ) -> Result<Routines<'a>, AllocError> {
+        let mut given = Routines {
+            names: IndexMap::new(alloc),
+        };
+        for routine in routines {
+            given.add(routine.name.as_bytes(), Reading::Read)?;
+        }
+        for routine in refused {
+            given.add(routine.position.routine, Reading::Refused)?;
+        }
+        Ok(given)
+    }
+
+    fn add(&mut self, name: &'a [u8], reading: Reading) -> Result<(), AllocError> {
+        let Ok(_) = self.names.insert(name, reading) else {
+            return Err(AllocError);
+        };
+        Ok(())
+    }
+
+    fn reading(&self, name: &[u8]) -> Option<Reading> {
+        self.names.get(name).copied()
+    }
+}
+
+// The labels of the routines that were read, and their first lines.
+#[derive(Drop)]
+struct Labels<'a> {
+    labels: IndexSet<CalledLabel<'a>>,
+}
+
+impl<'a> Labels<'a> {
+    fn of(alloc: Global, routines: &[&'a Routine]) -> Result<Labels<'a>, AllocError> {
+        let mut given = Labels {
+            labels: IndexSet::new(alloc),
+        };
+        for routine in routines {
+            given.add_routine(routine)?;
+        }
+        Ok(given)
+    }
+
+    fn add(&mut self, routine: &'a [u8], label: &'a [u8]) -> Result<(), AllocError> {
+        let Ok(_) = self.labels.insert(CalledLabel { routine, label }) else {
+            return Err(AllocError);
+        };
+        Ok(())
+    }
+
+    fn add_line(&mut self, routine: &'a [u8], line: &'a Line) -> Result<(), AllocError> {
+        match line.label.as_ref() {
+            None => Ok(()),
+            Some(label) => self.add(routine, label.as_bytes()),
+        }
+    }
+
+    fn add_routine(&mut self, routine: &'a Routine) -> Result<(), AllocError> {
+        let name = routine.name.as_bytes();
+        if !routine.lines.is_empty() {
+            self.add(name, b"")?;
+        }
+        for line in &routine.lines {
+            self.add_line(name, line)?;
+        }
+        Ok(())
+    }
+
+    fn has(&self, called: &CalledLabel<'_>) -> bool {
+        self.labels.contains(called)
+    }
+}
+
+/// The routines that are given, whether each was read, and the labels of those that were.
+#[derive(Drop)]
+pub(crate) struct Given<'a> {
+    routines: Routines<'a>,
+    labels: Labels<'a>,
+}
+
+impl<'a> Given<'a> {
+    /// These routines, beside those that are refused.
+    pub(crate) fn of(
+        alloc: Global,
+        routines: &[&'a Routine],
+        refused: &[RefusedRoutine<'a>],
+    ) -> Result<Given<'a>, AllocError> {
+        Ok(Given {
+            routines: Routines::of(alloc, routines, refused)?,
+            labels: Labels::of(alloc, routines)?,
+        })
+    }
+
+    /// What is lacking for a call of this. Nothing is known of the labels of a routine that was refused.
+    pub(crate) fn lack(&self, called: &CalledLabel<'a>) -> Option<Lack> {
+        if self.labels.has(called) {
+            return None;
+        }
+        match self.routines.reading(called.routine) {
+            None => Some(Lack::Routine),
+            Some(Reading::Read) => Some(Lack::Label),
+            Some(Reading::Refused) => None,
+        }
+    }
+}

@@ -1,0 +1,25 @@
+//! What a team sees of its routines before it has a rule file: what can't be read and why, what is called and not given,
+//! the entries, the globals, the claims of locks, and places where a real system may differ from the standard.
+#![tactic(auto)]
+
+mod entries;
+mod facts;
+mod given;
+mod globals;
+mod held;
+mod locks;
+mod missing;
+mod orders;
+mod refused;
+mod surveying;
+mod tally;
+
+pub use entries::Entry;
+pub use facts::{Facts, InRoutines};
+pub use given::{CalledLabel, Lack};
+pub use globals::{GlobalUse, Uses};
+pub use locks::LockUse;
+pub use missing::MissingCall;
+pub use orders::LockOrder;
+pub use refused::{RefusalCount, RefusedRoutine};
+pub use surveying::survey;

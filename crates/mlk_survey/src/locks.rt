@@ -1,0 +1,58 @@
+// The locks that are claimed.
+
+use crate::tally::Tally;
+use mlk_survey_trees::{LockRoot, Mention, MentionAt};
+use mlk_syntax::{LockArgument, Sign, Variable};
+use mlk_text::push_sparing;
+use std::alloc::{AllocError, Global};
+
+/// How many claims there are of names with a root.
+#[derive(Clone, Copy, Drop)]
+pub struct LockUse<'a> {
+    pub root: LockRoot<'a>,
+    pub claims: usize,
+}
+
+// The names that an argument of LOCK claims.
+fn claimed(argument: &LockArgument) -> &[Variable] {
+    match argument.sign {
+        Sign::None | Sign::Plus => argument.names.as_slice(),
+        Sign::Minus => &[],
+    }
+}
+
+// Counts the roots of these names.
+fn add_roots<'a>(roots: &mut Tally<LockRoot<'a>>, names: &'a [Variable]) -> Result<(), AllocError> {
+    for name in names {
+        if let Some(root) = LockRoot::of(name) {
+            roots.add(root)?;
+        }
+    }
+    Ok(())
+}
+
+// How often the names with each root are claimed.
+fn counted<'a>(
+    alloc: Global,
+    mentions: &[MentionAt<'a>],
+) -> Result<Vec<(LockRoot<'a>, usize)>, AllocError> {
+    let mut roots = Tally::new(alloc);
+    for at in mentions {
+        if let Mention::Lock(argument) = at.mention {
+            add_roots(&mut roots, claimed(argument))?;
+        }
+    }
+    roots.in_order(alloc)
+}
+
+/// The roots of what these mentions claim, in order.
+pub(crate) fn locks_in<'a>(
+    alloc: Global,
+    mentions: &[MentionAt<'a>],
+) -> Result<Vec<LockUse<'a>>, AllocError> {
+    let mut locks = Vec::new(alloc);
+    for (root, claims) in counted(alloc, mentions)? {
+        push_sparing(&mut locks, LockUse { root, claims })?;
+    }
+    Ok(locks)
+}

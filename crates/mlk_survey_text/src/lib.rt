@@ -1,0 +1,12 @@
+//! What a survey finds, as text and as JSON.
+#![tactic(auto)]
+
+mod json;
+mod lines;
+mod object;
+mod shown;
+mod text;
+mod values;
+
+pub use json::survey_json;
+pub use text::survey_text;

@@ -1,0 +1,51 @@
+// The text of a survey.
+
+use crate::lines::Told;
+use mlk_survey::Facts;
+use std::alloc::{AllocError, Global};
+
+// A title with how many things there are, and a line for each of the first `most` of them.
+fn push_list<T: Told>(
+    text: &mut String,
+    alloc: Global,
+    title: &str,
+    things: &[T],
+    most: usize,
+) -> Result<(), AllocError> {
+    text.push_str(&format!(in alloc; "{} {}\n", title, things.len())?)?;
+    let (first, others) = things.split_at(things.len().min(most));
+    for thing in first {
+        text.push_str(&format!(in alloc; "  {}\n", thing.told(alloc)?)?)?;
+    }
+    if !others.is_empty() {
+        text.push_str(&format!(in alloc; "  and {} more\n", others.len())?)?;
+    }
+    Ok(())
+}
+
+/// The text of a survey: a title for each list with how many things it has, and below it a line for each of the first `most`
+/// of them. What is refused comes first, what a system may do otherwise last.
+pub fn survey_text(alloc: Global, facts: &Facts<'_>, most: usize) -> Result<String, AllocError> {
+    let mut text = format!(in alloc; "routines read {}\n", facts.read)?;
+    push_list(&mut text, alloc, "routines refused", &facts.refused, most)?;
+    push_list(&mut text, alloc, "reasons", &facts.refusal_counts, most)?;
+    push_list(
+        &mut text,
+        alloc,
+        "calls of what is not given",
+        &facts.found.missing,
+        most,
+    )?;
+    push_list(&mut text, alloc, "entries", &facts.found.entries, most)?;
+    push_list(&mut text, alloc, "globals", &facts.found.globals, most)?;
+    push_list(&mut text, alloc, "locks", &facts.found.locks, most)?;
+    push_list(
+        &mut text,
+        alloc,
+        "claims under a claim",
+        &facts.found.orders,
+        most,
+    )?;
+    push_list(&mut text, alloc, "hazards", &facts.found.hazards, most)?;
+    Ok(text)
+}

@@ -1,0 +1,161 @@
+// What expressions mention: uses of globals, and calls.
+
+use crate::mention::{Mention, Usage};
+use mlk_syntax::{Actual, Callee, Expr, Function, Subscript};
+use mlk_text::{Column, Op, Relation, push_sparing};
+use std::alloc::AllocError;
+
+/// Whether an expression is evaluated wherever the command is run that it stands in.
+#[derive(Clone, Copy, Drop, PartialEq, Eq)]
+pub(crate) enum Runs {
+    Surely,
+    /// it stands right of an operator that may skip it
+    Perhaps,
+}
+
+// Whether what stands right of an operator is evaluated.
+fn right_of(op: Op, runs: Runs) -> Runs {
+    match op {
+        Op::Is(Relation::And | Relation::Or) | Op::IsNot(Relation::And | Relation::Or) => {
+            Runs::Perhaps
+        }
+        _ => runs,
+    }
+}
+
+/// Adds what an expression mentions. Most have no parts that could mention anything.
+#[cycle(surveying)]
+#[inline(always)]
+pub(crate) fn in_expr<'a>(
+    found: &mut Vec<Mention<'a>>,
+    e: &'a Expr,
+    runs: Runs,
+) -> Result<(), AllocError> {
+    match e {
+        Expr::Lit(_) | Expr::Free | Expr::Special(_) | Expr::Pattern(_) => Ok(()),
+        Expr::Local(_, subscripts) if subscripts.is_empty() => Ok(()),
+        _ => in_parts(found, e, runs),
+    }
+}
+
+#[cycle(surveying)]
+fn in_parts<'a>(found: &mut Vec<Mention<'a>>, e: &'a Expr, runs: Runs) -> Result<(), AllocError> {
+    match e {
+        Expr::Lit(_) | Expr::Free | Expr::Special(_) | Expr::Pattern(_) => Ok(()),
+        Expr::Local(_, subscripts) => in_subscripts(found, subscripts, runs),
+        Expr::Global(_, name, subscripts) => {
+            in_subscripts(found, subscripts, runs)?;
+            push_sparing(found, Mention::Global(name, Usage::Read))
+        }
+        Expr::Unary(_, operand) => in_expr(found, operand, runs),
+        Expr::Binary(first, rest) => {
+            in_expr(found, first, runs)?;
+            in_chain(found, rest, runs)
+        }
+        Expr::Func(Function::Name, arguments) => in_spelled(found, arguments, runs),
+        Expr::Func(_, arguments) => in_exprs(found, arguments, runs),
+        Expr::Select(choices) => in_select(found, choices, runs),
+        Expr::Call(column, callee, actuals) => {
+            add_call(found, *column, callee, runs)?;
+            match actuals {
+                None => Ok(()),
+                Some(given) => in_actuals(found, given, runs),
+            }
+        }
+    }
+}
+
+// Adds an extrinsic call.
+fn add_call<'a>(
+    found: &mut Vec<Mention<'a>>,
+    column: Column,
+    callee: &'a Callee,
+    runs: Runs,
+) -> Result<(), AllocError> {
+    push_sparing(found, Mention::Call(column, callee))?;
+    if runs == Runs::Perhaps {
+        push_sparing(found, Mention::SkippedCall(column))?;
+    }
+    Ok(())
+}
+
+/// Adds what each of these mentions.
+#[cycle(surveying)]
+pub(crate) fn in_exprs<'a>(
+    found: &mut Vec<Mention<'a>>,
+    es: &'a [Expr],
+    runs: Runs,
+) -> Result<(), AllocError> {
+    for e in es {
+        in_expr(found, e, runs)?;
+    }
+    Ok(())
+}
+
+// The arguments of $NAME, the first of which names a node that is not read.
+#[cycle(surveying)]
+fn in_spelled<'a>(
+    found: &mut Vec<Mention<'a>>,
+    arguments: &'a [Expr],
+    runs: Runs,
+) -> Result<(), AllocError> {
+    match arguments {
+        [Expr::Global(_, _, subscripts), rest @ ..] => {
+            in_subscripts(found, subscripts, runs)?;
+            in_exprs(found, rest, runs)
+        }
+        _ => in_exprs(found, arguments, runs),
+    }
+}
+
+/// Adds what subscripts mention.
+#[cycle(surveying)]
+pub(crate) fn in_subscripts<'a>(
+    found: &mut Vec<Mention<'a>>,
+    subscripts: &'a [Subscript],
+    runs: Runs,
+) -> Result<(), AllocError> {
+    for subscript in subscripts {
+        in_expr(found, &subscript.value, runs)?;
+    }
+    Ok(())
+}
+
+#[cycle(surveying)]
+fn in_chain<'a>(
+    found: &mut Vec<Mention<'a>>,
+    rest: &'a [(Op, Expr)],
+    runs: Runs,
+) -> Result<(), AllocError> {
+    for (op, operand) in rest {
+        in_expr(found, operand, right_of(*op, runs))?;
+    }
+    Ok(())
+}
+
+#[cycle(surveying)]
+fn in_select<'a>(
+    found: &mut Vec<Mention<'a>>,
+    branches: &'a [(Expr, Expr)],
+    runs: Runs,
+) -> Result<(), AllocError> {
+    for (condition, value) in branches {
+        in_expr(found, condition, runs)?;
+        in_expr(found, value, runs)?;
+    }
+    Ok(())
+}
+
+#[cycle(surveying)]
+fn in_actuals<'a>(
+    found: &mut Vec<Mention<'a>>,
+    given: &'a [Actual],
+    runs: Runs,
+) -> Result<(), AllocError> {
+    for actual in given {
+        if let Actual::Value(e) = actual {
+            in_expr(found, e, runs)?;
+        }
+    }
+    Ok(())
+}

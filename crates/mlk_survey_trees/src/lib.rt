@@ -1,0 +1,14 @@
+//! What a survey asks of the trees of routines: what their lines mention, and where.
+#![tactic(auto)]
+
+mod command;
+mod expr;
+mod line;
+mod lock_name;
+mod mention;
+mod position;
+
+pub use line::mentions_of;
+pub use lock_name::{Likeness, LockRoot, likeness_of};
+pub use mention::{Mention, MentionAt, Usage};
+pub use position::Position;

@@ -1,0 +1,49 @@
+// What a survey asks for.
+
+use crate::position::Position;
+use mlk_syntax::{Callee, LockArgument};
+use mlk_text::{Column, LineNumber, Name};
+
+/// What a command does with a global.
+#[derive(Clone, Copy, Drop)]
+pub enum Usage {
+    Read,
+    Write,
+    Kill,
+}
+
+/// Something in the text of a routine that a survey asks for.
+#[derive(Clone, Copy, Drop)]
+pub enum Mention<'a> {
+    /// a routine or a label begins
+    Begin,
+    /// a use of a global
+    Global(&'a Name, Usage),
+    /// a call, and the column where it begins
+    Call(Column, &'a Callee),
+    /// an extrinsic call that a system may skip, by the column where it begins
+    SkippedCall(Column),
+    /// an argument of LOCK
+    Lock(&'a LockArgument),
+    /// a LOCK without arguments
+    Unlock,
+}
+
+/// A mention, and the line on which it stands.
+#[derive(Clone, Copy, Drop)]
+pub struct MentionAt<'a> {
+    pub routine: &'a [u8],
+    pub line: LineNumber,
+    pub mention: Mention<'a>,
+}
+
+impl<'a> MentionAt<'a> {
+    /// The place in its line with this column.
+    pub fn at(&self, column: Column) -> Position<'a> {
+        Position {
+            routine: self.routine,
+            line: self.line,
+            column,
+        }
+    }
+}

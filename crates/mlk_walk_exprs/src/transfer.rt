@@ -1,0 +1,48 @@
+// Transfer functions of the walk: what is made of one state.
+
+ghost use Rattle.std.specs.Prelude.{◌≡◌, List, OnOk};
+ghost use Rattle.mlk_walk_state.specs.declared.state.State.{State};
+ghost use Rattle.mlk_walk_state.specs.States.{without_last};
+ghost use Rattle.mlk_walk_exprs.specs.Walks.{Outcome, add_all, each, each_changed};
+
+use crate::walk::Walk;
+use mlk_calls::State;
+use std::alloc::{AllocError, Global};
+
+/// What becomes of one state.
+pub trait Transfer {
+    ghost outcomes: { Self → State → List Outcome };
+
+    /// Adds what becomes of the state to the walk.
+    fn make(&self, state: State, walk: &mut Walk) -> Result<(), AllocError>
+        ensures { OnOk result (walk.new ≡ add_all (outcomes self.now state) walk.old) };
+}
+
+/// The transfer function, for each state that goes on. Mostly there is one, whose place another can take.
+#[inline(always)]
+pub fn each<T: Transfer>(alloc: Global, transfer: &T, walk: &mut Walk) -> Result<(), AllocError>
+    ensures { OnOk result (walk.new ≡ each (T.outcomes transfer.now) walk.old) }
+{
+    if let Some(state) = walk.take_only() {
+        return transfer.make(state, walk);
+    }
+    let going = walk.take_going(alloc);
+    for state in going.into_vec() {
+        transfer.make(state, walk)?;
+    }
+    Ok(())
+}
+
+/// The last so many captured symbols of each state are forgotten.
+pub fn forget(alloc: Global, count: usize, walk: &mut Walk) -> Result<(), AllocError>
+    ensures { OnOk result (walk.new ≡ each_changed (without_last count) walk.old) }
+{
+    if count == 0 {
+        return walk.once(alloc);
+    }
+    let mut states = walk.take_going(alloc).into_vec();
+    for state in states.iter_mut() {
+        state.forget_last(count);
+    }
+    walk.resume(alloc, states)
+}
