@@ -3,19 +3,38 @@
 use mlk_output::{Notice, Place, notice_json, notice_sarif};
 use mlk_text::{Code, Column, LineNumber};
 use serde_json::Value;
-use std::alloc::Global;
+use std::alloc::{AllocError, Global};
 
-// The refusal of a routine, of which the line has a byte that is no ASCII and the path a space.
-fn notice<'a>() -> Notice<'a> {
-    Notice {
+const LINE: &[u8] = b"refused B\xc3NK 1:2 205 UnknownCommand";
+
+// The refusal of a routine at a place in a file whose path has a space; its line has a byte that is no ASCII.
+fn json_text(alloc: Global) -> Result<String, AllocError> {
+    let place = Place {
+        path: "src/my bank/B.m",
+        line: LineNumber::new(1),
+        column: Some(Column::new(2)),
+    };
+    let notice = Notice {
         code: Code::UnknownCommand,
-        line: b"refused B\xc3NK 1:2 205 UnknownCommand",
-        place: Some(Place {
-            path: "src/my bank/B.m",
-            line: LineNumber::new(1),
-            column: Some(Column::new(2)),
-        }),
-    }
+        line: LINE,
+        place: Some(place),
+    };
+    notice_json(alloc, &notice)
+}
+
+// The same.
+fn sarif_text(alloc: Global) -> Result<String, AllocError> {
+    let place = Place {
+        path: "src/my bank/B.m",
+        line: LineNumber::new(1),
+        column: Some(Column::new(2)),
+    };
+    let notice = Notice {
+        code: Code::UnknownCommand,
+        line: LINE,
+        place: Some(place),
+    };
+    notice_sarif(alloc, &notice)
 }
 
 // The text at a path of a value.
@@ -28,7 +47,7 @@ fn has_number(value: &Value, path: &str, wanted: u64) -> bool {
 }
 
 fn is_json(alloc: Global) -> bool {
-    let Ok(text) = notice_json(alloc, &notice()) else {
+    let Ok(text) = json_text(alloc) else {
         return false;
     };
     let Ok(value) = serde_json::from_str::<Value>(alloc, text.as_str()) else {
@@ -51,7 +70,7 @@ fn a_refusal_is_json(rt: HostRuntime) {
 }
 
 fn is_sarif(alloc: Global) -> bool {
-    let Ok(text) = notice_sarif(alloc, &notice()) else {
+    let Ok(text) = sarif_text(alloc) else {
         return false;
     };
     let Ok(value) = serde_json::from_str::<Value>(alloc, text.as_str()) else {

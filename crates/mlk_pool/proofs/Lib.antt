@@ -7,3 +7,4 @@ mod Runs
 mod Sends
 mod Slots
 pub mod Syncs
+mod Unread
