@@ -15,4 +15,5 @@ pub mod SecondFormat
 pub mod BothFormats
 pub mod NumberedLoops
 pub mod NamedTexts
+pub mod NamedCases
 pub mod WrittenTexts

@@ -10,7 +10,7 @@ use Rattle.mlk_cert_parts.specs.Checks.{has_text}
 use Rattle.mlk_cert.specs.Named.{texts_in, Adds}
 use Rattle.mlk_cert.proofs.BlockLoops.{seen-text, has-append}
 
-or-nothing : (b : Bool) → (b || false) ≡ b
+pub or-nothing : (b : Bool) → (b || false) ≡ b
 or-nothing true = refl
 or-nothing false = refl
 
@@ -41,7 +41,3 @@ noted old new more rest t adds = ap (λ b. b || has_text rest t) (adds t) ∙ or
 
 pub none-left : (texts : List (List ℕ)) (t : List ℕ) → has_text texts t ≡ (has_text texts t || has_text [] t)
 none-left texts t = sym (or-nothing (has_text texts t))
-
-pub held-text : (ks : List (Vec ℕ Global)) (text : List ℕ) → list_any (λ k. pointwise nat_eq text k.items) ks ≡ has_text (texts_in ks) text
-held-text [] text = refl
-held-text (k ∷ ks) text = ap (λ b. pointwise nat_eq text k.items || b) (held-text ks text)

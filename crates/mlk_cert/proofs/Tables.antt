@@ -61,10 +61,10 @@ pub ascends-rest : (t : List ℕ) (texts : List (List ℕ)) → ascends below (t
 ascends-rest t [] up = refl
 ascends-rest t (x ∷ texts) up = (both_true (below t x) (ascends below (x ∷ texts)) up).1
 
-bytes-same : (t : List ℕ) → bytes_eq t t ≡ true
+pub bytes-same : (t : List ℕ) → bytes_eq t t ≡ true
 bytes-same t = (bytes_eq-Decides t t).1 refl
 
-below-apart : (t u : List ℕ) → below t u ≡ true → bytes_eq t u ≡ false
+pub below-apart : (t u : List ℕ) → below t u ≡ true → bytes_eq t u ≡ false
 below-apart t u h = go (bytes_eq t u) refl
   where
     go : (b : Bool) → bytes_eq t u ≡ b → b ≡ false

@@ -9,7 +9,7 @@ use crate::named::text_of;
 use crate::read::case::case;
 use crate::read::memory::Memories;
 use crate::read::points::points;
-use crate::read::whole::body;
+use crate::read::whole::first_body;
 use mlk_cert_lexemes::{WrittenText, both, is_below, push_flat};
 use mlk_cert_parts::{Case, Certificate, EntryCert, Point, same};
 use mlk_text::{Failure, List};
@@ -49,7 +49,7 @@ fn are_certificate(alloc: Global, made: &[EntryCert]) -> Result<bool, AllocError
     let mut text = WrittenText::new(alloc);
     push_flat(&mut text, made)?;
     text.push(b"end\n")?;
-    match body(alloc, None, text.as_bytes()) {
+    match first_body(alloc, text.as_bytes()) {
         Ok(found) => Ok(same(made, found.as_slice())),
         Err(Failure::OutOfMemory) => Err(AllocError),
         Err(Failure::Refused(_)) => Ok(false),

@@ -1,10 +1,8 @@
 // The texts of cases that stand at points.
 
-ghost use Rattle.std.specs.Prelude.{◌≡◌, ◌∷◌, [], IfOk, OnOk, map, is_some, not};
-ghost use Rattle.mlk_cert_parts.specs.Checks.{has_text};
+ghost use Rattle.std.specs.Prelude.{◌≡◌, ◌∷◌, [], IfOk, OnOk, map};
 ghost use Rattle.mlk_cert_parts.specs.Texts.{case_text};
 ghost use Rattle.mlk_cert.specs.Second.{cases_of_points, cases_of_blocks};
-ghost use Rattle.mlk_cert.specs.Numbered.{are_named};
 ghost use Rattle.mlk_cert.specs.Named.{texts_in, Adds, Has};
 
 use indexmap::IndexSet;
@@ -73,33 +71,4 @@ pub(crate) fn named(alloc: Global, blocks: &[EntryCert]) -> Result<IndexSet<Vec<
         left = others;
     }
     Ok(texts)
-}
-
-fn is_named(alloc: Global, texts: &IndexSet<Vec<u8>>, case: &Case) -> Result<bool, AllocError>
-    ensures { IfOk result (λ b. b ≡ has_text (texts_in texts.now.keys) (case_text case.now)) }
-{
-    let text = text_of(alloc, case)?;
-    let is = texts.contains(text.as_bytes());
-    Ok(is)
-}
-
-/// How many cases stand before the first that no point has, where there is one.
-pub(crate) fn unnamed(
-    alloc: Global,
-    cases: &[Case],
-    blocks: &[EntryCert],
-) -> Result<Option<usize>, AllocError>
-    ensures { IfOk result (λ o. not (is_some o) ≡ are_named (cases_of_blocks blocks.now) cases.now) }
-{
-    let texts = named(alloc, blocks)?;
-    let mut place = 0;
-    let mut left = cases;
-    while let Some((first, others)) = left.split_first() {
-        if !is_named(alloc, &texts, first)? {
-            return Ok(Some(place));
-        }
-        place += 1;
-        left = others;
-    }
-    Ok(None)
 }

@@ -9,6 +9,7 @@ mod line;
 pub(crate) mod memory;
 mod numbered;
 pub(crate) mod points;
+mod unnamed;
 pub(crate) mod whole;
 
 pub use fault::CertFault;

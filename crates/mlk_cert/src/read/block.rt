@@ -5,8 +5,11 @@ ghost use Rattle.mlk_text.specs.Failures.{Reads};
 ghost use Rattle.mlk_cert_parts.specs.Checks.{has_text, fits};
 ghost use Rattle.mlk_cert_lexemes.specs.Reading.{entry_at};
 ghost use Rattle.mlk_cert.specs.Blocks.{rest_at, summary_at, block_at, new_entry_at, new_block_at, blocks_at};
+ghost use Rattle.mlk_cert.specs.Second.{cases_of_points, cases_of_blocks};
 ghost use Rattle.mlk_cert.specs.Numbered.{listed_points_at};
+ghost use Rattle.mlk_cert.specs.Named.{AddsNumbers};
 
+use crate::number::CaseNumber;
 use crate::read::fault::{BlockFault, other_form};
 use crate::read::fit::Fit;
 use crate::read::line::{drops_line, exits, line_end, low_line, mods_line, need_line};
@@ -84,6 +87,7 @@ fn new_entry<'a>(
 fn block<'a>(
     alloc: Global,
     cases: Option<&[Case]>,
+    named: &mut Vec<CaseNumber>,
     seen: &mut IndexSet<Vec<u8>>,
     bytes: &'a [u8],
 ) -> Result<(EntryCert, &'a [u8]), Failure<BlockFault>>
@@ -91,10 +95,12 @@ fn block<'a>(
         cases.entry)) (map (λ k. k.items) seen.old.keys) bytes.now) }
     ensures keys { IfOk result (λ x. map (λ k. k.items) seen.new.keys ≡ map
         (λ k. k.items) seen.old.keys ++ x.0.entry ∷ []) }
+    ensures numbers { IfOk result (λ x. AddsNumbers (option_map (λ x. x.now)
+        cases.entry) named.old.items named.new.items (cases_of_points x.0.points)) }
 {
     let (entry, rest) = new_entry(alloc, seen, bytes)?;
     let (summary, rest) = summary(alloc, rest)?;
-    let (points, rest) = listed_points(alloc, cases, rest)?;
+    let (points, rest) = listed_points(alloc, cases, named, rest)?;
     let block = EntryCert {
         entry,
         summary,
@@ -103,20 +109,24 @@ fn block<'a>(
     Ok((block, rest))
 }
 
-/// The blocks at the front, and what is left after them; their points name these cases, where there are any.
+/// The blocks at the front, and what is left after them; their points name these cases, where there are any. The numbers
+/// that stand at points are added to those that were read before.
 pub(crate) fn blocks<'a>(
     alloc: Global,
     cases: Option<&[Case]>,
+    named: &mut Vec<CaseNumber>,
     bytes: &'a [u8],
 ) -> Result<(Vec<EntryCert>, &'a [u8]), Failure<BlockFault>>
-    ensures { Reads (λ x. (x.0.items, x.1.now)) result (blocks_at (listed_points_at (option_map (λ x. x.now)
+    ensures read { Reads (λ x. (x.0.items, x.1.now)) result (blocks_at (listed_points_at (option_map (λ x. x.now)
         cases.entry)) bytes.now) }
+    ensures numbers { IfOk result (λ x. AddsNumbers (option_map (λ x. x.now)
+        cases.entry) named.old.items named.new.items (cases_of_blocks x.0.items)) }
 {
     let mut seen: IndexSet<Vec<u8>> = IndexSet::new(alloc);
     let mut found: Vec<EntryCert> = Vec::new(alloc);
     let mut rest = bytes;
     while let Some(after) = word_of(b"entry ", rest) {
-        let (item, after) = block(alloc, cases, &mut seen, after)?;
+        let (item, after) = block(alloc, cases, named, &mut seen, after)?;
         found.push(item)?;
         rest = after;
     }

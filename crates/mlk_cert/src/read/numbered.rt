@@ -1,9 +1,11 @@
 // Points that name cases by their numbers, read line by line.
 
-ghost use Rattle.std.specs.Prelude.{◌≡◌, ◌++◌, ◌-◌, IfOk, OnOk, option_copied, option_to_list, slice_get, length};
+ghost use Rattle.std.specs.Prelude.{◌≡◌, ◌++◌, ◌-◌, IfOk, OnOk, Some, option_copied, option_to_list, slice_get, length};
 ghost use Rattle.mlk_text.specs.Failures.{Reads};
 ghost use Rattle.mlk_cert.specs.Fitting.{passes};
 ghost use Rattle.mlk_cert.specs.Blocks.{after_at};
+ghost use Rattle.mlk_cert.specs.Second.{cases_of_points};
+ghost use Rattle.mlk_cert.specs.Named.{AddsNumbers};
 ghost use Rattle.mlk_cert.specs.Numbered.{are_upto, numbers_at, fits_numbers, numbered_point_at, fits_numbered_point, next_place_fits, cases_by, point_by, numbered_points_at};
 
 use crate::number::CaseNumber;
@@ -109,14 +111,18 @@ fn cases_by(alloc: Global, cases: &[Case], numbers: &[CaseNumber]) -> Result<Vec
     Ok(found)
 }
 
+// A point with the cases of its numbers, which are added to those that were read before.
 fn point_by(
     alloc: Global,
     cases: &[Case],
+    named: &mut Vec<CaseNumber>,
     numbered: (u32, u32, List<CaseNumber>),
 ) -> Result<Point, AllocError>
-    ensures { IfOk result (λ p. p ≡ point_by cases.now numbered) }
+    ensures point { IfOk result (λ p. p ≡ point_by cases.now numbered) }
+    ensures numbers { OnOk result (named.new.items ≡ named.old.items ++ numbered.2) }
 {
     let (line, round, numbers) = numbered;
+    named.extend_from_slice(numbers.as_slice())?;
     let cases = cases_by(alloc, cases, numbers.as_slice())?;
     Ok(Point {
         line: LineNumber::new(line),
@@ -125,19 +131,22 @@ fn point_by(
     })
 }
 
-/// The points at the front, which name these cases, and what is left after them.
+/// The points at the front, which name these cases, and what is left after them. The numbers that stand there are added to
+/// those that were read before.
 pub(crate) fn numbered_points<'a>(
     alloc: Global,
     cases: &[Case],
+    named: &mut Vec<CaseNumber>,
     bytes: &'a [u8],
 ) -> Result<(List<Point>, &'a [u8]), Failure<BlockFault>>
-    ensures { Reads (λ x. (x.0, x.1.now)) result (numbered_points_at cases.now bytes.now) }
+    ensures read { Reads (λ x. (x.0, x.1.now)) result (numbered_points_at cases.now bytes.now) }
+    ensures numbers { IfOk result (λ x. AddsNumbers (Some cases.now) named.old.items named.new.items (cases_of_points x.0)) }
 {
     let mut found: Vec<Point> = Vec::new(alloc);
     let mut rest = bytes;
     while let Some(after) = word_of(b"at ", rest) {
         let (numbered, after) = numbered_point(alloc, cases.len(), found.as_slice().last(), after)?;
-        found.push(point_by(alloc, cases, numbered)?)?;
+        found.push(point_by(alloc, cases, named, numbered)?)?;
         rest = after;
     }
     Ok((List::of(found), rest))

@@ -7,8 +7,11 @@ ghost use Rattle.mlk_cert.specs.Fitting.{passes};
 ghost use Rattle.mlk_cert_lexemes.specs.Lists.{last_of};
 ghost use Rattle.mlk_cert_parts.specs.Texts.{case_text};
 ghost use Rattle.mlk_cert.specs.Blocks.{place_at, listed_case_at, fits_listed, after_at, add_case, point_of, with_case, next_case_fits, points_at};
+ghost use Rattle.mlk_cert.specs.Second.{cases_of_points};
 ghost use Rattle.mlk_cert.specs.Numbered.{listed_points_at};
+ghost use Rattle.mlk_cert.specs.Named.{AddsNumbers};
 
+use crate::number::CaseNumber;
 use crate::read::case::case;
 use crate::read::fault::{BlockFault, other_form};
 use crate::read::fit::{Fit, fit_both, fit_of};
@@ -165,16 +168,21 @@ pub(crate) fn points(
     Ok((List::of(found), rest))
 }
 
-/// The points at the front, with their cases or with the numbers of these, and what is left after them.
+/// The points at the front, with their cases or with the numbers of these, and what is left after them. Such numbers are
+/// added to those that were read before.
 pub(crate) fn listed_points<'a>(
     alloc: Global,
     cases: Option<&[Case]>,
+    named: &mut Vec<CaseNumber>,
     bytes: &'a [u8],
 ) -> Result<(List<Point>, &'a [u8]), Failure<BlockFault>>
-    ensures { Reads (λ x. (x.0, x.1.now)) result (listed_points_at (option_map (λ x. x.now) cases.entry) bytes.now) }
+    ensures read { Reads (λ x. (x.0, x.1.now)) result (listed_points_at (option_map
+        (λ x. x.now) cases.entry) bytes.now) }
+    ensures numbers { IfOk result (λ x. AddsNumbers (option_map (λ x. x.now)
+        cases.entry) named.old.items named.new.items (cases_of_points x.0)) }
 {
     match cases {
         None => points(alloc, bytes),
-        Some(cases) => numbered_points(alloc, cases, bytes),
+        Some(cases) => numbered_points(alloc, cases, named, bytes),
     }
 }

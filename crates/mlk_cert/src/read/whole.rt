@@ -1,19 +1,24 @@
 // A whole certificate, read.
 
-ghost use Rattle.std.specs.Prelude.{◌≡◌, ◌≤◌, ◌+◌, length, option_map, IfOk, IfErr, List};
+ghost use Rattle.std.specs.Prelude.{◌≡◌, ◌≤◌, ◌+◌, length, map, option_map, IfOk, IfErr, List, None, true};
 ghost use Rattle.mlk_text.specs.Failures.{Reads};
+ghost use Rattle.mlk_cert_lexemes.specs.Lists.{ascends, below};
 ghost use Rattle.mlk_cert_parts.specs.Limits.{longest};
+ghost use Rattle.mlk_cert_parts.specs.Texts.{case_text};
 ghost use Rattle.mlk_cert.specs.Faults.{IsLater, at_first};
 ghost use Rattle.mlk_cert.specs.Blocks.{blocks_at, finished, body_at};
+ghost use Rattle.mlk_cert.specs.Second.{cases_of_blocks};
 ghost use Rattle.mlk_cert.specs.Numbered.{listed_points_at, all_named, second_body_at, body_in, head_at};
+ghost use Rattle.mlk_cert.specs.Named.{texts_by, AddsNumbers};
 ghost use Rattle.mlk_cert.specs.Theorem.{Spells, IsReading};
 ghost use Rattle.mlk_cert.specs.Refusals.{IsPlaced, lines_in};
 
 use crate::format::CertFormat;
-use crate::named::unnamed;
+use crate::number::CaseNumber;
 use crate::read::block::blocks;
 use crate::read::cases::cases;
 use crate::read::fault::{BlockFault, CertFault, other_form};
+use crate::read::unnamed::unnamed;
 use mlk_cert_lexemes::word_of;
 use mlk_cert_parts::limit::LONGEST_TEXT;
 use mlk_cert_parts::{Case, Certificate, EntryCert};
@@ -62,20 +67,35 @@ fn finished(found: Vec<EntryCert>, after: &[u8]) -> Result<Vec<EntryCert>, Failu
     Ok(found)
 }
 
-/// The blocks up to the end; their points name these cases, where there are any.
+// The blocks up to the end; their points name these cases, where there are any. The numbers that stand at points are added
+// to those that were read before.
 #[tactic(auto, unfolding(crate::specs::Blocks::body_at))]
-pub(crate) fn body(
+fn body(
     alloc: Global,
     cases: Option<&[Case]>,
+    named: &mut Vec<CaseNumber>,
     bytes: &[u8],
 ) -> Result<Vec<EntryCert>, Failure<BlockFault>>
-    ensures { Reads (λ x. x.items) result (body_at (listed_points_at (option_map (λ x. x.now) cases.entry)) bytes.now) }
+    ensures read { Reads (λ x. x.items) result (body_at (listed_points_at (option_map
+        (λ x. x.now) cases.entry)) bytes.now) }
+    ensures numbers { IfOk result (λ v. AddsNumbers (option_map (λ x. x.now)
+        cases.entry) named.old.items named.new.items (cases_of_blocks v.items)) }
 {
-    let (found, rest) = blocks(alloc, cases, bytes)?;
+    let (found, rest) = blocks(alloc, cases, named, bytes)?;
     let Some(after) = word_of(b"end\n", rest) else {
         return Err(Failure::Refused(other_form(rest)));
     };
-    finished(found, after)
+    let whole = finished(found, after)?;
+    Ok(whole)
+}
+
+/// The blocks up to the end, whose points have their cases with them.
+pub(crate) fn first_body(alloc: Global, bytes: &[u8]) -> Result<Vec<EntryCert>, Failure<BlockFault>>
+    ensures { Reads (λ x. x.items) result (body_at (listed_points_at None) bytes.now) }
+{
+    let mut named: Vec<CaseNumber> = Vec::new(alloc);
+    let found = body(alloc, None, &mut named, bytes)?;
+    Ok(found)
 }
 
 // How many bytes are left after so many lines.
@@ -94,16 +114,19 @@ fn left_after(lines: usize, bytes: &[u8]) -> usize {
     left
 }
 
-// The blocks, where points have each of the cases.
+// The blocks, where points name each of the cases by these numbers.
 fn all_named(
     alloc: Global,
     cases: &[Case],
+    named: &[CaseNumber],
     found: Vec<EntryCert>,
     bytes: &[u8],
 ) -> Result<Vec<EntryCert>, Failure<BlockFault>>
+    requires order { ascends below (map case_text cases.now) ≡ true }
+    requires numbers { texts_by cases.now named.now ≡ cases_of_blocks found.items }
     ensures { Reads (λ x. x.items) result (all_named cases.now found.items) }
 {
-    match unnamed(alloc, cases, found.as_slice())? {
+    match unnamed(alloc, cases, named)? {
         None => Ok(found),
         Some(place) => Err(Failure::Refused(BlockFault {
             code: Code::CaseUnused,
@@ -118,9 +141,10 @@ fn second_body(alloc: Global, bytes: &[u8]) -> Result<Vec<EntryCert>, Failure<Bl
     ensures { Reads (λ x. x.items) result (second_body_at bytes.now) }
 {
     let (found, rest) = cases(alloc, bytes)?;
-    let listed = body(alloc, Some(found.as_slice()), rest)?;
-    let listed = all_named(alloc, found.as_slice(), listed, bytes)?;
-    Ok(listed)
+    let mut named: Vec<CaseNumber> = Vec::new(alloc);
+    let listed = body(alloc, Some(found.as_slice()), &mut named, rest)?;
+    let whole = all_named(alloc, found.as_slice(), named.as_slice(), listed, bytes)?;
+    Ok(whole)
 }
 
 // The blocks behind the head line of a format.
@@ -132,7 +156,7 @@ fn body_in(
     ensures { Reads (λ x. x.items) result (body_in format bytes.now) }
 {
     match format {
-        CertFormat::First => body(alloc, None, bytes),
+        CertFormat::First => first_body(alloc, bytes),
         CertFormat::Second => second_body(alloc, bytes),
     }
 }
