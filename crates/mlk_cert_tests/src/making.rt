@@ -8,57 +8,95 @@ use mlk_text::{Failure, LineNumber, List, Name, Value};
 use std::alloc::{AllocError, Global};
 use std::test::Fail;
 
-// A case that keeps these names, of one letter each.
-fn case(alloc: Global, kept: &[u8]) -> Result<Case, AllocError> {
+// A line, and a case for each of these letters.
+type Spelled<'a> = (u32, &'a str);
+
+// Names of one letter each.
+fn names(alloc: Global, letters: &[u8]) -> Result<Vec<Name>, AllocError> {
     let mut names: Vec<Name> = Vec::new(alloc);
-    for letter in kept {
+    for letter in letters {
         names.push(Name::of(alloc, &[*letter])?)?;
     }
+    Ok(names)
+}
+
+/// A case that keeps these names, with these signs of open blocks.
+pub(crate) fn case_with(
+    alloc: Global,
+    kept: Vec<Name>,
+    saved: Vec<Test>,
+) -> Result<Case, AllocError> {
     Ok(Case {
         test: Test::Any,
         held: Shared::new(alloc, Vec::new(alloc))?,
         own: Shared::new(alloc, Vec::new(alloc))?,
-        kept: Shared::new(alloc, names)?,
-        saved: Shared::new(alloc, Vec::new(alloc))?,
+        kept: Shared::new(alloc, kept)?,
+        saved: Shared::new(alloc, saved)?,
     })
 }
 
-// A point at the start of a line, with a case for each of these letters.
-fn point(alloc: Global, line: u32, letters: &[u8]) -> Result<Point, AllocError> {
+// A case that keeps names of these letters.
+fn case(alloc: Global, kept: &[u8]) -> Result<Case, AllocError> {
+    case_with(alloc, names(alloc, kept)?, Vec::new(alloc))
+}
+
+fn cases(alloc: Global, letters: &str) -> Result<List<Case>, AllocError> {
     let mut cases = List::new(alloc);
-    for letter in letters {
+    for letter in letters.as_bytes() {
         cases.push(case(alloc, &[*letter])?)?;
     }
+    Ok(cases)
+}
+
+// A point at the start of a line.
+fn point(alloc: Global, spelled: Spelled) -> Result<Point, AllocError> {
     Ok(Point {
-        line: LineNumber::new(line),
+        line: LineNumber::new(spelled.0),
         round: 0,
-        cases,
+        cases: cases(alloc, spelled.1)?,
     })
 }
 
-// The block of an entry with two points.
-fn block(alloc: Global, first: Point, second: Point) -> Result<EntryCert, AllocError> {
+fn points(alloc: Global, spelled: &[Spelled]) -> Result<List<Point>, AllocError> {
     let mut points = List::new(alloc);
-    points.push(first)?;
-    points.push(second)?;
+    for one in spelled {
+        points.push(point(alloc, *one)?)?;
+    }
+    Ok(points)
+}
+
+fn summary(alloc: Global) -> Summary {
+    Summary {
+        need: List::new(alloc),
+        exits: List::new(alloc),
+        mods: List::new(alloc),
+        low: None,
+        drops: false,
+    }
+}
+
+/// The block of an entry with these points.
+pub(crate) fn block_with(alloc: Global, points: List<Point>) -> Result<EntryCert, AllocError> {
     Ok(EntryCert {
-        entry: Value::new(Vec::from_slice(alloc, b"E^R")?),
-        summary: Summary {
-            need: List::new(alloc),
-            exits: List::new(alloc),
-            mods: List::new(alloc),
-            low: None,
-            drops: false,
-        },
+        entry: Value::of(alloc, b"E^R")?,
+        summary: summary(alloc),
         points,
     })
 }
 
-// How many blocks of a certificate with these points come back; none where it is made.
-fn given_back(alloc: Global, first: Point, second: Point) -> Result<usize, AllocError> {
+fn block(alloc: Global, spelled: &[Spelled]) -> Result<EntryCert, AllocError> {
+    block_with(alloc, points(alloc, spelled)?)
+}
+
+fn blocks(alloc: Global, spelled: &[Spelled]) -> Result<Vec<EntryCert>, AllocError> {
     let mut blocks = Vec::new(alloc);
-    blocks.push(block(alloc, first, second)?)?;
-    match certificate_of(alloc, blocks) {
+    blocks.push(block(alloc, spelled)?)?;
+    Ok(blocks)
+}
+
+// How many blocks of a certificate with these points come back; none where it is made.
+fn given_back(alloc: Global, spelled: &[Spelled]) -> Result<usize, AllocError> {
+    match certificate_of(alloc, blocks(alloc, spelled)?) {
         Ok(_) => Ok(0),
         Err(Failure::OutOfMemory) => Err(AllocError),
         Err(Failure::Refused(back)) => Ok(back.len()),
@@ -66,87 +104,122 @@ fn given_back(alloc: Global, first: Point, second: Point) -> Result<usize, Alloc
 }
 
 // Whether the block with these points is made.
-fn is_block(alloc: Global, first: Point, second: Point) -> Result<bool, AllocError> {
-    Ok(block_of(alloc, block(alloc, first, second)?).is_ok())
+fn is_block(alloc: Global, spelled: &[Spelled]) -> Result<bool, AllocError> {
+    Ok(block_of(alloc, block(alloc, spelled)?).is_ok())
 }
 
 #[test]
 fn two_points_make_a_certificate(rt: HostRuntime) -> Result<(), Fail> {
-    let alloc = rt.alloc();
-    assert!(rt; given_back(alloc, point(alloc, 1, b"AB")?, point(alloc, 2, b"A")?)? == 0);
-    assert!(rt; is_block(alloc, point(alloc, 1, b"AB")?, point(alloc, 2, b"A")?)?);
+    let two: &[Spelled] = &[(1, "AB"), (2, "A")];
+    assert!(rt; given_back(rt.alloc(), two)? == 0);
+    assert!(rt; is_block(rt.alloc(), two)?);
     Ok(())
 }
 
 #[test]
 fn a_point_without_cases_is_refused(rt: HostRuntime) -> Result<(), Fail> {
-    let alloc = rt.alloc();
-    assert!(rt; given_back(alloc, point(alloc, 1, b"A")?, point(alloc, 2, b"")?)? == 1);
-    assert!(rt; !is_block(alloc, point(alloc, 1, b"")?, point(alloc, 2, b"A")?)?);
+    assert!(rt; given_back(rt.alloc(), &[(1, "A"), (2, "")])? == 1);
+    assert!(rt; !is_block(rt.alloc(), &[(1, ""), (2, "A")])?);
     Ok(())
 }
+
+const OF_ONE_PLACE: &[&[Spelled]] = &[
+    &[(1, "A"), (1, "B")],
+    &[(2, "A"), (1, "B")],
+    &[(0, "A"), (1, "B")],
+];
 
 #[test]
 fn two_points_of_one_place_are_refused(rt: HostRuntime) -> Result<(), Fail> {
-    let alloc = rt.alloc();
-    assert!(rt; given_back(alloc, point(alloc, 1, b"A")?, point(alloc, 1, b"B")?)? == 1);
-    assert!(rt; given_back(alloc, point(alloc, 2, b"A")?, point(alloc, 1, b"B")?)? == 1);
-    assert!(rt; given_back(alloc, point(alloc, 0, b"A")?, point(alloc, 1, b"B")?)? == 1);
+    for points in OF_ONE_PLACE {
+        assert!(rt; given_back(rt.alloc(), points)? == 1, "{points:?}");
+    }
     Ok(())
 }
+
+fn is_case(alloc: Global, kept: &str) -> Result<bool, AllocError> {
+    Ok(case_of(alloc, case(alloc, kept.as_bytes())?).is_ok())
+}
+
+const KEPT: &[(&str, bool)] = &[("AB", true), ("BA", false), ("AA", false), ("7", false)];
 
 #[test]
 fn cases_in_order_are_made(rt: HostRuntime) -> Result<(), Fail> {
-    let alloc = rt.alloc();
-    assert!(rt; case_of(alloc, case(alloc, b"AB")?).is_ok());
-    assert!(rt; case_of(alloc, case(alloc, b"BA")?).is_err());
-    assert!(rt; case_of(alloc, case(alloc, b"AA")?).is_err());
-    assert!(rt; case_of(alloc, case(alloc, b"7")?).is_err());
+    for (kept, is_made) in KEPT {
+        assert!(rt; is_case(rt.alloc(), kept)? == *is_made, "{kept}");
+    }
     Ok(())
 }
+
+fn is_point(alloc: Global, spelled: Spelled) -> Result<bool, AllocError> {
+    Ok(point_of(alloc, point(alloc, spelled)?).is_ok())
+}
+
+const POINTS: &[(Spelled, bool)] = &[
+    ((1, "ABCDEFGHIJKLMNOP"), true),
+    ((1, "ABCDEFGHIJKLMNOPQ"), false),
+    ((65_536, "A"), false),
+];
 
 #[test]
 fn points_of_a_few_cases_are_made(rt: HostRuntime) -> Result<(), Fail> {
-    let alloc = rt.alloc();
-    assert!(rt; point_of(alloc, point(alloc, 1, b"ABCDEFGHIJKLMNOP")?).is_ok());
-    assert!(rt; point_of(alloc, point(alloc, 1, b"ABCDEFGHIJKLMNOPQ")?).is_err());
-    assert!(rt; point_of(alloc, point(alloc, 65_536, b"A")?).is_err());
+    for (spelled, is_made) in POINTS {
+        assert!(rt; is_point(rt.alloc(), *spelled)? == *is_made, "{spelled:?}");
+    }
     Ok(())
+}
+
+// The letter of the only name that a case keeps, and 0 where there is none.
+fn letter_of(case: &Case) -> u8 {
+    let [name] = case.kept.as_slice() else {
+        return 0;
+    };
+    match name.as_bytes() {
+        [letter] => *letter,
+        _ => 0,
+    }
+}
+
+// How many cases a point has, and the letter that the second keeps.
+fn second_of(point: &Point) -> (usize, u8) {
+    match point.cases.as_slice() {
+        [_, second, others @ ..] => (others.len().saturating_add(2), letter_of(second)),
+        cases => (cases.len(), 0),
+    }
 }
 
 // Whether a point with one more case is made, how many cases it has, and the letter that the second keeps.
-fn one_more(alloc: Global, letters: &[u8], letter: u8) -> Result<(bool, usize, u8), AllocError> {
-    let (made, point) = match with_case(alloc, point(alloc, 1, letters)?, case(alloc, &[letter])?) {
-        Ok(point) => (true, point),
+fn one_more(alloc: Global, letters: &str, letter: u8) -> Result<(bool, usize, u8), AllocError> {
+    let (is_made, (count, second)) = match with_case(
+        alloc,
+        point(alloc, (1, letters))?,
+        case(alloc, &[letter])?,
+    ) {
+        Ok(point) => (true, second_of(&point)),
         Err(Failure::OutOfMemory) => return Err(AllocError),
-        Err(Failure::Refused(point)) => (false, point),
+        Err(Failure::Refused(point)) => (false, second_of(&point)),
     };
-    let cases = point.cases.as_slice();
-    let [_, second, ..] = cases else {
-        return Ok((made, cases.len(), 0));
-    };
-    let [name] = second.kept.as_slice() else {
-        return Ok((made, cases.len(), 0));
-    };
-    let [kept] = name.as_bytes() else {
-        return Ok((made, cases.len(), 0));
-    };
-    Ok((made, cases.len(), *kept))
+    Ok((is_made, count, second))
 }
+
+const PLACES: &[(&str, u8, usize)] = &[("AC", b'B', 3), ("BC", b'A', 3), ("A", b'B', 2)];
 
 #[test]
 fn one_more_case_stands_in_its_place(rt: HostRuntime) -> Result<(), Fail> {
-    let alloc = rt.alloc();
-    assert!(rt; one_more(alloc, b"AC", b'B')? == (true, 3, b'B'));
-    assert!(rt; one_more(alloc, b"BC", b'A')? == (true, 3, b'B'));
-    assert!(rt; one_more(alloc, b"A", b'B')? == (true, 2, b'B'));
+    for (letters, letter, count) in PLACES {
+        let found = one_more(rt.alloc(), letters, *letter)?;
+        assert!(rt; found == (true, *count, b'B'), "{letters}");
+    }
     Ok(())
 }
 
+const TOO_MANY: &[(&str, u8, usize)] = &[("AB", b'B', 3), ("ABCDEFGHIJKLMNOP", b'Q', 17)];
+
 #[test]
 fn one_case_too_many_comes_back(rt: HostRuntime) -> Result<(), Fail> {
-    let alloc = rt.alloc();
-    assert!(rt; one_more(alloc, b"AB", b'B')? == (false, 3, b'B'));
-    assert!(rt; one_more(alloc, b"ABCDEFGHIJKLMNOP", b'Q')? == (false, 17, b'B'));
+    for (letters, letter, count) in TOO_MANY {
+        let found = one_more(rt.alloc(), letters, *letter)?;
+        assert!(rt; found == (false, *count, b'B'), "{letters}");
+    }
     Ok(())
 }

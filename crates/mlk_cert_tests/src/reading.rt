@@ -1,20 +1,21 @@
 // Certificates that are read, and written again as they stood.
 
-use mlk_cert::{read_cert, write_cert};
+use mlk_cert::{Certificate, EntryCert, read_cert, write_cert};
 use mlk_names::KnownSym;
 use std::alloc::{AllocError, Global};
 use std::test::Fail;
 
+fn is_written(alloc: Global, certificate: &Certificate, wanted: &[u8]) -> bool {
+    let mut written: Vec<u8> = Vec::new(alloc);
+    write_cert(alloc, certificate, &mut written).is_ok() && written.as_slice() == wanted
+}
+
 // Whether the text is read, and written again byte for byte.
 fn comes_back(alloc: Global, text: &[u8]) -> bool {
-    let Ok(certificate) = read_cert(alloc, text) else {
-        return false;
-    };
-    let mut written: Vec<u8> = Vec::new(alloc);
-    let Ok(()) = write_cert(alloc, &certificate, &mut written) else {
-        return false;
-    };
-    written.as_slice() == text
+    match &read_cert(alloc, text) {
+        Ok(certificate) => is_written(alloc, certificate, text),
+        Err(_) => false,
+    }
 }
 
 #[test]
@@ -36,73 +37,97 @@ fn every_form_comes_back(rt: HostRuntime) {
     assert!(rt; comes_back(rt.alloc(), text));
 }
 
+fn has_entry(blocks: &[EntryCert], text: &[u8]) -> bool {
+    match blocks {
+        [block] => block.entry.as_bytes() == text,
+        _ => false,
+    }
+}
+
+// Whether the only block's lowest rank is 7, it drops locks, and it has one exit and one name that may change.
+fn has_summary(blocks: &[EntryCert]) -> bool {
+    let [block] = blocks else {
+        return false;
+    };
+    let summary = &block.summary;
+    summary.low == Some(7)
+        && summary.drops
+        && summary.mods.as_slice().len() == 1
+        && summary.exits.as_slice().len() == 1
+}
+
+// Whether the only block has one point, at the first loop of line 3, with two cases.
+fn has_point(blocks: &[EntryCert]) -> bool {
+    let [block] = blocks else {
+        return false;
+    };
+    match block.points.as_slice() {
+        [point] => {
+            point.line.number() == 3 && point.round == 1 && point.cases.as_slice().len() == 2
+        }
+        _ => false,
+    }
+}
+
 #[test]
 fn blocks_hold_what_the_text_says(rt: HostRuntime) -> Result<(), Fail> {
     let text =
         b"mlock-cert 1\nentry E^R\nneed -\nlow 7\ndrops 1\nmods A\nexit T=0 H=- K=-\nat 3.1 T=* H=- O=- K=B;C S=-\nat 3.1 T=1 H=- O=- K=- S=-\nend\n";
-    let Ok(certificate) = read_cert(rt.alloc(), text) else {
-        assert!(rt; false);
-        return Ok(());
-    };
-    for block in certificate.blocks() {
-        assert!(rt; block.entry.as_bytes() == b"E^R".as_slice());
-        assert!(rt; block.summary.low == Some(7) && block.summary.drops);
-        assert!(rt; block.summary.mods.as_slice().len() == 1);
-        assert!(rt; block.summary.exits.as_slice().len() == 1);
-        for point in block.points.as_slice() {
-            assert!(rt; point.line.number() == 3 && point.round == 1);
-            assert!(rt; point.cases.as_slice().len() == 2);
-        }
-        assert!(rt; block.points.as_slice().len() == 1);
-    }
-    assert!(rt; certificate.blocks().len() == 1);
+    let certificate = read_cert(rt.alloc(), text)?;
+    assert!(rt; has_entry(certificate.blocks(), b"E^R"));
+    assert!(rt; has_summary(certificate.blocks()));
+    assert!(rt; has_point(certificate.blocks()));
     Ok(())
 }
 
-// How many blocks a certificate with so many entries is read as, each with a label of its own; none where it is refused.
-fn blocks_of(alloc: Global, entries: u32) -> Result<usize, AllocError> {
+// Adds the five digits of a number.
+fn add_number(text: &mut Vec<u8>, number: u32) -> Result<(), AllocError> {
+    for place in [10000, 1000, 100, 10, 1] {
+        text.push(b'0' + ((number / place) % 10) as u8)?;
+    }
+    Ok(())
+}
+
+// A certificate with so many entries, each with a label of its own.
+fn many_entries(alloc: Global, entries: u32) -> Result<Vec<u8>, AllocError> {
     let mut text: Vec<u8> = Vec::new(alloc);
     text.extend_from_slice(b"mlock-cert 1\n")?;
-    for i in 0..entries {
+    for number in 0..entries {
         text.extend_from_slice(b"entry ")?;
-        for place in [10000, 1000, 100, 10, 1] {
-            text.push(b'0' + ((i / place) % 10) as u8)?;
-        }
+        add_number(&mut text, number)?;
         text.extend_from_slice(b"^R\nneed -\nlow -\ndrops 0\nmods -\n")?;
     }
     text.extend_from_slice(b"end\n")?;
-    match read_cert(alloc, text.as_slice()) {
-        Ok(certificate) => Ok(certificate.blocks().len()),
-        Err(_) => Ok(0),
-    }
+    Ok(text)
 }
 
 #[test]
 fn many_blocks_are_read(rt: HostRuntime) -> Result<(), Fail> {
-    assert!(rt; blocks_of(rt.alloc(), 20000)? == 20000);
+    let text = many_entries(rt.alloc(), 20000)?;
+    let certificate = read_cert(rt.alloc(), text.as_slice())?;
+    assert!(rt; certificate.blocks().len() == 20000);
     Ok(())
 }
 
-// Whether some lock that the first block needs has this constant as its first subscript.
-fn needs(alloc: Global, text: &[u8], constant: &[u8]) -> bool {
-    let Ok(certificate) = read_cert(alloc, text) else {
-        return false;
-    };
-    let [block, ..] = certificate.blocks() else {
+// Whether the only lock that the first block needs has this constant as its first subscript.
+fn needs(blocks: &[EntryCert], constant: &[u8]) -> bool {
+    let [block, ..] = blocks else {
         return false;
     };
     let [term] = block.summary.need.as_slice() else {
         return false;
     };
-    let [KnownSym::Const(value), ..] = term.subs.as_slice() else {
-        return false;
-    };
-    value.as_bytes() == constant
+    match term.subs.as_slice() {
+        [KnownSym::Const(value), ..] => value.as_bytes() == constant,
+        _ => false,
+    }
 }
 
 #[test]
-fn a_constant_is_its_bytes(rt: HostRuntime) {
+fn a_constant_is_its_bytes(rt: HostRuntime) -> Result<(), Fail> {
     let text =
         b"mlock-cert 1\nentry ^R\nneed ^A(\"a\\0a\"\"\\5c\",ID)\nlow -\ndrops 0\nmods -\nend\n";
-    assert!(rt; needs(rt.alloc(), text, b"a\n\"\\"));
+    let certificate = read_cert(rt.alloc(), text)?;
+    assert!(rt; needs(certificate.blocks(), b"a\n\"\\"));
+    Ok(())
 }

@@ -1,24 +1,17 @@
 // The longest text of a certificate; what is refused for another cause stands in the rows of `mlk_reader_cases`.
 
-use mlk_cert::{CertFault, read_cert};
+use mlk_cert::read_cert;
 use mlk_text::Failure;
 use std::alloc::{AllocError, Global};
 use std::test::Fail;
 
-// The line and the number of a refusal.
-fn numbers(failure: Failure<CertFault>) -> (u32, u16) {
-    match failure {
-        Failure::OutOfMemory => (0, 1),
-        Failure::Refused(fault) => (fault.line.number(), fault.code.number()),
+/// The line and the number of a refusal; 0 and 0 where the text is read.
+pub(crate) fn told(alloc: Global, text: &[u8]) -> (u32, u16) {
+    match &read_cert(alloc, text) {
+        Ok(_) => (0, 0),
+        Err(Failure::OutOfMemory) => (0, 1),
+        Err(Failure::Refused(fault)) => (fault.line.number(), fault.code.number()),
     }
-}
-
-// The line and the number of a refusal; 0 and 0 where the text is read.
-fn told(alloc: Global, text: &[u8]) -> (u32, u16) {
-    let Err(failure) = read_cert(alloc, text) else {
-        return (0, 0);
-    };
-    numbers(failure)
 }
 
 // What is told of a text of so many bytes without a head line.

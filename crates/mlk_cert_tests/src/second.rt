@@ -1,7 +1,7 @@
 // The second format: read, written, and refused.
 
-use mlk_cert::{read_cert, write_cert, write_cert2};
-use mlk_text::Failure;
+use crate::refusals::told;
+use mlk_cert::{Certificate, read_cert, write_cert, write_cert2};
 use std::alloc::{AllocError, Global};
 use std::test::Fail;
 
@@ -13,20 +13,24 @@ const FIRST: &[u8] =
 const SECOND: &[u8] =
     b"mlock-cert 2\ncase 1 T=* H=- O=1:ID K=ID S=-\ncase 2 T=1 H=^ACCT(ID) O=1:ID K=ID S=-\nentry T^TWO\nneed -\nlow -\ndrops 0\nmods -\nexit T=0 H=- K=ID\nat 1.0 1\nat 2.0 1;2\nend\n";
 
+fn is_first(alloc: Global, certificate: &Certificate, wanted: &[u8]) -> bool {
+    let mut text: Vec<u8> = Vec::new(alloc);
+    write_cert(alloc, certificate, &mut text).is_ok() && text.as_slice() == wanted
+}
+
+fn is_second(alloc: Global, certificate: &Certificate, wanted: &[u8]) -> bool {
+    let mut text: Vec<u8> = Vec::new(alloc);
+    write_cert2(alloc, certificate, &mut text).is_ok() && text.as_slice() == wanted
+}
+
 // Whether a text is read, and then written in both formats as these.
 fn is_written(alloc: Global, text: &[u8], first: &[u8], second: &[u8]) -> bool {
-    let Ok(certificate) = read_cert(alloc, text) else {
-        return false;
-    };
-    let mut one: Vec<u8> = Vec::new(alloc);
-    let mut two: Vec<u8> = Vec::new(alloc);
-    let Ok(()) = write_cert(alloc, &certificate, &mut one) else {
-        return false;
-    };
-    let Ok(()) = write_cert2(alloc, &certificate, &mut two) else {
-        return false;
-    };
-    one.as_slice() == first && two.as_slice() == second
+    match &read_cert(alloc, text) {
+        Ok(certificate) => {
+            is_first(alloc, certificate, first) && is_second(alloc, certificate, second)
+        }
+        Err(_) => false,
+    }
 }
 
 #[test]
@@ -49,51 +53,60 @@ fn no_entries_have_no_cases(rt: HostRuntime) {
     );
 }
 
-// The line and the number of a refusal; 0 and 0 where the text is read.
-fn told(alloc: Global, text: &[u8]) -> (u32, u16) {
-    let answer = read_cert(alloc, text);
-    match &answer {
-        Ok(_) => (0, 0),
-        Err(Failure::OutOfMemory) => (0, 1),
-        Err(Failure::Refused(fault)) => (fault.line.number(), fault.code.number()),
-    }
-}
-
-// What is told of these lines of cases before a block with these lines of points.
-fn told_of(alloc: Global, cases: &[u8], points: &[u8]) -> Result<(u32, u16), AllocError> {
+// A certificate of these lines of cases before a block with these lines of points.
+fn in_second(alloc: Global, cases: &str, points: &str) -> Result<Vec<u8>, AllocError> {
     let mut text: Vec<u8> = Vec::new(alloc);
     text.extend_from_slice(b"mlock-cert 2\n")?;
-    text.extend_from_slice(cases)?;
+    text.extend_from_slice(cases.as_bytes())?;
     text.extend_from_slice(b"entry E^R\nneed -\nlow -\ndrops 0\nmods -\n")?;
-    text.extend_from_slice(points)?;
+    text.extend_from_slice(points.as_bytes())?;
     text.extend_from_slice(b"end\n")?;
+    Ok(text)
+}
+
+// What is told of it.
+fn told_of(alloc: Global, cases: &str, points: &str) -> Result<(u32, u16), AllocError> {
+    let text = in_second(alloc, cases, points)?;
     Ok(told(alloc, text.as_slice()))
 }
 
+const ONE: &str = "case 1 T=* H=- O=- K=- S=-\n";
+
+const TWO: &str = "case 1 T=1 H=- O=- K=- S=-\ncase 2 T=* H=- O=- K=- S=-\n";
+
+const REFUSALS: &[(&str, &str, (u32, u16))] = &[
+    (ONE, "at 1.0 1\n", (0, 0)),
+    ("case 0 T=* H=- O=- K=- S=-\n", "at 1.0 1\n", (2, 602)),
+    ("case 01 T=* H=- O=- K=- S=-\n", "at 1.0 1\n", (2, 602)),
+    ("case 2 T=* H=- O=- K=- S=-\n", "at 1.0 2\n", (2, 603)),
+    (TWO, "at 1.0 1;2\n", (3, 603)),
+    (ONE, "", (2, 607)),
+    (ONE, "at 1.0 2\n", (8, 602)),
+    (ONE, "at 1.0 0\n", (8, 602)),
+    (ONE, "at 1.0 -\n", (8, 602)),
+    (ONE, "at 1.0 1;1\n", (8, 603)),
+    (ONE, "at 1.0 1\nat 1.0 1\n", (9, 603)),
+    (ONE, "at 1.0 T=* H=- O=- K=- S=-\n", (8, 602)),
+];
+
 #[test]
 fn cases_are_refused(rt: HostRuntime) -> Result<(), Fail> {
-    let alloc = rt.alloc();
-    let one: &[u8] = b"case 1 T=* H=- O=- K=- S=-\n";
-    let two: &[u8] = b"case 1 T=1 H=- O=- K=- S=-\ncase 2 T=* H=- O=- K=- S=-\n";
-    assert!(rt; told_of(alloc, one, b"at 1.0 1\n")? == (0, 0));
-    assert!(rt; told_of(alloc, b"case 0 T=* H=- O=- K=- S=-\n", b"at 1.0 1\n")? == (2, 602));
-    assert!(rt; told_of(alloc, b"case 01 T=* H=- O=- K=- S=-\n", b"at 1.0 1\n")? == (2, 602));
-    assert!(rt; told_of(alloc, b"case 2 T=* H=- O=- K=- S=-\n", b"at 1.0 2\n")? == (2, 603));
-    assert!(rt; told_of(alloc, two, b"at 1.0 1;2\n")? == (3, 603));
-    assert!(rt; told_of(alloc, one, b"")? == (2, 607));
-    assert!(rt; told_of(alloc, one, b"at 1.0 2\n")? == (8, 602));
-    assert!(rt; told_of(alloc, one, b"at 1.0 0\n")? == (8, 602));
-    assert!(rt; told_of(alloc, one, b"at 1.0 -\n")? == (8, 602));
-    assert!(rt; told_of(alloc, one, b"at 1.0 1;1\n")? == (8, 603));
-    assert!(rt; told_of(alloc, one, b"at 1.0 1\nat 1.0 1\n")? == (9, 603));
-    assert!(rt; told_of(alloc, one, b"at 1.0 T=* H=- O=- K=- S=-\n")? == (8, 602));
+    for (cases, points, wanted) in REFUSALS {
+        let found = told_of(rt.alloc(), cases, points)?;
+        assert!(rt; found == *wanted, "{cases}{points}");
+    }
     Ok(())
 }
 
+const OTHER_FORMATS: &[(&str, (u32, u16))] = &[
+    ("mlock-cert 1\ncase 1 T=* H=- O=- K=- S=-\nend\n", (2, 602)),
+    ("mlock-cert 3\nend\n", (1, 601)),
+    ("mlock-cert 2\nend\nend\n", (3, 602)),
+];
+
 #[test]
 fn a_body_of_the_other_format_is_refused(rt: HostRuntime) {
-    let alloc = rt.alloc();
-    assert!(rt; told(alloc, b"mlock-cert 1\ncase 1 T=* H=- O=- K=- S=-\nend\n") == (2, 602));
-    assert!(rt; told(alloc, b"mlock-cert 3\nend\n") == (1, 601));
-    assert!(rt; told(alloc, b"mlock-cert 2\nend\nend\n") == (3, 602));
+    for (text, wanted) in OTHER_FORMATS {
+        assert!(rt; told(rt.alloc(), text.as_bytes()) == *wanted, "{text}");
+    }
 }

@@ -1,10 +1,10 @@
 // Certificates that are not written.
 
+use crate::making::{block_with, case_with};
 use mlk_cert::{
-    Case, Certificate, EntryCert, Point, Shared, Summary, Test, WriteFault, certificate_of,
-    read_cert, write_cert,
+    Case, Certificate, EntryCert, Point, Test, WriteFault, certificate_of, read_cert, write_cert,
 };
-use mlk_text::{Failure, LineNumber, List, Value};
+use mlk_text::{Failure, LineNumber, List};
 use std::alloc::{AllocError, Global};
 use std::io;
 use std::io::Write;
@@ -43,35 +43,23 @@ fn a_writers_fault_is_told(rt: HostRuntime) {
 fn long_case(alloc: Global, signs: usize) -> Result<Case, AllocError> {
     let mut saved = Vec::new(alloc);
     saved.resize(signs, Test::Any)?;
-    Ok(Case {
-        test: Test::Any,
-        held: Shared::new(alloc, Vec::new(alloc))?,
-        own: Shared::new(alloc, Vec::new(alloc))?,
-        kept: Shared::new(alloc, Vec::new(alloc))?,
-        saved: Shared::new(alloc, saved)?,
+    case_with(alloc, Vec::new(alloc), saved)
+}
+
+fn long_point(alloc: Global, signs: usize) -> Result<Point, AllocError> {
+    let mut cases = List::new(alloc);
+    cases.push(long_case(alloc, signs)?)?;
+    Ok(Point {
+        line: LineNumber::new(1),
+        round: 0,
+        cases,
     })
 }
 
 fn long_block(alloc: Global, signs: usize) -> Result<EntryCert, AllocError> {
-    let mut cases = List::new(alloc);
-    cases.push(long_case(alloc, signs)?)?;
     let mut points = List::new(alloc);
-    points.push(Point {
-        line: LineNumber::new(1),
-        round: 0,
-        cases,
-    })?;
-    Ok(EntryCert {
-        entry: Value::new(Vec::from_slice(alloc, b"E^R")?),
-        summary: Summary {
-            need: List::new(alloc),
-            exits: List::new(alloc),
-            mods: List::new(alloc),
-            low: None,
-            drops: false,
-        },
-        points,
-    })
+    points.push(long_point(alloc, signs)?)?;
+    block_with(alloc, points)
 }
 
 // A certificate with so many signs.
@@ -82,16 +70,20 @@ fn long_certificate(alloc: Global, signs: usize) -> Result<Certificate, Failure<
 }
 
 // How many bytes are written, and the number and the line that are told.
-fn written(alloc: Global, signs: usize) -> (usize, u16, u32) {
-    let Ok(certificate) = long_certificate(alloc, signs) else {
-        return (0, 0, 0);
-    };
+fn written_of(alloc: Global, certificate: &Certificate) -> (usize, u16, u32) {
     let mut text: Vec<u8> = Vec::new(alloc);
-    match write_cert(alloc, &certificate, &mut text) {
+    match write_cert(alloc, certificate, &mut text) {
         Err(Failure::Refused(WriteFault::TooLong(fault))) => {
             (text.len(), fault.code.number(), fault.line.number())
         }
         _ => (text.len(), 0, 0),
+    }
+}
+
+fn written(alloc: Global, signs: usize) -> (usize, u16, u32) {
+    match &long_certificate(alloc, signs) {
+        Ok(certificate) => written_of(alloc, certificate),
+        Err(_) => (0, 0, 0),
     }
 }
 

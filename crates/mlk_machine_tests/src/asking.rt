@@ -10,9 +10,9 @@ use std::alloc::{AllocError, Global};
 
 // ^ACCT(1)
 fn account(alloc: Global) -> Result<LockName, AllocError> {
-    let root = Root::Global(Name::of(alloc, b"ACCT")?);
     let mut subs = Subscripts::new(alloc);
     subs.push(Value::of(alloc, b"1")?)?;
+    let root = Root::Global(Name::of(alloc, b"ACCT")?);
     Ok(LockName { root, subs })
 }
 
@@ -73,14 +73,13 @@ impl Trial for Asks {
     fn is_passed(
         &self,
         alloc: Global,
-        program: &Program<'_>,
-        entries: &[EntryId],
+        _program: &Program<'_>,
+        system: &mut System<'_>,
         entry: EntryId,
     ) -> Result<bool, Failure<Refusal>> {
-        let mut system = System::start(alloc, program, entries);
-        two_at_one(alloc, &mut system, entry)?;
+        two_at_one(alloc, system, entry)?;
         let name = account(alloc)?;
-        Ok(answers_are(&system, &name))
+        Ok(answers_are(system, &name))
     }
 }
 
@@ -101,16 +100,15 @@ impl Trial for Endless {
     fn is_passed(
         &self,
         alloc: Global,
-        program: &Program<'_>,
-        entries: &[EntryId],
+        _program: &Program<'_>,
+        system: &mut System<'_>,
         entry: EntryId,
     ) -> Result<bool, Failure<Refusal>> {
-        let mut system = System::start(alloc, program, entries);
-        begin(alloc, &mut system, 1, entry, b"")?;
+        begin(alloc, system, 1, entry, b"")?;
         let steps = system.settle(1)?;
         Ok(
             steps == MOST_SILENT_STEPS
-                && is_shown(alloc, &system, b"job 1 silent holds -\nring no\n"),
+                && is_shown(alloc, system, b"job 1 silent holds -\nring no\n"),
         )
     }
 }

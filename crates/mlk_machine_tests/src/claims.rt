@@ -64,22 +64,21 @@ impl Trial for Claim<'_> {
     fn is_passed(
         &self,
         alloc: Global,
-        program: &Program<'_>,
-        entries: &[EntryId],
+        _program: &Program<'_>,
+        system: &mut System<'_>,
         entry: EntryId,
     ) -> Result<bool, Failure<Refusal>> {
-        let mut system = System::start(alloc, program, entries);
-        stand(alloc, &mut system, entry, 1, self.held)?;
-        stand(alloc, &mut system, entry, 2, self.claimed)?;
-        stand(alloc, &mut system, entry, 3, self.held)?;
-        go(&mut system, 1)?;
+        stand(alloc, system, entry, 1, self.held)?;
+        stand(alloc, system, entry, 2, self.claimed)?;
+        stand(alloc, system, entry, 3, self.held)?;
+        go(system, 1)?;
         if self.is_free {
-            return Ok(go(&mut system, 2).is_ok());
+            return Ok(go(system, 2).is_ok());
         }
-        let waits = is_kept(&mut system, 2);
-        give_back(&mut system, self.is_aborted)?;
-        go(&mut system, 2)?;
-        Ok(waits && is_kept(&mut system, 3))
+        let waits = is_kept(system, 2);
+        give_back(system, self.is_aborted)?;
+        go(system, 2)?;
+        Ok(waits && is_kept(system, 3))
     }
 }
 
@@ -116,23 +115,36 @@ fn claims_wait(alloc: Global, held: &[u8], claimed: &[&[u8]]) -> bool {
         && claim_waits(alloc, held, *name, true))
 }
 
+// What one job holds, and what another claims.
+type Claims<'a> = (&'a [u8], &'a [&'a [u8]]);
+
+const ABOVE_AND_BELOW: &[Claims] = &[
+    (ALL, &[ALL, ONE, ONE_TWO, TWO]),
+    (ONE, &[ALL, ONE, ONE_TWO]),
+    (ONE_TWO, &[ALL, ONE, ONE_TWO]),
+    (TWO, &[ALL, TWO]),
+];
+
 #[test]
 fn above_and_below(rt: HostRuntime) {
-    let alloc = rt.alloc();
-    assert!(rt; claims_wait(alloc, ALL, &[ALL, ONE, ONE_TWO, TWO]));
-    assert!(rt; claims_wait(alloc, ONE, &[ALL, ONE, ONE_TWO]));
-    assert!(rt; claims_wait(alloc, ONE_TWO, &[ALL, ONE, ONE_TWO]));
-    assert!(rt; claims_wait(alloc, TWO, &[ALL, TWO]));
+    for (place, (held, claimed)) in ABOVE_AND_BELOW.iter().enumerate() {
+        assert!(rt; claims_wait(rt.alloc(), held, claimed), "row {place}");
+    }
 }
+
+const BESIDE: &[Claims] = &[
+    (ALL, &[LOG]),
+    (ONE, &[TWO, LOG]),
+    (ONE_TWO, &[TWO, LOG]),
+    (TWO, &[ONE, ONE_TWO, LOG]),
+    (LOG, &[ALL, ONE, ONE_TWO, TWO]),
+];
 
 #[test]
 fn beside(rt: HostRuntime) {
-    let alloc = rt.alloc();
-    assert!(rt; claims_are_free(alloc, ALL, &[LOG]));
-    assert!(rt; claims_are_free(alloc, ONE, &[TWO, LOG]));
-    assert!(rt; claims_are_free(alloc, ONE_TWO, &[TWO, LOG]));
-    assert!(rt; claims_are_free(alloc, TWO, &[ONE, ONE_TWO, LOG]));
-    assert!(rt; claims_are_free(alloc, LOG, &[ALL, ONE, ONE_TWO, TWO]));
+    for (place, (held, claimed)) in BESIDE.iter().enumerate() {
+        assert!(rt; claims_are_free(rt.alloc(), held, claimed), "row {place}");
+    }
 }
 
 // A job claims a name, the one above it, the one below it and the first once more, and gives each of them back in turn.
@@ -168,14 +180,13 @@ impl Trial for Own {
     fn is_passed(
         &self,
         alloc: Global,
-        program: &Program<'_>,
-        entries: &[EntryId],
+        _program: &Program<'_>,
+        system: &mut System<'_>,
         entry: EntryId,
     ) -> Result<bool, Failure<Refusal>> {
-        let mut system = System::start(alloc, program, entries);
-        stand(alloc, &mut system, entry, 1, b"1")?;
-        stand(alloc, &mut system, entry, 2, b"1")?;
-        waits_to_the_end(&mut system)
+        stand(alloc, system, entry, 1, b"1")?;
+        stand(alloc, system, entry, 2, b"1")?;
+        waits_to_the_end(system)
     }
 }
 

@@ -49,28 +49,45 @@ pub(crate) trait Trial {
     /// The text of the entry.
     fn entry(&self) -> &[u8];
 
-    /// Whether all is as it should be.
+    /// Whether all is as it should be in a system without jobs.
     fn is_passed(
         &self,
         alloc: Global,
         program: &Program<'_>,
-        entries: &[EntryId],
+        system: &mut System<'_>,
         entry: EntryId,
     ) -> Result<bool, Failure<Refusal>>;
 }
 
 #[cfg(test)]
-fn passes_of<T: Trial>(alloc: Global, program: &Program<'_>, trial: &T) -> bool {
-    let Some(entry) = program.entry(trial.entry()) else {
+fn passes_at<T: Trial>(
+    alloc: Global,
+    program: &Program<'_>,
+    entries: &[EntryId],
+    trial: &T,
+) -> bool {
+    let Some(entry) = entries.first() else {
         return false;
     };
-    trial.is_passed(alloc, program, &[entry], entry).ok() == Some(true)
+    let mut system = System::start(alloc, program, entries);
+    matches!(
+        trial.is_passed(alloc, program, &mut system, *entry),
+        Ok(true)
+    )
+}
+
+#[cfg(test)]
+fn passes_of<T: Trial>(alloc: Global, program: &Program<'_>, trial: &T) -> bool {
+    match program.entry(trial.entry()) {
+        Some(entry) => passes_at(alloc, program, &[entry], trial),
+        None => false,
+    }
 }
 
 #[cfg(test)]
 fn passes_in<T: Trial>(alloc: Global, routines: &[Routine], trial: &T) -> bool {
-    match link(alloc, routines) {
-        Ok(program) => passes_of(alloc, &program, trial),
+    match &link(alloc, routines) {
+        Ok(program) => passes_of(alloc, program, trial),
         Err(_) => false,
     }
 }
@@ -78,7 +95,7 @@ fn passes_in<T: Trial>(alloc: Global, routines: &[Routine], trial: &T) -> bool {
 /// Whether a trial is passed.
 #[cfg(test)]
 pub(crate) fn passes<T: Trial>(alloc: Global, trial: &T) -> bool {
-    match routines(alloc) {
+    match &routines(alloc) {
         Ok(routines) => passes_in(alloc, routines.as_slice(), trial),
         Err(_) => false,
     }

@@ -73,18 +73,17 @@ impl Trial for AllStays {
         &self,
         alloc: Global,
         program: &Program<'_>,
-        entries: &[EntryId],
+        system: &mut System<'_>,
         entry: EntryId,
     ) -> Result<bool, Failure<Refusal>> {
         let other = program.entry(b"OTHER^R").unwrap_or(entry);
-        let mut system = System::start(alloc, program, entries);
         Ok(
-            unknown_are_refused(&mut system, 1)
-                && is_shown(alloc, &system, b"ring no\n")
-                && one_waits(alloc, &mut system, entry)
-                && is_shown(alloc, &system, WAITING)
-                && all_are_refused(alloc, &mut system, entry, other)
-                && is_shown(alloc, &system, WAITING),
+            unknown_are_refused(system, 1)
+                && is_shown(alloc, system, b"ring no\n")
+                && one_waits(alloc, system, entry)
+                && is_shown(alloc, system, WAITING)
+                && all_are_refused(alloc, system, entry, other)
+                && is_shown(alloc, system, WAITING),
         )
     }
 }
@@ -106,21 +105,20 @@ impl Trial for Stops {
     fn is_passed(
         &self,
         alloc: Global,
-        program: &Program<'_>,
-        entries: &[EntryId],
+        _program: &Program<'_>,
+        system: &mut System<'_>,
         entry: EntryId,
     ) -> Result<bool, Failure<Refusal>> {
-        let mut system = System::start(alloc, program, entries);
-        let waits = one_waits(alloc, &mut system, entry);
+        let waits = one_waits(alloc, system, entry);
         let act = Act::Abort;
         system.step(&Event { job: 1, act })?;
         Ok(
             waits
-                && is_shown(alloc, &system, STOPPED)
-                && abort_is_refused(&mut system, 1, Refusal::NotEnabled)
-                && is_refused(go(&mut system, 1), Refusal::NotEnabled)
-                && is_shown(alloc, &system, STOPPED)
-                && go(&mut system, 2).is_ok(),
+                && is_shown(alloc, system, STOPPED)
+                && abort_is_refused(system, 1, Refusal::NotEnabled)
+                && is_refused(go(system, 1), Refusal::NotEnabled)
+                && is_shown(alloc, system, STOPPED)
+                && go(system, 2).is_ok(),
         )
     }
 }

@@ -40,12 +40,11 @@ impl Trial for Ring<'_> {
     fn is_passed(
         &self,
         alloc: Global,
-        program: &Program<'_>,
-        entries: &[EntryId],
+        _program: &Program<'_>,
+        system: &mut System<'_>,
         entry: EntryId,
     ) -> Result<bool, Failure<Refusal>> {
-        let mut system = System::start(alloc, program, entries);
-        hold_and_claim(alloc, &mut system, entry, self.names)?;
+        hold_and_claim(alloc, system, entry, self.names)?;
         Ok(system.has_ring()? == self.has_ring)
     }
 }
@@ -54,26 +53,36 @@ fn is_found(alloc: Global, names: &[&[u8]], has_ring: bool) -> bool {
     passes(alloc, &Ring { names, has_ring })
 }
 
+const NONE: &[&[&[u8]]] = &[
+    &[],
+    // a job does not wait for itself
+    &[b"111"],
+    &[b"122", b"233", b"344"],
+    // two ways to one that goes on
+    &[b"123", b"244", b"344", b"455"],
+];
+
 #[test]
 fn none(rt: HostRuntime) {
-    let alloc = rt.alloc();
-    assert!(rt; is_found(alloc, &[], false));
-    // a job does not wait for itself
-    assert!(rt; is_found(alloc, &[b"111"], false));
-    assert!(rt; is_found(alloc, &[b"122", b"233", b"344"], false));
-    // two ways to one that goes on
-    assert!(rt; is_found(alloc, &[b"123", b"244", b"344", b"455"], false));
+    for (place, names) in NONE.iter().enumerate() {
+        assert!(rt; is_found(rt.alloc(), names, false), "row {place}");
+    }
 }
+
+const SOME: &[&[&[u8]]] = &[
+    &[b"122", b"233", b"311"],
+    &[b"122", b"211"],
+    // from outside into a ring
+    &[b"122", b"233", b"344", b"433"],
+    // the second way leads back
+    &[b"123", b"244", b"341", b"455"],
+    // a ring apart from the first jobs
+    &[b"199", b"211", b"344", b"433"],
+];
 
 #[test]
 fn some(rt: HostRuntime) {
-    let alloc = rt.alloc();
-    assert!(rt; is_found(alloc, &[b"122", b"233", b"311"], true));
-    assert!(rt; is_found(alloc, &[b"122", b"211"], true));
-    // from outside into a ring
-    assert!(rt; is_found(alloc, &[b"122", b"233", b"344", b"433"], true));
-    // the second way leads back
-    assert!(rt; is_found(alloc, &[b"123", b"244", b"341", b"455"], true));
-    // a ring apart from the first jobs
-    assert!(rt; is_found(alloc, &[b"199", b"211", b"344", b"433"], true));
+    for (place, names) in SOME.iter().enumerate() {
+        assert!(rt; is_found(rt.alloc(), names, true), "row {place}");
+    }
 }

@@ -6,6 +6,7 @@ use mlk_routine::read_routine;
 use mlk_syntax::Routine;
 use mlk_text::{Failure, Fault};
 use std::alloc::Global;
+use std::test::Fail;
 
 // The code of a refusal, with its routine, line and column.
 #[derive(Drop)]
@@ -25,14 +26,22 @@ fn is_wanted(fault: &Fault, wanted: &Refusal) -> bool {
         && fault.left_out.is_none()
 }
 
-fn is_refused(alloc: Global, texts: &[(&[u8], &[u8])], wanted: &Refusal) -> bool {
-    let Ok(routines) = routines(alloc, texts) else {
-        return false;
-    };
-    match link(alloc, routines.as_slice()) {
-        Err(Failure::Refused(fault)) => is_wanted(&fault, wanted),
+fn refuses(alloc: Global, routines: &[Routine], wanted: &Refusal) -> bool {
+    match &link(alloc, routines) {
+        Err(Failure::Refused(fault)) => is_wanted(fault, wanted),
         _ => false,
     }
+}
+
+fn is_refused(alloc: Global, texts: &[(&[u8], &[u8])], wanted: &Refusal) -> bool {
+    match &routines(alloc, texts) {
+        Ok(routines) => refuses(alloc, routines.as_slice(), wanted),
+        Err(_) => false,
+    }
+}
+
+fn is_program(alloc: Global, routines: &[Routine]) -> bool {
+    link(alloc, routines).is_ok()
 }
 
 // A name that stands twice comes before calls, and calls in the order of the routines.
@@ -109,19 +118,16 @@ fn empty_routines(alloc: Global, count: usize) -> Result<Vec<Routine>, Failure<F
 
 // 65,535 routines are a program, and one more is too many.
 #[test]
-fn limit(rt: HostRuntime) {
-    let alloc = rt.alloc();
-    let many = empty_routines(alloc, 65536).ok().expect(&rt, "routines");
-    let (fewer, _) = many.as_slice().split_at(many.len().min(65535));
-    assert!(rt; link(alloc, fewer).is_ok());
+fn limit(rt: HostRuntime) -> Result<(), Fail> {
+    let many = empty_routines(rt.alloc(), 65536)?;
     let wanted = Refusal {
         code: 304,
         routine: &nth(65535),
         line: 1,
         column: 1,
     };
-    match link(alloc, &many) {
-        Err(Failure::Refused(fault)) => assert!(rt; is_wanted(&fault, &wanted)),
-        _ => panic!(rt; "no refusal"),
-    }
+    let (fewer, _) = many.as_slice().split_at(many.len().min(65535));
+    assert!(rt; is_program(rt.alloc(), fewer));
+    assert!(rt; refuses(rt.alloc(), many.as_slice(), &wanted));
+    Ok(())
 }

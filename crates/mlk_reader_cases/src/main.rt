@@ -12,12 +12,12 @@
 ghost use Rattle.std.specs.Prelude.{◌<◌, ◌≤◌, length};
 
 use bstr::ByteSlice;
-use mlk_cert::read_cert;
+use mlk_cert::{CertFault, Certificate, read_cert};
 use mlk_expr::{read_actuals, read_expr, read_ref};
 use mlk_numbers::whole;
 use mlk_program::link;
 use mlk_routine::read_routine;
-use mlk_rules_file::{RulesFault, read_rules};
+use mlk_rules_file::{Rules, RulesFault, read_rules};
 use mlk_text::{Failure, Fault};
 use std::alloc::{AllocError, Global};
 use std::io::{self, ErrorKind, Read, Write};
@@ -57,14 +57,22 @@ fn text_of(alloc: Global, written: &[u8]) -> Result<Vec<u8>, AllocError> {
     Ok(text)
 }
 
+// Where a reader stops.
+fn end<T: Drop>(read: Result<(T, usize), Failure<Fault>>) -> Result<usize, Failure<Fault>> {
+    match read {
+        Ok((_, next)) => Ok(next),
+        Err(failure) => Err(failure),
+    }
+}
+
 // Where the reader of this name stops.
 fn end_of(alloc: Global, reader: &[u8], text: &[u8], at: usize) -> Result<usize, Failure<Fault>>
     requires { at ≤ length text.now }
 {
     match reader {
-        b"expr" => Ok(read_expr(alloc, text, at)?.1),
-        b"ref" => Ok(read_ref(alloc, text, at)?.1),
-        _ => Ok(read_actuals(alloc, text, at)?.1),
+        b"expr" => end(read_expr(alloc, text, at)),
+        b"ref" => end(read_ref(alloc, text, at)),
+        _ => end(read_actuals(alloc, text, at)),
     }
 }
 
@@ -128,27 +136,43 @@ fn link_alone(alloc: Global, text: &[u8]) -> Result<(), Failure<Fault>> {
 
 // Adds what is answered to the text of a routine, or of a program.
 fn write_read(read: Result<(), Failure<Fault>>, out: &mut Vec<u8>) -> io::Result<()> {
-    match read {
+    match &read {
         Ok(()) => writeln!(out, "read"),
-        Err(Failure::Refused(fault)) => write_placed(&fault, out),
+        Err(Failure::Refused(fault)) => write_placed(fault, out),
         Err(Failure::OutOfMemory) => Err(no_memory()),
     }
+}
+
+fn answer_routine(alloc: Global, written: &[u8], out: &mut Vec<u8>) -> io::Result<()> {
+    let text = text_of(alloc, written)?;
+    write_read(read_alone(alloc, text.as_slice()), out)
+}
+
+fn answer_program(alloc: Global, written: &[u8], out: &mut Vec<u8>) -> io::Result<()> {
+    let text = text_of(alloc, written)?;
+    write_read(link_alone(alloc, text.as_slice()), out)
 }
 
 // Adds what is answered to the text of rules.
-fn answer_rules(alloc: Global, written: &[u8], out: &mut Vec<u8>) -> io::Result<()> {
-    let text = text_of(alloc, written)?;
-    match read_rules(alloc, text.as_slice()) {
+fn write_rules_read(read: Result<Rules, Failure<RulesFault>>, out: &mut Vec<u8>) -> io::Result<()> {
+    match &read {
         Ok(_) => writeln!(out, "read"),
-        Err(Failure::Refused(fault)) => write_rules_fault(&fault, out),
+        Err(Failure::Refused(fault)) => write_rules_fault(fault, out),
         Err(Failure::OutOfMemory) => Err(no_memory()),
     }
 }
 
-// Adds what is answered to the text of a certificate.
-fn answer_cert(alloc: Global, written: &[u8], out: &mut Vec<u8>) -> io::Result<()> {
+fn answer_rules(alloc: Global, written: &[u8], out: &mut Vec<u8>) -> io::Result<()> {
     let text = text_of(alloc, written)?;
-    match read_cert(alloc, text.as_slice()) {
+    write_rules_read(read_rules(alloc, text.as_slice()), out)
+}
+
+// Adds what is answered to the text of a certificate.
+fn write_cert_read(
+    read: Result<Certificate, Failure<CertFault>>,
+    out: &mut Vec<u8>,
+) -> io::Result<()> {
+    match &read {
         Ok(_) => writeln!(out, "read"),
         Err(Failure::Refused(fault)) => {
             writeln!(out, "{} {}", fault.line.number(), fault.code.number())
@@ -157,17 +181,37 @@ fn answer_cert(alloc: Global, written: &[u8], out: &mut Vec<u8>) -> io::Result<(
     }
 }
 
-// Adds what is answered to a part of an expression, which stands after its place.
-fn answer_part(alloc: Global, reader: &[u8], rest: &[u8], out: &mut Vec<u8>) -> io::Result<()> {
-    let Some((at, written)) = rest.split_once_str(b" ") else {
-        return Err(io::Error::from(ErrorKind::InvalidInput));
-    };
+fn answer_cert(alloc: Global, written: &[u8], out: &mut Vec<u8>) -> io::Result<()> {
+    let text = text_of(alloc, written)?;
+    write_cert_read(read_cert(alloc, text.as_slice()), out)
+}
+
+// Adds where a reader of a part of an expression stops.
+fn write_end(end: Result<usize, Failure<Fault>>, out: &mut Vec<u8>) -> io::Result<()> {
+    match &end {
+        Ok(end) => writeln!(out, "to {end}"),
+        Err(Failure::Refused(fault)) => write_fault(fault, out),
+        Err(Failure::OutOfMemory) => Err(no_memory()),
+    }
+}
+
+fn answer_text(
+    alloc: Global,
+    reader: &[u8],
+    at: &[u8],
+    written: &[u8],
+    out: &mut Vec<u8>,
+) -> io::Result<()> {
     let text = text_of(alloc, written)?;
     let at = place_of(at, text.as_slice());
-    match end_of(alloc, reader, text.as_slice(), at) {
-        Ok(end) => writeln!(out, "to {end}"),
-        Err(Failure::Refused(fault)) => write_fault(&fault, out),
-        Err(Failure::OutOfMemory) => Err(no_memory()),
+    write_end(end_of(alloc, reader, text.as_slice(), at), out)
+}
+
+// Adds what is answered to a part of an expression, which stands after its place.
+fn answer_part(alloc: Global, reader: &[u8], rest: &[u8], out: &mut Vec<u8>) -> io::Result<()> {
+    match rest.split_once_str(b" ") {
+        Some((at, written)) => answer_text(alloc, reader, at, written, out),
+        None => Err(io::Error::from(ErrorKind::InvalidInput)),
     }
 }
 
@@ -177,23 +221,23 @@ fn answer(alloc: Global, line: &[u8], out: &mut Vec<u8>) -> io::Result<()> {
         None => Err(io::Error::from(ErrorKind::InvalidInput)),
         Some((b"cert", written)) => answer_cert(alloc, written, out),
         Some((b"rules", written)) => answer_rules(alloc, written, out),
-        Some((b"routine", written)) => {
-            write_read(read_alone(alloc, text_of(alloc, written)?.as_slice()), out)
-        }
-        Some((b"program", written)) => {
-            write_read(link_alone(alloc, text_of(alloc, written)?.as_slice()), out)
-        }
+        Some((b"routine", written)) => answer_routine(alloc, written, out),
+        Some((b"program", written)) => answer_program(alloc, written, out),
         Some((reader, rest)) => answer_part(alloc, reader, rest, out),
     }
 }
 
-fn main(rt: HostRuntime) -> io::Result<()> {
-    let alloc = rt.alloc();
-    let mut text: Vec<u8> = Vec::new(alloc);
+fn answer_all(alloc: Global, text: &[u8]) -> io::Result<Vec<u8>> {
     let mut out: Vec<u8> = Vec::new(alloc);
-    rt.stdin().read_to_end(&mut text)?;
-    for line in text.as_slice().lines() {
+    for line in text.lines() {
         answer(alloc, line, &mut out)?;
     }
+    Ok(out)
+}
+
+fn main(rt: HostRuntime) -> io::Result<()> {
+    let mut text: Vec<u8> = Vec::new(rt.alloc());
+    rt.stdin().read_to_end(&mut text)?;
+    let out = answer_all(rt.alloc(), text.as_slice())?;
     rt.stdout().write_all(out.as_slice())
 }

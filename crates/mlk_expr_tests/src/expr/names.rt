@@ -1,90 +1,101 @@
 // Names, labels and what calls name, as they stand in commands.
 
-use crate::expr::is_fault;
-use mlk_expr::{Callee, read_callee, read_label, read_name};
+use crate::expr::is_refused;
+use mlk_expr::{read_callee, read_label, read_name};
 use mlk_text::Name;
 use std::alloc::Global;
 use std::process::Abort;
 
-fn is_name(name: &Option<Name>, text: &[u8]) -> bool {
+fn is_name(name: &Option<Name>, text: &str) -> bool {
     match name {
-        Some(name) => name.as_bytes() == text,
+        Some(name) => name.as_bytes() == text.as_bytes(),
         None => text.is_empty(),
     }
 }
 
 // Whether these are the parts and the byte after them; a part that is not there has the empty text.
-fn is_callee(
-    alloc: Global,
-    line: &[u8],
-    at: usize,
-    label: &[u8],
-    routine: &[u8],
-    end: usize,
-) -> bool {
+fn is_callee(alloc: Global, line: &str, at: usize, parts: (&str, &str), end: usize) -> bool {
+    let line = line.as_bytes();
     if at > line.len() {
         return false;
     }
     match read_callee(alloc, line, at) {
         Ok((callee, next)) => {
-            let Callee {
-                label: found,
-                routine: of,
-            } = &callee;
-            is_name(found, label) && is_name(of, routine) && next == end
+            is_name(&callee.label, parts.0) && is_name(&callee.routine, parts.1) && next == end
         }
         Err(_) => false,
     }
 }
 
+fn is_no_callee(alloc: Global, line: &str, number: u16, column: u32, word: &str) -> bool {
+    is_refused(read_callee(alloc, line.as_bytes(), 0), number, column, word)
+}
+
+const CALLEES: &[(&str, usize, (&str, &str), usize)] = &[
+    ("DO A^B(1)", 3, ("A", "B"), 6),
+    ("^%R:X", 0, ("", "%R"), 3),
+    ("12,", 0, ("12", ""), 2),
+    ("12A", 0, ("12", ""), 2),
+    ("A+1^B", 0, ("A", ""), 1),
+];
+
 #[test]
 fn callees(rt: HostRuntime) {
+    for (line, at, parts, end) in CALLEES {
+        assert!(rt; is_callee(rt.alloc(), line, *at, *parts, *end), "{line}");
+    }
+}
+
+const NO_CALLEES: &[(&str, u16, u32, &str)] = &[
+    ("", 101, 1, ""),
+    ("(1)", 101, 1, ""),
+    ("A^1", 101, 3, ""),
+    ("@A", 102, 1, "INDIRECTION"),
+    ("A^@B", 102, 3, "INDIRECTION"),
+    ("A^|1|B", 102, 2, "ENVIRONMENT"),
+    ("^ABCDEFGHIJKLMNOPQRSTUVWXYZABCDEF", 104, 2, ""),
+];
+
+#[test]
+fn callees_that_are_refused(rt: HostRuntime) {
+    for (line, number, column, word) in NO_CALLEES {
+        assert!(rt;
+            is_no_callee(rt.alloc(), line, *number, *column, word),
+            "{line}"
+        );
+    }
+}
+
+fn is_name_at_4(alloc: Global, line: &[u8], name: &[u8], end: usize) -> bool {
+    if line.len() < 4 {
+        return false;
+    }
+    match read_name(alloc, line, 4) {
+        Ok((found, next)) => found.as_bytes() == name && next == end,
+        Err(_) => false,
+    }
+}
+
+fn is_no_name(alloc: Global, line: &str, number: u16, column: u32, word: &str) -> bool {
+    is_refused(read_name(alloc, line.as_bytes(), 0), number, column, word)
+}
+
+#[test]
+fn names(rt: HostRuntime) {
     let alloc = rt.alloc();
-    assert!(rt; is_callee(alloc, b"DO A^B(1)", 3, b"A", b"B", 6));
-    assert!(rt; is_callee(alloc, b"^%R:X", 0, b"", b"%R", 3));
-    assert!(rt; is_callee(alloc, b"12,", 0, b"12", b"", 2));
-    assert!(rt; is_callee(alloc, b"12A", 0, b"12", b"", 2));
-    assert!(rt; is_callee(alloc, b"A+1^B", 0, b"A", b"", 1));
-    let rows: [(&[u8], u16, u32, &[u8]); 7] = [
-        (b"", 101, 1, b""),
-        (b"(1)", 101, 1, b""),
-        (b"A^1", 101, 3, b""),
-        (b"@A", 102, 1, b"INDIRECTION"),
-        (b"A^@B", 102, 3, b"INDIRECTION"),
-        (b"A^|1|B", 102, 2, b"ENVIRONMENT"),
-        (b"^ABCDEFGHIJKLMNOPQRSTUVWXYZABCDEF", 104, 2, b""),
-    ];
-    for (line, number, column, word) in rows.iter() {
-        match read_callee(alloc, line, 0) {
-            Ok((_callee, next)) => assert!(rt; false, "{line:?} {next}"),
-            Err(error) => assert!(rt; is_fault(&error, *number, *column, word), "{line:?}"),
-        }
+    assert!(rt; is_name_at_4(alloc, b"NEW %X1,Y", b"%X1", 7));
+    assert!(rt; is_no_name(alloc, "@X", 102, 1, "INDIRECTION"));
+    assert!(rt; is_no_name(alloc, "1", 101, 1, ""));
+}
+
+fn is_label(alloc: Global, line: &[u8], label: &[u8], end: usize) -> bool {
+    match read_label(alloc, line, 0) {
+        Ok((found, next)) => found.as_bytes() == label && next == end,
+        Err(_) => false,
     }
 }
 
 #[test]
-fn names_and_labels(rt: HostRuntime) {
-    let alloc = rt.alloc();
-    match read_name(alloc, b"NEW %X1,Y", 4) {
-        Ok((name, next)) => {
-            assert!(rt; name.as_bytes() == b"%X1".as_slice());
-            assert_eq!(rt; next, 7);
-        }
-        Err(error) => assert!(rt; false, "{error:?}"),
-    }
-    match read_name(alloc, b"@X", 0) {
-        Ok((_name, next)) => assert!(rt; false, "{next}"),
-        Err(error) => assert!(rt; is_fault(&error, 102, 1, b"INDIRECTION"), "{error:?}"),
-    }
-    match read_name(alloc, b"1", 0) {
-        Ok((_name, next)) => assert!(rt; false, "{next}"),
-        Err(error) => assert!(rt; is_fault(&error, 101, 1, b""), "{error:?}"),
-    }
-    match read_label(alloc, b"007(X)", 0) {
-        Ok((label, next)) => {
-            assert!(rt; label.as_bytes() == b"007".as_slice());
-            assert_eq!(rt; next, 3);
-        }
-        Err(error) => assert!(rt; false, "{error:?}"),
-    }
+fn labels(rt: HostRuntime) {
+    assert!(rt; is_label(rt.alloc(), b"007(X)", b"007", 3));
 }

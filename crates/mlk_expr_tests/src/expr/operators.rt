@@ -5,64 +5,70 @@ use mlk_expr::{Expr, Op, Relation, read_expr};
 use std::alloc::Global;
 use std::process::Abort;
 
-// Whether the text is `1`, this operator, and `2` or a pattern, and nothing else.
-fn is_one_operator(alloc: Global, text: &[u8], op: Op) -> bool {
-    let Ok((tree, next)) = read_expr(alloc, text, 0) else {
-        return false;
-    };
-    let Expr::Binary(first, links) = &tree else {
-        return false;
-    };
-    if links.len() != 1 || !is_lit(first, b"1") || next != text.len() {
-        return false;
+// Whether the right side is `2`, or the pattern `1N`.
+fn is_right_side(tree: &Expr) -> bool {
+    match tree {
+        Expr::Pattern(atoms) => atoms.as_bytes() == b"1N".as_slice(),
+        _ => is_lit(tree, b"2"),
     }
-    let (found, right) = &links[0];
-    match right {
-        Expr::Pattern(atoms) => *found == op && atoms.as_bytes() == b"1N".as_slice(),
-        _ => *found == op && is_lit(right, b"2"),
+}
+
+// Whether the tree is `1`, this operator, and a right side.
+fn is_one_operation(tree: &Expr, op: Op) -> bool {
+    match tree {
+        Expr::Binary(first, links) => match links.as_slice() {
+            [(found, right)] => is_lit(first, b"1") && *found == op && is_right_side(right),
+            _ => false,
+        },
+        _ => false,
+    }
+}
+
+// Whether the whole text is that.
+fn is_one_operator(alloc: Global, text: &str, op: Op) -> bool {
+    match read_expr(alloc, text.as_bytes(), 0) {
+        Ok((tree, next)) => is_one_operation(&tree, op) && next == text.len(),
+        Err(_) => false,
     }
 }
 
 #[test]
 fn arithmetic(rt: HostRuntime) {
     let alloc = rt.alloc();
-    let rows: [(&[u8], Op); 8] = [
-        (b"1+2", Op::Add),
-        (b"1-2", Op::Subtract),
-        (b"1*2", Op::Multiply),
-        (b"1/2", Op::Divide),
-        (b"1\\2", Op::DivideWhole),
-        (b"1#2", Op::Modulo),
-        (b"1**2", Op::Power),
-        (b"1_2", Op::Concatenate),
+    let rows: [(&str, Op); 8] = [
+        ("1+2", Op::Add),
+        ("1-2", Op::Subtract),
+        ("1*2", Op::Multiply),
+        ("1/2", Op::Divide),
+        ("1\\2", Op::DivideWhole),
+        ("1#2", Op::Modulo),
+        ("1**2", Op::Power),
+        ("1_2", Op::Concatenate),
     ];
     for (text, op) in rows.iter() {
-        assert!(rt; is_one_operator(alloc, text, *op), "{text:?}");
+        assert!(rt; is_one_operator(alloc, text, *op), "{text}");
     }
 }
 
 #[test]
 fn relations(rt: HostRuntime) {
     let alloc = rt.alloc();
-    let rows: [(&[u8], &[u8], Relation); 9] = [
-        (b"1=2", b"1'=2", Relation::Equals),
-        (b"1<2", b"1'<2", Relation::Less),
-        (b"1>2", b"1'>2", Relation::Greater),
-        (b"1[2", b"1'[2", Relation::Contains),
-        (b"1]2", b"1']2", Relation::Follows),
-        (b"1]]2", b"1']]2", Relation::SortsAfter),
-        (b"1&2", b"1'&2", Relation::And),
-        (b"1!2", b"1'!2", Relation::Or),
-        (b"1?1N", b"1'?1N", Relation::Matches),
+    let rows: [(&str, &str, Relation); 9] = [
+        ("1=2", "1'=2", Relation::Equals),
+        ("1<2", "1'<2", Relation::Less),
+        ("1>2", "1'>2", Relation::Greater),
+        ("1[2", "1'[2", Relation::Contains),
+        ("1]2", "1']2", Relation::Follows),
+        ("1]]2", "1']]2", Relation::SortsAfter),
+        ("1&2", "1'&2", Relation::And),
+        ("1!2", "1'!2", Relation::Or),
+        ("1?1N", "1'?1N", Relation::Matches),
     ];
     for (holds, fails, relation) in rows.iter() {
-        assert!(rt;
-            is_one_operator(alloc, holds, Op::Is(*relation)),
-            "{holds:?}"
-        );
+        assert!(rt; is_one_operator(alloc, holds, Op::Is(*relation)), "{holds}");
         assert!(rt;
             is_one_operator(alloc, fails, Op::IsNot(*relation)),
-            "{fails:?}"
+            "{fails}"
         );
     }
 }

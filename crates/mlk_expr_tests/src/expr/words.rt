@@ -1,20 +1,20 @@
 // Each word after `$`: whole, short, and in either case.
 
 use mlk_expr::{Expr, Function, Special, read_expr};
-use std::alloc::Global;
+use std::alloc::{AllocError, Global};
 use std::process::Abort;
 use std::test::Fail;
 
 // A `$`, a word, and what stands after it.
-fn dollar(alloc: Global, word: &[u8], after: &[u8]) -> Result<Vec<u8>, Fail> {
+fn dollar(alloc: Global, word: &str, after: &str) -> Result<Vec<u8>, AllocError> {
     let mut text = Vec::new(alloc);
     text.push(b'$')?;
-    text.extend_from_slice(word)?;
-    text.extend_from_slice(after)?;
+    text.extend_from_slice(word.as_bytes())?;
+    text.extend_from_slice(after.as_bytes())?;
     Ok(text)
 }
 
-fn small(alloc: Global, text: &[u8]) -> Result<Vec<u8>, Fail> {
+fn small(alloc: Global, text: &[u8]) -> Result<Vec<u8>, AllocError> {
     let mut letters = Vec::new(alloc);
     for b in text.iter() {
         letters.push(b.to_ascii_lowercase())?;
@@ -22,96 +22,107 @@ fn small(alloc: Global, text: &[u8]) -> Result<Vec<u8>, Fail> {
     Ok(letters)
 }
 
-fn is_special(alloc: Global, text: &[u8], special: Special) -> bool {
-    let Ok((tree, next)) = read_expr(alloc, text, 0) else {
-        return false;
-    };
-    match &tree {
-        Expr::Special(found) => *found == special && next == text.len(),
+// What is read from the whole text.
+fn whole(alloc: Global, text: &[u8]) -> Option<Expr> {
+    match read_expr(alloc, text, 0) {
+        Ok((tree, next)) => { if next == text.len() { Some(tree) } else { None } }
+        Err(_) => None,
+    }
+}
+
+fn is_special_text(alloc: Global, text: &[u8], special: Special) -> bool {
+    match &whole(alloc, text) {
+        Some(Expr::Special(found)) => *found == special,
         _ => false,
     }
 }
 
-fn is_function(alloc: Global, text: &[u8], function: Function) -> bool {
-    let Ok((tree, next)) = read_expr(alloc, text, 0) else {
-        return false;
-    };
-    match &tree {
-        Expr::Func(found, args) => *found == function && args.len() == 1 && next == text.len(),
+// Whether a word, in either case, is this special variable.
+fn is_special(alloc: Global, word: &str, special: Special) -> Result<bool, AllocError> {
+    let text = dollar(alloc, word, "")?;
+    let letters = small(alloc, text.as_slice())?;
+    Ok(
+        is_special_text(alloc, text.as_slice(), special)
+            && is_special_text(alloc, letters.as_slice(), special),
+    )
+}
+
+fn is_function_text(alloc: Global, text: &[u8], function: Function) -> bool {
+    match &whole(alloc, text) {
+        Some(Expr::Func(found, args)) => *found == function && args.len() == 1,
         _ => false,
     }
+}
+
+// Whether a word, in either case, is this function.
+fn is_function(alloc: Global, word: &str, function: Function) -> Result<bool, AllocError> {
+    let text = dollar(alloc, word, "(^A(1))")?;
+    let letters = small(alloc, text.as_slice())?;
+    Ok(
+        is_function_text(alloc, text.as_slice(), function)
+            && is_function_text(alloc, letters.as_slice(), function),
+    )
 }
 
 fn is_select(alloc: Global, text: &[u8]) -> bool {
-    let Ok((tree, next)) = read_expr(alloc, text, 0) else {
-        return false;
-    };
-    match &tree {
-        Expr::Select(choices) => choices.len() == 1 && next == text.len(),
+    match &whole(alloc, text) {
+        Some(Expr::Select(choices)) => choices.len() == 1,
         _ => false,
     }
 }
 
-const SPECIALS: [(&[u8], &[u8], Special); 12] = [
-    (b"D", b"DEVICE", Special::Device),
-    (b"H", b"HOROLOG", Special::Horolog),
-    (b"I", b"IO", Special::Io),
-    (b"J", b"JOB", Special::Job),
-    (b"K", b"KEY", Special::Key),
-    (b"P", b"PRINCIPAL", Special::Principal),
-    (b"Q", b"QUIT", Special::Quit),
-    (b"S", b"STORAGE", Special::Storage),
-    (b"SY", b"SYSTEM", Special::System),
-    (b"T", b"TEST", Special::Test),
-    (b"X", b"X", Special::X),
-    (b"Y", b"Y", Special::Y),
+const SPECIALS: [(&str, &str, Special); 12] = [
+    ("D", "DEVICE", Special::Device),
+    ("H", "HOROLOG", Special::Horolog),
+    ("I", "IO", Special::Io),
+    ("J", "JOB", Special::Job),
+    ("K", "KEY", Special::Key),
+    ("P", "PRINCIPAL", Special::Principal),
+    ("Q", "QUIT", Special::Quit),
+    ("S", "STORAGE", Special::Storage),
+    ("SY", "SYSTEM", Special::System),
+    ("T", "TEST", Special::Test),
+    ("X", "X", Special::X),
+    ("Y", "Y", Special::Y),
 ];
 
 #[test]
 fn special_variables(rt: HostRuntime) -> Result<(), Fail> {
     let alloc = rt.alloc();
     for (short, whole, special) in SPECIALS.iter() {
-        for word in [short, whole].iter() {
-            let text = dollar(alloc, word, b"")?;
-            assert!(rt; is_special(alloc, text.as_slice(), *special), "{text:?}");
-            let text = small(alloc, text.as_slice())?;
-            assert!(rt; is_special(alloc, text.as_slice(), *special), "{text:?}");
-        }
+        assert!(rt; is_special(alloc, short, *special)?, "{short}");
+        assert!(rt; is_special(alloc, whole, *special)?, "{whole}");
     }
     Ok(())
 }
 
-const FUNCTIONS: [(&[u8], &[u8], Function); 18] = [
-    (b"A", b"ASCII", Function::Ascii),
-    (b"C", b"CHAR", Function::Char),
-    (b"D", b"DATA", Function::Data),
-    (b"E", b"EXTRACT", Function::Extract),
-    (b"F", b"FIND", Function::Find),
-    (b"FN", b"FNUMBER", Function::FormatNumber),
-    (b"G", b"GET", Function::Get),
-    (b"J", b"JUSTIFY", Function::Justify),
-    (b"L", b"LENGTH", Function::Length),
-    (b"NA", b"NAME", Function::Name),
-    (b"O", b"ORDER", Function::Order),
-    (b"P", b"PIECE", Function::Piece),
-    (b"QL", b"QLENGTH", Function::QueryLength),
-    (b"QS", b"QSUBSCRIPT", Function::QuerySubscript),
-    (b"Q", b"QUERY", Function::Query),
-    (b"R", b"RANDOM", Function::Random),
-    (b"RE", b"REVERSE", Function::Reverse),
-    (b"TR", b"TRANSLATE", Function::Translate),
+const FUNCTIONS: [(&str, &str, Function); 18] = [
+    ("A", "ASCII", Function::Ascii),
+    ("C", "CHAR", Function::Char),
+    ("D", "DATA", Function::Data),
+    ("E", "EXTRACT", Function::Extract),
+    ("F", "FIND", Function::Find),
+    ("FN", "FNUMBER", Function::FormatNumber),
+    ("G", "GET", Function::Get),
+    ("J", "JUSTIFY", Function::Justify),
+    ("L", "LENGTH", Function::Length),
+    ("NA", "NAME", Function::Name),
+    ("O", "ORDER", Function::Order),
+    ("P", "PIECE", Function::Piece),
+    ("QL", "QLENGTH", Function::QueryLength),
+    ("QS", "QSUBSCRIPT", Function::QuerySubscript),
+    ("Q", "QUERY", Function::Query),
+    ("R", "RANDOM", Function::Random),
+    ("RE", "REVERSE", Function::Reverse),
+    ("TR", "TRANSLATE", Function::Translate),
 ];
 
 #[test]
 fn functions(rt: HostRuntime) -> Result<(), Fail> {
     let alloc = rt.alloc();
     for (short, whole, function) in FUNCTIONS.iter() {
-        for word in [short, whole].iter() {
-            let text = dollar(alloc, word, b"(^A(1))")?;
-            assert!(rt; is_function(alloc, text.as_slice(), *function), "{text:?}");
-            let text = small(alloc, text.as_slice())?;
-            assert!(rt; is_function(alloc, text.as_slice(), *function), "{text:?}");
-        }
+        assert!(rt; is_function(alloc, short, *function)?, "{short}");
+        assert!(rt; is_function(alloc, whole, *function)?, "{whole}");
     }
     Ok(())
 }
@@ -119,8 +130,8 @@ fn functions(rt: HostRuntime) -> Result<(), Fail> {
 #[test]
 fn select(rt: HostRuntime) {
     let alloc = rt.alloc();
-    let texts: [&[u8]; 4] = [b"$S(1:2)", b"$SELECT(1:2)", b"$s(1:2)", b"$select(1:2)"];
-    for text in texts.iter() {
-        assert!(rt; is_select(alloc, text), "{text:?}");
-    }
+    assert!(rt; is_select(alloc, b"$S(1:2)"));
+    assert!(rt; is_select(alloc, b"$SELECT(1:2)"));
+    assert!(rt; is_select(alloc, b"$s(1:2)"));
+    assert!(rt; is_select(alloc, b"$select(1:2)"));
 }

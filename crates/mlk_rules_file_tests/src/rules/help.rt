@@ -38,17 +38,25 @@ pub(super) fn name(alloc: Global, text: &[u8]) -> Result<Name, AllocError> {
     Name::of(alloc, text)
 }
 
-// No subscripts of an empty text, an unknown one of `?`, the job's number of `$J`, the local `ID`, else this constant.
+fn constant(alloc: Global, text: &[u8]) -> Result<Value, AllocError> {
+    Ok(Value::new(Vec::from_slice(alloc, text)?))
+}
+
+// An unknown of `?`, the job's number of `$J`, the local `ID`, else this constant.
+fn symbol(alloc: Global, text: &[u8]) -> Result<Sym, AllocError> {
+    match text {
+        b"?" => Ok(Sym::Unknown),
+        b"$J" => Ok(Sym::Job),
+        b"ID" => Ok(Sym::Local(name(alloc, text)?)),
+        _ => Ok(Sym::Const(constant(alloc, text)?)),
+    }
+}
+
+// No subscripts of an empty text, else one.
 fn symbols(alloc: Global, text: &[u8]) -> Result<Vec<Sym>, AllocError> {
     let mut items = Vec::new(alloc);
-    if text == b"?".as_slice() {
-        items.push(Sym::Unknown)?;
-    } else if text == b"$J".as_slice() {
-        items.push(Sym::Job)?;
-    } else if text == b"ID".as_slice() {
-        items.push(Sym::Local(name(alloc, text)?))?;
-    } else if !text.is_empty() {
-        items.push(Sym::Const(Value::new(Vec::from_slice(alloc, text)?)))?;
+    if !text.is_empty() {
+        items.push(symbol(alloc, text)?)?;
     }
     Ok(items)
 }
@@ -68,13 +76,19 @@ pub(super) fn reference(
     })
 }
 
-// The subscripts of a term: none of an empty text, the local `ID`, else this constant.
+// The local `ID`, else this constant.
+fn known_symbol(alloc: Global, text: &[u8]) -> Result<KnownSym, AllocError> {
+    match text {
+        b"ID" => Ok(KnownSym::Local(name(alloc, text)?)),
+        _ => Ok(KnownSym::Const(constant(alloc, text)?)),
+    }
+}
+
+// The subscripts of a term: none of an empty text, else one.
 fn known(alloc: Global, text: &[u8]) -> Result<Vec<KnownSym>, AllocError> {
     let mut items = Vec::new(alloc);
-    if text == b"ID".as_slice() {
-        items.push(KnownSym::Local(name(alloc, text)?))?;
-    } else if !text.is_empty() {
-        items.push(KnownSym::Const(Value::new(Vec::from_slice(alloc, text)?)))?;
+    if !text.is_empty() {
+        items.push(known_symbol(alloc, text)?)?;
     }
     Ok(items)
 }

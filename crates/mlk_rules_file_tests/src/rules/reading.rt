@@ -4,6 +4,7 @@ use super::help::{BASE, family_with};
 use mlk_names::{Extent, Root};
 use mlk_rules_file::{Cover, Element, Family, Pattern, TemplatePart, entries, read_rules};
 use mlk_text::Value;
+use std::alloc::Global;
 use std::test::Fail;
 
 fn is_global(root: &Root, name: &[u8]) -> bool {
@@ -20,35 +21,35 @@ fn is_local(root: &Root, name: &[u8]) -> bool {
     }
 }
 
-fn has_element(elements: &[Element], i: usize, text: &[u8]) -> bool {
-    match elements.get(i) {
-        Some(Element::Literal(v)) => v.as_bytes() == text,
+fn is_element(element: &Element, text: &[u8]) -> bool {
+    match element {
+        Element::Literal(v) => v.as_bytes() == text,
         _ => false,
     }
 }
 
-fn has_place(parts: &[TemplatePart], i: usize, place: usize) -> bool {
-    match parts.get(i) {
-        Some(TemplatePart::Place(k)) => *k == place,
+fn is_place(part: &TemplatePart, place: usize) -> bool {
+    match part {
+        TemplatePart::Place(k) => *k == place,
         _ => false,
     }
 }
 
-fn has_part(parts: &[TemplatePart], i: usize, text: &[u8]) -> bool {
-    match parts.get(i) {
-        Some(TemplatePart::Literal(v)) => v.as_bytes() == text,
+fn is_part(part: &TemplatePart, text: &[u8]) -> bool {
+    match part {
+        TemplatePart::Literal(v) => v.as_bytes() == text,
         _ => false,
     }
 }
 
 // Whether the first subscript of the first family is this.
 fn has_subscript(families: &[Family], value: &[u8]) -> bool {
-    let Some((family, _)) = families.split_first() else {
+    let [family, ..] = families else {
         return false;
     };
-    match family.name.subs.as_slice().split_first() {
-        Some((first, _)) => first.as_bytes() == value,
-        None => false,
+    match family.name.subs.as_slice() {
+        [first, ..] => first.as_bytes() == value,
+        _ => false,
     }
 }
 
@@ -59,70 +60,94 @@ fn is_tree(pattern: &Pattern, global: &[u8], size: usize) -> bool {
         && pattern.extent == Extent::Tree
 }
 
-fn has_family(families: &[Family], i: usize, global: &[u8], rank: u32) -> bool {
-    match families.get(i) {
-        Some(family) => {
-            is_global(&family.name.root, global)
-                && family.name.subs.as_slice().is_empty()
-                && family.rank == rank
-        }
-        None => false,
-    }
+fn is_family(family: &Family, global: &[u8], rank: u32) -> bool {
+    is_global(&family.name.root, global)
+        && family.name.subs.as_slice().is_empty()
+        && family.rank == rank
 }
 
-fn has_cover(covers: &[Cover], i: usize, global: &[u8], size: usize) -> bool {
-    match covers.get(i) {
-        Some(cover) => {
-            is_tree(&cover.pattern, global, size)
-                && is_global(&cover.lock.root, global)
-                && cover.lock.parts.as_slice().len() == size
-        }
-        None => false,
+fn is_cover(cover: &Cover, global: &[u8], size: usize) -> bool {
+    is_tree(&cover.pattern, global, size)
+        && is_global(&cover.lock.root, global)
+        && cover.lock.parts.as_slice().len() == size
+}
+
+fn are_base_families(families: &[Family]) -> bool {
+    match families {
+        [first, second] => is_family(first, b"ACCT", 10) && is_family(second, b"LOG", 20),
+        _ => false,
     }
 }
 
 #[test]
 fn reads_the_families(rt: HostRuntime) -> Result<(), Fail> {
     let rules = read_rules(rt.alloc(), BASE)?;
-    let families = rules.families();
-    assert_eq!(rt; families.len(), 2);
-    assert!(rt; has_family(families, 0, b"ACCT", 10));
-    assert!(rt; has_family(families, 1, b"LOG", 20));
+    assert!(rt; are_base_families(rules.families()));
     Ok(())
+}
+
+fn are_base_covers(covers: &[Cover]) -> bool {
+    match covers {
+        [first, second] => is_cover(first, b"ACCT", 1) && is_cover(second, b"LOG", 0),
+        _ => false,
+    }
 }
 
 #[test]
 fn reads_the_covers(rt: HostRuntime) -> Result<(), Fail> {
     let rules = read_rules(rt.alloc(), BASE)?;
-    let covers = rules.lists().covers.as_slice();
-    assert_eq!(rt; covers.len(), 2);
-    assert!(rt; has_cover(covers, 0, b"ACCT", 1));
-    assert!(rt; has_cover(covers, 1, b"LOG", 0));
+    assert!(rt; are_base_covers(rules.lists().covers.as_slice()));
     Ok(())
 }
 
+// Whether there is just one pattern, and that is this tree.
 fn has_tree(patterns: &[Pattern], global: &[u8], size: usize) -> bool {
-    match patterns.split_first() {
-        Some((first, others)) => others.is_empty() && is_tree(first, global, size),
-        None => false,
+    match patterns {
+        [pattern] => is_tree(pattern, global, size),
+        _ => false,
     }
 }
 
 fn has_entry(entries: &[Value], text: &[u8]) -> bool {
-    match entries.split_first() {
-        Some((first, others)) => others.is_empty() && first.as_bytes() == text,
-        None => false,
+    match entries {
+        [entry] => entry.as_bytes() == text,
+        _ => false,
     }
 }
 
 #[test]
-fn reads_the_other_sections(rt: HostRuntime) -> Result<(), Fail> {
+fn reads_what_is_private(rt: HostRuntime) -> Result<(), Fail> {
     let rules = read_rules(rt.alloc(), BASE)?;
-    let lists = rules.lists();
-    assert!(rt; has_tree(lists.private.as_slice(), b"TMP", 1));
-    assert!(rt; has_tree(lists.readonly.as_slice(), b"CONF", 0));
+    assert!(rt; has_tree(rules.lists().private.as_slice(), b"TMP", 1));
+    Ok(())
+}
+
+#[test]
+fn reads_what_is_readonly(rt: HostRuntime) -> Result<(), Fail> {
+    let rules = read_rules(rt.alloc(), BASE)?;
+    assert!(rt; has_tree(rules.lists().readonly.as_slice(), b"CONF", 0));
+    Ok(())
+}
+
+#[test]
+fn reads_the_entries(rt: HostRuntime) -> Result<(), Fail> {
+    let rules = read_rules(rt.alloc(), BASE)?;
     assert!(rt; has_entry(entries(&rules), b"DEP^BANK"));
     Ok(())
+}
+
+fn check_subscript(alloc: Global, file: &[u8], value: &[u8]) -> Result<(), Fail> {
+    let rules = read_rules(alloc, file)?;
+    if has_subscript(rules.families(), value) {
+        Ok(())
+    } else {
+        Err(Fail::new(format_args!("no subscript {value:?}")))
+    }
+}
+
+fn check_literal(alloc: Global, text: &[u8], value: &[u8]) -> Result<(), Fail> {
+    let file = family_with(alloc, text)?;
+    check_subscript(alloc, file.as_slice(), value)
 }
 
 #[test]
@@ -139,9 +164,7 @@ fn reads_literals(rt: HostRuntime) -> Result<(), Fail> {
         (b"123456789012345", b"123456789012345"),
     ];
     for row in rows {
-        let file = family_with(rt.alloc(), row.0)?;
-        let rules = read_rules(rt.alloc(), file.as_slice())?;
-        assert!(rt; has_subscript(rules.families(), row.1));
+        check_literal(rt.alloc(), row.0, row.1)?;
     }
     Ok(())
 }
@@ -166,28 +189,35 @@ fn texts_have_any_byte(rt: HostRuntime) -> Result<(), Fail> {
         ),
     ];
     for row in rows {
-        let rules = read_rules(rt.alloc(), row.0)?;
-        assert!(rt; has_subscript(rules.families(), row.1));
+        check_subscript(rt.alloc(), row.0, row.1)?;
     }
     Ok(())
 }
 
 // Whether the lock has the pattern's variables in the other order, with a 1 between them.
 fn is_turned(cover: &Cover) -> bool {
-    let parts = cover.lock.parts.as_slice();
+    let [first, second, third] = cover.lock.parts.as_slice() else {
+        return false;
+    };
     is_local(&cover.lock.root, b"L")
-        && has_place(parts, 0, 2)
-        && has_part(parts, 1, b"1")
-        && has_place(parts, 2, 0)
+        && is_place(first, 2)
+        && is_part(second, b"1")
+        && is_place(third, 0)
+}
+
+// Whether the pattern is a node, whose second element is `k`.
+fn is_node_with_k(pattern: &Pattern) -> bool {
+    match pattern.elements.as_slice() {
+        [_, second, ..] => pattern.extent == Extent::Node && is_element(second, b"k"),
+        _ => false,
+    }
 }
 
 fn has_turned(covers: &[Cover]) -> bool {
-    let Some((first, _)) = covers.split_first() else {
-        return false;
-    };
-    first.pattern.extent == Extent::Node
-        && has_element(first.pattern.elements.as_slice(), 1, b"k")
-        && is_turned(first)
+    match covers {
+        [first, ..] => is_node_with_k(&first.pattern) && is_turned(first),
+        _ => false,
+    }
 }
 
 #[test]
