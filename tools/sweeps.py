@@ -23,9 +23,11 @@ TRANSFER = ['examples/transfer/rules.toml', 'examples/transfer/BANK.m']
 COMMANDS = [
     (['verify', *WARD], True),
     (['verify', *TRANSFER], True),
+    (['verify', '--strict', '--output', 'sarif', *WARD], True),
     (['make', *TRANSFER], False),
     (['make', '--format', '2', *TRANSFER], False),
     (['convert', 'examples/transfer/bank.cert'], False),
+    (['survey', 'examples/night/WARD.m', *TRANSFER], False),
     (['check', 'examples/ward/rules.toml', 'examples/ward/ward.cert', 'examples/ward/ADMIT.m'], True),
     (['check', 'examples/transfer/rules.toml', 'examples/transfer/bank.cert', 'examples/transfer/BANK.m'], True),
     (['replay', 'examples/night/rules.toml', 'examples/night/ring', 'examples/night/WARD.m'], False),

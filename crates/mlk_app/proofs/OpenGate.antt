@@ -23,7 +23,7 @@ use Rattle.mlk_app.specs.declared.checked.WantedTask.TheVariants as task
 use Rattle.mlk_app.specs.declared.checked.NoReport.{NoReport}
 use Rattle.mlk_app.specs.declared.checked.NoReport.TheVariants as refusal
 use Rattle.mlk_app.specs.Replayed.{refusal_of_events, IsUndeclared, IsStopped, IsUnreplayed}
-use Rattle.mlk_app.specs.Checked.{TellsUnmade, IsUnmade, IsRefusalBy, IsRefusalOfTask, IsRefusalUnder, IsRefusalOf, IsFirst, IsUndone, IsUnverifiedBy, IsRefusedFor, IsRefusedBy}
+use Rattle.mlk_app.specs.Checked.{TellsUnmade, IsUnmade, IsRefusalByBlocks, IsRefusalByRules, IsRefusalByRulesText, IsRefusalOfTrees, IsFirst, IsUndone, IsUnverifiedBy, IsRefusedFor, IsRefusedBy}
 use Rattle.mlk_app.specs.Ran.{IsOfOpenGate, IsNotShut}
 
 same-error : {d e : CheckError} → refusal.Check d ≡ refusal.Check e → d ≡ e
@@ -78,17 +78,17 @@ not-replayed : (trees : List RoutineTree) (rules : RuleLists) (events : List ℕ
 not-replayed trees rules events r (inl h) = not-declared trees rules.entries r h
 not-replayed trees rules events r (inr h) = λ t shut. by-events h.stopped.0 t (sym h.stopped.2 ∙ shut)
 
-of-task : (trees : List RoutineTree) (rules : RuleLists) (w : WantedTask) (r : NoReport) → IsRefusalOfTask trees rules w r → IsNotShut r
+of-task : (trees : List RoutineTree) (rules : RuleLists) (w : WantedTask) (r : NoReport) → IsRefusalByRules trees rules w r → IsNotShut r
 of-task trees rules (task.Make format) r h = not-made h.0 r h.2
 of-task trees rules (task.Verify workers) r (inl h) = not-made h.0 r h.2
 of-task trees rules (task.Verify workers) r (inr (text, made, (blocks, spelled, h))) = told h.0 r h.2 (unreported workers trees rules blocks h.0 h.1)
 of-task trees rules (task.Replay events) r h = not-replayed trees rules events.items r h
 
-under : (trees : List RoutineTree) (rules_text : List ℕ) (w : WantedTask) (r : NoReport) → IsRefusalUnder trees rules_text w r → IsNotShut r
+under : (trees : List RoutineTree) (rules_text : List ℕ) (w : WantedTask) (r : NoReport) → IsRefusalByRulesText trees rules_text w r → IsNotShut r
 under trees rules_text w r (inl h) = told (error_of_rules h.0) r h.2 (by-rules h.0)
 under trees rules_text w r (inr (rules, said, h)) = of-task trees rules w r h
 
-of-program : (trees : List RoutineTree) (rules_text : List ℕ) (w : WantedTask) (r : NoReport) → IsRefusalOf trees rules_text w r → IsNotShut r
+of-program : (trees : List RoutineTree) (rules_text : List ℕ) (w : WantedTask) (r : NoReport) → IsRefusalOfTrees trees rules_text w r → IsNotShut r
 of-program trees rules_text w r (inl h) = told (error_of_routine h.0) r h.2 (by-routine h.0)
 of-program trees rules_text w r (inr (linked, h)) = under trees rules_text w r h
 

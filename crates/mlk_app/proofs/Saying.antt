@@ -1,5 +1,5 @@
 -- What is answered to a request.
-use Rattle.std.proofs.Common.{◌≡◌, ℕ, List, [], sym, subst}
+use Rattle.std.proofs.Common.{◌≡◌, ◌∙◌, ℕ, List, [], Bool, true, false, Option, None, refl, sym, arith}
 use Rattle.std.specs.Prelude.{String}
 use Rattle.mlk_app.specs.declared.source.Sources.{Sources}
 use Rattle.std.specs.Borrow.{Bor}
@@ -11,34 +11,47 @@ use Rattle.mlk_cli.specs.declared.words.Request.{Request}
 use Rattle.mlk_cli.specs.declared.words.Request.TheVariants as request
 use Rattle.mlk_app.specs.declared.checked.Checked.{Checked}
 use Rattle.mlk_walk.specs.declared.report.Row.{Row}
-use Rattle.mlk_app.specs.declared.checked.CheckedOutcome.TheVariants as outcome
+use Rattle.mlk_syntax.specs.Trees.{RoutineTree}
+use Rattle.mlk_cli.specs.declared.words.Output.{Output}
+use Rattle.mlk_cli.specs.declared.words.Output.TheVariants as output
+use Rattle.mlk_cli.specs.declared.words.ReportStyle.{ReportStyle}
+use Rattle.mlk_cli.specs.declared.words.SurveyRequest.{SurveyRequest}
+use Rattle.mlk_forms.specs.Told.{IsReportTold, IsNoticed}
+use Rattle.mlk_forms.proofs.Styles.{passed-no-row}
 use Rattle.mlk_app.specs.declared.checked.NoReport.{NoReport}
 use Rattle.mlk_app.specs.declared.program.Answer.{Answer}
 use Rattle.mlk_app.specs.declared.program.Answer.TheVariants as answer
 use Rattle.mlk_app.specs.declared.source.FileError.TheVariants as error
-use Rattle.mlk_app.specs.Files.{Texts, AreTexts, Loses, cert_format}
+use Rattle.mlk_app.specs.Files.{Texts, AreTexts, Loses, LosesFirst, cert_format}
 use Rattle.mlk_app.proofs.Sources.{loses-front}
-use Rattle.mlk_cli.specs.CommandLine.{IsRequest}
+use Rattle.mlk_cli.specs.CommandLine.{IsRequest, bytes_of}
 use Rattle.mlk_app.specs.Checked.{IsChecked, IsRefusedBy}
 use Rattle.mlk_app.specs.Converted.{IsUnconverted}
-use Rattle.mlk_app.specs.Ran.{trees_of, PrintsReport, PrintsText, IsPrinted, Prints, TellsRefusal, TellsFault, TellsUnread, Answers, AnswersWords}
+use Rattle.mlk_app.specs.Ran.{style_in, status_of, trees_of, IsReportPrinted, Prints, TellsRefusal, TellsFault, TellsUnread, Answers, AnswersWords}
 
--- what is printed of an outcome
-pub prints-report : (checked : Checked) (rows : List Row) (a : Answer) → checked.outcome ≡ outcome.Report rows → PrintsReport (trees_of checked) rows a → Prints checked a
-prints-report checked rows (answer.Report text status) is printed = subst (λ o. IsPrinted (trees_of checked) o text status) (sym is) printed
-prints-report checked rows (answer.Refused line) is printed = printed
-prints-report checked rows (answer.Unread line) is printed = printed
-prints-report checked rows (answer.Usage text) is printed = printed
-prints-report checked rows answer.OutOfMemory is printed = record {}
+one-not-zero : ◌≡◌ {A = ℕ} 1 0 → ⊥
+one-not-zero e = omega (arith, e)
 
-pub prints-text : (checked : Checked) (shown : List ℕ) (a : Answer) → checked.outcome ≡ outcome.Replayed shown → PrintsText shown a → Prints checked a
-prints-text checked shown (answer.Report text status) is printed = subst (λ o. IsPrinted (trees_of checked) o text status) (sym is) printed
-prints-text checked shown (answer.Refused line) is printed = printed
-prints-text checked shown (answer.Unread line) is printed = printed
-prints-text checked shown (answer.Usage text) is printed = printed
-prints-text checked shown answer.OutOfMemory is printed = record {}
+-- what is printed of a report
+report-yes : (style : ReportStyle) (trees : List RoutineTree) (rows : List Row) (text : List ℕ) (passed : Bool) → IsReportTold style trees rows text passed → status_of passed ≡ 0 → rows ≡ []
+report-yes style trees rows text true told ended = passed-no-row style trees rows text told
+report-yes style trees rows text false told ended = absurd (one-not-zero ended)
 
-pub outcome-answers : (holds : Texts) (lacks : List ℕ → Type 0) (program : ProgramRequest) (sources : Sources) (checked : Checked) (a : Answer) → AreTexts holds program sources → IsChecked sources (trees_of checked) checked.outcome → Prints checked a
+pub report-printed : (style : ReportStyle) (trees : List RoutineTree) (rows : List Row) (text : List ℕ) (passed : Bool) (status : ℕ) → IsReportTold style trees rows text passed → status ≡ status_of passed
+    → IsReportPrinted style trees rows text status
+report-printed style trees rows text passed status told ended = record {
+  passed = passed;
+  told = told;
+  ended = ended;
+  yes = λ zero. report-yes style trees rows text passed told (sym ended ∙ zero);
+}
+
+pub no-notice : (output : Output) → IsNoticed output None
+no-notice output.Text = refl
+no-notice output.Json = record {}
+no-notice output.Sarif = record {}
+
+pub outcome-answers : (holds : Texts) (lacks : List ℕ → Type 0) (program : ProgramRequest) (sources : Sources) (checked : Checked) (a : Answer) → AreTexts holds program sources → IsChecked sources (trees_of checked) checked.outcome → Prints (style_in program.asked) checked a
     → Answers holds lacks (request.Program program) a
 outcome-answers holds lacks program sources checked (answer.Report text status) texts answered printed = record {
   sources = sources;
@@ -48,21 +61,24 @@ outcome-answers holds lacks program sources checked (answer.Report text status) 
   answered = answered;
   printed = printed;
 }
-outcome-answers holds lacks program sources checked (answer.Refused line) texts answered printed = absurd printed
+outcome-answers holds lacks program sources checked (answer.Refused line notice) texts answered printed = absurd printed
 outcome-answers holds lacks program sources checked (answer.Unread line) texts answered printed = absurd printed
 outcome-answers holds lacks program sources checked (answer.Usage text) texts answered printed = absurd printed
 outcome-answers holds lacks program sources checked answer.OutOfMemory texts answered printed = record {}
 
-pub refusal-answers : (holds : Texts) (lacks : List ℕ → Type 0) (program : ProgramRequest) (sources : Sources) (r : NoReport) (a : Answer) → AreTexts holds program sources → IsRefusedBy sources r → TellsRefusal r a
+pub refusal-answers : (holds : Texts) (lacks : List ℕ → Type 0) (program : ProgramRequest) (sources : Sources) (r : NoReport) (a : Answer) → AreTexts holds program sources → IsRefusedBy sources r → TellsRefusal (style_in program.asked).output r a
     → Answers holds lacks (request.Program program) a
 refusal-answers holds lacks program sources r (answer.Report text status) texts refused told = absurd told
-refusal-answers holds lacks program sources r (answer.Refused line) texts refused told = record {
-  sources = sources;
-  texts = texts;
-  refusal = r;
-  refused = refused;
-  told = told;
-}
+refusal-answers holds lacks program sources r (answer.Refused line notice) texts refused told = (
+  record {
+    sources = sources;
+    texts = texts;
+    refusal = r;
+    refused = refused;
+    told = told.0;
+  },
+  told.1,
+)
 refusal-answers holds lacks program sources r (answer.Unread line) texts refused told = absurd told
 refusal-answers holds lacks program sources r (answer.Usage text) texts refused told = absurd told
 refusal-answers holds lacks program sources r answer.OutOfMemory texts refused told = record {}
@@ -71,7 +87,7 @@ refusal-answers holds lacks program sources r answer.OutOfMemory texts refused t
 pub unread-answers : (holds : Texts) (lacks : List ℕ → Type 0) (certificate : Bor (List ℕ)) (format : Format) (path : Bor (List ℕ)) (a : Answer) → Loses lacks certificate.now (error.Unread path)
     → TellsUnread path.now a → Answers holds lacks (request.Convert certificate format) a
 unread-answers holds lacks certificate format path (answer.Report text status) lost told = absurd told
-unread-answers holds lacks certificate format path (answer.Refused line) lost told = absurd told
+unread-answers holds lacks certificate format path (answer.Refused line notice) lost told = absurd told
 unread-answers holds lacks certificate format path (answer.Unread line) lost told = record {
   path = path.now;
   lost = loses-front holds lacks certificate.now [] (error.Unread path) lost;
@@ -83,20 +99,36 @@ unread-answers holds lacks certificate format path answer.OutOfMemory lost told 
 pub fault-answers : (holds : Texts) (lacks : List ℕ → Type 0) (certificate : Bor (List ℕ)) (format : Format) (given : List ℕ) (fault : CertFault) (a : Answer) → holds certificate.now given → IsUnconverted (cert_format format) given (failure.Refused fault)
     → TellsFault fault a → Answers holds lacks (request.Convert certificate format) a
 fault-answers holds lacks certificate format given fault (answer.Report text status) held refused told = absurd told
-fault-answers holds lacks certificate format given fault (answer.Refused line) held refused told = record {
-  given = given;
-  held = held;
-  fault = fault;
-  refused = refused;
-  told = told;
-}
+fault-answers holds lacks certificate format given fault (answer.Refused line notice) held refused told = (
+  record {
+    given = given;
+    held = held;
+    fault = fault;
+    refused = refused;
+    told = told.0;
+  },
+  told.1,
+)
 fault-answers holds lacks certificate format given fault (answer.Unread line) held refused told = absurd told
 fault-answers holds lacks certificate format given fault (answer.Usage text) held refused told = absurd told
 fault-answers holds lacks certificate format given fault answer.OutOfMemory held refused told = record {}
 
+-- what is answered where a routine of a survey can't be read
+pub unsurveyed-answers : (holds : Texts) (lacks : List ℕ → Type 0) (survey : SurveyRequest) (path : Bor (List ℕ)) (a : Answer) → LosesFirst holds lacks (bytes_of survey.routines.items) (error.Unread path)
+    → TellsUnread path.now a → Answers holds lacks (request.Survey survey) a
+unsurveyed-answers holds lacks survey path (answer.Report text status) lost told = absurd told
+unsurveyed-answers holds lacks survey path (answer.Refused line notice) lost told = absurd told
+unsurveyed-answers holds lacks survey path (answer.Unread line) lost told = record {
+  path = path.now;
+  lost = lost;
+  told = told;
+}
+unsurveyed-answers holds lacks survey path (answer.Usage text) lost told = absurd told
+unsurveyed-answers holds lacks survey path answer.OutOfMemory lost told = record {}
+
 pub words-answer : {A : Type 0} → (holds : Texts) (lacks : List ℕ → Type 0) (words : List (String A)) (request : Request) (a : Answer) → IsRequest words request → Answers holds lacks request a → AnswersWords holds lacks words a
 words-answer holds lacks words request (answer.Report text status) asked h = (request, asked, h)
-words-answer holds lacks words request (answer.Refused line) asked h = (request, asked, h)
+words-answer holds lacks words request (answer.Refused line notice) asked h = (request, asked, h)
 words-answer holds lacks words request (answer.Unread line) asked h = (request, asked, h)
 words-answer holds lacks words request (answer.Usage text) asked h = absurd h
 words-answer holds lacks words request answer.OutOfMemory asked h = record {}

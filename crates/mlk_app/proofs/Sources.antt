@@ -81,12 +81,12 @@ loses-within holds lacks paths more (error.Unread path) lost = record {
 -- what is lost after the text of the certificate, or of the events, was had
 pub loses-past : (holds : Texts) (lacks : List ℕ → Type 0) (a : Asked) (w : Work) (paths : List (List ℕ)) (e : FileError) → IsWork holds a w → LosesFirst holds lacks paths e
     → LosesFirst holds lacks (work_path a ++ paths) e
-loses-past holds lacks (asked.Check path workers) (work.Check text given) paths e held lost = loses-after holds lacks path.now text.items paths e held.0 lost
-loses-past holds lacks (asked.Check path workers) (work.Make format) paths e held lost = absurd held
-loses-past holds lacks (asked.Check path workers) (work.Verify given) paths e held lost = absurd held
-loses-past holds lacks (asked.Check path workers) (work.Replay text) paths e held lost = absurd held
+loses-past holds lacks (asked.Check path workers style) (work.Check text given) paths e held lost = loses-after holds lacks path.now text.items paths e held.0 lost
+loses-past holds lacks (asked.Check path workers style) (work.Make format) paths e held lost = absurd held
+loses-past holds lacks (asked.Check path workers style) (work.Verify given) paths e held lost = absurd held
+loses-past holds lacks (asked.Check path workers style) (work.Replay text) paths e held lost = absurd held
 loses-past holds lacks (asked.Make format) w paths e held lost = lost
-loses-past holds lacks (asked.Verify workers) w paths e held lost = lost
+loses-past holds lacks (asked.Verify workers style) w paths e held lost = lost
 loses-past holds lacks (asked.Replay path) (work.Check text given) paths e held lost = absurd held
 loses-past holds lacks (asked.Replay path) (work.Make format) paths e held lost = absurd held
 loses-past holds lacks (asked.Replay path) (work.Verify given) paths e held lost = absurd held

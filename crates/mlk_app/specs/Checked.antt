@@ -36,8 +36,8 @@ use Rattle.mlk_app.specs.declared.checked.NoReport.{NoReport}
 use Rattle.mlk_app.specs.declared.checked.NoReport.TheVariants as refusal
 
 -- the report by the certificate that a text spells
-abbrev pub IsReportWith : List RoutineTree → RuleLists → List ℕ → List Row → Type 0
-IsReportWith trees rules text rows = OfBlocks text (λ blocks. IsReportBy trees rules blocks rows)
+abbrev pub IsReportByText : List RoutineTree → RuleLists → List ℕ → List Row → Type 0
+IsReportByText trees rules text rows = OfBlocks text (λ blocks. IsReportBy trees rules blocks rows)
 
 -- A text is the one in this format of a certificate, made of a program that has all declared entries. Nothing else is promised
 -- of it.
@@ -46,25 +46,25 @@ IsMade trees rules format text = (find (is_missing trees) rules.entries ≡ None
 
 -- What the texts of rules and of routines come to: the text of a certificate that is made, in the format that is asked for, or
 -- the report by one that is made, or what is shown of jobs after events.
-abbrev pub IsOutcomeWith : List RoutineTree → RuleLists → WantedTask → CheckedOutcome → Type 0
-IsOutcomeWith trees rules (task.Make format) (outcome.Report rows) = ⊥
-IsOutcomeWith trees rules (task.Make format) (outcome.Made made) = IsMade trees rules format made.items
-IsOutcomeWith trees rules (task.Make format) (outcome.Replayed shown) = ⊥
-IsOutcomeWith trees rules (task.Verify workers) (outcome.Report rows) = (text : List ℕ) × IsMade trees rules First text × IsReportWith trees rules text rows
-IsOutcomeWith trees rules (task.Verify workers) (outcome.Made made) = ⊥
-IsOutcomeWith trees rules (task.Verify workers) (outcome.Replayed shown) = ⊥
-IsOutcomeWith trees rules (task.Replay events) (outcome.Report rows) = ⊥
-IsOutcomeWith trees rules (task.Replay events) (outcome.Made made) = ⊥
-IsOutcomeWith trees rules (task.Replay events) (outcome.Replayed shown) = IsReplayed trees rules events.items shown
+abbrev pub IsOutcomeByRules : List RoutineTree → RuleLists → WantedTask → CheckedOutcome → Type 0
+IsOutcomeByRules trees rules (task.Make format) (outcome.Report rows) = ⊥
+IsOutcomeByRules trees rules (task.Make format) (outcome.Made made) = IsMade trees rules format made.items
+IsOutcomeByRules trees rules (task.Make format) (outcome.Replayed shown) = ⊥
+IsOutcomeByRules trees rules (task.Verify workers) (outcome.Report rows) = (text : List ℕ) × IsMade trees rules First text × IsReportByText trees rules text rows
+IsOutcomeByRules trees rules (task.Verify workers) (outcome.Made made) = ⊥
+IsOutcomeByRules trees rules (task.Verify workers) (outcome.Replayed shown) = ⊥
+IsOutcomeByRules trees rules (task.Replay events) (outcome.Report rows) = ⊥
+IsOutcomeByRules trees rules (task.Replay events) (outcome.Made made) = ⊥
+IsOutcomeByRules trees rules (task.Replay events) (outcome.Replayed shown) = IsReplayed trees rules events.items shown
 
-abbrev pub IsOutcomeUnder : List RoutineTree → List ℕ → WantedTask → CheckedOutcome → Type 0
-IsOutcomeUnder trees rules_text t o = (rules : RuleLists) × SaysRules rules_text rules × IsOutcomeWith trees rules t o
+abbrev pub IsOutcomeByRulesText : List RoutineTree → List ℕ → WantedTask → CheckedOutcome → Type 0
+IsOutcomeByRulesText trees rules_text t o = (rules : RuleLists) × SaysRules rules_text rules × IsOutcomeByRules trees rules t o
 
-abbrev pub IsOutcomeOf : List RoutineTree → List ℕ → WantedTask → CheckedOutcome → Type 0
-IsOutcomeOf trees rules_text t o = IsProgram trees × IsOutcomeUnder trees rules_text t o
+abbrev pub IsOutcomeOfTrees : List RoutineTree → List ℕ → WantedTask → CheckedOutcome → Type 0
+IsOutcomeOfTrees trees rules_text t o = IsProgram trees × IsOutcomeByRulesText trees rules_text t o
 
 abbrev pub IsDone : List Source → List ℕ → WantedTask → List RoutineTree → CheckedOutcome → Type 0
-IsDone sources rules_text t trees o = AreRead sources trees × IsOutcomeOf trees rules_text t o
+IsDone sources rules_text t trees o = AreRead sources trees × IsOutcomeOfTrees trees rules_text t o
 
 -- the report by the certificate that is given
 abbrev pub IsVerified : List Source → List ℕ → List ℕ → List RoutineTree → CheckedOutcome → Type 0
@@ -90,12 +90,12 @@ abbrev pub RefusedLink : List RoutineTree → NoReport → Type 0
 RefusedLink trees r = (e : Failure Fault) × IfRefused e (IsLinkFault trees) × (r ≡ refusal.Check (error_of_routine e))
 
 -- Why a program has no report by a certificate. The gate of the workers is always open.
-abbrev pub IsRefusalBy : List RoutineTree → RuleLists → List EntryCert → ℕ → NoReport → Type 0
-IsRefusalBy trees rules blocks workers r = (e : CheckError) × IsUnreportedBy (Unit {0}) workers trees rules blocks e × (r ≡ refusal.Check e)
+abbrev pub IsRefusalByBlocks : List RoutineTree → RuleLists → List EntryCert → ℕ → NoReport → Type 0
+IsRefusalByBlocks trees rules blocks workers r = (e : CheckError) × IsUnreportedBy (Unit {0}) workers trees rules blocks e × (r ≡ refusal.Check e)
 
 -- The certificate is the one that a text spells.
-abbrev pub IsRefusalWith : List RoutineTree → RuleLists → List ℕ → ℕ → NoReport → Type 0
-IsRefusalWith trees rules text workers r = OfBlocks text (λ blocks. IsRefusalBy trees rules blocks workers r)
+abbrev pub IsRefusalByText : List RoutineTree → RuleLists → List ℕ → ℕ → NoReport → Type 0
+IsRefusalByText trees rules text workers r = OfBlocks text (λ blocks. IsRefusalByBlocks trees rules blocks workers r)
 
 -- what is told where the maker gave up: the fault, unless memory runs out
 abbrev pub IsStuck : GaveUp → NoReport → Type 0
@@ -113,20 +113,20 @@ abbrev pub IsUnmade : List RoutineTree → RuleLists → NoReport → Type 0
 IsUnmade trees rules r = (e : Failure MakeError) × NoneMade trees rules.entries e × TellsUnmade e r
 
 -- It is told of the making of a certificate, or of the events, first,
-abbrev pub IsRefusalOfTask : List RoutineTree → RuleLists → WantedTask → NoReport → Type 0
-IsRefusalOfTask trees rules (task.Make format) r = IsUnmade trees rules r
-IsRefusalOfTask trees rules (task.Verify workers) r =
-    IsUnmade trees rules r ⊎ ((text : List ℕ) × IsMade trees rules First text × IsRefusalWith trees rules text workers r)
-IsRefusalOfTask trees rules (task.Replay events) r = IsUnreplayed trees rules events.items r
+abbrev pub IsRefusalByRules : List RoutineTree → RuleLists → WantedTask → NoReport → Type 0
+IsRefusalByRules trees rules (task.Make format) r = IsUnmade trees rules r
+IsRefusalByRules trees rules (task.Verify workers) r =
+    IsUnmade trees rules r ⊎ ((text : List ℕ) × IsMade trees rules First text × IsRefusalByText trees rules text workers r)
+IsRefusalByRules trees rules (task.Replay events) r = IsUnreplayed trees rules events.items r
 
 -- of the rules' text before it,
-abbrev pub IsRefusalUnder : List RoutineTree → List ℕ → WantedTask → NoReport → Type 0
-IsRefusalUnder trees rules_text t r =
-    RefusedRules rules_text r ⊎ ((rules : RuleLists) × SaysRules rules_text rules × IsRefusalOfTask trees rules t r)
+abbrev pub IsRefusalByRulesText : List RoutineTree → List ℕ → WantedTask → NoReport → Type 0
+IsRefusalByRulesText trees rules_text t r =
+    RefusedRules rules_text r ⊎ ((rules : RuleLists) × SaysRules rules_text rules × IsRefusalByRules trees rules t r)
 
 -- and of the linking of the trees before both.
-abbrev pub IsRefusalOf : List RoutineTree → List ℕ → WantedTask → NoReport → Type 0
-IsRefusalOf trees rules_text t r = RefusedLink trees r ⊎ (IsProgram trees × IsRefusalUnder trees rules_text t r)
+abbrev pub IsRefusalOfTrees : List RoutineTree → List ℕ → WantedTask → NoReport → Type 0
+IsRefusalOfTrees trees rules_text t r = RefusedLink trees r ⊎ (IsProgram trees × IsRefusalByRulesText trees rules_text t r)
 
 -- the refusal of a routine's reading
 abbrev pub IsFirst : List Source → NoReport → Type 0
@@ -134,7 +134,7 @@ IsFirst sources r = (e : Failure Fault) × RefusesFirst sources e × (r ≡ refu
 
 -- Why a task is not done: it is told of a routine that is not read, else of what all routines make.
 abbrev pub IsUndone : List Source → List ℕ → WantedTask → NoReport → Type 0
-IsUndone sources rules_text t r = IsFirst sources r ⊎ ((trees : List RoutineTree) × AreRead sources trees × IsRefusalOf trees rules_text t r)
+IsUndone sources rules_text t r = IsFirst sources r ⊎ ((trees : List RoutineTree) × AreRead sources trees × IsRefusalOfTrees trees rules_text t r)
 
 -- Why texts have no report by the certificate that is given. The gate of the workers is always open.
 abbrev pub IsUnverifiedBy : List Source → List ℕ → List ℕ → ℕ → NoReport → Type 0

@@ -56,12 +56,12 @@ cert_format named.Second = format.Second
 
 -- the text of the certificate, or of the events, where one is named, and the number of workers or the format
 abbrev pub IsWork : Texts → Asked → Work → Type 0
-IsWork holds (asked.Check path workers) (work.Check text given) = holds path.now text.items × (given ≡ workers)
-IsWork holds (asked.Check path workers) (work.Make format) = ⊥
-IsWork holds (asked.Check path workers) (work.Verify given) = ⊥
-IsWork holds (asked.Check path workers) (work.Replay text) = ⊥
+IsWork holds (asked.Check path workers style) (work.Check text given) = holds path.now text.items × (given ≡ workers)
+IsWork holds (asked.Check path workers style) (work.Make format) = ⊥
+IsWork holds (asked.Check path workers style) (work.Verify given) = ⊥
+IsWork holds (asked.Check path workers style) (work.Replay text) = ⊥
 IsWork holds (asked.Make format) w = w ≡ work.Make (cert_format format)
-IsWork holds (asked.Verify workers) w = w ≡ work.Verify workers
+IsWork holds (asked.Verify workers style) w = w ≡ work.Verify workers
 IsWork holds (asked.Replay path) (work.Check text given) = ⊥
 IsWork holds (asked.Replay path) (work.Make format) = ⊥
 IsWork holds (asked.Replay path) (work.Verify given) = ⊥
@@ -74,9 +74,9 @@ pub record AreTexts (holds : Texts) (program : ProgramRequest) (sources : Source
   pub routines : AreSources holds program.routines.items sources.routines.items
 
 abbrev pub work_path : Asked → List (List ℕ)
-work_path (asked.Check path workers) = path.now ∷ []
+work_path (asked.Check path workers style) = path.now ∷ []
 work_path (asked.Make format) = []
-work_path (asked.Verify workers) = []
+work_path (asked.Verify workers style) = []
 work_path (asked.Replay path) = path.now ∷ []
 
 -- the paths that a command names, in the order of its words
@@ -86,6 +86,7 @@ program_paths program = program.rules.now ∷ (work_path program.asked ++ bytes_
 abbrev pub paths_of : Request → List (List ℕ)
 paths_of (request.Program program) = program_paths program
 paths_of (request.Convert certificate format) = certificate.now ∷ []
+paths_of (request.Survey survey) = bytes_of survey.routines.items
 
 -- each of these paths has a text
 abbrev pub AreHeld : Texts → List (List ℕ) → Type 0

@@ -2,7 +2,7 @@
 
 ghost use Rattle.std.specs.Prelude.{◌≡◌, map, IfOk, IfErr};
 ghost use Rattle.mlk_syntax.specs.Views.{routine_of};
-ghost use Rattle.mlk_app.specs.Checked.{IsReportWith, IsStuck, IsMade, IsUnmade, IsOutcomeWith, IsOutcomeUnder, IsOutcomeOf, IsRefusalBy, IsRefusalWith, IsRefusalOfTask, IsRefusalUnder, IsRefusalOf, IsDone, IsUndone, IsVerified, IsUnverifiedBy, IsChecked, IsRefusedBy};
+ghost use Rattle.mlk_app.specs.Checked.{IsReportByText, IsStuck, IsMade, IsUnmade, IsOutcomeByRules, IsOutcomeByRulesText, IsOutcomeOfTrees, IsRefusalByBlocks, IsRefusalByText, IsRefusalByRules, IsRefusalByRulesText, IsRefusalOfTrees, IsDone, IsUndone, IsVerified, IsUnverifiedBy, IsChecked, IsRefusedBy};
 ghost use Rattle.mlk_cert.specs.Theorem.{Spells};
 ghost use Rattle.mlk_soundness_walk.specs.Forms.{AreFormed};
 ghost use Rattle.mlk_pool.specs.Headline.{IsReportBy};
@@ -95,7 +95,7 @@ fn report_by_certificate<R: Threads + Wait + Sync, W: Watch>(
 ) -> Result<Report, NoReport>
     requires { AreFormed (map routine_of program.now) }
     ensures ok { IfOk result (IsReportBy (map routine_of program.now) rules.now certificate.now) }
-    ensures refused { IfErr result (IsRefusalBy (map routine_of program.now) rules.now certificate.now workers) }
+    ensures refused { IfErr result (IsRefusalByBlocks (map routine_of program.now) rules.now certificate.now workers) }
 {
     match verify_program(
         rt,
@@ -124,8 +124,8 @@ fn report_of<R: Threads + Wait + Sync, W: Watch>(
 ) -> Result<Report, NoReport>
     requires formed { AreFormed (map routine_of program.now) }
     requires spelled { Spells made.now.certificate made.now.text.items }
-    ensures ok { IfOk result (IsReportWith (map routine_of program.now) rules.now made.now.text.items) }
-    ensures refused { IfErr result (IsRefusalWith (map routine_of program.now) rules.now made.now.text.items workers) }
+    ensures ok { IfOk result (IsReportByText (map routine_of program.now) rules.now made.now.text.items) }
+    ensures refused { IfErr result (IsRefusalByText (map routine_of program.now) rules.now made.now.text.items workers) }
 {
     report_by_certificate(rt, alloc, program, rules, &made.certificate, workers, watch)
 }
@@ -165,7 +165,7 @@ fn made<W: Watch>(
     }
 }
 
-fn outcome_with<R: Threads + Wait + Sync, W: Watch>(
+fn outcome_by_rules<R: Threads + Wait + Sync, W: Watch>(
     rt: &R,
     alloc: Global,
     program: &Program<'_>,
@@ -174,8 +174,8 @@ fn outcome_with<R: Threads + Wait + Sync, W: Watch>(
     watch: &W,
 ) -> Result<CheckedOutcome, NoReport>
     requires { AreFormed (map routine_of program.now) }
-    ensures ok { IfOk result (IsOutcomeWith (map routine_of program.now) rules.now task.now) }
-    ensures refused { IfErr result (IsRefusalOfTask (map routine_of program.now) rules.now task.now) }
+    ensures ok { IfOk result (IsOutcomeByRules (map routine_of program.now) rules.now task.now) }
+    ensures refused { IfErr result (IsRefusalByRules (map routine_of program.now) rules.now task.now) }
 {
     match task {
         WantedTask::Make { format } => {
@@ -195,7 +195,7 @@ fn outcome_with<R: Threads + Wait + Sync, W: Watch>(
     }
 }
 
-fn outcome_under<R: Threads + Wait + Sync, W: Watch>(
+fn outcome_by_rules_text<R: Threads + Wait + Sync, W: Watch>(
     rt: &R,
     alloc: Global,
     program: &Program<'_>,
@@ -204,17 +204,17 @@ fn outcome_under<R: Threads + Wait + Sync, W: Watch>(
     watch: &W,
 ) -> Result<CheckedOutcome, NoReport>
     requires { AreFormed (map routine_of program.now) }
-    ensures ok { IfOk result (IsOutcomeUnder (map routine_of program.now) rules_text.now task.now) }
-    ensures refused { IfErr result (IsRefusalUnder (map routine_of program.now) rules_text.now task.now) }
+    ensures ok { IfOk result (IsOutcomeByRulesText (map routine_of program.now) rules_text.now task.now) }
+    ensures refused { IfErr result (IsRefusalByRulesText (map routine_of program.now) rules_text.now task.now) }
 {
     match read_rules(alloc, rules_text) {
-        Ok(rules) => outcome_with(rt, alloc, program, &rules, task, watch),
+        Ok(rules) => outcome_by_rules(rt, alloc, program, &rules, task, watch),
         Err(failure) => Err(NoReport::Check(CheckError::from(failure))),
     }
 }
 
 // What routines come to by the text of rules.
-fn outcome_of<R: Threads + Wait + Sync, W: Watch>(
+fn outcome_of_routines<R: Threads + Wait + Sync, W: Watch>(
     rt: &R,
     alloc: Global,
     routines: &[Routine],
@@ -223,12 +223,12 @@ fn outcome_of<R: Threads + Wait + Sync, W: Watch>(
     watch: &W,
 ) -> Result<CheckedOutcome, NoReport>
     requires { AreFormed (map routine_of routines.now) }
-    ensures ok { IfOk result (IsOutcomeOf (map routine_of routines.now) rules_text.now task.now) }
-    ensures refused { IfErr result (IsRefusalOf (map routine_of routines.now) rules_text.now task.now) }
+    ensures ok { IfOk result (IsOutcomeOfTrees (map routine_of routines.now) rules_text.now task.now) }
+    ensures refused { IfErr result (IsRefusalOfTrees (map routine_of routines.now) rules_text.now task.now) }
 {
     match link(alloc, routines) {
         Ok(program) => {
-            let outcome = outcome_under(rt, alloc, &program, rules_text, task, watch);
+            let outcome = outcome_by_rules_text(rt, alloc, &program, rules_text, task, watch);
             watch.discard(program);
             outcome
         }
@@ -252,7 +252,7 @@ fn done<R: Threads + Wait + Sync, W: Watch>(
         Ok(routines) => routines,
         Err(failure) => return Err(NoReport::Check(CheckError::from(failure))),
     };
-    match outcome_of(rt, alloc, routines.as_slice(), rules, task, watch) {
+    match outcome_of_routines(rt, alloc, routines.as_slice(), rules, task, watch) {
         Ok(outcome) => Ok(Checked { routines, outcome }),
         Err(refusal) => {
             watch.discard(routines);

@@ -1,11 +1,12 @@
-//! What `mlock` does: it reads the files that the command line names, checks them, replays events or converts a certificate,
-//! and says what it found.
+//! What `mlock` does: it reads the files that the command line names, checks them, replays events, converts a
+//! certificate or makes a survey, and says what it found.
 #![tactic(auto)]
 
 mod checked;
 mod converted;
 mod file;
 mod gate;
+mod notice;
 mod printed;
 mod program;
 mod replayed;

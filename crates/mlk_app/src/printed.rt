@@ -108,7 +108,8 @@ pub(crate) fn certificate_line(alloc: Global, fault: &CertFault) -> Result<Repor
     Ok(text)
 }
 
-fn events_code(why: EventsRefusal) -> Code
+/// The code of why events are not replayed.
+pub(crate) fn events_code(why: EventsRefusal) -> Code
     ensures { result ≡ events_code why }
 {
     match why {

@@ -5,19 +5,25 @@ ghost use Rattle.mlk_syntax.specs.Views.{routine_of};
 ghost use Rattle.std.specs.IoError.{error_kind};
 ghost use Rattle.std.specs.Io.KnownBytes.{Appends};
 ghost use Rattle.mlk_cli.specs.declared.words.Request.TheVariants as wanted;
-ghost use Rattle.mlk_app.specs.Ran.{status_of, PrintsReport, PrintsText, PrintsOutcome, Prints, IsErrorLine, IsRefusalLine, IsOfOpenGate, IsNotShut, TellsRefusal, TellsFault, TellsUnread, Answers, AnswersWords, IsSaid, Ran};
+ghost use Rattle.mlk_app.specs.Ran.{style_in, status_of, PrintsReport, PrintsText, PrintsOutcome, Prints, IsErrorLine, IsRefusalLine, IsOfOpenGate, IsNotShut, TellsRefusal, TellsFault, TellsUnread, Answers, AnswersWords, IsRefusalSaid, IsSaid, Ran};
+ghost use Rattle.mlk_forms.specs.Told.{IsNoticed};
 
 use crate::checked::{Checked, CheckedOutcome, NoReport, check_texts};
 use crate::converted::converted;
+use crate::notice::notice_of;
 use crate::printed::{
     certificate_line, events_line, fault_line, file_line, missing_line, rules_line, stuck_line,
     workers_line,
 };
-use crate::source::{FileError, Files, cert_format, read_file, read_files};
+use crate::source::{FileError, Files, cert_format, read_file, read_files, read_sources};
 use mlk_cert::CertFault;
-use mlk_cli::{Format, ProgramRequest, Request, UsageError, read_request};
-use mlk_pool::{CheckError, ReportText, report_text};
-use mlk_syntax::Routine;
+use mlk_cli::{
+    Asked, Format, Output, ProgramRequest, ReportStyle, Request, SurveyRequest, UsageError,
+    read_request,
+};
+use mlk_forms::{notice_told, report_told, survey_told};
+use mlk_output::Inputs;
+use mlk_pool::{CheckError, ReportText};
 use mlk_text::Failure;
 use mlk_walk::Report;
 use mlk_watch::{Unwatched, Watch};
@@ -37,10 +43,10 @@ const FAILED: u8 = 3;
 // What the program says, before it is said.
 #[derive(Drop, Debug)]
 enum Answer {
-    /// The text of a report, of a certificate or of jobs, and the status that it ends with.
+    /// The text of a report, of a certificate, of jobs or of a survey, and the status that it ends with.
     Report(ReportText, u8),
-    /// The line that tells why the input is refused.
-    Refused(ReportText),
+    /// The line that tells why the input is refused, and what is printed beside it, where a form is asked for.
+    Refused(ReportText, Option<ReportText>),
     /// The line that tells which file can't be read.
     Unread(ReportText),
     /// `clap`'s text, where the words ask for nothing.
@@ -48,17 +54,33 @@ enum Answer {
     OutOfMemory,
 }
 
-fn status_of(report: &Report) -> u8
-    ensures { result ≡ status_of report.now }
+// How the report of what is asked for is told.
+fn style_in(asked: &Asked<'_>) -> ReportStyle
+    ensures { result ≡ style_in asked.now }
 {
-    if report.is_yes() { YES } else { NO }
+    match asked {
+        Asked::Check { style, .. } | Asked::Verify { style, .. } => *style,
+        Asked::Make { .. } | Asked::Replay(_) => ReportStyle {
+            output: Output::Text,
+            is_strict: false,
+        },
+    }
 }
 
-fn report_answer(alloc: Global, routines: &[Routine], report: &Report) -> Answer
-    ensures { PrintsReport (map routine_of routines.now) report.now result }
+fn status_of(passes: bool) -> u8
+    ensures { result ≡ status_of passes }
 {
-    match report_text(alloc, routines, report) {
-        Ok(text) => Answer::Report(text, status_of(report)),
+    if passes { YES } else { NO }
+}
+
+fn report_answer(alloc: Global, inputs: &Inputs<'_>, report: &Report, style: ReportStyle) -> Answer
+    ensures { PrintsReport style (map routine_of inputs.now.routines.now) report.now result }
+{
+    match report_told(alloc, inputs, report, style) {
+        Ok(told) => {
+            let status = status_of(told.passes);
+            Answer::Report(told.text, status)
+        }
         Err(AllocError) => Answer::OutOfMemory,
     }
 }
@@ -73,21 +95,35 @@ fn text_answer(alloc: Global, bytes: &[u8]) -> Answer
     }
 }
 
-fn outcome_answer(alloc: Global, routines: &[Routine], outcome: CheckedOutcome) -> Answer
-    ensures { PrintsOutcome (map routine_of routines.now) outcome result }
+fn outcome_answer(
+    alloc: Global,
+    inputs: &Inputs<'_>,
+    outcome: CheckedOutcome,
+    style: ReportStyle,
+) -> Answer
+    ensures { PrintsOutcome style (map routine_of inputs.now.routines.now) outcome result }
 {
     match outcome {
-        CheckedOutcome::Report(report) => report_answer(alloc, routines, &report),
+        CheckedOutcome::Report(report) => report_answer(alloc, inputs, &report, style),
         CheckedOutcome::Made(text) => Answer::Report(ReportText::of(text), YES),
         CheckedOutcome::Replayed(text) => text_answer(alloc, text.as_bytes()),
     }
 }
 
-fn answer_of<W: Watch>(alloc: Global, checked: Checked, watch: &W) -> Answer
-    ensures { Prints checked result }
+fn answer_of<W: Watch>(
+    alloc: Global,
+    checked: Checked,
+    program: &ProgramRequest<'_>,
+    watch: &W,
+) -> Answer
+    ensures { Prints (style_in program.now.asked) checked result }
 {
     let Checked { routines, outcome } = checked;
-    let answer = outcome_answer(alloc, routines.as_slice(), outcome);
+    let inputs = Inputs {
+        routines: routines.as_slice(),
+        paths: program.routines.as_slice(),
+    };
+    let answer = outcome_answer(alloc, &inputs, outcome, style_in(&program.asked));
     watch.discard(routines);
     answer
 }
@@ -118,12 +154,30 @@ fn refusal_line(alloc: Global, refusal: &NoReport) -> Result<ReportText, AllocEr
     }
 }
 
-fn refusal_answer(alloc: Global, refusal: &NoReport) -> Answer
+// What is printed of a refusal beside its line.
+fn notice(
+    alloc: Global,
+    refusal: &NoReport,
+    program: &ProgramRequest<'_>,
+    line: &ReportText,
+) -> Result<Option<ReportText>, AllocError>
+    ensures { IfOk result (IsNoticed (style_in program.now.asked).output) }
+{
+    match notice_of(refusal, program, line.as_bytes()) {
+        Some(notice) => notice_told(alloc, &notice, style_in(&program.asked).output),
+        None => Ok(None),
+    }
+}
+
+fn refusal_answer(alloc: Global, refusal: &NoReport, program: &ProgramRequest<'_>) -> Answer
     requires { IsNotShut refusal.now }
-    ensures { TellsRefusal refusal.now result }
+    ensures { TellsRefusal (style_in program.now.asked).output refusal.now result }
 {
     match refusal_line(alloc, refusal) {
-        Ok(line) => Answer::Refused(line),
+        Ok(line) => match notice(alloc, refusal, program, &line) {
+            Ok(notice) => Answer::Refused(line, notice),
+            Err(AllocError) => Answer::OutOfMemory,
+        },
         Err(AllocError) => Answer::OutOfMemory,
     }
 }
@@ -132,7 +186,7 @@ fn fault_answer(alloc: Global, fault: &CertFault) -> Answer
     ensures { TellsFault fault.now result }
 {
     match certificate_line(alloc, fault) {
-        Ok(line) => Answer::Refused(line),
+        Ok(line) => Answer::Refused(line, None),
         Err(AllocError) => Answer::OutOfMemory,
     }
 }
@@ -158,8 +212,8 @@ fn answer_program<R: Threads + Wait + Sync, F: Files, W: Watch>(
 {
     match read_files(alloc, files, program) {
         Ok(sources) => match check_texts(rt, alloc, sources, watch) {
-            Ok(checked) => answer_of(alloc, checked, watch),
-            Err(refusal) => refusal_answer(alloc, &refusal),
+            Ok(checked) => answer_of(alloc, checked, program, watch),
+            Err(refusal) => refusal_answer(alloc, &refusal, program),
         },
         Err(FileError::OutOfMemory) => Answer::OutOfMemory,
         Err(FileError::Unread(path)) => unread_answer(alloc, path),
@@ -187,6 +241,26 @@ fn answer_conversion<F: Files, W: Watch>(
     }
 }
 
+// What is answered where a survey is asked for, from the texts of the routines.
+fn answer_survey<R: Threads + Wait + Sync, F: Files, W: Watch>(
+    rt: &R,
+    alloc: Global,
+    survey: &SurveyRequest<'_>,
+    files: &F,
+    watch: &W,
+) -> Answer
+    ensures { Answers (F.holds files.now) (F.lacks files.now) (wanted.Survey survey.now) result }
+{
+    match read_sources(alloc, files, survey.routines.as_slice()) {
+        Ok(sources) => match survey_told(rt, alloc, sources, survey.output, watch) {
+            Ok(told) => Answer::Report(told.text, YES),
+            Err(AllocError) => Answer::OutOfMemory,
+        },
+        Err(FileError::OutOfMemory) => Answer::OutOfMemory,
+        Err(FileError::Unread(path)) => unread_answer(alloc, path),
+    }
+}
+
 // What is answered to a request, from the texts of the files.
 fn answer_request<R: Threads + Wait + Sync, F: Files, W: Watch>(
     rt: &R,
@@ -203,6 +277,7 @@ fn answer_request<R: Threads + Wait + Sync, F: Files, W: Watch>(
             certificate,
             format,
         } => answer_conversion(alloc, *certificate, *format, files, watch),
+        Request::Survey(survey) => answer_survey(rt, alloc, survey, files, watch),
     }
 }
 
@@ -254,16 +329,29 @@ fn tell_memory<E: Write>(err: &mut E) -> u8
     FAILED
 }
 
+// Says a refusal, and what is printed beside its line.
+fn refuse<O: Write, E: Write>(
+    line: &ReportText,
+    notice: &Option<ReportText>,
+    out: &mut O,
+    err: &mut E,
+) -> u8
+    ensures { IsRefusalSaid notice.now (O.contents out.old) (O.contents out.new) result }
+{
+    tell(err, line.as_bytes());
+    match notice {
+        None => REFUSED,
+        Some(text) => print(out, err, text, REFUSED),
+    }
+}
+
 // Says an answer, and answers the status.
 fn say<O: Write, E: Write>(answer: &Answer, out: &mut O, err: &mut E) -> u8
     ensures { IsSaid answer.now (O.contents out.old) (O.contents out.new) result }
 {
     match answer {
         Answer::Report(text, status) => print(out, err, text, *status),
-        Answer::Refused(line) => {
-            tell(err, line.as_bytes());
-            REFUSED
-        }
+        Answer::Refused(line, notice) => refuse(line, notice, out, err),
         Answer::Unread(line) => {
             tell(err, line.as_bytes());
             FAILED
@@ -289,10 +377,12 @@ pub fn wrong_words<E: Write>(error: &io::Error, err: &mut E) -> u8
 }
 
 /// Does what the words ask for, of which the first is the program's name, and answers the status: 0 for `yes`,
-/// a certificate or jobs, 1 for `no`, 2 for refused input, 3 for want of memory or a file that can't be read or written.
+/// a certificate, jobs or a survey, 1 for `no` and for a hazard that is told strictly, 2 for refused input, 3 for want of
+/// memory or a file that can't be read or written.
 ///
 /// The texts of routines are read side by side, by these threads, and the lines of entries are walked so by the workers that
-/// the words ask for. Reports go to `out`, all else to `err`; a fault of `err` changes nothing.
+/// the words ask for. Reports go to `out`, and so does the JSON or SARIF of a refusal; all else goes to `err`. A fault of
+/// `err` changes nothing.
 pub fn run<R: Threads + Wait + Sync, F: Files, O: Write, E: Write>(
     rt: &R,
     alloc: Global,

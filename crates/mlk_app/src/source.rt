@@ -72,8 +72,8 @@ fn name_stem(name: &str) -> &str
     }
 }
 
-// The last part of a path, up to its last dot; all of it where it has none.
-fn stem_of(path: &str) -> &str
+/// The last part of a path, up to its last dot; all of it where it has none.
+pub(crate) fn stem_of(path: &str) -> &str
     ensures { IsPathStem path.now result.now }
 {
     name_stem(file_name(path))
@@ -113,7 +113,8 @@ fn read_source<'a, F: Files>(
     Ok(Source { stem, text })
 }
 
-fn read_sources<'a, F: Files>(
+/// The texts of routines, in the order of their paths.
+pub(crate) fn read_sources<'a, F: Files>(
     alloc: Global,
     files: &F,
     paths: &[&'a str],
@@ -154,6 +155,7 @@ fn read_work<'a, F: Files>(
         Asked::Check {
             certificate,
             workers,
+            ..
         } => Ok(Work::Check {
             certificate: read_file(alloc, files, *certificate)?,
             workers: *workers,
@@ -161,7 +163,7 @@ fn read_work<'a, F: Files>(
         Asked::Make { format } => Ok(Work::Make {
             format: cert_format(*format),
         }),
-        Asked::Verify { workers } => Ok(Work::Verify { workers: *workers }),
+        Asked::Verify { workers, .. } => Ok(Work::Verify { workers: *workers }),
         Asked::Replay(path) => Ok(Work::Replay(read_file(alloc, files, *path)?)),
     }
 }

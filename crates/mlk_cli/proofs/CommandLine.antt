@@ -10,10 +10,16 @@ use Rattle.mlk_cli.specs.declared.words.Asked.{Asked}
 use Rattle.mlk_cli.specs.declared.words.Asked.TheVariants as asked
 use Rattle.mlk_cli.specs.declared.words.Format.{Format}
 use Rattle.mlk_cli.specs.declared.words.Format.TheVariants.{First, Second}
+use Rattle.mlk_cli.specs.declared.words.Output.{Output}
+use Rattle.mlk_cli.specs.declared.words.Output.TheVariants as output
+use Rattle.mlk_cli.specs.declared.words.SurveyOutput.{SurveyOutput}
+use Rattle.mlk_cli.specs.declared.words.SurveyOutput.TheVariants as surveyed
+use Rattle.mlk_cli.specs.declared.words.ReportStyle.{ReportStyle}
+use Rattle.mlk_cli.specs.declared.words.SurveyRequest.{SurveyRequest}
 use Rattle.mlk_cli.specs.declared.words.Request.{Request}
 use Rattle.mlk_cli.specs.declared.words.Request.TheVariants as request
 use Rattle.mlk_cli.specs.declared.words.ProgramRequest.{ProgramRequest}
-use Rattle.mlk_cli.specs.CommandLine.{mlock_app, IsAsked, IsNumber, IsNumberOf, AreWorkers, IsFormat, IsConversion, IsProgramGiven, IsGiven, GivesNumber}
+use Rattle.mlk_cli.specs.CommandLine.{mlock_app, IsAsked, IsNumber, IsNumberOf, IsFormat, IsWalk, IsOutput, NamesOutput, GivesOutput, IsStrict, IsSurveyOutput, IsSurvey, IsConversion, IsProgramGiven, IsGiven, GivesNumber}
 
 pub not-true : (b : Bool) → not b ≡ true → b ≡ false
 not-true true h = cc h
@@ -42,6 +48,12 @@ first_words = codes "mlock" ∷ codes "convert" ∷ codes "--format=1" ∷ codes
 
 abbrev make_words : List Text
 make_words = codes "mlock" ∷ codes "make" ∷ codes "r" ∷ codes "A.m" ∷ []
+
+abbrev strict_words : List Text
+strict_words = codes "mlock" ∷ codes "verify" ∷ codes "--strict" ∷ codes "r" ∷ codes "A.m" ∷ codes "--output" ∷ codes "json" ∷ []
+
+abbrev survey_words : List Text
+survey_words = codes "mlock" ∷ codes "survey" ∷ codes "A.m" ∷ codes "B.m" ∷ []
 
 reads_rules : option_map (λ p. first_of (codes "RULES") p.1) (subcommand_of mlock_app words) ≡ Some (Some (codes "r"))
 unfolding clap_on_literals
@@ -87,6 +99,26 @@ makes_first : option_map (λ p. one_of (codes "format") p.1) (subcommand_of mloc
 unfolding clap_on_literals
 makes_first = refl
 
+tells_strictly : option_map (λ p. first_of (codes "strict") p.1) (subcommand_of mlock_app strict_words) ≡ Some (Some (codes "true"))
+unfolding clap_on_literals
+tells_strictly = refl
+
+tells_json : option_map (λ p. first_of (codes "output") p.1) (subcommand_of mlock_app strict_words) ≡ Some (Some (codes "json"))
+unfolding clap_on_literals
+tells_json = refl
+
+tells_no_hazards : option_map (λ p. first_of (codes "strict") p.1) (subcommand_of mlock_app words) ≡ Some (Some (codes "false"))
+unfolding clap_on_literals
+tells_no_hazards = refl
+
+tells_as_text : option_map (λ p. first_of (codes "output") p.1) (subcommand_of mlock_app words) ≡ Some (Some (codes "text"))
+unfolding clap_on_literals
+tells_as_text = refl
+
+surveys_as_text : option_map (λ p. first_of (codes "output") p.1) (subcommand_of mlock_app survey_words) ≡ Some (Some (codes "text"))
+unfolding clap_on_literals
+surveys_as_text = refl
+
 -- words that are taken, and words that are not
 takes_words : takes mlock_app words ≡ true
 unfolding clap_on_literals
@@ -131,6 +163,14 @@ makes_without_workers = refl
 replays_without_workers : takes mlock_app (codes "mlock" ∷ codes "replay" ∷ codes "r" ∷ codes "e" ∷ codes "A.m" ∷ codes "--workers=1" ∷ []) ≡ false
 unfolding clap_on_literals
 replays_without_workers = refl
+
+makes_without_output : takes mlock_app (codes "mlock" ∷ codes "make" ∷ codes "r" ∷ codes "A.m" ∷ codes "--output=json" ∷ []) ≡ false
+unfolding clap_on_literals
+makes_without_output = refl
+
+surveys_without_strictness : takes mlock_app (codes "mlock" ∷ codes "survey" ∷ codes "A.m" ∷ codes "--strict" ∷ []) ≡ false
+unfolding clap_on_literals
+surveys_without_strictness = refl
 
 takes_format : takes mlock_app first_words ≡ true
 unfolding clap_on_literals
@@ -187,60 +227,96 @@ pub other-format : (rows : List Row) (n : ℕ) → IsNumberOf (codes "format") r
 other-format rows n is not-first not-second First h = not-first (one-number (codes "format") rows n 1 is h)
 other-format rows n is not-first not-second Second h = not-second (one-number (codes "format") rows n 2 is h)
 
--- the two begin with other letters
+-- they begin with other letters
+starts_verify : (text : Text) → text ≡ codes "verify" → slice_index text 0 ≡ 118
+starts_verify text is = rw is refl
+
+starts_survey : (text : Text) → text ≡ codes "survey" → slice_index text 0 ≡ 115
+starts_survey text is = rw is refl
+
 verify-not-replay : codes "verify" ≡ codes "replay" → ⊥
-verify-not-replay e = let bad : ◌≡◌ {A = ℕ} 114 118 = first (codes "replay") (sym e) in omega arith
-  where
-    first : (text : Text) → text ≡ codes "verify" → slice_index text 0 ≡ 118
-    first text is = rw is refl
+verify-not-replay e = let bad : ◌≡◌ {A = ℕ} 114 118 = starts_verify (codes "replay") (sym e) in omega arith
+
+survey-not-replay : codes "survey" ≡ codes "replay" → ⊥
+survey-not-replay e = let bad : ◌≡◌ {A = ℕ} 114 115 = starts_survey (codes "replay") (sym e) in omega arith
+
+survey-not-verify : codes "survey" ≡ codes "verify" → ⊥
+survey-not-verify e = let bad : ◌≡◌ {A = ℕ} 118 115 = starts_survey (codes "verify") (sym e) in omega arith
+
+-- what a word of a command line names
+pub named-output : (rows : List Row) (text : Text) (r : Option Output) → first_of (codes "output") rows ≡ Some text → NamesOutput text r → GivesOutput rows r
+named-output rows text None is none = λ output h. none output (some_same (sym is ∙ h))
+named-output rows text (Some output) is named = is ∙ ap Some named
+
+pub not-strict : (rows : List Row) (text : Text) → first_of (codes "strict") rows ≡ Some text → (text ≡ codes "true" → ⊥) → (text ≡ codes "false" → ⊥) → (strict : Bool) → IsStrict rows strict → ⊥
+not-strict rows text is no-true no-false true h = no-true (some_same (sym is ∙ h))
+not-strict rows text is no-true no-false false h = no-false (some_same (sym is ∙ h))
+
+pub no-survey-output : (rows : List Row) → ((output : Output) → IsOutput rows output → ⊥) → (output : SurveyOutput) → IsSurveyOutput rows output → ⊥
+no-survey-output rows none surveyed.Text h = none output.Text h
+no-survey-output rows none surveyed.Json h = none output.Json h
 
 -- A command of another name asks for nothing, nor does a check without the path of a certificate or a number of workers,
 -- a certificate that is made without a format, a check by it without a number of workers, or a replay without the path of
 -- events.
 pub asks-nothing : (name : Text) (rows : List Row) → (name ≡ codes "make" → ⊥) → (name ≡ codes "verify" → ⊥) → (name ≡ codes "replay" → ⊥) → None ≡ first_of (codes "CERT") rows → (a : Asked) → IsAsked name rows a → ⊥
-asks-nothing name rows no-make no-verify no-replay none (asked.Check path workers) h = let bad = none ∙ h.1 in cc bad
+asks-nothing name rows no-make no-verify no-replay none (asked.Check path workers style) h = let bad = none ∙ h.1 in cc bad
 asks-nothing name rows no-make no-verify no-replay none (asked.Make format) h = no-make h.0
-asks-nothing name rows no-make no-verify no-replay none (asked.Verify workers) h = no-verify h.0
+asks-nothing name rows no-make no-verify no-replay none (asked.Verify workers style) h = no-verify h.0
 asks-nothing name rows no-make no-verify no-replay none (asked.Replay path) h = no-replay h.0
 
-pub checks-nothing : (name : Text) (rows : List Row) → (name ≡ codes "make" → ⊥) → (name ≡ codes "verify" → ⊥) → (name ≡ codes "replay" → ⊥) → ((workers : ℕ) → AreWorkers rows workers → ⊥) → (a : Asked) → IsAsked name rows a → ⊥
-checks-nothing name rows no-make no-verify no-replay none (asked.Check path workers) h = none workers h.2
+pub checks-nothing : (name : Text) (rows : List Row) → (name ≡ codes "make" → ⊥) → (name ≡ codes "verify" → ⊥) → (name ≡ codes "replay" → ⊥) → ((workers : ℕ) (style : ReportStyle) → IsWalk rows workers style → ⊥) → (a : Asked) → IsAsked name rows a → ⊥
+checks-nothing name rows no-make no-verify no-replay none (asked.Check path workers style) h = none workers style h.2
 checks-nothing name rows no-make no-verify no-replay none (asked.Make format) h = no-make h.0
-checks-nothing name rows no-make no-verify no-replay none (asked.Verify workers) h = no-verify h.0
+checks-nothing name rows no-make no-verify no-replay none (asked.Verify workers style) h = no-verify h.0
 checks-nothing name rows no-make no-verify no-replay none (asked.Replay path) h = no-replay h.0
 
 pub makes-nothing : (name : Text) (rows : List Row) → name ≡ codes "make" → ((format : Format) → IsFormat rows format → ⊥) → (a : Asked) → IsAsked name rows a → ⊥
-makes-nothing name rows is none (asked.Check path workers) h = let bad = sym is ∙ h.0 in cc bad
+makes-nothing name rows is none (asked.Check path workers style) h = let bad = sym is ∙ h.0 in cc bad
 makes-nothing name rows is none (asked.Make format) h = none format h.1
-makes-nothing name rows is none (asked.Verify workers) h = let bad = sym is ∙ h.0 in cc bad
+makes-nothing name rows is none (asked.Verify workers style) h = let bad = sym is ∙ h.0 in cc bad
 makes-nothing name rows is none (asked.Replay path) h = let bad = sym is ∙ h.0 in cc bad
 
-pub verifies-nothing : (name : Text) (rows : List Row) → name ≡ codes "verify" → ((workers : ℕ) → AreWorkers rows workers → ⊥) → (a : Asked) → IsAsked name rows a → ⊥
-verifies-nothing name rows is none (asked.Check path workers) h = let bad = sym is ∙ h.0 in cc bad
+pub verifies-nothing : (name : Text) (rows : List Row) → name ≡ codes "verify" → ((workers : ℕ) (style : ReportStyle) → IsWalk rows workers style → ⊥) → (a : Asked) → IsAsked name rows a → ⊥
+verifies-nothing name rows is none (asked.Check path workers style) h = let bad = sym is ∙ h.0 in cc bad
 verifies-nothing name rows is none (asked.Make format) h = let bad = sym is ∙ h.0 in cc bad
-verifies-nothing name rows is none (asked.Verify workers) h = none workers h.1
+verifies-nothing name rows is none (asked.Verify workers style) h = none workers style h.1
 verifies-nothing name rows is none (asked.Replay path) h = verify-not-replay (sym is ∙ h.0)
 
 pub replays-nothing : (name : Text) (rows : List Row) → (name ≡ codes "make" → ⊥) → (name ≡ codes "verify" → ⊥) → name ≡ codes "replay" → None ≡ first_of (codes "EVENTS") rows → (a : Asked) → IsAsked name rows a → ⊥
-replays-nothing name rows no-make no-verify is none (asked.Check path workers) h = let bad = sym is ∙ h.0 in cc bad
+replays-nothing name rows no-make no-verify is none (asked.Check path workers style) h = let bad = sym is ∙ h.0 in cc bad
 replays-nothing name rows no-make no-verify is none (asked.Make format) h = no-make h.0
-replays-nothing name rows no-make no-verify is none (asked.Verify workers) h = no-verify h.0
+replays-nothing name rows no-make no-verify is none (asked.Verify workers style) h = no-verify h.0
 replays-nothing name rows no-make no-verify is none (asked.Replay path) h = let bad = none ∙ h.1 in cc bad
 
 -- `convert` asks for nothing of a program,
 no-program : (name : Text) (rows : List Row) → name ≡ codes "convert" → (a : Asked) → IsAsked name rows a → ⊥
-no-program name rows is (asked.Check path workers) h = let bad = sym is ∙ h.0 in cc bad
+no-program name rows is (asked.Check path workers style) h = let bad = sym is ∙ h.0 in cc bad
 no-program name rows is (asked.Make format) h = let bad = sym is ∙ h.0 in cc bad
-no-program name rows is (asked.Verify workers) h = let bad = sym is ∙ h.0 in cc bad
+no-program name rows is (asked.Verify workers style) h = let bad = sym is ∙ h.0 in cc bad
 no-program name rows is (asked.Replay path) h = let bad = sym is ∙ h.0 in cc bad
 
--- and without a path or a format for nothing; another command for no conversion.
+-- and without a path or a format for nothing; another command for no conversion. So it is with `survey`.
 pub converts-nothing : (name : Text) (rows : List Row) → name ≡ codes "convert" → ((certificate : Bor (List ℕ)) (format : Format) → IsConversion rows certificate format → ⊥)
     → (r : Request) → IsGiven name rows r → ⊥
 converts-nothing name rows is none (request.Program program) h = no-program name rows is program.asked h.asked
 converts-nothing name rows is none (request.Convert certificate format) h = none certificate format h.1
+converts-nothing name rows is none (request.Survey survey) h = let bad = sym is ∙ h.0 in cc bad
 
-pub no-request : (name : Text) (rows : List Row) → (name ≡ codes "convert" → ⊥) → ((program : ProgramRequest) → IsProgramGiven name rows program → ⊥)
+no-survey-of-program : (name : Text) (rows : List Row) → name ≡ codes "survey" → (a : Asked) → IsAsked name rows a → ⊥
+no-survey-of-program name rows is (asked.Check path workers style) h = let bad = sym is ∙ h.0 in cc bad
+no-survey-of-program name rows is (asked.Make format) h = let bad = sym is ∙ h.0 in cc bad
+no-survey-of-program name rows is (asked.Verify workers style) h = survey-not-verify (sym is ∙ h.0)
+no-survey-of-program name rows is (asked.Replay path) h = survey-not-replay (sym is ∙ h.0)
+
+pub surveys-nothing : (name : Text) (rows : List Row) → name ≡ codes "survey" → ((survey : SurveyRequest) → IsSurvey rows survey → ⊥)
     → (r : Request) → IsGiven name rows r → ⊥
-no-request name rows no-convert none (request.Program program) h = none program h
-no-request name rows no-convert none (request.Convert certificate format) h = no-convert h.0
+surveys-nothing name rows is none (request.Program program) h = no-survey-of-program name rows is program.asked h.asked
+surveys-nothing name rows is none (request.Convert certificate format) h = let bad = sym is ∙ h.0 in cc bad
+surveys-nothing name rows is none (request.Survey survey) h = none survey h.1
+
+pub no-request : (name : Text) (rows : List Row) → (name ≡ codes "convert" → ⊥) → (name ≡ codes "survey" → ⊥) → ((program : ProgramRequest) → IsProgramGiven name rows program → ⊥)
+    → (r : Request) → IsGiven name rows r → ⊥
+no-request name rows no-convert no-survey none (request.Program program) h = none program h
+no-request name rows no-convert no-survey none (request.Convert certificate format) h = no-convert h.0
+no-request name rows no-convert no-survey none (request.Survey survey) h = no-survey h.0

@@ -1,18 +1,24 @@
 -- The command line, by what `clap` makes of its words. This project's own choice.
 use Rattle.std.specs.Borrow.{Bor}
-use Rattle.std.specs.Prelude.{ℕ, ◌≡◌, ◌<◌, ◌^◌, List, [], ◌∷◌, Option, Some, None, codes, pos, true, map, string_bytes, String}
+use Rattle.std.specs.Prelude.{ℕ, ◌≡◌, ◌<◌, ◌^◌, List, [], ◌∷◌, Option, Some, None, Bool, if◌then◌else◌, codes, pos, true, map, string_bytes, String}
 use Rattle.std.specs.Str.Parse.{IsNumeral, digits_value, without_leading_plus}
 use Rattle.clap.specs.Lexer.{usize_max}
 use Rattle.clap.specs.Words.{App, Row, Rule, Text, all_of, first_of, new_app, new_rule, one_of, subcommand_of, with_rule, with_subcommand}
 use Rattle.clap.specs.Simple.{on_top}
 use Rattle.clap.specs.Takes.{takes}
-use Rattle.clap.specs.declared.builder.action.ArgAction.TheVariants.{Set, Append}
+use Rattle.clap.specs.declared.builder.action.ArgAction.TheVariants.{Set, Append, SetTrue}
 use Rattle.clap.specs.declared.builder.value_parser.ValueParser.TheVariants as value_parser
 use Rattle.mlk_cli.specs.declared.words.Asked.{Asked}
 use Rattle.mlk_cli.specs.declared.words.Asked.TheVariants as asked
 use Rattle.mlk_cli.specs.declared.words.Format.{Format}
 use Rattle.mlk_cli.specs.declared.words.Format.TheVariants.{First, Second}
+use Rattle.mlk_cli.specs.declared.words.Output.{Output}
+use Rattle.mlk_cli.specs.declared.words.Output.TheVariants.{Text as Plain, Json, Sarif}
+use Rattle.mlk_cli.specs.declared.words.SurveyOutput.{SurveyOutput}
+use Rattle.mlk_cli.specs.declared.words.SurveyOutput.TheVariants as surveyed
+use Rattle.mlk_cli.specs.declared.words.ReportStyle.{ReportStyle}
 use Rattle.mlk_cli.specs.declared.words.ProgramRequest.{ProgramRequest}
+use Rattle.mlk_cli.specs.declared.words.SurveyRequest.{SurveyRequest}
 use Rattle.mlk_cli.specs.declared.words.Request.{Request}
 use Rattle.mlk_cli.specs.declared.words.Request.TheVariants as request
 use Rattle.mlk_cli.specs.declared.words.UsageError.{UsageError}
@@ -34,17 +40,29 @@ workers_rule = record (new_rule (codes "workers")) { long = Some (codes "workers
 abbrev pub format_rule : Text → Rule
 format_rule usual = record (new_rule (codes "format")) { long = Some (codes "format"); value_names = 1; defaults = usual ∷ []; parser = Some (value_parser.Signed (pos 1) (pos 2)) }
 
--- `check RULES CERT ROUTINE..`, and how many workers
+-- `--output FORM`, which is `text` where it is left out
+abbrev pub output_rule : Rule
+output_rule = record (new_rule (codes "output")) { long = Some (codes "output"); value_names = 1; action = Some Set; defaults = codes "text" ∷ [] }
+
+-- `--strict`
+abbrev pub strict_rule : Rule
+strict_rule = record (new_rule (codes "strict")) { long = Some (codes "strict"); action = Some SetTrue }
+
+-- a command that is told how its report is told
+abbrev pub with_style : App → App
+with_style app = with_rule (with_rule app output_rule) strict_rule
+
+-- `check RULES CERT ROUTINE..`, how many workers, and how its report is told
 abbrev pub check_app : App
-check_app = with_rule (with_rule (with_rule (with_rule (new_app (codes "check")) (path_rule (codes "RULES"))) (path_rule (codes "CERT"))) routines_rule) workers_rule
+check_app = with_style (with_rule (with_rule (with_rule (with_rule (new_app (codes "check")) (path_rule (codes "RULES"))) (path_rule (codes "CERT"))) routines_rule) workers_rule)
 
 -- `make RULES ROUTINE..`, and the format of the certificate, the first where it is left out
 abbrev pub make_app : App
 make_app = with_rule (with_rule (with_rule (new_app (codes "make")) (path_rule (codes "RULES"))) routines_rule) (format_rule (codes "1"))
 
--- `verify RULES ROUTINE..`, and how many workers
+-- `verify RULES ROUTINE..`, how many workers, and how its report is told
 abbrev pub verify_app : App
-verify_app = with_rule (with_rule (with_rule (new_app (codes "verify")) (path_rule (codes "RULES"))) routines_rule) workers_rule
+verify_app = with_style (with_rule (with_rule (with_rule (new_app (codes "verify")) (path_rule (codes "RULES"))) routines_rule) workers_rule)
 
 -- `replay RULES EVENTS ROUTINE..`
 abbrev pub replay_app : App
@@ -54,13 +72,17 @@ replay_app = with_rule (with_rule (with_rule (new_app (codes "replay")) (path_ru
 abbrev pub convert_app : App
 convert_app = with_rule (with_rule (new_app (codes "convert")) (path_rule (codes "CERT"))) (format_rule (codes "2"))
 
+-- `survey ROUTINE..`, and how it is told
+abbrev pub survey_app : App
+survey_app = with_rule (with_rule (new_app (codes "survey")) routines_rule) output_rule
+
 -- `mlock` before it has a command
 abbrev pub no_command_app : App
 no_command_app = on_top (λ s. record s { subcommand_required = true; has_version = true }) (new_app (codes "mlock"))
 
 -- `mlock` and one of its commands
 abbrev pub mlock_app : App
-mlock_app = with_subcommand (with_subcommand (with_subcommand (with_subcommand (with_subcommand no_command_app check_app.top) make_app.top) verify_app.top) replay_app.top) convert_app.top
+mlock_app = with_subcommand (with_subcommand (with_subcommand (with_subcommand (with_subcommand (with_subcommand no_command_app check_app.top) make_app.top) verify_app.top) replay_app.top) convert_app.top) survey_app.top
 
 -- the text is a number of 32 bits in decimal digits, before which a plus may stand
 abbrev pub IsNumber : Text → ℕ → Type 0
@@ -87,11 +109,62 @@ abbrev pub GivesFormat : List Row → Option Format → Type 0
 GivesFormat rows None = (format : Format) → IsFormat rows format → ⊥
 GivesFormat rows (Some format) = IsFormat rows format
 
+-- how something is told, by the word for it
+abbrev pub output_word : Output → Text
+output_word Plain = codes "text"
+output_word Json = codes "json"
+output_word Sarif = codes "sarif"
+
+abbrev pub NamesOutput : Text → Option Output → Type 0
+NamesOutput text None = (output : Output) → text ≡ output_word output → ⊥
+NamesOutput text (Some output) = text ≡ output_word output
+
+-- how a command was told to tell what it finds
+abbrev pub IsOutput : List Row → Output → Type 0
+IsOutput rows output = first_of (codes "output") rows ≡ Some (output_word output)
+
+abbrev pub GivesOutput : List Row → Option Output → Type 0
+GivesOutput rows None = (output : Output) → IsOutput rows output → ⊥
+GivesOutput rows (Some output) = IsOutput rows output
+
+-- whether a command was told to be strict
+abbrev pub IsStrict : List Row → Bool → Type 0
+IsStrict rows strict = first_of (codes "strict") rows ≡ Some (if strict then codes "true" else codes "false")
+
+abbrev pub GivesStrict : List Row → Option Bool → Type 0
+GivesStrict rows None = (strict : Bool) → IsStrict rows strict → ⊥
+GivesStrict rows (Some strict) = IsStrict rows strict
+
+-- how a report is told
+abbrev pub IsStyle : List Row → ReportStyle → Type 0
+IsStyle rows style = IsOutput rows style.output × IsStrict rows style.is_strict
+
+abbrev pub GivesStyle : List Row → Option ReportStyle → Type 0
+GivesStyle rows None = (style : ReportStyle) → IsStyle rows style → ⊥
+GivesStyle rows (Some style) = IsStyle rows style
+
+-- how many workers a command was given, and how its report is told
+abbrev pub IsWalk : List Row → ℕ → ReportStyle → Type 0
+IsWalk rows workers style = AreWorkers rows workers × IsStyle rows style
+
+abbrev pub GivesWalk : List Row → Option (ℕ × ReportStyle) → Type 0
+GivesWalk rows None = (workers : ℕ) (style : ReportStyle) → IsWalk rows workers style → ⊥
+GivesWalk rows (Some walk) = IsWalk rows walk.0 walk.1
+
+-- how a survey is told
+abbrev pub IsSurveyOutput : List Row → SurveyOutput → Type 0
+IsSurveyOutput rows surveyed.Text = IsOutput rows Plain
+IsSurveyOutput rows surveyed.Json = IsOutput rows Json
+
+abbrev pub GivesSurveyOutput : List Row → Option SurveyOutput → Type 0
+GivesSurveyOutput rows None = (output : SurveyOutput) → IsSurveyOutput rows output → ⊥
+GivesSurveyOutput rows (Some output) = IsSurveyOutput rows output
+
 -- what the command of a name is to do with a program, by what it was given
 abbrev pub IsAsked : Text → List Row → Asked → Type 0
-IsAsked name rows (asked.Check certificate workers) = (name ≡ codes "check") × (first_of (codes "CERT") rows ≡ Some certificate.now) × AreWorkers rows workers
+IsAsked name rows (asked.Check certificate workers style) = (name ≡ codes "check") × (first_of (codes "CERT") rows ≡ Some certificate.now) × IsWalk rows workers style
 IsAsked name rows (asked.Make format) = (name ≡ codes "make") × IsFormat rows format
-IsAsked name rows (asked.Verify workers) = (name ≡ codes "verify") × AreWorkers rows workers
+IsAsked name rows (asked.Verify workers style) = (name ≡ codes "verify") × IsWalk rows workers style
 IsAsked name rows (asked.Replay path) = (name ≡ codes "replay") × (first_of (codes "EVENTS") rows ≡ Some path.now)
 
 abbrev pub GivesAsked : Text → List Row → Option Asked → Type 0
@@ -102,7 +175,7 @@ GivesAsked name rows (Some a) = IsAsked name rows a
 abbrev pub bytes_of : List (Bor (List ℕ)) → List Text
 bytes_of paths = map (λ path. path.now) paths
 
--- the request has the paths, and the number of workers or the format, that the command of a name was given
+-- the request has the paths, and what else the command of a name was given
 pub record IsProgramGiven (name : Text) (rows : List Row) (program : ProgramRequest) : Type 0 where
   pub asked : IsAsked name rows program.asked
   pub rules : first_of (codes "RULES") rows ≡ Some program.rules.now
@@ -120,10 +193,20 @@ abbrev pub GivesConversion : List Row → Option (Bor (List ℕ) × Format) → 
 GivesConversion rows None = (certificate : Bor (List ℕ)) (format : Format) → IsConversion rows certificate format → ⊥
 GivesConversion rows (Some c) = IsConversion rows c.0 c.1
 
+-- the routines of which a survey is asked for, and how it is told
+pub record IsSurvey (rows : List Row) (survey : SurveyRequest) : Type 0 where
+  pub routines : all_of (codes "ROUTINE") rows ≡ Some (bytes_of survey.routines.items)
+  pub output : IsSurveyOutput rows survey.output
+
+abbrev pub GivesSurvey : List Row → Option SurveyRequest → Type 0
+GivesSurvey rows None = (survey : SurveyRequest) → IsSurvey rows survey → ⊥
+GivesSurvey rows (Some survey) = IsSurvey rows survey
+
 -- the request is what the command of a name was given
 abbrev pub IsGiven : Text → List Row → Request → Type 0
 IsGiven name rows (request.Program program) = IsProgramGiven name rows program
 IsGiven name rows (request.Convert certificate format) = (name ≡ codes "convert") × IsConversion rows certificate format
+IsGiven name rows (request.Survey survey) = (name ≡ codes "survey") × IsSurvey rows survey
 
 -- what a command's own matches give: nothing where they are those of no request
 abbrev pub GivesPaths : Text → List Row → Option Request → Type 0
@@ -146,8 +229,7 @@ texts_of words = map string_bytes words
 abbrev pub Asks : {A : Type 0} → List (String A) → Option Request → Type 0
 Asks words asked = GivesRequest (subcommand_of mlock_app (texts_of words)) asked
 
--- The words name a command and give it the paths, and the number of workers or the format, of the request, as `clap` reads
--- them.
+-- The words name a command and give it the paths of the request, and what else it has, as `clap` reads them.
 abbrev pub IsRequest : {A : Type 0} → List (String A) → Request → Type 0
 IsRequest words asked = IsMet (subcommand_of mlock_app (texts_of words)) asked
 

@@ -1,6 +1,11 @@
 //! What the words of `mlock`'s command line ask for.
 #![tactic(auto)]
 
+mod grammar;
+mod help;
 mod words;
 
-pub use words::{Asked, Format, ProgramRequest, Request, UsageError, read_request};
+pub use words::{
+    Asked, Format, Output, ProgramRequest, ReportStyle, Request, SurveyOutput, SurveyRequest,
+    UsageError, read_request,
+};

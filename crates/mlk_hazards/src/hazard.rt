@@ -1,5 +1,8 @@
 // Places where a system may differ from the model that a `yes` speaks of.
 
+ghost use Rattle.std.specs.Prelude.{◌≡◌};
+ghost use Rattle.mlk_hazards.specs.Words.{hazard_word};
+
 use mlk_survey_trees::Position;
 
 /// Why a place is one where a system may differ.
@@ -17,7 +20,9 @@ pub enum Hazard {
 
 impl Hazard {
     /// The word that is printed.
-    pub fn word(self) -> &'static str {
+    pub fn word(self) -> &'static str
+        ensures { result.now ≡ hazard_word self }
+    {
         match self {
             Hazard::SkippedCall => "SkippedCall",
             Hazard::PerhapsOneName => "PerhapsOneName",

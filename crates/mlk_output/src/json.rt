@@ -1,9 +1,9 @@
 // Reports and refusals as JSON.
 
-use crate::meaning::is_what;
 use crate::notice::{Notice, Place};
 use crate::row::Inputs;
 use crate::shown::bytes_shown;
+use mlk_hazards::HazardAt;
 use mlk_walk::{Report, Row};
 use serde_json::{Value, json};
 use std::alloc::{AllocError, Global};
@@ -20,7 +20,7 @@ fn row_value(alloc: Global, inputs: &Inputs<'_>, row: &Row) -> Result<Value, All
         "column": row.fault.column.number(),
         "code": row.fault.code.number(),
         "name": &name,
-        "meaning": is_what(row.fault.code),
+        "meaning": row.fault.code.meaning(),
     })
 }
 
@@ -32,15 +32,52 @@ fn rows_value(alloc: Global, inputs: &Inputs<'_>, rows: &[Row]) -> Result<Value,
     Ok(Value::Array(values))
 }
 
-/// A report as one JSON object, on lines with indents: `answer`, which is `yes` or `no`, and `faults`, in their order.
+fn hazard_value(
+    alloc: Global,
+    inputs: &Inputs<'_>,
+    hazard: &HazardAt<'_>,
+) -> Result<Value, AllocError> {
+    let routine = bytes_shown(alloc, hazard.position.routine)?;
+    json!(in alloc; {
+        "routine": &routine,
+        "path": inputs.path_of(hazard.position.routine),
+        "line": hazard.position.line.number(),
+        "column": hazard.position.column.number(),
+        "name": hazard.hazard.word(),
+        "advice": hazard.hazard.advice(),
+    })
+}
+
+fn hazards_value(
+    alloc: Global,
+    inputs: &Inputs<'_>,
+    hazards: &[HazardAt<'_>],
+) -> Result<Value, AllocError> {
+    let mut values = Vec::with_capacity(alloc, hazards.len())?;
+    for hazard in hazards {
+        values.push(hazard_value(alloc, inputs, hazard)?)?;
+    }
+    Ok(Value::Array(values))
+}
+
+/// A report as one JSON object, on lines with indents: `answer`, which is `yes` or `no`, `faults`, in their order, and
+/// `hazards`, where these are told.
 pub fn report_json(
     alloc: Global,
     inputs: &Inputs<'_>,
     report: &Report,
+    hazards: Option<&[HazardAt<'_>]>,
 ) -> Result<String, AllocError> {
     let answer = if report.is_yes() { "yes" } else { "no" };
     let faults = rows_value(alloc, inputs, report.rows())?;
-    json!(in alloc; {"answer": answer, "faults": faults})?.to_string_pretty(alloc)
+    let object = match hazards {
+        None => json!(in alloc; {"answer": answer, "faults": faults})?,
+        Some(hazards) => {
+            let hazards = hazards_value(alloc, inputs, hazards)?;
+            json!(in alloc; {"answer": answer, "faults": faults, "hazards": hazards})?
+        }
+    };
+    object.to_string_pretty(alloc)
 }
 
 fn place_value(alloc: Global, place: &Place<'_>) -> Result<Value, AllocError> {

@@ -13,10 +13,24 @@ pub struct Inputs<'a> {
 }
 
 impl<'a> Inputs<'a> {
+    // The path of the file of the routine of this number.
+    fn path_at(&self, number: usize) -> &'a str {
+        match self.paths.get(number) {
+            Some(path) => path,
+            None => "",
+        }
+    }
+
     /// The path of the file that an entry is in.
     pub(crate) fn path(&self, entry: EntryId) -> &'a str {
-        match self.paths.get(entry.routine()) {
-            Some(path) => path,
+        self.path_at(entry.routine())
+    }
+
+    /// The path of the file of the routine of this name.
+    pub(crate) fn path_of(&self, name: &[u8]) -> &'a str {
+        let mut routines = self.routines.iter();
+        match routines.position(|routine| routine.name.as_bytes() == name) {
+            Some(number) => self.path_at(number),
             None => "",
         }
     }

@@ -77,7 +77,7 @@ struct Json;
 
 impl Look for Json {
     fn is_right(&self, alloc: Global, inputs: &Inputs<'_>, report: &Report) -> bool {
-        let Ok(text) = report_json(alloc, inputs, report) else {
+        let Ok(text) = report_json(alloc, inputs, report, None) else {
             return false;
         };
         let Ok(value) = serde_json::from_str::<Value>(alloc, text.as_str()) else {
@@ -102,7 +102,7 @@ struct Sarif;
 
 impl Look for Sarif {
     fn is_right(&self, alloc: Global, inputs: &Inputs<'_>, report: &Report) -> bool {
-        let Ok(text) = report_sarif(alloc, inputs, report) else {
+        let Ok(text) = report_sarif(alloc, inputs, report, None) else {
             return false;
         };
         let Ok(value) = serde_json::from_str::<Value>(alloc, text.as_str()) else {

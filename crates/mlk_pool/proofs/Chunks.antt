@@ -1,7 +1,15 @@
 -- Lists that are worked through by pieces.
-use Rattle.std.proofs.Common.{◌≡◌, ◌≤◌, ◌+◌, ◌++◌, ◌∙◌, ℕ, List, take, drop, length, sym, ap, append_assoc, length-append, arith}
+use Rattle.std.proofs.Common.{◌≡◌, ◌≤◌, ◌+◌, ◌++◌, ◌∙◌, ℕ, List, [], ◌∷◌, take, drop, length, sym, ap, append_assoc, length-append, arith}
 use Rattle.std.proofs.lemmas.List.{take-append-drop, length-take-le}
 use Rattle.std.proofs.Math.Seq.{take-append_seam}
+use Rattle.std.specs.List.{AllZip}
+
+-- two lists that go together, and two more after them
+pub more-zipped : {A B : Type 0} (R : A → B → Type 0) (front next : List A) (found more : List B) → AllZip R front found → AllZip R next more → AllZip R (front ++ next) (found ++ more)
+more-zipped R [] next [] more are then = then
+more-zipped R [] next (b ∷ found) more are then = absurd are
+more-zipped R (a ∷ front) next [] more are then = absurd are
+more-zipped R (a ∷ front) next (b ∷ found) more are then = (are.0, more-zipped R front next found more are.1 then)
 
 module _ {A : Type 0} (all next after : List A) (done : ℕ) (within : done ≤ length all) (left : next ++ after ≡ drop done all) where
   pub cut : all ≡ take done all ++ (next ++ after)

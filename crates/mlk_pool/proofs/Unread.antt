@@ -9,10 +9,10 @@ use Rattle.mlk_cert.specs.declared.read.fault.CertFault.{CertFault}
 use Rattle.mlk_cert.specs.Refusals.{IsPlaced}
 use Rattle.mlk_cert.specs.Theorem.{IsReading}
 use Rattle.mlk_pool.specs.Errors.{error_of_certificate}
-use Rattle.mlk_pool.specs.Steps.{IsUnreportedUnder}
+use Rattle.mlk_pool.specs.Steps.{IsUnreportedByTexts}
 
 pub unread : (is_open : Type 0) (workers : ℕ) (trees : List RoutineTree) (rules_text cert_text : List ℕ) (rules : RuleLists) (e : Failure CertFault)
     → SaysRules rules_text rules → IsReading cert_text (Err e) → IsPlaced cert_text e
-    → IsUnreportedUnder is_open workers trees rules_text cert_text (error_of_certificate e)
+    → IsUnreportedByTexts is_open workers trees rules_text cert_text (error_of_certificate e)
 unread is_open workers trees rules_text cert_text rules OutOfMemory says reads placed = tt
 unread is_open workers trees rules_text cert_text rules (Refused fault) says reads placed = (rules, says, (reads, placed))

@@ -1,4 +1,4 @@
--- What readers answer who read texts side by side. It only serves private clauses.
+-- What readers answer who read texts side by side. This project's own choice.
 use Rattle.std.specs.Prelude.{◌≡◌, List, ◌∷◌, ◌++◌, Result, Ok, Err, map}
 use Rattle.mlk_text.specs.declared.fault.Fault.{Fault}
 use Rattle.mlk_text.specs.declared.failure.Failure.{Failure}
@@ -14,7 +14,7 @@ abbrev pub IsAnswer : Source → Result Routine (Failure Fault) → Type 0
 IsAnswer source (Ok routine) = IsRead source (routine_of routine)
 IsAnswer source (Err failure) = NoRoutine source.stem.now source.text.items failure × Places source.stem.now source.text.items failure
 
--- the first failure, before which all is read
+-- The first failure, before which all is read. This and what follows only serve private clauses.
 pub record IsFirst (answers : List (Result Routine (Failure Fault))) (failure : Failure Fault) : Type 0 where
   pub read : List Routine
   pub after : List (Result Routine (Failure Fault))

@@ -20,7 +20,7 @@ pub use board::{Board, Claim, Event, Outcome, Slot};
 pub use error::CheckError;
 pub use gate::Gate;
 pub use inputs::Inputs;
-pub use reading::read_routines;
+pub use reading::{read_each, read_routines};
 pub use rendering::{render, report_text};
 pub use report::{MOST_WORKERS, PoolFault, report_by};
 pub use shared::SharedBoard;

@@ -35,8 +35,8 @@ fn least_share<R: Threads>(rt: &R, sources: &[Source<'_>]) -> usize {
     1
 }
 
-// What a reader answers to each of these texts.
-fn answers<R: Threads + Sync>(
+/// What a reader answers to each of these texts, in their order.
+pub(crate) fn answers<R: Threads + Sync>(
     rt: &R,
     alloc: Global,
     sources: &[Source<'_>],

@@ -1,19 +1,33 @@
 // The texts of routines, read side by side.
 
-ghost use Rattle.std.specs.Prelude.{map, IfOk, IfErr};
+ghost use Rattle.std.specs.Prelude.{◌≡◌, ◌≤◌, ◌<◌, ◌++◌, List, drop, length, map, IfOk, IfErr};
+ghost use Rattle.std.specs.List.{AllZip};
 ghost use Rattle.mlk_syntax.specs.Views.{routine_of};
+ghost use Rattle.mlk_pool.specs.Answers.{IsAnswer};
 ghost use Rattle.mlk_pool.specs.Reading.{AreRead, RefusesFirst};
+ghost use Rattle.mlk_pool.specs.declared.source.Source.{Source};
 
-use crate::readers::read_all;
+use crate::readers::{answers, read_all};
 use crate::source::Source;
 use mlk_syntax::Routine;
 use mlk_text::{Failure, Fault};
 use mlk_watch::{Stage, Watch};
-use std::alloc::Global;
+use std::alloc::{AllocError, Global};
 use std::thread::Threads;
 
 // How many texts are read at once, so that it is seen how far the reading has come, and that it ends where one is refused.
 const AT_ONCE: usize = 256;
+
+// The texts that are read at once after so many.
+fn next_texts<'s, 'a>(sources: &'s [Source<'a>], done: usize) -> &'s [Source<'a>]
+    requires { done < length sources.now }
+    ensures cut { (after : List Source) × (result.now ++ after ≡ drop done sources.now) }
+    ensures some { 0 < length result.now }
+{
+    let (_, left) = sources.split_at(done);
+    let (next, _) = left.split_at(left.len().min(AT_ONCE));
+    next
+}
 
 /// The routines of these texts, in their order, or the first refusal. The texts are given back once all are read.
 pub fn read_routines<R: Threads + Sync, W: Watch>(
@@ -30,8 +44,7 @@ pub fn read_routines<R: Threads + Sync, W: Watch>(
     let mut done = 0;
     while done < count {
         watch.see(Stage::Reading, done, count);
-        let (_, left) = sources.as_slice().split_at(done);
-        let (next, _) = left.split_at(left.len().min(AT_ONCE));
+        let next = next_texts(sources.as_slice(), done);
         match read_all(rt, alloc, next) {
             Ok(mut read) => routines.append(&mut read)?,
             Err(failure) => {
@@ -42,4 +55,27 @@ pub fn read_routines<R: Threads + Sync, W: Watch>(
         done += next.len();
     }
     Ok(routines)
+}
+
+/// For each of these texts its routine, or why it is none, in their order: each is read by itself, and one that is refused
+/// stops nothing. The texts are given back once all are read.
+pub fn read_each<R: Threads + Sync, W: Watch>(
+    rt: &R,
+    alloc: Global,
+    sources: Vec<Source<'_>>,
+    watch: &W,
+) -> Result<Vec<Result<Routine, Failure<Fault>>>, AllocError>
+    ensures { IfOk result (λ found. AllZip IsAnswer sources.entry.items found.items) }
+{
+    let count = sources.len();
+    let mut found = Vec::new(alloc);
+    let mut done = 0;
+    while done < count {
+        watch.see(Stage::Reading, done, count);
+        let next = next_texts(sources.as_slice(), done);
+        let mut read = answers(rt, alloc, next)?;
+        found.append(&mut read)?;
+        done += next.len();
+    }
+    Ok(found)
 }

@@ -5,7 +5,7 @@ ghost use Rattle.mlk_syntax.specs.Views.{routine_of};
 ghost use Rattle.mlk_soundness_walk.specs.Forms.{AreFormed};
 ghost use Rattle.mlk_pool.specs.Headline.{IsReportBy, Verified, IsUnreportedBy, IsUnverified};
 ghost use Rattle.mlk_pool.specs.Refusals.{AreAllowed};
-ghost use Rattle.mlk_pool.specs.Steps.{IsReportUnder, IsReportOf, IsUnreportedUnder, IsUnreportedOf};
+ghost use Rattle.mlk_pool.specs.Steps.{IsReportByTexts, IsReportOfTrees, IsUnreportedByTexts, IsUnreportedOfTrees};
 
 use crate::error::{CheckError, lacks};
 use crate::gate::Gate;
@@ -54,7 +54,7 @@ pub fn verify_program<G: Gate + Sync, W: Watch, R: Threads + Wait + Sync>(
 }
 
 // The report of a program by the texts of rules and of a certificate.
-fn rows_under<G: Gate + Sync, W: Watch, R: Threads + Wait + Sync>(
+fn rows_by_texts<G: Gate + Sync, W: Watch, R: Threads + Wait + Sync>(
     rt: &R,
     alloc: Global,
     program: &Program<'_>,
@@ -65,9 +65,9 @@ fn rows_under<G: Gate + Sync, W: Watch, R: Threads + Wait + Sync>(
     watch: &W,
 ) -> Result<mlk_walk::Report, CheckError>
     requires { AreFormed (map routine_of program.now) }
-    ensures ok { IfOk result (IsReportUnder (map routine_of program.now) rules_text.now cert_text.now) }
+    ensures ok { IfOk result (IsReportByTexts (map routine_of program.now) rules_text.now cert_text.now) }
     ensures allowed { IfOk result (λ _. AreAllowed workers) }
-    ensures refused { IfErr result (IsUnreportedUnder (G.is_open gate.now) workers (map routine_of program.now) rules_text.now cert_text.now) }
+    ensures refused { IfErr result (IsUnreportedByTexts (G.is_open gate.now) workers (map routine_of program.now) rules_text.now cert_text.now) }
 {
     let rules = read_rules(alloc, rules_text)?;
     let certificate = read_cert(alloc, cert_text)?;
@@ -86,7 +86,7 @@ fn rows_under<G: Gate + Sync, W: Watch, R: Threads + Wait + Sync>(
 }
 
 // The report of the program that these routines make.
-fn rows_of<G: Gate + Sync, W: Watch, R: Threads + Wait + Sync>(
+fn rows_of_routines<G: Gate + Sync, W: Watch, R: Threads + Wait + Sync>(
     rt: &R,
     alloc: Global,
     routines: &[Routine],
@@ -97,12 +97,12 @@ fn rows_of<G: Gate + Sync, W: Watch, R: Threads + Wait + Sync>(
     watch: &W,
 ) -> Result<mlk_walk::Report, CheckError>
     requires { AreFormed (map routine_of routines.now) }
-    ensures ok { IfOk result (IsReportOf (map routine_of routines.now) rules_text.now cert_text.now) }
+    ensures ok { IfOk result (IsReportOfTrees (map routine_of routines.now) rules_text.now cert_text.now) }
     ensures allowed { IfOk result (λ _. AreAllowed workers) }
-    ensures refused { IfErr result (IsUnreportedOf (G.is_open gate.now) workers (map routine_of routines.now) rules_text.now cert_text.now) }
+    ensures refused { IfErr result (IsUnreportedOfTrees (G.is_open gate.now) workers (map routine_of routines.now) rules_text.now cert_text.now) }
 {
     let program = link(alloc, routines)?;
-    let rows = rows_under(
+    let rows = rows_by_texts(
         rt, alloc, &program, rules_text, cert_text, workers, gate, watch,
     );
     watch.discard(program);
@@ -125,7 +125,7 @@ pub fn verify_watched<G: Gate + Sync, W: Watch, R: Threads + Wait + Sync>(
     ensures refused { IfErr result (IsUnverified (G.is_open gate.now) workers sources.entry.items rules.now certificate.now) }
 {
     let routines = read_routines(rt, alloc, sources, watch)?;
-    match rows_of(
+    match rows_of_routines(
         rt,
         alloc,
         routines.as_slice(),

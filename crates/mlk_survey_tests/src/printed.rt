@@ -32,13 +32,13 @@ ALL LOCK (^ACCT(WHO),^ACCT(TO)) QUIT
 
 const TOLD: &str = "routines read 1
 routines refused 2
-  DAY:1:2 206 CommandLeftOut GOTO
-  NIGHT:2:2 206 CommandLeftOut GOTO
+  DAY 1:2 206 CommandLeftOut GOTO
+  NIGHT 2:2 206 CommandLeftOut GOTO
 reasons 1
   2 206 CommandLeftOut GOTO
 calls of what is not given 3
-  FEE^BANK no such label, calls 1, first BANK:4:20
-  ^TAX no such routine, calls 1, first BANK:4:29
+  FEE^BANK no such label, calls 1, first BANK 4:20
+  ^TAX no such routine, calls 1, first BANK 4:29
   and 1 more
 entries 2
   MOVE^BANK(FROM,TO,SUM)
@@ -54,8 +54,8 @@ locks 3
 claims under a claim 1
   ^LOG then SEQ 1
 hazards 2
-  BANK:4:38 SkippedCall: call it in a SET of its own before, or compile with gtm_boolean=1
-  BANK:8:22 PerhapsOneName: use LOCK +(..), or names that surely differ
+  BANK 4:38 SkippedCall: call it in a SET of its own before, or compile with gtm_boolean=1
+  BANK 8:22 PerhapsOneName: use LOCK +(..), or names that surely differ
 ";
 
 #[test]
@@ -87,11 +87,11 @@ fn nothing(rt: HostRuntime) {
 
 const REFUSED: &str = "routines read 0
 routines refused 5
-  A:1:2 205 UnknownCommand
-  B:1:8 102 ExprLeftOut INDIRECTION
-  C:2:1 203 LabelTwice
-  D:1:8 102 ExprLeftOut INDIRECTION
-  \\ff\\5c:1:1 211 RoutineName
+  A 1:2 205 UnknownCommand
+  B 1:8 102 ExprLeftOut INDIRECTION
+  C 2:1 203 LabelTwice
+  D 1:8 102 ExprLeftOut INDIRECTION
+  \\ff\\5c 1:1 211 RoutineName
 reasons 4
   2 102 ExprLeftOut INDIRECTION
   1 203 LabelTwice

@@ -42,10 +42,10 @@ pub(crate) fn root_shown(alloc: Global, root: &LockRoot<'_>) -> Result<String, A
     }
 }
 
-/// `ROUTINE:line:column`.
+/// `ROUTINE line:column`.
 pub(crate) fn place_shown(alloc: Global, position: &Position<'_>) -> Result<String, AllocError> {
     let routine = Shown {
         bytes: position.routine,
     };
-    format!(in alloc; "{}:{}:{}", routine, position.line, position.column)
+    format!(in alloc; "{} {}:{}", routine, position.line, position.column)
 }

@@ -79,7 +79,7 @@ pub enum Code {
     NoEnd = 606,
     /// 607: a case in front of a certificate that no point names
     CaseUnused = 607,
-    /// 701: a reference that surely lies in no rule
+    /// 701: a reference that does not surely lie in a rule
     Unruled = 701,
     /// 702: a cover rule may be met and a lock that it asks for is not held
     Uncovered = 702,
@@ -95,7 +95,7 @@ pub enum Code {
     Unranked = 707,
     /// 708: an untimed claim that is not above all that is held
     RankOrder = 708,
-    /// 709: a declared entry ends with a lock held
+    /// 709: a declared entry, or a job by HALT, ends with a lock held
     HeldAtEnd = 709,
     /// 710: a case reaches a point that lists none including it
     CaseNotListed = 710,
@@ -103,7 +103,7 @@ pub enum Code {
     NeedMissing = 711,
     /// 712: the summary leaves out a change, a claim or a release of all
     SummaryShort = 712,
-    /// 713: a called or declared entry without a certificate
+    /// 713: a called or declared entry without a certificate, or a JOB of one that is not declared
     NoCertificate = 713,
     /// 714: a name passed by reference in a lock name
     SharedName = 714,

@@ -1,6 +1,7 @@
 // Tests on `run` of what no row of `mlock_cases` can say: readers, writers and words that fail.
 
 mod faults;
+mod forms;
 mod reading;
 
 use mlk_app::Files;

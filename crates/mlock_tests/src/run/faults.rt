@@ -76,6 +76,12 @@ fn wrong_words(rt: HostRuntime) -> Result<(), Fail> {
         ["mlock", "make", "--format", "3", "rules.toml", "ONE.m"].as_slice(),
         ["mlock", "make", "--format", "", "rules.toml", "ONE.m"].as_slice(),
         ["mlock", "verify", "--format", "2", "rules.toml", "ONE.m"].as_slice(),
+        ["mlock", "verify", "--output", "xml", "rules.toml", "ONE.m"].as_slice(),
+        ["mlock", "verify", "--strict=1", "rules.toml", "ONE.m"].as_slice(),
+        ["mlock", "make", "--output", "json", "rules.toml", "ONE.m"].as_slice(),
+        ["mlock", "make", "--strict", "rules.toml", "ONE.m"].as_slice(),
+        ["mlock", "survey"].as_slice(),
+        ["mlock", "survey", "--output", "sarif", "ONE.m"].as_slice(),
         [
             "mlock",
             "replay",

@@ -8,8 +8,8 @@ use Rattle.mlk_cli.proofs.words.asked_by.Goals as goal
 pub returns-in_default : goal.returns-in_default
 returns-in_default c = makes-nothing c.args.name.now (rows_of (found_of c.args.matches.now)) (grind rules) c.in_default.ensures
 
-pub returns-in_default-number_of : goal.returns-in_default-number_of
-returns-in_default-number_of c = verifies-nothing c.args.name.now (rows_of (found_of c.args.matches.now)) (grind rules) c.in_default-number_of.ensures
+pub returns-in_default-walk_of : goal.returns-in_default-walk_of
+returns-in_default-walk_of c = verifies-nothing c.args.name.now (rows_of (found_of c.args.matches.now)) (grind rules) c.in_default-walk_of.ensures
 
 pub returns-in_default-get_str : goal.returns-in_default-get_str
 returns-in_default-get_str c =
@@ -26,11 +26,11 @@ returns-in_default-get_str-2 c =
     let found = found_of c.args.matches.now in
     asks-nothing c.args.name.now (rows_of found) (grind rules) (grind rules) (grind rules) (c.in_default-get_str-2.ensures ∙ first_value-rows found (codes "CERT"))
 
-pub returns-in_default-number_of-2 : goal.returns-in_default-number_of-2
-returns-in_default-number_of-2 c =
-    checks-nothing c.args.name.now (rows_of (found_of c.args.matches.now)) (grind rules) (grind rules) (grind rules) c.in_default-number_of-2.ensures
+pub returns-in_default-walk_of-2 : goal.returns-in_default-walk_of-2
+returns-in_default-walk_of-2 c =
+    checks-nothing c.args.name.now (rows_of (found_of c.args.matches.now)) (grind rules) (grind rules) (grind rules) c.in_default-walk_of-2.ensures
 
 pub returns : goal.returns
 returns c =
     let found = found_of c.args.matches.now in
-    (grind rules, sym (first_value-rows found (codes "CERT")) ∙ sym c.get_str-2.ensures ∙ ap (option_map (λ s. s.now)) c.in-Some-get_str-2.is, c.in-Some-number_of-2.ensures)
+    (grind rules, sym (first_value-rows found (codes "CERT")) ∙ sym c.get_str-2.ensures ∙ ap (option_map (λ s. s.now)) c.in-Some-get_str-2.is, c.in-Some-walk_of-2.ensures)

@@ -1,7 +1,7 @@
 use Rattle.std.proofs.Common.{rules, subst}
 use Rattle.clap.specs.Words.{found_of, rows_of}
-use Rattle.mlk_cli.specs.CommandLine.{GivesProgram}
-use Rattle.mlk_cli.proofs.CommandLine.{converts-nothing, no-request}
+use Rattle.mlk_cli.specs.CommandLine.{GivesProgram, GivesSurvey}
+use Rattle.mlk_cli.proofs.CommandLine.{converts-nothing, no-request, surveys-nothing}
 use Rattle.mlk_cli.proofs.words.given.Goals as goal
 
 pub returns-in_default : goal.returns-in_default
@@ -10,4 +10,9 @@ returns-in_default c = converts-nothing c.args.name.now (rows_of (found_of c.arg
 pub returns-in_default-2 : goal.returns-in_default-2
 returns-in_default-2 c =
     let rows = rows_of (found_of c.args.matches.now) in
-    no-request c.args.name.now rows (grind rules) (subst (GivesProgram c.args.name.now rows) c.in_default-2.is c.in_ok-program.ensures)
+    surveys-nothing c.args.name.now rows (grind rules) (subst (GivesSurvey rows) c.in_default-2.is c.in_ok-survey.ensures)
+
+pub returns-in_default-3 : goal.returns-in_default-3
+returns-in_default-3 c =
+    let rows = rows_of (found_of c.args.matches.now) in
+    no-request c.args.name.now rows (grind rules) (grind rules) (subst (GivesProgram c.args.name.now rows) c.in_default-3.is c.in_ok-program.ensures)

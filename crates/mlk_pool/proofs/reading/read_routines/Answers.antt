@@ -1,5 +1,5 @@
 use Rattle.std.proofs.Common.{◌≡◌, ◌∙◌, ◌++◌, take, drop, ap, sym, subst, rules, map}
-use Rattle.std.proofs.lemmas.List.{map-append, take-append-drop}
+use Rattle.std.proofs.lemmas.List.{map-append}
 use Rattle.mlk_syntax.specs.Views.{routine_of}
 use Rattle.mlk_pool.specs.Reading.{RefusesFirst}
 use Rattle.mlk_pool.proofs.Firsts.{many-more, later-refused}
@@ -10,11 +10,9 @@ pub returns-in-Err-clause-refused : goal.returns-in-Err-clause-refused
 returns-in-Err-clause-refused g c =
     let sources = c.args.sources.items in
     let done = c.loop-done.done in
-    let next = c.split_at-in-loop-done.result.0.now in
-    let after = c.split_at-in-loop-done.result.1.now in
-    let left : next ++ after ≡ drop done sources =
-    ap (λ l. l ++ after) c.split_at-in-loop-done.ensures.front ∙ ap (λ l. take c.min.result c.split_at.result.1.now ++ l) c.split_at-in-loop-done.ensures.back
-    ∙ take-append-drop c.min.result c.split_at.result.1.now ∙ c.split_at.ensures.back ∙ ap (drop done) c.as_slice.ensures.value in
+    let next = c.next_texts-next.result.now in
+    let after = c.next_texts-next.ensures.cut.0 in
+    let left : next ++ after ≡ drop done sources = c.next_texts-next.ensures.cut.1 ∙ ap (drop done) c.as_slice.ensures.value in
     subst (λ l. RefusesFirst l c.in-Err.failure) (sym (cut sources next after done c.loop-done.invariant.0 left))
     (later-refused (take done sources) next after (map routine_of c.loop-done.routines.items) c.in-Err.failure c.loop-done.invariant.1 c.in-Err.ensures.refused)
 
@@ -22,11 +20,9 @@ pub loop-done-preserved : goal.loop-done-preserved
 loop-done-preserved g c =
     let sources = c.args.sources.items in
     let done = c.loop-done.done in
-    let next = c.split_at-in-loop-done.result.0.now in
-    let after = c.split_at-in-loop-done.result.1.now in
-    let left : next ++ after ≡ drop done sources =
-    ap (λ l. l ++ after) c.split_at-in-loop-done.ensures.front ∙ ap (λ l. take c.min.result c.split_at.result.1.now ++ l) c.split_at-in-loop-done.ensures.back
-    ∙ take-append-drop c.min.result c.split_at.result.1.now ∙ c.split_at.ensures.back ∙ ap (drop done) c.as_slice.ensures.value in
+    let next = c.next_texts-next.result.now in
+    let after = c.next_texts-next.ensures.cut.0 in
+    let left : next ++ after ≡ drop done sources = c.next_texts-next.ensures.cut.1 ∙ ap (drop done) c.as_slice.ensures.value in
     let routines = c.loop-done.routines.items in
     let read = c.in-Ok.read.items in
     let more : map routine_of c.append.new.self.items ≡ map routine_of routines ++ map routine_of read = ap (map routine_of) (grind rules) ∙ map-append routine_of routines read in (

@@ -1,0 +1,19 @@
+use Rattle.std.proofs.Common.{ℕ, List, Bor, refl, rules, subst, ap}
+use Rattle.mlk_app.specs.Files.{AreSources}
+use Rattle.mlk_app.specs.Ran.{TellsUnread}
+use Rattle.mlk_app.proofs.Saying.{unsurveyed-answers}
+use Rattle.mlk_app.proofs.program.answer_survey.Goals as goal
+
+pub returns-in-Ok-survey_told : goal.returns-in-Ok-survey_told
+returns-in-Ok-survey_told g c = (
+  record {
+    sources = c.in-Ok.sources.items;
+    texts = subst (λ paths. AreSources (g.F.Files.holds c.args.files.now) paths c.in-Ok.sources.items) c.as_slice.ensures.value c.in-Ok.ensures.ok;
+  },
+  refl,
+)
+
+pub returns-in-Err-Unread : goal.returns-in-Err-Unread
+returns-in-Err-Unread g c =
+    unsurveyed-answers (g.F.Files.holds c.args.files.now) (g.F.Files.lacks c.args.files.now) c.args.survey.now c.in-Err-Unread.path c.unread_answer.result (grind rules)
+    (subst (λ (text : List ℕ). TellsUnread text c.unread_answer.result) (ap (λ (p : Bor (List ℕ)). p.now) c.in-Err-Unread.path-is) c.unread_answer.ensures)

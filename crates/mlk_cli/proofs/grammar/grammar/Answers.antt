@@ -1,0 +1,13 @@
+use Rattle.std.proofs.Common.{◌∙◌, ap, ap₂}
+use Rattle.std.proofs.lemmas.Result.{IfOk-weaker}
+use Rattle.clap.specs.Words.{with_subcommand}
+use Rattle.mlk_cli.proofs.grammar.grammar.Goals as goal
+
+pub returns : goal.returns
+returns c =
+    let one = c.in_ok-app.ensures ∙ ap₂ with_subcommand c.without_commands.ensures (ap (λ a. a.top) c.in_ok-check_command.ensures) in
+    let two = c.in_ok-app-2.ensures ∙ ap₂ with_subcommand one (ap (λ a. a.top) c.in_ok-make_command.ensures) in
+    let three = c.in_ok-app-3.ensures ∙ ap₂ with_subcommand two (ap (λ a. a.top) c.in_ok-verify_command.ensures) in
+    let four = c.in_ok-app-4.ensures ∙ ap₂ with_subcommand three (ap (λ a. a.top) c.in_ok-replay_command.ensures) in
+    let five = c.in_ok-app-5.ensures ∙ ap₂ with_subcommand four (ap (λ a. a.top) c.in_ok-convert_command.ensures) in
+    IfOk-weaker c.with_command-6.result _ _ (λ made h. h ∙ ap₂ with_subcommand five (ap (λ a. a.top) c.in_ok-survey_command.ensures)) c.with_command-6.ensures

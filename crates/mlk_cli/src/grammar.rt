@@ -1,0 +1,190 @@
+// The grammar of the command line, for `clap`.
+
+ghost use Rattle.std.specs.Prelude.{◌≡◌, IfOk, true, false};
+ghost use Rattle.clap.specs.Words.{app_of, rule_of, with_rule, with_subcommand};
+ghost use Rattle.mlk_cli.specs.CommandLine.{path_rule, routines_rule, workers_rule, format_rule, output_rule, strict_rule, with_style, check_app, make_app, verify_app, replay_app, convert_app, survey_app, no_command_app, mlock_app};
+
+use crate::help::{
+    ABOUT, CERT_HELP, CHECK_HELP, CHECK_MORE, CONVERT_HELP, CONVERT_MORE, EVENTS_HELP, FORMAT_HELP,
+    MAKE_HELP, MAKE_MORE, OUTPUT_HELP, REPLAY_HELP, REPLAY_MORE, ROUTINE_HELP, RULES_HELP,
+    STRICT_HELP, SURVEY_HELP, SURVEY_MORE, SURVEY_OUTPUT_HELP, VERIFY_HELP, VERIFY_MORE, VERSION,
+    WORKERS_HELP,
+};
+use clap::builder::ValueParser;
+use clap::{Arg, ArgAction, Command, value_parser};
+use std::alloc::{AllocError, Global};
+
+fn path<'a>(alloc: Global, id: &'a str, help: &'a str) -> Arg<'a>
+    ensures rule { rule_of result ≡ path_rule id.entry.now }
+    ensures local { result.global ≡ false }
+{
+    Arg::new(alloc, id)
+        .required(true)
+        .action(ArgAction::Set)
+        .help(help)
+}
+
+fn routines<'a>(alloc: Global) -> Arg<'a>
+    ensures rule { rule_of result ≡ routines_rule }
+    ensures local { result.global ≡ false }
+{
+    path(alloc, "ROUTINE", ROUTINE_HELP)
+        .action(ArgAction::Append)
+        .num_args(1..)
+}
+
+// The number of workers, of which the range is not looked at here.
+fn workers<'a>(alloc: Global) -> Arg<'a>
+    ensures rule { rule_of result ≡ workers_rule }
+    ensures local { result.global ≡ false }
+{
+    Arg::new(alloc, "workers")
+        .long("workers")
+        .value_name("N")
+        .value_parser(value_parser!(u32))
+        .default_value("4")
+        .help(WORKERS_HELP)
+}
+
+// The format of a certificate, of which this is the one where the words say nothing.
+fn format_option<'a>(alloc: Global, usual: &'a str) -> Arg<'a>
+    ensures rule { rule_of result ≡ format_rule usual.entry.now }
+    ensures local { result.global ≡ false }
+{
+    Arg::new(alloc, "format")
+        .long("format")
+        .value_name("N")
+        .value_parser(ValueParser::Signed(1, 2))
+        .default_value(usual)
+        .help(FORMAT_HELP)
+}
+
+// How a report or a survey is told, which is as text where the words say nothing.
+fn output_option<'a>(alloc: Global, help: &'a str) -> Arg<'a>
+    ensures rule { rule_of result ≡ output_rule }
+    ensures local { result.global ≡ false }
+{
+    Arg::new(alloc, "output")
+        .long("output")
+        .value_name("FORM")
+        .action(ArgAction::Set)
+        .default_value("text")
+        .help(help)
+}
+
+// Whether hazards are told too.
+fn strict_option<'a>(alloc: Global) -> Arg<'a>
+    ensures rule { rule_of result ≡ strict_rule }
+    ensures local { result.global ≡ false }
+{
+    Arg::new(alloc, "strict")
+        .long("strict")
+        .action(ArgAction::SetTrue)
+        .help(STRICT_HELP)
+}
+
+// A command that is told how its report is told.
+fn with_style<'a>(alloc: Global, command: Command<'a>) -> Result<Command<'a>, AllocError>
+    ensures { IfOk result (λ c. app_of c ≡ with_style (app_of command.entry)) }
+{
+    command
+        .arg(output_option(alloc, OUTPUT_HELP))?
+        .arg(strict_option(alloc))
+}
+
+fn check_command<'a>(alloc: Global) -> Result<Command<'a>, AllocError>
+    ensures { IfOk result (λ c. app_of c ≡ check_app) }
+{
+    let command = Command::new(alloc, "check")
+        .about(CHECK_HELP)
+        .long_about(CHECK_MORE)
+        .arg(path(alloc, "RULES", RULES_HELP))?
+        .arg(path(alloc, "CERT", CERT_HELP))?
+        .arg(routines(alloc))?
+        .arg(workers(alloc))?;
+    with_style(alloc, command)
+}
+
+fn make_command<'a>(alloc: Global) -> Result<Command<'a>, AllocError>
+    ensures { IfOk result (λ c. app_of c ≡ make_app) }
+{
+    Command::new(alloc, "make")
+        .about(MAKE_HELP)
+        .long_about(MAKE_MORE)
+        .arg(path(alloc, "RULES", RULES_HELP))?
+        .arg(routines(alloc))?
+        .arg(format_option(alloc, "1"))
+}
+
+fn verify_command<'a>(alloc: Global) -> Result<Command<'a>, AllocError>
+    ensures { IfOk result (λ c. app_of c ≡ verify_app) }
+{
+    let command = Command::new(alloc, "verify")
+        .about(VERIFY_HELP)
+        .long_about(VERIFY_MORE)
+        .arg(path(alloc, "RULES", RULES_HELP))?
+        .arg(routines(alloc))?
+        .arg(workers(alloc))?;
+    with_style(alloc, command)
+}
+
+fn replay_command<'a>(alloc: Global) -> Result<Command<'a>, AllocError>
+    ensures { IfOk result (λ c. app_of c ≡ replay_app) }
+{
+    Command::new(alloc, "replay")
+        .about(REPLAY_HELP)
+        .long_about(REPLAY_MORE)
+        .arg(path(alloc, "RULES", RULES_HELP))?
+        .arg(path(alloc, "EVENTS", EVENTS_HELP))?
+        .arg(routines(alloc))
+}
+
+fn convert_command<'a>(alloc: Global) -> Result<Command<'a>, AllocError>
+    ensures { IfOk result (λ c. app_of c ≡ convert_app) }
+{
+    Command::new(alloc, "convert")
+        .about(CONVERT_HELP)
+        .long_about(CONVERT_MORE)
+        .arg(path(alloc, "CERT", CERT_HELP))?
+        .arg(format_option(alloc, "2"))
+}
+
+fn survey_command<'a>(alloc: Global) -> Result<Command<'a>, AllocError>
+    ensures { IfOk result (λ c. app_of c ≡ survey_app) }
+{
+    Command::new(alloc, "survey")
+        .about(SURVEY_HELP)
+        .long_about(SURVEY_MORE)
+        .arg(routines(alloc))?
+        .arg(output_option(alloc, SURVEY_OUTPUT_HELP))
+}
+
+// `mlock` before it has a command.
+fn without_commands<'a>(alloc: Global) -> Command<'a>
+    ensures { app_of result ≡ no_command_app }
+{
+    Command::new(alloc, "mlock")
+        .about(ABOUT)
+        .version(VERSION)
+        .subcommand_required(true)
+}
+
+// One command more, which is none of all commands.
+fn with_command<'a>(app: Command<'a>, command: Command<'a>) -> Result<Command<'a>, AllocError>
+    requires { (app_of command).top.is_plain ≡ true }
+    ensures { IfOk result (λ c. app_of c ≡ with_subcommand (app_of app.entry) (app_of command.entry).top) }
+{
+    app.subcommand(command)
+}
+
+/// The grammar of all commands.
+pub(crate) fn grammar<'a>(alloc: Global) -> Result<Command<'a>, AllocError>
+    ensures { IfOk result (λ c. app_of c ≡ mlock_app) }
+{
+    let app = with_command(without_commands(alloc), check_command(alloc)?)?;
+    let app = with_command(app, make_command(alloc)?)?;
+    let app = with_command(app, verify_command(alloc)?)?;
+    let app = with_command(app, replay_command(alloc)?)?;
+    let app = with_command(app, convert_command(alloc)?)?;
+    with_command(app, survey_command(alloc)?)
+}

@@ -1,0 +1,46 @@
+-- How reports and refusals are told. This project's own choice.
+use Rattle.std.specs.Prelude.{ℕ, ◌≡◌, ◌++◌, ◌==◌, ◌&&◌, length, List, [], ◌∷◌, Bool, true, false, Option, None, codes}
+use Rattle.mlk_syntax.specs.Trees.{RoutineTree}
+use Rattle.mlk_walk.specs.declared.report.Row.{Row}
+use Rattle.mlk_hazards.specs.declared.hazard.HazardAt.{HazardAt}
+use Rattle.mlk_hazards.specs.Words.{hazard_word}
+use Rattle.mlk_cli.specs.declared.words.Output.{Output}
+use Rattle.mlk_cli.specs.declared.words.Output.TheVariants.{Text, Json, Sarif}
+use Rattle.mlk_cli.specs.declared.words.ReportStyle.{ReportStyle}
+use Rattle.mlk_pool.specs.Texts.{report_text, place_text, space, line_end}
+
+-- `hazard ROUTINE line:column NAME`
+abbrev pub hazard_line : HazardAt → List ℕ
+hazard_line h = codes "hazard " ++ h.position.routine.now ++ space ++ place_text h.position.line h.position.column ++ space ++ hazard_word h.hazard ++ line_end
+
+abbrev pub hazard_lines : List HazardAt → List ℕ
+hazard_lines [] = []
+hazard_lines (h ∷ hazards) = hazard_line h ++ hazard_lines hazards
+
+-- The hazards that are told. Which they are is not said; there are none where they are not asked for.
+abbrev pub AreTold : Bool → List HazardAt → Type 0
+AreTold true hazards = Unit {0}
+AreTold false hazards = hazards ≡ []
+
+-- the report passes: it has no row, and no hazard is told with it
+abbrev pub passes : List Row → List HazardAt → Bool
+passes rows hazards = (length rows == 0) && (length hazards == 0)
+
+-- The text of a report, with a line for each hazard. What JSON and SARIF say is not said.
+abbrev pub IsReportIn : Output → List RoutineTree → List Row → List HazardAt → List ℕ → Type 0
+IsReportIn Text trees rows hazards text = text ≡ report_text trees rows ++ hazard_lines hazards
+IsReportIn Json trees rows hazards text = Unit {0}
+IsReportIn Sarif trees rows hazards text = Unit {0}
+
+-- a report as it is printed in a style, and whether it passes
+pub record IsReportTold (style : ReportStyle) (trees : List RoutineTree) (rows : List Row) (text : List ℕ) (passed : Bool) : Type 0 where
+  pub hazards : List HazardAt
+  pub told : AreTold style.is_strict hazards
+  pub printed : IsReportIn style.output trees rows hazards text
+  pub ended : passed ≡ passes rows hazards
+
+-- what is printed of a refusal beside the line on the error stream: nothing where text is asked for
+abbrev pub IsNoticed : Output → Option (List ℕ) → Type 0
+IsNoticed Text notice = notice ≡ None
+IsNoticed Json notice = Unit {0}
+IsNoticed Sarif notice = Unit {0}

@@ -1,0 +1,38 @@
+// Refusals in the form that is asked for.
+
+ghost use Rattle.std.specs.Prelude.{IfOk};
+ghost use Rattle.mlk_forms.specs.Told.{IsNoticed};
+
+use mlk_cli::Output;
+use mlk_output::{Notice, notice_json, notice_sarif};
+use mlk_pool::ReportText;
+use std::alloc::{AllocError, Global};
+
+/// What is printed of a refusal beside the line on the error stream, which is nothing where text is asked for.
+pub fn notice_told(
+    alloc: Global,
+    notice: &Notice<'_>,
+    output: Output,
+) -> Result<Option<ReportText>, AllocError>
+    ensures { IfOk result (IsNoticed output) }
+{
+    match output {
+        Output::Text => Ok(None),
+        Output::Json => {
+            let text = notice_json(alloc, notice)?;
+            Ok(Some(with_end(alloc, text.as_str())?))
+        }
+        Output::Sarif => {
+            let text = notice_sarif(alloc, notice)?;
+            Ok(Some(with_end(alloc, text.as_str())?))
+        }
+    }
+}
+
+/// A text of lines, of which the last is given its end.
+pub(crate) fn with_end(alloc: Global, text: &str) -> Result<ReportText, AllocError> {
+    let mut told = ReportText::new(alloc);
+    told.push(text.as_bytes())?;
+    told.push(b"\n")?;
+    Ok(told)
+}

@@ -1,0 +1,135 @@
+// Reports in the form that is asked for.
+
+ghost use Rattle.std.specs.Prelude.{◌≡◌, ◌++◌, IfOk, OnOk, map};
+ghost use Rattle.mlk_syntax.specs.Views.{routine_of};
+ghost use Rattle.mlk_pool.specs.Texts.{report_text};
+ghost use Rattle.mlk_forms.specs.Told.{AreTold, IsReportIn, IsReportTold, hazard_line, hazard_lines, passes};
+
+use crate::notice::with_end;
+use mlk_cli::{Output, ReportStyle};
+use mlk_hazards::{HazardAt, hazards_of};
+use mlk_output::{Inputs, report_json, report_sarif};
+use mlk_pool::{ReportText, report_text};
+use mlk_syntax::Routine;
+use mlk_walk::Report;
+use std::alloc::{AllocError, Global};
+
+/// A report as it is printed.
+#[derive(Drop, Debug)]
+pub struct ToldReport {
+    pub text: ReportText,
+    /// whether there is no fault, and no hazard where these are told
+    pub passes: bool,
+}
+
+// The hazards that are told: none, unless they are asked for.
+fn told_hazards<'a>(
+    alloc: Global,
+    routines: &'a [Routine],
+    is_strict: bool,
+) -> Result<Vec<HazardAt<'a>>, AllocError>
+    ensures { IfOk result (λ hazards. AreTold is_strict hazards.items) }
+{
+    if !is_strict {
+        return Ok(Vec::new(alloc));
+    }
+    let hazards = hazards_of(alloc, routines)?;
+    Ok(hazards)
+}
+
+// `hazard ROUTINE line:column NAME`
+fn push_hazard(text: &mut ReportText, hazard: &HazardAt<'_>) -> Result<(), AllocError>
+    ensures { OnOk result (text.new ≡ text.old ++ hazard_line hazard.now) }
+{
+    text.push(b"hazard ")?;
+    text.push(hazard.position.routine)?;
+    text.push(b" ")?;
+    text.push_place(hazard.position.line, hazard.position.column)?;
+    text.push(b" ")?;
+    text.push(hazard.hazard.word().as_bytes())?;
+    text.push(b"\n")?;
+    Ok(())
+}
+
+fn push_hazards(text: &mut ReportText, hazards: &[HazardAt<'_>]) -> Result<(), AllocError>
+    ensures { OnOk result (text.new ≡ text.old ++ hazard_lines hazards.now) }
+{
+    for hazard in hazards {
+        push_hazard(text, hazard)?;
+    }
+    Ok(())
+}
+
+fn plain_text(
+    alloc: Global,
+    routines: &[Routine],
+    report: &Report,
+    hazards: &[HazardAt<'_>],
+) -> Result<ReportText, AllocError>
+    ensures { IfOk result (λ text. text ≡ report_text (map routine_of routines.now) report.now ++ hazard_lines hazards.now) }
+{
+    let mut text = report_text(alloc, routines, report)?;
+    push_hazards(&mut text, hazards)?;
+    Ok(text)
+}
+
+fn json_text(
+    alloc: Global,
+    inputs: &Inputs<'_>,
+    report: &Report,
+    hazards: Option<&[HazardAt<'_>]>,
+) -> Result<ReportText, AllocError> {
+    let text = report_json(alloc, inputs, report, hazards)?;
+    with_end(alloc, text.as_str())
+}
+
+fn sarif_text(
+    alloc: Global,
+    inputs: &Inputs<'_>,
+    report: &Report,
+    hazards: Option<&[HazardAt<'_>]>,
+) -> Result<ReportText, AllocError> {
+    let text = report_sarif(alloc, inputs, report, hazards)?;
+    with_end(alloc, text.as_str())
+}
+
+// The text in the form that is asked for, with these hazards.
+fn text_in(
+    alloc: Global,
+    inputs: &Inputs<'_>,
+    report: &Report,
+    style: ReportStyle,
+    hazards: &[HazardAt<'_>],
+) -> Result<ReportText, AllocError>
+    ensures { IfOk result (IsReportIn style.output (map routine_of inputs.now.routines.now) report.now hazards.now) }
+{
+    let told = if style.is_strict { Some(hazards) } else { None };
+    let text = match style.output {
+        Output::Text => plain_text(alloc, inputs.routines, report, hazards)?,
+        Output::Json => json_text(alloc, inputs, report, told)?,
+        Output::Sarif => sarif_text(alloc, inputs, report, told)?,
+    };
+    Ok(text)
+}
+
+fn passes(report: &Report, hazards: &[HazardAt<'_>]) -> bool
+    ensures { result ≡ passes report.now hazards.now }
+{
+    report.rows().is_empty() && hazards.is_empty()
+}
+
+/// A report in the style that is asked for, and whether it passes.
+pub fn report_told(
+    alloc: Global,
+    inputs: &Inputs<'_>,
+    report: &Report,
+    style: ReportStyle,
+) -> Result<ToldReport, AllocError>
+    ensures { IfOk result (λ told. IsReportTold style (map routine_of inputs.now.routines.now) report.now told.text told.passes) }
+{
+    let hazards = told_hazards(alloc, inputs.routines, style.is_strict)?;
+    let told = hazards.as_slice();
+    let text = text_in(alloc, inputs, report, style, told)?;
+    let passes = passes(report, told);
+    Ok(ToldReport { text, passes })
+}

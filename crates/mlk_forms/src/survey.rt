@@ -1,0 +1,79 @@
+// Surveys in the form that is asked for.
+
+ghost use Rattle.std.specs.Prelude.{◌≡◌, ◌+◌, IfOk, length};
+
+use crate::notice::with_end;
+use mlk_cli::SurveyOutput;
+use mlk_pool::{ReportText, Source, read_each};
+use mlk_survey::{Facts, survey};
+use mlk_survey_text::{survey_json, survey_text};
+use mlk_syntax::Routine;
+use mlk_text::{Failure, Fault};
+use mlk_watch::Watch;
+use std::alloc::{AllocError, Global};
+use std::thread::Threads;
+
+// How many lines a list has at most in the text.
+const MOST_LINES: usize = 50;
+
+/// A survey as it is printed.
+#[derive(Drop, Debug)]
+pub struct ToldSurvey {
+    /// how many routines were read
+    pub read: usize,
+    /// how many were refused
+    pub refused: usize,
+    pub text: ReportText,
+}
+
+fn text_in(
+    alloc: Global,
+    facts: &Facts<'_>,
+    output: SurveyOutput,
+) -> Result<ReportText, AllocError> {
+    match output {
+        SurveyOutput::Text => {
+            let text = survey_text(alloc, facts, MOST_LINES)?;
+            let mut told = ReportText::new(alloc);
+            told.push(text.as_bytes())?;
+            Ok(told)
+        }
+        SurveyOutput::Json => {
+            let text = survey_json(alloc, facts)?;
+            with_end(alloc, text.as_str())
+        }
+    }
+}
+
+// What is found in texts to which a reader gave these answers.
+fn answers_told(
+    alloc: Global,
+    answers: &[Result<Routine, Failure<Fault>>],
+    output: SurveyOutput,
+) -> Result<ToldSurvey, AllocError>
+    ensures { IfOk result (λ told. told.read + told.refused ≡ length answers.now) }
+{
+    let facts = survey(alloc, answers)?;
+    Ok(ToldSurvey {
+        read: facts.read,
+        refused: facts.refused.len(),
+        text: text_in(alloc, &facts, output)?,
+    })
+}
+
+/// What is found in the texts of routines. They are read side by side, each by itself: one that is refused is counted and
+/// told, and hides nothing of the others.
+pub fn survey_told<R: Threads + Sync, W: Watch>(
+    rt: &R,
+    alloc: Global,
+    sources: Vec<Source<'_>>,
+    output: SurveyOutput,
+    watch: &W,
+) -> Result<ToldSurvey, AllocError>
+    ensures { IfOk result (λ told. told.read + told.refused ≡ length sources.entry.items) }
+{
+    let answers = read_each(rt, alloc, sources, watch)?;
+    let told = answers_told(alloc, answers.as_slice(), output);
+    watch.discard(answers);
+    told
+}

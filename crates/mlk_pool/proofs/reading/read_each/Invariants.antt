@@ -1,0 +1,10 @@
+use Rattle.std.proofs.Common.{◌≤◌, ◌-◌, take, length}
+use Rattle.std.specs.List.{AllZip}
+use Rattle.mlk_pool.specs.Answers.{IsAnswer}
+use Rattle.mlk_pool.proofs.reading.read_each.Given as goal
+
+abbrev pub invariant-loop-done : goal.invariant-loop-done
+invariant-loop-done g l = (l.done ≤ length l.sources.items) × AllZip IsAnswer (take l.done l.sources.items) l.found.items
+
+abbrev pub decreases-loop-done : goal.decreases-loop-done
+decreases-loop-done g l = length l.sources.items - l.done

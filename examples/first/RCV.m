@@ -1,0 +1,3 @@
+RCV(I,N) ; N pieces of item I come in
+ S ^STK(I)=$G(^STK(I))+N
+ Q
