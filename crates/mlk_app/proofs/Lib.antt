@@ -1,5 +1,3 @@
 pub mod Paths
 pub mod Sources
-pub mod Checks
-pub mod OpenGate
 pub mod Saying

@@ -1,7 +1,7 @@
 -- What is answered to a request.
 use Rattle.std.proofs.Common.{◌≡◌, ◌∙◌, ℕ, List, [], Bool, true, false, Option, None, refl, sym, arith}
 use Rattle.std.specs.Prelude.{String}
-use Rattle.mlk_app.specs.declared.source.Sources.{Sources}
+use Rattle.mlk_outcome.specs.declared.texts.Sources.{Sources}
 use Rattle.std.specs.Borrow.{Bor}
 use Rattle.mlk_text.specs.declared.failure.Failure.TheVariants as failure
 use Rattle.mlk_cert.specs.declared.read.fault.CertFault.{CertFault}
@@ -9,7 +9,7 @@ use Rattle.mlk_cli.specs.declared.words.Format.{Format}
 use Rattle.mlk_cli.specs.declared.words.ProgramRequest.{ProgramRequest}
 use Rattle.mlk_cli.specs.declared.words.Request.{Request}
 use Rattle.mlk_cli.specs.declared.words.Request.TheVariants as request
-use Rattle.mlk_app.specs.declared.checked.Checked.{Checked}
+use Rattle.mlk_outcome.specs.declared.checked.Checked.{Checked}
 use Rattle.mlk_walk.specs.declared.report.Row.{Row}
 use Rattle.mlk_syntax.specs.Trees.{RoutineTree}
 use Rattle.mlk_cli.specs.declared.words.Output.{Output}
@@ -18,16 +18,16 @@ use Rattle.mlk_cli.specs.declared.words.ReportStyle.{ReportStyle}
 use Rattle.mlk_cli.specs.declared.words.SurveyRequest.{SurveyRequest}
 use Rattle.mlk_forms.specs.Told.{IsReportTold, IsNoticed}
 use Rattle.mlk_forms.proofs.Styles.{passed-no-row}
-use Rattle.mlk_app.specs.declared.checked.NoReport.{NoReport}
+use Rattle.mlk_outcome.specs.declared.checked.NoReport.{NoReport}
 use Rattle.mlk_app.specs.declared.program.Answer.{Answer}
 use Rattle.mlk_app.specs.declared.program.Answer.TheVariants as answer
 use Rattle.mlk_app.specs.declared.source.FileError.TheVariants as error
 use Rattle.mlk_app.specs.Files.{Texts, AreTexts, Loses, LosesFirst, cert_format}
 use Rattle.mlk_app.proofs.Sources.{loses-front}
 use Rattle.mlk_cli.specs.CommandLine.{IsRequest, bytes_of}
-use Rattle.mlk_app.specs.Checked.{IsChecked, IsRefusedBy}
-use Rattle.mlk_app.specs.Converted.{IsUnconverted}
-use Rattle.mlk_app.specs.Ran.{style_in, status_of, trees_of, IsReportPrinted, Prints, TellsRefusal, TellsFault, TellsUnread, Answers, AnswersWords}
+use Rattle.mlk_outcome.specs.Checked.{trees_of, IsChecked, IsRefusedBy}
+use Rattle.mlk_outcome.specs.Converted.{IsUnconverted}
+use Rattle.mlk_app.specs.Ran.{style_in, status_of, IsReportPrinted, Prints, TellsRefusal, TellsFault, TellsUnread, Answers, AnswersWords}
 
 one-not-zero : ◌≡◌ {A = ℕ} 1 0 → ⊥
 one-not-zero e = omega (arith, e)

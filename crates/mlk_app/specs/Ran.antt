@@ -1,11 +1,10 @@
 -- What the program says: what it prints on standard output, what it tells on the error stream, and the status that
 -- it ends with. This project's own choice.
-use Rattle.std.specs.Prelude.{◌≡◌, ◌⊎◌, ℕ, List, [], map, Bool, true, false, Option, None, Some, String}
+use Rattle.std.specs.Prelude.{◌≡◌, ◌⊎◌, ℕ, List, [], Bool, true, false, Option, None, Some, String}
 use Rattle.std.specs.Io.KnownBytes.{Keeps, Appends}
 use Rattle.mlk_syntax.specs.Trees.{RoutineTree}
-use Rattle.mlk_syntax.specs.Views.{routine_of}
 use Rattle.mlk_walk.specs.declared.report.Row.{Row}
-use Rattle.mlk_app.specs.declared.source.Sources.{Sources}
+use Rattle.mlk_outcome.specs.declared.texts.Sources.{Sources}
 use Rattle.mlk_cli.specs.declared.words.Output.{Output}
 use Rattle.mlk_cli.specs.declared.words.Output.TheVariants.{Text as Plain}
 use Rattle.mlk_cli.specs.declared.words.ReportStyle.{ReportStyle}
@@ -20,11 +19,11 @@ use Rattle.mlk_cert.specs.declared.format.CertFormat.{CertFormat}
 use Rattle.mlk_cert.specs.declared.read.fault.CertFault.{CertFault}
 use Rattle.mlk_pool.specs.declared.error.CheckError.{CheckError}
 use Rattle.mlk_pool.specs.declared.error.CheckError.TheVariants as error
-use Rattle.mlk_app.specs.declared.checked.Checked.{Checked}
-use Rattle.mlk_app.specs.declared.checked.CheckedOutcome.{CheckedOutcome}
-use Rattle.mlk_app.specs.declared.checked.CheckedOutcome.TheVariants as outcome
-use Rattle.mlk_app.specs.declared.checked.NoReport.{NoReport}
-use Rattle.mlk_app.specs.declared.checked.NoReport.TheVariants as refusal
+use Rattle.mlk_outcome.specs.declared.checked.Checked.{Checked}
+use Rattle.mlk_outcome.specs.declared.checked.CheckedOutcome.{CheckedOutcome}
+use Rattle.mlk_outcome.specs.declared.checked.CheckedOutcome.TheVariants as outcome
+use Rattle.mlk_outcome.specs.declared.checked.NoReport.{NoReport}
+use Rattle.mlk_outcome.specs.declared.checked.NoReport.TheVariants as refusal
 use Rattle.mlk_app.specs.declared.program.Answer.{Answer}
 use Rattle.mlk_app.specs.declared.program.Answer.TheVariants as answer
 use Rattle.mlk_pool.specs.declared.source.Source.{Source}
@@ -32,8 +31,8 @@ use Rattle.mlk_forms.specs.Told.{IsReportTold, IsNoticed}
 use Rattle.mlk_app.specs.Printed.{fault_line, rules_line, certificate_line, missing_line, workers_line, stuck_line, events_line, file_line}
 use Rattle.mlk_app.specs.Files.{Texts, AreTexts, AreSources, IsFirstLost, cert_format, paths_of}
 use Rattle.mlk_cli.specs.CommandLine.{IsRequest, AsksNothing}
-use Rattle.mlk_app.specs.Checked.{IsChecked, IsRefusedBy}
-use Rattle.mlk_app.specs.Converted.{IsConverted, IsUnconverted}
+use Rattle.mlk_outcome.specs.Checked.{trees_of, IsChecked, IsRefusedBy}
+use Rattle.mlk_outcome.specs.Converted.{IsConverted, IsUnconverted}
 
 -- how a report is told: as text and without hazards, unless the words say otherwise
 abbrev pub plain_style : ReportStyle
@@ -78,17 +77,6 @@ abbrev pub IsRefusalLine : NoReport → List ℕ → Type 0
 IsRefusalLine (refusal.Check e) line = IsErrorLine e line
 IsRefusalLine (refusal.GaveUp entry fault) line = line ≡ stuck_line entry fault
 IsRefusalLine (refusal.Events fault) line = line ≡ events_line fault
-
--- the gate was open
-abbrev pub IsOfOpenGate : CheckError → Type 0
-IsOfOpenGate e = (task : ℕ) → e ≡ error.GateShut task → ⊥
-
-abbrev pub IsNotShut : NoReport → Type 0
-IsNotShut r = (task : ℕ) → r ≡ refusal.Check (error.GateShut task) → ⊥
-
--- the trees of what was read
-abbrev pub trees_of : Checked → List RoutineTree
-trees_of checked = map routine_of checked.routines.items
 
 -- the text and the status of a report, where memory doesn't run out
 abbrev pub PrintsReport : ReportStyle → List RoutineTree → List Row → Answer → Type 0

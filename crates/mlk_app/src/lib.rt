@@ -2,14 +2,10 @@
 //! certificate or makes a survey, and says what it found.
 #![tactic(auto)]
 
-mod checked;
-mod converted;
 mod file;
-mod gate;
 mod notice;
 mod printed;
 mod program;
-mod replayed;
 mod source;
 
 pub use file::{LONGEST_FILE, read_whole};

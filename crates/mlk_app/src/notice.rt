@@ -1,10 +1,10 @@
 // Why there is no report, for other programs.
 
-use crate::checked::NoReport;
 use crate::printed::events_code;
 use crate::source::stem_of;
 use mlk_cert::CertFault;
 use mlk_cli::{Asked, ProgramRequest};
+use mlk_outcome::NoReport;
 use mlk_output::{Notice, Place};
 use mlk_pool::CheckError;
 use mlk_text::{Code, Column, LineNumber};

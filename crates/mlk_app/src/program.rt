@@ -5,11 +5,10 @@ ghost use Rattle.mlk_syntax.specs.Views.{routine_of};
 ghost use Rattle.std.specs.IoError.{error_kind};
 ghost use Rattle.std.specs.Io.KnownBytes.{Appends};
 ghost use Rattle.mlk_cli.specs.declared.words.Request.TheVariants as wanted;
-ghost use Rattle.mlk_app.specs.Ran.{style_in, status_of, PrintsReport, PrintsText, PrintsOutcome, Prints, IsErrorLine, IsRefusalLine, IsOfOpenGate, IsNotShut, TellsRefusal, TellsFault, TellsUnread, Answers, AnswersWords, IsRefusalSaid, IsSaid, Ran};
+ghost use Rattle.mlk_app.specs.Ran.{style_in, status_of, PrintsReport, PrintsText, PrintsOutcome, Prints, IsErrorLine, IsRefusalLine, TellsRefusal, TellsFault, TellsUnread, Answers, AnswersWords, IsRefusalSaid, IsSaid, Ran};
 ghost use Rattle.mlk_forms.specs.Told.{IsNoticed};
+ghost use Rattle.mlk_outcome.specs.Checked.{IsOfOpenGate, IsNotShut};
 
-use crate::checked::{Checked, CheckedOutcome, NoReport, check_texts};
-use crate::converted::converted;
 use crate::notice::notice_of;
 use crate::printed::{
     certificate_line, events_line, fault_line, file_line, missing_line, rules_line, stuck_line,
@@ -22,6 +21,7 @@ use mlk_cli::{
     read_request,
 };
 use mlk_forms::{notice_told, report_told, survey_told};
+use mlk_outcome::{Checked, CheckedOutcome, NoReport, check_texts, converted};
 use mlk_output::Inputs;
 use mlk_pool::{CheckError, ReportText};
 use mlk_text::Failure;

@@ -7,6 +7,7 @@ ghost use Rattle.mlk_cli.specs.CommandLine.{bytes_of};
 
 use mlk_cert::CertFormat;
 use mlk_cli::{Asked, Format, ProgramRequest};
+use mlk_outcome::{Sources, Work};
 use mlk_pool::Source;
 use std::alloc::Global;
 use std::io::{self, ErrorKind};
@@ -31,27 +32,6 @@ pub(crate) enum FileError<'a> {
     OutOfMemory,
     /// The path of the file.
     Unread(&'a str),
-}
-
-/// What is to be done with the texts.
-#[derive(Drop, Debug)]
-pub(crate) enum Work {
-    /// the check by this text of a certificate, and by so many workers
-    Check { certificate: Vec<u8>, workers: u32 },
-    /// a certificate is made, and its text has this format
-    Make { format: CertFormat },
-    /// the check by the certificate that is made, and by so many workers
-    Verify { workers: u32 },
-    /// the events of this text are replayed
-    Replay(Vec<u8>),
-}
-
-/// The texts that were read.
-#[derive(Drop, Debug)]
-pub(crate) struct Sources<'a> {
-    pub work: Work,
-    pub rules: Vec<u8>,
-    pub routines: Vec<Source<'a>>,
 }
 
 fn file_name(path: &str) -> &str

@@ -1,0 +1,3 @@
+pub mod Checked
+pub mod Converted
+pub mod Replayed

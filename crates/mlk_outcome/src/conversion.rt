@@ -1,0 +1,30 @@
+// A certificate in another format.
+
+ghost use Rattle.std.specs.Prelude.{IfOk, IfErr};
+ghost use Rattle.mlk_outcome.specs.Converted.{IsConverted, IsUnconverted};
+
+use mlk_cert::{CertFault, CertFormat, read_cert};
+use mlk_make::text_in;
+use mlk_text::Failure;
+use mlk_watch::Watch;
+use std::alloc::Global;
+
+/// The text in a format of the certificate that a text spells, in either format.
+pub fn converted<W: Watch>(
+    alloc: Global,
+    given: &[u8],
+    format: CertFormat,
+    watch: &W,
+) -> Result<Vec<u8>, Failure<CertFault>>
+    ensures ok { IfOk result (λ text. IsConverted format given.now text.items) }
+    ensures refused { IfErr result (IsUnconverted format given.now) }
+{
+    match read_cert(alloc, given) {
+        Ok(certificate) => {
+            let text = text_in(alloc, &certificate, format);
+            watch.discard(certificate);
+            text
+        }
+        Err(failure) => Err(failure),
+    }
+}
