@@ -10,7 +10,7 @@ use mlk_names::LockTerm;
 use mlk_program::EntryId;
 use mlk_syntax::Line;
 use mlk_text::{Code, Column, Failure, LineNumber};
-use mlk_walk_exprs::{Fault, Mend};
+use mlk_walk_exprs::{Fault, Mend, Note};
 use mlk_walk_lines::LineFault;
 
 /// What is done of what would mend a fault: whether something changes.
@@ -181,11 +181,11 @@ pub(crate) fn mend_all(
     draft: &mut Draft,
     site: Site<'_>,
     targets: &[CalledEntry],
-    faults: Vec<(LineFault, Mend)>,
+    faults: Vec<(LineFault, Note)>,
 ) -> Result<bool, Failure<Stop>> {
     let mut again = false;
-    for (found, mend) in faults {
-        let one = mend_one(ground, maker, draft, site, targets, found.fault, mend)?;
+    for (found, note) in faults {
+        let one = mend_one(ground, maker, draft, site, targets, found.fault, note.mend)?;
         again = again || one;
     }
     Ok(again)

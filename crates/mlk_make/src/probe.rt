@@ -11,7 +11,7 @@ use mlk_cert::{Case, EntryCert, NameSet, Own, Point, Shared};
 use mlk_make_drafts::{Draft, copy_cases, copy_summed, round_number};
 use mlk_syntax::Line;
 use mlk_text::{LineNumber, List, Name, copy_of};
-use mlk_walk_exprs::{Fault, Mend};
+use mlk_walk_exprs::{Fault, Mend, Note};
 use mlk_walk_lines::LineFault;
 use std::alloc::{AllocError, Global};
 use std::slice;
@@ -89,13 +89,14 @@ fn is_same(found: &LineFault, fault: Fault) -> bool {
 // Whether the walk found the fault; the cases that it wants at the begin of the line's block are kept.
 fn take_faults(
     probe: &Probe<'_>,
-    faults: Vec<(LineFault, Mend)>,
+    faults: Vec<(LineFault, Note)>,
     entering: &mut List<Case>,
 ) -> Result<bool, AllocError> {
-    for (found, mend) in faults {
+    for (found, note) in faults {
         if is_same(&found, probe.fault) {
             return Ok(true);
         }
+        let Note { mend, .. } = note;
         if let Mend::Listed(number, _, case) = mend
             && begins_block(probe.site.line, number)
         {

@@ -8,7 +8,7 @@ use mlk_program::{EntryId, calls_of};
 use mlk_rules::{RuleLists, Rules};
 use mlk_syntax::{Action, Command, Commands, Line};
 use mlk_text::{Column, List, Value};
-use mlk_walk_exprs::Mend;
+use mlk_walk_exprs::Note;
 use mlk_walk_lines::{Around, LineFault, LineFaults, walk_alone};
 use std::alloc::{AllocError, Global};
 use std::collections::BTreeSet;
@@ -32,7 +32,7 @@ pub(crate) struct CalledEntry {
 /// What the walk of a line finds, and the cases in which its block may end there.
 #[derive(Drop)]
 pub(crate) struct Walked {
-    pub(crate) faults: Vec<(LineFault, Mend)>,
+    pub(crate) faults: Vec<(LineFault, Note)>,
     pub(crate) ends: Vec<Case>,
 }
 

@@ -13,7 +13,8 @@ use mlk_calls::{Calling, State, at_job};
 use mlk_syntax::{Actual, Call, DoArgument, Expr};
 use mlk_text::Failure;
 use mlk_walk_exprs::{
-    CallTransfer, Mend, Spot, Transfer, Walk, capture_actuals, each, forget, value, where_it_holds,
+    CallTransfer, Mend, Note, Spot, Transfer, Walk, capture_actuals, each, forget, value,
+    where_it_holds,
 };
 use std::alloc::AllocError;
 
@@ -116,7 +117,8 @@ impl<'a> Transfer for Begins<'a> {
             Ok(state) => walk.go(state),
             Err(Failure::OutOfMemory) => Err(AllocError),
             Err(Failure::Refused(refusal)) => {
-                walk.refuse(spot.line, self.call.column, refusal.code, Mend::Nothing)
+                let note = Note::in_case(Mend::Nothing, &refusal.state.case)?;
+                walk.refuse(spot.line, self.call.column, refusal.code, note)
             }
         }
     }

@@ -18,7 +18,7 @@ use mlk_names::LockTerm;
 use mlk_rules::rank_of;
 use mlk_syntax::{Expr, LockArgument, Sign, Variable};
 use mlk_text::{Code, Column, Failure, copy_of};
-use mlk_walk_exprs::{Mend, Spot, Transfer, Walk, each, last_of, value_if};
+use mlk_walk_exprs::{Mend, Note, Spot, Transfer, Walk, each, last_of, value_if};
 use std::alloc::{AllocError, Global};
 
 // The subscripts of names, which were captured last, are known.
@@ -36,7 +36,10 @@ impl<'a> Transfer for Known<'a> {
         let count = count_names(names)?;
         match names_fault(self.spot, &state, names, last_of(&state, count)) {
             None => walk.go(state),
-            Some((column, code)) => walk.refuse(self.spot.line, column, code, Mend::Nothing),
+            Some((column, code)) => {
+                let note = Note::in_case(Mend::Nothing, &state.case)?;
+                walk.refuse(self.spot.line, column, code, note)
+            }
         }
     }
 }
@@ -140,7 +143,8 @@ fn claim(
         Ok(()) => grant(spot.alloc, timed, terms, state, walk),
         Err((index, code)) => {
             let mend = claim_mend(spot, code, terms.get(index));
-            walk.refuse(spot.line, column_at(names, index), code, mend)
+            let note = Note::in_case(mend, &state.case)?;
+            walk.refuse(spot.line, column_at(names, index), code, note)
         }
     }
 }
@@ -161,8 +165,8 @@ fn claim_anew(
         Ok(state) => claim(spot, timed, names, terms, state, walk),
         Err(Failure::OutOfMemory) => Err(AllocError),
         Err(Failure::Refused(refusal)) => {
-            let mend = release_mend(refusal.code);
-            walk.refuse(spot.line, spot.word, refusal.code, mend)
+            let note = Note::in_case(release_mend(refusal.code), &refusal.state.case)?;
+            walk.refuse(spot.line, spot.word, refusal.code, note)
         }
     }
 }
@@ -190,8 +194,8 @@ fn give_back(
             }
             Err(Failure::OutOfMemory) => return Err(AllocError),
             Err(Failure::Refused(refusal)) => {
-                let mend = lacking(spot.alloc, term)?;
-                return walk.refuse(spot.line, name.column, refusal.code, mend);
+                let note = Note::in_case(lacking(spot.alloc, term)?, &refusal.state.case)?;
+                return walk.refuse(spot.line, name.column, refusal.code, note);
             }
         }
         left = others;
@@ -246,7 +250,8 @@ impl<'a> Transfer for Locks<'a> {
         let count = count_names(names)?;
         let terms = terms_of(spot.alloc, names, last_of(&state, count))?;
         let Some(terms) = terms else {
-            return walk.refuse(spot.line, spot.word, Code::UnknownSubscript, Mend::Nothing);
+            let note = Note::in_case(Mend::Nothing, &state.case)?;
+            return walk.refuse(spot.line, spot.word, Code::UnknownSubscript, note);
         };
         by_sign(
             spot,
@@ -290,8 +295,8 @@ impl<'a> Transfer for Release<'a> {
             Ok(state) => walk.go(state),
             Err(Failure::OutOfMemory) => Err(AllocError),
             Err(Failure::Refused(refusal)) => {
-                let mend = release_mend(refusal.code);
-                walk.refuse(spot.line, spot.word, refusal.code, mend)
+                let note = Note::in_case(release_mend(refusal.code), &refusal.state.case)?;
+                walk.refuse(spot.line, spot.word, refusal.code, note)
             }
         }
     }

@@ -14,7 +14,7 @@ use mlk_calls::{RefusedState, State, changed, mention};
 use mlk_cert_parts::{NameSet, Own, Shared};
 use mlk_syntax::NewArgument;
 use mlk_text::{Code, Column, Failure, List, Name, copy_of};
-use mlk_walk_exprs::{Mend, Spot, Transfer, Walk, each};
+use mlk_walk_exprs::{Mend, Note, Spot, Transfer, Walk, each};
 use std::alloc::{AllocError, Global};
 
 // What changes by being made new: while a held term mentions one of the names that is refused. A summary need not list it.
@@ -64,7 +64,8 @@ impl<'a> Transfer for Renewal<'a> {
             }
             Err(Failure::OutOfMemory) => Err(AllocError),
             Err(Failure::Refused(refusal)) => {
-                walk.refuse(spot.line, self.column, refusal.code, Mend::Nothing)
+                let note = Note::in_case(Mend::Nothing, &refusal.state.case)?;
+                walk.refuse(spot.line, self.column, refusal.code, note)
             }
         }
     }

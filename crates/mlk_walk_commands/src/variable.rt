@@ -15,7 +15,7 @@ use mlk_calls::{RefusedState, State, change, change_in_place, is_allowed, short_
 use mlk_cert_parts::NameSet;
 use mlk_syntax::{Expr, Subscript, Variable};
 use mlk_text::{Code, Column, Failure, Name};
-use mlk_walk_exprs::{Mend, Spot, Transfer, Walk, capture_subs, each};
+use mlk_walk_exprs::{Mend, Note, Spot, Transfer, Walk, capture_subs, each};
 use std::alloc::AllocError;
 use std::slice;
 
@@ -125,7 +125,8 @@ impl<'a> Transfer for Change<'a> {
             Err(Failure::OutOfMemory) => Err(AllocError),
             Err(Failure::Refused(refusal)) => {
                 let mend = self.mend(&refusal)?;
-                walk.refuse(self.spot.line, self.column, refusal.code, mend)
+                let note = Note::in_case(mend, &refusal.state.case)?;
+                walk.refuse(self.spot.line, self.column, refusal.code, note)
             }
         }
     }

@@ -9,7 +9,7 @@ ghost use Rattle.mlk_walk_exprs.specs.Spots.{spot_of};
 
 use crate::spot::Spot;
 use crate::transfer::Transfer;
-use crate::walk::{Mend, Walk};
+use crate::walk::{Mend, Note, Walk};
 use mlk_calls::{
     Calling, RefusedState, State, at_call, call_changes, callee_summary, missing_need, short_names,
 };
@@ -80,7 +80,8 @@ impl<'a> Transfer for CallTransfer<'a> {
             Err(Failure::OutOfMemory) => Err(AllocError),
             Err(Failure::Refused(refusal)) => {
                 let mend = self.mend(&refusal)?;
-                walk.refuse(spot.line, self.column, refusal.code, mend)
+                let note = Note::in_case(mend, &refusal.state.case)?;
+                walk.refuse(spot.line, self.column, refusal.code, note)
             }
         }
     }

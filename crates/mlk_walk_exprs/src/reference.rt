@@ -12,7 +12,7 @@ ghost use Rattle.mlk_walk_exprs.specs.Spots.{spot_of};
 
 use crate::spot::Spot;
 use crate::transfer::{Transfer, each, forget};
-use crate::walk::{Mend, Walk};
+use crate::walk::{Mend, Note, Walk};
 use mlk_calls::State;
 use mlk_names::{Access, Extent, LockTerm, Reference, Sym};
 use mlk_rules::{Lent, Rules, covered_lent, templates};
@@ -179,7 +179,10 @@ pub fn covered_or(
 {
     match fault {
         None => walk.go(state),
-        Some((code, mend)) => walk.refuse(spot.line, column, code, mend),
+        Some((code, mend)) => {
+            let note = Note::in_case(mend, &state.case)?;
+            walk.refuse(spot.line, column, code, note)
+        }
     }
 }
 

@@ -6,7 +6,7 @@ ghost use Rattle.mlk_walk_exprs.specs.Walks.{Goes, Skips, Quits, Refused, add, a
 ghost use Rattle.std.specs.List.{list_any};
 
 use mlk_calls::State;
-use mlk_cert_parts::{Case, ExitCase, NameSet};
+use mlk_cert_parts::{Case, ExitCase, NameSet, Shared, Test};
 use mlk_names::LockTerm;
 use mlk_text::{Code, Column, LineNumber, List};
 use std::alloc::{AllocError, Global};
@@ -42,14 +42,51 @@ pub enum Mend {
     Locks(Vec<LockTerm>),
 }
 
-/// A fault, and what would mend it.
+/// What was held and known where a fault was found.
+#[derive(Drop)]
+pub struct Standing {
+    pub test: Test,
+    pub held: Shared<LockTerm>,
+}
+
+/// What is told beside a fault: what would mend it, and what was held and known there, where that is not told by the mend or
+/// by the fault's place. A contract says nothing of it.
+#[derive(Drop)]
+pub struct Note {
+    pub mend: Mend,
+    pub standing: Option<Standing>,
+}
+
+impl Note {
+    /// What would mend a fault, alone.
+    pub fn of(mend: Mend) -> Note {
+        Note {
+            mend,
+            standing: None,
+        }
+    }
+
+    /// What would mend a fault that was found in this case.
+    pub fn in_case(mend: Mend, case: &Case) -> Result<Note, AllocError> {
+        let standing = Standing {
+            test: case.test,
+            held: case.held.clone()?,
+        };
+        Ok(Note {
+            mend,
+            standing: Some(standing),
+        })
+    }
+}
+
+/// A fault, and what is told beside it.
 #[derive(Drop)]
 pub struct Found {
     pub fault: Fault,
-    pub mend: Mend,
+    pub note: Note,
 }
 
-/// Faults that were found, in the order in which they were. A contract sees the faults, without what would mend them.
+/// Faults that were found, in the order in which they were. A contract sees the faults, without what is told beside them.
 #[derive(Drop)]
 pub struct Faults {
     items: Vec<Found>,
@@ -93,14 +130,14 @@ impl Faults {
     }
 
     /// One more fault.
-    pub fn push(&mut self, fault: Fault, mend: Mend) -> Result<(), AllocError>
+    pub fn push(&mut self, fault: Fault, note: Note) -> Result<(), AllocError>
         ensures { OnOk result (self.new ≡ self.old ++ fault ∷ []) }
     {
-        self.items.push(Found { fault, mend })?;
+        self.items.push(Found { fault, note })?;
         Ok(())
     }
 
-    /// The faults, each with what would mend it.
+    /// The faults, each with what is told beside it.
     pub fn into_vec(self) -> Vec<Found>
         ensures { map (λ f. f.fault) result.items ≡ self }
     {
@@ -244,11 +281,11 @@ impl Walk {
         line: LineNumber,
         column: Column,
         code: Code,
-        mend: Mend,
+        note: Note,
     ) -> Result<(), AllocError>
         ensures { OnOk result (self.new ≡ add (Refused line column code) self.old) }
     {
-        self.faults.push(Fault { line, column, code }, mend)
+        self.faults.push(Fault { line, column, code }, note)
     }
 
     /// The state that goes on, where there is just one: it is taken out, and its room stays.
@@ -283,7 +320,7 @@ impl Walk {
         }
         self.going = List::new(alloc);
         self.over = true;
-        self.refuse(line, word, Code::TooManyCases, Mend::Nothing)
+        self.refuse(line, word, Code::TooManyCases, Note::of(Mend::Nothing))
     }
 
     /// These states beside those that go on, which stand first; nothing where the line is over.

@@ -32,7 +32,8 @@ use Rattle.mlk_walk_commands.specs.Arguments.{variable_in, arguments_in, capture
 use Rattle.mlk_walk_lines.specs.Commands.{in_turn, stay, do_block, act}
 use Rattle.mlk_walk_lines.specs.Loops.{Rounds, parameter, parameters, controlled, at_word, one_command, after_rounds, commands}
 use Rattle.mlk_walk_lines.specs.Endings.{LineEnd, Around, number_of, at_end}
-use Rattle.mlk_walk_lines.specs.Lines.{head_walk, next_head, with_line, walk_lines}
+use Rattle.mlk_walk_lines.specs.Lines.{head_walk, with_line}
+use Rattle.mlk_walk_lines.specs.Parts.{first_or, part_walk}
 
 abbrev pub idle : Walk
 idle = begin []
@@ -259,24 +260,24 @@ line_idle sc around next block (LineHead number level end label formals cs) h =
     ap (λ cases. at_end e (commands p cs (begin cases))) (h 0) ∙ ap (at_end e) (commands_idle p h cs)
 
 -- so a line past all points, and without a block, adds nothing
-pub past_line : (sc : Scope) (around : Around) (head : HeadTree) (rest : LineTrees) → is_past sc (number_of head) ≡ true
-    → walk_lines sc around (line head no_lines rest) ≡ walk_lines sc around rest
-past_line sc around head rest h =
-    ap (λ own. with_line (number_of head) (record { faults = []; ends = [] }) own (walk_lines sc around rest))
-    (line_idle sc around (next_head around rest) None head (λ round. nothing_past (number_of head) round sc.points h))
+past_line : (sc : Scope) (around : Around) (after : Option HeadTree) (head : HeadTree) (rest : LineTrees) → is_past sc (number_of head) ≡ true
+    → part_walk sc around after (line head no_lines rest) ≡ part_walk sc around after rest
+past_line sc around after head rest h =
+    ap (λ own. with_line (number_of head) (record { faults = []; ends = [] }) own (part_walk sc around after rest))
+    (line_idle sc around (first_or after rest) None head (λ round. nothing_past (number_of head) round sc.points h))
 
 none_in : (lines : List Line) → length lines ≡ 0 → lines ≡ []
 none_in [] h = refl
 none_in (l ∷ lines) h = absurd (omega (arith, h))
 
-pub past_turn : (sc : Scope) (around : Around) (lines : List Line) (i : ℕ) (l : Line) → i < length lines → l ≡ slice_index_or lines i l
+pub past_turn : (sc : Scope) (around : Around) (after : Option HeadTree) (lines : List Line) (i : ℕ) (l : Line) → i < length lines → l ≡ slice_index_or lines i l
     → is_past sc (out-Line l).number ≡ true → length (out-Line l).block.items ≡ 0
-    → walk_lines sc around (lines_from (map line_of (drop i lines))) ≡ walk_lines sc around (lines_from (map line_of (drop (i + 1) lines)))
-past_turn sc around lines i l low at past none =
+    → part_walk sc around after (lines_from (map line_of (drop i lines))) ≡ part_walk sc around after (lines_from (map line_of (drop (i + 1) lines)))
+past_turn sc around after lines i l low at past none =
     let rest = lines_from (map line_of (drop (i + 1) lines)) in
     let o = out-Line l in
     let head = LineHead o.number o.level o.end o.label o.formals (commands_of o.commands) in
-    ap (λ z. walk_lines sc around (lines_from (map line_of z))) (drop_step lines i l low at)
-    ∙ ap (λ (x : HeadTree × LineTrees). walk_lines sc around (line x.0 x.1 rest)) (fold_out-Line (HeadTree × LineTrees) line_step l)
-    ∙ ap (λ b. walk_lines sc around (line head (lines_from (map line_of b)) rest)) (none_in o.block.items none)
-    ∙ past_line sc around head rest past
+    ap (λ z. part_walk sc around after (lines_from (map line_of z))) (drop_step lines i l low at)
+    ∙ ap (λ (x : HeadTree × LineTrees). part_walk sc around after (line x.0 x.1 rest)) (fold_out-Line (HeadTree × LineTrees) line_step l)
+    ∙ ap (λ b. part_walk sc around after (line head (lines_from (map line_of b)) rest)) (none_in o.block.items none)
+    ∙ past_line sc around after head rest past

@@ -19,7 +19,7 @@ use mlk_names::LockTerm;
 use mlk_syntax::{Action, DoArgument, Expr, KillArgument, LockArgument, NewArgument};
 use mlk_text::{Code, List};
 use mlk_walk_commands::{Release, kill_all_but, new_all_but};
-use mlk_walk_exprs::{Mend, Spot, Transfer, Walk, each, value_if};
+use mlk_walk_exprs::{Mend, Note, Spot, Transfer, Walk, each, value_if};
 use std::alloc::{AllocError, Global};
 
 // IF without arguments: where `$TEST` is 0 the rest of the line is skipped; where it is not known, it is known then.
@@ -86,12 +86,14 @@ impl<'a> Transfer for HaltTransfer<'a> {
     fn make(&self, state: State, walk: &mut Walk) -> Result<(), AllocError> {
         let spot = self.spot;
         if holds_some(state.case.held.as_slice()) {
-            return walk.refuse(spot.line, spot.word, Code::HeldAtEnd, Mend::Nothing);
+            let note = Note::in_case(Mend::Nothing, &state.case)?;
+            return walk.refuse(spot.line, spot.word, Code::HeldAtEnd, note);
         }
         if spot.scope.summary().drops {
             return Ok(());
         }
-        walk.refuse(spot.line, spot.word, Code::SummaryShort, Mend::Drops)
+        let note = Note::in_case(Mend::Drops, &state.case)?;
+        walk.refuse(spot.line, spot.word, Code::SummaryShort, note)
     }
 }
 

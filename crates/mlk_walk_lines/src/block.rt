@@ -11,7 +11,7 @@ ghost use Rattle.mlk_walk_lines.specs.Counting.{counted};
 use mlk_calls::{State, is_listed};
 use mlk_cert_parts::{Case, Shared};
 use mlk_text::{Code, Column, List};
-use mlk_walk_exprs::{Block, Mend, Spot, Walk, put};
+use mlk_walk_exprs::{Block, Mend, Note, Spot, Walk, put};
 use std::alloc::{AllocError, Global};
 
 // The case with its `$TEST` saved.
@@ -39,7 +39,12 @@ fn enter(spot: &Spot, block: &Block, state: State, walk: &mut Walk) -> Result<bo
         return Ok(true);
     }
     let mend = Mend::Listed(block.first, 0, case);
-    walk.refuse(block.first, Column::new(1), Code::CaseNotListed, mend)?;
+    walk.refuse(
+        block.first,
+        Column::new(1),
+        Code::CaseNotListed,
+        Note::of(mend),
+    )?;
     Ok(false)
 }
 

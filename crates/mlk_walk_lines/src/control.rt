@@ -51,7 +51,7 @@ fn add_faults(faults: Faults, walk: &mut Walk) -> Result<(), AllocError>
     ensures { OnOk result (walk.new ≡ and_faults faults walk.old) }
 {
     for found in faults.into_vec() {
-        walk.faults.push(found.fault, found.mend)?;
+        walk.faults.push(found.fault, found.note)?;
     }
     Ok(())
 }

@@ -5,7 +5,7 @@ ghost use Rattle.mlk_walk_lines.specs.Endings.{Faulty, Leaves, add_ending};
 
 use mlk_cert_parts::Case;
 use mlk_text::{Code, Column, LineNumber, List};
-use mlk_walk_exprs::{Fault, Faults, Mend};
+use mlk_walk_exprs::{Fault, Faults, Note};
 use std::alloc::{AllocError, Global};
 
 /// The faults of a line, and the cases in which its block may end there.
@@ -33,11 +33,11 @@ impl Ends {
         line: LineNumber,
         column: Column,
         code: Code,
-        mend: Mend,
+        note: Note,
     ) -> Result<(), AllocError>
         ensures { OnOk result (self.new ≡ add_ending self.old (Faulty line column code)) }
     {
-        self.faults.push(Fault { line, column, code }, mend)
+        self.faults.push(Fault { line, column, code }, note)
     }
 
     /// The block may end in a case.

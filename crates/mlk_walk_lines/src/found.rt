@@ -4,7 +4,7 @@ ghost use Rattle.std.specs.Prelude.{◌≡◌, [], ◌∷◌, ◌++◌, OnOk, ma
 ghost use Rattle.mlk_walk_lines.specs.Lines.{found_in};
 
 use mlk_text::LineNumber;
-use mlk_walk_exprs::{Fault, Faults, Mend};
+use mlk_walk_exprs::{Fault, Faults, Note};
 use std::alloc::{AllocError, Global};
 use std::marker::Model;
 
@@ -15,10 +15,10 @@ pub struct LineFault {
     pub fault: Fault,
 }
 
-/// Faults of lines in the order in which they were found, each with what would mend it. A contract sees the faults.
+/// Faults of lines in the order in which they were found, each with what is told beside it. A contract sees the faults.
 #[derive(Drop)]
 pub struct LineFaults {
-    items: Vec<(LineFault, Mend)>,
+    items: Vec<(LineFault, Note)>,
 }
 
 impl Model for LineFaults {
@@ -40,10 +40,10 @@ impl LineFaults {
         }
     }
 
-    fn push(&mut self, fault: LineFault, mend: Mend) -> Result<(), AllocError>
+    fn push(&mut self, fault: LineFault, note: Note) -> Result<(), AllocError>
         ensures { OnOk result (self.new ≡ self.old ++ fault ∷ []) }
     {
-        self.items.push((fault, mend))?;
+        self.items.push((fault, note))?;
         Ok(())
     }
 
@@ -56,13 +56,13 @@ impl LineFaults {
                 walked,
                 fault: found.fault,
             };
-            self.push(fault, found.mend)?;
+            self.push(fault, found.note)?;
         }
         Ok(())
     }
 
-    /// The faults, each with what would mend it.
-    pub fn into_vec(self) -> Vec<(LineFault, Mend)>
+    /// The faults, each with what is told beside it.
+    pub fn into_vec(self) -> Vec<(LineFault, Note)>
         ensures { map (λ f. f.0) result.items ≡ self }
     {
         self.items

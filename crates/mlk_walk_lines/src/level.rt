@@ -5,7 +5,8 @@ ghost use Rattle.mlk_syntax.specs.Views.{line_of, lines_from};
 ghost use Rattle.mlk_walk_exprs.specs.declared.spot.Block.{Block};
 ghost use Rattle.mlk_walk_state.specs.Scope.{scope_of};
 ghost use Rattle.mlk_walk_lines.specs.Endings.{OfBlock, around_of, head_of, number_of};
-ghost use Rattle.mlk_walk_lines.specs.Lines.{next_head, block_with, head_walk, line_walk, found_in, walk_lines};
+ghost use Rattle.mlk_walk_lines.specs.Lines.{block_with, head_walk, line_walk, found_in, walk_lines};
+ghost use Rattle.mlk_walk_lines.specs.Parts.{first_or, part_walk};
 
 use crate::control::{begin, commands};
 use crate::ending::Ends;
@@ -18,17 +19,14 @@ use mlk_text::{Column, List};
 use mlk_walk_exprs::{Block, Spot};
 use std::alloc::{AllocError, Global};
 
-// The line to which a job goes on, where there is one.
-fn next_of<'a>(around: Around<'a>, later: &'a [Line]) -> Option<&'a Line>
+// The line to which a job goes on: the first of the later ones, else the one after all, where there is one.
+fn next_of<'a>(later: &'a [Line], after: Option<&'a Line>) -> Option<&'a Line>
     ensures { option_map head_of (option_copied result)
-        ≡ next_head (around_of around.entry) (lines_from (map line_of later.now)) }
+        ≡ first_or (option_map head_of (option_copied after.entry)) (lines_from (map line_of later.now)) }
 {
     match later.first() {
         Some(line) => Some(line),
-        None => match around {
-            Around::Block => None,
-            Around::Frame(after) => after,
-        },
+        None => after,
     }
 }
 
@@ -116,6 +114,7 @@ pub fn walk_alone<'a>(
 
 // The walk of a line's block. Most lines have none.
 #[cycle(level)]
+#[tactic(auto, using(crate::proofs::Parts::block_whole))]
 #[inline(always)]
 fn walk_block<'a>(
     alloc: Global,
@@ -131,7 +130,7 @@ fn walk_block<'a>(
     if lines.is_empty() {
         return Ok(Vec::new(alloc));
     }
-    walk_lines(alloc, &*scope, lines, Around::Block, found)
+    walk_lines(alloc, &*scope, lines, Around::Block, None, found)
 }
 
 // The walk of a line, after that of its block.
@@ -161,20 +160,22 @@ fn walk_line<'a>(
     Ok(ends.cases.into_vec())
 }
 
-/// The walk of lines of one level and of their blocks: what is found is added, and the cases are answered in which the
-/// lines' own block may end. A line past all points of the scope costs no more than that it is looked at.
+/// The walk of lines of one level that stand behind one another, and of their blocks: what is found is added, and the cases are
+/// answered in which the lines' own block may end. Behind the last of them a job goes on to the line after them, where there is
+/// one. A line past all points of the scope costs no more than that it is looked at.
 #[cycle(level)]
 pub fn walk_lines<'a>(
     alloc: Global,
     scope: &'a Scope<'a>,
     lines: &'a [Line],
     around: Around<'a>,
+    after: Option<&'a Line>,
     found: &mut LineFaults,
 ) -> Result<Vec<Case>, AllocError>
-    ensures faults { OnOk result (found.new ≡ found.old
-        ++ (walk_lines (scope_of scope.now) (around_of around.entry) (lines_from (map line_of lines.now))).faults) }
-    ensures ends { IfOk result (λ v. v.items
-        ≡ (walk_lines (scope_of scope.now) (around_of around.entry) (lines_from (map line_of lines.now))).ends) }
+    ensures faults { OnOk result (found.new ≡ found.old ++ (part_walk (scope_of scope.now) (around_of around.entry)
+        (option_map head_of (option_copied after.entry)) (lines_from (map line_of lines.now))).faults) }
+    ensures ends { IfOk result (λ v. v.items ≡ (part_walk (scope_of scope.now) (around_of around.entry)
+        (option_map head_of (option_copied after.entry)) (lines_from (map line_of lines.now))).ends) }
 {
     let mut all = Vec::new(alloc);
     let mut later = lines;
@@ -185,7 +186,7 @@ pub fn walk_lines<'a>(
             continue;
         }
         here = here.advanced(line.number);
-        let mut ends = walk_line(alloc, &here, line, around, next_of(around, later), found)?;
+        let mut ends = walk_line(alloc, &here, line, around, next_of(later, after), found)?;
         all.append(&mut ends)?;
     }
     Ok(all)

@@ -14,7 +14,7 @@ use mlk_cert_parts::{Case, ExitCase, Own, Shared, Test};
 use mlk_names::{KnownSym, LockTerm};
 use mlk_syntax::Line;
 use mlk_text::{Code, Column, LineNumber, Name, copy_of};
-use mlk_walk_exprs::{Mend, Quit, Walk};
+use mlk_walk_exprs::{Mend, Note, Quit, Walk};
 use std::alloc::{AllocError, Global};
 use std::slice;
 
@@ -173,14 +173,19 @@ impl<'a> LineEnd<'a> {
                 head.number,
                 Column::new(1),
                 Code::FallsIntoFormals,
-                Mend::Nothing,
+                Note::in_case(Mend::Nothing, &case)?,
             );
         }
         if is_listed(listed, &case) {
             return Ok(());
         }
         let mend = Mend::Listed(head.number, 0, case);
-        ends.refuse(head.number, Column::new(1), Code::CaseNotListed, mend)
+        ends.refuse(
+            head.number,
+            Column::new(1),
+            Code::CaseNotListed,
+            Note::of(mend),
+        )
     }
 
     // Its block ends.
@@ -193,7 +198,8 @@ impl<'a> LineEnd<'a> {
         };
         let saved = Shared::new(self.alloc, Vec::from_slice(self.alloc, before)?)?;
         if some_escape(self.level, &case) {
-            return ends.refuse(self.line, column, Code::NameEscapes, Mend::Nothing);
+            let note = Note::in_case(Mend::Nothing, &case)?;
+            return ends.refuse(self.line, column, Code::NameEscapes, note);
         }
         ends.leave(restored(self.alloc, self.level, test, saved, case)?)
     }
@@ -203,16 +209,18 @@ impl<'a> LineEnd<'a> {
         ensures { OnOk result (ends.new ≡ add_ending ends.old (frame_end (end_of self.now) column case)) }
     {
         if self.scope.declared() && holds_some(case.held.as_slice()) {
-            return ends.refuse(self.line, column, Code::HeldAtEnd, Mend::Nothing);
+            let note = Note::in_case(Mend::Nothing, &case)?;
+            return ends.refuse(self.line, column, Code::HeldAtEnd, note);
         }
         if some_name_escapes(&case) {
-            return ends.refuse(self.line, column, Code::NameEscapes, Mend::Nothing);
+            let note = Note::in_case(Mend::Nothing, &case)?;
+            return ends.refuse(self.line, column, Code::NameEscapes, note);
         }
         if is_exit(self.scope.summary().exits.as_slice(), &case) {
             return Ok(());
         }
         let mend = Mend::Exit(exit_of(case));
-        ends.refuse(self.line, column, Code::CaseNotListed, mend)
+        ends.refuse(self.line, column, Code::CaseNotListed, Note::of(mend))
     }
 
     // The lines of its level end.

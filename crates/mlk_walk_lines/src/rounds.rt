@@ -13,7 +13,7 @@ use mlk_cert_parts::{Case, NameSet};
 use mlk_syntax::Parameter;
 use mlk_text::{Code, Column, List};
 use mlk_walk_commands::Change;
-use mlk_walk_exprs::{Mend, Spot, Transfer, Walk, each, value};
+use mlk_walk_exprs::{Mend, Note, Spot, Transfer, Walk, each, value};
 use std::alloc::{AllocError, Global};
 
 /// Of a FOR, whose word's column stands in the spot: its variable with the column of its name, which FOR of its line it
@@ -31,7 +31,7 @@ fn refuse_round(spot: &Spot, index: usize, case: Case, walk: &mut Walk) -> Resul
     ensures { OnOk result (walk.new ≡ add_all (Refused spot.now.line spot.now.word CaseNotListed ∷ []) walk.old) }
 {
     let mend = Mend::Listed(spot.line, index, case);
-    walk.refuse(spot.line, spot.word, Code::CaseNotListed, mend)
+    walk.refuse(spot.line, spot.word, Code::CaseNotListed, Note::of(mend))
 }
 
 /// A round begins in a case that is listed for it; the rounds are walked by themselves.
