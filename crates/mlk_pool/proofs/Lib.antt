@@ -6,5 +6,4 @@ mod Printing
 mod Runs
 mod Sends
 mod Slots
-pub mod Syncs
 mod Unread

@@ -1,6 +1,6 @@
 // The report that workers make together.
 
-ghost use Rattle.std.specs.Prelude.{◌≡◌, ◌<◌, ◌++◌, [], IfOk, IfErr, OnOk, filter, flat_map, map, option_copied};
+ghost use Rattle.std.specs.Prelude.{◌≡◌, ◌<◌, ◌≤◌, ◌++◌, [], IfOk, IfErr, OnOk, filter, flat_map, map, option_copied};
 ghost use Rattle.std.specs.List.{AllZip};
 ghost use Rattle.std.specs.Option.{ForSome};
 ghost use Rattle.mlk_syntax.specs.Views.{routine_of};
@@ -23,7 +23,7 @@ use mlk_cert::Certificate;
 use mlk_program::{EntryId, Program};
 use mlk_rules::Rules;
 use mlk_text::Failure;
-use mlk_walk::{Checks, Report, verdict_of};
+use mlk_walk::{Checks, DEEPEST_CUT, Report, verdict_of};
 use mlk_watch::{Unwatched, Watch};
 use std::alloc::{AllocError, Global};
 use std::marker::Brand;
@@ -118,6 +118,20 @@ fn finished<N: Inputs, G: Gate>(
     Ok(report)
 }
 
+// How deep lists of lines are cut, so that no worker is without a part while few entries are left: as deep as leaves tasks times
+// parts at most as many as the workers.
+fn depth_for(tasks: usize, workers: usize) -> u32
+    ensures { result ≤ 6 }
+{
+    let mut depth = 0;
+    let mut parts = tasks;
+    while depth < DEEPEST_CUT && 0 < parts && parts <= workers / 2 {
+        depth += 1;
+        parts *= 2;
+    }
+    depth
+}
+
 // The report of a run whose checks look into these.
 fn report_with<N: Inputs + Send + Sync, G: Gate + Sync, W: Watch, R: Threads + Wait + Sync>(
     rt: &R,
@@ -137,8 +151,9 @@ fn report_with<N: Inputs + Send + Sync, G: Gate + Sync, W: Watch, R: Threads + W
 {
     let entries = entries_of(alloc, checks.program)?;
     let tasks = certified(alloc, checks.entries, entries.as_slice())?;
+    let depth = depth_for(tasks.len(), workers);
     let board: SharedBoard<N> = SharedBoard::new(Board::of(alloc, tasks)?);
-    run_workers(rt, alloc, checks, &board, gate, watch, workers);
+    run_workers(rt, alloc, checks, &board, gate, watch, workers, depth);
     let slots = board.into_board().into_slots();
     finished::<N, G>(alloc, checks, entries.as_slice(), slots.as_slice(), gate)
 }

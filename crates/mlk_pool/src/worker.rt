@@ -1,6 +1,6 @@
 // What workers do.
 
-ghost use Rattle.std.specs.Prelude.{◌≡◌, ◌<◌, Some, map, slice_get};
+ghost use Rattle.std.specs.Prelude.{◌≡◌, ◌<◌, ◌≤◌, Some, map, slice_get};
 ghost use Rattle.mlk_syntax.specs.Views.{routine_of};
 ghost use Rattle.mlk_pool.specs.Given.{AreInputs, AreKnown, tasks_of};
 ghost use Rattle.mlk_pool.specs.Boards.{IsOutcomeOf};
@@ -13,7 +13,7 @@ use mlk_calls::Entries;
 use mlk_cert::Certificate;
 use mlk_program::{EntryId, Program};
 use mlk_rules::Rules;
-use mlk_walk::{Checks, verdict_of};
+use mlk_walk::{Checks, Pieces, Unseen, verdict_split};
 use mlk_watch::{Stage, Unwatched, Watch};
 use std::alloc::{AllocError, Global};
 use std::sync::Wait;
@@ -21,51 +21,69 @@ use std::thread;
 use std::thread::Threads;
 
 // What the walk of a claimed task gives.
-fn walked<N: Inputs>(alloc: Global, checks: &Checks<'_>, claim: &Claim<N>) -> Outcome
-    requires { AreKnown N.given (map routine_of checks.now.program.now) checks.now.rules.now checks.now.entries.now }
+fn walked<N: Inputs, P: Pieces + Sync, R: Threads + Sync>(
+    rt: &R,
+    alloc: Global,
+    checks: &Checks<'_>,
+    claim: &Claim<N>,
+    depth: u32,
+    pieces: &P,
+) -> Outcome
+    requires depth { depth ≤ 6 }
+    requires inputs { AreKnown N.given (map routine_of checks.now.program.now) checks.now.rules.now checks.now.entries.now }
     ensures { (entry : EntryId) → slice_get (tasks_of N.given) claim.now.task ≡ Some entry → IsOutcomeOf N.given entry result }
 {
-    match verdict_of(alloc, checks, claim.entry()) {
+    match verdict_split(rt, alloc, checks, claim.entry(), depth, pieces) {
         Ok(verdict) => Outcome::Done(verdict),
         Err(AllocError) => Outcome::NoMemory,
     }
 }
 
+// Which worker it is, and how deep it cuts lists of lines.
+#[derive(Clone, Copy, Drop)]
+struct Worker {
+    number: usize,
+    depth: u32,
+}
+
 // Claims, asks the gate, walks, posts and tells the gate, until no task is left to claim. As tasks are claimed in their
 // order, the number of each tells how many all workers together have claimed before it.
-fn work_on<N: Inputs, G: Gate, W: Watch, R: Wait>(
+fn work_on<N: Inputs, G: Gate, W: Watch, P: Pieces + Sync, R: Threads + Wait + Sync>(
     rt: &R,
     alloc: Global,
     checks: &Checks<'_>,
     board: &SharedBoard<N>,
     gate: &G,
     watch: &W,
-    worker: usize,
+    worker: Worker,
+    pieces: &P,
 )
+    requires depth { worker.depth ≤ 6 }
     requires inputs { AreKnown N.given (map routine_of checks.now.program.now) checks.now.rules.now checks.now.entries.now }
-    requires worker { worker < N.given.workers }
+    requires worker { worker.number < N.given.workers }
 {
     let count = board.task_count();
     for _ in 0..count {
-        let Some(claim) = board.claim(rt, worker) else {
+        let Some(claim) = board.claim(rt, worker.number) else {
             break;
         };
         let task = claim.task();
         watch.see(Stage::Checking, task, count);
-        if gate.pass(worker, task) {
-            let outcome = walked(alloc, checks, &claim);
+        if gate.pass(worker.number, task) {
+            let outcome = walked(rt, alloc, checks, &claim, worker.depth, pieces);
             board.post(rt, claim, outcome);
         } else {
             board.post(rt, claim, Outcome::Shut);
         }
-        gate.posted(worker, task);
+        gate.posted(worker.number, task);
     }
 }
 
-/// What one worker does: it claims, asks the gate, walks, posts and tells the gate, until no task is left to claim. Where
-/// there is no memory for the tables of the certificate's entries, it claims nothing.
+/// What one worker does: it claims, asks the gate, walks, posts and tells the gate, until no task is left to claim. It walks an
+/// entry's lines in parts, side by side, as `check_entry_split` does. Where there is no memory for the tables of the
+/// certificate's entries, it claims nothing.
 #[tactic(auto, using(crate::proofs::Runs::known_inputs))]
-pub fn work<N: Inputs, G: Gate, R: Wait>(
+pub fn work<N: Inputs, G: Gate, P: Pieces + Sync, R: Threads + Wait + Sync>(
     rt: &R,
     alloc: Global,
     program: &Program<'_>,
@@ -74,7 +92,10 @@ pub fn work<N: Inputs, G: Gate, R: Wait>(
     board: &SharedBoard<N>,
     gate: &G,
     worker: usize,
+    depth: u32,
+    pieces: &P,
 )
+    requires depth { depth ≤ 6 }
     requires inputs { AreInputs N.given (map routine_of program.now) rules.now certificate.now }
     requires worker { worker < N.given.workers }
 {
@@ -86,11 +107,15 @@ pub fn work<N: Inputs, G: Gate, R: Wait>(
         rules,
         entries: &entries,
     };
-    work_on(rt, alloc, &checks, board, gate, &Unwatched, worker);
+    let worker = Worker {
+        number: worker,
+        depth,
+    };
+    work_on(rt, alloc, &checks, board, gate, &Unwatched, worker, pieces);
 }
 
-/// Lets so many workers run, and waits for them. The caller's thread is worker 0, and it alone is watched; a thread that
-/// can't be started is left out, and the others do what it would have done.
+/// Lets so many workers run, each of which walks an entry's lines in parts, cut so deep, and waits for them. The caller's thread
+/// is worker 0, and it alone is watched; a thread that can't be started is left out, and the others do what it would have done.
 pub(crate) fn run_workers<
     'x,
     N: Inputs + Send + Sync,
@@ -105,7 +130,9 @@ pub(crate) fn run_workers<
     gate: &'x G,
     watch: &W,
     workers: usize,
+    depth: u32,
 )
+    requires depth { depth ≤ 6 }
     requires inputs { AreKnown N.given (map routine_of checks.now.program.now) checks.now.rules.now checks.now.entries.now }
     requires workers { workers ≡ N.given.workers }
     requires one { 0 < workers }
@@ -114,18 +141,20 @@ pub(crate) fn run_workers<
         thread::scope_env(),
         rt,
         |scope|
-            requires { (0 < workers) × (workers ≡ N.given.workers)
+            requires { (0 < workers) × (depth ≤ 6) × (workers ≡ N.given.workers)
                 × AreKnown N.given (map routine_of checks.now.program.now) checks.now.rules.now checks.now.entries.now }
         {
-            for worker in 1..workers {
+            for number in 1..workers {
+                let worker = Worker { number, depth };
                 let _ = scope.spawn(
                     move ||
-                        requires { (worker < N.given.workers)
+                        requires { (worker.number < N.given.workers) × (worker.depth ≤ 6)
                             × AreKnown N.given (map routine_of checks.now.program.now) checks.now.rules.now checks.now.entries.now }
-                    { work_on(rt, alloc, checks, board, gate, &Unwatched, worker) },
+                    { work_on(rt, alloc, checks, board, gate, &Unwatched, worker, &Unseen) },
                 );
             }
-            work_on(rt, alloc, checks, board, gate, watch, 0);
+            let caller = Worker { number: 0, depth };
+            work_on(rt, alloc, checks, board, gate, watch, caller, &Unseen);
         },
     );
 }

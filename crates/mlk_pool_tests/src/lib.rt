@@ -4,6 +4,8 @@
 #[cfg(test)]
 mod gates;
 #[cfg(test)]
+mod halves;
+#[cfg(test)]
 mod reports;
 #[cfg(test)]
 mod routines;

@@ -1,5 +1,6 @@
-// A program of twelve entries, each of which is declared and certified.
+// A program of twelve entries, each of which is declared and certified, and two of one entry.
 
+use crate::halves::{FOUR_LINES, halves_meet, long_routine, same_at_each_depth, workers_meet};
 use crate::reports::{no_such_number, same_by_every_number, shut_at_three, two_at_once};
 use crate::working::two_work;
 use mlk_cert::Certificate;
@@ -33,7 +34,9 @@ const RULES: &[u8] =
 {label = \"E4^TWELVE\"}, {label = \"E5^TWELVE\"}, {label = \"E6^TWELVE\"}, {label = \"E7^TWELVE\"}, {label = \"E8^TWELVE\"}, \
 {label = \"E9^TWELVE\"}, {label = \"E10^TWELVE\"}, {label = \"E11^TWELVE\"}, {label = \"E12^TWELVE\"}]\n";
 
-/// What is tried on the program.
+const ONE_ENTRY: &[u8] = b"entry = [{label = \"E1^TWELVE\"}]\n";
+
+/// What is tried, and on which program.
 #[derive(Clone, Copy, Drop)]
 pub(crate) enum Trial {
     SameByEveryNumber,
@@ -41,6 +44,28 @@ pub(crate) enum Trial {
     ShutAtThree,
     TwoAtOnce,
     TwoWork,
+    WorkersMeet,
+    /// on a routine of four lines
+    HalvesMeet,
+    /// on a routine of 4,096 lines
+    SameAtEachDepth,
+}
+
+impl Trial {
+    fn routine(self, alloc: Global) -> Result<Vec<u8>, AllocError> {
+        match self {
+            Trial::HalvesMeet => Vec::from_slice(alloc, FOUR_LINES),
+            Trial::SameAtEachDepth => long_routine(alloc),
+            _ => Vec::from_slice(alloc, ROUTINE),
+        }
+    }
+
+    fn rules(self) -> &'static [u8] {
+        match self {
+            Trial::HalvesMeet | Trial::SameAtEachDepth => ONE_ENTRY,
+            _ => RULES,
+        }
+    }
 }
 
 // Whether all is as it should be.
@@ -58,6 +83,9 @@ fn is_passed<R: Threads + Wait + Sync>(
         Trial::ShutAtThree => shut_at_three(rt, alloc, program, rules, certificate),
         Trial::TwoAtOnce => two_at_once(rt, alloc, program, rules, certificate),
         Trial::TwoWork => two_work(rt, alloc, program, rules, certificate),
+        Trial::WorkersMeet => workers_meet(rt, alloc, program, rules, certificate),
+        Trial::HalvesMeet => halves_meet(rt, alloc, program, rules, certificate),
+        Trial::SameAtEachDepth => same_at_each_depth(rt, alloc, program, rules, certificate),
     }
 }
 
@@ -80,7 +108,7 @@ fn passes_in<R: Threads + Wait + Sync>(
     program: &Program<'_>,
     trial: Trial,
 ) -> bool {
-    match read_rules(alloc, RULES) {
+    match read_rules(alloc, trial.rules()) {
         Ok(rules) => passes_by(rt, alloc, program, &rules, trial),
         Err(_) => false,
     }
@@ -98,15 +126,16 @@ fn passes_of<R: Threads + Wait + Sync>(
     }
 }
 
-fn routines(alloc: Global) -> Result<Vec<Routine>, Failure<Fault>> {
+fn routines(alloc: Global, trial: Trial) -> Result<Vec<Routine>, Failure<Fault>> {
+    let text = trial.routine(alloc)?;
     let mut routines = Vec::new(alloc);
-    routines.push(read_routine(alloc, b"TWELVE", ROUTINE)?)?;
+    routines.push(read_routine(alloc, b"TWELVE", text.as_slice())?)?;
     Ok(routines)
 }
 
 /// Whether a trial is passed on the program.
 pub(crate) fn passes<R: Threads + Wait + Sync>(rt: &R, alloc: Global, trial: Trial) -> bool {
-    match routines(alloc) {
+    match routines(alloc, trial) {
         Ok(routines) => passes_of(rt, alloc, routines.as_slice(), trial),
         Err(_) => false,
     }

@@ -7,9 +7,10 @@ ghost use Rattle.mlk_pool.specs.Given.{AreInputs};
 use crate::gates::Open;
 use crate::twelve::{Trial, passes};
 use mlk_cert::Certificate;
-use mlk_pool::{Board, Gate, Inputs, SharedBoard, work};
+use mlk_pool::{Board, Inputs, SharedBoard, work};
 use mlk_program::Program;
 use mlk_rules::Rules;
+use mlk_walk::{Pieces, Unseen};
 use std::alloc::Global;
 use std::marker::Brand;
 use std::sync::Wait;
@@ -26,12 +27,12 @@ struct Parts<'a> {
 }
 
 // Lets two workers work on a board of the caller.
-fn work_by_two<'x, N: Inputs + Send + Sync, G: Gate + Sync, R: Threads + Wait + Sync>(
+fn work_by_two<'x, N: Inputs + Send + Sync, P: Pieces + Sync, R: Threads + Wait + Sync>(
     rt: &'x R,
     alloc: Global,
     parts: &'x Parts<'x>,
     board: &'x SharedBoard<N>,
-    gate: &'x G,
+    pieces: &'x P,
 )
     requires inputs { AreInputs N.given (map routine_of parts.now.program.now) parts.now.rules.now parts.now.certificate.now }
     requires workers { N.given.workers ≡ 2 }
@@ -56,8 +57,10 @@ fn work_by_two<'x, N: Inputs + Send + Sync, G: Gate + Sync, R: Threads + Wait + 
                             parts.rules,
                             parts.certificate,
                             board,
-                            gate,
+                            &Open,
                             worker,
+                            0,
+                            pieces,
                         )
                     },
                 );
@@ -67,12 +70,13 @@ fn work_by_two<'x, N: Inputs + Send + Sync, G: Gate + Sync, R: Threads + Wait + 
 }
 
 // How many events are left in the log.
-fn events_of_two<N: Inputs + Send + Sync, R: Threads + Wait + Sync>(
+fn events_of_two<N: Inputs + Send + Sync, P: Pieces + Sync, R: Threads + Wait + Sync>(
     rt: &R,
     alloc: Global,
     program: &Program<'_>,
     rules: &Rules,
     certificate: &Certificate,
+    pieces: &P,
 ) -> Option<usize>
     requires inputs { AreInputs N.given (map routine_of program.now) rules.now certificate.now }
     requires workers { N.given.workers ≡ 2 }
@@ -84,11 +88,23 @@ fn events_of_two<N: Inputs + Send + Sync, R: Threads + Wait + Sync>(
         rules,
         certificate,
     };
-    work_by_two(rt, alloc, &parts, &shared, &Open);
+    work_by_two(rt, alloc, &parts, &shared, pieces);
     Some(shared.into_board().log().len())
 }
 
-// The two leave a claim and a post of each of the twelve tasks.
+/// Whether the two leave a claim and a post of each of the twelve tasks, where these see into which parts lines are cut.
+pub(crate) fn leave_all<P: Pieces + Sync, R: Threads + Wait + Sync>(
+    rt: &R,
+    alloc: Global,
+    program: &Program<'_>,
+    rules: &Rules,
+    certificate: &Certificate,
+    pieces: &P,
+) -> bool {
+    events_of_two::<Brand, P, R>(rt, alloc, program, rules, certificate, pieces) == Some(24)
+}
+
+/// Whether the two leave a claim and a post of each of the twelve tasks.
 pub(crate) fn two_work<R: Threads + Wait + Sync>(
     rt: &R,
     alloc: Global,
@@ -96,7 +112,7 @@ pub(crate) fn two_work<R: Threads + Wait + Sync>(
     rules: &Rules,
     certificate: &Certificate,
 ) -> bool {
-    events_of_two::<Brand, R>(rt, alloc, program, rules, certificate) == Some(24)
+    leave_all(rt, alloc, program, rules, certificate, &Unseen)
 }
 
 #[test]

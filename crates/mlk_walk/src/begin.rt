@@ -11,7 +11,7 @@ use mlk_cert_parts::{Case, ExitCase, NameSet, Own, Shared, Summary, Test};
 use mlk_names::LockTerm;
 use mlk_text::{Code, Column, LineNumber, Name};
 use mlk_walk_commands::in_order;
-use mlk_walk_exprs::{Fault, Faults, Mend};
+use mlk_walk_exprs::{Fault, Faults, Mend, Note};
 use std::alloc::{AllocError, Global};
 
 fn own_formals(alloc: Global, names: &[Name]) -> Result<Vec<Own>, AllocError>
@@ -61,7 +61,7 @@ fn add_begin(
         column: Column::new(1),
         code: Code::CaseNotListed,
     };
-    faults.push(fault, Mend::Listed(line, 0, case))
+    faults.push(fault, Note::of(Mend::Listed(line, 0, case)))
 }
 
 // A declared entry needs nothing.
@@ -76,7 +76,7 @@ fn add_need(scope: &Scope, line: LineNumber, faults: &mut Faults) -> Result<(), 
         column: Column::new(1),
         code: Code::NeedMissing,
     };
-    faults.push(fault, Mend::Nothing)
+    faults.push(fault, Note::of(Mend::Nothing))
 }
 
 fn leaves_some(exit: &ExitCase) -> bool
@@ -103,7 +103,7 @@ fn add_exits(scope: &Scope, line: LineNumber, faults: &mut Faults) -> Result<(),
         column: Column::new(1),
         code: Code::HeldAtEnd,
     };
-    faults.push(fault, Mend::Nothing)
+    faults.push(fault, Note::of(Mend::Nothing))
 }
 
 /// What is wrong with an entry's begin and its exits, at its line.

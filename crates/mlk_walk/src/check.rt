@@ -48,8 +48,8 @@ fn verdict_by(
     Ok(verdict)
 }
 
-// The fault of an entry that no block certifies.
-fn uncertified(program: &Program, entry: EntryId) -> Fault
+/// The fault of an entry that no block certifies.
+pub(crate) fn uncertified(program: &Program, entry: EntryId) -> Fault
     ensures { result ≡ fault_at (entry_number (line_of_entry (map routine_of program.now) entry)) 1 NoCertificate }
 {
     Fault {

@@ -24,8 +24,11 @@ pub(crate) struct EntryWalk {
     pub(crate) lines: LineFaults,
 }
 
-// The line after an entry's lines.
-fn line_after<'a>(program: &Program<'a>, entry: EntryId) -> Result<Option<&'a Line>, AllocError>
+/// The line after an entry's lines.
+pub(crate) fn line_after<'a>(
+    program: &Program<'a>,
+    entry: EntryId,
+) -> Result<Option<&'a Line>, AllocError>
     ensures { IfOk result (λ o. option_map head_of (option_copied o) ≡ head_after (map routine_of program.now) entry) }
 {
     let lines = program.lines_of(entry);
@@ -35,7 +38,7 @@ fn line_after<'a>(program: &Program<'a>, entry: EntryId) -> Result<Option<&'a Li
     Ok(program.line(EntryId::new(entry.routine(), place)))
 }
 
-fn formals_of<'a>(line: Option<&'a Line>) -> &'a [Name]
+pub(crate) fn formals_of<'a>(line: Option<&'a Line>) -> &'a [Name]
     ensures { result.now ≡ formals_in (option_map line_of (option_copied line.entry)) }
 {
     match line {
@@ -58,6 +61,7 @@ pub(crate) fn number_of(line: Option<&Line>) -> LineNumber
 }
 
 /// What the walks of an entry's lines find.
+#[tactic(auto, using(mlk_walk_lines::proofs::Parts::entry_whole))]
 pub(crate) fn walk_all<'a>(
     alloc: Global,
     program: &'a Program<'a>,
@@ -67,8 +71,9 @@ pub(crate) fn walk_all<'a>(
     ensures { IfOk result (λ f. f ≡ (entry_walk (map routine_of program.now) entry (scope_of scope.now)).faults) }
 {
     let mut found = LineFaults::new(alloc);
-    let around = Around::Frame(line_after(program, entry)?);
-    let _ = walk_lines(alloc, scope, program.lines_of(entry), around, &mut found)?;
+    let after = line_after(program, entry)?;
+    let lines = program.lines_of(entry);
+    let _ = walk_lines(alloc, scope, lines, Around::Frame(after), after, &mut found)?;
     Ok(found)
 }
 

@@ -22,9 +22,9 @@ fn faults_of(alloc: Global, found: LineFaults, line: LineNumber) -> Result<Fault
     ensures { IfOk result (λ f. f ≡ map fault_in (filter (is_of line) found)) }
 {
     let mut faults = Faults::new(alloc);
-    for (found, mend) in found.into_vec() {
+    for (found, note) in found.into_vec() {
         if found.walked == line {
-            faults.push(found.fault, mend)?;
+            faults.push(found.fault, note)?;
         }
     }
     Ok(faults)
@@ -63,7 +63,7 @@ fn line_faults(
 }
 
 /// The faults of an entry that the walk of one of its lines gives, in the order in which they were found, each with what
-/// would mend it; none for a line that the entry lacks. The line is counted from 1 in its routine.
+/// is told beside it; none for a line that the entry lacks. The line is counted from 1 in its routine.
 ///
 /// The whole entry is walked for it.
 pub fn walk_line(

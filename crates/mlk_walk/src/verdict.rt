@@ -4,7 +4,7 @@ ghost use Rattle.std.specs.Prelude.{◌≡◌, [], OnOk, map};
 ghost use Rattle.mlk_walk.specs.Faults.{put_fault, put_faults};
 ghost use Rattle.mlk_walk.specs.Verdicts.{fault_in};
 
-use mlk_walk_exprs::{Fault, Faults, Found, Mend};
+use mlk_walk_exprs::{Fault, Faults, Found, Note};
 use mlk_walk_lines::{LineFault, LineFaults};
 use std::alloc::{AllocError, Global};
 use std::collections::BTreeSet;
@@ -32,7 +32,7 @@ fn fault_of(found: Found) -> Fault
     found.fault
 }
 
-fn fault_found(found: (LineFault, Mend)) -> Fault
+fn fault_found(found: (LineFault, Note)) -> Fault
     ensures { result ≡ fault_in found.0 }
 {
     found.0.fault
@@ -76,6 +76,18 @@ impl Verdict {
         let mut left = faults.into_vec();
         while let Some(found) = left.pop() {
             self.put(fault_found(found))?;
+        }
+        Ok(())
+    }
+
+    /// These faults too.
+    #[tactic(auto, using(crate::proofs::Ascending::put_both))]
+    pub(crate) fn put_all(&mut self, faults: Vec<Fault>) -> Result<(), AllocError>
+        ensures { OnOk result (self.new ≡ put_faults faults.items self.old) }
+    {
+        let mut left = faults;
+        while let Some(fault) = left.pop() {
+            self.put(fault)?;
         }
         Ok(())
     }

@@ -3,3 +3,4 @@ pub mod Counting
 pub mod Loops
 pub mod Endings
 pub mod Lines
+pub mod Parts

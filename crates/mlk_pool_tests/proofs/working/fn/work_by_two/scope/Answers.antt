@@ -2,7 +2,7 @@ use denote.Param.Send.{IsSync, sendable}
 use denote.Ref.{NamedLft}
 use Rattle.std.proofs.Crossing.{crosses}
 use Rattle.mlk_cert_parts.proofs.certificate.Certificate.TheSendSync as CertificateSyncs
-use Rattle.mlk_pool.proofs.Syncs.{program}
+use Rattle.mlk_walk.proofs.Syncs.{program}
 use Rattle.mlk_pool.proofs.shared.SharedBoard.TheSendSync as BoardSyncs
 use Rattle.mlk_rules.proofs.rules.Rules.TheSendSync as RulesSyncs
 use Rattle.mlk_pool_tests.specs.contracts.working.Parts as Parts

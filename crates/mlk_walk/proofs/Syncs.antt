@@ -1,5 +1,5 @@
 -- Trees, and what a check looks into, may be seen by several threads at once.
-use denote.Param.Send.{IsSync, recorded_sync, struct_sync, enum_sync, sendable}
+use denote.Param.Send.{IsSend, IsSync, recorded_sync, struct_sync, enum_sync, sendable}
 use denote.Ref.{NamedLft}
 use denote.Enum.Declared as enums
 use denote.Struct.Declared as structs
@@ -40,7 +40,13 @@ use Rattle.mlk_program.specs.contracts.directory.Directory as Directory
 use Rattle.mlk_program.specs.contracts.program.Program as Program
 use Rattle.mlk_rules.proofs.rules.Rules.TheSendSync as RulesSyncs
 use Rattle.mlk_walk_state.proofs.scope.Entries.TheSendSync as EntriesSyncs
+use Rattle.mlk_cert_parts.proofs.block.EntryCert.TheSendSync as EntryCertSyncs
+use Rattle.mlk_cert_parts.proofs.block.Point.TheSendSync as PointSyncs
+use Rattle.mlk_cert_parts.proofs.names.Own.TheSendSync as OwnSyncs
+use Rattle.mlk_walk_state.specs.contracts.scope.Scope as Scope
 use Rattle.mlk_walk.specs.contracts.check.Checks as Checks
+use Rattle.mlk_walk_lines.specs.contracts.line_end.Around as Around
+use Rattle.mlk_walk.specs.contracts.parts.Part as Part
 
 -- what is plain, and lists, boxes and options of what several threads may see
 ruleset crossing = (crosses, sendable, OptionSends.the_field_sync, OptionSends.the_sync, CalleeSends.the_sync, PartSends.the_sync, ValueSends.the_sync, ListSends.the_sync, RareSends.the_sync, SeveralSends.the_sync)
@@ -113,7 +119,7 @@ commands_field = CommandsKnot.sync-Commands (search (crossing, command) depth 60
 line_field : IsSync (Line.the_field).row
 line_field = LineKnot.sync-Line (search crossing depth 60 fits 20000) (search crossing depth 60 fits 20000) (search crossing depth 60 fits 20000) (search crossing depth 60 fits 20000) (search crossing depth 60 fits 20000) commands_field (λ h s. search crossing depth 60 fits 20000)
 
-line : IsSync Line.the_row
+pub line : IsSync Line.the_row
 line = recorded_sync (Line.the_field).row _ _ (Line.the_type).to_one line_field
 
 routine : IsSync Routine.the_row
@@ -128,3 +134,14 @@ program κ = search (crosses, sendable, directory, SharedSyncs.the_sync, FramesS
 -- what a check looks into
 pub checks : (κ : NamedLft) → IsSync (Checks.the_row κ)
 checks κ = search (crosses, sendable, program, RulesSyncs.the_sync, EntriesSyncs.the_sync) depth 60 fits 20000
+
+-- what the walk of lines is given
+pub scope : (κ : NamedLft) → IsSync (Scope.the_row κ)
+scope κ = recorded_sync (Scope.the_field κ).row _ _ (Scope.the_type κ).to_one (struct_sync (structs.shape (Scope.the_type κ)) (search (sendable, program), (search (sendable, RulesSyncs.the_sync), (search (sendable, EntriesSyncs.the_sync), (search sendable, (search (sendable, EntryCertSyncs.the_sync), (search (sendable, OwnSyncs.the_sync), (search sendable, (search (sendable, PointSyncs.the_sync), tt)))))))))
+
+-- a part of lines, and what stands around them
+around : (κ : NamedLft) → IsSend (Around.the_row κ)
+around κ = search (crosses, sendable, OptionSends.the_send, line) depth 60 fits 20000
+
+pub part : (κ : NamedLft) → IsSend (Part.the_row κ)
+part κ = search (crosses, sendable, OptionSends.the_send, line, around) depth 60 fits 20000

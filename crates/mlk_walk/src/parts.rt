@@ -1,0 +1,262 @@
+// The walk of lines in parts, side by side.
+
+ghost use Rattle.std.specs.Prelude.{◌≡◌, ◌∷◌, ◌++◌, [], IfOk, IfSome, map, option_map, option_copied};
+ghost use Rattle.std.specs.Thread.{IsSync};
+ghost use Rattle.mlk_syntax.specs.Views.{line_of, lines_from};
+ghost use Rattle.mlk_walk_state.specs.Scope.{scope_of};
+ghost use Rattle.mlk_walk_lines.specs.Endings.{OfBlock, around_of, head_of};
+ghost use Rattle.mlk_walk_lines.specs.Lines.{walk_lines};
+ghost use Rattle.mlk_walk_lines.specs.Parts.{first_or};
+ghost use Rattle.mlk_walk.specs.Parts.{IsJoined, IsWalk, after_of, trees_of, walk_of};
+ghost use Rattle.mlk_walk.specs.Verdicts.{fault_in};
+
+use mlk_calls::Scope;
+use mlk_cert_parts::Case;
+use mlk_syntax::Line;
+use mlk_text::{LineNumber, List};
+use mlk_walk_exprs::Fault;
+use mlk_walk_lines::{Around, LineFaults, walk_alone, walk_lines};
+use std::alloc::{AllocError, Global};
+use std::thread;
+use std::thread::Threads;
+
+/// Who sees into which lists of lines a walk is cut.
+pub trait Pieces {
+    /// The walk of a list that is not cut further begins, of which this is the first line.
+    fn begun(&self, line: LineNumber);
+}
+
+/// Nobody sees it.
+#[derive(Clone, Copy, Drop)]
+pub struct Unseen;
+
+impl Pieces for Unseen {
+    fn begun(&self, _line: LineNumber) {}
+}
+
+/// Lines of one level that stand behind one another.
+#[derive(Clone, Copy, Drop)]
+pub(crate) struct Part<'a> {
+    pub(crate) lines: &'a [Line],
+    pub(crate) around: Around<'a>,
+    /// the line to which a job goes on behind them, where there is one
+    pub(crate) after: Option<&'a Line>,
+}
+
+/// What the walk of a part comes to: the faults in the order in which they were found, and the cases in which the lines' own
+/// block may end.
+#[derive(Drop)]
+pub(crate) struct PartWalk {
+    pub(crate) faults: Vec<Fault>,
+    pub(crate) ends: Vec<Case>,
+}
+
+// The line to which a job goes on before these later lines of a part.
+fn next_of<'a>(part: Part<'a>, later: &'a [Line]) -> Option<&'a Line>
+    ensures { option_map head_of (option_copied result)
+        ≡ first_or (after_of part.entry) (lines_from (map line_of later.now)) }
+{
+    match later.first() {
+        Some(line) => Some(line),
+        None => part.after,
+    }
+}
+
+// The front half, rounded up, and the back half.
+fn halves<'a>(part: Part<'a>) -> (Part<'a>, Part<'a>)
+    ensures lines { part.entry.lines.now ≡ result.0.lines.now ++ result.1.lines.now }
+    ensures around { (result.0.around ≡ part.entry.around) × (result.1.around ≡ part.entry.around) }
+    ensures after { (after_of result.0 ≡ first_or (after_of part.entry) (trees_of result.1))
+        × (after_of result.1 ≡ after_of part.entry) }
+{
+    let (front, back) = part.lines.split_at(part.lines.len().div_ceil(2));
+    let first = Part {
+        lines: front,
+        around: part.around,
+        after: next_of(part, back),
+    };
+    let second = Part {
+        lines: back,
+        around: part.around,
+        after: part.after,
+    };
+    (first, second)
+}
+
+// The line of a list that has one alone.
+fn only_line(lines: &[Line]) -> Option<&Line>
+    ensures { IfSome result (λ l. lines.now ≡ l.now ∷ []) }
+{
+    match lines.split_first() {
+        Some((line, later)) if later.is_empty() => Some(line),
+        _ => None,
+    }
+}
+
+fn faults_in(alloc: Global, found: LineFaults) -> Result<Vec<Fault>, AllocError>
+    ensures { IfOk result (λ v. v.items ≡ map fault_in found) }
+{
+    let mut faults = Vec::new(alloc);
+    for (found, _) in found.into_vec() {
+        faults.push(found.fault)?;
+    }
+    Ok(faults)
+}
+
+// Two parts, one behind the other.
+fn joined(front: PartWalk, back: PartWalk) -> Result<PartWalk, AllocError>
+    ensures { IfOk result (IsJoined front back) }
+{
+    let PartWalk {
+        mut faults,
+        mut ends,
+    } = front;
+    let mut back = back;
+    faults.append(&mut back.faults)?;
+    ends.append(&mut back.ends)?;
+    Ok(PartWalk { faults, ends })
+}
+
+// The walk of a part that is not cut.
+fn walk_whole<'a>(
+    alloc: Global,
+    scope: &'a Scope<'a>,
+    part: Part<'a>,
+) -> Result<PartWalk, AllocError>
+    ensures { IfOk result (IsWalk (walk_of (scope_of scope.now) part.entry)) }
+{
+    let mut found = LineFaults::new(alloc);
+    let ends = walk_lines(
+        alloc,
+        scope,
+        part.lines,
+        part.around,
+        part.after,
+        &mut found,
+    )?;
+    let faults = faults_in(alloc, found)?;
+    Ok(PartWalk { faults, ends })
+}
+
+// The walk of a part of this one line, whose block comes to this.
+fn walk_head<'a>(
+    alloc: Global,
+    scope: &'a Scope<'a>,
+    part: Part<'a>,
+    line: &'a Line,
+    block: PartWalk,
+) -> Result<PartWalk, AllocError>
+    requires one { part.lines.now ≡ line.now ∷ [] }
+    requires block { IsWalk (walk_lines (scope_of scope.now) OfBlock (line_of line.now).1) block }
+    ensures { IfOk result (IsWalk (walk_of (scope_of scope.now) part.entry)) }
+{
+    let PartWalk {
+        faults: mut all,
+        ends: inner,
+    } = block;
+    let mut found = LineFaults::new(alloc);
+    let ends = walk_alone(
+        alloc,
+        scope,
+        line,
+        part.around,
+        part.after,
+        List::of(inner),
+        &mut found,
+    )?;
+    let mut own = faults_in(alloc, found)?;
+    all.append(&mut own)?;
+    Ok(PartWalk { faults: all, ends })
+}
+
+// The walk of a part of this one line, whose block is cut in its turn.
+#[cycle(split)]
+fn walk_one<'a, P: Pieces + Sync, R: Threads + Sync>(
+    rt: &R,
+    alloc: Global,
+    scope: &'a Scope<'a>,
+    part: Part<'a>,
+    line: &'a Line,
+    depth: u32,
+    pieces: &P,
+) -> Result<PartWalk, AllocError>
+    requires { part.lines.now ≡ line.now ∷ [] }
+    ensures { IfOk result (IsWalk (walk_of (scope_of scope.now) part.entry)) }
+{
+    let block = Part {
+        lines: line.block.as_slice(),
+        around: Around::Block,
+        after: None,
+    };
+    let inner = walk_part(rt, alloc, scope, block, depth, pieces)?;
+    walk_head(alloc, scope, part, line, inner)
+}
+
+// The walks of two parts, side by side.
+#[cycle(split)]
+fn walk_both<'a, P: Pieces + Sync, R: Threads + Sync>(
+    rt: &R,
+    alloc: Global,
+    scope: &'a Scope<'a>,
+    first: Part<'a>,
+    second: Part<'a>,
+    depth: u32,
+    pieces: &P,
+) -> (Result<PartWalk, AllocError>, Result<PartWalk, AllocError>)
+    ensures first { IfOk result.0 (IsWalk (walk_of (scope_of scope.now) first.entry)) }
+    ensures second { IfOk result.1 (IsWalk (walk_of (scope_of scope.now) second.entry)) }
+{
+    let front = move || -> Result<PartWalk, AllocError>
+        requires { IsSync R.row × IsSync P.row }
+        ensures { IfOk result (IsWalk (walk_of (scope_of scope.entry.now) first.entry)) }
+    { walk_part(rt, alloc, scope, first, depth, pieces) };
+    let back = move || -> Result<PartWalk, AllocError>
+        requires { IsSync R.row × IsSync P.row }
+        ensures { IfOk result (IsWalk (walk_of (scope_of scope.entry.now) second.entry)) }
+    { walk_part(rt, alloc, scope, second, depth, pieces) };
+    thread::join(rt, front, back)
+}
+
+// The walk of a part by its halves, side by side.
+#[cycle(split)]
+fn walk_halves<'a, P: Pieces + Sync, R: Threads + Sync>(
+    rt: &R,
+    alloc: Global,
+    scope: &'a Scope<'a>,
+    part: Part<'a>,
+    depth: u32,
+    pieces: &P,
+) -> Result<PartWalk, AllocError>
+    ensures { IfOk result (IsWalk (walk_of (scope_of scope.now) part.entry)) }
+{
+    let (first, second) = halves(part);
+    let (front, back) = walk_both(rt, alloc, scope, first, second, depth, pieces);
+    let front = front?;
+    let back = back?;
+    joined(front, back)
+}
+
+/// The walk of a part. It is cut in halves, which are walked side by side, and these in halves again, so deep as is said;
+/// where one line is left, its block is cut in its turn. The caller walks the half for which no thread starts.
+#[cycle(split)]
+pub(crate) fn walk_part<'a, P: Pieces + Sync, R: Threads + Sync>(
+    rt: &R,
+    alloc: Global,
+    scope: &'a Scope<'a>,
+    part: Part<'a>,
+    depth: u32,
+    pieces: &P,
+) -> Result<PartWalk, AllocError>
+    ensures { IfOk result (IsWalk (walk_of (scope_of scope.now) part.entry)) }
+{
+    if depth > 0 && part.lines.len() > 1 {
+        return walk_halves(rt, alloc, scope, part, depth - 1, pieces);
+    }
+    if let Some(first) = part.lines.first() {
+        pieces.begun(first.number);
+    }
+    match only_line(part.lines) {
+        Some(line) if depth > 0 => walk_one(rt, alloc, scope, part, line, depth, pieces),
+        _ => walk_whole(alloc, scope, part),
+    }
+}

@@ -1,0 +1,109 @@
+// The check of an entry whose lines are walked in parts, side by side.
+
+ghost use Rattle.std.specs.Prelude.{◌≡◌, ◌≤◌, IfOk, map};
+ghost use Rattle.mlk_syntax.specs.Views.{routine_of};
+ghost use Rattle.mlk_program.specs.Entries.{lines_of};
+ghost use Rattle.mlk_walk_state.specs.Scope.{scope_of, scope_with};
+ghost use Rattle.mlk_walk.specs.Faults.{ascending};
+ghost use Rattle.mlk_walk.specs.Parts.{IsOfEntry};
+ghost use Rattle.mlk_walk.specs.Verdicts.{all_faults, known, verdict};
+
+use crate::begin::own_faults;
+use crate::check::{Checks, verdict_of};
+use crate::entry::{formals_of, line_after, number_of};
+use crate::parts::{Part, Pieces, walk_part};
+use crate::verdict::Verdict;
+use mlk_calls::{Entries, Scope};
+use mlk_cert_parts::{Certificate, EntryCert};
+use mlk_program::{EntryId, Program};
+use mlk_rules::Rules;
+use mlk_walk_lines::Around;
+use std::alloc::{AllocError, Global};
+use std::thread::Threads;
+
+/// How often a list of lines is cut at most, so that it is walked in up to 64 parts.
+pub const DEEPEST_CUT: u32 = 6;
+
+// The lines of an entry.
+fn lines_in<'a>(program: &Program<'a>, entry: EntryId) -> Result<Part<'a>, AllocError>
+    ensures { IfOk result (IsOfEntry (map routine_of program.now) entry) }
+{
+    let after = line_after(program, entry)?;
+    let lines = program.lines_of(entry);
+    Ok(Part {
+        lines,
+        around: Around::Frame(after),
+        after,
+    })
+}
+
+// The verdict of an entry that is certified by a block.
+fn verdict_by<P: Pieces + Sync, R: Threads + Sync>(
+    rt: &R,
+    alloc: Global,
+    checks: &Checks<'_>,
+    entry: EntryId,
+    block: &EntryCert,
+    depth: u32,
+    pieces: &P,
+) -> Result<Verdict, AllocError>
+    ensures { IfOk result (λ v. v ≡ ascending (all_faults (map routine_of checks.now.program.now) entry
+        (scope_with (map routine_of checks.now.program.now) checks.now.rules.now checks.now.entries.now entry block.now))) }
+{
+    let scope = Scope::of(checks.program, checks.rules, checks.entries, entry, block);
+    let line = checks.program.line(entry);
+    let own = own_faults(alloc, &scope, number_of(line), formals_of(line))?;
+    let part = lines_in(checks.program, entry)?;
+    let walk = walk_part(rt, alloc, &scope, part, depth, pieces)?;
+    let mut verdict = Verdict::new(alloc);
+    verdict.put_all(walk.faults)?;
+    verdict.put_own(own)?;
+    Ok(verdict)
+}
+
+/// The faults of an entry, as `check_entry_split` gives them, by what is known of all entries already.
+#[tactic(auto, unfolding(crate::specs::Verdicts::entry_faults))]
+pub fn verdict_split<P: Pieces + Sync, R: Threads + Sync>(
+    rt: &R,
+    alloc: Global,
+    checks: &Checks<'_>,
+    entry: EntryId,
+    depth: u32,
+    pieces: &P,
+) -> Result<Verdict, AllocError>
+    requires { depth ≤ 6 }
+    ensures { IfOk result (λ v. v ≡ verdict (map routine_of checks.now.program.now) checks.now.rules.now
+        checks.now.entries.now entry) }
+{
+    match checks.entries.block(entry) {
+        Some(block) => verdict_by(rt, alloc, checks, entry, block, depth, pieces),
+        None => verdict_of(alloc, checks, entry),
+    }
+}
+
+/// The faults of an entry that `check_entry` gives, by a walk of its lines in parts. A list of more than one line is cut after
+/// its half, rounded up; both halves are walked side by side, and each is cut in its turn, so deep as is said: 0 cuts nothing, 6
+/// makes up to 64 parts of each list. The block of a line that is left alone is cut likewise. Where no thread starts, the caller
+/// walks that half itself.
+pub fn check_entry_split<P: Pieces + Sync, R: Threads + Sync>(
+    rt: &R,
+    alloc: Global,
+    program: &Program<'_>,
+    rules: &Rules,
+    certificate: &Certificate,
+    entry: EntryId,
+    depth: u32,
+    pieces: &P,
+) -> Result<Verdict, AllocError>
+    requires { depth ≤ 6 }
+    ensures { IfOk result (λ v. v ≡ verdict (map routine_of program.now) rules.now
+        (known (map routine_of program.now) rules.now certificate.now) entry) }
+{
+    let entries = Entries::of(alloc, program, rules, certificate.blocks())?;
+    let checks = Checks {
+        program,
+        rules,
+        entries: &entries,
+    };
+    verdict_split(rt, alloc, &checks, entry, depth, pieces)
+}
