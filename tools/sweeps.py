@@ -23,6 +23,7 @@ TRANSFER = ['examples/transfer/rules.toml', 'examples/transfer/BANK.m']
 COMMANDS = [
     (['verify', *WARD], True),
     (['verify', *TRANSFER], True),
+    (['verify', '--explain', *WARD], True),
     (['verify', '--strict', '--output', 'sarif', *WARD], True),
     (['make', *TRANSFER], False),
     (['make', '--format', '2', *TRANSFER], False),

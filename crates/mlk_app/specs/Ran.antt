@@ -34,9 +34,9 @@ use Rattle.mlk_cli.specs.CommandLine.{IsRequest, AsksNothing}
 use Rattle.mlk_outcome.specs.Checked.{trees_of, IsChecked, IsRefusedBy}
 use Rattle.mlk_outcome.specs.Converted.{IsConverted, IsUnconverted}
 
--- how a report is told: as text and without hazards, unless the words say otherwise
+-- how a report is told: as text, without hazards and explanations, unless the words say otherwise
 abbrev pub plain_style : ReportStyle
-plain_style = record { output = Plain; is_strict = false }
+plain_style = record { output = Plain; is_strict = false; is_explained = false }
 
 abbrev pub style_in : Asked → ReportStyle
 style_in (asked.Check certificate workers style) = style

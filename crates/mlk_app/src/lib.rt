@@ -2,6 +2,7 @@
 //! certificate or makes a survey, and says what it found.
 #![tactic(auto)]
 
+mod explained;
 mod file;
 mod notice;
 mod printed;

@@ -9,6 +9,7 @@ ghost use Rattle.mlk_app.specs.Ran.{style_in, status_of, PrintsReport, PrintsTex
 ghost use Rattle.mlk_forms.specs.Told.{IsNoticed};
 ghost use Rattle.mlk_outcome.specs.Checked.{IsOfOpenGate, IsNotShut};
 
+use crate::explained::{KeptTexts, kept_texts, told};
 use crate::notice::notice_of;
 use crate::printed::{
     certificate_line, events_line, fault_line, file_line, missing_line, rules_line, stuck_line,
@@ -20,7 +21,7 @@ use mlk_cli::{
     Asked, Format, Output, ProgramRequest, ReportStyle, Request, SurveyRequest, UsageError,
     read_request,
 };
-use mlk_forms::{notice_told, report_told, survey_told};
+use mlk_forms::{notice_told, survey_told};
 use mlk_outcome::{Checked, CheckedOutcome, NoReport, check_texts, converted};
 use mlk_output::Inputs;
 use mlk_pool::{CheckError, ReportText};
@@ -63,6 +64,7 @@ fn style_in(asked: &Asked<'_>) -> ReportStyle
         Asked::Make { .. } | Asked::Replay(_) => ReportStyle {
             output: Output::Text,
             is_strict: false,
+            is_explained: false,
         },
     }
 }
@@ -73,10 +75,16 @@ fn status_of(passes: bool) -> u8
     if passes { YES } else { NO }
 }
 
-fn report_answer(alloc: Global, inputs: &Inputs<'_>, report: &Report, style: ReportStyle) -> Answer
+fn report_answer(
+    alloc: Global,
+    inputs: &Inputs<'_>,
+    report: &Report,
+    style: ReportStyle,
+    kept: Option<&KeptTexts>,
+) -> Answer
     ensures { PrintsReport style (map routine_of inputs.now.routines.now) report.now result }
 {
-    match report_told(alloc, inputs, report, style) {
+    match told(alloc, inputs, report, style, kept) {
         Ok(told) => {
             let status = status_of(told.passes);
             Answer::Report(told.text, status)
@@ -100,11 +108,12 @@ fn outcome_answer(
     inputs: &Inputs<'_>,
     outcome: CheckedOutcome,
     style: ReportStyle,
+    kept: Option<&KeptTexts>,
 ) -> Answer
     ensures { PrintsOutcome style (map routine_of inputs.now.routines.now) outcome result }
 {
     match outcome {
-        CheckedOutcome::Report(report) => report_answer(alloc, inputs, &report, style),
+        CheckedOutcome::Report(report) => report_answer(alloc, inputs, &report, style, kept),
         CheckedOutcome::Made(text) => Answer::Report(ReportText::of(text), YES),
         CheckedOutcome::Replayed(text) => text_answer(alloc, text.as_bytes()),
     }
@@ -114,16 +123,21 @@ fn answer_of<W: Watch>(
     alloc: Global,
     checked: Checked,
     program: &ProgramRequest<'_>,
+    kept: Result<Option<KeptTexts>, AllocError>,
     watch: &W,
 ) -> Answer
     ensures { Prints (style_in program.now.asked) checked result }
 {
+    let Ok(kept) = kept else {
+        return Answer::OutOfMemory;
+    };
     let Checked { routines, outcome } = checked;
     let inputs = Inputs {
         routines: routines.as_slice(),
         paths: program.routines.as_slice(),
     };
-    let answer = outcome_answer(alloc, &inputs, outcome, style_in(&program.asked));
+    let style = style_in(&program.asked);
+    let answer = outcome_answer(alloc, &inputs, outcome, style, kept.as_ref());
     watch.discard(routines);
     answer
 }
@@ -211,10 +225,13 @@ fn answer_program<R: Threads + Wait + Sync, F: Files, W: Watch>(
     ensures { Answers (F.holds files.now) (F.lacks files.now) (wanted.Program program.now) result }
 {
     match read_files(alloc, files, program) {
-        Ok(sources) => match check_texts(rt, alloc, sources, watch) {
-            Ok(checked) => answer_of(alloc, checked, program, watch),
-            Err(refusal) => refusal_answer(alloc, &refusal, program),
-        },
+        Ok(sources) => {
+            let kept = kept_texts(alloc, &sources, style_in(&program.asked));
+            match check_texts(rt, alloc, sources, watch) {
+                Ok(checked) => answer_of(alloc, checked, program, kept, watch),
+                Err(refusal) => refusal_answer(alloc, &refusal, program),
+            }
+        }
         Err(FileError::OutOfMemory) => Answer::OutOfMemory,
         Err(FileError::Unread(path)) => unread_answer(alloc, path),
     }

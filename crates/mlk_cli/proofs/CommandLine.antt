@@ -19,7 +19,7 @@ use Rattle.mlk_cli.specs.declared.words.SurveyRequest.{SurveyRequest}
 use Rattle.mlk_cli.specs.declared.words.Request.{Request}
 use Rattle.mlk_cli.specs.declared.words.Request.TheVariants as request
 use Rattle.mlk_cli.specs.declared.words.ProgramRequest.{ProgramRequest}
-use Rattle.mlk_cli.specs.CommandLine.{mlock_app, IsAsked, IsNumber, IsNumberOf, IsFormat, IsWalk, IsOutput, NamesOutput, GivesOutput, IsStrict, IsSurveyOutput, IsSurvey, IsConversion, IsProgramGiven, IsGiven, GivesNumber}
+use Rattle.mlk_cli.specs.CommandLine.{mlock_app, IsAsked, IsNumber, IsNumberOf, IsFormat, IsWalk, IsOutput, NamesOutput, GivesOutput, IsFlag, IsSurveyOutput, IsSurvey, IsConversion, IsProgramGiven, IsGiven, GivesNumber}
 
 pub not-true : (b : Bool) → not b ≡ true → b ≡ false
 not-true true h = cc h
@@ -48,6 +48,9 @@ first_words = codes "mlock" ∷ codes "convert" ∷ codes "--format=1" ∷ codes
 
 abbrev make_words : List Text
 make_words = codes "mlock" ∷ codes "make" ∷ codes "r" ∷ codes "A.m" ∷ []
+
+abbrev explain_words : List Text
+explain_words = codes "mlock" ∷ codes "verify" ∷ codes "--explain" ∷ codes "r" ∷ codes "A.m" ∷ []
 
 abbrev strict_words : List Text
 strict_words = codes "mlock" ∷ codes "verify" ∷ codes "--strict" ∷ codes "r" ∷ codes "A.m" ∷ codes "--output" ∷ codes "json" ∷ []
@@ -110,6 +113,14 @@ tells_json = refl
 tells_no_hazards : option_map (λ p. first_of (codes "strict") p.1) (subcommand_of mlock_app words) ≡ Some (Some (codes "false"))
 unfolding clap_on_literals
 tells_no_hazards = refl
+
+explains : option_map (λ p. first_of (codes "explain") p.1) (subcommand_of mlock_app explain_words) ≡ Some (Some (codes "true"))
+unfolding clap_on_literals
+explains = refl
+
+explains_nothing : option_map (λ p. first_of (codes "explain") p.1) (subcommand_of mlock_app words) ≡ Some (Some (codes "false"))
+unfolding clap_on_literals
+explains_nothing = refl
 
 tells_as_text : option_map (λ p. first_of (codes "output") p.1) (subcommand_of mlock_app words) ≡ Some (Some (codes "text"))
 unfolding clap_on_literals
@@ -248,9 +259,9 @@ pub named-output : (rows : List Row) (text : Text) (r : Option Output) → first
 named-output rows text None is none = λ output h. none output (some_same (sym is ∙ h))
 named-output rows text (Some output) is named = is ∙ ap Some named
 
-pub not-strict : (rows : List Row) (text : Text) → first_of (codes "strict") rows ≡ Some text → (text ≡ codes "true" → ⊥) → (text ≡ codes "false" → ⊥) → (strict : Bool) → IsStrict rows strict → ⊥
-not-strict rows text is no-true no-false true h = no-true (some_same (sym is ∙ h))
-not-strict rows text is no-true no-false false h = no-false (some_same (sym is ∙ h))
+pub not-flag : (option : Text) (rows : List Row) (text : Text) → first_of option rows ≡ Some text → (text ≡ codes "true" → ⊥) → (text ≡ codes "false" → ⊥) → (flag : Bool) → IsFlag option rows flag → ⊥
+not-flag option rows text is no-true no-false true h = no-true (some_same (sym is ∙ h))
+not-flag option rows text is no-true no-false false h = no-false (some_same (sym is ∙ h))
 
 pub no-survey-output : (rows : List Row) → ((output : Output) → IsOutput rows output → ⊥) → (output : SurveyOutput) → IsSurveyOutput rows output → ⊥
 no-survey-output rows none surveyed.Text h = none output.Text h

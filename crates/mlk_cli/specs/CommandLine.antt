@@ -48,9 +48,13 @@ output_rule = record (new_rule (codes "output")) { long = Some (codes "output");
 abbrev pub strict_rule : Rule
 strict_rule = record (new_rule (codes "strict")) { long = Some (codes "strict"); action = Some SetTrue }
 
+-- `--explain`
+abbrev pub explain_rule : Rule
+explain_rule = record (new_rule (codes "explain")) { long = Some (codes "explain"); action = Some SetTrue }
+
 -- a command that is told how its report is told
 abbrev pub with_style : App → App
-with_style app = with_rule (with_rule app output_rule) strict_rule
+with_style app = with_rule (with_rule (with_rule app output_rule) strict_rule) explain_rule
 
 -- `check RULES CERT ROUTINE..`, how many workers, and how its report is told
 abbrev pub check_app : App
@@ -127,17 +131,28 @@ abbrev pub GivesOutput : List Row → Option Output → Type 0
 GivesOutput rows None = (output : Output) → IsOutput rows output → ⊥
 GivesOutput rows (Some output) = IsOutput rows output
 
--- whether a command was told to be strict
-abbrev pub IsStrict : List Row → Bool → Type 0
-IsStrict rows strict = first_of (codes "strict") rows ≡ Some (if strict then codes "true" else codes "false")
+-- whether a command was given the option of this name
+abbrev pub IsFlag : Text → List Row → Bool → Type 0
+IsFlag option rows flag = first_of option rows ≡ Some (if flag then codes "true" else codes "false")
 
-abbrev pub GivesStrict : List Row → Option Bool → Type 0
-GivesStrict rows None = (strict : Bool) → IsStrict rows strict → ⊥
-GivesStrict rows (Some strict) = IsStrict rows strict
+abbrev pub GivesFlag : Text → List Row → Option Bool → Type 0
+GivesFlag option rows None = (flag : Bool) → IsFlag option rows flag → ⊥
+GivesFlag option rows (Some flag) = IsFlag option rows flag
+
+-- whether a command was told to be strict, and to explain
+abbrev pub IsStrict : List Row → Bool → Type 0
+IsStrict rows strict = IsFlag (codes "strict") rows strict
+
+abbrev pub IsExplained : List Row → Bool → Type 0
+IsExplained rows explained = IsFlag (codes "explain") rows explained
+
+-- Explanations are told in text alone.
+abbrev pub MayExplain : Output → Bool → Type 0
+MayExplain output explained = explained ≡ true → output ≡ Plain
 
 -- how a report is told
 abbrev pub IsStyle : List Row → ReportStyle → Type 0
-IsStyle rows style = IsOutput rows style.output × IsStrict rows style.is_strict
+IsStyle rows style = IsOutput rows style.output × IsStrict rows style.is_strict × IsExplained rows style.is_explained × MayExplain style.output style.is_explained
 
 abbrev pub GivesStyle : List Row → Option ReportStyle → Type 0
 GivesStyle rows None = (style : ReportStyle) → IsStyle rows style → ⊥

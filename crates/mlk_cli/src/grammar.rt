@@ -2,13 +2,13 @@
 
 ghost use Rattle.std.specs.Prelude.{◌≡◌, IfOk, true, false};
 ghost use Rattle.clap.specs.Words.{app_of, rule_of, with_rule, with_subcommand};
-ghost use Rattle.mlk_cli.specs.CommandLine.{path_rule, routines_rule, workers_rule, format_rule, output_rule, strict_rule, with_style, check_app, make_app, verify_app, replay_app, convert_app, survey_app, no_command_app, mlock_app};
+ghost use Rattle.mlk_cli.specs.CommandLine.{path_rule, routines_rule, workers_rule, format_rule, output_rule, strict_rule, explain_rule, with_style, check_app, make_app, verify_app, replay_app, convert_app, survey_app, no_command_app, mlock_app};
 
 use crate::help::{
-    ABOUT, CERT_HELP, CHECK_HELP, CHECK_MORE, CONVERT_HELP, CONVERT_MORE, EVENTS_HELP, FORMAT_HELP,
-    MAKE_HELP, MAKE_MORE, OUTPUT_HELP, REPLAY_HELP, REPLAY_MORE, ROUTINE_HELP, RULES_HELP,
-    STRICT_HELP, SURVEY_HELP, SURVEY_MORE, SURVEY_OUTPUT_HELP, VERIFY_HELP, VERIFY_MORE, VERSION,
-    WORKERS_HELP,
+    ABOUT, CERT_HELP, CHECK_HELP, CHECK_MORE, CONVERT_HELP, CONVERT_MORE, EVENTS_HELP,
+    EXPLAIN_HELP, FORMAT_HELP, MAKE_HELP, MAKE_MORE, OUTPUT_HELP, REPLAY_HELP, REPLAY_MORE,
+    ROUTINE_HELP, RULES_HELP, STRICT_HELP, SURVEY_HELP, SURVEY_MORE, SURVEY_OUTPUT_HELP,
+    VERIFY_HELP, VERIFY_MORE, VERSION, WORKERS_HELP,
 };
 use clap::builder::ValueParser;
 use clap::{Arg, ArgAction, Command, value_parser};
@@ -83,13 +83,25 @@ fn strict_option<'a>(alloc: Global) -> Arg<'a>
         .help(STRICT_HELP)
 }
 
+// Whether faults are explained.
+fn explain_option<'a>(alloc: Global) -> Arg<'a>
+    ensures rule { rule_of result ≡ explain_rule }
+    ensures local { result.global ≡ false }
+{
+    Arg::new(alloc, "explain")
+        .long("explain")
+        .action(ArgAction::SetTrue)
+        .help(EXPLAIN_HELP)
+}
+
 // A command that is told how its report is told.
 fn with_style<'a>(alloc: Global, command: Command<'a>) -> Result<Command<'a>, AllocError>
     ensures { IfOk result (λ c. app_of c ≡ with_style (app_of command.entry)) }
 {
     command
         .arg(output_option(alloc, OUTPUT_HELP))?
-        .arg(strict_option(alloc))
+        .arg(strict_option(alloc))?
+        .arg(explain_option(alloc))
 }
 
 fn check_command<'a>(alloc: Global) -> Result<Command<'a>, AllocError>

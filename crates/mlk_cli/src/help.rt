@@ -18,6 +18,9 @@ pub(crate) const OUTPUT_HELP: &str =
 pub(crate) const STRICT_HELP: &str =
     "Tells also where a real system may do otherwise than the standard says, and ends with status 1 there";
 
+pub(crate) const EXPLAIN_HELP: &str =
+    "Shows below each fault its line, what is held there, the rules and what mends it; in text alone";
+
 pub(crate) const SURVEY_OUTPUT_HELP: &str = "How the survey is told: text or json";
 
 pub(crate) const CHECK_HELP: &str = "Checks routines against a rule file and a certificate";
@@ -25,7 +28,7 @@ pub(crate) const CHECK_HELP: &str = "Checks routines against a rule file and a c
 pub(crate) const CHECK_MORE: &str = "Checks routines against a rule file and a certificate
 
 Prints `yes` where every run of the declared entries, by any number of jobs, keeps the rules; else a line for each
-fault, as `LABEL^ROUTINE line:column CODE NAME`, and `no N`.
+fault, as `LABEL^ROUTINE line:column CODE NAME`, and `no N`. With --explain each fault is explained below its line.
 
 With --strict a line for each hazard follows, as `hazard ROUTINE line:column NAME`: a place where a real system may do
 otherwise than the standard says.
@@ -51,11 +54,12 @@ pub(crate) const VERIFY_HELP: &str = "Makes a certificate of routines and checks
 pub(crate) const VERIFY_MORE: &str = "Makes a certificate of routines and checks them by it
 
 Prints what `mlock check` prints for the certificate that `mlock make` prints: `yes`, or a line for each fault and `no N`.
+With --explain each fault is explained below its line.
 
 With --strict a line for each hazard follows, as `hazard ROUTINE line:column NAME`: a place where a real system may do
 otherwise than the standard says.
 
-Example: mlock verify --output sarif rules.toml BANK.m > mlock.sarif
+Example: mlock verify --explain rules.toml BANK.m
 
 Status: 0 yes, 1 no, or a hazard with --strict, 2 refused input or given up, 3 want of memory or a file that can't be read
 or written.";
@@ -108,7 +112,7 @@ pub(crate) const VERSION: &str = "0.1.0, for Rattle logic dac8208d650f15bf";
 pub(crate) const ABOUT: &str = "Checks that M routines touch shared data only under their locks";
 
 pub(crate) const NO_REQUEST: &str =
-    "error: no such value of '--output': 'check' and 'verify' take text, json or sarif, 'survey' takes text or json
+    "error: no such value of '--output': 'check' and 'verify' take text, json or sarif, 'survey' takes text or json; '--explain' goes with text
 
 For more information, try '--help'.
 ";

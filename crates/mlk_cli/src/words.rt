@@ -5,7 +5,7 @@ ghost use Rattle.clap.specs.Words.{found_of, rows_of, kind_of};
 ghost use Rattle.clap.specs.Takes.{takes};
 ghost use Rattle.clap.specs.declared.error.kind.ErrorKind.TheVariants.{OutOfMemory};
 ghost use Rattle.clap.specs.Simple.{subcommand_rows_of};
-ghost use Rattle.mlk_cli.specs.CommandLine.{mlock_app, GivesNumber, GivesFormat, NamesOutput, GivesOutput, GivesStrict, GivesStyle, GivesWalk, GivesSurveyOutput, GivesAsked, GivesProgram, GivesSurvey, GivesConversion, GivesPaths, GivesRequest, texts_of, Asks, IsRequest, LacksRequest};
+ghost use Rattle.mlk_cli.specs.CommandLine.{mlock_app, GivesNumber, GivesFormat, NamesOutput, GivesOutput, GivesFlag, GivesStyle, GivesWalk, GivesSurveyOutput, GivesAsked, GivesProgram, GivesSurvey, GivesConversion, GivesPaths, GivesRequest, texts_of, Asks, IsRequest, LacksRequest};
 
 use crate::grammar::grammar;
 use crate::help::NO_REQUEST;
@@ -35,11 +35,12 @@ pub enum SurveyOutput {
     Json,
 }
 
-/// How a report is told, and whether hazards are told with it.
+/// How a report is told, whether hazards are told with it, and whether its faults are explained, which they are in text alone.
 #[derive(Clone, Copy, Debug, PartialEq, Eq)]
 pub struct ReportStyle {
     pub output: Output,
     pub is_strict: bool,
+    pub is_explained: bool,
 }
 
 /// What is to be done with routines and rules.
@@ -142,11 +143,11 @@ fn output_of(matches: &ArgMatches<'_>) -> Option<Output>
     output_named(text)
 }
 
-// Whether a command was told to be strict.
-fn strict_of(matches: &ArgMatches<'_>) -> Option<bool>
-    ensures { GivesStrict (rows_of (found_of matches.now)) result }
+// Whether a command was given the option of this name.
+fn flag_of(matches: &ArgMatches<'_>, option: &str) -> Option<bool>
+    ensures { GivesFlag option.now (rows_of (found_of matches.now)) result }
 {
-    let Some(text) = matches.get_str("strict") else {
+    let Some(text) = matches.get_str(option) else {
         return None;
     };
     if text == "true" {
@@ -164,10 +165,20 @@ fn style_of(matches: &ArgMatches<'_>) -> Option<ReportStyle>
     let Some(output) = output_of(matches) else {
         return None;
     };
-    let Some(is_strict) = strict_of(matches) else {
+    let Some(is_strict) = flag_of(matches, "strict") else {
         return None;
     };
-    Some(ReportStyle { output, is_strict })
+    let Some(is_explained) = flag_of(matches, "explain") else {
+        return None;
+    };
+    if is_explained && output != Output::Text {
+        return None;
+    }
+    Some(ReportStyle {
+        output,
+        is_strict,
+        is_explained,
+    })
 }
 
 // How many workers a command was given, and how its report is told.

@@ -23,7 +23,7 @@ passed-no-row style trees rows text told = passes-no-row rows told.hazards (sym 
 
 -- Where the words ask for nothing else, the text is that of the report and no byte more.
 pub plain-text : (style : ReportStyle) (trees : List RoutineTree) (rows : List Row) (text : List ℕ) (passed : Bool)
-    → style ≡ record { output = Text; is_strict = false } → IsReportTold style trees rows text passed → text ≡ report_text trees rows
+    → style ≡ record { output = Text; is_strict = false; is_explained = false } → IsReportTold style trees rows text passed → text ≡ report_text trees rows
 plain-text style trees rows text passed plain told =
     let usual = subst (λ s. IsReportTold s trees rows text passed) plain told in
     usual.printed ∙ ap (λ hazards. report_text trees rows ++ hazard_lines hazards) usual.told ∙ append-nil (report_text trees rows)

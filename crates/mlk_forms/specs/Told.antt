@@ -32,11 +32,16 @@ IsReportIn Text trees rows hazards text = text ≡ report_text trees rows ++ haz
 IsReportIn Json trees rows hazards text = Unit {0}
 IsReportIn Sarif trees rows hazards text = Unit {0}
 
+-- The same where faults are explained or not: with explanations what the text says is not said.
+abbrev pub IsReportAs : Bool → Output → List RoutineTree → List Row → List HazardAt → List ℕ → Type 0
+IsReportAs true output trees rows hazards text = Unit {0}
+IsReportAs false output trees rows hazards text = IsReportIn output trees rows hazards text
+
 -- a report as it is printed in a style, and whether it passes
 pub record IsReportTold (style : ReportStyle) (trees : List RoutineTree) (rows : List Row) (text : List ℕ) (passed : Bool) : Type 0 where
   pub hazards : List HazardAt
   pub told : AreTold style.is_strict hazards
-  pub printed : IsReportIn style.output trees rows hazards text
+  pub printed : IsReportAs style.is_explained style.output trees rows hazards text
   pub ended : passed ≡ passes rows hazards
 
 -- what is printed of a refusal beside the line on the error stream: nothing where text is asked for

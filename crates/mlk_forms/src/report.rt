@@ -3,10 +3,11 @@
 ghost use Rattle.std.specs.Prelude.{◌≡◌, ◌++◌, IfOk, OnOk, map};
 ghost use Rattle.mlk_syntax.specs.Views.{routine_of};
 ghost use Rattle.mlk_pool.specs.Texts.{report_text};
-ghost use Rattle.mlk_forms.specs.Told.{AreTold, IsReportIn, IsReportTold, hazard_line, hazard_lines, passes};
+ghost use Rattle.mlk_forms.specs.Told.{AreTold, IsReportIn, IsReportAs, IsReportTold, hazard_line, hazard_lines, passes};
 
 use crate::notice::with_end;
 use mlk_cli::{Output, ReportStyle};
+use mlk_explain::{Grounds, explained};
 use mlk_hazards::{HazardAt, hazards_of};
 use mlk_output::{Inputs, report_json, report_sarif};
 use mlk_pool::{ReportText, report_text};
@@ -73,6 +74,18 @@ fn plain_text(
     Ok(text)
 }
 
+// The text with explanations, by these grounds.
+fn explained_text(
+    alloc: Global,
+    grounds: &Grounds<'_>,
+    report: &Report,
+    hazards: &[HazardAt<'_>],
+) -> Result<ReportText, AllocError> {
+    let mut text = ReportText::of(explained(alloc, grounds, report)?.into_bytes());
+    push_hazards(&mut text, hazards)?;
+    Ok(text)
+}
+
 fn json_text(
     alloc: Global,
     inputs: &Inputs<'_>,
@@ -112,24 +125,43 @@ fn text_in(
     Ok(text)
 }
 
+// The text in the style that is asked for. Where grounds are lacking nothing is explained.
+fn styled_text(
+    alloc: Global,
+    inputs: &Inputs<'_>,
+    report: &Report,
+    style: ReportStyle,
+    hazards: &[HazardAt<'_>],
+    grounds: Option<&Grounds<'_>>,
+) -> Result<ReportText, AllocError>
+    ensures { IfOk result (IsReportAs style.is_explained style.output (map routine_of inputs.now.routines.now) report.now hazards.now) }
+{
+    match grounds {
+        Some(grounds) if style.is_explained => explained_text(alloc, grounds, report, hazards),
+        _ => text_in(alloc, inputs, report, style, hazards),
+    }
+}
+
 fn passes(report: &Report, hazards: &[HazardAt<'_>]) -> bool
     ensures { result ≡ passes report.now hazards.now }
 {
     report.rows().is_empty() && hazards.is_empty()
 }
 
-/// A report in the style that is asked for, and whether it passes.
+/// A report in the style that is asked for, and whether it passes. Explanations need grounds; without them it is told as if
+/// none were asked for.
 pub fn report_told(
     alloc: Global,
     inputs: &Inputs<'_>,
     report: &Report,
     style: ReportStyle,
+    grounds: Option<&Grounds<'_>>,
 ) -> Result<ToldReport, AllocError>
     ensures { IfOk result (λ told. IsReportTold style (map routine_of inputs.now.routines.now) report.now told.text told.passes) }
 {
     let hazards = told_hazards(alloc, inputs.routines, style.is_strict)?;
     let told = hazards.as_slice();
-    let text = text_in(alloc, inputs, report, style, told)?;
+    let text = styled_text(alloc, inputs, report, style, told, grounds)?;
     let passes = passes(report, told);
     Ok(ToldReport { text, passes })
 }

@@ -22,7 +22,11 @@ fn add_mention<'a>(
             },
         ),
         Mention::Lock(argument) => add_names(hazards, mention, argument),
-        Mention::Begin | Mention::Global(_, _) | Mention::Call(_, _) | Mention::Unlock => Ok(()),
+        Mention::Begin
+        | Mention::Global(_, _, _)
+        | Mention::Call(_, _)
+        | Mention::Job(_)
+        | Mention::Unlock => Ok(()),
     }
 }
 

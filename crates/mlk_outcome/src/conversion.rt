@@ -9,7 +9,8 @@ use mlk_text::Failure;
 use mlk_watch::Watch;
 use std::alloc::Global;
 
-/// The text in a format of the certificate that a text spells, in either format.
+/// The text in a format of the certificate that a text spells, in either format. Refuses a text that spells none, with the
+/// code and the place of its first fault (601 to 607), and one whose certificate is too long in that format (605).
 pub fn converted<W: Watch>(
     alloc: Global,
     given: &[u8],

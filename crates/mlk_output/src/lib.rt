@@ -9,6 +9,7 @@ mod sarif;
 mod shown;
 
 pub use json::{notice_json, report_json};
+pub use meaning::mend_of;
 pub use notice::{Notice, Place};
 pub use row::Inputs;
 pub use sarif::{notice_sarif, report_sarif};

@@ -129,3 +129,11 @@ pub(crate) fn hazard_is_what(hazard: Hazard) -> &'static str {
         None => "",
     }
 }
+
+/// What mends a fault; nothing where the code is none of the walk's.
+pub fn mend_of(code: Code) -> &'static str {
+    match MENDINGS.iter().find(|mending| mending.code == code) {
+        Some(mending) => mending.mend,
+        None => "",
+    }
+}

@@ -84,7 +84,7 @@ pub(crate) fn globals_in<'a>(
 ) -> Result<Vec<GlobalUse<'a>>, AllocError> {
     let mut globals = Globals::new(alloc);
     for at in mentions {
-        if let Mention::Global(name, usage) = at.mention {
+        if let Mention::Global(_, name, usage) = at.mention {
             globals.add(name.as_bytes(), usage)?;
         }
     }

@@ -75,7 +75,10 @@ impl<'a> Held<'a> {
                 Ok(())
             }
             Mention::Lock(argument) => self.lock(argument),
-            Mention::Global(_, _) | Mention::Call(_, _) | Mention::SkippedCall(_) => Ok(()),
+            Mention::Global(_, _, _)
+            | Mention::Call(_, _)
+            | Mention::Job(_)
+            | Mention::SkippedCall(_) => Ok(()),
         }
     }
 }

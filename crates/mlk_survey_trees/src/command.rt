@@ -68,7 +68,9 @@ fn add_use<'a>(
     usage: Usage,
 ) -> Result<(), AllocError> {
     match &variable.name {
-        Expr::Global(_, name, _) => push_sparing(found, Mention::Global(name, usage)),
+        Expr::Global(column, name, _) => {
+            push_sparing(found, Mention::Global(*column, name, usage))
+        }
         _ => Ok(()),
     }
 }
@@ -188,13 +190,22 @@ fn in_lock<'a>(found: &mut Vec<Mention<'a>>, locks: &'a [LockArgument]) -> Resul
     find_all(found, locks)
 }
 
+// Adds what the arguments of JOB mention.
+fn in_jobs<'a>(found: &mut Vec<Mention<'a>>, calls: &'a [Call]) -> Result<(), AllocError> {
+    for call in calls {
+        call.find(found)?;
+        push_sparing(found, Mention::Job(call.column))?;
+    }
+    Ok(())
+}
+
 impl HasMentions for Action {
     fn find<'a>(&'a self, found: &mut Vec<Mention<'a>>) -> Result<(), AllocError> {
         match self {
             Action::Do(calls) => calls.find(found),
             Action::Else | Action::Halt | Action::New(_) => Ok(()),
             Action::Hang(values) | Action::If(values) => values.find(found),
-            Action::Job(calls) => calls.find(found),
+            Action::Job(calls) => in_jobs(found, calls),
             Action::Kill(kills) => kills.find(found),
             Action::Lock(locks) => in_lock(found, locks),
             Action::Merge(merges) => merges.find(found),

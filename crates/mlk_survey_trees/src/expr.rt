@@ -43,9 +43,9 @@ fn in_parts<'a>(found: &mut Vec<Mention<'a>>, e: &'a Expr, runs: Runs) -> Result
     match e {
         Expr::Lit(_) | Expr::Free | Expr::Special(_) | Expr::Pattern(_) => Ok(()),
         Expr::Local(_, subscripts) => in_subscripts(found, subscripts, runs),
-        Expr::Global(_, name, subscripts) => {
+        Expr::Global(column, name, subscripts) => {
             in_subscripts(found, subscripts, runs)?;
-            push_sparing(found, Mention::Global(name, Usage::Read))
+            push_sparing(found, Mention::Global(*column, name, Usage::Read))
         }
         Expr::Unary(_, operand) => in_expr(found, operand, runs),
         Expr::Binary(first, rest) => {

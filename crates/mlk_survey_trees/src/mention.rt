@@ -17,10 +17,12 @@ pub enum Usage {
 pub enum Mention<'a> {
     /// a routine or a label begins
     Begin,
-    /// a use of a global
-    Global(&'a Name, Usage),
+    /// a use of a global, and the column of its `^`
+    Global(Column, &'a Name, Usage),
     /// a call, and the column where it begins
     Call(Column, &'a Callee),
+    /// a call by which a job begins, by the column where it begins; it is mentioned as a call too
+    Job(Column),
     /// an extrinsic call that a system may skip, by the column where it begins
     SkippedCall(Column),
     /// an argument of LOCK

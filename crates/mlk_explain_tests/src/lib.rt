@@ -1,0 +1,5 @@
+//! Tests of explanations, by the public calls.
+#![tactic(auto)]
+
+#[cfg(test)]
+mod faults;
