@@ -15,6 +15,6 @@ for entry in (TOP / 'crates.txt').read_text().splitlines():
     crate = TOP / 'crates' / name
     if name.endswith(('_tests', '_cases')):
         continue
-    wrong = [len(list((crate / 'must-fail').glob(f'*.{it}'))) for it in ('edit', 'md')]
+    wrong = [len(list(folder.glob('*.edit'))) for folder in (crate / 'must-fail', TOP / 'wrong-bodies' / name)]
     more = f' ({wrong[1]})' if wrong[1] else ''
     print(f"| `{name}` | {lines(crate, 'src', 'rt'):,} | {lines(crate, 'specs', 'antt'):,} | {lines(crate, 'proofs', 'antt'):,} | {wrong[0]}{more} |")
