@@ -5,7 +5,7 @@
 
     cd DIR/crates/expr_answers && rt run < ../../lines.txt > ../../answers.txt; cmp ../../expected.txt ../../answers.txt
 
-It follows docs/EXPRESSIONS.md and nothing else: each part gives all places where it may end, and the first byte that
+It follows docs/reference/EXPRESSIONS.md and nothing else: each part gives all places where it may end, and the first byte that
 can't stand is the one after the furthest that some way could take. lines.txt has the lines, each after the byte from
 which it is read, expected.txt seven answers for each: of an expression, a name with subscripts and an actual list
 there, and of these where less may stand. The crates mlk_text and mlk_expr are copied with what was proved of them;

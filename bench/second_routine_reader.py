@@ -10,7 +10,7 @@
     cd DIR/crates/routine_answers && rt run < ../../routines.txt > ../../answers.txt; cmp ../../expected.txt ../../answers.txt
 
 The crates that it stands on are copied to DIR with what was proved of them; `rt run` proves what is left, `rt try` nothing.
-It follows docs/ROUTINES.md and nothing else, and takes expressions from second_reader.py. Each part of a line gives all
+It follows docs/reference/ROUTINES.md and nothing else, and takes expressions from second_reader.py. Each part of a line gives all
 places where it may end, from all places where it may begin; what stands at the furthest place that some way could take is
 the fault, unless something before it is refused by name.
 """

@@ -2,6 +2,7 @@
 
 use crate::block::add_blocks;
 use crate::hazard::{Hazard, HazardAt};
+use crate::lines::{add_labels_alike, add_long_lines};
 use crate::names::add_names;
 use mlk_survey_trees::{Mention, MentionAt, mentions_of};
 use mlk_syntax::Routine;
@@ -42,6 +43,12 @@ pub fn hazards_in<'a>(
     }
     for routine in routines {
         add_blocks(&mut hazards, routine)?;
+        add_long_lines(
+            &mut hazards,
+            routine.name.as_bytes(),
+            routine.lines.as_slice(),
+        )?;
+        add_labels_alike(alloc, &mut hazards, routine)?;
     }
     hazards.sort_by(|hazard, other| hazard.position.cmp(&other.position))?;
     Ok(hazards)

@@ -10,12 +10,16 @@ use mlk_survey_trees::Position;
 pub enum Hazard {
     /// an extrinsic call right of `&`, `!`, `'&` or `'!`: it may not run
     SkippedCall,
-    /// two names of a LOCK argument without sign that may be one name: it may be counted once
+    /// two names of a LOCK argument that claims and that may be one name: it may be counted once, or past the greatest count
     PerhapsOneName,
     /// a name that stands twice in one LOCK argument
     RepeatedName,
     /// a block that ends directly before a line with a formal list: its end may be an error
     BlockBeforeFormals,
+    /// a line of more than 8,192 bytes: the rest may run as a line of its own
+    LongLine,
+    /// a label whose first 31 characters are those of an earlier label: a call of it may go to that one
+    LabelsAlike,
 }
 
 impl Hazard {
@@ -28,6 +32,8 @@ impl Hazard {
             Hazard::PerhapsOneName => "PerhapsOneName",
             Hazard::RepeatedName => "RepeatedName",
             Hazard::BlockBeforeFormals => "BlockBeforeFormals",
+            Hazard::LongLine => "LongLine",
+            Hazard::LabelsAlike => "LabelsAlike",
         }
     }
 
@@ -37,9 +43,13 @@ impl Hazard {
             Hazard::SkippedCall => {
                 "call it in a SET of its own before, or compile with gtm_boolean=1"
             }
-            Hazard::PerhapsOneName => "use LOCK +(..), or names that surely differ",
+            Hazard::PerhapsOneName => {
+                "use names that surely differ, or claim each by an argument of its own with +"
+            }
             Hazard::RepeatedName => "name it once",
             Hazard::BlockBeforeFormals => "put a line with QUIT between them",
+            Hazard::LongLine => "break the line up",
+            Hazard::LabelsAlike => "use labels that differ in their first 31 characters",
         }
     }
 }

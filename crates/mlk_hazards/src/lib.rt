@@ -4,6 +4,7 @@
 mod block;
 mod finding;
 mod hazard;
+mod lines;
 mod names;
 
 pub use finding::{hazards_in, hazards_of};

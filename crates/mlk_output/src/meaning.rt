@@ -100,14 +100,14 @@ pub(crate) struct HazardMeaning {
 }
 
 /// All hazards.
-pub(crate) const HAZARD_MEANINGS: [HazardMeaning; 4] = [
+pub(crate) const HAZARD_MEANINGS: [HazardMeaning; 6] = [
     HazardMeaning {
         hazard: Hazard::SkippedCall,
         is: "an extrinsic call right of a logical operator: a system may skip it",
     },
     HazardMeaning {
         hazard: Hazard::PerhapsOneName,
-        is: "two names of one LOCK argument without sign that may be one: a system may count them once",
+        is: "two names of one LOCK argument that may be one: a system may count them once, or let the count wrap",
     },
     HazardMeaning {
         hazard: Hazard::RepeatedName,
@@ -116,6 +116,14 @@ pub(crate) const HAZARD_MEANINGS: [HazardMeaning; 4] = [
     HazardMeaning {
         hazard: Hazard::BlockBeforeFormals,
         is: "a block that ends directly before a line with a formal list: a system may end it with an error",
+    },
+    HazardMeaning {
+        hazard: Hazard::LongLine,
+        is: "a line of more than 8,192 bytes: a system may run the rest as a line of its own",
+    },
+    HazardMeaning {
+        hazard: Hazard::LabelsAlike,
+        is: "two labels with the same first 31 characters: a system may take one for the other",
     },
 ];
 

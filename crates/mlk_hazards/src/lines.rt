@@ -1,0 +1,79 @@
+// Lines that a system may cut, and labels that it may take for each other.
+
+use crate::hazard::{Hazard, HazardAt};
+use mlk_survey_trees::Position;
+use mlk_syntax::{Line, Routine};
+use mlk_text::{Column, LineNumber, push_sparing};
+use std::alloc::{AllocError, Global};
+
+/// How many bytes of a line GT.M reads.
+const LONGEST_LINE: u32 = 8192;
+
+/// How many characters of a label GT.M reads.
+const LONGEST_LABEL: usize = 31;
+
+// Adds a hazard of `routine`.
+fn add<'a>(
+    hazards: &mut Vec<HazardAt<'a>>,
+    routine: &'a [u8],
+    line: LineNumber,
+    column: Column,
+    hazard: Hazard,
+) -> Result<(), AllocError> {
+    let position = Position {
+        routine,
+        line,
+        column,
+    };
+    push_sparing(hazards, HazardAt { position, hazard })
+}
+
+/// Adds those of `lines`, and of the blocks below them, that are longer than `LONGEST_LINE`, each at its first byte past it.
+pub(crate) fn add_long_lines<'a>(
+    hazards: &mut Vec<HazardAt<'a>>,
+    routine: &'a [u8],
+    lines: &[Line],
+) -> Result<(), AllocError> {
+    for line in lines {
+        if line.end.number() > LONGEST_LINE + 1 {
+            let column = Column::new(LONGEST_LINE + 1);
+            add(hazards, routine, line.number, column, Hazard::LongLine)?;
+        }
+        add_long_lines(hazards, routine, line.block.as_slice())?;
+    }
+    Ok(())
+}
+
+// What a system reads of a line's label, if that may be less than the label.
+fn cut_label(line: &Line) -> Option<&[u8]> {
+    let label = line.label.as_ref()?.as_bytes();
+    let (read, _) = label.split_at_checked(LONGEST_LABEL)?;
+    Some(read)
+}
+
+/// Adds the labels of `routine` that are one with an earlier label in their first `LONGEST_LABEL` characters.
+pub(crate) fn add_labels_alike<'a>(
+    alloc: Global,
+    hazards: &mut Vec<HazardAt<'a>>,
+    routine: &'a Routine,
+) -> Result<(), AllocError> {
+    let mut labels = Vec::new(alloc);
+    for line in &routine.lines {
+        if let Some(read) = cut_label(line) {
+            push_sparing(&mut labels, (read, line.number))?;
+        }
+    }
+    labels.sort()?;
+    let mut left = labels.as_slice();
+    while let Some((first, rest)) = left.split_first() {
+        match rest.first() {
+            Some(second) if second.0 == first.0 => {
+                let name = routine.name.as_bytes();
+                add(hazards, name, second.1, Column::new(1), Hazard::LabelsAlike)?;
+            }
+            _ => {}
+        }
+        left = rest;
+    }
+    Ok(())
+}
