@@ -51,6 +51,13 @@ fn cut_label(line: &Line) -> Option<&[u8]> {
     Some(read)
 }
 
+// The line of the label at `place`, counted from 0, if the one before it is read as the same.
+fn line_alike(labels: &[(&[u8], LineNumber)], place: usize) -> Option<LineNumber> {
+    let (label, line) = labels.get(place)?;
+    let (before, _) = labels.get(place.checked_sub(1)?)?;
+    if label == before { Some(*line) } else { None }
+}
+
 /// Adds the labels of `routine` that are one with an earlier label in their first `LONGEST_LABEL` characters.
 pub(crate) fn add_labels_alike<'a>(
     alloc: Global,
@@ -64,16 +71,11 @@ pub(crate) fn add_labels_alike<'a>(
         }
     }
     labels.sort()?;
-    let mut left = labels.as_slice();
-    while let Some((first, rest)) = left.split_first() {
-        match rest.first() {
-            Some(second) if second.0 == first.0 => {
-                let name = routine.name.as_bytes();
-                add(hazards, name, second.1, Column::new(1), Hazard::LabelsAlike)?;
-            }
-            _ => {}
+    for place in 1..labels.len() {
+        if let Some(line) = line_alike(labels.as_slice(), place) {
+            let name = routine.name.as_bytes();
+            add(hazards, name, line, Column::new(1), Hazard::LabelsAlike)?;
         }
-        left = rest;
     }
     Ok(())
 }
