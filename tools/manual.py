@@ -1,89 +1,28 @@
 #!/usr/bin/env python3
-"""Writes the manual page docs/mlock.1 from what the program's --help says.
+"""Writes what is made of the program's --help: the manual page, completions for shells, and the texts themselves.
 
-    manual.py PROGRAM            writes docs/mlock.1
-    manual.py PROGRAM --check    compares it with the file that stands there, and ends with status 1 where it differs
+    manual.py PROGRAM            writes docs/mlock.1, docs/help.txt and completions/
+    manual.py PROGRAM --check    compares them with the files there, and ends with status 1 where one differs
 
 The texts are those of `--help` of the program and of each of its commands, which are printed on the error stream with
-status 2. A command's help is a text with a line `Example:` and a paragraph `Status:`, then `Usage:`, `Arguments:` and
-`Options:`; what has another form ends the script. FILES has the arguments of all commands, each once. SEE ALSO has the
-pages of docs/guide with their titles.
+status 2. Of the manual page, FILES has the arguments of all commands, each once, and SEE ALSO the pages of docs/guide with
+their titles. docs/help.txt is what `./mlock --help` prints before a program is compiled.
 """
 import difflib
 import pathlib
 import re
-import subprocess
 import sys
-import typing
+
+import completions
+from help_texts import texts_of, whole_of
 
 TOP = pathlib.Path(__file__).resolve().parent.parent
-PAGE = TOP / 'docs/mlock.1'
-EVERYWHERE = ('-h', '-V')
 GLYPHS = {'\\': r'\e', '^': r'\(ha', '~': r'\(ti', '`': r'\(ga', '"': r'\(dq', "'": r'\(aq', '-': r'\-'}
 DESCRIPTION = """\
 `mlock` reads routines and a rule file, which says which lock covers which global and in what order locks are claimed. It
 answers `yes`, or a list of faults with their places. It never runs M. What a `yes` says, and what it does not, is in
 `docs/guide/YES.md`."""
 REFUSED = 'A command line that is wrong, `--help` and `--version` end with status 2, and their text is on the error stream.'
-
-
-class Help(typing.NamedTuple):
-    """What the help of a command says. An item of a list is its words and what is said of it."""
-
-    title: str
-    paragraphs: list[str]
-    example: str
-    status: str
-    words: str
-    arguments: list[tuple[str, str]]
-    options: list[tuple[str, str]]
-
-
-def printed(program, *words):
-    """What the program prints on the error stream, where it ends with status 2."""
-    done = subprocess.run(['mlock', *words], executable=program, stdin=subprocess.DEVNULL, stdout=subprocess.PIPE,
-                          stderr=subprocess.PIPE, timeout=60, check=False)
-    if done.returncode != 2 or done.stdout:
-        sys.exit(f'mlock {" ".join(words)}: status {done.returncode} in place of 2, or something on standard output')
-    return done.stderr.decode()
-
-
-def joined(text):
-    """The paragraphs of a text, each as one line."""
-    return [' '.join(it.split()) for it in re.split(r'\n\s*\n', text.strip())]
-
-
-def items(text):
-    """The items of a list: the words of each at two or six spaces, what is said of it behind them or below them."""
-    found = []
-    for line in text.split('\n'):
-        start = re.match(r'(?: {2}| {6})(\S(?:\S| (?! ))*)(?: {2,}(\S.*))?$', line)
-        if start:
-            found.append((start[1], start[2] or ''))
-        elif line.strip():
-            words, said = found[-1]
-            found[-1] = (words, f'{said} {line.strip()}'.strip())
-    return found
-
-
-def parts(text):
-    """What stands before `Usage:`, and what stands below each title from there on."""
-    before, *rest = re.split(r'^(Usage|Commands|Arguments|Options):', text, flags=re.MULTILINE)
-    return before, dict(zip(rest[::2], rest[1::2]))
-
-
-def helped(program, command):
-    """The help of a command."""
-    before, rest = parts(printed(program, command, '--help'))
-    title, *paragraphs = joined(before)
-    told = {name: [it for it in paragraphs if it.startswith(f'{name}: ')] for name in ('Example', 'Status')}
-    if any(len(it) != 1 for it in told.values()):
-        sys.exit(f'mlock {command} --help: not one line `Example:` and one paragraph `Status:`')
-    example, status = (it[0].partition(': ')[2] for it in told.values())
-    options = [it for it in items(rest['Options']) if not it[0].startswith(EVERYWHERE)]
-    words = ' '.join(rest['Usage'].split()).removeprefix(f'mlock {command} ')
-    return Help(title.rstrip('.'), [it for it in paragraphs if it not in sum(told.values(), [])], example, status, words,
-                items(rest.get('Arguments', '')), options)
 
 
 def literal(text):
@@ -127,15 +66,12 @@ def synopsis(command, it):
     return [fr'\fBmlock {command}\fR {words_of(options + it.words.removeprefix("[OPTIONS] "))}', '.br']
 
 
-def page(program):
+def page(whole):
     """The manual page."""
-    before, rest = parts(printed(program, '--help'))
-    about, = joined(before)
-    version = printed(program, '--version').split(',')[0].strip()
-    helps = {name: helped(program, name) for name, _ in items(rest['Commands']) if name != 'help'}
+    helps = whole.commands
     guide = [(it, it.read_text().split('\n')[0].removeprefix('# ')) for it in sorted((TOP / 'docs/guide').glob('*.md'))]
-    lines = [r'.\" Made by tools/manual.py from what --help says.', f'.TH MLOCK 1 "" "{version}" "User Commands"',
-             '.SH NAME', fr'mlock \- {literal(about[0].lower() + about[1:])}', '.SH SYNOPSIS', '.nh', '.ad l']
+    lines = [r'.\" Made by tools/manual.py from what --help says.', f'.TH MLOCK 1 "" "{whole.version}" "User Commands"',
+             '.SH NAME', fr'mlock \- {literal(whole.about[0].lower() + whole.about[1:])}', '.SH SYNOPSIS', '.nh', '.ad l']
     for name, it in helps.items():
         lines += synopsis(name, it)
     lines += [r'\fBmlock\fR [\fICOMMAND\fR] \fB\-\-help\fR', '.br', r'\fBmlock \-\-version\fR', '.hy', '.ad b',
@@ -145,7 +81,7 @@ def page(program):
         for text in it.paragraphs:
             lines += ['.PP', *prose(text)]
         lines += listed(it.options)
-    lines += ['.SH OPTIONS', *listed(items(rest['Options'])), '.SH EXAMPLES']
+    lines += ['.SH OPTIONS', *listed(whole.options), '.SH EXAMPLES']
     for it in helps.values():
         lines += ['.PP', *prose(f'{it.title}:'), '.PP', '.EX', f'    {literal(it.example)}', '.EE']
     lines += ['.SH EXIT STATUS']
@@ -158,21 +94,48 @@ def page(program):
     return '\n'.join(lines) + '\n'
 
 
+def made_of(program):
+    """All that is made of what the program says, by its file below the top."""
+    texts = texts_of(program)
+    whole = whole_of(program, texts)
+    return {
+        'docs/mlock.1': page(whole),
+        'docs/help.txt': ''.join(f'== mlock {words}\n{text}' for words, text in texts.items()),
+        'completions/mlock.bash': completions.bash(whole),
+        'completions/_mlock': completions.zsh(whole),
+        'completions/mlock.fish': completions.fish(whole),
+    }
+
+
+def write(made):
+    for name, text in made.items():
+        (TOP / name).parent.mkdir(exist_ok=True)
+        (TOP / name).write_text(text)
+
+
+def differing(made):
+    """Prints how the files differ from what is made, and gives which do."""
+    found = []
+    for name, text in made.items():
+        stands = (TOP / name).read_text() if (TOP / name).exists() else ''
+        if stands != text:
+            found.append(name)
+            print(*difflib.unified_diff(stands.split('\n'), text.split('\n'), name, 'what --help says', n=0, lineterm=''), sep='\n')
+    return found
+
+
 def main():
     if len(sys.argv) not in (2, 3) or sys.argv[2:] not in ([], ['--check']):
         sys.exit(__doc__)
-    program = str(pathlib.Path(sys.argv[1]).resolve())
-    text = page(program)
+    made = made_of(str(pathlib.Path(sys.argv[1]).resolve()))
     if not sys.argv[2:]:
-        PAGE.write_text(text)
+        write(made)
         return 0
-    stands = PAGE.read_text() if PAGE.exists() else ''
-    if stands == text:
-        print('the manual page is what --help says')
+    found = differing(made)
+    if not found:
+        print('the manual page, help and completions are what --help says')
         return 0
-    name = PAGE.relative_to(TOP)
-    print(*difflib.unified_diff(stands.split('\n'), text.split('\n'), str(name), 'what --help says', n=0, lineterm=''),
-          f'{name} differs; to make it anew: python3 tools/manual.py {sys.argv[1]}', sep='\n')
+    print(f'to make {" ".join(found)} anew: python3 tools/manual.py {sys.argv[1]}')
     return 1
 
 

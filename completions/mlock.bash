@@ -1,0 +1,41 @@
+# Made by tools/manual.py from what --help says.
+
+_mlock() {
+    local word=${COMP_WORDS[COMP_CWORD]} before=${COMP_WORDS[COMP_CWORD - 1]} words=
+    # (what stands around a `=` are words of their own)
+    if [ "$word" = "=" ]; then word=; fi
+    if [ "$before" = "=" ]; then before=${COMP_WORDS[COMP_CWORD - 2]}; fi
+    COMPREPLY=()
+    if [ "$COMP_CWORD" -eq 1 ]; then
+        mapfile -t COMPREPLY < <(compgen -W "check make verify replay convert survey help --help --version" -- "$word")
+        return
+    fi
+    case ${COMP_WORDS[1]}:$before in
+        help:*) words="check make verify replay convert survey" ;;
+        check:--workers) words="" ;;
+        check:--output) words="text json sarif" ;;
+        make:--format) words="1 2" ;;
+        verify:--workers) words="" ;;
+        verify:--output) words="text json sarif" ;;
+        convert:--format) words="1 2" ;;
+        survey:--output) words="text json" ;;
+        *)
+            if [[ $word != -* ]]; then
+                compopt -o filenames
+                mapfile -t COMPREPLY < <(compgen -f -- "$word")
+                return
+            fi ;;
+    esac
+    if [[ $word == -* ]]; then
+        case ${COMP_WORDS[1]} in
+            check) words="--workers --output --strict --explain --help" ;;
+            make) words="--format --help" ;;
+            verify) words="--workers --output --strict --explain --help" ;;
+            replay) words="--help" ;;
+            convert) words="--format --help" ;;
+            survey) words="--output --help" ;;
+        esac
+    fi
+    mapfile -t COMPREPLY < <(compgen -W "$words" -- "$word")
+}
+complete -F _mlock mlock
