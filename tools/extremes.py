@@ -206,6 +206,8 @@ def rule_files():
         wanted = YES if rank in ('0', '999999') else refused('rules lock 1 406 Limit')
         yield rules(f'rank {rank}', b'[[lock]]\nname = "^A"\nrank = %s\n' % rank.encode(), wanted)
     yield rules('a comment of 8 MiB', b'#' + b'x' * 8 * MIB + b'\n')
+    yield rules('a comment of 300,000 bytes before what is no TOML', b'# ' + b'a long comment ' * 20_000 + b'\n[[lock]\n',
+                refused('rules file 0 401 Toml'))
     yield rules('a million empty lines', b'\n' * 1_000_000)
     yield rules('a number of a million digits', b'x = ' + b'1' * 1_000_000 + b'\n', refused('rules file 0 401 Toml'))
     yield rules('100,000 keys', b''.join(b'x%d = 1\n' % n for n in range(100_000)), refused('rules file 0 402 Key'))
@@ -258,6 +260,8 @@ def certificates():
     missing = refused('entry E0^R 901 EntryMissing')
     blocks = lambda: b''.join(b'entry E%d^R\nneed -\nlow -\ndrops 0\nmods -\n' % n for n in range(100_000))
     yield read('a certificate of 100,000 entries', b' QUIT\n', missing, cert=lambda: b'mlock-cert 1\n' + blocks() + b'end\n')
+    yield read('64 MiB without a head line', b' QUIT\n', refused('cert 1 601 Head'), cert=lambda: b'*' * 64 * MIB)
+    yield read('64 MiB and a byte without a head line', b' QUIT\n', refused('cert 1 605 Limit'), cert=lambda: b'*' * (64 * MIB + 1))
     yield read('a certificate of more than 64 MiB', b' QUIT\n', refused('cert 1 605 Limit'),
                cert=lambda: NO_ENTRY + bytes(64 * MIB), is_long=True)
     yield read('a certificate of 64 MiB', b' QUIT\n', missing, cert=whole, is_long=True)

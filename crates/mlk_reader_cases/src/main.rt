@@ -1,23 +1,35 @@
-//! Reads parts of expressions, routines, programs of one routine, rule files and certificates, one for each line of
-//! standard input, and prints a line for each: what is answered.
+//! Reads parts of expressions, numbers, routines, programs of one routine, rule files and certificates, one for each line of
+//! standard input, and prints a line for each: what is answered. A line that begins with `# ` says what the next ones show,
+//! and is printed as it is.
 //!
-//! A line has the reader (`expr`, `ref` or `actuals`), the byte of the text at which the reader begins, and the text, in
-//! which `\` and two hexadecimal digits are one byte. The answer is `to` and the byte after what was read, or the fault:
-//! its code, its column, and the word of what is left out. Or it has `routine`, `program`, `rules` or `cert` and a text:
-//! then the answer is `read`, or the fault. For a routine, which is named `R`, that is its place, its code, and the word of
-//! what is left out; so for a program of such a routine alone. For rules it is the section, the index in it, and the code;
-//! for a certificate the line and the code.
+//! A line has the reader, the byte of the text at which the reader begins, and the text, in which `\` and two hexadecimal
+//! digits are one byte. The answer is `to` and the byte after what was read, or the fault: its code, its column, and the word
+//! of what is left out. The reader is `expr`, `ref` or `actuals`, also with `-no-calls` or `-no-touches` for where these may
+//! not stand, and with `-by-value` where nothing is passed by reference. `tree`, `list` and `list-by-value` are `expr`,
+//! `actuals` and `actuals-by-value`, `callee`, `label` and `name` read what calls and commands name: they print what was read
+//! in front of its end, a tree to the depth of its operands.
+//!
+//! Or a line has `canonical` or `whole` and a text: the answer is the number, or `none`. Or it has `routine`, `program`,
+//! `rules` or `cert` and a text: then the answer is `read`, or the fault. For a routine, which is named `R`, that is its place,
+//! its code, and the word of what is left out; so for a program of such a routine alone. For rules it is the section, the
+//! index in it, and the code; for a certificate the line and the code. `families` are rules, and prints the rank of each
+//! family and the bytes of its subscripts; `needs` is a certificate, and prints the bytes of the constants in its needs.
 #![tactic(auto)]
 
-ghost use Rattle.std.specs.Prelude.{◌<◌, ◌≤◌, length};
+mod number;
+mod part;
+mod tree;
 
+ghost use Rattle.std.specs.Prelude.{◌<◌};
+
+use crate::number::{answer_canonical, answer_whole};
+use crate::part::answer_part;
 use bstr::ByteSlice;
-use mlk_cert::{CertFault, Certificate, read_cert};
-use mlk_expr::{read_actuals, read_expr, read_ref};
-use mlk_numbers::whole;
+use mlk_cert::{CertFault, Certificate, Summary, read_cert};
+use mlk_names::{KnownSym, LockTerm};
 use mlk_program::link;
 use mlk_routine::read_routine;
-use mlk_rules_file::{Rules, RulesFault, read_rules};
+use mlk_rules_file::{Family, Rules, RulesFault, read_rules};
 use mlk_text::{Failure, Fault};
 use std::alloc::{AllocError, Global};
 use std::io::{self, ErrorKind, Read, Write};
@@ -44,8 +56,8 @@ fn add_coded(text: &mut Vec<u8>, piece: &[u8]) -> Result<(), AllocError> {
     }
 }
 
-// The text that is written so.
-fn text_of(alloc: Global, written: &[u8]) -> Result<Vec<u8>, AllocError> {
+/// The text that is written so.
+pub(crate) fn text_of(alloc: Global, written: &[u8]) -> Result<Vec<u8>, AllocError> {
     let mut text = Vec::new(alloc);
     for (place, piece) in written.split_str(b"\\").enumerate() {
         if place == 0 {
@@ -57,35 +69,6 @@ fn text_of(alloc: Global, written: &[u8]) -> Result<Vec<u8>, AllocError> {
     Ok(text)
 }
 
-// Where a reader stops.
-fn end<T: Drop>(read: Result<(T, usize), Failure<Fault>>) -> Result<usize, Failure<Fault>> {
-    match read {
-        Ok((_, next)) => Ok(next),
-        Err(failure) => Err(failure),
-    }
-}
-
-// Where the reader of this name stops.
-fn end_of(alloc: Global, reader: &[u8], text: &[u8], at: usize) -> Result<usize, Failure<Fault>>
-    requires { at ≤ length text.now }
-{
-    match reader {
-        b"expr" => end(read_expr(alloc, text, at)),
-        b"ref" => end(read_ref(alloc, text, at)),
-        _ => end(read_actuals(alloc, text, at)),
-    }
-}
-
-// A place in a text.
-fn place_of(digits: &[u8], text: &[u8]) -> usize
-    ensures { result ≤ length text.now }
-{
-    match whole(digits) {
-        Some(place) => usize::try_from(place).unwrap_or(0).min(text.len()),
-        None => 0,
-    }
-}
-
 // Ends a line with the word of what is left out, where something is.
 fn write_left_out(fault: &Fault, out: &mut Vec<u8>) -> io::Result<()> {
     if let Some(left_out) = &fault.left_out {
@@ -95,7 +78,8 @@ fn write_left_out(fault: &Fault, out: &mut Vec<u8>) -> io::Result<()> {
     writeln!(out)
 }
 
-fn write_fault(fault: &Fault, out: &mut Vec<u8>) -> io::Result<()> {
+/// Adds a fault of a part of an expression.
+pub(crate) fn write_fault(fault: &Fault, out: &mut Vec<u8>) -> io::Result<()> {
     let code = fault.code.number();
     let column = fault.place.column.number();
     write!(out, "{code} {column}")?;
@@ -119,7 +103,7 @@ fn write_rules_fault(fault: &RulesFault, out: &mut Vec<u8>) -> io::Result<()> {
     writeln!(out, " {index} {code}")
 }
 
-fn no_memory() -> io::Error {
+pub(crate) fn no_memory() -> io::Error {
     io::Error::from(ErrorKind::OutOfMemory)
 }
 
@@ -162,9 +146,40 @@ fn write_rules_read(read: Result<Rules, Failure<RulesFault>>, out: &mut Vec<u8>)
     }
 }
 
+// Adds the rank of a family, and the bytes of its subscripts.
+fn write_family(family: &Family, out: &mut Vec<u8>) -> io::Result<()> {
+    write!(out, "{}", family.rank)?;
+    for subscript in family.name.subs.as_slice() {
+        write!(out, " {:?}", subscript.as_bytes())?;
+    }
+    writeln!(out)
+}
+
+fn write_families(read: Result<Rules, Failure<RulesFault>>, out: &mut Vec<u8>) -> io::Result<()> {
+    match &read {
+        Ok(rules) => {
+            for family in rules.families() {
+                write_family(family, out)?;
+            }
+            Ok(())
+        }
+        Err(Failure::Refused(fault)) => write_rules_fault(fault, out),
+        Err(Failure::OutOfMemory) => Err(no_memory()),
+    }
+}
+
+fn answer_families(alloc: Global, written: &[u8], out: &mut Vec<u8>) -> io::Result<()> {
+    let text = text_of(alloc, written)?;
+    write_families(read_rules(alloc, text.as_slice()), out)
+}
+
 fn answer_rules(alloc: Global, written: &[u8], out: &mut Vec<u8>) -> io::Result<()> {
     let text = text_of(alloc, written)?;
     write_rules_read(read_rules(alloc, text.as_slice()), out)
+}
+
+fn write_cert_fault(fault: &CertFault, out: &mut Vec<u8>) -> io::Result<()> {
+    writeln!(out, "{} {}", fault.line.number(), fault.code.number())
 }
 
 // Adds what is answered to the text of a certificate.
@@ -174,11 +189,44 @@ fn write_cert_read(
 ) -> io::Result<()> {
     match &read {
         Ok(_) => writeln!(out, "read"),
-        Err(Failure::Refused(fault)) => {
-            writeln!(out, "{} {}", fault.line.number(), fault.code.number())
-        }
+        Err(Failure::Refused(fault)) => write_cert_fault(fault, out),
         Err(Failure::OutOfMemory) => Err(no_memory()),
     }
+}
+
+// Adds the bytes of the constants in a term.
+fn write_constants(term: &LockTerm, out: &mut Vec<u8>) -> io::Result<()> {
+    for subscript in term.subs.as_slice() {
+        if let KnownSym::Const(value) = subscript {
+            write!(out, "{:?}", value.as_bytes())?;
+        }
+    }
+    writeln!(out)
+}
+
+fn write_needs_of(summary: &Summary, out: &mut Vec<u8>) -> io::Result<()> {
+    for term in summary.need.as_slice() {
+        write_constants(term, out)?;
+    }
+    Ok(())
+}
+
+fn write_needs(read: Result<Certificate, Failure<CertFault>>, out: &mut Vec<u8>) -> io::Result<()> {
+    match &read {
+        Ok(certificate) => {
+            for block in certificate.blocks() {
+                write_needs_of(&block.summary, out)?;
+            }
+            Ok(())
+        }
+        Err(Failure::Refused(fault)) => write_cert_fault(fault, out),
+        Err(Failure::OutOfMemory) => Err(no_memory()),
+    }
+}
+
+fn answer_needs(alloc: Global, written: &[u8], out: &mut Vec<u8>) -> io::Result<()> {
+    let text = text_of(alloc, written)?;
+    write_needs(read_cert(alloc, text.as_slice()), out)
 }
 
 fn answer_cert(alloc: Global, written: &[u8], out: &mut Vec<u8>) -> io::Result<()> {
@@ -186,41 +234,23 @@ fn answer_cert(alloc: Global, written: &[u8], out: &mut Vec<u8>) -> io::Result<(
     write_cert_read(read_cert(alloc, text.as_slice()), out)
 }
 
-// Adds where a reader of a part of an expression stops.
-fn write_end(end: Result<usize, Failure<Fault>>, out: &mut Vec<u8>) -> io::Result<()> {
-    match &end {
-        Ok(end) => writeln!(out, "to {end}"),
-        Err(Failure::Refused(fault)) => write_fault(fault, out),
-        Err(Failure::OutOfMemory) => Err(no_memory()),
-    }
-}
-
-fn answer_text(
-    alloc: Global,
-    reader: &[u8],
-    at: &[u8],
-    written: &[u8],
-    out: &mut Vec<u8>,
-) -> io::Result<()> {
-    let text = text_of(alloc, written)?;
-    let at = place_of(at, text.as_slice());
-    write_end(end_of(alloc, reader, text.as_slice(), at), out)
-}
-
-// Adds what is answered to a part of an expression, which stands after its place.
-fn answer_part(alloc: Global, reader: &[u8], rest: &[u8], out: &mut Vec<u8>) -> io::Result<()> {
-    match rest.split_once_str(b" ") {
-        Some((at, written)) => answer_text(alloc, reader, at, written, out),
-        None => Err(io::Error::from(ErrorKind::InvalidInput)),
-    }
+// Adds a line that says what the next ones show.
+fn copy_line(line: &[u8], out: &mut Vec<u8>) -> io::Result<()> {
+    out.extend_from_slice(line)?;
+    writeln!(out)
 }
 
 // Adds what is answered to a line.
 fn answer(alloc: Global, line: &[u8], out: &mut Vec<u8>) -> io::Result<()> {
     match line.split_once_str(b" ") {
         None => Err(io::Error::from(ErrorKind::InvalidInput)),
+        Some((b"#", _)) => copy_line(line, out),
+        Some((b"canonical", written)) => answer_canonical(alloc, written, out),
+        Some((b"whole", written)) => answer_whole(alloc, written, out),
         Some((b"cert", written)) => answer_cert(alloc, written, out),
+        Some((b"needs", written)) => answer_needs(alloc, written, out),
         Some((b"rules", written)) => answer_rules(alloc, written, out),
+        Some((b"families", written)) => answer_families(alloc, written, out),
         Some((b"routine", written)) => answer_routine(alloc, written, out),
         Some((b"program", written)) => answer_program(alloc, written, out),
         Some((reader, rest)) => answer_part(alloc, reader, rest, out),

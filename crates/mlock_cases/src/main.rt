@@ -1,9 +1,10 @@
 //! Runs command lines of `mlock` over files that stand beside them in one text, and prints what each answers.
 //!
 //! The text comes on standard input. What stands before the first line that begins with `== ` is a comment. Such a line has
-//! the words of a command line; the files that it reads come after it, each after a line of `-- ` and its name. A file's
-//! bytes are the lines up to the next such line. For each command line its words are printed, then what it prints, then
-//! what it tells on the error stream, then `= ` and its status.
+//! the words of a command line, in which `~` is a space; lines right below it may say what it shows. The files that it reads
+//! come after it, each after a line of `-- ` and its name. A file's bytes are the lines up to the next such line. For each
+//! command line its words are printed and what it shows, then what it prints, then what it tells on the error stream, then
+//! `= ` and its status.
 #![tactic(auto)]
 
 use bstr::ByteSlice;
@@ -46,10 +47,19 @@ impl Files for Case<'_> {
 }
 
 impl Case<'_> {
-    // The command line as it stands there.
-    fn line(&self) -> &[u8] {
+    // The command line as it stands there, and what it shows.
+    fn heading(&self) -> &[u8] {
         match self.text.split_once_str(FILE) {
             None => self.text,
+            Some((heading, _)) => heading,
+        }
+    }
+
+    // The command line as it stands there.
+    fn line(&self) -> &[u8] {
+        let heading = self.heading();
+        match heading.split_once_str(b"\n") {
+            None => heading,
             Some((line, _)) => line,
         }
     }
@@ -59,7 +69,8 @@ impl Case<'_> {
         let mut words = Vec::new(alloc);
         words.push(String::from_str(alloc, "mlock")?)?;
         for word in self.line().split_str(b" ") {
-            words.push(String::from_utf8_lossy(alloc, word)?)?;
+            let word = word.replace(alloc, b"~", b" ")?;
+            words.push(String::from_utf8_lossy(alloc, word.as_slice())?)?;
         }
         Ok(words)
     }
@@ -74,7 +85,7 @@ impl Case<'_> {
         let mut told: Vec<u8> = Vec::new(alloc);
         let words = self.words(alloc)?;
         out.extend_from_slice(b"== ")?;
-        out.extend_from_slice(self.line())?;
+        out.extend_from_slice(self.heading())?;
         out.push(b'\n')?;
         let status = run(rt, alloc, words.as_slice(), self, out, &mut told);
         out.extend_from_slice(told.as_slice())?;

@@ -1,7 +1,6 @@
-// Tests on `run` of what no row of `mlock_cases` can say: readers, writers and words that fail.
+// Tests on `run` of what no row of `mlock_cases` can say: readers and writers that fail, and words whose text is long.
 
 mod faults;
-mod forms;
 mod reading;
 
 use mlk_app::Files;

@@ -61,65 +61,23 @@ fn is_usage<R: Threads + Wait + Sync>(
     Ok(status == 2 && out.is_empty() && !err.is_empty())
 }
 
+// No words, and a call for help, are answered with the whole text; others stand in the rows of `mlock_cases`.
 #[test]
-fn wrong_words(rt: HostRuntime) -> Result<(), Fail> {
+fn help_goes_to_the_error_stream(rt: HostRuntime) -> Result<(), Fail> {
     for words in [
-        ["mlock", "--help", "--", "--", "--"].as_slice(),
         ["mlock"].as_slice(),
-        ["mlock", "frobnicate", "rules.toml"].as_slice(),
-        ["mlock", "check", "rules.toml", "cert"].as_slice(),
-        ["mlock", "convert"].as_slice(),
-        ["mlock", "convert", "cert", "cert"].as_slice(),
-        ["mlock", "convert", "--format", "3", "cert"].as_slice(),
-        ["mlock", "convert", "--format", "0", "cert"].as_slice(),
-        ["mlock", "convert", "--workers", "2", "cert"].as_slice(),
-        ["mlock", "make", "--format", "3", "rules.toml", "ONE.m"].as_slice(),
-        ["mlock", "make", "--format", "", "rules.toml", "ONE.m"].as_slice(),
-        ["mlock", "verify", "--format", "2", "rules.toml", "ONE.m"].as_slice(),
-        ["mlock", "verify", "--output", "xml", "rules.toml", "ONE.m"].as_slice(),
-        ["mlock", "verify", "--strict=1", "rules.toml", "ONE.m"].as_slice(),
-        ["mlock", "make", "--output", "json", "rules.toml", "ONE.m"].as_slice(),
-        ["mlock", "make", "--strict", "rules.toml", "ONE.m"].as_slice(),
-        ["mlock", "survey"].as_slice(),
-        ["mlock", "survey", "--output", "sarif", "ONE.m"].as_slice(),
-        [
-            "mlock",
-            "replay",
-            "--workers",
-            "2",
-            "rules.toml",
-            "cert",
-            "ONE.m",
-        ]
-        .as_slice(),
+        ["mlock", "--help"].as_slice(),
+        ["mlock", "--help", "--", "--", "--"].as_slice(),
     ] {
         assert!(&rt; is_usage(&rt, rt.alloc(), words)?);
     }
     Ok(())
 }
 
-#[test]
-fn version(rt: HostRuntime) -> Result<(), Fail> {
-    let alloc = rt.alloc();
-    let words = texts(alloc, &["mlock", "--version"])?;
-    let mut out: Vec<u8> = Vec::new(alloc);
-    let mut err: Vec<u8> = Vec::new(alloc);
-    let files = Memory { files: &[] };
-    assert_eq!(&rt;
-        run(&rt, alloc, words.as_slice(), &files, &mut out, &mut err),
-        2
-    );
-    assert!(&rt; out.is_empty());
-    let told = String::from_utf8_lossy(alloc, err.as_slice())?;
-    assert!(&rt; told.starts_with("mlock 0.1.0"), "{told}");
-    assert!(&rt; told.contains("logic dac8208d650f15bf"), "{told}");
-    Ok(())
-}
-
 const PATHS: [&str; 6] = ["mlock", "check", "rules.toml", "cert", "ONE.m", "far/TWO.m"];
 
 #[test]
-fn files_that_fail(rt: HostRuntime) -> Result<(), Fail> {
+fn files_that_are_too_large(rt: HostRuntime) -> Result<(), Fail> {
     let alloc = rt.alloc();
     let words = texts(alloc, &PATHS)?;
     let rows = [
@@ -129,17 +87,16 @@ fn files_that_fail(rt: HostRuntime) -> Result<(), Fail> {
         ("far/TWO.m", "error file far/TWO.m\n"),
     ];
     for (path, told) in rows {
-        for kind in [ErrorKind::NotFound, ErrorKind::FileTooLarge] {
-            let mut out: Vec<u8> = Vec::new(alloc);
-            let mut err: Vec<u8> = Vec::new(alloc);
-            let files = Broken { path, kind };
-            assert_eq!(&rt;
-                run(&rt, alloc, words.as_slice(), &files, &mut out, &mut err),
-                3
-            );
-            assert!(&rt; out.is_empty());
-            assert!(&rt; err.as_slice() == told.as_bytes(), "told, not {told}");
-        }
+        let mut out: Vec<u8> = Vec::new(alloc);
+        let mut err: Vec<u8> = Vec::new(alloc);
+        let kind = ErrorKind::FileTooLarge;
+        let files = Broken { path, kind };
+        assert_eq!(&rt;
+            run(&rt, alloc, words.as_slice(), &files, &mut out, &mut err),
+            3
+        );
+        assert!(&rt; out.is_empty());
+        assert!(&rt; err.as_slice() == told.as_bytes(), "told, not {told}");
     }
     Ok(())
 }

@@ -1,0 +1,126 @@
+// Two threads that work on one board.
+
+ghost use Rattle.std.specs.Prelude.{◌≡◌, ◌<◌, map};
+ghost use Rattle.mlk_syntax.specs.Views.{routine_of};
+ghost use Rattle.mlk_pool.specs.Given.{AreInputs};
+
+use crate::gates::Open;
+use crate::given::{Given, Trial, passes};
+use crate::reports::TWELVE;
+use mlk_cert::Certificate;
+use mlk_pool::{Board, Inputs, SharedBoard, work};
+use mlk_program::Program;
+use mlk_rules::Rules;
+use mlk_walk::{Pieces, Unseen};
+use std::alloc::Global;
+use std::marker::Brand;
+use std::sync::Wait;
+use std::thread;
+use std::thread::Threads;
+
+// What the workers look into.
+#[derive(Clone, Copy, Drop)]
+struct Parts<'a> {
+    program: &'a Program<'a>,
+    rules: &'a Rules,
+    certificate: &'a Certificate,
+}
+
+// Lets two workers work on a board of the caller.
+fn work_by_two<'x, N: Inputs + Send + Sync, P: Pieces + Sync, R: Threads + Wait + Sync>(
+    rt: &'x R,
+    alloc: Global,
+    parts: &'x Parts<'x>,
+    board: &'x SharedBoard<N>,
+    pieces: &'x P,
+)
+    requires inputs { AreInputs N.given (map routine_of parts.now.program.now) parts.now.rules.now parts.now.certificate.now }
+    requires workers { N.given.workers ≡ 2 }
+{
+    thread::scope(
+        thread::scope_env(),
+        rt,
+        |scope|
+            requires { AreInputs N.given (map routine_of parts.now.program.now) parts.now.rules.now parts.now.certificate.now
+                × (N.given.workers ≡ 2) }
+        {
+            for worker in 0..2usize {
+                let _ = scope.spawn(
+                    move ||
+                        requires { AreInputs N.given (map routine_of parts.now.program.now) parts.now.rules.now parts.now.certificate.now
+                            × (N.given.workers ≡ 2) × (worker < 2) }
+                    {
+                        work(
+                            rt,
+                            alloc,
+                            parts.program,
+                            parts.rules,
+                            parts.certificate,
+                            board,
+                            &Open,
+                            worker,
+                            0,
+                            pieces,
+                        )
+                    },
+                );
+            }
+        },
+    );
+}
+
+// How many events are left in the log.
+fn events_of_two<N: Inputs + Send + Sync, P: Pieces + Sync, R: Threads + Wait + Sync>(
+    rt: &R,
+    alloc: Global,
+    program: &Program<'_>,
+    rules: &Rules,
+    certificate: &Certificate,
+    pieces: &P,
+) -> Option<usize>
+    requires inputs { AreInputs N.given (map routine_of program.now) rules.now certificate.now }
+    requires workers { N.given.workers ≡ 2 }
+{
+    let board: Board<N> = Board::new(alloc, program, rules, certificate, 2).ok()?;
+    let shared = SharedBoard::new(board);
+    let parts = Parts {
+        program,
+        rules,
+        certificate,
+    };
+    work_by_two(rt, alloc, &parts, &shared, pieces);
+    Some(shared.into_board().log().len())
+}
+
+/// Whether the two leave a claim and a post of each of the twelve tasks, where these see into which parts lines are cut.
+pub(crate) fn leave_all<P: Pieces + Sync, R: Threads + Wait + Sync>(
+    rt: &R,
+    alloc: Global,
+    program: &Program<'_>,
+    rules: &Rules,
+    certificate: &Certificate,
+    pieces: &P,
+) -> bool {
+    events_of_two::<Brand, P, R>(rt, alloc, program, rules, certificate, pieces) == Some(24)
+}
+
+// Two workers that walk the entries of twelve tasks.
+#[derive(Drop)]
+struct TwoWork;
+
+impl Trial for TwoWork {
+    fn is_passed<R: Threads + Wait + Sync>(
+        &self,
+        rt: &R,
+        alloc: Global,
+        given: &Given<'_>,
+    ) -> Option<bool> {
+        let certificate = &given.made.certificate;
+        Some(leave_all(rt, alloc, given.program, given.rules, certificate, &Unseen))
+    }
+}
+
+#[test]
+fn two_workers_leave_a_claim_and_a_post_of_each_task(rt: HostRuntime) {
+    assert!(&rt; passes(&rt, rt.alloc(), TWELVE, &TwoWork));
+}
