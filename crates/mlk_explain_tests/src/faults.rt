@@ -161,7 +161,7 @@ fn explanation_by(
     };
     let report = report_of(alloc, program, rules, certificate).ok()?;
     let told = explained(alloc, &grounds, &report).ok()?;
-    String::from_utf8_lossy(alloc, told.as_bytes()).ok()
+    String::from_utf8_lossy(alloc, told.as_slice()).ok()
 }
 
 // The same by the example's own certificate, or by one that is made.

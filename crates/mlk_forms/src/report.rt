@@ -81,7 +81,7 @@ fn explained_text(
     report: &Report,
     hazards: &[HazardAt<'_>],
 ) -> Result<ReportText, AllocError> {
-    let mut text = ReportText::of(explained(alloc, grounds, report)?.into_bytes());
+    let mut text = ReportText::of(explained(alloc, grounds, report)?);
     push_hazards(&mut text, hazards)?;
     Ok(text)
 }
