@@ -1,64 +1,76 @@
 // The lines that the program prints.
 
-ghost use Rattle.std.specs.Prelude.{◌≡◌, ◌++◌, OnOk, IfOk};
+ghost use Rattle.std.specs.Prelude.{◌≡◌, IfOk};
+ghost use Rattle.mlk_report_text.specs.Pieces.{pieces_text};
 ghost use Rattle.mlk_app.specs.Printed.{left_out_text, fault_line, missing_line, workers_line, rules_line, certificate_line, events_code, events_line, stuck_line, file_line};
 
 use mlk_cert::CertFault;
 use mlk_machine::{EventsFault, EventsRefusal};
 use mlk_machine_locks::Refusal;
 use mlk_pool::ReportText;
+use mlk_report_text::Piece::{At, Bytes, CodeName, Made, Number, Words};
+use mlk_report_text::{Piece, text_of};
 use mlk_rules_file::RulesFault;
 use mlk_text::{Code, Fault, LeftOut, Value};
 use std::alloc::{AllocError, Global};
 
-fn push_left_out(text: &mut ReportText, what: &Option<LeftOut>) -> Result<(), AllocError>
-    ensures { OnOk result (text.new ≡ text.old ++ left_out_text what.now) }
+fn line_of(alloc: Global, pieces: &[Piece<'_>]) -> Result<ReportText, AllocError>
+    ensures { IfOk result (λ t. t ≡ pieces_text pieces.now) }
 {
-    if let Some(what) = what {
-        text.push(b" ")?;
-        text.push(what.word())?;
+    Ok(ReportText::of(text_of(alloc, pieces)?))
+}
+
+fn left_out_text(alloc: Global, what: &Option<LeftOut>) -> Result<Vec<u8>, AllocError>
+    ensures { IfOk result (λ t. t.items ≡ left_out_text what.now) }
+{
+    match what {
+        Some(what) => text_of(alloc, &[Words(" "), Bytes(what.word())]),
+        None => Ok(Vec::new(alloc)),
     }
-    Ok(())
 }
 
 /// `refused ROUTINE line:column CODE NAME`
 pub(crate) fn fault_line(alloc: Global, fault: &Fault) -> Result<ReportText, AllocError>
     ensures { IfOk result (λ t. t ≡ fault_line fault.now) }
 {
-    let mut text = ReportText::new(alloc);
-    text.push(b"refused ")?;
-    text.push(fault.place.routine.as_bytes())?;
-    text.push(b" ")?;
-    text.push_place(fault.place.line, fault.place.column)?;
-    text.push(b" ")?;
-    text.push_code(fault.code)?;
-    push_left_out(&mut text, &fault.left_out)?;
-    text.push(b"\n")?;
-    Ok(text)
+    let left_out = left_out_text(alloc, &fault.left_out)?;
+    line_of(
+        alloc,
+        &[
+            Words("refused "),
+            Bytes(fault.place.routine.as_bytes()),
+            Words(" "),
+            At(fault.place.line, fault.place.column),
+            Words(" "),
+            CodeName(fault.code),
+            Made(left_out),
+            Words("\n"),
+        ],
+    )
 }
 
 /// `refused entry TEXT 901 EntryMissing`
 pub(crate) fn missing_line(alloc: Global, entry: &Value) -> Result<ReportText, AllocError>
     ensures { IfOk result (λ t. t ≡ missing_line entry.now) }
 {
-    let mut text = ReportText::new(alloc);
-    text.push(b"refused entry ")?;
-    text.push(entry.as_bytes())?;
-    text.push(b" ")?;
-    text.push_code(Code::EntryMissing)?;
-    text.push(b"\n")?;
-    Ok(text)
+    line_of(
+        alloc,
+        &[
+            Words("refused entry "),
+            Bytes(entry.as_bytes()),
+            Words(" "),
+            CodeName(Code::EntryMissing),
+            Words("\n"),
+        ],
+    )
 }
 
 /// `refused workers 902 Workers`
 pub(crate) fn workers_line(alloc: Global) -> Result<ReportText, AllocError>
     ensures { IfOk result (λ t. t ≡ workers_line) }
 {
-    let mut text = ReportText::new(alloc);
-    text.push(b"refused workers ")?;
-    text.push_code(Code::Workers)?;
-    text.push(b"\n")?;
-    Ok(text)
+    let code = CodeName(Code::Workers);
+    line_of(alloc, &[Words("refused workers "), code, Words("\n")])
 }
 
 /// `refused LABEL^ROUTINE line:column 801 GaveUp`
@@ -69,43 +81,52 @@ pub(crate) fn stuck_line(
 ) -> Result<ReportText, AllocError>
     ensures { IfOk result (λ t. t ≡ stuck_line entry.now fault.now) }
 {
-    let mut text = ReportText::new(alloc);
-    text.push(b"refused ")?;
-    text.push(entry.as_bytes())?;
-    text.push(b" ")?;
-    text.push_place(fault.line, fault.column)?;
-    text.push(b" ")?;
-    text.push_code(Code::GaveUp)?;
-    text.push(b"\n")?;
-    Ok(text)
+    line_of(
+        alloc,
+        &[
+            Words("refused "),
+            Bytes(entry.as_bytes()),
+            Words(" "),
+            At(fault.line, fault.column),
+            Words(" "),
+            CodeName(Code::GaveUp),
+            Words("\n"),
+        ],
+    )
 }
 
 /// `refused rules SECTION INDEX CODE NAME`
 pub(crate) fn rules_line(alloc: Global, fault: &RulesFault) -> Result<ReportText, AllocError>
     ensures { IfOk result (λ t. t ≡ rules_line fault.now) }
 {
-    let mut text = ReportText::new(alloc);
-    text.push(b"refused rules ")?;
-    text.push(fault.section.word())?;
-    text.push(b" ")?;
-    text.push_number(fault.index)?;
-    text.push(b" ")?;
-    text.push_code(fault.code)?;
-    text.push(b"\n")?;
-    Ok(text)
+    line_of(
+        alloc,
+        &[
+            Words("refused rules "),
+            Bytes(fault.section.word()),
+            Words(" "),
+            Number(fault.index),
+            Words(" "),
+            CodeName(fault.code),
+            Words("\n"),
+        ],
+    )
 }
 
 /// `refused cert LINE CODE NAME`
 pub(crate) fn certificate_line(alloc: Global, fault: &CertFault) -> Result<ReportText, AllocError>
     ensures { IfOk result (λ t. t ≡ certificate_line fault.now) }
 {
-    let mut text = ReportText::new(alloc);
-    text.push(b"refused cert ")?;
-    text.push_number(fault.line.number() as usize)?;
-    text.push(b" ")?;
-    text.push_code(fault.code)?;
-    text.push(b"\n")?;
-    Ok(text)
+    line_of(
+        alloc,
+        &[
+            Words("refused cert "),
+            Number(fault.line.number() as usize),
+            Words(" "),
+            CodeName(fault.code),
+            Words("\n"),
+        ],
+    )
 }
 
 /// The code of why events are not replayed.
@@ -124,22 +145,21 @@ pub(crate) fn events_code(why: EventsRefusal) -> Code
 pub(crate) fn events_line(alloc: Global, fault: &EventsFault) -> Result<ReportText, AllocError>
     ensures { IfOk result (λ t. t ≡ events_line fault.now) }
 {
-    let mut text = ReportText::new(alloc);
-    text.push(b"refused line ")?;
-    text.push_number(fault.line.number() as usize)?;
-    text.push(b" ")?;
-    text.push_code(events_code(fault.why))?;
-    text.push(b"\n")?;
-    Ok(text)
+    line_of(
+        alloc,
+        &[
+            Words("refused line "),
+            Number(fault.line.number() as usize),
+            Words(" "),
+            CodeName(events_code(fault.why)),
+            Words("\n"),
+        ],
+    )
 }
 
 /// `error file PATH`
 pub(crate) fn file_line(alloc: Global, path: &str) -> Result<ReportText, AllocError>
     ensures { IfOk result (λ t. t ≡ file_line path.now) }
 {
-    let mut text = ReportText::new(alloc);
-    text.push(b"error file ")?;
-    text.push(path.as_bytes())?;
-    text.push(b"\n")?;
-    Ok(text)
+    line_of(alloc, &[Words("error file "), Words(path), Words("\n")])
 }

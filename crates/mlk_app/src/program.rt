@@ -5,7 +5,7 @@ ghost use Rattle.mlk_syntax.specs.Views.{routine_of};
 ghost use Rattle.std.specs.IoError.{error_kind};
 ghost use Rattle.std.specs.Io.KnownBytes.{Appends};
 ghost use Rattle.mlk_cli.specs.declared.words.Request.TheVariants as wanted;
-ghost use Rattle.mlk_app.specs.Ran.{style_in, status_of, PrintsReport, PrintsText, PrintsOutcome, Prints, IsErrorLine, IsRefusalLine, TellsRefusal, TellsFault, TellsUnread, Answers, AnswersWords, IsRefusalSaid, IsSaid, Ran};
+ghost use Rattle.mlk_app.specs.Ran.{style_in, status_of, PrintsReport, PrintsOutcome, Prints, IsErrorLine, IsRefusalLine, TellsRefusal, TellsFault, TellsUnread, Answers, AnswersWords, IsRefusalSaid, IsSaid, Ran};
 ghost use Rattle.mlk_forms.specs.Told.{IsNoticed};
 ghost use Rattle.mlk_outcome.specs.Checked.{IsOfOpenGate, IsNotShut};
 
@@ -42,7 +42,7 @@ const REFUSED: u8 = 2;
 const FAILED: u8 = 3;
 
 // What the program says, before it is said.
-#[derive(Drop, Debug)]
+#[derive(Drop)]
 enum Answer {
     /// The text of a report, of a certificate, of jobs or of a survey, and the status that it ends with.
     Report(ReportText, u8),
@@ -93,16 +93,6 @@ fn report_answer(
     }
 }
 
-fn text_answer(alloc: Global, bytes: &[u8]) -> Answer
-    ensures { PrintsText bytes.now result }
-{
-    let mut text = ReportText::new(alloc);
-    match text.push(bytes) {
-        Ok(()) => Answer::Report(text, YES),
-        Err(AllocError) => Answer::OutOfMemory,
-    }
-}
-
 fn outcome_answer(
     alloc: Global,
     inputs: &Inputs<'_>,
@@ -115,7 +105,7 @@ fn outcome_answer(
     match outcome {
         CheckedOutcome::Report(report) => report_answer(alloc, inputs, &report, style, kept),
         CheckedOutcome::Made(text) => Answer::Report(ReportText::of(text), YES),
-        CheckedOutcome::Replayed(text) => text_answer(alloc, text.as_bytes()),
+        CheckedOutcome::Replayed(text) => Answer::Report(ReportText::of(text.into_bytes()), YES),
     }
 }
 

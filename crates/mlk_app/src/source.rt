@@ -27,7 +27,7 @@ pub trait Files {
 }
 
 /// Why a file was not read.
-#[derive(Drop, Debug)]
+#[derive(Drop)]
 pub(crate) enum FileError<'a> {
     OutOfMemory,
     /// The path of the file.

@@ -1,226 +1,210 @@
 // What was about to happen where a fault was found.
 
-use crate::names::{function_before, push_name, push_sets, push_terms, root_of};
+use crate::names::{function_before, root_of, sets_text};
 use crate::place::Place;
 use crate::routine::Mark;
-use mlk_cert_lexemes::WrittenText;
+use mlk_report_text::Piece::{Bytes, Made, Number, Words};
 use mlk_survey_trees::Usage;
 use mlk_text::Code;
 use mlk_walk_exprs::Mend;
 use std::alloc::AllocError;
 
-// The name at the column, after this and before that.
-fn push_around(
-    text: &mut WrittenText,
-    before: &[u8],
-    place: &Place<'_>,
-    after: &[u8],
-) -> Result<(), AllocError> {
-    text.push(before)?;
-    push_name(text, place.name())?;
-    text.push(after)
+// The name at the column, between `before` and `after`.
+fn around_name<'a>(
+    place: &Place<'a>,
+    before: &'a str,
+    after: &'a str,
+) -> Result<Vec<u8>, AllocError> {
+    place.text(&[Words(before), Bytes(place.name), Words(after)])
 }
 
 // A read of a global, by the function whose argument it is.
-fn push_read(text: &mut WrittenText, place: &Place<'_>) -> Result<(), AllocError> {
-    match function_before(place.line, place.fault.column) {
-        b"$O" | b"$ORDER" | b"$o" | b"$order" => {
-            push_around(text, b"looks for what is beside ", place, b"")
-        }
-        b"$D" | b"$DATA" | b"$d" | b"$data" => {
-            push_around(text, b"asks what is at and below ", place, b"")
-        }
-        b"$Q" | b"$QUERY" | b"$q" | b"$query" => {
-            text.push(b"looks through all of ")?;
-            push_name(text, root_of(place.name()))
-        }
-        _ => push_around(text, b"reads ", place, b""),
-    }
+fn read_act(place: &Place<'_>) -> Result<Vec<u8>, AllocError> {
+    let (verb, name) = match function_before(place.line, place.fault.column) {
+        b"$O" | b"$ORDER" | b"$o" | b"$order" => ("looks for what is beside ", place.name),
+        b"$D" | b"$DATA" | b"$d" | b"$data" => ("asks what is at and below ", place.name),
+        b"$Q" | b"$QUERY" | b"$q" | b"$query" => ("looks through all of ", root_of(place.name)),
+        _ => ("reads ", place.name),
+    };
+    place.text(&[Words(verb), Bytes(name)])
 }
 
-fn push_touch(text: &mut WrittenText, place: &Place<'_>) -> Result<(), AllocError> {
+fn touch_act(place: &Place<'_>) -> Result<Vec<u8>, AllocError> {
     match place.mark {
-        Some(Mark::Global(Usage::Read)) => push_read(text, place),
-        Some(Mark::Global(Usage::Write)) => push_around(text, b"writes ", place, b""),
-        Some(Mark::Global(Usage::Kill)) => push_around(text, b"kills ", place, b""),
-        _ => push_around(text, b"touches ", place, b""),
+        Some(Mark::Global(Usage::Read)) => read_act(place),
+        Some(Mark::Global(Usage::Write)) => around_name(place, "writes ", ""),
+        Some(Mark::Global(Usage::Kill)) => around_name(place, "kills ", ""),
+        _ => around_name(place, "touches ", ""),
     }
 }
 
 // A change of locals while a held lock is named by one of them.
-fn push_change(text: &mut WrittenText, place: &Place<'_>) -> Result<(), AllocError> {
+fn change_act(place: &Place<'_>) -> Result<Vec<u8>, AllocError> {
     if place.is_call() {
-        return push_around(
-            text,
-            b"calls ",
-            place,
-            b", which may change a local that names a held lock",
-        );
+        let after = ", which may change a local that names a held lock";
+        return around_name(place, "calls ", after);
     }
-    let named = place.named_by(place.name())?;
-    if named.is_empty() {
-        return text.push(b"changes locals, among them one that names a held lock");
+    let locks = place.named_by()?;
+    if locks.is_empty() {
+        return place.words("changes locals, among them one that names a held lock");
     }
-    push_around(text, b"changes ", place, b" while ")?;
-    push_terms(text, named.as_slice())?;
-    text.push(b" is held")
+    place.text(&[
+        Words("changes "),
+        Bytes(place.name),
+        Words(" while "),
+        Made(locks),
+        Words(" is held"),
+    ])
 }
 
-fn push_claim(text: &mut WrittenText, place: &Place<'_>) -> Result<(), AllocError> {
-    if !place.is_call() {
-        push_around(text, b"claims ", place, b"")?;
-        if let Some(rank) = place.claimed_rank() {
-            text.push(b" of rank ")?;
-            text.push_number(rank)?;
-        }
-        return text.push(b" without a timeout");
+// ` of rank N`, where the rank is known.
+fn rank_text(place: &Place<'_>, rank: Option<u32>) -> Result<Vec<u8>, AllocError> {
+    match rank {
+        Some(rank) => place.text(&[Words(" of rank "), Number(rank as usize)]),
+        None => place.words(""),
     }
-    push_around(text, b"calls ", place, b", which may claim a lock")?;
-    if let Some(rank) = place.callee_rank() {
-        text.push(b" of rank ")?;
-        text.push_number(rank)?;
-    }
-    Ok(())
 }
 
-fn is_halt(word: &[u8]) -> bool {
-    matches!(word, [b'H' | b'h', ..])
+fn claim_act(place: &Place<'_>) -> Result<Vec<u8>, AllocError> {
+    let rank = rank_text(place, place.limit())?;
+    let (before, between, after) = if place.is_call() {
+        ("calls ", ", which may claim a lock", "")
+    } else {
+        ("claims ", "", " without a timeout")
+    };
+    place.text(&[
+        Words(before),
+        Bytes(place.name),
+        Words(between),
+        Made(rank),
+        Words(after),
+    ])
 }
 
-fn push_end(text: &mut WrittenText, place: &Place<'_>) -> Result<(), AllocError> {
+fn end_act(place: &Place<'_>) -> &'static str {
     if place.is_of_entry() {
-        return text.push(b"has an exit in the certificate that leaves a lock held");
+        return "has an exit in the certificate that leaves a lock held";
     }
-    if is_halt(place.name()) {
-        return text.push(b"ends the job with a lock held");
+    match place.name {
+        [b'H' | b'h', ..] => "ends the job with a lock held",
+        _ => "ends the entry with a lock held",
     }
-    text.push(b"ends the entry with a lock held")
 }
 
-fn push_unlisted(text: &mut WrittenText, place: &Place<'_>) -> Result<(), AllocError> {
+fn unlisted_act(place: &Place<'_>) -> &'static str {
     match &place.note.mend {
-        Mend::Exit(_) => text.push(b"ends the entry in a case that no exit of its summary lists"),
+        Mend::Exit(_) => "ends the entry in a case that no exit of its summary lists",
         Mend::Listed(_, round, _) if *round > 0 => {
-            text.push(b"begins a round in a case that the certificate does not list here")
+            "begins a round in a case that the certificate does not list here"
         }
-        _ => text.push(b"is reached in a case that the certificate does not list here"),
+        _ => "is reached in a case that the certificate does not list here",
     }
 }
 
-fn push_need(text: &mut WrittenText, place: &Place<'_>) -> Result<(), AllocError> {
+fn need_act(place: &Place<'_>) -> Result<Vec<u8>, AllocError> {
     if !place.is_call() {
-        return text.push(b"is a declared entry whose summary needs a lock");
+        return place.words("is a declared entry whose summary needs a lock");
     }
-    push_around(text, b"calls ", place, b"")?;
-    if let Mend::Locks(terms) = &place.note.mend {
-        text.push(b", which needs ")?;
-        push_terms(text, terms.as_slice())?;
+    let locks = place.missing_locks()?;
+    if locks.is_empty() {
+        return around_name(place, "calls ", "");
     }
-    Ok(())
+    let needs = Words(", which needs ");
+    place.text(&[Words("calls "), Bytes(place.name), needs, Made(locks)])
 }
 
-// What the entry's summary leaves out.
-fn push_left_out(text: &mut WrittenText, place: &Place<'_>) -> Result<(), AllocError> {
-    if place.is_call() {
-        push_around(text, b"calls ", place, b", which may ")?;
-    }
+// What the entry does or, at a call, may do, that its summary leaves out.
+fn effect(place: &Place<'_>) -> Result<Vec<u8>, AllocError> {
     match &place.note.mend {
         Mend::Changes(names) => {
-            if place.is_call() {
-                text.push(b"change ")?;
+            let verb = if place.is_call() {
+                "change "
             } else {
-                text.push(b"changes ")?;
-            }
-            push_sets(text, names.as_slice())?;
+                "changes "
+            };
+            let locals = sets_text(place.alloc, names.as_slice())?;
+            place.text(&[Words(verb), Made(locals)])
         }
-        Mend::Rank(rank) => {
-            push_around(text, b"claims ", place, b" of rank ")?;
-            text.push_number(*rank)?;
-        }
+        Mend::Rank(rank) => place.text(&[
+            Words("claims "),
+            Bytes(place.name),
+            Words(" of rank "),
+            Number(*rank as usize),
+        ]),
         Mend::Callee(Some(low), _) => {
-            text.push(b"claim a lock of rank ")?;
-            text.push_number(*low)?;
+            place.text(&[Words("claim a lock of rank "), Number(*low as usize)])
         }
-        Mend::Callee(None, _) => text.push(b"release all locks")?,
-        _ => text.push(b"releases all locks")?,
+        Mend::Callee(None, _) => place.words("release all locks"),
+        _ => place.words("releases all locks"),
     }
-    text.push(b", which the entry's summary leaves out")
 }
 
-fn push_uncertified(text: &mut WrittenText, place: &Place<'_>) -> Result<(), AllocError> {
+fn summary_act(place: &Place<'_>) -> Result<Vec<u8>, AllocError> {
+    let effect = effect(place)?;
+    let after = ", which the entry's summary leaves out";
+    if !place.is_call() {
+        return place.text(&[Made(effect), Words(after)]);
+    }
+    place.text(&[
+        Words("calls "),
+        Bytes(place.name),
+        Words(", which may "),
+        Made(effect),
+        Words(after),
+    ])
+}
+
+fn uncertified_act(place: &Place<'_>) -> Result<Vec<u8>, AllocError> {
     match place.mark {
-        Some(Mark::Job(_)) => push_around(
-            text,
-            b"begins a job at ",
-            place,
-            b", which no entry rule declares",
-        ),
-        Some(Mark::Call(_)) => {
-            push_around(
-                text,
-                b"calls ",
-                place,
-                b", which has no block in the certificate",
-            )
+        Some(Mark::Job(_)) => {
+            around_name(place, "begins a job at ", ", which no entry rule declares")
         }
-        _ => text.push(b"begins an entry that has no block in the certificate"),
+        Some(Mark::Call(_)) => {
+            around_name(place, "calls ", ", which has no block in the certificate")
+        }
+        _ => place.words("begins an entry that has no block in the certificate"),
     }
 }
 
-fn push_unknown(text: &mut WrittenText, place: &Place<'_>) -> Result<(), AllocError> {
+fn unknown_act(place: &Place<'_>) -> Result<Vec<u8>, AllocError> {
     if place.is_call() {
-        return push_around(
-            text,
-            b"calls ",
-            place,
-            b", which names a lock by an actual that is not known",
-        );
+        let after = ", which names a lock by an actual that is not known";
+        return around_name(place, "calls ", after);
     }
-    push_around(
-        text,
-        b"names a lock by ",
-        place,
-        b", whose value is not known",
-    )
+    around_name(place, "names a lock by ", ", whose value is not known")
 }
 
 /// What was about to happen where a fault was found.
-pub(crate) fn push_act(text: &mut WrittenText, place: &Place<'_>) -> Result<(), AllocError> {
+pub(crate) fn act_of(place: &Place<'_>) -> Result<Vec<u8>, AllocError> {
     match place.fault.code {
-        Code::Unruled | Code::Uncovered | Code::ReadOnly | Code::NotPrivate => {
-            push_touch(text, place)
-        }
-        Code::Pinned => push_change(text, place),
-        Code::NotHeld => push_around(text, b"releases ", place, b", which is not held"),
-        Code::Unranked => push_around(text, b"claims ", place, b", which has no rank"),
-        Code::RankOrder => push_claim(text, place),
-        Code::HeldAtEnd => push_end(text, place),
-        Code::CaseNotListed => push_unlisted(text, place),
-        Code::NeedMissing => push_need(text, place),
-        Code::SummaryShort => push_left_out(text, place),
-        Code::NoCertificate => push_uncertified(text, place),
-        Code::SharedName => push_around(
-            text,
-            b"names a lock by ",
+        Code::Unruled | Code::Uncovered | Code::ReadOnly | Code::NotPrivate => touch_act(place),
+        Code::Pinned => change_act(place),
+        Code::RankOrder => claim_act(place),
+        Code::HeldAtEnd => place.words(end_act(place)),
+        Code::CaseNotListed => place.words(unlisted_act(place)),
+        Code::NeedMissing => need_act(place),
+        Code::SummaryShort => summary_act(place),
+        Code::NoCertificate => uncertified_act(place),
+        Code::UnknownSubscript => unknown_act(place),
+        Code::NotHeld => around_name(place, "releases ", ", which is not held"),
+        Code::Unranked => around_name(place, "claims ", ", which has no rank"),
+        Code::SharedName => around_name(
             place,
-            b", which a call passes by reference",
+            "names a lock by ",
+            ", which a call passes by reference",
         ),
-        Code::UnknownSubscript => push_unknown(text, place),
+        Code::DropsFrame => around_name(
+            place,
+            "calls ",
+            ", which may release all locks, those held here too",
+        ),
         Code::FallsIntoFormals => {
-            text.push(b"has a formal list, and is reached from the line above")
+            place.words("has a formal list, and is reached from the line above")
         }
-        Code::TooManyCases => {
-            text.push(
-                b"comes to more than 16 cases, or one with more than 16 locks or 64 new names",
-            )
-        }
-        Code::NameEscapes => { text.push(b"ends here, and with it a local that names a held lock") }
-        Code::DropsFrame => push_around(
-            text,
-            b"calls ",
-            place,
-            b", which may release all locks, those held here too",
+        Code::TooManyCases => place.words(
+            "comes to more than 16 cases, or one with more than 16 locks or 64 new names",
         ),
-        _ => Ok(()),
+        Code::NameEscapes => place.words("ends here, and with it a local that names a held lock"),
+        _ => place.words(""),
     }
 }

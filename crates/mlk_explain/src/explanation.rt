@@ -1,54 +1,110 @@
-// The text of a report with explanations.
+// What explains a fault.
 
-use crate::rule::RuleFile;
-use crate::telling::Telling;
-use mlk_calls::Entries;
-use mlk_cert_lexemes::WrittenText;
-use mlk_cert_parts::Certificate;
-use mlk_program::Program;
-use mlk_rules::Rules;
-use mlk_walk::{Checks, Report};
-use std::alloc::{AllocError, Global};
+use crate::act::act_of;
+use crate::help::help_of;
+use crate::line::margin_of;
+use crate::place::{Place, standing_of};
+use crate::rule::{RuleFile, rule_texts, rules_for};
+use mlk_cert_parts::Test;
+use mlk_report_text::Piece::{Bytes, Listed, Number, Words};
+use mlk_report_text::push_all;
+use std::alloc::AllocError;
 
-/// What explains a report: the program that it is of, the texts of its routines in their order, its rules with their text, and
-/// the certificate by which it was made.
-#[derive(Clone, Copy, Drop)]
-pub struct Grounds<'a> {
-    pub program: &'a Program<'a>,
-    pub texts: &'a [Vec<u8>],
-    pub rules: &'a Rules,
-    pub rule_text: &'a [u8],
-    pub certificate: &'a Certificate,
-    /// whether the certificate was made of the program, and not given
-    pub is_made: bool,
+/// What explains a fault at its place.
+#[derive(Drop)]
+pub(crate) struct Explanation<'a> {
+    /// what was about to happen
+    act: Vec<u8>,
+    /// what was known of `$TEST`; none where the fault is of no case
+    test: Option<Test>,
+    /// the names of the locks that were held
+    held: &'a [Vec<u8>],
+    /// what rules say of it, each by itself
+    rules: Vec<Vec<u8>>,
+    /// what mends it
+    help: Vec<u8>,
 }
 
-/// The text of a report, where below each line stands its explanation: the line of M with a caret below the column and what
-/// was about to happen there; what was held, and `$TEST` where it was known; the rules that ask for what lacks; and what
-/// mends it. Faults of one line that one change mends are explained once.
-///
-/// The entries that have a row are walked once more. A line of M is shown as it is, up to a few hundred bytes round the
-/// column; before the caret a tab is a tab, and a character of several bytes is one column wide.
-pub fn explained(
-    alloc: Global,
-    grounds: &Grounds<'_>,
-    report: &Report,
-) -> Result<WrittenText, AllocError> {
-    let entries = Entries::of(
-        alloc,
-        grounds.program,
-        grounds.rules,
-        grounds.certificate.blocks(),
-    )?;
-    let checks = Checks {
-        program: grounds.program,
-        rules: grounds.rules,
-        entries: &entries,
-    };
-    let rule_file = RuleFile::of(alloc, grounds.rules, grounds.rule_text)?;
-    let mut telling = Telling::new(alloc, grounds, &checks, &rule_file);
-    for row in report.rows() {
-        telling.tell(row)?;
+fn test_words(test: Test) -> &'static str {
+    match test {
+        Test::Zero => ", and $TEST is 0",
+        Test::One => ", and $TEST is 1",
+        Test::Any => "",
     }
-    telling.end(report.rows().len())
+}
+
+// Appends a line below the line of M with this number.
+fn push_line<'a>(
+    text: &mut Vec<u8>,
+    number: u32,
+    head: &'a str,
+    said: &'a [u8],
+) -> Result<(), AllocError> {
+    let margin = Bytes(margin_of(number));
+    push_all(text, &[margin, Words(head), Bytes(said), Words("\n")])
+}
+
+impl<'a> Explanation<'a> {
+    /// What explains the fault at `place`, with rules as they stand in `rule_file`.
+    pub(crate) fn of(
+        place: &Place<'a>,
+        rule_file: &RuleFile,
+    ) -> Result<Explanation<'a>, AllocError> {
+        let test = match standing_of(place.note) {
+            Some((test, _)) => Some(test),
+            None => None,
+        };
+        let rules = rules_for(place)?;
+        Ok(Explanation {
+            act: act_of(place)?,
+            test,
+            held: place.held,
+            rules: rule_texts(rule_file, &rules, place)?,
+            help: help_of(place, !rules.is_empty())?,
+        })
+    }
+
+    /// What tells the cause of the fault at `place` from all others: where it is, the rules and the help.
+    pub(crate) fn cause(&self, place: &Place<'_>) -> Result<Vec<u8>, AllocError> {
+        place.text(&[
+            Number(place.routine),
+            Words(" "),
+            Number(place.fault.line.number() as usize),
+            Words(" "),
+            Number(usize::from(place.fault.code.number())),
+            Words("\n"),
+            Listed(&self.rules),
+            Words("\n"),
+            Bytes(&self.help),
+        ])
+    }
+
+    // Appends a line that says what was held.
+    fn push_held(&self, text: &mut Vec<u8>, number: u32) -> Result<(), AllocError> {
+        let Some(test) = self.test else {
+            return Ok(());
+        };
+        let nothing = if self.held.is_empty() { "nothing" } else { "" };
+        push_all(
+            text,
+            &[
+                Bytes(margin_of(number)),
+                Words("= held: "),
+                Words(nothing),
+                Listed(self.held),
+                Words(test_words(test)),
+                Words("\n"),
+            ],
+        )
+    }
+
+    /// Appends what was about to happen, and a line for all else below the line of M with this number.
+    pub(crate) fn push_to(&self, text: &mut Vec<u8>, number: u32) -> Result<(), AllocError> {
+        push_all(text, &[Bytes(&self.act), Words("\n")])?;
+        self.push_held(text, number)?;
+        for rule in self.rules.as_slice() {
+            push_line(text, number, "= rule: ", rule.as_slice())?;
+        }
+        push_line(text, number, "= help: ", self.help.as_slice())
+    }
 }

@@ -1,271 +1,212 @@
 // What mends a fault.
 
-use crate::line::push_margin;
-use crate::names::{global_of, push_name, push_sets, push_terms, root_of};
-use crate::place::{Order, Place};
+use crate::names::{certificate_text, root_of, sets_text};
+use crate::place::Place;
 use crate::routine::Mark;
-use mlk_cert_lexemes::{Written, WrittenText};
-use mlk_cert_parts::{ExitCase, push_case, push_place};
-use mlk_names::LockTerm;
-use mlk_rules::{Pattern, RuleLists};
-use mlk_text::{Code, List};
+use mlk_cert_parts::ExitCase;
+use mlk_report_text::Piece::{Bytes, Listed, Made, Number, Words};
+use mlk_text::Code;
 use mlk_walk_exprs::Mend;
 use std::alloc::AllocError;
 
-// Names of locks after this and before that.
-fn push_locks(
-    text: &mut WrittenText,
-    before: &[u8],
-    terms: &[LockTerm],
-    after: &[u8],
-) -> Result<(), AllocError> {
-    text.push(before)?;
-    push_terms(text, terms)?;
-    text.push(after)
+// The locks that are held, between `before` and `after`.
+fn around_held<'a>(
+    place: &Place<'a>,
+    before: &'a str,
+    after: &'a str,
+) -> Result<Vec<u8>, AllocError> {
+    place.text(&[Words(before), Listed(place.held), Words(after)])
 }
 
-// The locks that are lacking.
-fn lacking<'a>(place: &Place<'a>) -> &'a [LockTerm] {
-    match &place.note.mend {
-        Mend::Locks(terms) => terms.as_slice(),
-        _ => &[],
-    }
+// The locks that are missing, between `before` and `after`.
+fn around_missing<'a>(
+    place: &Place<'_>,
+    before: &'a str,
+    after: &'a str,
+) -> Result<Vec<u8>, AllocError> {
+    let locks = place.missing_locks()?;
+    place.text(&[Words(before), Made(locks), Words(after)])
 }
 
-fn is_of(pattern: &Pattern, global: &[u8]) -> bool {
-    pattern.global.as_bytes() == global
-}
-
-// Whether some pattern is of this global.
-fn some_is_of(patterns: &List<Pattern>, global: &[u8]) -> bool {
-    let mut patterns = patterns.as_slice().iter();
-    patterns.any(|pattern| is_of(pattern, global))
-}
-
-// Whether some rule is of this global.
-fn is_ruled(lists: &RuleLists, global: &[u8]) -> bool {
-    let mut covers = lists.covers.as_slice().iter();
-    covers.any(|cover| is_of(&cover.pattern, global))
-        || some_is_of(&lists.private, global)
-        || some_is_of(&lists.readonly, global)
-}
-
-fn help_unruled(text: &mut WrittenText, place: &Place<'_>) -> Result<(), AllocError> {
-    if is_ruled(place.grounds.rules.lists(), global_of(place.name())) {
-        return text.push(
-            b"name the node as closely as a rule does, or make the rule's pattern wider",
+fn unruled_help(place: &Place<'_>, has_rule: bool) -> Result<Vec<u8>, AllocError> {
+    if has_rule {
+        return place.words(
+            "name the node as closely as a rule does, or make the rule's pattern wider",
         );
     }
-    text.push(b"write a rule for ")?;
-    push_name(text, root_of(place.name()))
+    place.text(&[Words("write a rule for "), Bytes(root_of(place.name))])
 }
 
-fn help_uncovered(text: &mut WrittenText, place: &Place<'_>) -> Result<(), AllocError> {
-    push_locks(
-        text,
-        b"claim ",
-        lacking(place),
-        b" before this, and release it after",
-    )
-}
-
-fn help_pinned(text: &mut WrittenText, place: &Place<'_>) -> Result<(), AllocError> {
+fn pinned_help(place: &Place<'_>) -> Result<Vec<u8>, AllocError> {
     if place.is_call() {
-        return text.push(
-            b"release the lock before the call, pass a copy, or let the callee make the name new",
+        return place.words(
+            "release the lock before the call, pass a copy, or let the callee make the name new",
         );
     }
-    let named = place.named_by(place.name())?;
-    text.push(b"release ")?;
-    if named.is_empty() {
-        push_terms(text, place.held())?;
-    } else {
-        push_terms(text, named.as_slice())?;
+    let locks = place.named_by()?;
+    let after = " before this, or claim it by another local";
+    if locks.is_empty() {
+        return around_held(place, "release ", after);
     }
-    text.push(b" before this, or claim it by another local")
+    place.text(&[Words("release "), Made(locks), Words(after)])
 }
 
-fn help_not_held(text: &mut WrittenText, place: &Place<'_>) -> Result<(), AllocError> {
-    push_locks(
-        text,
-        b"hold ",
-        lacking(place),
-        b" on each way here, or release it only where it is held",
-    )
-}
-
-fn help_rank_order(text: &mut WrittenText, place: &Place<'_>) -> Result<(), AllocError> {
-    let blocking = place.blocking()?;
-    let locks = blocking.as_slice();
+fn rank_order_help(place: &Place<'_>) -> Result<Vec<u8>, AllocError> {
+    let locks = place.blocking()?;
     if place.is_call() {
-        return push_locks(
-            text,
-            b"call it before you claim ",
-            locks,
-            b", or release that first",
-        );
+        let after = Words(", or release that first");
+        return place.text(&[Words("call it before you claim "), Made(locks), after]);
     }
-    if locks.iter().any(|term| place.order_of(term) == Order::Same) {
-        push_locks(text, b"claim both at once, as LOCK +(", locks, b",")?;
-        push_name(text, place.name())?;
-        return text.push(b"), or this one with a timeout");
+    if place.holds_same_rank() {
+        return place.text(&[
+            Words("claim both at once, as LOCK +("),
+            Made(locks),
+            Words(","),
+            Bytes(place.name),
+            Words("), or this one with a timeout"),
+        ]);
     }
-    push_locks(
-        text,
-        b"claim it before ",
-        locks,
-        b", or both at once, or this one with a timeout",
-    )
+    let after = Words(", or both at once, or this one with a timeout");
+    place.text(&[Words("claim it before "), Made(locks), after])
 }
 
-fn help_held_at_end(text: &mut WrittenText, place: &Place<'_>) -> Result<(), AllocError> {
-    if place.held().is_empty() {
-        return text.push(b"release the lock on each way out");
+fn held_at_end_help(place: &Place<'_>) -> Result<Vec<u8>, AllocError> {
+    if place.held.is_empty() {
+        return place.words("release the lock on each way out");
     }
-    push_locks(text, b"release ", place.held(), b" before this")
+    around_held(place, "release ", " before this")
 }
 
 // An exit, as a line of a certificate lists it, without the line's end.
-fn push_exit(text: &mut WrittenText, place: &Place<'_>, exit: &ExitCase) -> Result<(), AllocError> {
-    let mut line = WrittenText::new(place.alloc);
-    exit.push_to(&mut line)?;
-    let line = line.as_bytes();
-    text.push(line.strip_suffix(b"\n").unwrap_or(line))
+fn exit_text(place: &Place<'_>, exit: &ExitCase) -> Result<Vec<u8>, AllocError> {
+    let mut line = certificate_text(place.alloc, exit)?;
+    let _ = line.pop();
+    Ok(line)
 }
 
 // The line of a certificate that lists the case.
-fn help_unlisted(text: &mut WrittenText, place: &Place<'_>) -> Result<(), AllocError> {
-    if !place.grounds.is_made {
-        text.push(b"make the certificate anew, or ")?;
-    }
-    text.push(b"list in the entry's block: ")?;
+fn listing(place: &Place<'_>) -> Result<Vec<u8>, AllocError> {
     match &place.note.mend {
         Mend::Listed(line, round, case) => {
-            text.push(b"at ")?;
-            push_place(text, line.number(), u32::try_from(*round).unwrap_or(0))?;
-            text.push_byte(b' ')?;
-            push_case(text, case)
+            let case = certificate_text(place.alloc, case)?;
+            place.text(&[
+                Words("at "),
+                Number(line.number() as usize),
+                Words("."),
+                Number(*round),
+                Words(" "),
+                Made(case),
+            ])
         }
-        Mend::Exit(exit) => push_exit(text, place, exit),
-        _ => text.push(b"the case"),
+        Mend::Exit(exit) => exit_text(place, exit),
+        _ => place.words("the case"),
     }
 }
 
-fn help_need(text: &mut WrittenText, place: &Place<'_>) -> Result<(), AllocError> {
+fn unlisted_help(place: &Place<'_>) -> Result<Vec<u8>, AllocError> {
+    let before = if place.grounds.is_made {
+        ""
+    } else {
+        "make the certificate anew, or "
+    };
+    let line = listing(place)?;
+    place.text(&[
+        Words(before),
+        Words("list in the entry's block: "),
+        Made(line),
+    ])
+}
+
+fn need_help(place: &Place<'_>) -> Result<Vec<u8>, AllocError> {
     if place.is_call() {
-        return push_locks(
-            text,
-            b"hold ",
-            lacking(place),
-            b" at the call, or let the callee claim it",
-        );
+        return around_missing(place, "hold ", " at the call, or let the callee claim it");
     }
-    text.push(b"let the entry claim what it needs: a job that begins there holds nothing")
+    place.words("let the entry claim what it needs: a job that begins there holds nothing")
 }
 
-fn help_summary(text: &mut WrittenText, place: &Place<'_>) -> Result<(), AllocError> {
+fn summary_help(place: &Place<'_>) -> Result<Vec<u8>, AllocError> {
+    let low = "let `low` in the entry's summary be at most ";
     match &place.note.mend {
         Mend::Changes(names) => {
-            text.push(b"add ")?;
-            push_sets(text, names.as_slice())?;
-            text.push(b" to `mods` in the entry's summary, or make it new first, by NEW")
+            let locals = sets_text(place.alloc, names.as_slice())?;
+            place.text(&[
+                Words("add "),
+                Made(locals),
+                Words(" to `mods` in the entry's summary, or make it new first, by NEW"),
+            ])
         }
-        Mend::Rank(rank) => {
-            text.push(b"let `low` in the entry's summary be at most ")?;
-            text.push_number(*rank)
-        }
+        Mend::Rank(rank) => place.text(&[Words(low), Number(*rank as usize)]),
         Mend::Callee(Some(rank), drops) => {
-            text.push(b"let `low` in the entry's summary be at most ")?;
-            text.push_number(*rank)?;
-            if *drops {
-                text.push(b", and `drops` 1")?;
-            }
-            Ok(())
+            let after = if *drops { ", and `drops` 1" } else { "" };
+            place.text(&[Words(low), Number(*rank as usize), Words(after)])
         }
-        _ => text.push(b"let `drops` in the entry's summary be 1"),
+        _ => place.words("let `drops` in the entry's summary be 1"),
     }
 }
 
-fn help_uncertified(text: &mut WrittenText, place: &Place<'_>) -> Result<(), AllocError> {
-    match place.mark {
-        Some(Mark::Job(_)) => {
-            text.push(b"declare ")?;
-            if let Some(entry) = place.callee_text()? {
-                text.push(entry.as_slice())?;
-            }
-            text.push(b" by an entry rule, so that it is checked too")
-        }
-        _ => text.push(b"make the certificate anew, or write a block for it"),
+fn uncertified_help(place: &Place<'_>) -> Result<Vec<u8>, AllocError> {
+    if !matches!(place.mark, Some(Mark::Job(_))) {
+        return place.words("make the certificate anew, or write a block for it");
     }
+    let entry = place.callee_text()?;
+    place.text(&[
+        Words("declare "),
+        Made(entry),
+        Words(" by an entry rule, so that it is checked too"),
+    ])
 }
 
-fn help_unknown(text: &mut WrittenText, place: &Place<'_>) -> Result<(), AllocError> {
+fn unknown_help(place: &Place<'_>) -> &'static str {
     if place.is_call() {
-        return text.push(b"put the value into a local first, and pass that by value");
+        return "put the value into a local first, and pass that by value";
     }
-    text.push(b"put the value into a local first, and lock by that")
+    "put the value into a local first, and lock by that"
 }
 
-fn help_shared(text: &mut WrittenText, place: &Place<'_>) -> Result<(), AllocError> {
-    text.push(b"copy ")?;
-    push_name(text, place.name())?;
-    text.push(b" into a local that no call passes by reference, and lock by that")
+fn shared_help(place: &Place<'_>) -> Result<Vec<u8>, AllocError> {
+    place.text(&[
+        Words("copy "),
+        Bytes(place.name),
+        Words(" into a local that no call passes by reference, and lock by that"),
+    ])
 }
 
-fn help_escape(text: &mut WrittenText, place: &Place<'_>) -> Result<(), AllocError> {
-    push_locks(
-        text,
-        b"release ",
-        place.held(),
-        b" before this, or let the caller claim it by a local of its own",
-    )
-}
-
-fn help_drops(text: &mut WrittenText, place: &Place<'_>) -> Result<(), AllocError> {
-    push_locks(
-        text,
-        b"let the callee release its own locks by name, or release ",
-        place.held(),
-        b" before the call",
-    )
-}
-
-// What mends a fault, without what stands before it.
-fn push_mend(text: &mut WrittenText, place: &Place<'_>) -> Result<(), AllocError> {
+/// What mends the fault at `place`, where a rule speaks of it or not.
+pub(crate) fn help_of(place: &Place<'_>, has_rule: bool) -> Result<Vec<u8>, AllocError> {
     match place.fault.code {
-        Code::Unruled => help_unruled(text, place),
-        Code::Uncovered => help_uncovered(text, place),
-        Code::ReadOnly => text.push(b"take the write away, or write elsewhere"),
-        Code::NotPrivate => { text.push(b"name the job's own part, with $JOB at the place of $J") }
-        Code::Pinned => help_pinned(text, place),
-        Code::NotHeld => help_not_held(text, place),
-        Code::Unranked => text.push(b"write a lock rule for it, or correct the name"),
-        Code::RankOrder => help_rank_order(text, place),
-        Code::HeldAtEnd => help_held_at_end(text, place),
-        Code::CaseNotListed => help_unlisted(text, place),
-        Code::NeedMissing => help_need(text, place),
-        Code::SummaryShort => help_summary(text, place),
-        Code::NoCertificate => help_uncertified(text, place),
-        Code::SharedName => help_shared(text, place),
-        Code::UnknownSubscript => help_unknown(text, place),
-        Code::FallsIntoFormals => text.push(b"end the line above by QUIT"),
-        Code::TooManyCases => text.push(
-            b"claim in one argument what belongs together, release locks earlier, or split the line",
+        Code::Unruled => unruled_help(place, has_rule),
+        Code::Uncovered => around_missing(place, "claim ", " before this, and release it after"),
+        Code::ReadOnly => place.words("take the write away, or write elsewhere"),
+        Code::NotPrivate => place.words("name the job's own part, with $JOB at the place of $J"),
+        Code::Pinned => pinned_help(place),
+        Code::NotHeld => around_missing(
+            place,
+            "hold ",
+            " on each way here, or release it only where it is held",
         ),
-        Code::NameEscapes => help_escape(text, place),
-        Code::DropsFrame => help_drops(text, place),
-        _ => Ok(()),
+        Code::Unranked => place.words("write a lock rule for it, or correct the name"),
+        Code::RankOrder => rank_order_help(place),
+        Code::HeldAtEnd => held_at_end_help(place),
+        Code::CaseNotListed => unlisted_help(place),
+        Code::NeedMissing => need_help(place),
+        Code::SummaryShort => summary_help(place),
+        Code::NoCertificate => uncertified_help(place),
+        Code::SharedName => shared_help(place),
+        Code::UnknownSubscript => place.words(unknown_help(place)),
+        Code::FallsIntoFormals => place.words("end the line above by QUIT"),
+        Code::TooManyCases => place.words(
+            "claim in one argument what belongs together, release locks earlier, or split the line",
+        ),
+        Code::NameEscapes => around_held(
+            place,
+            "release ",
+            " before this, or let the caller claim it by a local of its own",
+        ),
+        Code::DropsFrame => around_held(
+            place,
+            "let the callee release its own locks by name, or release ",
+            " before the call",
+        ),
+        _ => place.words(""),
     }
-}
-
-/// A line that says what mends a fault.
-pub(crate) fn push_help(
-    text: &mut WrittenText,
-    margin: usize,
-    place: &Place<'_>,
-) -> Result<(), AllocError> {
-    push_margin(text, margin, b'=')?;
-    text.push(b"help: ")?;
-    push_mend(text, place)?;
-    text.push_byte(b'\n')
 }

@@ -8,8 +8,9 @@ mod help;
 mod line;
 mod names;
 mod place;
+mod report;
 mod routine;
 mod rule;
 mod telling;
 
-pub use explanation::{Grounds, explained};
+pub use report::{Grounds, explained};

@@ -3,11 +3,13 @@
 use mlk_cert_lexemes::{Written, WrittenText};
 use mlk_cert_parts::NameSet;
 use mlk_names::{KnownSym, LockTerm};
-use mlk_text::{Column, Value};
-use std::alloc::AllocError;
+use mlk_report_text::Piece::{Bytes, Listed, Words};
+use mlk_report_text::text_of;
+use mlk_text::{Column, Root, Value};
+use std::alloc::{AllocError, Global};
 
-// How many bytes of a name are shown at most.
-const MOST_OF_NAME: usize = 120;
+/// How many bytes of a name or of a pattern are shown at most.
+pub(crate) const MOST_OF_NAME: usize = 120;
 
 // Whether a byte belongs to a name, with the marks before it.
 fn is_of_name(byte: u8) -> bool {
@@ -36,37 +38,27 @@ fn list_length(text: &[u8]) -> usize {
     text.len()
 }
 
-// The bytes of a line from a column on.
-fn rest_at(line: &[u8], column: Column) -> &[u8] {
+/// The bytes of `line` before `column`, and those from it on.
+pub(crate) fn split_line(line: &[u8], column: Column) -> (&[u8], &[u8]) {
     let before = (column.number() as usize).saturating_sub(1);
-    let (_, rest) = line.split_at(before.min(line.len()));
-    rest
+    line.split_at(before.min(line.len()))
 }
 
-/// The name that stands at a column of a line, with its subscripts or actuals, as it is written; of a long one its front.
-pub(crate) fn named_at(line: &[u8], column: Column) -> &[u8] {
-    let rest = rest_at(line, column);
+/// The name that stands at `column` of `line`, with its subscripts or actuals, as it is written; of a long one its front.
+pub(crate) fn name_at(alloc: Global, line: &[u8], column: Column) -> Result<Vec<u8>, AllocError> {
+    let (_, rest) = split_line(line, column);
     let (rest, _) = rest.split_at(rest.len().min(MOST_OF_NAME));
     let root = rest.iter().take_while(|byte| is_of_name(**byte)).count();
     let (_, behind) = rest.split_at(root.min(rest.len()));
     let length = root.saturating_add(list_length(behind));
     let (name, _) = rest.split_at(length.min(rest.len()));
-    name
+    let end = if name.len() < MOST_OF_NAME { "" } else { ".." };
+    text_of(alloc, &[Bytes(name), Words(end)])
 }
 
-/// A name as it is written, of which the front alone was taken where it is long.
-pub(crate) fn push_name(text: &mut WrittenText, name: &[u8]) -> Result<(), AllocError> {
-    text.push(name)?;
-    if name.len() < MOST_OF_NAME {
-        return Ok(());
-    }
-    text.push(b"..")
-}
-
-/// The word of a function whose first argument stands at a column of a line, where it does.
+/// The word of a function whose first argument stands at `column` of `line`, where it does.
 pub(crate) fn function_before(line: &[u8], column: Column) -> &[u8] {
-    let before = (column.number() as usize).saturating_sub(1);
-    let (front, _) = line.split_at(before.min(line.len()));
+    let (front, _) = split_line(line, column);
     let Some(front) = front.strip_suffix(b"(") else {
         return b"";
     };
@@ -92,6 +84,17 @@ pub(crate) fn global_of(name: &[u8]) -> &[u8] {
     root.strip_prefix(b"^").unwrap_or(root)
 }
 
+/// Appends the first bytes of `bytes`, at most `MOST_OF_NAME`; those that no terminal shows as `?`.
+pub(crate) fn push_front(text: &mut Vec<u8>, bytes: &[u8]) -> Result<(), AllocError> {
+    for byte in bytes.iter().take(MOST_OF_NAME) {
+        text.push(match *byte {
+            0..=31 | 127 => b'?',
+            shown => shown,
+        })?;
+    }
+    Ok(())
+}
+
 // Whether a value is written in M as a whole number.
 fn is_whole(bytes: &[u8]) -> bool {
     match bytes {
@@ -101,55 +104,61 @@ fn is_whole(bytes: &[u8]) -> bool {
     }
 }
 
-// A constant, as it is written in M; of a long one its front.
-fn push_value(text: &mut WrittenText, value: &Value) -> Result<(), AllocError> {
-    let bytes = value.as_bytes();
-    if is_whole(bytes) {
-        return text.push(bytes);
-    }
-    if bytes.len() <= MOST_OF_NAME {
-        return value.push_to(text);
-    }
-    text.push_byte(b'"')?;
-    for byte in bytes.iter().take(MOST_OF_NAME) {
-        let is_shown = *byte >= 32 && *byte != 127;
-        text.push_byte(if is_shown { *byte } else { b'?' })?;
-    }
-    text.push(b"..")
+/// The text of `item` in a certificate.
+pub(crate) fn certificate_text<T: Written>(alloc: Global, item: &T) -> Result<Vec<u8>, AllocError> {
+    let mut text = WrittenText::new(alloc);
+    item.push_to(&mut text)?;
+    Ok(text.into_bytes())
 }
 
-fn push_symbol(text: &mut WrittenText, symbol: &KnownSym) -> Result<(), AllocError> {
+// A constant, as it is written in M; of a long one its front.
+fn push_value(text: &mut Vec<u8>, value: &Value) -> Result<(), AllocError> {
+    let bytes = value.as_bytes();
+    if is_whole(bytes) {
+        return text.extend_from_slice(bytes);
+    }
+    if bytes.len() <= MOST_OF_NAME {
+        let quoted = certificate_text(*text.allocator(), value)?;
+        return text.extend_from_slice(quoted.as_slice());
+    }
+    text.push(b'"')?;
+    push_front(text, bytes)?;
+    text.extend_from_slice(b"..")
+}
+
+fn push_symbol(text: &mut Vec<u8>, symbol: &KnownSym) -> Result<(), AllocError> {
     match symbol {
         KnownSym::Const(value) => push_value(text, value),
-        KnownSym::Local(name) => text.push(name.as_bytes()),
-        KnownSym::Job => text.push(b"$JOB"),
+        KnownSym::Local(name) => text.extend_from_slice(name.as_bytes()),
+        KnownSym::Job => text.extend_from_slice(b"$JOB"),
     }
 }
 
 /// A lock's name, as it is written in M.
-pub(crate) fn push_term(text: &mut WrittenText, term: &LockTerm) -> Result<(), AllocError> {
-    term.root.push_to(text)?;
+pub(crate) fn lock_name(alloc: Global, term: &LockTerm) -> Result<Vec<u8>, AllocError> {
+    let mut text = match &term.root {
+        Root::Global(name) => text_of(alloc, &[Words("^"), Bytes(name.as_bytes())])?,
+        Root::Local(name) => text_of(alloc, &[Bytes(name.as_bytes())])?,
+    };
     let mut before = b'(';
     for symbol in term.subs.as_slice() {
-        text.push_byte(before)?;
-        push_symbol(text, symbol)?;
+        text.push(before)?;
+        push_symbol(&mut text, symbol)?;
         before = b',';
     }
     if before == b',' {
-        text.push_byte(b')')?;
+        text.push(b')')?;
     }
-    Ok(())
+    Ok(text)
 }
 
-/// The names of locks, with commas between them.
-pub(crate) fn push_terms(text: &mut WrittenText, terms: &[LockTerm]) -> Result<(), AllocError> {
-    for (place, term) in terms.iter().enumerate() {
-        if place > 0 {
-            text.push(b", ")?;
-        }
-        push_term(text, term)?;
+/// The names of locks.
+pub(crate) fn lock_names(alloc: Global, terms: &[LockTerm]) -> Result<Vec<Vec<u8>>, AllocError> {
+    let mut names = Vec::new(alloc);
+    for term in terms {
+        names.push(lock_name(alloc, term)?)?;
     }
-    Ok(())
+    Ok(names)
 }
 
 /// Whether a lock is named by the local of this name.
@@ -158,29 +167,29 @@ pub(crate) fn is_named_by(term: &LockTerm, name: &[u8]) -> bool {
     symbols.any(|symbol| matches!(symbol, KnownSym::Local(local) if local.as_bytes() == name))
 }
 
-fn push_set(text: &mut WrittenText, names: &NameSet) -> Result<(), AllocError> {
+// Some locals, or all but some.
+fn set_text(alloc: Global, names: &NameSet) -> Result<Vec<u8>, AllocError> {
+    let mut text = Vec::new(alloc);
     match names {
-        NameSet::Only(name) => text.push(name.as_bytes()),
+        NameSet::Only(name) => text.extend_from_slice(name.as_bytes())?,
         NameSet::AllBut(others) => {
-            text.push(b"all locals")?;
+            text.extend_from_slice(b"all locals")?;
             let mut before: &[u8] = b" but ";
             for name in others.as_slice() {
-                text.push(before)?;
-                text.push(name.as_bytes())?;
+                text.extend_from_slice(before)?;
+                text.extend_from_slice(name.as_bytes())?;
                 before = b", ";
             }
-            Ok(())
         }
     }
+    Ok(text)
 }
 
-/// Names of locals, with commas between them.
-pub(crate) fn push_sets(text: &mut WrittenText, sets: &[NameSet]) -> Result<(), AllocError> {
-    for (place, names) in sets.iter().enumerate() {
-        if place > 0 {
-            text.push(b", ")?;
-        }
-        push_set(text, names)?;
+/// Names of locals, with commas between the sets.
+pub(crate) fn sets_text(alloc: Global, sets: &[NameSet]) -> Result<Vec<u8>, AllocError> {
+    let mut texts = Vec::new(alloc);
+    for names in sets {
+        texts.push(set_text(alloc, names)?)?;
     }
-    Ok(())
+    text_of(alloc, &[Listed(texts.as_slice())])
 }

@@ -1,28 +1,29 @@
 // What is known where a fault was found.
 
-use crate::explanation::Grounds;
-use crate::names::{is_named_by, named_at};
+use crate::names::{is_named_by, lock_name, lock_names};
+use crate::report::Grounds;
 use crate::routine::Mark;
 use mlk_cert_parts::Test;
 use mlk_names::{LockName, LockTerm};
 use mlk_program::EntryId;
+use mlk_report_text::{Piece, text_of};
 use mlk_rules::rank_of;
 use mlk_syntax::{Expr, Subscript, Variable};
-use mlk_text::{Root, copy_of};
+use mlk_text::Root;
 use mlk_walk::Checks;
 use mlk_walk_exprs::{Fault, Mend, Note};
 use std::alloc::{AllocError, Global};
 
-/// How the rank of a held lock stands to that of a claimed one.
-#[derive(Clone, Copy, Drop, PartialEq, Eq)]
-pub(crate) enum Order {
+// How the rank of a held lock stands to that of a claimed one.
+#[derive(Drop, PartialEq)]
+enum Order {
     Lower,
     Same,
     Higher,
 }
 
 /// A fault, with its line of M, what stands at its column, and what the walk tells beside it.
-#[derive(Clone, Copy, Drop)]
+#[derive(Drop)]
 pub(crate) struct Place<'a> {
     pub(crate) alloc: Global,
     pub(crate) grounds: &'a Grounds<'a>,
@@ -32,7 +33,31 @@ pub(crate) struct Place<'a> {
     pub(crate) routine: usize,
     pub(crate) note: &'a Note,
     pub(crate) line: &'a [u8],
+    /// the name that stands at the column, with its subscripts or actuals, as it is written; a long one is cut
+    pub(crate) name: &'a [u8],
     pub(crate) mark: Option<Mark<'a>>,
+    /// the names of the locks that are held
+    pub(crate) held: &'a [Vec<u8>],
+}
+
+/// What is known of `$TEST` where a note was made, and which locks are held there; none where it is of no case.
+pub(crate) fn standing_of(note: &Note) -> Option<(Test, &[LockTerm])> {
+    if let Some(standing) = &note.standing {
+        return Some((standing.test, standing.held.as_slice()));
+    }
+    match &note.mend {
+        Mend::Listed(_, _, case) => Some((case.test, case.held.as_slice())),
+        Mend::Exit(exit) => Some((exit.test, exit.held.as_slice())),
+        _ => None,
+    }
+}
+
+/// The locks that are held where a note was made.
+pub(crate) fn held_in(note: &Note) -> &[LockTerm] {
+    match standing_of(note) {
+        Some((_, held)) => held,
+        None => &[],
+    }
 }
 
 // Whether the root of a lock's name is this one.
@@ -64,42 +89,40 @@ fn is_in_family(name: &Variable, family: &LockName) -> bool {
 }
 
 impl<'a> Place<'a> {
-    /// What is known of `$TEST`, and which locks are held.
-    pub(crate) fn standing(&self) -> Option<(Test, &'a [LockTerm])> {
-        let note: &'a Note = self.note;
-        if let Some(standing) = &note.standing {
-            return Some((standing.test, standing.held.as_slice()));
-        }
-        match &note.mend {
-            Mend::Listed(_, _, case) => Some((case.test, case.held.as_slice())),
-            Mend::Exit(exit) => Some((exit.test, exit.held.as_slice())),
-            _ => None,
+    /// The text of `pieces`.
+    pub(crate) fn text(&self, pieces: &[Piece<'_>]) -> Result<Vec<u8>, AllocError> {
+        text_of(self.alloc, pieces)
+    }
+
+    /// The text of `words`.
+    pub(crate) fn words(&self, words: &str) -> Result<Vec<u8>, AllocError> {
+        self.text(&[Piece::Words(words)])
+    }
+
+    /// The names of the locks that are missing, with commas between them.
+    pub(crate) fn missing_locks(&self) -> Result<Vec<u8>, AllocError> {
+        match &self.note.mend {
+            Mend::Locks(terms) => {
+                let names = lock_names(self.alloc, terms.as_slice())?;
+                self.text(&[Piece::Listed(names.as_slice())])
+            }
+            _ => Ok(Vec::new(self.alloc)),
         }
     }
 
-    /// The locks that are held.
-    pub(crate) fn held(&self) -> &'a [LockTerm] {
-        match self.standing() {
-            Some((_, held)) => held,
-            None => &[],
-        }
+    // The locks that are held.
+    fn held_terms(&self) -> &'a [LockTerm] {
+        held_in(self.note)
     }
 
-    /// The name that stands at the column, with its subscripts or actuals, as it is written.
-    pub(crate) fn name(&self) -> &'a [u8] {
-        named_at(self.line, self.fault.column)
-    }
-
-    /// The rank of the lock that is claimed at the column; none where its family hangs on a value that is not written there.
-    pub(crate) fn claimed_rank(&self) -> Option<u32> {
+    // The rank of the lock that is claimed at the column; none where its family hangs on a value that is not written there.
+    fn claimed_rank(&self) -> Option<u32> {
         let Some(Mark::Lock(name)) = self.mark else {
             return None;
         };
         let mut families = self.grounds.rules.families().iter();
-        match families.find(|family| is_in_family(name, &family.name)) {
-            Some(family) => Some(family.rank),
-            None => None,
-        }
+        let family = families.find(|family| is_in_family(name, &family.name))?;
+        Some(family.rank)
     }
 
     /// Whether a call stands at the column.
@@ -117,52 +140,66 @@ impl<'a> Place<'a> {
         }
     }
 
-    /// The least rank of the locks that what is called at the column may claim.
-    pub(crate) fn callee_rank(&self) -> Option<u32> {
+    // The least rank of the locks that what is called at the column may claim.
+    fn callee_rank(&self) -> Option<u32> {
         let summary = self.checks.entries.summary(self.target()?)?;
         summary.low
     }
 
-    /// The text of the entry that is called, or at which a job begins, at the column.
-    pub(crate) fn callee_text(&self) -> Result<Option<Vec<u8>>, AllocError> {
-        match self.target() {
-            Some(entry) => self.grounds.program.text_of(self.alloc, entry),
-            None => Ok(None),
-        }
+    /// The text of the entry that is called, or at which a job begins, at the column; empty where there is none.
+    pub(crate) fn callee_text(&self) -> Result<Vec<u8>, AllocError> {
+        let text = match self.target() {
+            Some(entry) => self.grounds.program.text_of(self.alloc, entry)?,
+            None => None,
+        };
+        Ok(text.unwrap_or(Vec::new(self.alloc)))
     }
 
-    // The rank from which on no held lock may have its own.
-    fn limit(&self) -> Option<u32> {
+    /// The rank of what is claimed at the column, or the least that its callee may claim: no held lock may have it or a higher
+    /// one.
+    pub(crate) fn limit(&self) -> Option<u32> {
         if self.is_call() {
             return self.callee_rank();
         }
         self.claimed_rank()
     }
 
-    /// The held locks that are named by the local of this name.
-    pub(crate) fn named_by(&self, name: &[u8]) -> Result<Vec<LockTerm>, AllocError> {
-        let mut found = Vec::new(self.alloc);
-        for term in self.held() {
-            if is_named_by(term, name) {
-                found.push(copy_of(term)?)?;
+    /// The names of the held locks that are named by the local at the column, with commas between them.
+    pub(crate) fn named_by(&self) -> Result<Vec<u8>, AllocError> {
+        let mut names = Vec::new(self.alloc);
+        for term in self.held_terms() {
+            if is_named_by(term, self.name) {
+                names.push(lock_name(self.alloc, term)?)?;
             }
         }
-        Ok(found)
+        self.text(&[Piece::Listed(names.as_slice())])
     }
 
-    /// The held locks whose rank is not lower than that of what is claimed at the column.
-    pub(crate) fn blocking(&self) -> Result<Vec<LockTerm>, AllocError> {
-        let mut found = Vec::new(self.alloc);
-        for term in self.held() {
+    /// The names of the held locks whose rank is not lower than that of what is claimed at the column, with commas between them.
+    pub(crate) fn blocking(&self) -> Result<Vec<u8>, AllocError> {
+        let mut names = Vec::new(self.alloc);
+        for term in self.held_terms() {
             if self.order_of(term) != Order::Lower {
-                found.push(copy_of(term)?)?;
+                names.push(lock_name(self.alloc, term)?)?;
             }
         }
-        Ok(found)
+        self.text(&[Piece::Listed(names.as_slice())])
     }
 
-    /// How the rank of a held lock stands to that of what is claimed at the column.
-    pub(crate) fn order_of(&self, term: &LockTerm) -> Order {
+    /// Whether a held lock has the rank of what is claimed at the column.
+    pub(crate) fn holds_same_rank(&self) -> bool {
+        let mut terms = self.held_terms().iter();
+        terms.any(|term| self.order_of(term) == Order::Same)
+    }
+
+    /// Whether a held lock has this root, and not a lower rank than what is claimed at the column.
+    pub(crate) fn is_blocked_by(&self, root: &Root) -> bool {
+        let mut terms = self.held_terms().iter();
+        terms.any(|term| term.root == *root && self.order_of(term) != Order::Lower)
+    }
+
+    // How the rank of a held lock stands to that of what is claimed at the column.
+    fn order_of(&self, term: &LockTerm) -> Order {
         match (rank_of(self.grounds.rules, term), self.limit()) {
             (Some(rank), Some(limit)) if rank < limit => Order::Lower,
             (Some(rank), Some(limit)) if rank == limit => Order::Same,

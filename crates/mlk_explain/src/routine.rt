@@ -1,6 +1,6 @@
 // What explanations ask of a routine: its lines as texts, and what stands at a place.
 
-use crate::explanation::Grounds;
+use crate::report::Grounds;
 use bstr::ByteSlice;
 use mlk_survey_trees::{Mention, MentionAt, Usage, mentions_of};
 use mlk_syntax::{Callee, Variable};

@@ -1,20 +1,17 @@
 // The rules that speak of a fault, as they stand in the rule file.
 
-use crate::line::push_margin;
-use crate::names::{global_of, push_name, root_of};
-use crate::place::{Order, Place};
-use mlk_cert_lexemes::WrittenText;
-use mlk_names::LockTerm;
-use mlk_rules::{Cover, Pattern, RuleLists, Rules};
+use crate::names::{MOST_OF_NAME, global_of, push_front, root_of};
+use crate::place::Place;
+use mlk_report_text::Piece::{Bytes, Number, Words};
+use mlk_report_text::push_all;
+use mlk_rules::{Cover, Family, Pattern};
 use mlk_text::{Code, List, Root};
 use mlk_walk_exprs::Mend;
 use std::alloc::{AllocError, Global};
 use toml::Table;
 
-// How many rules are shown at most of one fault, and how many bytes of a pattern or a lock.
+// How many rules are shown at most of one fault.
 const MOST_RULES: usize = 4;
-
-const MOST_SHOWN: usize = 120;
 
 /// A section of a rule file.
 #[derive(Clone, Copy, Drop)]
@@ -34,39 +31,50 @@ impl Section {
             Section::Readonly => "readonly",
         }
     }
+
+    // The keys that are shown of its rules, each with what stands before its text.
+    fn keys(self) -> &'static [(&'static str, &'static str)] {
+        match self {
+            Section::Lock => &[(": ", "name")],
+            Section::Cover => &[(": ", "global"), (" under ", "lock"), (" and ", "also")],
+            Section::Private | Section::Readonly => &[(": ", "global")],
+        }
+    }
+
+    // Whether its rules ask for what is missing at a fault of this code.
+    fn is_asked_by(self, code: Code) -> bool {
+        match self {
+            Section::Lock => code == Code::RankOrder,
+            Section::Cover => matches!(code, Code::Unruled | Code::Uncovered),
+            Section::Private => matches!(code, Code::Unruled | Code::NotPrivate),
+            Section::Readonly => matches!(code, Code::Unruled | Code::ReadOnly),
+        }
+    }
 }
 
-// A rule, by its section and its number there, counted from 0.
+/// A rule, by its section and its number there, counted from 0.
 #[derive(Clone, Copy, Drop)]
-struct RuleAt {
+pub(crate) struct RuleAt {
     section: Section,
-    place: usize,
+    number: usize,
 }
 
-/// The rules, and the table of the file that says them.
+/// The table of a rule file; none of a text that is no TOML.
 #[derive(Drop)]
-pub(crate) struct RuleFile<'a> {
-    rules: &'a Rules,
+pub(crate) struct RuleFile {
     table: Option<Table>,
 }
 
-impl<'a> RuleFile<'a> {
-    /// The rules that this text says.
-    pub(crate) fn of(
-        alloc: Global,
-        rules: &'a Rules,
-        text: &[u8],
-    ) -> Result<RuleFile<'a>, AllocError> {
+impl RuleFile {
+    /// The table of `text`.
+    pub(crate) fn of(alloc: Global, text: &[u8]) -> Result<RuleFile, AllocError> {
         match toml::table_from_slice(alloc, text) {
-            Ok(table) => Ok(RuleFile {
-                rules,
-                table: Some(table),
-            }),
+            Ok(table) => Ok(RuleFile { table: Some(table) }),
             Err(error) => {
                 if error.is_memory() {
                     return Err(AllocError);
                 }
-                Ok(RuleFile { rules, table: None })
+                Ok(RuleFile { table: None })
             }
         }
     }
@@ -74,27 +82,31 @@ impl<'a> RuleFile<'a> {
     // The text at a key of a rule.
     fn text(&self, rule: RuleAt, key: &str) -> Option<&[u8]> {
         let elements = self.table.as_ref()?.get(rule.section.word())?.as_array()?;
-        let element = elements.as_slice().get(rule.place)?.as_table()?;
+        let element = elements.as_slice().get(rule.number)?.as_table()?;
         Some(element.get(key)?.as_str()?.as_bytes())
     }
 }
 
-// Adds the rules of a section whose patterns are of this global.
+// Whether a rule of `section` with this pattern speaks of the fault at `place`.
+fn speaks(section: Section, pattern: &Pattern, place: &Place<'_>) -> bool {
+    section.is_asked_by(place.fault.code) && pattern.global.as_bytes() == global_of(place.name)
+}
+
 fn add_patterns(
     found: &mut Vec<RuleAt>,
     section: Section,
     patterns: &List<Pattern>,
-    global: &[u8],
+    place: &Place<'_>,
 ) -> Result<(), AllocError> {
-    for (place, pattern) in patterns.as_slice().iter().enumerate() {
-        if pattern.global.as_bytes() == global {
-            found.push(RuleAt { section, place })?;
+    for (number, pattern) in patterns.as_slice().iter().enumerate() {
+        if speaks(section, pattern, place) {
+            found.push(RuleAt { section, number })?;
         }
     }
     Ok(())
 }
 
-// Whether a cover asks for one of the locks that are lacking, as far as their roots tell.
+// Whether a cover asks for one of the locks that are missing, as far as their roots tell.
 fn asks_for(cover: &Cover, mend: &Mend) -> bool {
     let Mend::Locks(terms) = mend else {
         return true;
@@ -107,15 +119,12 @@ fn asks_for(cover: &Cover, mend: &Mend) -> bool {
 fn add_covers(
     found: &mut Vec<RuleAt>,
     covers: &List<Cover>,
-    global: &[u8],
-    mend: &Mend,
+    place: &Place<'_>,
 ) -> Result<(), AllocError> {
-    for (place, cover) in covers.as_slice().iter().enumerate() {
-        if cover.pattern.global.as_bytes() == global && asks_for(cover, mend) {
-            found.push(RuleAt {
-                section: Section::Cover,
-                place,
-            })?;
+    let section = Section::Cover;
+    for (number, cover) in covers.as_slice().iter().enumerate() {
+        if speaks(section, &cover.pattern, place) && asks_for(cover, &place.note.mend) {
+            found.push(RuleAt { section, number })?;
         }
     }
     Ok(())
@@ -129,156 +138,106 @@ fn begins(root: &Root, name: &[u8]) -> bool {
     }
 }
 
-// Whether a held lock has this root, and not a lower rank than what is claimed.
-fn blocks(place: &Place<'_>, term: &LockTerm, root: &Root) -> bool {
-    term.root == *root && place.order_of(term) != Order::Lower
-}
-
 // Adds the families that rank what is claimed, and the held locks that stand in its way.
 fn add_families(
     found: &mut Vec<RuleAt>,
-    rules: &Rules,
+    families: &[Family],
     place: &Place<'_>,
 ) -> Result<(), AllocError> {
-    let claimed = root_of(place.name());
-    for (number, family) in rules.families().iter().enumerate() {
+    let section = Section::Lock;
+    if !section.is_asked_by(place.fault.code) {
+        return Ok(());
+    }
+    let claimed = root_of(place.name);
+    for (number, family) in families.iter().enumerate() {
         let root = &family.name.root;
         let is_claimed = !place.is_call() && begins(root, claimed);
-        if is_claimed || place.held().iter().any(|term| blocks(place, term, root)) {
-            found.push(RuleAt {
-                section: Section::Lock,
-                place: number,
-            })?;
+        if is_claimed || place.is_blocked_by(root) {
+            found.push(RuleAt { section, number })?;
         }
     }
     Ok(())
 }
 
-// Adds all rules of a global.
-fn add_all(
-    found: &mut Vec<RuleAt>,
-    lists: &RuleLists,
-    global: &[u8],
-    mend: &Mend,
-) -> Result<(), AllocError> {
-    add_covers(found, &lists.covers, global, mend)?;
-    add_patterns(found, Section::Private, &lists.private, global)?;
-    add_patterns(found, Section::Readonly, &lists.readonly, global)
-}
-
-// The rules that speak of a fault.
-fn rules_for(rules: &Rules, place: &Place<'_>) -> Result<Vec<RuleAt>, AllocError> {
+/// The rules that speak of the fault at `place`.
+pub(crate) fn rules_for(place: &Place<'_>) -> Result<Vec<RuleAt>, AllocError> {
     let mut found = Vec::new(place.alloc);
+    let rules = place.grounds.rules;
     let lists = rules.lists();
-    let global = global_of(place.name());
-    let mend = &place.note.mend;
-    match place.fault.code {
-        Code::Unruled => add_all(&mut found, lists, global, mend)?,
-        Code::Uncovered => add_covers(&mut found, &lists.covers, global, mend)?,
-        Code::ReadOnly => add_patterns(&mut found, Section::Readonly, &lists.readonly, global)?,
-        Code::NotPrivate => add_patterns(&mut found, Section::Private, &lists.private, global)?,
-        Code::RankOrder => add_families(&mut found, rules, place)?,
-        _ => {}
-    }
+    add_covers(&mut found, &lists.covers, place)?;
+    add_patterns(&mut found, Section::Private, &lists.private, place)?;
+    add_patterns(&mut found, Section::Readonly, &lists.readonly, place)?;
+    add_families(&mut found, rules.families(), place)?;
     Ok(found)
 }
 
-// What stands before what is said of rules.
-fn push_head(text: &mut WrittenText, margin: usize) -> Result<(), AllocError> {
-    push_margin(text, margin, b'=')?;
-    text.push(b"rule: ")
-}
-
-// A piece of a rule's text, after what joins it to the piece before it.
-fn push_piece(
-    text: &mut WrittenText,
-    before: &[u8],
-    piece: Option<&[u8]>,
-) -> Result<(), AllocError> {
-    let Some(piece) = piece else {
+// Appends a part of a rule's text, where it has one, after `before`; a long one is cut.
+fn push_part(text: &mut Vec<u8>, before: &str, part: Option<&[u8]>) -> Result<(), AllocError> {
+    let Some(part) = part else {
         return Ok(());
     };
-    text.push(before)?;
-    for byte in piece.iter().take(MOST_SHOWN) {
-        let is_shown = *byte >= 32 && *byte != 127;
-        text.push_byte(if is_shown { *byte } else { b'?' })?;
+    text.extend_from_slice(before.as_bytes())?;
+    push_front(text, part)?;
+    let end = if part.len() > MOST_OF_NAME { ".." } else { "" };
+    text.extend_from_slice(end.as_bytes())
+}
+
+// Appends the rank of the family of this number.
+fn push_rank(text: &mut Vec<u8>, families: &[Family], number: usize) -> Result<(), AllocError> {
+    match families.get(number) {
+        Some(family) => {
+            let rank = Number(family.rank as usize);
+            push_all(text, &[Words(" has rank "), rank])
+        }
+        None => Ok(()),
     }
-    if piece.len() > MOST_SHOWN {
-        text.push(b"..")?;
+}
+
+// `SECTION NUMBER: ..`, and the rank of a lock.
+fn rule_text(rule_file: &RuleFile, rule: RuleAt, place: &Place<'_>) -> Result<Vec<u8>, AllocError> {
+    let section = rule.section;
+    let number = Number(rule.number.saturating_add(1));
+    let mut text = place.text(&[Words(section.word()), Words(" "), number])?;
+    for (before, key) in section.keys() {
+        push_part(&mut text, *before, rule_file.text(rule, *key))?;
     }
+    if let Section::Lock = section {
+        push_rank(&mut text, place.grounds.rules.families(), rule.number)?;
+    }
+    Ok(text)
+}
+
+// Adds that no rule speaks of what stands at a fault, where one should.
+fn add_none(texts: &mut Vec<Vec<u8>>, place: &Place<'_>) -> Result<(), AllocError> {
+    let said = match place.fault.code {
+        Code::Unruled => "none is for ",
+        Code::Unranked => "no lock rule ranks ",
+        _ => return Ok(()),
+    };
+    texts.push(place.text(&[Words(said), Bytes(root_of(place.name))])?)?;
     Ok(())
 }
 
-// What a rule says.
-fn push_rule(
-    text: &mut WrittenText,
-    rule_file: &RuleFile<'_>,
-    rule: RuleAt,
-) -> Result<(), AllocError> {
-    match rule.section {
-        Section::Lock => {
-            push_piece(text, b": ", rule_file.text(rule, "name"))?;
-            if let Some(family) = rule_file.rules.families().get(rule.place) {
-                text.push(b" has rank ")?;
-                text.push_number(family.rank)?;
-            }
-            Ok(())
-        }
-        Section::Cover => {
-            push_piece(text, b": ", rule_file.text(rule, "global"))?;
-            push_piece(text, b" under ", rule_file.text(rule, "lock"))?;
-            push_piece(text, b" and ", rule_file.text(rule, "also"))
-        }
-        Section::Private | Section::Readonly => {
-            push_piece(text, b": ", rule_file.text(rule, "global"))
-        }
-    }
-}
-
-// That no rule speaks of what stands at a fault.
-fn push_none(text: &mut WrittenText, margin: usize, place: &Place<'_>) -> Result<(), AllocError> {
-    let said: &[u8] = match place.fault.code {
-        Code::Unruled => b"none is for ",
-        Code::Unranked => b"no lock rule ranks ",
-        _ => return Ok(()),
-    };
-    push_head(text, margin)?;
-    text.push(said)?;
-    push_name(text, root_of(place.name()))?;
-    text.push_byte(b'\n')
-}
-
-// What holds whatever the rules are.
-fn push_law(text: &mut WrittenText, margin: usize, place: &Place<'_>) -> Result<(), AllocError> {
-    if place.fault.code != Code::RankOrder {
-        return Ok(());
-    }
-    push_head(text, margin)?;
-    text.push(b"a claim without a timeout is of a higher rank than all that is held\n")
-}
-
-/// A line for each rule that speaks of a fault, or one that there is none; of many the first few.
-pub(crate) fn push_rules(
-    text: &mut WrittenText,
-    margin: usize,
-    rule_file: &RuleFile<'_>,
+/// What `rules` say of the fault at `place`: a text for each, of many for the first few, or one that there is none.
+pub(crate) fn rule_texts(
+    rule_file: &RuleFile,
+    rules: &[RuleAt],
     place: &Place<'_>,
-) -> Result<(), AllocError> {
-    let found = rules_for(rule_file.rules, place)?;
-    if found.is_empty() {
-        return push_none(text, margin, place);
+) -> Result<Vec<Vec<u8>>, AllocError> {
+    let mut texts = Vec::new(place.alloc);
+    if rules.is_empty() {
+        add_none(&mut texts, place)?;
+        return Ok(texts);
     }
-    for rule in found.as_slice().iter().take(MOST_RULES) {
-        push_head(text, margin)?;
-        text.push(rule.section.word().as_bytes())?;
-        text.push_byte(b' ')?;
-        text.push_number(u32::try_from(rule.place).unwrap_or(0).saturating_add(1))?;
-        push_rule(text, rule_file, *rule)?;
-        text.push_byte(b'\n')?;
+    for rule in rules.iter().take(MOST_RULES) {
+        texts.push(rule_text(rule_file, *rule, place)?)?;
     }
-    if found.len() > MOST_RULES {
-        push_head(text, margin)?;
-        text.push(b"and others of it\n")?;
+    if rules.len() > MOST_RULES {
+        texts.push(place.words("and others of it")?)?;
     }
-    push_law(text, margin, place)
+    if place.fault.code == Code::RankOrder {
+        let law = "a claim without a timeout is of a higher rank than all that is held";
+        texts.push(place.words(law)?)?;
+    }
+    Ok(texts)
 }

@@ -1,16 +1,15 @@
 // The rows of a report, told one after another.
 
-use crate::act::push_act;
-use crate::explanation::Grounds;
-use crate::help::push_help;
-use crate::line::{push_margin, push_source, width_of};
-use crate::names::push_terms;
-use crate::place::Place;
+use crate::explanation::Explanation;
+use crate::line::{margin_of, push_source};
+use crate::names::{lock_names, name_at};
+use crate::place::{Place, held_in};
+use crate::report::Grounds;
 use crate::routine::RoutineFacts;
-use crate::rule::{RuleFile, push_rules};
-use mlk_cert_lexemes::WrittenText;
-use mlk_cert_parts::Test;
+use crate::rule::RuleFile;
 use mlk_program::EntryId;
+use mlk_report_text::Piece::{At, Bytes, CodeName, Number, Words};
+use mlk_report_text::push_all;
 use mlk_walk::{Checks, Row, found_of};
 use mlk_walk_exprs::{Fault, Note};
 use std::alloc::{AllocError, Global};
@@ -41,56 +40,12 @@ pub(crate) struct Telling<'a> {
     alloc: Global,
     grounds: &'a Grounds<'a>,
     checks: &'a Checks<'a>,
-    rule_file: &'a RuleFile<'a>,
-    text: WrittenText,
+    rule_file: &'a RuleFile,
+    text: Vec<u8>,
     entry: Option<WalkedEntry>,
     routine: Option<RoutineFacts<'a>>,
     /// what was explained: the routine, the line, the code, the rules and the help
     causes: BTreeSet<Vec<u8>>,
-}
-
-fn push_standing(
-    text: &mut WrittenText,
-    margin: usize,
-    place: &Place<'_>,
-) -> Result<(), AllocError> {
-    let Some((test, held)) = place.standing() else {
-        return Ok(());
-    };
-    push_margin(text, margin, b'=')?;
-    text.push(b"held: ")?;
-    if held.is_empty() {
-        text.push(b"nothing")?;
-    } else {
-        push_terms(text, held)?;
-    }
-    match test {
-        Test::Zero => text.push(b", and $TEST is 0")?,
-        Test::One => text.push(b", and $TEST is 1")?,
-        Test::Any => {}
-    }
-    text.push_byte(b'\n')
-}
-
-// The rules that speak of a fault, and what mends it.
-fn cause_of(rule_file: &RuleFile<'_>, place: &Place<'_>) -> Result<WrittenText, AllocError> {
-    let mut cause = WrittenText::new(place.alloc);
-    let margin = width_of(place.fault.line.number());
-    push_rules(&mut cause, margin, rule_file, place)?;
-    push_help(&mut cause, margin, place)?;
-    Ok(cause)
-}
-
-// What tells one cause from all others: where it is, and what is told of it.
-fn key_of(alloc: Global, row: &Row, cause: &WrittenText) -> Result<Vec<u8>, AllocError> {
-    let mut key = WrittenText::new(alloc);
-    key.push_number(u32::try_from(row.entry.routine()).unwrap_or(0))?;
-    key.push_byte(b' ')?;
-    key.push_number(row.fault.line.number())?;
-    key.push_byte(b' ')?;
-    key.push_number(u32::from(row.fault.code.number()))?;
-    key.push(cause.as_bytes())?;
-    Ok(key.into_bytes())
 }
 
 impl<'a> Telling<'a> {
@@ -99,14 +54,14 @@ impl<'a> Telling<'a> {
         alloc: Global,
         grounds: &'a Grounds<'a>,
         checks: &'a Checks<'a>,
-        rule_file: &'a RuleFile<'a>,
+        rule_file: &'a RuleFile,
     ) -> Telling<'a> {
         Telling {
             alloc,
             grounds,
             checks,
             rule_file,
-            text: WrittenText::new(alloc),
+            text: Vec::new(alloc),
             entry: None,
             routine: None,
             causes: BTreeSet::new(alloc),
@@ -116,17 +71,18 @@ impl<'a> Telling<'a> {
     // `LABEL^ROUTINE line:column CODE NAME`
     fn push_row(&mut self, row: &Row) -> Result<(), AllocError> {
         if let Some(entry) = self.grounds.program.text_of(self.alloc, row.entry)? {
-            self.text.push(entry.as_slice())?;
+            self.text.extend_from_slice(entry.as_slice())?;
         }
-        self.text.push_byte(b' ')?;
-        self.text.push_number(row.fault.line.number())?;
-        self.text.push_byte(b':')?;
-        self.text.push_number(row.fault.column.number())?;
-        self.text.push_byte(b' ')?;
-        self.text.push_number(u32::from(row.fault.code.number()))?;
-        self.text.push_byte(b' ')?;
-        self.text.push(row.fault.code.word())?;
-        self.text.push_byte(b'\n')
+        push_all(
+            &mut self.text,
+            &[
+                Words(" "),
+                At(row.fault.line, row.fault.column),
+                Words(" "),
+                CodeName(row.fault.code),
+                Words("\n"),
+            ],
+        )
     }
 
     // What is known of the row's entry and routine is looked up, where it is not at hand.
@@ -141,14 +97,17 @@ impl<'a> Telling<'a> {
         Ok(())
     }
 
-    // The explanation of a fault at its place.
-    fn explanation(&mut self, row: &Row) -> Result<Option<WrittenText>, AllocError> {
+    // Explains a fault, unless its cause was explained. Whether it did.
+    fn explain(&mut self, row: &Row) -> Result<bool, AllocError> {
         let (Some(walked), Some(facts)) = (&self.entry, &self.routine) else {
-            return Ok(None);
+            return Ok(false);
         };
         let Some(note) = walked.notes.get(&row.fault) else {
-            return Ok(None);
+            return Ok(false);
         };
+        let line = facts.line(row.fault.line);
+        let name = name_at(self.alloc, line, row.fault.column)?;
+        let held = lock_names(self.alloc, held_in(note))?;
         let place = Place {
             alloc: self.alloc,
             grounds: self.grounds,
@@ -156,55 +115,51 @@ impl<'a> Telling<'a> {
             fault: row.fault,
             routine: row.entry.routine(),
             note,
-            line: facts.line(row.fault.line),
+            line,
+            name: name.as_slice(),
             mark: facts.mark(row.fault.line, row.fault.column),
+            held: held.as_slice(),
         };
-        let cause = cause_of(self.rule_file, &place)?;
-        if !self.causes.insert(key_of(self.alloc, row, &cause)?)? {
-            return Ok(None);
+        let explanation = Explanation::of(&place, self.rule_file)?;
+        if !self.causes.insert(explanation.cause(&place)?)? {
+            return Ok(false);
         }
-        let margin = width_of(row.fault.line.number());
-        let mut text = WrittenText::new(self.alloc);
-        push_source(&mut text, &place)?;
-        push_act(&mut text, &place)?;
-        text.push_byte(b'\n')?;
-        push_standing(&mut text, margin, &place)?;
-        text.push(cause.as_bytes())?;
-        Ok(Some(text))
+        push_source(&mut self.text, &place)?;
+        explanation.push_to(&mut self.text, row.fault.line.number())?;
+        Ok(true)
     }
 
     /// Tells a row, and explains it unless its cause was explained.
     pub(crate) fn tell(&mut self, row: &Row) -> Result<(), AllocError> {
         self.push_row(row)?;
         self.look_up(row.entry)?;
-        match self.explanation(row)? {
-            Some(explanation) => self.text.push(explanation.as_bytes()),
-            None => {
-                push_margin(&mut self.text, width_of(row.fault.line.number()), b'=')?;
-                self.text.push(b"explained above\n")
-            }
+        if self.explain(row)? {
+            return Ok(());
         }
+        let margin = Bytes(margin_of(row.fault.line.number()));
+        push_all(&mut self.text, &[margin, Words("= explained above\n")])
     }
 
     /// Tells how many rows there are; the text is whole then.
-    pub(crate) fn end(self, count: usize) -> Result<WrittenText, AllocError> {
+    pub(crate) fn end(self, count: usize) -> Result<Vec<u8>, AllocError> {
         let Telling {
             mut text,
             grounds,
             ..
         } = self;
         if count == 0 {
-            text.push(b"yes\n")?;
+            text.extend_from_slice(b"yes\n")?;
             return Ok(text);
         }
-        text.push(b"no ")?;
-        text.push_number(u32::try_from(count).unwrap_or(u32::MAX))?;
-        text.push_byte(b'\n')?;
-        if grounds.is_made {
-            text.push(
-                b"note: one fault often hides others behind it on its path; verify again when these are mended\n",
-            )?;
-        }
+        let note = if grounds.is_made {
+            "note: one fault often hides others behind it on its path; verify again when these are mended\n"
+        } else {
+            ""
+        };
+        push_all(
+            &mut text,
+            &[Words("no "), Number(count), Words("\n"), Words(note)],
+        )?;
         Ok(text)
     }
 }

@@ -18,21 +18,14 @@ pub fn notice_told(
 {
     match output {
         Output::Text => Ok(None),
-        Output::Json => {
-            let text = notice_json(alloc, notice)?;
-            Ok(Some(with_end(alloc, text.as_str())?))
-        }
-        Output::Sarif => {
-            let text = notice_sarif(alloc, notice)?;
-            Ok(Some(with_end(alloc, text.as_str())?))
-        }
+        Output::Json => Ok(Some(with_end(notice_json(alloc, notice)?)?)),
+        Output::Sarif => Ok(Some(with_end(notice_sarif(alloc, notice)?)?)),
     }
 }
 
 /// A text of lines, of which the last is given its end.
-pub(crate) fn with_end(alloc: Global, text: &str) -> Result<ReportText, AllocError> {
-    let mut told = ReportText::new(alloc);
-    told.push(text.as_bytes())?;
-    told.push(b"\n")?;
-    Ok(told)
+pub(crate) fn with_end(text: String) -> Result<ReportText, AllocError> {
+    let mut bytes = text.into_bytes();
+    bytes.push(b'\n')?;
+    Ok(ReportText::of(bytes))
 }

@@ -11,12 +11,14 @@ use mlk_explain::{Grounds, explained};
 use mlk_hazards::{HazardAt, hazards_of};
 use mlk_output::{Inputs, report_json, report_sarif};
 use mlk_pool::{ReportText, report_text};
+use mlk_report_text::Piece::{At, Bytes, Words};
+use mlk_report_text::text_of;
 use mlk_syntax::Routine;
 use mlk_walk::Report;
 use std::alloc::{AllocError, Global};
 
 /// A report as it is printed.
-#[derive(Drop, Debug)]
+#[derive(Drop)]
 pub struct ToldReport {
     pub text: ReportText,
     /// whether there is no fault, and no hazard where these are told
@@ -39,24 +41,38 @@ fn told_hazards<'a>(
 }
 
 // `hazard ROUTINE line:column NAME`
-fn push_hazard(text: &mut ReportText, hazard: &HazardAt<'_>) -> Result<(), AllocError>
+fn push_hazard(
+    alloc: Global,
+    text: &mut ReportText,
+    hazard: &HazardAt<'_>,
+) -> Result<(), AllocError>
     ensures { OnOk result (text.new ≡ text.old ++ hazard_line hazard.now) }
 {
-    text.push(b"hazard ")?;
-    text.push(hazard.position.routine)?;
-    text.push(b" ")?;
-    text.push_place(hazard.position.line, hazard.position.column)?;
-    text.push(b" ")?;
-    text.push(hazard.hazard.word().as_bytes())?;
-    text.push(b"\n")?;
-    Ok(())
+    let place = &hazard.position;
+    let line = text_of(
+        alloc,
+        &[
+            Words("hazard "),
+            Bytes(place.routine),
+            Words(" "),
+            At(place.line, place.column),
+            Words(" "),
+            Words(hazard.hazard.word()),
+            Words("\n"),
+        ],
+    )?;
+    text.push(line.as_slice())
 }
 
-fn push_hazards(text: &mut ReportText, hazards: &[HazardAt<'_>]) -> Result<(), AllocError>
+fn push_hazards(
+    alloc: Global,
+    text: &mut ReportText,
+    hazards: &[HazardAt<'_>],
+) -> Result<(), AllocError>
     ensures { OnOk result (text.new ≡ text.old ++ hazard_lines hazards.now) }
 {
     for hazard in hazards {
-        push_hazard(text, hazard)?;
+        push_hazard(alloc, text, hazard)?;
     }
     Ok(())
 }
@@ -70,7 +86,7 @@ fn plain_text(
     ensures { IfOk result (λ text. text ≡ report_text (map routine_of routines.now) report.now ++ hazard_lines hazards.now) }
 {
     let mut text = report_text(alloc, routines, report)?;
-    push_hazards(&mut text, hazards)?;
+    push_hazards(alloc, &mut text, hazards)?;
     Ok(text)
 }
 
@@ -81,29 +97,9 @@ fn explained_text(
     report: &Report,
     hazards: &[HazardAt<'_>],
 ) -> Result<ReportText, AllocError> {
-    let mut text = ReportText::of(explained(alloc, grounds, report)?.into_bytes());
-    push_hazards(&mut text, hazards)?;
+    let mut text = ReportText::of(explained(alloc, grounds, report)?);
+    push_hazards(alloc, &mut text, hazards)?;
     Ok(text)
-}
-
-fn json_text(
-    alloc: Global,
-    inputs: &Inputs<'_>,
-    report: &Report,
-    hazards: Option<&[HazardAt<'_>]>,
-) -> Result<ReportText, AllocError> {
-    let text = report_json(alloc, inputs, report, hazards)?;
-    with_end(alloc, text.as_str())
-}
-
-fn sarif_text(
-    alloc: Global,
-    inputs: &Inputs<'_>,
-    report: &Report,
-    hazards: Option<&[HazardAt<'_>]>,
-) -> Result<ReportText, AllocError> {
-    let text = report_sarif(alloc, inputs, report, hazards)?;
-    with_end(alloc, text.as_str())
 }
 
 // The text in the form that is asked for, with these hazards.
@@ -119,8 +115,8 @@ fn text_in(
     let told = if style.is_strict { Some(hazards) } else { None };
     let text = match style.output {
         Output::Text => plain_text(alloc, inputs.routines, report, hazards)?,
-        Output::Json => json_text(alloc, inputs, report, told)?,
-        Output::Sarif => sarif_text(alloc, inputs, report, told)?,
+        Output::Json => with_end(report_json(alloc, inputs, report, told)?)?,
+        Output::Sarif => with_end(report_sarif(alloc, inputs, report, told)?)?,
     };
     Ok(text)
 }

@@ -17,7 +17,7 @@ use std::thread::Threads;
 const MOST_LINES: usize = 50;
 
 /// A survey as it is printed.
-#[derive(Drop, Debug)]
+#[derive(Drop)]
 pub struct ToldSurvey {
     /// how many routines were read
     pub read: usize,
@@ -34,14 +34,9 @@ fn text_in(
     match output {
         SurveyOutput::Text => {
             let text = survey_text(alloc, facts, MOST_LINES)?;
-            let mut told = ReportText::new(alloc);
-            told.push(text.as_bytes())?;
-            Ok(told)
+            Ok(ReportText::of(text.into_bytes()))
         }
-        SurveyOutput::Json => {
-            let text = survey_json(alloc, facts)?;
-            with_end(alloc, text.as_str())
-        }
+        SurveyOutput::Json => with_end(survey_json(alloc, facts)?),
     }
 }
 

@@ -2,26 +2,26 @@
 
 use crate::notice::{Notice, Place};
 use crate::row::Inputs;
-use crate::shown::bytes_shown;
 use mlk_hazards::HazardAt;
+use mlk_report_text::{Field, object};
 use mlk_walk::{Report, Row};
-use serde_json::{Value, json};
+use serde_json::Value;
 use std::alloc::{AllocError, Global};
 
 fn row_value(alloc: Global, inputs: &Inputs<'_>, row: &Row) -> Result<Value, AllocError> {
     let entry = inputs.entry(alloc, row.entry)?;
-    let routine = inputs.routine(alloc, row.entry)?;
-    let name = bytes_shown(alloc, row.fault.code.word())?;
-    json!(in alloc; {
-        "entry": &entry,
-        "routine": &routine,
-        "path": inputs.path(row.entry),
-        "line": row.fault.line.number(),
-        "column": row.fault.column.number(),
-        "code": row.fault.code.number(),
-        "name": &name,
-        "meaning": row.fault.code.meaning(),
-    })
+    let code = row.fault.code;
+    let members = vec![in alloc;
+        ("entry", Field::Made(entry)),
+        ("routine", Field::Bytes(inputs.routine(row.entry))),
+        ("path", Field::Text(inputs.path(row.entry))),
+        ("line", Field::Number(row.fault.line.number() as usize)),
+        ("column", Field::Number(row.fault.column.number() as usize)),
+        ("code", Field::Number(usize::from(code.number()))),
+        ("name", Field::Bytes(code.word())),
+        ("meaning", Field::Text(code.meaning())),
+    ]?;
+    object(alloc, members)
 }
 
 fn rows_value(alloc: Global, inputs: &Inputs<'_>, rows: &[Row]) -> Result<Value, AllocError> {
@@ -35,17 +35,19 @@ fn rows_value(alloc: Global, inputs: &Inputs<'_>, rows: &[Row]) -> Result<Value,
 fn hazard_value(
     alloc: Global,
     inputs: &Inputs<'_>,
-    hazard: &HazardAt<'_>,
+    at: &HazardAt<'_>,
 ) -> Result<Value, AllocError> {
-    let routine = bytes_shown(alloc, hazard.position.routine)?;
-    json!(in alloc; {
-        "routine": &routine,
-        "path": inputs.path_of(hazard.position.routine),
-        "line": hazard.position.line.number(),
-        "column": hazard.position.column.number(),
-        "name": hazard.hazard.word(),
-        "advice": hazard.hazard.advice(),
-    })
+    let place = &at.position;
+    let routine = Vec::from_slice(alloc, place.routine)?;
+    let members = vec![in alloc;
+        ("routine", Field::Made(routine)),
+        ("path", Field::Text(inputs.path_of(place.routine))),
+        ("line", Field::Number(place.line.number() as usize)),
+        ("column", Field::Number(place.column.number() as usize)),
+        ("name", Field::Text(at.hazard.word())),
+        ("advice", Field::Text(at.hazard.advice())),
+    ]?;
+    object(alloc, members)
 }
 
 fn hazards_value(
@@ -70,35 +72,51 @@ pub fn report_json(
 ) -> Result<String, AllocError> {
     let answer = if report.is_yes() { "yes" } else { "no" };
     let faults = rows_value(alloc, inputs, report.rows())?;
-    let object = match hazards {
-        None => json!(in alloc; {"answer": answer, "faults": faults})?,
-        Some(hazards) => {
-            let hazards = hazards_value(alloc, inputs, hazards)?;
-            json!(in alloc; {"answer": answer, "faults": faults, "hazards": hazards})?
-        }
+    let hazards = match hazards {
+        Some(hazards) => Field::Value(hazards_value(alloc, inputs, hazards)?),
+        None => Field::Absent,
     };
-    object.to_string_pretty(alloc)
+    let members = vec![in alloc;
+        ("answer", Field::Text(answer)),
+        ("faults", Field::Value(faults)),
+        ("hazards", hazards),
+    ]?;
+    object(alloc, members)?.to_string_pretty(alloc)
 }
 
 fn place_value(alloc: Global, place: &Place<'_>) -> Result<Value, AllocError> {
     let column = match place.column {
-        Some(column) => Value::from(column.number()),
-        None => Value::Null,
+        Some(column) => Field::Number(column.number() as usize),
+        None => Field::Null,
     };
-    json!(in alloc; {"path": place.path, "line": place.line.number(), "column": column})
+    let members = vec![in alloc;
+        ("path", Field::Text(place.path)),
+        ("line", Field::Number(place.line.number() as usize)),
+        ("column", column),
+    ]?;
+    object(alloc, members)
 }
 
-/// A refusal as one JSON object, on lines with indents: `answer`, which is `refused`, and `refusal`.
-pub fn notice_json(alloc: Global, notice: &Notice<'_>) -> Result<String, AllocError> {
-    let name = bytes_shown(alloc, notice.code.word())?;
-    let text = bytes_shown(alloc, notice.line)?;
+fn refusal_value(alloc: Global, notice: &Notice<'_>) -> Result<Value, AllocError> {
     let place = match &notice.place {
         Some(place) => place_value(alloc, place)?,
         None => Value::Null,
     };
-    json!(in alloc; {
-        "answer": "refused",
-        "refusal": {"code": notice.code.number(), "name": &name, "text": &text, "place": place},
-    })?
-    .to_string_pretty(alloc)
+    let members = vec![in alloc;
+        ("code", Field::Number(usize::from(notice.code.number()))),
+        ("name", Field::Bytes(notice.code.word())),
+        ("text", Field::Bytes(notice.line)),
+        ("place", Field::Value(place)),
+    ]?;
+    object(alloc, members)
+}
+
+/// A refusal as one JSON object, on lines with indents: `answer`, which is `refused`, and `refusal`.
+pub fn notice_json(alloc: Global, notice: &Notice<'_>) -> Result<String, AllocError> {
+    let refusal = refusal_value(alloc, notice)?;
+    let members = vec![in alloc;
+        ("answer", Field::Text("refused")),
+        ("refusal", Field::Value(refusal)),
+    ]?;
+    object(alloc, members)?.to_string_pretty(alloc)
 }

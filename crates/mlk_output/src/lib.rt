@@ -4,9 +4,9 @@
 mod json;
 mod meaning;
 mod notice;
+mod path;
 mod row;
 mod sarif;
-mod shown;
 
 pub use json::{notice_json, report_json};
 pub use meaning::mend_of;

@@ -3,7 +3,7 @@
 use mlk_text::{Code, Column, LineNumber};
 
 /// A place in a file.
-#[derive(Clone, Copy, Debug, Drop)]
+#[derive(Clone, Copy, Drop)]
 pub struct Place<'a> {
     /// the file's path, as the command line has it
     pub path: &'a str,
@@ -13,7 +13,7 @@ pub struct Place<'a> {
 }
 
 /// Why there is no report.
-#[derive(Clone, Copy, Debug, Drop)]
+#[derive(Clone, Copy, Drop)]
 pub struct Notice<'a> {
     pub code: Code,
     /// the line that the program tells on the error stream, without its end

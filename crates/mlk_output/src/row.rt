@@ -1,7 +1,8 @@
 // A row of a report, as it is told to other programs.
 
-use crate::shown::{Shown, bytes_shown};
 use mlk_program::EntryId;
+use mlk_report_text::Piece::{Bytes, Words};
+use mlk_report_text::text_of;
 use mlk_syntax::Routine;
 use std::alloc::{AllocError, Global};
 
@@ -36,10 +37,10 @@ impl<'a> Inputs<'a> {
     }
 
     /// The name of the routine that an entry is in.
-    pub(crate) fn routine(&self, alloc: Global, entry: EntryId) -> Result<String, AllocError> {
+    pub(crate) fn routine(&self, entry: EntryId) -> &'a [u8] {
         match self.routines.get(entry.routine()) {
-            Some(routine) => bytes_shown(alloc, routine.name.as_bytes()),
-            None => Ok(String::new(alloc)),
+            Some(routine) => routine.name.as_bytes(),
+            None => b"",
         }
     }
 
@@ -58,11 +59,8 @@ impl<'a> Inputs<'a> {
     }
 
     /// `LABEL^ROUTINE`.
-    pub(crate) fn entry(&self, alloc: Global, entry: EntryId) -> Result<String, AllocError> {
-        let routine = self.routine(alloc, entry)?;
-        let label = Shown {
-            bytes: self.label(entry),
-        };
-        format!(in alloc; "{}^{}", label, routine)
+    pub(crate) fn entry(&self, alloc: Global, entry: EntryId) -> Result<Vec<u8>, AllocError> {
+        let routine = Bytes(self.routine(entry));
+        text_of(alloc, &[Bytes(self.label(entry)), Words("^"), routine])
     }
 }

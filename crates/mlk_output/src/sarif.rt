@@ -2,29 +2,33 @@
 
 use crate::meaning::{HAZARD_MEANINGS, HazardMeaning, MENDINGS, Mending, hazard_is_what};
 use crate::notice::{Notice, Place};
+use crate::path::uri;
 use crate::row::Inputs;
-use crate::shown::{bytes_shown, uri};
 use mlk_hazards::HazardAt;
-use mlk_text::Code;
+use mlk_report_text::Piece::{Bytes, Number, Words};
+use mlk_report_text::{Field, member, object, shown, text_of};
 use mlk_walk::{Report, Row};
 use serde_json::{Value, json};
 use std::alloc::{AllocError, Global};
-use std::collections::HashMap;
+use std::collections::BTreeMap;
 
 const SCHEMA: &str = "https://json.schemastore.org/sarif-2.1.0.json";
 
+// A rule that a walk looks after, by the code of its faults.
 fn rule_value(alloc: Global, mending: &Mending) -> Result<Value, AllocError> {
-    let id = code_text(alloc, mending.code)?;
-    let name = bytes_shown(alloc, mending.code.word())?;
-    json!(in alloc; {
-        "id": &id,
-        "name": &name,
-        "shortDescription": {"text": mending.code.meaning()},
-        "help": {"text": mending.mend},
-    })
+    let code = mending.code;
+    let id = text_of(alloc, &[Number(usize::from(code.number()))])?;
+    let meaning = member(alloc, "text", Field::Text(code.meaning()))?;
+    let help = member(alloc, "text", Field::Text(mending.mend))?;
+    let members = vec![in alloc;
+        ("id", Field::Made(id)),
+        ("name", Field::Bytes(code.word())),
+        ("shortDescription", Field::Value(meaning)),
+        ("help", Field::Value(help)),
+    ]?;
+    object(alloc, members)
 }
 
-// The rules that a walk looks after, each by the code of its faults.
 fn rules_values(alloc: Global) -> Result<Vec<Value>, AllocError> {
     let mut values = Vec::new(alloc);
     for mending in MENDINGS.iter() {
@@ -33,17 +37,23 @@ fn rules_values(alloc: Global) -> Result<Vec<Value>, AllocError> {
     Ok(values)
 }
 
+// The rule of a hazard, by its word.
 fn hazard_rule_value(alloc: Global, meaning: &HazardMeaning) -> Result<Value, AllocError> {
-    json!(in alloc; {
-        "id": meaning.hazard.word(),
-        "name": meaning.hazard.word(),
-        "shortDescription": {"text": meaning.is},
-        "help": {"text": meaning.hazard.advice()},
-        "defaultConfiguration": {"level": "warning"},
-    })
+    let hazard = meaning.hazard;
+    let meaning = member(alloc, "text", Field::Text(meaning.is))?;
+    let help = member(alloc, "text", Field::Text(hazard.advice()))?;
+    let level = member(alloc, "level", Field::Text("warning"))?;
+    let members = vec![in alloc;
+        ("id", Field::Text(hazard.word())),
+        ("name", Field::Text(hazard.word())),
+        ("shortDescription", Field::Value(meaning)),
+        ("help", Field::Value(help)),
+        ("defaultConfiguration", Field::Value(level)),
+    ]?;
+    object(alloc, members)
 }
 
-// The same, and those of hazards, each by its word.
+// The rules that a walk looks after, and those of hazards.
 fn all_rules_values(alloc: Global) -> Result<Vec<Value>, AllocError> {
     let mut values = rules_values(alloc)?;
     for meaning in HAZARD_MEANINGS.iter() {
@@ -52,114 +62,113 @@ fn all_rules_values(alloc: Global) -> Result<Vec<Value>, AllocError> {
     Ok(values)
 }
 
-fn code_text(alloc: Global, code: Code) -> Result<String, AllocError> {
-    code.number().to_string(alloc)
+// A fault or a hazard.
+#[derive(Drop)]
+struct Finding<'a> {
+    /// the id of its rule
+    rule: Vec<u8>,
+    level: &'static str,
+    name: &'static [u8],
+    meaning: &'static str,
+    place: Place<'a>,
+    /// the entry or the routine that it is in
+    within: Vec<u8>,
+    kind: &'static str,
+    fingerprint: &'static str,
 }
 
-// The key, and how often it was told, this time with it. The number stays the same where lines move.
-fn counted(
+// A place in a file.
+fn physical_value(alloc: Global, place: &Place<'_>) -> Result<Value, AllocError> {
+    let path = uri(alloc, place.path)?;
+    let column = match place.column {
+        Some(column) => Field::Number(column.number() as usize),
+        None => Field::Absent,
+    };
+    let members = vec![in alloc;
+        ("startLine", Field::Number(place.line.number() as usize)),
+        ("startColumn", column),
+    ]?;
+    let region = object(alloc, members)?;
+    json!(in alloc; {"artifactLocation": {"uri": &path}, "region": region})
+}
+
+// The places of a finding.
+fn locations_value(alloc: Global, finding: &Finding<'_>) -> Result<Value, AllocError> {
+    let physical = physical_value(alloc, &finding.place)?;
+    let within = shown(alloc, finding.within.as_slice())?;
+    json!(in alloc; [{
+        "physicalLocation": physical,
+        "logicalLocations": [{"fullyQualifiedName": &within, "kind": finding.kind}],
+    }])
+}
+
+// The fingerprint of a finding, which stays the same where lines move: its rule, what it is in, and how many findings of this
+// rule there were so far.
+fn fingerprint(
     alloc: Global,
-    counts: &mut HashMap<String, usize>,
-    key: String,
-) -> Result<String, AllocError> {
-    let before = counts.get(key.as_str()).copied().unwrap_or(0);
-    let now = before.saturating_add(1);
-    let told = format!(in alloc; "{} {}", key, now)?;
-    counts.insert(key, now)?;
-    Ok(told)
-}
-
-fn message(alloc: Global, row: &Row) -> Result<String, AllocError> {
-    let name = bytes_shown(alloc, row.fault.code.word())?;
-    format!(in alloc; "{}: {}", name, row.fault.code.meaning())
-}
-
-fn location(
-    alloc: Global,
-    inputs: &Inputs<'_>,
-    row: &Row,
-    entry: &str,
-) -> Result<Value, AllocError> {
-    let path = uri(alloc, inputs.path(row.entry))?;
-    json!(in alloc; {
-        "physicalLocation": {
-            "artifactLocation": {"uri": &path},
-            "region": {"startLine": row.fault.line.number(), "startColumn": row.fault.column.number()},
-        },
-        "logicalLocations": [{"fullyQualifiedName": entry, "kind": "function"}],
-    })
+    counts: &mut BTreeMap<Vec<u8>, usize>,
+    finding: &Finding<'_>,
+) -> Result<Vec<u8>, AllocError> {
+    let rule = finding.rule.as_slice();
+    let within = finding.within.as_slice();
+    let key = text_of(alloc, &[Bytes(rule), Words(" "), Bytes(within)])?;
+    let count = counts.get(&key).copied().unwrap_or(0).saturating_add(1);
+    counts.insert(key, count)?;
+    let count = Number(count);
+    text_of(
+        alloc,
+        &[Bytes(rule), Words(" "), Bytes(within), Words(" "), count],
+    )
 }
 
 fn result_value(
     alloc: Global,
-    inputs: &Inputs<'_>,
-    counts: &mut HashMap<String, usize>,
-    row: &Row,
+    counts: &mut BTreeMap<Vec<u8>, usize>,
+    finding: &Finding<'_>,
 ) -> Result<Value, AllocError> {
-    let entry = inputs.entry(alloc, row.entry)?;
-    let id = code_text(alloc, row.fault.code)?;
-    let text = message(alloc, row)?;
-    let key = format!(in alloc; "{} {}", id, entry)?;
-    let fingerprint = counted(alloc, counts, key)?;
-    let location = location(alloc, inputs, row, entry.as_str())?;
-    json!(in alloc; {
-        "ruleId": &id,
-        "level": "error",
-        "message": {"text": &text},
-        "locations": [location],
-        "partialFingerprints": {"codeInEntry/v1": &fingerprint},
-    })
+    let meaning = Words(finding.meaning);
+    let message = text_of(alloc, &[Bytes(finding.name), Words(": "), meaning])?;
+    let message = member(alloc, "text", Field::Made(message))?;
+    let fingerprint = Field::Made(fingerprint(alloc, counts, finding)?);
+    let fingerprints = member(alloc, finding.fingerprint, fingerprint)?;
+    let locations = locations_value(alloc, finding)?;
+    let members = vec![in alloc;
+        ("ruleId", Field::Bytes(finding.rule.as_slice())),
+        ("level", Field::Text(finding.level)),
+        ("message", Field::Value(message)),
+        ("locations", Field::Value(locations)),
+        ("partialFingerprints", Field::Value(fingerprints)),
+    ]?;
+    object(alloc, members)
 }
 
-fn results_values(
+// Adds a result for each fault.
+fn add_faults(
     alloc: Global,
     inputs: &Inputs<'_>,
     rows: &[Row],
-) -> Result<Vec<Value>, AllocError> {
-    let mut counts = HashMap::new(alloc);
-    let mut values = Vec::with_capacity(alloc, rows.len())?;
+    values: &mut Vec<Value>,
+) -> Result<(), AllocError> {
+    let mut counts = BTreeMap::new(alloc);
     for row in rows {
-        values.push(result_value(alloc, inputs, &mut counts, row)?)?;
+        let code = row.fault.code;
+        let finding = Finding {
+            rule: text_of(alloc, &[Number(usize::from(code.number()))])?,
+            level: "error",
+            name: code.word(),
+            meaning: code.meaning(),
+            place: Place {
+                path: inputs.path(row.entry),
+                line: row.fault.line,
+                column: Some(row.fault.column),
+            },
+            within: inputs.entry(alloc, row.entry)?,
+            kind: "function",
+            fingerprint: "codeInEntry/v1",
+        };
+        values.push(result_value(alloc, &mut counts, &finding)?)?;
     }
-    Ok(values)
-}
-
-fn hazard_location(
-    alloc: Global,
-    inputs: &Inputs<'_>,
-    hazard: &HazardAt<'_>,
-    routine: &str,
-) -> Result<Value, AllocError> {
-    let place = &hazard.position;
-    let path = uri(alloc, inputs.path_of(place.routine))?;
-    json!(in alloc; {
-        "physicalLocation": {
-            "artifactLocation": {"uri": &path},
-            "region": {"startLine": place.line.number(), "startColumn": place.column.number()},
-        },
-        "logicalLocations": [{"fullyQualifiedName": routine, "kind": "module"}],
-    })
-}
-
-fn hazard_result_value(
-    alloc: Global,
-    inputs: &Inputs<'_>,
-    counts: &mut HashMap<String, usize>,
-    hazard: &HazardAt<'_>,
-) -> Result<Value, AllocError> {
-    let word = hazard.hazard.word();
-    let routine = bytes_shown(alloc, hazard.position.routine)?;
-    let text = format!(in alloc; "{}: {}", word, hazard_is_what(hazard.hazard))?;
-    let key = format!(in alloc; "{} {}", word, routine)?;
-    let fingerprint = counted(alloc, counts, key)?;
-    let location = hazard_location(alloc, inputs, hazard, routine.as_str())?;
-    json!(in alloc; {
-        "ruleId": word,
-        "level": "warning",
-        "message": {"text": &text},
-        "locations": [location],
-        "partialFingerprints": {"hazardInRoutine/v1": &fingerprint},
-    })
+    Ok(())
 }
 
 // Adds a result for each hazard.
@@ -169,9 +178,25 @@ fn add_hazards(
     hazards: &[HazardAt<'_>],
     values: &mut Vec<Value>,
 ) -> Result<(), AllocError> {
-    let mut counts = HashMap::new(alloc);
-    for hazard in hazards {
-        values.push(hazard_result_value(alloc, inputs, &mut counts, hazard)?)?;
+    let mut counts = BTreeMap::new(alloc);
+    for at in hazards {
+        let word = at.hazard.word().as_bytes();
+        let routine = at.position.routine;
+        let finding = Finding {
+            rule: Vec::from_slice(alloc, word)?,
+            level: "warning",
+            name: word,
+            meaning: hazard_is_what(at.hazard),
+            place: Place {
+                path: inputs.path_of(routine),
+                line: at.position.line,
+                column: Some(at.position.column),
+            },
+            within: Vec::from_slice(alloc, routine)?,
+            kind: "module",
+            fingerprint: "hazardInRoutine/v1",
+        };
+        values.push(result_value(alloc, &mut counts, &finding)?)?;
     }
     Ok(())
 }
@@ -205,7 +230,8 @@ pub fn report_sarif(
     report: &Report,
     hazards: Option<&[HazardAt<'_>]>,
 ) -> Result<String, AllocError> {
-    let mut results = results_values(alloc, inputs, report.rows())?;
+    let mut results = Vec::with_capacity(alloc, report.rows().len())?;
+    add_faults(alloc, inputs, report.rows(), &mut results)?;
     let rules = match hazards {
         None => rules_values(alloc)?,
         Some(hazards) => {
@@ -213,38 +239,35 @@ pub fn report_sarif(
             all_rules_values(alloc)?
         }
     };
-    let invocation = json!(in alloc; {"executionSuccessful": true})?;
+    let invocation = member(alloc, "executionSuccessful", Field::Flag(true))?;
     document(alloc, rules, results, invocation)
 }
 
-fn place_values(alloc: Global, place: &Option<Place<'_>>) -> Result<Value, AllocError> {
+// The place of a refusal, where it has one.
+fn places_value(alloc: Global, place: &Option<Place<'_>>) -> Result<Value, AllocError> {
     let Some(place) = place else {
         return Ok(Value::Array(Vec::new(alloc)));
     };
-    let path = uri(alloc, place.path)?;
-    let mut region = json!(in alloc; {"startLine": place.line.number()})?;
-    if let Some(column) = place.column {
-        region = json!(in alloc; {
-            "startLine": place.line.number(),
-            "startColumn": column.number(),
-        })?;
-    }
-    json!(in alloc; [{"physicalLocation": {"artifactLocation": {"uri": &path}, "region": region}}])
+    let physical = physical_value(alloc, place)?;
+    json!(in alloc; [{"physicalLocation": physical}])
 }
 
 /// A refusal as SARIF: a run without results, which tells why there are none.
 pub fn notice_sarif(alloc: Global, notice: &Notice<'_>) -> Result<String, AllocError> {
-    let id = code_text(alloc, notice.code)?;
-    let text = bytes_shown(alloc, notice.line)?;
-    let places = place_values(alloc, &notice.place)?;
+    let id = text_of(alloc, &[Number(usize::from(notice.code.number()))])?;
+    let descriptor = member(alloc, "id", Field::Made(id))?;
+    let message = member(alloc, "text", Field::Bytes(notice.line))?;
+    let places = places_value(alloc, &notice.place)?;
+    let members = vec![in alloc;
+        ("descriptor", Field::Value(descriptor)),
+        ("level", Field::Text("error")),
+        ("message", Field::Value(message)),
+        ("locations", Field::Value(places)),
+    ]?;
+    let notification = object(alloc, members)?;
     let invocation = json!(in alloc; {
         "executionSuccessful": false,
-        "toolExecutionNotifications": [{
-            "descriptor": {"id": &id},
-            "level": "error",
-            "message": {"text": &text},
-            "locations": places,
-        }],
+        "toolExecutionNotifications": [notification],
     })?;
     document(alloc, rules_values(alloc)?, Vec::new(alloc), invocation)
 }

@@ -1,37 +1,56 @@
 // A survey as JSON.
 
-use crate::object::Object;
-use crate::values::values;
+use crate::values::{Valued, values};
 use mlk_survey::{Facts, InRoutines};
-use serde_json::Value;
+use serde_json::{Map, Value, put};
 use std::alloc::{AllocError, Global};
+
+// Puts the values of `things`.
+fn put_values<T: Valued>(
+    object: &mut Map<String, Value>,
+    alloc: Global,
+    name: &str,
+    things: &[T],
+) -> Result<(), AllocError> {
+    put(object, alloc, name, values(alloc, things)?)
+}
 
 // How many routines are read, and what is refused.
 fn reading_value(alloc: Global, facts: &Facts<'_>) -> Result<Value, AllocError> {
-    let mut object = Object::new(alloc);
-    object.put("read", Value::from(facts.read))?;
-    object.put("refused", Value::from(facts.refused.len()))?;
-    object.put("refusals", values(alloc, facts.refused.as_slice())?)?;
-    object.put("reasons", values(alloc, facts.refusal_counts.as_slice())?)?;
-    object.put("missing", values(alloc, facts.found.missing.as_slice())?)?;
-    Ok(object.into_value())
+    let mut object = Map::new(alloc);
+    put(&mut object, alloc, "read", Value::from(facts.read))?;
+    put(
+        &mut object,
+        alloc,
+        "refused",
+        Value::from(facts.refused.len()),
+    )?;
+    put_values(&mut object, alloc, "refusals", &facts.refused)?;
+    put_values(&mut object, alloc, "reasons", &facts.refusal_counts)?;
+    put_values(&mut object, alloc, "missing", &facts.found.missing)?;
+    Ok(Value::Object(object))
 }
 
 // What is on the lines that are read.
 fn found_value(alloc: Global, found: &InRoutines<'_>) -> Result<Value, AllocError> {
-    let mut object = Object::new(alloc);
-    object.put("entries", values(alloc, found.entries.as_slice())?)?;
-    object.put("globals", values(alloc, found.globals.as_slice())?)?;
-    object.put("locks", values(alloc, found.locks.as_slice())?)?;
-    object.put("orders", values(alloc, found.orders.as_slice())?)?;
-    object.put("hazards", values(alloc, found.hazards.as_slice())?)?;
-    Ok(object.into_value())
+    let mut object = Map::new(alloc);
+    put_values(&mut object, alloc, "entries", &found.entries)?;
+    put_values(&mut object, alloc, "globals", &found.globals)?;
+    put_values(&mut object, alloc, "locks", &found.locks)?;
+    put_values(&mut object, alloc, "orders", &found.orders)?;
+    put_values(&mut object, alloc, "hazards", &found.hazards)?;
+    Ok(Value::Object(object))
 }
 
 /// A survey as one JSON object, on lines with indents: the same facts as in the text, and all of them.
 pub fn survey_json(alloc: Global, facts: &Facts<'_>) -> Result<String, AllocError> {
-    let mut object = Object::new(alloc);
-    object.put("routines", reading_value(alloc, facts)?)?;
-    object.put("found", found_value(alloc, &facts.found)?)?;
-    object.into_value().to_string_pretty(alloc)
+    let mut object = Map::new(alloc);
+    put(&mut object, alloc, "routines", reading_value(alloc, facts)?)?;
+    put(
+        &mut object,
+        alloc,
+        "found",
+        found_value(alloc, &facts.found)?,
+    )?;
+    Value::Object(object).to_string_pretty(alloc)
 }

@@ -3,8 +3,6 @@
 
 mod json;
 mod lines;
-mod object;
-mod shown;
 mod text;
 mod values;
 

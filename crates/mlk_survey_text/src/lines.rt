@@ -1,125 +1,155 @@
 // The line of each thing that a survey finds.
 
-use crate::shown::{Shown, bytes_shown, place_shown, root_shown};
 use mlk_hazards::HazardAt;
+use mlk_report_text::Piece::{At, Bytes, CodeName, Made, Number, Words};
+use mlk_report_text::text_of;
 use mlk_survey::{
     Entry, GlobalUse, Lack, LockOrder, LockUse, MissingCall, RefusalCount, RefusedRoutine,
 };
+use mlk_survey_trees::LockRoot;
 use mlk_text::{Code, Name};
 use std::alloc::{AllocError, Global};
 
 /// What has a line in the text.
 pub(crate) trait Told {
-    /// The line, without its end.
-    fn told(&self, alloc: Global) -> Result<String, AllocError>;
+    /// The bytes of the line, without its end.
+    fn told(&self, alloc: Global) -> Result<Vec<u8>, AllocError>;
+}
+
+/// The root of a lock name, with its caret.
+pub(crate) fn root_text(alloc: Global, root: &LockRoot<'_>) -> Result<Vec<u8>, AllocError> {
+    match root {
+        LockRoot::Global(name) => text_of(alloc, &[Words("^"), Bytes(*name)]),
+        LockRoot::Local(name) => text_of(alloc, &[Bytes(*name)]),
+    }
 }
 
 // `CODE NAME WORD`.
-fn reason(alloc: Global, code: Code, word: Option<&[u8]>) -> Result<String, AllocError> {
-    let name = Shown { bytes: code.word() };
+fn reason(alloc: Global, code: Code, word: Option<&[u8]>) -> Result<Vec<u8>, AllocError> {
     match word {
-        None => format!(in alloc; "{} {}", code.number(), name),
-        Some(bytes) => format!(in alloc; "{} {} {}", code.number(), name, Shown { bytes }),
+        Some(word) => text_of(alloc, &[CodeName(code), Words(" "), Bytes(word)]),
+        None => text_of(alloc, &[CodeName(code)]),
     }
 }
 
 impl<'a> Told for RefusalCount<'a> {
-    fn told(&self, alloc: Global) -> Result<String, AllocError> {
-        let reason = reason(alloc, self.code, self.word)?;
-        format!(in alloc; "{} {}", self.routines, reason)
+    fn told(&self, alloc: Global) -> Result<Vec<u8>, AllocError> {
+        let reason = Made(reason(alloc, self.code, self.word)?);
+        text_of(alloc, &[Number(self.routines), Words(" "), reason])
     }
 }
 
 impl<'a> Told for RefusedRoutine<'a> {
-    fn told(&self, alloc: Global) -> Result<String, AllocError> {
-        let place = place_shown(alloc, &self.position)?;
-        let reason = reason(alloc, self.code, self.word)?;
-        format!(in alloc; "{} {}", place, reason)
+    fn told(&self, alloc: Global) -> Result<Vec<u8>, AllocError> {
+        let reason = Made(reason(alloc, self.code, self.word)?);
+        let place = At(self.position.line, self.position.column);
+        let routine = Bytes(self.position.routine);
+        text_of(alloc, &[routine, Words(" "), place, Words(" "), reason])
     }
 }
 
 impl<'a> Told for MissingCall<'a> {
-    fn told(&self, alloc: Global) -> Result<String, AllocError> {
-        let label = bytes_shown(alloc, self.called.label)?;
-        let routine = bytes_shown(alloc, self.called.routine)?;
+    fn told(&self, alloc: Global) -> Result<Vec<u8>, AllocError> {
         let lack = match self.lack {
-            Lack::Routine => "no such routine",
-            Lack::Label => "no such label",
+            Lack::Routine => " no such routine, calls ",
+            Lack::Label => " no such label, calls ",
         };
-        let place = place_shown(alloc, &self.first)?;
-        format!(in alloc;
-            "{}^{} {}, calls {}, first {}",
-            label, routine, lack, self.calls, place
+        text_of(
+            alloc,
+            &[
+                Bytes(self.called.label),
+                Words("^"),
+                Bytes(self.called.routine),
+                Words(lack),
+                Number(self.calls),
+                Words(", first "),
+                Bytes(self.first.routine),
+                Words(" "),
+                At(self.first.line, self.first.column),
+            ],
         )
     }
 }
 
-// Names in parentheses.
-fn listed(alloc: Global, names: &[Name]) -> Result<String, AllocError> {
-    let mut text = String::from_str(alloc, "(")?;
-    let mut is_first = true;
-    for name in names {
-        if !is_first {
-            text.push_str(",")?;
+// Names in parentheses, where there is a list of them.
+fn formals_text(alloc: Global, formals: Option<&[Name]>) -> Result<Vec<u8>, AllocError> {
+    let Some(names) = formals else {
+        return Ok(Vec::new(alloc));
+    };
+    let mut text = text_of(alloc, &[Words("(")])?;
+    for (place, name) in names.iter().enumerate() {
+        if place > 0 {
+            text.push(b',')?;
         }
-        is_first = false;
-        text.push_str(&bytes_shown(alloc, name.as_bytes())?)?;
+        text.extend_from_slice(name.as_bytes())?;
     }
-    text.push_str(")")?;
+    text.push(b')')?;
     Ok(text)
 }
 
 impl<'a> Told for Entry<'a> {
-    fn told(&self, alloc: Global) -> Result<String, AllocError> {
-        let label = match self.label {
-            None => String::new(alloc),
-            Some(label) => bytes_shown(alloc, label)?,
-        };
-        let formals = match self.formals {
-            None => String::new(alloc),
-            Some(names) => listed(alloc, names)?,
-        };
-        let routine = Shown {
-            bytes: self.routine,
-        };
-        format!(in alloc; "{}^{}{}", label, routine, formals)
+    fn told(&self, alloc: Global) -> Result<Vec<u8>, AllocError> {
+        let formals = formals_text(alloc, self.formals)?;
+        text_of(
+            alloc,
+            &[
+                Bytes(self.label.unwrap_or(b"")),
+                Words("^"),
+                Bytes(self.routine),
+                Made(formals),
+            ],
+        )
     }
 }
 
 impl<'a> Told for GlobalUse<'a> {
-    fn told(&self, alloc: Global) -> Result<String, AllocError> {
-        let name = bytes_shown(alloc, self.name)?;
-        let uses = self.uses;
-        format!(in alloc;
-            "^{} read {}, written {}, killed {}",
-            name, uses.reads, uses.writes, uses.kills
+    fn told(&self, alloc: Global) -> Result<Vec<u8>, AllocError> {
+        text_of(
+            alloc,
+            &[
+                Words("^"),
+                Bytes(self.name),
+                Words(" read "),
+                Number(self.uses.reads),
+                Words(", written "),
+                Number(self.uses.writes),
+                Words(", killed "),
+                Number(self.uses.kills),
+            ],
         )
     }
 }
 
 impl<'a> Told for LockUse<'a> {
-    fn told(&self, alloc: Global) -> Result<String, AllocError> {
-        let root = root_shown(alloc, &self.root)?;
-        format!(in alloc; "{} claimed {}", root, self.claims)
+    fn told(&self, alloc: Global) -> Result<Vec<u8>, AllocError> {
+        let root = Made(root_text(alloc, &self.root)?);
+        text_of(alloc, &[root, Words(" claimed "), Number(self.claims)])
     }
 }
 
 impl<'a> Told for LockOrder<'a> {
-    fn told(&self, alloc: Global) -> Result<String, AllocError> {
-        let held = root_shown(alloc, &self.held)?;
-        let claimed = root_shown(alloc, &self.claimed)?;
-        format!(in alloc; "{} then {} {}", held, claimed, self.claims)
+    fn told(&self, alloc: Global) -> Result<Vec<u8>, AllocError> {
+        let held = Made(root_text(alloc, &self.held)?);
+        let claimed = Made(root_text(alloc, &self.claimed)?);
+        let claims = Number(self.claims);
+        text_of(alloc, &[held, Words(" then "), claimed, Words(" "), claims])
     }
 }
 
 impl<'a> Told for HazardAt<'a> {
-    fn told(&self, alloc: Global) -> Result<String, AllocError> {
-        let place = place_shown(alloc, &self.position)?;
-        format!(in alloc;
-            "{} {}: {}",
-            place,
-            self.hazard.word(),
-            self.hazard.advice()
+    fn told(&self, alloc: Global) -> Result<Vec<u8>, AllocError> {
+        let place = &self.position;
+        text_of(
+            alloc,
+            &[
+                Bytes(place.routine),
+                Words(" "),
+                At(place.line, place.column),
+                Words(" "),
+                Words(self.hazard.word()),
+                Words(": "),
+                Words(self.hazard.advice()),
+            ],
         )
     }
 }

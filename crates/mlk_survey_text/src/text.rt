@@ -1,6 +1,7 @@
 // The text of a survey.
 
 use crate::lines::Told;
+use mlk_report_text::shown;
 use mlk_survey::Facts;
 use std::alloc::{AllocError, Global};
 
@@ -15,7 +16,8 @@ fn push_list<T: Told>(
     text.push_str(&format!(in alloc; "{} {}\n", title, things.len())?)?;
     let (first, others) = things.split_at(things.len().min(most));
     for thing in first {
-        text.push_str(&format!(in alloc; "  {}\n", thing.told(alloc)?)?)?;
+        let line = shown(alloc, thing.told(alloc)?.as_slice())?;
+        text.push_str(&format!(in alloc; "  {}\n", line)?)?;
     }
     if !others.is_empty() {
         text.push_str(&format!(in alloc; "  and {} more\n", others.len())?)?;

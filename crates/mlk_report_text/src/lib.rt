@@ -1,0 +1,10 @@
+//! What printers share: texts as lists of pieces, and JSON objects as tables of fields.
+#![tactic(auto)]
+
+mod escape;
+mod field;
+mod piece;
+
+pub use escape::shown;
+pub use field::{Field, member, object};
+pub use piece::{Piece, push_all, text_of};
