@@ -10,7 +10,7 @@ use mlk_survey_trees::Position;
 pub enum Hazard {
     /// an extrinsic call right of `&`, `!`, `'&` or `'!`: it may not run
     SkippedCall,
-    /// two names of a LOCK argument that claims and that may be one name: it may be counted once, or past the greatest count
+    /// two names of a LOCK argument without sign that may be one name: it may be counted once
     PerhapsOneName,
     /// a name that stands twice in one LOCK argument
     RepeatedName,
@@ -43,9 +43,7 @@ impl Hazard {
             Hazard::SkippedCall => {
                 "call it in a SET of its own before, or compile with gtm_boolean=1"
             }
-            Hazard::PerhapsOneName => {
-                "use names that surely differ, or claim each by an argument of its own with +"
-            }
+            Hazard::PerhapsOneName => "use LOCK +(..), or names that surely differ",
             Hazard::RepeatedName => "name it once",
             Hazard::BlockBeforeFormals => "put a line with QUIT between them",
             Hazard::LongLine => "break the line up",

@@ -62,7 +62,7 @@ pub(crate) fn add_names<'a>(
         Likeness::Same,
         Hazard::RepeatedName,
     )?;
-    if argument.sign == Sign::Minus {
+    if argument.sign != Sign::None {
         return Ok(());
     }
     add_like(

@@ -107,7 +107,7 @@ pub(crate) const HAZARD_MEANINGS: [HazardMeaning; 6] = [
     },
     HazardMeaning {
         hazard: Hazard::PerhapsOneName,
-        is: "two names of one LOCK argument that may be one: a system may count them once, or let the count wrap",
+        is: "two names of one LOCK argument without sign that may be one: a system may count them once",
     },
     HazardMeaning {
         hazard: Hazard::RepeatedName,
