@@ -37,6 +37,9 @@ const DIGITS: [u64; 12] = [
     100_000_000_000,
 ];
 
+/// No task of the twelve.
+pub(crate) const NONE: [usize; 2] = [12, 12];
+
 /// What is counted where each of the twelve tasks was counted once.
 pub(crate) const EACH_ONCE: u64 = 111_111_111_111;
 
@@ -50,8 +53,8 @@ fn count(counts: &AtomicU64, task: usize) {
 /// A gate that counts which tasks it was asked for and which were posted, and is shut before some. It may also hold task 0 until
 /// it was asked for task 1, and task 1 until it was asked for task 0; where it has waited in vain it is shut from then on.
 #[derive(Drop)]
-pub(crate) struct Turnstile<'a> {
-    shut_before: &'a [usize],
+pub(crate) struct Turnstile {
+    shut_before: [usize; 2],
     holds: bool,
     passed: AtomicU64,
     posted: AtomicU64,
@@ -60,9 +63,9 @@ pub(crate) struct Turnstile<'a> {
     given_up: AtomicU64,
 }
 
-impl<'a> Turnstile<'a> {
+impl Turnstile {
     /// A gate that is shut before the tasks `shut_before`, and holds the first two of all where `holds` says so.
-    pub(crate) fn new(shut_before: &'a [usize], holds: bool) -> Turnstile<'a> {
+    pub(crate) fn new(shut_before: [usize; 2], holds: bool) -> Turnstile {
         Turnstile {
             shut_before,
             holds,
@@ -101,7 +104,7 @@ impl<'a> Turnstile<'a> {
     }
 }
 
-impl Gate for Turnstile<'_> {
+impl Gate for Turnstile {
     ghost is_open = { λ _. ⊥ };
 
     fn pass(&self, _worker: usize, task: usize) -> bool {

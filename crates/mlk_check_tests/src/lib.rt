@@ -1,5 +1,5 @@
-//! Tests by public calls of what no row of text reaches: verdicts of single entries and lines, systems of jobs, workers on
-//! one board and the gates before their tasks. The answers are worked out by hand.
+//! Tests by public calls of what no row of text reaches: names that NEW makes new, verdicts of single entries and lines,
+//! systems of jobs, workers on one board and the gates before their tasks. The answers are worked out by hand.
 #![tactic(auto)]
 
 #[cfg(test)]
@@ -12,6 +12,8 @@ mod given;
 mod halves;
 #[cfg(test)]
 mod jobs;
+#[cfg(test)]
+mod news;
 #[cfg(test)]
 mod reports;
 #[cfg(test)]

@@ -1,6 +1,6 @@
 // Reports by several workers on a program of twelve entries, each of which is declared and certified.
 
-use crate::gates::{EACH_ONCE, Open, Turnstile};
+use crate::gates::{EACH_ONCE, NONE, Open, Turnstile};
 use crate::given::{Given, Texts, Trial, passes};
 use mlk_pool::{
     CheckError, Gate, PoolFault, Report, Source, read_routines, render, report_by, verify,
@@ -81,7 +81,7 @@ impl Trial for ByEachNumber {
         given: &Given<'_>,
     ) -> Option<bool> {
         for workers in [1usize, 2, 64] {
-            let gate = Turnstile::new(&[], false);
+            let gate = Turnstile::new(NONE, false);
             let report = verified(rt, alloc, given, workers, &gate).ok()?;
             let are_each_once = gate.passed() == EACH_ONCE && gate.posted() == EACH_ONCE;
             if !are_each_once || !is_the_report(alloc, &report) {
@@ -109,7 +109,7 @@ impl Trial for NoSuchNumber {
         given: &Given<'_>,
     ) -> Option<bool> {
         for workers in [0usize, 65] {
-            let gate = Turnstile::new(&[], false);
+            let gate = Turnstile::new(NONE, false);
             let report = verified(rt, alloc, given, workers, &gate);
             if !matches!(report, Err(CheckError::Workers)) || gate.passed() != 0 {
                 return Some(false);
@@ -126,12 +126,12 @@ fn there_are_1_to_64_workers(rt: HostRuntime) {
 
 // Where the gate is shut before some tasks, the least of them is reported, and all are posted.
 #[derive(Drop)]
-struct Shut<'a> {
-    before: &'a [usize],
+struct Shut {
+    before: [usize; 2],
     least: usize,
 }
 
-impl Trial for Shut<'_> {
+impl Trial for Shut {
     fn is_passed<R: Threads + Wait + Sync>(
         &self,
         rt: &R,
@@ -157,7 +157,7 @@ fn the_least_task_is_reported_before_which_the_gate_is_shut(rt: HostRuntime) {
             alloc,
             TWELVE,
             &Shut {
-                before: &[3],
+                before: [3, 12],
                 least: 3
             }
         )
@@ -168,7 +168,7 @@ fn the_least_task_is_reported_before_which_the_gate_is_shut(rt: HostRuntime) {
             alloc,
             TWELVE,
             &Shut {
-                before: &[8, 5],
+                before: [8, 5],
                 least: 5
             }
         )
@@ -186,9 +186,9 @@ impl Trial for TwoAtOnce {
         alloc: Global,
         given: &Given<'_>,
     ) -> Option<bool> {
-        let gate = Turnstile::new(&[], true);
+        let gate = Turnstile::new(NONE, true);
         let report = verified(rt, alloc, given, 2, &gate).ok()?;
-        let again = Turnstile::new(&[], true);
+        let again = Turnstile::new(NONE, true);
         let certificate = &given.made.certificate;
         let rows = report_by(
             rt,

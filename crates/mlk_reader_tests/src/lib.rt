@@ -7,8 +7,6 @@ mod making;
 #[cfg(test)]
 mod names;
 #[cfg(test)]
-mod news;
-#[cfg(test)]
 mod rules;
 #[cfg(test)]
 mod writing;
