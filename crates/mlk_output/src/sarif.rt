@@ -6,7 +6,7 @@ use crate::path::uri;
 use crate::row::Inputs;
 use mlk_hazards::HazardAt;
 use mlk_report_text::Piece::{Bytes, Number, Words};
-use mlk_report_text::{Field, member, object, shown, text_of};
+use mlk_report_text::{Field, escape_bytes, member, object, text_of};
 use mlk_walk::{Report, Row};
 use serde_json::{Value, json};
 use std::alloc::{AllocError, Global};
@@ -95,7 +95,7 @@ fn physical_value(alloc: Global, place: &Place<'_>) -> Result<Value, AllocError>
 // The places of a finding.
 fn locations_value(alloc: Global, finding: &Finding<'_>) -> Result<Value, AllocError> {
     let physical = physical_value(alloc, &finding.place)?;
-    let within = shown(alloc, finding.within.as_slice())?;
+    let within = escape_bytes(alloc, finding.within.as_slice())?;
     json!(in alloc; [{
         "physicalLocation": physical,
         "logicalLocations": [{"fullyQualifiedName": &within, "kind": finding.kind}],

@@ -1,6 +1,6 @@
 // JSON objects, as tables of fields.
 
-use crate::escape::shown;
+use crate::escape::escape_bytes;
 use serde_json::{Map, Value, put};
 use std::alloc::{AllocError, Global};
 
@@ -14,9 +14,9 @@ pub enum Field<'a> {
     Number(usize),
     /// a text, as it is
     Text(&'a str),
-    /// bytes, as `shown`
+    /// bytes, as `escape_bytes` makes them
     Bytes(&'a [u8]),
-    /// bytes that were made for this field, as `shown`
+    /// bytes that were made for this field, as `escape_bytes` makes them
     Made(Vec<u8>),
     Value(Value),
 }
@@ -32,7 +32,7 @@ impl<'a> Field<'a> {
 }
 
 fn text_value(alloc: Global, bytes: &[u8]) -> Result<Value, AllocError> {
-    Ok(Value::String(shown(alloc, bytes)?))
+    Ok(Value::String(escape_bytes(alloc, bytes)?))
 }
 
 fn value_of(alloc: Global, field: Field<'_>) -> Result<Value, AllocError> {

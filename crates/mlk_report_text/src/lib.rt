@@ -5,6 +5,6 @@ mod escape;
 mod field;
 mod piece;
 
-pub use escape::shown;
+pub use escape::escape_bytes;
 pub use field::{Field, member, object};
 pub use piece::{Piece, push_all, text_of};

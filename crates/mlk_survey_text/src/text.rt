@@ -1,7 +1,7 @@
 // The text of a survey.
 
 use crate::lines::Told;
-use mlk_report_text::shown;
+use mlk_report_text::escape_bytes;
 use mlk_survey::Facts;
 use std::alloc::{AllocError, Global};
 
@@ -16,7 +16,7 @@ fn push_list<T: Told>(
     text.push_str(&format!(in alloc; "{} {}\n", title, things.len())?)?;
     let (first, others) = things.split_at(things.len().min(most));
     for thing in first {
-        let line = shown(alloc, thing.told(alloc)?.as_slice())?;
+        let line = escape_bytes(alloc, thing.told(alloc)?.as_slice())?;
         text.push_str(&format!(in alloc; "  {}\n", line)?)?;
     }
     if !others.is_empty() {

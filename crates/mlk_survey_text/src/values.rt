@@ -2,7 +2,7 @@
 
 use crate::lines::root_text;
 use mlk_hazards::HazardAt;
-use mlk_report_text::{Field, object, shown};
+use mlk_report_text::{Field, escape_bytes, object};
 use mlk_survey::{
     Entry, GlobalUse, Lack, LockOrder, LockUse, MissingCall, RefusalCount, RefusedRoutine,
 };
@@ -82,7 +82,7 @@ impl<'a> Valued for MissingCall<'a> {
 
 impl Valued for Name {
     fn value(&self, alloc: Global) -> Result<Value, AllocError> {
-        Ok(Value::String(shown(alloc, self.as_bytes())?))
+        Ok(Value::String(escape_bytes(alloc, self.as_bytes())?))
     }
 }
 
