@@ -5,8 +5,7 @@ ghost use Rattle.mlk_syntax.specs.Views.{routine_of};
 ghost use Rattle.mlk_pool.specs.Given.{AreInputs};
 
 use crate::gates::Open;
-use crate::given::{Given, Trial, passes};
-use crate::reports::TWELVE;
+use crate::twelve::{Trial, passes};
 use mlk_cert::Certificate;
 use mlk_pool::{Board, Inputs, SharedBoard, work};
 use mlk_program::Program;
@@ -15,6 +14,7 @@ use mlk_walk::{Pieces, Unseen};
 use std::alloc::Global;
 use std::marker::Brand;
 use std::sync::Wait;
+use std::test::Fail;
 use std::thread;
 use std::thread::Threads;
 
@@ -104,23 +104,19 @@ pub(crate) fn leave_all<P: Pieces + Sync, R: Threads + Wait + Sync>(
     events_of_two::<Brand, P, R>(rt, alloc, program, rules, certificate, pieces) == Some(24)
 }
 
-// Two workers that walk the entries of twelve tasks.
-#[derive(Drop)]
-struct TwoWork;
-
-impl Trial for TwoWork {
-    fn is_passed<R: Threads + Wait + Sync>(
-        &self,
-        rt: &R,
-        alloc: Global,
-        given: &Given<'_>,
-    ) -> Option<bool> {
-        let certificate = &given.made.certificate;
-        Some(leave_all(rt, alloc, given.program, given.rules, certificate, &Unseen))
-    }
+/// Whether the two leave a claim and a post of each of the twelve tasks.
+pub(crate) fn two_work<R: Threads + Wait + Sync>(
+    rt: &R,
+    alloc: Global,
+    program: &Program<'_>,
+    rules: &Rules,
+    certificate: &Certificate,
+) -> bool {
+    leave_all(rt, alloc, program, rules, certificate, &Unseen)
 }
 
 #[test]
-fn two_workers_leave_a_claim_and_a_post_of_each_task(rt: HostRuntime) {
-    assert!(&rt; passes(&rt, rt.alloc(), TWELVE, &TwoWork));
+fn two_workers_leave_a_claim_and_a_post_of_each_task(rt: HostRuntime) -> Result<(), Fail> {
+    assert!(rt; passes(&rt, rt.alloc(), Trial::TwoWork));
+    Ok(())
 }
