@@ -25,7 +25,7 @@ use Rattle.mlk_program.specs.Entries.{same_entry}
 use Rattle.mlk_cert_parts.specs.declared.block.EntryCert.{EntryCert}
 use Rattle.mlk_cert_parts.specs.Limits.{IsCertificate}
 use Rattle.mlk_machine_jobs.specs.Calling.{commands_in}
-use Rattle.mlk_machine_jobs.specs.Tasks.{Task, Job, RunCommands}
+use Rattle.mlk_machine_jobs.specs.Tasks.{Task, Job, LineTree, RunCommands}
 use Rattle.mlk_soundness_walk.specs.Forms.{AreFormed}
 use Rattle.mlk_walk.proofs.Examples.{base_rules, deposit-yes-routines, deposit-yes-blocks, deposit-yes}
 use Rattle.mlk_walk.proofs.Examples.{wrapper-takes-lock-routines, wrapper-takes-lock-blocks, wrapper-takes-lock}
@@ -54,7 +54,7 @@ use Rattle.mlk_machine_laws.specs.Laws.{IsWithoutRing}
 use Rattle.mlk_walk_state.specs.Scope.{block_at, certified, declared, is_declared}
 use Rattle.mlk_soundness_machine.specs.Listed.{IsInside}
 use Rattle.mlk_soundness_machine.specs.Moments.{begun_by}
-use Rattle.mlk_soundness_machine.specs.Places.{line_number, entry_trees, StandIn, open_round, AreLastOf, AreRoundOf}
+use Rattle.mlk_soundness_machine.specs.Places.{line_number, entry_trees, open_round, AreLastOf, AreRoundOf, BeginsWith, ComesTo}
 use Rattle.mlk_check.specs.Theorem.{AreSafe, KeepsRules}
 use Rattle.mlk_check.proofs.Theorem.{keeps_rules}
 use Rattle.mlk_check.proofs.Tested.{certificate_by, formed_by}
@@ -166,12 +166,12 @@ events_of k [] = []
 events_of k (a ∷ acts) = record { job = k; act = a } ∷ events_of k acts
 
 abbrev deposits : ℕ → List ℕ → Event Choice EntryId
-deposits k amount = record { job = k; act = Begin deposit_entry false (codes "7" ∷ amount ∷ []) }
+deposits k amount = record { job = k; act = Begin deposit_entry false (Some (codes "7") ∷ Some amount ∷ []) }
 
 abbrev events : List (Event Choice EntryId)
 events =
     deposits 1 (codes "5") ∷ deposits 2 (codes "9") ∷ events_of 1 (steps 4) ++ events_of 2 (steps 4)
-    ++ events_of 1 (steps 13 ++ Go (choice.Value (codes "100")) ∷ steps 5)
+    ++ events_of 1 (steps 14 ++ Go (choice.Value (codes "100")) ∷ steps 5)
 
 -- What each job is, by itself: at its begin, and after these acts of its own.
 abbrev pub job_of : Stepped → Job
@@ -179,10 +179,10 @@ job_of (Ok j) = j
 job_of (Err why) = blank 0 false []
 
 abbrev begun_with : ℕ → List ℕ → Job
-begun_with k amount = job_of (begun deposit-yes-routines deposit_entry k false (codes "7" ∷ amount ∷ []))
+begun_with k amount = job_of (begun deposit-yes-routines deposit_entry k false (Some (codes "7") ∷ Some amount ∷ []))
 
 abbrev up_to_write : List (Act Choice EntryId)
-up_to_write = steps 17 ++ Go (choice.Value (codes "100")) ∷ steps 5
+up_to_write = steps 18 ++ Go (choice.Value (codes "100")) ∷ steps 5
 
 abbrev first : Job
 first = job_of (lone_run bank up_to_write (begun_with 1 (codes "5")))
@@ -237,7 +237,7 @@ they_do_not_clash = both_are_safe.no_clash first second (inl refl) (inr (inl ref
 pub write_is_covered : IsCoveredAt deposit_rules first balance
 unfolding entry_of label_at name_at digits_at digits fold_between whole same_name is_above
 write_is_covered =
-    (deposit_keeps_rules.each_job deposit_entry false (codes "7" ∷ codes "5" ∷ []) 1 (begun_with 1 (codes "5")) first up_to_write refl refl).facts.covered balance first_is_ready
+    (deposit_keeps_rules.each_job deposit_entry false (Some (codes "7") ∷ Some (codes "5") ∷ []) 1 (begun_with 1 (codes "5")) first up_to_write refl refl).facts.covered balance first_is_ready
 
 -- That is, it holds ^ACCT(7) or a name above it: by the rules that is the lock of each node at or below ^ACCT(7).
 abbrev account_lock : Template
@@ -279,7 +279,7 @@ holds_its_cover = holds_above write_is_covered
 -- The first job goes on to its end, while the second one waits: the write, LOCK -^ACCT(7), QUIT. It has ended by itself, and so,
 -- says the theorem, holds nothing. Now the second one is granted its claim.
 abbrev to_the_end : List (Act Choice EntryId)
-to_the_end = steps 9
+to_the_end = steps 11
 
 abbrev ended : Job
 ended = job_of (lone_run bank to_the_end first)
@@ -315,7 +315,7 @@ abbrev looping : Machine Job Choice EntryId
 looping = machine loop-under-lock-routines (is_declared loop-under-lock-routines loop_rules.entries)
 
 abbrev up_to_set : List (Act Choice EntryId)
-up_to_set = steps 13 ++ Go (choice.Truth true) ∷ []
+up_to_set = steps 14 ++ Go (choice.Truth true) ∷ []
 
 abbrev loop_begun : Job
 loop_begun = job_of (begun loop-under-lock-routines loop_entry 1 false [])
@@ -325,8 +325,13 @@ before_set = job_of (lone_run looping up_to_set loop_begun)
 
 -- what is left of the line, and behind it
 abbrev left_in : List Task → CommandTrees
-left_in (RunCommands left block ∷ ts) = left
+left_in (RunCommands left here ∷ ts) = left
 left_in ts = finished
+
+-- the line that a job is on
+abbrev here_in : List Task → LineTree
+here_in (RunCommands left here ∷ ts) = here
+here_in ts = (LineHead 0 0 0 None None finished, no_lines)
 
 abbrev behind_in : List Task → List Task
 behind_in [] = []
@@ -335,58 +340,31 @@ behind_in (t ∷ ts) = ts
 abbrev loop_entries : List (EntryId × EntryCert) × List EntryId
 loop_entries = (certified loop-under-lock-routines loop-under-lock-blocks, declared loop-under-lock-routines loop_rules.entries)
 
-pub set_is_walked : IsInside loop-under-lock-routines loop_rules loop_entries (left_in before_set.tasks) no_lines (behind_in before_set.tasks) (begun_by looping up_to_set (loop_begun ∷ []) loop_begun) before_set
+pub set_is_walked : IsInside loop-under-lock-routines loop_rules loop_entries
+    (λ sc lines c. ComesTo sc lines (left_in before_set.tasks) (here_in before_set.tasks) (behind_in before_set.tasks) c)
+    (begun_by looping up_to_set (loop_begun ∷ []) loop_begun) before_set
 unfolding entry_of label_at name_at digits_at digits fold_between whole same_name is_above
-set_is_walked = (loop_keeps_rules.each_job loop_entry false [] 1 loop_begun before_set up_to_set refl refl).inside (left_in before_set.tasks) no_lines (behind_in before_set.tasks) refl
+set_is_walked =
+    (loop_keeps_rules.each_job loop_entry false [] 1 loop_begun before_set up_to_set refl refl).inside (left_in before_set.tasks)
+    (here_in before_set.tasks) (behind_in before_set.tasks) refl
 
--- So it is on line 1, in the rounds of that line's first FOR: that is the only line of L^LOOP with a FOR.
-same_place : (e f : EntryId) → same_entry e f ≡ true → e ≡ f
-same_place e f h =
-    let p = and_parts (e.routine == f.routine) (e.line == f.line) h in
-    ap (λ z. record e { routine = z }) (eqb-true e.routine f.routine p.0) ∙ ap (λ z. record f { line = z }) (eqb-true e.line f.line p.1)
-
-abbrev trees : LineTrees
-trees = entry_trees loop-under-lock-routines loop_entry
-
+-- So it is on line 1, in the rounds of that line's FOR.
 abbrev first_head : LineTrees → HeadTree
 first_head no_lines = LineHead 0 0 0 None None finished
 first_head (line head block rest) = head
 
-abbrev second_head : LineTrees → HeadTree
-second_head no_lines = LineHead 0 0 0 None None finished
-second_head (line head block rest) = first_head rest
+abbrev first_line : HeadTree
+first_line = first_head (entry_trees loop-under-lock-routines loop_entry)
 
-on_first : (left : CommandTrees) (index column : ℕ) (control : Option ControlTree) → AreLastOf (then_for column index control left) (commands_in (first_head trees)) → index ≡ 1
-on_first left index column control (inl e) = absurd (cc e)
-on_first left index column control (inr (inl e)) = cc e
-on_first left index column control (inr (inr (inl e))) = absurd (cc e)
-on_first left index column control (inr (inr (inr e))) = absurd (cc e)
+line_is_first : (here_in before_set.tasks).0 ≡ first_line
+unfolding entry_of label_at name_at digits_at digits fold_between whole same_name is_above
+line_is_first = refl
 
-on_second : (left : CommandTrees) (index column : ℕ) (control : Option ControlTree) → AreLastOf (then_for column index control left) (commands_in (second_head trees)) → ⊥
-on_second left index column control (inl e) = cc e
-on_second left index column control (inr (inl e)) = cc e
-on_second left index column control (inr (inr e)) = cc e
-
-which : (left : CommandTrees) (index : ℕ) (head : HeadTree) (behind : LineTrees) → StandIn (line head no_lines behind) trees → AreRoundOf left index (commands_in head) → (line_number head ≡ 1) × (index ≡ 1)
-which left index head behind (inl e) r =
-    let same : head ≡ first_head trees = ap first_head e in
-    let on : AreRoundOf left index (commands_in (first_head trees)) = subst (λ z. AreRoundOf left index (commands_in z)) same r in
-    (ap line_number same, on_first left index on.0 on.1 on.2)
-which left index head behind (inr (inl i)) r = absurd i
-which left index head behind (inr (inr (inl e))) r =
-    let same : head ≡ second_head trees = ap first_head e in
-    let on : AreRoundOf left index (commands_in (second_head trees)) = subst (λ z. AreRoundOf left index (commands_in z)) same r in
-    absurd (on_second left index on.0 on.1 on.2)
-which left index head behind (inr (inr (inr (inl i)))) r = absurd i
-which left index head behind (inr (inr (inr (inr i)))) r = absurd i
-
-its_entry : (e : EntryId) (b : EntryCert) → block_at loop_entries.0 e ≡ Some b → e ≡ loop_entry
-unfolding certified entry_of label_at name_at
-its_entry e b h =
-    ⊎_elim
-    (λ (k : same_entry e loop_entry ≡ true). same_place e loop_entry k)
-    (λ (k : same_entry e loop_entry ≡ false). let z : None ≡ Some b = (rw k at h) in absurd (cc z))
-    (cases_Bool (same_entry e loop_entry))
+in_its_for : (left : CommandTrees) (index column : ℕ) (control : Option ControlTree) → AreLastOf (then_for column index control left) (commands_in first_line) → index ≡ 1
+in_its_for left index column control (inl e) = absurd (cc e)
+in_its_for left index column control (inr (inl e)) = cc e
+in_its_for left index column control (inr (inr (inl e))) = absurd (cc e)
+in_its_for left index column control (inr (inr (inr e))) = absurd (cc e)
 
 not_both : (o : Option CommandTrees) (left : CommandTrees) → o ≡ Some left → o ≡ None → ⊥
 not_both o left e f = let z : Some left ≡ None = sym e ∙ f in cc z
@@ -395,17 +373,15 @@ round_is_open : open_round (behind_in before_set.tasks) ≡ Some (left_in before
 unfolding entry_of label_at name_at digits_at digits fold_between whole same_name is_above
 round_is_open = refl
 
-pub set_is_in_for : (line_number set_is_walked.comes.on.head ≡ 1) × (set_is_walked.comes.round ≡ 1)
-set_is_in_for = by set_is_walked
+pub set_is_on_line_1 : line_number (here_in before_set.tasks).0 ≡ 1
+unfolding entry_of label_at name_at digits_at digits fold_between whole same_name is_above
+set_is_on_line_1 = refl
+
+pub set_is_in_for : set_is_walked.comes.round ≡ 1
+set_is_in_for = by set_is_walked.comes.first set_is_walked.comes.round set_is_walked.comes.begins
   where
-    by : (i : IsInside loop-under-lock-routines loop_rules loop_entries (left_in before_set.tasks) no_lines (behind_in before_set.tasks) (begun_by looping up_to_set (loop_begun ∷ []) loop_begun) before_set)
-        → (line_number i.comes.on.head ≡ 1) × (i.comes.round ≡ 1)
-    by i =
-        let at_place : StandIn (line i.comes.on.head no_lines i.comes.on.behind) trees =
-        subst (λ z. StandIn (line i.comes.on.head no_lines i.comes.on.behind) (entry_trees loop-under-lock-routines z)) (its_entry i.entry i.certificate i.is_certified) i.comes.on.is_line in
-        ⊎_elim
-        (λ (k : (i.comes.round ≡ 0) × (i.comes.first ≡ commands_in i.comes.on.head) × (open_round (behind_in before_set.tasks) ≡ None)).
-        absurd (not_both (open_round (behind_in before_set.tasks)) (left_in before_set.tasks) round_is_open k.2))
-        (λ (k : AreRoundOf i.comes.first i.comes.round (commands_in i.comes.on.head) × (open_round (behind_in before_set.tasks) ≡ Some i.comes.first)).
-        which i.comes.first i.comes.round i.comes.on.head i.comes.on.behind at_place k.0)
-        i.comes.begins
+    by : (first : CommandTrees) (round : ℕ) → BeginsWith first round (commands_in (here_in before_set.tasks).0) (behind_in before_set.tasks) → round ≡ 1
+    by first round (inl k) = absurd (not_both (open_round (behind_in before_set.tasks)) (left_in before_set.tasks) round_is_open k.2)
+    by first round (inr k) =
+        let r : AreRoundOf first round (commands_in first_line) = subst (λ h. AreRoundOf first round (commands_in h)) line_is_first k.0 in
+        in_its_for first round r.0 r.1 r.2

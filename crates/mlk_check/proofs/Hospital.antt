@@ -483,10 +483,10 @@ played (c ∷ cs) j =
     acts ++ played cs (job_of (lone_run hospital acts j))
 
 abbrev first_begun : Job
-first_begun = job_of (begun hospital_routines admit 1 false (codes "17" ∷ codes "C1" ∷ []))
+first_begun = job_of (begun hospital_routines admit 1 false (Some (codes "17") ∷ Some (codes "C1") ∷ []))
 
 abbrev second_begun : Job
-second_begun = job_of (begun hospital_routines move 2 false (codes "18" ∷ codes "C1" ∷ []))
+second_begun = job_of (begun hospital_routines move 2 false (Some (codes "18") ∷ Some (codes "C1") ∷ []))
 
 -- Both claims are granted; the next bed is 1, which is not the end; nobody lies there; so a bed was found.
 abbrev admission : List (Act Choice EntryId)
@@ -505,7 +505,7 @@ second = job_of (lone_run hospital removal second_begun)
 
 abbrev events : List (Event Choice EntryId)
 events =
-    record { job = 1; act = Begin admit false (codes "17" ∷ codes "C1" ∷ []) } ∷ record { job = 2; act = Begin move false (codes "18" ∷ codes "C1" ∷ []) }
+    record { job = 1; act = Begin admit false (Some (codes "17") ∷ Some (codes "C1") ∷ []) } ∷ record { job = 2; act = Begin move false (Some (codes "18") ∷ Some (codes "C1") ∷ []) }
     ∷ events_of 1 admission ++ events_of 2 removal
 
 pub both_jobs : after hospital events [] ≡ Ok (first ∷ second ∷ [])
@@ -538,4 +538,4 @@ both_are_safe = hospital_keeps_rules.all_jobs events (first ∷ second ∷ []) b
 
 pub bed_is_covered : IsCoveredAt hospital_rules first bed
 unfolding entry_of label_at name_at digits_at digits fold_between fold_before whole same_name is_above
-bed_is_covered = (hospital_keeps_rules.each_job admit false (codes "17" ∷ codes "C1" ∷ []) 1 first_begun first admission refl refl).facts.covered bed first_is_ready
+bed_is_covered = (hospital_keeps_rules.each_job admit false (Some (codes "17") ∷ Some (codes "C1") ∷ []) 1 first_begun first admission refl refl).facts.covered bed first_is_ready

@@ -1,5 +1,5 @@
 -- What a `yes` means: what holds in every run of a program whose report has no row. This project's own choice; what a run is
--- stands in `Runs` of mlk_machine_jobs and `Systems` of mlk_machine_locks.
+-- is defined in `Runs` of mlk_machine_jobs and `Systems` of mlk_machine_locks.
 use Rattle.std.specs.Prelude.{◌≡◌, List, [], Ok}
 use Rattle.mlk_names.specs.Lists.{Among}
 use Rattle.mlk_rules.specs.declared.rules.RuleLists.{RuleLists}
@@ -17,7 +17,7 @@ use Rattle.mlk_walk_state.specs.Scope.{certified, declared, is_declared}
 use Rattle.mlk_soundness_machine.specs.Listed.{FactsSince}
 use Rattle.mlk_soundness_machine.specs.Moments.{AtEachMomentSince}
 
--- Jobs that run side by side are safe: no two of them stand ready at references that overlap and of which one writes; none
+-- Jobs that run side by side are safe: no two of them are ready to touch references that overlap, one of which writes; none
 -- that has ended by itself holds a lock; and no set of them waits for each other's locks in a ring.
 pub record AreSafe (jobs : List Job) : Type 0 where
   pub no_clash : (i j : Job) → Among i jobs → Among j jobs → Clash i j → ⊥
@@ -25,10 +25,11 @@ pub record AreSafe (jobs : List Job) : Type 0 where
   pub no_ring : IsWithoutRing jobs
 
 -- Every run of a program keeps its rules.
--- Of one job alone, begun at a declared entry and granted each claim at any time: at each moment the reference that it stands
--- ready at is covered by locks that it holds; what it claims is in the order of the ranks; where it has ended by itself it holds
--- nothing; at each begin of a frame, of a line and of a round of a FOR, a case that the certificate lists there describes it; and
--- inside a line, one that the walk makes of a listed case by the commands done since.
+-- Of one job alone, begun at a declared entry and granted each claim at any time: at each moment the reference that it is
+-- ready to touch is covered by locks that it holds; what it claims is in the order of the ranks; where it has ended by itself
+-- it holds nothing; at each begin of a frame, of a line and of a round of a FOR, a case that the certificate lists there
+-- describes it; inside a line, before each command and after each argument, one that the walk makes of a listed case; and JOB
+-- starts declared entries.
 -- Of any number of jobs begun at declared entries, whatever happens to them in whatever order: at each moment they are safe.
 pub record KeepsRules (routines : List RoutineTree) (rules : RuleLists) (blocks : List EntryCert) : Type 0 where
   pub each_job : AtEachMomentSince routines (is_declared routines rules.entries) (FactsSince routines rules (certified routines blocks, declared routines rules.entries))

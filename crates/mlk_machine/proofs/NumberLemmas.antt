@@ -189,7 +189,7 @@ module _ (routines : List RoutineTree) (declared : EntryId → Bool) (js is : Li
   pub stopped_numbers : happens (machine routines declared) js k Abort ≡ Ok is → numbers_of is ≡ numbers_of js
   stopped_numbers h = changed_numbers (machine routines declared) _ (λ j i e. (is_machine routines declared).abort_number j i e) k js is h
 
-  pub begun_numbers : (entry : EntryId) (test : Bool) (values : List (List ℕ))
+  pub begun_numbers : (entry : EntryId) (test : Bool) (values : List (Option (List ℕ)))
       → happens (machine routines declared) js k (Begin entry test values) ≡ Ok is → numbers_of is ≡ numbers_of js ++ k ∷ []
   begun_numbers entry test values h =
       joined_numbers (machine routines declared) k js is _
@@ -236,7 +236,7 @@ where_ok (Err e) o h = cc
 
 -- the number of a job that has begun stands after the others
 pub added_number : (routines : List RoutineTree) (declared : EntryId → Bool) (js is : List JobIn) (k : ℕ) (entry : EntryId)
-    (test : Bool) (values : List (List ℕ)) (old keys new : List ℕ) → AreNumbers old js → keys ≡ old
+    (test : Bool) (values : List (Option (List ℕ))) (old keys new : List ℕ) → AreNumbers old js → keys ≡ old
     → happens (machine routines declared) (map job_of js) k (Begin entry test values) ≡ Ok (map job_of is)
     → new ≡ (if list_any (λ n. k == n) keys then keys else keys ++ k ∷ []) → AreNumbers new is
 added_number routines declared js is k entry test values old keys new a e h d =

@@ -1,5 +1,5 @@
 -- Reading the parts of a file of events, as functions on lists: what is read, and what is left after it. For private
--- clauses alone: what public calls promise stands in `Texts` and `Files`, and proofs tie the two.
+-- clauses alone: what public calls promise is in `Texts` and `Files`, and proofs tie the two.
 use Rattle.std.specs.Prelude.{ℕ, suc, ◌==◌, Bool, true, false, if◌then◌else◌, List, [], ◌∷◌, length, Option, Some, None, codes}
 use Rattle.mlk_text.specs.Reading.{◌>>=◌, with, many}
 use Rattle.mlk_text.specs.Lexemes.{byte_at}
@@ -15,7 +15,7 @@ abbrev pub test_at : List ℕ → Option (Bool × List ℕ)
 test_at [] = None
 test_at (b ∷ xs) = if b == 48 then Some (false, xs) else if b == 49 then Some (true, xs) else None
 
--- what stands before the values of a job that begins
+-- what comes before the values of a job that begins
 unfoldable pub head_at : List ℕ → Option ((ℕ × List ℕ × Bool) × List ℕ)
 head_at xs =
     job_at xs >>= λ job.

@@ -23,7 +23,7 @@ use Rattle.mlk_machine.specs.declared.fault.EventsFault.{EventsFault}
 use Rattle.mlk_machine.specs.declared.fault.EventsRefusal.{EventsRefusal}
 use Rattle.mlk_machine.specs.declared.fault.EventsRefusal.TheVariants as refusal
 
--- What a line asks for: that an event happens, or that a job goes on by itself.
+-- What a line asks for: that an event happens, or that a job runs by itself.
 pub data Asked : Type 0 where
   Happens : (event : Event Choice EntryId) → Asked
   GoesOn : (job : ℕ) → Asked
@@ -31,10 +31,10 @@ pub data Asked : Type 0 where
 abbrev pub goes : ℕ → Choice → Option Asked
 goes k c = Some (Happens (record { job = k; act = Go c }))
 
--- What it asks for of these routines: nothing, where a job is to begin at an entry that they lack.
+-- What it asks for of these routines: nothing, where a job is to begin at an entry that they don't have.
 abbrev pub asked : List RoutineTree → Order → Option Asked
 asked routines (order.Begin b) =
-    option_map (λ e. Happens (record { job = b.job; act = Begin e b.test b.values })) (entry_by routines b.entry)
+    option_map (λ e. Happens (record { job = b.job; act = Begin e b.test (map Some b.values) })) (entry_by routines b.entry)
 asked routines (order.Go k) = goes k choice.None
 asked routines (order.GoValue k value) = goes k (choice.Value value)
 asked routines (order.GoTruth k truth) = goes k (choice.Truth truth)
@@ -50,8 +50,8 @@ pub record SaysEvents (routines : List RoutineTree) (bytes : List ℕ) (asks : L
   pub whole : bytes ≡ file_text orders
   pub each : EachPair (AsksFor routines) orders asks
 
--- The first line that asks for nothing: what stands before it are so many lines that ask for something, and no line that
--- does begins what is left.
+-- The first line that asks for nothing: before it are only lines that ask for something, their number is given, and no line
+-- that does begins what is left.
 pub record IsFirstOther (routines : List RoutineTree) (bytes : List ℕ) (line : ℕ) : Type 0 where
   pub before : List Order
   pub asks : List Asked
@@ -78,7 +78,7 @@ abbrev pub in_turn : Machine Job Choice EntryId → List RoutineTree → ℕ →
 in_turn m routines line [] jobs = Ok jobs
 in_turn m routines line (a ∷ asks) jobs = then_next (in_turn m routines (suc line) asks) line (made m routines a jobs)
 
--- a line that can't happen is told by its number
+-- a line that can't happen is reported by its number
 abbrev pub StopsSo : Result (List Job) (ℕ × Refusal) → ℕ → EventsRefusal → Type 0
 StopsSo answer line refusal.Form = ⊥
 StopsSo answer line (refusal.Refused why) = (at : ℕ) × (answer ≡ Err (at, why)) × (line ≡ min at 4294967295)

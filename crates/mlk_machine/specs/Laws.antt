@@ -15,7 +15,7 @@ use Rattle.mlk_machine.specs.Systems.{jobs_in, machine_in}
 use Rattle.mlk_machine.specs.Replays.{Replayed}
 use Rattle.mlk_machine.specs.Files.{Asked, Happens, GoesOn, in_turn, ReplayedFile}
 
--- The events that a line stands for: its own, or so many steps, without a choice, of the job that goes on by itself.
+-- The events that a line denotes: its own, or steps without a choice of the job that runs by itself.
 abbrev pub StandFor : Asked → List (Event Choice EntryId) → Type 0
 StandFor (Happens e) events = events ≡ e ∷ []
 StandFor (GoesOn k) events = (count : ℕ) × (events ≡ replicate count (record { job = k; act = Go choice.None }))
@@ -26,7 +26,7 @@ pub record AreMade (m : Machine Job Choice EntryId) (asks : List Asked) (old new
   pub each : EachPair StandFor asks events
   pub come_to : after m (flat_map (λ es. es) events) old ≡ Ok new
 
--- What lines in turn make of jobs, the events that they stand for make of them.
+-- What lines in turn make of jobs, the events that they denote make of them.
 abbrev pub LinesAreEvents : Type 0
 LinesAreEvents =
     (routines : List RoutineTree) (declared : EntryId → Bool) (line : ℕ) (asks : List Asked) (old new : List Job)

@@ -1,6 +1,6 @@
 // Jobs that begin at declared entries.
 
-ghost use Rattle.std.specs.Prelude.{◌≡◌, OnErr, map};
+ghost use Rattle.std.specs.Prelude.{◌≡◌, OnErr, Some, map};
 ghost use Rattle.mlk_text.specs.Failures.{Answers};
 ghost use Rattle.mlk_machine_locks.specs.Systems as systems;
 ghost use Rattle.mlk_machine_locks.specs.Systems.{happens};
@@ -42,7 +42,7 @@ pub(crate) fn begin<'a>(
     requires numbers { AreNumbers numbers.old.keys jobs.old.items }
     ensures answer { Answers (λ _. map job_of jobs.new.items) result
         (happens (machine_in program.now entries.now) (map job_of jobs.old.items) number
-        (systems.Begin entry test values.now)) }
+        (systems.Begin entry test (map Some values.now))) }
     ensures stays { OnErr result (map job_of jobs.new.items ≡ map job_of jobs.old.items) }
     ensures sound { AreSound jobs.new.items }
     ensures numbers { AreNumbers numbers.new.keys jobs.new.items }

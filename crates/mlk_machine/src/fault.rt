@@ -7,7 +7,7 @@ use thiserror::Error;
 /// What is wrong with a line.
 #[derive(Clone, Copy, Debug, Drop, PartialEq, Eq)]
 pub enum EventsRefusal {
-    /// It is no event, or lets a job begin at an entry that the program lacks.
+    /// It is no event, or lets a job begin at an entry that is not in the program.
     Form,
     /// It can't happen then.
     Refused(Refusal),

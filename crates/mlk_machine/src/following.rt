@@ -57,7 +57,7 @@ fn follow<'a>(system: &mut System<'a>, lines: &[Instruction]) -> Result<(), Fail
 }
 
 /// The system after all lines of a file of events, from no jobs on; or the line at which that stops, and why. A line that is
-/// no event, or that lets a job begin at an entry that the program lacks, is told before anything is replayed.
+/// no event, or that lets a job begin at an entry that is not in the program, is reported before anything is replayed.
 #[tactic(auto, using(crate::proofs::FollowLemmas::form_refused, crate::proofs::FollowLemmas::all_followed, crate::proofs::FollowLemmas::follow_stopped))]
 pub fn replay_events<'a>(
     alloc: Global,

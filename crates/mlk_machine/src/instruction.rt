@@ -17,7 +17,7 @@ use mlk_program::Program;
 pub(crate) enum Instruction {
     /// that an event happens
     Happens(Event),
-    /// that the job of this number goes on by itself
+    /// that the job of this number runs by itself
     GoesOn(u32),
 }
 

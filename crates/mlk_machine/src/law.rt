@@ -2,8 +2,8 @@
 
 ghost use Rattle.mlk_machine.specs.Laws.{LinesAreEvents, ReplaysAreRuns};
 
-/// Each line of a file stands for events, and what lines in turn make of jobs, those events make of them: `run` stands for so
-/// many steps of its job without a choice.
+/// Each line of a file denotes events, and what lines in turn make of jobs, those events make of them: `run` denotes the steps
+/// without a choice that its job makes.
 pub fn lines_are_events()
     ensures { LinesAreEvents }
 {}

@@ -50,7 +50,7 @@ fn values(alloc: Global, bytes: &[u8]) -> Result<(Vec<Value>, &[u8]), Failure<No
     Ok((found, rest))
 }
 
-// What stands before the values of a job that begins.
+// What comes before the values of a job that begins.
 #[tactic(auto, unfolding(crate::specs::EventReading::head_at))]
 fn begin_head(alloc: Global, bytes: &[u8]) -> Result<(u32, Value, bool, &[u8]), Failure<NotThere>>
     ensures { Reads (λ x. ((x.0, x.1, x.2), x.3.now)) result (head_at bytes.now) }
@@ -138,7 +138,7 @@ fn order(alloc: Global, bytes: &[u8]) -> Result<(Order, &[u8]), Failure<NotThere
     Err(Failure::Refused(NotThere))
 }
 
-/// What the line at the front of a file says, and what is left after the line's end; or that no event stands there.
+/// What the line at the front of a file says, and what is left after the line's end; or that there is no event.
 #[tactic(auto, unfolding(crate::specs::EventReading::line_at))]
 pub fn read_line(alloc: Global, bytes: &[u8]) -> Result<(Order, &[u8]), Failure<NotThere>>
     ensures { Reads (λ x. (x.0, x.1.now)) result (line_at bytes.now) }

@@ -24,7 +24,7 @@ pub enum Order {
     GoValue(u32, Value),
     /// It makes a step, where this truth is chosen.
     GoTruth(u32, bool),
-    /// It goes on by itself as far as it does.
+    /// It runs by itself as far as it can.
     Run(u32),
     Abort(u32),
 }

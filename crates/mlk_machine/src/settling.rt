@@ -22,7 +22,7 @@ use std::alloc::{AllocError, Global};
 /// How many steps a job makes by itself at most.
 pub const MOST_SILENT_STEPS: u32 = 65_536;
 
-/// A job goes on by itself while its next task is silent, up to the greatest number of steps: how many it made.
+/// A job runs by itself while its next task is silent, up to the greatest number of steps: how many it made.
 pub(crate) fn settle<'a>(
     alloc: Global,
     program: &Program<'a>,
@@ -45,7 +45,7 @@ pub(crate) fn settle<'a>(
     Ok(count)
 }
 
-/// The first job of this number goes on by itself: how many steps it made. It works on a copy of the job: where memory runs
+/// The first job of this number runs by itself: how many steps it made. It works on a copy of the job: where memory runs
 /// out amid the steps, all jobs are as they were.
 pub(crate) fn settle_numbered<'a>(
     alloc: Global,

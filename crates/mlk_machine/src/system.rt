@@ -1,6 +1,6 @@
 // Systems.
 
-ghost use Rattle.std.specs.Prelude.{◌≡◌, [], IfOk, OnErr, map, option_map, option_and_then};
+ghost use Rattle.std.specs.Prelude.{◌≡◌, [], IfOk, OnErr, Some, map, option_map, option_and_then};
 ghost use Rattle.mlk_text.specs.Failures.{Answers};
 ghost use Rattle.mlk_machine_locks.specs.Laws.{has_ring_of};
 ghost use Rattle.mlk_machine_locks.specs.Systems.{Begin, Go, Abort, and_then, happens};
@@ -95,7 +95,7 @@ impl<'a> System<'a> {
         values: &[Value],
     ) -> Result<(), Failure<Refusal>>
         ensures answer { Answers (λ _. jobs_in self.new) result
-            (happens (machine_of self.old) (jobs_in self.old) number (Begin entry test values.now)) }
+            (happens (machine_of self.old) (jobs_in self.old) number (Begin entry test (map Some values.now))) }
         ensures same { IsSame self.old self.new }
         ensures stays { OnErr result (Stays self.old self.new) }
     {
@@ -157,7 +157,7 @@ impl<'a> System<'a> {
         }
     }
 
-    /// The job of this number goes on by itself while its next task is silent, up to the greatest number of steps: how
+    /// The job of this number runs by itself while its next task is silent, up to the greatest number of steps: how
     /// many it made. Where there is no memory all jobs are as they were.
     pub fn settle(&mut self, number: u32) -> Result<u32, Failure<Refusal>>
         ensures answer { Answers (λ count. (jobs_in self.new, count)) result
@@ -195,7 +195,7 @@ impl<'a> System<'a> {
         job_numbered(&self.numbers, self.jobs.as_slice(), number)
     }
 
-    /// The reference that the job of this number stands ready at. It takes no memory.
+    /// The reference that the job of this number is ready to touch. It takes no memory.
     pub fn ready(&self, number: u32) -> Option<&Touch>
         ensures { option_map (λ t. touch_of t.now) result
             ≡ option_and_then ready (job_numbered number (jobs_in self.now)) }

@@ -165,13 +165,14 @@ abbrev ring_after : Result (List Job) Refusal → Option Bool
 ring_after (Ok jobs) = Some (has_ring_of seen jobs)
 ring_after (Err why) = None
 
--- three steps to hold the first name: the command, the name, the claim; two more to its next claim
+-- three steps to hold the first name: the command, the name, the claim; three more to its next claim: after the argument, the
+-- command, the name
 abbrev write_a : Touch
 write_a = record { region = record { node = record { root = codes "A"; subs = [] }; extent = extent.Node }; access = Writes }
 
 abbrev both_begin : List (Event Choice EntryId)
 both_begin = event 7 (Begin first_entry false []) ∷ event 8 (Begin second_entry false [])
-    ∷ goes 7 ∷ goes 7 ∷ goes 7 ∷ goes 8 ∷ goes 8 ∷ goes 8 ∷ goes 7 ∷ goes 7 ∷ goes 8 ∷ goes 8 ∷ []
+    ∷ goes 7 ∷ goes 7 ∷ goes 7 ∷ goes 8 ∷ goes 8 ∷ goes 8 ∷ goes 7 ∷ goes 7 ∷ goes 7 ∷ goes 8 ∷ goes 8 ∷ goes 8 ∷ []
 
 pub meets_a_ring : ring_after (after (machine crossed (λ e. true)) both_begin []) ≡ Some true
 unfolding is_above in_conflict same_name
@@ -203,7 +204,7 @@ one_number_once = refl
 pub undeclared : after (machine crossed (λ e. false)) (event 7 (Begin first_entry false []) ∷ []) [] ≡ Err NotEnabled
 undeclared = refl
 
-pub too_many_values : after (machine crossed (λ e. true)) (event 7 (Begin first_entry false (codes "1" ∷ [])) ∷ []) [] ≡ Err BadChoice
+pub too_many_values : after (machine crossed (λ e. true)) (event 7 (Begin first_entry false (Some (codes "1") ∷ [])) ∷ []) [] ≡ Err BadChoice
 too_many_values = refl
 
 pub nobody : after (machine crossed (λ e. true)) (goes 9 ∷ []) [] ≡ Err UnknownJob

@@ -1,5 +1,5 @@
 -- The machine of a program's jobs is one, so that all that is proved of machines holds of it.
-use Rattle.std.proofs.Common.{◌≡◌, ℕ, Bool, true, false, List, [], ◌∷◌, ◌++◌, refl, ap, arith, inl, inr, drop, length}
+use Rattle.std.proofs.Common.{◌≡◌, ℕ, Bool, true, false, List, [], ◌∷◌, ◌++◌, refl, ap, arith, inl, inr, drop, length, Option}
 use Rattle.std.specs.Prelude.{◌&&◌, nat_lt, Ok, Err}
 use Rattle.std.specs.List.{list_all}
 use Rattle.std.proofs.lemmas.Bool.{cases_Bool, and_parts}
@@ -64,8 +64,10 @@ steps routines free c j (task.ReleaseAll ∷ ts) = of_release_all free j c _ ref
 steps routines free c j (task.Call extrinsic callee given ∷ ts) = unasked free j c _ (of_call free j routines (call_frame extrinsic j) _ given ts j refl refl)
 steps routines free c j (task.CallIf callee given ∷ ts) = of_condition free j c j (λ t i. called_if t routines (target_of routines i.routine callee) given ts i) (λ t. of_call_if free j t routines (target_of routines j.routine callee) given ts (dropped 1 j) refl refl)
 steps routines free c j (task.Block lines ∷ ts) = unasked free j c _ (same free j _ refl refl)
+steps routines free c j (task.StartJob callee given ∷ ts) = unasked free j c _ (same free j _ refl refl)
 steps routines free c j (RunLines lines ∷ ts) = unasked free j c _ (of_line free j lines ts)
 steps routines free c j (RunCommands commands block ∷ ts) = unasked free j c _ (same free j _ refl refl)
+steps routines free c j (task.NextArgument action done ∷ ts) = unasked free j c _ (same free j _ refl refl)
 steps routines free c j (Parameters v ps rest block ∷ ts) = unasked free j c _ (same free j _ refl refl)
 steps routines free c j (Forever rest block ∷ ts) = unasked free j c _ (same free j _ refl refl)
 steps routines free c j (NextValue v rest block ∷ ts) = unasked free j c _ (same free j _ refl refl)
@@ -143,8 +145,10 @@ steps_more routines free more f c j (task.ReleaseAll ∷ ts) i h = h
 steps_more routines free more f c j (task.Call extrinsic callee given ∷ ts) i h = h
 steps_more routines free more f c j (task.CallIf callee given ∷ ts) i h = h
 steps_more routines free more f c j (task.Block lines ∷ ts) i h = h
+steps_more routines free more f c j (task.StartJob callee given ∷ ts) i h = h
 steps_more routines free more f c j (RunLines lines ∷ ts) i h = h
 steps_more routines free more f c j (RunCommands commands block ∷ ts) i h = h
+steps_more routines free more f c j (task.NextArgument action done ∷ ts) i h = h
 steps_more routines free more f c j (Parameters v ps rest block ∷ ts) i h = h
 steps_more routines free more f c j (Forever rest block ∷ ts) i h = h
 steps_more routines free more f c j (NextValue v rest block ∷ ts) i h = h
@@ -162,7 +166,7 @@ stops j (t ∷ ts) =
     when_done (λ n. false) j (record j { held = []; tasks = []; stopped = true })
     (record { number = refl; holds = λ x p. absurd (omega (arith, p)) })
 
-begins : (routines : List RoutineTree) (declared : EntryId → Bool) (e : EntryId) (test : Bool) (values : List (List ℕ)) (k : ℕ)
+begins : (routines : List RoutineTree) (declared : EntryId → Bool) (e : EntryId) (test : Bool) (values : List (Option (List ℕ))) (k : ℕ)
     → Keeps (λ n. false) (blank k test values) ((machine routines declared).begin e test values k)
 begins routines declared e test values k i h = elim (cases_Bool (declared e && is_job_number k)) [
   | inl d ↦

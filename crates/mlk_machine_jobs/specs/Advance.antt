@@ -21,7 +21,7 @@ use Rattle.mlk_machine_jobs.specs.Assigning.{assignments, count_parts, merge_sou
 use Rattle.mlk_machine_jobs.specs.Locking.{count_all, names_of, by_sign, tested, claim_step}
 use Rattle.mlk_machine_jobs.specs.Lines.{skipped, to_end, quit, answered, tasks_if, selected, chosen, next_line, next_command}
 use Rattle.mlk_machine_jobs.specs.Lines.{parameter_parts, first_round, later_round}
-use Rattle.mlk_machine_jobs.specs.Calling.{call_frame, called, called_if, back_to, frame_end}
+use Rattle.mlk_machine_jobs.specs.Calling.{count_given, call_frame, called, called_if, back_to, frame_end}
 
 -- What a job's first task makes of it, where these names are free. The tasks after it are `ts`.
 abbrev pub advance : List RoutineTree → (LockName → Bool) → Choice → Job → List Task → Stepped
@@ -76,21 +76,23 @@ advance routines free c j (task.Call extrinsic callee given ∷ ts) =
     without_choice c (called routines (call_frame extrinsic j) (target_of routines j.routine callee) given ts j)
 advance routines free c j (task.CallIf callee given ∷ ts) =
     by_truth c j (λ t i. called_if t routines (target_of routines i.routine callee) given ts i)
+advance routines free c j (task.StartJob callee given ∷ ts) = without_choice c (Ok (doing ts (dropped (count_given given) j)))
 advance routines free c j (task.Block lines ∷ ts) =
     without_choice c (Ok (doing (RunLines (as_lines lines) ∷ EndBlock j.bindings j.next j.test ∷ ts) j))
 advance routines free c j (RunLines lines ∷ ts) = without_choice c (next_line lines ts j)
-advance routines free c j (RunCommands commands block ∷ ts) =
-    without_choice c (Ok (doing (next_command commands block ts) j))
-advance routines free c j (Parameters v ps rest block ∷ ts) =
-    without_choice c (Ok (doing (parameter_parts v ps rest block ++ ts) j))
-advance routines free c j (Forever rest block ∷ ts) =
-    without_choice c (Ok (doing (RunCommands rest block ∷ Forever rest block ∷ ts) j))
-advance routines free c j (NextValue v rest block ∷ ts) =
-    without_choice c (Ok (doing (task.StoreAny v ∷ RunCommands rest block ∷ NextValue v rest block ∷ ts) j))
-advance routines free c j (FirstRound v ps rest block ∷ ts) =
-    with_truth c (λ t. Ok (doing (first_round v ps rest block t ++ ts) j))
-advance routines free c j (LaterRound v ps rest block ∷ ts) =
-    with_truth c (λ t. Ok (doing (later_round v ps rest block t ++ ts) j))
+advance routines free c j (RunCommands commands here ∷ ts) =
+    without_choice c (Ok (doing (next_command commands here ts) j))
+advance routines free c j (task.NextArgument action done ∷ ts) = without_choice c (Ok (doing ts j))
+advance routines free c j (Parameters v ps rest here ∷ ts) =
+    without_choice c (Ok (doing (parameter_parts v ps rest here ++ ts) j))
+advance routines free c j (Forever rest here ∷ ts) =
+    without_choice c (Ok (doing (RunCommands rest here ∷ Forever rest here ∷ ts) j))
+advance routines free c j (NextValue v rest here ∷ ts) =
+    without_choice c (Ok (doing (task.StoreAny v ∷ RunCommands rest here ∷ NextValue v rest here ∷ ts) j))
+advance routines free c j (FirstRound v ps rest here ∷ ts) =
+    with_truth c (λ t. Ok (doing (first_round v ps rest here t ++ ts) j))
+advance routines free c j (LaterRound v ps rest here ∷ ts) =
+    with_truth c (λ t. Ok (doing (later_round v ps rest here t ++ ts) j))
 advance routines free c j (task.QuitHere ∷ ts) = without_choice c (Ok (doing (quit ts) j))
 advance routines free c j (task.QuitWithValue ∷ ts) = without_choice c (Ok (answered j (to_end ts)))
 advance routines free c j (task.HaltJob ∷ ts) = without_choice c (Ok (doing [] j))

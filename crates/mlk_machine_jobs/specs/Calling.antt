@@ -77,7 +77,7 @@ entered frame r given ((head, block) ∷ lines) ts j =
       next = suc j.next;
       cells = with_actuals j.next (formals_in head) given values j.cells;
       values = drop (count_given given) j.values;
-      tasks = RunCommands (commands_in head) block ∷ RunLines lines ∷ EndFrame frame j.bindings j.next j.routine ∷ ts;
+      tasks = RunCommands (commands_in head) (head, block) ∷ RunLines lines ∷ EndFrame frame j.bindings j.next j.routine ∷ ts;
     })
 
 abbrev pub called : List RoutineTree → Frame → Option EntryId → List ActualTree → List Task → Job → Stepped

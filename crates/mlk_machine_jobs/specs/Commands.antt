@@ -1,5 +1,5 @@
 -- What a command is replaced by, argument by argument. Restates ISO/IEC 11756, commands.
-use Rattle.std.specs.Prelude.{ℕ, true, false, List, [], ◌∷◌, ◌++◌, flat_map, length, is_some, Option, Some, None}
+use Rattle.std.specs.Prelude.{ℕ, suc, true, false, List, [], ◌∷◌, ◌++◌, flat_map, is_some, Option, Some, None}
 use Rattle.mlk_syntax.specs.ExprTrees.{Tree, LocalName, GlobalName, Subs, no_subs, ActualTree, count_subs}
 use Rattle.mlk_syntax.specs.Trees.{VariableTree, Named, CallTree, Called, DoTree, DoCall, KillTree, KillOne, KillAllBut, NewTree, NewOne, NewAllBut, LockTree, LockNames, MergeTree, MergeInto}
 use Rattle.mlk_syntax.specs.Trees.{ReadTree, ReadText, ReadFormat, ReadLine, ReadCharacter, TargetTree, SetWhole, SetPart, SetTree, SetTo, WriteTree, WriteValue, WriteCharacter, WriteFormat}
@@ -8,7 +8,7 @@ use Rattle.mlk_names.specs.declared.reference.Extent.TheVariants as extent
 use Rattle.mlk_names.specs.declared.reference.Access.TheVariants.{Writes}
 use Rattle.mlk_machine_jobs.specs.Bindings.{Only, AllBut}
 use Rattle.mlk_machine_jobs.specs.Tasks as task
-use Rattle.mlk_machine_jobs.specs.Tasks.{Task, Evaluate, AskValue, Drop, FormReference}
+use Rattle.mlk_machine_jobs.specs.Tasks.{Task, Evaluate, AskValue, Drop, FormReference, NextArgument}
 use Rattle.mlk_machine_jobs.specs.Expressions.{each_sub, each_actual}
 
 -- an expression whose value is not used, and one that may be missing
@@ -49,8 +49,7 @@ block_parts (line head block rest) = task.Block (line head block rest) ∷ []
 
 -- JOB evaluates its actuals: the job that it starts is another one
 abbrev pub job_parts : CallTree → List Task
-job_parts (Called column callee given) =
-    each_actual (given_in given) ++ Drop (length (each_actual (given_in given))) ∷ []
+job_parts (Called column callee given) = each_actual (given_in given) ++ task.StartJob callee (given_in given) ∷ []
 
 abbrev pub if_parts : Tree → List Task
 if_parts t = Evaluate t ∷ task.SetTest ∷ task.SkipIf false ∷ []
@@ -110,26 +109,31 @@ write_parts (WriteValue t) = evaluated t
 write_parts (WriteCharacter t) = evaluated t
 write_parts (WriteFormat tab) = evaluated_if tab
 
+-- The arguments of a command one after another, each a command of its own: so many are done before these.
+abbrev pub in_turn : {A : Type 0} → (A → List Task) → ActionTree → ℕ → List A → List Task
+in_turn parts action done [] = []
+in_turn parts action done (a ∷ more) = parts a ++ NextArgument action (suc done) ∷ in_turn parts action (suc done) more
+
 -- The parts of a command on a line with this block. Without arguments DO runs the block, IF asks `$TEST`, KILL and NEW
 -- are of all locals, LOCK releases all.
 abbrev pub action_parts : LineTrees → ActionTree → List Task
 action_parts block (Do []) = block_parts block
-action_parts block (Do (c ∷ calls)) = flat_map do_parts (c ∷ calls)
+action_parts block (Do (c ∷ calls)) = in_turn do_parts (Do (c ∷ calls)) 0 (c ∷ calls)
 action_parts block Else = task.SkipIf true ∷ []
 action_parts block Halt = task.HaltJob ∷ []
-action_parts block (Hang times) = flat_map evaluated times
+action_parts block (Hang times) = in_turn evaluated (Hang times) 0 times
 action_parts block (If []) = task.SkipIf false ∷ []
-action_parts block (If (t ∷ conditions)) = flat_map if_parts (t ∷ conditions)
-action_parts block (Job calls) = flat_map job_parts calls
+action_parts block (If (t ∷ conditions)) = in_turn if_parts (If (t ∷ conditions)) 0 (t ∷ conditions)
+action_parts block (Job calls) = in_turn job_parts (Job calls) 0 calls
 action_parts block (Kill []) = task.KillNames (AllBut []) ∷ []
-action_parts block (Kill (k ∷ kills)) = flat_map kill_parts (k ∷ kills)
+action_parts block (Kill (k ∷ kills)) = in_turn kill_parts (Kill (k ∷ kills)) 0 (k ∷ kills)
 action_parts block (Lock []) = task.ReleaseAll ∷ []
-action_parts block (Lock (l ∷ locks)) = flat_map lock_parts (l ∷ locks)
-action_parts block (Merge merges) = flat_map merge_parts merges
+action_parts block (Lock (l ∷ locks)) = in_turn lock_parts (Lock (l ∷ locks)) 0 (l ∷ locks)
+action_parts block (Merge merges) = in_turn merge_parts (Merge merges) 0 merges
 action_parts block (New []) = task.NewNames (AllBut []) ∷ []
-action_parts block (New (n ∷ news)) = flat_map new_parts (n ∷ news)
+action_parts block (New (n ∷ news)) = in_turn new_parts (New (n ∷ news)) 0 (n ∷ news)
 action_parts block (Quit None) = task.QuitHere ∷ []
 action_parts block (Quit (Some t)) = Evaluate t ∷ task.QuitWithValue ∷ []
-action_parts block (Read reads) = flat_map read_parts reads
-action_parts block (Set sets) = flat_map set_parts sets
-action_parts block (Write writes) = flat_map write_parts writes
+action_parts block (Read reads) = in_turn read_parts (Read reads) 0 reads
+action_parts block (Set sets) = in_turn set_parts (Set sets) 0 sets
+action_parts block (Write writes) = in_turn write_parts (Write writes) 0 writes

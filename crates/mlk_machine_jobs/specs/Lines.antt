@@ -13,10 +13,10 @@ use Rattle.mlk_machine_jobs.specs.Choices.{Stepped, doing, dropped}
 
 -- What a FOR does next once a round has ended: before the first round nothing can be skipped or quit.
 abbrev pub is_round : Task → Bool
-is_round (Parameters v ps rest block) = true
-is_round (Forever rest block) = true
-is_round (NextValue v rest block) = true
-is_round (LaterRound v ps rest block) = true
+is_round (Parameters v ps rest here) = true
+is_round (Forever rest here) = true
+is_round (NextValue v rest here) = true
+is_round (LaterRound v ps rest here) = true
 is_round t = false
 
 abbrev pub is_end : Task → Bool
@@ -72,7 +72,7 @@ chosen value others ts false j = Ok (doing (task.Select others ∷ ts) j)
 abbrev pub next_line : List LineTree → List Task → Job → Stepped
 next_line [] ts j = Ok (doing ts j)
 next_line ((LineHead n level end label None commands, block) ∷ lines) ts j =
-    Ok (doing (RunCommands commands block ∷ RunLines lines ∷ ts) j)
+    Ok (doing (RunCommands commands (LineHead n level end label None commands, block) ∷ RunLines lines ∷ ts) j)
 next_line ((LineHead n level end label (Some formals) commands, block) ∷ lines) ts j = Err NotEnabled
 
 -- The commands of a line: a command, after its postconditional if it has one; a FOR with all that is left of the line.
@@ -81,32 +81,32 @@ command_parts block (Does column None action) = action_parts block action
 command_parts block (Does column (Some condition) action) =
     task.Evaluate condition ∷ task.Conditionally action block ∷ []
 
-abbrev pub for_parts : Option ControlTree → CommandTrees → LineTrees → Task
-for_parts None rest block = Forever rest block
-for_parts (Some (Runs column variable parameters)) rest block = Parameters variable parameters rest block
+abbrev pub for_parts : Option ControlTree → CommandTrees → LineTree → Task
+for_parts None rest here = Forever rest here
+for_parts (Some (Runs column variable parameters)) rest here = Parameters variable parameters rest here
 
-abbrev pub next_command : CommandTrees → LineTrees → List Task → List Task
-next_command finished block ts = ts
-next_command (then_command first rest) block ts = command_parts block first ++ RunCommands rest block ∷ ts
-next_command (then_for column index control rest) block ts = for_parts control rest block ∷ ts
+abbrev pub next_command : CommandTrees → LineTree → List Task → List Task
+next_command finished here ts = ts
+next_command (then_command first rest) here ts = command_parts here.1 first ++ RunCommands rest here ∷ ts
+next_command (then_for column index control rest) here ts = for_parts control rest here ∷ ts
 
 -- FOR: one parameter after another. Steps and limits are evaluated once, before the variable is set first.
-abbrev pub parameter_parts : List ℕ → List ParameterTree → CommandTrees → LineTrees → List Task
-parameter_parts v [] rest block = []
-parameter_parts v (Once t ∷ ps) rest block =
-    task.Evaluate t ∷ task.StoreLast v ∷ RunCommands rest block ∷ Parameters v ps rest block ∷ []
-parameter_parts v (Endless start step ∷ ps) rest block =
-    task.Evaluate start ∷ task.Evaluate step ∷ task.Drop 1 ∷ task.StoreLast v ∷ RunCommands rest block
-    ∷ NextValue v rest block ∷ []
-parameter_parts v (Limited start step limit ∷ ps) rest block =
+abbrev pub parameter_parts : List ℕ → List ParameterTree → CommandTrees → LineTree → List Task
+parameter_parts v [] rest here = []
+parameter_parts v (Once t ∷ ps) rest here =
+    task.Evaluate t ∷ task.StoreLast v ∷ RunCommands rest here ∷ Parameters v ps rest here ∷ []
+parameter_parts v (Endless start step ∷ ps) rest here =
+    task.Evaluate start ∷ task.Evaluate step ∷ task.Drop 1 ∷ task.StoreLast v ∷ RunCommands rest here
+    ∷ NextValue v rest here ∷ []
+parameter_parts v (Limited start step limit ∷ ps) rest here =
     task.Evaluate start ∷ task.Evaluate step ∷ task.Evaluate limit ∷ task.Drop 2 ∷ task.StoreLast v
-    ∷ FirstRound v ps rest block ∷ []
+    ∷ FirstRound v ps rest here ∷ []
 
 -- a round is run, or the next parameter has its turn
-abbrev pub first_round : List ℕ → List ParameterTree → CommandTrees → LineTrees → Bool → List Task
-first_round v ps rest block true = RunCommands rest block ∷ LaterRound v ps rest block ∷ []
-first_round v ps rest block false = Parameters v ps rest block ∷ []
+abbrev pub first_round : List ℕ → List ParameterTree → CommandTrees → LineTree → Bool → List Task
+first_round v ps rest here true = RunCommands rest here ∷ LaterRound v ps rest here ∷ []
+first_round v ps rest here false = Parameters v ps rest here ∷ []
 
-abbrev pub later_round : List ℕ → List ParameterTree → CommandTrees → LineTrees → Bool → List Task
-later_round v ps rest block true = task.StoreAny v ∷ RunCommands rest block ∷ LaterRound v ps rest block ∷ []
-later_round v ps rest block false = Parameters v ps rest block ∷ []
+abbrev pub later_round : List ℕ → List ParameterTree → CommandTrees → LineTree → Bool → List Task
+later_round v ps rest here true = task.StoreAny v ∷ RunCommands rest here ∷ LaterRound v ps rest here ∷ []
+later_round v ps rest here false = Parameters v ps rest here ∷ []

@@ -5,7 +5,7 @@ use Rattle.mlk_names.specs.declared.lock_name.LockName.{LockName}
 use Rattle.mlk_machine_locks.specs.declared.refusal.Refusal.TheVariants.{NotEnabled, BadChoice}
 use Rattle.mlk_machine_locks.specs.Waiting.{Claim, View}
 use Rattle.mlk_machine_locks.specs.Systems.{Machine}
-use Rattle.mlk_syntax.specs.ExprTrees.{ActualTree, Given, Lit}
+use Rattle.mlk_syntax.specs.ExprTrees.{ActualTree, Given, Missing, Lit}
 use Rattle.mlk_syntax.specs.Trees.{RoutineTree}
 use Rattle.mlk_program.specs.declared.entry.EntryId.{EntryId}
 use Rattle.mlk_machine_jobs.specs.declared.choice.Choice.{Choice}
@@ -17,7 +17,12 @@ use Rattle.mlk_machine_jobs.specs.Calling.{entered, formals_in, lines_after}
 use Rattle.mlk_machine_jobs.specs.Advance.{advance}
 
 -- A job before its first frame: no name is bound anew, nothing has a value, no lock is held.
-abbrev pub blank : ℕ → Bool → List (List ℕ) → Job
+abbrev pub present : List (Option (List ℕ)) → List (List ℕ)
+present [] = []
+present (None ∷ values) = present values
+present (Some v ∷ values) = v ∷ present values
+
+abbrev pub blank : ℕ → Bool → List (Option (List ℕ)) → Job
 blank k test values = record {
   number = k;
   test = test;
@@ -25,21 +30,26 @@ blank k test values = record {
   bindings = [];
   next = 1;
   cells = no_values;
-  values = reverse values;
+  values = reverse (present values);
   held = [];
   tasks = [];
   stopped = false;
 }
 
-abbrev pub by_value : List (List ℕ) → List ActualTree
-by_value values = map (λ v. Given (Lit v)) values
+-- an actual for each: one without a value is missing
+abbrev pub actual_for : Option (List ℕ) → ActualTree
+actual_for None = Missing
+actual_for (Some v) = Given (Lit v)
+
+abbrev pub by_value : List (Option (List ℕ)) → List ActualTree
+by_value values = map actual_for values
 
 abbrev pub formals_at : List LineTree → ℕ
 formals_at [] = 0
 formals_at (l ∷ lines) = length (formals_in l.0)
 
--- A job begins at an entry as by a call, with values for its first formals: as many as there are, or fewer.
-abbrev pub begun : List RoutineTree → EntryId → ℕ → Bool → List (List ℕ) → Stepped
+-- A job begins at an entry as by a call, with a value or none for each of its first formals: as many as there are, or fewer.
+abbrev pub begun : List RoutineTree → EntryId → ℕ → Bool → List (Option (List ℕ)) → Stepped
 begun routines e k test values =
     if nat_lt (formals_at (lines_after routines e)) (length values) then Err BadChoice
     else entered NoValue e.routine (by_value values) (lines_after routines e) [] (blank k test values)

@@ -89,19 +89,21 @@ lock_task a_lock.ReleaseAll = task.ReleaseAll
 abbrev pub scope_task : ScopeTask → Task
 scope_task (a_scope.Call how callee given) = task.Call (is_extrinsic how) callee.now (actual_trees given.now)
 scope_task (a_scope.CallIf callee given) = task.CallIf callee.now (actual_trees given.now)
+scope_task (a_scope.StartJob callee given) = task.StartJob callee.now (actual_trees given.now)
 scope_task (a_scope.Block lines) = task.Block (block_of lines.now)
 
 abbrev pub line_task : LineTask → Task
 line_task (a_line.RunLines lines) = task.RunLines (map line_of lines.now)
-line_task (a_line.RunCommands r) = task.RunCommands (commands_left r) (block_of r.block.now)
+line_task (a_line.RunCommands r) = task.RunCommands (commands_left r) (line_of r.line.now)
 line_task (a_line.Parameters v ps r) =
-    task.Parameters v.now (map parameter_of ps.now) (commands_left r) (block_of r.block.now)
-line_task (a_line.Forever r) = task.Forever (commands_left r) (block_of r.block.now)
-line_task (a_line.NextValue v r) = task.NextValue v.now (commands_left r) (block_of r.block.now)
+    task.Parameters v.now (map parameter_of ps.now) (commands_left r) (line_of r.line.now)
+line_task (a_line.Forever r) = task.Forever (commands_left r) (line_of r.line.now)
+line_task (a_line.NextValue v r) = task.NextValue v.now (commands_left r) (line_of r.line.now)
 line_task (a_line.FirstRound v ps r) =
-    task.FirstRound v.now (map parameter_of ps.now) (commands_left r) (block_of r.block.now)
+    task.FirstRound v.now (map parameter_of ps.now) (commands_left r) (line_of r.line.now)
 line_task (a_line.LaterRound v ps r) =
-    task.LaterRound v.now (map parameter_of ps.now) (commands_left r) (block_of r.block.now)
+    task.LaterRound v.now (map parameter_of ps.now) (commands_left r) (line_of r.line.now)
+line_task (a_line.NextArgument action done) = task.NextArgument (action_of action.now) done
 line_task a_line.QuitHere = task.QuitHere
 line_task a_line.QuitWithValue = task.QuitWithValue
 line_task a_line.HaltJob = task.HaltJob

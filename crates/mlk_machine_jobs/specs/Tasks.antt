@@ -70,18 +70,22 @@ pub data Task : Type 0 where
   Call : (extrinsic : Bool) → (callee : Callee) → (actuals : List ActualTree) → Task
   CallIf : (callee : Callee) → (actuals : List ActualTree) → Task
   Block : (lines : LineTrees) → Task
-  -- Lines and commands; the commands of a line have its block.
+  -- JOB: the actuals were evaluated.
+  StartJob : (callee : Callee) → (actuals : List ActualTree) → Task
+  -- Lines and commands; the commands are what is left of this line.
   RunLines : (lines : List LineTree) → Task
-  RunCommands : (commands : CommandTrees) → (block : LineTrees) → Task
+  RunCommands : (commands : CommandTrees) → (here : LineTree) → Task
+  -- after so many arguments of a command
+  NextArgument : (action : ActionTree) → (done : ℕ) → Task
   -- FOR: the parameters that are left; each round of one without an argument; the next value of one without a limit;
   -- whether a first round, or a later one, is run where there is a limit
-  Parameters : (variable : List ℕ) → (parameters : List ParameterTree) → (rest : CommandTrees) → (block : LineTrees)
+  Parameters : (variable : List ℕ) → (parameters : List ParameterTree) → (rest : CommandTrees) → (here : LineTree)
       → Task
-  Forever : (rest : CommandTrees) → (block : LineTrees) → Task
-  NextValue : (variable : List ℕ) → (rest : CommandTrees) → (block : LineTrees) → Task
-  FirstRound : (variable : List ℕ) → (parameters : List ParameterTree) → (rest : CommandTrees) → (block : LineTrees)
+  Forever : (rest : CommandTrees) → (here : LineTree) → Task
+  NextValue : (variable : List ℕ) → (rest : CommandTrees) → (here : LineTree) → Task
+  FirstRound : (variable : List ℕ) → (parameters : List ParameterTree) → (rest : CommandTrees) → (here : LineTree)
       → Task
-  LaterRound : (variable : List ℕ) → (parameters : List ParameterTree) → (rest : CommandTrees) → (block : LineTrees)
+  LaterRound : (variable : List ℕ) → (parameters : List ParameterTree) → (rest : CommandTrees) → (here : LineTree)
       → Task
   -- The ends of what a job is in. QUIT and HALT cut the tasks.
   QuitHere : Task

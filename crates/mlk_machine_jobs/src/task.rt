@@ -15,12 +15,12 @@ pub enum Calling {
     Extrinsic,
 }
 
-/// What is left of a line: its commands, the FOR after them, and the line's block.
+/// What is left of a line: its commands, the FOR after them, and the line itself.
 #[derive(Clone, Copy, Drop)]
 pub struct Rest<'a> {
     pub commands: &'a [Command],
     pub last: Option<&'a For>,
-    pub block: &'a [Line],
+    pub line: &'a Line,
 }
 
 /// What expressions are made of: each leaves one more value.
@@ -78,11 +78,13 @@ pub enum LockTask<'a> {
     ReleaseAll,
 }
 
-/// What begins a frame or a block.
+/// What begins a frame, a block or another job.
 #[derive(Clone, Drop)]
 pub enum ScopeTask<'a> {
     Call(Calling, &'a Callee, &'a [Actual]),
     CallIf(&'a Callee, &'a [Actual]),
+    /// JOB of an entry whose actuals were evaluated
+    StartJob(&'a Callee, &'a [Actual]),
     Block(&'a [Line]),
 }
 
@@ -91,6 +93,8 @@ pub enum ScopeTask<'a> {
 pub enum LineTask<'a> {
     RunLines(&'a [Line]),
     RunCommands(Rest<'a>),
+    /// after so many arguments of a command
+    NextArgument(&'a Action, usize),
     Parameters(&'a Name, &'a [Parameter], Rest<'a>),
     Forever(Rest<'a>),
     NextValue(&'a Name, Rest<'a>),

@@ -73,17 +73,17 @@ of_steps (Err why) n = blank 0 false []
 abbrev after_steps : ℕ → Job
 after_steps n = of_steps (begun in_block first_entry 1 false []) n
 
--- The block: its begin, its line, the command, NEW, the line's end, the block's lines' end; then its own end.
-block_is_gone_through : GoesThrough its_machine (after_steps 1) (after_steps 8)
+-- The block: its begin, its line, the command, NEW, the argument's end, the line's end, the block's lines' end; then its own end.
+block_is_gone_through : GoesThrough its_machine (after_steps 1) (after_steps 9)
 block_is_gone_through = record {
   is_in_frame = omega arith;
   goes_in = Go choice.None;
   first = after_steps 2;
   is_first = refl;
-  acts = so_many 5;
-  last = after_steps 7;
+  acts = so_many 6;
+  last = after_steps 8;
   is_last = refl;
-  is_within = more_are_open its_machine 1 (so_many 5) (after_steps 2) refl;
+  is_within = more_are_open its_machine 1 (so_many 6) (after_steps 2) refl;
   goes_out = Go choice.None;
   is_out = refl;
   as_many = refl;
@@ -93,7 +93,7 @@ block_is_gone_through = record {
 bound_inside : (after_steps 5).bindings ≡ Fresh 2 (Only (codes "X")) ∷ []
 bound_inside = refl
 
-bound_as_before : (after_steps 8).bindings ≡ []
+bound_as_before : (after_steps 9).bindings ≡ []
 bound_as_before = refl
 
 -- A name that is bound in front is another variable, and is not changed; one that is not is.

@@ -179,14 +179,14 @@ module _ (test : Bool) (k : ℕ) where
       above_all n (inr none) = absurd none
 
   -- it writes what the lock that it holds covers
-  at_the_touch : Keeps (at 7)
+  at_the_touch : Keeps (at 8)
   unfolding same_name is_above
   at_the_touch = record {
-    covered = λ t e. let d : touch ≡ t = cc in subst (IsCoveredAt rules (at 7)) d (record {
+    covered = λ t e. let d : touch ≡ t = cc in subst (IsCoveredAt rules (at 8)) d (record {
       values = record { locals = λ n. None; job = decimal k };
       own = refl;
       held = term ∷ [];
-      each_held = λ u c. subst (IsHeld (record { locals = λ n. None; job = decimal k }) (at 7)) (sym (only term u c))
+      each_held = λ u c. subst (IsHeld (record { locals = λ n. None; job = decimal k }) (at 8)) (sym (only term u c))
           (record { name = a; names = record { root = refl; subs = tt }; holds = omega arith });
       reference = reference;
       touches = record { root = refl; extent = refl; subs = tt; access = refl };
@@ -196,13 +196,25 @@ module _ (test : Bool) (k : ℕ) where
     ends = λ h n p. cc;
   }
 
-  at_its_end : Keeps (at 14)
+  at_its_end : Keeps (at 17)
   unfolding same_name is_above
   at_its_end = record { covered = λ t e. cc; order = λ n m. absurd m; ends = λ h n p. absurd (omega (arith, p)) }
 
+  from17 : From (at 17)
+  unfolding same_name is_above
+  from17 = at_end (at 17) refl at_its_end
+
+  from16 : From (at 16)
+  unfolding same_name is_above
+  from16 = one_more (at 16) (at 17) (quiet (at 16) (_, _, refl, refl, refl)) _ _ refl refl (λ v. refl) (λ b. refl) from17
+
+  from15 : From (at 15)
+  unfolding same_name is_above
+  from15 = one_more (at 15) (at 16) (quiet (at 15) (_, _, refl, refl, refl)) _ _ refl refl (λ v. refl) (λ b. refl) from16
+
   from14 : From (at 14)
   unfolding same_name is_above
-  from14 = at_end (at 14) refl at_its_end
+  from14 = one_more (at 14) (at 15) (quiet (at 14) (_, _, refl, refl, refl)) _ _ refl refl (λ v. refl) (λ b. refl) from15
 
   from13 : From (at 13)
   unfolding same_name is_above
@@ -226,11 +238,11 @@ module _ (test : Bool) (k : ℕ) where
 
   from8 : From (at 8)
   unfolding same_name is_above
-  from8 = one_more (at 8) (at 9) (quiet (at 8) (_, _, refl, refl, refl)) _ _ refl refl (λ v. refl) (λ b. refl) from9
+  from8 = one_more (at 8) (at 9) at_the_touch _ _ refl refl (λ v. refl) (λ b. refl) from9
 
   from7 : From (at 7)
   unfolding same_name is_above
-  from7 = one_more (at 7) (at 8) at_the_touch _ _ refl refl (λ v. refl) (λ b. refl) from8
+  from7 = one_more (at 7) (at 8) (quiet (at 7) (_, _, refl, refl, refl)) _ _ refl refl (λ v. refl) (λ b. refl) from8
 
   from6 : From (at 6)
   unfolding same_name is_above
@@ -266,7 +278,7 @@ is_it i first s e h = let z : s ≡ Ok i = e in let f : Ok first ≡ Ok i = sym 
 no_such : {A : Type 0} (why : Refusal) (first : Job) (s : Stepped) → s ≡ Err why → s ≡ Ok first → A
 no_such why first s e h = let z : s ≡ Err why = e in absurd (cc)
 
-too_many : (test : Bool) (v : List ℕ) (vs : List (List ℕ)) (k : ℕ) → begun careful first_entry k test (v ∷ vs) ≡ Err BadChoice
+too_many : (test : Bool) (v : Option (List ℕ)) (vs : List (Option (List ℕ))) (k : ℕ) → begun careful first_entry k test (v ∷ vs) ≡ Err BadChoice
 too_many test v vs k =
     let more : nat_lt 0 (length (v ∷ vs)) ≡ true = grind arith in
     let P : Bool → Stepped = λ b. if b then Err BadChoice
@@ -274,7 +286,7 @@ too_many test v vs k =
     ap P more
 
 -- so it is kept to at each moment of each run
-begins : (r l : ℕ) → r ≡ 0 → l ≡ 0 → (test : Bool) (values : List (List ℕ)) (k : ℕ) (first : Job)
+begins : (r l : ℕ) → r ≡ 0 → l ≡ 0 → (test : Bool) (values : List (Option (List ℕ))) (k : ℕ) (first : Job)
     → begun careful (record { routine = r; line = l }) k test values ≡ Ok first → first ≡ at test k 0
 begins r l e d test [] k first h = is_it (at test k 0) first (begun careful first_entry k test []) refl (rw (e, d) at h)
 begins r l e d test (v ∷ vs) k first h = no_such BadChoice first (begun careful first_entry k test (v ∷ vs)) (too_many test v vs k) (rw (e, d) at h)

@@ -1,5 +1,5 @@
 -- Tasks of which none is the end of a block or a frame: what a task is replaced by.
-use Rattle.std.proofs.Common.{◌≡◌, ◌∙◌, ℕ, Bool, true, false, List, [], ◌∷◌, ◌++◌, flat_map, Option, Some, None, refl, ap, arith, append_assoc, drop, take}
+use Rattle.std.proofs.Common.{◌≡◌, ◌∙◌, ℕ, suc, Bool, true, false, List, [], ◌∷◌, ◌++◌, flat_map, Option, Some, None, refl, ap, arith, append_assoc, drop, take}
 use Rattle.mlk_syntax.specs.declared.expr.Special.{Special}
 use Rattle.mlk_syntax.specs.declared.expr.Function.{Function}
 use Rattle.mlk_syntax.specs.declared.expr.Function.TheVariants as function
@@ -14,9 +14,9 @@ use Rattle.mlk_syntax.specs.Trees.{VariableTree, CallTree, Called, DoTree, DoCal
 use Rattle.mlk_syntax.specs.Trees.{ReadTree, ReadText, ReadFormat, ReadLine, ReadCharacter, TargetTree, SetWhole, SetPart, SetTree, SetTo, WriteTree, WriteValue, WriteCharacter, WriteFormat}
 use Rattle.mlk_syntax.specs.Trees.{ActionTree, Do, Else, Halt, Hang, If, Job, Kill, Lock, Merge, New, Quit, Read, Set, Write, LineTrees, no_lines, line}
 use Rattle.mlk_syntax.specs.Trees.{ParameterTree, Once, Endless, Limited, CommandTree, Does, CommandTrees, Runs, finished, then_command, then_for}
-use Rattle.mlk_machine_jobs.specs.Tasks.{Task, Evaluate, AskValue, RunCommands, marks}
+use Rattle.mlk_machine_jobs.specs.Tasks.{Task, LineTree, Evaluate, AskValue, RunCommands, NextArgument, marks}
 use Rattle.mlk_machine_jobs.specs.Expressions.{each_sub, each_tree, unused, read_global, read_local, operation, special_parts, of_global, function_parts, takes_name, each_actual, parts_of}
-use Rattle.mlk_machine_jobs.specs.Commands.{evaluated, evaluated_if, subs_in, in_variable, count_in, given_in, do_parts, block_parts, job_parts, if_parts, kill_variable, kill_parts, new_parts, lock_parts, merge_parts, store_last, in_time, read_into, read_parts, target_parts, set_parts, write_parts, action_parts}
+use Rattle.mlk_machine_jobs.specs.Commands.{evaluated, evaluated_if, subs_in, in_variable, count_in, given_in, do_parts, block_parts, job_parts, if_parts, kill_variable, kill_parts, new_parts, lock_parts, merge_parts, store_last, in_time, read_into, read_parts, target_parts, set_parts, write_parts, in_turn, action_parts}
 use Rattle.mlk_machine_jobs.specs.Assigning.{assigned, assignments, subs_of_target, parts_in, merge_source, merge_target}
 use Rattle.mlk_machine_jobs.specs.Locking.{by_sign}
 use Rattle.mlk_machine_jobs.specs.Lines.{command_parts, parameter_parts, first_round, later_round, next_command}
@@ -37,6 +37,10 @@ three xs ys zs p q r = both (xs ++ ys) zs (both xs ys p q) r
 each : {A : Type 0} (f : A → List Task) → ((a : A) → Plain (f a)) → (xs : List A) → Plain (flat_map f xs)
 each f p [] = none
 each f p (x ∷ xs) = both (f x) (flat_map f xs) (p x) (each f p xs)
+
+turns : {A : Type 0} (f : A → List Task) (a : ActionTree) (n : ℕ) → ((x : A) → Plain (f x)) → (xs : List A) → Plain (in_turn f a n xs)
+turns f a n p [] = none
+turns f a n p (x ∷ xs) = both (f x) (NextArgument a (suc n) ∷ in_turn f a (suc n) xs) (p x) (λ ts. turns f a (suc n) p xs ts)
 
 -- Expressions.
 subs : (ss : Subs) → Plain (each_sub ss)
@@ -214,25 +218,25 @@ writes (WriteFormat tab) ts = of_option tab ts
 
 pub actions : (block : LineTrees) (a : ActionTree) → Plain (action_parts block a)
 actions block (Do []) = blocks block
-actions block (Do (c ∷ cs)) = each do_parts calls (c ∷ cs)
+actions block (Do (c ∷ cs)) = turns do_parts (Do (c ∷ cs)) 0 calls (c ∷ cs)
 actions block Else = λ ts. refl
 actions block Halt = λ ts. refl
-actions block (Hang times) = each evaluated (λ t ts. refl) times
+actions block (Hang times) = turns evaluated (Hang times) 0 (λ t ts. refl) times
 actions block (If []) = λ ts. refl
-actions block (If (t ∷ conditions)) = each if_parts (λ u ts. refl) (t ∷ conditions)
-actions block (Job cs) = each job_parts jobs cs
+actions block (If (t ∷ conditions)) = turns if_parts (If (t ∷ conditions)) 0 (λ u ts. refl) (t ∷ conditions)
+actions block (Job cs) = turns job_parts (Job cs) 0 jobs cs
 actions block (Kill []) = λ ts. refl
-actions block (Kill (k ∷ ks)) = each kill_parts kills (k ∷ ks)
+actions block (Kill (k ∷ ks)) = turns kill_parts (Kill (k ∷ ks)) 0 kills (k ∷ ks)
 actions block (Lock []) = λ ts. refl
-actions block (Lock (l ∷ ls)) = each lock_parts locks (l ∷ ls)
-actions block (Merge ms) = each merge_parts merges ms
+actions block (Lock (l ∷ ls)) = turns lock_parts (Lock (l ∷ ls)) 0 locks (l ∷ ls)
+actions block (Merge ms) = turns merge_parts (Merge ms) 0 merges ms
 actions block (New []) = λ ts. refl
-actions block (New (n ∷ ns)) = each new_parts news (n ∷ ns)
+actions block (New (n ∷ ns)) = turns new_parts (New (n ∷ ns)) 0 news (n ∷ ns)
 actions block (Quit None) = λ ts. refl
 actions block (Quit (Some t)) = λ ts. refl
-actions block (Read rs) = each read_parts reads rs
-actions block (Set ss) = each set_parts sets ss
-actions block (Write ws) = each write_parts writes ws
+actions block (Read rs) = turns read_parts (Read rs) 0 reads rs
+actions block (Set ss) = turns set_parts (Set ss) 0 sets ss
+actions block (Write ws) = turns write_parts (Write ws) 0 writes ws
 
 -- Assignments, locks, lines.
 of_target : (value : List ℕ) (ss : List (List ℕ)) (t : TargetTree) → Plain (assigned value ss t)
@@ -257,22 +261,22 @@ of_command : (block : LineTrees) (c : CommandTree) → Plain (command_parts bloc
 of_command block (Does column None action) = actions block action
 of_command block (Does column (Some condition) action) = λ ts. refl
 
-pub rounds_of : (v : List ℕ) (ps : List ParameterTree) (rest : CommandTrees) (block : LineTrees) → Plain (parameter_parts v ps rest block)
-rounds_of v [] rest block ts = refl
-rounds_of v (Once t ∷ ps) rest block ts = refl
-rounds_of v (Endless start step ∷ ps) rest block ts = refl
-rounds_of v (Limited start step limit ∷ ps) rest block ts = refl
+pub rounds_of : (v : List ℕ) (ps : List ParameterTree) (rest : CommandTrees) (here : LineTree) → Plain (parameter_parts v ps rest here)
+rounds_of v [] rest here ts = refl
+rounds_of v (Once t ∷ ps) rest here ts = refl
+rounds_of v (Endless start step ∷ ps) rest here ts = refl
+rounds_of v (Limited start step limit ∷ ps) rest here ts = refl
 
-pub round_first : (v : List ℕ) (ps : List ParameterTree) (rest : CommandTrees) (block : LineTrees) (b : Bool) → Plain (first_round v ps rest block b)
-round_first v ps rest block true ts = refl
-round_first v ps rest block false ts = refl
+pub round_first : (v : List ℕ) (ps : List ParameterTree) (rest : CommandTrees) (here : LineTree) (b : Bool) → Plain (first_round v ps rest here b)
+round_first v ps rest here true ts = refl
+round_first v ps rest here false ts = refl
 
-pub round_later : (v : List ℕ) (ps : List ParameterTree) (rest : CommandTrees) (block : LineTrees) (b : Bool) → Plain (later_round v ps rest block b)
-round_later v ps rest block true ts = refl
-round_later v ps rest block false ts = refl
+pub round_later : (v : List ℕ) (ps : List ParameterTree) (rest : CommandTrees) (here : LineTree) (b : Bool) → Plain (later_round v ps rest here b)
+round_later v ps rest here true ts = refl
+round_later v ps rest here false ts = refl
 
-pub next_commands : (cs : CommandTrees) (block : LineTrees) (ts : List Task) → marks (next_command cs block ts) ≡ marks ts
-next_commands finished block ts = refl
-next_commands (then_command first rest) block ts = of_command block first (RunCommands rest block ∷ ts)
-next_commands (then_for column index None rest) block ts = refl
-next_commands (then_for column index (Some (Runs at v ps)) rest) block ts = refl
+pub next_commands : (cs : CommandTrees) (here : LineTree) (ts : List Task) → marks (next_command cs here ts) ≡ marks ts
+next_commands finished here ts = refl
+next_commands (then_command first rest) here ts = of_command here.1 first (RunCommands rest here ∷ ts)
+next_commands (then_for column index None rest) here ts = refl
+next_commands (then_for column index (Some (Runs at v ps)) rest) here ts = refl

@@ -1,6 +1,6 @@
 -- Each job of a run is what its own acts make of it, and what two jobs hold is apart: so what each keeps to by itself tells
 -- of all.
-use Rattle.std.proofs.Common.{◌≡◌, ◌<◌, ◌^◌, ℕ, Bool, true, List, [], Ok, Err, sym, ◌∙◌, ⊎_elim, inl, inr, arith}
+use Rattle.std.proofs.Common.{◌≡◌, ◌<◌, ◌^◌, ℕ, Bool, true, List, [], Ok, Err, sym, ◌∙◌, ⊎_elim, inl, inr, arith, Option}
 use Rattle.std.specs.Prelude.{◌&&◌, nat_lt}
 use Rattle.std.proofs.lemmas.Bool.{false_from_ne_true, cases_Bool, and_parts, ltb-true}
 use Rattle.std.proofs.lemmas.Fmt.{decimal_injective}
@@ -40,7 +40,7 @@ its_number routines declared events jobs h j a =
     let s = (one_run_of_many routines declared events jobs h j a).lone in
     may s.entry s.test s.values j.number s.first s.is_first
   where
-    may : (e : EntryId) (test : Bool) (values : List (List ℕ)) (k : ℕ) (first : Job)
+    may : (e : EntryId) (test : Bool) (values : List (Option (List ℕ))) (k : ℕ) (first : Job)
         → (machine routines declared).begin e test values k ≡ Ok first → k < 2 ^ 64
     may e test values k first g = elim (cases_Bool (declared e && is_job_number k)) [
       | inl d ↦ small k (and_parts (declared e) (is_job_number k) d).1

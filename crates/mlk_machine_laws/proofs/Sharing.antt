@@ -191,7 +191,7 @@ module _ (routines : List RoutineTree) (declared : EntryId → Bool) (d : Formal
           let m : Move routines j k = act_moves routines declared x j k e in
           rest k i (tidy_after routines j k t m) (ordered_after routines d j k t o m) (rw e at h)
 
-  pub at_moment : (e : EntryId) (test : Bool) (values : List (List ℕ)) (k : ℕ) (first j : Job) (acts : List (Act Choice EntryId))
+  pub at_moment : (e : EntryId) (test : Bool) (values : List (Option (List ℕ))) (k : ℕ) (first j : Job) (acts : List (Act Choice EntryId))
       → (machine routines declared).begin e test values k ≡ Ok first → lone_run (machine routines declared) acts first ≡ Ok j → Ordered j.bindings
   at_moment e test values k first j acts b r =
       let blank_tidy : Tidied (blank k test values) = record { nested = tt; older = omega arith; unset = λ c l. refl } in

@@ -125,7 +125,7 @@ tidy_after routines j i t (ends k e b n x h) =
 tidy_after routines j i t (halts e b n x) = given_by j.bindings j.next j.cells [] i b n x e tt t.older t.unset
 
 module _ (routines : List RoutineTree) (declared : EntryId → Bool) where
-  pub begins : (e : EntryId) (test : Bool) (values : List (List ℕ)) (k : ℕ) → Moves routines (blank k test values) ((machine routines declared).begin e test values k)
+  pub begins : (e : EntryId) (test : Bool) (values : List (Option (List ℕ))) (k : ℕ) → Moves routines (blank k test values) ((machine routines declared).begin e test values k)
   begins e test values k =
       of_if routines (blank k test values) (declared e && is_job_number k) _ _
       (of_if routines (blank k test values) (nat_lt (formals_at (lines_after routines e)) (length values)) _ _ (refused routines (blank k test values) BadChoice)
@@ -146,7 +146,7 @@ module _ (routines : List RoutineTree) (declared : EntryId → Bool) where
       on (Err why) e rest = let z : Err why ≡ Ok i = rw e at h in cc
       on (Ok k) e rest = rest k i (tidy_after routines j k t (act_moves x j k e)) (rw e at h)
 
-  pub tidied : (e : EntryId) (test : Bool) (values : List (List ℕ)) (k : ℕ) (first j : Job) (acts : List (Act Choice EntryId))
+  pub tidied : (e : EntryId) (test : Bool) (values : List (Option (List ℕ))) (k : ℕ) (first j : Job) (acts : List (Act Choice EntryId))
       → (machine routines declared).begin e test values k ≡ Ok first → lone_run (machine routines declared) acts first ≡ Ok j → Tidied j
   tidied e test values k first j acts b r =
       let blank_tidy : Tidied (blank k test values) = record { nested = tt; older = omega arith; unset = λ c l. refl } in

@@ -1,5 +1,5 @@
 -- What a job keeps to at a moment, and that it does so at each moment of each run of its own. This project's own choice.
-use Rattle.std.specs.Prelude.{◌≡◌, ℕ, Bool, List, Some, Ok, Contains}
+use Rattle.std.specs.Prelude.{◌≡◌, ℕ, Bool, List, Some, Ok, Contains, Option}
 use Rattle.std.specs.Fmt.{decimal}
 use Rattle.mlk_names.specs.declared.lock_name.LockName.{LockName}
 use Rattle.mlk_names.specs.declared.term.LockTerm.{LockTerm}
@@ -52,6 +52,6 @@ EndsEmpty j = HasEnded j → (n : LockName) → Holds (seen j) n → ⊥
 -- At each moment of each run of one job, begun at a declared entry and granted each claim at any time.
 abbrev pub AtEachMoment : List RoutineTree → (EntryId → Bool) → (Job → Type 0) → Type 0
 AtEachMoment routines declared Keeps =
-    (e : EntryId) (test : Bool) (values : List (List ℕ)) (k : ℕ) (first j : Job) (acts : List (Act Choice EntryId))
+    (e : EntryId) (test : Bool) (values : List (Option (List ℕ))) (k : ℕ) (first j : Job) (acts : List (Act Choice EntryId))
     → (machine routines declared).begin e test values k ≡ Ok first
     → lone_run (machine routines declared) acts first ≡ Ok j → Keeps j

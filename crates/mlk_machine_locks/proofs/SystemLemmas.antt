@@ -1,5 +1,5 @@
 -- Of any machine: what is held stays apart, and each job of a run is what its own acts alone make of it.
-use Rattle.std.proofs.Common.{◌≡◌, ℕ, Bool, true, false, List, [], ◌∷◌, ◌++◌, refl, sym, ap, ◌∙◌, subst, inl, inr}
+use Rattle.std.proofs.Common.{◌≡◌, ℕ, Bool, true, false, List, [], ◌∷◌, ◌++◌, refl, sym, ap, ◌∙◌, subst, inl, inr, Option}
 use Rattle.std.specs.Prelude.{◌≢◌, ◌⊎◌, ◌==◌, ◌&&◌, not, Result, Ok, Err}
 use Rattle.std.specs.List.{list_any}
 use Rattle.std.proofs.lemmas.Bool.{cases_Bool, or_parts, and_cases, not-true, not-false, eqb-true, eqb-false, eq-eqb, ne_eqb, true≢false}
@@ -251,7 +251,7 @@ module _ {J C E : Type 0} (m : Machine J C E) (is : IsMachine m) where
         alone_other e es i (λ b. u t.0 t.1 (t.2 ∙ b)) s,
       )
 
-  whence_begun : (entry : E) (test : Bool) (values : List (List ℕ)) (k : ℕ) (new : J) (es : List (Event C E)) (jobs : List J) → m.begin entry test values k ≡ Ok new → Unused k jobs → (i : J) → Whence es (jobs ++ new ∷ []) i → Whence (record { job = k; act = Begin entry test values } ∷ es) jobs i
+  whence_begun : (entry : E) (test : Bool) (values : List (Option (List ℕ))) (k : ℕ) (new : J) (es : List (Event C E)) (jobs : List J) → m.begin entry test values k ≡ Ok new → Unused k jobs → (i : J) → Whence es (jobs ++ new ∷ []) i → Whence (record { job = k; act = Begin entry test values } ∷ es) jobs i
   unfolding Whence Was Since
   whence_begun entry test values k new es jobs h fresh i (inl (j, a, n, r)) =
       let e : Event C E = record { job = k; act = Begin entry test values } in
@@ -296,7 +296,7 @@ module _ {J C E : Type 0} (m : Machine J C E) (is : IsMachine m) where
       let c = sound_changed f k jobs mid keeps spares s h in
       record { sound = c.1; whence = λ es i w. whence_changed f (record { job = k; act = a }) es jobs mid keeps may c.0 i w }
 
-  follows_begin : (entry : E) (test : Bool) (values : List (List ℕ)) (k : ℕ) (new : J) (jobs : List J) → m.begin entry test values k ≡ Ok new → Unused k jobs → Sound jobs → Follows k (Begin entry test values) jobs (jobs ++ new ∷ [])
+  follows_begin : (entry : E) (test : Bool) (values : List (Option (List ℕ))) (k : ℕ) (new : J) (jobs : List J) → m.begin entry test values k ≡ Ok new → Unused k jobs → Sound jobs → Follows k (Begin entry test values) jobs (jobs ++ new ∷ [])
   follows_begin entry test values k new jobs h fresh s =
       let n : number m new ≡ k = is.begin_number entry test values k new h in
       record {

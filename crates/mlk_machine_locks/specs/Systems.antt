@@ -1,7 +1,7 @@
 -- Systems of jobs, whatever the language: jobs share the locks alone. What a job reads of the globals and of the world
 -- is a choice, which the event brings; so a step rests on the job, the choice, and on which names are free. This
 -- project's own: M's standard says what one process does, and what LOCK asks of the others.
-use Rattle.std.specs.Prelude.{◌≡◌, ◌⊎◌, ℕ, suc, ◌==◌, Bool, true, if◌then◌else◌, List, [], ◌∷◌, ◌++◌, Result, Ok, Err}
+use Rattle.std.specs.Prelude.{◌≡◌, ◌⊎◌, ℕ, suc, ◌==◌, Bool, true, if◌then◌else◌, List, [], ◌∷◌, ◌++◌, Option, Result, Ok, Err}
 use Rattle.mlk_names.specs.declared.lock_name.LockName.{LockName}
 use Rattle.mlk_machine_locks.specs.declared.refusal.Refusal.{Refusal}
 use Rattle.mlk_machine_locks.specs.declared.refusal.Refusal.TheVariants.{UnknownJob, NotEnabled}
@@ -10,14 +10,14 @@ use Rattle.mlk_machine_locks.specs.Waiting.{View, Holds, is_free_among, is_numbe
 -- The parts of a machine, of jobs J, choices C and entries E. What can't happen is answered by the reason.
 pub record Machine (J C E : Type 0) : Type 0 where
   pub view : J → View
-  -- a job that begins at an entry, with `$TEST`, values for the formals, and a number
-  pub begin : E → Bool → List (List ℕ) → ℕ → Result J Refusal
+  -- a job that begins at an entry, with `$TEST`, a value or none for each of the first formals, and a number
+  pub begin : E → Bool → List (Option (List ℕ)) → ℕ → Result J Refusal
   -- one step with this choice, where these names are free
   pub go : (LockName → Bool) → C → J → Result J Refusal
   pub abort : J → Result J Refusal
 
 pub data Act (C E : Type 0) : Type 0 where
-  Begin : (entry : E) (test : Bool) (values : List (List ℕ)) → Act C E
+  Begin : (entry : E) (test : Bool) (values : List (Option (List ℕ))) → Act C E
   Go : (choice : C) → Act C E
   Abort : Act C E
 
@@ -81,9 +81,9 @@ lone_run m (a ∷ acts) j = and_then (lone_run m acts) (alone m a j)
 
 -- What is asked of the parts, step by step, and of no run.
 pub record IsMachine {J C E : Type 0} (m : Machine J C E) : Type 0 where
-  pub begin_number : (e : E) (test : Bool) (values : List (List ℕ)) (k : ℕ) (j : J)
+  pub begin_number : (e : E) (test : Bool) (values : List (Option (List ℕ))) (k : ℕ) (j : J)
       → m.begin e test values k ≡ Ok j → number m j ≡ k
-  pub begin_holds : (e : E) (test : Bool) (values : List (List ℕ)) (k : ℕ) (j : J)
+  pub begin_holds : (e : E) (test : Bool) (values : List (Option (List ℕ))) (k : ℕ) (j : J)
       → m.begin e test values k ≡ Ok j → (n : LockName) → Holds (m.view j) n → ⊥
   pub go_number : (free : LockName → Bool) (c : C) (j i : J) → m.go free c j ≡ Ok i → number m i ≡ number m j
   -- what is enabled stays so where more names are free, and comes out the same
@@ -105,7 +105,7 @@ pub record IsLone {J C E : Type 0} (m : Machine J C E) (k : ℕ) (begins : Act C
     : Type 0 where
   pub entry : E
   pub test : Bool
-  pub values : List (List ℕ)
+  pub values : List (Option (List ℕ))
   pub first : J
   pub begins_so : begins ≡ Begin entry test values
   pub is_first : m.begin entry test values k ≡ Ok first

@@ -141,6 +141,7 @@ module _ (routines : List RoutineTree) (free : LockName → Bool) (c : Choice) (
   below (task.CallIf callee given) ts =
       of_condition (Below (suc (count_given given)) j.values) c j (λ t i. called_if t routines (target_of routines i.routine callee) given ts i)
       (λ t. of_call_if (suc (count_given given)) j.values routines t (target_of routines j.routine callee) given ts (dropped 1 j) (after_one (count_given given) j.values))
+  below (task.StartJob callee given) ts = takes (count_given given) _ refl
   below (RunLines lines) ts = unasked (Below 0 j.values) c _ (of_line 0 j.values lines ts j refl)
   below (FirstRound v ps rest block) ts = of_truth (Below 0 j.values) c _ (λ t. none 0 j.values _ refl)
   below (LaterRound v ps rest block) ts = of_truth (Below 0 j.values) c _ (λ t. none 0 j.values _ refl)

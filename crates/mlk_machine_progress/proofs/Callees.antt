@@ -143,14 +143,16 @@ module _ (routines : List RoutineTree) (p : IsProgram routines) where
   knows free c j (task.CallIf callee given ∷ ts) (h, f) =
       of_condition FindsAll c j (λ t i. called_if t routines (target_of routines i.routine callee) given ts i)
       (λ t. of_call_if t (target_of routines j.routine callee) given ts (dropped 1 j) f)
+  knows free c j (task.StartJob callee given ∷ ts) (h, f) = unasked FindsAll c _ (now _ f)
   knows free c j (task.Block lines ∷ ts) (h, f) = unasked FindsAll c _ (now _ (found_as_lines routines j.routine lines h, (tt, f)))
   knows free c j (RunLines lines ∷ ts) (h, f) = unasked FindsAll c _ (of_line lines ts j h f)
-  knows free c j (RunCommands commands block ∷ ts) (h, f) = unasked FindsAll c _ (now _ (next_commands routines j.routine commands block h.0 h.1 ts f))
-  knows free c j (Parameters v ps rest block ∷ ts) (h, f) = unasked FindsAll c _ (now _ ((next_parameter routines j.routine v rest block h.1 h.2 ps h.0).find ts f))
-  knows free c j (Forever rest block ∷ ts) (h, f) = unasked FindsAll c _ (now _ (h, (h, f)))
-  knows free c j (NextValue v rest block ∷ ts) (h, f) = unasked FindsAll c _ (now _ (tt, (h, (h, f))))
-  knows free c j (FirstRound v ps rest block ∷ ts) (h, f) = of_truth FindsAll c _ (λ t. now _ ((first_rounds routines j.routine v rest block h.1 h.2 ps h.0 t).find ts f))
-  knows free c j (LaterRound v ps rest block ∷ ts) (h, f) = of_truth FindsAll c _ (λ t. now _ ((later_rounds routines j.routine v rest block h.1 h.2 ps h.0 t).find ts f))
+  knows free c j (RunCommands commands here ∷ ts) (h, f) = unasked FindsAll c _ (now _ (next_commands routines j.routine commands here h.0 h.1 ts f))
+  knows free c j (task.NextArgument action done ∷ ts) (h, f) = unasked FindsAll c _ (now _ f)
+  knows free c j (Parameters v ps rest here ∷ ts) (h, f) = unasked FindsAll c _ (now _ ((next_parameter routines j.routine v rest here h.1 h.2 ps h.0).find ts f))
+  knows free c j (Forever rest here ∷ ts) (h, f) = unasked FindsAll c _ (now _ (h, (h, f)))
+  knows free c j (NextValue v rest here ∷ ts) (h, f) = unasked FindsAll c _ (now _ (tt, (h, (h, f))))
+  knows free c j (FirstRound v ps rest here ∷ ts) (h, f) = of_truth FindsAll c _ (λ t. now _ ((first_rounds routines j.routine v rest here h.1 h.2 ps h.0 t).find ts f))
+  knows free c j (LaterRound v ps rest here ∷ ts) (h, f) = of_truth FindsAll c _ (λ t. now _ ((later_rounds routines j.routine v rest here h.1 h.2 ps h.0 t).find ts f))
   knows free c j (task.QuitHere ∷ ts) (h, f) = unasked FindsAll c _ (now _ (find_quit routines j.routine ts f))
   knows free c j (task.QuitWithValue ∷ ts) (h, f) = unasked FindsAll c _ (now _ (of_answer j (to_end ts) (find_to_end routines j.routine ts f)))
   knows free c j (task.HaltJob ∷ ts) (h, f) = unasked FindsAll c _ (now _ tt)
@@ -162,7 +164,7 @@ module _ (routines : List RoutineTree) (p : IsProgram routines) where
   stops j (t ∷ ts) = now _ tt
 
   module _ (declared : EntryId → Bool) where
-    begins : (e : EntryId) (test : Bool) (values : List (List ℕ)) (k : ℕ) → Each FindsAll ((machine routines declared).begin e test values k)
+    begins : (e : EntryId) (test : Bool) (values : List (Option (List ℕ))) (k : ℕ) → Each FindsAll ((machine routines declared).begin e test values k)
     begins e test values k =
         of_if FindsAll (declared e && is_job_number k) _ _
         (of_if FindsAll (nat_lt (formals_at (lines_after routines e)) (length values)) _ _ (refused FindsAll BadChoice)

@@ -73,12 +73,12 @@ module _ (routines : List RoutineTree) where
   Finds r (task.CallIf callee given) = Reaches r callee
   Finds r (task.Block lines) = AreFoundIn r lines
   Finds r (RunLines lines) = AreFoundAt r lines
-  Finds r (RunCommands commands block) = AreFound r (in_commands commands) × AreFoundIn r block
-  Finds r (Parameters v ps rest block) = AreFound r (flat_map in_parameter ps) × AreFound r (in_commands rest) × AreFoundIn r block
-  Finds r (Forever rest block) = AreFound r (in_commands rest) × AreFoundIn r block
-  Finds r (NextValue v rest block) = AreFound r (in_commands rest) × AreFoundIn r block
-  Finds r (FirstRound v ps rest block) = AreFound r (flat_map in_parameter ps) × AreFound r (in_commands rest) × AreFoundIn r block
-  Finds r (LaterRound v ps rest block) = AreFound r (flat_map in_parameter ps) × AreFound r (in_commands rest) × AreFoundIn r block
+  Finds r (RunCommands commands here) = AreFound r (in_commands commands) × AreFoundIn r here.1
+  Finds r (Parameters v ps rest here) = AreFound r (flat_map in_parameter ps) × AreFound r (in_commands rest) × AreFoundIn r here.1
+  Finds r (Forever rest here) = AreFound r (in_commands rest) × AreFoundIn r here.1
+  Finds r (NextValue v rest here) = AreFound r (in_commands rest) × AreFoundIn r here.1
+  Finds r (FirstRound v ps rest here) = AreFound r (flat_map in_parameter ps) × AreFound r (in_commands rest) × AreFoundIn r here.1
+  Finds r (LaterRound v ps rest here) = AreFound r (flat_map in_parameter ps) × AreFound r (in_commands rest) × AreFoundIn r here.1
   Finds r t = Unit {0}
 
   -- those of tasks: behind a frame's end the routine is the caller's

@@ -1,5 +1,5 @@
 -- What a task is replaced by has the calls that the task has.
-use Rattle.std.proofs.Common.{◌≡◌, ℕ, Bool, true, false, List, [], ◌∷◌, ◌++◌, flat_map, Option, Some, None, refl, append_assoc, drop, take}
+use Rattle.std.proofs.Common.{◌≡◌, ℕ, suc, Bool, true, false, List, [], ◌∷◌, ◌++◌, flat_map, Option, Some, None, refl, append_assoc, drop, take}
 use Rattle.mlk_text.specs.declared.operator.Op.{Op}
 use Rattle.mlk_syntax.specs.declared.expr.Special.{Special}
 use Rattle.mlk_syntax.specs.declared.expr.Special.TheVariants as special
@@ -23,12 +23,12 @@ use Rattle.mlk_program.specs.Calls.{in_tree, in_trees, in_subs, in_links, in_cho
 use Rattle.mlk_program.specs.Calls.{in_kill, in_lock, in_merge, in_read, in_target, in_set, in_write, in_action, in_command, in_parameter}
 use Rattle.mlk_program.specs.Calls.{in_control, in_commands}
 use Rattle.mlk_machine_jobs.specs.Tasks as task
-use Rattle.mlk_machine_jobs.specs.Tasks.{Task, RunLines, RunCommands, Parameters, Forever, NextValue, FirstRound, LaterRound}
+use Rattle.mlk_machine_jobs.specs.Tasks.{Task, LineTree, RunLines, RunCommands, Parameters, Forever, NextValue, FirstRound, LaterRound}
 use Rattle.mlk_machine_jobs.specs.Expressions.{each_sub, each_tree, unused, read_global, read_local, operation, special_parts, of_global}
 use Rattle.mlk_machine_jobs.specs.Expressions.{function_parts, takes_name, each_actual, parts_of}
 use Rattle.mlk_machine_jobs.specs.Commands.{evaluated, evaluated_if, in_variable, given_in, do_parts, block_parts, job_parts, if_parts}
 use Rattle.mlk_machine_jobs.specs.Commands.{kill_variable, kill_parts, new_parts, lock_parts, merge_parts, store_last, in_time, read_into}
-use Rattle.mlk_machine_jobs.specs.Commands.{read_parts, target_parts, set_parts, write_parts, action_parts}
+use Rattle.mlk_machine_jobs.specs.Commands.{read_parts, target_parts, set_parts, write_parts, action_parts, in_turn}
 use Rattle.mlk_machine_jobs.specs.Assigning.{assigned, assignments, subs_of_target, parts_in, merge_source, merge_target}
 use Rattle.mlk_machine_jobs.specs.Locking.{by_sign}
 use Rattle.mlk_machine_jobs.specs.Lines.{is_end, command_parts, for_parts, parameter_parts, first_round, later_round, next_command}
@@ -178,7 +178,7 @@ module _ (routines : List RoutineTree) (r : ℕ) where
   blocks (line head block rest) h = one (task.Block (line head block rest)) refl h
 
   jobs : (c : CallTree) → Found (in_call c) → PartsFound (job_parts c)
-  jobs (Called column callee given) h = both (of_given given h.1) (one (task.Drop _) refl tt)
+  jobs (Called column callee given) h = both (of_given given h.1) (one (task.StartJob callee (given_in given)) refl tt)
 
   killed_one : (v : VariableTree) → PartsFound (kill_variable v)
   killed_one (Named column (LocalName name no_subs)) = one (task.KillNames _) refl tt
@@ -193,9 +193,20 @@ module _ (routines : List RoutineTree) (r : ℕ) where
   news (NewOne column name) = one (task.NewNames _) refl tt
   news (NewAllBut names) = one (task.NewNames _) refl tt
 
-  plainly : {A : Type 0} (f : A → List Task) → ((a : A) → PartsFound (f a)) → (xs : List A) → PartsFound (flat_map f xs)
-  plainly f p [] = none
-  plainly f p (x ∷ xs) = both (p x) (plainly f p xs)
+  next : (action : ActionTree) (done : ℕ) → PartsFound (task.NextArgument action done ∷ [])
+  next action done = one (task.NextArgument action done) refl tt
+
+  turns : {A : Type 0} (calls : A → List CallTree) (f : A → List Task) → ((a : A) → Found (calls a) → PartsFound (f a))
+      → (action : ActionTree) (done : ℕ) (xs : List A) → Found (flat_map calls xs) → PartsFound (in_turn f action done xs)
+  turns calls f p action done [] h = none
+  turns calls f p action done (x ∷ xs) h =
+      both (p x (left (calls x) (flat_map calls xs) h))
+      (both (next action (suc done)) (turns calls f p action (suc done) xs (right (calls x) (flat_map calls xs) h)))
+
+  plainly : {A : Type 0} (f : A → List Task) → ((a : A) → PartsFound (f a)) → (action : ActionTree) (done : ℕ) (xs : List A)
+      → PartsFound (in_turn f action done xs)
+  plainly f p action done [] = none
+  plainly f p action done (x ∷ xs) = both (p x) (both (next action (suc done)) (plainly f p action (suc done) xs))
 
   locks : (l : LockTree) → Found (in_lock l) → PartsFound (lock_parts l)
   locks (LockNames s names timeout) h =
@@ -250,25 +261,25 @@ module _ (routines : List RoutineTree) (r : ℕ) where
 
   pub actions : (block : LineTrees) → AreFoundIn routines r block → (a : ActionTree) → Found (in_action a) → PartsFound (action_parts block a)
   actions block b (Do []) h = blocks block b
-  actions block b (Do (c ∷ cs)) h = each in_do do_parts calls (c ∷ cs) h
+  actions block b (Do (c ∷ cs)) h = turns in_do do_parts calls (Do (c ∷ cs)) 0 (c ∷ cs) h
   actions block b Else h = one (task.SkipIf true) refl tt
   actions block b Halt h = one task.HaltJob refl tt
-  actions block b (Hang times) h = each in_tree evaluated evaluation times h
+  actions block b (Hang times) h = turns in_tree evaluated evaluation (Hang times) 0 times h
   actions block b (If []) h = one (task.SkipIf false) refl tt
-  actions block b (If (t ∷ ts)) h = each in_tree if_parts condition (t ∷ ts) h
-  actions block b (Job cs) h = each in_call job_parts jobs cs h
+  actions block b (If (t ∷ ts)) h = turns in_tree if_parts condition (If (t ∷ ts)) 0 (t ∷ ts) h
+  actions block b (Job cs) h = turns in_call job_parts jobs (Job cs) 0 cs h
   actions block b (Kill []) h = one (task.KillNames _) refl tt
-  actions block b (Kill (k ∷ ks)) h = each in_kill kill_parts kills (k ∷ ks) h
+  actions block b (Kill (k ∷ ks)) h = turns in_kill kill_parts kills (Kill (k ∷ ks)) 0 (k ∷ ks) h
   actions block b (Lock []) h = one task.ReleaseAll refl tt
-  actions block b (Lock (l ∷ ls)) h = each in_lock lock_parts locks (l ∷ ls) h
-  actions block b (Merge ms) h = each in_merge merge_parts merges ms h
+  actions block b (Lock (l ∷ ls)) h = turns in_lock lock_parts locks (Lock (l ∷ ls)) 0 (l ∷ ls) h
+  actions block b (Merge ms) h = turns in_merge merge_parts merges (Merge ms) 0 ms h
   actions block b (New []) h = one (task.NewNames _) refl tt
-  actions block b (New (n ∷ ns)) h = plainly new_parts news (n ∷ ns)
+  actions block b (New (n ∷ ns)) h = plainly new_parts news (New (n ∷ ns)) 0 (n ∷ ns)
   actions block b (Quit None) h = one task.QuitHere refl tt
   actions block b (Quit (Some t)) h = both (value t h) (one task.QuitWithValue refl tt)
-  actions block b (Read rs) h = each in_read read_parts reads rs h
-  actions block b (Set ss) h = each in_set set_parts sets ss h
-  actions block b (Write ws) h = each in_write write_parts writes ws h
+  actions block b (Read rs) h = turns in_read read_parts reads (Read rs) 0 rs h
+  actions block b (Set ss) h = turns in_set set_parts sets (Set ss) 0 ss h
+  actions block b (Write ws) h = turns in_write write_parts writes (Write ws) 0 ws h
 
   command : (block : LineTrees) → AreFoundIn routines r block → (c : CommandTree) → Found (in_command c) → PartsFound (command_parts block c)
   command block b (Does column None action) h = actions block b action h
@@ -276,46 +287,46 @@ module _ (routines : List RoutineTree) (r : ℕ) where
       both (value t (left (in_tree t) (in_action action) h)) (one (task.Conditionally action block) refl (right (in_tree t) (in_action action) h, b))
 
   -- Commands in a row, and rounds.
-  for_one : (control : Option ControlTree) (rest : CommandTrees) (block : LineTrees) → Found (in_control control) → Found (in_commands rest) → AreFoundIn routines r block
-      → PartsFound (for_parts control rest block ∷ [])
-  for_one None rest block h k b = one (Forever rest block) refl (k, b)
-  for_one (Some (Runs column v ps)) rest block h k b = one (Parameters v ps rest block) refl (h, k, b)
+  for_one : (control : Option ControlTree) (rest : CommandTrees) (here : LineTree) → Found (in_control control) → Found (in_commands rest) → AreFoundIn routines r here.1
+      → PartsFound (for_parts control rest here ∷ [])
+  for_one None rest here h k b = one (Forever rest here) refl (k, b)
+  for_one (Some (Runs column v ps)) rest here h k b = one (Parameters v ps rest here) refl (h, k, b)
 
-  pub next_commands : (commands : CommandTrees) (block : LineTrees) → Found (in_commands commands) → AreFoundIn routines r block → (ts : List Task)
-      → AllFind routines r ts → AllFind routines r (next_command commands block ts)
-  next_commands finished block h b ts f = f
-  next_commands (then_command first rest) block h b ts f =
-      (command block b first (left (in_command first) (in_commands rest) h)).find (RunCommands rest block ∷ ts) ((right (in_command first) (in_commands rest) h, b), f)
-  next_commands (then_for column index control rest) block h b ts f =
-      (for_one control rest block (left (in_control control) (in_commands rest) h) (right (in_control control) (in_commands rest) h) b).find ts f
+  pub next_commands : (commands : CommandTrees) (here : LineTree) → Found (in_commands commands) → AreFoundIn routines r here.1 → (ts : List Task)
+      → AllFind routines r ts → AllFind routines r (next_command commands here ts)
+  next_commands finished here h b ts f = f
+  next_commands (then_command first rest) here h b ts f =
+      (command here.1 b first (left (in_command first) (in_commands rest) h)).find (RunCommands rest here ∷ ts) ((right (in_command first) (in_commands rest) h, b), f)
+  next_commands (then_for column index control rest) here h b ts f =
+      (for_one control rest here (left (in_control control) (in_commands rest) h) (right (in_control control) (in_commands rest) h) b).find ts f
 
-  module _ (v : List ℕ) (rest : CommandTrees) (block : LineTrees) (k : Found (in_commands rest)) (b : AreFoundIn routines r block) where
-    run : PartsFound (RunCommands rest block ∷ [])
-    run = one (RunCommands rest block) refl (k, b)
+  module _ (v : List ℕ) (rest : CommandTrees) (here : LineTree) (k : Found (in_commands rest)) (b : AreFoundIn routines r here.1) where
+    run : PartsFound (RunCommands rest here ∷ [])
+    run = one (RunCommands rest here) refl (k, b)
 
-    pub next_parameter : (ps : List ParameterTree) → Found (flat_map in_parameter ps) → PartsFound (parameter_parts v ps rest block)
+    pub next_parameter : (ps : List ParameterTree) → Found (flat_map in_parameter ps) → PartsFound (parameter_parts v ps rest here)
     next_parameter [] h = none
     next_parameter (Once t ∷ ps) h =
         both (value t (left (in_tree t) (flat_map in_parameter ps) h)) (both (one (task.StoreLast v) refl tt)
-        (both run (one (Parameters v ps rest block) refl (right (in_tree t) (flat_map in_parameter ps) h, k, b))))
+        (both run (one (Parameters v ps rest here) refl (right (in_tree t) (flat_map in_parameter ps) h, k, b))))
     next_parameter (Endless start step ∷ ps) h =
         let these : Found (in_tree start ++ in_tree step) = left (in_tree start ++ in_tree step) (flat_map in_parameter ps) h in
         both (value start (left (in_tree start) (in_tree step) these)) (both (value step (right (in_tree start) (in_tree step) these))
-        (both (one (task.Drop 1) refl tt) (both (one (task.StoreLast v) refl tt) (both run (one (NextValue v rest block) refl (k, b))))))
+        (both (one (task.Drop 1) refl tt) (both (one (task.StoreLast v) refl tt) (both run (one (NextValue v rest here) refl (k, b))))))
     next_parameter (Limited start step limit ∷ ps) h =
         let these : Found (in_tree start ++ (in_tree step ++ in_tree limit)) = left (in_tree start ++ (in_tree step ++ in_tree limit)) (flat_map in_parameter ps) h in
         let more : Found (in_tree step ++ in_tree limit) = right (in_tree start) (in_tree step ++ in_tree limit) these in
         both (value start (left (in_tree start) (in_tree step ++ in_tree limit) these)) (both (value step (left (in_tree step) (in_tree limit) more))
         (both (value limit (right (in_tree step) (in_tree limit) more)) (both (one (task.Drop 2) refl tt) (both (one (task.StoreLast v) refl tt)
-        (one (FirstRound v ps rest block) refl (right (in_tree start ++ (in_tree step ++ in_tree limit)) (flat_map in_parameter ps) h, k, b))))))
+        (one (FirstRound v ps rest here) refl (right (in_tree start ++ (in_tree step ++ in_tree limit)) (flat_map in_parameter ps) h, k, b))))))
 
-    pub first_rounds : (ps : List ParameterTree) → Found (flat_map in_parameter ps) → (t : Bool) → PartsFound (first_round v ps rest block t)
-    first_rounds ps h true = both run (one (LaterRound v ps rest block) refl (h, k, b))
-    first_rounds ps h false = one (Parameters v ps rest block) refl (h, k, b)
+    pub first_rounds : (ps : List ParameterTree) → Found (flat_map in_parameter ps) → (t : Bool) → PartsFound (first_round v ps rest here t)
+    first_rounds ps h true = both run (one (LaterRound v ps rest here) refl (h, k, b))
+    first_rounds ps h false = one (Parameters v ps rest here) refl (h, k, b)
 
-    pub later_rounds : (ps : List ParameterTree) → Found (flat_map in_parameter ps) → (t : Bool) → PartsFound (later_round v ps rest block t)
-    later_rounds ps h true = both (one (task.StoreAny v) refl tt) (both run (one (LaterRound v ps rest block) refl (h, k, b)))
-    later_rounds ps h false = one (Parameters v ps rest block) refl (h, k, b)
+    pub later_rounds : (ps : List ParameterTree) → Found (flat_map in_parameter ps) → (t : Bool) → PartsFound (later_round v ps rest here t)
+    later_rounds ps h true = both (one (task.StoreAny v) refl tt) (both run (one (LaterRound v ps rest here) refl (h, k, b)))
+    later_rounds ps h false = one (Parameters v ps rest here) refl (h, k, b)
 
   -- Assignments, locks.
   of_target : (v : List ℕ) (ss : List (List ℕ)) (t : TargetTree) → PartsFound (assigned v ss t)

@@ -142,11 +142,13 @@ module _ (routines : List RoutineTree) where
   goes free j (task.CallIf callee given ∷ ts) s f h =
       by_condition j (λ t i. called_if t routines (target_of routines i.routine callee) given ts i) (omega (arith, s.1))
       (λ t. calls_if t j.routine callee f.0 given ts (dropped 1 j))
+  goes free j (task.StartJob callee given ∷ ts) s f h = makes _
   goes free j (task.Block lines ∷ ts) s f h = makes _
   goes free j (RunLines [] ∷ ts) s f h = makes _
   goes free j (RunLines ((LineHead n level end label None commands, block) ∷ lines) ∷ ts) s f h = makes _
   goes free j (RunLines ((LineHead n level end label (Some formals) commands, block) ∷ lines) ∷ ts) s f h = cc
   goes free j (RunCommands commands block ∷ ts) s f h = makes _
+  goes free j (task.NextArgument action done ∷ ts) s f h = makes _
   goes free j (Parameters v ps rest block ∷ ts) s f h = makes _
   goes free j (Forever rest block ∷ ts) s f h = makes _
   goes free j (NextValue v rest block ∷ ts) s f h = makes _

@@ -75,6 +75,6 @@ module _ (P : Job → Type 0) where
         on (Err why) e rest = let z : Err why ≡ Ok i = rw e at s in cc
         on (Ok k) e rest = rest k i (acts_keep x j k h e) (rw e at s)
 
-    pub each_moment : ((e : EntryId) (test : Bool) (values : List (List ℕ)) (k : ℕ) → Each ((machine routines declared).begin e test values k))
+    pub each_moment : ((e : EntryId) (test : Bool) (values : List (Option (List ℕ))) (k : ℕ) → Each ((machine routines declared).begin e test values k))
         → AtEachMoment routines declared P
     each_moment begins e test values k first j acts b r = run_keeps acts first j (begins e test values k first b) r

@@ -23,8 +23,8 @@ use Rattle.mlk_machine_jobs.specs.Expressions.{each_sub, each_tree, count_trees,
 use Rattle.mlk_machine_jobs.specs.Expressions.{operation, special_parts, of_global, function_parts, takes_name, each_actual, parts_of}
 use Rattle.mlk_machine_jobs.specs.Commands.{evaluated, evaluated_if, subs_in, in_variable, count_in, given_in, do_parts, block_parts, job_parts}
 use Rattle.mlk_machine_jobs.specs.Commands.{kill_variable, kill_parts, new_parts, lock_parts, merge_parts, store_last, in_time, read_into}
-use Rattle.mlk_machine_jobs.specs.Commands.{read_parts, target_parts, set_parts, write_parts}
-use Rattle.mlk_syntax.specs.Trees.{LineTrees, no_lines, line}
+use Rattle.mlk_machine_jobs.specs.Commands.{read_parts, target_parts, set_parts, write_parts, in_turn}
+use Rattle.mlk_syntax.specs.Trees.{ActionTree, LineTrees, no_lines, line}
 use Rattle.mlk_machine_jobs.specs.Assigning.{assigned, assignments, subs_of_target, parts_in, count_parts, merge_source, merge_target}
 use Rattle.mlk_machine_jobs.specs.Locking.{by_sign, count_all}
 use Rattle.mlk_machine_jobs.specs.Calling.{count_given}
@@ -33,6 +33,11 @@ use Rattle.mlk_machine_progress.proofs.Effects.{HasEffect, none, one, both, coun
 pub each : {A : Type 0} (f : A → List Task) → ((a : A) → HasEffect 0 0 (f a)) → (xs : List A) → HasEffect 0 0 (flat_map f xs)
 each f p [] = none
 each f p (x ∷ xs) = both (p x) (each f p xs)
+
+pub turns : {A : Type 0} (f : A → List Task) → ((a : A) → HasEffect 0 0 (f a)) → (action : ActionTree) (done : ℕ) (xs : List A)
+    → HasEffect 0 0 (in_turn f action done xs)
+turns f p action done [] = none
+turns f p action done (x ∷ xs) = both (p x) (both (one (task.NextArgument action (suc done)) 0 refl refl refl) (turns f p action (suc done) xs))
 
 pub value : (t : Tree) (k : ℕ) → HasEffect k (k + 1) (task.Evaluate t ∷ [])
 value t k = one _ k refl (omega arith) refl
@@ -142,14 +147,8 @@ pub blocks : (lines : LineTrees) → HasEffect 0 0 (block_parts lines)
 blocks no_lines = none
 blocks (line head block rest) = one _ 0 refl refl refl
 
-count_actuals : (given : List ActualTree) → length (each_actual given) ≡ count_given given
-count_actuals [] = refl
-count_actuals (Given t ∷ given) = ap (λ n. suc n) (count_actuals given)
-count_actuals (ByRef column name ∷ given) = count_actuals given
-count_actuals (Missing ∷ given) = count_actuals given
-
 pub jobs : (c : CallTree) → HasEffect 0 0 (job_parts c)
-jobs (Called column callee given) = both (actuals (given_in given) 0) (one (task.Drop (length (each_actual (given_in given)))) 0 refl (omega (arith, count_actuals (given_in given))) refl)
+jobs (Called column callee given) = both (actuals (given_in given) 0) (one _ 0 refl refl refl)
 
 unnamed : (v : VariableTree) → HasEffect (count_in v) 0 (task.Drop (count_in v) ∷ [])
 unnamed v = one _ 0 refl (omega arith) refl

@@ -1,5 +1,5 @@
 -- Commands, lines and rounds need what is needed behind them, and so does what is left when they are skipped or quit.
-use Rattle.std.proofs.Common.{◌≡◌, ◌∙◌, ℕ, ◌+◌, Bool, true, false, List, [], ◌∷◌, ◌++◌, flat_map, Option, Some, None, refl, sym, ap, arith, append_assoc}
+use Rattle.std.proofs.Common.{◌≡◌, ◌∙◌, ℕ, suc, ◌+◌, Bool, true, false, List, [], ◌∷◌, ◌++◌, Option, Some, None, refl, sym, ap, arith, append_assoc}
 use Rattle.std.specs.Prelude.{if◌then◌else◌}
 use Rattle.mlk_syntax.specs.ExprTrees.{Tree}
 use Rattle.mlk_syntax.specs.Trees.{ActionTree, Do, Else, Halt, Hang, If, Job, Kill, Lock, Merge, New, Quit, Read, Set, Write, LineTrees}
@@ -8,11 +8,11 @@ use Rattle.mlk_machine_jobs.specs.Bindings.{AllBut}
 use Rattle.mlk_machine_jobs.specs.Tasks as task
 use Rattle.mlk_machine_jobs.specs.Tasks.{Task, LineTree, RunLines, RunCommands, Parameters, Forever, NextValue, FirstRound, LaterRound, EndBlock, EndFrame}
 use Rattle.mlk_machine_jobs.specs.Commands.{evaluated, do_parts, if_parts, job_parts, kill_parts, new_parts, lock_parts, merge_parts, read_parts}
-use Rattle.mlk_machine_jobs.specs.Commands.{set_parts, write_parts, action_parts}
+use Rattle.mlk_machine_jobs.specs.Commands.{set_parts, write_parts, action_parts, in_turn}
 use Rattle.mlk_machine_jobs.specs.Lines.{is_end, skipped, to_end, quit, tasks_if, command_parts, for_parts, parameter_parts, first_round, later_round, next_command}
 use Rattle.mlk_machine_progress.specs.Progress.{uses, leaves}
 use Rattle.mlk_machine_progress.proofs.Effects.{needs, IsRest, Fits, fits_from, quit_needs, fits_quit, HasEffect, none, one, both}
-use Rattle.mlk_machine_progress.proofs.Parts.{each, value, evaluation, calls, blocks, jobs, kills, news, locks, merges, reads, sets, writes}
+use Rattle.mlk_machine_progress.proofs.Parts.{turns, value, evaluation, calls, blocks, jobs, kills, news, locks, merges, reads, sets, writes}
 
 -- so many values are enough
 abbrev pub Suits : ℕ → List Task → Type 0
@@ -46,72 +46,77 @@ pub put : (n : ℕ) (t : Task) (ts : List Task) → uses t ≡ 0 → leaves t �
 put n t ts u l r (f, e) = ((omega (arith, l), (λ z. r), f), omega (arith, u, l, e))
 
 -- IF with several conditions
-skip_ifs : (cs : List Tree) (ts : List Task) → skipped (flat_map if_parts cs ++ ts) ≡ skipped ts
-skip_ifs [] ts = refl
-skip_ifs (c ∷ cs) ts = skip_ifs cs ts
+skip_ifs : (action : ActionTree) (done : ℕ) (cs : List Tree) (ts : List Task) → skipped (in_turn if_parts action done cs ++ ts) ≡ skipped ts
+skip_ifs action done [] ts = refl
+skip_ifs action done (c ∷ cs) ts = skip_ifs action (suc done) cs ts
 
-end_ifs : (cs : List Tree) (ts : List Task) → to_end (flat_map if_parts cs ++ ts) ≡ to_end ts
-end_ifs [] ts = refl
-end_ifs (c ∷ cs) ts = end_ifs cs ts
+end_ifs : (action : ActionTree) (done : ℕ) (cs : List Tree) (ts : List Task) → to_end (in_turn if_parts action done cs ++ ts) ≡ to_end ts
+end_ifs action done [] ts = refl
+end_ifs action done (c ∷ cs) ts = end_ifs action (suc done) cs ts
 
 condition : (t : Tree) → Keeps (if_parts t)
 condition t = behind (both (value t 0) (one task.SetTest 0 refl refl refl)) (task.SkipIf false) refl refl
 
-ifs : (cs : List Tree) → Keeps (flat_map if_parts cs)
-ifs [] n ts r s = s
-ifs (c ∷ cs) n ts r s =
-    let t : Suits n (flat_map if_parts cs ++ ts) = ifs cs n ts r s in
-    condition c n (flat_map if_parts cs ++ ts)
-    (record { skips = ap needs (skip_ifs cs ts) ∙ r.skips ∙ s.1 ∙ sym t.1; ends = ap needs (end_ifs cs ts) ∙ r.ends ∙ s.1 ∙ sym t.1 }) t
+ifs : (action : ActionTree) (done : ℕ) (cs : List Tree) → Keeps (in_turn if_parts action done cs)
+ifs action done [] n ts r s = s
+ifs action done (c ∷ cs) n ts r s =
+    let more : List Task = in_turn if_parts action (suc done) cs ++ ts in
+    let next : Task = task.NextArgument action (suc done) in
+    let t : Suits n more = ifs action (suc done) cs n ts r s in
+    let rest : IsRest more = record {
+      skips = ap needs (skip_ifs action (suc done) cs ts) ∙ r.skips ∙ s.1 ∙ sym t.1;
+      ends = ap needs (end_ifs action (suc done) cs ts) ∙ r.ends ∙ s.1 ∙ sym t.1;
+    } in
+    condition c n (next ∷ more) (before next more refl refl refl refl rest) (put n next more refl refl rest t)
 
 pub actions : (block : LineTrees) (a : ActionTree) → Keeps (action_parts block a)
 actions block (Do []) = plainly (blocks block)
-actions block (Do (c ∷ cs)) = plainly (each do_parts calls (c ∷ cs))
+actions block (Do (c ∷ cs)) = plainly (turns do_parts calls (Do (c ∷ cs)) 0 (c ∷ cs))
 actions block Else = behind none (task.SkipIf true) refl refl
 actions block Halt = plainly (one task.HaltJob 0 refl refl refl)
-actions block (Hang times) = plainly (each evaluated (λ t. evaluation t 0) times)
+actions block (Hang times) = plainly (turns evaluated (λ t. evaluation t 0) (Hang times) 0 times)
 actions block (If []) = behind none (task.SkipIf false) refl refl
-actions block (If (t ∷ conditions)) = ifs (t ∷ conditions)
-actions block (Job cs) = plainly (each job_parts jobs cs)
+actions block (If (t ∷ conditions)) = ifs (If (t ∷ conditions)) 0 (t ∷ conditions)
+actions block (Job cs) = plainly (turns job_parts jobs (Job cs) 0 cs)
 actions block (Kill []) = plainly (one (task.KillNames (AllBut [])) 0 refl refl refl)
-actions block (Kill (k ∷ ks)) = plainly (each kill_parts kills (k ∷ ks))
+actions block (Kill (k ∷ ks)) = plainly (turns kill_parts kills (Kill (k ∷ ks)) 0 (k ∷ ks))
 actions block (Lock []) = plainly (one task.ReleaseAll 0 refl refl refl)
-actions block (Lock (l ∷ ls)) = plainly (each lock_parts locks (l ∷ ls))
-actions block (Merge ms) = plainly (each merge_parts merges ms)
+actions block (Lock (l ∷ ls)) = plainly (turns lock_parts locks (Lock (l ∷ ls)) 0 (l ∷ ls))
+actions block (Merge ms) = plainly (turns merge_parts merges (Merge ms) 0 ms)
 actions block (New []) = plainly (one (task.NewNames (AllBut [])) 0 refl refl refl)
-actions block (New (n ∷ ns)) = plainly (each new_parts news (n ∷ ns))
+actions block (New (n ∷ ns)) = plainly (turns new_parts news (New (n ∷ ns)) 0 (n ∷ ns))
 actions block (Quit None) = behind none task.QuitHere refl refl
 actions block (Quit (Some t)) = behind (value t 0) task.QuitWithValue refl refl
-actions block (Read rs) = plainly (each read_parts reads rs)
-actions block (Set ss) = plainly (each set_parts sets ss)
-actions block (Write ws) = plainly (each write_parts writes ws)
+actions block (Read rs) = plainly (turns read_parts reads (Read rs) 0 rs)
+actions block (Set ss) = plainly (turns set_parts sets (Set ss) 0 ss)
+actions block (Write ws) = plainly (turns write_parts writes (Write ws) 0 ws)
 
 command : (block : LineTrees) (c : CommandTree) → Keeps (command_parts block c)
 command block (Does column None action) = actions block action
 command block (Does column (Some t) action) = behind (value t 0) (task.Conditionally action block) refl refl
 
 -- Commands in a row, and rounds.
-pub running : (n : ℕ) (commands : CommandTrees) (block : LineTrees) (ts : List Task) → IsRest ts → Suits n ts → Suits n (RunCommands commands block ∷ ts)
-running n commands block ts r s = put n (RunCommands commands block) ts refl refl r s
+pub running : (n : ℕ) (commands : CommandTrees) (here : LineTree) (ts : List Task) → IsRest ts → Suits n ts → Suits n (RunCommands commands here ∷ ts)
+running n commands here ts r s = put n (RunCommands commands here) ts refl refl r s
 
-running_rest : (commands : CommandTrees) (block : LineTrees) (ts : List Task) → IsRest ts → IsRest (RunCommands commands block ∷ ts)
-running_rest commands block ts r = before (RunCommands commands block) ts refl refl refl refl r
+running_rest : (commands : CommandTrees) (here : LineTree) (ts : List Task) → IsRest ts → IsRest (RunCommands commands here ∷ ts)
+running_rest commands here ts r = before (RunCommands commands here) ts refl refl refl refl r
 
-for_one : (n : ℕ) (control : Option ControlTree) (rest : CommandTrees) (block : LineTrees) (ts : List Task) → IsRest ts → Suits n ts
-    → Suits n (for_parts control rest block ∷ ts)
-for_one n None rest block ts r s = put n (Forever rest block) ts refl refl r s
-for_one n (Some (Runs column v ps)) rest block ts r s = put n (Parameters v ps rest block) ts refl refl r s
+for_one : (n : ℕ) (control : Option ControlTree) (rest : CommandTrees) (here : LineTree) (ts : List Task) → IsRest ts → Suits n ts
+    → Suits n (for_parts control rest here ∷ ts)
+for_one n None rest here ts r s = put n (Forever rest here) ts refl refl r s
+for_one n (Some (Runs column v ps)) rest here ts r s = put n (Parameters v ps rest here) ts refl refl r s
 
-pub next_commands : (n : ℕ) (commands : CommandTrees) (block : LineTrees) (ts : List Task) → IsRest ts → Suits n ts → Suits n (next_command commands block ts)
-next_commands n finished block ts r s = s
-next_commands n (then_command first rest) block ts r s =
-    command block first n (RunCommands rest block ∷ ts) (running_rest rest block ts r) (running n rest block ts r s)
-next_commands n (then_for column index control rest) block ts r s = for_one n control rest block ts r s
+pub next_commands : (n : ℕ) (commands : CommandTrees) (here : LineTree) (ts : List Task) → IsRest ts → Suits n ts → Suits n (next_command commands here ts)
+next_commands n finished here ts r s = s
+next_commands n (then_command first rest) here ts r s =
+    command here.1 first n (RunCommands rest here ∷ ts) (running_rest rest here ts r) (running n rest here ts r s)
+next_commands n (then_for column index control rest) here ts r s = for_one n control rest here ts r s
 
 -- a round, and then a task of FOR
-pub a_round : (n : ℕ) (commands : CommandTrees) (block : LineTrees) (t : Task) (ts : List Task) → uses t ≡ 0 → leaves t ≡ 0 → skipped (t ∷ ts) ≡ t ∷ ts
-    → to_end (t ∷ ts) ≡ to_end ts → IsRest ts → Suits n ts → Suits n (RunCommands commands block ∷ t ∷ ts)
-a_round n commands block t ts u l s e r h = running n commands block (t ∷ ts) (at_round t ts u l s e r) (put n t ts u l r h)
+pub a_round : (n : ℕ) (commands : CommandTrees) (here : LineTree) (t : Task) (ts : List Task) → uses t ≡ 0 → leaves t ≡ 0 → skipped (t ∷ ts) ≡ t ∷ ts
+    → to_end (t ∷ ts) ≡ to_end ts → IsRest ts → Suits n ts → Suits n (RunCommands commands here ∷ t ∷ ts)
+a_round n commands here t ts u l s e r h = running n commands here (t ∷ ts) (at_round t ts u l s e r) (put n t ts u l r h)
 
 pub stores_then : {xs : List Task} → HasEffect 0 0 xs → (n : ℕ) (ts : List Task) → Suits n ts → Suits n (xs ++ ts)
 stores_then p n ts (f, e) = turned p n n ts f (omega (arith, e)) (omega arith)
@@ -127,27 +132,27 @@ start_step_limit : (start step limit : Tree) (v : List ℕ)
 start_step_limit start step limit v =
     both (value start 0) (both (value step 1) (both (value limit 2) (both (one (task.Drop 2) 1 refl refl refl) (one _ 0 refl refl refl))))
 
-pub next_parameter : (n : ℕ) (v : List ℕ) (ps : List ParameterTree) (rest : CommandTrees) (block : LineTrees) (ts : List Task) → IsRest ts → Suits n ts
-    → Suits n (parameter_parts v ps rest block ++ ts)
-next_parameter n v [] rest block ts r s = s
-next_parameter n v (Once t ∷ ps) rest block ts r s =
-    stores_then (storing t v) n (RunCommands rest block ∷ Parameters v ps rest block ∷ ts) (a_round n rest block (Parameters v ps rest block) ts refl refl refl refl r s)
-next_parameter n v (Endless start step ∷ ps) rest block ts r s =
-    stores_then (start_step start step v) n (RunCommands rest block ∷ NextValue v rest block ∷ ts) (a_round n rest block (NextValue v rest block) ts refl refl refl refl r s)
-next_parameter n v (Limited start step limit ∷ ps) rest block ts r s =
-    stores_then (start_step_limit start step limit v) n (FirstRound v ps rest block ∷ ts) (put n (FirstRound v ps rest block) ts refl refl r s)
+pub next_parameter : (n : ℕ) (v : List ℕ) (ps : List ParameterTree) (rest : CommandTrees) (here : LineTree) (ts : List Task) → IsRest ts → Suits n ts
+    → Suits n (parameter_parts v ps rest here ++ ts)
+next_parameter n v [] rest here ts r s = s
+next_parameter n v (Once t ∷ ps) rest here ts r s =
+    stores_then (storing t v) n (RunCommands rest here ∷ Parameters v ps rest here ∷ ts) (a_round n rest here (Parameters v ps rest here) ts refl refl refl refl r s)
+next_parameter n v (Endless start step ∷ ps) rest here ts r s =
+    stores_then (start_step start step v) n (RunCommands rest here ∷ NextValue v rest here ∷ ts) (a_round n rest here (NextValue v rest here) ts refl refl refl refl r s)
+next_parameter n v (Limited start step limit ∷ ps) rest here ts r s =
+    stores_then (start_step_limit start step limit v) n (FirstRound v ps rest here ∷ ts) (put n (FirstRound v ps rest here) ts refl refl r s)
 
-pub first_rounds : (n : ℕ) (v : List ℕ) (ps : List ParameterTree) (rest : CommandTrees) (block : LineTrees) (b : Bool) (ts : List Task) → IsRest ts → Suits n ts
-    → Suits n (first_round v ps rest block b ++ ts)
-first_rounds n v ps rest block true ts r s = a_round n rest block (LaterRound v ps rest block) ts refl refl refl refl r s
-first_rounds n v ps rest block false ts r s = put n (Parameters v ps rest block) ts refl refl r s
+pub first_rounds : (n : ℕ) (v : List ℕ) (ps : List ParameterTree) (rest : CommandTrees) (here : LineTree) (b : Bool) (ts : List Task) → IsRest ts → Suits n ts
+    → Suits n (first_round v ps rest here b ++ ts)
+first_rounds n v ps rest here true ts r s = a_round n rest here (LaterRound v ps rest here) ts refl refl refl refl r s
+first_rounds n v ps rest here false ts r s = put n (Parameters v ps rest here) ts refl refl r s
 
-pub later_rounds : (n : ℕ) (v : List ℕ) (ps : List ParameterTree) (rest : CommandTrees) (block : LineTrees) (b : Bool) (ts : List Task) → IsRest ts → Suits n ts
-    → Suits n (later_round v ps rest block b ++ ts)
-later_rounds n v ps rest block true ts r s =
-    stores_then (one (task.StoreAny v) 0 refl refl refl) n (RunCommands rest block ∷ LaterRound v ps rest block ∷ ts)
-    (a_round n rest block (LaterRound v ps rest block) ts refl refl refl refl r s)
-later_rounds n v ps rest block false ts r s = put n (Parameters v ps rest block) ts refl refl r s
+pub later_rounds : (n : ℕ) (v : List ℕ) (ps : List ParameterTree) (rest : CommandTrees) (here : LineTree) (b : Bool) (ts : List Task) → IsRest ts → Suits n ts
+    → Suits n (later_round v ps rest here b ++ ts)
+later_rounds n v ps rest here true ts r s =
+    stores_then (one (task.StoreAny v) 0 refl refl refl) n (RunCommands rest here ∷ LaterRound v ps rest here ∷ ts)
+    (a_round n rest here (LaterRound v ps rest here) ts refl refl refl refl r s)
+later_rounds n v ps rest here false ts r s = put n (Parameters v ps rest here) ts refl refl r s
 
 -- what is skipped or quit
 pub skip_if : (n : ℕ) (b : Bool) (ts : List Task) → IsRest ts → Suits n ts → Suits n (if b then skipped ts else ts)

@@ -25,7 +25,7 @@ use Rattle.mlk_machine_jobs.specs.Locking.{count_all, tested, claim_step, timed_
 use Rattle.mlk_machine_jobs.specs.Lines.{is_end, to_end, selected, chosen, next_line, tasks_if, answered}
 use Rattle.mlk_machine_jobs.specs.Calling.{count_given, commands_in, entered, called, called_if, call_frame, frame_end, lines_after}
 use Rattle.mlk_machine_jobs.specs.Advance.{advance}
-use Rattle.mlk_machine_jobs.specs.Runs.{machine, is_job_number, blank, by_value, formals_at, aborted}
+use Rattle.mlk_machine_jobs.specs.Runs.{machine, is_job_number, blank, present, by_value, formals_at, aborted}
 use Rattle.mlk_machine_progress.specs.Progress.{given_by, value_of, AreEnough}
 use Rattle.mlk_machine_progress.specs.Laws.{ValuesSuffice}
 use Rattle.mlk_machine_progress.proofs.Effects.{needs, IsRest, Fits, fits_from, enough, one}
@@ -66,7 +66,7 @@ of_touch c Writes j ts f e = unasked Suited c _ (now _ (f, omega (arith, e)))
 of_line : (lines : List LineTree) (ts : List Task) (j : Job) → IsRest ts → Suits (length j.values) ts → Each Suited (next_line lines ts j)
 of_line [] ts j r s = now _ s
 of_line ((LineHead n level end label None commands, block) ∷ lines) ts j r s =
-    now _ (running (length j.values) commands block (RunLines lines ∷ ts) (lines_rest lines ts r) (put (length j.values) (RunLines lines) ts refl refl r s))
+    now _ (running (length j.values) commands (LineHead n level end label None commands, block) (RunLines lines ∷ ts) (lines_rest lines ts r) (put (length j.values) (RunLines lines) ts refl refl r s))
 of_line ((LineHead n level end label (Some formals) commands, block) ∷ lines) ts j r s = refused Suited NotEnabled
 
 of_grant : (b : Bool) (k : Job) → Suits (length k.values) k.tasks → Each Suited (if_free b k)
@@ -88,8 +88,8 @@ of_entered : (frame : Frame) (r : ℕ) (given : List ActualTree) (lines : List L
 of_entered frame r given [] ts j n s e = refused Suited NotEnabled
 of_entered frame r given ((head, block) ∷ lines) ts j n s e =
     let end : Task = EndFrame frame j.bindings j.next j.routine in
-    now _ (subst (λ m. Suits m (RunCommands (commands_in head) block ∷ RunLines lines ∷ end ∷ ts)) (sym (counted_down (count_given given) n j.values e))
-    (running n (commands_in head) block (RunLines lines ∷ end ∷ ts) (lines_rest lines (end ∷ ts) (at_end end ts refl refl))
+    now _ (subst (λ m. Suits m (RunCommands (commands_in head) (head, block) ∷ RunLines lines ∷ end ∷ ts)) (sym (counted_down (count_given given) n j.values e))
+    (running n (commands_in head) (head, block) (RunLines lines ∷ end ∷ ts) (lines_rest lines (end ∷ ts) (at_end end ts refl refl))
     (lines_before n lines end ts refl (s j.bindings j.next j.routine))))
 
 of_call : (routines : List RoutineTree) (frame : Frame) (o : Option EntryId) (given : List ActualTree) (ts : List Task) (j : Job) (n : ℕ)
@@ -172,12 +172,14 @@ goes routines free c j (task.Call extrinsic callee given ∷ ts) ((b, r, f), e) 
 goes routines free c j (task.CallIf callee given ∷ ts) ((b, r, f), e) =
     of_condition Suited c j (λ t i. called_if t routines (target_of routines i.routine callee) given ts i)
     (λ t. of_call_if routines t (target_of routines j.routine callee) given ts (dropped 1 j) f (omega (arith, e, length-drop 1 j.values)))
+goes routines free c j (task.StartJob callee given ∷ ts) ((b, r, f), e) = unasked Suited c _ (now _ (f, omega (arith, e, length-drop (count_given given) j.values)))
 goes routines free c j (task.Block lines ∷ ts) ((b, r, f), e) =
     unasked Suited c _ (now _ (lines_before (length j.values) (as_lines lines) (EndBlock j.bindings j.next j.test) ts refl
     ((omega arith, (λ z. cc), f), omega (arith, e))))
 goes routines free c j (RunLines lines ∷ ts) ((b, r, f), e) = unasked Suited c _ (of_line lines ts j (r refl) (f, omega (arith, e)))
 goes routines free c j (RunCommands commands block ∷ ts) ((b, r, f), e) =
     unasked Suited c _ (now _ (next_commands (length j.values) commands block ts (r refl) (f, omega (arith, e))))
+goes routines free c j (task.NextArgument action done ∷ ts) ((b, r, f), e) = unasked Suited c _ (now _ (f, omega (arith, e)))
 goes routines free c j (Parameters v ps rest block ∷ ts) ((b, r, f), e) =
     unasked Suited c _ (now _ (next_parameter (length j.values) v ps rest block ts (r refl) (f, omega (arith, e))))
 goes routines free c j (Forever rest block ∷ ts) ((b, r, f), e) =
@@ -200,17 +202,18 @@ stops : (j : Job) (ts : List Task) → Each Suited (aborted j ts)
 stops j [] = refused Suited NotEnabled
 stops j (t ∷ ts) = halted _ refl
 
-count_values : (values : List (List ℕ)) → count_given (by_value values) ≡ length values
+count_values : (values : List (Option (List ℕ))) → count_given (by_value values) ≡ length (present values)
 count_values [] = refl
-count_values (v ∷ values) = ap (λ n. suc n) (count_values values)
+count_values (None ∷ values) = count_values values
+count_values (Some v ∷ values) = ap (λ n. suc n) (count_values values)
 
 module _ (routines : List RoutineTree) (declared : EntryId → Bool) where
-  begins : (e : EntryId) (test : Bool) (values : List (List ℕ)) (k : ℕ) → Each Suited ((machine routines declared).begin e test values k)
+  begins : (e : EntryId) (test : Bool) (values : List (Option (List ℕ))) (k : ℕ) → Each Suited ((machine routines declared).begin e test values k)
   begins e test values k =
       of_if Suited (declared e && is_job_number k) _ _
       (of_if Suited (nat_lt (formals_at (lines_after routines e)) (length values)) _ _ (refused Suited BadChoice)
       (of_entered NoValue e.routine (by_value values) (lines_after routines e) [] (blank k test values) 0
-      (λ back next routine. ((omega arith, (λ z. cc), tt), refl)) (omega (arith, length-reverse values, count_values values))))
+      (λ back next routine. ((omega arith, (λ z. cc), tt), refl)) (omega (arith, length-reverse (present values), count_values values))))
       (refused Suited NotEnabled)
 
   steps : (c : Choice) (j : Job) (ts : List Task) → j.tasks ≡ ts → Suited j → Each Suited (advance routines (λ _. true) c j ts)

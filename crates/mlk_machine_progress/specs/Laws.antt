@@ -1,4 +1,4 @@
--- What follows for jobs that go on.
+-- What follows for jobs that can take a step.
 use Rattle.std.specs.Prelude.{Bool, List}
 use Rattle.mlk_syntax.specs.Trees.{RoutineTree}
 use Rattle.mlk_program.specs.Program.{IsProgram}
@@ -15,7 +15,7 @@ ValuesSuffice = (routines : List RoutineTree) (declared : EntryId → Bool) → 
 abbrev pub UsesNoMore : Type 0
 UsesNoMore = (routines : List RoutineTree) (j : Job) → LeavesBelow routines j
 
--- At each moment of each run of one job of a program, the job has a next step just where it can go on.
+-- At each moment of each run of one job of a program, the job has a next step just where it can take one.
 abbrev pub JobsGoOn : Type 0
 JobsGoOn = (routines : List RoutineTree) (declared : EntryId → Bool) → IsProgram routines → AtEachMoment routines declared (GoesOn routines)
 

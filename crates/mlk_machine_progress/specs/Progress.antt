@@ -1,4 +1,4 @@
--- How many values a task uses and leaves, and whether a job can go on. This project's own choice.
+-- How many values a task uses and leaves, and whether a job can take a step. This project's own choice.
 use Rattle.std.specs.Prelude.{◌≡◌, ℕ, suc, ◌+◌, ◌&&◌, Bool, true, false, List, [], ◌∷◌, ◌++◌, drop, length, is_some, Ok}
 use Rattle.std.specs.List.{list_all}
 use Rattle.mlk_names.specs.declared.lock_name.LockName.{LockName}
@@ -35,6 +35,7 @@ uses (task.Conditionally action block) = 1
 uses (task.LockNamed sign names timed) = count_all names
 uses (task.Call extrinsic callee given) = count_given given
 uses (task.CallIf callee given) = suc (count_given given)
+uses (task.StartJob callee given) = count_given given
 uses task.QuitWithValue = 1
 uses (EndFrame (HasValue test) back next routine) = 1
 uses t = 0
@@ -87,7 +88,7 @@ LeavesBelow routines j = (t : Task) (ts : List Task) (free : LockName → Bool) 
 abbrev pub is_granted : (LockName → Bool) → Job → List LockName → Bool
 is_granted free j names = list_all free names && has_room names j.held
 
--- Whether a job with these tasks can go on, where these names are free: not where it has ended, where a local has no
+-- Whether a job with these tasks can take a step, where these names are free: not where it has ended, where a local has no
 -- value, where no condition of `$SELECT` was true, where a claim has to wait, or before a line with a formal list.
 abbrev pub can_go : (LockName → Bool) → Job → List Task → Bool
 can_go free j [] = false
@@ -104,12 +105,12 @@ Steps routines free c j = (i : Job) × (go routines free c j ≡ Ok i)
 abbrev pub HasStep : List RoutineTree → (LockName → Bool) → Job → Type 0
 HasStep routines free j = (c : Choice) × Steps routines free c j
 
--- it has a next step where it can go on, and else it has none
+-- it has a next step where it can take one, and else it has none
 pub record GoesOn (routines : List RoutineTree) (j : Job) : Type 0 where
   pub goes : (free : LockName → Bool) → can_go free j j.tasks ≡ true → HasStep routines free j
   pub stands : (free : LockName → Bool) → can_go free j j.tasks ≡ false → HasStep routines free j → ⊥
 
--- the choice by which a claim is made: a timed one is told that it does not fail
+-- the choice by which a claim is made: a timed one does not fail by it
 abbrev pub claiming : Bool → Choice
 claiming false = choice.None
 claiming true = choice.Truth true

@@ -116,14 +116,16 @@ again routines free c j us (task.Call extrinsic callee given) ts =
     )
 again routines free c j us (task.CallIf callee given) ts =
     same_tested j.values c _ _ (λ t. called_if_again t routines (target_of routines j.routine callee) given us ts j)
+again routines free c j us (task.StartJob callee given) ts = refl
 again routines free c j us (task.Block lines) ts = refl
 again routines free c j us (task.RunLines lines) ts = ap (without_choice c) (next_again lines us ts j)
-again routines free c j us (task.RunCommands commands block) ts = refl
-again routines free c j us (task.Parameters v ps rest block) ts = refl
-again routines free c j us (task.Forever rest block) ts = refl
-again routines free c j us (task.NextValue v rest block) ts = refl
-again routines free c j us (task.FirstRound v ps rest block) ts = refl
-again routines free c j us (task.LaterRound v ps rest block) ts = refl
+again routines free c j us (task.RunCommands commands here) ts = refl
+again routines free c j us (task.NextArgument action done) ts = refl
+again routines free c j us (task.Parameters v ps rest here) ts = refl
+again routines free c j us (task.Forever rest here) ts = refl
+again routines free c j us (task.NextValue v rest here) ts = refl
+again routines free c j us (task.FirstRound v ps rest here) ts = refl
+again routines free c j us (task.LaterRound v ps rest here) ts = refl
 again routines free c j us task.QuitHere ts = refl
 again routines free c j us task.QuitWithValue ts =
     ap (λ (i : Job). without_choice c (Ok i)) (answered_again j us (to_end ts))
@@ -176,11 +178,13 @@ module _ (routines : List RoutineTree) (free : LockName → Bool) (c : Choice) (
       → advance routines free c j (scope_task t ∷ ts) ≡ advance routines (λ n. true) c j (scope_task t ∷ ts)
   scope_alone (a_scope.Call how callee given) = refl
   scope_alone (a_scope.CallIf callee given) = refl
+  scope_alone (a_scope.StartJob callee given) = refl
   scope_alone (a_scope.Block lines) = refl
 
   pub line_alone : (t : LineTask) → advance routines free c j (line_task t ∷ ts) ≡ alone (line_task t)
   line_alone (a_line.RunLines lines) = refl
   line_alone (a_line.RunCommands r) = refl
+  line_alone (a_line.NextArgument action done) = refl
   line_alone (a_line.Parameters v ps r) = refl
   line_alone (a_line.Forever r) = refl
   line_alone (a_line.NextValue v r) = refl

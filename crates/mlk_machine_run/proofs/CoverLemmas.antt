@@ -1,5 +1,5 @@
 -- A lock table finds jobs by what they hold after a step, too: what a job holds it held before, or it claimed it.
-use Rattle.std.proofs.Common.{◌≡◌, ◌∙◌, ℕ, zero, suc, Bool, true, false, List, [], ◌∷◌, ◌++◌, Some, Result, Ok, Err, refl, sym, ap, subst, inl, inr}
+use Rattle.std.proofs.Common.{◌≡◌, ◌∙◌, ℕ, zero, suc, Bool, true, false, List, [], ◌∷◌, ◌++◌, Option, Some, Result, Ok, Err, refl, sym, ap, subst, inl, inr}
 use Rattle.std.specs.Prelude.{◌⊎◌, ◌&&◌, if◌then◌else◌, OnOk, OnErr, slice_set}
 use Rattle.std.specs.List.{list_any, list_all, slice_get}
 use Rattle.std.proofs.lemmas.Bool.{and_parts, false≢true}
@@ -98,7 +98,7 @@ pub aborted_takes : {A : Type 0} (r : Result A Refusal) (old new : JobIn)
 aborted_takes (Ok u) old new ok same = (is_machine [] (λ _. false)).abort_holds (job_of old) (job_of new) ok
 aborted_takes (Err why) old new ok same = stays_so (job_of old) (job_of new) (ap job_of same)
 
-pub begun_holds : (routines : List RoutineTree) (e : EntryId) (k : ℕ) (test : Bool) (values : List (List ℕ)) (new : JobIn)
+pub begun_holds : (routines : List RoutineTree) (e : EntryId) (k : ℕ) (test : Bool) (values : List (Option (List ℕ))) (new : JobIn)
     → is_job_number k ≡ true → begun routines e k test values ≡ Ok (job_of new) → (n : LockName) → Holds (seen_in new) n → ⊥
 begun_holds routines e k test values new may h =
     (is_machine routines (λ _. true)).begin_holds e test values k (job_of new)

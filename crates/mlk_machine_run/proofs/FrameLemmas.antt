@@ -25,7 +25,7 @@ use Rattle.mlk_machine_jobs.specs.Tasks.{Task, Job, LineTree, Frame, RunLines, R
 use Rattle.mlk_numbers.specs.Operators.{truth_of_text}
 use Rattle.mlk_machine_jobs.specs.Choices.{Stepped, last_values, dropped, without_choice, with_truth, with_last, truth_or_asked}
 use Rattle.mlk_machine_jobs.specs.Calling.{next_actual, later_actuals, binder, binders, with_actuals, count_given, formals_in, commands_in, lines_after, entered}
-use Rattle.mlk_machine_jobs.specs.Runs.{blank, by_value}
+use Rattle.mlk_machine_jobs.specs.Runs.{blank, present, by_value}
 use Rattle.mlk_machine_jobs.specs.Views.{binder_of, bindings_of, in_table, value_in, value_at}
 use Rattle.mlk_machine_jobs.specs.JobViews.{frame_of, job_of, tasks_of}
 use Rattle.mlk_machine_jobs.specs.TaskViews.{task_of}
@@ -301,7 +301,7 @@ pub entered_at : (frame : Frame) (r : ℕ) (given : List ActualTree) (l : LineTr
       next = suc j.next;
       cells = with_actuals j.next (formals_in l.0) given (last_values (count_given given) j) j.cells;
       values = drop (count_given given) j.values;
-      tasks = RunCommands (commands_in l.0) l.1 ∷ RunLines lines ∷ EndFrame frame j.bindings j.next j.routine ∷ ts;
+      tasks = RunCommands (commands_in l.0) l ∷ RunLines lines ∷ EndFrame frame j.bindings j.next j.routine ∷ ts;
     })
 entered_at frame r given (head, block) lines ts j = refl
 
@@ -322,16 +322,16 @@ bound_job j frame r l lines found cells count skipped given e d n =
     ∙ sym (entered_at frame r given l lines j.tasks (dropped skipped j))
 
 -- the first frame of a job
-formals_fresh : (caller : Bindings) (g : ℕ) (fs vs : List (List ℕ)) → binders caller g fs [] ≡ binders caller g fs (by_value vs)
+formals_fresh : (caller : Bindings) (g : ℕ) (fs vs : List (List ℕ)) → binders caller g fs [] ≡ binders caller g fs (by_value (map Some vs))
 formals_fresh caller g [] vs = refl
 formals_fresh caller g (f ∷ fs) [] = refl
 formals_fresh caller g (f ∷ fs) (v ∷ vs) = ap (λ (z : List Binder). Fresh g (Only f) ∷ z) (formals_fresh caller g fs vs)
 
-all_given : (vs : List (List ℕ)) → count_given (by_value vs) ≡ length vs
+all_given : (vs : List (List ℕ)) → count_given (by_value (map Some vs)) ≡ length vs
 all_given [] = refl
 all_given (v ∷ vs) = ap suc (all_given vs)
 
-first_filled : (fs vs : List (List ℕ)) (held : Held) → filled_first fs vs held ≡ filled fs (by_value vs) vs held
+first_filled : (fs vs : List (List ℕ)) (held : Held) → filled_first fs vs held ≡ filled fs (by_value (map Some vs)) vs held
 first_filled [] vs held = refl
 first_filled (f ∷ fs) [] held = refl
 first_filled (f ∷ fs) (v ∷ vs) held = first_filled fs vs (with_held f v held)
@@ -342,37 +342,48 @@ none_left zero (v ∷ vs) l = absurd (omega (arith, l))
 none_left (suc n) [] l = refl
 none_left (suc n) (v ∷ vs) l = none_left n vs (omega (arith, l))
 
-pub values_used : (vs : List (List ℕ)) → drop (count_given (by_value vs)) (reverse vs) ≡ []
-values_used vs = none_left (count_given (by_value vs)) (reverse vs) (omega (arith, length-reverse vs, all_given vs))
+-- of values that are all there
+all_there : (vs : List (List ℕ)) → present (map Some vs) ≡ vs
+all_there [] = refl
+all_there (v ∷ vs) = ap (λ (z : List (List ℕ)). v ∷ z) (all_there vs)
 
-pub values_given : (vs : List (List ℕ)) → reverse (take (count_given (by_value vs)) (reverse vs)) ≡ vs
+pub values_used : (vs : List (List ℕ)) → drop (count_given (by_value (map Some vs))) (reverse (present (map Some vs))) ≡ []
+values_used vs =
+    ap (λ (z : List (List ℕ)). drop (count_given (by_value (map Some vs))) (reverse z)) (all_there vs)
+    ∙ none_left (count_given (by_value (map Some vs))) (reverse vs) (omega (arith, length-reverse vs, all_given vs))
+
+pub values_given : (vs : List (List ℕ))
+    → reverse (take (count_given (by_value (map Some vs))) (reverse (present (map Some vs)))) ≡ vs
 values_given vs =
-    ap reverse (take_all (count_given (by_value vs)) (reverse vs) (omega (arith, length-reverse vs, all_given vs)))
+    ap (λ (z : List (List ℕ)). reverse (take (count_given (by_value (map Some vs))) (reverse z))) (all_there vs)
+    ∙ ap reverse (take_all (count_given (by_value (map Some vs))) (reverse vs) (omega (arith, length-reverse vs, all_given vs)))
     ∙ reverse-reverse vs
 
 pub first_begun : (k : ℕ) (test : Bool) (frame : Frame) (r : ℕ) (l : LineTree) (lines : List LineTree) (found : List Binder)
     (cells : Cells) (j : Job) (vs : List (List ℕ)) → j ≡ blank k test [] → found ≡ binders [] 1 (formals_in l.0) []
-    → cells ≡ with_actuals 1 (formals_in l.0) (by_value vs) vs no_values
-    → Ok (frame_begun frame r l lines found cells j) ≡ entered frame r (by_value vs) (l ∷ lines) [] (blank k test vs)
+    → cells ≡ with_actuals 1 (formals_in l.0) (by_value (map Some vs)) vs no_values
+    → Ok (frame_begun frame r l lines found cells j)
+    ≡ entered frame r (by_value (map Some vs)) (l ∷ lines) [] (blank k test (map Some vs))
 first_begun k test frame r l lines found cells j vs h e d =
     let fs : List (List ℕ) = formals_in l.0 in
+    let given : List ActualTree = by_value (map Some vs) in
     ap (λ (z : Job). Ok (frame_begun frame r l lines found cells z)) h
     ∙ ap (λ (z : List Binder). Ok (frame_begun frame r l lines z cells (blank k test []))) (e ∙ formals_fresh [] 1 fs vs)
-    ∙ ap (λ (z : Cells). Ok (frame_begun frame r l lines (binders [] 1 fs (by_value vs)) z (blank k test [])))
-    (d ∙ ap (λ (z : List (List ℕ)). with_actuals 1 fs (by_value vs) z no_values) (sym (values_given vs)))
-    ∙ ap (λ (z : List (List ℕ)). Ok (record (frame_begun frame r l lines (binders [] 1 fs (by_value vs))
-    (with_actuals 1 fs (by_value vs) (reverse (take (count_given (by_value vs)) (reverse vs))) no_values) (blank k test [])) {
+    ∙ ap (λ (z : Cells). Ok (frame_begun frame r l lines (binders [] 1 fs given) z (blank k test [])))
+    (d ∙ ap (λ (z : List (List ℕ)). with_actuals 1 fs given z no_values) (sym (values_given vs)))
+    ∙ ap (λ (z : List (List ℕ)). Ok (record (frame_begun frame r l lines (binders [] 1 fs given)
+    (with_actuals 1 fs given (reverse (take (count_given given) (reverse (present (map Some vs))))) no_values) (blank k test [])) {
       values = z;
     })) (sym (values_used vs))
-    ∙ sym (entered_at frame r (by_value vs) l lines [] (blank k test vs))
+    ∙ sym (entered_at frame r given l lines [] (blank k test (map Some vs)))
 
 pub first_table : (ts : List CellTable) (t : CellTable) (fs vs : List (List ℕ)) (held : Held) → length ts ≡ 1 → value_at ts ≡ no_values
     → ((n : List ℕ) → held n ≡ None) → in_table t ≡ filled_first fs vs held
-    → value_at (ts ++ t ∷ []) ≡ with_actuals 1 fs (by_value vs) vs no_values
+    → value_at (ts ++ t ∷ []) ≡ with_actuals 1 fs (by_value (map Some vs)) vs no_values
 first_table ts t fs vs held n c none e =
-    table_filled ts t fs (by_value vs) vs held none (e ∙ first_filled fs vs held)
-    ∙ ap (λ (k : ℕ). with_actuals k fs (by_value vs) vs (value_at ts)) n
-    ∙ ap (λ (z : Cells). with_actuals 1 fs (by_value vs) vs z) c
+    table_filled ts t fs (by_value (map Some vs)) vs held none (e ∙ first_filled fs vs held)
+    ∙ ap (λ (k : ℕ). with_actuals k fs (by_value (map Some vs)) vs (value_at ts)) n
+    ∙ ap (λ (z : Cells). with_actuals 1 fs (by_value (map Some vs)) vs z) c
 
 -- a job before its first frame
 one_empty : (t : CellTable) → ((n : List ℕ) → in_table t n ≡ None) → (k : ℕ) (n : List ℕ)

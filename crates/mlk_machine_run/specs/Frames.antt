@@ -34,7 +34,7 @@ filled_first formals values held = held
 -- the tasks of a frame: its line, the lines after it, and its end, which puts these back
 abbrev pub begun_tasks : Frame → Bindings → ℕ → ℕ → LineTree → List LineTree → List Task
 begun_tasks frame back next routine l lines =
-    RunCommands (commands_in l.0) l.1 ∷ RunLines lines ∷ EndFrame frame back next routine ∷ []
+    RunCommands (commands_in l.0) l ∷ RunLines lines ∷ EndFrame frame back next routine ∷ []
 
 -- a frame begins at a line, with these binders and what cells hold then
 abbrev pub frame_begun : Frame → ℕ → LineTree → List LineTree → List Binder → Cells → Job → Job
@@ -43,7 +43,7 @@ frame_begun frame r l lines found cells j = record j {
   bindings = found ++ j.bindings;
   next = suc j.next;
   cells = cells;
-  tasks = RunCommands (commands_in l.0) l.1 ∷ RunLines lines ∷ EndFrame frame j.bindings j.next j.routine ∷ j.tasks;
+  tasks = RunCommands (commands_in l.0) l ∷ RunLines lines ∷ EndFrame frame j.bindings j.next j.routine ∷ j.tasks;
 }
 
 -- the names of the claim that is the first task, if one is

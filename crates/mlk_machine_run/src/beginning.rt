@@ -1,6 +1,6 @@
 // How a job begins.
 
-ghost use Rattle.std.specs.Prelude.{◌≡◌, ◌∷◌, [], IfOk, OnOk, Ok, length, map};
+ghost use Rattle.std.specs.Prelude.{◌≡◌, ◌∷◌, [], IfOk, OnOk, Ok, Some, length, map};
 ghost use Rattle.mlk_text.specs.Failures.{Answers};
 ghost use Rattle.mlk_syntax.specs.Views.{line_of, routine_of};
 ghost use Rattle.mlk_machine_jobs.specs.Calling.{entered};
@@ -62,9 +62,9 @@ fn begin_first<'a>(
 ) -> Result<(), AllocError>
     requires sound { Sound job.old }
     requires number { job_of job.old ≡ blank (job_of job.old).number (job_of job.old).test [] }
-    ensures answer { OnOk result (entered (frame_of begin.entry.frame) begin.entry.routine (by_value values.now)
+    ensures answer { OnOk result (entered (frame_of begin.entry.frame) begin.entry.routine (by_value (map Some values.now))
         (line_of begin.entry.line.now ∷ map line_of begin.entry.later.now) []
-        (blank (job_of job.old).number (job_of job.old).test values.now) ≡ Ok (job_of job.new)) }
+        (blank (job_of job.old).number (job_of job.old).test (map Some values.now)) ≡ Ok (job_of job.new)) }
     ensures sound { OnOk result (Sound job.new) }
 {
     let formals = formals_in(begin.line);
@@ -91,7 +91,7 @@ pub fn begin<'a>(
     test: bool,
     values: &[Value],
 ) -> Result<Job<'a>, Failure<Refusal>>
-    ensures job { Answers job_of result (begun (map routine_of program.now) entry number test values.now) }
+    ensures job { Answers job_of result (begun (map routine_of program.now) entry number test (map Some values.now)) }
     ensures sound { IfOk result (λ j. Sound j) }
 {
     let lines = lines_after(program, entry);

@@ -12,6 +12,7 @@ ghost use Rattle.mlk_machine_jobs.specs.TaskViews.{value_task, local_task, test_
 ghost use Rattle.mlk_machine_run.specs.Frames.{claimed_in};
 
 use crate::call::{call, call_if};
+use crate::formals::count_given;
 use mlk_machine_jobs::{
     Choice, Job, LineTask, LocalTask, LockTask, ScopeTask, Task, TestTask, ValueTask,
 };
@@ -19,9 +20,9 @@ use mlk_machine_locks::Refusal;
 use mlk_machine_steps::{
     apply_binary, apply_unary, ask_test, ask_value, assign, begin_block, choose, claim,
     conditionally, drop_values, evaluate, fetch, form_reference, halt, kill, make_new, merge,
-    name_locks, push_copy, push_job, push_test, quit_here, quit_with_value, release, release_all,
-    run_commands, run_first_round, run_forever, run_later_round, run_lines, run_next_value,
-    run_parameters, select, set_test, skip_if, store, store_any, store_last, touch,
+    name_locks, nothing_asked, push_copy, push_job, push_test, quit_here, quit_with_value, release,
+    release_all, run_commands, run_first_round, run_forever, run_later_round, run_lines,
+    run_next_value, run_parameters, select, set_test, skip_if, store, store_any, store_last, touch,
 };
 use mlk_program::Program;
 use mlk_text::Failure;
@@ -132,7 +133,7 @@ pub(crate) fn lock_step<'a>(
     }
 }
 
-/// What begins a frame or a block.
+/// What begins a frame, a block or another job, which is one of its own.
 pub(crate) fn scope_step<'a>(
     alloc: Global,
     program: &Program<'a>,
@@ -153,6 +154,7 @@ pub(crate) fn scope_step<'a>(
             call(alloc, program, job, choice, *calling, callee, given)
         }
         ScopeTask::CallIf(callee, given) => call_if(alloc, program, job, choice, callee, given),
+        ScopeTask::StartJob(_, given) => drop_values(job, choice, count_given(given)),
         ScopeTask::Block(lines) => begin_block(job, choice, lines),
     }
 }
@@ -173,6 +175,7 @@ pub(crate) fn line_step<'a>(
     match task {
         LineTask::RunLines(lines) => run_lines(alloc, job, choice, lines),
         LineTask::RunCommands(rest) => run_commands(alloc, job, choice, *rest),
+        LineTask::NextArgument(_, _) => nothing_asked(choice),
         LineTask::Parameters(variable, parameters, rest) => {
             run_parameters(alloc, job, choice, variable, parameters, *rest)
         }

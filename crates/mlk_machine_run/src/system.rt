@@ -1,6 +1,6 @@
 // Jobs that run a program and share its locks.
 
-ghost use Rattle.std.specs.Prelude.{◌≡◌, ◌&&◌, OnErr, Ok, Bool, List, map};
+ghost use Rattle.std.specs.Prelude.{◌≡◌, ◌&&◌, OnErr, Ok, Bool, List, Some, map};
 ghost use Rattle.mlk_text.specs.Failures.{Answers};
 ghost use Rattle.mlk_machine_locks.specs.Systems as systems;
 ghost use Rattle.mlk_machine_locks.specs.Waiting.{is_numbered};
@@ -21,7 +21,7 @@ use mlk_program::{EntryId, Program};
 use mlk_text::{Failure, Value};
 use std::alloc::Global;
 
-/// One step of the job of this number, which stands at this place, if there is one, with this choice. Which names others
+/// One step of the job of this number, which is at this place, if there is one, with this choice. Which names others
 /// hold is asked of a table that finds them. Where there is no memory, or the step is refused, all jobs are as they were.
 pub fn go<'a>(
     alloc: Global,
@@ -50,7 +50,7 @@ pub fn go<'a>(
     step(alloc, program, &mut jobs[place], choice, are_free)
 }
 
-/// The job of this number, which stands at this place, if there is one, is aborted: it holds no lock then, and does nothing
+/// The job of this number, which is at this place, if there is one, is aborted: it holds no lock then, and does nothing
 /// more.
 pub fn abort(
     alloc: Global,
@@ -105,7 +105,7 @@ pub fn join<'a>(
     ensures answer { (declared : EntryOf → Bool) → declared entry ≡ is_declared
         → Answers (λ _. map job_of jobs.new.items) result
         (happens (machine (map routine_of program.now) declared) (map job_of jobs.old.items) number
-        (systems.Begin entry test values.now)) }
+        (systems.Begin entry test (map Some values.now))) }
     ensures stays { OnErr result (map job_of jobs.new.items ≡ map job_of jobs.old.items) }
     ensures sound { AreSound jobs.new.items }
     ensures covered { StayCovered jobs.old.items jobs.new.items }

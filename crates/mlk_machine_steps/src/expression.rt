@@ -95,7 +95,7 @@ pub fn push_test(alloc: Global, job: &mut Job, choice: &Choice) -> Result<(), Fa
     push(job, choice, text)
 }
 
-/// Any value, in place of the last so many.
+/// Any value, in place of the last `count` values.
 pub fn ask_value(job: &mut Job, choice: Choice, count: usize) -> Result<(), Failure<Refusal>>
     ensures answer { Answers (λ _. job_of job.new) result
         (with_value choice (λ v. Ok (pushed v (dropped count (job_of job.old))))) }
@@ -108,7 +108,7 @@ pub fn ask_value(job: &mut Job, choice: Choice, count: usize) -> Result<(), Fail
     Ok(())
 }
 
-// A known value, or else any, in place of the last so many.
+// A known value, or else any, in place of the last `count` values.
 fn give_value(
     job: &mut Job,
     choice: Choice,
@@ -175,7 +175,7 @@ pub fn apply_binary(
     give_value(job, choice, known, 2)
 }
 
-/// The last so many values are not used.
+/// Drops the last `count` values.
 pub fn drop_values(job: &mut Job, choice: &Choice, count: usize) -> Result<(), Failure<Refusal>>
     ensures answer { Answers (λ _. job_of job.new) result (without_choice choice.now (Ok (dropped count (job_of job.old)))) }
     ensures stays { OnErr result (job_of job.new ≡ job_of job.old) }

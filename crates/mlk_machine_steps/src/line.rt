@@ -8,7 +8,7 @@ ghost use Rattle.mlk_machine_jobs.specs.Choices.{without_choice, with_truth, doi
 ghost use Rattle.mlk_machine_jobs.specs.Lines.{next_line, next_command, parameter_parts, first_round, later_round};
 ghost use Rattle.mlk_machine_jobs.specs.JobViews.{job_of, KeepsPending};
 ghost use Rattle.mlk_machine_jobs.specs.Sound.{Sound};
-ghost use Rattle.mlk_machine_jobs.specs.TaskViews.{commands_left, block_of};
+ghost use Rattle.mlk_machine_jobs.specs.TaskViews.{commands_left};
 
 use crate::ask::{nothing_asked, or_refused};
 use crate::replace::replace;
@@ -21,7 +21,7 @@ use mlk_syntax::{Line, Parameter};
 use mlk_text::{Failure, Name};
 use std::alloc::Global;
 
-/// The next line; a job does not go on to a line with a formal list.
+/// Begins the next line; a job does not run on into a line with a formal list.
 #[tactic(auto, using(crate::proofs::LineSteps::line_entered, crate::proofs::LineSteps::line_refused))]
 pub fn run_lines<'a>(
     alloc: Global,
@@ -55,7 +55,7 @@ pub fn run_commands<'a>(
     rest: Rest<'a>,
 ) -> Result<(), Failure<Refusal>>
     ensures answer { Answers (λ _. job_of job.new) result (without_choice choice.now
-        (Ok (doing (next_command (commands_left rest.entry) (block_of rest.entry.block.now) (job_of job.old).tasks)
+        (Ok (doing (next_command (commands_left rest.entry) (line_of rest.entry.line.now) (job_of job.old).tasks)
         (job_of job.old)))) }
     ensures stays { OnErr result (job_of job.new ≡ job_of job.old) }
     ensures room { OnErr result (KeepsPending job.old job.new) }
@@ -77,7 +77,7 @@ pub fn run_parameters<'a>(
 ) -> Result<(), Failure<Refusal>>
     ensures answer { Answers (λ _. job_of job.new) result (without_choice choice.now
         (Ok (doing (parameter_parts variable.now (map parameter_of parameters.now) (commands_left rest.entry)
-        (block_of rest.entry.block.now) ++ (job_of job.old).tasks) (job_of job.old)))) }
+        (line_of rest.entry.line.now) ++ (job_of job.old).tasks) (job_of job.old)))) }
     ensures stays { OnErr result (job_of job.new ≡ job_of job.old) }
     ensures room { OnErr result (KeepsPending job.old job.new) }
     ensures sound { Sound job.old → Sound job.new }
@@ -95,8 +95,8 @@ pub fn run_forever<'a>(
     rest: Rest<'a>,
 ) -> Result<(), Failure<Refusal>>
     ensures answer { Answers (λ _. job_of job.new) result (without_choice choice.now
-        (Ok (doing (RunCommands (commands_left rest.entry) (block_of rest.entry.block.now)
-        ∷ Forever (commands_left rest.entry) (block_of rest.entry.block.now) ∷ (job_of job.old).tasks) (job_of job.old)))) }
+        (Ok (doing (RunCommands (commands_left rest.entry) (line_of rest.entry.line.now)
+        ∷ Forever (commands_left rest.entry) (line_of rest.entry.line.now) ∷ (job_of job.old).tasks) (job_of job.old)))) }
     ensures stays { OnErr result (job_of job.new ≡ job_of job.old) }
     ensures room { OnErr result (KeepsPending job.old job.new) }
     ensures sound { Sound job.old → Sound job.new }
@@ -116,8 +116,8 @@ pub fn run_next_value<'a>(
     rest: Rest<'a>,
 ) -> Result<(), Failure<Refusal>>
     ensures answer { Answers (λ _. job_of job.new) result (without_choice choice.now
-        (Ok (doing (StoreAny variable.now ∷ RunCommands (commands_left rest.entry) (block_of rest.entry.block.now)
-        ∷ NextValue variable.now (commands_left rest.entry) (block_of rest.entry.block.now) ∷ (job_of job.old).tasks)
+        (Ok (doing (StoreAny variable.now ∷ RunCommands (commands_left rest.entry) (line_of rest.entry.line.now)
+        ∷ NextValue variable.now (commands_left rest.entry) (line_of rest.entry.line.now) ∷ (job_of job.old).tasks)
         (job_of job.old)))) }
     ensures stays { OnErr result (job_of job.new ≡ job_of job.old) }
     ensures room { OnErr result (KeepsPending job.old job.new) }
@@ -141,7 +141,7 @@ pub fn run_first_round<'a>(
 ) -> Result<(), Failure<Refusal>>
     ensures answer { Answers (λ _. job_of job.new) result (with_truth choice.now (λ t.
         Ok (doing (first_round variable.now (map parameter_of parameters.now) (commands_left rest.entry)
-        (block_of rest.entry.block.now) t ++ (job_of job.old).tasks) (job_of job.old)))) }
+        (line_of rest.entry.line.now) t ++ (job_of job.old).tasks) (job_of job.old)))) }
     ensures stays { OnErr result (job_of job.new ≡ job_of job.old) }
     ensures room { OnErr result (KeepsPending job.old job.new) }
     ensures sound { Sound job.old → Sound job.new }
@@ -164,7 +164,7 @@ pub fn run_later_round<'a>(
 ) -> Result<(), Failure<Refusal>>
     ensures answer { Answers (λ _. job_of job.new) result (with_truth choice.now (λ t.
         Ok (doing (later_round variable.now (map parameter_of parameters.now) (commands_left rest.entry)
-        (block_of rest.entry.block.now) t ++ (job_of job.old).tasks) (job_of job.old)))) }
+        (line_of rest.entry.line.now) t ++ (job_of job.old).tasks) (job_of job.old)))) }
     ensures stays { OnErr result (job_of job.new ≡ job_of job.old) }
     ensures room { OnErr result (KeepsPending job.old job.new) }
     ensures sound { Sound job.old → Sound job.new }

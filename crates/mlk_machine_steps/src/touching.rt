@@ -15,7 +15,7 @@ use mlk_names::{Access, Extent};
 use mlk_text::{Failure, Name};
 use std::alloc::Global;
 
-/// A reference, whose subscripts, so many, are the last values.
+/// A reference, whose subscripts are the last values.
 pub fn form_reference<'a>(
     alloc: Global,
     job: &mut Job<'a>,

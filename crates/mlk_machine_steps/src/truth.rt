@@ -70,7 +70,7 @@ pub fn set_test(job: &mut Job, choice: &Choice) -> Result<(), Failure<Refusal>>
     Ok(())
 }
 
-// What stands behind a condition that is true.
+// What comes after a condition that is true.
 fn parts_if<'a>(
     parts: &mut Vec<Task<'a>>,
     is_true: bool,
@@ -127,7 +127,7 @@ fn part_chosen<'a>(
     }
 }
 
-/// What stands beside a condition of `$SELECT` that was evaluated, or else the others.
+/// The value beside a condition of `$SELECT` that was true, or else the other conditions.
 pub fn choose<'a>(
     alloc: Global,
     job: &mut Job<'a>,

@@ -13,10 +13,10 @@ use Rattle.mlk_syntax.specs.Trees.{CommandTrees, then_for, HeadTree, LineTrees, 
 use Rattle.mlk_syntax.specs.Views.{commands_of, command_of, control_of, parameter_of, commands_from, commands_step, for_step, last_or_none, line_of, line_step, lines_from}
 use Rattle.mlk_program.specs.Entries.{formals_of}
 use Rattle.mlk_program.proofs.FoundCommands.{none_last, some_last}
-use Rattle.mlk_machine_jobs.specs.Tasks.{Forever, Parameters}
+use Rattle.mlk_machine_jobs.specs.Tasks.{LineTree, Forever, Parameters}
 use Rattle.mlk_machine_jobs.specs.Lines.{next_command}
 use Rattle.mlk_machine_jobs.specs.Calling.{formals_in}
-use Rattle.mlk_machine_jobs.specs.TaskViews.{for_of}
+use Rattle.mlk_machine_jobs.specs.TaskViews.{for_of, block_of}
 
 commands_with : (c : Commands) (o : Option (Box For Global)) → (out-Commands c).last ≡ o
     → commands_from (map command_of (out-Commands c).before.items) (last_or_none (option_map (λ b. for_of b.value) o))
@@ -34,14 +34,14 @@ for_out : (f : For) → for_of f
     ≡ then_for (out-For f).column (out-For f).index (option_map control_of (out-For f).control) (commands_of (out-For f).rest)
 for_out f = fold_out-For CommandTrees CommandTrees commands_step for_step f
 
-pub for_without : (f : For) (block : LineTrees) → (out-For f).control ≡ None
-    → next_command (for_of f) block [] ≡ Forever (commands_of (out-For f).rest) block ∷ []
-for_without f block is = rw (for_out f, is) refl
+pub for_without : (f : For) (here : LineTree) → (out-For f).control ≡ None
+    → next_command (for_of f) here [] ≡ Forever (commands_of (out-For f).rest) here ∷ []
+for_without f here is = rw (for_out f, is) refl
 
-pub for_with : (f : For) (c : Control) (block : LineTrees) → (out-For f).control ≡ Some c
-    → next_command (for_of f) block []
-    ≡ Parameters c.variable (map parameter_of c.parameters.items) (commands_of (out-For f).rest) block ∷ []
-for_with f c block is = rw (for_out f, is) refl
+pub for_with : (f : For) (c : Control) (here : LineTree) → (out-For f).control ≡ Some c
+    → next_command (for_of f) here []
+    ≡ Parameters c.variable (map parameter_of c.parameters.items) (commands_of (out-For f).rest) here ∷ []
+for_with f c here is = rw (for_out f, is) refl
 
 pub line_out : (l : Line) → line_of l
     ≡ (
@@ -50,6 +50,9 @@ pub line_out : (l : Line) → line_of l
       lines_from (map line_of (out-Line l).block.items),
     )
 line_out l = fold_out-Line (HeadTree × LineTrees) line_step l
+
+pub block_out : (l : Line) → block_of (out-Line l).block.items ≡ (line_of l).1
+block_out l = ap (λ (p : LineTree). p.1) (sym (line_out l))
 
 pub formals_out : (l : Line) → formals_of (line_of l).0 ≡ (out-Line l).formals
 formals_out l = ap (λ (p : HeadTree × LineTrees). formals_of p.0) (line_out l)

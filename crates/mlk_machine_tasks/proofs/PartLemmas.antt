@@ -1,7 +1,6 @@
 -- Tasks that are added.
-use Rattle.std.proofs.Common.{◌≡◌, ◌+◌, ◌-◌, List, [], ◌∷◌, ◌++◌, map, length, Option, Some, None, refl, sym, ap, ◌∙◌, arith, append_assoc, append-nil}
+use Rattle.std.proofs.Common.{◌≡◌, ◌-◌, ◌≤◌, ℕ, suc, List, [], ◌∷◌, ◌++◌, map, length, Option, Some, None, refl, sym, ap, subst, ◌∙◌, arith, append_assoc, append-nil}
 use Rattle.std.specs.Prelude.{flat_map, is_some, option_map}
-use Rattle.std.proofs.lemmas.List.{length-append, length-map}
 use Rattle.std.proofs.lemmas.List.Folds.{flat_map-map}
 use Rattle.mlk_syntax.specs.declared.expr.Expr.{Expr}
 use Rattle.mlk_machine_jobs.specs.declared.task.Task.{Task as TaskIn}
@@ -9,9 +8,10 @@ use Rattle.mlk_syntax.specs.ExprTrees.{tree_of, trees}
 use Rattle.mlk_syntax.specs.declared.command.Target.{Target}
 use Rattle.mlk_syntax.specs.declared.command.Variable.{Variable}
 use Rattle.mlk_syntax.specs.Views.{variable_of, target_of}
-use Rattle.mlk_machine_jobs.specs.Tasks.{Task, Evaluate}
+use Rattle.mlk_syntax.specs.Trees.{ActionTree}
+use Rattle.mlk_machine_jobs.specs.Tasks.{Task, Evaluate, NextArgument}
 use Rattle.mlk_machine_jobs.specs.Expressions.{each_tree}
-use Rattle.mlk_machine_jobs.specs.Commands.{in_variable, target_parts}
+use Rattle.mlk_machine_jobs.specs.Commands.{in_variable, target_parts, in_turn}
 use Rattle.mlk_machine_jobs.specs.TaskViews.{Adds, task_of}
 use Rattle.mlk_machine_tasks.specs.PartViews.{args_of}
 use Rattle.mlk_machine_tasks.specs.ArgumentViews.{each_value}
@@ -31,14 +31,19 @@ adds_more p q all old now new h k =
 pub adds_all : (all : List Task) (old new : List TaskIn) → map task_of new ++ [] ≡ map task_of old ++ all → Adds all old new
 adds_all all old new h = sym (append-nil (map task_of new)) ∙ h
 
--- how many were added
-pub added_count : (p : List Task) (old new : List TaskIn) → Adds p old new → length new - length old ≡ length p
-added_count p old new h =
-    let e : length (map task_of new) ≡ length (map task_of old ++ p) = ap length h in
-    let a : length (map task_of old ++ p) ≡ length (map task_of old) + length p = length-append (map task_of old) p in
-    let m : length (map task_of new) ≡ length new = length-map new task_of in
-    let n : length (map task_of old) ≡ length old = length-map old task_of in
-    omega (arith, e, a, m, n)
+-- what is left of arguments, once the first of them and how many are done was added
+pub argument_added : {A : Type 0} (parts : A → List Task) (action : ActionTree) (a : A) (more : List A) (count : ℕ) (all : List Task) (old now mid new : List TaskIn)
+    → suc (length more) ≤ count
+    → map task_of now ++ in_turn parts action (count - suc (length more)) (a ∷ more) ≡ map task_of old ++ all
+    → Adds (parts a) now mid → Adds (NextArgument action (count - length more) ∷ []) mid new
+    → map task_of new ++ in_turn parts action (count - length more) more ≡ map task_of old ++ all
+argument_added parts action a more count all old now mid new le is first mark =
+    let n : suc (count - suc (length more)) ≡ count - length more = omega (arith, le) in
+    let rest : List Task = NextArgument action (count - length more) ∷ in_turn parts action (count - length more) more in
+    let here : map task_of now ++ (parts a ++ rest) ≡ map task_of old ++ all =
+    subst (λ d. map task_of now ++ (parts a ++ NextArgument action d ∷ in_turn parts action d more) ≡ map task_of old ++ all) n is in
+    let then : map task_of mid ++ rest ≡ map task_of old ++ all = adds_more (parts a) rest all old now mid here first in
+    adds_more (NextArgument action (count - length more) ∷ []) (in_turn parts action (count - length more) more) all old mid new then mark
 
 pub is_there : (o : Option Expr) → is_some (option_map tree_of o) ≡ is_some o
 is_there None = refl

@@ -37,7 +37,7 @@ naming_of naming.Name = function.Name
 abbrev pub named_function : Function → Option Function
 named_function f = if takes_name f then Some f else None
 
--- a pattern stands after `?` alone
+-- a pattern comes after `?` alone
 abbrev pub is_pattern_text : Tree → Bool
 is_pattern_text (PatternText text) = true
 is_pattern_text _ = false

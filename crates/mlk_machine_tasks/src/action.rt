@@ -1,16 +1,16 @@
 // What commands are replaced by.
 
-ghost use Rattle.std.specs.Prelude.{OnOk, flat_map, map, option_map};
+ghost use Rattle.std.specs.Prelude.{OnOk, map, option_map};
 ghost use Rattle.mlk_syntax.specs.ExprTrees.{tree_of, trees};
 ghost use Rattle.mlk_syntax.specs.Views.{call_of, do_of, kill_of, lock_of, merge_of, new_of, read_of, set_of, write_of, action_of, command_of};
-ghost use Rattle.mlk_machine_jobs.specs.Commands.{evaluated, job_parts, merge_parts, read_parts, set_parts, write_parts, action_parts};
+ghost use Rattle.mlk_machine_jobs.specs.Commands.{in_turn, evaluated, job_parts, merge_parts, read_parts, set_parts, write_parts, action_parts};
 ghost use Rattle.mlk_machine_jobs.specs.Lines.{command_parts};
 ghost use Rattle.mlk_machine_jobs.specs.TaskViews.{Adds, block_of};
 ghost use Rattle.mlk_machine_tasks.specs.ArgumentViews.{do_all, if_all, kill_all, lock_all, new_all, quit_parts};
 
 use crate::adding::add;
 use crate::command::{block_parts, evaluated, if_parts};
-use crate::part::add_all;
+use crate::part::{add_arguments, ended};
 use mlk_machine_jobs::{LineTask, LocalTask, LockTask, Names, Task, TestTask, ValueTask};
 use mlk_syntax::{
     Action, Call, Command, DoArgument, Expr, KillArgument, Line, LockArgument, MergeArgument,
@@ -18,30 +18,41 @@ use mlk_syntax::{
 };
 use std::alloc::AllocError;
 
-// Expressions whose values are not used.
-fn each_evaluated<'a>(parts: &mut Vec<Task<'a>>, times: &'a [Expr]) -> Result<(), AllocError>
-    ensures { OnOk result (Adds (flat_map evaluated (trees times.now)) parts.old.items parts.new.items) }
+// Expressions of `action` whose values are not used.
+#[tactic(auto, using(crate::proofs::PartLemmas::argument_added))]
+fn each_evaluated<'a>(
+    parts: &mut Vec<Task<'a>>,
+    action: &'a Action,
+    times: &'a [Expr],
+) -> Result<(), AllocError>
+    ensures { OnOk result (Adds (in_turn evaluated (action_of action.now) 0 (trees times.now)) parts.old.items parts.new.items) }
 {
     let mut left = times;
     while let Some((time, others)) = left.split_first() {
         evaluated(parts, time)?;
         left = others;
+        ended(parts, action, times, left)?;
     }
     Ok(())
 }
 
 // The conditions of IF; without one `$TEST` is asked.
-fn if_all<'a>(parts: &mut Vec<Task<'a>>, conditions: &'a [Expr]) -> Result<(), AllocError>
-    ensures { OnOk result (Adds (if_all (trees conditions.now)) parts.old.items parts.new.items) }
+#[tactic(auto, using(crate::proofs::PartLemmas::argument_added, crate::proofs::ActionParts::if_some))]
+fn if_all<'a>(
+    parts: &mut Vec<Task<'a>>,
+    action: &'a Action,
+    conditions: &'a [Expr],
+) -> Result<(), AllocError>
+    ensures { OnOk result (Adds (if_all (action_of action.now) (trees conditions.now)) parts.old.items parts.new.items) }
 {
-    let Some((first, others)) = conditions.split_first() else {
+    if conditions.is_empty() {
         return add(parts, Task::Test(TestTask::SkipIf(false)));
-    };
-    if_parts(parts, first)?;
-    let mut left = others;
-    while let Some((condition, later)) = left.split_first() {
+    }
+    let mut left = conditions;
+    while let Some((condition, others)) = left.split_first() {
         if_parts(parts, condition)?;
-        left = later;
+        left = others;
+        ended(parts, action, conditions, left)?;
     }
     Ok(())
 }
@@ -51,91 +62,124 @@ fn if_all<'a>(parts: &mut Vec<Task<'a>>, conditions: &'a [Expr]) -> Result<(), A
 fn do_all<'a>(
     parts: &mut Vec<Task<'a>>,
     block: &'a [Line],
+    action: &'a Action,
     calls: &'a [DoArgument],
 ) -> Result<(), AllocError>
-    ensures { OnOk result (Adds (do_all (block_of block.now) (map do_of calls.now)) parts.old.items parts.new.items) }
+    ensures { OnOk result (Adds (do_all (block_of block.now) (action_of action.now) (map do_of calls.now)) parts.old.items parts.new.items) }
 {
     match calls.split_first() {
         None => block_parts(parts, block),
-        Some(_) => add_all(parts, calls),
+        Some(_) => add_arguments(parts, action, calls),
     }
 }
 
 // What KILL removes; without an argument all locals.
 #[tactic(auto, using(crate::proofs::ActionParts::kill_none, crate::proofs::ActionParts::kill_some))]
-fn kill_all<'a>(parts: &mut Vec<Task<'a>>, kills: &'a [KillArgument]) -> Result<(), AllocError>
-    ensures { OnOk result (Adds (kill_all (map kill_of kills.now)) parts.old.items parts.new.items) }
+fn kill_all<'a>(
+    parts: &mut Vec<Task<'a>>,
+    action: &'a Action,
+    kills: &'a [KillArgument],
+) -> Result<(), AllocError>
+    ensures { OnOk result (Adds (kill_all (action_of action.now) (map kill_of kills.now)) parts.old.items parts.new.items) }
 {
     match kills.split_first() {
         None => add(parts, Task::Local(LocalTask::KillNames(Names::AllBut(&[])))),
-        Some(_) => add_all(parts, kills),
+        Some(_) => add_arguments(parts, action, kills),
     }
 }
 
 // What LOCK claims or releases; without an argument all is released.
 #[tactic(auto, using(crate::proofs::ActionParts::lock_none, crate::proofs::ActionParts::lock_some))]
-fn lock_all<'a>(parts: &mut Vec<Task<'a>>, locks: &'a [LockArgument]) -> Result<(), AllocError>
-    ensures { OnOk result (Adds (lock_all (map lock_of locks.now)) parts.old.items parts.new.items) }
+fn lock_all<'a>(
+    parts: &mut Vec<Task<'a>>,
+    action: &'a Action,
+    locks: &'a [LockArgument],
+) -> Result<(), AllocError>
+    ensures { OnOk result (Adds (lock_all (action_of action.now) (map lock_of locks.now)) parts.old.items parts.new.items) }
 {
     match locks.split_first() {
         None => add(parts, Task::Lock(LockTask::ReleaseAll)),
-        Some(_) => add_all(parts, locks),
+        Some(_) => add_arguments(parts, action, locks),
     }
 }
 
 // What NEW makes new; without an argument all locals.
 #[tactic(auto, using(crate::proofs::ActionParts::new_none, crate::proofs::ActionParts::new_some))]
-fn new_all<'a>(parts: &mut Vec<Task<'a>>, news: &'a [NewArgument]) -> Result<(), AllocError>
-    ensures { OnOk result (Adds (new_all (map new_of news.now)) parts.old.items parts.new.items) }
+fn new_all<'a>(
+    parts: &mut Vec<Task<'a>>,
+    action: &'a Action,
+    news: &'a [NewArgument],
+) -> Result<(), AllocError>
+    ensures { OnOk result (Adds (new_all (action_of action.now) (map new_of news.now)) parts.old.items parts.new.items) }
 {
     match news.split_first() {
         None => add(parts, Task::Local(LocalTask::NewNames(Names::AllBut(&[])))),
-        Some(_) => add_all(parts, news),
+        Some(_) => add_arguments(parts, action, news),
     }
 }
 
 // Calls of JOB.
 #[tactic(auto, using(crate::proofs::ActionParts::job_mapped))]
-fn job_all<'a>(parts: &mut Vec<Task<'a>>, calls: &'a [Call]) -> Result<(), AllocError>
-    ensures { OnOk result (Adds (flat_map job_parts (map call_of calls.now)) parts.old.items parts.new.items) }
+fn job_all<'a>(
+    parts: &mut Vec<Task<'a>>,
+    action: &'a Action,
+    calls: &'a [Call],
+) -> Result<(), AllocError>
+    ensures { OnOk result (Adds (in_turn job_parts (action_of action.now) 0 (map call_of calls.now)) parts.old.items parts.new.items) }
 {
-    add_all(parts, calls)?;
+    add_arguments(parts, action, calls)?;
     Ok(())
 }
 
 // The arguments of MERGE.
 #[tactic(auto, using(crate::proofs::ActionParts::merge_mapped))]
-fn merge_all<'a>(parts: &mut Vec<Task<'a>>, merges: &'a [MergeArgument]) -> Result<(), AllocError>
-    ensures { OnOk result (Adds (flat_map merge_parts (map merge_of merges.now)) parts.old.items parts.new.items) }
+fn merge_all<'a>(
+    parts: &mut Vec<Task<'a>>,
+    action: &'a Action,
+    merges: &'a [MergeArgument],
+) -> Result<(), AllocError>
+    ensures { OnOk result (Adds (in_turn merge_parts (action_of action.now) 0 (map merge_of merges.now)) parts.old.items parts.new.items) }
 {
-    add_all(parts, merges)?;
+    add_arguments(parts, action, merges)?;
     Ok(())
 }
 
 // The arguments of READ.
 #[tactic(auto, using(crate::proofs::ActionParts::read_mapped))]
-fn read_all<'a>(parts: &mut Vec<Task<'a>>, reads: &'a [ReadArgument]) -> Result<(), AllocError>
-    ensures { OnOk result (Adds (flat_map read_parts (map read_of reads.now)) parts.old.items parts.new.items) }
+fn read_all<'a>(
+    parts: &mut Vec<Task<'a>>,
+    action: &'a Action,
+    reads: &'a [ReadArgument],
+) -> Result<(), AllocError>
+    ensures { OnOk result (Adds (in_turn read_parts (action_of action.now) 0 (map read_of reads.now)) parts.old.items parts.new.items) }
 {
-    add_all(parts, reads)?;
+    add_arguments(parts, action, reads)?;
     Ok(())
 }
 
 // The arguments of SET.
 #[tactic(auto, using(crate::proofs::ActionParts::set_mapped))]
-fn set_all<'a>(parts: &mut Vec<Task<'a>>, sets: &'a [SetArgument]) -> Result<(), AllocError>
-    ensures { OnOk result (Adds (flat_map set_parts (map set_of sets.now)) parts.old.items parts.new.items) }
+fn set_all<'a>(
+    parts: &mut Vec<Task<'a>>,
+    action: &'a Action,
+    sets: &'a [SetArgument],
+) -> Result<(), AllocError>
+    ensures { OnOk result (Adds (in_turn set_parts (action_of action.now) 0 (map set_of sets.now)) parts.old.items parts.new.items) }
 {
-    add_all(parts, sets)?;
+    add_arguments(parts, action, sets)?;
     Ok(())
 }
 
 // The arguments of WRITE.
 #[tactic(auto, using(crate::proofs::ActionParts::write_mapped))]
-fn write_all<'a>(parts: &mut Vec<Task<'a>>, writes: &'a [WriteArgument]) -> Result<(), AllocError>
-    ensures { OnOk result (Adds (flat_map write_parts (map write_of writes.now)) parts.old.items parts.new.items) }
+fn write_all<'a>(
+    parts: &mut Vec<Task<'a>>,
+    action: &'a Action,
+    writes: &'a [WriteArgument],
+) -> Result<(), AllocError>
+    ensures { OnOk result (Adds (in_turn write_parts (action_of action.now) 0 (map write_of writes.now)) parts.old.items parts.new.items) }
 {
-    add_all(parts, writes)?;
+    add_arguments(parts, action, writes)?;
     Ok(())
 }
 
@@ -166,20 +210,20 @@ pub fn action_parts<'a>(
     ensures { OnOk result (Adds (action_parts (block_of block.now) (action_of action.now)) parts.old.items parts.new.items) }
 {
     match action {
-        Action::Do(calls) => do_all(parts, block, calls),
+        Action::Do(calls) => do_all(parts, block, action, calls),
         Action::Else => add(parts, Task::Test(TestTask::SkipIf(true))),
         Action::Halt => add(parts, Task::Line(LineTask::HaltJob)),
-        Action::Hang(times) => each_evaluated(parts, times),
-        Action::If(conditions) => if_all(parts, conditions),
-        Action::Job(calls) => job_all(parts, calls),
-        Action::Kill(kills) => kill_all(parts, kills),
-        Action::Lock(locks) => lock_all(parts, locks),
-        Action::Merge(merges) => merge_all(parts, merges),
-        Action::New(news) => new_all(parts, news),
+        Action::Hang(times) => each_evaluated(parts, action, times),
+        Action::If(conditions) => if_all(parts, action, conditions),
+        Action::Job(calls) => job_all(parts, action, calls),
+        Action::Kill(kills) => kill_all(parts, action, kills),
+        Action::Lock(locks) => lock_all(parts, action, locks),
+        Action::Merge(merges) => merge_all(parts, action, merges),
+        Action::New(news) => new_all(parts, action, news),
         Action::Quit(value) => quit_parts(parts, value),
-        Action::Read(reads) => read_all(parts, reads),
-        Action::Set(sets) => set_all(parts, sets),
-        Action::Write(writes) => write_all(parts, writes),
+        Action::Read(reads) => read_all(parts, action, reads),
+        Action::Set(sets) => set_all(parts, action, sets),
+        Action::Write(writes) => write_all(parts, action, writes),
     }
 }
 

@@ -6,7 +6,7 @@ ghost use Rattle.mlk_program.specs.Entries.{formals_of};
 ghost use Rattle.mlk_machine_jobs.specs.Tasks.{RunLines, RunCommands};
 ghost use Rattle.mlk_machine_jobs.specs.Lines.{next_command};
 ghost use Rattle.mlk_machine_jobs.specs.Calling.{formals_in, commands_in};
-ghost use Rattle.mlk_machine_jobs.specs.TaskViews.{Adds, for_of, commands_left, block_of};
+ghost use Rattle.mlk_machine_jobs.specs.TaskViews.{Adds, block_of, for_of, commands_left};
 
 use crate::action::command_parts;
 use crate::adding::add;
@@ -25,29 +25,25 @@ fn last_for(last: &Option<Box<For>>) -> Option<&For>
     }
 }
 
-// All of these commands, on a line with this block.
+// All of these commands of a line.
 #[tactic(auto, using(crate::proofs::LineParts::commands_out))]
-fn rest_of<'a>(commands: &'a Commands, block: &'a [Line]) -> Rest<'a>
+fn rest_of<'a>(commands: &'a Commands, line: &'a Line) -> Rest<'a>
     ensures commands { commands_left result ≡ commands_of commands.now }
-    ensures block { result.block.now ≡ block.now }
+    ensures line { result.line.now ≡ line.now }
 {
     Rest {
         commands: commands.before.as_slice(),
         last: last_for(&commands.last),
-        block,
+        line,
     }
 }
 
 // FOR holds the rest of its line.
 #[tactic(auto, using(crate::proofs::LineParts::for_without, crate::proofs::LineParts::for_with))]
-fn for_parts<'a>(
-    parts: &mut Vec<Task<'a>>,
-    last: &'a For,
-    block: &'a [Line],
-) -> Result<(), AllocError>
-    ensures { OnOk result (Adds (next_command (for_of last.now) (block_of block.now) []) parts.old.items parts.new.items) }
+fn for_parts<'a>(parts: &mut Vec<Task<'a>>, last: &'a For, line: &'a Line) -> Result<(), AllocError>
+    ensures { OnOk result (Adds (next_command (for_of last.now) (line_of line.now) []) parts.old.items parts.new.items) }
 {
-    let rest = rest_of(&last.rest, block);
+    let rest = rest_of(&last.rest, line);
     match &last.control {
         None => add(parts, Task::Line(LineTask::Forever(rest))),
         Some(control) => add(
@@ -66,28 +62,36 @@ fn for_parts<'a>(
 fn last_parts<'a>(
     parts: &mut Vec<Task<'a>>,
     last: Option<&'a For>,
-    block: &'a [Line],
+    line: &'a Line,
 ) -> Result<(), AllocError>
-    ensures { OnOk result (Adds (next_command (last_or_none (option_map (λ f. for_of f.now) last.entry)) (block_of block.now) []) parts.old.items parts.new.items) }
+    ensures { OnOk result (Adds (next_command (last_or_none (option_map (λ f. for_of f.now) last.entry)) (line_of line.now) []) parts.old.items parts.new.items) }
 {
     match last {
         None => Ok(()),
-        Some(last) => for_parts(parts, last, block),
+        Some(last) => for_parts(parts, last, line),
     }
+}
+
+// The lines of the block below a line.
+#[tactic(auto, using(crate::proofs::LineParts::block_out))]
+fn block_of(line: &Line) -> &[Line]
+    ensures { block_of result.now ≡ (line_of line.now).1 }
+{
+    line.block.as_slice()
 }
 
 /// The next command of what is left of a line, and what is left then.
 pub fn next_command<'a>(parts: &mut Vec<Task<'a>>, rest: Rest<'a>) -> Result<(), AllocError>
-    ensures { OnOk result (Adds (next_command (commands_left rest.entry) (block_of rest.entry.block.now) []) parts.old.items parts.new.items) }
+    ensures { OnOk result (Adds (next_command (commands_left rest.entry) (line_of rest.entry.line.now) []) parts.old.items parts.new.items) }
 {
     let Some((command, later)) = rest.commands.split_first() else {
-        return last_parts(parts, rest.last, rest.block);
+        return last_parts(parts, rest.last, rest.line);
     };
-    command_parts(parts, rest.block, command)?;
+    command_parts(parts, block_of(rest.line), command)?;
     let left = Rest {
         commands: later,
         last: rest.last,
-        block: rest.block,
+        line: rest.line,
     };
     add(parts, Task::Line(LineTask::RunCommands(left)))?;
     Ok(())
@@ -112,13 +116,13 @@ pub fn formals_in(line: &Line) -> &[Name]
     }
 }
 
-/// The commands of a line, on its block.
+/// The commands of a line.
 #[tactic(auto, using(crate::proofs::LineParts::line_out))]
 pub fn line_rest(line: &Line) -> Rest<'_>
     ensures commands { commands_left result ≡ commands_in (line_of line.now).0 }
-    ensures block { block_of result.block.now ≡ (line_of line.now).1 }
+    ensures line { result.line.now ≡ line.now }
 {
-    rest_of(&line.commands, line.block.as_slice())
+    rest_of(&line.commands, line)
 }
 
 /// A line, and the lines after it.
@@ -127,7 +131,7 @@ pub fn line_parts<'a>(
     line: &'a Line,
     later: &'a [Line],
 ) -> Result<(), AllocError>
-    ensures { OnOk result (Adds (RunCommands (commands_in (line_of line.now).0) (line_of line.now).1
+    ensures { OnOk result (Adds (RunCommands (commands_in (line_of line.now).0) (line_of line.now)
         ∷ RunLines (map line_of later.now) ∷ []) parts.old.items parts.new.items) }
 {
     add(parts, Task::Line(LineTask::RunCommands(line_rest(line))))?;

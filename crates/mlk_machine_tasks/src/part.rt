@@ -1,15 +1,17 @@
 // Parts of commands, each replaced by tasks, and lists of them.
 
-ghost use Rattle.std.specs.Prelude.{OnOk, flat_map};
-ghost use Rattle.mlk_syntax.specs.Views.{variable_of, call_of, do_of, kill_of, new_of, lock_of, merge_of, read_of, target_of, set_of, write_of};
-ghost use Rattle.mlk_machine_jobs.specs.Commands.{in_variable, job_parts, do_parts, kill_parts, new_parts, lock_parts, merge_parts, read_parts, target_parts, set_parts, write_parts};
+ghost use Rattle.std.specs.Prelude.{OnOk, ◌∷◌, [], ◌-◌, ◌≤◌, length, flat_map};
+ghost use Rattle.mlk_syntax.specs.Views.{variable_of, call_of, do_of, kill_of, new_of, lock_of, merge_of, read_of, target_of, set_of, write_of, action_of};
+ghost use Rattle.mlk_machine_jobs.specs.Commands.{in_turn, in_variable, job_parts, do_parts, kill_parts, new_parts, lock_parts, merge_parts, read_parts, target_parts, set_parts, write_parts};
+ghost use Rattle.mlk_machine_jobs.specs.Tasks.{NextArgument};
 ghost use Rattle.mlk_machine_jobs.specs.TaskViews.{Adds};
 
+use crate::adding::add;
 use crate::command::in_variable;
 use crate::{argument, target};
-use mlk_machine_jobs::Task;
+use mlk_machine_jobs::{LineTask, Task};
 use mlk_syntax::{
-    Call, DoArgument, KillArgument, LockArgument, MergeArgument, NewArgument, ReadArgument,
+    Action, Call, DoArgument, KillArgument, LockArgument, MergeArgument, NewArgument, ReadArgument,
     SetArgument, Target, Variable, WriteArgument,
 };
 use std::alloc::AllocError;
@@ -37,6 +39,38 @@ pub(crate) fn add_all<'a, P: Expanded>(
 {
     for item in items {
         item.add_to(parts)?;
+    }
+    Ok(())
+}
+
+/// All of these arguments of `action` but the `left` ones are done.
+pub(crate) fn ended<'a, P>(
+    parts: &mut Vec<Task<'a>>,
+    action: &'a Action,
+    arguments: &[P],
+    left: &[P],
+) -> Result<(), AllocError>
+    requires { length left.now ≤ length arguments.now }
+    ensures { OnOk result (Adds (NextArgument (action_of action.now) (length arguments.now - length left.now) ∷ []) parts.old.items parts.new.items) }
+{
+    let done = arguments.len() - left.len();
+    add(parts, Task::Line(LineTask::NextArgument(action, done)))
+}
+
+/// Adds the tasks of each of these arguments of `action`, and after each how many are done.
+#[tactic(auto, using(crate::proofs::PartLemmas::argument_added))]
+pub(crate) fn add_arguments<'a, P: Expanded>(
+    parts: &mut Vec<Task<'a>>,
+    action: &'a Action,
+    arguments: &'a [P],
+) -> Result<(), AllocError>
+    ensures { OnOk result (Adds (in_turn P.tasks (action_of action.now) 0 arguments.now) parts.old.items parts.new.items) }
+{
+    let mut left = arguments;
+    while let Some((argument, later)) = left.split_first() {
+        argument.add_to(parts)?;
+        left = later;
+        ended(parts, action, arguments, left)?;
     }
     Ok(())
 }

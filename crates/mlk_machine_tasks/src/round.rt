@@ -2,10 +2,10 @@
 
 ghost use Rattle.std.specs.Prelude.{◌∷◌, [], OnOk, map};
 ghost use Rattle.mlk_syntax.specs.ExprTrees.{tree_of};
-ghost use Rattle.mlk_syntax.specs.Views.{parameter_of};
+ghost use Rattle.mlk_syntax.specs.Views.{parameter_of, line_of};
 ghost use Rattle.mlk_machine_jobs.specs.Tasks.{Evaluate, Drop, StoreLast};
 ghost use Rattle.mlk_machine_jobs.specs.Lines.{parameter_parts, first_round, later_round};
-ghost use Rattle.mlk_machine_jobs.specs.TaskViews.{Adds, commands_left, block_of};
+ghost use Rattle.mlk_machine_jobs.specs.TaskViews.{Adds, commands_left};
 
 use crate::adding::add;
 use mlk_machine_jobs::{LineTask, LocalTask, Rest, Task, ValueTask};
@@ -48,7 +48,7 @@ pub fn parameter_parts<'a>(
     rest: Rest<'a>,
 ) -> Result<(), AllocError>
     ensures { OnOk result (Adds (parameter_parts variable.now (map parameter_of parameters.now)
-        (commands_left rest.entry) (block_of rest.entry.block.now)) parts.old.items parts.new.items) }
+        (commands_left rest.entry) (line_of rest.entry.line.now)) parts.old.items parts.new.items) }
 {
     let Some((first, later)) = parameters.split_first() else {
         return Ok(());
@@ -93,7 +93,7 @@ pub fn first_round<'a>(
     is_run: bool,
 ) -> Result<(), AllocError>
     ensures { OnOk result (Adds (first_round variable.now (map parameter_of parameters.now)
-        (commands_left rest.entry) (block_of rest.entry.block.now) is_run) parts.old.items parts.new.items) }
+        (commands_left rest.entry) (line_of rest.entry.line.now) is_run) parts.old.items parts.new.items) }
 {
     if !is_run {
         return add(
@@ -118,7 +118,7 @@ pub fn later_round<'a>(
     is_run: bool,
 ) -> Result<(), AllocError>
     ensures { OnOk result (Adds (later_round variable.now (map parameter_of parameters.now)
-        (commands_left rest.entry) (block_of rest.entry.block.now) is_run) parts.old.items parts.new.items) }
+        (commands_left rest.entry) (line_of rest.entry.line.now) is_run) parts.old.items parts.new.items) }
 {
     if !is_run {
         return add(

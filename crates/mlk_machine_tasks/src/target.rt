@@ -6,35 +6,26 @@ ghost use Rattle.mlk_syntax.specs.Views.{variable_of, call_of, kill_of, lock_of,
 ghost use Rattle.mlk_machine_jobs.specs.Expressions.{each_actual};
 ghost use Rattle.mlk_machine_jobs.specs.Commands.{in_variable, job_parts, kill_variable, kill_parts, lock_parts, target_parts, set_parts};
 ghost use Rattle.mlk_machine_jobs.specs.TaskViews.{Adds};
-ghost use Rattle.mlk_machine_tasks.specs.ArgumentViews.{actuals_used, each_value};
+ghost use Rattle.mlk_machine_tasks.specs.ArgumentViews.{each_value};
 
 use crate::adding::add;
 use crate::command::{evaluated_if, given_in, in_variable};
 use crate::evaluate::each_actual;
 use crate::expr::{count_subscripts, each_argument};
 use crate::part::add_all;
-use mlk_machine_jobs::{LocalTask, LockTask, Names, Task, ValueTask};
+use mlk_machine_jobs::{LocalTask, LockTask, Names, ScopeTask, Task, ValueTask};
 use mlk_names::{Access, Extent};
-use mlk_syntax::{Actual, Call, Expr, KillArgument, LockArgument, SetArgument, Target, Variable};
+use mlk_syntax::{Call, Expr, KillArgument, LockArgument, SetArgument, Target, Variable};
 use std::alloc::AllocError;
-
-// Actuals by value, whose values are not used.
-#[tactic(auto, using(crate::proofs::PartLemmas::added_count))]
-fn actuals_used<'a>(parts: &mut Vec<Task<'a>>, given: &'a [Actual]) -> Result<(), AllocError>
-    ensures { OnOk result (Adds (actuals_used (actual_trees given.now)) parts.old.items parts.new.items) }
-{
-    let before = parts.len();
-    each_actual(parts, given)?;
-    let count = parts.len().saturating_sub(before);
-    add(parts, Task::Value(ValueTask::DropValues(count)))?;
-    Ok(())
-}
 
 /// JOB evaluates its actuals: the job that it starts is another one.
 pub(crate) fn job_parts<'a>(parts: &mut Vec<Task<'a>>, call: &'a Call) -> Result<(), AllocError>
     ensures { OnOk result (Adds (job_parts (call_of call.now)) parts.old.items parts.new.items) }
 {
-    actuals_used(parts, given_in(&call.actuals))
+    let given = given_in(&call.actuals);
+    each_actual(parts, given)?;
+    add(parts, Task::Scope(ScopeTask::StartJob(&call.callee, given)))?;
+    Ok(())
 }
 
 // What KILL does to a name whose subscripts were evaluated.

@@ -42,7 +42,7 @@ abbrev pub timed_text : Bool → List ℕ
 timed_text false = []
 timed_text true = codes " timed"
 
--- what a job does next; the names of a claim stand in the order of its argument
+-- what a job does next; the names of a claim are in the order of its argument
 abbrev pub state_text : State → List ℕ
 state_text (Ready t) = codes "ready " ++ touch_text t
 state_text (Claims names timed) = codes "claims " ++ (listed name_text names ++ timed_text timed)

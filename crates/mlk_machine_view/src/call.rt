@@ -43,7 +43,7 @@ pub(crate) fn calls<'j>(program: &Program, job: &Job, callee: &Callee) -> State<
     }
 }
 
-/// What a job does at lines: it does not go on to one with a formal list.
+/// What a job does at lines: it does not run on into one with a formal list.
 pub(crate) fn goes_on<'j>(lines: &[Line]) -> State<'j>
     ensures { state_of result ≡ by_lines (map line_of lines.now) }
 {

@@ -33,7 +33,7 @@ fn tested(job: &Job, other: &Job) -> bool
     }
 }
 
-/// Whether two jobs clash: both stand ready at references that overlap, one of which writes. It takes no memory.
+/// Whether two jobs clash: both are ready to touch references that overlap, one of which writes. It takes no memory.
 pub fn clash(job: &Job, other: &Job) -> bool
     ensures test { result ≡ tests.clash (job_of job.now) (job_of other.now) }
     ensures exact { IsTrue result ↔ Clash (job_of job.now) (job_of other.now) }

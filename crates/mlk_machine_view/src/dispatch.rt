@@ -85,7 +85,7 @@ fn lock_state<'j>(program: &Program, job: &Job, task: &'j LockTask) -> State<'j>
     }
 }
 
-// What begins a frame or a block.
+// What begins a frame, a block or another job.
 #[tactic(auto, using(crate::proofs::AskedLemmas::call_shows, crate::proofs::AskedLemmas::call_if_shows))]
 fn scope_state<'j>(program: &Program, job: &Job, task: &'j ScopeTask) -> State<'j>
     ensures { (ts : List TaskOf) → state_of result
@@ -96,7 +96,7 @@ fn scope_state<'j>(program: &Program, job: &Job, task: &'j ScopeTask) -> State<'
         ScopeTask::CallIf(callee, _) => {
             uses_truth(job, calls(program, job, callee), State::Silent)
         }
-        ScopeTask::Block(_) => State::Silent,
+        ScopeTask::StartJob(_, _) | ScopeTask::Block(_) => State::Silent,
     }
 }
 
@@ -110,6 +110,7 @@ fn line_state<'j>(program: &Program, job: &Job, task: &'j LineTask) -> State<'j>
         LineTask::RunLines(lines) => goes_on(lines),
         LineTask::FirstRound(_, _, _) | LineTask::LaterRound(_, _, _) => State::AsksChoice,
         LineTask::RunCommands(_)
+        | LineTask::NextArgument(_, _)
         | LineTask::Parameters(_, _, _)
         | LineTask::Forever(_)
         | LineTask::NextValue(_, _)

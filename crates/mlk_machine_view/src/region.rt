@@ -22,7 +22,7 @@ fn is_tree(extent: Extent) -> bool
     matches!(extent, Extent::Tree)
 }
 
-// Whether subscripts meet of which the one or the other are none.
+// Whether two lists of subscripts meet, one of which is empty.
 fn ends_meet(first: &[Value], far: Extent, second: &[Value], wide: Extent) -> bool
     requires { (length first.now ≡ 0) ⊎ (length second.now ≡ 0) }
     ensures { result ≡ regions.subs_meet first.now far second.now wide }

@@ -29,7 +29,7 @@ use Rattle.mlk_soundness_machine.specs.Safe.{SafeFor, KeepsTo}
 use Rattle.mlk_soundness_machine.proofs.Facts.{plain_facts}
 use Rattle.mlk_soundness_machine.proofs.Going.{Next, by_step}
 use Rattle.mlk_soundness_machine.specs.Facts.{Facts}
-use Rattle.mlk_soundness_machine.proofs.Listing.{no_start, no_line, no_round, no_command}
+use Rattle.mlk_soundness_machine.proofs.Listing.{no_start, no_line, no_round, no_command, no_argument, no_start_of_job}
 use Rattle.mlk_soundness_machine.proofs.Calling.{none_held}
 use Rattle.mlk_soundness_machine.proofs.Changes.{Allowed}
 use Rattle.mlk_soundness_machine.proofs.Steps.{done, unasked}
@@ -80,6 +80,8 @@ module _ (routines : List RoutineTree) (sc : Scope) (w : World) (b : Level) (wor
     lines = no_line sc.routines sc.blocks begun j [] e refl;
     rounds = no_round sc.routines sc.blocks begun j [] e refl;
     inside = no_command sc.routines sc.rules (sc.blocks, sc.declared_entries) begun j [] e refl;
+    between = no_argument sc.routines sc.rules (sc.blocks, sc.declared_entries) begun j [] e refl;
+    jobs = no_start_of_job sc.routines sc.declared_entries j [] e refl;
   }
 
   pub ended_safe : (n : ℕ) (begun : List Job) (j : Job) → j.tasks ≡ [] → ((m : LockName) → count_of j.held m ≡ 0) → SafeFor routines (KeepsTo sc) n begun j

@@ -10,7 +10,7 @@ use Rattle.mlk_program.specs.Entries.{as_lines}
 use Rattle.mlk_cert_parts.specs.declared.block.EntryCert.{EntryCert}
 use Rattle.mlk_cert_parts.specs.declared.case.Case.{Case}
 use Rattle.mlk_machine_jobs.specs.Calling.{commands_in}
-use Rattle.mlk_machine_jobs.specs.Tasks.{Task, Job, marks, LineTree, RunLines, RunCommands}
+use Rattle.mlk_machine_jobs.specs.Tasks.{Task, Job, marks, LineTree, StartJob, RunLines, RunCommands, NextArgument}
 use Rattle.mlk_walk_state.specs.Names.{is_own}
 use Rattle.mlk_walk_state.specs.Scope.{Scope, listed, listed_at}
 use Rattle.mlk_soundness_machine.specs.Described.{World, Level, bare, idle, Stands}
@@ -20,8 +20,8 @@ use Rattle.mlk_machine_laws.specs.Sharing.{is_lent}
 use Rattle.mlk_soundness_machine.specs.Marked.{Begun, AreMarked, Marked}
 use Rattle.mlk_soundness_machine.specs.Reads.{now, times}
 use Rattle.mlk_soundness_machine.proofs.Worlds.{guarded_map, waiting_kept}
-use Rattle.mlk_soundness_machine.specs.Places.{line_number, entry_trees, StandIn, none_follows, OnLine, AreRoundOf, ComesTo}
-use Rattle.mlk_soundness_machine.specs.Listed.{IsDescribed, IsListedAt, IsAtStart, IsAtLine, IsAtRound, IsInside, StartListed, GoesListed, RoundListed, CommandWalked}
+use Rattle.mlk_soundness_machine.specs.Places.{line_number, entry_trees, StandIn, none_follows, OnLine, AreRoundOf}
+use Rattle.mlk_soundness_machine.specs.Listed.{IsDescribed, IsListedAt, IsAtStart, IsAtLine, IsAtRound, IsInside, StartListed, GoesListed, RoundListed, CommandWalked, ArgumentWalked, StartsDeclared}
 
 -- what the open blocks and frames, and how the running frame began, add to what is said of a frame
 module _ (sc : Scope) (w : World) (b : Level) (c : Case) (j : Job) (k : AreMarked w b (marks j.tasks)) (u : Begun sc w) (d : Stands sc w b c (bare (idle j))) where
@@ -81,35 +81,35 @@ unfolding is_listed_at
 is_at_line sc w b c l lines i behind is others ahead none j k u d = record { at = is_listed_at sc w b c (line_number l.0) 0 i j k u d; behind = behind; is_line = is; others = others; ahead = ahead; no_more = none }
 
 -- A case is listed for rounds that run these commands, on the line on which the job is.
-pub record BeginsRound (sc : Scope) (lines : LineTrees) (rest : CommandTrees) (block : LineTrees) (ts : List Task) (c : Case) : Type 0 where
-  pub on : OnLine lines block ts
+pub record BeginsRound (sc : Scope) (lines : LineTrees) (rest : CommandTrees) (here : LineTree) (ts : List Task) (c : Case) : Type 0 where
+  pub on : OnLine lines here ts
   pub index : ℕ
-  pub runs : AreRoundOf rest index (commands_in on.head)
-  pub is_listed : Among c (listed sc (line_number on.head) index)
+  pub runs : AreRoundOf rest index (commands_in here.0)
+  pub is_listed : Among c (listed sc (line_number here.0) index)
 
-pub is_at_round : (sc : Scope) (w : World) (b : Level) (rest : CommandTrees) (block : LineTrees) (ts : List Task) (c : Case) → BeginsRound sc (own_lines sc w) rest block ts c → (j : Job) → AreMarked w b (marks j.tasks) → (u : Begun sc w)
-    → Stands sc w b c (bare (idle j)) → IsAtRound sc.routines sc.blocks rest block ts w.begun j
+pub is_at_round : (sc : Scope) (w : World) (b : Level) (rest : CommandTrees) (here : LineTree) (ts : List Task) (c : Case) → BeginsRound sc (own_lines sc w) rest here ts c → (j : Job) → AreMarked w b (marks j.tasks) → (u : Begun sc w)
+    → Stands sc w b c (bare (idle j)) → IsAtRound sc.routines sc.blocks rest here ts w.begun j
 unfolding is_listed_at
-is_at_round sc w b rest block ts c r j k u d = record {
+is_at_round sc w b rest here ts c r j k u d = record {
   entry = w.entry;
   on = r.on;
   index = r.index;
   runs = r.runs;
-  at = is_listed_at sc w b c (line_number r.on.head) r.index r.is_listed j k u d;
+  at = is_listed_at sc w b c (line_number here.0) r.index r.is_listed j k u d;
   its = refl;
 }
 
 -- where the walk comes to a case
-pub is_inside : (sc : Scope) (w : World) (b : Level) (left : CommandTrees) (block : LineTrees) (ts : List Task) (c : Case) → ComesTo sc (own_lines sc w) left block ts c → (j : Job) → AreMarked w b (marks j.tasks) → (u : Begun sc w)
-    → Stands sc w b c (bare (idle j)) → IsInside sc.routines sc.rules (sc.blocks, sc.declared_entries) left block ts w.begun j
+pub is_inside : (sc : Scope) (w : World) (b : Level) (Comes : Scope → LineTrees → Case → Type 0) (c : Case) → Comes sc (own_lines sc w) c → (j : Job) → AreMarked w b (marks j.tasks) → (u : Begun sc w)
+    → Stands sc w b c (bare (idle j)) → IsInside sc.routines sc.rules (sc.blocks, sc.declared_entries) Comes w.begun j
 unfolding is_described
-is_inside sc w b left block ts c r j k u d = record {
+is_inside sc w b Comes c r j k u d = record {
   entry = w.entry;
   running = own_is sc w u ∙ sym d.routine;
   certificate = u.block;
   is_certified = u.certified;
   case = c;
-  comes = subst (λ z. ComesTo z (own_lines sc w) left block ts c) u.scope r;
+  comes = subst (λ z. Comes z (own_lines sc w) c) u.scope r;
   describes = is_described sc w b c j k u d;
   began = u.began;
 }
@@ -142,3 +142,19 @@ no_round routines blocks begun j ts e h rest block t us at is = let z : true ≡
 pub no_command : (routines : List RoutineTree) (rules : RuleLists) (entries : List (EntryId × EntryCert) × List EntryId) (begun : List Job) (j : Job) (ts : List Task) → j.tasks ≡ ts → begins_commands ts ≡ false
     → CommandWalked routines rules entries begun j
 no_command routines rules entries begun j ts e h left block us at = let z : true ≡ false = sym (ap begins_commands (sym e ∙ at)) ∙ h in absurd (cc z)
+
+-- of one that ends no argument, and starts no job
+abbrev pub ends_argument : List Task → Bool
+ends_argument (NextArgument action count ∷ ts) = true
+ends_argument ts = false
+
+abbrev pub starts_job : List Task → Bool
+starts_job (StartJob callee given ∷ ts) = true
+starts_job ts = false
+
+pub no_argument : (routines : List RoutineTree) (rules : RuleLists) (entries : List (EntryId × EntryCert) × List EntryId) (begun : List Job) (j : Job) (ts : List Task) → j.tasks ≡ ts → ends_argument ts ≡ false
+    → ArgumentWalked routines rules entries begun j
+no_argument routines rules entries begun j ts e h action count left here us at = let z : true ≡ false = sym (ap ends_argument (sym e ∙ at)) ∙ h in absurd (cc z)
+
+pub no_start_of_job : (routines : List RoutineTree) (declared : List EntryId) (j : Job) (ts : List Task) → j.tasks ≡ ts → starts_job ts ≡ false → StartsDeclared routines declared j
+no_start_of_job routines declared j ts e h callee given us at = let z : true ≡ false = sym (ap starts_job (sym e ∙ at)) ∙ h in absurd (cc z)

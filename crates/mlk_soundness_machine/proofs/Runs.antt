@@ -13,7 +13,7 @@ use Rattle.mlk_machine_jobs.specs.Tasks.{Task, Job}
 use Rattle.mlk_machine_jobs.specs.Runs.{go, aborted, machine, next_claim}
 use Rattle.mlk_cert_parts.specs.declared.block.EntryCert.{EntryCert}
 use Rattle.mlk_soundness_machine.specs.Listed.{FactsSince}
-use Rattle.mlk_soundness_machine.proofs.Listing.{no_start, no_line, no_round, no_command}
+use Rattle.mlk_soundness_machine.proofs.Listing.{no_start, no_line, no_round, no_command, no_argument, no_start_of_job}
 use Rattle.mlk_soundness_machine.specs.Safe.{SafeFor}
 use Rattle.mlk_soundness_machine.specs.History.{begun_after}
 use Rattle.mlk_soundness_machine.specs.Moments.{where_it_goes, begun_by}
@@ -62,4 +62,6 @@ stopped_facts routines rules entries begun j e f = record {
   lines = no_line routines entries.0 begun j [] e refl;
   rounds = no_round routines entries.0 begun j [] e refl;
   inside = no_command routines rules entries begun j [] e refl;
+  between = no_argument routines rules entries begun j [] e refl;
+  jobs = no_start_of_job routines entries.1 j [] e refl;
 }

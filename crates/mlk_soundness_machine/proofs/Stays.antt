@@ -72,8 +72,10 @@ answer_open j (task.ReleaseAll ∷ ts) = record { tests = refl; frames = refl; c
 answer_open j (task.Call extrinsic callee given ∷ ts) = record { tests = refl; frames = refl; count = refl }
 answer_open j (task.CallIf callee given ∷ ts) = record { tests = refl; frames = refl; count = refl }
 answer_open j (task.Block lines ∷ ts) = record { tests = refl; frames = refl; count = refl }
+answer_open j (task.StartJob callee given ∷ ts) = record { tests = refl; frames = refl; count = refl }
 answer_open j (task.RunLines lines ∷ ts) = record { tests = refl; frames = refl; count = refl }
 answer_open j (task.RunCommands commands block ∷ ts) = record { tests = refl; frames = refl; count = refl }
+answer_open j (task.NextArgument action count ∷ ts) = record { tests = refl; frames = refl; count = refl }
 answer_open j (task.Parameters v ps rest block ∷ ts) = record { tests = refl; frames = refl; count = refl }
 answer_open j (task.Forever rest block ∷ ts) = record { tests = refl; frames = refl; count = refl }
 answer_open j (task.NextValue v rest block ∷ ts) = record { tests = refl; frames = refl; count = refl }
@@ -160,8 +162,10 @@ stays routines free c j (task.ReleaseAll) ts h = unasked (Has ts) c _ (with_task
 stays routines free c j (task.Call extrinsic callee given) ts h = absurd (cc h)
 stays routines free c j (task.CallIf callee given) ts h = absurd (cc h)
 stays routines free c j (task.Block lines) ts h = absurd (cc h)
+stays routines free c j (task.StartJob callee given) ts h = unasked (Has ts) c _ (with_tasks ts _ refl)
 stays routines free c j (task.RunLines lines) ts h = unasked (Has ts) c _ (of_line ts j lines)
 stays routines free c j (task.RunCommands commands block) ts h = unasked (Has ts) c _ (with_tasks ts _ (next_commands commands block ts))
+stays routines free c j (task.NextArgument action count) ts h = unasked (Has ts) c _ (with_tasks ts _ refl)
 stays routines free c j (task.Parameters v ps rest block) ts h = unasked (Has ts) c _ (with_tasks ts _ (rounds_of v ps rest block ts))
 stays routines free c j (task.Forever rest block) ts h = unasked (Has ts) c _ (with_tasks ts _ refl)
 stays routines free c j (task.NextValue v rest block) ts h = unasked (Has ts) c _ (with_tasks ts _ refl)

@@ -69,7 +69,7 @@ abbrev pub IsGiven : Option (List ℕ) → List ℕ → Type 0
 IsGiven None v = Unit {0}
 IsGiven (Some value) v = v ≡ value
 
--- the job has these values, and below them those of the frames that wait; the captured symbols, the last one first, stand for
+-- the job has these values, and below them those of the frames that wait; the captured symbols, the last one first, denote
 -- theirs
 abbrev pub Fills : Assignment → List Slot → List Sym → List (List ℕ) → List (List ℕ) → Type 0
 Fills a [] [] values below = values ≡ below

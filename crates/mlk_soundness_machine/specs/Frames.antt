@@ -15,7 +15,7 @@ pub record Waiting : Type 0 where
   pub bindings : Bindings
   pub guards : List ℕ → Bool
 
--- how often terms of waiting frames stand for a name, each read in its own bindings
+-- how often terms of waiting frames denote a name, each read in its own bindings
 abbrev pub times_waiting : Cells → ℕ → List Waiting → LockName → ℕ
 times_waiting cells number [] m = 0
 times_waiting cells number (w ∷ ws) m = times (values_in cells w.bindings number) w.terms m + times_waiting cells number ws m

@@ -30,7 +30,7 @@ abbrev pub open_frames : Job → ℕ
 open_frames j = count_frames (marks j.tasks)
 
 -- The job as it was when each of its open frames began, the innermost first: a step by which a frame begins adds what it comes
--- to, and once a frame has ended, that of its begin is gone. Before the step so many frames are open.
+-- to, and once a frame has ended, that of its begin is gone. The number is how many frames are open before the step.
 abbrev pub begun_since : List Job → ℕ → Job → List Job
 begun_since begun count i = if nat_lt count (open_frames i) then i ∷ begun else drop (count - open_frames i) begun
 
@@ -55,4 +55,4 @@ pub record BeganAt (routines : List RoutineTree) (e : EntryId) (first : Job) : T
   pub lines : List LineTree
   pub more : List Task
   pub are : lines_after routines e ≡ (head, body) ∷ lines
-  pub tasks : first.tasks ≡ RunCommands (commands_in head) body ∷ RunLines lines ∷ more
+  pub tasks : first.tasks ≡ RunCommands (commands_in head) (head, body) ∷ RunLines lines ∷ more

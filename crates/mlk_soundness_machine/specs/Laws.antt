@@ -1,5 +1,5 @@
 -- What is shown of a job that a case describes. This project's own choice.
-use Rattle.std.specs.Prelude.{◌≡◌, ◌⊎◌, ◌||◌, ℕ, Bool, true, false, List, [], ◌∷◌, Some, None, Ok}
+use Rattle.std.specs.Prelude.{◌≡◌, ◌⊎◌, ◌||◌, ℕ, Bool, true, false, List, [], ◌∷◌, Some, None, Ok, Option}
 use Rattle.std.specs.List.{AllZip}
 use Rattle.mlk_names.specs.declared.lock_name.LockName.{LockName}
 use Rattle.mlk_names.specs.declared.term.LockTerm.{LockTerm}
@@ -38,12 +38,12 @@ use Rattle.mlk_soundness_machine.specs.Safe.{SafeFor}
 abbrev pub SafeAtEachMoment : Type 0
 SafeAtEachMoment =
     (routines : List RoutineTree) (declared : EntryId → Bool) (rules : RuleLists) (entries : List (EntryId × EntryCert) × List EntryId)
-    → ((e : EntryId) (test : Bool) (values : List (List ℕ)) (k : ℕ) (first : Job)
+    → ((e : EntryId) (test : Bool) (values : List (Option (List ℕ))) (k : ℕ) (first : Job)
     → (machine routines declared).begin e test values k ≡ Ok first → (n : ℕ) → SafeFor routines (FactsSince routines rules entries) n (first ∷ []) first)
     → AtEachMomentSince routines declared (FactsSince routines rules entries)
 
--- Where a case describes a job and its terms cover a reference, so do names that the job holds cover what the reference
--- stands for.
+-- Where a case describes a job and its terms cover a reference, names that the job holds cover what the reference
+-- denotes.
 abbrev pub DescribedIsCovered : Type 0
 DescribedIsCovered =
     (rules : RuleLists) (sc : Scope) (w : World) (b : Level) (c : Case) (j : Job) → Stands sc w b c (bare (idle j))
@@ -52,7 +52,7 @@ DescribedIsCovered =
     → answer rules c.held (record { root = name; subs = subs; extent = extent; access = access }) ≡ None
     → IsCoveredAt rules j (touch_at name values extent access)
 
--- Where a case describes a job and allows the claim of a term, the name that the term stands for is at or below one that
+-- Where a case describes a job and allows the claim of a term, the name that the term denotes is at or below one that
 -- the job holds, or its rank is above those of all that it holds, over all open frames.
 abbrev pub DescribedIsInOrder : Type 0
 DescribedIsInOrder =

@@ -1,5 +1,6 @@
--- That a listed case describes a job where a frame of it begins, where it goes on to a line, and where a round of a FOR begins;
--- and inside a line, before each command, one that the walk makes of a listed case. This project's own choice.
+-- That a listed case describes a job where a frame of it begins, where it moves on to a line, and where a round of a FOR begins;
+-- and inside a line, before each command and after each argument, one that the walk makes of a listed case; and that JOB starts
+-- declared entries. This project's own choice.
 use Rattle.std.specs.Prelude.{◌≡◌, ℕ, ◌+◌, true, false, List, [], ◌∷◌, ◌++◌, map, Some}
 use Rattle.std.specs.List.{AllZip}
 use Rattle.mlk_names.specs.Lists.{Among}
@@ -7,26 +8,28 @@ use Rattle.mlk_names.specs.declared.lock_name.LockName.{LockName}
 use Rattle.mlk_names.specs.declared.term.LockTerm.{LockTerm}
 use Rattle.mlk_rules.specs.declared.rules.RuleLists.{RuleLists}
 use Rattle.mlk_program.specs.declared.entry.EntryId.{EntryId}
-use Rattle.mlk_program.specs.Entries.{as_lines}
-use Rattle.mlk_syntax.specs.Trees.{RoutineTree, CommandTrees, LineTrees, line}
+use Rattle.mlk_program.specs.Entries.{as_lines, target_of}
+use Rattle.mlk_syntax.specs.declared.expr.Callee.{Callee}
+use Rattle.mlk_syntax.specs.ExprTrees.{ActualTree}
+use Rattle.mlk_syntax.specs.Trees.{RoutineTree, ActionTree, CommandTrees, LineTrees, line}
 use Rattle.mlk_cert_parts.specs.declared.block.EntryCert.{EntryCert}
 use Rattle.mlk_cert_parts.specs.declared.case.Case.{Case}
 use Rattle.mlk_machine_locks.specs.Counts.{count_of}
 use Rattle.mlk_machine_jobs.specs.Bindings.{look}
 use Rattle.mlk_machine_jobs.specs.Calling.{commands_in}
-use Rattle.mlk_machine_jobs.specs.Tasks.{Task, Job, marks, LineTree, RunLines, RunCommands}
+use Rattle.mlk_machine_jobs.specs.Tasks.{Task, Job, marks, LineTree, StartJob, RunLines, RunCommands, NextArgument}
 use Rattle.mlk_walk_state.specs.Names.{is_among, is_own}
-use Rattle.mlk_walk_state.specs.Scope.{block_at, listed_at, scope_with}
+use Rattle.mlk_walk_state.specs.Scope.{Scope, block_at, has_entry, listed_at, scope_with}
 use Rattle.mlk_soundness_machine.specs.Facts.{Facts}
 use Rattle.mlk_soundness_machine.specs.Frames.{Waiting, times_waiting, Binds, Agrees}
 use Rattle.mlk_soundness_machine.specs.History.{block_tests, frame_backs, first_back, is_reference, BeganAt}
-use Rattle.mlk_soundness_machine.specs.Places.{line_number, entry_trees, StandIn, round_of, none_follows, OnLine, AreRoundOf, ComesTo}
+use Rattle.mlk_soundness_machine.specs.Places.{line_number, entry_trees, StandIn, round_of, none_follows, OnLine, AreRoundOf, arguments_from, ComesTo, ComesAfter}
 use Rattle.mlk_soundness_machine.specs.Reads.{now, times}
 
--- The case describes the job: with what other open frames have set aside, each read in its own bindings, its terms stand for
+-- The case describes the job: with what other open frames have set aside, each read in its own bindings, its terms denote
 -- exactly what the job holds; `$TEST` and the saved ones are as it says, and so are the names bound anew in the running frame;
 -- names that it lists as kept have their values of the frame's begin, but for those that the frame's own call bound by reference.
--- What others have set aside is what the job held at the frame's begin, but for what the terms that the entry needs stood for.
+-- What others have set aside is what the job held at the frame's begin, but for what the terms that the entry needs denoted.
 pub record IsDescribed (need : List LockTerm) (c : Case) (begun : List Job) (j : Job) : Type 0 where
   pub test : Agrees c.test j.test
   pub saved : AllZip Agrees c.saved (block_tests (marks j.tasks))
@@ -56,7 +59,7 @@ pub record IsListedAt (routines : List RoutineTree) (blocks : List (EntryId × E
 abbrev pub IsAtStart : List RoutineTree → List (EntryId × EntryCert) → List Job → Job → Type 0
 IsAtStart routines blocks begun j = (number : ℕ) × (at : IsListedAt routines blocks number 0 begun j) × (line_number at.began.head ≡ number)
 
--- one that is listed at this line, which is one of that entry's or of a block below them, with the lines that stand behind it
+-- one that is listed at this line, which is one of that entry's or of a block below them, with the lines that follow it
 pub record IsAtLine (routines : List RoutineTree) (blocks : List (EntryId × EntryCert)) (l : LineTree) (lines : List LineTree) (begun : List Job) (j : Job) : Type 0 where
   pub at : IsListedAt routines blocks (line_number l.0) 0 begun j
   pub behind : LineTrees
@@ -66,30 +69,31 @@ pub record IsAtLine (routines : List RoutineTree) (blocks : List (EntryId × Ent
   pub no_more : none_follows others ≡ true
 
 -- one that is listed for rounds of a FOR that runs these commands, on the line on which the job is
-pub record IsAtRound (routines : List RoutineTree) (blocks : List (EntryId × EntryCert)) (rest : CommandTrees) (block : LineTrees) (ts : List Task) (begun : List Job) (j : Job) : Type 0 where
+pub record IsAtRound (routines : List RoutineTree) (blocks : List (EntryId × EntryCert)) (rest : CommandTrees) (here : LineTree) (ts : List Task) (begun : List Job) (j : Job) : Type 0 where
   pub entry : EntryId
-  pub on : OnLine (entry_trees routines entry) block ts
+  pub on : OnLine (entry_trees routines entry) here ts
   pub index : ℕ
-  pub runs : AreRoundOf rest index (commands_in on.head)
-  pub at : IsListedAt routines blocks (line_number on.head) index begun j
+  pub runs : AreRoundOf rest index (commands_in here.0)
+  pub at : IsListedAt routines blocks (line_number here.0) index begun j
   pub its : at.entry ≡ entry
 
--- a case describes it to which the walk of the line comes where the job stands
-pub record IsInside (routines : List RoutineTree) (rules : RuleLists) (entries : List (EntryId × EntryCert) × List EntryId) (left : CommandTrees) (block : LineTrees) (ts : List Task) (begun : List Job) (j : Job) : Type 0 where
+-- a case describes it to which the walk of the line comes where the job is: Comes says which cases, in a scope and an entry's lines
+pub record IsInside (routines : List RoutineTree) (rules : RuleLists) (entries : List (EntryId × EntryCert) × List EntryId) (Comes : Scope → LineTrees → Case → Type 0) (begun : List Job) (j : Job) : Type 0 where
   pub entry : EntryId
   pub running : entry.routine ≡ j.routine
   pub certificate : EntryCert
   pub is_certified : block_at entries.0 entry ≡ Some certificate
   pub case : Case
-  pub comes : ComesTo (scope_with routines rules entries entry certificate) (entry_trees routines entry) left block ts case
+  pub comes : Comes (scope_with routines rules entries entry certificate) (entry_trees routines entry) case
   pub describes : IsDescribed certificate.summary.need case begun j
   pub began : BeganAt routines entry describes.first
 
--- where its frame begins, a case that is listed at the entry's line does; where it goes on to a line, one that is listed at the
--- line; where a round begins, one that is listed for rounds of the FOR; and before each command, one that the walk has there
+-- where its frame begins, a case that is listed at the entry's line does; where it moves on to a line, one that is listed at the
+-- line; where a round begins, one that is listed for rounds of the FOR; before each command, and after each argument of one, one
+-- that the walk has there
 abbrev pub StartListed : List RoutineTree → List (EntryId × EntryCert) → List Job → Job → Type 0
 StartListed routines blocks begun j =
-    (others : List Job) (commands : CommandTrees) (block : LineTrees) (ts : List Task) → begun ≡ j ∷ others → j.tasks ≡ RunCommands commands block ∷ ts → IsAtStart routines blocks begun j
+    (others : List Job) (commands : CommandTrees) (here : LineTree) (ts : List Task) → begun ≡ j ∷ others → j.tasks ≡ RunCommands commands here ∷ ts → IsAtStart routines blocks begun j
 
 abbrev pub GoesListed : List RoutineTree → List (EntryId × EntryCert) → List Job → Job → Type 0
 GoesListed routines blocks begun j =
@@ -97,12 +101,24 @@ GoesListed routines blocks begun j =
 
 abbrev pub RoundListed : List RoutineTree → List (EntryId × EntryCert) → List Job → Job → Type 0
 RoundListed routines blocks begun j =
-    (rest : CommandTrees) (block : LineTrees) (t : Task) (ts : List Task) → j.tasks ≡ RunCommands rest block ∷ t ∷ ts → round_of t ≡ Some rest
-    → IsAtRound routines blocks rest block (t ∷ ts) begun j
+    (rest : CommandTrees) (here : LineTree) (t : Task) (ts : List Task) → j.tasks ≡ RunCommands rest here ∷ t ∷ ts → round_of t ≡ Some rest
+    → IsAtRound routines blocks rest here (t ∷ ts) begun j
 
 abbrev pub CommandWalked : List RoutineTree → RuleLists → List (EntryId × EntryCert) × List EntryId → List Job → Job → Type 0
 CommandWalked routines rules entries begun j =
-    (left : CommandTrees) (block : LineTrees) (ts : List Task) → j.tasks ≡ RunCommands left block ∷ ts → IsInside routines rules entries left block ts begun j
+    (left : CommandTrees) (here : LineTree) (ts : List Task) → j.tasks ≡ RunCommands left here ∷ ts → IsInside routines rules entries (λ sc lines c. ComesTo sc lines left here ts c) begun j
+
+abbrev pub ArgumentWalked : List RoutineTree → RuleLists → List (EntryId × EntryCert) × List EntryId → List Job → Job → Type 0
+ArgumentWalked routines rules entries begun j =
+    (action : ActionTree) (count : ℕ) (left : CommandTrees) (here : LineTree) (ts : List Task)
+    → j.tasks ≡ NextArgument action count ∷ (arguments_from action count ++ RunCommands left here ∷ ts)
+    → IsInside routines rules entries (λ sc lines c. ComesAfter sc lines action count left here ts c) begun j
+
+-- where its next step is JOB, the entry of the job that it starts is one of these
+abbrev pub StartsDeclared : List RoutineTree → List EntryId → Job → Type 0
+StartsDeclared routines declared j =
+    (callee : Callee) (given : List ActualTree) (ts : List Task) → j.tasks ≡ StartJob callee given ∷ ts
+    → (e : EntryId) × (target_of routines j.routine callee ≡ Some e) × (has_entry declared e ≡ true)
 
 -- what one job keeps to at each moment, where the entries of the first table are certified with its blocks, and those of the
 -- second are declared
@@ -112,3 +128,5 @@ pub record FactsSince (routines : List RoutineTree) (rules : RuleLists) (entries
   pub lines : GoesListed routines entries.0 begun j
   pub rounds : RoundListed routines entries.0 begun j
   pub inside : CommandWalked routines rules entries begun j
+  pub between : ArgumentWalked routines rules entries begun j
+  pub jobs : StartsDeclared routines entries.1 j

@@ -1,5 +1,5 @@
 -- What a job was when its open frames began, at each moment of each run of its own. This project's own choice.
-use Rattle.std.specs.Prelude.{◌≡◌, ℕ, Bool, List, [], ◌∷◌, Ok, Err}
+use Rattle.std.specs.Prelude.{◌≡◌, ℕ, Bool, List, [], ◌∷◌, Ok, Err, Option}
 use Rattle.mlk_syntax.specs.Trees.{RoutineTree}
 use Rattle.mlk_program.specs.declared.entry.EntryId.{EntryId}
 use Rattle.mlk_machine_locks.specs.Systems.{Machine, Act, alone, lone_run}
@@ -23,6 +23,6 @@ begun_by m (a ∷ acts) begun j = where_it_goes begun (λ i. begun_by m acts (be
 -- it was when its open frames began.
 abbrev pub AtEachMomentSince : List RoutineTree → (EntryId → Bool) → (List Job → Job → Type 0) → Type 0
 AtEachMomentSince routines declared Keeps =
-    (e : EntryId) (test : Bool) (values : List (List ℕ)) (k : ℕ) (first j : Job) (acts : List (Act Choice EntryId))
+    (e : EntryId) (test : Bool) (values : List (Option (List ℕ))) (k : ℕ) (first j : Job) (acts : List (Act Choice EntryId))
     → (machine routines declared).begin e test values k ≡ Ok first
     → lone_run (machine routines declared) acts first ≡ Ok j → Keeps (begun_by (machine routines declared) acts (first ∷ []) first) j

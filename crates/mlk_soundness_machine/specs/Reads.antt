@@ -1,4 +1,4 @@
--- What terms stand for in a job, and how often a list of them stands for a name. This project's own choice.
+-- What terms denote in a job, and how often a list of them denotes a name. This project's own choice.
 use Rattle.std.specs.Prelude.{ℕ, ◌+◌, Bool, if◌then◌else◌, List, [], ◌∷◌, Option, Some, None, option_map, bytes_eq}
 use Rattle.std.specs.Fmt.{decimal}
 use Rattle.mlk_names.specs.declared.lock_name.LockName.{LockName}
@@ -24,7 +24,7 @@ value_of a (known.Const value) = Some value
 value_of a (known.Local name) = a.locals name
 value_of a known.Job = Some a.job
 
--- the name that a term stands for
+-- the name that a term denotes
 abbrev pub name_of : Assignment → LockTerm → Option LockName
 name_of a t = option_map (λ subs. record { root = t.root; subs = subs }) (all_some (value_of a) t.subs)
 
@@ -32,7 +32,7 @@ abbrev pub one_at : Option LockName → LockName → ℕ
 one_at None m = 0
 one_at (Some n) m = if same_name n m then 1 else 0
 
--- how many of the terms stand for the name
+-- how many of the terms denote the name
 abbrev pub times : Assignment → List LockTerm → LockName → ℕ
 times a [] m = 0
 times a (t ∷ ts) m = one_at (name_of a t) m + times a ts m

@@ -1,9 +1,9 @@
--- What it means that a job is safe for so many steps. This project's own choice.
+-- What it means that a job is safe for a number of steps. This project's own choice.
 use Rattle.std.specs.Prelude.{◌≡◌, ℕ, zero, suc, Bool, true, false, List, ◌∷◌, Ok}
 use Rattle.mlk_names.specs.declared.lock_name.LockName.{LockName}
 use Rattle.mlk_syntax.specs.Trees.{RoutineTree}
 use Rattle.mlk_machine_jobs.specs.declared.choice.Choice.{Choice}
-use Rattle.mlk_machine_jobs.specs.Tasks.{Task, Job, marks, RunLines, RunCommands, DoTouch, Claim, Call, CallIf, Block, HaltJob, EndBlock, EndFrame}
+use Rattle.mlk_machine_jobs.specs.Tasks.{Task, Job, marks, RunLines, RunCommands, NextArgument, StartJob, DoTouch, Claim, Call, CallIf, Block, HaltJob, EndBlock, EndFrame}
 use Rattle.mlk_machine_jobs.specs.Runs.{go}
 use Rattle.mlk_walk_state.specs.declared.state.State.{State}
 use Rattle.mlk_walk_state.specs.Scope.{Scope}
@@ -12,7 +12,8 @@ use Rattle.mlk_soundness_machine.specs.Described.{World, Level, Slot, idle, Desc
 use Rattle.mlk_soundness_machine.specs.History.{begun_after}
 use Rattle.mlk_soundness_machine.specs.Marked.{Marked}
 
--- a task that touches and claims nothing; and one, too, by which the job goes on to no line, and begins no commands
+-- a task that touches and claims nothing; and one, too, by which the job moves on to no line, begins no commands, ends no
+-- argument and starts no job
 abbrev pub is_quiet : Task → Bool
 is_quiet (DoTouch touch) = false
 is_quiet (Claim names timed) = false
@@ -20,7 +21,9 @@ is_quiet t = true
 
 abbrev pub is_plain : Task → Bool
 is_plain (RunLines (l ∷ lines)) = false
-is_plain (RunCommands rest block) = false
+is_plain (RunCommands rest here) = false
+is_plain (NextArgument action count) = false
+is_plain (StartJob callee given) = false
 is_plain t = is_quiet t
 
 -- a task that begins and ends no block and no frame
@@ -38,7 +41,7 @@ abbrev pub KeepsTo : Scope → List Job → Job → Type 0
 KeepsTo sc begun j = FactsSince sc.routines sc.rules (sc.blocks, sc.declared_entries) begun j
 
 module _ (routines : List RoutineTree) (Fact : List Job → Job → Type 0) where
-  -- the fact holds now, and after each of so many steps, of the job and of what it was when its open frames began
+  -- the fact holds now, and after each step up to the number, of the job and of what it was when its open frames began
   abbrev pub SafeFor : ℕ → List Job → Job → Type 0
   SafeFor zero begun j = Fact begun j
   SafeFor (suc n) begun j = Fact begun j × ((free : LockName → Bool) (c : Choice) (i : Job) → go routines free c j ≡ Ok i → SafeFor n (begun_after begun j i) i)

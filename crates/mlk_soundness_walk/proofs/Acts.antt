@@ -1,9 +1,9 @@
 -- Commands: what each does, from left to right.
-use Rattle.std.proofs.Common.{◌≡◌, ℕ, ◌+◌, Bool, true, false, List, [], ◌∷◌, ◌++◌, reverse, map, Option, Some, None, refl, sym, ap, subst, inl, inr}
+use Rattle.std.proofs.Common.{◌≡◌, ℕ, ◌+◌, Bool, true, false, List, [], ◌∷◌, ◌++◌, reverse, map, Option, Some, None, refl, sym, ap, subst, inl, inr, suc, take, drop, ◌∙◌}
 use Rattle.std.specs.Prelude.{flat_map, if◌then◌else◌}
 use Rattle.mlk_names.specs.Lists.{Among}
 use Rattle.mlk_syntax.specs.ExprTrees.{Tree, ActualTree, actuals_from, as_list}
-use Rattle.mlk_syntax.specs.Trees.{RoutineTree, WriteTree, WriteValue, WriteCharacter, WriteFormat}
+use Rattle.mlk_syntax.specs.Trees.{RoutineTree, WriteTree, WriteValue, WriteCharacter, WriteFormat, ActionTree}
 use Rattle.mlk_program.specs.Calls.{in_tree, in_actual, in_actuals, in_given, in_write}
 use Rattle.mlk_cert_parts.specs.declared.case.Case.{Case}
 use Rattle.mlk_cert_parts.specs.declared.case.Test.{Test}
@@ -23,7 +23,7 @@ use Rattle.mlk_walk_exprs.specs.Walks.{Outcome, Goes, Skips, Quits, each, few}
 use Rattle.mlk_walk_exprs.specs.Spots.{Spot}
 use Rattle.mlk_walk_exprs.specs.Expressions.{value}
 use Rattle.mlk_walk_commands.specs.Arguments.{write_argument, given_list, given_in, if_argument, if_outcomes}
-use Rattle.mlk_walk_lines.specs.Commands.{in_turn, if_row, else_row, swapped, quit_row}
+use Rattle.mlk_walk_lines.specs.Commands.{in_turn, if_row, else_row, swapped, quit_row, turn}
 use Rattle.mlk_walk_laws.proofs.Counts.{few_keeps}
 use Rattle.mlk_walk_laws.proofs.Transfers.{both, each_keeps}
 use Rattle.mlk_walk_laws.proofs.Walks.{value_keeps, if_argument_keeps, turns_keep}
@@ -40,12 +40,14 @@ use Rattle.mlk_soundness_walk.specs.Commands.{Gives}
 use Rattle.mlk_soundness_walk.proofs.Lines.{none_local, nothing, at_rest_law}
 use Rattle.mlk_soundness_walk.specs.Ours.{AreOurs}
 use Rattle.mlk_soundness_walk.proofs.Ours.{ours_left, ours_right}
-use Rattle.mlk_soundness_walk.proofs.Turns.{evaluated_fits, optional_fits}
+use Rattle.mlk_soundness_walk.proofs.Turns.{evaluated_fits, optional_fits, leads_turn, come_further, one_dropped, ended_fits}
+use Rattle.mlk_soundness_machine.specs.Places.{alone, come_to}
+use Rattle.mlk_soundness_machine.specs.Safe.{KeepsIn}
 
 -- what is skipped over
-pub skip_ifs : (conditions : List Tree) (ts : List Task) → skipped (flat_map if_parts conditions ++ ts) ≡ skipped ts
-skip_ifs [] ts = refl
-skip_ifs (t ∷ conditions) ts = skip_ifs conditions ts
+pub skip_ifs : (a : ActionTree) (k : ℕ) (conditions : List Tree) (ts : List Task) → skipped (made.in_turn if_parts a k conditions ++ ts) ≡ skipped ts
+skip_ifs a k [] ts = refl
+skip_ifs a k (t ∷ conditions) ts = skip_ifs a (suc k) conditions ts
 
 -- lists of actuals
 pub back_again : (given : List ActualTree) → as_list (actuals_from given) ≡ given
@@ -108,16 +110,28 @@ module _ (routines : List RoutineTree) (p : Spot) (w : World) (b : Level) (world
   }
 
   module _ (ts : List Task) (A : State → Type 0) (go : (u : State) → A u → Fit [] n ts u) (skip : (c : Case) → S c → Fit [] n (skipped ts) (at_rest c)) where
-    -- IF
-    pub ifs_fit : (conditions : List Tree) → AreOurs p.scope (flat_map in_tree conditions) → (s : State) → Leads (in_turn if_argument p conditions) s A S Q → Fit [] n (flat_map if_parts conditions ++ ts) s
-    ifs_fit [] ours s l = go s (leads_stay A S Q s l)
-    ifs_fit (t ∷ conditions) ours s l =
-        let B : State → Type 0 = λ u. Leads (in_turn if_argument p conditions) u A S Q in
-        let first = leads_both A S Q (λ v. few p.line p.word (if_argument p t v)) (in_turn if_argument p conditions) (both (if_argument p t) (few p.line p.word) (if_argument_keeps p t) (few_keeps p.line p.word)) (turns_keep if_argument p (if_argument_keeps p) conditions) s l in
-        if_one routines p w b world S Q n evaluate t (ours_left p.scope (in_tree t) (flat_map in_tree conditions) ours) (flat_map if_parts conditions ++ ts) s (λ u. Leads (few p.line p.word) u B S Q)
-        (leads_both B S Q (if_argument p t) (few p.line p.word) (if_argument_keeps p t) (few_keeps p.line p.word) s first)
-        (λ u m. ifs_fit conditions (ours_right p.scope (in_tree t) (flat_map in_tree conditions) ours) u (leads_few B S Q p.line p.word u m))
-        (λ c m. subst (λ z. Fit [] n z (at_rest c)) (sym (skip_ifs conditions ts)) (skip c m))
+    -- IF: from so many conditions on, of all
+    module _ (a : ActionTree) (all : List Tree) (start : State)
+        (mark : (k : ℕ) (u : State) → come_to if_argument p (take k all) start u → (j : Job) → Describes p.scope w b [] u (idle j) → j.tasks ≡ task.NextArgument a k ∷ (made.in_turn if_parts a k (drop k all) ++ ts) → KeepsIn p.scope w b j) where
+      ifs_from : (k : ℕ) (conditions : List Tree) → drop k all ≡ conditions → AreOurs p.scope (flat_map in_tree conditions) → (s : State) → come_to if_argument p (take k all) start s → Leads (in_turn if_argument p conditions) s A S Q
+          → Fit [] n (made.in_turn if_parts a k conditions ++ ts) s
+      ifs_from k [] left ours s come l = go s (leads_stay A S Q s l)
+      ifs_from k (t ∷ conditions) left ours s come l =
+          let B : State → Type 0 = λ u. Leads (in_turn if_argument p conditions) u A S Q in
+          let first = leads_both A S Q (λ v. few p.line p.word (if_argument p t v)) (in_turn if_argument p conditions) (both (if_argument p t) (few p.line p.word) (if_argument_keeps p t) (few_keeps p.line p.word)) (turns_keep if_argument p (if_argument_keeps p) conditions) s l in
+          let behind : List Task = made.in_turn if_parts a (suc k) conditions ++ ts in
+          if_one routines p w b world S Q n evaluate t (ours_left p.scope (in_tree t) (flat_map in_tree conditions) ours) (task.NextArgument a (suc k) ∷ behind) s (λ u. Leads (few p.line p.word) u B S Q × Among u (turn if_argument p (alone s) t).going)
+          (leads_turn routines p w b S Q n if_argument (if_argument_keeps p) t s B first)
+          (λ u m.
+          let on = come_further routines p w b S Q n if_argument all k t conditions start s u left come m.1 in
+          let less = one_dropped routines p w b S Q n all k t conditions left in
+          ended_fits routines p w b S Q n a (suc k) behind u
+          (λ j d e. mark (suc k) u on j d (e ∙ ap (λ z. task.NextArgument a (suc k) ∷ (made.in_turn if_parts a (suc k) z ++ ts)) (sym less)))
+          (ifs_from (suc k) conditions less (ours_right p.scope (in_tree t) (flat_map in_tree conditions) ours) u on (leads_few B S Q p.line p.word u m.0)))
+          (λ c m. subst (λ z. Fit [] n z (at_rest c)) (sym (skip_ifs a (suc k) conditions ts)) (skip c m))
+
+      pub ifs_fit : AreOurs p.scope (flat_map in_tree all) → Leads (in_turn if_argument p all) start A S Q → Fit [] n (made.in_turn if_parts a 0 all ++ ts) start
+      ifs_fit ours l = ifs_from 0 all refl ours start refl l
 
     -- IF and ELSE without arguments
     abbrev May : Bool → State → Type 0

@@ -12,7 +12,7 @@ use Rattle.mlk_walk_exprs.specs.declared.walk.Quit.{Quit}
 use Rattle.mlk_walk_exprs.specs.Walks.{Outcome, Goes, Skips, Quits, Refused, put_states, with_states, each, each_changed, few, joined}
 use Rattle.mlk_walk_exprs.specs.Expressions.{agrees, by_condition}
 use Rattle.mlk_walk_laws.specs.Fewer.{IsClean, IsPart}
-use Rattle.mlk_soundness_walk.specs.Commands.{alone}
+use Rattle.mlk_soundness_machine.specs.Places.{alone}
 use Rattle.mlk_walk_laws.proofs.Lists.{in_flat, all_old, all_new}
 use Rattle.mlk_walk_laws.proofs.Transfers.{Keeps, all_back, going_new, skips_new, quits_new, clean_with}
 use Rattle.mlk_walk_laws.proofs.Counts.{few_clean, few_same, ways_clean, ways_same, joined_same, first_of, second_of, false_of, first_clean}

@@ -19,11 +19,11 @@ module _ (routines : List RoutineTree) (rules : RuleLists) (blocks : List EntryC
   below zero k h = absurd (omega (arith, h))
   below (suc n) k h =
       entry_fits routines rules blocks clean k (lists_once routines rules blocks once) (entry_lines routines rules (known routines rules blocks) formed)
-      (λ e blk at w world p block same deep is lines pass are.
+      (λ e blk at w world p head block same deep is lines pass are.
       line_fits routines rules (known routines rules blocks) e blk w world sound.apart (one_rank rules.families sound.apart)
       (λ column callee written ours t its target head body more heads. well_of routines rules (known routines rules blocks) t head body more heads formed e blk its column callee written ours target)
       (lists_once routines rules blocks once e blk at) (frames_share routines e e) k (λ i l. below n i (omega (arith, l, h)))
-      block (first_level w) (omega arith) lines pass are k (omega arith) p same deep is)
+      block (first_level w) (omega arith) lines pass are k (omega arith) head p same deep is)
 
   pub each_entry : (n : ℕ) → EntryFits routines rules (known routines rules blocks) n
   each_entry n = below (suc n) n (omega arith)

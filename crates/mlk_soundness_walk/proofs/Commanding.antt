@@ -58,6 +58,9 @@ use Rattle.mlk_soundness_walk.proofs.Setting.{set_fits}
 use Rattle.mlk_soundness_walk.proofs.Sets.{variable_fits}
 use Rattle.mlk_soundness_walk.proofs.Variables.{halted, all_but_fits, kill_one_fits}
 use Rattle.mlk_soundness_walk.proofs.Turns.{turns_fit, evaluated_fits, condition_fits}
+use Rattle.mlk_names.specs.Lists.{Among}
+use Rattle.mlk_soundness_machine.specs.Places.{alone, acts_to, arguments_from, holds_to}
+use Rattle.mlk_soundness_machine.specs.Safe.{KeepsIn}
 
 module _ (routines : List RoutineTree) (rules : RuleLists) (entries : List (EntryId × EntryCert) × List EntryId) (e : EntryId) (blk : EntryCert) (w : World) (world : IsWorld (scope routines rules entries e blk) w)
     (apart : FamiliesApart rules.families) (ranked : RankedOnce rules.families)
@@ -110,42 +113,46 @@ module _ (routines : List RoutineTree) (rules : RuleLists) (entries : List (Entr
       (give : may ≡ true → (q : Quitting) → Q q → Gives routines w b sc n (to_end ts) (at_rest q.case))
       (in_a_block : (s : State) → Leads (do_block here in_block) s A S Q → Fits routines sc w b [] n (action_parts block (Do []) ++ ts) s)
       (shares : SharesByOwn sc.is_shared sc.is_shared) (deep : level ≡ b.level) where
-    pub act_fits : (column : ℕ) (condition : Option Tree) (a : ActionTree) → (answers (Does column condition a) ≡ true → may ≡ true) → reads_locals (Does column condition a) ≡ true → AreOurs sc (in_action a) → (s : State) → Leads (act here a) s A S Q
+    -- after each argument, in the states to which the arguments before take this one
+    abbrev pub MarksFit : ActionTree → State → Type 0
+    MarksFit a s = (k : ℕ) (u : State) → acts_to here a k s u → (j : task.Job) → Describes sc w b [] u (idle j) → j.tasks ≡ task.NextArgument a k ∷ (arguments_from a k ++ ts) → KeepsIn sc w b j
+
+    pub act_fits : (column : ℕ) (condition : Option Tree) (a : ActionTree) → (answers (Does column condition a) ≡ true → may ≡ true) → reads_locals (Does column condition a) ≡ true → AreOurs sc (in_action a) → (s : State) → MarksFit a s → Leads (act here a) s A S Q
         → Fits routines sc w b [] n (action_parts block a ++ ts) s
-    act_fits column condition (Do []) may_be locals ours s l = in_a_block s l
-    act_fits column condition (Do (c ∷ calls)) may_be locals ours s l =
+    act_fits column condition (Do []) may_be locals ours s mark l = in_a_block s l
+    act_fits column condition (Do (c ∷ calls)) may_be locals ours s mark l =
         turns_fit routines here w b S Q n do_argument (do_keeps here) do_parts in_do ts
-        (λ d its more u B m k. do_one_fits routines here w b S Q n evaluate (actuals_fit routines here w b S Q n calls_fit) do_call d its more u B m k) (c ∷ calls) ours s A l go
-    act_fits column condition Else may_be locals ours s l = else_fits routines here w b world S Q n evaluate ts A go skip s l
-    act_fits column condition (Hang times) may_be locals ours s l =
-        turns_fit routines here w b S Q n value (value_keeps here) evaluated in_tree ts (λ t its more u B m k. evaluated_fits routines here w b S Q n evaluate t its [] more u B m k) times ours s A l go
-    act_fits column condition (If []) may_be locals ours s l = if_fits routines here w b world S Q n evaluate ts A go skip s l
-    act_fits column condition (If (t ∷ conditions)) may_be locals ours s l = ifs_fit routines here w b world S Q n evaluate ts A go skip (t ∷ conditions) ours s l
-    act_fits column condition (Job calls) may_be locals ours s l =
+        (λ d its more u B m k. do_one_fits routines here w b S Q n evaluate (actuals_fit routines here w b S Q n calls_fit) do_call d its more u B m k) (Do (c ∷ calls)) (c ∷ calls) s mark ours A l go
+    act_fits column condition Else may_be locals ours s mark l = else_fits routines here w b world S Q n evaluate ts A go skip s l
+    act_fits column condition (Hang times) may_be locals ours s mark l =
+        turns_fit routines here w b S Q n value (value_keeps here) evaluated in_tree ts (λ t its more u B m k. evaluated_fits routines here w b S Q n evaluate t its [] more u B m k) (Hang times) times s mark ours A l go
+    act_fits column condition (If []) may_be locals ours s mark l = if_fits routines here w b world S Q n evaluate ts A go skip s l
+    act_fits column condition (If (t ∷ conditions)) may_be locals ours s mark l = ifs_fit routines here w b world S Q n evaluate ts A go skip (If (t ∷ conditions)) (t ∷ conditions) s mark ours l
+    act_fits column condition (Job calls) may_be locals ours s mark l =
         turns_fit routines here w b S Q n job_argument (job_keeps here) job_parts in_call ts
-        (λ c its more u B m k. job_one_fits routines here w b S Q n evaluate (actuals_fit routines here w b S Q n calls_fit) c its more u B m k) calls ours s A l go
-    act_fits column condition (Set sets) may_be locals ours s l =
-        turns_fit routines here w b S Q n set_argument (set_keeps here) set_parts in_set ts set_one sets ours s A l go
+        (λ c its more u B m k. job_one_fits routines here w b S Q n evaluate (actuals_fit routines here w b S Q n calls_fit) c its more u B m k) (Job calls) calls s mark ours A l go
+    act_fits column condition (Set sets) may_be locals ours s mark l =
+        turns_fit routines here w b S Q n set_argument (set_keeps here) set_parts in_set ts set_one (Set sets) sets s mark ours A l go
       where
         set_one : (x : SetTree) → AreOurs sc (in_set x) → (more : List Task) (u : State) (B : State → Type 0) → Leads (set_argument here x) u B S Q
             → ((v : State) → B v → Fits routines sc w b [] n more v) → Fits routines sc w b [] n (set_parts x ++ more) u
         set_one (SetTo targets t) its more u B m k = set_fits routines here w b world S Q n evaluate (subs_fit routines here w b S Q n calls_fit) targets t its more u B m k
-    act_fits column condition (Write writes) may_be locals ours s l =
-        turns_fit routines here w b S Q n write_argument (write_keeps here) write_parts in_write ts (λ x its more u B m k. write_fits routines here w b world S Q n evaluate x its more u B m k) writes ours s A l go
-    act_fits column condition (Quit None) may_be locals ours s l = quit_fits routines here w b world S Q n evaluate ts A stop s l
-    act_fits column condition (Quit (Some t)) may_be locals ours s l = answer_fits routines here w b world S Q n evaluate ts A (give (may_be refl)) t ours s l
-    act_fits column condition Halt may_be locals ours s l = halted routines here w b world S Q n ts s A l
-    act_fits column condition (Kill []) may_be locals ours s l = all_but_fits routines here w b world S Q n ts A go [] s l
-    act_fits column condition (Kill (k ∷ kills)) may_be locals ours s l =
+    act_fits column condition (Write writes) may_be locals ours s mark l =
+        turns_fit routines here w b S Q n write_argument (write_keeps here) write_parts in_write ts (λ x its more u B m k. write_fits routines here w b world S Q n evaluate x its more u B m k) (Write writes) writes s mark ours A l go
+    act_fits column condition (Quit None) may_be locals ours s mark l = quit_fits routines here w b world S Q n evaluate ts A stop s l
+    act_fits column condition (Quit (Some t)) may_be locals ours s mark l = answer_fits routines here w b world S Q n evaluate ts A (give (may_be refl)) t ours s l
+    act_fits column condition Halt may_be locals ours s mark l = halted routines here w b world S Q n ts s A l
+    act_fits column condition (Kill []) may_be locals ours s mark l = all_but_fits routines here w b world S Q n ts A go [] s l
+    act_fits column condition (Kill (k ∷ kills)) may_be locals ours s mark l =
         turns_fit routines here w b S Q n kill_argument (kill_keeps here) kill_parts in_kill ts
-        (λ x its more u B m f. kill_one_fits routines here w b world S Q n (variable_fits routines here w b S Q n evaluate (subs_fit routines here w b S Q n calls_fit)) x its more u B m f) (k ∷ kills) ours s A l go
-    act_fits column condition (Lock locks) may_be locals ours s l =
-        lock_fits routines here w b world apart ranked S Q n evaluate (variable_fits routines here w b S Q n evaluate (subs_fit routines here w b S Q n calls_fit)) locks ours block ts s A l go
-    act_fits column condition (Merge merges) may_be locals ours s l =
-        merges_fit routines here w b world S Q n (variable_fits routines here w b S Q n evaluate (subs_fit routines here w b S Q n calls_fit)) merges ours ts s A l go
-    act_fits column condition (New news) may_be locals ours s l = news_fit routines here w b S Q n shares deep news block ts s A l go
-    act_fits column condition (Read reads) may_be locals ours s l =
-        reads_fit routines here w b world S Q n evaluate (variable_fits routines here w b S Q n evaluate (subs_fit routines here w b S Q n calls_fit)) reads locals ours ts s A l go
+        (λ x its more u B m f. kill_one_fits routines here w b world S Q n (variable_fits routines here w b S Q n evaluate (subs_fit routines here w b S Q n calls_fit)) x its more u B m f) (Kill (k ∷ kills)) (k ∷ kills) s mark ours A l go
+    act_fits column condition (Lock locks) may_be locals ours s mark l =
+        lock_fits routines here w b world apart ranked S Q n evaluate (variable_fits routines here w b S Q n evaluate (subs_fit routines here w b S Q n calls_fit)) locks ours block ts s mark A l go
+    act_fits column condition (Merge merges) may_be locals ours s mark l =
+        merges_fit routines here w b world S Q n (variable_fits routines here w b S Q n evaluate (subs_fit routines here w b S Q n calls_fit)) merges ours ts s mark A l go
+    act_fits column condition (New news) may_be locals ours s mark l = news_fit routines here w b S Q n shares deep news block ts s mark A l go
+    act_fits column condition (Read reads) may_be locals ours s mark l =
+        reads_fit routines here w b world S Q n evaluate (variable_fits routines here w b S Q n evaluate (subs_fit routines here w b S Q n calls_fit)) (Read reads) reads ts s mark locals ours A l go
 
   -- a command with its postconditional
   module _ (block : LineTrees) (may : Bool) (ts : List Task)
@@ -157,23 +164,27 @@ module _ (routines : List RoutineTree) (rules : RuleLists) (entries : List (Entr
     abbrev Few : State → Type 0
     Few u = Leads (few number word) u A S Q
 
-    then_few : (u : State) → Few u → Fits routines sc w b [] n ts u
+    pub then_few : (u : State) → Few u → Fits routines sc w b [] n ts u
     then_few u m = go u (leads_few A S Q number word u m)
 
-    runs : (condition : Option Tree) (a : ActionTree) → IsOf sc may (Does word condition a) → (s : State) → Leads (act here a) s Few S Q → Fits routines sc w b [] n (action_parts block a ++ ts) s
-    runs condition a of s l =
-        act_fits block may ts Few then_few skip stop give (in_a_block Few then_few) shares deep word condition a of.ends of.reads (ours_right sc (in_option condition) (in_action a) of.ours) s l
+    abbrev Marks : ActionTree → State → Type 0
+    Marks a s = MarksFit block may ts Few then_few skip stop give (in_a_block Few then_few) shares deep a s
 
-    pub one_fits : (condition : Option Tree) (a : ActionTree) → IsOf sc may (Does word condition a) → (s : State) → Leads (command here condition a) s A S Q
+    runs : (condition : Option Tree) (a : ActionTree) → IsOf sc may (Does word condition a) → (s : State) → Marks a s → Leads (act here a) s Few S Q → Fits routines sc w b [] n (action_parts block a ++ ts) s
+    runs condition a of s mark l =
+        act_fits block may ts Few then_few skip stop give (in_a_block Few then_few) shares deep word condition a of.ends of.reads (ours_right sc (in_option condition) (in_action a) of.ours) s mark l
+
+    pub one_fits : (condition : Option Tree) (a : ActionTree) → IsOf sc may (Does word condition a) → (s : State) → ((begun : State) → holds_to here condition s begun → Marks a begun) → Leads (command here condition a) s A S Q
         → Fits routines sc w b [] n (command_parts block (Does word condition a) ++ ts) s
-    one_fits None a of s l = runs None a of s (leads_both A S Q (act here a) (few number word) (acts_keep here a) (few_keeps number word) s l)
-    one_fits (Some t) a of s l =
+    one_fits None a of s marks l = runs None a of s (marks s refl) (leads_both A S Q (act here a) (few number word) (acts_keep here a) (few_keeps number word) s l)
+    one_fits (Some t) a of s marks l =
         condition_fits routines here w b S Q n evaluate t (act here a) stay (acts_keep here a) stays [] (task.Conditionally a block) refl ts
         (λ x i. Ok (doing (tasks_if x (action_parts block a) ++ ts) i)) (λ free c i. refl) Few
         (Safe routines sc w b) (λ m free c i x at comes. steady routines sc w b free c i (task.Conditionally a block) ts refl m x at comes)
-        (λ m is u h i d. done (Safe routines sc w b m) (doing (action_parts block a ++ ts) i) (down_to m is (doing (action_parts block a ++ ts) i) (runs (Some t) a of u h (doing (action_parts block a ++ ts) i) d refl)))
+        (λ u. Among u (value here t (alone s)).going)
+        (λ m is u from may h i d. done (Safe routines sc w b m) (doing (action_parts block a ++ ts) i) (down_to m is (doing (action_parts block a ++ ts) i) (runs (Some t) a of u (marks u (from, may)) h (doing (action_parts block a ++ ts) i) d refl)))
         (λ m is u h i d. done (Safe routines sc w b m) (doing ts i) (down_to m is (doing ts i) (then_few u (leads_stay Few S Q u h) (doing ts i) d refl)))
-        (ours_left sc (in_tree t) (in_action a) of.ours) s
+        (ours_left sc (in_tree t) (in_action a) of.ours) s (λ u i. i)
         (leads_both A S Q (λ v. conditioned here (Some t) (act here a) stay v) (few number word) (conditioned_keeps here (Some t) (act here a) stay (acts_keep here a) stays) (few_keeps number word) s l)
       where
         down_to : (m : ℕ) → n ≡ suc m → (i : task.Job) → Safe routines sc w b n i → Safe routines sc w b m i

@@ -17,7 +17,7 @@ use Rattle.mlk_machine_jobs.specs.Commands as made
 use Rattle.mlk_machine_jobs.specs.Commands.{do_parts, job_parts}
 use Rattle.mlk_machine_jobs.specs.Expressions.{each_actual}
 use Rattle.mlk_walk_state.specs.declared.state.State.{State}
-use Rattle.mlk_walk_state.specs.Scope.{Scope}
+use Rattle.mlk_walk_state.specs.Scope.{Scope, has_entry}
 use Rattle.mlk_walk_state.specs.States.{without_last}
 use Rattle.mlk_calls.specs.Calls.{is_begun}
 use Rattle.mlk_walk_exprs.specs.declared.walk.Walk.{Walk}
@@ -31,11 +31,11 @@ use Rattle.mlk_walk_laws.proofs.Transfers.{both, each_keeps, changed_keeps}
 use Rattle.mlk_walk_laws.proofs.Walks.{value_keeps, actuals_keep}
 use Rattle.mlk_soundness_machine.specs.Reads.{now}
 use Rattle.mlk_soundness_machine.specs.Described.{some_local, World, Level, Slot, Fills, idle, Describes}
-use Rattle.mlk_soundness_machine.proofs.Facts.{plain_facts}
+use Rattle.mlk_soundness_machine.proofs.Facts.{plain_facts, job_facts}
 use Rattle.mlk_soundness_machine.proofs.Reading.{local_front}
 use Rattle.mlk_soundness_machine.specs.Safe.{SafeFor, KeepsTo}
 use Rattle.mlk_soundness_machine.specs.History.{count_frames}
-use Rattle.mlk_soundness_machine.proofs.Going.{Next, as_many, by_step, less}
+use Rattle.mlk_soundness_machine.proofs.Going.{Next, as_many, by_step, less, step}
 use Rattle.mlk_soundness_machine.proofs.Stack.{whole, others_are, others_turned, dropped_are}
 use Rattle.mlk_soundness_machine.proofs.Steps.{Comes, done, unasked}
 use Rattle.mlk_soundness_machine.proofs.Values.{Safe, Fits, FitsValue, plain_step}
@@ -46,6 +46,7 @@ use Rattle.mlk_soundness_walk.proofs.Calls.{given_slots, given_taken}
 use Rattle.mlk_soundness_walk.specs.Ours.{IsOurs, AreOurs}
 use Rattle.mlk_soundness_walk.proofs.Ours.{ours_left, ours_right}
 use Rattle.mlk_soundness_walk.proofs.Turns.{condition_fits}
+use Rattle.mlk_program.specs.declared.entry.EntryId.{EntryId}
 
 -- actuals are not used
 pub unused_given : (sc : Scope) (w : World) (b : Level) (given : List ActualTree) (slots : List Slot) (s : State) (j : Job) → Describes sc w b (given_slots given slots) s j
@@ -117,9 +118,10 @@ module _ (routines : List RoutineTree) (p : Spot) (w : World) (b : Level) (S : C
         (λ u m. condition_fits routines p w b S Q n evaluate t (each (do_row p c)) (forget_given c) (each_keeps (do_row p c)) (changed_keeps (without_last (length (given_list written))))
         (given_slots (given_list written) []) (task.CallIf callee (given_list written)) refl ts (λ x i. called_if x routines (target_of routines i.routine callee) (given_list written) ts i) (λ free y i. refl) A
         (Next routines p.scope w b ts) (λ m free y i x at comes. comes)
-        (λ q is y h i d. call column callee written (all (Called column callee written) (0, omega arith, refl)) ts y A h k i d q is)
+        (λ y. Unit {0})
+        (λ q is y from may h i d. call column callee written (all (Called column callee written) (0, omega arith, refl)) ts y A h k i d q is)
         (λ q is y h i d. passes_by column callee written ts y A h k i d q is)
-        (ours_right p.scope (Called column callee written ∷ in_given written) (in_tree t) ours) u m)))
+        (ours_right p.scope (Called column callee written ∷ in_given written) (in_tree t) ours) u (λ y i. tt) m)))
       where
         passes_by : (column : ℕ) (callee : Callee) (written : Option (List ActualTree)) (ts : List Task) (y : State) (A : State → Type 0) → Leads (forget_given (Called column callee written)) y A S Q → ((u : State) → A u → Fit [] n ts u)
             → (i : Job) → Describes p.scope w b (given_slots (given_list written) []) y (idle i) → (q : ℕ) → n ≡ suc q → Comes (Next routines p.scope w b ts q) (Ok (doing ts (dropped (count_given (given_list written)) i)))
@@ -130,27 +132,36 @@ module _ (routines : List RoutineTree) (p : Spot) (w : World) (b : Level) (S : C
             done (Next routines p.scope w b ts q) to (λ marked.
             subst (λ z. SafeFor routines (KeepsTo p.scope) q z to) (sym (as_many w.begun to (count_frames (marks ts)) refl)) (less routines p.scope w b q to (subst (λ z. Safe routines p.scope w b z to) is at_n) marked))
 
-  -- JOB: the job that it starts is another one
+  -- JOB: the job that it starts is another one, whose entry is declared
+  abbrev IsDeclared : Callee → Type 0
+  IsDeclared callee = (e : EntryId) × (target_of p.scope.routines p.scope.own callee ≡ Some e) × (has_entry p.scope.declared_entries e ≡ true)
+
   pub job_one_fits : (c : CallTree) → AreOurs p.scope (in_call c) → (ts : List Task) (s : State) (A : State → Type 0) → Leads (job_argument p c) s A S Q → ((u : State) → A u → Fit [] n ts u)
       → Fit [] n (job_parts c ++ ts) s
   job_one_fits (Called column callee written) ours ts s A l k =
       let c : CallTree = Called column callee written in
-      let count : ℕ = length (each_actual (made.given_in written)) in
-      subst (λ z. Fit [] n z s) (sym (append_assoc (each_actual (made.given_in written)) (task.Drop count ∷ []) ts))
-      (given_fit column callee written (ours_right p.scope (Called column callee written ∷ []) (in_given written) ours) (task.Drop count ∷ ts) s (λ u. Leads (each (job_row p c)) u A S Q)
+      subst (λ z. Fit [] n ((each_actual (made.given_in written) ++ task.StartJob callee z ∷ []) ++ ts) s) (sym (given_same written))
+      (subst (λ z. Fit [] n z s) (sym (append_assoc (each_actual (made.given_in written)) (task.StartJob callee (given_list written) ∷ []) ts))
+      (given_fit column callee written (ours_right p.scope (Called column callee written ∷ []) (in_given written) ours) (task.StartJob callee (given_list written) ∷ ts) s (λ u. Leads (each (job_row p c)) u A S Q)
       (leads_both A S Q (capture_given p c) (each (job_row p c)) (actuals_keep p c) (each_keeps (job_row p c)) s l)
       (λ u m j d tasks.
-      let a : A (without_last (length (given_list written)) u) = begun column callee written u A (leads_each A S Q (job_row p c) u m) in
-      let same : count_given (given_list written) ≡ count = ap count_given (sym (given_same written)) ∙ sym (count_same (made.given_in written)) in
-      plain_step routines p.scope w b (given_slots (given_list written) []) n ts u (task.Drop count) refl j tasks (λ free y.
-      unasked (Safe routines p.scope w b n) y _ (done (Safe routines p.scope w b n) (doing ts (dropped count j))
-      (k (without_last (length (given_list written)) u) a (doing ts (dropped count j))
-      (subst (λ z. Describes p.scope w b [] (without_last (length (given_list written)) u) (idle (dropped z j))) same (unused_given p.scope w b (given_list written) [] u (idle j) d)) refl)))))
+      let r : IsDeclared callee × A (without_last (length (given_list written)) u) = begun column callee written u A (leads_each A S Q (job_row p c) u m) in
+      let is : target_of p.scope.routines j.routine callee ≡ Some r.0.0 = ap (λ z. target_of p.scope.routines z callee) d.stands.routine ∙ r.0.1 in
+      step routines p.scope w b n j (task.StartJob callee (given_list written)) ts tasks refl (job_facts p.scope w b j callee (given_list written) ts tasks r.0.0 is r.0.2) (λ free y.
+      unasked (Safe routines p.scope w b n) y _ (done (Safe routines p.scope w b n) (doing ts (dropped (count_given (given_list written)) j))
+      (k (without_last (length (given_list written)) u) r.1 (doing ts (dropped (count_given (given_list written)) j))
+      (unused_given p.scope w b (given_list written) [] u (idle j) d) refl))))))
     where
       begun : (column : ℕ) (callee : Callee) (written : Option (List ActualTree)) (u : State) (A : State → Type 0) → ((o : Outcome) → Among o (job_row p (Called column callee written) u) → Meets A S Q o)
-          → A (without_last (length (given_list written)) u)
-      begun column callee written u A h = by (is_begun p.scope (target_of p.scope.routines p.scope.own callee)) h
+          → IsDeclared callee × A (without_last (length (given_list written)) u)
+      begun column callee written u A h = of (target_of p.scope.routines p.scope.own callee) refl h
         where
-          by : (x : Bool) → ((o : Outcome) → Among o (placed p.line column (if x then Ok (without_last (length (given_list written)) u) else Err NoCertificate)) → Meets A S Q o) → A (without_last (length (given_list written)) u)
-          by true g = g (Goes (without_last (length (given_list written)) u)) (inl refl)
-          by false g = absurd (g (Refused p.line column NoCertificate) (inl refl))
+          by : (e : EntryId) → target_of p.scope.routines p.scope.own callee ≡ Some e → (x : Bool) → has_entry p.scope.declared_entries e ≡ x
+              → ((o : Outcome) → Among o (placed p.line column (if x then Ok (without_last (length (given_list written)) u) else Err NoCertificate)) → Meets A S Q o) → IsDeclared callee × A (without_last (length (given_list written)) u)
+          by e is true declared g = ((e, is, declared), g (Goes (without_last (length (given_list written)) u)) (inl refl))
+          by e is false declared g = absurd (g (Refused p.line column NoCertificate) (inl refl))
+
+          of : (o : Option EntryId) → target_of p.scope.routines p.scope.own callee ≡ o
+              → ((x : Outcome) → Among x (placed p.line column (if is_begun p.scope o then Ok (without_last (length (given_list written)) u) else Err NoCertificate)) → Meets A S Q x) → IsDeclared callee × A (without_last (length (given_list written)) u)
+          of None is g = absurd (g (Refused p.line column NoCertificate) (inl refl))
+          of (Some e) is g = by e is (has_entry p.scope.declared_entries e) refl g

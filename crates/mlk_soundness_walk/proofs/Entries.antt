@@ -474,7 +474,7 @@ module _ (routines : List RoutineTree) (rules : RuleLists) (entries : List (Entr
         next = suc j.next;
         cells = with_actuals j.next (formals_in head) given vals j.cells;
         values = drop (count_given given) j.values;
-        tasks = RunCommands (commands_in head) body ∷ RunLines lines ∷ EndFrame frame j.bindings j.next j.routine ∷ ts;
+        tasks = RunCommands (commands_in head) (head, body) ∷ RunLines lines ∷ EndFrame frame j.bindings j.next j.routine ∷ ts;
       }
 
       -- how its frame begins
@@ -516,7 +516,7 @@ module _ (routines : List RoutineTree) (rules : RuleLists) (entries : List (Entr
           next = suc j.next;
           cells = with_actuals j.next (formals_in head) given (last_values (count_given given) j) j.cells;
           values = drop (count_given given) j.values;
-          tasks = RunCommands (commands_in head) body ∷ RunLines lines ∷ EndFrame frame j.bindings j.next j.routine ∷ ts;
+          tasks = RunCommands (commands_in head) (head, body) ∷ RunLines lines ∷ EndFrame frame j.bindings j.next j.routine ∷ ts;
         }))
         → (ls : List LineTree) → lines_after routines t.entry ≡ ls → Comes (Next routines (scope e blk) w b ts m) (entered frame t.entry.routine given ls ts j)
     enters_callee frame m j f [] h = refused (Next routines (scope e blk) w b ts m) NotEnabled

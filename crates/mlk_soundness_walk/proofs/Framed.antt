@@ -185,9 +185,9 @@ module _ (routines : List RoutineTree) (rules : RuleLists) (blocks : List EntryC
   sc_of e blk = scope routines rules (known routines rules blocks) e blk
 
   pub entry_fits : (m : ℕ) → ((e : EntryId) (blk : EntryCert) → block_at entries.0 e ≡ Some blk → ListsEachOnce (sc_of e blk)) → ((e : EntryId) (blk : EntryCert) → AreLinesOf (sc_of e blk) 1 true (lines_from (lines_of routines e)))
-      → ((e : EntryId) (blk : EntryCert) → block_at entries.0 e ≡ Some blk → (w : World) → IsWorld (sc_of e blk) w → (p : Spot) (block : LineTrees) → p.scope ≡ sc_of e blk → p.level ≡ 1
+      → ((e : EntryId) (blk : EntryCert) → block_at entries.0 e ≡ Some blk → (w : World) → IsWorld (sc_of e blk) w → (p : Spot) (head : HeadTree) (block : LineTrees) → p.scope ≡ sc_of e blk → p.level ≡ 1
       → p.block ≡ block_with block (walk_lines (sc_of e blk) OfBlock block).ends → AreLinesOf (sc_of e blk) 2 false block → EachLinePasses (sc_of e blk) OfBlock (walk_lines (sc_of e blk) OfBlock block).ends block
-      → AreWithin block (own_lines (sc_of e blk) w) → CommandFits routines w (first_level w) p block m)
+      → AreWithin block (own_lines (sc_of e blk) w) → CommandFits routines w (first_level w) p (head, block) m)
       → EntryFits routines rules entries m
   entry_fits m once leveled each e blk at head body lines heads w world of formals frame next r ts ends_fit j d tasks begun is same marks =
       let c = clean_entry routines rules blocks clean e blk at in
@@ -202,7 +202,7 @@ module _ (routines : List RoutineTree) (rules : RuleLists) (blocks : List EntryC
       let are : AreWithin trees (own_lines (sc_of e blk) w) =
       subst (λ z. AreWithin trees (entry_trees routines z)) (sym of) (subst (λ z. AreWithin trees (lines_from z)) (sym pl.own) (λ some i. i)) in
       let fits : EachBlockFits routines (sc_of e blk) w (first_level w) m (line head body (lines_from (take_while lacks_formals lines))) =
-      all_fit routines (sc_of e blk) w (first_level w) m (λ block inside below its p same deep is. each e blk at w world p block same deep is inside below its) true around ends (line head body (lines_from (take_while lacks_formals lines))) deep passes are in
+      all_fit routines (sc_of e blk) w (first_level w) m (λ block inside below its h p same deep is. each e blk at w world p h block same deep is inside below its) true around ends (line head body (lines_from (take_while lacks_formals lines))) deep passes are in
       let in_list : is_listed (listed (sc_of e blk) (number_of head) 0) (begin_case blk.summary (formals_in head)) ≡ true =
       subst (λ z. is_listed (listed (sc_of e blk) (number_of head) 0) (begin_case blk.summary z) ≡ true) (formals_same routines rules entries e head body lines heads)
       (subst (λ z. is_listed (listed (sc_of e blk) (entry_number z) 0) (begin_case blk.summary (walked.formals_in (line_of_entry routines e))) ≡ true) pl.its
@@ -221,7 +221,7 @@ module _ (routines : List RoutineTree) (rules : RuleLists) (blocks : List EntryC
       (λ f g. lines_fit routines (sc_of e blk) w (first_level w) around ends (once e blk at) m (EndFrame frame w.back next r) refl ts past.tail (none_past past.tail past.starts)
       (goes_past routines rules entries lines past (head_after routines e) pl.after) at_end true give (lines_from (take_while lacks_formals lines)) (lines_behind head body (lines_from (take_while lacks_formals lines)) (own_lines (sc_of e blk) w) are) fits.1 deep.2 passes.2 f g)
       (begin_case blk.summary (formals_in head)) in_list j d
-      (tasks ∙ ap (λ z. RunCommands (commands_in head) body ∷ RunLines z ∷ EndFrame frame w.back next r ∷ ts) (past.are ∙ ap (λ z. z ++ past.tail) (sym (listed_back (take_while lacks_formals lines)))))
+      (tasks ∙ ap (λ z. RunCommands (commands_in head) (head, body) ∷ RunLines z ∷ EndFrame frame w.back next r ∷ ts) (past.are ∙ ap (λ z. z ++ past.tail) (sym (listed_back (take_while lacks_formals lines)))))
       (record { marks = marks; begun = begun; starts = starts (sc_of e blk) w (first_level w) head (begin_case blk.summary (formals_in head)) in_list j d begun is same marks })
 
   -- calls close by the number of steps
@@ -231,7 +231,7 @@ module _ (routines : List RoutineTree) (rules : RuleLists) (blocks : List EntryC
     below zero k h = absurd (omega (arith, h))
     below (suc n) k h =
         let all : AllCommands routines rules entries k = fits k (λ i l. below n i (omega (arith, l, h))) in
-        entry_fits k once leveled (λ e blk at w world p block same deep is lines pass are. as_said routines w (first_level w) p block k (all e blk at w world p block same deep is lines pass are))
+        entry_fits k once leveled (λ e blk at w world p head block same deep is lines pass are. as_said routines w (first_level w) p (head, block) k (all e blk at w world p head block same deep is lines pass are))
 
     pub all_entries : (n : ℕ) → EntryFits routines rules entries n
     all_entries n = below (suc n) n (omega arith)

@@ -1,10 +1,10 @@
 -- READ: its subscripts, its length and its timeout; then the variable changes.
-use Rattle.std.proofs.Common.{◌≡◌, ℕ, Bool, true, false, List, [], ◌∷◌, ◌++◌, drop, Option, Some, None, refl, sym, ◌∙◌, subst, arith, inl, inr, append_assoc}
+use Rattle.std.proofs.Common.{◌≡◌, ℕ, Bool, true, false, List, [], ◌∷◌, ◌++◌, drop, Option, Some, None, refl, sym, ◌∙◌, subst, arith, inl, inr, append_assoc, suc, take, ap}
 use Rattle.std.specs.Prelude.{flat_map}
 use Rattle.std.specs.List.{list_all}
 use Rattle.std.proofs.lemmas.Bool.{and_parts}
 use Rattle.mlk_syntax.specs.ExprTrees.{Tree, Lit, Free, LocalName, GlobalName, SpecialName, Prefixed, Chain, PatternText, Func, Selected, BareCall, CallOf, no_subs, sub, count_subs}
-use Rattle.mlk_syntax.specs.Trees.{RoutineTree, VariableTree, Named, ReadTree, ReadText, ReadFormat, ReadLine, ReadCharacter}
+use Rattle.mlk_syntax.specs.Trees.{RoutineTree, VariableTree, Named, ReadTree, ReadText, ReadFormat, ReadLine, ReadCharacter, ActionTree}
 use Rattle.mlk_program.specs.Calls as calls
 use Rattle.mlk_program.specs.Calls.{in_tree, in_option, in_read}
 use Rattle.mlk_cert_parts.specs.declared.case.Case.{Case}
@@ -27,7 +27,7 @@ use Rattle.mlk_walk_exprs.specs.declared.walk.Quit.{Quit}
 use Rattle.mlk_walk_exprs.specs.declared.walk.Walk.{Walk}
 use Rattle.mlk_walk_commands.specs.Arguments.{in_time_or_not, read_row, read_variable, read_argument}
 use Rattle.mlk_walk_commands.specs.Variables.{capture_variable}
-use Rattle.mlk_walk_lines.specs.Commands.{in_turn}
+use Rattle.mlk_walk_lines.specs.Commands.{in_turn, turn}
 use Rattle.mlk_walk_laws.proofs.Counts.{few_keeps}
 use Rattle.mlk_walk_laws.proofs.Transfers.{each_keeps, both}
 use Rattle.mlk_walk_laws.proofs.Walks.{variable_keeps, if_keeps, read_argument_keeps, turns_keep}
@@ -42,7 +42,10 @@ use Rattle.mlk_soundness_walk.specs.Ours.{AreOurs}
 use Rattle.mlk_soundness_walk.proofs.Alone.{Leads, leads_both, leads_each, leads_few, leads_stay}
 use Rattle.mlk_soundness_walk.proofs.Commands.{changed_goes, tested_law}
 use Rattle.mlk_soundness_walk.proofs.Ours.{ours_left, ours_right}
-use Rattle.mlk_soundness_walk.proofs.Turns.{optional_fits}
+use Rattle.mlk_soundness_walk.proofs.Turns.{optional_fits, leads_turn, come_further, one_dropped, ended_fits}
+use Rattle.mlk_names.specs.Lists.{Among}
+use Rattle.mlk_soundness_machine.specs.Places.{alone, come_to}
+use Rattle.mlk_soundness_machine.specs.Safe.{KeepsIn}
 
 -- tasks in another grouping
 regroup : (first second third fourth fifth ts : List Task) → ((((first ++ second) ++ third) ++ fourth) ++ fifth) ++ ts ≡ first ++ (second ++ (third ++ (fourth ++ (fifth ++ ts))))
@@ -134,16 +137,28 @@ module _ (routines : List RoutineTree) (p : Spot) (w : World) (b : Level) (world
       read_into_fits v is None timeout (ours_left p.scope (calls.in_variable v) (in_option timeout) whole)
       (λ c i. absurd (omega (arith, i.1))) (ours_right p.scope (calls.in_variable v) (in_option timeout) whole) ts s A l k
 
-  -- one after another
-  pub reads_fit : (reads : List ReadTree) → list_all reads_local reads ≡ true → AreOurs p.scope (flat_map in_read reads) → (ts : List Task) (s : State) (A : State → Type 0)
-      → Leads (in_turn read_argument p reads) s A S Q → ((u : State) → A u → Fit [] n ts u) → Fit [] n (flat_map read_parts reads ++ ts) s
-  reads_fit [] is ours ts s A l k = k s (leads_stay A S Q s l)
-  reads_fit (x ∷ reads) is ours ts s A l k =
-      let all = and_parts (reads_local x) (list_all reads_local reads) is in
-      let B : State → Type 0 = λ u. Leads (in_turn read_argument p reads) u A S Q in
-      let first = leads_both A S Q (λ v. few p.line p.word (read_argument p x v)) (in_turn read_argument p reads)
-      (both (read_argument p x) (few p.line p.word) (read_argument_keeps p x) (few_keeps p.line p.word)) (turns_keep read_argument p (read_argument_keeps p) reads) s l in
-      subst (λ z. Fit [] n z s) (sym (append_assoc (read_parts x) (flat_map read_parts reads) ts))
-      (read_one_fits x all.0 (ours_left p.scope (in_read x) (flat_map in_read reads) ours) (flat_map read_parts reads ++ ts) s (λ u. Leads (few p.line p.word) u B S Q)
-      (leads_both B S Q (read_argument p x) (few p.line p.word) (read_argument_keeps p x) (few_keeps p.line p.word) s first)
-      (λ u m. reads_fit reads all.1 (ours_right p.scope (in_read x) (flat_map in_read reads) ours) ts u A (leads_few B S Q p.line p.word u m) k))
+  -- one after another: from so many on, of all
+  module _ (a : ActionTree) (all : List ReadTree) (ts : List Task) (start : State)
+      (mark : (k : ℕ) (u : State) → come_to read_argument p (take k all) start u → (j : Job) → Describes p.scope w b [] u (idle j) → j.tasks ≡ task.NextArgument a k ∷ (made.in_turn read_parts a k (drop k all) ++ ts) → KeepsIn p.scope w b j) where
+    reads_from : (k : ℕ) (reads : List ReadTree) → drop k all ≡ reads → list_all reads_local reads ≡ true → AreOurs p.scope (flat_map in_read reads) → (s : State) → come_to read_argument p (take k all) start s → (A : State → Type 0)
+        → Leads (in_turn read_argument p reads) s A S Q → ((u : State) → A u → Fit [] n ts u) → Fit [] n (made.in_turn read_parts a k reads ++ ts) s
+    reads_from k [] left is ours s come A l go = go s (leads_stay A S Q s l)
+    reads_from k (x ∷ reads) left is ours s come A l go =
+        let local = and_parts (reads_local x) (list_all reads_local reads) is in
+        let B : State → Type 0 = λ u. Leads (in_turn read_argument p reads) u A S Q in
+        let first = leads_both A S Q (λ v. few p.line p.word (read_argument p x v)) (in_turn read_argument p reads)
+        (both (read_argument p x) (few p.line p.word) (read_argument_keeps p x) (few_keeps p.line p.word)) (turns_keep read_argument p (read_argument_keeps p) reads) s l in
+        let behind : List Task = made.in_turn read_parts a (suc k) reads ++ ts in
+        subst (λ z. Fit [] n z s) (sym (append_assoc (read_parts x) (task.NextArgument a (suc k) ∷ made.in_turn read_parts a (suc k) reads) ts))
+        (read_one_fits x local.0 (ours_left p.scope (in_read x) (flat_map in_read reads) ours) (task.NextArgument a (suc k) ∷ behind) s (λ u. Leads (few p.line p.word) u B S Q × Among u (turn read_argument p (alone s) x).going)
+        (leads_turn routines p w b S Q n read_argument (read_argument_keeps p) x s B first)
+        (λ u m.
+        let on = come_further routines p w b S Q n read_argument all k x reads start s u left come m.1 in
+        let less = one_dropped routines p w b S Q n all k x reads left in
+        ended_fits routines p w b S Q n a (suc k) behind u
+        (λ j d e. mark (suc k) u on j d (e ∙ ap (λ z. task.NextArgument a (suc k) ∷ (made.in_turn read_parts a (suc k) z ++ ts)) (sym less)))
+        (reads_from (suc k) reads less local.1 (ours_right p.scope (in_read x) (flat_map in_read reads) ours) u on A (leads_few B S Q p.line p.word u m.0) go)))
+
+    pub reads_fit : list_all reads_local all ≡ true → AreOurs p.scope (flat_map in_read all) → (A : State → Type 0) → Leads (in_turn read_argument p all) start A S Q → ((u : State) → A u → Fit [] n ts u)
+        → Fit [] n (made.in_turn read_parts a 0 all ++ ts) start
+    reads_fit is ours A l go = reads_from 0 all refl is ours start refl A l go

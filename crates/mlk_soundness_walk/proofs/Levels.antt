@@ -34,7 +34,7 @@ use Rattle.mlk_soundness_machine.specs.Described.{World, Level, Slot, IsWorld}
 use Rattle.mlk_soundness_machine.proofs.Listing.{own_lines}
 use Rattle.mlk_soundness_machine.proofs.Sharing.{SharesByOwn}
 use Rattle.mlk_soundness_machine.proofs.Values.{Fits, FitsValue}
-use Rattle.mlk_soundness_walk.specs.Commands.{Gives}
+use Rattle.mlk_soundness_walk.specs.Commands.{Gives, KeepsBetween}
 use Rattle.mlk_soundness_walk.specs.Entries.{scope, EntryFits}
 use Rattle.mlk_soundness_walk.specs.Ours.{IsOurs, AreOurs, IsOf, AreLinesOf}
 use Rattle.mlk_soundness_walk.proofs.Alone.{Leads, leads_stay}
@@ -75,14 +75,14 @@ module _ (routines : List RoutineTree) (rules : RuleLists) (entries : List (Entr
         by no_lines deep pass its_lines each h = go s (leads_stay B S Q s h)
         by (line head inside more) deep pass its_lines each h = block_fits routines (spot number level its word) w b world pos shares once m head inside more ts its_lines each deep pass s B S Q h go
 
-    one_fits : (number level word m : ℕ) → level ≡ b.level → m ≤ bound → (may : Bool) (c : CommandTree) → IsOf sc may c → (ts : List Task) (s : State) (A : State → Type 0) (S : Case → Type 0) (Q : Quit → Type 0)
+    one_fits : (number level word m : ℕ) → level ≡ b.level → m ≤ bound → (may : Bool) (c : CommandTree) → IsOf sc may c → (ts : List Task) (s : State) → KeepsBetween routines w b (spot number level its word) c ts s → (A : State → Type 0) (S : Case → Type 0) (Q : Quit → Type 0)
         → Leads (λ v. one_command (spot number level its word) v c) s A S Q
         → ((u : State) → A u → Fits routines sc w b [] m ts u) → ((d : Case) → S d → Fits routines sc w b [] m (skipped ts) (at_rest d))
         → ((q : Quit) → Q q → Fits routines sc w b [] m (quit ts) (at_rest q.case)) → (may ≡ true → (q : Quit) → Q q → Gives routines w b sc m (to_end ts) (at_rest q.case))
         → Fits routines sc w b [] m (command_parts block c ++ ts) s
-    one_fits number level word m deep le may (Does column condition a) of ts s A S Q l go skip stop give =
+    one_fits number level word m deep le may (Does column condition a) of ts s between A S Q l go skip stop give =
         commanding.one_fits routines rules entries e blk w world apart ranked well b bound lower number level its column S Q m le block may ts skip stop give
-        (in_block number level column S Q m le ts) shares deep A go condition a of s l
+        (in_block number level column S Q m le ts) shares deep A go condition a of s between l
 
     evaluate : (number level word m : ℕ) → m ≤ bound → (t : Tree) → AreOurs sc (in_tree t) → (slots : List Slot) (us : List Task) (s : State) (A : State → Type 0)
         → Leads (value (spot number level its word) t) s A Some_case Some_quit → ((u : State) → A u → FitsValue routines sc w b t slots m us u) → Fits routines sc w b slots m (task.Evaluate t ∷ us) s
@@ -90,11 +90,11 @@ module _ (routines : List RoutineTree) (rules : RuleLists) (entries : List (Entr
         commanding.evaluate routines rules entries e blk w world apart ranked well b bound lower number level its word Some_case Some_quit m le
 
     pub block_fit : (m : ℕ) → m ≤ bound → BlockFits routines sc w b m block
-    block_fit m le p same deep is =
+    block_fit m le head p same deep is =
         let here : Spot = record p { scope = scope routines rules entries e blk; block = its } in
         let eq : p ≡ here = ap (λ z. record p { scope = z }) same ∙ ap (λ z. record p { scope = scope routines rules entries e blk; block = z }) is in
-        subst (λ q. CommandFits routines w b q block m) (sym eq)
-        (command_fits routines here w b world block bound once (λ word k lk. evaluate p.line p.level word k lk) (λ k lk. one_fits p.line p.level p.word k deep lk) m le)
+        subst (λ q. CommandFits routines w b q (head, block) m) (sym eq)
+        (command_fits routines here w b world (head, block) bound once (λ word k lk. evaluate p.line p.level word k lk) (λ k lk. one_fits p.line p.level p.word k deep lk) m le)
 
   -- the lines of a level
   pub blocks_fit : (lines : LineTrees) (b : Level) → 0 < b.level → (may : Bool) (around : Around) (ends : List Case) → AreLinesOf sc b.level may lines → EachLinePasses sc around ends lines → AreWithin lines (own_lines sc w)

@@ -11,14 +11,14 @@ use Rattle.mlk_names.proofs.ListLemmas.{contains_cases}
 use Rattle.mlk_soundness_machine.specs.Frames.{Agrees}
 use Rattle.mlk_soundness_machine.specs.Reads.{now}
 use Rattle.mlk_soundness_machine.specs.Described.{some_local, World, Level, Fills, idle, bare, Stands, Describes}
-use Rattle.mlk_syntax.specs.Trees.{RoutineTree, CommandTree, ControlTree, CommandTrees, finished, then_command, then_for, HeadTree, LineHead, LineTrees, no_lines, line}
+use Rattle.mlk_syntax.specs.Trees.{RoutineTree, CommandTree, ControlTree, CommandTrees, finished, then_command, then_for, HeadTree, LineHead, LineTrees, no_lines, line, Does}
 use Rattle.mlk_program.specs.Entries.{as_lines, formals_of}
 use Rattle.mlk_cert_parts.specs.declared.case.Case.{Case}
 use Rattle.mlk_cert_parts.specs.declared.case.Test.{Test}
 use Rattle.mlk_cert_parts.specs.Inclusion.{Included, Covers}
 use Rattle.mlk_cert_lexemes.specs.Lists.{Each, EachPair}
 use Rattle.mlk_machine_jobs.specs.Tasks as task
-use Rattle.mlk_machine_jobs.specs.Tasks.{Task, Job, RunLines, RunCommands}
+use Rattle.mlk_machine_jobs.specs.Tasks.{Task, Job, RunLines, RunCommands, LineTree}
 use Rattle.mlk_machine_jobs.specs.Choices.{doing}
 use Rattle.mlk_machine_jobs.specs.Calling.{commands_in}
 use Rattle.mlk_machine_jobs.specs.Lines.{is_end, skipped, quit, to_end, next_command, command_parts, for_parts}
@@ -35,8 +35,8 @@ use Rattle.mlk_walk_lines.specs.Endings.{Around, OfBlock, LineEnd, number_of, in
 use Rattle.mlk_walk_lines.specs.Lines.{next_head, block_with, walk_lines}
 use Rattle.mlk_walk_laws.specs.Fewer.{ListsEachOnce}
 use Rattle.mlk_soundness_machine.specs.Safe.{KeepsIn}
-use Rattle.mlk_soundness_machine.proofs.Facts.{lines_facts, commands_facts}
-use Rattle.mlk_soundness_machine.specs.Places.{StandIn, none_follows}
+use Rattle.mlk_soundness_machine.proofs.Facts.{lines_facts, commands_facts, argument_facts}
+use Rattle.mlk_soundness_machine.specs.Places.{StandIn, none_follows, alone}
 use Rattle.mlk_soundness_machine.proofs.Listing.{own_lines}
 use Rattle.mlk_soundness_machine.proofs.Going.{step}
 use Rattle.mlk_walk_laws.specs.Passing.{IsRight, PassesFromEach, EachLinePasses}
@@ -47,8 +47,8 @@ use Rattle.mlk_soundness_machine.proofs.Steps.{done, refused, unasked}
 use Rattle.mlk_soundness_machine.proofs.Values.{Safe, Fits, plain_step}
 use Rattle.mlk_soundness_walk.proofs.Alone.{Leads}
 use Rattle.mlk_soundness_walk.proofs.Alone.{leads_both, leads_stay, leads_there}
-use Rattle.mlk_soundness_walk.proofs.Places.{AreWithin, lines_behind, lines_below, first_in, Opens, opens_line, opens_rest, comes_to, begins_round}
-use Rattle.mlk_soundness_walk.specs.Commands.{alone, AreOnLine}
+use Rattle.mlk_soundness_walk.proofs.Places.{AreWithin, lines_behind, lines_below, first_in, Opens, opens_line, opens_rest, comes_to, begins_round, comes_after}
+use Rattle.mlk_soundness_walk.specs.Commands.{AreOnLine}
 use Rattle.mlk_soundness_walk.specs.Commands as stated
 use Rattle.mlk_soundness_walk.specs.Ours.{IsOf, AreOf, IsHeadOf, AreLinesOf}
 use Rattle.mlk_soundness_walk.proofs.Ours.{first_of, rest_of}
@@ -161,53 +161,59 @@ module _ (routines : List RoutineTree) (w : World) (b : Level) where
   Gives = stated.Gives routines w b
 
   -- a command, and a FOR, where the walk finds nothing wrong: what follows it, what it skips to and what it quits to
-  pub record CommandFits (p : Spot) (block : LineTrees) (n : ℕ) : Type 1 where
-    pub one : (may : Bool) (c : CommandTree) → IsOf p.scope may c → (ts : List Task) (s : State) (A : State → Type 0) (S : Case → Type 0) (Q : Quit → Type 0) → Leads (λ v. one_command p v c) s A S Q
+  pub record CommandFits (p : Spot) (here : LineTree) (n : ℕ) : Type 1 where
+    pub one : (may : Bool) (c : CommandTree) → IsOf p.scope may c → (ts : List Task) (s : State) → stated.KeepsBetween routines w b p c ts s → (A : State → Type 0) (S : Case → Type 0) (Q : Quit → Type 0) → Leads (λ v. one_command p v c) s A S Q
         → ((u : State) → A u → Fit p n ts u) → ((d : Case) → S d → Fit p n (skipped ts) (at_rest d)) → ((q : Quit) → Q q → Fit p n (quit ts) (at_rest q.case))
-        → (may ≡ true → (q : Quit) → Q q → Gives p.scope n (to_end ts) (at_rest q.case)) → Fit p n (command_parts block c ++ ts) s
-    pub loop : (may : Bool) (column index : ℕ) (control : Option ControlTree) (rest : CommandTrees) → AreOf p.scope may (then_for column index control rest) → (ts : List Task) → AreOnLine w p block (then_for column index control rest) ts → (s : State) (A : State → Type 0) (S : Case → Type 0) (Q : Quit → Type 0)
+        → (may ≡ true → (q : Quit) → Q q → Gives p.scope n (to_end ts) (at_rest q.case)) → Fit p n (command_parts here.1 c ++ ts) s
+    pub loop : (may : Bool) (column index : ℕ) (control : Option ControlTree) (rest : CommandTrees) → AreOf p.scope may (then_for column index control rest) → (ts : List Task) → AreOnLine w p here (then_for column index control rest) ts → (s : State) (A : State → Type 0) (S : Case → Type 0) (Q : Quit → Type 0)
         → Leads (commands p (then_for column index control rest)) s A S Q
         → ((u : State) → A u → Fit p n ts u) → ((d : Case) → S d → Fit p n (skipped ts) (at_rest d)) → ((q : Quit) → Q q → Fit p n (quit ts) (at_rest q.case))
-        → Fit p n (for_parts control rest block ∷ ts) s
+        → Fit p n (for_parts control rest here ∷ ts) s
 
   -- the commands of a line from here on
-  abbrev pub RestFits : Spot → LineTrees → CommandTrees → ℕ → Type 1
-  RestFits p block cs n =
-      (may : Bool) → AreOf p.scope may cs → (ts : List Task) (s : State) (A : State → Type 0) (S : Case → Type 0) (Q : Quit → Type 0) → Opens w p block cs ts s → Leads (commands p cs) s A S Q
+  abbrev pub RestFits : Spot → LineTree → CommandTrees → ℕ → Type 1
+  RestFits p here cs n =
+      (may : Bool) → AreOf p.scope may cs → (ts : List Task) (s : State) (A : State → Type 0) (S : Case → Type 0) (Q : Quit → Type 0) → Opens w p here cs ts s → Leads (commands p cs) s A S Q
       → ((u : State) → A u → Fit p n ts u) → ((d : Case) → S d → Fit p n (skipped ts) (at_rest d)) → ((q : Quit) → Q q → Fit p n (quit ts) (at_rest q.case))
-      → (may ≡ true → (q : Quit) → Q q → Gives p.scope n (to_end ts) (at_rest q.case)) → Fit p n (RunCommands cs block ∷ ts) s
+      → (may ≡ true → (q : Quit) → Q q → Gives p.scope n (to_end ts) (at_rest q.case)) → Fit p n (RunCommands cs here ∷ ts) s
 
   -- what is said of what the walk comes to, said of all that it leads to
-  pub as_said : (p : Spot) (block : LineTrees) (n : ℕ) → stated.CommandsAreSafe routines w b p block n → CommandFits p block n
-  as_said p block n h = record {
-    one = λ may c of ts s A S Q l go skip stop give.
-        h.one may c of ts s l.clean (record { going = λ u i. go u (l.going u i); skips = λ d i. skip d (l.skips d i); quits = λ q i. stop q (l.quits q i); gives = λ y q i. give y q (l.quits q i) });
+  pub as_said : (p : Spot) (here : LineTree) (n : ℕ) → stated.CommandsAreSafe routines w b p here n → CommandFits p here n
+  as_said p here n h = record {
+    one = λ may c of ts s between A S Q l go skip stop give.
+        h.one may c of ts s between l.clean (record { going = λ u i. go u (l.going u i); skips = λ d i. skip d (l.skips d i); quits = λ q i. stop q (l.quits q i); gives = λ y q i. give y q (l.quits q i) });
     loop = λ may column index control rest of ts on s A S Q l go skip stop.
         h.loop may column index control rest of ts on s l.clean (record { going = λ u i. go u (l.going u i); skips = λ d i. skip d (l.skips d i); quits = λ q i. stop q (l.quits q i); gives = λ y q i. absurd (false≢true y) });
   }
 
-  module _ (p : Spot) (block : LineTrees) (n : ℕ) (once : ListsEachOnce p.scope) (each : CommandFits p block n) (S : Case → Type 0) (Q : Quit → Type 0) (may : Bool) where
-    opened : (cs : CommandTrees) (ts : List Task) (s : State) → Opens w p block cs ts s → Fit p n (next_command cs block ts) s → Fit p n (RunCommands cs block ∷ ts) s
-    opened cs ts s o k j d e =
-        step routines p.scope w b n j (RunCommands cs block) ts e refl (commands_facts p.scope w b j cs block ts e s.case (comes_to w p block cs ts s o (rests p.scope w b s (idle j) d)) (begins_round w p block cs ts s o) d.stands) (λ free c.
-        unasked (Safe routines p.scope w b n) c _ (done (Safe routines p.scope w b n) (doing (next_command cs block ts) j) (k (doing (next_command cs block ts) j) d refl)))
+  -- after each argument of a command
+  pub between : (p : Spot) (here : LineTree) (c : CommandTree) (rest : CommandTrees) (ts : List Task) (s : State) → Opens w p here (then_command c rest) ts s → s ≡ at_rest s.case → stated.KeepsBetween routines w b p c (RunCommands rest here ∷ ts) s
+  between p here (Does column condition action) rest ts s o at = λ begun holds count u acts j d e.
+      argument_facts p.scope w b j action count rest here ts e u.case
+      (comes_after w p here column condition action rest ts s o at begun holds count u acts (rests p.scope w b u (idle j) d)) d.stands
 
-    pub commands_fit : (cs : CommandTrees) → AreOf p.scope may cs → (ts : List Task) (s : State) (A : State → Type 0) → Opens w p block cs ts s → Leads (commands p cs) s A S Q
+  module _ (p : Spot) (here : LineTree) (n : ℕ) (once : ListsEachOnce p.scope) (each : CommandFits p here n) (S : Case → Type 0) (Q : Quit → Type 0) (may : Bool) where
+    opened : (cs : CommandTrees) (ts : List Task) (s : State) → Opens w p here cs ts s → Fit p n (next_command cs here ts) s → Fit p n (RunCommands cs here ∷ ts) s
+    opened cs ts s o k j d e =
+        step routines p.scope w b n j (RunCommands cs here) ts e refl (commands_facts p.scope w b j cs here ts e s.case (comes_to w p here cs ts s o (rests p.scope w b s (idle j) d)) (begins_round w p here cs ts s o) d.stands) (λ free c.
+        unasked (Safe routines p.scope w b n) c _ (done (Safe routines p.scope w b n) (doing (next_command cs here ts) j) (k (doing (next_command cs here ts) j) d refl)))
+
+    pub commands_fit : (cs : CommandTrees) → AreOf p.scope may cs → (ts : List Task) (s : State) (A : State → Type 0) → Opens w p here cs ts s → Leads (commands p cs) s A S Q
         → ((u : State) → A u → Fit p n ts u) → ((d : Case) → S d → Fit p n (skipped ts) (at_rest d)) → ((q : Quit) → Q q → Fit p n (quit ts) (at_rest q.case))
-        → (may ≡ true → (q : Quit) → Q q → Gives p.scope n (to_end ts) (at_rest q.case)) → Fit p n (RunCommands cs block ∷ ts) s
+        → (may ≡ true → (q : Quit) → Q q → Gives p.scope n (to_end ts) (at_rest q.case)) → Fit p n (RunCommands cs here ∷ ts) s
     commands_fit finished of ts s A o l go skip stop give = opened finished ts s o (go s (leads_stay A S Q s l))
-    commands_fit (then_command c rest) of ts s A o l go skip stop give =
+    commands_fit (then_command c rest) of ts s A o l go skip stop give = λ j d e.
         opened (then_command c rest) ts s o
-        (each.one may c (first_of p.scope may c rest of) (RunCommands rest block ∷ ts) s (λ u. Leads (commands p rest) u A S Q × Among u (one_command p (alone s) c).going) S Q
+        (each.one may c (first_of p.scope may c rest of) (RunCommands rest here ∷ ts) s (between p here c rest ts s o (rests p.scope w b s (idle j) d)) (λ u. Leads (commands p rest) u A S Q × Among u (one_command p (alone s) c).going) S Q
         (leads_there (λ u. Leads (commands p rest) u A S Q) S Q (λ v. one_command p v c) s (leads_both A S Q (λ v. one_command p v c) (commands p rest) (one_keeps p c) (commands_keep p once rest) s l))
-        (λ u m. commands_fit rest (rest_of p.scope may c rest of) ts u A (opens_rest w p block once c rest ts s u o m.1) m.0 go skip stop give) skip stop give)
+        (λ u m. commands_fit rest (rest_of p.scope may c rest of) ts u A (opens_rest w p here once c rest ts s u o m.1) m.0 go skip stop give) skip stop give) j d e
     commands_fit (then_for column index control rest) of ts s A o l go skip stop give =
         opened (then_for column index control rest) ts s o (each.loop may column index control rest of ts o.place s A S Q l go skip stop)
 
 -- on each line of a level, commands are safe
 module _ (routines : List RoutineTree) (sc : Scope) (w : World) (b : Level) (n : ℕ) where
   abbrev pub BlockFits : LineTrees → Type 1
-  BlockFits block = (p : Spot) → p.scope ≡ sc → p.level ≡ b.level → p.block ≡ block_with block (walk_lines sc OfBlock block).ends → CommandFits routines w b p block n
+  BlockFits block = (head : HeadTree) (p : Spot) → p.scope ≡ sc → p.level ≡ b.level → p.block ≡ block_with block (walk_lines sc OfBlock block).ends → CommandFits routines w b p (head, block) n
 
   abbrev pub EachBlockFits : LineTrees → Type 1
   EachBlockFits no_lines = Unit {1}
@@ -267,7 +273,7 @@ module _ (routines : List RoutineTree) (sc : Scope) (w : World) (b : Level) (aro
   pub head_fits : (head : HeadTree) (inner more : LineTrees) → StandIn (line head inner more) (own_lines sc w) → BlockFits routines sc w b n inner → IsHeadOf sc b.level may head
       → PassesFromEach sc around (next_head around more) (block_with inner (walk_lines sc OfBlock inner).ends) ends head
       → ((c : Case) → Enters more c → Goes (RunLines (as_lines more ++ tail) ∷ E ∷ ts) (at_rest c))
-      → (c : Case) → is_listed (listed sc (number_of head) 0) c ≡ true → Goes (RunCommands (commands_in head) inner ∷ RunLines (as_lines more ++ tail) ∷ E ∷ ts) (at_rest c)
+      → (c : Case) → is_listed (listed sc (number_of head) 0) c ≡ true → Goes (RunCommands (commands_in head) (head, inner) ∷ RunLines (as_lines more ++ tail) ∷ E ∷ ts) (at_rest c)
   head_fits (LineHead number level at label formals cs) inner more is_line fits deep passes later c h j d tasks =
       let r = listed_for (listed sc number 0) c h in
       let p : Spot = record { scope = sc; line = number; level = level; block = block_with inner (walk_lines sc OfBlock inner).ends; word = 1 } in
@@ -278,7 +284,7 @@ module _ (routines : List RoutineTree) (sc : Scope) (w : World) (b : Level) (aro
       let Q : Quit → Type 0 = λ q. IsRight ends (quit_end e q) in
       let l : Leads (commands p cs) (at_rest r.0) A S Q = record { clean = g.clean; going = g.going; skips = g.skips; quits = g.quits } in
       let rest : List Task = RunLines (as_lines more ++ tail) ∷ E ∷ ts in
-      commands_fit routines w b p inner n once (fits p refl deep.0 refl) S Q may cs deep.1 rest (at_rest r.0) A (opens_line w p inner (LineHead number level at label formals cs) more is_line refl tail none (E ∷ ts) r.0 r.1 g.clean) l
+      commands_fit routines w b p (LineHead number level at label formals cs, inner) n once (fits (LineHead number level at label formals cs) p refl deep.0 refl) S Q may cs deep.1 rest (at_rest r.0) A (opens_line w p (LineHead number level at label formals cs) inner more is_line refl tail none (E ∷ ts) r.0 r.1 g.clean) l
       (λ u m k f t. later u.case (enters_next e refl deep.0 refl more refl u.case m) k (at_rest_law sc w b u (idle k) f) t)
       (λ x m. later x (enters_next e refl deep.0 refl more refl x m))
       (λ q m. subst (λ z. Goes z (at_rest q.case)) (sym (to_the_end (as_lines more ++ tail))) (end e q.column q.case refl deep.0 m))
@@ -300,7 +306,7 @@ module _ (routines : List RoutineTree) (sc : Scope) (w : World) (b : Level) (aro
       step routines sc w b n j (RunLines (as_lines (line (LineHead number level at label (Some formals) cs) inner more) ++ tail)) (E ∷ ts) tasks refl (at_line (LineHead number level at label (Some formals) cs) inner more (first_in (LineHead number level at label (Some formals) cs) inner more (own_lines sc w) are) c h j d tasks) (λ free x.
       unasked (Safe routines sc w b n) x _ (refused (Safe routines sc w b n) _))
   lines_fit (line (LineHead number level at label None cs) inner more) are fits leveled passes c h j d tasks =
-      let i : Job = doing (RunCommands cs inner ∷ RunLines (as_lines more ++ tail) ∷ E ∷ ts) j in
+      let i : Job = doing (RunCommands cs (LineHead number level at label None cs, inner) ∷ RunLines (as_lines more ++ tail) ∷ E ∷ ts) j in
       step routines sc w b n j (RunLines (as_lines (line (LineHead number level at label None cs) inner more) ++ tail)) (E ∷ ts) tasks refl (at_line (LineHead number level at label None cs) inner more (first_in (LineHead number level at label None cs) inner more (own_lines sc w) are) c h j d tasks) (λ free x.
       unasked (Safe routines sc w b n) x _ (done (Safe routines sc w b n) i
       (head_fits (LineHead number level at label None cs) inner more (first_in (LineHead number level at label None cs) inner more (own_lines sc w) are) fits.0 leveled.0 passes.0

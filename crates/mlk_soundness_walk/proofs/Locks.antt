@@ -59,6 +59,8 @@ use Rattle.mlk_soundness_walk.proofs.LockNames.{count_all_same, as_many, terms_l
 use Rattle.mlk_soundness_walk.proofs.Ours.{ours_left, ours_right}
 use Rattle.mlk_soundness_walk.proofs.Releases.{AreNamed, held_law, less_law, none_law, all_in_order, claim_facts}
 use Rattle.mlk_soundness_walk.proofs.Turns.{turns_fit, optional_fits}
+use Rattle.mlk_soundness_machine.specs.Places.{acts_to, arguments_from}
+use Rattle.mlk_soundness_machine.specs.Safe.{KeepsIn}
 
 kepts_after : (a b : ℕ) (slots : List Slot) → kepts b (kepts a slots) ≡ kepts (a + b) slots
 kepts_after zero b slots = let e : b ≡ 0 + b = omega arith in ap (λ k. kepts k slots) e
@@ -255,8 +257,9 @@ module _ (routines : List RoutineTree) (p : Spot) (w : World) (b : Level) (world
       (leads_each B S Q row x (leads_both A S Q (each row) (few p.line p.word) (each_keeps row) (few_keeps p.line p.word) x q))))))
 
   -- LOCK
-  pub lock_fits : (locks : List LockTree) → AreOurs p.scope (in_action (Lock locks)) → (block : LineTrees) (ts : List Task) (s : State) (A : State → Type 0)
-      → Leads (act p (Lock locks)) s A S Q → ((u : State) → A u → Fit [] n ts u) → Fit [] n (action_parts block (Lock locks) ++ ts) s
-  lock_fits [] ours block ts s A l k = release_fits ts A k s l
-  lock_fits (x ∷ locks) ours block ts s A l k =
-      turns_fit routines p w b S Q n lock_argument (lock_keeps p) lock_parts in_lock ts (λ y its more u B m g. lock_one_fits y its more u B m g) (x ∷ locks) ours s A l k
+  pub lock_fits : (locks : List LockTree) → AreOurs p.scope (in_action (Lock locks)) → (block : LineTrees) (ts : List Task) (s : State)
+      → ((k : ℕ) (u : State) → acts_to p (Lock locks) k s u → (j : Job) → Describes p.scope w b [] u (idle j) → j.tasks ≡ task.NextArgument (Lock locks) k ∷ (arguments_from (Lock locks) k ++ ts) → KeepsIn p.scope w b j)
+      → (A : State → Type 0) → Leads (act p (Lock locks)) s A S Q → ((u : State) → A u → Fit [] n ts u) → Fit [] n (action_parts block (Lock locks) ++ ts) s
+  lock_fits [] ours block ts s mark A l k = release_fits ts A k s l
+  lock_fits (x ∷ locks) ours block ts s mark A l k =
+      turns_fit routines p w b S Q n lock_argument (lock_keeps p) lock_parts in_lock ts (λ y its more u B m g. lock_one_fits y its more u B m g) (Lock (x ∷ locks)) (x ∷ locks) s mark ours A l k

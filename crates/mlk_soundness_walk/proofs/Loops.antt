@@ -6,7 +6,7 @@ use Rattle.mlk_syntax.specs.ExprTrees.{Tree}
 use Rattle.mlk_syntax.specs.Trees.{RoutineTree, CommandTrees, then_for, ControlTree, Runs, ParameterTree, LineTrees}
 use Rattle.mlk_cert_parts.specs.declared.case.Case.{Case}
 use Rattle.mlk_machine_jobs.specs.Tasks as task
-use Rattle.mlk_machine_jobs.specs.Tasks.{Task}
+use Rattle.mlk_machine_jobs.specs.Tasks.{Task, LineTree}
 use Rattle.mlk_machine_jobs.specs.Lines.{is_round, skipped, quit, quit_from, for_parts}
 use Rattle.mlk_walk_state.specs.declared.state.State.{State}
 use Rattle.mlk_walk_state.specs.States.{at_rest}
@@ -28,7 +28,8 @@ use Rattle.std.specs.Prelude.{flat_map}
 use Rattle.mlk_program.specs.Calls.{in_tree, in_parameter, in_commands}
 use Rattle.mlk_soundness_walk.specs.Ours.{AreOurs, AreOf}
 use Rattle.mlk_soundness_walk.proofs.Ours.{ours_left, ours_right}
-use Rattle.mlk_soundness_walk.specs.Commands.{alone, AreOnLine}
+use Rattle.mlk_soundness_machine.specs.Places.{alone}
+use Rattle.mlk_soundness_walk.specs.Commands.{AreOnLine}
 use Rattle.mlk_soundness_walk.proofs.Alone.{Leads}
 use Rattle.mlk_soundness_walk.proofs.Lines.{RestFits}
 use Rattle.mlk_soundness_walk.proofs.Places.{opens_round}
@@ -105,22 +106,22 @@ round_skips K ts h = rw h refl
 round_quits : (K : Task) (ts : List Task) → is_round K ≡ true → quit (K ∷ ts) ≡ ts
 round_quits K ts h = ap quit_from (round_skips K ts h) ∙ (rw h refl)
 
-module _ (routines : List RoutineTree) (p : Spot) (w : World) (b : Level) (world : IsWorld p.scope w) (block : LineTrees) (n : ℕ) (once : ListsEachOnce p.scope)
+module _ (routines : List RoutineTree) (p : Spot) (w : World) (b : Level) (world : IsWorld p.scope w) (here : LineTree) (n : ℕ) (once : ListsEachOnce p.scope)
     (evaluate : (word m : ℕ) → m ≤ n → (t : Tree) → AreOurs p.scope (in_tree t) → (slots : List Slot) (us : List Task) (s : State) (A : State → Type 0) → Leads (value (at_word p word) t) s A Some_case Some_quit
     → ((u : State) → A u → FitsValue routines p.scope w b t slots m us u) → Fits routines p.scope w b slots m (task.Evaluate t ∷ us) s) where
   -- FOR with parameters
-  pub for_fits : (column index c : ℕ) (name : List ℕ) (qs : List ParameterTree) (rest : CommandTrees) (may : Bool) → AreOf p.scope may (then_for column index (Some (Runs c name qs)) rest) → (ts : List Task) → AreOnLine w p block (then_for column index (Some (Runs c name qs)) rest) ts → ((k : ℕ) → k ≤ n → RestFits routines w b p block rest k) → (m : ℕ) → m ≤ n → (s : State) (A : State → Type 0) (S : Case → Type 0) (Q : Quit → Type 0)
+  pub for_fits : (column index c : ℕ) (name : List ℕ) (qs : List ParameterTree) (rest : CommandTrees) (may : Bool) → AreOf p.scope may (then_for column index (Some (Runs c name qs)) rest) → (ts : List Task) → AreOnLine w p here (then_for column index (Some (Runs c name qs)) rest) ts → ((k : ℕ) → k ≤ n → RestFits routines w b p here rest k) → (m : ℕ) → m ≤ n → (s : State) (A : State → Type 0) (S : Case → Type 0) (Q : Quit → Type 0)
       → Leads (commands p (then_for column index (Some (Runs c name qs)) rest)) s A S Q
       → ((k : ℕ) → k ≤ m → (u : State) → A u → Fits routines p.scope w b [] k ts u)
-      → Fits routines p.scope w b [] m (for_parts (Some (Runs c name qs)) rest block ∷ ts) s
+      → Fits routines p.scope w b [] m (for_parts (Some (Runs c name qs)) rest here ∷ ts) s
   for_fits column index c name qs rest may of ts on inside m le s A S Q l go =
       let control = Some (Runs c name qs) in
       let ends = ended_in (inner p column index control rest once s A S Q l) in
       let quits = quit_in (inner p column index control rest once s A S Q l) in
-      parameters_fit routines (at_word p column) w b world c name (cs p column index control rest once s A S Q l) ends (ended_apart p column index control rest once s A S Q l) rest block ts n (evaluate column) quits
+      parameters_fit routines (at_word p column) w b world c name (cs p column index control rest once s A S Q l) ends (ended_apart p column index control rest once s A S Q l) rest here ts n (evaluate column) quits
       (λ k lt d i K is runs again out.
       inside k lt false (record { at_end = of.at_end; reads = of.reads; ours = ours_right p.scope (flat_map in_parameter qs) (in_commands rest) of.ours }) (K ∷ ts) (at_rest d) (λ u. Among u ends) (λ x. Among (at_rest x) ends) (λ q. Among (at_rest q.case) quits)
-      (opens_round w p block column index control rest ts on K d runs i (round_leads p column index control rest once s A S Q l d i).clean) (round_leads p column index control rest once s A S Q l d i) again
+      (opens_round w p here column index control rest ts on K d runs i (round_leads p column index control rest once s A S Q l d i).clean) (round_leads p column index control rest once s A S Q l d i) again
       (λ x h. subst (λ z. Fits routines p.scope w b [] k z (at_rest x)) (sym (round_skips K ts is)) (again (at_rest x) h))
       (λ q h. subst (λ z. Fits routines p.scope w b [] k z (at_rest q.case)) (sym (round_quits K ts is)) (out (at_rest q.case) h))
       (λ y. absurd (false≢true y)))

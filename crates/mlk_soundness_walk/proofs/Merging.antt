@@ -9,7 +9,7 @@ use Rattle.mlk_names.specs.Symbols.{StandsFor}
 use Rattle.mlk_names.specs.declared.reference.Extent.TheVariants as extent
 use Rattle.mlk_names.specs.declared.reference.Access.TheVariants.{Reads, Writes}
 use Rattle.mlk_syntax.specs.ExprTrees.{LocalName, GlobalName, Subs, no_subs, sub, count_subs}
-use Rattle.mlk_syntax.specs.Trees.{RoutineTree, VariableTree, Named, MergeTree, MergeInto}
+use Rattle.mlk_syntax.specs.Trees.{RoutineTree, VariableTree, Named, MergeTree, MergeInto, Merge}
 use Rattle.mlk_program.specs.Calls as calls
 use Rattle.mlk_program.specs.Calls.{in_merge}
 use Rattle.mlk_cert_parts.specs.declared.case.Case.{Case}
@@ -54,6 +54,8 @@ use Rattle.mlk_soundness_walk.proofs.Ours.{ours_left, ours_right}
 use Rattle.mlk_soundness_walk.proofs.Sets.{subs_same}
 use Rattle.mlk_soundness_walk.proofs.Setting.{zip_size, bottom, forgotten}
 use Rattle.mlk_soundness_walk.proofs.Turns.{turns_fit}
+use Rattle.mlk_soundness_machine.specs.Places.{acts_to, arguments_from}
+use Rattle.mlk_soundness_machine.specs.Safe.{KeepsIn}
 
 -- the values of both sides' subscripts, the target's below the source's
 module _ (sc : Scope) (w : World) (b : Level) (of_target of_source : ℕ) (u : State) (j : Job) (d : Describes sc w b (kepts of_source (kepts of_target [])) u (idle j)) where
@@ -237,7 +239,8 @@ module _ (routines : List RoutineTree) (p : Spot) (w : World) (b : Level) (world
         (λ x q. merge_fits ts A go target source x q)))
 
     -- one after another
-    pub merges_fit : (merges : List MergeTree) → AreOurs p.scope (flat_map in_merge merges) → (ts : List Task) (s : State) (A : State → Type 0)
-        → Leads (in_turn merge_argument p merges) s A S Q → ((u : State) → A u → Fit [] n ts u) → Fit [] n (flat_map merge_parts merges ++ ts) s
-    merges_fit merges ours ts s A l go =
-        turns_fit routines p w b S Q n merge_argument (merge_keeps p) merge_parts in_merge ts (λ x its more u B m f. merge_one_fits x its more u B m f) merges ours s A l go
+    pub merges_fit : (merges : List MergeTree) → AreOurs p.scope (flat_map in_merge merges) → (ts : List Task) (s : State)
+        → ((k : ℕ) (u : State) → acts_to p (Merge merges) k s u → (j : Job) → Describes p.scope w b [] u (idle j) → j.tasks ≡ task.NextArgument (Merge merges) k ∷ (arguments_from (Merge merges) k ++ ts) → KeepsIn p.scope w b j)
+        → (A : State → Type 0) → Leads (in_turn merge_argument p merges) s A S Q → ((u : State) → A u → Fit [] n ts u) → Fit [] n (made.in_turn merge_parts (Merge merges) 0 merges ++ ts) s
+    merges_fit merges ours ts s mark A l go =
+        turns_fit routines p w b S Q n merge_argument (merge_keeps p) merge_parts in_merge ts (λ x its more u B m f. merge_one_fits x its more u B m f) (Merge merges) merges s mark ours A l go

@@ -9,7 +9,7 @@ use Rattle.mlk_syntax.specs.Trees.{RoutineTree, CommandTrees, LineTrees, Paramet
 use Rattle.mlk_cert_parts.specs.declared.case.Case.{Case}
 use Rattle.mlk_cert_parts.specs.declared.names.NameSet.TheVariants.{Only}
 use Rattle.mlk_machine_jobs.specs.Tasks as task
-use Rattle.mlk_machine_jobs.specs.Tasks.{Task, Job, RunCommands, Parameters, NextValue, FirstRound, LaterRound}
+use Rattle.mlk_machine_jobs.specs.Tasks.{Task, Job, RunCommands, Parameters, NextValue, FirstRound, LaterRound, LineTree}
 use Rattle.mlk_machine_jobs.specs.Choices.{doing, dropped}
 use Rattle.mlk_machine_jobs.specs.Lines.{is_round, first_round, later_round}
 use Rattle.mlk_walk_state.specs.declared.state.State.{State}
@@ -30,7 +30,7 @@ use Rattle.mlk_walk_laws.proofs.Counts.{joined_clean, joined_same}
 use Rattle.mlk_walk_laws.proofs.Walks.{value_keeps}
 use Rattle.mlk_walk_laws.proofs.Rounds.{round_clean, round_same, parameter_keeps, parameters_keep}
 use Rattle.mlk_soundness_machine.specs.Reads.{now}
-use Rattle.mlk_soundness_machine.specs.Places.{round_of}
+use Rattle.mlk_soundness_machine.specs.Places.{round_of, alone}
 use Rattle.mlk_soundness_machine.specs.Described.{World, Level, Slot, Bare, IsWorld, idle, Describes}
 use Rattle.mlk_soundness_machine.proofs.Worlds.{drop_law}
 use Rattle.mlk_soundness_machine.proofs.Steps.{Comes, done, unasked, of_truth}
@@ -42,7 +42,6 @@ use Rattle.mlk_soundness_machine.proofs.Values.{Safe, Fits, FitsValue, plain_ste
 use Rattle.mlk_program.specs.Calls.{in_tree, in_parameter}
 use Rattle.mlk_soundness_walk.specs.Ours.{AreOurs}
 use Rattle.mlk_soundness_walk.proofs.Ours.{ours_left, ours_right}
-use Rattle.mlk_soundness_walk.specs.Commands.{alone}
 use Rattle.mlk_soundness_walk.proofs.Alone.{Leads}
 use Rattle.mlk_soundness_walk.proofs.Alone.{alone_part, Meets, leads_both, leads_each, leads_part, leads_stay}
 use Rattle.mlk_soundness_walk.proofs.Lines.{listed_for, less_law}
@@ -78,7 +77,7 @@ or_after p cases s G h =
     (cases_Bool (is_listed cases s.case))
 
 module _ (routines : List RoutineTree) (p : Spot) (w : World) (b : Level) (world : IsWorld p.scope w) (column : ℕ) (name : List ℕ) (cases : List Case) (ended : List State) (apart : StatesDiffer ended)
-    (rest : CommandTrees) (block : LineTrees) (ts : List Task) (n : ℕ)
+    (rest : CommandTrees) (here : LineTree) (ts : List Task) (n : ℕ)
     (evaluate : (m : ℕ) → m ≤ n → (t : Tree) → AreOurs p.scope (in_tree t) → (slots : List Slot) (us : List Task) (s : State) (A : State → Type 0) → Leads (value p t) s A Some_case Some_quit
     → ((u : State) → A u → FitsValue routines p.scope w b t slots m us u) → Fits routines p.scope w b slots m (task.Evaluate t ∷ us) s) where
   abbrev At : ℕ → List Task → State → Type 0
@@ -106,13 +105,13 @@ module _ (routines : List RoutineTree) (p : Spot) (w : World) (b : Level) (world
 
   module _ (quits : List State)
       (round : (m : ℕ) → m ≤ n → (c : Case) → Among c cases → (K : Task) → is_round K ≡ true → round_of K ≡ Some rest → ((u : State) → Among u ended → At m (K ∷ ts) u) → ((u : State) → Among u quits → At m ts u)
-      → At m (RunCommands rest block ∷ K ∷ ts) (at_rest c)) where
+      → At m (RunCommands rest here ∷ K ∷ ts) (at_rest c)) where
     fewer : (m : ℕ) (us : List Task) (s : State) → At (suc m) us s → At m us s
     fewer m us s f j d e = less routines p.scope w b m j (f j d e)
 
     -- a round, from a case that says more than a listed one
     enter : (m : ℕ) → m ≤ n → (K : Task) → is_round K ≡ true → round_of K ≡ Some rest → ((u : State) → Among u ended → At m (K ∷ ts) u) → ((u : State) → Among u quits → At m ts u)
-        → (u : State) → is_listed cases u.case ≡ true → At m (RunCommands rest block ∷ K ∷ ts) u
+        → (u : State) → is_listed cases u.case ≡ true → At m (RunCommands rest here ∷ K ∷ ts) u
     enter m le K is runs go out u h j d e =
         let r = listed_for cases u.case h in
         round m le r.0 r.1 K is runs go out j (less_law p.scope w b u.case r.0 r.2 u refl (idle j) d) e
@@ -121,46 +120,46 @@ module _ (routines : List RoutineTree) (p : Spot) (w : World) (b : Level) (world
     Out m = (u : State) → Among u quits → At m ts u
 
     -- each further value, without a limit and with one
-    next_fits : ((u : State) → Among u ended → Leads again u Some_state Some_case Some_quit) → (m : ℕ) → m ≤ n → Out m → (u : State) → Among u ended → At m (NextValue name rest block ∷ ts) u
-    next_fits l zero le out u i j d e = plain_facts p.scope w b j (NextValue name rest block) ts e refl
+    next_fits : ((u : State) → Among u ended → Leads again u Some_state Some_case Some_quit) → (m : ℕ) → m ≤ n → Out m → (u : State) → Among u ended → At m (NextValue name rest here ∷ ts) u
+    next_fits l zero le out u i j d e = plain_facts p.scope w b j (NextValue name rest here) ts e refl
     next_fits l (suc m) le out u i j d e =
         let le' : m ≤ n = omega (arith, le) in
         let out' : Out m = (λ v x. fewer m ts v (out v x)) in
         let a = starts u (l u i) in
-        let to : List Task = task.StoreAny name ∷ RunCommands rest block ∷ NextValue name rest block ∷ ts in
-        down routines p.scope w b m j (NextValue name rest block) ts e refl (plain_facts p.scope w b j (NextValue name rest block) ts e refl) (λ free c.
+        let to : List Task = task.StoreAny name ∷ RunCommands rest here ∷ NextValue name rest here ∷ ts in
+        down routines p.scope w b m j (NextValue name rest here) ts e refl (plain_facts p.scope w b j (NextValue name rest here) ts e refl) (λ free c.
         unasked (Safe routines p.scope w b m) c _ (done (Safe routines p.scope w b m) (doing to j)
-        (store_any routines p.scope w b world [] m (RunCommands rest block ∷ NextValue name rest block ∷ ts) u name a.0
-        (enter m le' (NextValue name rest block) refl refl (λ v x. next_fits l m le' out' v x) out' (changed_state (Only name ∷ []) u) a.1) (doing to j) d refl)))
+        (store_any routines p.scope w b world [] m (RunCommands rest here ∷ NextValue name rest here ∷ ts) u name a.0
+        (enter m le' (NextValue name rest here) refl refl (λ v x. next_fits l m le' out' v x) out' (changed_state (Only name ∷ []) u) a.1) (doing to j) d refl)))
 
     later_fits : (qs : List ParameterTree) → ((u : State) → Among u ended → Leads again u Some_state Some_case Some_quit)
-        → (m : ℕ) → m ≤ n → ((k : ℕ) → k ≤ m → (u : State) → Among u ended → At k (Parameters name qs rest block ∷ ts) u) → Out m → (u : State) → Among u ended → At m (LaterRound name qs rest block ∷ ts) u
-    later_fits qs l zero le more out u i j d e = plain_facts p.scope w b j (LaterRound name qs rest block) ts e refl
+        → (m : ℕ) → m ≤ n → ((k : ℕ) → k ≤ m → (u : State) → Among u ended → At k (Parameters name qs rest here ∷ ts) u) → Out m → (u : State) → Among u ended → At m (LaterRound name qs rest here ∷ ts) u
+    later_fits qs l zero le more out u i j d e = plain_facts p.scope w b j (LaterRound name qs rest here) ts e refl
     later_fits qs l (suc m) le more out u i j d e =
         let le' : m ≤ n = omega (arith, le) in
         let out' : Out m = (λ v x. fewer m ts v (out v x)) in
-        let more' : (k : ℕ) → k ≤ m → (v : State) → Among v ended → At k (Parameters name qs rest block ∷ ts) v = (λ k lt. more k (omega (arith, lt))) in
+        let more' : (k : ℕ) → k ≤ m → (v : State) → Among v ended → At k (Parameters name qs rest here ∷ ts) v = (λ k lt. more k (omega (arith, lt))) in
         let a = starts u (l u i) in
-        let deeper : At m (RunCommands rest block ∷ LaterRound name qs rest block ∷ ts) (changed_state (Only name ∷ []) u) =
-        (enter m le' (LaterRound name qs rest block) refl refl (λ v x. later_fits qs l m le' more' out' v x) out' (changed_state (Only name ∷ []) u) a.1) in
-        down routines p.scope w b m j (LaterRound name qs rest block) ts e refl (plain_facts p.scope w b j (LaterRound name qs rest block) ts e refl) (λ free c.
-        of_truth (Safe routines p.scope w b m) c (λ t. Ok (doing (later_round name qs rest block t ++ ts) j)) (way a.0 deeper (more' m (omega arith) u i)))
+        let deeper : At m (RunCommands rest here ∷ LaterRound name qs rest here ∷ ts) (changed_state (Only name ∷ []) u) =
+        (enter m le' (LaterRound name qs rest here) refl refl (λ v x. later_fits qs l m le' more' out' v x) out' (changed_state (Only name ∷ []) u) a.1) in
+        down routines p.scope w b m j (LaterRound name qs rest here) ts e refl (plain_facts p.scope w b j (LaterRound name qs rest here) ts e refl) (λ free c.
+        of_truth (Safe routines p.scope w b m) c (λ t. Ok (doing (later_round name qs rest here t ++ ts) j)) (way a.0 deeper (more' m (omega arith) u i)))
       where
-        way : Allowed p.scope (Only name ∷ []) u → At m (RunCommands rest block ∷ LaterRound name qs rest block ∷ ts) (changed_state (Only name ∷ []) u) → At m (Parameters name qs rest block ∷ ts) u
-            → (t : Bool) → Comes (Safe routines p.scope w b m) (Ok (doing (later_round name qs rest block t ++ ts) j))
-        way a deeper other true = done (Safe routines p.scope w b m) (doing (task.StoreAny name ∷ RunCommands rest block ∷ LaterRound name qs rest block ∷ ts) j)
-            (store_any routines p.scope w b world [] m (RunCommands rest block ∷ LaterRound name qs rest block ∷ ts) u name a deeper (doing (task.StoreAny name ∷ RunCommands rest block ∷ LaterRound name qs rest block ∷ ts) j) d refl)
-        way a deeper other false = done (Safe routines p.scope w b m) (doing (Parameters name qs rest block ∷ ts) j) (other (doing (Parameters name qs rest block ∷ ts) j) d refl)
+        way : Allowed p.scope (Only name ∷ []) u → At m (RunCommands rest here ∷ LaterRound name qs rest here ∷ ts) (changed_state (Only name ∷ []) u) → At m (Parameters name qs rest here ∷ ts) u
+            → (t : Bool) → Comes (Safe routines p.scope w b m) (Ok (doing (later_round name qs rest here t ++ ts) j))
+        way a deeper other true = done (Safe routines p.scope w b m) (doing (task.StoreAny name ∷ RunCommands rest here ∷ LaterRound name qs rest here ∷ ts) j)
+            (store_any routines p.scope w b world [] m (RunCommands rest here ∷ LaterRound name qs rest here ∷ ts) u name a deeper (doing (task.StoreAny name ∷ RunCommands rest here ∷ LaterRound name qs rest here ∷ ts) j) d refl)
+        way a deeper other false = done (Safe routines p.scope w b m) (doing (Parameters name qs rest here ∷ ts) j) (other (doing (Parameters name qs rest here ∷ ts) j) d refl)
 
     -- what a first value and its round ask
     firsts : (t : Tree) → AreOurs p.scope (in_tree t) → (s : State) → Leads (λ v. again (value p t v)) s Some_state Some_case Some_quit → (m : ℕ) → m ≤ n → (K : Task) → is_round K ≡ true → round_of K ≡ Some rest
-        → ((u : State) → Among u ended → At m (K ∷ ts) u) → Out m → At m (task.Evaluate t ∷ task.StoreLast name ∷ RunCommands rest block ∷ K ∷ ts) s
+        → ((u : State) → Among u ended → At m (K ∷ ts) u) → Out m → At m (task.Evaluate t ∷ task.StoreLast name ∷ RunCommands rest here ∷ K ∷ ts) s
     firsts t ours s l m le K is runs go out =
-        evaluate m le t ours [] (task.StoreLast name ∷ RunCommands rest block ∷ K ∷ ts) s (λ u. Leads again u Some_state Some_case Some_quit)
+        evaluate m le t ours [] (task.StoreLast name ∷ RunCommands rest here ∷ K ∷ ts) s (λ u. Leads again u Some_state Some_case Some_quit)
         (leads_both Some_state Some_case Some_quit (value p t) again (value_keeps p t) again_keeps s l)
         (λ u q j v more d e knows tasks.
         let a = starts u q in
-        store_last routines p.scope w b world [] m (RunCommands rest block ∷ K ∷ ts) u name a.0
+        store_last routines p.scope w b world [] m (RunCommands rest here ∷ K ∷ ts) u name a.0
         (enter m le K is runs go out (changed_state (Only name ∷ []) u) a.1) j v more d e tasks)
 
     -- where a round ended, the variable may change and another one begins
@@ -189,21 +188,21 @@ module _ (routines : List RoutineTree) (p : Spot) (w : World) (b : Level) (world
         let f = first_value (now j) [] (reverse u.captured) j.values w.values d.values in
         store_last routines p.scope w b world [] m us u name a k j f.0 f.1 d f.2 e
 
-    first_fits : (m : ℕ) (qs : List ParameterTree) (u : State) → At m (RunCommands rest block ∷ LaterRound name qs rest block ∷ ts) u → At m (Parameters name qs rest block ∷ ts) u
-        → At m (FirstRound name qs rest block ∷ ts) u
+    first_fits : (m : ℕ) (qs : List ParameterTree) (u : State) → At m (RunCommands rest here ∷ LaterRound name qs rest here ∷ ts) u → At m (Parameters name qs rest here ∷ ts) u
+        → At m (FirstRound name qs rest here ∷ ts) u
     first_fits m qs u yes' other j d e =
-        plain_step routines p.scope w b [] m ts u (FirstRound name qs rest block) refl j e (λ free c.
-        of_truth (Safe routines p.scope w b m) c (λ t. Ok (doing (first_round name qs rest block t ++ ts) j)) way)
+        plain_step routines p.scope w b [] m ts u (FirstRound name qs rest here) refl j e (λ free c.
+        of_truth (Safe routines p.scope w b m) c (λ t. Ok (doing (first_round name qs rest here t ++ ts) j)) way)
       where
-        way : (t : Bool) → Comes (Safe routines p.scope w b m) (Ok (doing (first_round name qs rest block t ++ ts) j))
-        way true = done (Safe routines p.scope w b m) (doing (RunCommands rest block ∷ LaterRound name qs rest block ∷ ts) j) (yes' (doing (RunCommands rest block ∷ LaterRound name qs rest block ∷ ts) j) d refl)
-        way false = done (Safe routines p.scope w b m) (doing (Parameters name qs rest block ∷ ts) j) (other (doing (Parameters name qs rest block ∷ ts) j) d refl)
+        way : (t : Bool) → Comes (Safe routines p.scope w b m) (Ok (doing (first_round name qs rest here t ++ ts) j))
+        way true = done (Safe routines p.scope w b m) (doing (RunCommands rest here ∷ LaterRound name qs rest here ∷ ts) j) (yes' (doing (RunCommands rest here ∷ LaterRound name qs rest here ∷ ts) j) d refl)
+        way false = done (Safe routines p.scope w b m) (doing (Parameters name qs rest here ∷ ts) j) (other (doing (Parameters name qs rest here ∷ ts) j) d refl)
 
-    -- the parameters from here on
+    -- the parameters from these on
     pub parameters_fit : (qs : List ParameterTree) → AreOurs p.scope (flat_map in_parameter qs) → (m : ℕ) → m ≤ n → (s : State) (A : State → Type 0) → Leads (parameters p rounds qs) s A Some_case Some_quit
-        → ((k : ℕ) → k ≤ m → (u : State) → A u → At k ts u) → ((k : ℕ) → k ≤ m → Out k) → At m (Parameters name qs rest block ∷ ts) s
+        → ((k : ℕ) → k ≤ m → (u : State) → A u → At k ts u) → ((k : ℕ) → k ≤ m → Out k) → At m (Parameters name qs rest here ∷ ts) s
     parameters_fit [] ours m le s A l go out j d e =
-        plain_step routines p.scope w b [] m ts s (Parameters name [] rest block) refl j e (λ free c.
+        plain_step routines p.scope w b [] m ts s (Parameters name [] rest here) refl j e (λ free c.
         unasked (Safe routines p.scope w b m) c _ (done (Safe routines p.scope w b m) (doing ts j) (go m (omega arith) s (leads_stay A Some_case Some_quit s l) (doing ts j) d refl)))
     parameters_fit (Once t ∷ qs) ours m le s A l go out j d e =
         let first : Walk → Walk = λ v. again (value p t v) in
@@ -211,27 +210,27 @@ module _ (routines : List RoutineTree) (p : Spot) (w : World) (b : Level) (world
         let clean = round_clean ended (first (alone s)) whole.clean in
         let after : (u : State) → Among u ended → Leads (parameters p rounds qs) u A Some_case Some_quit =
         (λ u i. whole.going u (subst (λ (v : Walk). Among u v.going) (sym (round_same ended (first (alone s)) clean.goes_on)) i)) in
-        let to : List Task = task.Evaluate t ∷ task.StoreLast name ∷ RunCommands rest block ∷ Parameters name qs rest block ∷ ts in
-        plain_step routines p.scope w b [] m ts s (Parameters name (Once t ∷ qs) rest block) refl j e (λ free c.
+        let to : List Task = task.Evaluate t ∷ task.StoreLast name ∷ RunCommands rest here ∷ Parameters name qs rest here ∷ ts in
+        plain_step routines p.scope w b [] m ts s (Parameters name (Once t ∷ qs) rest here) refl j e (λ free c.
         unasked (Safe routines p.scope w b m) c _ (done (Safe routines p.scope w b m) (doing to j)
-        (firsts t (ours_left p.scope (in_tree t) (flat_map in_parameter qs) ours) s (only_clean first s clean) m le (Parameters name qs rest block) refl refl
+        (firsts t (ours_left p.scope (in_tree t) (flat_map in_parameter qs) ours) s (only_clean first s clean) m le (Parameters name qs rest here) refl refl
         (λ u i. parameters_fit qs (ours_right p.scope (in_tree t) (flat_map in_parameter qs) ours) m le u A (after u i) go out) (out m (omega arith)) (doing to j) d refl)))
     parameters_fit (Endless start by ∷ qs) ours m le s A l go out j d e =
-        let here = ours_left p.scope (in_tree start ++ in_tree by) (flat_map in_parameter qs) ours in
+        let these = ours_left p.scope (in_tree start ++ in_tree by) (flat_map in_parameter qs) ours in
         let first : Walk → Walk = λ v. again (value p by (value p start v)) in
         let whole = leads_both A Some_case Some_quit (λ v. parameter p rounds v (Endless start by)) (parameters p rounds qs) (parameter_keeps p rounds apart (Endless start by)) (parameters_keep p rounds apart qs) s l in
         let ends = again_keeps.back (after_round ended (first (alone s))) whole.clean in
         let clean = round_clean ended (first (alone s)) ends in
         let more : (u : State) → Among u ended → Leads again u Some_state Some_case Some_quit = (λ u i. from_ended (first (alone s)) clean whole.clean u i) in
-        let K : Task = NextValue name rest block in
-        let us : List Task = RunCommands rest block ∷ K ∷ ts in
+        let K : Task = NextValue name rest here in
+        let us : List Task = RunCommands rest here ∷ K ∷ ts in
         let to : List Task = task.Evaluate start ∷ task.Evaluate by ∷ task.Drop 1 ∷ task.StoreLast name ∷ us in
-        plain_step routines p.scope w b [] m ts s (Parameters name (Endless start by ∷ qs) rest block) refl j e (λ free c.
+        plain_step routines p.scope w b [] m ts s (Parameters name (Endless start by ∷ qs) rest here) refl j e (λ free c.
         unasked (Safe routines p.scope w b m) c _ (done (Safe routines p.scope w b m) (doing to j)
-        (evaluate m le start (ours_left p.scope (in_tree start) (in_tree by) here) [] (task.Evaluate by ∷ task.Drop 1 ∷ task.StoreLast name ∷ us) s (λ u. Leads (λ v. again (value p by v)) u Some_state Some_case Some_quit)
+        (evaluate m le start (ours_left p.scope (in_tree start) (in_tree by) these) [] (task.Evaluate by ∷ task.Drop 1 ∷ task.StoreLast name ∷ us) s (λ u. Leads (λ v. again (value p by v)) u Some_state Some_case Some_quit)
         (leads_both Some_state Some_case Some_quit (value p start) (λ v. again (value p by v)) (value_keeps p start) (both (value p by) again (value_keeps p by) again_keeps) s (only_clean first s clean))
         (λ u q i v others f x knows tasks.
-        evaluate m le by (ours_right p.scope (in_tree start) (in_tree by) here) (Bare None ∷ []) (task.Drop 1 ∷ task.StoreLast name ∷ us) u (λ y. Leads again y Some_state Some_case Some_quit)
+        evaluate m le by (ours_right p.scope (in_tree start) (in_tree by) these) (Bare None ∷ []) (task.Drop 1 ∷ task.StoreLast name ∷ us) u (λ y. Leads again y Some_state Some_case Some_quit)
         (leads_both Some_state Some_case Some_quit (value p by) again (value_keeps p by) again_keeps u q)
         (λ y r i' v' others' f' x' knows' tasks'.
         let a = starts y r in
@@ -242,8 +241,8 @@ module _ (routines : List RoutineTree) (p : Spot) (w : World) (b : Level) (world
         i f tasks)
         (doing to j) d refl)))
     parameters_fit (Limited start by most ∷ qs) ours m le s A l go out j d e =
-        let here = ours_left p.scope (in_tree start ++ (in_tree by ++ in_tree most)) (flat_map in_parameter qs) ours in
-        let later = ours_right p.scope (in_tree start) (in_tree by ++ in_tree most) here in
+        let these = ours_left p.scope (in_tree start ++ (in_tree by ++ in_tree most)) (flat_map in_parameter qs) ours in
+        let later = ours_right p.scope (in_tree start) (in_tree by ++ in_tree most) these in
         let B : State → Type 0 = λ u. Leads (parameters p rounds qs) u A Some_case Some_quit in
         let last : Walk → Walk = λ v. each (round_or_after p cases) (each row v) in
         let first : Walk → Walk = λ v. last (value p most (value p by (value p start v))) in
@@ -262,13 +261,13 @@ module _ (routines : List RoutineTree) (p : Spot) (w : World) (b : Level) (world
         let lead : Leads first s B Some_case Some_quit = record { clean = clean; going = after_begun; skips = λ c i. tt; quits = λ q i. tt } in
         let last_keeps : Keeps last = both (each row) (each (round_or_after p cases)) (each_keeps row) (each_keeps (round_or_after p cases)) in
         let by_keeps : Keeps (λ v. last (value p most (value p by v))) = both (value p by) (λ v. last (value p most v)) (value_keeps p by) (both (value p most) last (value_keeps p most) last_keeps) in
-        let us : List Task = FirstRound name qs rest block ∷ ts in
+        let us : List Task = FirstRound name qs rest here ∷ ts in
         let to : List Task = task.Evaluate start ∷ task.Evaluate by ∷ task.Evaluate most ∷ task.Drop 2 ∷ task.StoreLast name ∷ us in
-        let others : (k : ℕ) → k ≤ m → (u : State) → B u → At k (Parameters name qs rest block ∷ ts) u =
+        let others : (k : ℕ) → k ≤ m → (u : State) → B u → At k (Parameters name qs rest here ∷ ts) u =
         (λ k lt u h. parameters_fit qs (ours_right p.scope (in_tree start ++ (in_tree by ++ in_tree most)) (flat_map in_parameter qs) ours) k (omega (arith, lt, le)) u A h (λ i less. go i (omega (arith, less, lt))) (λ i less. out i (omega (arith, less, lt)))) in
-        plain_step routines p.scope w b [] m ts s (Parameters name (Limited start by most ∷ qs) rest block) refl j e (λ free c.
+        plain_step routines p.scope w b [] m ts s (Parameters name (Limited start by most ∷ qs) rest here) refl j e (λ free c.
         unasked (Safe routines p.scope w b m) c _ (done (Safe routines p.scope w b m) (doing to j)
-        (evaluate m le start (ours_left p.scope (in_tree start) (in_tree by ++ in_tree most) here) [] (task.Evaluate by ∷ task.Evaluate most ∷ task.Drop 2 ∷ task.StoreLast name ∷ us) s (λ u. Leads (λ v. last (value p most (value p by v))) u B Some_case Some_quit)
+        (evaluate m le start (ours_left p.scope (in_tree start) (in_tree by ++ in_tree most) these) [] (task.Evaluate by ∷ task.Evaluate most ∷ task.Drop 2 ∷ task.StoreLast name ∷ us) s (λ u. Leads (λ v. last (value p most (value p by v))) u B Some_case Some_quit)
         (leads_both B Some_case Some_quit (value p start) (λ v. last (value p most (value p by v))) (value_keeps p start) by_keeps s lead)
         (λ u q i v o f x knows tasks.
         evaluate m le by (ours_left p.scope (in_tree by) (in_tree most) later) (Bare None ∷ []) (task.Evaluate most ∷ task.Drop 2 ∷ task.StoreLast name ∷ us) u (λ y. Leads (λ v. last (value p most v)) y B Some_case Some_quit)
@@ -285,7 +284,7 @@ module _ (routines : List RoutineTree) (p : Spot) (w : World) (b : Level) (world
         unasked (Safe routines p.scope w b m) c' _ (done (Safe routines p.scope w b m) (doing (task.StoreLast name ∷ us) (dropped 2 i'))
         (store_then m us y ch.0
         (first_fits m qs (changed_state (Only name ∷ []) y)
-        (enter m le (LaterRound name qs rest block) refl refl (λ z g. later_fits qs more m le (λ k lt h g'. others k lt h (after_ended h g')) (out m (omega arith)) z g) (out m (omega arith)) (changed_state (Only name ∷ []) y) li.0)
+        (enter m le (LaterRound name qs rest here) refl refl (λ z g. later_fits qs more m le (λ k lt h g'. others k lt h (after_ended h g')) (out m (omega arith)) z g) (out m (omega arith)) (changed_state (Only name ∷ []) y) li.0)
         (others m (omega arith) (changed_state (Only name ∷ []) y) li.1))
         (doing (task.StoreLast name ∷ us) (dropped 2 i')) (drop_two (Bare None ∷ []) y i' f') refl))))
         i2 f2 tasks2)

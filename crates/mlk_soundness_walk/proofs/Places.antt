@@ -1,7 +1,7 @@
 -- Places on lines: where the walk begins, after one more command, and in the rounds of a FOR.
 use Rattle.std.proofs.Common.{◌≡◌, ℕ, suc, ◌≤◌, true, List, [], ◌∷◌, ◌++◌, Option, Some, None, refl, sym, ap, ◌∙◌, subst, arith, ⊎_elim, inl, inr}
 use Rattle.mlk_names.specs.Lists.{Among}
-use Rattle.mlk_syntax.specs.Trees.{CommandTree, ControlTree, CommandTrees, finished, then_command, then_for, HeadTree, LineTrees, line}
+use Rattle.mlk_syntax.specs.Trees.{CommandTree, ControlTree, CommandTrees, finished, then_command, then_for, HeadTree, LineTrees, line, ActionTree, Does}
 use Rattle.mlk_program.specs.Entries.{as_lines}
 use Rattle.mlk_cert_parts.specs.declared.case.Case.{Case}
 use Rattle.mlk_machine_jobs.specs.Calling.{commands_in}
@@ -12,14 +12,15 @@ use Rattle.mlk_walk_state.specs.States.{at_rest}
 use Rattle.mlk_walk_exprs.specs.declared.walk.Walk.{Walk}
 use Rattle.mlk_walk_exprs.specs.Spots.{Spot}
 use Rattle.mlk_walk_exprs.specs.Walks.{begin}
-use Rattle.mlk_walk_lines.specs.Loops.{commands, one_command}
+use Rattle.mlk_walk_lines.specs.Loops.{commands, one_command, at_word}
 use Rattle.mlk_walk_laws.specs.Fewer.{IsClean, IsPart, ListsEachOnce}
 use Rattle.mlk_walk_laws.proofs.Rounds.{one_keeps, commands_keep}
 use Rattle.mlk_soundness_machine.specs.Described.{World}
-use Rattle.mlk_soundness_machine.specs.Places.{line_number, entry_trees, StandIn, next_lines, none_follows, round_of, open_round, AreLastOf, AreRoundOf, BeginsWith, followed, spot_on, ComesTo}
+use Rattle.mlk_soundness_machine.specs.Places.{line_number, entry_trees, StandIn, next_lines, none_follows, round_of, open_round, AreLastOf, AreRoundOf, BeginsWith, followed, spot_on, ComesTo, alone, acts_to, holds_to, ComesAfter}
 use Rattle.mlk_soundness_machine.proofs.Listing.{own_lines, BeginsRound}
-use Rattle.mlk_soundness_walk.specs.Commands.{alone, AreOnLine}
+use Rattle.mlk_soundness_walk.specs.Commands.{AreOnLine}
 use Rattle.mlk_soundness_walk.proofs.Alone.{alone_part}
+use Rattle.mlk_syntax.specs.ExprTrees.{Tree}
 
 -- what stands in these lines stands in those; so does what stands in the block of the first, or behind it
 abbrev pub AreWithin : LineTrees → LineTrees → Type 0
@@ -77,11 +78,11 @@ round_lines (RunLines lines) rest ts h = absurd (cc h)
 round_lines K rest ts h = refl
 
 -- A state comes of a walk of a line where these commands are left, with these tasks behind them.
-pub record Opens (w : World) (p : Spot) (block : LineTrees) (cs : CommandTrees) (ts : List Task) (s : State) : Type 0 where
-  pub place : AreOnLine w p block cs ts
+pub record Opens (w : World) (p : Spot) (here : LineTree) (cs : CommandTrees) (ts : List Task) (s : State) : Type 0 where
+  pub place : AreOnLine w p here cs ts
   pub first : CommandTrees
   pub round : ℕ
-  pub begins : BeginsWith first round (commands_in place.on.head) ts
+  pub begins : BeginsWith first round (commands_in here.0) ts
   pub case : Case
   pub is_listed : Among case (listed p.scope p.line round)
   pub clean : IsClean (commands p first (begin (case ∷ [])))
@@ -89,12 +90,12 @@ pub record Opens (w : World) (p : Spot) (block : LineTrees) (cs : CommandTrees) 
   pub stands : first ≡ followed done cs
   pub goes_on : Among s (commands p (followed done finished) (begin (case ∷ []))).going
 
-module _ (w : World) (p : Spot) (block : LineTrees) where
+module _ (w : World) (p : Spot) where
   -- at the begin of a line
-  pub opens_line : (head : HeadTree) (behind : LineTrees) → StandIn (line head block behind) (entry_trees p.scope.routines w.entry) → p ≡ spot_on p.scope head block → (others : List LineTree) → none_follows others ≡ true → (ts : List Task) (c : Case)
-      → Among c (listed p.scope p.line 0) → IsClean (commands p (commands_in head) (begin (c ∷ []))) → Opens w p block (commands_in head) (RunLines (as_lines behind ++ others) ∷ ts) (at_rest c)
-  opens_line head behind is spot others none ts c i clean = record {
-    place = record { on = record { head = head; behind = behind; is_line = is; others = others; ahead = refl; no_more = none }; spot = spot; last = all_last (commands_in head) };
+  pub opens_line : (head : HeadTree) (block behind : LineTrees) → StandIn (line head block behind) (entry_trees p.scope.routines w.entry) → p ≡ spot_on p.scope head block → (others : List LineTree) → none_follows others ≡ true → (ts : List Task) (c : Case)
+      → Among c (listed p.scope p.line 0) → IsClean (commands p (commands_in head) (begin (c ∷ []))) → Opens w p (head, block) (commands_in head) (RunLines (as_lines behind ++ others) ∷ ts) (at_rest c)
+  opens_line head block behind is spot others none ts c i clean = record {
+    place = record { on = record { behind = behind; is_line = is; others = others; ahead = refl; no_more = none }; spot = spot; last = all_last (commands_in head) };
     first = commands_in head;
     round = 0;
     begins = inl (refl, refl, refl);
@@ -107,13 +108,13 @@ module _ (w : World) (p : Spot) (block : LineTrees) where
   }
 
   -- at the begin of a round
-  pub opens_round : (column index : ℕ) (control : Option ControlTree) (rest : CommandTrees) (ts : List Task) → AreOnLine w p block (then_for column index control rest) ts → (K : Task) (c : Case) → round_of K ≡ Some rest
-      → Among c (listed p.scope p.line index) → IsClean (commands p rest (begin (c ∷ []))) → Opens w p block rest (K ∷ ts) (at_rest c)
-  opens_round column index control rest ts o K c is i clean = record {
+  pub opens_round : (here : LineTree) (column index : ℕ) (control : Option ControlTree) (rest : CommandTrees) (ts : List Task) → AreOnLine w p here (then_for column index control rest) ts → (K : Task) (c : Case) → round_of K ≡ Some rest
+      → Among c (listed p.scope p.line index) → IsClean (commands p rest (begin (c ∷ []))) → Opens w p here rest (K ∷ ts) (at_rest c)
+  opens_round here column index control rest ts o K c is i clean = record {
     place = record {
-      on = record { head = o.on.head; behind = o.on.behind; is_line = o.on.is_line; others = o.on.others; ahead = round_lines K rest ts is ∙ o.on.ahead; no_more = o.on.no_more };
+      on = record { behind = o.on.behind; is_line = o.on.is_line; others = o.on.others; ahead = round_lines K rest ts is ∙ o.on.ahead; no_more = o.on.no_more };
       spot = o.spot;
-      last = behind_last (then_for column index control rest) rest (commands_in o.on.head) (inr (all_last rest)) o.last;
+      last = behind_last (then_for column index control rest) rest (commands_in here.0) (inr (all_last rest)) o.last;
     };
     first = rest;
     round = index;
@@ -127,21 +128,21 @@ module _ (w : World) (p : Spot) (block : LineTrees) where
   }
 
   -- after one more command
-  pub opens_rest : ListsEachOnce p.scope → (c : CommandTree) (rest : CommandTrees) (ts : List Task) (s u : State) → Opens w p block (then_command c rest) ts s → Among u (one_command p (alone s) c).going → Opens w p block rest ts u
-  opens_rest once c rest ts s u o i =
+  pub opens_rest : (here : LineTree) → ListsEachOnce p.scope → (c : CommandTree) (rest : CommandTrees) (ts : List Task) (s u : State) → Opens w p here (then_command c rest) ts s → Among u (one_command p (alone s) c).going → Opens w p here rest ts u
+  opens_rest here once c rest ts s u o i =
       let begun : Walk = begin (o.case ∷ []) in
       let before : Walk = commands p (followed o.done finished) begun in
       let whole : IsClean (commands p rest (one_command p before c)) = subst IsClean (walk_both p o.done (then_command c rest) begun) (subst (λ z. IsClean (commands p z begun)) o.stands o.clean) in
       let after : IsClean (one_command p before c) = (commands_keep p once rest).back (one_command p before c) whole in
-      let here : IsClean before = (one_keeps p c).back before after in
-      let part : IsPart (one_command p (alone s) c) (one_command p before c) = (one_keeps p c).part (alone s) before (alone_part s before here o.goes_on) after in
+      let so_far : IsClean before = (one_keeps p c).back before after in
+      let part : IsPart (one_command p (alone s) c) (one_command p before c) = (one_keeps p c).part (alone s) before (alone_part s before so_far o.goes_on) after in
       let same : commands p (followed (o.done ++ c ∷ []) finished) begun ≡ one_command p before c =
       ap (λ z. commands p z begun) (sym (one_further o.done c finished)) ∙ walk_both p o.done (then_command c finished) begun in
       record {
         place = record {
           on = o.place.on;
           spot = o.place.spot;
-          last = behind_last (then_command c rest) rest (commands_in o.place.on.head) (inr (all_last rest)) o.place.last;
+          last = behind_last (then_command c rest) rest (commands_in here.0) (inr (all_last rest)) o.place.last;
         };
         first = o.first;
         round = o.round;
@@ -155,14 +156,14 @@ module _ (w : World) (p : Spot) (block : LineTrees) where
       }
 
   -- what is said of it
-  module _ (cs : CommandTrees) (ts : List Task) (s : State) (o : Opens w p block cs ts s) where
-    its_line : p.line ≡ line_number o.place.on.head
+  module _ (here : LineTree) (cs : CommandTrees) (ts : List Task) (s : State) (o : Opens w p here cs ts s) where
+    its_line : p.line ≡ line_number here.0
     its_line = ap (λ (q : Spot). q.line) o.place.spot
 
-    listed_there : Among o.case (listed p.scope (line_number o.place.on.head) o.round)
+    listed_there : Among o.case (listed p.scope (line_number here.0) o.round)
     listed_there = subst (λ n. Among o.case (listed p.scope n o.round)) its_line o.is_listed
 
-    pub comes_to : s ≡ at_rest s.case → ComesTo p.scope (own_lines p.scope w) cs block ts s.case
+    pub comes_to : s ≡ at_rest s.case → ComesTo p.scope (own_lines p.scope w) cs here ts s.case
     comes_to rests = record {
       on = o.place.on;
       first = o.first;
@@ -184,17 +185,31 @@ module _ (w : World) (p : Spot) (block : LineTrees) where
         let i : Among s (at_rest o.case ∷ []) = subst (λ z. Among s (commands p (followed z finished) (begin (o.case ∷ []))).going) none o.goes_on in
         ⊎_elim (λ (k : s ≡ at_rest o.case). ap (λ (x : State). x.case) k) (λ (k : ⊥). absurd k) i
 
-    pub begins_round : open_round ts ≡ Some cs → BeginsRound p.scope (own_lines p.scope w) cs block ts s.case
+    pub begins_round : open_round ts ≡ Some cs → BeginsRound p.scope (own_lines p.scope w) cs here ts s.case
     begins_round is =
         ⊎_elim
-        (λ (k : (o.round ≡ 0) × (o.first ≡ commands_in o.place.on.head) × (open_round ts ≡ None)). let z : None ≡ Some cs = sym k.2 ∙ is in absurd (cc z))
-        (λ (k : AreRoundOf o.first o.round (commands_in o.place.on.head) × (open_round ts ≡ Some o.first)).
+        (λ (k : (o.round ≡ 0) × (o.first ≡ commands_in here.0) × (open_round ts ≡ None)). let z : None ≡ Some cs = sym k.2 ∙ is in absurd (cc z))
+        (λ (k : AreRoundOf o.first o.round (commands_in here.0) × (open_round ts ≡ Some o.first)).
         let y : Some o.first ≡ Some cs = sym k.1 ∙ is in
         let e : o.first ≡ cs = cc y in
         record {
           on = o.place.on;
           index = o.round;
-          runs = subst (λ z. AreRoundOf z o.round (commands_in o.place.on.head)) e k.0;
-          is_listed = subst (λ c. Among c (listed p.scope (line_number o.place.on.head) o.round)) (sym (only_case e)) listed_there;
+          runs = subst (λ z. AreRoundOf z o.round (commands_in here.0)) e k.0;
+          is_listed = subst (λ c. Among c (listed p.scope (line_number here.0) o.round)) (sym (only_case e)) listed_there;
         })
         o.begins
+
+  -- after so many arguments of a command
+  pub comes_after : (here : LineTree) (column : ℕ) (condition : Option Tree) (action : ActionTree) (rest : CommandTrees) (ts : List Task) (s : State) → Opens w p here (then_command (Does column condition action) rest) ts s → s ≡ at_rest s.case
+      → (begun : State) → holds_to (at_word p column) condition s begun → (count : ℕ) (u : State) → acts_to (at_word p column) action count begun u → u ≡ at_rest u.case
+      → ComesAfter p.scope (own_lines p.scope w) action count rest here ts u.case
+  comes_after here column condition action rest ts s o rests begun holds count u acts its = record {
+    column = column;
+    condition = condition;
+    before = s.case;
+    to_command = comes_to here (then_command (Does column condition action) rest) ts s o rests;
+    begun = begun;
+    holds = subst (λ q. holds_to (at_word q column) condition (at_rest s.case) begun) o.place.spot (subst (λ x. holds_to (at_word p column) condition x begun) rests holds);
+    acts = subst (λ q. acts_to (at_word q column) action count begun (at_rest u.case)) o.place.spot (subst (λ x. acts_to (at_word p column) action count begun x) its acts);
+  }

@@ -28,7 +28,7 @@ use Rattle.mlk_soundness_machine.specs.Frames.{times_waiting}
 use Rattle.mlk_soundness_machine.specs.Reads.{now, mentions}
 use Rattle.mlk_soundness_machine.specs.Safe.{KeepsIn}
 use Rattle.mlk_soundness_machine.specs.Facts.{Facts}
-use Rattle.mlk_soundness_machine.proofs.Listing.{no_start, no_line, no_round, no_command}
+use Rattle.mlk_soundness_machine.proofs.Listing.{no_start, no_line, no_round, no_command, no_argument, no_start_of_job}
 use Rattle.mlk_rules.specs.declared.rules.RuleLists.{RuleLists}
 use Rattle.mlk_soundness_machine.proofs.Claims.{claims_in_order}
 use Rattle.mlk_soundness_machine.proofs.News.{hold_stands}
@@ -127,4 +127,6 @@ claim_facts sc w b j names timed ts e h marked = record {
   lines = no_line sc.routines sc.blocks w.begun j (task.Claim names timed ∷ ts) e refl;
   rounds = no_round sc.routines sc.blocks w.begun j (task.Claim names timed ∷ ts) e refl;
   inside = no_command sc.routines sc.rules (sc.blocks, sc.declared_entries) w.begun j (task.Claim names timed ∷ ts) e refl;
+  between = no_argument sc.routines sc.rules (sc.blocks, sc.declared_entries) w.begun j (task.Claim names timed ∷ ts) e refl;
+  jobs = no_start_of_job sc.routines sc.declared_entries j (task.Claim names timed ∷ ts) e refl;
 }

@@ -48,6 +48,8 @@ use Rattle.mlk_soundness_walk.proofs.Entries.{in_order_same}
 use Rattle.mlk_soundness_walk.proofs.Lines.{none_local}
 use Rattle.mlk_soundness_walk.proofs.Setting.{bottom}
 use Rattle.mlk_soundness_walk.proofs.Turns.{turns_fit}
+use Rattle.mlk_soundness_machine.specs.Places.{acts_to, arguments_from}
+use Rattle.mlk_soundness_machine.specs.Safe.{KeepsIn}
 
 -- own names with one more item have exactly what they had, and the item: what is left out of them is the item itself
 module _ (test : Own → Bool) where
@@ -186,8 +188,9 @@ module _ (routines : List RoutineTree) (p : Spot) (w : World) (b : Level) (S : C
   nothing_called (t ∷ news) = nothing_called news
 
   -- NEW of names, of all but some, and of all
-  pub news_fit : (news : List NewTree) (block : LineTrees) (ts : List Task) (s : State) (A : State → Type 0) → Leads (act p (New news)) s A S Q → ((u : State) → A u → Fit [] n ts u)
-      → Fit [] n (action_parts block (New news) ++ ts) s
-  news_fit [] block ts s A l go = all_but ts A go [] s l
-  news_fit (t ∷ news) block ts s A l go =
-      turns_fit routines p w b S Q n new_argument (new_keeps p) new_parts no_calls ts (λ x its more u B m f. new_one_fits x more u B m f) (t ∷ news) (nothing_called (t ∷ news)) s A l go
+  pub news_fit : (news : List NewTree) (block : LineTrees) (ts : List Task) (s : State)
+      → ((k : ℕ) (u : State) → acts_to p (New news) k s u → (j : Job) → Describes p.scope w b [] u (idle j) → j.tasks ≡ task.NextArgument (New news) k ∷ (arguments_from (New news) k ++ ts) → KeepsIn p.scope w b j)
+      → (A : State → Type 0) → Leads (act p (New news)) s A S Q → ((u : State) → A u → Fit [] n ts u) → Fit [] n (action_parts block (New news) ++ ts) s
+  news_fit [] block ts s mark A l go = all_but ts A go [] s l
+  news_fit (t ∷ news) block ts s mark A l go =
+      turns_fit routines p w b S Q n new_argument (new_keeps p) new_parts no_calls ts (λ x its more u B m f. new_one_fits x more u B m f) (New (t ∷ news)) (t ∷ news) s mark (nothing_called (t ∷ news)) A l go

@@ -9,7 +9,7 @@ use Rattle.mlk_cert_parts.specs.declared.case.Case.{Case}
 use Rattle.mlk_machine_jobs.specs.Choices.{doing}
 use Rattle.mlk_machine_jobs.specs.Lines.{skipped, quit, to_end, next_command, command_parts, for_parts}
 use Rattle.mlk_machine_jobs.specs.Tasks as task
-use Rattle.mlk_machine_jobs.specs.Tasks.{Task, Job, RunCommands, Forever}
+use Rattle.mlk_machine_jobs.specs.Tasks.{Task, Job, RunCommands, Forever, LineTree}
 use Rattle.mlk_walk_state.specs.States.{at_rest}
 use Rattle.mlk_walk_state.specs.declared.state.State.{State}
 use Rattle.mlk_walk_exprs.specs.Expressions.{value}
@@ -25,11 +25,12 @@ use Rattle.mlk_soundness_machine.proofs.Steps.{done, unasked}
 use Rattle.mlk_soundness_machine.proofs.Going.{step, less}
 use Rattle.mlk_soundness_machine.proofs.Facts.{commands_facts}
 use Rattle.mlk_soundness_machine.proofs.Values.{Safe, Fits, FitsValue}
-use Rattle.mlk_soundness_walk.specs.Commands.{alone, AreOnLine, Gives}
+use Rattle.mlk_soundness_machine.specs.Places.{alone}
+use Rattle.mlk_soundness_walk.specs.Commands.{AreOnLine, Gives, KeepsBetween}
 use Rattle.mlk_soundness_walk.specs.Ours.{IsOf, AreOurs, AreOf}
 use Rattle.mlk_soundness_walk.proofs.Alone.{Leads, leads_both, leads_stay, leads_there}
 use Rattle.mlk_soundness_walk.proofs.Places.{Opens, opens_rest, opens_round, comes_to, begins_round}
-use Rattle.mlk_soundness_walk.proofs.Lines.{CommandFits, RestFits, rests}
+use Rattle.mlk_soundness_walk.proofs.Lines.{CommandFits, RestFits, rests, between}
 use Rattle.mlk_soundness_walk.proofs.Loops.{cs, inner, round_leads, after_quits, for_fits}
 use Rattle.mlk_soundness_walk.proofs.Ours.{first_of, rest_of, ours_right}
 use Rattle.mlk_soundness_walk.proofs.Parameters.{Some_case, Some_quit}
@@ -46,49 +47,49 @@ module _ (routines : List RoutineTree) (sc : Scope) (w : World) (b : Level) (j :
   pub at_most : (n m : ℕ) → n ≤ m → Safe routines sc w b m j → Safe routines sc w b n j
   at_most n m le h = let e : m ≡ (m - n) + n = omega (arith, le) in less_by (m - n) n m e h
 
-module _ (routines : List RoutineTree) (p : Spot) (w : World) (b : Level) (world : IsWorld p.scope w) (block : LineTrees) (n : ℕ) (once : ListsEachOnce p.scope)
+module _ (routines : List RoutineTree) (p : Spot) (w : World) (b : Level) (world : IsWorld p.scope w) (here : LineTree) (n : ℕ) (once : ListsEachOnce p.scope)
     (evaluate : (word m : ℕ) → m ≤ n → (t : Tree) → AreOurs p.scope (in_tree t) → (slots : List Slot) (us : List Task) (s : State) (A : State → Type 0) → Leads (value (at_word p word) t) s A Some_case Some_quit
     → ((u : State) → A u → FitsValue routines p.scope w b t slots m us u) → Fits routines p.scope w b slots m (task.Evaluate t ∷ us) s)
-    (one : (m : ℕ) → m ≤ n → (may : Bool) (c : CommandTree) → IsOf p.scope may c → (ts : List Task) (s : State) (A : State → Type 0) (S : Case → Type 0) (Q : Quit → Type 0) → Leads (λ v. one_command p v c) s A S Q
+    (one : (m : ℕ) → m ≤ n → (may : Bool) (c : CommandTree) → IsOf p.scope may c → (ts : List Task) (s : State) → KeepsBetween routines w b p c ts s → (A : State → Type 0) (S : Case → Type 0) (Q : Quit → Type 0) → Leads (λ v. one_command p v c) s A S Q
     → ((u : State) → A u → Fits routines p.scope w b [] m ts u) → ((d : Case) → S d → Fits routines p.scope w b [] m (skipped ts) (at_rest d))
     → ((q : Quit) → Q q → Fits routines p.scope w b [] m (quit ts) (at_rest q.case)) → (may ≡ true → (q : Quit) → Q q → Gives routines w b p.scope m (to_end ts) (at_rest q.case))
-    → Fits routines p.scope w b [] m (command_parts block c ++ ts) s) where
+    → Fits routines p.scope w b [] m (command_parts here.1 c ++ ts) s) where
   abbrev At : ℕ → List Task → State → Type 0
   At m ts s = Fits routines p.scope w b [] m ts s
 
-  opened : (m : ℕ) (cs : CommandTrees) (ts : List Task) (s : State) → Opens w p block cs ts s → At m (next_command cs block ts) s → At m (RunCommands cs block ∷ ts) s
+  opened : (m : ℕ) (cs : CommandTrees) (ts : List Task) (s : State) → Opens w p here cs ts s → At m (next_command cs here ts) s → At m (RunCommands cs here ∷ ts) s
   opened m cs ts s o k j d e =
-      step routines p.scope w b m j (RunCommands cs block) ts e refl (commands_facts p.scope w b j cs block ts e s.case (comes_to w p block cs ts s o (rests p.scope w b s (idle j) d)) (begins_round w p block cs ts s o) d.stands) (λ free c.
-      unasked (Safe routines p.scope w b m) c _ (done (Safe routines p.scope w b m) (doing (next_command cs block ts) j) (k (doing (next_command cs block ts) j) d refl)))
+      step routines p.scope w b m j (RunCommands cs here) ts e refl (commands_facts p.scope w b j cs here ts e s.case (comes_to w p here cs ts s o (rests p.scope w b s (idle j) d)) (begins_round w p here cs ts s o) d.stands) (λ free c.
+      unasked (Safe routines p.scope w b m) c _ (done (Safe routines p.scope w b m) (doing (next_command cs here ts) j) (k (doing (next_command cs here ts) j) d refl)))
 
   -- a FOR, from the rest of its line
-  loop_fits : (column index : ℕ) (control : Option ControlTree) (rest : CommandTrees) → ((k : ℕ) → k ≤ n → RestFits routines w b p block rest k) → (m : ℕ) → m ≤ n
-      → (may : Bool) → AreOf p.scope may (then_for column index control rest) → (ts : List Task) → AreOnLine w p block (then_for column index control rest) ts → (s : State) (A : State → Type 0) (S : Case → Type 0) (Q : Quit → Type 0)
-      → Leads (commands p (then_for column index control rest)) s A S Q → ((u : State) → A u → At m ts u) → At m (for_parts control rest block ∷ ts) s
+  loop_fits : (column index : ℕ) (control : Option ControlTree) (rest : CommandTrees) → ((k : ℕ) → k ≤ n → RestFits routines w b p here rest k) → (m : ℕ) → m ≤ n
+      → (may : Bool) → AreOf p.scope may (then_for column index control rest) → (ts : List Task) → AreOnLine w p here (then_for column index control rest) ts → (s : State) (A : State → Type 0) (S : Case → Type 0) (Q : Quit → Type 0)
+      → Leads (commands p (then_for column index control rest)) s A S Q → ((u : State) → A u → At m ts u) → At m (for_parts control rest here ∷ ts) s
   loop_fits column index None rest inside m le may of ts on s A S Q l go =
       let found : Walk = inner p column index None rest once s A S Q l in
       let its : AreOf p.scope false rest = record { at_end = of.at_end; reads = of.reads; ours = ours_right p.scope [] (in_commands rest) of.ours } in
-      forever_fits routines w b p rest block ts m (cs p column index None rest once s A S Q l) (ended_in found) (quit_in found)
+      forever_fits routines w b p rest here ts m (cs p column index None rest once s A S Q l) (ended_in found) (quit_in found)
       (λ k lt c i first second third.
-      inside k (omega (arith, lt, le)) false its (Forever rest block ∷ ts) (at_rest c) (λ u. Among u (ended_in found)) (λ d. Among (at_rest d) (ended_in found)) (λ q. Among (at_rest q.case) (quit_in found))
-      (opens_round w p block column index None rest ts on (Forever rest block) c refl i (round_leads p column index None rest once s A S Q l c i).clean) (round_leads p column index None rest once s A S Q l c i) first second third (λ y. absurd (false≢true y)))
+      inside k (omega (arith, lt, le)) false its (Forever rest here ∷ ts) (at_rest c) (λ u. Among u (ended_in found)) (λ d. Among (at_rest d) (ended_in found)) (λ q. Among (at_rest q.case) (quit_in found))
+      (opens_round w p here column index None rest ts on (Forever rest here) c refl i (round_leads p column index None rest once s A S Q l c i).clean) (round_leads p column index None rest once s A S Q l c i) first second third (λ y. absurd (false≢true y)))
       (again p column index rest once s A S Q l) m (omega arith) (λ u i. go u (after_quits p column index None rest once s A S Q l u i)) s (enters p column index rest once s A S Q l)
   loop_fits column index (Some (Runs c name qs)) rest inside m le may of ts on s A S Q l go =
-      for_fits routines p w b world block n once evaluate column index c name qs rest may of ts on inside m le s A S Q l
+      for_fits routines p w b world here n once evaluate column index c name qs rest may of ts on inside m le s A S Q l
       (λ k lt u a j d e. at_most routines p.scope w b j k m lt (go u a j d e))
 
-  pub rest_fits : (cs : CommandTrees) (m : ℕ) → m ≤ n → RestFits routines w b p block cs m
+  pub rest_fits : (cs : CommandTrees) (m : ℕ) → m ≤ n → RestFits routines w b p here cs m
   rest_fits finished m le may of ts s A S Q o l go skip stop give = opened m finished ts s o (go s (leads_stay A S Q s l))
-  rest_fits (then_command c rest) m le may of ts s A S Q o l go skip stop give =
+  rest_fits (then_command c rest) m le may of ts s A S Q o l go skip stop give = λ j d e.
       opened m (then_command c rest) ts s o
-      (one m le may c (first_of p.scope may c rest of) (RunCommands rest block ∷ ts) s (λ u. Leads (commands p rest) u A S Q × Among u (one_command p (alone s) c).going) S Q
+      (one m le may c (first_of p.scope may c rest of) (RunCommands rest here ∷ ts) s (between routines w b p here c rest ts s o (rests p.scope w b s (idle j) d)) (λ u. Leads (commands p rest) u A S Q × Among u (one_command p (alone s) c).going) S Q
       (leads_there (λ u. Leads (commands p rest) u A S Q) S Q (λ v. one_command p v c) s (leads_both A S Q (λ v. one_command p v c) (commands p rest) (one_keeps p c) (commands_keep p once rest) s l))
-      (λ u h. rest_fits rest m le may (rest_of p.scope may c rest of) ts u A S Q (opens_rest w p block once c rest ts s u o h.1) h.0 go skip stop give) skip stop give)
+      (λ u h. rest_fits rest m le may (rest_of p.scope may c rest of) ts u A S Q (opens_rest w p here once c rest ts s u o h.1) h.0 go skip stop give) skip stop give) j d e
   rest_fits (then_for column index control rest) m le may of ts s A S Q o l go skip stop give =
       opened m (then_for column index control rest) ts s o (loop_fits column index control rest (λ k lt. rest_fits rest k lt) m le may of ts o.place s A S Q l go)
 
   -- all commands of a line, from single ones
-  pub command_fits : (m : ℕ) → m ≤ n → CommandFits routines w b p block m
+  pub command_fits : (m : ℕ) → m ≤ n → CommandFits routines w b p here m
   command_fits m le = record {
     one = one m le;
     loop = λ may column index control rest of ts on s A S Q l go skip stop. loop_fits column index control rest (λ k lt. rest_fits rest k lt) m le may of ts on s A S Q l go;

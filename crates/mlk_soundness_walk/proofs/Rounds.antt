@@ -5,7 +5,7 @@ use Rattle.std.proofs.lemmas.Bool.{cases_Bool, false≢true}
 use Rattle.mlk_names.specs.Lists.{Among}
 use Rattle.mlk_syntax.specs.Trees.{RoutineTree, CommandTrees, then_for, LineTrees}
 use Rattle.mlk_cert_parts.specs.declared.case.Case.{Case}
-use Rattle.mlk_machine_jobs.specs.Tasks.{Task, RunCommands, Forever}
+use Rattle.mlk_machine_jobs.specs.Tasks.{Task, RunCommands, Forever, LineTree}
 use Rattle.mlk_text.specs.declared.code.Code.TheVariants.{CaseNotListed}
 use Rattle.mlk_machine_jobs.specs.Choices.{doing}
 use Rattle.mlk_walk_state.specs.declared.state.State.{State}
@@ -27,7 +27,7 @@ use Rattle.mlk_soundness_machine.proofs.Steps.{done, unasked}
 use Rattle.mlk_soundness_machine.proofs.Going.{down, less}
 use Rattle.mlk_soundness_machine.proofs.Facts.{plain_facts}
 use Rattle.mlk_soundness_machine.proofs.Values.{Safe, Fits}
-use Rattle.mlk_soundness_walk.specs.Commands.{alone}
+use Rattle.mlk_soundness_machine.specs.Places.{alone}
 use Rattle.mlk_soundness_walk.proofs.Alone.{Leads}
 use Rattle.mlk_soundness_walk.proofs.Lines.{listed_for, less_law}
 
@@ -122,7 +122,7 @@ module _ (p : Spot) (column index : ℕ) (rest : CommandTrees) (once : ListsEach
       l.going u (subst (λ (w : Walk). Among u w.going) (sym (a ∙ b ∙ c)) (all_new u (quit_in inner) (run (alone s)).going i))
 
 -- the machine: rounds without end, until one quits
-module _ (routines : List RoutineTree) (w : World) (b : Level) (p : Spot) (rest : CommandTrees) (block : LineTrees) (ts : List Task) (n : ℕ) where
+module _ (routines : List RoutineTree) (w : World) (b : Level) (p : Spot) (rest : CommandTrees) (here : LineTree) (ts : List Task) (n : ℕ) where
   abbrev At : ℕ → List Task → State → Type 0
   At m us s = Fits routines p.scope w b [] m us s
 
@@ -130,17 +130,17 @@ module _ (routines : List RoutineTree) (w : World) (b : Level) (p : Spot) (rest 
   fewer m us s f j d e = less routines p.scope w b m j (f j d e)
 
   module _ (cs : List Case) (ended quits : List State)
-      (round : (m : ℕ) → m ≤ n → (c : Case) → Among c cs → ((u : State) → Among u ended → At m (Forever rest block ∷ ts) u) → ((d : Case) → Among (at_rest d) ended → At m (Forever rest block ∷ ts) (at_rest d))
-      → ((q : Quit) → Among (at_rest q.case) quits → At m ts (at_rest q.case)) → At m (RunCommands rest block ∷ Forever rest block ∷ ts) (at_rest c))
+      (round : (m : ℕ) → m ≤ n → (c : Case) → Among c cs → ((u : State) → Among u ended → At m (Forever rest here ∷ ts) u) → ((d : Case) → Among (at_rest d) ended → At m (Forever rest here ∷ ts) (at_rest d))
+      → ((q : Quit) → Among (at_rest q.case) quits → At m ts (at_rest q.case)) → At m (RunCommands rest here ∷ Forever rest here ∷ ts) (at_rest c))
       (again : (u : State) → Among u ended → is_listed cs u.case ≡ true) where
     -- each number of steps on
-    pub forever_fits : (m : ℕ) → m ≤ n → ((u : State) → Among u quits → At m ts u) → (u : State) → is_listed cs u.case ≡ true → At m (Forever rest block ∷ ts) u
-    forever_fits zero le out u h j d e = plain_facts p.scope w b j (Forever rest block) ts e refl
+    pub forever_fits : (m : ℕ) → m ≤ n → ((u : State) → Among u quits → At m ts u) → (u : State) → is_listed cs u.case ≡ true → At m (Forever rest here ∷ ts) u
+    forever_fits zero le out u h j d e = plain_facts p.scope w b j (Forever rest here) ts e refl
     forever_fits (suc m) le out u h j d e =
         let r = listed_for cs u.case h in
         let le' : m ≤ n = omega (arith, le) in
         let out' : (v : State) → Among v quits → At m ts v = (λ v i. fewer m ts v (out v i)) in
-        down routines p.scope w b m j (Forever rest block) ts e refl (plain_facts p.scope w b j (Forever rest block) ts e refl) (λ free c.
-        (unasked (Safe routines p.scope w b m) c _ (done (Safe routines p.scope w b m) (doing (RunCommands rest block ∷ Forever rest block ∷ ts) j)
+        down routines p.scope w b m j (Forever rest here) ts e refl (plain_facts p.scope w b j (Forever rest here) ts e refl) (λ free c.
+        (unasked (Safe routines p.scope w b m) c _ (done (Safe routines p.scope w b m) (doing (RunCommands rest here ∷ Forever rest here ∷ ts) j)
         (round m le' r.0 r.1 (λ v i. forever_fits m le' out' v (again v i)) (λ x i. forever_fits m le' out' (at_rest x) (again (at_rest x) i)) (λ q i. out' (at_rest q.case) i)
-        (doing (RunCommands rest block ∷ Forever rest block ∷ ts) j) (less_law p.scope w b u.case r.0 r.2 u refl (idle j) d) refl))))
+        (doing (RunCommands rest here ∷ Forever rest here ∷ ts) j) (less_law p.scope w b u.case r.0 r.2 u refl (idle j) d) refl))))

@@ -1,5 +1,5 @@
 -- A job that begins at a declared entry: the entry's lines are safe, from its begin to its end, where it holds nothing.
-use Rattle.std.proofs.Common.{◌≡◌, ℕ, Bool, true, false, ◌+◌, List, [], ◌∷◌, ◌++◌, drop, reverse, Some, Ok, Err, refl, sym, ◌∙◌, subst, arith, ⊎_elim, inl, inr}
+use Rattle.std.proofs.Common.{◌≡◌, ℕ, Bool, true, false, ◌+◌, List, [], ◌∷◌, ◌++◌, drop, reverse, Some, Ok, Err, refl, sym, ◌∙◌, subst, arith, ⊎_elim, inl, inr, Option, None}
 use Rattle.std.specs.Prelude.{◌&&◌, if◌then◌else◌, nat_lt, length}
 use Rattle.std.specs.List.{list_any}
 use Rattle.std.proofs.lemmas.Bool.{cases_Bool, and_parts, or_left, or_right}
@@ -16,7 +16,7 @@ use Rattle.mlk_machine_locks.specs.declared.refusal.Refusal.TheVariants.{NotEnab
 use Rattle.mlk_machine_jobs.specs.Bindings.{Cell, Bindings, Cells, look, no_values}
 use Rattle.mlk_machine_jobs.specs.Calling.{binders, with_actuals, count_given, formals_in, commands_in, lines_after, entered, back_to}
 use Rattle.mlk_machine_jobs.specs.Choices.{last_values, doing}
-use Rattle.mlk_machine_jobs.specs.Runs.{blank, by_value, formals_at, begun, is_job_number, machine}
+use Rattle.mlk_machine_jobs.specs.Runs.{blank, present, by_value, formals_at, begun, is_job_number, machine}
 use Rattle.mlk_machine_jobs.specs.Tasks.{Job, NoValue, AwaitsValue, LineTree, RunLines, RunCommands, EndFrame}
 use Rattle.mlk_soundness_machine.specs.Moments.{AtEachMomentSince}
 use Rattle.mlk_soundness_machine.specs.Marked.{Begun}
@@ -48,10 +48,11 @@ use Rattle.mlk_soundness_walk.proofs.Entries.{own_formals, at_formals, at_others
 use Rattle.mlk_soundness_walk.proofs.Reported.{clean_entry, certified_entry}
 
 -- values alone pass no name
-none_passed : (formals values : List (List ℕ)) (n : List ℕ) → passes formals (by_value values) n ≡ false
+none_passed : (formals : List (List ℕ)) (values : List (Option (List ℕ))) (n : List ℕ) → passes formals (by_value values) n ≡ false
 none_passed [] values n = refl
 none_passed (f ∷ formals) [] n = none_passed formals [] n
-none_passed (f ∷ formals) (v ∷ values) n = none_passed formals values n
+none_passed (f ∷ formals) (None ∷ values) n = none_passed formals values n
+none_passed (f ∷ formals) (Some v ∷ values) n = none_passed formals values n
 
 none_mentioned : (x : List ℕ) → mentions x [] ≡ false
 unfolding mentions
@@ -87,7 +88,7 @@ module _ (routines : List RoutineTree) (rules : RuleLists) (blocks : List EntryC
         none_held x.held (none_any leaves_some blk.summary.exits x none i)
 
     -- the first frame, in a world where nothing waits
-    module _ (head : HeadTree) (body : LineTrees) (lines : List LineTree) (heads : lines_after routines e ≡ (head, body) ∷ lines) (distinct : AreDistinct (formals_in head)) (k : ℕ) (test : Bool) (values : List (List ℕ)) where
+    module _ (head : HeadTree) (body : LineTrees) (lines : List LineTree) (heads : lines_after routines e ≡ (head, body) ∷ lines) (distinct : AreDistinct (formals_in head)) (k : ℕ) (test : Bool) (values : List (Option (List ℕ))) where
       abbrev given : List ActualTree
       given = by_value values
 
@@ -103,8 +104,8 @@ module _ (routines : List RoutineTree) (rules : RuleLists) (blocks : List EntryC
         bindings = front ++ [];
         next = 2;
         cells = cells;
-        values = drop (count_given given) (reverse values);
-        tasks = RunCommands (commands_in head) body ∷ RunLines lines ∷ EndFrame NoValue [] 1 0 ∷ [];
+        values = drop (count_given given) (reverse (present values));
+        tasks = RunCommands (commands_in head) (head, body) ∷ RunLines lines ∷ EndFrame NoValue [] 1 0 ∷ [];
       }
 
       abbrev world : World
@@ -113,7 +114,7 @@ module _ (routines : List RoutineTree) (rules : RuleLists) (blocks : List EntryC
         back = [];
         waiting = [];
         saved = cells;
-        values = drop (count_given given) (reverse values);
+        values = drop (count_given given) (reverse (present values));
         formals = is_among (formals_in head);
         refs = λ x. false;
         snap = λ x. cells (look (front ++ []) x);
@@ -197,7 +198,7 @@ module _ (routines : List RoutineTree) (rules : RuleLists) (blocks : List EntryC
   -- each job that begins is safe for each number of steps
   module _ (distinct : (e : EntryId) (head : HeadTree) (body : LineTrees) (lines : List LineTree) → lines_after routines e ≡ (head, body) ∷ lines → AreDistinct (formals_in head))
       (each : (n : ℕ) → EntryFits routines rules (known routines rules blocks) n) where
-    begins_safe : (e : EntryId) (test : Bool) (values : List (List ℕ)) (k : ℕ) (first : Job) → (machine routines (is_declared routines rules.entries)).begin e test values k ≡ Ok first
+    begins_safe : (e : EntryId) (test : Bool) (values : List (Option (List ℕ))) (k : ℕ) (first : Job) → (machine routines (is_declared routines rules.entries)).begin e test values k ≡ Ok first
         → (n : ℕ) → SafeFor routines (FactsSince routines rules (known routines rules blocks)) n (first ∷ []) first
     begins_safe e test values k j h n =
         ⊎_elim

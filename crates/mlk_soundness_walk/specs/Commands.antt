@@ -2,34 +2,30 @@
 -- laws of this crate speak of it.
 use Rattle.std.specs.Prelude.{◌≡◌, ℕ, Bool, true, false, List, [], ◌∷◌, ◌++◌, Option, None}
 use Rattle.mlk_names.specs.Lists.{Among}
-use Rattle.mlk_syntax.specs.Trees.{RoutineTree, CommandTree, ControlTree, CommandTrees, then_for, LineTrees}
+use Rattle.mlk_syntax.specs.Trees.{RoutineTree, CommandTree, Does, ControlTree, CommandTrees, then_for}
 use Rattle.mlk_cert_parts.specs.declared.case.Case.{Case}
 use Rattle.mlk_machine_jobs.specs.Calling.{commands_in}
 use Rattle.mlk_machine_jobs.specs.Lines.{skipped, quit, to_end, answered, command_parts, for_parts}
-use Rattle.mlk_machine_jobs.specs.Tasks.{Task, Job}
+use Rattle.mlk_machine_jobs.specs.Tasks.{Task, Job, LineTree, NextArgument}
 use Rattle.mlk_walk_state.specs.Scope.{Scope}
 use Rattle.mlk_walk_state.specs.States.{at_rest}
 use Rattle.mlk_walk_state.specs.declared.state.State.{State}
 use Rattle.mlk_walk_exprs.specs.Spots.{Spot}
 use Rattle.mlk_walk_exprs.specs.declared.walk.Quit.{Quit}
 use Rattle.mlk_walk_exprs.specs.declared.walk.Walk.{Walk}
-use Rattle.mlk_walk_lines.specs.Loops.{commands, one_command}
+use Rattle.mlk_walk_lines.specs.Loops.{commands, one_command, at_word}
 use Rattle.mlk_walk_laws.specs.Fewer.{IsClean}
 use Rattle.mlk_soundness_machine.specs.Described.{World, Level, Bare, idle, Describes}
-use Rattle.mlk_soundness_machine.specs.Places.{entry_trees, OnLine, AreLastOf, spot_on}
-use Rattle.mlk_soundness_machine.specs.Safe.{SafeIn, Fit}
+use Rattle.mlk_soundness_machine.specs.Places.{entry_trees, OnLine, AreLastOf, spot_on, alone, acts_to, arguments_from, holds_to}
+use Rattle.mlk_soundness_machine.specs.Safe.{SafeIn, KeepsIn, Fit}
 use Rattle.mlk_soundness_walk.specs.Ours.{IsOf, AreOf}
 
--- the walk of one state at its begin
-abbrev pub alone : State → Walk
-alone s = record { going = s ∷ []; skips = []; quits = []; faults = []; over = false }
-
--- These commands are the last of a line of the world's entry, or of a block below its lines, and the walk is of that line; behind
--- them stand these tasks.
-pub record AreOnLine (w : World) (p : Spot) (block : LineTrees) (cs : CommandTrees) (ts : List Task) : Type 0 where
-  pub on : OnLine (entry_trees p.scope.routines w.entry) block ts
-  pub spot : p ≡ spot_on p.scope on.head block
-  pub last : AreLastOf cs (commands_in on.head)
+-- These commands are the last of this line, which is one of the world's entry or of a block below its lines, and the walk is of
+-- that line; behind them stand these tasks.
+pub record AreOnLine (w : World) (p : Spot) (here : LineTree) (cs : CommandTrees) (ts : List Task) : Type 0 where
+  pub on : OnLine (entry_trees p.scope.routines w.entry) here ts
+  pub spot : p ≡ spot_on p.scope here.0 here.1
+  pub last : AreLastOf cs (commands_in here.0)
 
 module _ (routines : List RoutineTree) (w : World) (b : Level) where
   -- each job that the state describes, and that has these tasks and no other values of its own, is safe
@@ -48,10 +44,16 @@ module _ (routines : List RoutineTree) (w : World) (b : Level) where
     pub quits : (q : Quit) → Among q found.quits → IsSafe p n (quit ts) (at_rest q.case)
     pub gives : may ≡ true → (q : Quit) → Among q found.quits → Gives p.scope n (to_end ts) (at_rest q.case)
 
+  -- after each argument of a command that is begun in this state, a job keeps to what is asked, whatever it has to do behind it
+  abbrev pub KeepsBetween : Spot → CommandTree → List Task → State → Type 0
+  KeepsBetween p (Does column condition action) ts s =
+      (begun : State) → holds_to (at_word p column) condition s begun → (count : ℕ) (u : State) → acts_to (at_word p column) action count begun u
+      → (j : Job) → Describes p.scope w b [] u (idle j) → j.tasks ≡ NextArgument action count ∷ (arguments_from action count ++ ts) → KeepsIn p.scope w b j
+
   -- a command, and a FOR with the rest of its line, where the walk finds nothing wrong and what it comes to is safe
-  pub record CommandsAreSafe (p : Spot) (block : LineTrees) (n : ℕ) : Type 0 where
-    pub one : (may : Bool) (c : CommandTree) → IsOf p.scope may c → (ts : List Task) (s : State)
-        → IsClean (one_command p (alone s) c) → AreSafe p may n ts (one_command p (alone s) c) → IsSafe p n (command_parts block c ++ ts) s
+  pub record CommandsAreSafe (p : Spot) (here : LineTree) (n : ℕ) : Type 0 where
+    pub one : (may : Bool) (c : CommandTree) → IsOf p.scope may c → (ts : List Task) (s : State) → KeepsBetween p c ts s
+        → IsClean (one_command p (alone s) c) → AreSafe p may n ts (one_command p (alone s) c) → IsSafe p n (command_parts here.1 c ++ ts) s
     pub loop : (may : Bool) (column index : ℕ) (control : Option ControlTree) (rest : CommandTrees) → AreOf p.scope may (then_for column index control rest)
-        → (ts : List Task) → AreOnLine w p block (then_for column index control rest) ts → (s : State) → IsClean (commands p (then_for column index control rest) (alone s))
-        → AreSafe p false n ts (commands p (then_for column index control rest) (alone s)) → IsSafe p n (for_parts control rest block ∷ ts) s
+        → (ts : List Task) → AreOnLine w p here (then_for column index control rest) ts → (s : State) → IsClean (commands p (then_for column index control rest) (alone s))
+        → AreSafe p false n ts (commands p (then_for column index control rest) (alone s)) → IsSafe p n (for_parts control rest here ∷ ts) s

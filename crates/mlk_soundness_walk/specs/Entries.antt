@@ -51,5 +51,5 @@ module _ (routines : List RoutineTree) (rules : RuleLists) (entries : List (Entr
       → (w : World) → IsWorld (scope e blk) w → w.entry ≡ e → ((x : List ℕ) → w.formals x ≡ is_among (formals_in head) x)
       → (frame : Frame) (next r : ℕ) (ts : List Task) → EndsFit (scope e blk) w m frame w.back next r ts
       → (j : Job) → Describes (scope e blk) w (first_level w) [] (at_rest (begin_case blk.summary (formals_in head))) (idle j)
-      → j.tasks ≡ RunCommands (commands_in head) body ∷ RunLines lines ∷ EndFrame frame w.back next r ∷ ts
+      → j.tasks ≡ RunCommands (commands_in head) (head, body) ∷ RunLines lines ∷ EndFrame frame w.back next r ∷ ts
       → (begun : Begun (scope e blk) w) → begun.first ≡ j → begun.began.head ≡ head → AreMarked w (first_level w) (marks j.tasks) → SafeFor routines (KeepsTo (scope e blk)) m w.begun j

@@ -1,6 +1,6 @@
 -- How the runs of a certified entry are shown to be safe. This project's own choice.
 use Rattle.std.specs.Prelude.{◌≡◌, ◌<◌, ℕ, true, false, List, [], Some}
-use Rattle.mlk_syntax.specs.Trees.{RoutineTree, LineTrees}
+use Rattle.mlk_syntax.specs.Trees.{RoutineTree, LineTrees, HeadTree}
 use Rattle.mlk_syntax.specs.Views.{lines_from}
 use Rattle.mlk_program.specs.Entries.{lines_of}
 use Rattle.mlk_program.specs.declared.entry.EntryId.{EntryId}
@@ -24,12 +24,12 @@ use Rattle.mlk_soundness_walk.specs.Ours.{AreLinesOf}
 abbrev pub AllCommands : List RoutineTree → RuleLists → List (EntryId × EntryCert) × List EntryId → ℕ → Type 0
 AllCommands routines rules entries n =
     (e : EntryId) (b : EntryCert) → block_at entries.0 e ≡ Some b → (w : World) → IsWorld (scope routines rules entries e b) w
-    → (p : Spot) (block : LineTrees) → p.scope ≡ scope routines rules entries e b → p.level ≡ 1
+    → (p : Spot) (head : HeadTree) (block : LineTrees) → p.scope ≡ scope routines rules entries e b → p.level ≡ 1
     → p.block ≡ block_with block (walk_lines (scope routines rules entries e b) OfBlock block).ends
     → AreLinesOf (scope routines rules entries e b) 2 false block
     → EachLinePasses (scope routines rules entries e b) OfBlock (walk_lines (scope routines rules entries e b) OfBlock block).ends block
     → ((lines : LineTrees) → StandIn lines block → StandIn lines (entry_trees routines w.entry))
-    → CommandsAreSafe routines w (first_level w) p block n
+    → CommandsAreSafe routines w (first_level w) p (head, block) n
 
 -- Where a report has no row, the lines of each certified entry are safe for each number of steps, if the commands of its
 -- lines are so wherever the lines of all entries are safe for each lesser number.

@@ -1,4 +1,4 @@
-use Rattle.std.proofs.Common.{◌≡◌, ◌∙◌, ℕ, List, [], ◌∷◌, ◌++◌, length, Ok, ap, sym, arith}
+use Rattle.std.proofs.Common.{◌≡◌, ◌∙◌, ℕ, List, [], ◌∷◌, ◌++◌, length, Some, Ok, ap, sym, arith}
 use Rattle.std.specs.Prelude.{map}
 use Rattle.mlk_syntax.specs.Views.{line_of}
 use Rattle.mlk_machine_jobs.specs.declared.binding.Binder.{Binder}
@@ -41,4 +41,4 @@ returns-clause-answer c =
     (first_table c.args.job.now.tables.items c.fill_first.new.table c.formals_in-formals.result.now c.args.values.now
     (in_table c.new-table.result) next (ap (λ (z : Job). z.cells) c.requires.number) c.new-table.ensures
     c.in_ok-fill_first.ensures
-    ∙ ap (λ (z : List (List ℕ)). with_actuals 1 z (by_value c.args.values.now) c.args.values.now no_values) formals))
+    ∙ ap (λ (z : List (List ℕ)). with_actuals 1 z (by_value (map Some c.args.values.now)) c.args.values.now no_values) formals))

@@ -1,4 +1,4 @@
-use Rattle.std.proofs.Common.{◌≡◌, ◌∙◌, false, [], ◌∷◌, ◌++◌, map, Ok, ap, sym, subst}
+use Rattle.std.proofs.Common.{◌≡◌, ◌∙◌, false, [], ◌∷◌, ◌++◌, map, Ok, Some, ap, sym, subst}
 use Rattle.std.specs.Prelude.{◌&&◌}
 use Rattle.std.proofs.lemmas.Bool.{and_parts}
 use Rattle.std.proofs.lemmas.List.{map-append}
@@ -54,6 +54,6 @@ pub returns-in-Ok-push-clause-covered : goal.returns-in-Ok-push-clause-covered
 returns-in-Ok-push-clause-covered c =
     subst (StayCovered c.args.jobs.now.items) (sym c.in-Ok-push.ensures.items)
     (added_covered c.args.jobs.now.items c.in-Ok.job
-    (begun_holds (map routine_of c.args.program.now) c.args.entry c.args.number c.args.test c.args.values.now c.in-Ok.job
+    (begun_holds (map routine_of c.args.program.now) c.args.entry c.args.number c.args.test (map Some c.args.values.now) c.in-Ok.job
     (and_parts c.args.is_declared (is_job_number c.args.number) (sym c.may_begin.ensures ∙ c.if-not-may_begin.false)).1
     c.in-Ok.ensures.job))
