@@ -3,8 +3,9 @@
        cc -O2 -shared -fPIC -o refuse.so refuse.c -ldl
 
    REFUSED says which kind of call (memory, thread, read or write), AT the number of the first one that is refused, from 1;
-   with ON=1 all later ones are refused, too. COUNT names a file to which the number of calls of that kind is written at the
-   end. */
+   with ON=1 all later ones are refused, too. A fifth kind, beside, is memory for other threads than the first: once such a
+   call is refused, its thread gets none any more, whereas the others go on. COUNT names a file to which the number of calls
+   of that kind is written at the end. */
 #define _GNU_SOURCE
 #include <dlfcn.h>
 #include <errno.h>
@@ -18,6 +19,7 @@
 static long at = -1, calls = 0;
 static int goes_on = 0;
 static char kind = 0;
+static __thread int is_without_memory = 0;
 
 static void look(void) {
     if (at >= 0) return;
@@ -35,33 +37,42 @@ static int is_refused(char what) {
     return at > 0 && (number == at || (goes_on && number > at));
 }
 
+/* Whether this call for memory is one that is refused. */
+static int is_memory_refused(void) {
+    look();
+    if (kind != 'b') return is_refused('m');
+    if (syscall(SYS_gettid) == getpid()) return 0;
+    is_without_memory |= is_refused('b');
+    return is_without_memory;
+}
+
 #define NEXT(name) if (!next) next = dlsym(RTLD_NEXT, name)
 
 void *malloc(size_t size) {
     static void *(*next)(size_t);
     NEXT("malloc");
-    if (is_refused('m')) { errno = ENOMEM; return 0; }
+    if (is_memory_refused()) { errno = ENOMEM; return 0; }
     return next(size);
 }
 
 void *realloc(void *old, size_t size) {
     static void *(*next)(void *, size_t);
     NEXT("realloc");
-    if (is_refused('m')) { errno = ENOMEM; return 0; }
+    if (is_memory_refused()) { errno = ENOMEM; return 0; }
     return next(old, size);
 }
 
 void *aligned_alloc(size_t unit, size_t size) {
     static void *(*next)(size_t, size_t);
     NEXT("aligned_alloc");
-    if (is_refused('m')) { errno = ENOMEM; return 0; }
+    if (is_memory_refused()) { errno = ENOMEM; return 0; }
     return next(unit, size);
 }
 
 int posix_memalign(void **to, size_t unit, size_t size) {
     static int (*next)(void **, size_t, size_t);
     NEXT("posix_memalign");
-    return is_refused('m') ? ENOMEM : next(to, unit, size);
+    return is_memory_refused() ? ENOMEM : next(to, unit, size);
 }
 
 int pthread_create(pthread_t *thread, const pthread_attr_t *how, void *(*run)(void *), void *given) {

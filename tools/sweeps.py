@@ -4,10 +4,11 @@
     sweeps.py PROGRAM
 
 For each of some command lines over examples/, with one worker and with four where that can be said, the calls of each kind
-are counted. Then the program is run once for each of them, and that one call is refused; or it and all later ones. Whatever
-was refused, the answer must be the usual one, or status 3, a line of `error memory` or `error file PATH` on
-standard error, and on standard output a beginning of the usual text. Where threads are refused it must be the usual one.
-The library that refuses (refuse.c) needs a C compiler; where there is none, nothing is tried, and that is said.
+are counted. Then the program is run once for each of them, and that one call is refused; or it and all later ones; or all
+memory of one thread from then on, while the others go on. Whatever was refused, the answer must be the usual one, or status 3,
+a line of `error memory` or `error file PATH` on standard error, and on standard output a beginning of the usual text. Where
+threads are refused it must be the usual one.
+The library that refuses (refuse.c) needs a C compiler on the PATH: cc, gcc or clang. Where there is none it fails.
 """
 import pathlib
 import shutil
@@ -33,7 +34,11 @@ COMMANDS = [
     (['check', 'examples/transfer/rules.toml', 'examples/transfer/bank.cert', 'examples/transfer/BANK.m'], True),
     (['replay', 'examples/night/rules.toml', 'examples/night/ring', 'examples/night/WARD.m'], False),
 ]
-KINDS = ('memory', 'thread', 'read', 'write')
+KINDS = ('memory', 'beside', 'thread', 'read', 'write')
+# Kinds of which each run has calls.
+ALWAYS = ('memory', 'read', 'write')
+# How often the calls of other threads than the first are counted: the threads share the work in another way each time.
+COUNTS = 10
 ERRORS = ('error memory\n', 'error file ')
 
 
@@ -57,10 +62,13 @@ class Sweep:
         return answer(self.program, words, LD_PRELOAD=str(self.library), **settings)
 
     def calls(self, words, kind):
-        """How many calls of a kind a run makes."""
+        """How many calls of a kind a run makes, at most."""
         file = self.folder / 'count'
-        self.run(words, REFUSED=kind, COUNT=str(file))
-        return int(file.read_text())
+        counts = []
+        for _ in range(COUNTS if kind == 'beside' else 1):
+            self.run(words, REFUSED=kind, COUNT=str(file))
+            counts.append(int(file.read_text()))
+        return max(counts)
 
     def is_right(self, usual, kind, given):
         """Whether an answer is one that may be given where something was refused."""
@@ -70,7 +78,7 @@ class Sweep:
         return kind != 'thread' and status == 3 and usual[1].startswith(out) and error.startswith(ERRORS) and error.count('\n') == 1
 
     def tried(self, words, usual, kind, number, on):
-        """What is wrong with the answer where this call is refused, and those after it where that goes on."""
+        """What is wrong with the answer where this call is refused, and, if `on` is '1', those after it."""
         given = self.run(words, REFUSED=kind, AT=str(number), ON=on)
         if self.is_right(usual, kind, given):
             return None
@@ -78,13 +86,16 @@ class Sweep:
 
     def all(self):
         """The number of runs, and what is wrong with some of them."""
-        runs = []
+        runs, unseen = [], []
         for words in command_lines():
             usual = self.run(words)
             for kind in KINDS:
-                for number in range(1, self.calls(words, kind) + 1):
+                count = self.calls(words, kind)
+                if not count and kind in ALWAYS:
+                    unseen.append(f"mlock {' '.join(words)}\n  no {kind} was asked for, so none was refused")
+                for number in range(1, count + 1):
                     runs += [(words, usual, kind, number, on) for on in ('0', '1')]
-        return len(runs), wrong_of(runs, lambda run: self.tried(*run))
+        return len(runs) + len(unseen), unseen + wrong_of(runs, lambda run: self.tried(*run))
 
 
 def main():
@@ -93,8 +104,7 @@ def main():
     program = pathlib.Path(sys.argv[1]).resolve()
     compiler = next(filter(shutil.which, ('cc', 'gcc', 'clang')), None)
     if compiler is None:
-        print('sweeps: nothing was tried, since there is no C compiler')
-        return
+        sys.exit('sweeps: nothing is tried, since there is no C compiler on the PATH (cc, gcc or clang)')
     with tempfile.TemporaryDirectory() as folder:
         folder = pathlib.Path(folder)
         library = folder / 'refuse.so'

@@ -18,61 +18,85 @@ impl Gate for Open {
     fn posted(&self, _worker: usize, _task: usize) {}
 }
 
-/// A gate that is shut before one of the tasks.
-#[derive(Drop)]
-pub(crate) struct ShutBefore {
-    pub(crate) task: usize,
-}
-
-impl Gate for ShutBefore {
-    ghost is_open = { λ _. ⊥ };
-
-    fn pass(&self, _worker: usize, task: usize) -> bool {
-        task != self.task
-    }
-
-    fn posted(&self, _worker: usize, _task: usize) {}
-}
-
 // How often the gate looks before it gives up.
 const LOOKS: u32 = 10_000_000;
 
-/// A gate that holds task 0 until it was asked for task 1, and task 1 until it was asked for task 0. Where it has waited in
-/// vain it is shut from then on. It counts what it was asked for and what was posted.
+// A decimal digit for each of twelve tasks.
+const DIGITS: [u64; 12] = [
+    1,
+    10,
+    100,
+    1_000,
+    10_000,
+    100_000,
+    1_000_000,
+    10_000_000,
+    100_000_000,
+    1_000_000_000,
+    10_000_000_000,
+    100_000_000_000,
+];
+
+/// What is counted where each of the twelve tasks was counted once.
+pub(crate) const EACH_ONCE: u64 = 111_111_111_111;
+
+// Counts a task by its number.
+fn count(counts: &AtomicU64, task: usize) {
+    if let Some(digit) = DIGITS.get(task) {
+        counts.fetch_add(*digit, Ordering::SeqCst);
+    }
+}
+
+/// Where a gate holds the workers.
+#[derive(Clone, Copy, Drop)]
+pub(crate) enum Holds {
+    Nowhere,
+    /// It holds task 0 until it was asked for task 1, and task 1 until it was asked for task 0.
+    FirstTwo,
+    /// It is shut before these tasks.
+    Before(usize, usize),
+}
+
+/// A gate that counts which tasks it was asked for and which were posted. Where it has held a worker in vain, it is shut for the
+/// first two tasks from then on.
 #[derive(Drop)]
 pub(crate) struct Turnstile {
+    holds: Holds,
+    passed: AtomicU64,
+    posted: AtomicU64,
     zero: AtomicU64,
     one: AtomicU64,
-    passes: AtomicU64,
-    posts: AtomicU64,
-    shut: AtomicU64,
+    given_up: AtomicU64,
 }
 
 impl Turnstile {
-    pub(crate) fn new() -> Turnstile {
+    /// A gate that was asked for nothing yet.
+    pub(crate) fn new(holds: Holds) -> Turnstile {
         Turnstile {
+            holds,
+            passed: AtomicU64::new(0),
+            posted: AtomicU64::new(0),
             zero: AtomicU64::new(0),
             one: AtomicU64::new(0),
-            passes: AtomicU64::new(0),
-            posts: AtomicU64::new(0),
-            shut: AtomicU64::new(0),
+            given_up: AtomicU64::new(0),
         }
     }
 
-    /// How often it was asked.
-    pub(crate) fn passes(&self) -> u64 {
-        self.passes.load(Ordering::SeqCst)
+    /// Which tasks it was asked for, each as often as its digit says.
+    pub(crate) fn passed(&self) -> u64 {
+        self.passed.load(Ordering::SeqCst)
     }
 
-    /// How many posts it was told of.
-    pub(crate) fn posts(&self) -> u64 {
-        self.posts.load(Ordering::SeqCst)
+    /// Which tasks were posted, each as often as its digit says.
+    pub(crate) fn posted(&self) -> u64 {
+        self.posted.load(Ordering::SeqCst)
     }
 
     // Whether the gate was asked for the other task in time.
-    fn meets(&self, other: &AtomicU64) -> bool {
+    fn meets(&self, own: &AtomicU64, other: &AtomicU64) -> bool {
+        own.store(1, Ordering::SeqCst);
         for _ in 0..LOOKS {
-            if self.shut.load(Ordering::SeqCst) == 1 {
+            if self.given_up.load(Ordering::SeqCst) == 1 {
                 return false;
             }
             if other.load(Ordering::SeqCst) == 1 {
@@ -80,7 +104,7 @@ impl Turnstile {
             }
             thread::yield_now();
         }
-        self.shut.store(1, Ordering::SeqCst);
+        self.given_up.store(1, Ordering::SeqCst);
         false
     }
 }
@@ -89,21 +113,16 @@ impl Gate for Turnstile {
     ghost is_open = { λ _. ⊥ };
 
     fn pass(&self, _worker: usize, task: usize) -> bool {
-        self.passes.fetch_add(1, Ordering::SeqCst);
-        match task {
-            0 => {
-                self.zero.store(1, Ordering::SeqCst);
-                self.meets(&self.one)
-            }
-            1 => {
-                self.one.store(1, Ordering::SeqCst);
-                self.meets(&self.zero)
-            }
+        count(&self.passed, task);
+        match (self.holds, task) {
+            (Holds::FirstTwo, 0) => self.meets(&self.zero, &self.one),
+            (Holds::FirstTwo, 1) => self.meets(&self.one, &self.zero),
+            (Holds::Before(first, second), _) => task != first && task != second,
             _ => true,
         }
     }
 
-    fn posted(&self, _worker: usize, _task: usize) {
-        self.posts.fetch_add(1, Ordering::SeqCst);
+    fn posted(&self, _worker: usize, task: usize) {
+        count(&self.posted, task);
     }
 }

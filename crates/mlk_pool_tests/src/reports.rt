@@ -1,104 +1,177 @@
-// Reports by several workers.
+// Reports by several workers on twelve entries.
 
-use crate::gates::{Open, ShutBefore, Turnstile};
-use crate::twelve::{Trial, passes};
+use crate::gates::{EACH_ONCE, Holds, Turnstile};
+use crate::given::{TWELVE, TWELVE_RULES, Trial, passes};
 use mlk_cert::Certificate;
-use mlk_pool::{MOST_WORKERS, PoolFault, report_by};
+use mlk_pool::{CheckError, Report, Source, read_routines, render, report_by, verify};
 use mlk_program::Program;
 use mlk_rules::Rules;
 use mlk_text::Failure;
+use mlk_watch::Unwatched;
 use std::alloc::Global;
+use std::io::Cursor;
 use std::sync::Wait;
-use std::test::Fail;
 use std::thread::Threads;
 
-// The report has a row for each of the first five entries.
-pub(crate) fn same_by_every_number<R: Threads + Wait + Sync>(
-    rt: &R,
-    alloc: Global,
-    program: &Program<'_>,
-    rules: &Rules,
-    certificate: &Certificate,
-) -> bool {
-    for workers in [1usize, 2, 3, MOST_WORKERS] {
-        match report_by(rt, alloc, program, rules, certificate, workers, &Open) {
-            Ok(report) => {
-                let lines = report.rows().iter().map(|row| row.entry.line());
-                if !lines.eq(0..5usize) {
-                    return false;
-                }
-            }
-            Err(_) => return false,
+const REPORT: &[u8] = b"E1^R 1:8 701 Unruled\n\
+E2^R 2:8 701 Unruled\n\
+E3^R 3:8 701 Unruled\n\
+E4^R 4:8 701 Unruled\n\
+E5^R 5:8 701 Unruled\n\
+no 5\n";
+
+/// How a run ends.
+#[derive(Clone, Copy, Drop)]
+pub(crate) enum End {
+    Report,
+    NoWorkers,
+    /// The gate is shut before this task.
+    Shut(usize),
+}
+
+/// So many workers behind a gate, and how that ends.
+#[derive(Clone, Copy, Drop)]
+pub(crate) struct Run {
+    workers: usize,
+    holds: Holds,
+    end: End,
+    // which tasks the gate is asked for, and which are posted
+    passed: u64,
+    posted: u64,
+}
+
+impl Run {
+    // Each task is passed and posted once, and there is a report.
+    fn reported(workers: usize, holds: Holds) -> Run {
+        Run {
+            workers,
+            holds,
+            end: End::Report,
+            passed: EACH_ONCE,
+            posted: EACH_ONCE,
         }
     }
-    true
+
+    // There is no such number of workers, and no task is passed.
+    fn refused(workers: usize) -> Run {
+        Run {
+            workers,
+            holds: Holds::Nowhere,
+            end: End::NoWorkers,
+            passed: 0,
+            posted: 0,
+        }
+    }
+}
+
+// Whether this is the report, by its whole text; a writer without room for it is no error of memory.
+fn is_the_report(alloc: Global, report: &Report) -> bool {
+    let mut written: Vec<u8> = Vec::new(alloc);
+    let mut short = Cursor::new([0u8; 8]);
+    render(alloc, report, &mut written).is_ok()
+        && written.as_slice() == REPORT
+        && matches!(render(alloc, report, &mut short), Err(Failure::Refused(_)))
+}
+
+/// Whether `verify` ends so on the texts.
+pub(crate) fn is_verified<R: Threads + Wait + Sync>(
+    rt: &R,
+    alloc: Global,
+    certificate: &[u8],
+    run: Run,
+) -> Option<bool> {
+    let gate = Turnstile::new(run.holds);
+    let text = Vec::from_slice(alloc, TWELVE).ok()?;
+    let mut sources = Vec::new(alloc);
+    sources.push(Source { stem: b"R", text }).ok()?;
+    let answer = verify(
+        rt,
+        alloc,
+        sources,
+        TWELVE_RULES,
+        certificate,
+        run.workers,
+        &gate,
+    );
+    let is_so = match &answer {
+        Ok(report) => matches!(run.end, End::Report) && is_the_report(alloc, report),
+        Err(CheckError::Workers) => matches!(run.end, End::NoWorkers),
+        Err(CheckError::GateShut(task)) => matches!(run.end, End::Shut(least) if least == *task),
+        Err(_) => false,
+    };
+    Some(is_so && gate.passed() == run.passed && gate.posted() == run.posted)
 }
 
 #[test]
-fn the_report_is_the_same_by_every_number_of_workers(rt: HostRuntime) -> Result<(), Fail> {
-    assert!(rt; passes(&rt, rt.alloc(), Trial::SameByEveryNumber));
-    Ok(())
+fn each_number_of_workers_makes_one_report(rt: HostRuntime) {
+    for workers in [1usize, 2, 3, 64] {
+        let run = Run::reported(workers, Holds::Nowhere);
+        assert!(&rt;
+            passes(&rt, rt.alloc(), Trial::Verify(run)),
+            "{workers} workers"
+        );
+    }
 }
 
-// What is answered where the number of workers is none or too large.
-pub(crate) fn no_such_number<R: Threads + Wait + Sync>(
-    rt: &R,
-    alloc: Global,
-    program: &Program<'_>,
-    rules: &Rules,
-    certificate: &Certificate,
-) -> bool {
+#[test]
+fn there_are_1_to_64_workers(rt: HostRuntime) {
     for workers in [0usize, 65] {
-        let report = report_by(rt, alloc, program, rules, certificate, workers, &Open);
-        if !matches!(report, Err(Failure::Refused(PoolFault::Workers))) {
-            return false;
-        }
+        let run = Run::refused(workers);
+        assert!(&rt;
+            passes(&rt, rt.alloc(), Trial::Verify(run)),
+            "{workers} workers"
+        );
     }
-    true
 }
+
+// A gate that is shut before two tasks, and the one that is reported.
+const SHUT: &[Run] = &[
+    Run {
+        workers: 2,
+        holds: Holds::Before(3, 12),
+        end: End::Shut(3),
+        passed: EACH_ONCE + 1_000,
+        posted: EACH_ONCE,
+    },
+    Run {
+        workers: 2,
+        holds: Holds::Before(8, 5),
+        end: End::Shut(5),
+        passed: EACH_ONCE + 100_000,
+        posted: EACH_ONCE,
+    },
+];
 
 #[test]
-fn there_are_1_to_64_workers(rt: HostRuntime) -> Result<(), Fail> {
-    assert!(rt; passes(&rt, rt.alloc(), Trial::NoSuchNumber));
-    Ok(())
+fn the_least_task_is_reported_before_which_the_gate_is_shut(rt: HostRuntime) {
+    for run in SHUT {
+        assert!(&rt; passes(&rt, rt.alloc(), Trial::Verify(*run)));
+    }
 }
 
-// What is answered where the gate is shut before one task.
-pub(crate) fn shut_at_three<R: Threads + Wait + Sync>(
+/// Whether `report_by` has two workers at work at once, and makes a report.
+pub(crate) fn is_reported<R: Threads + Wait + Sync>(
     rt: &R,
     alloc: Global,
     program: &Program<'_>,
     rules: &Rules,
     certificate: &Certificate,
-) -> bool {
-    let gate = ShutBefore { task: 3 };
-    matches!(
-        report_by(rt, alloc, program, rules, certificate, 2, &gate),
-        Err(Failure::Refused(PoolFault::GateShut(3)))
-    )
+) -> Option<bool> {
+    let gate = Turnstile::new(Holds::FirstTwo);
+    let report = report_by(rt, alloc, program, rules, certificate, 2, &gate).ok()?;
+    Some(report.rows().len() == 5 && gate.passed() == EACH_ONCE && gate.posted() == EACH_ONCE)
 }
 
 #[test]
-fn the_task_is_told_before_which_the_gate_is_shut(rt: HostRuntime) -> Result<(), Fail> {
-    assert!(rt; passes(&rt, rt.alloc(), Trial::ShutAtThree));
-    Ok(())
-}
-
-// Two workers have a task each before either walks, and each of the twelve tasks passes the gate and is posted once.
-pub(crate) fn two_at_once<R: Threads + Wait + Sync>(
-    rt: &R,
-    alloc: Global,
-    program: &Program<'_>,
-    rules: &Rules,
-    certificate: &Certificate,
-) -> bool {
-    let gate = Turnstile::new();
-    let report = report_by(rt, alloc, program, rules, certificate, 2, &gate);
-    report.is_ok() && gate.passes() == 12 && gate.posts() == 12
+fn two_workers_are_at_work_at_once(rt: HostRuntime) {
+    let run = Run::reported(2, Holds::FirstTwo);
+    assert!(&rt; passes(&rt, rt.alloc(), Trial::Verify(run)));
+    assert!(&rt; passes(&rt, rt.alloc(), Trial::ReportBy));
 }
 
 #[test]
-fn two_workers_are_at_work_at_once(rt: HostRuntime) -> Result<(), Fail> {
-    assert!(rt; passes(&rt, rt.alloc(), Trial::TwoAtOnce));
-    Ok(())
+fn no_texts_are_no_routines(rt: HostRuntime) {
+    let alloc = rt.alloc();
+    let read = read_routines(&rt, alloc, Vec::new(alloc), &Unwatched);
+    assert!(&rt; matches!(&read, Ok(routines) if routines.is_empty()));
 }

@@ -5,16 +5,16 @@ ghost use Rattle.mlk_syntax.specs.Views.{routine_of};
 ghost use Rattle.mlk_pool.specs.Given.{AreInputs};
 
 use crate::gates::Open;
-use crate::twelve::{Trial, passes};
+use crate::given::{Trial, passes};
+use crate::meeting::Meeting;
 use mlk_cert::Certificate;
 use mlk_pool::{Board, Inputs, SharedBoard, work};
 use mlk_program::Program;
 use mlk_rules::Rules;
-use mlk_walk::{Pieces, Unseen};
+use mlk_walk::Pieces;
 use std::alloc::Global;
 use std::marker::Brand;
 use std::sync::Wait;
-use std::test::Fail;
 use std::thread;
 use std::thread::Threads;
 
@@ -92,31 +92,27 @@ fn events_of_two<N: Inputs + Send + Sync, P: Pieces + Sync, R: Threads + Wait + 
     Some(shared.into_board().log().len())
 }
 
-/// Whether the two leave a claim and a post of each of the twelve tasks, where these see into which parts lines are cut.
-pub(crate) fn leave_all<P: Pieces + Sync, R: Threads + Wait + Sync>(
-    rt: &R,
-    alloc: Global,
-    program: &Program<'_>,
-    rules: &Rules,
-    certificate: &Certificate,
-    pieces: &P,
-) -> bool {
-    events_of_two::<Brand, P, R>(rt, alloc, program, rules, certificate, pieces) == Some(24)
-}
-
-/// Whether the two leave a claim and a post of each of the twelve tasks.
-pub(crate) fn two_work<R: Threads + Wait + Sync>(
+/// Whether two workers see the walks of each other's entries begin, and leave a claim and a post of each of the twelve tasks.
+pub(crate) fn meet_at_work<R: Threads + Wait + Sync>(
     rt: &R,
     alloc: Global,
     program: &Program<'_>,
     rules: &Rules,
     certificate: &Certificate,
 ) -> bool {
-    leave_all(rt, alloc, program, rules, certificate, &Unseen)
+    let meeting = Meeting::new(1, 2);
+    let events = events_of_two::<Brand, Meeting, R>(
+        rt,
+        alloc,
+        program,
+        rules,
+        certificate,
+        &meeting,
+    );
+    events == Some(24) && meeting.have_met()
 }
 
 #[test]
-fn two_workers_leave_a_claim_and_a_post_of_each_task(rt: HostRuntime) -> Result<(), Fail> {
-    assert!(rt; passes(&rt, rt.alloc(), Trial::TwoWork));
-    Ok(())
+fn both_workers_walk_at_once(rt: HostRuntime) {
+    assert!(&rt; passes(&rt, rt.alloc(), Trial::Work));
 }

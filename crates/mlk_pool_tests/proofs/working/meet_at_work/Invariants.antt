@@ -1,6 +1,6 @@
 use Rattle.std.proofs.Common.{map}
 use Rattle.mlk_syntax.specs.Views.{routine_of}
-use Rattle.mlk_pool_tests.proofs.working.leave_all.Given as goal
+use Rattle.mlk_pool_tests.proofs.working.meet_at_work.Given as goal
 
 -- what this run is given
 abbrev pub ghosts-events_of_two : goal.ghosts-events_of_two
