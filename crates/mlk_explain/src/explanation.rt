@@ -1,110 +1,131 @@
-// What explains a fault.
+// The rows of a report, each with its explanation.
 
 use crate::act::act_of;
 use crate::help::help_of;
-use crate::line::margin_of;
-use crate::place::{Place, standing_of};
-use crate::rule::{RuleFile, rule_texts, rules_for};
-use mlk_cert_parts::Test;
-use mlk_report_text::Piece::{Bytes, Listed, Number, Words};
-use mlk_report_text::push_all;
-use std::alloc::AllocError;
+use crate::line::{margin_of, push_source};
+use crate::phrase::Part::{Locks, Test, Words as Fixed};
+use crate::phrase::{Phrase, push_line, push_phrase};
+use crate::place::{LockSet, Place};
+use crate::report::Grounds;
+use crate::rule::{RuleFile, push_rules, rules_for};
+use crate::walked::Places;
+use mlk_program::Program;
+use mlk_report_text::Piece::{At, Bytes, CodeName, Number, Words};
+use mlk_report_text::{push_all, text_of};
+use mlk_walk::{Checks, Row};
+use std::alloc::{AllocError, Global};
+use std::collections::BTreeSet;
 
-/// What explains a fault at its place.
-#[derive(Drop)]
-pub(crate) struct Explanation<'a> {
-    /// what was about to happen
-    act: Vec<u8>,
-    /// what was known of `$TEST`; none where the fault is of no case
-    test: Option<Test>,
-    /// the names of the locks that were held
-    held: &'a [Vec<u8>],
-    /// what rules say of it, each by itself
-    rules: Vec<Vec<u8>>,
-    /// what mends it
-    help: Vec<u8>,
-}
-
-fn test_words(test: Test) -> &'static str {
-    match test {
-        Test::Zero => ", and $TEST is 0",
-        Test::One => ", and $TEST is 1",
-        Test::Any => "",
+// Appends `LABEL^ROUTINE line:column CODE NAME`.
+fn push_heading(text: &mut Vec<u8>, program: &Program<'_>, row: &Row) -> Result<(), AllocError> {
+    if let Some(entry) = program.text_of(*text.allocator(), row.entry)? {
+        text.extend_from_slice(entry.as_slice())?;
     }
+    let at = At(row.fault.line, row.fault.column);
+    let code = CodeName(row.fault.code);
+    push_all(text, &[Words(" "), at, Words(" "), code, Words("\n")])
 }
 
-// Appends a line below the line of M with this number.
-fn push_line<'a>(
+// What was held; nothing is said of a fault that is of no case.
+fn held_phrase(place: &Place<'_>) -> Phrase {
+    if place.has_locks(LockSet::Held) {
+        return &[Locks(LockSet::Held), Test];
+    }
+    &[Fixed("nothing"), Test]
+}
+
+// Appends the lines of the rules that apply, and of what mends the fault.
+fn push_remedy(
     text: &mut Vec<u8>,
-    number: u32,
-    head: &'a str,
-    said: &'a [u8],
+    place: &Place<'_>,
+    rule_file: &RuleFile,
 ) -> Result<(), AllocError> {
-    let margin = Bytes(margin_of(number));
-    push_all(text, &[margin, Words(head), Bytes(said), Words("\n")])
+    let rules = rules_for(*text.allocator(), place)?;
+    push_rules(text, place, rule_file, rules.as_slice())?;
+    push_line(text, place, "help", help_of(place, !rules.is_empty()))
 }
 
-impl<'a> Explanation<'a> {
-    /// What explains the fault at `place`, with rules as they stand in `rule_file`.
-    pub(crate) fn of(
-        place: &Place<'a>,
-        rule_file: &RuleFile,
-    ) -> Result<Explanation<'a>, AllocError> {
-        let test = match standing_of(place.note) {
-            Some((test, _)) => Some(test),
-            None => None,
-        };
-        let rules = rules_for(place)?;
-        Ok(Explanation {
-            act: act_of(place)?,
-            test,
-            held: place.held,
-            rules: rule_texts(rule_file, &rules, place)?,
-            help: help_of(place, !rules.is_empty())?,
-        })
+// Appends the line of M, what was about to happen there and what was held, and then these lines on what mends the fault.
+fn push_explanation(
+    text: &mut Vec<u8>,
+    place: &Place<'_>,
+    remedy: &[u8],
+) -> Result<(), AllocError> {
+    push_source(text, place)?;
+    push_phrase(text, place, act_of(place))?;
+    text.push(b'\n')?;
+    if place.standing().is_some() {
+        push_line(text, place, "held", held_phrase(place))?;
     }
+    text.extend_from_slice(remedy)
+}
 
-    /// What tells the cause of the fault at `place` from all others: where it is, the rules and the help.
-    pub(crate) fn cause(&self, place: &Place<'_>) -> Result<Vec<u8>, AllocError> {
-        place.text(&[
+// What faults with one cause share: the routine, the line, the code, and the lines on what mends them.
+fn cause_of(alloc: Global, place: &Place<'_>, remedy: &[u8]) -> Result<Vec<u8>, AllocError> {
+    text_of(
+        alloc,
+        &[
             Number(place.routine),
             Words(" "),
             Number(place.fault.line.number() as usize),
             Words(" "),
             Number(usize::from(place.fault.code.number())),
             Words("\n"),
-            Listed(&self.rules),
-            Words("\n"),
-            Bytes(&self.help),
-        ])
-    }
+            Bytes(remedy),
+        ],
+    )
+}
 
-    // Appends a line that says what was held.
-    fn push_held(&self, text: &mut Vec<u8>, number: u32) -> Result<(), AllocError> {
-        let Some(test) = self.test else {
-            return Ok(());
-        };
-        let nothing = if self.held.is_empty() { "nothing" } else { "" };
-        push_all(
-            text,
-            &[
-                Bytes(margin_of(number)),
-                Words("= held: "),
-                Words(nothing),
-                Listed(self.held),
-                Words(test_words(test)),
-                Words("\n"),
-            ],
-        )
-    }
+/// Appends rows with their explanations, and keeps the causes that it has explained.
+#[derive(Drop)]
+pub(crate) struct Explainer<'a> {
+    alloc: Global,
+    program: &'a Program<'a>,
+    rule_file: &'a RuleFile,
+    places: Places<'a>,
+    causes: BTreeSet<Vec<u8>>,
+}
 
-    /// Appends what was about to happen, and a line for all else below the line of M with this number.
-    pub(crate) fn push_to(&self, text: &mut Vec<u8>, number: u32) -> Result<(), AllocError> {
-        push_all(text, &[Bytes(&self.act), Words("\n")])?;
-        self.push_held(text, number)?;
-        for rule in self.rules.as_slice() {
-            push_line(text, number, "= rule: ", rule.as_slice())?;
+impl<'a> Explainer<'a> {
+    /// One that has explained nothing.
+    pub(crate) fn new(
+        alloc: Global,
+        grounds: &'a Grounds<'a>,
+        checks: &'a Checks<'a>,
+        rule_file: &'a RuleFile,
+    ) -> Explainer<'a> {
+        Explainer {
+            alloc,
+            program: grounds.program,
+            rule_file,
+            places: Places::new(alloc, grounds, checks),
+            causes: BTreeSet::new(alloc),
         }
-        push_line(text, number, "= help: ", self.help.as_slice())
+    }
+
+    // Appends the explanation of a row, unless its cause has one. Whether it did.
+    fn explain(&mut self, text: &mut Vec<u8>, row: &Row) -> Result<bool, AllocError> {
+        self.places.look_up(row.entry)?;
+        let Some(place) = self.places.find(row) else {
+            return Ok(false);
+        };
+        let mut remedy = Vec::new(self.alloc);
+        push_remedy(&mut remedy, &place, self.rule_file)?;
+        let cause = cause_of(self.alloc, &place, remedy.as_slice())?;
+        if !self.causes.insert(cause)? {
+            return Ok(false);
+        }
+        push_explanation(text, &place, remedy.as_slice())?;
+        Ok(true)
+    }
+
+    /// Appends a row, and its explanation unless its cause has one.
+    pub(crate) fn push_row(&mut self, text: &mut Vec<u8>, row: &Row) -> Result<(), AllocError> {
+        push_heading(text, self.program, row)?;
+        if self.explain(text, row)? {
+            return Ok(());
+        }
+        let margin = Bytes(margin_of(row.fault.line.number()));
+        push_all(text, &[margin, Words("= explained above\n")])
     }
 }

@@ -1,5 +1,5 @@
-//! Reports, explained: below each fault its line of M, what was about to happen there, what was held, the rules that ask for
-//! what lacks, and what mends it.
+//! Reports with explanations: below each fault its line of M, what was about to happen there, what was held, the rules that
+//! apply, and what mends the fault.
 #![tactic(auto)]
 
 mod act;
@@ -7,10 +7,11 @@ mod explanation;
 mod help;
 mod line;
 mod names;
+mod phrase;
 mod place;
 mod report;
 mod routine;
 mod rule;
-mod telling;
+mod walked;
 
 pub use report::{Grounds, explained};

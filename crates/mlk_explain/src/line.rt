@@ -1,6 +1,6 @@
-// A line of M with a caret below the column.
+// The lines of an explanation: a line of M with a caret below the column, and the lines below it.
 
-use crate::names::split_line;
+use crate::names::{split, split_line};
 use crate::place::Place;
 use bstr::ByteSlice;
 use mlk_report_text::Piece::{Bytes, Number, Words};
@@ -12,17 +12,17 @@ const MOST_SHOWN: usize = 320;
 
 const MOST_BEFORE: usize = 240;
 
-// As many blanks as the longest number of a line has digits, and one more.
+// One blank more than the longest number of a line has digits.
 const BLANKS: &[u8] = b"           ";
 
-/// The blanks before a line of an explanation that is no line of M: as many as `number` has digits, and one.
+/// The blanks below the number of a line of M: as many as `number` has digits, and one more.
 pub(crate) fn margin_of(number: u32) -> &'static [u8] {
     let digits = number.checked_ilog10().unwrap_or(0) as usize;
-    let (margin, _) = BLANKS.split_at(digits.saturating_add(2).min(BLANKS.len()));
+    let (margin, _) = split(BLANKS, digits.saturating_add(2));
     margin
 }
 
-// Bytes as they are, but for those that would move what is shown after them.
+// Appends bytes, with `?` for those that would move what is shown after them.
 fn push_shown(text: &mut Vec<u8>, bytes: &[u8]) -> Result<(), AllocError> {
     for byte in bytes {
         text.push(match *byte {
@@ -34,7 +34,7 @@ fn push_shown(text: &mut Vec<u8>, bytes: &[u8]) -> Result<(), AllocError> {
     Ok(())
 }
 
-// What is as wide as `bytes` where they are shown.
+// Appends blanks and tabs that are as wide as `bytes`.
 fn push_width(text: &mut Vec<u8>, bytes: &[u8]) -> Result<(), AllocError> {
     for shown in bytes.chars() {
         text.push(if shown == '\t' { b'\t' } else { b' ' })?;
@@ -42,13 +42,7 @@ fn push_width(text: &mut Vec<u8>, bytes: &[u8]) -> Result<(), AllocError> {
     Ok(())
 }
 
-// Whether a byte is a later one of a character of several.
-fn is_later(byte: u8) -> bool {
-    matches!(byte, 0x80..=0xbf)
-}
-
-// The part of a line that is shown: its bytes before the column and from it on, and what stands for what is left out at
-// either end.
+// The part of a line that is shown: its bytes before the column and from it on, and the marks for what is cut at either end.
 #[derive(Drop)]
 struct Window<'a> {
     front: &'a [u8],
@@ -57,13 +51,22 @@ struct Window<'a> {
     cut_after: &'static str,
 }
 
-// What stands for what is left out.
+// How many bytes at the front of a text belong to a character that begins before it.
+fn rest_of_character(text: &[u8]) -> usize {
+    match text {
+        [0x80..=0xbf, 0x80..=0xbf, 0x80..=0xbf, ..] => 3,
+        [0x80..=0xbf, 0x80..=0xbf, ..] => 2,
+        [0x80..=0xbf, ..] => 1,
+        _ => 0,
+    }
+}
+
 fn cut_mark(is_cut: bool) -> &'static str {
     if is_cut { ".." } else { "" }
 }
 
 impl<'a> Window<'a> {
-    // The part of a line round the column, before which `front` stands; all of a line that is no longer than what is shown.
+    // The part of a line round the column, which is after `front`; all of a line that is short enough.
     fn of(front: &'a [u8], back: &'a [u8]) -> Window<'a> {
         if front.len().saturating_add(back.len()) <= MOST_SHOWN {
             return Window {
@@ -74,13 +77,15 @@ impl<'a> Window<'a> {
             };
         }
         let is_cut_before = front.len() > MOST_BEFORE;
-        let (_, near) = front.split_at(front.len().saturating_sub(MOST_BEFORE));
-        let cut = near.iter().take(3);
-        let broken = cut.take_while(|byte| is_later(**byte)).count();
-        let start = if is_cut_before { broken } else { 0 };
-        let (_, shown) = near.split_at(start.min(near.len()));
+        let (_, near) = split(front, front.len().saturating_sub(MOST_BEFORE));
+        let start = if is_cut_before {
+            rest_of_character(near)
+        } else {
+            0
+        };
+        let (_, shown) = split(near, start);
         let most = MOST_SHOWN.saturating_sub(shown.len());
-        let (behind, _) = back.split_at(most.min(back.len()));
+        let (behind, _) = split(back, most);
         Window {
             front: shown,
             back: behind,
@@ -88,6 +93,16 @@ impl<'a> Window<'a> {
             cut_after: cut_mark(back.len() > most),
         }
     }
+}
+
+/// Appends the begin of a line below the line of M: its margin, and `= LABEL: `.
+pub(crate) fn push_label(
+    text: &mut Vec<u8>,
+    place: &Place<'_>,
+    label: &str,
+) -> Result<(), AllocError> {
+    let margin = Bytes(margin_of(place.fault.line.number()));
+    push_all(text, &[margin, Words("= "), Words(label), Words(": ")])
 }
 
 /// Appends the line of M with its number, and a caret below the column.

@@ -1,38 +1,39 @@
-// Names, as they stand in a line of M and as they are shown.
+// Names in a line of M, and names as they are shown.
 
+use bstr::ByteSlice;
 use mlk_cert_lexemes::{Written, WrittenText};
 use mlk_cert_parts::NameSet;
 use mlk_names::{KnownSym, LockTerm};
-use mlk_report_text::Piece::{Bytes, Listed, Words};
-use mlk_report_text::text_of;
+use mlk_report_text::Piece::{Bytes, Words};
+use mlk_report_text::push_all;
 use mlk_text::{Column, Root, Value};
-use std::alloc::{AllocError, Global};
+use std::alloc::AllocError;
 
 /// How many bytes of a name or of a pattern are shown at most.
-pub(crate) const MOST_OF_NAME: usize = 120;
+const MOST_OF_NAME: usize = 120;
 
 // Whether a byte belongs to a name, with the marks before it.
 fn is_of_name(byte: u8) -> bool {
     byte.is_ascii_alphanumeric() || matches!(byte, b'^' | b'%' | b'$')
 }
 
-// How many bytes a list in parentheses has at the front of a text; nothing where none stands there.
-fn list_length(text: &[u8]) -> usize {
+/// The first bytes of `bytes`, at most `most`, and the others.
+pub(crate) fn split(bytes: &[u8], most: usize) -> (&[u8], &[u8]) {
+    bytes.split_at(most.min(bytes.len()))
+}
+
+// How many bytes the name at the front of a text has, with the list in parentheses after it.
+fn name_length(text: &[u8]) -> usize {
     let mut depth = 0usize;
     let mut quoted = false;
     for (place, byte) in text.iter().enumerate() {
         match *byte {
-            b'"' => quoted = !quoted,
             b'(' if !quoted => depth = depth.saturating_add(1),
+            byte if depth == 0 && !is_of_name(byte) => return place,
+            b')' if depth == 1 && !quoted => return place.saturating_add(1),
             b')' if !quoted => depth = depth.saturating_sub(1),
+            b'"' => quoted = !quoted,
             _ => {}
-        }
-        if depth == 0 {
-            return if place == 0 {
-                0
-            } else {
-                place.saturating_add(1)
-            };
         }
     }
     text.len()
@@ -40,57 +41,55 @@ fn list_length(text: &[u8]) -> usize {
 
 /// The bytes of `line` before `column`, and those from it on.
 pub(crate) fn split_line(line: &[u8], column: Column) -> (&[u8], &[u8]) {
-    let before = (column.number() as usize).saturating_sub(1);
-    line.split_at(before.min(line.len()))
+    split(line, (column.number() as usize).saturating_sub(1))
 }
 
-/// The name that stands at `column` of `line`, with its subscripts or actuals, as it is written; of a long one its front.
-pub(crate) fn name_at(alloc: Global, line: &[u8], column: Column) -> Result<Vec<u8>, AllocError> {
+/// The name at `column` of `line`, with its subscripts or actuals, as it is written; the front of a long one.
+pub(crate) fn name_at(line: &[u8], column: Column) -> &[u8] {
     let (_, rest) = split_line(line, column);
-    let (rest, _) = rest.split_at(rest.len().min(MOST_OF_NAME));
-    let root = rest.iter().take_while(|byte| is_of_name(**byte)).count();
-    let (_, behind) = rest.split_at(root.min(rest.len()));
-    let length = root.saturating_add(list_length(behind));
-    let (name, _) = rest.split_at(length.min(rest.len()));
-    let end = if name.len() < MOST_OF_NAME { "" } else { ".." };
-    text_of(alloc, &[Bytes(name), Words(end)])
+    let (front, _) = split(rest, MOST_OF_NAME);
+    let (name, _) = split(front, name_length(front));
+    name
 }
 
-/// The word of a function whose first argument stands at `column` of `line`, where it does.
+/// The word of the function whose first argument is at `column` of `line`; empty where there is none.
 pub(crate) fn function_before(line: &[u8], column: Column) -> &[u8] {
     let (front, _) = split_line(line, column);
     let Some(front) = front.strip_suffix(b"(") else {
         return b"";
     };
-    let length = front
-        .iter()
-        .rev()
-        .take_while(|byte| byte.is_ascii_alphabetic() || **byte == b'$')
-        .count();
-    let (_, word) = front.split_at(front.len().saturating_sub(length));
+    let mut start = 0usize;
+    for (place, byte) in front.iter().enumerate() {
+        if !byte.is_ascii_alphabetic() && *byte != b'$' {
+            start = place.saturating_add(1);
+        }
+    }
+    let (_, word) = split(front, start);
     word
 }
 
 /// The root of a name, as it is written in M.
 pub(crate) fn root_of(name: &[u8]) -> &[u8] {
-    let length = name.iter().take_while(|byte| **byte != b'(').count();
-    let (root, _) = name.split_at(length.min(name.len()));
+    let (root, _) = split(name, name.find_byte(b'(').unwrap_or(name.len()));
     root
 }
 
-/// The name of the global at the front of a name, without its caret.
-pub(crate) fn global_of(name: &[u8]) -> &[u8] {
-    let root = root_of(name);
-    root.strip_prefix(b"^").unwrap_or(root)
+/// Appends a name of `name_at` or its root, with `..` for what was cut.
+pub(crate) fn push_name(text: &mut Vec<u8>, name: &[u8]) -> Result<(), AllocError> {
+    let end = if name.len() < MOST_OF_NAME { "" } else { ".." };
+    push_all(text, &[Bytes(name), Words(end)])
 }
 
-/// Appends the first bytes of `bytes`, at most `MOST_OF_NAME`; those that no terminal shows as `?`.
+/// Appends `bytes`, or the front of many with `..` after it; `?` for those that no terminal shows.
 pub(crate) fn push_front(text: &mut Vec<u8>, bytes: &[u8]) -> Result<(), AllocError> {
     for byte in bytes.iter().take(MOST_OF_NAME) {
         text.push(match *byte {
             0..=31 | 127 => b'?',
             shown => shown,
         })?;
+    }
+    if bytes.len() > MOST_OF_NAME {
+        text.extend_from_slice(b"..")?;
     }
     Ok(())
 }
@@ -104,26 +103,25 @@ fn is_whole(bytes: &[u8]) -> bool {
     }
 }
 
-/// The text of `item` in a certificate.
-pub(crate) fn certificate_text<T: Written>(alloc: Global, item: &T) -> Result<Vec<u8>, AllocError> {
-    let mut text = WrittenText::new(alloc);
-    item.push_to(&mut text)?;
-    Ok(text.into_bytes())
+/// Appends `item` as a certificate has it, without the end of its line.
+pub(crate) fn push_written<T: Written>(text: &mut Vec<u8>, item: &T) -> Result<(), AllocError> {
+    let mut written = WrittenText::new(*text.allocator());
+    item.push_to(&mut written)?;
+    let bytes = written.as_bytes();
+    text.extend_from_slice(bytes.strip_suffix(b"\n").unwrap_or(bytes))
 }
 
-// A constant, as it is written in M; of a long one its front.
+// Appends a constant as it is written in M; the front of a long one.
 fn push_value(text: &mut Vec<u8>, value: &Value) -> Result<(), AllocError> {
     let bytes = value.as_bytes();
     if is_whole(bytes) {
         return text.extend_from_slice(bytes);
     }
     if bytes.len() <= MOST_OF_NAME {
-        let quoted = certificate_text(*text.allocator(), value)?;
-        return text.extend_from_slice(quoted.as_slice());
+        return push_written(text, value);
     }
     text.push(b'"')?;
-    push_front(text, bytes)?;
-    text.extend_from_slice(b"..")
+    push_front(text, bytes)
 }
 
 fn push_symbol(text: &mut Vec<u8>, symbol: &KnownSym) -> Result<(), AllocError> {
@@ -134,62 +132,61 @@ fn push_symbol(text: &mut Vec<u8>, symbol: &KnownSym) -> Result<(), AllocError> 
     }
 }
 
-/// A lock's name, as it is written in M.
-pub(crate) fn lock_name(alloc: Global, term: &LockTerm) -> Result<Vec<u8>, AllocError> {
-    let mut text = match &term.root {
-        Root::Global(name) => text_of(alloc, &[Words("^"), Bytes(name.as_bytes())])?,
-        Root::Local(name) => text_of(alloc, &[Bytes(name.as_bytes())])?,
-    };
+fn push_root(text: &mut Vec<u8>, root: &Root) -> Result<(), AllocError> {
+    match root {
+        Root::Global(name) => push_all(text, &[Words("^"), Bytes(name.as_bytes())]),
+        Root::Local(name) => text.extend_from_slice(name.as_bytes()),
+    }
+}
+
+/// Appends a lock's name as it is written in M.
+pub(crate) fn push_lock(text: &mut Vec<u8>, term: &LockTerm) -> Result<(), AllocError> {
+    push_root(text, &term.root)?;
     let mut before = b'(';
     for symbol in term.subs.as_slice() {
         text.push(before)?;
-        push_symbol(&mut text, symbol)?;
+        push_symbol(text, symbol)?;
         before = b',';
     }
     if before == b',' {
         text.push(b')')?;
     }
-    Ok(text)
-}
-
-/// The names of locks.
-pub(crate) fn lock_names(alloc: Global, terms: &[LockTerm]) -> Result<Vec<Vec<u8>>, AllocError> {
-    let mut names = Vec::new(alloc);
-    for term in terms {
-        names.push(lock_name(alloc, term)?)?;
-    }
-    Ok(names)
+    Ok(())
 }
 
 /// Whether a lock is named by the local of this name.
 pub(crate) fn is_named_by(term: &LockTerm, name: &[u8]) -> bool {
-    let mut symbols = term.subs.as_slice().iter();
-    symbols.any(|symbol| matches!(symbol, KnownSym::Local(local) if local.as_bytes() == name))
-}
-
-// Some locals, or all but some.
-fn set_text(alloc: Global, names: &NameSet) -> Result<Vec<u8>, AllocError> {
-    let mut text = Vec::new(alloc);
-    match names {
-        NameSet::Only(name) => text.extend_from_slice(name.as_bytes())?,
-        NameSet::AllBut(others) => {
-            text.extend_from_slice(b"all locals")?;
-            let mut before: &[u8] = b" but ";
-            for name in others.as_slice() {
-                text.extend_from_slice(before)?;
-                text.extend_from_slice(name.as_bytes())?;
-                before = b", ";
-            }
+    for symbol in term.subs.as_slice() {
+        if matches!(symbol, KnownSym::Local(local) if local.as_bytes() == name) {
+            return true;
         }
     }
-    Ok(text)
+    false
 }
 
-/// Names of locals, with commas between the sets.
-pub(crate) fn sets_text(alloc: Global, sets: &[NameSet]) -> Result<Vec<u8>, AllocError> {
-    let mut texts = Vec::new(alloc);
-    for names in sets {
-        texts.push(set_text(alloc, names)?)?;
+// Appends the name of a local, or `all locals but` and those that are left out.
+fn push_set(text: &mut Vec<u8>, names: &NameSet) -> Result<(), AllocError> {
+    let others = match names {
+        NameSet::Only(name) => return text.extend_from_slice(name.as_bytes()),
+        NameSet::AllBut(others) => others,
+    };
+    text.extend_from_slice(b"all locals")?;
+    let mut before: &[u8] = b" but ";
+    for name in others.as_slice() {
+        text.extend_from_slice(before)?;
+        text.extend_from_slice(name.as_bytes())?;
+        before = b", ";
     }
-    text_of(alloc, &[Listed(texts.as_slice())])
+    Ok(())
+}
+
+/// Appends names of locals, with commas between the sets.
+pub(crate) fn push_sets(text: &mut Vec<u8>, sets: &[NameSet]) -> Result<(), AllocError> {
+    let mut before: &[u8] = b"";
+    for names in sets {
+        text.extend_from_slice(before)?;
+        push_set(text, names)?;
+        before = b", ";
+    }
+    Ok(())
 }

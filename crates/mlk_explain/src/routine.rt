@@ -1,4 +1,4 @@
-// What explanations ask of a routine: its lines as texts, and what stands at a place.
+// The lines of a routine, and what is at their columns.
 
 use crate::report::Grounds;
 use bstr::ByteSlice;
@@ -6,9 +6,8 @@ use mlk_survey_trees::{Mention, MentionAt, Usage, mentions_of};
 use mlk_syntax::{Callee, Variable};
 use mlk_text::{Column, LineNumber};
 use std::alloc::{AllocError, Global};
-use std::collections::BTreeMap;
 
-/// What stands at a place in a routine.
+/// What is at a column of a line.
 #[derive(Clone, Copy, Drop)]
 pub(crate) enum Mark<'a> {
     Global(Usage),
@@ -19,63 +18,43 @@ pub(crate) enum Mark<'a> {
     Lock(&'a Variable),
 }
 
-/// What stands at the places of a routine.
-#[derive(Drop)]
-struct Marks<'a> {
-    all: Vec<Mark<'a>>,
-    /// which of them stands at a place
-    places: BTreeMap<(LineNumber, Column), usize>,
+fn lock_at(names: &[Variable], column: Column) -> Option<&Variable> {
+    for name in names {
+        if name.column == column {
+            return Some(name);
+        }
+    }
+    None
 }
 
-impl<'a> Marks<'a> {
-    fn new(alloc: Global) -> Marks<'a> {
-        Marks {
-            all: Vec::new(alloc),
-            places: BTreeMap::new(alloc),
-        }
-    }
-
-    // What stands at a place; of several things there the one that was put last.
-    fn at(&self, line: LineNumber, column: Column) -> Option<Mark<'a>> {
-        match self.places.get(&(line, column)) {
-            Some(number) => self.all.as_slice().get(*number).copied(),
-            None => None,
-        }
-    }
-
-    fn put(&mut self, line: LineNumber, column: Column, mark: Mark<'a>) -> Result<(), AllocError> {
-        self.places.insert((line, column), self.all.len())?;
-        self.all.push(mark)?;
-        Ok(())
-    }
-
-    // Notes what a mention says of its place.
-    fn note(&mut self, at: &MentionAt<'a>) -> Result<(), AllocError> {
-        match at.mention {
-            Mention::Global(column, _, usage) => self.put(at.line, column, Mark::Global(usage)),
-            Mention::Call(column, callee) => self.put(at.line, column, Mark::Call(callee)),
-            Mention::Job(column) => match self.at(at.line, column) {
-                Some(Mark::Call(callee)) => self.put(at.line, column, Mark::Job(callee)),
-                _ => Ok(()),
-            },
-            Mention::Lock(argument) => {
-                for name in argument.names.as_slice() {
-                    self.put(at.line, name.column, Mark::Lock(name))?;
-                }
-                Ok(())
-            }
-            Mention::Begin | Mention::SkippedCall(_) | Mention::Unlock => Ok(()),
-        }
+// What a mention says of a column, where `before` is what the earlier ones say of it.
+fn mark_after<'a>(
+    before: Option<Mark<'a>>,
+    mention: &Mention<'a>,
+    column: Column,
+) -> Option<Mark<'a>> {
+    match mention {
+        Mention::Global(at, _, usage) if *at == column => Some(Mark::Global(*usage)),
+        Mention::Call(at, callee) if *at == column => Some(Mark::Call(*callee)),
+        Mention::Job(at) if *at == column => match before {
+            Some(Mark::Call(callee)) => Some(Mark::Job(callee)),
+            _ => before,
+        },
+        Mention::Lock(argument) => match lock_at(argument.names.as_slice(), column) {
+            Some(name) => Some(Mark::Lock(name)),
+            None => before,
+        },
+        _ => before,
     }
 }
 
-/// The lines of a routine, and what stands at their columns.
+/// The lines of a routine, and what they mention.
 #[derive(Drop)]
 pub(crate) struct RoutineFacts<'a> {
-    /// which of the program's routines it is, counted from 0
+    /// the routine's number in the program, from 0
     pub(crate) number: usize,
     lines: Vec<&'a [u8]>,
-    marks: Marks<'a>,
+    mentions: Vec<MentionAt<'a>>,
 }
 
 fn lines_of(alloc: Global, text: &[u8]) -> Result<Vec<&[u8]>, AllocError> {
@@ -87,7 +66,7 @@ fn lines_of(alloc: Global, text: &[u8]) -> Result<Vec<&[u8]>, AllocError> {
 }
 
 impl<'a> RoutineFacts<'a> {
-    /// Those of the routine of this number.
+    /// The facts of the routine with this number.
     pub(crate) fn of(
         alloc: Global,
         grounds: &Grounds<'a>,
@@ -97,20 +76,18 @@ impl<'a> RoutineFacts<'a> {
             Some(text) => text.as_slice(),
             None => &[],
         };
-        let mut marks = Marks::new(alloc);
-        if let Some(routine) = grounds.program.routines().get(number) {
-            for at in mentions_of(alloc, &[routine])? {
-                marks.note(&at)?;
-            }
-        }
+        let mentions = match grounds.program.routines().get(number) {
+            Some(routine) => mentions_of(alloc, &[routine])?,
+            None => Vec::new(alloc),
+        };
         Ok(RoutineFacts {
             number,
             lines: lines_of(alloc, text)?,
-            marks,
+            mentions,
         })
     }
 
-    /// The line of this number, without its end; nothing where the routine has no such line.
+    /// The line with this number, without its end; empty where the routine has no such line.
     pub(crate) fn line(&self, number: LineNumber) -> &'a [u8] {
         let place = (number.number() as usize).saturating_sub(1);
         match self.lines.as_slice().get(place) {
@@ -119,8 +96,17 @@ impl<'a> RoutineFacts<'a> {
         }
     }
 
-    /// What stands at a place.
+    /// What is at a column of a line, by the last mention of it.
     pub(crate) fn mark(&self, line: LineNumber, column: Column) -> Option<Mark<'a>> {
-        self.marks.at(line, column)
+        let mentions = self.mentions.as_slice();
+        let first = mentions.partition_point(|at| at.line < line);
+        let mut mark = None;
+        for at in mentions.iter().skip(first) {
+            if at.line != line {
+                break;
+            }
+            mark = mark_after(mark, &at.mention, column);
+        }
+        mark
     }
 }

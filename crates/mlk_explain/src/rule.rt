@@ -1,8 +1,10 @@
-// The rules that speak of a fault, as they stand in the rule file.
+// The rules that apply to a fault, as the rule file has them.
 
-use crate::names::{MOST_OF_NAME, global_of, push_front, root_of};
+use crate::line::push_label;
+use crate::names::{push_front, root_of};
+use crate::phrase::{Part, Phrase, push_line};
 use crate::place::Place;
-use mlk_report_text::Piece::{Bytes, Number, Words};
+use mlk_report_text::Piece::{Number, Words};
 use mlk_report_text::push_all;
 use mlk_rules::{Cover, Family, Pattern};
 use mlk_text::{Code, List, Root};
@@ -32,7 +34,7 @@ impl Section {
         }
     }
 
-    // The keys that are shown of its rules, each with what stands before its text.
+    // The keys of its rules that are shown, each after the words before its text.
     fn keys(self) -> &'static [(&'static str, &'static str)] {
         match self {
             Section::Lock => &[(": ", "name")],
@@ -41,8 +43,8 @@ impl Section {
         }
     }
 
-    // Whether its rules ask for what is missing at a fault of this code.
-    fn is_asked_by(self, code: Code) -> bool {
+    // Whether its rules apply to a fault of this code.
+    fn applies_to(self, code: Code) -> bool {
         match self {
             Section::Lock => code == Code::RankOrder,
             Section::Cover => matches!(code, Code::Unruled | Code::Uncovered),
@@ -52,14 +54,14 @@ impl Section {
     }
 }
 
-/// A rule, by its section and its number there, counted from 0.
+/// A rule, by its section and its number there, from 0.
 #[derive(Clone, Copy, Drop)]
 pub(crate) struct RuleAt {
     section: Section,
     number: usize,
 }
 
-/// The table of a rule file; none of a text that is no TOML.
+/// The table of a rule file; none if its text is no TOML.
 #[derive(Drop)]
 pub(crate) struct RuleFile {
     table: Option<Table>,
@@ -87,9 +89,11 @@ impl RuleFile {
     }
 }
 
-// Whether a rule of `section` with this pattern speaks of the fault at `place`.
-fn speaks(section: Section, pattern: &Pattern, place: &Place<'_>) -> bool {
-    section.is_asked_by(place.fault.code) && pattern.global.as_bytes() == global_of(place.name)
+// Whether a rule of `section` with this pattern applies to the fault at `place`.
+fn applies(section: Section, pattern: &Pattern, place: &Place<'_>) -> bool {
+    let root = root_of(place.name);
+    let global = root.strip_prefix(b"^").unwrap_or(root);
+    section.applies_to(place.fault.code) && pattern.global.as_bytes() == global
 }
 
 fn add_patterns(
@@ -99,14 +103,14 @@ fn add_patterns(
     place: &Place<'_>,
 ) -> Result<(), AllocError> {
     for (number, pattern) in patterns.as_slice().iter().enumerate() {
-        if speaks(section, pattern, place) {
+        if applies(section, pattern, place) {
             found.push(RuleAt { section, number })?;
         }
     }
     Ok(())
 }
 
-// Whether a cover asks for one of the locks that are missing, as far as their roots tell.
+// Whether a cover asks for one of the locks that are missing, as far as their roots show.
 fn asks_for(cover: &Cover, mend: &Mend) -> bool {
     let Mend::Locks(terms) = mend else {
         return true;
@@ -123,35 +127,35 @@ fn add_covers(
 ) -> Result<(), AllocError> {
     let section = Section::Cover;
     for (number, cover) in covers.as_slice().iter().enumerate() {
-        if speaks(section, &cover.pattern, place) && asks_for(cover, &place.note.mend) {
+        if applies(section, &cover.pattern, place) && asks_for(cover, &place.note.mend) {
             found.push(RuleAt { section, number })?;
         }
     }
     Ok(())
 }
 
-// Whether this is the root of a name, as it is written in M.
-fn begins(root: &Root, name: &[u8]) -> bool {
+// Whether `written` is this root in M.
+fn is_written(root: &Root, written: &[u8]) -> bool {
     match root {
-        Root::Global(global) => name.strip_prefix(b"^") == Some(global.as_bytes()),
-        Root::Local(local) => name == local.as_bytes(),
+        Root::Global(global) => written.strip_prefix(b"^") == Some(global.as_bytes()),
+        Root::Local(local) => written == local.as_bytes(),
     }
 }
 
-// Adds the families that rank what is claimed, and the held locks that stand in its way.
+// Adds the families that rank what is claimed, and those of the held locks that block it.
 fn add_families(
     found: &mut Vec<RuleAt>,
     families: &[Family],
     place: &Place<'_>,
 ) -> Result<(), AllocError> {
     let section = Section::Lock;
-    if !section.is_asked_by(place.fault.code) {
+    if !section.applies_to(place.fault.code) {
         return Ok(());
     }
     let claimed = root_of(place.name);
     for (number, family) in families.iter().enumerate() {
         let root = &family.name.root;
-        let is_claimed = !place.is_call() && begins(root, claimed);
+        let is_claimed = !place.is_call() && is_written(root, claimed);
         if is_claimed || place.is_blocked_by(root) {
             found.push(RuleAt { section, number })?;
         }
@@ -159,9 +163,9 @@ fn add_families(
     Ok(())
 }
 
-/// The rules that speak of the fault at `place`.
-pub(crate) fn rules_for(place: &Place<'_>) -> Result<Vec<RuleAt>, AllocError> {
-    let mut found = Vec::new(place.alloc);
+/// The rules that apply to the fault at `place`.
+pub(crate) fn rules_for(alloc: Global, place: &Place<'_>) -> Result<Vec<RuleAt>, AllocError> {
+    let mut found = Vec::new(alloc);
     let rules = place.grounds.rules;
     let lists = rules.lists();
     add_covers(&mut found, &lists.covers, place)?;
@@ -171,73 +175,61 @@ pub(crate) fn rules_for(place: &Place<'_>) -> Result<Vec<RuleAt>, AllocError> {
     Ok(found)
 }
 
-// Appends a part of a rule's text, where it has one, after `before`; a long one is cut.
-fn push_part(text: &mut Vec<u8>, before: &str, part: Option<&[u8]>) -> Result<(), AllocError> {
-    let Some(part) = part else {
-        return Ok(());
-    };
-    text.extend_from_slice(before.as_bytes())?;
-    push_front(text, part)?;
-    let end = if part.len() > MOST_OF_NAME { ".." } else { "" };
-    text.extend_from_slice(end.as_bytes())
-}
-
-// Appends the rank of the family of this number.
-fn push_rank(text: &mut Vec<u8>, families: &[Family], number: usize) -> Result<(), AllocError> {
-    match families.get(number) {
-        Some(family) => {
-            let rank = Number(family.rank as usize);
-            push_all(text, &[Words(" has rank "), rank])
-        }
-        None => Ok(()),
-    }
-}
-
-// `SECTION NUMBER: ..`, and the rank of a lock.
-fn rule_text(rule_file: &RuleFile, rule: RuleAt, place: &Place<'_>) -> Result<Vec<u8>, AllocError> {
+// Appends `SECTION NUMBER`, the texts of the rule's keys, and the rank of a lock.
+fn push_rule(
+    text: &mut Vec<u8>,
+    place: &Place<'_>,
+    rule_file: &RuleFile,
+    rule: RuleAt,
+) -> Result<(), AllocError> {
     let section = rule.section;
     let number = Number(rule.number.saturating_add(1));
-    let mut text = place.text(&[Words(section.word()), Words(" "), number])?;
+    push_all(text, &[Words(section.word()), Words(" "), number])?;
     for (before, key) in section.keys() {
-        push_part(&mut text, *before, rule_file.text(rule, *key))?;
+        if let Some(part) = rule_file.text(rule, *key) {
+            text.extend_from_slice(before.as_bytes())?;
+            push_front(text, part)?;
+        }
     }
-    if let Section::Lock = section {
-        push_rank(&mut text, place.grounds.rules.families(), rule.number)?;
+    match (section, place.grounds.rules.families().get(rule.number)) {
+        (Section::Lock, Some(family)) => push_all(
+            text,
+            &[Words(" has rank "), Number(family.rank as usize)],
+        ),
+        _ => Ok(()),
     }
-    Ok(text)
 }
 
-// Adds that no rule speaks of what stands at a fault, where one should.
-fn add_none(texts: &mut Vec<Vec<u8>>, place: &Place<'_>) -> Result<(), AllocError> {
-    let said = match place.fault.code {
-        Code::Unruled => "none is for ",
-        Code::Unranked => "no lock rule ranks ",
-        _ => return Ok(()),
-    };
-    texts.push(place.text(&[Words(said), Bytes(root_of(place.name))])?)?;
-    Ok(())
+// What is said after the rules that apply, or where there is none though one should.
+fn last_phrase(code: Code, has_rule: bool) -> Phrase {
+    match (code, has_rule) {
+        (Code::Unruled, false) => &[Part::Words("none is for "), Part::Root],
+        (Code::Unranked, false) => &[Part::Words("no lock rule ranks "), Part::Root],
+        (Code::RankOrder, true) => &[Part::Words(
+            "a claim without a timeout is of a higher rank than all that is held",
+        )],
+        _ => &[],
+    }
 }
 
-/// What `rules` say of the fault at `place`: a text for each, of many for the first few, or one that there is none.
-pub(crate) fn rule_texts(
+/// Appends a line for each of the first few of `rules`, and what is said after them.
+pub(crate) fn push_rules(
+    text: &mut Vec<u8>,
+    place: &Place<'_>,
     rule_file: &RuleFile,
     rules: &[RuleAt],
-    place: &Place<'_>,
-) -> Result<Vec<Vec<u8>>, AllocError> {
-    let mut texts = Vec::new(place.alloc);
-    if rules.is_empty() {
-        add_none(&mut texts, place)?;
-        return Ok(texts);
-    }
+) -> Result<(), AllocError> {
     for rule in rules.iter().take(MOST_RULES) {
-        texts.push(rule_text(rule_file, *rule, place)?)?;
+        push_label(text, place, "rule")?;
+        push_rule(text, place, rule_file, *rule)?;
+        text.push(b'\n')?;
     }
     if rules.len() > MOST_RULES {
-        texts.push(place.words("and others of it")?)?;
+        push_line(text, place, "rule", &[Part::Words("and others of it")])?;
     }
-    if place.fault.code == Code::RankOrder {
-        let law = "a claim without a timeout is of a higher rank than all that is held";
-        texts.push(place.words(law)?)?;
+    let last = last_phrase(place.fault.code, !rules.is_empty());
+    if last.is_empty() {
+        return Ok(());
     }
-    Ok(texts)
+    push_line(text, place, "rule", last)
 }
