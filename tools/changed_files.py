@@ -1,4 +1,4 @@
-"""Trials of hostile.py with changed files: each byte of small examples in turn. What is compared with what stands there."""
+"""Trials of hostile.py with changed files: each byte of small examples in turn. What is compared with the original."""
 import collections
 import functools
 import re

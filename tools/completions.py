@@ -22,7 +22,7 @@ def takes_value(words):
 
 
 def name_of(words):
-    """An option as it is given, without what stands for its value."""
+    """An option as it is given, without the name of its value."""
     return words.split()[0]
 
 
@@ -45,7 +45,7 @@ def bash(whole):
     return f'''{MADE}
 _mlock() {{
     local word=${{COMP_WORDS[COMP_CWORD]}} before=${{COMP_WORDS[COMP_CWORD - 1]}} words=
-    # (what stands around a `=` are words of their own)
+    # (what is around a `=` are words of their own)
     if [ "$word" = "=" ]; then word=; fi
     if [ "$before" = "=" ]; then before=${{COMP_WORDS[COMP_CWORD - 2]}}; fi
     COMPREPLY=()

@@ -1,6 +1,6 @@
-"""Extreme input for hostile.py: what stands on either side of each limit of docs/guide/LIMITS.md, and long and deep input.
+"""Extreme input for hostile.py: what is on either side of each limit of docs/guide/LIMITS.md, and long and deep input.
 
-An extreme is made when it is tried. What is expected of it stands in docs/guide: in LIMITS.md, and of the places of refusals in
+An extreme is made when it is tried. What is expected of it is in docs/guide: in LIMITS.md, and of the places of refusals in
 CODES.md and CERTIFICATE.md. Those that take more than some seconds are long: they are tried with --all alone. Two kinds have a
 larger stack: lines of 255 FORs or more, each of which takes more than 1 KB of it, and command lines that are longer than a
 small stack holds.
@@ -24,7 +24,7 @@ ENTRY = b'[[entry]]\nlabel = "^R"\n'
 
 
 class Extreme(typing.NamedTuple):
-    """What is given to the program, the files by their names, and its answer, or what tells what is wrong with it."""
+    """What is given to the program, the files by their names, and its answer, or what says what is wrong with it."""
 
     said: str
     words: list
@@ -145,7 +145,7 @@ def long():
     set_local = b' SET X=1\n'
     yield walked('an entry of 65,535 lines', b' LOCK +^A\n' + b' SET ^A(1)=1\n' * 65_533 + b' LOCK -^A QUIT\n')
     yield walked('an entry of 65,535 faults', b' SET:X ^A(1)=1\n' * 65_535,
-                 lambda it: None if it.out.endswith('\nno 65535\n') else 'not each line is told')
+                 lambda it: None if it.out.endswith('\nno 65535\n') else 'not each line is reported')
     yield walked('a certificate of 65,535 lines', set_local * 65_535,
                  lambda it: second_looks.form(it, second_looks.is_certificate), 'make')
     text = b' LOCK +^A("%s")\n' % (b'x' * 1100) + set_local * 65_000

@@ -60,7 +60,7 @@ def items(text):
 
 
 def parts(text):
-    """What stands before `Usage:`, and what stands below each title from there on."""
+    """What comes before `Usage:`, and what is below each title from there on."""
     before, *rest = re.split(r'^(Usage|Commands|Arguments|Options):', text, flags=re.MULTILINE)
     return before, dict(zip(rest[::2], rest[1::2]))
 

@@ -17,16 +17,16 @@ changed: each byte of small examples in turn, made each of some other bytes, lef
   A routine: it is read, or refused, as bench/second_routine_reader.py reads it. The report is the same by one worker and by
     four, that of `verify` is that of `check` by what `make` prints, and where the old certificate still gives `yes` so does
     `verify`; then two jobs are replayed by some schedules, each as far as it can happen, and nothing is seen that a `yes`
-    rules out: no clash, no ring, no lock of a job that ended. How often they see that where the answer is no `yes`, is told.
-  A rule file: 401 is told just where Python's reader refuses it as TOML (where Python has one), the answer is the old one
+    rules out: no clash, no ring, no lock of a job that ended. How often they see that where the answer is no `yes`, is printed.
+  A rule file: 401 is reported just where Python's reader refuses it as TOML (where Python has one), the answer is the old one
     where both files say the same, and a `yes` is replayed as above.
-  A file of events: 504 is told of just the first line that is none by second_looks.py; and which clash, who waits and whether
+  A file of events: 504 is reported of just the first line that is none by second_looks.py; and which clash, who waits and whether
     there is a ring is what second_looks.py makes of the printed lines of jobs.
-extremes: what stands on either side of a limit of docs/guide/LIMITS.md, and long and deep input.
-unread: for each path of a command line, a file that is not there, a folder and the like: the first such path is told.
+extremes: what is on either side of a limit of docs/guide/LIMITS.md, and long and deep input.
+unread: for each path of a command line, a file that is not there, a folder and the like: the first such path is reported.
 
 With --all it tries what takes longer, too. The last two lines say how many changed files still are `yes`, and how many trials
-passed; the command of each that failed stands above.
+passed; the command of each that failed is above.
 """
 import argparse
 import collections
@@ -68,7 +68,7 @@ def torn(all):
 
 
 def with_points(text):
-    """A certificate of the first format with a point more: past all lines, in each block, or of a FOR that the line lacks."""
+    """A certificate of the first format with a point more: past all lines, in each block, or of a FOR that the line does not have."""
     lines = text.splitlines(True)
     case = next(it.split(b' ', 2)[2] for it in lines if it.startswith(b'at '))
     for n, (line, after) in enumerate(zip(lines, lines[1:]), 1):

@@ -31,7 +31,7 @@ def literal(text):
 
 
 def prose(text):
-    """A paragraph for roff, a sentence a line: what stands in backquotes is bold, and so are options."""
+    """A paragraph for roff, a sentence a line: what is in backquotes is bold, and so are options."""
     found = []
     for index, part in enumerate(text.split('`')):
         if index % 2:
@@ -45,7 +45,7 @@ def prose(text):
 
 
 def words_of(text):
-    """Words of a command line for roff: options are bold, and what stands for something is in italics."""
+    """Words of a command line for roff: options are bold, and names of values are in italics."""
     text = re.sub(r'<([A-Z]+)>(\.\.\.)?', lambda it: fr'<{it[1]}> {it[2]}' if it[2] else it[0], text)
     found = re.split(r'(<[A-Z]+>|--?[A-Za-z]+)', text)
     kinds = {'<': lambda it: fr'\fI{it[1:-1]}\fR', '-': lambda it: fr'\fB{literal(it)}\fR'}
@@ -117,10 +117,10 @@ def differing(made):
     """Prints how the files differ from what is made, and gives which do."""
     found = []
     for name, text in made.items():
-        stands = (TOP / name).read_text() if (TOP / name).exists() else ''
-        if stands != text:
+        found = (TOP / name).read_text() if (TOP / name).exists() else ''
+        if found != text:
             found.append(name)
-            print(*difflib.unified_diff(stands.split('\n'), text.split('\n'), name, 'what --help says', n=0, lineterm=''), sep='\n')
+            print(*difflib.unified_diff(found.split('\n'), text.split('\n'), name, 'what --help says', n=0, lineterm=''), sep='\n')
     return found
 
 

@@ -38,7 +38,7 @@ def is_report(text):
 
 
 def form(answer, is_text=lambda text: text == 'yes\n'):
-    """What is wrong with an answer to any input, whatever it says; `is_text` tells what is printed with status 0."""
+    """What is wrong with an answer to any input, whatever it says; `is_text` says what is printed with status 0."""
     status, out, error = answer
     if status == 0:
         return None if is_text(out) and not error else 'no such text goes with status 0'

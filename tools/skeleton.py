@@ -3,7 +3,7 @@
 
     skeleton.py FOLDER CRATE..
 
-The crates that are named stand in it whole, and so do those at the bottom. Of the other crates below them it has the types,
+The crates that are named are in it whole, and so do those at the bottom. Of the other crates below them it has the types,
 the definitions in specs/ and the lemma files that are cited, and no function: nothing has to be proved of code there. A first
 `rt check` in a crate of the skeleton takes some ten minutes where it takes more than an hour in the repository; after an edit,
 seconds. A second run over the same folder changes only what differs. What is proved there is proved of the definitions; the
@@ -28,13 +28,13 @@ ITEM = re.compile(r'(?m)^(?:///[^\n]*\n|#\[[^\n]*\]\n)*' + VISIBLE + r'(?:unsafe
 
 
 def crates():
-    """The crates, each with those on which it stands."""
+    """The crates, each with those that it needs."""
     lines = (line.partition(':') for line in (TOP / 'crates.txt').read_text().splitlines() if line.strip())
     return {head.split()[0]: rest.split() for head, _, rest in lines}
 
 
 def below(named, stand):
-    """The crates named, and all on which they stand."""
+    """The crates named, and all that they need."""
     found, left = [], list(named)
     while left:
         name = left.pop()

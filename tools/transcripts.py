@@ -3,8 +3,8 @@
 
     transcripts.py PROGRAM
 
-A transcript stands in README.md or below docs/ between lines of three backquotes. A line that begins with `$ ` is a
-command for the shell, run where examples/ stands, with `./mlock` as PROGRAM; the lines after it, up to the next command
+A transcript is in README.md or below docs/ between lines of three backquotes. A line that begins with `$ ` is a
+command for the shell, run in the folder of examples/, with `./mlock` as PROGRAM; the lines after it, up to the next command
 or the end, are what it prints on standard output and standard error. Each transcript begins with examples/ as it is in
 the repository, so that a document may show how to change a routine. Text before the first command is no transcript.
 """

@@ -1,4 +1,4 @@
-"""What the trials of hostile.py stand on: examples, a room in which the program is run, and what is asked of its answers."""
+"""What the trials of hostile.py use: examples, a room in which the program is run, and what is asked of its answers."""
 import pathlib
 import subprocess
 import tempfile

@@ -9,7 +9,7 @@ use std::io::{self, ErrorKind, Read};
 /// The longest file that is read, in bytes: 128 MiB.
 pub const LONGEST_FILE: usize = 128 << 20;
 
-// One byte more, which tells a longer file.
+// One byte more, which shows that a file is longer.
 const TOO_LONG: u64 = (128 << 20) + 1;
 
 /// All bytes that a reader has, where there are at most `LONGEST_FILE`; else a fault of the kind `FileTooLarge`.

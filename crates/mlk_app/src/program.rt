@@ -46,16 +46,16 @@ const FAILED: u8 = 3;
 enum Answer {
     /// The text of a report, of a certificate, of jobs or of a survey, and the status that it ends with.
     Report(ReportText, u8),
-    /// The line that tells why the input is refused, and what is printed beside it, where a form is asked for.
+    /// The line that says why the input is refused, and what is printed beside it, if a form is asked for.
     Refused(ReportText, Option<ReportText>),
-    /// The line that tells which file can't be read.
+    /// The line that says which file can't be read.
     Unread(ReportText),
     /// `clap`'s text, where the words ask for nothing.
     Usage(String),
     OutOfMemory,
 }
 
-// How the report of what is asked for is told.
+// The style of the report that is asked for.
 fn style_in(asked: &Asked<'_>) -> ReportStyle
     ensures { result ≡ style_in asked.now }
 {
@@ -371,7 +371,7 @@ fn say<O: Write, E: Write>(answer: &Answer, out: &mut O, err: &mut E) -> u8
     }
 }
 
-/// Says that the words could not be had, and answers the status: 3 for want of memory, 2 for a word that is no UTF-8.
+/// Says that the words could not be had, and answers the status: 3 if memory ran out, 2 for a word that is no UTF-8.
 pub fn wrong_words<E: Write>(error: &io::Error, err: &mut E) -> u8
     ensures memory { error_kind error.now ≡ ErrorKind.OutOfMemory → result ≡ 3 }
     ensures word { error_kind error.now ≢ ErrorKind.OutOfMemory → result ≡ 2 }
@@ -383,9 +383,9 @@ pub fn wrong_words<E: Write>(error: &io::Error, err: &mut E) -> u8
     REFUSED
 }
 
-/// Does what the words ask for, of which the first is the program's name, and answers the status: 0 for `yes`,
-/// a certificate, jobs or a survey, 1 for `no` and for a hazard that is told strictly, 2 for refused input, 3 for want of
-/// memory or a file that can't be read or written.
+/// Does what the words ask for, after the first, which is the program's name, and answers the status: 0 for `yes`,
+/// a certificate, jobs or a survey, 1 for `no` and, with `--strict`, for a hazard, 2 for refused input, 3 if memory runs
+/// out or for a file that can't be read or written.
 ///
 /// The texts of routines are read side by side, by these threads, and the lines of entries are walked so by the workers that
 /// the words ask for. Reports go to `out`, and so does the JSON or SARIF of a refusal; all else goes to `err`. A fault of
@@ -403,8 +403,7 @@ pub fn run<R: Threads + Wait + Sync, F: Files, O: Write, E: Write>(
     run_watched(rt, alloc, words, files, &Unwatched, out, err)
 }
 
-/// Does what `run` does, and tells how far it has come as it goes. Before anything is written, it tells that it is at its
-/// end.
+/// Does what `run` does, and shows `watch` how far it has come. Before anything is written, it says that it is at its end.
 pub fn run_watched<R: Threads + Wait + Sync, F: Files, W: Watch, O: Write, E: Write>(
     rt: &R,
     alloc: Global,

@@ -23,7 +23,7 @@ pub fn notice_told(
     }
 }
 
-/// A text of lines, of which the last is given its end.
+/// A text of lines, with an end after the last.
 pub(crate) fn with_end(text: String) -> Result<ReportText, AllocError> {
     let mut bytes = text.into_bytes();
     bytes.push(b'\n')?;

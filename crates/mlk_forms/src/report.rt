@@ -21,11 +21,11 @@ use std::alloc::{AllocError, Global};
 #[derive(Drop)]
 pub struct ToldReport {
     pub text: ReportText,
-    /// whether there is no fault, and no hazard where these are told
+    /// whether there is no fault, and no hazard if these are reported
     pub passes: bool,
 }
 
-// The hazards that are told: none, unless they are asked for.
+// The hazards that are reported: none, unless they are asked for.
 fn told_hazards<'a>(
     alloc: Global,
     routines: &'a [Routine],
@@ -121,7 +121,7 @@ fn text_in(
     Ok(text)
 }
 
-// The text in the style that is asked for. Where grounds are lacking nothing is explained.
+// The text in the style that is asked for. Without grounds nothing is explained.
 fn styled_text(
     alloc: Global,
     inputs: &Inputs<'_>,
@@ -144,7 +144,7 @@ fn passes(report: &Report, hazards: &[HazardAt<'_>]) -> bool
     report.rows().is_empty() && hazards.is_empty()
 }
 
-/// A report in the style that is asked for, and whether it passes. Explanations need grounds; without them it is told as if
+/// A report in the style that is asked for, and whether it passes. Explanations need grounds; without them it is written as if
 /// none were asked for.
 pub fn report_told(
     alloc: Global,

@@ -57,7 +57,7 @@ fn answers_told(
 }
 
 /// What is found in the texts of routines. They are read side by side, each by itself: one that is refused is counted and
-/// told, and hides nothing of the others.
+/// reported, and hides nothing of the others.
 pub fn survey_told<R: Threads + Sync, W: Watch>(
     rt: &R,
     alloc: Global,

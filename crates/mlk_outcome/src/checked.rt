@@ -61,7 +61,7 @@ impl From<Failure<EventsFault>> for NoReport {
 pub(crate) enum WantedTask {
     /// a certificate is made, and its text has this format
     Make { format: CertFormat },
-    /// the check by the certificate that is made, and by so many workers
+    /// the check by the certificate that is made, by this number of workers
     Verify { workers: u32 },
     /// the events of this text are replayed
     Replay(Vec<u8>),
@@ -130,7 +130,7 @@ fn report_of<R: Threads + Wait + Sync, W: Watch>(
     report_by_certificate(rt, alloc, program, rules, &made.certificate, workers, watch)
 }
 
-// What is told where the maker gave up.
+// What is reported where the maker gave up.
 fn stuck(alloc: Global, program: &Program<'_>, place: GaveUp) -> NoReport
     ensures { IsStuck place result }
 {
@@ -293,7 +293,7 @@ fn verified<R: Threads + Wait + Sync, W: Watch>(
 }
 
 /// What texts come to, or the first refusal: of the routines in order, of their linking, of the rules, of the
-/// certificate, or of its making, of an entry that the routines lack, and of the number of workers; of events after that
+/// certificate, or of its making, of an entry that is not in the routines, and of the number of workers; of events after that
 /// entry.
 pub fn check_texts<R: Threads + Wait + Sync, W: Watch>(
     rt: &R,

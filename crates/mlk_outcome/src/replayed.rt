@@ -14,7 +14,7 @@ use mlk_rules::{Rules, entries};
 use mlk_text::Value;
 use std::alloc::Global;
 
-// What is told of an entry that the routines lack.
+// What is reported of an entry that is not in the routines.
 fn lacks(alloc: Global, entry: &[u8]) -> NoReport
     ensures { TellsEntry entry.now result }
 {

@@ -63,7 +63,7 @@ fn hazards_value(
 }
 
 /// A report as one JSON object, on lines with indents: `answer`, which is `yes` or `no`, `faults`, in their order, and
-/// `hazards`, where these are told.
+/// `hazards`, if these are reported.
 pub fn report_json(
     alloc: Global,
     inputs: &Inputs<'_>,

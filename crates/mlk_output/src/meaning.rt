@@ -3,7 +3,7 @@
 use mlk_hazards::Hazard;
 use mlk_text::Code;
 
-/// What mends a fault that the walk tells, for those who have no manual at hand.
+/// What mends a fault that the walk reports, for those who have no manual at hand.
 #[derive(Clone, Copy, Drop)]
 pub(crate) struct Mending {
     pub(crate) code: Code,

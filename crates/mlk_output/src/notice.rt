@@ -1,4 +1,4 @@
-// What is told where there is no report.
+// What is printed where there is no report.
 
 use mlk_text::{Code, Column, LineNumber};
 
@@ -8,7 +8,7 @@ pub struct Place<'a> {
     /// the file's path, as the command line has it
     pub path: &'a str,
     pub line: LineNumber,
-    /// the column, where one is told
+    /// the column, if one is known
     pub column: Option<Column>,
 }
 
@@ -16,7 +16,7 @@ pub struct Place<'a> {
 #[derive(Clone, Copy, Drop)]
 pub struct Notice<'a> {
     pub code: Code,
-    /// the line that the program tells on the error stream, without its end
+    /// the line that the program writes to the error stream, without its end
     pub line: &'a [u8],
     pub place: Option<Place<'a>>,
 }

@@ -1,4 +1,4 @@
-// A row of a report, as it is told to other programs.
+// A row of a report, as it is written for other programs.
 
 use mlk_program::EntryId;
 use mlk_report_text::Piece::{Bytes, Words};

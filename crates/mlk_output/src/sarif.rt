@@ -223,7 +223,7 @@ fn document(
     .to_string_pretty(alloc)
 }
 
-/// A report as SARIF: a result for each fault, in their order, and one for each hazard, where these are told.
+/// A report as SARIF: a result for each fault, in their order, and one for each hazard, if these are reported.
 pub fn report_sarif(
     alloc: Global,
     inputs: &Inputs<'_>,
@@ -252,7 +252,7 @@ fn places_value(alloc: Global, place: &Option<Place<'_>>) -> Result<Value, Alloc
     json!(in alloc; [{"physicalLocation": physical}])
 }
 
-/// A refusal as SARIF: a run without results, which tells why there are none.
+/// A refusal as SARIF: a run without results, which says why there are none.
 pub fn notice_sarif(alloc: Global, notice: &Notice<'_>) -> Result<String, AllocError> {
     let id = text_of(alloc, &[Number(usize::from(notice.code.number()))])?;
     let descriptor = member(alloc, "id", Field::Made(id))?;

@@ -24,7 +24,7 @@ pub enum Outcome {
     Shut,
 }
 
-/// What stands at a task: nothing yet, the worker that claimed it, or what that worker posted.
+/// The state of a task: nothing yet, the worker that claimed it, or what that worker posted.
 #[derive(Drop)]
 pub enum Slot {
     Open,
@@ -65,8 +65,8 @@ impl<N: Inputs> Claim<N> {
     }
 }
 
-/// The tasks of a run, what stands at each, and the claims and posts so far. The log is a history in which each claim is of
-/// the least task not yet claimed and each post is of a task that its worker had claimed; the slots stand as it leaves them;
+/// The tasks of a run, the state of each, and the claims and posts so far. The log is a history in which each claim is of
+/// the least task not yet claimed and each post is of a task that its worker had claimed; the slots are as it leaves them;
 /// and each verdict that was posted is that of its task.
 #[derive(Drop)]
 pub struct Board<N: Inputs> {
@@ -202,7 +202,7 @@ impl<N: Inputs> Board<N> {
         self.tasks.len()
     }
 
-    /// What stands at each task, once the board is no longer shared.
+    /// The state of each task, once the board is no longer shared.
     pub(crate) fn into_slots(self) -> Vec<Slot>
         ensures { AllZip (IsSlotOf N.given) (tasks_of N.given) result.items }
     {

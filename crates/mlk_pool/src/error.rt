@@ -18,7 +18,7 @@ pub enum CheckError {
     Routine(Fault),
     Rules(RulesFault),
     Certificate(CertFault),
-    /// an entry of the rules, or of the certificate, that the program lacks: its text
+    /// an entry of the rules, or of the certificate, that is not in the program: its text
     Entry(Value),
     /// There are no workers, or more than 64.
     Workers,
@@ -79,7 +79,7 @@ impl From<Failure<PoolFault>> for CheckError {
     }
 }
 
-/// What is told of an entry that the program lacks.
+/// What is reported of an entry that is not in the program.
 pub(crate) fn lacks(alloc: Global, entry: &[u8]) -> CheckError
     ensures { TellsEntry entry.now result }
 {

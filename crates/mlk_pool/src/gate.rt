@@ -2,7 +2,7 @@
 
 ghost use Rattle.std.specs.Prelude.{IsTrue};
 
-/// What a worker asks before it walks a task, and tells once it has posted it. Tasks and workers are counted from 0.
+/// What a worker asks before it walks a task, and notifies once it has posted it. Tasks and workers are counted from 0.
 pub trait Gate {
     /// An open gate lets every worker pass.
     ghost is_open: { Self → Type 0 };

@@ -18,7 +18,7 @@ use std::thread::Threads;
 // How many texts are read at once, so that it is seen how far the reading has come, and that it ends where one is refused.
 const AT_ONCE: usize = 256;
 
-// The texts that are read at once after so many.
+// The texts that are read at once after this number of them.
 fn next_texts<'s, 'a>(sources: &'s [Source<'a>], done: usize) -> &'s [Source<'a>]
     requires { done < length sources.now }
     ensures cut { (after : List Source) × (result.now ++ after ≡ drop done sources.now) }

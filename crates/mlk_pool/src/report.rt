@@ -42,7 +42,7 @@ pub enum PoolFault {
 /// The largest number of workers.
 pub const MOST_WORKERS: usize = 64;
 
-// Adds the rows of an entry after all workers have ended, where it is a task with what stands at it: by the verdict that was
+// Adds the rows of an entry after all workers have ended, where it is a task by what is at it: by the verdict that was
 // posted, else by a walk on the caller's thread. Where the gate was shut it is asked once more.
 #[tactic(auto, using(crate::proofs::Runs::verdict_given))]
 fn settle<N: Inputs, G: Gate>(
@@ -77,7 +77,7 @@ fn is_checked(known: &Entries<'_>, entry: EntryId) -> bool
     is_certified(known, entry) || known.is_declared(entry)
 }
 
-// What stands at an entry's task, where it is one, and the slots of the later tasks.
+// What is at an entry's task, where it is one, and the slots of the later tasks.
 fn next_slot<'a>(
     known: &Entries<'_>,
     entry: EntryId,
@@ -185,7 +185,7 @@ fn report_on<N: Inputs + Send + Sync, G: Gate + Sync, W: Watch, R: Threads + Wai
     report_with::<N, G, W, R>(rt, alloc, &checks, workers, gate, watch)
 }
 
-/// What `report_by` reports, and how far the work has come is told as it goes.
+/// What `report_by` reports; `watch` is shown how far the work has come.
 pub(crate) fn report_watched<G: Gate + Sync, W: Watch, R: Threads + Wait + Sync>(
     rt: &R,
     alloc: Global,

@@ -109,7 +109,7 @@ fn rows_of_routines<G: Gate + Sync, W: Watch, R: Threads + Wait + Sync>(
     rows
 }
 
-/// Does what `verify` does, and tells how far it has come as it goes.
+/// Does what `verify` does, and shows `watch` how far it has come.
 pub fn verify_watched<G: Gate + Sync, W: Watch, R: Threads + Wait + Sync>(
     rt: &R,
     alloc: Global,
@@ -147,12 +147,12 @@ pub fn verify_watched<G: Gate + Sync, W: Watch, R: Threads + Wait + Sync>(
 /// certificate. The texts of routines are read side by side, and 1 to 64 workers check the entries side by side; the report
 /// is the same for every number of them.
 ///
-/// Where it has no row, in every run of any number of jobs begun at the declared entries no two jobs stand ready at
-/// references that overlap and of which one writes, no job that ended by itself holds a lock, and no jobs wait for each
+/// Where it has no row, in every run of any number of jobs begun at the declared entries no two jobs are ready to
+/// touch references that overlap, one of which writes, no job that ended by itself holds a lock, and no jobs wait for each
 /// other's locks in a ring.
 ///
-/// The first refusal is told: of the routines in order, of their linking, of the rules, of the certificate, of an entry
-/// that the program lacks, of the number of workers, or of the first task that the gate lets nobody walk.
+/// The first refusal is reported: of the routines in order, of their linking, of the rules, of the certificate, of an entry
+/// that is not in the program, of the number of workers, or of the first task that the gate lets nobody walk.
 pub fn verify<G: Gate + Sync, R: Threads + Wait + Sync>(
     rt: &R,
     alloc: Global,

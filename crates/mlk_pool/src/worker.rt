@@ -46,8 +46,8 @@ struct Worker {
     depth: u32,
 }
 
-// Claims, asks the gate, walks, posts and tells the gate, until no task is left to claim. As tasks are claimed in their
-// order, the number of each tells how many all workers together have claimed before it.
+// Claims, asks the gate, walks, posts and notifies the gate, until no task is left to claim. As tasks are claimed in their
+// order, the number of each says how many all workers together have claimed before it.
 fn work_on<N: Inputs, G: Gate, W: Watch, P: Pieces + Sync, R: Threads + Wait + Sync>(
     rt: &R,
     alloc: Global,
@@ -79,7 +79,7 @@ fn work_on<N: Inputs, G: Gate, W: Watch, P: Pieces + Sync, R: Threads + Wait + S
     }
 }
 
-/// What one worker does: it claims, asks the gate, walks, posts and tells the gate, until no task is left to claim. It walks an
+/// What one worker does: it claims, asks the gate, walks, posts and notifies the gate, until no task is left to claim. It walks an
 /// entry's lines in parts, side by side, as `check_entry_split` does. Where there is no memory for the tables of the
 /// certificate's entries, it claims nothing.
 #[tactic(auto, using(crate::proofs::Runs::known_inputs))]
@@ -114,7 +114,7 @@ pub fn work<N: Inputs, G: Gate, P: Pieces + Sync, R: Threads + Wait + Sync>(
     work_on(rt, alloc, &checks, board, gate, &Unwatched, worker, pieces);
 }
 
-/// Lets so many workers run, each of which walks an entry's lines in parts, cut so deep, and waits for them. The caller's thread
+/// Lets `workers` workers run, each of which walks an entry's lines in parts, cut `depth` times, and waits for them. The caller's thread
 /// is worker 0, and it alone is watched; a thread that can't be started is left out, and the others do what it would have done.
 pub(crate) fn run_workers<
     'x,

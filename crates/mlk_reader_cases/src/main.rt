@@ -45,7 +45,7 @@ fn digit(byte: u8) -> u8
     }
 }
 
-// Adds what stands after a `\`.
+// Adds what comes after a `\`.
 fn add_coded(text: &mut Vec<u8>, piece: &[u8]) -> Result<(), AllocError> {
     match piece {
         [high, low, rest @ ..] => {

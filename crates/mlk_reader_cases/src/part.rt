@@ -25,7 +25,7 @@ fn end<T: Drop>(read: Read<T>) -> Result<usize, Failure<Fault>> {
     }
 }
 
-// Where the reader of this name stops, which reads where not everything may stand.
+// Where the reader of this name stops, which reads where not everything is allowed.
 fn end_of_less(
     alloc: Global,
     reader: &[u8],
@@ -161,7 +161,7 @@ fn answer_text(
     write_answer(alloc, reader, text.as_slice(), at, out)
 }
 
-/// Adds what is answered to a part of an expression, which stands after its place.
+/// Adds what is answered to a part of an expression, which comes after its place.
 pub(crate) fn answer_part(
     alloc: Global,
     reader: &[u8],

@@ -44,7 +44,7 @@ pub(crate) fn reference(
     })
 }
 
-/// The term of these words, none of which is any value.
+/// The term of these words; none of them denotes any value.
 pub(crate) fn term(alloc: Global, words: Words<'_>) -> Result<LockTerm, AllocError> {
     let mut subs: Vec<KnownSym> = Vec::new(alloc);
     for word in words.iter().skip(1) {

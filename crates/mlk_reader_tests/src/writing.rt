@@ -39,7 +39,7 @@ fn a_writers_fault_is_told(rt: HostRuntime) {
     assert!(rt; fails(rt.alloc()));
 }
 
-// A case with so many signs of open blocks.
+// A case with this number of signs of open blocks.
 fn long_case(alloc: Global, signs: usize) -> Result<Case, AllocError> {
     let mut saved = Vec::new(alloc);
     saved.resize(signs, Test::Any)?;
@@ -62,14 +62,14 @@ fn long_block(alloc: Global, signs: usize) -> Result<EntryCert, AllocError> {
     block_with(alloc, points)
 }
 
-// A certificate with so many signs.
+// A certificate with this number of signs.
 fn long_certificate(alloc: Global, signs: usize) -> Result<Certificate, Failure<Vec<EntryCert>>> {
     let mut blocks = Vec::new(alloc);
     blocks.push(long_block(alloc, signs)?)?;
     certificate_of(alloc, blocks)
 }
 
-// How many bytes are written, and the number and the line that are told.
+// How many bytes are written, and the number and the line that are reported.
 fn written_of(alloc: Global, certificate: &Certificate) -> (usize, u16, u32) {
     let mut text: Vec<u8> = Vec::new(alloc);
     match write_cert(alloc, certificate, &mut text) {

@@ -6,10 +6,10 @@ use std::io::IsTerminal;
 use std::mem::forget;
 use std::time::{Duration, Instant};
 
-// Work that takes fewer milliseconds is not told of.
+// Work that takes fewer milliseconds is not shown.
 const FIRST_SHOWN: u64 = 500;
 
-// The line is written anew after so many milliseconds at the soonest.
+// The line is written anew after this number of milliseconds at the soonest.
 const NEXT_SHOWN: u64 = 100;
 
 /// Shows on the error stream how far work has come, in one line that is written over and taken away at the end; nothing
@@ -79,7 +79,7 @@ impl Watch for Progress<'_> {
     }
 }
 
-// The moment so many milliseconds later than now, where the clock tells.
+// The moment this number of milliseconds later than now, if there is a clock.
 fn moment_after(rt: &HostRuntime, wait: u64) -> Option<Instant> {
     let Ok(now) = Instant::now(rt) else {
         return None;

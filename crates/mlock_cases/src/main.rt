@@ -1,9 +1,9 @@
-//! Runs command lines of `mlock` over files that stand beside them in one text, and prints what each answers.
+//! Runs command lines of `mlock` over files given beside them in one text, and prints what each answers.
 //!
-//! The text comes on standard input. What stands before the first line that begins with `== ` is a comment. Such a line has
+//! The text comes on standard input. What comes before the first line that begins with `== ` is a comment. Such a line has
 //! the words of a command line, in which `~` is a space; lines right below it may say what it shows. The files that it reads
 //! come after it, each after a line of `-- ` and its name. A file's bytes are the lines up to the next such line. For each
-//! command line its words are printed and what it shows, then what it prints, then what it tells on the error stream, then
+//! command line its words are printed and what it shows, then what it prints, then what it writes to the error stream, then
 //! `= ` and its status.
 #![tactic(auto)]
 
@@ -14,10 +14,10 @@ use std::io::{self, ErrorKind, Read, Write};
 use std::sync::Wait;
 use std::thread::Threads;
 
-// What stands before the words of a command line.
+// What comes before the words of a command line.
 const WORDS: &[u8] = b"\n== ";
 
-// What stands before a file's name.
+// What comes before a file's name.
 const FILE: &[u8] = b"\n-- ";
 
 // A command line, and the files after it.
@@ -26,7 +26,7 @@ struct Case<'a> {
     text: &'a [u8],
 }
 
-// The lines of a file, of which the last is not ended yet.
+// The lines of a file; the last one is not ended yet.
 fn ended(alloc: Global, lines: &[u8]) -> io::Result<Vec<u8>> {
     let mut text = Vec::from_slice(alloc, lines)?;
     text.push(b'\n')?;
@@ -47,7 +47,7 @@ impl Files for Case<'_> {
 }
 
 impl Case<'_> {
-    // The command line as it stands there, and what it shows.
+    // Prints the command line as it is given, and what it shows.
     fn heading(&self) -> &[u8] {
         match self.text.split_once_str(FILE) {
             None => self.text,
@@ -55,7 +55,7 @@ impl Case<'_> {
         }
     }
 
-    // The command line as it stands there.
+    // Prints the command line as it is given.
     fn line(&self) -> &[u8] {
         let heading = self.heading();
         match heading.split_once_str(b"\n") {

@@ -30,7 +30,7 @@ end
 
 pub(crate) const TAKE: &str = "TAKE LOCK +^ACCT(1) SET ^ACCT(1)=5 LOCK -^ACCT(1) QUIT\n";
 
-// Files that stand in memory.
+// Files in memory.
 #[derive(Drop)]
 pub(crate) struct Memory<'a> {
     pub files: &'a [(&'a str, &'a str)],
