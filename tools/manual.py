@@ -117,10 +117,10 @@ def differing(made):
     """Prints how the files differ from what is made, and gives which do."""
     found = []
     for name, text in made.items():
-        found = (TOP / name).read_text() if (TOP / name).exists() else ''
-        if found != text:
+        now = (TOP / name).read_text() if (TOP / name).exists() else ''
+        if now != text:
             found.append(name)
-            print(*difflib.unified_diff(found.split('\n'), text.split('\n'), name, 'what --help says', n=0, lineterm=''), sep='\n')
+            print(*difflib.unified_diff(now.split('\n'), text.split('\n'), name, 'what --help says', n=0, lineterm=''), sep='\n')
     return found
 
 
