@@ -2,7 +2,7 @@
 
 _mlock() {
     local word=${COMP_WORDS[COMP_CWORD]} before=${COMP_WORDS[COMP_CWORD - 1]} words=
-    # (what stands around a `=` are words of their own)
+    # (what is around a `=` are words of their own)
     if [ "$word" = "=" ]; then word=; fi
     if [ "$before" = "=" ]; then before=${COMP_WORDS[COMP_CWORD - 2]}; fi
     COMPREPLY=()
