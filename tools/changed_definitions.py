@@ -1,13 +1,12 @@
 #!/usr/bin/env python3
-"""Shows that the theorem on runs rests on what the check asks: with definitions of the check changed, one at a time, its
-proof must fail.
+"""Shows that the theorem on runs depends on what the check asks: change one definition of the check, and the proof fails.
 
     changed_definitions.py FOLDER [NAME..]
 
-Each change makes the check say `yes` to programs whose runs break the rules. FOLDER gets a skeleton of the repository (see
-skeleton.py), in which the proof is first checked as it is; then each change, or those that are named, is made in a definition,
-and the proof is checked again. The code below has no part in this: it is proved to be its definitions. Takes some ten minutes,
-and three more a change.
+Each change makes the check say `yes` to programs whose runs break the rules. The script writes a skeleton of the repository to
+FOLDER (see skeleton.py) and checks the proof there as it is. Then it makes the changes one at a time, all of them or those that
+are named, and checks the proof again after each. The code is not part of this: each function is proved to compute its
+definition. The first check takes about ten minutes, each change about three more.
 """
 import pathlib
 import subprocess
@@ -16,51 +15,83 @@ import sys
 import skeleton
 
 CRATES = ['mlk_soundness_machine', 'mlk_soundness_walk']
-COMMANDS, ENDS, LOOPS = 'mlk_walk_lines/specs/Commands.antt', 'mlk_walk_lines/specs/Endings.antt', 'mlk_walk_lines/specs/Loops.antt'
-CALLS, CHANGES, CLAIMS = 'mlk_calls/specs/Calls.antt', 'mlk_calls/specs/Changes.antt', 'mlk_calls/specs/Claims.antt'
+# General laws of the walk, which the proof uses: a change that is refused there shows nothing of the theorem.
+LAWS = 'mlk_walk_laws'
+CHANGES, CLAIMS, CALLS = 'mlk_calls/specs/Changes.antt', 'mlk_calls/specs/Claims.antt', 'mlk_calls/specs/Calls.antt'
+REFERENCES = 'mlk_walk_exprs/specs/References.antt'
+ARGUMENTS, LOCKS, NEWS = (f'mlk_walk_commands/specs/{name}.antt' for name in ('Arguments', 'Locks', 'News'))
+COMMANDS, ENDS, LOOPS = (f'mlk_walk_lines/specs/{name}.antt' for name in ('Commands', 'Endings', 'Loops'))
+VERDICTS = 'mlk_walk/specs/Verdicts.antt'
 
-# What is changed: a file, a text that stands in it once, and what it becomes.
+# The changes, each named for what the check then allows or gets wrong: a file, a text that occurs in it once, and what replaces it.
 CHANGED = {
-    'a-block-keeps-its-test': (
-        ENDS, 'record c { test = t; own = filter (is_left level) c.own',
-        'record c { own = filter (is_left level) c.own'),
-    'a-timed-claim-is-held-unasked': (
-        'mlk_walk_commands/specs/Locks.antt', 'granted true terms s = Goes (tested One (hold terms s)) ∷ Goes (tested Zero s) ∷ []',
+    # Locks and their order
+    'a-timed-claim-always-succeeds': (
+        LOCKS, 'granted true terms s = Goes (tested One (hold terms s)) ∷ Goes (tested Zero s) ∷ []',
         'granted true terms s = Goes (tested One (hold terms s)) ∷ []'),
-    'a-held-name-may-change': (
-        CHANGES, 'if mention changed s.case.held then Some Pinned\n    else if not', 'if not'),
-    'a-call-may-change-a-held-name': (
-        CALLS, 'call_fault sc summary changed aside s = or_else (change_fault sc changed s) (ranks_fault sc summary aside)',
-        'call_fault sc summary changed aside s = ranks_fault sc summary aside'),
-    'exits-are-believed': (
-        ENDS, 'else if is_exit e.scope.summary.exits c then Passes\n    else Faulty e.line column CaseNotListed', 'else Passes'),
-    'the-last-lock-alone-is-ranked': (
+    'only-the-first-held-lock-is-ranked': (
         CLAIMS, 'all_ranked_below families held rank = list_all (λ h. is_below (rank_of families h) rank) held',
         'all_ranked_below families [] rank = true\nall_ranked_below families (h ∷ held) rank = is_below (rank_of families h) rank'),
-    'what-is-set-aside-is-not-ranked': (
-        CALLS, 'if not (all_below sc.rules.families summary.low aside) then Some RankOrder\n    else if not', 'if not'),
-    'all-is-released-in-a-call-with-terms-set-aside': (
-        CALLS, 'else if summary.drops && holds_some aside then Some DropsFrame\n', ''),
-    'no-exit-is-walked-to': (
-        CALLS, 'aside (changed_state changed s))\n    callee.summary.exits)', 'aside (changed_state changed s))\n    [])'),
-    'order-touches-the-node-alone': (
-        'mlk_walk_exprs/specs/References.antt', 'use_of function.Order = Beside', 'use_of function.Order = ItsValue'),
-    'captured-symbols-stay': (
+    'a-claim-below-the-lowest-rank': (
+        CLAIMS, '    else if not (is_low_enough sc.summary.low (Some rank)) then Some SummaryShort\n', ''),
+    'a-release-of-a-lock-that-is-not-held': (CLAIMS, 'one_less s None = Err NotHeld', 'one_less s None = Ok s'),
+    # Names in held locks
+    'a-change-of-a-name-in-a-held-lock': (
+        CHANGES, 'if mention changed s.case.held then Some Pinned\n    else if not', 'if not'),
+    'new-of-a-name-in-a-held-lock': (
+        NEWS, 'if mention names s.case.held then Err Pinned else', 'if mention names s.case.held then Ok (changed_state names s) else'),
+    'captured-symbols-survive-a-change': (
         CHANGES, 'record { case = without_kept changed s.case; captured = map (marked changed) s.captured }',
         'record { case = without_kept changed s.case; captured = s.captured }'),
-    'a-loop-without-its-rounds': (
+    # References to globals
+    'order-reads-the-node-alone': (REFERENCES, 'use_of function.Order = Beside', 'use_of function.Order = ItsValue'),
+    'query-reads-the-node-alone': (REFERENCES, 'use_of function.Query = AllOfIt', 'use_of function.Query = ItsValue'),
+    'merge-reads-nothing': (
+        ARGUMENTS, 'touch_last p extent.Tree Reads caret name (count_subs subs) s', 'Goes (without_last (count_subs subs) s) ∷ []'),
+    # Calls
+    'a-call-without-the-needs-of-its-callee': (
+        CALLS, 'needs_taken held (Some needs) = or_missing (all_taken needs held)',
+        'needs_taken held (Some needs) = or_missing (all_taken [] held)'),
+    'a-call-that-changes-a-name-in-a-held-lock': (
+        CALLS, 'call_fault sc summary changed aside s = or_else (change_fault sc changed s) (ranks_fault sc summary aside)',
+        'call_fault sc summary changed aside s = ranks_fault sc summary aside'),
+    'a-name-passed-by-reference-keeps-its-value': (
+        CALLS, 'lent_set (ByRef column name) = Only name ∷ []', 'lent_set (ByRef column name) = []'),
+    'a-callee-claims-below-locks-set-aside': (
+        CALLS, 'if not (all_below sc.rules.families summary.low aside) then Some RankOrder\n    else if not', 'if not'),
+    'a-callee-claims-below-the-lowest-rank': (
+        CALLS, '    else if not (is_low_enough sc.summary.low summary.low) then Some SummaryShort\n', ''),
+    'a-callee-releases-locks-set-aside': (
+        CALLS, 'else if summary.drops && holds_some aside then Some DropsFrame\n', ''),
+    'exits-use-the-actuals-from-before-the-call': (CALLS, 'map Some (map (marked changed) actuals)', 'map Some actuals'),
+    'nothing-after-a-call-is-walked': (
+        CALLS, 'aside (changed_state changed s))\n    callee.summary.exits)', 'aside (changed_state changed s))\n    [])'),
+    'do-of-a-label-keeps-test': (CALLS, 'test_after ByDo before after = after', 'test_after ByDo before after = before'),
+    'job-of-an-undeclared-entry': (CALLS, 'is_begun sc (Some e) = begins_jobs sc e', 'is_begun sc (Some e) = true'),
+    # Rounds, blocks and frames
+    'a-round-begins-in-any-case': (
         LOOPS, 'begin_round p cases s = if is_listed cases s.case then [] else Refused p.line p.word CaseNotListed ∷ []',
         'begin_round p cases s = []'),
+    'test-is-not-restored-after-a-block': (
+        ENDS, 'record c { test = t; own = filter (is_left level) c.own', 'record c { own = filter (is_left level) c.own'),
+    'a-block-ends-with-its-names-in-held-locks': (
+        ENDS, 'if list_any (escapes_block e.level c) c.own then Faulty e.line column NameEscapes\n    else Leaves', 'Leaves'),
+    'exits-are-not-checked': (
+        ENDS, 'else if is_exit e.scope.summary.exits c then Passes\n    else Faulty e.line column CaseNotListed', 'else Passes'),
+    'halt-while-callers-hold-locks': (
+        COMMANDS, 'else if p.scope.summary.drops then []\n    else Refused p.line p.word SummaryShort ∷ []', 'else []'),
+    'a-declared-entry-with-needs': (
+        VERDICTS, 'if sc.declared && holds_some sc.summary.need then fault_at number 1 NeedMissing ∷ [] else []', '[]'),
 }
 
 
 def proof(folder):
-    """Checks the crates of the proof: whether they are proved, and the first places at which they are not."""
-    for crate in CRATES:
-        run = subprocess.run(['rt', 'check'], cwd=folder / 'crates' / crate, text=True, stdout=subprocess.PIPE, stderr=subprocess.STDOUT)
-        lines = run.stdout.splitlines()
-        if not any(line.startswith('logic=proved') for line in lines[-3:]):
-            return crate, [line for line in lines if 'error' in line and '.antt:' in line][:3]
+    """Checks the crates of the proof: the first that is not proved, if there is one, and the first places of its errors."""
+    for crate in [LAWS, *CRATES]:
+        command = ['rt', 'lib' if crate == LAWS else 'check']
+        run = subprocess.run(command, cwd=folder / 'crates' / crate, text=True, stdout=subprocess.PIPE, stderr=subprocess.STDOUT)
+        if run.returncode != 0:
+            return crate, [line for line in run.stdout.splitlines() if 'error' in line and '.antt:' in line][:3]
     return None, []
 
 
@@ -70,11 +101,11 @@ def tried(folder, name):
     path = folder / 'crates' / place
     text = path.read_text()
     if text.count(old) != 1:
-        return f'BAD CHANGE: {old!r} stands {text.count(old)} times in {place}'
+        return f'BAD CHANGE: {old!r} occurs {text.count(old)} times in {place}'
     path.write_text(text.replace(old, new))
     crate, places = proof(folder)
     path.write_text(text)
-    own = [line for line in places if line.startswith('./proofs/')]
+    own = [line for line in places if line.startswith('./proofs/') and crate in CRATES]
     if crate is None:
         return 'STILL PROVED'
     return f'refused, as it must be: {crate}, {own[0][:160]}' if own else f'FAILED ELSEWHERE: {crate}: {places}'
