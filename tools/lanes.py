@@ -4,9 +4,9 @@
     lanes.py       crates to prove, as RT_JOBS of `rt ci`; nothing where rt does as well by itself
     lanes.py GB    commands that take so much memory each
 
-rt keeps up to 8 GB free for a crate, and the largest take less than 3: so where memory is small, its own rule leaves
-processors idle. Where that rule fills six processors, or all, it is better: a crate with no other beside it then gets up to
-four of them.
+rt keeps some 4.4 GB free for a crate, up to 8, in 0.85 of the memory, and the largest take less than 3: so where memory is
+small, its own rule leaves processors idle. Where that rule fills six processors, or all, it is better: a crate with no other
+beside it then gets up to four of them.
 """
 import os
 import pathlib
@@ -14,7 +14,7 @@ import re
 import sys
 
 GB = 1_000_000_000
-TAKEN, KEPT_FREE = 3 * GB, 8 * GB
+TAKEN, KEPT_FREE = 3 * GB, 5.2 * GB
 # how many crates can be proved side by side for most of the time
 SIDE_BY_SIDE = 6
 GROUP = pathlib.Path('/sys/fs/cgroup')
