@@ -1,5 +1,8 @@
-ADMIT LOCK +^PAT(17) LOCK +^WARD("B2") ; the patient first, then the ward
- SET ^PAT(17,"ward")="B2" SET ^WARD("B2","bed",4)=17
- LOCK -^WARD("B2") LOCK -^PAT(17) QUIT
-MOVE LOCK +^PAT(17) SET ^PAT(17,"ward")="C1" SET ^WARD("C1","bed",1)=17 ; the ward's lock is missing
- SET ^CODE("C1")="surgery" LOCK -^PAT(17) QUIT
+ADMIT(ID,W,B) ; admits patient ID to bed B of ward W, if it is free
+ LOCK +^PAT(ID),+^WARD(W) ; the patient first, then the ward
+ IF '$DATA(^WARD(W,"bed",B)) SET ^WARD(W,"bed",B)=ID,^PAT(ID,"bed")=B
+ LOCK -^WARD(W),-^PAT(ID) QUIT
+MOVE(ID,W,FROM,TO) ; moves a patient to another bed of the ward, if it is free
+ LOCK +^PAT(ID)
+ IF '$DATA(^WARD(W,"bed",TO)) SET ^WARD(W,"bed",TO)=ID KILL ^WARD(W,"bed",FROM)
+ LOCK -^PAT(ID) QUIT

@@ -8,7 +8,7 @@ use mlk_cert::{Certificate, read_cert};
 use mlk_cli::ReportStyle;
 use mlk_explain::Grounds;
 use mlk_forms::{ToldReport, report_told};
-use mlk_make::make;
+use mlk_make::make_certificate;
 use mlk_outcome::{Sources, Work};
 use mlk_output::Inputs;
 use mlk_pool::Source;
@@ -17,6 +17,7 @@ use mlk_rules::Rules;
 use mlk_rules_file::read_rules;
 use mlk_text::Failure;
 use mlk_walk::Report;
+use mlk_watch::Unwatched;
 use std::alloc::{AllocError, Global};
 
 /// The texts that explain a report: those of the rules, of the certificate where one was given, and of the routines.
@@ -78,10 +79,7 @@ fn certificate_of(
 ) -> Result<Option<Certificate>, AllocError> {
     match given {
         Some(text) => taken(read_cert(alloc, text.as_slice())),
-        None => match taken(make(alloc, program, rules))? {
-            Some(made) => Ok(Some(made.certificate)),
-            None => Ok(None),
-        },
+        None => taken(make_certificate(alloc, program, rules, &Unwatched)),
     }
 }
 

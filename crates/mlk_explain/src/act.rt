@@ -1,10 +1,8 @@
 // What was about to happen where a fault was found.
 
-use crate::names::function_before;
-use crate::phrase::Part::{Locks, MendLocals, MendRank, Name, OfRank, Root, Words};
-use crate::phrase::Phrase;
-use crate::place::{LockSet, Place};
-use crate::routine::Mark;
+use mlk_explain_origins::Mark;
+use mlk_explain_places::Part::{Locks, MendLocals, MendRank, Name, OfRank, Root, Subscript, Words};
+use mlk_explain_places::{LockSet, Phrase, Place, function_before};
 use mlk_survey_trees::Usage;
 use mlk_text::Code;
 use mlk_walk_exprs::Mend;
@@ -20,7 +18,7 @@ fn read_act(place: &Place<'_>) -> Phrase {
 }
 
 fn touch_act(place: &Place<'_>) -> Phrase {
-    match place.mark {
+    match place.mark() {
         Some(Mark::Global(Usage::Read)) => read_act(place),
         Some(Mark::Global(Usage::Write)) => &[Words("writes "), Name],
         Some(Mark::Global(Usage::Kill)) => &[Words("kills "), Name],
@@ -30,6 +28,14 @@ fn touch_act(place: &Place<'_>) -> Phrase {
 
 // A change of locals while one of them names a held lock.
 fn change_act(place: &Place<'_>) -> Phrase {
+    if place.is_call() && place.has_locks(LockSet::Changed) {
+        return &[
+            Words("calls "),
+            Name,
+            Words(", which may change a local that names "),
+            Locks(LockSet::Changed),
+        ];
+    }
     if place.is_call() {
         return &[
             Words("calls "),
@@ -54,11 +60,16 @@ fn claim_act(place: &Place<'_>) -> Phrase {
         return &[
             Words("calls "),
             Name,
-            Words(", which may claim a lock"),
+            Words(", which may acquire a lock"),
             OfRank,
         ];
     }
-    &[Words("claims "), Name, OfRank, Words(" without a timeout")]
+    &[
+        Words("acquires "),
+        Name,
+        OfRank,
+        Words(" without a timeout"),
+    ]
 }
 
 fn end_act(place: &Place<'_>) -> Phrase {
@@ -112,7 +123,7 @@ fn summary_act(place: &Place<'_>) -> Phrase {
             Words(", which the entry's summary leaves out"),
         ],
         Mend::Rank(_) => &[
-            Words("claims "),
+            Words("acquires "),
             Name,
             Words(" of rank "),
             MendRank,
@@ -121,7 +132,7 @@ fn summary_act(place: &Place<'_>) -> Phrase {
         Mend::Callee(Some(_), _) => &[
             Words("calls "),
             Name,
-            Words(", which may claim a lock of rank "),
+            Words(", which may acquire a lock of rank "),
             MendRank,
             Words(", which the entry's summary leaves out"),
         ],
@@ -135,7 +146,7 @@ fn summary_act(place: &Place<'_>) -> Phrase {
 }
 
 fn uncertified_act(place: &Place<'_>) -> Phrase {
-    match place.mark {
+    match place.mark() {
         Some(Mark::Job(_)) => &[
             Words("begins a job at "),
             Name,
@@ -160,9 +171,37 @@ fn unknown_act(place: &Place<'_>) -> Phrase {
     }
     &[
         Words("names a lock by "),
-        Name,
-        Words(", whose value is not known"),
+        Subscript,
+        Words(", which is not a local by itself"),
     ]
+}
+
+// What the entry's summary asks of callers for.
+fn summary_origin_act(place: &Place<'_>) -> Phrase {
+    match &place.note.mend {
+        Mend::Rank(_) => &[Words("acquires "), Name, Words(" of rank "), MendRank],
+        Mend::Changes(_) if place.is_call() => {
+            &[
+                Words("calls "),
+                Name,
+                Words(", which may change "),
+                MendLocals,
+            ]
+        }
+        Mend::Changes(_) => &[Words("changes "), MendLocals],
+        Mend::Callee(_, _) => &[Words("calls "), Name],
+        _ => &[Words("releases all locks")],
+    }
+}
+
+/// What happens at `place`, for which the entry asks something of its callers.
+pub(crate) fn origin_act_of(place: &Place<'_>) -> Phrase {
+    match place.fault.code {
+        Code::Uncovered => touch_act(place),
+        Code::NotHeld => &[Words("releases "), Name],
+        Code::SummaryShort => summary_origin_act(place),
+        _ => act_of(place),
+    }
 }
 
 /// What was about to happen at `place`.
@@ -178,7 +217,7 @@ pub(crate) fn act_of(place: &Place<'_>) -> Phrase {
         Code::NoCertificate => uncertified_act(place),
         Code::UnknownSubscript => unknown_act(place),
         Code::NotHeld => &[Words("releases "), Name, Words(", which is not held")],
-        Code::Unranked => &[Words("claims "), Name, Words(", which has no rank")],
+        Code::Unranked => &[Words("acquires "), Name, Words(", which has no rank")],
         Code::SharedName => &[
             Words("names a lock by "),
             Name,

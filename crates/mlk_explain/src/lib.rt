@@ -1,17 +1,15 @@
 //! Reports with explanations: below each fault its line of M, what was about to happen there, what was held, the rules that
-//! apply, and what mends the fault.
+//! apply, and what mends the fault; of a call the place behind what the callee asks for.
 #![tactic(auto)]
 
 mod act;
 mod explanation;
 mod help;
-mod line;
-mod names;
-mod phrase;
-mod place;
 mod report;
-mod routine;
 mod rule;
-mod walked;
+mod story;
+mod trail;
 
-pub use report::{Grounds, explained};
+pub use mlk_explain_origins::Grounds;
+pub use report::{explained_rows, note_below, stories_of};
+pub use story::{OriginStory, Story, WayPoint};

@@ -1,11 +1,8 @@
 // The rules that apply to a fault, as the rule file has them.
 
-use crate::line::push_label;
-use crate::names::{push_front, root_of};
-use crate::phrase::{Part, Phrase, push_line};
-use crate::place::Place;
+use mlk_explain_places::{Part, Phrase, Place, phrase_text, push_front, root_of};
 use mlk_report_text::Piece::{Number, Words};
-use mlk_report_text::push_all;
+use mlk_report_text::{push_all, text_of};
 use mlk_rules::{Cover, Family, Pattern};
 use mlk_text::{Code, List, Root};
 use mlk_walk_exprs::Mend;
@@ -163,8 +160,8 @@ fn add_families(
     Ok(())
 }
 
-/// The rules that apply to the fault at `place`.
-pub(crate) fn rules_for(alloc: Global, place: &Place<'_>) -> Result<Vec<RuleAt>, AllocError> {
+// The rules that apply to the fault at `place`.
+fn rules_for(alloc: Global, place: &Place<'_>) -> Result<Vec<RuleAt>, AllocError> {
     let mut found = Vec::new(alloc);
     let rules = place.grounds.rules;
     let lists = rules.lists();
@@ -175,61 +172,84 @@ pub(crate) fn rules_for(alloc: Global, place: &Place<'_>) -> Result<Vec<RuleAt>,
     Ok(found)
 }
 
-// Appends `SECTION NUMBER`, the texts of the rule's keys, and the rank of a lock.
-fn push_rule(
-    text: &mut Vec<u8>,
+/// Whether rules apply to the fault at `place`.
+pub(crate) fn has_rules(alloc: Global, place: &Place<'_>) -> Result<bool, AllocError> {
+    Ok(!rules_for(alloc, place)?.is_empty())
+}
+
+// `SECTION NUMBER`, the texts of the rule's keys, and the rank of a lock.
+fn rule_text(
+    alloc: Global,
     place: &Place<'_>,
     rule_file: &RuleFile,
     rule: RuleAt,
-) -> Result<(), AllocError> {
+) -> Result<Vec<u8>, AllocError> {
     let section = rule.section;
     let number = Number(rule.number.saturating_add(1));
-    push_all(text, &[Words(section.word()), Words(" "), number])?;
+    let mut text = text_of(alloc, &[Words(section.word()), Words(" "), number])?;
     for (before, key) in section.keys() {
         if let Some(part) = rule_file.text(rule, *key) {
             text.extend_from_slice(before.as_bytes())?;
-            push_front(text, part)?;
+            push_front(&mut text, part)?;
         }
     }
-    match (section, place.grounds.rules.families().get(rule.number)) {
-        (Section::Lock, Some(family)) => push_all(
-            text,
+    if let (Section::Lock, Some(family)) = (
+        section,
+        place.grounds.rules.families().get(rule.number),
+    ) {
+        push_all(
+            &mut text,
             &[Words(" has rank "), Number(family.rank as usize)],
-        ),
-        _ => Ok(()),
+        )?;
     }
+    Ok(text)
 }
 
-// What is said after the rules that apply, or where there is none though one should.
-fn last_phrase(code: Code, has_rule: bool) -> Phrase {
-    match (code, has_rule) {
+/// Whether lock rules have the root of the name at the column, with constants that this name does not have.
+pub(crate) fn is_ranked_by_constants(place: &Place<'_>) -> bool {
+    let root = root_of(place.name);
+    let families = place.grounds.rules.families();
+    families
+        .iter()
+        .any(|family| is_written(&family.name.root, root))
+}
+
+// What is said after the rules that apply, or if there is none though one should.
+fn last_phrase(place: &Place<'_>, has_rule: bool) -> Phrase {
+    match (place.fault.code, has_rule) {
+        (Code::Unranked, false) if is_ranked_by_constants(place) => {
+            &[
+                Part::Words("lock rules rank "),
+                Part::Root,
+                Part::Words(" by constants alone"),
+            ]
+        }
         (Code::Unruled, false) => &[Part::Words("none is for "), Part::Root],
         (Code::Unranked, false) => &[Part::Words("no lock rule ranks "), Part::Root],
         (Code::RankOrder, true) => &[Part::Words(
-            "a claim without a timeout is of a higher rank than all that is held",
+            "a lock that is acquired without a timeout has a higher rank than all that are held",
         )],
         _ => &[],
     }
 }
 
-/// Appends a line for each of the first few of `rules`, and what is said after them.
-pub(crate) fn push_rules(
-    text: &mut Vec<u8>,
+/// The texts of the first few rules that apply to the fault at `place`, and what is said after them.
+pub(crate) fn rule_texts(
+    alloc: Global,
     place: &Place<'_>,
     rule_file: &RuleFile,
-    rules: &[RuleAt],
-) -> Result<(), AllocError> {
+) -> Result<Vec<Vec<u8>>, AllocError> {
+    let rules = rules_for(alloc, place)?;
+    let mut texts = Vec::new(alloc);
     for rule in rules.iter().take(MOST_RULES) {
-        push_label(text, place, "rule")?;
-        push_rule(text, place, rule_file, *rule)?;
-        text.push(b'\n')?;
+        texts.push(rule_text(alloc, place, rule_file, *rule)?)?;
     }
     if rules.len() > MOST_RULES {
-        push_line(text, place, "rule", &[Part::Words("and others of it")])?;
+        texts.push(phrase_text(alloc, place, &[Part::Words("and others of it")])?)?;
     }
-    let last = last_phrase(place.fault.code, !rules.is_empty());
-    if last.is_empty() {
-        return Ok(());
+    let last = last_phrase(place, !rules.is_empty());
+    if !last.is_empty() {
+        texts.push(phrase_text(alloc, place, last)?)?;
     }
-    push_line(text, place, "rule", last)
+    Ok(texts)
 }

@@ -7,10 +7,10 @@ ghost use Rattle.mlk_forms.specs.Told.{AreTold, IsReportIn, IsReportAs, IsReport
 
 use crate::notice::with_end;
 use mlk_cli::{Output, ReportStyle};
-use mlk_explain::{Grounds, explained};
+use mlk_explain::{Grounds, explained_rows, note_below};
 use mlk_hazards::{HazardAt, hazards_of};
 use mlk_output::{Inputs, report_json, report_sarif};
-use mlk_pool::{ReportText, report_text};
+use mlk_pool::{ReportText, push_answer, report_text};
 use mlk_report_text::Piece::{At, Bytes, Words};
 use mlk_report_text::text_of;
 use mlk_syntax::Routine;
@@ -97,7 +97,9 @@ fn explained_text(
     report: &Report,
     hazards: &[HazardAt<'_>],
 ) -> Result<ReportText, AllocError> {
-    let mut text = ReportText::of(explained(alloc, grounds, report)?);
+    let mut text = ReportText::of(explained_rows(alloc, grounds, report)?);
+    push_answer(&mut text, report.rows())?;
+    text.push(note_below(grounds, report).as_bytes())?;
     push_hazards(alloc, &mut text, hazards)?;
     Ok(text)
 }

@@ -9,7 +9,7 @@ ghost use Rattle.mlk_make.specs.Texts.{SpellsIn};
 use crate::maker::Maker;
 use crate::stop::{GaveUp, MakeError};
 use crate::text::text_in;
-use mlk_cert::{CertFault, CertFormat, EntryCert, Spelled, certificate_of, spell};
+use mlk_cert::{CertFault, CertFormat, Certificate, EntryCert, Spelled, certificate_of, spell};
 use mlk_program::EntryId;
 use mlk_text::{Code, Column, Failure, LineNumber};
 use mlk_walk_exprs::Fault;
@@ -75,6 +75,18 @@ fn written(
             Err(Failure::OutOfMemory) => Err(Failure::OutOfMemory),
             Err(Failure::Refused(fault)) => Err(Failure::Refused(MakeError::TooLong(fault))),
         },
+        Err(Failure::OutOfMemory) => Err(Failure::OutOfMemory),
+        Err(Failure::Refused(_)) => Err(Failure::Refused(no_certificate())),
+    }
+}
+
+/// The certificate of all entries of which something is known. It has no text, so that no limit of texts is asked.
+pub(crate) fn certificate_in(alloc: Global, maker: Maker) -> Result<Certificate, Failure<MakeError>>
+    ensures refused { IfErr result (λ e. IfRefused e IsUnspelled) }
+{
+    let made = blocks(alloc, maker)?;
+    match certificate_of(alloc, made) {
+        Ok(certificate) => Ok(certificate),
         Err(Failure::OutOfMemory) => Err(Failure::OutOfMemory),
         Err(Failure::Refused(_)) => Err(Failure::Refused(no_certificate())),
     }

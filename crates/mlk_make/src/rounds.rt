@@ -8,12 +8,12 @@ ghost use Rattle.mlk_make.specs.Missing.{is_missing, IsUnmade, IsUnspelled};
 ghost use Rattle.mlk_make.specs.Texts.{SpellsIn};
 
 use crate::entry::walk_entry;
-use crate::finish::finish;
+use crate::finish::{certificate_in, finish};
 use crate::maker::{Ground, Maker};
 use crate::missing::first_missing;
 use crate::stop::{GaveUp, MakeError};
 use mlk_calls::Entries;
-use mlk_cert::{CertFormat, Spelled};
+use mlk_cert::{CertFormat, Certificate, Spelled};
 use mlk_program::{EntryId, Program};
 use mlk_rules::{Rules, entries};
 use mlk_syntax::Line;
@@ -89,16 +89,14 @@ fn walked<W: Watch>(ground: &Ground<'_>, watch: &W) -> Result<Maker, Failure<Gav
     Ok(maker)
 }
 
-// Certifies the declared entries and all that they reach.
+// What is known of the declared entries and of all that they reach, once nothing changes any more.
 fn certify<W: Watch>(
     alloc: Global,
     program: &Program<'_>,
     rules: &Rules,
-    format: CertFormat,
     watch: &W,
-) -> Result<Spelled, Failure<MakeError>>
-    ensures spells { IfOk result (λ s. SpellsIn format s.certificate s.text.items) }
-    ensures refused { IfErr result (λ e. IfRefused e IsUnspelled) }
+) -> Result<Maker, Failure<MakeError>>
+    ensures { IfErr result (λ e. IfRefused e IsUnspelled) }
 {
     let declared = Entries::of(alloc, program, rules, &[])?;
     let ground = Ground {
@@ -108,7 +106,7 @@ fn certify<W: Watch>(
         declared: &declared,
     };
     match walked(&ground, watch) {
-        Ok(maker) => finish(alloc, maker, format),
+        Ok(maker) => Ok(maker),
         Err(Failure::OutOfMemory) => Err(Failure::OutOfMemory),
         Err(Failure::Refused(place)) => Err(Failure::Refused(MakeError::GaveUp(place))),
     }
@@ -150,5 +148,25 @@ pub fn make_watched<W: Watch>(
         let text = Value::of(alloc, text)?;
         return Err(Failure::Refused(MakeError::EntryMissing(text)));
     }
-    certify(alloc, program, rules, format, watch)
+    let maker = certify(alloc, program, rules, watch)?;
+    finish(alloc, maker, format)
+}
+
+/// Makes the certificate that `make` makes, without a text: so it may be larger than a text of a certificate may be.
+pub fn make_certificate<W: Watch>(
+    alloc: Global,
+    program: &Program<'_>,
+    rules: &Rules,
+    watch: &W,
+) -> Result<Certificate, Failure<MakeError>>
+    // It keeps to all limits by its type. None is made of a program without a declared entry.
+    ensures made { IfOk result (λ c. find (is_missing (map routine_of program.now)) rules.now.entries ≡ None) }
+    ensures refused { IfErr result (IsUnmade (map routine_of program.now) rules.now.entries) }
+{
+    if let Some(text) = first_missing(program, entries(rules)) {
+        let text = Value::of(alloc, text)?;
+        return Err(Failure::Refused(MakeError::EntryMissing(text)));
+    }
+    let maker = certify(alloc, program, rules, watch)?;
+    certificate_in(alloc, maker)
 }

@@ -81,7 +81,7 @@ not-replayed trees rules events r (inr h) = λ t shut. by-events h.stopped.0 t (
 of-task : (trees : List RoutineTree) (rules : RuleLists) (w : WantedTask) (r : NoReport) → IsRefusalByRules trees rules w r → IsNotShut r
 of-task trees rules (task.Make format) r h = not-made h.0 r h.2
 of-task trees rules (task.Verify workers) r (inl h) = not-made h.0 r h.2
-of-task trees rules (task.Verify workers) r (inr (text, made, (blocks, spelled, h))) = told h.0 r h.2 (unreported workers trees rules blocks h.0 h.1)
+of-task trees rules (task.Verify workers) r (inr (blocks, h)) = told h.0 r h.2 (unreported workers trees rules blocks h.0 h.1)
 of-task trees rules (task.Replay events) r h = not-replayed trees rules events.items r h
 
 under : (trees : List RoutineTree) (rules_text : List ℕ) (w : WantedTask) (r : NoReport) → IsRefusalByRulesText trees rules_text w r → IsNotShut r

@@ -14,7 +14,6 @@ use Rattle.mlk_rules_file.specs.RuleSections.{SaysRules, RefusesRules}
 use Rattle.mlk_rules_file.specs.declared.read.fault.RulesFault.{RulesFault}
 use Rattle.mlk_cert_parts.specs.declared.block.EntryCert.{EntryCert}
 use Rattle.mlk_cert.specs.declared.format.CertFormat.{CertFormat}
-use Rattle.mlk_cert.specs.declared.format.CertFormat.TheVariants.{First}
 use Rattle.mlk_make.specs.declared.stop.GaveUp.{GaveUp}
 use Rattle.mlk_make.specs.declared.stop.MakeError.{MakeError}
 use Rattle.mlk_make.specs.declared.stop.MakeError.TheVariants as unmade
@@ -24,7 +23,7 @@ use Rattle.mlk_walk.specs.declared.report.Row.{Row}
 use Rattle.mlk_pool.specs.declared.error.CheckError.{CheckError}
 use Rattle.mlk_pool.specs.declared.error.CheckError.TheVariants as error
 use Rattle.mlk_pool.specs.Errors.{error_of_routine, error_of_rules}
-use Rattle.mlk_pool.specs.Headline.{IsReportBy, OfBlocks, Verified, IsUnreportedBy, IsUnverified}
+use Rattle.mlk_pool.specs.Headline.{IsReportBy, Verified, IsUnreportedBy, IsUnverified}
 use Rattle.mlk_outcome.specs.Replayed.{no_memory, IsReplayed, IsUnreplayed}
 use Rattle.mlk_outcome.specs.declared.texts.Sources.{Sources}
 use Rattle.mlk_outcome.specs.declared.texts.Work.{Work}
@@ -41,9 +40,9 @@ use Rattle.mlk_outcome.specs.declared.checked.NoReport.TheVariants as refusal
 abbrev pub trees_of : Checked → List RoutineTree
 trees_of checked = map routine_of checked.routines.items
 
--- the report by the certificate that a text spells
-abbrev pub IsReportByText : List RoutineTree → RuleLists → List ℕ → List Row → Type 0
-IsReportByText trees rules text rows = OfBlocks text (λ blocks. IsReportBy trees rules blocks rows)
+-- The report by a certificate that is made. Which one is made is not said.
+abbrev pub IsReportOfMade : List RoutineTree → RuleLists → List Row → Type 0
+IsReportOfMade trees rules rows = (blocks : List EntryCert) × IsReportBy trees rules blocks rows
 
 -- A text is the one in this format of a certificate, made of a program that has all declared entries. Nothing else is promised
 -- of it.
@@ -56,7 +55,7 @@ abbrev pub IsOutcomeByRules : List RoutineTree → RuleLists → WantedTask → 
 IsOutcomeByRules trees rules (task.Make format) (outcome.Report rows) = ⊥
 IsOutcomeByRules trees rules (task.Make format) (outcome.Made made) = IsMade trees rules format made.items
 IsOutcomeByRules trees rules (task.Make format) (outcome.Replayed shown) = ⊥
-IsOutcomeByRules trees rules (task.Verify workers) (outcome.Report rows) = (text : List ℕ) × IsMade trees rules First text × IsReportByText trees rules text rows
+IsOutcomeByRules trees rules (task.Verify workers) (outcome.Report rows) = IsReportOfMade trees rules rows
 IsOutcomeByRules trees rules (task.Verify workers) (outcome.Made made) = ⊥
 IsOutcomeByRules trees rules (task.Verify workers) (outcome.Replayed shown) = ⊥
 IsOutcomeByRules trees rules (task.Replay events) (outcome.Report rows) = ⊥
@@ -99,10 +98,6 @@ RefusedLink trees r = (e : Failure Fault) × IfRefused e (IsLinkFault trees) × 
 abbrev pub IsRefusalByBlocks : List RoutineTree → RuleLists → List EntryCert → ℕ → NoReport → Type 0
 IsRefusalByBlocks trees rules blocks workers r = (e : CheckError) × IsUnreportedBy (Unit {0}) workers trees rules blocks e × (r ≡ refusal.Check e)
 
--- The certificate is the one that a text spells.
-abbrev pub IsRefusalByText : List RoutineTree → RuleLists → List ℕ → ℕ → NoReport → Type 0
-IsRefusalByText trees rules text workers r = OfBlocks text (λ blocks. IsRefusalByBlocks trees rules blocks workers r)
-
 -- what is told where the maker gave up: the fault, unless memory runs out
 abbrev pub IsStuck : GaveUp → NoReport → Type 0
 IsStuck place r = (r ≡ no_memory) ⊎ ((entry : List ℕ) × (r ≡ refusal.GaveUp entry place.fault))
@@ -118,11 +113,14 @@ TellsUnmade (failure.Refused (unmade.GaveUp place)) r = IsStuck place r
 abbrev pub IsUnmade : List RoutineTree → RuleLists → NoReport → Type 0
 IsUnmade trees rules r = (e : Failure MakeError) × NoneMade trees rules.entries e × TellsUnmade e r
 
+-- Why it has none by a certificate that is made: that is not made, or there is none by it.
+abbrev pub IsRefusalOfMade : List RoutineTree → RuleLists → ℕ → NoReport → Type 0
+IsRefusalOfMade trees rules workers r = IsUnmade trees rules r ⊎ ((blocks : List EntryCert) × IsRefusalByBlocks trees rules blocks workers r)
+
 -- It is told of the making of a certificate, or of the events, first,
 abbrev pub IsRefusalByRules : List RoutineTree → RuleLists → WantedTask → NoReport → Type 0
 IsRefusalByRules trees rules (task.Make format) r = IsUnmade trees rules r
-IsRefusalByRules trees rules (task.Verify workers) r =
-    IsUnmade trees rules r ⊎ ((text : List ℕ) × IsMade trees rules First text × IsRefusalByText trees rules text workers r)
+IsRefusalByRules trees rules (task.Verify workers) r = IsRefusalOfMade trees rules workers r
 IsRefusalByRules trees rules (task.Replay events) r = IsUnreplayed trees rules events.items r
 
 -- of the rules' text before it,

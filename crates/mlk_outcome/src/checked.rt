@@ -2,8 +2,7 @@
 
 ghost use Rattle.std.specs.Prelude.{◌≡◌, map, IfOk, IfErr};
 ghost use Rattle.mlk_syntax.specs.Views.{routine_of};
-ghost use Rattle.mlk_outcome.specs.Checked.{IsReportByText, IsStuck, IsMade, IsUnmade, IsOutcomeByRules, IsOutcomeByRulesText, IsOutcomeOfTrees, IsRefusalByBlocks, IsRefusalByText, IsRefusalByRules, IsRefusalByRulesText, IsRefusalOfTrees, IsDone, IsUndone, IsVerified, IsUnverifiedBy, IsChecked, IsRefusedBy};
-ghost use Rattle.mlk_cert.specs.Theorem.{Spells};
+ghost use Rattle.mlk_outcome.specs.Checked.{IsReportOfMade, IsStuck, TellsUnmade, IsMade, IsUnmade, IsOutcomeByRules, IsOutcomeByRulesText, IsOutcomeOfTrees, IsRefusalByBlocks, IsRefusalOfMade, IsRefusalByRules, IsRefusalByRulesText, IsRefusalOfTrees, IsDone, IsUndone, IsVerified, IsUnverifiedBy, IsChecked, IsRefusedBy};
 ghost use Rattle.mlk_soundness_walk.specs.Forms.{AreFormed};
 ghost use Rattle.mlk_pool.specs.Headline.{IsReportBy};
 ghost use Rattle.mlk_outcome.specs.Checked.{trees_of};
@@ -14,7 +13,7 @@ use crate::replayed::jobs_text;
 use crate::texts::{Sources, Work};
 use mlk_cert::{CertFormat, Certificate, Spelled};
 use mlk_machine::EventsFault;
-use mlk_make::{GaveUp, MakeError, make_watched};
+use mlk_make::{GaveUp, MakeError, make_certificate, make_watched};
 use mlk_pool::{CheckError, Source, read_routines, verify_program, verify_watched};
 use mlk_program::{Program, link};
 use mlk_rules::Rules;
@@ -112,24 +111,6 @@ fn report_by_certificate<R: Threads + Wait + Sync, W: Watch>(
     }
 }
 
-// The report by a certificate that was made, and its text.
-fn report_of<R: Threads + Wait + Sync, W: Watch>(
-    rt: &R,
-    alloc: Global,
-    program: &Program<'_>,
-    rules: &Rules,
-    made: &Spelled,
-    workers: u32,
-    watch: &W,
-) -> Result<Report, NoReport>
-    requires formed { AreFormed (map routine_of program.now) }
-    requires spelled { Spells made.now.certificate made.now.text.items }
-    ensures ok { IfOk result (IsReportByText (map routine_of program.now) rules.now made.now.text.items) }
-    ensures refused { IfErr result (IsRefusalByText (map routine_of program.now) rules.now made.now.text.items workers) }
-{
-    report_by_certificate(rt, alloc, program, rules, &made.certificate, workers, watch)
-}
-
 // What is reported where the maker gave up.
 fn stuck(alloc: Global, program: &Program<'_>, place: GaveUp) -> NoReport
     ensures { IsStuck place result }
@@ -140,28 +121,60 @@ fn stuck(alloc: Global, program: &Program<'_>, place: GaveUp) -> NoReport
     }
 }
 
-// The certificate that is made, and its text in a format.
+// What is reported of a certificate that is not made.
+fn unmade(alloc: Global, program: &Program<'_>, error: Failure<MakeError>) -> NoReport
+    ensures { TellsUnmade error result }
+{
+    match error {
+        Failure::OutOfMemory => NoReport::Check(CheckError::OutOfMemory),
+        Failure::Refused(MakeError::EntryMissing(text)) => NoReport::Check(CheckError::Entry(text)),
+        Failure::Refused(MakeError::TooLong(fault)) => {
+            NoReport::Check(CheckError::Certificate(fault))
+        }
+        Failure::Refused(MakeError::GaveUp(place)) => stuck(alloc, program, place),
+    }
+}
+
+// The text in a format of the certificate that is made.
 fn made<W: Watch>(
     alloc: Global,
     program: &Program<'_>,
     rules: &Rules,
     format: CertFormat,
     watch: &W,
-) -> Result<Spelled, NoReport>
-    ensures ok { IfOk result (λ s. IsMade (map routine_of program.now) rules.now format s.text.items) }
-    ensures spells { IfOk result (λ s. Spells s.certificate s.text.items) }
+) -> Result<Vec<u8>, NoReport>
+    ensures ok { IfOk result (λ text. IsMade (map routine_of program.now) rules.now format text.items) }
     ensures refused { IfErr result (IsUnmade (map routine_of program.now) rules.now) }
 {
     match make_watched(alloc, program, rules, format, watch) {
-        Ok(made) => Ok(made),
-        Err(Failure::OutOfMemory) => Err(NoReport::Check(CheckError::OutOfMemory)),
-        Err(Failure::Refused(MakeError::EntryMissing(text))) => {
-            Err(NoReport::Check(CheckError::Entry(text)))
+        Ok(made) => {
+            let Spelled { text, .. } = made;
+            Ok(text)
         }
-        Err(Failure::Refused(MakeError::TooLong(fault))) => {
-            Err(NoReport::Check(CheckError::Certificate(fault)))
+        Err(error) => Err(unmade(alloc, program, error)),
+    }
+}
+
+// The report by the certificate that is made.
+fn report_by_making<R: Threads + Wait + Sync, W: Watch>(
+    rt: &R,
+    alloc: Global,
+    program: &Program<'_>,
+    rules: &Rules,
+    workers: u32,
+    watch: &W,
+) -> Result<Report, NoReport>
+    requires { AreFormed (map routine_of program.now) }
+    ensures ok { IfOk result (IsReportOfMade (map routine_of program.now) rules.now) }
+    ensures refused { IfErr result (IsRefusalOfMade (map routine_of program.now) rules.now workers) }
+{
+    match make_certificate(alloc, program, rules, watch) {
+        Ok(made) => {
+            let report = report_by_certificate(rt, alloc, program, rules, &made, workers, watch);
+            watch.discard(made);
+            report
         }
-        Err(Failure::Refused(MakeError::GaveUp(place))) => Err(stuck(alloc, program, place)),
+        Err(error) => Err(unmade(alloc, program, error)),
     }
 }
 
@@ -179,13 +192,11 @@ fn outcome_by_rules<R: Threads + Wait + Sync, W: Watch>(
 {
     match task {
         WantedTask::Make { format } => {
-            let Spelled { text, .. } = made(alloc, program, rules, *format, watch)?;
+            let text = made(alloc, program, rules, *format, watch)?;
             Ok(CheckedOutcome::Made(text))
         }
         WantedTask::Verify { workers } => {
-            let made = made(alloc, program, rules, CertFormat::First, watch)?;
-            let report = report_of(rt, alloc, program, rules, &made, *workers, watch)?;
-            watch.discard(made);
+            let report = report_by_making(rt, alloc, program, rules, *workers, watch)?;
             Ok(CheckedOutcome::Report(report))
         }
         WantedTask::Replay(events) => {

@@ -2,6 +2,7 @@ mod Chunks
 mod Firsts
 mod Formed
 mod Histories
+mod NextSlots
 mod Printing
 mod Runs
 mod Sends

@@ -21,7 +21,7 @@ pub use error::CheckError;
 pub use gate::Gate;
 pub use inputs::Inputs;
 pub use reading::{read_each, read_routines};
-pub use rendering::{render, report_text};
+pub use rendering::{push_answer, render, report_text};
 pub use report::{MOST_WORKERS, PoolFault, report_by};
 pub use shared::SharedBoard;
 pub use source::Source;

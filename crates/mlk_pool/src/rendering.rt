@@ -78,7 +78,8 @@ fn push_rows(text: &mut ReportText, routines: &[Routine], rows: &[Row]) -> Resul
     Ok(())
 }
 
-fn push_last(text: &mut ReportText, rows: &[Row]) -> Result<(), AllocError>
+/// Appends the line with the answer: `yes` if there are no `rows`, else `no N`.
+pub fn push_answer(text: &mut ReportText, rows: &[Row]) -> Result<(), AllocError>
     ensures { OnOk result (text.new ≡ text.old ++ last_line rows.now) }
 {
     if rows.is_empty() {
@@ -101,7 +102,7 @@ pub fn report_text(
 {
     let mut text = ReportText::new(alloc);
     push_rows(&mut text, routines, rows.rows())?;
-    push_last(&mut text, rows.rows())?;
+    push_answer(&mut text, rows.rows())?;
     Ok(text)
 }
 

@@ -1,6 +1,6 @@
 // The report that workers make together.
 
-ghost use Rattle.std.specs.Prelude.{◌≡◌, ◌<◌, ◌≤◌, ◌++◌, [], IfOk, IfErr, OnOk, filter, flat_map, map, option_copied};
+ghost use Rattle.std.specs.Prelude.{◌≡◌, ◌<◌, ◌≤◌, ◌++◌, [], IfOk, IfErr, OnOk, filter, flat_map, map};
 ghost use Rattle.std.specs.List.{AllZip};
 ghost use Rattle.std.specs.Option.{ForSome};
 ghost use Rattle.mlk_syntax.specs.Views.{routine_of};
@@ -26,6 +26,7 @@ use mlk_text::Failure;
 use mlk_walk::{Checks, DEEPEST_CUT, Report, verdict_of};
 use mlk_watch::{Unwatched, Watch};
 use std::alloc::{AllocError, Global};
+use std::collections::VecDeque;
 use std::marker::Brand;
 use std::sync::Wait;
 use std::thread::Threads;
@@ -50,12 +51,12 @@ fn settle<N: Inputs, G: Gate>(
     checks: &Checks<'_>,
     entry: EntryId,
     task: usize,
-    slot: Option<&Slot>,
+    slot: Option<Slot>,
     gate: &G,
     report: &mut Report,
 ) -> Result<(), Failure<PoolFault>>
     requires inputs { AreKnown N.given (map routine_of checks.now.program.now) checks.now.rules.now checks.now.entries.now }
-    requires slot { ForSome slot (λ s. IsSlotOf N.given entry s.now) }
+    requires slot { ForSome slot (IsSlotOf N.given entry) }
     ensures ok { OnOk result (report.new ≡ report.old ++ map (row_of entry)
         (verdict (map routine_of checks.now.program.now) checks.now.rules.now checks.now.entries.now entry)) }
     ensures refused { IfErr result (IsShut (G.is_open gate.now)) }
@@ -66,7 +67,7 @@ fn settle<N: Inputs, G: Gate>(
         Some(Slot::Posted(_, Outcome::Shut)) if !gate.pass(0, task) => {
             return Err(Failure::Refused(PoolFault::GateShut(task)));
         }
-        _ => report.add(entry, &verdict_of(alloc, checks, entry)?)?,
+        _ => report.add(entry, verdict_of(alloc, checks, entry)?)?,
     }
     Ok(())
 }
@@ -77,17 +78,14 @@ fn is_checked(known: &Entries<'_>, entry: EntryId) -> bool
     is_certified(known, entry) || known.is_declared(entry)
 }
 
-// What is at an entry's task, where it is one, and the slots of the later tasks.
-fn next_slot<'a>(
-    known: &Entries<'_>,
-    entry: EntryId,
-    slots: &'a [Slot],
-) -> (Option<&'a Slot>, &'a [Slot])
-    ensures { (option_copied result.0, result.1.now) ≡ next_slot (is_certified known.now.0 entry) slots.now }
+// What is at an entry's task, where it is one. The slots of the later tasks are left.
+fn next_slot(known: &Entries<'_>, entry: EntryId, slots: &mut VecDeque<Slot>) -> Option<Slot>
+    ensures { (result, slots.new.items) ≡ next_slot (is_certified known.now.0 entry) slots.old.items }
 {
-    match slots.split_first() {
-        Some((slot, later)) if is_certified(known, entry) => (Some(slot), later),
-        _ => (None, slots),
+    if is_certified(known, entry) {
+        slots.pop_front()
+    } else {
+        None
     }
 }
 
@@ -96,24 +94,24 @@ fn finished<N: Inputs, G: Gate>(
     alloc: Global,
     checks: &Checks<'_>,
     entries: &[EntryId],
-    slots: &[Slot],
+    slots: Vec<Slot>,
     gate: &G,
 ) -> Result<Report, Failure<PoolFault>>
     requires inputs { AreKnown N.given (map routine_of checks.now.program.now) checks.now.rules.now checks.now.entries.now }
-    requires slots { AllZip (IsSlotOf N.given) (filter (is_certified checks.now.entries.now.0) entries.now) slots.now }
+    requires slots { AllZip (IsSlotOf N.given) (filter (is_certified checks.now.entries.now.0) entries.now) slots.items }
     ensures ok { IfOk result (λ r. r ≡ flat_map
         (rows_of (map routine_of checks.now.program.now) checks.now.rules.now checks.now.entries.now) entries.now) }
     ensures refused { IfErr result (IsShut (G.is_open gate.now)) }
 {
     let mut report = Report::new(alloc);
-    let mut left = slots;
+    let count = slots.len();
+    let mut left = VecDeque::from(slots);
     for entry in entries {
-        let task = slots.len().saturating_sub(left.len());
-        let (slot, later) = next_slot(checks.entries, *entry, left);
+        let task = count.saturating_sub(left.len());
+        let slot = next_slot(checks.entries, *entry, &mut left);
         if is_checked(checks.entries, *entry) {
             settle::<N, G>(alloc, checks, *entry, task, slot, gate, &mut report)?;
         }
-        left = later;
     }
     Ok(report)
 }
@@ -155,7 +153,7 @@ fn report_with<N: Inputs + Send + Sync, G: Gate + Sync, W: Watch, R: Threads + W
     let board: SharedBoard<N> = SharedBoard::new(Board::of(alloc, tasks)?);
     run_workers(rt, alloc, checks, &board, gate, watch, workers, depth);
     let slots = board.into_board().into_slots();
-    finished::<N, G>(alloc, checks, entries.as_slice(), slots.as_slice(), gate)
+    finished::<N, G>(alloc, checks, entries.as_slice(), slots, gate)
 }
 
 // The report of a run that is given these.

@@ -1,7 +1,9 @@
 -- Faults in order: what the code's set of faults is, and faults that are put one after another.
 use Rattle.std.proofs.Common.{◌≡◌, List, [], ◌∷◌, ◌++◌, map, refl, ap, ◌∙◌}
 use Rattle.std.specs.Ordering.{match_ordering, nat_cmp, ordering_then}
-use Rattle.std.specs.BTreeSet.{insert_key}
+use Rattle.std.specs.declared.cmp.Ordering.{Ordering}
+use Rattle.std.specs.declared.cmp.Ordering.TheVariants.{Less, Equal, Greater}
+use Rattle.std.specs.BTreeMap.{insert_entry}
 use Rattle.mlk_walk_exprs.specs.contracts.walk.FaultOrd.TheImpl.{ghosts}
 use Rattle.mlk_walk_exprs.specs.declared.walk.Fault.{Fault}
 use Rattle.mlk_walk.specs.Faults.{fault_cmp, put_fault, put_faults}
@@ -13,11 +15,19 @@ unfolding fault_cmp
 compared f g = ap (λ o. ordering_then (nat_cmp f.line g.line) (ordering_then (nat_cmp f.column g.column) o)) (by_number f.code g.code)
 
 -- so a fault is inserted where it belongs.
-pub inserted : (f : Fault) (faults : List Fault) → insert_key ghosts.cmp faults f ≡ put_fault f faults
-inserted f [] = refl
-inserted f (g ∷ faults) =
-    ap (λ o. match_ordering o (f ∷ g ∷ faults) (g ∷ faults) (g ∷ insert_key ghosts.cmp faults f)) (compared f g)
-    ∙ ap (λ rest. match_ordering (fault_cmp f g) (f ∷ g ∷ faults) (g ∷ faults) (g ∷ rest)) (inserted f faults)
+pub keys_inserted : {X : Type 0} (f : Fault) (x : X) (es : List (Fault × X))
+    → map (λ e. e.0) (insert_entry ghosts.cmp es f x) ≡ put_fault f (map (λ e. e.0) es)
+keys_inserted f x [] = refl
+keys_inserted f x (e ∷ es) =
+    ap (λ o. map (λ e. e.0) (match_ordering o ((f, x) ∷ e ∷ es) ((e.0, x) ∷ es) (e ∷ insert_entry ghosts.cmp es f x))) (compared f e.0)
+    ∙ placed (fault_cmp f e.0) (keys_inserted f x es)
+  where
+    placed : (o : Ordering) → map (λ e. e.0) (insert_entry ghosts.cmp es f x) ≡ put_fault f (map (λ e. e.0) es)
+        → map (λ e. e.0) (match_ordering o ((f, x) ∷ e ∷ es) ((e.0, x) ∷ es) (e ∷ insert_entry ghosts.cmp es f x))
+        ≡ match_ordering o (f ∷ map (λ e. e.0) (e ∷ es)) (map (λ e. e.0) (e ∷ es)) (e.0 ∷ put_fault f (map (λ e. e.0) es))
+    placed Less later = refl
+    placed Equal later = refl
+    placed Greater later = ap (λ rest. e.0 ∷ rest) later
 
 pub put_both : (faults more others : List Fault) → put_faults (faults ++ more) others ≡ put_faults faults (put_faults more others)
 put_both [] more others = refl

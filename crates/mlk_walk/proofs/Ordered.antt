@@ -37,7 +37,7 @@ flipped : (f g : Fault) → fault_cmp f g ≡ Greater → fault_cmp g f ≡ Less
 flipped f g h = fault_total.antisymm g f ∙ ap ordering_reverse h
 
 -- a fault that is put ascends with the others,
-put_ascends : (f : Fault) (faults : List Fault) → IsAscending faults → IsAscending (put_fault f faults)
+pub put_ascends : (f : Fault) (faults : List Fault) → IsAscending faults → IsAscending (put_fault f faults)
 put_ascends f [] h = tt
 put_ascends f (x ∷ []) h = one (fault_cmp f x) refl
   where

@@ -9,12 +9,12 @@ use Rattle.mlk_syntax.specs.declared.routine.Line.TheFolds.{fold_out-Line}
 use Rattle.mlk_cert_parts.specs.declared.case.Case.{Case}
 use Rattle.mlk_walk_state.specs.Scope.{Scope}
 use Rattle.mlk_walk_exprs.specs.declared.walk.Fault.{Fault}
+use Rattle.mlk_walk_exprs.specs.declared.walk.Note.{Note}
 use Rattle.mlk_walk_lines.specs.declared.found.LineFault.{LineFault}
 use Rattle.mlk_walk_lines.specs.Endings.{Around, OfBlock, head_of, number_of}
 use Rattle.mlk_walk_lines.specs.Lines.{Walked, block_with, found_in, head_walk, walk_lines}
 use Rattle.mlk_walk_lines.specs.Parts.{first_or, joined, part_walk}
 use Rattle.mlk_walk_lines.proofs.Parts.{block_whole, cut}
-use Rattle.mlk_walk.specs.Verdicts.{fault_in}
 use Rattle.mlk_walk.specs.Parts.{IsWalk}
 use Rattle.mlk_walk.specs.declared.parts.PartWalk.{PartWalk}
 
@@ -27,14 +27,18 @@ cut_lines sc around after lines front back h =
     ∙ ap (λ z. part_walk sc around after (lines_from z)) (map-append line_of front back)
     ∙ cut sc around after (map line_of front) (map line_of back)
 
--- two walks, one behind the other
+-- the faults that notes are beside
+abbrev faults_of : List (LineFault × Note) → List LineFault
+faults_of noted = map (λ f. f.0) noted
+
+-- two walks, one after the other
 pub joined_walks : (first second : Walked) (f s w : PartWalk) → IsWalk first f → IsWalk second s
     → w.faults.items ≡ f.faults.items ++ s.faults.items → w.ends.items ≡ f.ends.items ++ s.ends.items → IsWalk (joined first second) w
 joined_walks first second f s w h k faults ends = (
-  faults
-      ∙ ap (λ z. z ++ s.faults.items) h.0
-      ∙ ap (λ z. map fault_in first.faults ++ z) k.0
-      ∙ sym (map-append fault_in first.faults second.faults),
+  ap faults_of faults
+      ∙ map-append (λ f. f.0) f.faults.items s.faults.items
+      ∙ ap (λ z. z ++ faults_of s.faults.items) h.0
+      ∙ ap (λ z. first.faults ++ z) k.0,
   ends ∙ ap (λ z. z ++ s.ends.items) h.1 ∙ ap (λ z. first.ends ++ z) k.1,
 )
 
@@ -65,10 +69,10 @@ block_walk sc l w h =
     ∙ sym (ap (λ (x : HeadTree × LineTrees). walk_lines sc OfBlock x.1) (fold_out-Line (HeadTree × LineTrees) line_step l))) h
 
 -- one line, after its block
-pub line_walked : (sc : Scope) (around : Around) (after : Option HeadTree) (lines : List Line) (l : Line) (block w : PartWalk) (found : List LineFault)
+pub line_walked : (sc : Scope) (around : Around) (after : Option HeadTree) (lines : List Line) (l : Line) (block w : PartWalk) (found : List (LineFault × Note))
     → lines ≡ l ∷ [] → IsWalk (walk_lines sc OfBlock (line_of l).1) block
-    → found ≡ map (found_in (number_of (head_of l))) (head_walk sc around after (block_with (line_of l).1 block.ends.items) (head_of l)).faults
-    → w.faults.items ≡ block.faults.items ++ map fault_in found
+    → map (λ f. f.0) found ≡ map (found_in (number_of (head_of l))) (head_walk sc around after (block_with (line_of l).1 block.ends.items) (head_of l)).faults
+    → w.faults.items ≡ block.faults.items ++ found
     → w.ends.items ≡ (head_walk sc around after (block_with (line_of l).1 block.ends.items) (head_of l)).cases
     → IsWalk (part_walk sc around after (lines_from (map line_of lines))) w
 line_walked sc around after lines l block w found one inner own faults ends =
@@ -76,9 +80,9 @@ line_walked sc around after lines l block w found one inner own faults ends =
     let own_of = λ (e : List Case). head_walk sc around after (block_with (line_of l).1 e) (head_of l) in
     let in_line : List Fault → List LineFault = map (found_in (number_of (head_of l))) in
     subst (λ (z : List Line). IsWalk (part_walk sc around after (lines_from (map line_of z))) w) (sym one) (
-      faults
-          ∙ ap (λ z. z ++ map fault_in found) inner.0
-          ∙ ap (λ z. map fault_in walked.faults ++ map fault_in z) (own ∙ ap (λ e. in_line (own_of e).faults) inner.1 ∙ sym (append-nil (in_line (own_of walked.ends).faults)))
-          ∙ sym (map-append fault_in walked.faults (in_line (own_of walked.ends).faults ++ [])),
+      ap faults_of faults
+          ∙ map-append (λ f. f.0) block.faults.items found
+          ∙ ap (λ z. z ++ faults_of found) inner.0
+          ∙ ap (λ z. walked.faults ++ z) (own ∙ ap (λ e. in_line (own_of e).faults) inner.1 ∙ sym (append-nil (in_line (own_of walked.ends).faults))),
       ends ∙ ap (λ e. (own_of e).cases) inner.1 ∙ sym (append-nil (own_of walked.ends).cases),
     )

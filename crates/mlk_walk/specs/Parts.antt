@@ -7,7 +7,7 @@ use Rattle.mlk_walk_state.specs.Scope.{Scope}
 use Rattle.mlk_walk_lines.specs.Endings.{around_of, head_of}
 use Rattle.mlk_walk_lines.specs.Lines.{Walked}
 use Rattle.mlk_walk_lines.specs.Parts.{part_walk}
-use Rattle.mlk_walk.specs.Verdicts.{entry_walk, fault_in}
+use Rattle.mlk_walk.specs.Verdicts.{entry_walk}
 use Rattle.mlk_walk.specs.declared.parts.Part.{Part}
 use Rattle.mlk_walk.specs.declared.parts.PartWalk.{PartWalk}
 
@@ -21,9 +21,9 @@ abbrev pub walk_of : Scope → Part → Walked
 walk_of sc part = part_walk sc (around_of part.around) (after_of part) (trees_of part)
 
 abbrev pub IsWalk : Walked → PartWalk → Type 0
-IsWalk walked w = (w.faults.items ≡ map fault_in walked.faults) × (w.ends.items ≡ walked.ends)
+IsWalk walked w = (map (λ f. f.0) w.faults.items ≡ walked.faults) × (w.ends.items ≡ walked.ends)
 
--- what two parts come to, one behind the other
+-- what two parts come to, one after the other
 abbrev pub IsJoined : PartWalk → PartWalk → PartWalk → Type 0
 IsJoined front back w = (w.faults.items ≡ front.faults.items ++ back.faults.items) × (w.ends.items ≡ front.ends.items ++ back.ends.items)
 

@@ -18,7 +18,7 @@ use mlk_program::{EntryId, Program};
 use mlk_rules::Rules;
 use mlk_syntax::{Line, Routine};
 use mlk_text::{Code, Column};
-use mlk_walk_exprs::Fault;
+use mlk_walk_exprs::{Fault, Mend, Note};
 use std::alloc::{AllocError, Global};
 
 /// What a check looks into: a program, its rules, and what is known of its entries.
@@ -30,8 +30,9 @@ pub struct Checks<'a> {
     pub entries: &'a Entries<'a>,
 }
 
-// The verdict of an entry that is certified by a block.
-fn verdict_by(
+/// The verdict of an entry, walked by `block` in place of the one that `checks` has for it: what would be found if the
+/// certificate said so.
+pub fn verdict_by(
     alloc: Global,
     checks: &Checks<'_>,
     entry: EntryId,
@@ -43,13 +44,13 @@ fn verdict_by(
     let scope = Scope::of(checks.program, checks.rules, checks.entries, entry, block);
     let walk = walk_entry(alloc, checks.program, &scope, entry)?;
     let mut verdict = Verdict::new(alloc);
-    verdict.put_found(walk.lines)?;
+    verdict.put_found(walk.lines.into_vec())?;
     verdict.put_own(walk.own)?;
     Ok(verdict)
 }
 
-/// The fault of an entry that no block certifies.
-pub(crate) fn uncertified(program: &Program, entry: EntryId) -> Fault
+// The fault of an entry that no block certifies.
+fn uncertified(program: &Program, entry: EntryId) -> Fault
     ensures { result ≡ fault_at (entry_number (line_of_entry (map routine_of program.now) entry)) 1 NoCertificate }
 {
     Fault {
@@ -69,7 +70,7 @@ pub fn verdict_of(alloc: Global, checks: &Checks<'_>, entry: EntryId) -> Result<
         return verdict_by(alloc, checks, entry, block);
     }
     let mut verdict = Verdict::new(alloc);
-    verdict.put(uncertified(checks.program, entry))?;
+    verdict.put(uncertified(checks.program, entry), Note::of(Mend::Nothing))?;
     Ok(verdict)
 }
 
@@ -116,8 +117,7 @@ fn check_one(
     if !is_checked(checks.entries, entry) {
         return Ok(());
     }
-    let verdict = verdict_of(alloc, checks, entry)?;
-    report.add(entry, &verdict)
+    report.add(entry, verdict_of(alloc, checks, entry)?)
 }
 
 // Checks the entries of a routine.

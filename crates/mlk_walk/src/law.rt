@@ -2,7 +2,7 @@
 
 ghost use Rattle.mlk_walk.specs.Laws.{FaultsInOrder};
 
-/// Faults that are put in order ascend, so none stands twice, and they are the same faults.
+/// Faults that are put in order ascend, so none is there twice, and they are the same faults.
 pub fn faults_in_order()
     ensures { FaultsInOrder }
 {}

@@ -4,7 +4,6 @@
 mod begin;
 mod check;
 mod entry;
-mod found;
 mod law;
 mod line;
 mod missing;
@@ -13,8 +12,7 @@ mod report;
 mod split;
 mod verdict;
 
-pub use check::{Checks, check_entry, report_of, verdict_of};
-pub use found::found_of;
+pub use check::{Checks, check_entry, report_of, verdict_by, verdict_of};
 pub use law::faults_in_order;
 pub use line::{check_line, walk_line};
 pub use missing::missing_entry;

@@ -62,8 +62,8 @@ fn line_faults(
     }
 }
 
-/// The faults of an entry that the walk of one of its lines gives, in the order in which they were found, each with what
-/// is told beside it; none for a line that the entry lacks. The line is counted from 1 in its routine.
+/// The faults of an entry that the walk of one of its lines gives, in the order in which they were found, each with its note;
+/// none for a line that is not one of the entry's. The line is counted from 1 in its routine.
 ///
 /// The whole entry is walked for it.
 pub fn walk_line(

@@ -8,14 +8,13 @@ ghost use Rattle.mlk_walk_lines.specs.Endings.{OfBlock, around_of, head_of};
 ghost use Rattle.mlk_walk_lines.specs.Lines.{walk_lines};
 ghost use Rattle.mlk_walk_lines.specs.Parts.{first_or};
 ghost use Rattle.mlk_walk.specs.Parts.{IsJoined, IsWalk, after_of, trees_of, walk_of};
-ghost use Rattle.mlk_walk.specs.Verdicts.{fault_in};
 
 use mlk_calls::Scope;
 use mlk_cert_parts::Case;
 use mlk_syntax::Line;
 use mlk_text::{LineNumber, List};
-use mlk_walk_exprs::Fault;
-use mlk_walk_lines::{Around, LineFaults, walk_alone, walk_lines};
+use mlk_walk_exprs::Note;
+use mlk_walk_lines::{Around, LineFault, LineFaults, walk_alone, walk_lines};
 use std::alloc::{AllocError, Global};
 use std::thread;
 use std::thread::Threads;
@@ -34,24 +33,24 @@ impl Pieces for Unseen {
     fn begun(&self, _line: LineNumber) {}
 }
 
-/// Lines of one level that stand behind one another.
+/// Lines of one level that follow one another.
 #[derive(Clone, Copy, Drop)]
 pub(crate) struct Part<'a> {
     pub(crate) lines: &'a [Line],
     pub(crate) around: Around<'a>,
-    /// the line to which a job goes on behind them, where there is one
+    /// the line that comes after them, where there is one
     pub(crate) after: Option<&'a Line>,
 }
 
-/// What the walk of a part comes to: the faults in the order in which they were found, and the cases in which the lines' own
-/// block may end.
+/// What the walk of a part comes to: the faults in the order in which they were found, each with its note, and the cases in
+/// which the lines' own block may end.
 #[derive(Drop)]
 pub(crate) struct PartWalk {
-    pub(crate) faults: Vec<Fault>,
+    pub(crate) faults: Vec<(LineFault, Note)>,
     pub(crate) ends: Vec<Case>,
 }
 
-// The line to which a job goes on before these later lines of a part.
+// The line that comes next before these later lines of a part.
 fn next_of<'a>(part: Part<'a>, later: &'a [Line]) -> Option<&'a Line>
     ensures { option_map head_of (option_copied result)
         ≡ first_or (after_of part.entry) (lines_from (map line_of later.now)) }
@@ -93,17 +92,7 @@ fn only_line(lines: &[Line]) -> Option<&Line>
     }
 }
 
-fn faults_in(alloc: Global, found: LineFaults) -> Result<Vec<Fault>, AllocError>
-    ensures { IfOk result (λ v. v.items ≡ map fault_in found) }
-{
-    let mut faults = Vec::new(alloc);
-    for (found, _) in found.into_vec() {
-        faults.push(found.fault)?;
-    }
-    Ok(faults)
-}
-
-// Two parts, one behind the other.
+// Two parts, one after the other.
 fn joined(front: PartWalk, back: PartWalk) -> Result<PartWalk, AllocError>
     ensures { IfOk result (IsJoined front back) }
 {
@@ -134,8 +123,10 @@ fn walk_whole<'a>(
         part.after,
         &mut found,
     )?;
-    let faults = faults_in(alloc, found)?;
-    Ok(PartWalk { faults, ends })
+    Ok(PartWalk {
+        faults: found.into_vec(),
+        ends,
+    })
 }
 
 // The walk of a part of this one line, whose block comes to this.
@@ -164,7 +155,7 @@ fn walk_head<'a>(
         List::of(inner),
         &mut found,
     )?;
-    let mut own = faults_in(alloc, found)?;
+    let mut own = found.into_vec();
     all.append(&mut own)?;
     Ok(PartWalk { faults: all, ends })
 }

@@ -5,7 +5,7 @@ ghost use Rattle.mlk_walk.specs.Reports.{row_of};
 
 use crate::verdict::Verdict;
 use mlk_program::EntryId;
-use mlk_walk_exprs::Fault;
+use mlk_walk_exprs::{Fault, Note};
 use std::alloc::{AllocError, Global};
 use std::marker::Model;
 
@@ -16,10 +16,11 @@ pub struct Row {
     pub fault: Fault,
 }
 
-/// The faults of a program's entries. A contract sees the rows.
-#[derive(Drop, Debug)]
+/// The faults of a program's entries, and a note beside each. A contract sees the rows.
+#[derive(Drop)]
 pub struct Report {
     rows: Vec<Row>,
+    notes: Vec<Note>,
 }
 
 impl Model for Report {
@@ -38,6 +39,7 @@ impl Report {
     {
         Report {
             rows: Vec::new(alloc),
+            notes: Vec::new(alloc),
         }
     }
 
@@ -48,6 +50,11 @@ impl Report {
         self.rows.as_slice()
     }
 
+    /// The notes, in the order of the rows that they are beside.
+    pub fn notes(&self) -> &[Note] {
+        self.notes.as_slice()
+    }
+
     /// Whether there is no row.
     pub fn is_yes(&self) -> bool
         ensures { IsTrue result ↔ (self.now ≡ []) }
@@ -56,14 +63,12 @@ impl Report {
     }
 
     /// The faults of an entry, after the others.
-    pub fn add(&mut self, entry: EntryId, verdict: &Verdict) -> Result<(), AllocError>
-        ensures { OnOk result (self.new ≡ self.old ++ map (row_of entry) verdict.now) }
+    pub fn add(&mut self, entry: EntryId, verdict: Verdict) -> Result<(), AllocError>
+        ensures { OnOk result (self.new ≡ self.old ++ map (row_of entry) verdict) }
     {
-        for fault in verdict.iter() {
-            self.rows.push(Row {
-                entry,
-                fault: *fault,
-            })?;
+        for (fault, note) in verdict.into_notes() {
+            self.rows.push(Row { entry, fault })?;
+            self.notes.push(note)?;
         }
         Ok(())
     }

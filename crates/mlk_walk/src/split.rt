@@ -56,7 +56,7 @@ fn verdict_by<P: Pieces + Sync, R: Threads + Sync>(
     let part = lines_in(checks.program, entry)?;
     let walk = walk_part(rt, alloc, &scope, part, depth, pieces)?;
     let mut verdict = Verdict::new(alloc);
-    verdict.put_all(walk.faults)?;
+    verdict.put_found(walk.faults)?;
     verdict.put_own(own)?;
     Ok(verdict)
 }

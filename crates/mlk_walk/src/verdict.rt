@@ -1,41 +1,35 @@
 // The verdict of an entry.
 
 ghost use Rattle.std.specs.Prelude.{◌≡◌, [], OnOk, map};
+ghost use Rattle.std.specs.BTreeMap.{keys};
 ghost use Rattle.mlk_walk.specs.Faults.{put_fault, put_faults};
 ghost use Rattle.mlk_walk.specs.Verdicts.{fault_in};
 
 use mlk_walk_exprs::{Fault, Faults, Found, Note};
-use mlk_walk_lines::{LineFault, LineFaults};
+use mlk_walk_lines::LineFault;
 use std::alloc::{AllocError, Global};
-use std::collections::BTreeSet;
-use std::collections::btree_set::Iter;
+use std::collections::BTreeMap;
+use std::collections::btree_map::Keys;
 use std::marker::Model;
 
-/// The faults of an entry, each once, ascending by line, column and number.
+/// The faults of an entry, each once, ascending by line, column and number, and a note beside each: of a fault that several
+/// cases have, that of the first. A contract sees the faults.
 #[derive(Drop)]
 pub struct Verdict {
-    faults: BTreeSet<Fault>,
+    notes: BTreeMap<Fault, Note>,
 }
 
 impl Model for Verdict {
     ghost use Rattle.std.specs.Prelude.{List};
+    ghost use Rattle.std.specs.BTreeMap.{keys};
     ghost use Rattle.mlk_walk_exprs.specs.declared.walk.Fault.{Fault};
+    ghost use Rattle.mlk_walk.specs.Laws.{IsAscending};
 
     ghost Value = { List Fault };
 
-    ghost view = { λ v. v.faults.keys };
-}
+    ghost view = { λ v. keys v.notes };
 
-fn fault_of(found: Found) -> Fault
-    ensures { result ≡ found.fault }
-{
-    found.fault
-}
-
-fn fault_found(found: (LineFault, Note)) -> Fault
-    ensures { result ≡ fault_in found.0 }
-{
-    found.0.fault
+    ghost invariant = { λ v. IsAscending (keys v.notes) };
 }
 
 impl Verdict {
@@ -44,15 +38,16 @@ impl Verdict {
         ensures { result ≡ [] }
     {
         Verdict {
-            faults: BTreeSet::new(alloc),
+            notes: BTreeMap::new(alloc),
         }
     }
 
-    /// One more fault.
-    pub(crate) fn put(&mut self, fault: Fault) -> Result<(), AllocError>
+    /// One more fault. Its note takes the place of an older one.
+    #[tactic(auto, using(crate::proofs::Ordered::put_ascends))]
+    pub(crate) fn put(&mut self, fault: Fault, note: Note) -> Result<(), AllocError>
         ensures { OnOk result (self.new ≡ put_fault fault self.old) }
     {
-        self.faults.insert(fault)?;
+        self.notes.insert(fault, note)?;
         Ok(())
     }
 
@@ -62,40 +57,35 @@ impl Verdict {
         ensures { OnOk result (self.new ≡ put_faults faults self.old) }
     {
         let mut left = faults.into_vec();
-        while let Some(found) = left.pop() {
-            self.put(fault_of(found))?;
+        while let Some(Found { fault, note }) = left.pop() {
+            self.put(fault, note)?;
         }
         Ok(())
     }
 
     /// The faults that the walks of lines found too.
     #[tactic(auto, using(crate::proofs::Ascending::put_last_of))]
-    pub(crate) fn put_found(&mut self, faults: LineFaults) -> Result<(), AllocError>
-        ensures { OnOk result (self.new ≡ put_faults (map fault_in faults) self.old) }
-    {
-        let mut left = faults.into_vec();
-        while let Some(found) = left.pop() {
-            self.put(fault_found(found))?;
-        }
-        Ok(())
-    }
-
-    /// These faults too.
-    #[tactic(auto, using(crate::proofs::Ascending::put_both))]
-    pub(crate) fn put_all(&mut self, faults: Vec<Fault>) -> Result<(), AllocError>
-        ensures { OnOk result (self.new ≡ put_faults faults.items self.old) }
+    pub(crate) fn put_found(&mut self, faults: Vec<(LineFault, Note)>) -> Result<(), AllocError>
+        ensures { OnOk result (self.new ≡ put_faults (map fault_in (map (λ f. f.0) faults.items)) self.old) }
     {
         let mut left = faults;
-        while let Some(fault) = left.pop() {
-            self.put(fault)?;
+        while let Some((found, note)) = left.pop() {
+            self.put(found.fault, note)?;
         }
         Ok(())
     }
 
     /// The faults, in order.
-    pub fn iter(&self) -> Iter<'_, Fault>
+    pub fn iter(&self) -> Keys<'_, Fault, Note>
         ensures { result ≡ self.now }
     {
-        self.faults.iter()
+        self.notes.keys()
+    }
+
+    /// The faults, in order, each with its note.
+    pub fn into_notes(self) -> BTreeMap<Fault, Note>
+        ensures { keys result ≡ self }
+    {
+        self.notes
     }
 }

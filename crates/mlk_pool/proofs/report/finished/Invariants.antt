@@ -11,4 +11,4 @@ abbrev pub invariant-loop-entry : goal.invariant-loop-entry
 invariant-loop-entry g l =
     (l.report ++ flat_map (rows_of (map routine_of l.checks.program.now) l.checks.rules.now l.checks.entries.now) (drop l.entry-index l.entries)
     ≡ flat_map (rows_of (map routine_of l.checks.program.now) l.checks.rules.now l.checks.entries.now) l.entries)
-    × AllZip (IsSlotOf g.N.Inputs.given) (filter (is_certified l.checks.entries.now.0) (drop l.entry-index l.entries)) l.left
+    × AllZip (IsSlotOf g.N.Inputs.given) (filter (is_certified l.checks.entries.now.0) (drop l.entry-index l.entries)) l.left.items

@@ -1,9 +1,6 @@
-use Rattle.std.proofs.Common.{◌∙◌, sym, ap, map, filter, subst, List}
-use Rattle.std.specs.List.{AllZip}
+use Rattle.std.proofs.Common.{◌∙◌, ap, map, filter}
 use Rattle.mlk_syntax.specs.Views.{routine_of}
-use Rattle.mlk_pool.specs.declared.board.Slot.{Slot}
-use Rattle.mlk_pool.specs.Given.{is_certified, tasks_of}
-use Rattle.mlk_pool.specs.Boards.{IsSlotOf}
+use Rattle.mlk_pool.specs.Given.{is_certified}
 use Rattle.mlk_pool.proofs.Runs.{tasks_known, slots_known}
 use Rattle.mlk_pool.proofs.report.report_with.Goals as goal
 
@@ -14,6 +11,6 @@ of-requires g c =
 
 pub finished-requires-clause-slots : goal.finished-requires-clause-slots
 finished-requires-clause-slots g c =
-    slots_known g.N.Inputs.given (map routine_of c.args.checks.now.program.now) c.args.checks.now.rules.now c.args.checks.now.entries.now c.as_slice-2.result.now c.as_slice-3.result.now
+    slots_known g.N.Inputs.given (map routine_of c.args.checks.now.program.now) c.args.checks.now.rules.now c.args.checks.now.entries.now c.as_slice-2.result.now c.into_slots-slots.result.items
     c.requires.inputs (c.as_slice-2.ensures.value ∙ c.in_ok-entries.ensures)
-    (subst (λ (l : List Slot). AllZip (IsSlotOf g.N.Inputs.given) (tasks_of g.N.Inputs.given) l) (sym c.as_slice-3.ensures.value) c.into_slots-slots.ensures)
+    c.into_slots-slots.ensures

@@ -1,0 +1,16 @@
+//! Where what an entry asks of its callers comes from: the touch, acquisition, release or change behind a summary, and the calls on
+//! the way to it. What a routine's text does with a lock near a place.
+#![tactic(auto)]
+
+mod ask;
+mod grounds;
+mod nearby;
+mod origin;
+mod routine;
+mod weakened;
+
+pub use ask::{Ask, may_change, need_like};
+pub use grounds::Grounds;
+pub use nearby::{LockEvent, LockEvents, events_near};
+pub use origin::{Origin, Trail, trail_of};
+pub use routine::{Mark, RoutineFacts};
