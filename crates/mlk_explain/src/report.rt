@@ -48,8 +48,8 @@ pub fn stories_of(
 /// Where a call is refused for what the callee asks of its callers, the place in the callee that asks for it is shown too, with
 /// the calls on the way; it comes first in a declared entry, which has no caller to ask.
 ///
-/// A line of M is shown as it is, up to a few hundred bytes round the
-/// column; before the caret a tab is a tab, and a character of several bytes is one column wide.
+/// A line of M is shown as it is, up to a few hundred bytes round the column; before the caret a tab is a tab, and a character
+/// of several bytes is one column wide.
 pub fn explained_rows(
     alloc: Global,
     grounds: &Grounds<'_>,

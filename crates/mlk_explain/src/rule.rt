@@ -139,7 +139,7 @@ fn is_written(root: &Root, written: &[u8]) -> bool {
     }
 }
 
-// Adds the families that rank what is claimed, and those of the held locks that block it.
+// Adds the families that rank what is acquired, and those of the held locks that block it.
 fn add_families(
     found: &mut Vec<RuleAt>,
     families: &[Family],

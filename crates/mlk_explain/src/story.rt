@@ -125,7 +125,7 @@ fn call_point(
     })
 }
 
-// The calls of a trail, each of which calls the entry of the next.
+// The calls of a trail: each calls the entry of the next.
 fn calls_of(
     alloc: Global,
     program: &Program<'_>,

@@ -94,9 +94,8 @@ fn step_into(
     }
 }
 
-/// Finds the place behind what `entry` asks of its callers: each callee is walked by its block without what it asks, and the
-/// first line that then has a fault for want of it is the place, or a call of which the same is asked. `None` if there is none
-/// within 32 calls.
+/// Finds the place behind what `entry` asks of its callers: each callee is walked by its block without what it asks. The
+/// first line that then has such a fault is the place, or a call that asks the same. `None` if there is none within 32 calls.
 pub fn trail_of(
     alloc: Global,
     grounds: &Grounds<'_>,

@@ -17,7 +17,7 @@ pub enum Part {
     Name,
     /// the root of the name at the column
     Root,
-    /// ` of rank N`, of what is claimed at the column, if it is known
+    /// ` of rank N`, of what is acquired at the column, if it is known
     OfRank,
     /// the rank in what mends the fault
     MendRank,

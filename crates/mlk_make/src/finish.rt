@@ -80,7 +80,7 @@ fn written(
     }
 }
 
-/// The certificate of all entries of which something is known. It has no text, so that no limit of texts is asked.
+/// The certificate of all entries about which something is known. It has no text, so no limit on texts applies.
 pub(crate) fn certificate_in(alloc: Global, maker: Maker) -> Result<Certificate, Failure<MakeError>>
     ensures refused { IfErr result (λ e. IfRefused e IsUnspelled) }
 {
@@ -92,7 +92,7 @@ pub(crate) fn certificate_in(alloc: Global, maker: Maker) -> Result<Certificate,
     }
 }
 
-/// The certificate of all entries of which something is known, and its text in a format.
+/// The certificate of all entries about which something is known, and its text in a format.
 pub(crate) fn finish(
     alloc: Global,
     maker: Maker,

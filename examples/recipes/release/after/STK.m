@@ -1,4 +1,4 @@
-ISSUE(I,N) ; gives out N pieces, if there are so many
+ISSUE(I,N) ; gives out N pieces, if that many are left
  IF $GET(^STK(I))<N QUIT 0
  LOCK +^STK(I)
  SET ^STK(I)=$GET(^STK(I))-N

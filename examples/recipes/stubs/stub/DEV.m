@@ -1,5 +1,5 @@
-OPEN(FILE) ; stands for OPEN^DEV: $TEST may be 0 or 1 after it; no lock, no global, no local changes
+OPEN(FILE) ; replaces OPEN^DEV: $TEST may be 0 or 1 after it; no lock, no global, no local changes
  IF $RANDOM(2)
  QUIT
-CLOSE(FILE) ; stands for CLOSE^DEV
+CLOSE(FILE) ; replaces CLOSE^DEV
  QUIT
