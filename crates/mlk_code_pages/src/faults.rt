@@ -1,0 +1,253 @@
+// What the walk finds.
+
+use crate::page::Page;
+use mlk_text::Code;
+
+pub(crate) const UNRULED: Page = Page {
+    code: Code::Unruled,
+    meaning: "a reference that does not surely lie in a rule",
+    hint: "write a rule for the global, or name the node as closely as its rule does",
+    why: "The reference doesn't surely lie in the pattern of any rule, so nothing says \
+        which lock protects the node.",
+    mend: "Write a rule for the global. Where there is one, the reference is above its \
+        pattern (`SET ^PAT=0`) or below one that doesn't end in `...`, or a subscript \
+        isn't known where the pattern has a constant or `$J`: name the node closer, or \
+        make the pattern wider.",
+    before: " SET ^VISIT(ID,$HOROLOG)=WHO",
+    after: "[[cover]]\nglobal = \"^VISIT(id,...)\"\nlock = \"^PAT(id)\"",
+};
+
+pub(crate) const UNCOVERED: Page = Page {
+    code: Code::Uncovered,
+    meaning: "a cover rule may be met and a lock that it asks for is not held",
+    hint: "claim the lock that the rule names before this, and release it after",
+    why: "The reference may meet a cover rule, and a lock that the rule asks for isn't \
+        held there: another job may change the node at the same time, and what one of \
+        the two writes is lost.",
+    mend: "Claim the lock before the reference, with the same local in the same place, and \
+        release it after; where the rule names two locks, claim both at once for a \
+        write, either for a read. Where it is claimed already, a claim with a timeout \
+        may have failed (ask `$TEST` first), the local may have changed since or be \
+        shared (keep its value in another one), or the reference is `$ORDER`, which \
+        looks beside its node and wants the lock of the node above.",
+    before: " NEW BAL SET BAL=$GET(^ACCT(ID,\"bal\"))\n LOCK +^ACCT(ID)",
+    after: " LOCK +^ACCT(ID)\n NEW BAL SET BAL=$GET(^ACCT(ID,\"bal\"))",
+};
+
+pub(crate) const READ_ONLY: Page = Page {
+    code: Code::ReadOnly,
+    meaning: "a write that may meet a readonly rule",
+    hint: "take the write away, or write elsewhere",
+    why: "A write may meet a readonly rule, and other jobs read the node without a lock.",
+    mend: "Take the write away, or write elsewhere. Where it meets the rule only because a \
+        subscript isn't known, make that subscript known.",
+    before: " SET ^RATE(\"last\")=ID",
+    after: " SET ^ACCT(ID,\"raised\")=$HOROLOG",
+};
+
+pub(crate) const NOT_PRIVATE: Page = Page {
+    code: Code::NotPrivate,
+    meaning: "a private rule may be met without the job's own number",
+    hint: "name the job's own part, with $JOB at the place of $J",
+    why: "The reference may meet a private rule and doesn't have `$JOB` at the place of \
+        `$J`, so it may reach other jobs' parts, as a KILL or MERGE of the node above \
+        does.",
+    mend: "Put `$JOB` there. `$ORDER(^TMP($JOB))` is 704 too, since `$ORDER` looks beside \
+        its node; a SET of `^TMP(ID)` is 701.",
+    before: " KILL ^TMP",
+    after: " KILL ^TMP($JOB)",
+};
+
+pub(crate) const PINNED: Page = Page {
+    code: Code::Pinned,
+    meaning: "a change of a name that a held lock mentions",
+    hint: "release the lock before this, or claim it by another local",
+    why: "A local changes while a lock is held whose name mentions it, so the local no \
+        longer says which lock that is.",
+    mend: "Release the lock first, or claim it by another local. At a call it is the callee \
+        that may change the local: give it a copy, or let it make the name new.",
+    before: " FOR ID=1:1:N LOCK +^ACCT(ID) SET \
+        ^ACCT(ID,\"bal\")=^ACCT(ID,\"bal\")*^RATE(\"year\")",
+    after: " FOR ID=1:1:N LOCK +^ACCT(ID) SET \
+        ^ACCT(ID,\"bal\")=^ACCT(ID,\"bal\")*^RATE(\"year\") LOCK -^ACCT(ID)",
+};
+
+pub(crate) const NOT_HELD: Page = Page {
+    code: Code::NotHeld,
+    meaning: "a release of a lock that is not listed as held",
+    hint: "hold the lock on each way here, or release it only where it is held",
+    why: "A lock is released that isn't held there, or not in every case, so the job holds \
+        less than its text seems to say.",
+    mend: "Claim it, or release it once less. Where it is held, the release names it by \
+        another local, or by one that has changed since.",
+    before: " LOCK +^ACCT(ID):5",
+    after: " LOCK +^ACCT(ID):5 ELSE  QUIT",
+};
+
+pub(crate) const UNRANKED: Page = Page {
+    code: Code::Unranked,
+    meaning: "a claim of a lock in no family",
+    hint: "write a lock rule for it, or correct the name",
+    why: "A lock is claimed that lies in no family, so it has no place in the order of \
+        ranks; claims with a timeout need one too.",
+    mend: "Write a lock rule with a rank for it, or correct the name.",
+    before: " LOCK +^NIGHT:0 ELSE  QUIT",
+    after: "[[lock]]\nname = \"^NIGHT\"\nrank = 1",
+};
+
+pub(crate) const RANK_ORDER: Page = Page {
+    code: Code::RankOrder,
+    meaning: "an untimed claim that is not above all that is held",
+    hint: "claim locks in the order of their ranks, both at once in one LOCK, or this one \
+        with a timeout",
+    why: "A lock is claimed without a timeout, and one that is held hasn't a lower rank: \
+        two jobs may each wait for what the other holds.",
+    mend: "Claim the lock of the lower rank first, or both at once in one argument, or with \
+        a timeout. At a call it is the callee that makes such a claim, by the `low` of \
+        its summary: call it before you claim, or release first.",
+    before: " LOCK +^ACCT(FROM),+^ACCT(TO)",
+    after: " LOCK +(^ACCT(FROM),^ACCT(TO))",
+};
+
+pub(crate) const HELD_AT_END: Page = Page {
+    code: Code::HeldAtEnd,
+    meaning: "a declared entry, or a job by HALT, ends with a lock held",
+    hint: "release the lock on each way out",
+    why: "A declared entry may end with a lock held, or a HALT comes where one may be \
+        held: what the lock protects may be left half done.",
+    mend: "Release it on each way out: before each QUIT, before HALT, on the last line. \
+        With a certificate of your own, an exit of a declared entry that leaves a lock \
+        held is this fault too.",
+    before: " IF ^ACCT(ID,\"bal\")<SUM QUIT",
+    after: " IF ^ACCT(ID,\"bal\")<SUM LOCK -^ACCT(ID) QUIT",
+};
+
+pub(crate) const CASE_NOT_LISTED: Page = Page {
+    code: Code::CaseNotListed,
+    meaning: "a case reaches a point that lists none including it",
+    hint: "make the certificate anew, or list the case at that point",
+    why: "A case comes to a point for which the certificate lists none that includes it, \
+        as where a line is added to the routine and the certificate stays as it is.",
+    mend: "Make the certificate anew, or list the case: `at L.0` for a line, `at L.K` for \
+        the rounds of its Kth FOR, `exit` for a QUIT or the end of the lines; or let a \
+        listed case say less.",
+    before: "at 4.0 T=* H=^PAT(ID) O=1:ID;1:W K=ID;W S=-",
+    after: "at 4.0 T=* H=^PAT(ID) O=1:ID;1:W K=ID;W S=-\nat 5.0 T=* H=- O=1:ID;1:W K=ID;W \
+        S=-",
+};
+
+pub(crate) const NEED_MISSING: Page = Page {
+    code: Code::NeedMissing,
+    meaning: "a needed lock is not held, or a declared entry has needs",
+    hint: "hold the lock at the call, or let the callee claim it",
+    why: "The callee needs a lock that isn't held at the call, so what it touches is not \
+        protected.",
+    mend: "Hold it there, or let the callee claim it. With a certificate of your own, a \
+        declared entry that has needs is this fault too: a job that begins there holds \
+        nothing, so give it a line that claims and calls.",
+    before: " LOCK +^PAT(ID) KILL ^PAT(ID,\"bed\") LOCK -^PAT(ID)\n DO \
+        NOTE(ID,\"discharged\") QUIT",
+    after: " LOCK +^PAT(ID) KILL ^PAT(ID,\"bed\")\n DO NOTE(ID,\"discharged\") LOCK \
+        -^PAT(ID) QUIT",
+};
+
+pub(crate) const SUMMARY_SHORT: Page = Page {
+    code: Code::SummaryShort,
+    meaning: "the summary leaves out a change, a claim or a release of all",
+    hint: "put into the summary what it leaves out, or make the local new first",
+    why: "The entry, or a call that it makes, does something that its summary leaves out: \
+        it changes a local that is neither new nor among the `mods`, claims without a \
+        timeout a lock of a rank below `low`, or releases all locks where `drops` is 0. \
+        Its callers are checked by that summary.",
+    mend: "Put that into the summary, or make the local new first.",
+    before: " LOCK +^WARD(W)",
+    after: " NEW B LOCK +^WARD(W)",
+};
+
+pub(crate) const NO_CERTIFICATE: Page = Page {
+    code: Code::NoCertificate,
+    meaning: "a called or declared entry without a certificate, or a JOB of one that is not \
+        declared",
+    hint: "declare the entry at which JOB begins, or make the certificate anew",
+    why: "JOB begins an entry that isn't declared, so nothing is checked of the job that \
+        begins there.",
+    mend: "Declare it, and it is checked as one at which jobs begin. With a certificate of \
+        your own, a called or declared entry that has no block is this fault too: write \
+        one, or make the certificate anew.",
+    before: " JOB COUNT(W) QUIT",
+    after: "[[entry]]\nlabel = \"COUNT^MOVE\"",
+};
+
+pub(crate) const SHARED_NAME: Page = Page {
+    code: Code::SharedName,
+    meaning: "a name passed by reference in a lock name",
+    hint: "copy the value into a local that no call passes by reference, and lock by that",
+    why: "A lock name has a local that is shared: a call passes it by reference, or fills \
+        it so where it is a formal, and then it may change under another name.",
+    mend: "Put the value into a local of its own, which no call passes by reference, and \
+        lock by that one.",
+    before: " LOCK +^REG(ID) SET ^REG(ID,\"seen\")=$HOROLOG LOCK -^REG(ID) QUIT",
+    after: " NEW K SET K=ID LOCK +^REG(K) SET ^REG(K,\"seen\")=$HOROLOG LOCK -^REG(K) QUIT",
+};
+
+pub(crate) const UNKNOWN_SUBSCRIPT: Page = Page {
+    code: Code::UnknownSubscript,
+    meaning: "a lock name with an unknown subscript",
+    hint: "put the value into a local first, and lock by that",
+    why: "A subscript of a lock name is neither a constant nor a local nor `$JOB`, so the \
+        check can't tell which lock it is.",
+    mend: "Put the value into a local first. At a call, the callee needs a lock, or leaves \
+        one held, by a formal whose actual is such a value, is passed by reference, or \
+        is left out: pass a local by value.",
+    before: " LOCK +^ACCT($PIECE(TEXT,\";\"))",
+    after: " NEW ID SET ID=$PIECE(TEXT,\";\") LOCK +^ACCT(ID)",
+};
+
+pub(crate) const FALLS_INTO_FORMALS: Page = Page {
+    code: Code::FallsIntoFormals,
+    meaning: "a line sequence that reaches a line with a formal list",
+    hint: "end the line above by QUIT",
+    why: "The lines of an entry run on into a line that has a formal list, which is there \
+        to be called.",
+    mend: "Write a QUIT before that line.",
+    before: " LOCK -^PAT(ID)\nBED(ID) ; a patient's bed; whoever calls holds the patient",
+    after: " LOCK -^PAT(ID) QUIT\nBED(ID) ; a patient's bed; whoever calls holds the patient",
+};
+
+pub(crate) const TOO_MANY_CASES: Page = Page {
+    code: Code::TooManyCases,
+    meaning: "more than 16 cases, 16 held locks or 64 own items",
+    hint: "claim in one argument what belongs together, release locks earlier, or split the \
+        line",
+    why: "Within a line there are more than 16 states, or one has more than 16 held locks \
+        or more than 64 own items: the check keeps no more apart.",
+    mend: "Claim in one argument what belongs together, release locks earlier, or split the \
+        line; in a certificate, list fewer cases.",
+    before: " LOCK \
+        +^ACCT(\"d1\"):9,+^ACCT(\"d2\"):9,+^ACCT(\"d3\"):9,+^ACCT(\"d4\"):9,+^ACCT(\"d5\"):9",
+    after: " LOCK +(^ACCT(\"d1\"),^ACCT(\"d2\"),^ACCT(\"d3\"),^ACCT(\"d4\"),^ACCT(\"d5\")):9",
+};
+
+pub(crate) const NAME_ESCAPES: Page = Page {
+    code: Code::NameEscapes,
+    meaning: "a held lock mentions a name whose binding ends",
+    hint: "release the lock before this, or let the caller claim it by a local of its own",
+    why: "A call or a block ends with a lock held whose name mentions a local that ends \
+        with it: one that was made new there, or a formal that has changed. The caller \
+        has no name for that lock.",
+    mend: "Release the lock before, or claim it by a local of the caller.",
+    before: " NEW ID SET ID=$$CLAIM()\n LOCK +^REG(N) QUIT N",
+    after: " NEW ID SET ID=$$CLAIM() LOCK +^REG(ID)\n QUIT N",
+};
+
+pub(crate) const DROPS_FRAME: Page = Page {
+    code: Code::DropsFrame,
+    meaning: "a callee that may release all locks is called while some are set aside",
+    hint: "let the callee release its own locks by name, or release yours before the call",
+    why: "The callee may release all locks, by HALT or by a LOCK without a sign or without \
+        arguments, and at the call some are held besides those that it needs: the caller \
+        would go on without them.",
+    mend: "Let the callee release its own locks by name, or release yours before the call.",
+    before: " LOCK +^WARD(W) SET ^WARD(W,\"in\")=$GET(^WARD(W,\"in\"))+1 LOCK  QUIT",
+    after: " LOCK +^WARD(W) SET ^WARD(W,\"in\")=$GET(^WARD(W,\"in\"))+1 LOCK -^WARD(W) QUIT",
+};

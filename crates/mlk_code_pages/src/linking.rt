@@ -1,0 +1,52 @@
+// What is refused where routines are linked to a program.
+
+use crate::page::Page;
+use mlk_text::Code;
+
+pub(crate) const ROUTINE_TWICE: Page = Page {
+    code: Code::RoutineTwice,
+    meaning: "two routines of one name",
+    hint: "give only one of the files",
+    why: "Two routines have one name, as the files `A.m` of two folders, or `_A.m` and \
+        `%A.m`, so a call of it could mean either. The place is the second one.",
+    mend: "Give only one of them.",
+    before: "A.m, A.m",
+    after: "A.m",
+};
+
+pub(crate) const UNKNOWN_LABEL: Page = Page {
+    code: Code::UnknownLabel,
+    meaning: "a call of a label that the called routine does not have, or of a routine that is \
+        not given or has no line",
+    hint: "correct the name, or give the routine too",
+    why: "A DO, a JOB or a `$$` names a label that its routine does not have, or a routine \
+        that was not given. What is not there can't be checked.",
+    mend: "Correct the name, or give the routine too: all that a job may run has to be \
+        there.",
+    before: " DO X",
+    after: " DO B\nB QUIT",
+};
+
+pub(crate) const ARITY: Page = Page {
+    code: Code::Arity,
+    meaning: "a call whose actual list, or want of one, does not fit the label's formal list",
+    hint: "give the label a formal list, or the call as many actuals as it takes",
+    why: "A call has an actual list, `()` too, and its label has no formal list; or it has \
+        none, and its label has formals; or there are more actuals than formals. A call \
+        without a list fits the empty formal list `()`, and fewer actuals than formals \
+        are right: the formals left over have no value.",
+    mend: "Give the label a formal list, or the call as many actuals as it takes.",
+    before: " DO B(1)\nB QUIT",
+    after: " DO B(1)\nB(N) QUIT",
+};
+
+pub(crate) const TOO_MANY: Page = Page {
+    code: Code::TooMany,
+    meaning: "more than 65,535 routines or 1,048,575 entries",
+    hint: "check the parts that don't call each other apart",
+    why: "More than 65,535 routines, or more than 1,048,575 entries (labels, and first \
+        lines without one). The place is the first routine past the limit.",
+    mend: "Check the parts that don't call each other apart.",
+    before: "mlock verify rules.toml all/*.m",
+    after: "mlock verify rules.toml bank/*.m",
+};

@@ -1,0 +1,76 @@
+// What is refused in rule files.
+
+use crate::page::Page;
+use mlk_text::Code;
+
+pub(crate) const TOML: Page = Page {
+    code: Code::Toml,
+    meaning: "a rule file that is no TOML",
+    hint: "correct the TOML of this line",
+    why: "The rule file is no UTF-8, or no TOML; a key twice in one table and an integer \
+        outside of 64 bits are such faults too.",
+    mend: "Correct the line. With `--explain` it is shown, with the words of the reader of \
+        TOML.",
+    before: "[[lock]\nname = \"^ACCT\"\nrank = 10",
+    after: "[[lock]]\nname = \"^ACCT\"\nrank = 10",
+};
+
+pub(crate) const KEY: Page = Page {
+    code: Code::Key,
+    meaning: "a key that is unknown, missing or of another type",
+    hint: "use just the keys of the section, each with a value of its type",
+    why: "The file or an element has an unknown key or a value of another type, or a key \
+        is missing.",
+    mend: "Use just the keys of the section: `name` and `rank` in `lock`; `global`, `lock` \
+        and perhaps `also` in `cover`; `global` in `private` and `readonly`; `label` in \
+        `entry`. A section is an array of tables, as `[[lock]]`, and all values but \
+        ranks are texts.",
+    before: "[[lock]]\nname = \"^ACCT\"\nrank = \"10\"",
+    after: "[[lock]]\nname = \"^ACCT\"\nrank = 10",
+};
+
+pub(crate) const PATTERN: Page = Page {
+    code: Code::Pattern,
+    meaning: "a pattern, a lock name or an entry of another form",
+    hint: "spell it as `^ACCT(id,...)`, a family as `^ACCT`, an entry as `DEP^BANK`",
+    why: "A pattern, a lock name or an entry is not spelled as rules ask, or does not suit \
+        its section.",
+    mend: "Write a pattern as `^ACCT(id,...)`: `^` and a name, then one to eight elements \
+        in parentheses, with commas and no blanks. The name of a family has literals \
+        alone; `$J` is in private patterns alone, once; a variable is in a pattern once; \
+        a cover's lock has no `...`; an entry is `LABEL^ROUTINE`.",
+    before: "[[cover]]\nglobal = \"^ACCT(id, ...)\"\nlock = \"^ACCT(id)\"",
+    after: "[[cover]]\nglobal = \"^ACCT(id,...)\"\nlock = \"^ACCT(id)\"",
+};
+
+pub(crate) const TEMPLATE_VARIABLE: Page = Page {
+    code: Code::TemplateVariable,
+    meaning: "a variable in a cover's lock that its pattern does not have",
+    hint: "use the variables of the pattern in the lock; case matters",
+    why: "A cover's lock has a variable that its pattern does not have, so nothing says \
+        which lock a node needs.",
+    mend: "Use the variables of the pattern in the lock; case matters.",
+    before: "[[cover]]\nglobal = \"^ACCT(id,...)\"\nlock = \"^ACCT(ID)\"",
+    after: "[[cover]]\nglobal = \"^ACCT(id,...)\"\nlock = \"^ACCT(id)\"",
+};
+
+pub(crate) const FAMILIES_MEET: Page = Page {
+    code: Code::FamiliesMeet,
+    meaning: "one family is a prefix of another",
+    hint: "rank one of the two families alone",
+    why: "One family is another, or is above or below it, so a lock would have two ranks.",
+    mend: "Rank one of the two alone, or families that are apart.",
+    before: "lock = [{name = \"^A\", rank = 1}, {name = \"^A(1)\", rank = 2}]",
+    after: "lock = [{name = \"^A\", rank = 1}]",
+};
+
+pub(crate) const RULES_LIMIT: Page = Page {
+    code: Code::RulesLimit,
+    meaning: "a section, a pattern, a name or a rank past its limit",
+    hint: "use at most 8 elements, ranks from 0 to 999,999, and 1,024 elements of a section",
+    why: "A section has more than 1,024 elements, a pattern or a name more than 8, or a \
+        rank is not a number from 0 to 999,999.",
+    mend: "Shorten the section or the name, or choose another rank.",
+    before: "[[lock]]\nname = \"^ACCT\"\nrank = 1000000",
+    after: "[[lock]]\nname = \"^ACCT\"\nrank = 1000",
+};
