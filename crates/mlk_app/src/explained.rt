@@ -5,7 +5,7 @@ ghost use Rattle.mlk_syntax.specs.Views.{routine_of};
 ghost use Rattle.mlk_forms.specs.Told.{IsReportTold};
 
 use mlk_cert::{Certificate, read_cert};
-use mlk_cli::ReportStyle;
+use mlk_cli::{Output, ReportStyle};
 use mlk_explain::Grounds;
 use mlk_forms::{ToldReport, report_told};
 use mlk_make::make;
@@ -19,12 +19,12 @@ use mlk_text::Failure;
 use mlk_walk::Report;
 use std::alloc::{AllocError, Global};
 
-/// The texts that explain a report: those of the rules, of the certificate where one was given, and of the routines.
+/// The texts that explain a report or a refusal: those of the rules, of the certificate where one was given, and of the routines.
 #[derive(Drop)]
 pub(crate) struct KeptTexts {
-    rules: Vec<u8>,
-    certificate: Option<Vec<u8>>,
-    routines: Vec<Vec<u8>>,
+    pub(crate) rules: Vec<u8>,
+    pub(crate) certificate: Option<Vec<u8>>,
+    pub(crate) routines: Vec<Vec<u8>>,
 }
 
 fn certificate_text(alloc: Global, work: &Work) -> Result<Option<Vec<u8>>, AllocError> {
@@ -44,13 +44,21 @@ fn routine_texts(alloc: Global, routines: &[Source<'_>]) -> Result<Vec<Vec<u8>>,
     Ok(texts)
 }
 
-/// Copies of the texts that explain a report, where it is to be explained.
+/// The texts of the routines, or none where they were not kept.
+pub(crate) fn texts_of(kept: Option<&KeptTexts>) -> &[Vec<u8>] {
+    match kept {
+        Some(texts) => texts.routines.as_slice(),
+        None => &[],
+    }
+}
+
+/// Copies of the texts that explain a report, where it is to be explained, or told as SARIF, which counts columns in characters.
 pub(crate) fn kept_texts(
     alloc: Global,
     sources: &Sources<'_>,
     style: ReportStyle,
 ) -> Result<Option<KeptTexts>, AllocError> {
-    if !style.is_explained {
+    if !style.is_explained && style.output != Output::Sarif {
         return Ok(None);
     }
     Ok(Some(KeptTexts {
@@ -141,7 +149,7 @@ pub(crate) fn told(
     let Some(texts) = kept else {
         return report_told(alloc, inputs, report, style, None);
     };
-    if report.rows().is_empty() {
+    if !style.is_explained || report.rows().is_empty() {
         return report_told(alloc, inputs, report, style, None);
     }
     match taken(link(alloc, inputs.routines))? {

@@ -20,6 +20,11 @@ impl<'a> TextLines<'a> {
         Ok(TextLines { lines })
     }
 
+    /// The lines in their order.
+    pub fn as_slice(&self) -> &[&'a [u8]] {
+        self.lines.as_slice()
+    }
+
     /// Returns the line with this number, or `None` if the text has no such line.
     pub fn line(&self, number: LineNumber) -> Option<&'a [u8]> {
         let place = (number.number() as usize).checked_sub(1)?;

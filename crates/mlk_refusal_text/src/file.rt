@@ -1,0 +1,123 @@
+// Refusals of certificates, events and whole runs, and files that can't be read.
+
+use crate::explanation::{Explanation, GivenFile};
+use crate::rule_lines::line_with;
+use mlk_code_pages::page_of;
+use mlk_excerpts::Excerpt;
+use mlk_report_text::Piece::{Bytes, Words};
+use mlk_report_text::text_of;
+use mlk_text::{Code, Column, LineNumber};
+use std::alloc::{AllocError, Global};
+use std::io::ErrorKind;
+
+// What the page of a code says, at a place.
+fn page_help(
+    alloc: Global,
+    code: Code,
+    path: Option<&str>,
+    excerpt: Option<Excerpt<'_>>,
+) -> Result<Vec<u8>, AllocError> {
+    let page = page_of(code);
+    let it = Explanation {
+        code,
+        path,
+        excerpt,
+        what: text_of(alloc, &[Words(page.meaning)])?,
+        help: page.hint,
+        note: None,
+    };
+    it.text(alloc)
+}
+
+/// Explains a refusal of this code at a line of `file`: a certificate, a file of events, or the routine at which the maker gave
+/// up.
+pub fn line_help(
+    alloc: Global,
+    code: Code,
+    file: &GivenFile<'_>,
+    line: LineNumber,
+    column: Column,
+) -> Result<Vec<u8>, AllocError> {
+    let excerpt = file.excerpt(alloc, line, column)?;
+    page_help(alloc, code, Some(file.path), excerpt)
+}
+
+/// Explains a refusal of this code that is at no place in a file.
+pub fn code_help(alloc: Global, code: Code) -> Result<Vec<u8>, AllocError> {
+    page_help(alloc, code, None, None)
+}
+
+// The line of the rule file that declares an entry.
+fn declaring_line<'a>(
+    alloc: Global,
+    rules: &'a [u8],
+    entry: &[u8],
+) -> Result<Option<Excerpt<'a>>, AllocError> {
+    let text = text_of(alloc, &[Words("\""), Bytes(entry), Words("\"")])?;
+    line_with(alloc, rules, text.as_slice())
+}
+
+/// Finds the line and the column, in bytes, at which a rule file with this text declares `entry`; `None` if it is written
+/// otherwise there.
+pub fn entry_place(
+    alloc: Global,
+    rules: &[u8],
+    entry: &[u8],
+) -> Result<Option<(LineNumber, Column)>, AllocError> {
+    match declaring_line(alloc, rules, entry)? {
+        Some(line) => Ok(Some((line.number, line.column))),
+        None => Ok(None),
+    }
+}
+
+/// Explains that the routines do not have `entry`: shows the line of the rule file that declares it, if one does.
+pub fn entry_help(
+    alloc: Global,
+    rules: &GivenFile<'_>,
+    entry: &[u8],
+) -> Result<Vec<u8>, AllocError> {
+    let excerpt = declaring_line(alloc, rules.text, entry)?;
+    page_help(alloc, Code::EntryMissing, Some(rules.path), excerpt)
+}
+
+// Why a file can't be read, and what helps.
+fn unread_words(path: &str, kind: ErrorKind) -> (&'static str, &'static str) {
+    match kind {
+        ErrorKind::NotFound if path.contains('*') || path.contains('?') => (
+            "no file matches this pattern",
+            "correct the pattern, or the folder in which mlock is run",
+        ),
+        ErrorKind::NotFound | ErrorKind::NotADirectory => (
+            "no such file",
+            "correct the path; it is taken from the folder in which mlock is run",
+        ),
+        ErrorKind::IsADirectory => ("this is a folder", "name its files, as FOLDER/*.m"),
+        ErrorKind::PermissionDenied => (
+            "the file may not be read by this user",
+            "let the user read it, as by chmod +r",
+        ),
+        ErrorKind::FileTooLarge => (
+            "the file is longer than 128 MiB",
+            "give the routines, rules or certificate themselves",
+        ),
+        _ => (
+            "the file could not be read",
+            "see whether it is there, and whether other programs can read it",
+        ),
+    }
+}
+
+/// Explains why the file at `path` can't be read.
+pub fn unread_help(alloc: Global, path: &str, kind: ErrorKind) -> Result<Vec<u8>, AllocError> {
+    let (what, help) = unread_words(path, kind);
+    text_of(
+        alloc,
+        &[
+            Words("  = refused: "),
+            Words(what),
+            Words("\n  = help: "),
+            Words(help),
+            Words("\n"),
+        ],
+    )
+}
