@@ -19,12 +19,30 @@ use mlk_text::Failure;
 use mlk_walk::Report;
 use std::alloc::{AllocError, Global};
 
-/// The texts that explain a report or a refusal: those of the rules, of the certificate where one was given, and of the routines.
+/// The texts that explain a report or a refusal: those of the rules, of the certificate or
+/// of the events where some were given, and of the routines.
 #[derive(Drop)]
 pub(crate) struct KeptTexts {
     pub(crate) rules: Vec<u8>,
     pub(crate) certificate: Option<Vec<u8>>,
+    pub(crate) events: Option<Vec<u8>>,
     pub(crate) routines: Vec<Vec<u8>>,
+    /// whether a refusal is explained by them
+    pub(crate) explains_refusals: bool,
+}
+
+/// How much is explained to whoever reads the error stream.
+#[derive(Clone, Copy, Debug, PartialEq, Eq)]
+pub enum Explaining {
+    /// what the words ask for
+    AsAsked,
+    /// refusals too, where the words don't ask for it: people read the stream on a terminal
+    Refusals,
+}
+
+/// Whether a refusal is to be explained.
+pub(crate) fn is_refusal_explained(style: ReportStyle, explaining: Explaining) -> bool {
+    style.is_explained || explaining == Explaining::Refusals
 }
 
 fn certificate_text(alloc: Global, work: &Work) -> Result<Option<Vec<u8>>, AllocError> {
@@ -33,6 +51,13 @@ fn certificate_text(alloc: Global, work: &Work) -> Result<Option<Vec<u8>>, Alloc
             Ok(Some(Vec::from_slice(alloc, certificate.as_slice())?))
         }
         Work::Make { .. } | Work::Verify { .. } | Work::Replay(_) => Ok(None),
+    }
+}
+
+fn events_text(alloc: Global, work: &Work) -> Result<Option<Vec<u8>>, AllocError> {
+    match work {
+        Work::Replay(events) => Ok(Some(Vec::from_slice(alloc, events.as_slice())?)),
+        Work::Check { .. } | Work::Make { .. } | Work::Verify { .. } => Ok(None),
     }
 }
 
@@ -52,18 +77,23 @@ pub(crate) fn texts_of(kept: Option<&KeptTexts>) -> &[Vec<u8>] {
     }
 }
 
-/// Copies of the texts that explain a report, where it is to be explained, or told as SARIF, which counts columns in characters.
+/// Copies the texts of `sources`; `None` where neither a report nor a refusal is to be explained, or told as SARIF, which counts
+/// columns in characters.
 pub(crate) fn kept_texts(
     alloc: Global,
     sources: &Sources<'_>,
     style: ReportStyle,
+    explaining: Explaining,
 ) -> Result<Option<KeptTexts>, AllocError> {
-    if !style.is_explained && style.output != Output::Sarif {
+    let explains_refusals = is_refusal_explained(style, explaining);
+    if !explains_refusals && style.output != Output::Sarif {
         return Ok(None);
     }
     Ok(Some(KeptTexts {
         rules: Vec::from_slice(alloc, sources.rules.as_slice())?,
         certificate: certificate_text(alloc, &sources.work)?,
+        events: events_text(alloc, &sources.work)?,
+        explains_refusals,
         routines: routine_texts(alloc, sources.routines.as_slice())?,
     }))
 }

@@ -9,6 +9,7 @@ mod printed;
 mod program;
 mod source;
 
+pub use explained::Explaining;
 pub use file::{LONGEST_FILE, read_whole};
 pub use mlk_watch::{Stage, Unwatched, Watch};
 pub use program::{run, run_watched, wrong_words};

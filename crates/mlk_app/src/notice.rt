@@ -1,10 +1,11 @@
 // Why there is no report, for other programs and for people.
 
-use crate::explained::KeptTexts;
+use crate::explained::{Explaining, KeptTexts};
 use crate::printed::events_code;
 use crate::source::{Files, stem_of};
 use mlk_cert::CertFault;
-use mlk_cli::{Asked, ProgramRequest, ReportStyle};
+use mlk_cli::{Asked, ProgramRequest};
+use mlk_machine::EventsFault;
 use mlk_outcome::NoReport;
 use mlk_output::{Notice, Place};
 use mlk_pool::CheckError;
@@ -111,6 +112,28 @@ fn certificate_at<'a>(
     })
 }
 
+// A place in the file of events.
+fn events_at<'a>(
+    program: &ProgramRequest<'a>,
+    texts: Option<&'a KeptTexts>,
+    fault: &EventsFault,
+) -> Option<RefusedAt<'a>> {
+    let Asked::Replay(path) = &program.asked else {
+        return None;
+    };
+    let text: &'a [u8] = match texts {
+        Some(KeptTexts {
+            events: Some(text), ..
+        }) => text.as_slice(),
+        _ => &[],
+    };
+    Some(RefusedAt {
+        file: GivenFile { path: *path, text },
+        line: Some(fault.line),
+        column: None,
+    })
+}
+
 // The rule file, with its text where that was kept.
 fn rule_file<'a>(program: &ProgramRequest<'a>, texts: Option<&'a KeptTexts>) -> GivenFile<'a> {
     let text: &'a [u8] = match texts {
@@ -190,6 +213,7 @@ fn refused_at<'a>(
             let name = routine_in(entry.as_bytes());
             Ok(routine_at(program, texts, name, fault.line, fault.column))
         }
+        NoReport::Events(fault) => Ok(events_at(program, texts, fault)),
         _ => Ok(None),
     }
 }
@@ -249,16 +273,14 @@ fn place_help(
     line_help(alloc, code, &at.file, line, column)
 }
 
-/// Writes what explains a refusal below its line: the line of the file, what is wrong there and what helps.
-pub(crate) fn refusal_help(
+// What explains a refusal of this code below its line.
+fn explanation(
     alloc: Global,
+    code: Code,
     refusal: &NoReport,
     program: &ProgramRequest<'_>,
     texts: &KeptTexts,
 ) -> Result<Vec<u8>, AllocError> {
-    let Some(code) = refusal_code(refusal) else {
-        return Ok(Vec::new(alloc));
-    };
     let rules = rule_file(program, Some(texts));
     match refusal {
         NoReport::Check(CheckError::Rules(fault)) => return rules_help(alloc, &rules, fault),
@@ -276,15 +298,46 @@ pub(crate) fn refusal_help(
     }
 }
 
+/// Writes what explains a refusal below its line: the line of the file, what is wrong there and what helps. Nothing is written
+/// where no explanation is asked for.
+pub(crate) fn refusal_help(
+    alloc: Global,
+    refusal: &NoReport,
+    program: &ProgramRequest<'_>,
+    kept: Option<&KeptTexts>,
+) -> Result<Vec<u8>, AllocError> {
+    match (refusal_code(refusal), kept) {
+        (Some(code), Some(texts)) if texts.explains_refusals => {
+            explanation(alloc, code, refusal, program, texts)
+        }
+        _ => Ok(Vec::new(alloc)),
+    }
+}
+
+/// Writes what explains why the text of a certificate at `path` is refused; nothing unless `explaining` asks for it.
+pub(crate) fn certificate_help(
+    alloc: Global,
+    path: &str,
+    text: &[u8],
+    fault: &CertFault,
+    explaining: Explaining,
+) -> Result<Vec<u8>, AllocError> {
+    if explaining == Explaining::AsAsked {
+        return Ok(Vec::new(alloc));
+    }
+    let file = GivenFile { path, text };
+    line_help(alloc, fault.code, &file, fault.line, Column::new(1))
+}
+
 /// Writes why the file at `path` can't be read, below the line that says so: it is read once more. Nothing is written where no
 /// explanations are asked for, or where it can be read now.
 pub(crate) fn why_unread<F: Files>(
     alloc: Global,
     files: &F,
     path: &str,
-    style: ReportStyle,
+    is_explained: bool,
 ) -> Result<Vec<u8>, AllocError> {
-    if !style.is_explained {
+    if !is_explained {
         return Ok(Vec::new(alloc));
     }
     match files.read(alloc, path) {

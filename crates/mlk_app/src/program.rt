@@ -9,8 +9,8 @@ ghost use Rattle.mlk_app.specs.Ran.{style_in, status_of, PrintsReport, PrintsOut
 ghost use Rattle.mlk_forms.specs.Told.{IsNoticed};
 ghost use Rattle.mlk_outcome.specs.Checked.{IsOfOpenGate, IsNotShut};
 
-use crate::explained::{KeptTexts, kept_texts, texts_of, told};
-use crate::notice::{notice_of, refusal_help, why_unread};
+use crate::explained::{Explaining, KeptTexts, is_refusal_explained, kept_texts, texts_of, told};
+use crate::notice::{certificate_help, notice_of, refusal_help, why_unread};
 use crate::printed::{
     certificate_line, events_line, fault_line, file_line, missing_line, no_page_line, rules_line,
     stuck_line, workers_line,
@@ -176,21 +176,6 @@ fn notice(
     }
 }
 
-// What explains a refusal below its line: nothing, unless it is asked for.
-fn help(
-    alloc: Global,
-    refusal: &NoReport,
-    program: &ProgramRequest<'_>,
-    kept: Option<&KeptTexts>,
-) -> Result<Vec<u8>, AllocError> {
-    match kept {
-        Some(texts) if style_in(&program.asked).is_explained => {
-            refusal_help(alloc, refusal, program, texts)
-        }
-        _ => Ok(Vec::new(alloc)),
-    }
-}
-
 fn refusal_answer(
     alloc: Global,
     refusal: &NoReport,
@@ -209,17 +194,20 @@ fn refusal_answer(
     let Ok(beside) = notice(alloc, refusal, program, &line, kept.as_ref()) else {
         return Answer::OutOfMemory;
     };
-    match help(alloc, refusal, program, kept.as_ref()) {
+    match refusal_help(alloc, refusal, program, kept.as_ref()) {
         Ok(help) => Answer::Refused(line, beside, help),
         Err(AllocError) => Answer::OutOfMemory,
     }
 }
 
-fn fault_answer(alloc: Global, fault: &CertFault) -> Answer
+fn fault_answer(alloc: Global, fault: &CertFault, help: Result<Vec<u8>, AllocError>) -> Answer
     ensures { TellsFault fault.now result }
 {
+    let Ok(help) = help else {
+        return Answer::OutOfMemory;
+    };
     match certificate_line(alloc, fault) {
-        Ok(line) => Answer::Refused(line, None, Vec::new(alloc)),
+        Ok(line) => Answer::Refused(line, None, help),
         Err(AllocError) => Answer::OutOfMemory,
     }
 }
@@ -259,13 +247,14 @@ fn answer_program<R: Threads + Wait + Sync, F: Files, W: Watch>(
     alloc: Global,
     program: &ProgramRequest<'_>,
     files: &F,
+    explaining: Explaining,
     watch: &W,
 ) -> Answer
     ensures { Answers (F.holds files.now) (F.lacks files.now) (wanted.Program program.now) result }
 {
     match read_files(alloc, files, program) {
         Ok(sources) => {
-            let kept = kept_texts(alloc, &sources, style_in(&program.asked));
+            let kept = kept_texts(alloc, &sources, style_in(&program.asked), explaining);
             match check_texts(rt, alloc, sources, watch) {
                 Ok(checked) => answer_of(alloc, checked, program, kept, watch),
                 Err(refusal) => refusal_answer(alloc, &refusal, program, kept),
@@ -273,8 +262,8 @@ fn answer_program<R: Threads + Wait + Sync, F: Files, W: Watch>(
         }
         Err(FileError::OutOfMemory) => Answer::OutOfMemory,
         Err(FileError::Unread(path)) => {
-            let style = style_in(&program.asked);
-            unread_answer(alloc, path, why_unread(alloc, files, path, style))
+            let is_explained = is_refusal_explained(style_in(&program.asked), explaining);
+            unread_answer(alloc, path, why_unread(alloc, files, path, is_explained))
         }
     }
 }
@@ -285,6 +274,7 @@ fn answer_conversion<F: Files, W: Watch>(
     certificate: &str,
     format: Format,
     files: &F,
+    explaining: Explaining,
     watch: &W,
 ) -> Answer
     ensures { Answers (F.holds files.now) (F.lacks files.now) (wanted.Convert certificate.entry format) result }
@@ -293,10 +283,17 @@ fn answer_conversion<F: Files, W: Watch>(
         Ok(text) => match converted(alloc, text.as_slice(), cert_format(format), watch) {
             Ok(text) => Answer::Report(ReportText::of(text), YES),
             Err(Failure::OutOfMemory) => Answer::OutOfMemory,
-            Err(Failure::Refused(fault)) => fault_answer(alloc, &fault),
+            Err(Failure::Refused(fault)) => {
+                let text = text.as_slice();
+                let help = certificate_help(alloc, certificate, text, &fault, explaining);
+                fault_answer(alloc, &fault, help)
+            }
         },
         Err(FileError::OutOfMemory) => Answer::OutOfMemory,
-        Err(FileError::Unread(path)) => unread_answer(alloc, path, Ok(Vec::new(alloc))),
+        Err(FileError::Unread(path)) => {
+            let is_explained = explaining == Explaining::Refusals;
+            unread_answer(alloc, path, why_unread(alloc, files, path, is_explained))
+        }
     }
 }
 
@@ -306,6 +303,7 @@ fn answer_survey<R: Threads + Wait + Sync, F: Files, W: Watch>(
     alloc: Global,
     survey: &SurveyRequest<'_>,
     files: &F,
+    explaining: Explaining,
     watch: &W,
 ) -> Answer
     ensures { Answers (F.holds files.now) (F.lacks files.now) (wanted.Survey survey.now) result }
@@ -316,7 +314,10 @@ fn answer_survey<R: Threads + Wait + Sync, F: Files, W: Watch>(
             Err(AllocError) => Answer::OutOfMemory,
         },
         Err(FileError::OutOfMemory) => Answer::OutOfMemory,
-        Err(FileError::Unread(path)) => unread_answer(alloc, path, Ok(Vec::new(alloc))),
+        Err(FileError::Unread(path)) => {
+            let is_explained = explaining == Explaining::Refusals;
+            unread_answer(alloc, path, why_unread(alloc, files, path, is_explained))
+        }
     }
 }
 
@@ -326,17 +327,18 @@ fn answer_request<R: Threads + Wait + Sync, F: Files, W: Watch>(
     alloc: Global,
     request: &Request<'_>,
     files: &F,
+    explaining: Explaining,
     watch: &W,
 ) -> Answer
     ensures { Answers (F.holds files.now) (F.lacks files.now) request.now result }
 {
     match request {
-        Request::Program(program) => answer_program(rt, alloc, program, files, watch),
+        Request::Program(program) => answer_program(rt, alloc, program, files, explaining, watch),
         Request::Convert {
             certificate,
             format,
-        } => answer_conversion(alloc, *certificate, *format, files, watch),
-        Request::Survey(survey) => answer_survey(rt, alloc, survey, files, watch),
+        } => answer_conversion(alloc, *certificate, *format, files, explaining, watch),
+        Request::Survey(survey) => answer_survey(rt, alloc, survey, files, explaining, watch),
         Request::Explain(code) => answer_page(alloc, *code),
     }
 }
@@ -346,12 +348,13 @@ fn answer_words<R: Threads + Wait + Sync, F: Files, W: Watch>(
     alloc: Global,
     words: &[String],
     files: &F,
+    explaining: Explaining,
     watch: &W,
 ) -> Answer
     ensures { AnswersWords (F.holds files.now) (F.lacks files.now) words.now result }
 {
     match read_request(alloc, words) {
-        Ok(request) => answer_request(rt, alloc, &request, files, watch),
+        Ok(request) => answer_request(rt, alloc, &request, files, explaining, watch),
         Err(UsageError::OutOfMemory) => Answer::OutOfMemory,
         Err(UsageError::Usage(text)) => Answer::Usage(text),
     }
@@ -452,22 +455,25 @@ pub fn run<R: Threads + Wait + Sync, F: Files, O: Write, E: Write>(
 ) -> u8
     ensures { Ran (F.holds files.now) (F.lacks files.now) words.now (O.contents out.old) (O.contents out.new) result }
 {
-    run_watched(rt, alloc, words, files, &Unwatched, out, err)
+    let explaining = Explaining::AsAsked;
+    run_watched(rt, alloc, words, files, explaining, &Unwatched, out, err)
 }
 
-/// Does what `run` does, and shows `watch` how far it has come. Before anything is written, it says that it is at its end.
+/// Does what `run` does, explains as much as `explaining` says, and shows `watch` how far it has come. Before anything is written,
+/// it says that it is at its end.
 pub fn run_watched<R: Threads + Wait + Sync, F: Files, W: Watch, O: Write, E: Write>(
     rt: &R,
     alloc: Global,
     words: &[String],
     files: &F,
+    explaining: Explaining,
     watch: &W,
     out: &mut O,
     err: &mut E,
 ) -> u8
     ensures { Ran (F.holds files.now) (F.lacks files.now) words.now (O.contents out.old) (O.contents out.new) result }
 {
-    let answer = answer_words(rt, alloc, words, files, watch);
+    let answer = answer_words(rt, alloc, words, files, explaining, watch);
     watch.end();
     say(&answer, out, err)
 }
