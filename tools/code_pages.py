@@ -139,7 +139,7 @@ def main():
     wrong = [*left_out(all_pages, made), *unprinted(all_pages, str(pathlib.Path(sys.argv[1]).resolve()))]
     wrong += [f'{it}: not what {PAGES} says; to make it anew: python3 tools/code_pages.py {sys.argv[1]}' for it in differing]
     print(*wrong, sep='\n', end='\n' if wrong else '')
-    print(f'pages of codes: {3 * len(all_pages) + len(made)} compared, {len(wrong)} differ')
+    print(f'pages of codes: {len(all_pages)} passed, {len(wrong)} failed')
     return 1 if wrong else 0
 
 

@@ -322,7 +322,7 @@ def main():
             if found:
                 print(f'mlock {" ".join(it.words)}:', *found, sep='\n  ')
     note = '' if jq else '; jq is not installed, so the report for GitLab was not tried'
-    print(f'reports as SARIF: {tried - wrong} passed, {wrong} failed{note}')
+    print(f'reports for build servers: {tried - wrong} passed, {wrong} failed{note}')
     return 1 if wrong else 0
 
 

@@ -19,7 +19,7 @@ pub(crate) const STRICT_HELP: &str =
     "Tells also where a real system may do otherwise than the standard says, and ends with status 1 there";
 
 pub(crate) const EXPLAIN_HELP: &str =
-    "Shows below each fault its line, what is held there, the rules and what mends it; in text alone";
+    "Shows below each fault its line, what is held there, the rules and what mends it, and below a refusal its line and what helps; in text alone";
 
 pub(crate) const SURVEY_OUTPUT_HELP: &str = "How the survey is told: text or json";
 
