@@ -17,9 +17,11 @@ use std::alloc::{AllocError, Global};
 pub struct Facts<'a> {
     /// how many routines were read
     pub read: usize,
-    /// those that were not
+    /// those that were not, each at its first fault
     pub refused: Vec<RefusedRoutine<'a>>,
-    /// the same by code and word, most first
+    /// where else their lines can't be read
+    pub further: Vec<RefusedRoutine<'a>>,
+    /// the routines that were not read, by the code and the word of their first faults, most first
     pub refusal_counts: Vec<RefusalCount<'a>>,
     /// what is in those that were read
     pub found: InRoutines<'a>,

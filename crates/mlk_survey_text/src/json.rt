@@ -26,6 +26,7 @@ fn reading_value(alloc: Global, facts: &Facts<'_>) -> Result<Value, AllocError> 
         Value::from(facts.refused.len()),
     )?;
     put_values(&mut object, alloc, "refusals", &facts.refused)?;
+    put_values(&mut object, alloc, "further", &facts.further)?;
     put_values(&mut object, alloc, "reasons", &facts.refusal_counts)?;
     put_values(&mut object, alloc, "missing", &facts.found.missing)?;
     Ok(Value::Object(object))

@@ -26,11 +26,14 @@ fn push_list<T: Told>(
 }
 
 /// The text of a survey: a title for each list with how many things it has, and below it a line for each of the first `most`
-/// of them. What is refused comes first, what a system may do otherwise last.
+/// of them. What is refused comes first, with a list of its further lines if there are any, what a system may do otherwise last.
 pub fn survey_text(alloc: Global, facts: &Facts<'_>, most: usize) -> Result<String, AllocError> {
     let mut text = format!(in alloc; "routines read {}\n", facts.read)?;
     push_list(&mut text, alloc, "routines refused", &facts.refused, most)?;
     push_list(&mut text, alloc, "reasons", &facts.refusal_counts, most)?;
+    if !facts.further.is_empty() {
+        push_list(&mut text, alloc, "further lines refused", &facts.further, most)?;
+    }
     push_list(
         &mut text,
         alloc,
