@@ -29,7 +29,8 @@ struct Units {
 impl Units {
     fn push(&mut self, unit: u32) -> Result<(), AllocError> {
         if self.is_line_start {
-            self.starts.push(self.units.len())?;
+            let start = self.units.len();
+            self.starts.push(start)?;
         }
         self.is_line_start = unit == LINE_FEED;
         self.units.push(unit)?;
@@ -39,9 +40,8 @@ impl Units {
     // Adds a character, as one unit or as two.
     fn push_character(&mut self, character: char) -> Result<(), AllocError> {
         let code = u32::from(character);
-        let above = match code.checked_sub(0x10000) {
-            None => return self.push(code),
-            Some(above) => above,
+        let Some(above) = code.checked_sub(0x10000) else {
+            return self.push(code);
         };
         self.push(0xd800 | ((above >> 10) & 0x3ff))?;
         self.push(0xdc00 | (above & 0x3ff))
@@ -132,13 +132,13 @@ impl<'a> HashedLines<'a> {
     }
 }
 
-/// The lines of the files of a program, each kept once it was looked up.
+/// The lines of the routines of a program. It keeps the last routine, since results are in the order of routines.
 #[derive(Drop)]
 pub(crate) struct ProgramLines<'a> {
     alloc: Global,
     texts: &'a [Vec<u8>],
-    // by the routine's number
-    known: BTreeMap<usize, HashedLines<'a>>,
+    // the number of a routine, and its lines
+    last: Option<(usize, HashedLines<'a>)>,
 }
 
 impl<'a> ProgramLines<'a> {
@@ -147,27 +147,26 @@ impl<'a> ProgramLines<'a> {
         ProgramLines {
             alloc,
             texts,
-            known: BTreeMap::new(alloc),
+            last: None,
         }
     }
 
-    /// Looks up the lines of the routine of this number.
+    /// Looks up the lines of the routine of this number, unless it was the last one.
     pub(crate) fn look_up(&mut self, routine: usize) -> Result<(), AllocError> {
-        if self.known.contains_key(&routine) {
+        if matches!(&self.last, Some((number, _)) if *number == routine) {
             return Ok(());
         }
-        let texts: &'a [Vec<u8>] = self.texts;
-        let text: &'a [u8] = match texts.get(routine) {
+        let text: &'a [u8] = match self.texts.get(routine) {
             Some(text) => text.as_slice(),
             None => &[],
         };
-        let lines = HashedLines::of(self.alloc, text)?;
-        self.known.insert(routine, lines)?;
+        self.last = Some((routine, HashedLines::of(self.alloc, text)?));
         Ok(())
     }
 
-    /// Returns a line of the routine of this number, or `None` if it was not looked up or has no such line.
-    pub(crate) fn line(&self, routine: usize, number: LineNumber) -> Option<HashedLine<'a>> {
-        self.known.get(&routine)?.line(number)
+    /// Returns a line of the routine that was looked up last, or `None` if it has no such line.
+    pub(crate) fn line(&self, number: LineNumber) -> Option<HashedLine<'a>> {
+        let (_, lines) = self.last.as_ref()?;
+        lines.line(number)
     }
 }

@@ -58,9 +58,8 @@ fn add_faults<'a>(
 ) -> Result<(), AllocError> {
     let mut counts = BTreeMap::new(alloc);
     for row in rows {
-        let routine = row.entry.routine();
-        lines.look_up(routine)?;
-        let line = lines.line(routine, row.fault.line);
+        lines.look_up(row.entry.routine())?;
+        let line = lines.line(row.fault.line);
         let finding = fault_finding(alloc, inputs, row, line)?;
         values.push(result_value(alloc, &mut counts, &finding)?)?;
     }
@@ -103,9 +102,8 @@ fn add_hazards<'a>(
 ) -> Result<(), AllocError> {
     let mut counts = BTreeMap::new(alloc);
     for at in hazards {
-        let routine = inputs.number_of(at.position.routine);
-        lines.look_up(routine)?;
-        let line = lines.line(routine, at.position.line);
+        lines.look_up(inputs.number_of(at.position.routine))?;
+        let line = lines.line(at.position.line);
         let finding = hazard_finding(alloc, inputs, at, line)?;
         values.push(result_value(alloc, &mut counts, &finding)?)?;
     }

@@ -7,7 +7,7 @@ use std::alloc::{AllocError, Global};
 
 // The number of the line at this place, from 0.
 fn number_at(place: usize) -> LineNumber {
-    LineNumber::new(Column::at(place.saturating_add(1)).number())
+    LineNumber::new(u32::try_from(place.saturating_add(1)).unwrap_or(u32::MAX))
 }
 
 /// Shows a line, by its place from 0, with a caret below the byte at `offset`.
