@@ -24,6 +24,12 @@ import urllib.parse
 
 TOP = pathlib.Path(__file__).resolve().parent.parent
 
+# Texts and the hashes of their lines, from the tests of upload-sarif.
+HASHED = [
+    (b'', ['c129715d7a2bc9a3']),
+    (b' a\nb\n  \t\tc\n d', ['271789c17abda88f', '54703d4cd895b18', '180aee12dab6264', 'a23a3dc5e078b07b']),
+]
+
 LEVELS = ['none', 'note', 'warning', 'error']
 
 # The objects, by their names in the schema: their members, each with what it is, and `!` where it must be there. A type is a JSON
@@ -308,6 +314,8 @@ def main():
     program = str(pathlib.Path(sys.argv[1]).resolve())
     tried = wrong = 0
     jq = shutil.which('jq')
+    if any(list(line_hashes(text).values()) != [f'{it}:1' for it in hashes] for text, hashes in HASHED):
+        sys.exit('line_hashes is not what upload-sarif computes')
     version = subprocess.run([program, '--version'], stderr=subprocess.PIPE, check=False).stderr.decode()
     with tempfile.TemporaryDirectory(prefix='sarif-') as room:
         for it in runs(program, room):
