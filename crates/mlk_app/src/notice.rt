@@ -86,6 +86,13 @@ fn routine_at<'a>(
     })
 }
 
+fn given_text(text: &Option<Vec<u8>>) -> &[u8] {
+    match text {
+        Some(text) => text.as_slice(),
+        None => &[],
+    }
+}
+
 // A place in the file of the certificate, where one was given.
 fn certificate_at<'a>(
     program: &ProgramRequest<'a>,
@@ -95,12 +102,9 @@ fn certificate_at<'a>(
     let Asked::Check { certificate, .. } = &program.asked else {
         return None;
     };
-    let text: &'a [u8] = match texts {
-        Some(KeptTexts {
-            certificate: Some(text),
-            ..
-        }) => text.as_slice(),
-        _ => &[],
+    let text = match texts {
+        Some(texts) => given_text(&texts.certificate),
+        None => &[],
     };
     Some(RefusedAt {
         file: GivenFile {
@@ -121,11 +125,9 @@ fn events_at<'a>(
     let Asked::Replay(path) = &program.asked else {
         return None;
     };
-    let text: &'a [u8] = match texts {
-        Some(KeptTexts {
-            events: Some(text), ..
-        }) => text.as_slice(),
-        _ => &[],
+    let text = match texts {
+        Some(texts) => given_text(&texts.events),
+        None => &[],
     };
     Some(RefusedAt {
         file: GivenFile { path: *path, text },
@@ -282,18 +284,14 @@ fn explanation(
     texts: &KeptTexts,
 ) -> Result<Vec<u8>, AllocError> {
     let rules = rule_file(program, Some(texts));
-    match refusal {
-        NoReport::Check(CheckError::Rules(fault)) => return rules_help(alloc, &rules, fault),
-        NoReport::Check(CheckError::Entry(entry)) => {
-            return entry_help(alloc, &rules, entry.as_bytes());
-        }
-        _ => {}
-    }
     let at = refused_at(alloc, refusal, program, Some(texts))?;
-    match (refusal, &at) {
-        (NoReport::Check(CheckError::Routine(fault)), Some(at)) => {
-            routine_help(alloc, &at.file, fault)
-        }
+    match refusal {
+        NoReport::Check(CheckError::Rules(fault)) => rules_help(alloc, &rules, fault),
+        NoReport::Check(CheckError::Entry(entry)) => entry_help(alloc, &rules, entry.as_bytes()),
+        NoReport::Check(CheckError::Routine(fault)) => match &at {
+            Some(at) => routine_help(alloc, &at.file, fault),
+            None => code_help(alloc, code),
+        },
         _ => place_help(alloc, code, at),
     }
 }

@@ -90,7 +90,7 @@ fn number_slip(text: &[u8]) -> Option<Slip> {
 
 // What is wrong with `$J`, or what is in its place.
 fn job_slip(form: Form, text: &[u8]) -> Option<Slip> {
-    if text != b"$J" {
+    if text != b"$J".as_slice() {
         return wrong_at(0, "after $ comes J alone: $J is the job's own number");
     }
     match form {
@@ -135,7 +135,7 @@ fn element_slip(form: Form, text: &[u8], is_last: bool) -> Option<Slip> {
         Some(b'"') if text.len() > 1 && text.ends_with(b"\"") => None,
         Some(b'"') => wrong_at(0, "this text in quotes doesn't end at its last quote"),
         Some(b'$') => job_slip(form, text),
-        Some(b'.') if text == b"..." => tree_slip(form, is_last),
+        Some(b'.') if text == b"...".as_slice() => tree_slip(form, is_last),
         Some(b'-' | b'.') => number_slip(text),
         Some(first) if first.is_ascii_digit() => number_slip(text),
         Some(first) if first.is_ascii_alphabetic() || *first == b'%' => variable_slip(form, text),
@@ -267,7 +267,7 @@ impl<'a> Parts<'a> {
         let jobs = self
             .elements
             .iter()
-            .filter(|element| element.text == b"$J")
+            .filter(|element| element.text == b"$J".as_slice())
             .count();
         if jobs == 1 {
             return None;
