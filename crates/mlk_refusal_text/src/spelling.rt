@@ -128,7 +128,7 @@ fn element_slip(form: Form, text: &[u8], is_last: bool) -> Option<Slip> {
     if let Some(at) = text.iter().position(|byte| is_blank(*byte))
         && !text.starts_with(b"\"")
     {
-        return wrong_at(at, "no blank may be here");
+        return wrong_at(at, "a blank: elements have none in or around them");
     }
     match text.first() {
         None => wrong_at(0, "an element is missing here"),
@@ -239,6 +239,9 @@ impl<'a> Parts<'a> {
     fn elements_slip(&self, form: Form) -> Option<Slip> {
         let last = self.elements.len();
         for (place, element) in self.elements.iter().enumerate() {
+            if place > 0 && matches!(element.text.first(), Some(b' ' | b'\t')) {
+                return wrong_at(element.at, "a blank after the comma");
+            }
             let is_last = place.saturating_add(1) == last;
             if let Some(slip) = moved(element.at, element_slip(form, element.text, is_last)) {
                 return Some(slip);
