@@ -4,9 +4,11 @@
 
 mod explained;
 mod file;
+mod help;
 mod notice;
 mod printed;
 mod program;
+mod refused;
 mod source;
 
 pub use explained::Explaining;

@@ -10,7 +10,8 @@ ghost use Rattle.mlk_forms.specs.Told.{IsNoticed};
 ghost use Rattle.mlk_outcome.specs.Checked.{IsOfOpenGate, IsNotShut};
 
 use crate::explained::{Explaining, KeptTexts, is_refusal_explained, kept_texts, texts_of, told};
-use crate::notice::{certificate_help, notice_of, refusal_help, why_unread};
+use crate::help::{certificate_help, refusal_help, why_unread};
+use crate::notice::notice_of;
 use crate::printed::{
     certificate_line, events_line, fault_line, file_line, missing_line, no_page_line, rules_line,
     stuck_line, workers_line,
