@@ -4,6 +4,7 @@ use crate::entries::{Entry, entries_of};
 use crate::given::Given;
 use crate::globals::{GlobalUse, globals_in};
 use crate::locks::{LockUse, locks_in};
+use crate::misfits::{MisfitCall, misfits_in};
 use crate::missing::{MissingCall, missing_in};
 use crate::orders::{LockOrder, orders_in};
 use crate::refused::{RefusalCount, RefusedRoutine};
@@ -32,6 +33,8 @@ pub struct Facts<'a> {
 pub struct InRoutines<'a> {
     /// calls of labels and routines that are not given
     pub missing: Vec<MissingCall<'a>>,
+    /// calls whose actuals don't fit what they name
+    pub misfits: Vec<MisfitCall<'a>>,
     /// the first lines of routines, and those with formal lists
     pub entries: Vec<Entry<'a>>,
     pub globals: Vec<GlobalUse<'a>>,
@@ -53,6 +56,7 @@ impl<'a> InRoutines<'a> {
     ) -> Result<InRoutines<'a>, AllocError> {
         Ok(InRoutines {
             missing: missing_in(alloc, given, mentions)?,
+            misfits: misfits_in(alloc, given, routines)?,
             entries: entries_of(alloc, routines)?,
             globals: globals_in(alloc, mentions)?,
             locks: locks_in(alloc, mentions)?,
