@@ -14,11 +14,7 @@ use mlk_text::{Code, Column};
 use std::alloc::{AllocError, Global};
 
 // What explains a refusal at a line of a file, or at none.
-fn place_help(
-    alloc: Global,
-    code: Code,
-    at: Option<RefusedAt<'_>>,
-) -> Result<Vec<u8>, AllocError> {
+fn place_help(alloc: Global, code: Code, at: Option<RefusedAt<'_>>) -> Result<Vec<u8>, AllocError> {
     let Some(at) = at else {
         return code_help(alloc, code);
     };

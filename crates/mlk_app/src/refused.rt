@@ -134,7 +134,10 @@ fn events_at<'a>(
 }
 
 /// The rule file, with its text where that was kept.
-pub(crate) fn rule_file<'a>(program: &ProgramRequest<'a>, texts: Option<&'a KeptTexts>) -> GivenFile<'a> {
+pub(crate) fn rule_file<'a>(
+    program: &ProgramRequest<'a>,
+    texts: Option<&'a KeptTexts>,
+) -> GivenFile<'a> {
     let text: &'a [u8] = match texts {
         Some(texts) => texts.rules.as_slice(),
         None => &[],
@@ -146,10 +149,7 @@ pub(crate) fn rule_file<'a>(program: &ProgramRequest<'a>, texts: Option<&'a Kept
 }
 
 // A place in the rule file, where its text was kept.
-fn in_rules<'a>(
-    file: GivenFile<'a>,
-    place: Option<(LineNumber, Column)>,
-) -> Option<RefusedAt<'a>> {
+fn in_rules<'a>(file: GivenFile<'a>, place: Option<(LineNumber, Column)>) -> Option<RefusedAt<'a>> {
     let (line, column) = place?;
     Some(RefusedAt {
         file,

@@ -3,10 +3,10 @@
 use crate::hash::HashedLine;
 use crate::notice::Place;
 use crate::path::{is_absolute, uri};
+use bstr::ByteSlice;
 use mlk_excerpts::{character_column, token_at};
 use mlk_report_text::{Field, member, object};
 use mlk_text::Column;
-use bstr::ByteSlice;
 use serde_json::Value;
 use std::alloc::{AllocError, Global};
 
@@ -21,10 +21,7 @@ fn artifact_value(alloc: Global, path: &str) -> Result<Value, AllocError> {
         Field::Text(ROOT)
     };
     let uri = uri(alloc, path)?;
-    let members = vec![in alloc;
-        ("uri", Field::Text(uri.as_str())),
-        ("uriBaseId", root),
-    ]?;
+    let members = vec![in alloc; ("uri", Field::Text(uri.as_str())), ("uriBaseId", root)]?;
     object(alloc, members)
 }
 

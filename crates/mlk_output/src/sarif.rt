@@ -200,10 +200,7 @@ fn refused_value(
 // What a refusal says: its line, and what its code means.
 fn refused_message(alloc: Global, notice: &Notice<'_>) -> Result<Vec<u8>, AllocError> {
     let meaning = page_of(notice.code).meaning;
-    text_of(
-        alloc,
-        &[Bytes(notice.line), Words(": "), Words(meaning)],
-    )
+    text_of(alloc, &[Bytes(notice.line), Words(": "), Words(meaning)])
 }
 
 // The fingerprint of a refusal, which stays the same where lines move: its code and its file. A run has one refusal.

@@ -126,10 +126,7 @@ fn has_type(key: &Key, value: &Value) -> bool {
 }
 
 /// The first key whose value has another type, and that type.
-pub(crate) fn mistyped_key(
-    element: &Table,
-    keys: &[Key],
-) -> Option<(&'static str, &'static str)> {
+pub(crate) fn mistyped_key(element: &Table, keys: &[Key]) -> Option<(&'static str, &'static str)> {
     for key in keys {
         if let Some(value) = element.get(key.name)
             && !has_type(key, value)

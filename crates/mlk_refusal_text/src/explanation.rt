@@ -107,7 +107,12 @@ impl Explanation<'_> {
         let code = Number(usize::from(self.code.number()));
         push_all(
             &mut text,
-            &[Bytes(margin), Words("= more: mlock explain "), code, Words("\n")],
+            &[
+                Bytes(margin),
+                Words("= more: mlock explain "),
+                code,
+                Words("\n"),
+            ],
         )?;
         Ok(text)
     }

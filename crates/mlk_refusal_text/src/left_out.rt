@@ -58,7 +58,8 @@ pub(crate) fn left_out_help(left_out: &LeftOut) -> &'static str {
         LeftOut::Naked => "write the global's name and all its subscripts",
         LeftOut::Environment => "write the global's or the routine's name alone",
         LeftOut::Ssvn => "leave the routine out of the check, or keep what it asks for in a global",
-        LeftOut::External => "call a routine of M in its place, or leave the routine out of the check",
+        LeftOut::External =>
+            "call a routine of M in its place, or leave the routine out of the check",
         LeftOut::Offset => "give that line a label of its own, and call it",
         LeftOut::Function => {
             "these are read: $ASCII $CHAR $DATA $EXTRACT $FIND $FNUMBER $GET $JUSTIFY $LENGTH $NAME $ORDER $PIECE \
@@ -73,7 +74,8 @@ pub(crate) fn left_out_help(left_out: &LeftOut) -> &'static str {
         }
         LeftOut::GlobalRead => "READ into a local, and SET the global from it",
         LeftOut::ForVariable => "count by a local without subscripts",
-        LeftOut::QuitValue => "SET a local, QUIT, and QUIT with that local after the FOR or the block",
+        LeftOut::QuitValue =>
+            "SET a local, QUIT, and QUIT with that local after the FOR or the block",
         LeftOut::Timeout => "take the timeout away",
         LeftOut::Command(word) => command_help(word.as_bytes()),
     }

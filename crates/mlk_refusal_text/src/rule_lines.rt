@@ -138,7 +138,11 @@ impl<'a> KeyLine<'a> {
         let quotes = usize::from(matches!(self.value.first(), Some(b'"' | b'\'')));
         let (front, _) = text.split_at(offset.min(text.len()));
         let (_, inside) = self.value.split_at(quotes.min(self.value.len()));
-        let inside_by = if inside.starts_with(front) { front.len() } else { 0 };
+        let inside_by = if inside.starts_with(front) {
+            front.len()
+        } else {
+            0
+        };
         let offset = start.saturating_add(quotes).saturating_add(inside_by);
         excerpt_at(self.line, self.place, offset)
     }

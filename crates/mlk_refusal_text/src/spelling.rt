@@ -61,7 +61,10 @@ fn split_name(text: &[u8]) -> (&[u8], &[u8]) {
 // What is wrong with a name.
 fn name_slip(name: &[u8]) -> Option<Slip> {
     match name.first() {
-        None => wrong_at(0, "a name is expected here: % or a letter, then letters and digits"),
+        None => wrong_at(
+            0,
+            "a name is expected here: % or a letter, then letters and digits",
+        ),
         Some(first) if first.is_ascii_digit() => wrong_at(0, "a name begins with % or a letter"),
         Some(_) if name.len() > LONGEST_NAME => wrong_at(0, "a name has at most 31 characters"),
         Some(_) => None,
@@ -231,7 +234,10 @@ impl<'a> Parts<'a> {
             }
             (Some(b'('), Some(_)) => None,
             (Some(b'('), None) => wrong_at(length, "a quote or the closing ) is missing"),
-            (Some(_), _) => wrong_at(self.name.len(), "only a list in parentheses may come after the name"),
+            (Some(_), _) => wrong_at(
+                self.name.len(),
+                "only a list in parentheses may come after the name",
+            ),
         }
     }
 
@@ -253,7 +259,8 @@ impl<'a> Parts<'a> {
     // A variable that is there twice, among a few elements.
     fn twice_slip(&self) -> Option<Slip> {
         for (place, element) in self.elements.iter().enumerate().take(MOST_ELEMENTS) {
-            let is_name = matches!(element.text.first(), Some(first) if first.is_ascii_alphabetic() || *first == b'%');
+            let is_name =
+                matches!(element.text.first(), Some(first) if first.is_ascii_alphabetic() || *first == b'%');
             let mut before = self.elements.iter().take(place);
             if is_name && before.any(|other| other.text == element.text) {
                 return wrong_at(element.at, "this variable is there twice");
@@ -282,7 +289,10 @@ impl<'a> Parts<'a> {
 // What is wrong with an entry.
 fn entry_slip(text: &[u8]) -> Option<Slip> {
     let Some(caret) = text.find_byte(b'^') else {
-        return wrong_at(text.len(), "an entry is LABEL^ROUTINE, and the ^ is missing");
+        return wrong_at(
+            text.len(),
+            "an entry is LABEL^ROUTINE, and the ^ is missing",
+        );
     };
     let (label, routine) = split(text, caret);
     let (_, routine) = split(routine, 1);

@@ -82,7 +82,9 @@ impl<'a> Rest<'a> {
             left_out,
         } = fault;
         let Place {
-            routine, column, ..
+            routine,
+            column,
+            ..
         } = place;
         Fault {
             code,

@@ -33,7 +33,13 @@ pub fn survey_text(alloc: Global, facts: &Facts<'_>, most: usize) -> Result<Stri
     push_list(&mut text, alloc, "routines refused", &facts.refused, most)?;
     push_list(&mut text, alloc, "reasons", &facts.refusal_counts, most)?;
     if !facts.further.is_empty() {
-        push_list(&mut text, alloc, "further lines refused", &facts.further, most)?;
+        push_list(
+            &mut text,
+            alloc,
+            "further lines refused",
+            &facts.further,
+            most,
+        )?;
     }
     push_list(
         &mut text,
