@@ -49,7 +49,7 @@ def pages():
     """All pages in the order of their codes."""
     known, found = codes(), {}
     for path in sorted((TOP / PAGES).glob('*.rt')):
-        for block in re.findall(r'^pub\(crate\) const \w+: Page = Page \{\n(.*?)^\};', path.read_text(), re.MULTILINE | re.DOTALL):
+        for block in re.findall(r'^pub\(crate\) static \w+: Page = Page \{\n(.*?)^\};', path.read_text(), re.MULTILINE | re.DOTALL):
             name, = re.findall(r'code: Code::(\w+),', block)
             values = {it: re.search(rf'^    {it}:\s+"((?:[^"\\]|\\.)*)",', block, re.MULTILINE | re.DOTALL) for it in TEXTS}
             if name in found or not all(values.values()):

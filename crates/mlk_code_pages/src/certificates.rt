@@ -3,7 +3,7 @@
 use crate::page::Page;
 use mlk_text::Code;
 
-pub(crate) const HEAD: Page = Page {
+pub(crate) static HEAD: Page = Page {
     code: Code::Head,
     meaning: "a certificate without its head line",
     hint: "begin the file with the line `mlock-cert 1` or `mlock-cert 2`",
@@ -15,7 +15,7 @@ pub(crate) const HEAD: Page = Page {
     after: "mlock-cert 1\nentry TAKE^ONE",
 };
 
-pub(crate) const FORM: Page = Page {
+pub(crate) static FORM: Page = Page {
     code: Code::Form,
     meaning: "a line of another form in a certificate",
     hint: "write the line as `mlock make` does, or let it write a new certificate",
@@ -26,7 +26,7 @@ pub(crate) const FORM: Page = Page {
     after: "at 2.0 T=* H=- O=- K=- S=-",
 };
 
-pub(crate) const ORDER: Page = Page {
+pub(crate) static ORDER: Page = Page {
     code: Code::Order,
     meaning: "lines or items of a certificate out of order",
     hint: "put the lines and their items in their order, each once",
@@ -37,7 +37,7 @@ pub(crate) const ORDER: Page = Page {
     after: "at 2.0 T=* H=- O=- K=- S=-\nat 3.0 T=* H=- O=- K=- S=-",
 };
 
-pub(crate) const ENTRY_TWICE: Page = Page {
+pub(crate) static ENTRY_TWICE: Page = Page {
     code: Code::EntryTwice,
     meaning: "two blocks of a certificate with one entry text",
     hint: "keep one block for the entry",
@@ -47,7 +47,7 @@ pub(crate) const ENTRY_TWICE: Page = Page {
     after: "entry TAKE^ONE\nentry GIVE^ONE",
 };
 
-pub(crate) const CERT_LIMIT: Page = Page {
+pub(crate) static CERT_LIMIT: Page = Page {
     code: Code::CertLimit,
     meaning: "a certificate past one of its limits",
     hint: "list fewer cases or items, or check parts of the program apart",
@@ -59,7 +59,7 @@ pub(crate) const CERT_LIMIT: Page = Page {
     after: "`at 2.0` with fewer kept names, in 16 cases",
 };
 
-pub(crate) const NO_END: Page = Page {
+pub(crate) static NO_END: Page = Page {
     code: Code::NoEnd,
     meaning: "a certificate that ends before its end line",
     hint: "copy the certificate whole, with its last line `end`",
@@ -71,7 +71,7 @@ pub(crate) const NO_END: Page = Page {
     after: "mlock-cert 1\nend",
 };
 
-pub(crate) const CASE_UNUSED: Page = Page {
+pub(crate) static CASE_UNUSED: Page = Page {
     code: Code::CaseUnused,
     meaning: "a case in front of a certificate that no point names",
     hint: "take the case away, or name its number at a point",

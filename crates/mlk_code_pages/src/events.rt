@@ -3,7 +3,7 @@
 use crate::page::Page;
 use mlk_text::Code;
 
-pub(crate) const NOT_ENABLED: Page = Page {
+pub(crate) static NOT_ENABLED: Page = Page {
     code: Code::NotEnabled,
     meaning: "an event that can't happen then",
     hint: "end the file before this line, and look at what is printed: who holds the name \
@@ -16,7 +16,7 @@ pub(crate) const NOT_ENABLED: Page = Page {
     after: "begin 1 COUNT^WARD 0 \"B2\"\nbegin 2 COUNT^WARD 0 \"B2\"",
 };
 
-pub(crate) const BAD_CHOICE: Page = Page {
+pub(crate) static BAD_CHOICE: Page = Page {
     code: Code::BadChoice,
     meaning: "a choice of the wrong kind, or more values than formals",
     hint: "give a value to a job that reads or chooses, and none to one that writes or \
@@ -30,7 +30,7 @@ pub(crate) const BAD_CHOICE: Page = Page {
     after: "begin 1 COUNT^WARD 0 \"B2\"\nrun 1\ngo 1 \"41\"",
 };
 
-pub(crate) const UNKNOWN_JOB: Page = Page {
+pub(crate) static UNKNOWN_JOB: Page = Page {
     code: Code::UnknownJob,
     meaning: "an event of a job that never began",
     hint: "put the `begin` of the job before this line",
@@ -40,7 +40,7 @@ pub(crate) const UNKNOWN_JOB: Page = Page {
     after: "begin 1 COUNT^WARD 0 \"B2\"\nrun 1",
 };
 
-pub(crate) const EVENT_FORM: Page = Page {
+pub(crate) static EVENT_FORM: Page = Page {
     code: Code::EventForm,
     meaning: "a line of another form in a file of events, or a job that begins at an entry \
         that the routines do not have",

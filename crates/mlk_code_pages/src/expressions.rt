@@ -3,7 +3,7 @@
 use crate::page::Page;
 use mlk_text::Code;
 
-pub(crate) const EXPR_FORM: Page = Page {
+pub(crate) static EXPR_FORM: Page = Page {
     code: Code::ExprForm,
     meaning: "an expression is expected here, broken off, or followed by what ends none",
     hint: "write the operand that is missing, close the parenthesis or the quote, or take \
@@ -15,7 +15,7 @@ pub(crate) const EXPR_FORM: Page = Page {
     after: " SET X=Y+1",
 };
 
-pub(crate) const EXPR_LEFT_OUT: Page = Page {
+pub(crate) static EXPR_LEFT_OUT: Page = Page {
     code: Code::ExprLeftOut,
     meaning: "an expression uses something that is left out; a word says what",
     hint: "write it in another way, or leave the routine out of the check",
@@ -27,7 +27,7 @@ pub(crate) const EXPR_LEFT_OUT: Page = Page {
     after: " SET X=^CONF(Y)",
 };
 
-pub(crate) const EXPR_DEEP: Page = Page {
+pub(crate) static EXPR_DEEP: Page = Page {
     code: Code::ExprDeep,
     meaning: "an expression is nested more than 64 deep",
     hint: "assign an inner expression to a local first",
@@ -38,7 +38,7 @@ pub(crate) const EXPR_DEEP: Page = Page {
     after: " SET Y=1 SET X=Y",
 };
 
-pub(crate) const NAME_LONG: Page = Page {
+pub(crate) static NAME_LONG: Page = Page {
     code: Code::NameLong,
     meaning: "a name has more than 31 characters",
     hint: "shorten the name wherever it is used",

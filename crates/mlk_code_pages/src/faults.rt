@@ -3,7 +3,7 @@
 use crate::page::Page;
 use mlk_text::Code;
 
-pub(crate) const UNRULED: Page = Page {
+pub(crate) static UNRULED: Page = Page {
     code: Code::Unruled,
     meaning: "a reference that does not surely lie in a rule",
     hint: "write a rule for the global, or name the node as closely as its rule does",
@@ -17,7 +17,7 @@ pub(crate) const UNRULED: Page = Page {
     after: "[[cover]]\nglobal = \"^VISIT(id,...)\"\nlock = \"^PAT(id)\"",
 };
 
-pub(crate) const UNCOVERED: Page = Page {
+pub(crate) static UNCOVERED: Page = Page {
     code: Code::Uncovered,
     meaning: "a cover rule may be met and a lock that it asks for is not held",
     hint: "claim the lock that the rule names before this, and release it after",
@@ -34,7 +34,7 @@ pub(crate) const UNCOVERED: Page = Page {
     after: " LOCK +^ACCT(ID)\n NEW BAL SET BAL=$GET(^ACCT(ID,\"bal\"))",
 };
 
-pub(crate) const READ_ONLY: Page = Page {
+pub(crate) static READ_ONLY: Page = Page {
     code: Code::ReadOnly,
     meaning: "a write that may meet a readonly rule",
     hint: "take the write away, or write elsewhere",
@@ -45,7 +45,7 @@ pub(crate) const READ_ONLY: Page = Page {
     after: " SET ^ACCT(ID,\"raised\")=$HOROLOG",
 };
 
-pub(crate) const NOT_PRIVATE: Page = Page {
+pub(crate) static NOT_PRIVATE: Page = Page {
     code: Code::NotPrivate,
     meaning: "a private rule may be met without the job's own number",
     hint: "name the job's own part, with $JOB at the place of $J",
@@ -58,7 +58,7 @@ pub(crate) const NOT_PRIVATE: Page = Page {
     after: " KILL ^TMP($JOB)",
 };
 
-pub(crate) const PINNED: Page = Page {
+pub(crate) static PINNED: Page = Page {
     code: Code::Pinned,
     meaning: "a change of a name that a held lock mentions",
     hint: "release the lock before this, or claim it by another local",
@@ -72,7 +72,7 @@ pub(crate) const PINNED: Page = Page {
         ^ACCT(ID,\"bal\")=^ACCT(ID,\"bal\")*^RATE(\"year\") LOCK -^ACCT(ID)",
 };
 
-pub(crate) const NOT_HELD: Page = Page {
+pub(crate) static NOT_HELD: Page = Page {
     code: Code::NotHeld,
     meaning: "a release of a lock that is not listed as held",
     hint: "hold the lock on each way here, or release it only where it is held",
@@ -84,7 +84,7 @@ pub(crate) const NOT_HELD: Page = Page {
     after: " LOCK +^ACCT(ID):5 ELSE  QUIT",
 };
 
-pub(crate) const UNRANKED: Page = Page {
+pub(crate) static UNRANKED: Page = Page {
     code: Code::Unranked,
     meaning: "a claim of a lock in no family",
     hint: "write a lock rule for it, or correct the name",
@@ -95,7 +95,7 @@ pub(crate) const UNRANKED: Page = Page {
     after: "[[lock]]\nname = \"^NIGHT\"\nrank = 1",
 };
 
-pub(crate) const RANK_ORDER: Page = Page {
+pub(crate) static RANK_ORDER: Page = Page {
     code: Code::RankOrder,
     meaning: "an untimed claim that is not above all that is held",
     hint: "claim locks in the order of their ranks, both at once in one LOCK, or this one \
@@ -109,7 +109,7 @@ pub(crate) const RANK_ORDER: Page = Page {
     after: " LOCK +(^ACCT(FROM),^ACCT(TO))",
 };
 
-pub(crate) const HELD_AT_END: Page = Page {
+pub(crate) static HELD_AT_END: Page = Page {
     code: Code::HeldAtEnd,
     meaning: "a declared entry, or a job by HALT, ends with a lock held",
     hint: "release the lock on each way out",
@@ -122,7 +122,7 @@ pub(crate) const HELD_AT_END: Page = Page {
     after: " IF ^ACCT(ID,\"bal\")<SUM LOCK -^ACCT(ID) QUIT",
 };
 
-pub(crate) const CASE_NOT_LISTED: Page = Page {
+pub(crate) static CASE_NOT_LISTED: Page = Page {
     code: Code::CaseNotListed,
     meaning: "a case reaches a point that lists none including it",
     hint: "make the certificate anew, or list the case at that point",
@@ -136,7 +136,7 @@ pub(crate) const CASE_NOT_LISTED: Page = Page {
         S=-",
 };
 
-pub(crate) const NEED_MISSING: Page = Page {
+pub(crate) static NEED_MISSING: Page = Page {
     code: Code::NeedMissing,
     meaning: "a needed lock is not held, or a declared entry has needs",
     hint: "hold the lock at the call, or let the callee claim it",
@@ -151,7 +151,7 @@ pub(crate) const NEED_MISSING: Page = Page {
         -^PAT(ID) QUIT",
 };
 
-pub(crate) const SUMMARY_SHORT: Page = Page {
+pub(crate) static SUMMARY_SHORT: Page = Page {
     code: Code::SummaryShort,
     meaning: "the summary leaves out a change, a claim or a release of all",
     hint: "put into the summary what it leaves out, or make the local new first",
@@ -164,7 +164,7 @@ pub(crate) const SUMMARY_SHORT: Page = Page {
     after: " NEW B LOCK +^WARD(W)",
 };
 
-pub(crate) const NO_CERTIFICATE: Page = Page {
+pub(crate) static NO_CERTIFICATE: Page = Page {
     code: Code::NoCertificate,
     meaning: "a called or declared entry without a certificate, or a JOB of one that is not \
         declared",
@@ -178,7 +178,7 @@ pub(crate) const NO_CERTIFICATE: Page = Page {
     after: "[[entry]]\nlabel = \"COUNT^MOVE\"",
 };
 
-pub(crate) const SHARED_NAME: Page = Page {
+pub(crate) static SHARED_NAME: Page = Page {
     code: Code::SharedName,
     meaning: "a name passed by reference in a lock name",
     hint: "copy the value into a local that no call passes by reference, and lock by that",
@@ -190,7 +190,7 @@ pub(crate) const SHARED_NAME: Page = Page {
     after: " NEW K SET K=ID LOCK +^REG(K) SET ^REG(K,\"seen\")=$HOROLOG LOCK -^REG(K) QUIT",
 };
 
-pub(crate) const UNKNOWN_SUBSCRIPT: Page = Page {
+pub(crate) static UNKNOWN_SUBSCRIPT: Page = Page {
     code: Code::UnknownSubscript,
     meaning: "a lock name with an unknown subscript",
     hint: "put the value into a local first, and lock by that",
@@ -203,7 +203,7 @@ pub(crate) const UNKNOWN_SUBSCRIPT: Page = Page {
     after: " NEW ID SET ID=$PIECE(TEXT,\";\") LOCK +^ACCT(ID)",
 };
 
-pub(crate) const FALLS_INTO_FORMALS: Page = Page {
+pub(crate) static FALLS_INTO_FORMALS: Page = Page {
     code: Code::FallsIntoFormals,
     meaning: "a line sequence that reaches a line with a formal list",
     hint: "end the line above by QUIT",
@@ -214,7 +214,7 @@ pub(crate) const FALLS_INTO_FORMALS: Page = Page {
     after: " LOCK -^PAT(ID) QUIT\nBED(ID) ; a patient's bed; whoever calls holds the patient",
 };
 
-pub(crate) const TOO_MANY_CASES: Page = Page {
+pub(crate) static TOO_MANY_CASES: Page = Page {
     code: Code::TooManyCases,
     meaning: "more than 16 cases, 16 held locks or 64 own items",
     hint: "claim in one argument what belongs together, release locks earlier, or split the \
@@ -228,7 +228,7 @@ pub(crate) const TOO_MANY_CASES: Page = Page {
     after: " LOCK +(^ACCT(\"d1\"),^ACCT(\"d2\"),^ACCT(\"d3\"),^ACCT(\"d4\"),^ACCT(\"d5\")):9",
 };
 
-pub(crate) const NAME_ESCAPES: Page = Page {
+pub(crate) static NAME_ESCAPES: Page = Page {
     code: Code::NameEscapes,
     meaning: "a held lock mentions a name whose binding ends",
     hint: "release the lock before this, or let the caller claim it by a local of its own",
@@ -240,7 +240,7 @@ pub(crate) const NAME_ESCAPES: Page = Page {
     after: " NEW ID SET ID=$$CLAIM() LOCK +^REG(ID)\n QUIT N",
 };
 
-pub(crate) const DROPS_FRAME: Page = Page {
+pub(crate) static DROPS_FRAME: Page = Page {
     code: Code::DropsFrame,
     meaning: "a callee that may release all locks is called while some are set aside",
     hint: "let the callee release its own locks by name, or release yours before the call",

@@ -3,7 +3,7 @@
 use crate::page::Page;
 use mlk_text::Code;
 
-pub(crate) const ROUTINE_TWICE: Page = Page {
+pub(crate) static ROUTINE_TWICE: Page = Page {
     code: Code::RoutineTwice,
     meaning: "two routines of one name",
     hint: "give only one of the files",
@@ -14,7 +14,7 @@ pub(crate) const ROUTINE_TWICE: Page = Page {
     after: "A.m",
 };
 
-pub(crate) const UNKNOWN_LABEL: Page = Page {
+pub(crate) static UNKNOWN_LABEL: Page = Page {
     code: Code::UnknownLabel,
     meaning: "a call of a label that the called routine does not have, or of a routine that is \
         not given or has no line",
@@ -27,7 +27,7 @@ pub(crate) const UNKNOWN_LABEL: Page = Page {
     after: " DO B\nB QUIT",
 };
 
-pub(crate) const ARITY: Page = Page {
+pub(crate) static ARITY: Page = Page {
     code: Code::Arity,
     meaning: "a call whose actual list, or want of one, does not fit the label's formal list",
     hint: "give the label a formal list, or the call as many actuals as it takes",
@@ -40,7 +40,7 @@ pub(crate) const ARITY: Page = Page {
     after: " DO B(1)\nB(N) QUIT",
 };
 
-pub(crate) const TOO_MANY: Page = Page {
+pub(crate) static TOO_MANY: Page = Page {
     code: Code::TooMany,
     meaning: "more than 65,535 routines or 1,048,575 entries",
     hint: "check the parts that don't call each other apart",

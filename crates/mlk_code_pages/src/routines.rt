@@ -3,7 +3,7 @@
 use crate::page::Page;
 use mlk_text::Code;
 
-pub(crate) const BYTE: Page = Page {
+pub(crate) static BYTE: Page = Page {
     code: Code::Byte,
     meaning: "a byte that is not allowed at its place",
     hint: "write a space there, or take the byte away",
@@ -15,7 +15,7 @@ pub(crate) const BYTE: Page = Page {
     after: " SET X=1 ; note",
 };
 
-pub(crate) const LINE_FORM: Page = Page {
+pub(crate) static LINE_FORM: Page = Page {
     code: Code::LineForm,
     meaning: "a label, a formal list or a line start of another form",
     hint: "give each formal a name of its own, close the list, or begin a line without a \
@@ -28,7 +28,7 @@ pub(crate) const LINE_FORM: Page = Page {
     after: "PAY(ID,SUM) QUIT",
 };
 
-pub(crate) const LABEL_TWICE: Page = Page {
+pub(crate) static LABEL_TWICE: Page = Page {
     code: Code::LabelTwice,
     meaning: "a label that an earlier line of the routine has",
     hint: "rename one of the two labels, and the calls of it",
@@ -39,7 +39,7 @@ pub(crate) const LABEL_TWICE: Page = Page {
     after: "PAY QUIT\nPAYOUT QUIT",
 };
 
-pub(crate) const LEVEL_JUMP: Page = Page {
+pub(crate) static LEVEL_JUMP: Page = Page {
     code: Code::LevelJump,
     meaning: "a line more than one level deeper than the line before",
     hint: "take periods away, or put the line with its DO between the two",
@@ -50,7 +50,7 @@ pub(crate) const LEVEL_JUMP: Page = Page {
     after: " DO\n . SET X=1",
 };
 
-pub(crate) const UNKNOWN_COMMAND: Page = Page {
+pub(crate) static UNKNOWN_COMMAND: Page = Page {
     code: Code::UnknownCommand,
     meaning: "a word that is no command",
     hint: "write the command's word whole or as its short form",
@@ -60,7 +60,7 @@ pub(crate) const UNKNOWN_COMMAND: Page = Page {
     after: " SET X=1",
 };
 
-pub(crate) const COMMAND_LEFT_OUT: Page = Page {
+pub(crate) static COMMAND_LEFT_OUT: Page = Page {
     code: Code::CommandLeftOut,
     meaning: "a command that is left out; its full word is named",
     hint: "write it by commands that are read, or leave the routine out of the check",
@@ -72,7 +72,7 @@ pub(crate) const COMMAND_LEFT_OUT: Page = Page {
     after: " DO A QUIT",
 };
 
-pub(crate) const ARGUMENT_FORM: Page = Page {
+pub(crate) static ARGUMENT_FORM: Page = Page {
     code: Code::ArgumentForm,
     meaning: "an argument of another form than its command asks for",
     hint: "write the name, the `=` or the parenthesis that is missing",
@@ -83,7 +83,7 @@ pub(crate) const ARGUMENT_FORM: Page = Page {
     after: " KILL (ID)",
 };
 
-pub(crate) const SPACING: Page = Page {
+pub(crate) static SPACING: Page = Page {
     code: Code::Spacing,
     meaning: "more or fewer spaces than commands and arguments have between them",
     hint: "write one space before arguments, and two after a command without arguments",
@@ -94,7 +94,7 @@ pub(crate) const SPACING: Page = Page {
     after: " ELSE  QUIT",
 };
 
-pub(crate) const BLOCK_UNREACHED: Page = Page {
+pub(crate) static BLOCK_UNREACHED: Page = Page {
     code: Code::BlockUnreached,
     meaning: "a block whose head line has no argumentless DO",
     hint: "add the DO to the line before, or take the periods away",
@@ -105,7 +105,7 @@ pub(crate) const BLOCK_UNREACHED: Page = Page {
     after: " SET X=1 DO\n . SET Y=2",
 };
 
-pub(crate) const TOO_LARGE: Page = Page {
+pub(crate) static TOO_LARGE: Page = Page {
     code: Code::TooLarge,
     meaning: "a routine past one of its limits: bytes, lines, levels, FORs on a line",
     hint: "cut the routine in two, or put the inner blocks or FORs under a label of their \
@@ -118,7 +118,7 @@ pub(crate) const TOO_LARGE: Page = Page {
     after: " FOR I=1:1:9 DO ROW(I)",
 };
 
-pub(crate) const ROUTINE_NAME: Page = Page {
+pub(crate) static ROUTINE_NAME: Page = Page {
     code: Code::RoutineName,
     meaning: "a file whose stem is not a routine's name",
     hint: "rename the file: `%` or `_`, or a letter, then letters and digits, 31 at most",

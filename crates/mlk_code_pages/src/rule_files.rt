@@ -3,7 +3,7 @@
 use crate::page::Page;
 use mlk_text::Code;
 
-pub(crate) const TOML: Page = Page {
+pub(crate) static TOML: Page = Page {
     code: Code::Toml,
     meaning: "a rule file that is no TOML",
     hint: "correct the TOML of this line",
@@ -15,7 +15,7 @@ pub(crate) const TOML: Page = Page {
     after: "[[lock]]\nname = \"^ACCT\"\nrank = 10",
 };
 
-pub(crate) const KEY: Page = Page {
+pub(crate) static KEY: Page = Page {
     code: Code::Key,
     meaning: "a key that is unknown, missing or of another type",
     hint: "use just the keys of the section, each with a value of its type",
@@ -29,7 +29,7 @@ pub(crate) const KEY: Page = Page {
     after: "[[lock]]\nname = \"^ACCT\"\nrank = 10",
 };
 
-pub(crate) const PATTERN: Page = Page {
+pub(crate) static PATTERN: Page = Page {
     code: Code::Pattern,
     meaning: "a pattern, a lock name or an entry of another form",
     hint: "spell it as `^ACCT(id,...)`, a family as `^ACCT`, an entry as `DEP^BANK`",
@@ -43,7 +43,7 @@ pub(crate) const PATTERN: Page = Page {
     after: "[[cover]]\nglobal = \"^ACCT(id,...)\"\nlock = \"^ACCT(id)\"",
 };
 
-pub(crate) const TEMPLATE_VARIABLE: Page = Page {
+pub(crate) static TEMPLATE_VARIABLE: Page = Page {
     code: Code::TemplateVariable,
     meaning: "a variable in a cover's lock that its pattern does not have",
     hint: "use the variables of the pattern in the lock; case matters",
@@ -54,7 +54,7 @@ pub(crate) const TEMPLATE_VARIABLE: Page = Page {
     after: "[[cover]]\nglobal = \"^ACCT(id,...)\"\nlock = \"^ACCT(id)\"",
 };
 
-pub(crate) const FAMILIES_MEET: Page = Page {
+pub(crate) static FAMILIES_MEET: Page = Page {
     code: Code::FamiliesMeet,
     meaning: "one family is a prefix of another",
     hint: "rank one of the two families alone",
@@ -64,7 +64,7 @@ pub(crate) const FAMILIES_MEET: Page = Page {
     after: "lock = [{name = \"^A\", rank = 1}]",
 };
 
-pub(crate) const RULES_LIMIT: Page = Page {
+pub(crate) static RULES_LIMIT: Page = Page {
     code: Code::RulesLimit,
     meaning: "a section, a pattern, a name or a rank past its limit",
     hint: "use at most 8 elements, ranks from 0 to 999,999, and 1,024 elements of a section",

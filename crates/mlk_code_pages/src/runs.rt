@@ -3,7 +3,7 @@
 use crate::page::Page;
 use mlk_text::Code;
 
-pub(crate) const GAVE_UP: Page = Page {
+pub(crate) static GAVE_UP: Page = Page {
     code: Code::GaveUp,
     meaning: "the maker found no certificate",
     hint: "claim a lock once, where the calls begin, or pass its subscript as an actual",
@@ -17,7 +17,7 @@ pub(crate) const GAVE_UP: Page = Page {
     after: "A LOCK +^ACCT(1) DO B LOCK -^ACCT(1) QUIT\nB IF $RANDOM(2) QUIT\n DO B QUIT",
 };
 
-pub(crate) const ENTRY_MISSING: Page = Page {
+pub(crate) static ENTRY_MISSING: Page = Page {
     code: Code::EntryMissing,
     meaning: "a declared or certified entry that the routines do not have",
     hint: "give the entry's routine too, or take the entry out of the rule file",
@@ -29,7 +29,7 @@ pub(crate) const ENTRY_MISSING: Page = Page {
     after: "[[entry]]\nlabel = \"DEP^BANK\"",
 };
 
-pub(crate) const WORKERS: Page = Page {
+pub(crate) static WORKERS: Page = Page {
     code: Code::Workers,
     meaning: "no worker, or more than 64",
     hint: "give `--workers` a number from 1 to 64",
@@ -39,7 +39,7 @@ pub(crate) const WORKERS: Page = Page {
     after: "mlock verify --workers 4 rules.toml BANK.m",
 };
 
-pub(crate) const GATE_SHUT: Page = Page {
+pub(crate) static GATE_SHUT: Page = Page {
     code: Code::GateShut,
     meaning: "a task whose gate stayed shut: only for a program that calls the library with a \
         gate of its own",

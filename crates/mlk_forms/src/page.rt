@@ -69,7 +69,7 @@ pub fn pages_told(alloc: Global, word: &str) -> Result<Option<ReportText>, Alloc
         if !text.is_empty() {
             text.push(b'\n')?;
         }
-        push_page(&mut text, &page_of(*code))?;
+        push_page(&mut text, page_of(*code))?;
     }
     if text.is_empty() {
         return Ok(None);

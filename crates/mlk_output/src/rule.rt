@@ -45,7 +45,7 @@ pub(crate) fn rules_values(alloc: Global) -> Result<Vec<Value>, AllocError> {
     let mut values = Vec::new(alloc);
     for code in CODES.iter() {
         if *code != Code::GateShut {
-            values.push(rule_value(alloc, &page_of(*code))?)?;
+            values.push(rule_value(alloc, page_of(*code))?)?;
         }
     }
     Ok(values)
