@@ -1,6 +1,6 @@
 // The lines of a text, and the tokens on them.
 
-use bstr::{ByteSlice, decode};
+use bstr::{ByteSlice, decode_utf8};
 use mlk_text::{Column, LineNumber};
 use std::alloc::{AllocError, Global};
 
@@ -79,7 +79,7 @@ fn token_length(text: &[u8]) -> usize {
             text.iter().take_while(|byte| is_of_word(**byte)).count()
         }
         Some(_) => {
-            let (_, size) = decode(text);
+            let (_, size) = decode_utf8(text);
             size
         }
     }

@@ -110,11 +110,6 @@ pub(crate) fn element_line<'a>(
     Some(excerpt_at(line, head, bytes_before(line, line.trim_start())))
 }
 
-// How many bytes of `line` come before a part at its end.
-fn bytes_before(line: &[u8], end: &[u8]) -> usize {
-    line.len().saturating_sub(end.len())
-}
-
 /// The line of a key of an element.
 #[derive(Clone, Copy, Drop)]
 pub(crate) struct KeyLine<'a> {
