@@ -24,8 +24,8 @@ use std::alloc::{AllocError, Global};
 #[derive(Drop)]
 pub(crate) struct KeptTexts {
     pub(crate) rules: Vec<u8>,
-    pub(crate) certificate: Option<Vec<u8>>,
-    pub(crate) events: Option<Vec<u8>>,
+    /// the certificate or the events that were given
+    pub(crate) work: Option<Vec<u8>>,
     pub(crate) routines: Vec<Vec<u8>>,
     /// whether a refusal is explained by them
     pub(crate) explains_refusals: bool,
@@ -45,19 +45,13 @@ pub(crate) fn is_refusal_explained(style: ReportStyle, explaining: Explaining) -
     style.is_explained || explaining == Explaining::Refusals
 }
 
-fn certificate_text(alloc: Global, work: &Work) -> Result<Option<Vec<u8>>, AllocError> {
+fn work_text(alloc: Global, work: &Work) -> Result<Option<Vec<u8>>, AllocError> {
     match work {
         Work::Check { certificate, .. } => {
             Ok(Some(Vec::from_slice(alloc, certificate.as_slice())?))
         }
-        Work::Make { .. } | Work::Verify { .. } | Work::Replay(_) => Ok(None),
-    }
-}
-
-fn events_text(alloc: Global, work: &Work) -> Result<Option<Vec<u8>>, AllocError> {
-    match work {
         Work::Replay(events) => Ok(Some(Vec::from_slice(alloc, events.as_slice())?)),
-        Work::Check { .. } | Work::Make { .. } | Work::Verify { .. } => Ok(None),
+        Work::Make { .. } | Work::Verify { .. } => Ok(None),
     }
 }
 
@@ -91,8 +85,7 @@ pub(crate) fn kept_texts(
     }
     Ok(Some(KeptTexts {
         rules: Vec::from_slice(alloc, sources.rules.as_slice())?,
-        certificate: certificate_text(alloc, &sources.work)?,
-        events: events_text(alloc, &sources.work)?,
+        work: work_text(alloc, &sources.work)?,
         explains_refusals,
         routines: routine_texts(alloc, sources.routines.as_slice())?,
     }))
@@ -150,7 +143,7 @@ fn told_of(
     let Some(rules) = taken(read_rules(alloc, texts.rules.as_slice()))? else {
         return report_told(alloc, inputs, report, style, None);
     };
-    let given = texts.certificate.as_ref();
+    let given = texts.work.as_ref();
     let Some(certificate) = certificate_of(alloc, program, &rules, given)? else {
         return report_told(alloc, inputs, report, style, None);
     };

@@ -1,45 +1,33 @@
 // What explains a refusal to people.
 
 use crate::explained::{Explaining, KeptTexts};
-use crate::refused::{RefusedAt, refusal_code, refused_at, rule_file};
+use crate::refused::{refusal_code, refused_file, refused_spot};
 use crate::source::Files;
 use mlk_cert::CertFault;
 use mlk_cli::ProgramRequest;
 use mlk_outcome::NoReport;
 use mlk_pool::CheckError;
 use mlk_refusal_text::{
-    GivenFile, code_help, entry_help, line_help, routine_help, rules_help, unread_help,
+    GivenFile, Spot, code_help, entry_help, line_help, routine_help, rules_help, unread_help,
 };
-use mlk_text::{Code, Column};
+use mlk_text::Code;
 use std::alloc::{AllocError, Global};
 
-// What explains a refusal at a line of a file, or at none.
-fn place_help(alloc: Global, code: Code, at: Option<RefusedAt<'_>>) -> Result<Vec<u8>, AllocError> {
-    let Some(at) = at else {
-        return code_help(alloc, code);
-    };
-    let column = at.column.unwrap_or(Column::new(1));
-    line_help(alloc, code, &at.file, at.line, column)
-}
-
-// What explains a refusal of this code below its line.
+// What explains a refusal of this code in a file.
 fn explanation(
     alloc: Global,
     code: Code,
     refusal: &NoReport,
-    program: &ProgramRequest<'_>,
-    texts: &KeptTexts,
+    file: &GivenFile<'_>,
 ) -> Result<Vec<u8>, AllocError> {
-    let rules = rule_file(program, Some(texts));
-    let at = refused_at(alloc, refusal, program, Some(texts))?;
     match refusal {
-        NoReport::Check(CheckError::Rules(fault)) => rules_help(alloc, &rules, fault),
-        NoReport::Check(CheckError::Entry(entry)) => entry_help(alloc, &rules, entry.as_bytes()),
-        NoReport::Check(CheckError::Routine(fault)) => match &at {
-            Some(at) => routine_help(alloc, &at.file, fault),
+        NoReport::Check(CheckError::Rules(fault)) => rules_help(alloc, file, fault),
+        NoReport::Check(CheckError::Entry(entry)) => entry_help(alloc, file, entry.as_bytes()),
+        NoReport::Check(CheckError::Routine(fault)) => routine_help(alloc, file, fault),
+        _ => match refused_spot(alloc, refusal, file.text)? {
+            Some(spot) => line_help(alloc, code, file, spot),
             None => code_help(alloc, code),
         },
-        _ => place_help(alloc, code, at),
     }
 }
 
@@ -51,11 +39,15 @@ pub(crate) fn refusal_help(
     program: &ProgramRequest<'_>,
     kept: Option<&KeptTexts>,
 ) -> Result<Vec<u8>, AllocError> {
-    match (refusal_code(refusal), kept) {
-        (Some(code), Some(texts)) if texts.explains_refusals => {
-            explanation(alloc, code, refusal, program, texts)
-        }
-        _ => Ok(Vec::new(alloc)),
+    let (Some(code), Some(texts)) = (refusal_code(refusal), kept) else {
+        return Ok(Vec::new(alloc));
+    };
+    if !texts.explains_refusals {
+        return Ok(Vec::new(alloc));
+    }
+    match refused_file(refusal, program, kept) {
+        Some(file) => explanation(alloc, code, refusal, &file),
+        None => code_help(alloc, code),
     }
 }
 
@@ -71,7 +63,11 @@ pub(crate) fn certificate_help(
         return Ok(Vec::new(alloc));
     }
     let file = GivenFile { path, text };
-    line_help(alloc, fault.code, &file, fault.line, Column::new(1))
+    let spot = Spot {
+        line: fault.line,
+        column: None,
+    };
+    line_help(alloc, fault.code, &file, spot)
 }
 
 /// Writes why the file at `path` can't be read, below the line that says so: it is read once more. Nothing is written where no

@@ -1,48 +1,40 @@
 // Why there is no report, for other programs.
 
-use crate::explained::KeptTexts;
-use crate::refused::{RefusedAt, refusal_code, refused_at};
+use crate::refused::refusal_code;
 use mlk_cli::ProgramRequest;
 use mlk_outcome::NoReport;
 use mlk_output::{Notice, Place};
-use std::alloc::{AllocError, Global};
+use mlk_refusal_text::{GivenFile, Spot};
 
-fn place_at<'a>(at: &Option<RefusedAt<'a>>) -> Option<Place<'a>> {
-    match at {
-        Some(at) => Some(Place {
-            path: at.file.path,
-            line: at.line,
-            column: at.column,
-        }),
-        None => None,
-    }
+// A place in a file, if the refusal is at one.
+fn place_at<'a>(file: &GivenFile<'a>, spot: Option<Spot>) -> Option<Place<'a>> {
+    let spot = spot?;
+    Some(Place {
+        path: file.path,
+        line: spot.line,
+        column: spot.column,
+    })
 }
 
-/// Makes the notice of a refusal, whose line on the error stream this is; `None` if it has no code.
+/// Makes the notice of a refusal, whose line on the error stream this is, of this file and at this place; `None` if it has no
+/// code.
 pub(crate) fn notice_of<'a>(
-    alloc: Global,
     refusal: &NoReport,
     program: &ProgramRequest<'a>,
     line: &'a [u8],
-    texts: Option<&'a KeptTexts>,
-) -> Result<Option<Notice<'a>>, AllocError> {
-    let Some(code) = refusal_code(refusal) else {
-        return Ok(None);
-    };
+    file: &GivenFile<'a>,
+    spot: Option<Spot>,
+) -> Option<Notice<'a>> {
+    let code = refusal_code(refusal)?;
     let line = match line.split_last() {
         Some((_, text)) => text,
         None => line,
     };
-    let at = refused_at(alloc, refusal, program, texts)?;
-    let text: &'a [u8] = match &at {
-        Some(at) => at.file.text,
-        None => &[],
-    };
-    Ok(Some(Notice {
+    Some(Notice {
         code,
         line,
-        place: place_at(&at),
-        text,
+        place: place_at(file, spot),
+        text: file.text,
         file: program.rules,
-    }))
+    })
 }

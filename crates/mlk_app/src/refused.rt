@@ -3,14 +3,11 @@
 use crate::explained::KeptTexts;
 use crate::printed::events_code;
 use crate::source::stem_of;
-use mlk_cert::CertFault;
 use mlk_cli::{Asked, ProgramRequest};
-use mlk_machine::EventsFault;
 use mlk_outcome::NoReport;
 use mlk_pool::CheckError;
-use mlk_refusal_text::{GivenFile, entry_place, rules_place};
-use mlk_rules_file::RulesFault;
-use mlk_text::{Code, Column, LineNumber};
+use mlk_refusal_text::{GivenFile, Spot, entry_place, rules_place};
+use mlk_text::Code;
 use std::alloc::{AllocError, Global};
 
 // The code of what the check itself refuses.
@@ -34,14 +31,6 @@ pub(crate) fn refusal_code(refusal: &NoReport) -> Option<Code> {
     }
 }
 
-/// Where the input is refused: the file, with its text where that was kept, the line, and the column, if it is known.
-#[derive(Clone, Copy, Drop)]
-pub(crate) struct RefusedAt<'a> {
-    pub(crate) file: GivenFile<'a>,
-    pub(crate) line: LineNumber,
-    pub(crate) column: Option<Column>,
-}
-
 // Whether the file at a path is that of the routine of this name, which a leading `_` of the file's name spells as `%`.
 fn is_file_of(path: &str, name: &[u8]) -> bool {
     let stem = stem_of(path).as_bytes();
@@ -54,35 +43,6 @@ fn is_file_of(path: &str, name: &[u8]) -> bool {
     }
 }
 
-// A place in the file of the routine of this name, the last one if there are two and the second is refused.
-fn routine_at<'a>(
-    program: &ProgramRequest<'a>,
-    texts: Option<&'a KeptTexts>,
-    name: &[u8],
-    line: LineNumber,
-    column: Column,
-) -> Option<RefusedAt<'a>> {
-    let mut found = None;
-    for (number, path) in program.routines.iter().enumerate() {
-        if is_file_of(*path, name) {
-            found = Some((number, *path));
-        }
-    }
-    let (number, path) = found?;
-    let text: &'a [u8] = match texts {
-        Some(texts) => match texts.routines.as_slice().get(number) {
-            Some(text) => text.as_slice(),
-            None => &[],
-        },
-        None => &[],
-    };
-    Some(RefusedAt {
-        file: GivenFile { path, text },
-        line,
-        column: Some(column),
-    })
-}
-
 fn given_text(text: &Option<Vec<u8>>) -> &[u8] {
     match text {
         Some(text) => text.as_slice(),
@@ -90,47 +50,51 @@ fn given_text(text: &Option<Vec<u8>>) -> &[u8] {
     }
 }
 
-// A place in the file of the certificate, where one was given.
-fn certificate_at<'a>(
+// The text of the routine of this number, where texts were kept.
+fn routine_text(texts: Option<&KeptTexts>, number: usize) -> &[u8] {
+    let Some(texts) = texts else {
+        return &[];
+    };
+    match texts.routines.as_slice().get(number) {
+        Some(text) => text.as_slice(),
+        None => &[],
+    }
+}
+
+// The file of the routine of this name, the last one if there are two and the second is refused.
+fn routine_file<'a>(
     program: &ProgramRequest<'a>,
     texts: Option<&'a KeptTexts>,
-    fault: &CertFault,
-) -> Option<RefusedAt<'a>> {
-    let Asked::Check { certificate, .. } = &program.asked else {
-        return None;
-    };
-    let text = match texts {
-        Some(texts) => given_text(&texts.certificate),
-        None => &[],
-    };
-    Some(RefusedAt {
-        file: GivenFile {
-            path: *certificate,
-            text,
-        },
-        line: fault.line,
-        column: None,
+    name: &[u8],
+) -> Option<GivenFile<'a>> {
+    let mut found = None;
+    for (number, path) in program.routines.iter().enumerate() {
+        if is_file_of(*path, name) {
+            found = Some((number, *path));
+        }
+    }
+    let (number, path) = found?;
+    Some(GivenFile {
+        path,
+        text: routine_text(texts, number),
     })
 }
 
-// A place in the file of events.
-fn events_at<'a>(
+// The file of the certificate, where one was given, or of the events.
+fn work_file<'a>(
     program: &ProgramRequest<'a>,
     texts: Option<&'a KeptTexts>,
-    fault: &EventsFault,
-) -> Option<RefusedAt<'a>> {
-    let Asked::Replay(path) = &program.asked else {
-        return None;
+) -> Option<GivenFile<'a>> {
+    let path = match &program.asked {
+        Asked::Check { certificate, .. } => *certificate,
+        Asked::Replay(path) => *path,
+        Asked::Make { .. } | Asked::Verify { .. } => return None,
     };
     let text = match texts {
-        Some(texts) => given_text(&texts.events),
+        Some(texts) => given_text(&texts.work),
         None => &[],
     };
-    Some(RefusedAt {
-        file: GivenFile { path: *path, text },
-        line: fault.line,
-        column: None,
-    })
+    Some(GivenFile { path, text })
 }
 
 /// The rule file, with its text where that was kept.
@@ -138,7 +102,7 @@ pub(crate) fn rule_file<'a>(
     program: &ProgramRequest<'a>,
     texts: Option<&'a KeptTexts>,
 ) -> GivenFile<'a> {
-    let text: &'a [u8] = match texts {
+    let text = match texts {
         Some(texts) => texts.rules.as_slice(),
         None => &[],
     };
@@ -146,39 +110,6 @@ pub(crate) fn rule_file<'a>(
         path: program.rules,
         text,
     }
-}
-
-// A place in the rule file, where its text was kept.
-fn in_rules<'a>(file: GivenFile<'a>, place: Option<(LineNumber, Column)>) -> Option<RefusedAt<'a>> {
-    let (line, column) = place?;
-    Some(RefusedAt {
-        file,
-        line,
-        column: Some(column),
-    })
-}
-
-fn rules_at<'a>(
-    alloc: Global,
-    program: &ProgramRequest<'a>,
-    texts: Option<&'a KeptTexts>,
-    fault: &RulesFault,
-) -> Result<Option<RefusedAt<'a>>, AllocError> {
-    if texts.is_none() {
-        return Ok(None);
-    }
-    let file = rule_file(program, texts);
-    Ok(in_rules(file, rules_place(alloc, file.text, fault)?))
-}
-
-fn entry_at<'a>(
-    alloc: Global,
-    program: &ProgramRequest<'a>,
-    texts: Option<&'a KeptTexts>,
-    entry: &[u8],
-) -> Result<Option<RefusedAt<'a>>, AllocError> {
-    let file = rule_file(program, texts);
-    Ok(in_rules(file, entry_place(alloc, file.text, entry)?))
 }
 
 // The routine's name in `LABEL^ROUTINE`.
@@ -189,32 +120,56 @@ fn routine_in(entry: &[u8]) -> &[u8] {
     }
 }
 
-/// Finds where the input is refused; `None` if that is in no file, or the file can't be told. Of a rule file the place is known where
-/// texts were kept.
-pub(crate) fn refused_at<'a>(
-    alloc: Global,
+/// Finds the file that is refused, with its text where that was kept; `None` if none is, or it is not known.
+pub(crate) fn refused_file<'a>(
     refusal: &NoReport,
     program: &ProgramRequest<'a>,
     texts: Option<&'a KeptTexts>,
-) -> Result<Option<RefusedAt<'a>>, AllocError> {
+) -> Option<GivenFile<'a>> {
     match refusal {
         NoReport::Check(CheckError::Routine(fault)) => {
-            let place = &fault.place;
-            let name = place.routine.as_bytes();
-            Ok(routine_at(program, texts, name, place.line, place.column))
+            routine_file(program, texts, fault.place.routine.as_bytes())
         }
-        NoReport::Check(CheckError::Certificate(fault)) => {
-            Ok(certificate_at(program, texts, fault))
+        NoReport::GaveUp(entry, _) => routine_file(program, texts, routine_in(entry.as_bytes())),
+        NoReport::Check(CheckError::Certificate(_)) | NoReport::Events(_) => {
+            work_file(program, texts)
         }
-        NoReport::Check(CheckError::Rules(fault)) => rules_at(alloc, program, texts, fault),
-        NoReport::Check(CheckError::Entry(entry)) => {
-            entry_at(alloc, program, texts, entry.as_bytes())
+        NoReport::Check(CheckError::Rules(_) | CheckError::Entry(_)) => {
+            Some(rule_file(program, texts))
         }
-        NoReport::GaveUp(entry, fault) => {
-            let name = routine_in(entry.as_bytes());
-            Ok(routine_at(program, texts, name, fault.line, fault.column))
+        NoReport::Check(CheckError::OutOfMemory | CheckError::Workers | CheckError::GateShut(_)) =>
+            None,
+    }
+}
+
+/// Finds where a file with this text is refused; `None` if the refusal is at no line of it. A place in a rule file is known only by
+/// its text.
+pub(crate) fn refused_spot(
+    alloc: Global,
+    refusal: &NoReport,
+    text: &[u8],
+) -> Result<Option<Spot>, AllocError> {
+    match refusal {
+        NoReport::Check(CheckError::Routine(fault)) => Ok(Some(Spot {
+            line: fault.place.line,
+            column: Some(fault.place.column),
+        })),
+        NoReport::GaveUp(_, fault) => Ok(Some(Spot {
+            line: fault.line,
+            column: Some(fault.column),
+        })),
+        NoReport::Check(CheckError::Certificate(fault)) => Ok(Some(Spot {
+            line: fault.line,
+            column: None,
+        })),
+        NoReport::Events(fault) => Ok(Some(Spot {
+            line: fault.line,
+            column: None,
+        })),
+        NoReport::Check(CheckError::Rules(fault)) if !text.is_empty() => {
+            rules_place(alloc, text, fault)
         }
-        NoReport::Events(fault) => Ok(events_at(program, texts, fault)),
+        NoReport::Check(CheckError::Entry(entry)) => entry_place(alloc, text, entry.as_bytes()),
         _ => Ok(None),
     }
 }

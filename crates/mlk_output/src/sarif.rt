@@ -23,31 +23,6 @@ const VERSION: &str = "0.1.0";
 
 const REFUSED: usize = 2;
 
-// The finding of a row.
-fn fault_finding<'a>(
-    alloc: Global,
-    inputs: &Inputs<'a>,
-    row: &Row,
-    line: Option<HashedLine<'a>>,
-) -> Result<Finding<'a>, AllocError> {
-    let code = row.fault.code;
-    Ok(Finding {
-        rule: rule_id(alloc, code)?,
-        level: "error",
-        name: code.word(),
-        meaning: page_of(code).meaning,
-        place: Place {
-            path: inputs.path(row.entry),
-            line: row.fault.line,
-            column: Some(row.fault.column),
-        },
-        line,
-        within: inputs.entry(alloc, row.entry)?,
-        kind: "function",
-        fingerprint: "codeInEntry/v1",
-    })
-}
-
 // Adds a result for each fault.
 fn add_faults<'a>(
     alloc: Global,
@@ -58,38 +33,28 @@ fn add_faults<'a>(
 ) -> Result<(), AllocError> {
     let mut counts = BTreeMap::new(alloc);
     for row in rows {
+        let code = row.fault.code;
         lines.look_up(row.entry.routine())?;
-        let line = lines.line(row.fault.line);
-        let finding = fault_finding(alloc, inputs, row, line)?;
+        let rule = rule_id(alloc, code)?;
+        let within = inputs.entry(alloc, row.entry)?;
+        let finding = Finding {
+            rule,
+            level: "error",
+            name: code.word(),
+            meaning: page_of(code).meaning,
+            place: Place {
+                path: inputs.path(row.entry),
+                line: row.fault.line,
+                column: Some(row.fault.column),
+            },
+            line: lines.line(row.fault.line),
+            within,
+            kind: "function",
+            fingerprint: "codeInEntry/v1",
+        };
         values.push(result_value(alloc, &mut counts, &finding)?)?;
     }
     Ok(())
-}
-
-// The finding of a hazard.
-fn hazard_finding<'a>(
-    alloc: Global,
-    inputs: &Inputs<'a>,
-    at: &HazardAt<'_>,
-    line: Option<HashedLine<'a>>,
-) -> Result<Finding<'a>, AllocError> {
-    let word = at.hazard.word().as_bytes();
-    let routine = at.position.routine;
-    Ok(Finding {
-        rule: Vec::from_slice(alloc, word)?,
-        level: "warning",
-        name: word,
-        meaning: hazard_is_what(at.hazard),
-        place: Place {
-            path: inputs.path_of(routine),
-            line: at.position.line,
-            column: Some(at.position.column),
-        },
-        line,
-        within: Vec::from_slice(alloc, routine)?,
-        kind: "module",
-        fingerprint: "hazardInRoutine/v1",
-    })
 }
 
 // Adds a result for each hazard.
@@ -102,9 +67,26 @@ fn add_hazards<'a>(
 ) -> Result<(), AllocError> {
     let mut counts = BTreeMap::new(alloc);
     for at in hazards {
-        lines.look_up(inputs.number_of(at.position.routine))?;
-        let line = lines.line(at.position.line);
-        let finding = hazard_finding(alloc, inputs, at, line)?;
+        let word = at.hazard.word().as_bytes();
+        let routine = at.position.routine;
+        lines.look_up(inputs.number_of(routine))?;
+        let rule = Vec::from_slice(alloc, word)?;
+        let within = Vec::from_slice(alloc, routine)?;
+        let finding = Finding {
+            rule,
+            level: "warning",
+            name: word,
+            meaning: hazard_is_what(at.hazard),
+            place: Place {
+                path: inputs.path_of(routine),
+                line: at.position.line,
+                column: Some(at.position.column),
+            },
+            line: lines.line(at.position.line),
+            within,
+            kind: "module",
+            fingerprint: "hazardInRoutine/v1",
+        };
         values.push(result_value(alloc, &mut counts, &finding)?)?;
     }
     Ok(())

@@ -1,27 +1,26 @@
 // Refusals of certificates, events and whole runs, and files that can't be read.
 
-use crate::explanation::{Explanation, GivenFile};
+use crate::explanation::{Explanation, GivenFile, Spot};
 use crate::rule_lines::line_with;
 use mlk_code_pages::page_of;
-use mlk_excerpts::Excerpt;
 use mlk_report_text::Piece::{Bytes, Words};
 use mlk_report_text::text_of;
-use mlk_text::{Code, Column, LineNumber};
+use mlk_text::Code;
 use std::alloc::{AllocError, Global};
 use std::io::ErrorKind;
 
-// What the page of a code says, at a place.
+// What the page of a code says, at a place of a file.
 fn page_help(
     alloc: Global,
     code: Code,
-    path: Option<&str>,
-    excerpt: Option<Excerpt<'_>>,
+    file: Option<GivenFile<'_>>,
+    spot: Option<Spot>,
 ) -> Result<Vec<u8>, AllocError> {
     let page = page_of(code);
     let it = Explanation {
         code,
-        path,
-        excerpt,
+        file,
+        spot,
         what: text_of(alloc, &[Words(page.meaning)])?,
         help: page.hint,
         note: None,
@@ -35,11 +34,9 @@ pub fn line_help(
     alloc: Global,
     code: Code,
     file: &GivenFile<'_>,
-    line: LineNumber,
-    column: Column,
+    spot: Spot,
 ) -> Result<Vec<u8>, AllocError> {
-    let excerpt = file.excerpt(alloc, line, column)?;
-    page_help(alloc, code, Some(file.path), excerpt)
+    page_help(alloc, code, Some(*file), Some(spot))
 }
 
 /// Explains a refusal of this code that is at no place in a file.
@@ -47,27 +44,10 @@ pub fn code_help(alloc: Global, code: Code) -> Result<Vec<u8>, AllocError> {
     page_help(alloc, code, None, None)
 }
 
-// The line of the rule file that declares an entry.
-fn declaring_line<'a>(
-    alloc: Global,
-    rules: &'a [u8],
-    entry: &[u8],
-) -> Result<Option<Excerpt<'a>>, AllocError> {
+/// Finds where a rule file with this text declares `entry`; `None` if it is written otherwise there.
+pub fn entry_place(alloc: Global, rules: &[u8], entry: &[u8]) -> Result<Option<Spot>, AllocError> {
     let text = text_of(alloc, &[Words("\""), Bytes(entry), Words("\"")])?;
     line_with(alloc, rules, text.as_slice())
-}
-
-/// Finds the line and the column, in bytes, at which a rule file with this text declares `entry`; `None` if it is written
-/// otherwise there.
-pub fn entry_place(
-    alloc: Global,
-    rules: &[u8],
-    entry: &[u8],
-) -> Result<Option<(LineNumber, Column)>, AllocError> {
-    match declaring_line(alloc, rules, entry)? {
-        Some(line) => Ok(Some((line.number, line.column))),
-        None => Ok(None),
-    }
 }
 
 /// Explains that the routines do not have `entry`: shows the line of the rule file that declares it, if one does.
@@ -76,8 +56,8 @@ pub fn entry_help(
     rules: &GivenFile<'_>,
     entry: &[u8],
 ) -> Result<Vec<u8>, AllocError> {
-    let excerpt = declaring_line(alloc, rules.text, entry)?;
-    page_help(alloc, Code::EntryMissing, Some(rules.path), excerpt)
+    let spot = entry_place(alloc, rules.text, entry)?;
+    page_help(alloc, Code::EntryMissing, Some(*rules), spot)
 }
 
 // Why a file can't be read, and what helps.

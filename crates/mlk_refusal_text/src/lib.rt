@@ -13,7 +13,7 @@ mod rule_finding;
 mod rule_lines;
 mod spelling;
 
-pub use explanation::GivenFile;
+pub use explanation::{GivenFile, Spot};
 pub use file::{code_help, entry_help, entry_place, line_help, unread_help};
 pub use routine::routine_help;
 pub use rule_file::{rules_help, rules_place};

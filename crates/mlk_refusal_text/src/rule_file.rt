@@ -1,23 +1,18 @@
 // Why a rule file is refused.
 
 use crate::exchange::is_like_routine;
-use crate::explanation::{Explanation, GivenFile};
+use crate::explanation::{Explanation, GivenFile, Spot};
 use crate::rule_finding::{RefusedElement, RuleFinding, element_finding, toml_finding};
 use mlk_code_pages::page_of;
 use mlk_excerpts::TextLines;
 use mlk_rules_file::RulesFault;
-use mlk_text::{Column, LineNumber};
 use std::alloc::{AllocError, Global};
 
 const EXCHANGED: &str =
     "this looks like a routine; the rule file comes first: mlock verify RULES ROUTINE..";
 
 // What is wrong with the text of a rule file, and where.
-fn rule_finding<'a>(
-    alloc: Global,
-    text: &'a [u8],
-    fault: &RulesFault,
-) -> Result<RuleFinding<'a>, AllocError> {
+fn rule_finding(alloc: Global, text: &[u8], fault: &RulesFault) -> Result<RuleFinding, AllocError> {
     let lines = TextLines::of(alloc, text)?;
     match toml::table_from_slice(alloc, text) {
         Ok(table) => {
@@ -53,8 +48,8 @@ pub fn rules_help(
     };
     let it = Explanation {
         code: fault.code,
-        path: Some(file.path),
-        excerpt: found.excerpt,
+        file: Some(*file),
+        spot: found.spot,
         what: found.what,
         help: page_of(fault.code).hint,
         note,
@@ -62,15 +57,12 @@ pub fn rules_help(
     it.text(alloc)
 }
 
-/// Finds the line and the column, in bytes, at which a rule file with this text is refused; `None` if the refusal is at no line.
+/// Finds where a rule file with this text is refused; `None` if the refusal is at no line.
 pub fn rules_place(
     alloc: Global,
     text: &[u8],
     fault: &RulesFault,
-) -> Result<Option<(LineNumber, Column)>, AllocError> {
+) -> Result<Option<Spot>, AllocError> {
     let found = rule_finding(alloc, text, fault)?;
-    match found.excerpt {
-        Some(excerpt) => Ok(Some((excerpt.number, excerpt.column))),
-        None => Ok(None),
-    }
+    Ok(found.spot)
 }

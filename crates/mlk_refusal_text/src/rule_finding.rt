@@ -3,10 +3,11 @@
 use crate::element::{
     Key, element_of, is_section_key, keys_of, missing_key, mistyped_key, section_key, unknown_key,
 };
+use crate::explanation::Spot;
 use crate::rule_lines::{element_line, key_line, line_of_byte, section_line};
 use crate::spelling::{Form, MOST_ELEMENTS, Parts, slip_of};
 use mlk_code_pages::page_of;
-use mlk_excerpts::{Excerpt, TextLines};
+use mlk_excerpts::TextLines;
 use mlk_report_text::Piece::{Bytes, Words};
 use mlk_report_text::{Piece, text_of};
 use mlk_rules_file::{RulesFault, Section};
@@ -17,57 +18,53 @@ use toml::Table;
 
 /// What is wrong with a rule file, and where that is, if it is at a line.
 #[derive(Drop)]
-pub(crate) struct RuleFinding<'a> {
-    pub(crate) excerpt: Option<Excerpt<'a>>,
+pub(crate) struct RuleFinding {
+    pub(crate) spot: Option<Spot>,
     pub(crate) what: Vec<u8>,
 }
 
-fn finding<'a>(
+fn finding(
     alloc: Global,
-    excerpt: Option<Excerpt<'a>>,
+    spot: Option<Spot>,
     pieces: &[Piece<'_>],
-) -> Result<RuleFinding<'a>, AllocError> {
+) -> Result<RuleFinding, AllocError> {
     Ok(RuleFinding {
-        excerpt,
+        spot,
         what: text_of(alloc, pieces)?,
     })
 }
 
 // What the page of a code says.
-fn page_finding<'a>(
-    alloc: Global,
-    excerpt: Option<Excerpt<'a>>,
-    code: Code,
-) -> Result<RuleFinding<'a>, AllocError> {
-    finding(alloc, excerpt, &[Words(page_of(code).meaning)])
+fn page_finding(alloc: Global, spot: Option<Spot>, code: Code) -> Result<RuleFinding, AllocError> {
+    finding(alloc, spot, &[Words(page_of(code).meaning)])
 }
 
 /// What the reader of TOML says, and at which byte.
-pub(crate) fn toml_finding<'a>(
+pub(crate) fn toml_finding(
     alloc: Global,
-    lines: &TextLines<'a>,
+    lines: &TextLines<'_>,
     text: &[u8],
     error: &toml::de::Error,
-) -> Result<RuleFinding<'a>, AllocError> {
-    let excerpt = match error.span() {
+) -> Result<RuleFinding, AllocError> {
+    let spot = match error.span() {
         Some(span) => line_of_byte(lines, text, span.start),
         None => None,
     };
-    finding(alloc, excerpt, &[Words(error.message())])
+    finding(alloc, spot, &[Words(error.message())])
 }
 
 /// A rule file that is TOML, and the refusal of one of its elements.
 #[derive(Clone, Copy, Drop)]
-pub(crate) struct RefusedElement<'t, 'a> {
-    pub(crate) lines: &'t TextLines<'a>,
+pub(crate) struct RefusedElement<'t> {
+    pub(crate) lines: &'t TextLines<'t>,
     pub(crate) table: &'t Table,
     pub(crate) section: Section,
     pub(crate) index: usize,
 }
 
-impl<'t, 'a> RefusedElement<'t, 'a> {
+impl<'t> RefusedElement<'t> {
     // The head of the element, or of its section.
-    fn head(&self) -> Option<Excerpt<'a>> {
+    fn head(&self) -> Option<Spot> {
         let section = section_key(self.section);
         if self.index == 0 {
             return section_line(self.lines, section);
@@ -76,7 +73,7 @@ impl<'t, 'a> RefusedElement<'t, 'a> {
     }
 
     // The line of a key of the element, with the caret below the key.
-    fn at_key(&self, key: &str) -> Option<Excerpt<'a>> {
+    fn at_key(&self, key: &str) -> Option<Spot> {
         match key_line(self.lines, section_key(self.section), self.index, key) {
             Some(line) => Some(line.at_key()),
             None => self.head(),
@@ -84,7 +81,7 @@ impl<'t, 'a> RefusedElement<'t, 'a> {
     }
 
     // The same with the caret below a byte of its text.
-    fn at_value(&self, key: &str, text: &str, offset: usize) -> Option<Excerpt<'a>> {
+    fn at_value(&self, key: &str, text: &str, offset: usize) -> Option<Spot> {
         match key_line(self.lines, section_key(self.section), self.index, key) {
             Some(line) => Some(line.at_value(text.as_bytes(), offset)),
             None => self.head(),
@@ -99,7 +96,7 @@ impl<'t, 'a> RefusedElement<'t, 'a> {
     }
 
     // A key at the top that is no section.
-    fn top_finding(&self, alloc: Global) -> Result<RuleFinding<'a>, AllocError> {
+    fn top_finding(&self, alloc: Global) -> Result<RuleFinding, AllocError> {
         for key in self.table.keys() {
             if !is_section_key(key.as_str()) {
                 let line = section_line(self.lines, key.as_str());
@@ -112,7 +109,7 @@ impl<'t, 'a> RefusedElement<'t, 'a> {
     }
 
     // A section that is no array of tables.
-    fn section_finding(&self, alloc: Global) -> Result<RuleFinding<'a>, AllocError> {
+    fn section_finding(&self, alloc: Global) -> Result<RuleFinding, AllocError> {
         let section = Words(section_key(self.section));
         let wanted = Words(" has to be an array of tables, as [[");
         let name = Words(section_key(self.section));
@@ -120,7 +117,7 @@ impl<'t, 'a> RefusedElement<'t, 'a> {
     }
 
     // A key of an element that is unknown, missing or of another type.
-    fn element_finding(&self, alloc: Global) -> Result<RuleFinding<'a>, AllocError> {
+    fn element_finding(&self, alloc: Global) -> Result<RuleFinding, AllocError> {
         let section = section_key(self.section);
         let keys = keys_of(self.section);
         let Some(element) = element_of(self.table, section, self.index) else {
@@ -141,7 +138,7 @@ impl<'t, 'a> RefusedElement<'t, 'a> {
     }
 
     /// What is wrong with a key: 402.
-    pub(crate) fn key_finding(&self, alloc: Global) -> Result<RuleFinding<'a>, AllocError> {
+    pub(crate) fn key_finding(&self, alloc: Global) -> Result<RuleFinding, AllocError> {
         if self.section == Section::File {
             return self.top_finding(alloc);
         }
@@ -152,7 +149,7 @@ impl<'t, 'a> RefusedElement<'t, 'a> {
     }
 
     /// What is wrong with the spelling of a text: 403.
-    pub(crate) fn spelling_finding(&self, alloc: Global) -> Result<RuleFinding<'a>, AllocError> {
+    pub(crate) fn spelling_finding(&self, alloc: Global) -> Result<RuleFinding, AllocError> {
         for key in keys_of(self.section) {
             let Some(slip) = self.slip(alloc, key)? else {
                 continue;
@@ -167,7 +164,7 @@ impl<'t, 'a> RefusedElement<'t, 'a> {
         &self,
         alloc: Global,
         key: &Key,
-    ) -> Result<Option<(Option<Excerpt<'a>>, &'static str)>, AllocError> {
+    ) -> Result<Option<(Option<Spot>, &'static str)>, AllocError> {
         let (Some(form), Some(text)) = (key.form, self.text(key.name)) else {
             return Ok(None);
         };
@@ -178,7 +175,7 @@ impl<'t, 'a> RefusedElement<'t, 'a> {
     }
 
     /// Which variable of a lock its pattern does not have: 404.
-    pub(crate) fn variable_finding(&self, alloc: Global) -> Result<RuleFinding<'a>, AllocError> {
+    pub(crate) fn variable_finding(&self, alloc: Global) -> Result<RuleFinding, AllocError> {
         let pattern = self.text("global").unwrap_or("");
         let pattern = Parts::of(alloc, pattern.as_bytes())?;
         for key in ["lock", "also"] {
@@ -225,7 +222,7 @@ impl<'t, 'a> RefusedElement<'t, 'a> {
     }
 
     /// Which limit is passed: 406.
-    pub(crate) fn limit_finding(&self, alloc: Global) -> Result<RuleFinding<'a>, AllocError> {
+    pub(crate) fn limit_finding(&self, alloc: Global) -> Result<RuleFinding, AllocError> {
         if self.index == 0 {
             let many = Words("a section has at most 1,024 elements");
             return finding(alloc, self.head(), &[many]);
@@ -246,7 +243,7 @@ impl<'t, 'a> RefusedElement<'t, 'a> {
         &self,
         alloc: Global,
         code: Code,
-    ) -> Result<RuleFinding<'a>, AllocError> {
+    ) -> Result<RuleFinding, AllocError> {
         let line = match self.text("name") {
             Some(name) => self.at_value("name", name, 0),
             None => self.head(),
@@ -286,11 +283,11 @@ fn same_letters<'p>(pattern: &Parts<'p>, name: &[u8]) -> Option<&'p [u8]> {
 }
 
 /// What is wrong with an element of a rule file that is TOML.
-pub(crate) fn element_finding<'a>(
+pub(crate) fn element_finding(
     alloc: Global,
-    element: &RefusedElement<'_, 'a>,
+    element: &RefusedElement<'_>,
     fault: &RulesFault,
-) -> Result<RuleFinding<'a>, AllocError> {
+) -> Result<RuleFinding, AllocError> {
     match fault.code {
         Code::Key => element.key_finding(alloc),
         Code::Pattern => element.spelling_finding(alloc),

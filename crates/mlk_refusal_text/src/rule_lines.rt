@@ -1,7 +1,8 @@
 // The lines of a rule file: where its sections, their elements and their keys are.
 
+use crate::explanation::Spot;
 use bstr::ByteSlice;
-use mlk_excerpts::{Excerpt, TextLines};
+use mlk_excerpts::TextLines;
 use mlk_text::{Column, LineNumber};
 use std::alloc::{AllocError, Global};
 
@@ -10,25 +11,24 @@ fn number_at(place: usize) -> LineNumber {
     LineNumber::new(u32::try_from(place.saturating_add(1)).unwrap_or(u32::MAX))
 }
 
-/// Shows a line, by its place from 0, with a caret below the byte at `offset`.
-pub(crate) fn excerpt_at<'a>(line: &'a [u8], place: usize, offset: usize) -> Excerpt<'a> {
-    Excerpt {
-        number: number_at(place),
-        line,
-        column: Column::at(offset.saturating_add(1)),
+// The byte at `offset` of a line, by its place from 0.
+fn spot_at(place: usize, offset: usize) -> Spot {
+    Spot {
+        line: number_at(place),
+        column: Some(Column::at(offset.saturating_add(1))),
     }
 }
 
-/// Shows the first line that has `words`, which the caret is below; `None` if no line has them.
-pub(crate) fn line_with<'a>(
+/// Finds the first line that has `words`, and where; `None` if no line has them.
+pub(crate) fn line_with(
     alloc: Global,
-    text: &'a [u8],
+    text: &[u8],
     words: &[u8],
-) -> Result<Option<Excerpt<'a>>, AllocError> {
+) -> Result<Option<Spot>, AllocError> {
     let lines = TextLines::of(alloc, text)?;
     for (place, line) in lines.as_slice().iter().enumerate() {
         if let Some(offset) = line.find(words) {
-            return Ok(Some(excerpt_at(*line, place, offset)));
+            return Ok(Some(spot_at(place, offset)));
         }
     }
     Ok(None)
@@ -66,12 +66,12 @@ fn names_section(line: &[u8], section: &str) -> bool {
     }
 }
 
-/// The first line of a section; `None` if no line names it.
-pub(crate) fn section_line<'a>(lines: &TextLines<'a>, section: &str) -> Option<Excerpt<'a>> {
+/// Where a section begins; `None` if no line names it.
+pub(crate) fn section_line(lines: &TextLines<'_>, section: &str) -> Option<Spot> {
     for (place, line) in lines.as_slice().iter().enumerate() {
         if names_section(*line, section) {
             let blanks = bytes_before(*line, line.trim_start());
-            return Some(excerpt_at(*line, place, blanks));
+            return Some(spot_at(place, blanks));
         }
     }
     None
@@ -96,18 +96,14 @@ fn bytes_before(line: &[u8], end: &[u8]) -> usize {
     line.len().saturating_sub(end.len())
 }
 
-/// The head of an element, which is this one of its section, counted from 1; the first line of the section if its elements have
+/// Where an element begins, which is this one of its section, counted from 1; the first line of the section if its elements have
 /// no lines of their own.
-pub(crate) fn element_line<'a>(
-    lines: &TextLines<'a>,
-    section: &str,
-    index: usize,
-) -> Option<Excerpt<'a>> {
+pub(crate) fn element_line(lines: &TextLines<'_>, section: &str, index: usize) -> Option<Spot> {
     let Some(head) = element_place(lines, section, index) else {
         return section_line(lines, section);
     };
     let line = lines.as_slice().get(head).copied()?;
-    Some(excerpt_at(line, head, bytes_before(line, line.trim_start())))
+    Some(spot_at(head, bytes_before(line, line.trim_start())))
 }
 
 /// The line of a key of an element.
@@ -120,15 +116,14 @@ pub(crate) struct KeyLine<'a> {
 }
 
 impl<'a> KeyLine<'a> {
-    /// Shows the line with the caret below the key.
-    pub(crate) fn at_key(&self) -> Excerpt<'a> {
+    /// Where the key is.
+    pub(crate) fn at_key(&self) -> Spot {
         let key = self.line.trim_start();
-        excerpt_at(self.line, self.place, bytes_before(self.line, key))
+        spot_at(self.place, bytes_before(self.line, key))
     }
 
-    /// Shows the line with the caret below the byte at `offset` of `text`, which is the key's value, or below the value's begin
-    /// if it is not written as it is.
-    pub(crate) fn at_value(&self, text: &[u8], offset: usize) -> Excerpt<'a> {
+    /// Where the byte at `offset` of `text` is, which is the key's value; where the value begins if it is not written as it is.
+    pub(crate) fn at_value(&self, text: &[u8], offset: usize) -> Spot {
         let start = bytes_before(self.line, self.value);
         let quotes = usize::from(matches!(self.value.first(), Some(b'"' | b'\'')));
         let (front, _) = text.split_at(offset.min(text.len()));
@@ -139,7 +134,7 @@ impl<'a> KeyLine<'a> {
             0
         };
         let offset = start.saturating_add(quotes).saturating_add(inside_by);
-        excerpt_at(self.line, self.place, offset)
+        spot_at(self.place, offset)
     }
 }
 
@@ -168,22 +163,18 @@ pub(crate) fn key_line<'a>(
     None
 }
 
-/// Shows the line of the byte at `offset` of `text`, with a caret below it; the end of the last line if it is past all lines.
-pub(crate) fn line_of_byte<'a>(
-    lines: &TextLines<'a>,
-    text: &[u8],
-    offset: usize,
-) -> Option<Excerpt<'a>> {
+/// Where the byte at `offset` of `text` is; the end of the last line if it is past all lines.
+pub(crate) fn line_of_byte(lines: &TextLines<'_>, text: &[u8], offset: usize) -> Option<Spot> {
     let (before, _) = text.split_at(offset.min(text.len()));
     let place = before.iter().filter(|byte| **byte == b'\n').count();
     let start = match before.rfind_byte(b'\n') {
         Some(end) => end.saturating_add(1),
         None => 0,
     };
-    if let Some(line) = lines.as_slice().get(place) {
-        return Some(excerpt_at(*line, place, before.len().saturating_sub(start)));
+    if place < lines.as_slice().len() {
+        return Some(spot_at(place, before.len().saturating_sub(start)));
     }
     let last = lines.as_slice().len().checked_sub(1)?;
     let line = lines.as_slice().get(last).copied()?;
-    Some(excerpt_at(line, last, line.len()))
+    Some(spot_at(last, line.len()))
 }
