@@ -55,14 +55,14 @@ pub(crate) fn toml_finding(
 
 /// A rule file that is TOML, and the refusal of one of its elements.
 #[derive(Clone, Copy, Drop)]
-pub(crate) struct RefusedElement<'t> {
-    pub(crate) lines: &'t TextLines<'t>,
+pub(crate) struct RefusedElement<'t, 'a> {
+    pub(crate) lines: &'t TextLines<'a>,
     pub(crate) table: &'t Table,
     pub(crate) section: Section,
     pub(crate) index: usize,
 }
 
-impl<'t> RefusedElement<'t> {
+impl<'t, 'a> RefusedElement<'t, 'a> {
     // The head of the element, or of its section.
     fn head(&self) -> Option<Spot> {
         let section = section_key(self.section);
@@ -148,30 +148,28 @@ impl<'t> RefusedElement<'t> {
         self.element_finding(alloc)
     }
 
-    /// What is wrong with the spelling of a text: 403.
-    pub(crate) fn spelling_finding(&self, alloc: Global) -> Result<RuleFinding, AllocError> {
-        for key in keys_of(self.section) {
-            let Some(slip) = self.slip(alloc, key)? else {
-                continue;
-            };
-            return finding(alloc, slip.0, &[Words(slip.1)]);
-        }
-        page_finding(alloc, self.head(), Code::Pattern)
-    }
-
     // What is wrong with the text of a key, and where.
-    fn slip(
-        &self,
-        alloc: Global,
-        key: &Key,
-    ) -> Result<Option<(Option<Spot>, &'static str)>, AllocError> {
+    fn slip_finding(&self, alloc: Global, key: &Key) -> Result<Option<RuleFinding>, AllocError> {
         let (Some(form), Some(text)) = (key.form, self.text(key.name)) else {
             return Ok(None);
         };
         match slip_of(alloc, form, text.as_bytes())? {
-            Some(slip) => Ok(Some((self.at_value(key.name, text, slip.at), slip.what))),
+            Some(slip) => {
+                let spot = self.at_value(key.name, text, slip.at);
+                Ok(Some(finding(alloc, spot, &[Words(slip.what)])?))
+            }
             None => Ok(None),
         }
+    }
+
+    /// What is wrong with the spelling of a text: 403.
+    pub(crate) fn spelling_finding(&self, alloc: Global) -> Result<RuleFinding, AllocError> {
+        for key in keys_of(self.section) {
+            if let Some(found) = self.slip_finding(alloc, key)? {
+                return Ok(found);
+            }
+        }
+        page_finding(alloc, self.head(), Code::Pattern)
     }
 
     /// Which variable of a lock its pattern does not have: 404.
@@ -285,7 +283,7 @@ fn same_letters<'p>(pattern: &Parts<'p>, name: &[u8]) -> Option<&'p [u8]> {
 /// What is wrong with an element of a rule file that is TOML.
 pub(crate) fn element_finding(
     alloc: Global,
-    element: &RefusedElement<'_>,
+    element: &RefusedElement<'_, '_>,
     fault: &RulesFault,
 ) -> Result<RuleFinding, AllocError> {
     match fault.code {
