@@ -83,10 +83,19 @@ def zsh_option(words, said):
     return f"'{name_of(words)}[{zsh_text(said)}]{value}'"
 
 
+def argument_name(words):
+    return re.search(r'<(.*)>', words)[1]
+
+
+def is_file(words):
+    """Whether an argument is a file's path."""
+    return argument_name(words) in ENDINGS
+
+
 def zsh_argument(number, words, said):
-    name = re.search(r'<(.*)>', words)[1]
     place = '*' if words.endswith('...') else number
-    return f"'{place}:{zsh_text(said)}:_files -g \"*.{ENDINGS[name]}(-.)\"'"
+    files = f'_files -g "*.{ENDINGS[argument_name(words)]}(-.)"' if is_file(words) else ''
+    return f"'{place}:{zsh_text(said)}:{files}'"
 
 
 def zsh(whole):

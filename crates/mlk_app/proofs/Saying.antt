@@ -27,7 +27,7 @@ use Rattle.mlk_app.proofs.Sources.{loses-front}
 use Rattle.mlk_cli.specs.CommandLine.{IsRequest, bytes_of}
 use Rattle.mlk_outcome.specs.Checked.{trees_of, IsChecked, IsRefusedBy}
 use Rattle.mlk_outcome.specs.Converted.{IsUnconverted}
-use Rattle.mlk_app.specs.Ran.{style_in, status_of, IsReportPrinted, Prints, TellsRefusal, TellsFault, TellsUnread, Answers, AnswersWords}
+use Rattle.mlk_app.specs.Ran.{style_in, status_of, IsReportPrinted, Prints, TellsRefusal, TellsFault, TellsUnread, TellsPage, Answers, AnswersWords}
 
 one-not-zero : ◌≡◌ {A = ℕ} 1 0 → ⊥
 one-not-zero e = omega (arith, e)
@@ -61,15 +61,15 @@ outcome-answers holds lacks program sources checked (answer.Report text status) 
   answered = answered;
   printed = printed;
 }
-outcome-answers holds lacks program sources checked (answer.Refused line notice) texts answered printed = absurd printed
-outcome-answers holds lacks program sources checked (answer.Unread line) texts answered printed = absurd printed
+outcome-answers holds lacks program sources checked (answer.Refused line notice help) texts answered printed = absurd printed
+outcome-answers holds lacks program sources checked (answer.Unread line help) texts answered printed = absurd printed
 outcome-answers holds lacks program sources checked (answer.Usage text) texts answered printed = absurd printed
 outcome-answers holds lacks program sources checked answer.OutOfMemory texts answered printed = record {}
 
 pub refusal-answers : (holds : Texts) (lacks : List ℕ → Type 0) (program : ProgramRequest) (sources : Sources) (r : NoReport) (a : Answer) → AreTexts holds program sources → IsRefusedBy sources r → TellsRefusal (style_in program.asked).output r a
     → Answers holds lacks (request.Program program) a
 refusal-answers holds lacks program sources r (answer.Report text status) texts refused told = absurd told
-refusal-answers holds lacks program sources r (answer.Refused line notice) texts refused told = (
+refusal-answers holds lacks program sources r (answer.Refused line notice help) texts refused told = (
   record {
     sources = sources;
     texts = texts;
@@ -79,7 +79,7 @@ refusal-answers holds lacks program sources r (answer.Refused line notice) texts
   },
   told.1,
 )
-refusal-answers holds lacks program sources r (answer.Unread line) texts refused told = absurd told
+refusal-answers holds lacks program sources r (answer.Unread line help) texts refused told = absurd told
 refusal-answers holds lacks program sources r (answer.Usage text) texts refused told = absurd told
 refusal-answers holds lacks program sources r answer.OutOfMemory texts refused told = record {}
 
@@ -87,8 +87,8 @@ refusal-answers holds lacks program sources r answer.OutOfMemory texts refused t
 pub unread-answers : (holds : Texts) (lacks : List ℕ → Type 0) (certificate : Bor (List ℕ)) (format : Format) (path : Bor (List ℕ)) (a : Answer) → Loses lacks certificate.now (error.Unread path)
     → TellsUnread path.now a → Answers holds lacks (request.Convert certificate format) a
 unread-answers holds lacks certificate format path (answer.Report text status) lost told = absurd told
-unread-answers holds lacks certificate format path (answer.Refused line notice) lost told = absurd told
-unread-answers holds lacks certificate format path (answer.Unread line) lost told = record {
+unread-answers holds lacks certificate format path (answer.Refused line notice help) lost told = absurd told
+unread-answers holds lacks certificate format path (answer.Unread line help) lost told = record {
   path = path.now;
   lost = loses-front holds lacks certificate.now [] (error.Unread path) lost;
   told = told;
@@ -99,7 +99,7 @@ unread-answers holds lacks certificate format path answer.OutOfMemory lost told 
 pub fault-answers : (holds : Texts) (lacks : List ℕ → Type 0) (certificate : Bor (List ℕ)) (format : Format) (given : List ℕ) (fault : CertFault) (a : Answer) → holds certificate.now given → IsUnconverted (cert_format format) given (failure.Refused fault)
     → TellsFault fault a → Answers holds lacks (request.Convert certificate format) a
 fault-answers holds lacks certificate format given fault (answer.Report text status) held refused told = absurd told
-fault-answers holds lacks certificate format given fault (answer.Refused line notice) held refused told = (
+fault-answers holds lacks certificate format given fault (answer.Refused line notice help) held refused told = (
   record {
     given = given;
     held = held;
@@ -109,7 +109,7 @@ fault-answers holds lacks certificate format given fault (answer.Refused line no
   },
   told.1,
 )
-fault-answers holds lacks certificate format given fault (answer.Unread line) held refused told = absurd told
+fault-answers holds lacks certificate format given fault (answer.Unread line help) held refused told = absurd told
 fault-answers holds lacks certificate format given fault (answer.Usage text) held refused told = absurd told
 fault-answers holds lacks certificate format given fault answer.OutOfMemory held refused told = record {}
 
@@ -117,8 +117,8 @@ fault-answers holds lacks certificate format given fault answer.OutOfMemory held
 pub unsurveyed-answers : (holds : Texts) (lacks : List ℕ → Type 0) (survey : SurveyRequest) (path : Bor (List ℕ)) (a : Answer) → LosesFirst holds lacks (bytes_of survey.routines.items) (error.Unread path)
     → TellsUnread path.now a → Answers holds lacks (request.Survey survey) a
 unsurveyed-answers holds lacks survey path (answer.Report text status) lost told = absurd told
-unsurveyed-answers holds lacks survey path (answer.Refused line notice) lost told = absurd told
-unsurveyed-answers holds lacks survey path (answer.Unread line) lost told = record {
+unsurveyed-answers holds lacks survey path (answer.Refused line notice help) lost told = absurd told
+unsurveyed-answers holds lacks survey path (answer.Unread line help) lost told = record {
   path = path.now;
   lost = lost;
   told = told;
@@ -126,9 +126,17 @@ unsurveyed-answers holds lacks survey path (answer.Unread line) lost told = reco
 unsurveyed-answers holds lacks survey path (answer.Usage text) lost told = absurd told
 unsurveyed-answers holds lacks survey path answer.OutOfMemory lost told = record {}
 
+-- what is answered where a page is asked for
+pub page-answers : (holds : Texts) (lacks : List ℕ → Type 0) (code : Bor (List ℕ)) (a : Answer) → TellsPage code.now a → Answers holds lacks (request.Explain code) a
+page-answers holds lacks code (answer.Report text status) told = told
+page-answers holds lacks code (answer.Refused line notice help) told = told
+page-answers holds lacks code (answer.Unread line help) told = absurd told
+page-answers holds lacks code (answer.Usage text) told = absurd told
+page-answers holds lacks code answer.OutOfMemory told = record {}
+
 pub words-answer : {A : Type 0} → (holds : Texts) (lacks : List ℕ → Type 0) (words : List (String A)) (request : Request) (a : Answer) → IsRequest words request → Answers holds lacks request a → AnswersWords holds lacks words a
 words-answer holds lacks words request (answer.Report text status) asked h = (request, asked, h)
-words-answer holds lacks words request (answer.Refused line notice) asked h = (request, asked, h)
-words-answer holds lacks words request (answer.Unread line) asked h = (request, asked, h)
+words-answer holds lacks words request (answer.Refused line notice help) asked h = (request, asked, h)
+words-answer holds lacks words request (answer.Unread line help) asked h = (request, asked, h)
 words-answer holds lacks words request (answer.Usage text) asked h = absurd h
 words-answer holds lacks words request answer.OutOfMemory asked h = record {}

@@ -87,6 +87,7 @@ abbrev pub paths_of : Request → List (List ℕ)
 paths_of (request.Program program) = program_paths program
 paths_of (request.Convert certificate format) = certificate.now ∷ []
 paths_of (request.Survey survey) = bytes_of survey.routines.items
+paths_of (request.Explain code) = []
 
 -- each of these paths has a text
 abbrev pub AreHeld : Texts → List (List ℕ) → Type 0

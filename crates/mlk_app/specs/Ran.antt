@@ -28,7 +28,7 @@ use Rattle.mlk_app.specs.declared.program.Answer.{Answer}
 use Rattle.mlk_app.specs.declared.program.Answer.TheVariants as answer
 use Rattle.mlk_pool.specs.declared.source.Source.{Source}
 use Rattle.mlk_forms.specs.Told.{IsReportTold, IsNoticed}
-use Rattle.mlk_app.specs.Printed.{fault_line, rules_line, certificate_line, missing_line, workers_line, stuck_line, events_line, file_line}
+use Rattle.mlk_app.specs.Printed.{fault_line, rules_line, certificate_line, missing_line, workers_line, stuck_line, events_line, file_line, no_page_line}
 use Rattle.mlk_app.specs.Files.{Texts, AreTexts, AreSources, IsFirstLost, cert_format, paths_of}
 use Rattle.mlk_cli.specs.CommandLine.{IsRequest, AsksNothing}
 use Rattle.mlk_outcome.specs.Checked.{trees_of, IsChecked, IsRefusedBy}
@@ -48,6 +48,7 @@ abbrev pub output_in : Request → Output
 output_in (request.Program program) = (style_in program.asked).output
 output_in (request.Convert certificate format) = Plain
 output_in (request.Survey survey) = Plain
+output_in (request.Explain code) = Plain
 
 -- 0 for a report that passes, 1 for another
 abbrev pub status_of : Bool → ℕ
@@ -81,16 +82,16 @@ IsRefusalLine (refusal.Events fault) line = line ≡ events_line fault
 -- the text and the status of a report, where memory doesn't run out
 abbrev pub PrintsReport : ReportStyle → List RoutineTree → List Row → Answer → Type 0
 PrintsReport style trees rows (answer.Report text status) = IsReportPrinted style trees rows text status
-PrintsReport style trees rows (answer.Refused line notice) = ⊥
-PrintsReport style trees rows (answer.Unread line) = ⊥
+PrintsReport style trees rows (answer.Refused line notice help) = ⊥
+PrintsReport style trees rows (answer.Unread line help) = ⊥
 PrintsReport style trees rows (answer.Usage text) = ⊥
 PrintsReport style trees rows answer.OutOfMemory = Unit {0}
 
 -- a text, where memory doesn't run out
 abbrev pub PrintsText : List ℕ → Answer → Type 0
 PrintsText shown (answer.Report text status) = (text ≡ shown) × (status ≡ 0)
-PrintsText shown (answer.Refused line notice) = ⊥
-PrintsText shown (answer.Unread line) = ⊥
+PrintsText shown (answer.Refused line notice help) = ⊥
+PrintsText shown (answer.Unread line help) = ⊥
 PrintsText shown (answer.Usage text) = ⊥
 PrintsText shown answer.OutOfMemory = Unit {0}
 
@@ -102,8 +103,8 @@ IsPrinted style trees (outcome.Replayed shown) text status = (text ≡ shown) ×
 
 abbrev pub PrintsOutcome : ReportStyle → List RoutineTree → CheckedOutcome → Answer → Type 0
 PrintsOutcome style trees o (answer.Report text status) = IsPrinted style trees o text status
-PrintsOutcome style trees o (answer.Refused line notice) = ⊥
-PrintsOutcome style trees o (answer.Unread line) = ⊥
+PrintsOutcome style trees o (answer.Refused line notice help) = ⊥
+PrintsOutcome style trees o (answer.Unread line help) = ⊥
 PrintsOutcome style trees o (answer.Usage text) = ⊥
 PrintsOutcome style trees o answer.OutOfMemory = Unit {0}
 
@@ -113,26 +114,34 @@ Prints style checked a = PrintsOutcome style (trees_of checked) checked.outcome 
 -- the line of a refusal, and what is printed beside it, where memory doesn't run out
 abbrev pub TellsRefusal : Output → NoReport → Answer → Type 0
 TellsRefusal output r (answer.Report text status) = ⊥
-TellsRefusal output r (answer.Refused line notice) = IsRefusalLine r line × IsNoticed output notice
-TellsRefusal output r (answer.Unread line) = ⊥
+TellsRefusal output r (answer.Refused line notice help) = IsRefusalLine r line × IsNoticed output notice
+TellsRefusal output r (answer.Unread line help) = ⊥
 TellsRefusal output r (answer.Usage text) = ⊥
 TellsRefusal output r answer.OutOfMemory = Unit {0}
 
 -- the line of a certificate's fault, where memory doesn't run out
 abbrev pub TellsFault : CertFault → Answer → Type 0
 TellsFault fault (answer.Report text status) = ⊥
-TellsFault fault (answer.Refused line notice) = (line ≡ certificate_line fault) × (notice ≡ None)
-TellsFault fault (answer.Unread line) = ⊥
+TellsFault fault (answer.Refused line notice help) = (line ≡ certificate_line fault) × (notice ≡ None)
+TellsFault fault (answer.Unread line help) = ⊥
 TellsFault fault (answer.Usage text) = ⊥
 TellsFault fault answer.OutOfMemory = Unit {0}
 
 -- the line of a path that can't be read, where memory doesn't run out
 abbrev pub TellsUnread : List ℕ → Answer → Type 0
 TellsUnread path (answer.Report text status) = ⊥
-TellsUnread path (answer.Refused line notice) = ⊥
-TellsUnread path (answer.Unread line) = line ≡ file_line path
+TellsUnread path (answer.Refused line notice help) = ⊥
+TellsUnread path (answer.Unread line help) = line ≡ file_line path
 TellsUnread path (answer.Usage text) = ⊥
 TellsUnread path answer.OutOfMemory = Unit {0}
+
+-- the page of a code, which is not said, or that there is none, where memory doesn't run out
+abbrev pub TellsPage : List ℕ → Answer → Type 0
+TellsPage code (answer.Report text status) = status ≡ 0
+TellsPage code (answer.Refused line notice help) = (line ≡ no_page_line code) × (notice ≡ None)
+TellsPage code (answer.Unread line help) = ⊥
+TellsPage code (answer.Usage text) = ⊥
+TellsPage code answer.OutOfMemory = Unit {0}
 
 -- what the texts at the paths of a program come to
 pub record IsProgramReported (holds : Texts) (program : ProgramRequest) (text : List ℕ) (status : ℕ) : Type 0 where
@@ -170,18 +179,20 @@ pub record IsSurveyed (holds : Texts) (survey : SurveyRequest) : Type 0 where
   pub sources : List Source
   pub texts : AreSources holds survey.routines.items sources
 
--- what the texts at the paths of a request come to: a certificate is printed as it is
+-- what the texts at the paths of a request come to: a certificate is printed as it is; what a page says is not said
 abbrev pub IsReported : Texts → Request → List ℕ → ℕ → Type 0
 IsReported holds (request.Program program) text status = IsProgramReported holds program text status
 IsReported holds (request.Convert certificate format) text status = IsConvertedThere holds certificate.now (cert_format format) text × (status ≡ 0)
 IsReported holds (request.Survey survey) text status = IsSurveyed holds survey × (status ≡ 0)
+IsReported holds (request.Explain code) text status = status ≡ 0
 
 abbrev pub IsRefusedThere : Texts → Request → List ℕ → Type 0
 IsRefusedThere holds (request.Program program) line = IsProgramRefused holds program line
 IsRefusedThere holds (request.Convert certificate format) line = IsUnconvertedThere holds certificate.now (cert_format format) line
 IsRefusedThere holds (request.Survey survey) line = ⊥
+IsRefusedThere holds (request.Explain code) line = line ≡ no_page_line code.now
 
--- the line on the error stream, and what is printed beside it
+-- The line on the error stream, and what is printed beside it. What explains the line, below it on the error stream, is not said.
 abbrev pub IsRefusedSo : Texts → Request → List ℕ → Option (List ℕ) → Type 0
 IsRefusedSo holds request line notice = IsRefusedThere holds request line × IsNoticed (output_in request) notice
 
@@ -194,8 +205,8 @@ pub record IsUnread (holds : Texts) (lacks : List ℕ → Type 0) (request : Req
 -- What the program answers to a request. Want of memory says nothing.
 abbrev pub Answers : Texts → (List ℕ → Type 0) → Request → Answer → Type 0
 Answers holds lacks request (answer.Report text status) = IsReported holds request text status
-Answers holds lacks request (answer.Refused line notice) = IsRefusedSo holds request line notice
-Answers holds lacks request (answer.Unread line) = IsUnread holds lacks request line
+Answers holds lacks request (answer.Refused line notice help) = IsRefusedSo holds request line notice
+Answers holds lacks request (answer.Unread line help) = IsUnread holds lacks request line
 Answers holds lacks request (answer.Usage text) = ⊥
 Answers holds lacks request answer.OutOfMemory = Unit {0}
 
@@ -207,16 +218,16 @@ IsRefusalSaid (Some notice) old new status = (status ≡ 3) ⊎ ((status ≡ 2) 
 -- how it is said: 3 where standard output takes no more
 abbrev pub IsSaid : Answer → Option (List ℕ) → Option (List ℕ) → ℕ → Type 0
 IsSaid (answer.Report text ended) old new status = (status ≡ 3) ⊎ ((status ≡ ended) × Appends old new text)
-IsSaid (answer.Refused line notice) old new status = IsRefusalSaid notice old new status
-IsSaid (answer.Unread line) old new status = (status ≡ 3) × Keeps old new
+IsSaid (answer.Refused line notice help) old new status = IsRefusalSaid notice old new status
+IsSaid (answer.Unread line help) old new status = (status ≡ 3) × Keeps old new
 IsSaid (answer.Usage text) old new status = (status ≡ 2) × Keeps old new
 IsSaid answer.OutOfMemory old new status = (status ≡ 3) × Keeps old new
 
 -- What the program answers to its words: the answer to their request, or that they ask for nothing.
 abbrev pub AnswersWords : {A : Type 0} → Texts → (List ℕ → Type 0) → List (String A) → Answer → Type 0
 AnswersWords holds lacks words (answer.Report text status) = (request : Request) × IsRequest words request × IsReported holds request text status
-AnswersWords holds lacks words (answer.Refused line notice) = (request : Request) × IsRequest words request × IsRefusedSo holds request line notice
-AnswersWords holds lacks words (answer.Unread line) = (request : Request) × IsRequest words request × IsUnread holds lacks request line
+AnswersWords holds lacks words (answer.Refused line notice help) = (request : Request) × IsRequest words request × IsRefusedSo holds request line notice
+AnswersWords holds lacks words (answer.Unread line help) = (request : Request) × IsRequest words request × IsUnread holds lacks request line
 AnswersWords holds lacks words (answer.Usage text) = AsksNothing words
 AnswersWords holds lacks words answer.OutOfMemory = Unit {0}
 

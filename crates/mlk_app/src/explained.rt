@@ -5,7 +5,7 @@ ghost use Rattle.mlk_syntax.specs.Views.{routine_of};
 ghost use Rattle.mlk_forms.specs.Told.{IsReportTold};
 
 use mlk_cert::{Certificate, read_cert};
-use mlk_cli::ReportStyle;
+use mlk_cli::{Output, ReportStyle};
 use mlk_explain::Grounds;
 use mlk_forms::{ToldReport, report_told};
 use mlk_make::make_certificate;
@@ -20,20 +20,39 @@ use mlk_walk::Report;
 use mlk_watch::Unwatched;
 use std::alloc::{AllocError, Global};
 
-/// The texts that explain a report: those of the rules, of the certificate where one was given, and of the routines.
+/// The texts that explain a report or a refusal: those of the rules, of the certificate or
+/// of the events where some were given, and of the routines.
 #[derive(Drop)]
 pub(crate) struct KeptTexts {
-    rules: Vec<u8>,
-    certificate: Option<Vec<u8>>,
-    routines: Vec<Vec<u8>>,
+    pub(crate) rules: Vec<u8>,
+    /// the certificate or the events that were given
+    pub(crate) work: Option<Vec<u8>>,
+    pub(crate) routines: Vec<Vec<u8>>,
+    /// whether a refusal is explained by them
+    pub(crate) explains_refusals: bool,
 }
 
-fn certificate_text(alloc: Global, work: &Work) -> Result<Option<Vec<u8>>, AllocError> {
+/// How much is explained to whoever reads the error stream.
+#[derive(Clone, Copy, Debug, PartialEq, Eq)]
+pub enum Explaining {
+    /// what the words ask for
+    AsAsked,
+    /// refusals too, where the words don't ask for it: people read the stream on a terminal
+    Refusals,
+}
+
+/// Whether a refusal is to be explained.
+pub(crate) fn is_refusal_explained(style: ReportStyle, explaining: Explaining) -> bool {
+    style.is_explained || explaining == Explaining::Refusals
+}
+
+fn work_text(alloc: Global, work: &Work) -> Result<Option<Vec<u8>>, AllocError> {
     match work {
         Work::Check { certificate, .. } => {
             Ok(Some(Vec::from_slice(alloc, certificate.as_slice())?))
         }
-        Work::Make { .. } | Work::Verify { .. } | Work::Replay(_) => Ok(None),
+        Work::Replay(events) => Ok(Some(Vec::from_slice(alloc, events.as_slice())?)),
+        Work::Make { .. } | Work::Verify { .. } => Ok(None),
     }
 }
 
@@ -45,18 +64,30 @@ fn routine_texts(alloc: Global, routines: &[Source<'_>]) -> Result<Vec<Vec<u8>>,
     Ok(texts)
 }
 
-/// Copies of the texts that explain a report, where it is to be explained.
+/// The texts of the routines, or none where they were not kept.
+pub(crate) fn texts_of(kept: Option<&KeptTexts>) -> &[Vec<u8>] {
+    match kept {
+        Some(texts) => texts.routines.as_slice(),
+        None => &[],
+    }
+}
+
+/// Copies the texts of `sources`; `None` where neither a report nor a refusal is to be explained, or told as SARIF, which counts
+/// columns in characters.
 pub(crate) fn kept_texts(
     alloc: Global,
     sources: &Sources<'_>,
     style: ReportStyle,
+    explaining: Explaining,
 ) -> Result<Option<KeptTexts>, AllocError> {
-    if !style.is_explained {
+    let explains_refusals = is_refusal_explained(style, explaining);
+    if !explains_refusals && style.output != Output::Sarif {
         return Ok(None);
     }
     Ok(Some(KeptTexts {
         rules: Vec::from_slice(alloc, sources.rules.as_slice())?,
-        certificate: certificate_text(alloc, &sources.work)?,
+        work: work_text(alloc, &sources.work)?,
+        explains_refusals,
         routines: routine_texts(alloc, sources.routines.as_slice())?,
     }))
 }
@@ -110,7 +141,7 @@ fn told_of(
     let Some(rules) = taken(read_rules(alloc, texts.rules.as_slice()))? else {
         return report_told(alloc, inputs, report, style, None);
     };
-    let given = texts.certificate.as_ref();
+    let given = texts.work.as_ref();
     let Some(certificate) = certificate_of(alloc, program, &rules, given)? else {
         return report_told(alloc, inputs, report, style, None);
     };
@@ -139,7 +170,7 @@ pub(crate) fn told(
     let Some(texts) = kept else {
         return report_told(alloc, inputs, report, style, None);
     };
-    if report.rows().is_empty() {
+    if !style.is_explained || report.rows().is_empty() {
         return report_told(alloc, inputs, report, style, None);
     }
     match taken(link(alloc, inputs.routines))? {

@@ -4,11 +4,14 @@
 
 mod explained;
 mod file;
+mod help;
 mod notice;
 mod printed;
 mod program;
+mod refused;
 mod source;
 
+pub use explained::Explaining;
 pub use file::{LONGEST_FILE, read_whole};
 pub use mlk_watch::{Stage, Unwatched, Watch};
 pub use program::{run, run_watched, wrong_words};

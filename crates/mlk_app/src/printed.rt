@@ -2,7 +2,7 @@
 
 ghost use Rattle.std.specs.Prelude.{◌≡◌, IfOk};
 ghost use Rattle.mlk_report_text.specs.Pieces.{pieces_text};
-ghost use Rattle.mlk_app.specs.Printed.{left_out_text, fault_line, missing_line, workers_line, rules_line, certificate_line, events_code, events_line, stuck_line, file_line};
+ghost use Rattle.mlk_app.specs.Printed.{left_out_text, fault_line, missing_line, workers_line, rules_line, certificate_line, events_code, events_line, stuck_line, file_line, no_page_line};
 
 use mlk_cert::CertFault;
 use mlk_machine::{EventsFault, EventsRefusal};
@@ -162,4 +162,21 @@ pub(crate) fn file_line(alloc: Global, path: &str) -> Result<ReportText, AllocEr
     ensures { IfOk result (λ t. t ≡ file_line path.now) }
 {
     line_of(alloc, &[Words("error file "), Words(path), Words("\n")])
+}
+
+/// `error: no code TEXT; ..`
+pub(crate) fn no_page_line(alloc: Global, text: &str) -> Result<ReportText, AllocError>
+    ensures { IfOk result (λ t. t ≡ no_page_line text.now) }
+{
+    line_of(
+        alloc,
+        &[
+            Words("error: no code "),
+            Words(text),
+            Words(
+                "; codes are numbers from 101 to 903, or names, as in `mlock explain 702` and `mlock explain Uncovered`",
+            ),
+            Words("\n"),
+        ],
+    )
 }

@@ -5,23 +5,25 @@ ghost use Rattle.mlk_syntax.specs.Views.{routine_of};
 ghost use Rattle.std.specs.IoError.{error_kind};
 ghost use Rattle.std.specs.Io.KnownBytes.{Appends};
 ghost use Rattle.mlk_cli.specs.declared.words.Request.TheVariants as wanted;
-ghost use Rattle.mlk_app.specs.Ran.{style_in, status_of, PrintsReport, PrintsOutcome, Prints, IsErrorLine, IsRefusalLine, TellsRefusal, TellsFault, TellsUnread, Answers, AnswersWords, IsRefusalSaid, IsSaid, Ran};
+ghost use Rattle.mlk_app.specs.Ran.{style_in, status_of, PrintsReport, PrintsOutcome, Prints, IsErrorLine, IsRefusalLine, TellsRefusal, TellsFault, TellsUnread, TellsPage, Answers, AnswersWords, IsRefusalSaid, IsSaid, Ran};
 ghost use Rattle.mlk_forms.specs.Told.{IsNoticed};
 ghost use Rattle.mlk_outcome.specs.Checked.{IsOfOpenGate, IsNotShut};
 
-use crate::explained::{KeptTexts, kept_texts, told};
+use crate::explained::{Explaining, KeptTexts, is_refusal_explained, kept_texts, texts_of, told};
+use crate::help::{certificate_help, refusal_help, why_unread};
 use crate::notice::notice_of;
 use crate::printed::{
-    certificate_line, events_line, fault_line, file_line, missing_line, rules_line, stuck_line,
-    workers_line,
+    certificate_line, events_line, fault_line, file_line, missing_line, no_page_line, rules_line,
+    stuck_line, workers_line,
 };
+use crate::refused::{refused_file, refused_spot, rule_file};
 use crate::source::{FileError, Files, cert_format, read_file, read_files, read_sources};
 use mlk_cert::CertFault;
 use mlk_cli::{
     Asked, Format, Output, ProgramRequest, ReportStyle, Request, SurveyRequest, UsageError,
     read_request,
 };
-use mlk_forms::{notice_told, survey_told};
+use mlk_forms::{notice_told, pages_told, survey_told};
 use mlk_outcome::{Checked, CheckedOutcome, NoReport, check_texts, converted};
 use mlk_output::Inputs;
 use mlk_pool::{CheckError, ReportText};
@@ -44,12 +46,13 @@ const FAILED: u8 = 3;
 // What the program says, before it is said.
 #[derive(Drop)]
 enum Answer {
-    /// The text of a report, of a certificate, of jobs or of a survey, and the status that it ends with.
+    /// The text of a report, of a certificate, of jobs, of a survey or of a page, and the status that it ends with.
     Report(ReportText, u8),
-    /// The line that says why the input is refused, and what is printed beside it, if a form is asked for.
-    Refused(ReportText, Option<ReportText>),
-    /// The line that says which file can't be read.
-    Unread(ReportText),
+    /// The line that says why the input is refused, what is printed beside it, if a form is asked for, and what explains it
+    /// below the line, if that is asked for.
+    Refused(ReportText, Option<ReportText>, Vec<u8>),
+    /// The line that says which file can't be read, and what explains it.
+    Unread(ReportText, Vec<u8>),
     /// `clap`'s text, where the words ask for nothing.
     Usage(String),
     OutOfMemory,
@@ -125,6 +128,7 @@ fn answer_of<W: Watch>(
     let inputs = Inputs {
         routines: routines.as_slice(),
         paths: program.routines.as_slice(),
+        texts: texts_of(kept.as_ref()),
     };
     let style = style_in(&program.asked);
     let answer = outcome_answer(alloc, &inputs, outcome, style, kept.as_ref());
@@ -164,42 +168,83 @@ fn notice(
     refusal: &NoReport,
     program: &ProgramRequest<'_>,
     line: &ReportText,
+    kept: Option<&KeptTexts>,
 ) -> Result<Option<ReportText>, AllocError>
     ensures { IfOk result (IsNoticed (style_in program.now.asked).output) }
 {
-    match notice_of(refusal, program, line.as_bytes()) {
+    let refused = refused_file(refusal, program, kept);
+    let spot = match &refused {
+        Some(file) => refused_spot(alloc, refusal, file.text)?,
+        None => None,
+    };
+    let file = refused.unwrap_or(rule_file(program, kept));
+    match notice_of(refusal, program, line.as_bytes(), &file, spot) {
         Some(notice) => notice_told(alloc, &notice, style_in(&program.asked).output),
         None => Ok(None),
     }
 }
 
-fn refusal_answer(alloc: Global, refusal: &NoReport, program: &ProgramRequest<'_>) -> Answer
+fn refusal_answer(
+    alloc: Global,
+    refusal: &NoReport,
+    program: &ProgramRequest<'_>,
+    kept: Result<Option<KeptTexts>, AllocError>,
+) -> Answer
     requires { IsNotShut refusal.now }
     ensures { TellsRefusal (style_in program.now.asked).output refusal.now result }
 {
-    match refusal_line(alloc, refusal) {
-        Ok(line) => match notice(alloc, refusal, program, &line) {
-            Ok(notice) => Answer::Refused(line, notice),
-            Err(AllocError) => Answer::OutOfMemory,
-        },
+    let Ok(kept) = kept else {
+        return Answer::OutOfMemory;
+    };
+    let Ok(line) = refusal_line(alloc, refusal) else {
+        return Answer::OutOfMemory;
+    };
+    let Ok(beside) = notice(alloc, refusal, program, &line, kept.as_ref()) else {
+        return Answer::OutOfMemory;
+    };
+    match refusal_help(alloc, refusal, program, kept.as_ref()) {
+        Ok(help) => Answer::Refused(line, beside, help),
         Err(AllocError) => Answer::OutOfMemory,
     }
 }
 
-fn fault_answer(alloc: Global, fault: &CertFault) -> Answer
+fn fault_answer(alloc: Global, fault: &CertFault, help: Result<Vec<u8>, AllocError>) -> Answer
     ensures { TellsFault fault.now result }
 {
+    let Ok(help) = help else {
+        return Answer::OutOfMemory;
+    };
     match certificate_line(alloc, fault) {
-        Ok(line) => Answer::Refused(line, None),
+        Ok(line) => Answer::Refused(line, None, help),
         Err(AllocError) => Answer::OutOfMemory,
     }
 }
 
-fn unread_answer(alloc: Global, path: &str) -> Answer
+// What is answered where the file at a path can't be read, with what explains it.
+fn unread_answer(alloc: Global, path: &str, help: Result<Vec<u8>, AllocError>) -> Answer
     ensures { TellsUnread path.now result }
 {
+    let Ok(help) = help else {
+        return Answer::OutOfMemory;
+    };
     match file_line(alloc, path) {
-        Ok(line) => Answer::Unread(line),
+        Ok(line) => Answer::Unread(line, help),
+        Err(AllocError) => Answer::OutOfMemory,
+    }
+}
+
+// What is answered where the page of a code is asked for.
+fn answer_page(alloc: Global, code: &str) -> Answer
+    ensures { TellsPage code.now result }
+{
+    let Ok(page) = pages_told(alloc, code) else {
+        return Answer::OutOfMemory;
+    };
+    if let Some(text) = page {
+        return Answer::Report(text, YES);
+    }
+    match no_page_line(alloc, code) {
+        Ok(line) => Answer::Refused(line, None, Vec::new(alloc)),
         Err(AllocError) => Answer::OutOfMemory,
     }
 }
@@ -210,20 +255,24 @@ fn answer_program<R: Threads + Wait + Sync, F: Files, W: Watch>(
     alloc: Global,
     program: &ProgramRequest<'_>,
     files: &F,
+    explaining: Explaining,
     watch: &W,
 ) -> Answer
     ensures { Answers (F.holds files.now) (F.lacks files.now) (wanted.Program program.now) result }
 {
     match read_files(alloc, files, program) {
         Ok(sources) => {
-            let kept = kept_texts(alloc, &sources, style_in(&program.asked));
+            let kept = kept_texts(alloc, &sources, style_in(&program.asked), explaining);
             match check_texts(rt, alloc, sources, watch) {
                 Ok(checked) => answer_of(alloc, checked, program, kept, watch),
-                Err(refusal) => refusal_answer(alloc, &refusal, program),
+                Err(refusal) => refusal_answer(alloc, &refusal, program, kept),
             }
         }
         Err(FileError::OutOfMemory) => Answer::OutOfMemory,
-        Err(FileError::Unread(path)) => unread_answer(alloc, path),
+        Err(FileError::Unread(path)) => {
+            let is_explained = is_refusal_explained(style_in(&program.asked), explaining);
+            unread_answer(alloc, path, why_unread(alloc, files, path, is_explained))
+        }
     }
 }
 
@@ -233,6 +282,7 @@ fn answer_conversion<F: Files, W: Watch>(
     certificate: &str,
     format: Format,
     files: &F,
+    explaining: Explaining,
     watch: &W,
 ) -> Answer
     ensures { Answers (F.holds files.now) (F.lacks files.now) (wanted.Convert certificate.entry format) result }
@@ -241,10 +291,17 @@ fn answer_conversion<F: Files, W: Watch>(
         Ok(text) => match converted(alloc, text.as_slice(), cert_format(format), watch) {
             Ok(text) => Answer::Report(ReportText::of(text), YES),
             Err(Failure::OutOfMemory) => Answer::OutOfMemory,
-            Err(Failure::Refused(fault)) => fault_answer(alloc, &fault),
+            Err(Failure::Refused(fault)) => {
+                let text = text.as_slice();
+                let help = certificate_help(alloc, certificate, text, &fault, explaining);
+                fault_answer(alloc, &fault, help)
+            }
         },
         Err(FileError::OutOfMemory) => Answer::OutOfMemory,
-        Err(FileError::Unread(path)) => unread_answer(alloc, path),
+        Err(FileError::Unread(path)) => {
+            let is_explained = explaining == Explaining::Refusals;
+            unread_answer(alloc, path, why_unread(alloc, files, path, is_explained))
+        }
     }
 }
 
@@ -254,6 +311,7 @@ fn answer_survey<R: Threads + Wait + Sync, F: Files, W: Watch>(
     alloc: Global,
     survey: &SurveyRequest<'_>,
     files: &F,
+    explaining: Explaining,
     watch: &W,
 ) -> Answer
     ensures { Answers (F.holds files.now) (F.lacks files.now) (wanted.Survey survey.now) result }
@@ -264,7 +322,10 @@ fn answer_survey<R: Threads + Wait + Sync, F: Files, W: Watch>(
             Err(AllocError) => Answer::OutOfMemory,
         },
         Err(FileError::OutOfMemory) => Answer::OutOfMemory,
-        Err(FileError::Unread(path)) => unread_answer(alloc, path),
+        Err(FileError::Unread(path)) => {
+            let is_explained = explaining == Explaining::Refusals;
+            unread_answer(alloc, path, why_unread(alloc, files, path, is_explained))
+        }
     }
 }
 
@@ -274,17 +335,19 @@ fn answer_request<R: Threads + Wait + Sync, F: Files, W: Watch>(
     alloc: Global,
     request: &Request<'_>,
     files: &F,
+    explaining: Explaining,
     watch: &W,
 ) -> Answer
     ensures { Answers (F.holds files.now) (F.lacks files.now) request.now result }
 {
     match request {
-        Request::Program(program) => answer_program(rt, alloc, program, files, watch),
+        Request::Program(program) => answer_program(rt, alloc, program, files, explaining, watch),
         Request::Convert {
             certificate,
             format,
-        } => answer_conversion(alloc, *certificate, *format, files, watch),
-        Request::Survey(survey) => answer_survey(rt, alloc, survey, files, watch),
+        } => answer_conversion(alloc, *certificate, *format, files, explaining, watch),
+        Request::Survey(survey) => answer_survey(rt, alloc, survey, files, explaining, watch),
+        Request::Explain(code) => answer_page(alloc, *code),
     }
 }
 
@@ -293,12 +356,13 @@ fn answer_words<R: Threads + Wait + Sync, F: Files, W: Watch>(
     alloc: Global,
     words: &[String],
     files: &F,
+    explaining: Explaining,
     watch: &W,
 ) -> Answer
     ensures { AnswersWords (F.holds files.now) (F.lacks files.now) words.now result }
 {
     match read_request(alloc, words) {
-        Ok(request) => answer_request(rt, alloc, &request, files, watch),
+        Ok(request) => answer_request(rt, alloc, &request, files, explaining, watch),
         Err(UsageError::OutOfMemory) => Answer::OutOfMemory,
         Err(UsageError::Usage(text)) => Answer::Usage(text),
     }
@@ -336,16 +400,10 @@ fn tell_memory<E: Write>(err: &mut E) -> u8
     FAILED
 }
 
-// Says a refusal, and what is printed beside its line.
-fn refuse<O: Write, E: Write>(
-    line: &ReportText,
-    notice: &Option<ReportText>,
-    out: &mut O,
-    err: &mut E,
-) -> u8
+// Prints what is printed beside the line of a refusal.
+fn refuse<O: Write, E: Write>(notice: &Option<ReportText>, out: &mut O, err: &mut E) -> u8
     ensures { IsRefusalSaid notice.now (O.contents out.old) (O.contents out.new) result }
 {
-    tell(err, line.as_bytes());
     match notice {
         None => REFUSED,
         Some(text) => print(out, err, text, REFUSED),
@@ -358,9 +416,14 @@ fn say<O: Write, E: Write>(answer: &Answer, out: &mut O, err: &mut E) -> u8
 {
     match answer {
         Answer::Report(text, status) => print(out, err, text, *status),
-        Answer::Refused(line, notice) => refuse(line, notice, out, err),
-        Answer::Unread(line) => {
+        Answer::Refused(line, notice, help) => {
             tell(err, line.as_bytes());
+            tell(err, help.as_slice());
+            refuse(notice, out, err)
+        }
+        Answer::Unread(line, help) => {
+            tell(err, line.as_bytes());
+            tell(err, help.as_slice());
             FAILED
         }
         Answer::Usage(text) => {
@@ -400,22 +463,25 @@ pub fn run<R: Threads + Wait + Sync, F: Files, O: Write, E: Write>(
 ) -> u8
     ensures { Ran (F.holds files.now) (F.lacks files.now) words.now (O.contents out.old) (O.contents out.new) result }
 {
-    run_watched(rt, alloc, words, files, &Unwatched, out, err)
+    let explaining = Explaining::AsAsked;
+    run_watched(rt, alloc, words, files, explaining, &Unwatched, out, err)
 }
 
-/// Does what `run` does, and shows `watch` how far it has come. Before anything is written, it says that it is at its end.
+/// Does what `run` does, explains as much as `explaining` says, and shows `watch` how far it has come. Before anything is written,
+/// it says that it is at its end.
 pub fn run_watched<R: Threads + Wait + Sync, F: Files, W: Watch, O: Write, E: Write>(
     rt: &R,
     alloc: Global,
     words: &[String],
     files: &F,
+    explaining: Explaining,
     watch: &W,
     out: &mut O,
     err: &mut E,
 ) -> u8
     ensures { Ran (F.holds files.now) (F.lacks files.now) words.now (O.contents out.old) (O.contents out.new) result }
 {
-    let answer = answer_words(rt, alloc, words, files, watch);
+    let answer = answer_words(rt, alloc, words, files, explaining, watch);
     watch.end();
     say(&answer, out, err)
 }

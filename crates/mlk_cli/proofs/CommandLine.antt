@@ -58,6 +58,13 @@ strict_words = codes "mlock" ∷ codes "verify" ∷ codes "--strict" ∷ codes "
 abbrev survey_words : List Text
 survey_words = codes "mlock" ∷ codes "survey" ∷ codes "A.m" ∷ codes "B.m" ∷ []
 
+abbrev page_words : List Text
+page_words = codes "mlock" ∷ codes "explain" ∷ codes "702" ∷ []
+
+reads_code : option_map (λ p. first_of (codes "CODE") p.1) (subcommand_of mlock_app page_words) ≡ Some (Some (codes "702"))
+unfolding clap_on_literals
+reads_code = refl
+
 reads_rules : option_map (λ p. first_of (codes "RULES") p.1) (subcommand_of mlock_app words) ≡ Some (Some (codes "r"))
 unfolding clap_on_literals
 reads_rules = refl
@@ -183,6 +190,14 @@ surveys_without_strictness : takes mlock_app (codes "mlock" ∷ codes "survey" �
 unfolding clap_on_literals
 surveys_without_strictness = refl
 
+takes_code : takes mlock_app page_words ≡ true
+unfolding clap_on_literals
+takes_code = refl
+
+takes_one_code : takes mlock_app (codes "mlock" ∷ codes "explain" ∷ codes "701" ∷ codes "702" ∷ []) ≡ false
+unfolding clap_on_literals
+takes_one_code = refl
+
 takes_format : takes mlock_app first_words ≡ true
 unfolding clap_on_literals
 takes_format = refl
@@ -244,6 +259,12 @@ starts_verify text is = rw is refl
 
 starts_survey : (text : Text) → text ≡ codes "survey" → slice_index text 0 ≡ 115
 starts_survey text is = rw is refl
+
+starts_explain : (text : Text) → text ≡ codes "explain" → slice_index text 0 ≡ 101
+starts_explain text is = rw is refl
+
+explain-not-convert : codes "explain" ≡ codes "convert" → ⊥
+explain-not-convert e = let bad : ◌≡◌ {A = ℕ} 99 101 = starts_explain (codes "convert") (sym e) in omega arith
 
 verify-not-replay : codes "verify" ≡ codes "replay" → ⊥
 verify-not-replay e = let bad : ◌≡◌ {A = ℕ} 114 118 = starts_verify (codes "replay") (sym e) in omega arith
@@ -313,6 +334,7 @@ pub converts-nothing : (name : Text) (rows : List Row) → name ≡ codes "conve
 converts-nothing name rows is none (request.Program program) h = no-program name rows is program.asked h.asked
 converts-nothing name rows is none (request.Convert certificate format) h = none certificate format h.1
 converts-nothing name rows is none (request.Survey survey) h = let bad = sym is ∙ h.0 in cc bad
+converts-nothing name rows is none (request.Explain code) h = explain-not-convert (sym h.0 ∙ is)
 
 no-survey-of-program : (name : Text) (rows : List Row) → name ≡ codes "survey" → (a : Asked) → IsAsked name rows a → ⊥
 no-survey-of-program name rows is (asked.Check path workers style) h = let bad = sym is ∙ h.0 in cc bad
@@ -325,9 +347,24 @@ pub surveys-nothing : (name : Text) (rows : List Row) → name ≡ codes "survey
 surveys-nothing name rows is none (request.Program program) h = no-survey-of-program name rows is program.asked h.asked
 surveys-nothing name rows is none (request.Convert certificate format) h = let bad = sym is ∙ h.0 in cc bad
 surveys-nothing name rows is none (request.Survey survey) h = none survey h.1
+surveys-nothing name rows is none (request.Explain code) h = let bad = sym is ∙ h.0 in cc bad
 
-pub no-request : (name : Text) (rows : List Row) → (name ≡ codes "convert" → ⊥) → (name ≡ codes "survey" → ⊥) → ((program : ProgramRequest) → IsProgramGiven name rows program → ⊥)
+-- `explain` asks for nothing but a page, and without a code for nothing.
+no-explained-program : (name : Text) (rows : List Row) → name ≡ codes "explain" → (a : Asked) → IsAsked name rows a → ⊥
+no-explained-program name rows is (asked.Check path workers style) h = let bad = sym is ∙ h.0 in cc bad
+no-explained-program name rows is (asked.Make format) h = let bad = sym is ∙ h.0 in cc bad
+no-explained-program name rows is (asked.Verify workers style) h = let bad = sym is ∙ h.0 in cc bad
+no-explained-program name rows is (asked.Replay path) h = let bad = sym is ∙ h.0 in cc bad
+
+pub explains-nothing : (name : Text) (rows : List Row) → name ≡ codes "explain" → None ≡ first_of (codes "CODE") rows → (r : Request) → IsGiven name rows r → ⊥
+explains-nothing name rows is none (request.Program program) h = no-explained-program name rows is program.asked h.asked
+explains-nothing name rows is none (request.Convert certificate format) h = explain-not-convert (sym is ∙ h.0)
+explains-nothing name rows is none (request.Survey survey) h = let bad = sym is ∙ h.0 in cc bad
+explains-nothing name rows is none (request.Explain code) h = let bad = none ∙ h.1 in cc bad
+
+pub no-request : (name : Text) (rows : List Row) → (name ≡ codes "convert" → ⊥) → (name ≡ codes "survey" → ⊥) → (name ≡ codes "explain" → ⊥) → ((program : ProgramRequest) → IsProgramGiven name rows program → ⊥)
     → (r : Request) → IsGiven name rows r → ⊥
-no-request name rows no-convert no-survey none (request.Program program) h = none program h
-no-request name rows no-convert no-survey none (request.Convert certificate format) h = no-convert h.0
-no-request name rows no-convert no-survey none (request.Survey survey) h = no-survey h.0
+no-request name rows no-convert no-survey no-explain none (request.Program program) h = none program h
+no-request name rows no-convert no-survey no-explain none (request.Convert certificate format) h = no-convert h.0
+no-request name rows no-convert no-survey no-explain none (request.Survey survey) h = no-survey h.0
+no-request name rows no-convert no-survey no-explain none (request.Explain code) h = no-explain h.0

@@ -24,7 +24,7 @@ use Rattle.mlk_cli.specs.declared.words.Request.TheVariants as request
 use Rattle.mlk_cli.specs.declared.words.UsageError.{UsageError}
 use Rattle.mlk_cli.specs.declared.words.UsageError.TheVariants as usage
 
--- a path that must be given, once
+-- a word that must be given, once, mostly a path
 abbrev pub path_rule : Text → Rule
 path_rule id = record (new_rule id) { required = true; action = Some Set }
 
@@ -80,13 +80,19 @@ convert_app = with_rule (with_rule (new_app (codes "convert")) (path_rule (codes
 abbrev pub survey_app : App
 survey_app = with_rule (with_rule (new_app (codes "survey")) routines_rule) output_rule
 
+-- `explain CODE`
+abbrev pub explain_app : App
+explain_app = with_rule (new_app (codes "explain")) (path_rule (codes "CODE"))
+
 -- `mlock` before it has a command
 abbrev pub no_command_app : App
 no_command_app = on_top (λ s. record s { subcommand_required = true; has_version = true }) (new_app (codes "mlock"))
 
 -- `mlock` and one of its commands
 abbrev pub mlock_app : App
-mlock_app = with_subcommand (with_subcommand (with_subcommand (with_subcommand (with_subcommand (with_subcommand no_command_app check_app.top) make_app.top) verify_app.top) replay_app.top) convert_app.top) survey_app.top
+mlock_app =
+    with_subcommand (with_subcommand (with_subcommand (with_subcommand (with_subcommand (with_subcommand (with_subcommand no_command_app check_app.top) make_app.top) verify_app.top) replay_app.top) convert_app.top) survey_app.top)
+    explain_app.top
 
 -- the text is a number of 32 bits in decimal digits, before which a plus may stand
 abbrev pub IsNumber : Text → ℕ → Type 0
@@ -222,6 +228,7 @@ abbrev pub IsGiven : Text → List Row → Request → Type 0
 IsGiven name rows (request.Program program) = IsProgramGiven name rows program
 IsGiven name rows (request.Convert certificate format) = (name ≡ codes "convert") × IsConversion rows certificate format
 IsGiven name rows (request.Survey survey) = (name ≡ codes "survey") × IsSurvey rows survey
+IsGiven name rows (request.Explain code) = (name ≡ codes "explain") × (first_of (codes "CODE") rows ≡ Some code.now)
 
 -- what a command's own matches give: nothing where they are those of no request
 abbrev pub GivesPaths : Text → List Row → Option Request → Type 0

@@ -19,7 +19,7 @@ pub(crate) const STRICT_HELP: &str =
     "Tells also where a real system may do otherwise than the standard says, and ends with status 1 there";
 
 pub(crate) const EXPLAIN_HELP: &str =
-    "Shows below each fault its line, what is held there, the rules and what mends it; in text alone";
+    "Shows below each fault its line, what is held there, the rules and what mends it, and below a refusal its line and what helps; in text alone";
 
 pub(crate) const SURVEY_OUTPUT_HELP: &str = "How the survey is told: text or json";
 
@@ -104,6 +104,20 @@ the places where a real system may do otherwise than the standard says. It check
 Example: mlock survey routines/*.m
 
 Status: 0 printed, 3 want of memory or a file that can't be read or written.";
+
+pub(crate) const CODE_HELP: &str =
+    "The number or the name of a code, as a report or a refusal has it";
+
+pub(crate) const PAGE_HELP: &str = "Explains a code of a report or of a refusal";
+
+pub(crate) const PAGE_MORE: &str = "Explains a code of a report or of a refusal
+
+Prints the page of the code: what it means and why it matters, what mends it, and an example with what is written in its
+place. The code is its number, from 101 to 903, or its name, as in `mlock explain Uncovered`.
+
+Example: mlock explain 702
+
+Status: 0 printed, 2 no such code, 3 want of memory or standard output that can't be written.";
 
 // The program's version, and the logic that it is proved in. Whether a build was proved is not for the program to say: the
 // script that starts it knows.

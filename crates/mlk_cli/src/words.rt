@@ -90,6 +90,8 @@ pub enum Request<'a> {
         format: Format,
     },
     Survey(SurveyRequest<'a>),
+    /// the page of the code that this word names
+    Explain(&'a str),
 }
 
 /// Why the words ask for nothing.
@@ -320,6 +322,12 @@ fn given<'a>(
             return Ok(None);
         };
         return Ok(Some(Request::Survey(survey)));
+    }
+    if name == "explain" {
+        let Some(code) = matches.get_str("CODE") else {
+            return Ok(None);
+        };
+        return Ok(Some(Request::Explain(code)));
     }
     let Some(program) = program_of(alloc, name, matches)? else {
         return Ok(None);

@@ -4,11 +4,10 @@ ghost use Rattle.std.specs.Prelude.{◌≡◌, ◌+◌, IfOk, length};
 
 use crate::notice::with_end;
 use mlk_cli::SurveyOutput;
-use mlk_pool::{ReportText, Source, read_each};
+use mlk_pool::{ReportText, Source};
 use mlk_survey::{Facts, survey};
+use mlk_survey_reading::{Readings, read_all_lines};
 use mlk_survey_text::{survey_json, survey_text};
-use mlk_syntax::Routine;
-use mlk_text::{Failure, Fault};
 use mlk_watch::Watch;
 use std::alloc::{AllocError, Global};
 use std::thread::Threads;
@@ -40,15 +39,19 @@ fn text_in(
     }
 }
 
-// What is found in texts to which a reader gave these answers.
-fn answers_told(
+// What is found in texts that came to this.
+fn readings_told(
     alloc: Global,
-    answers: &[Result<Routine, Failure<Fault>>],
+    readings: &Readings,
     output: SurveyOutput,
 ) -> Result<ToldSurvey, AllocError>
-    ensures { IfOk result (λ told. told.read + told.refused ≡ length answers.now) }
+    ensures { IfOk result (λ told. told.read + told.refused ≡ length readings.now.answers.items) }
 {
-    let facts = survey(alloc, answers)?;
+    let facts = survey(
+        alloc,
+        readings.answers.as_slice(),
+        readings.further.as_slice(),
+    )?;
     Ok(ToldSurvey {
         read: facts.read,
         refused: facts.refused.len(),
@@ -57,7 +60,7 @@ fn answers_told(
 }
 
 /// What is found in the texts of routines. They are read side by side, each by itself: one that is refused is counted and
-/// reported, and hides nothing of the others.
+/// reported, with each line that can't be read, and hides nothing of the others.
 pub fn survey_told<R: Threads + Sync, W: Watch>(
     rt: &R,
     alloc: Global,
@@ -67,8 +70,8 @@ pub fn survey_told<R: Threads + Sync, W: Watch>(
 ) -> Result<ToldSurvey, AllocError>
     ensures { IfOk result (λ told. told.read + told.refused ≡ length sources.entry.items) }
 {
-    let answers = read_each(rt, alloc, sources, watch)?;
-    let told = answers_told(alloc, answers.as_slice(), output);
-    watch.discard(answers);
+    let readings = read_all_lines(rt, alloc, sources, watch)?;
+    let told = readings_told(alloc, &readings, output);
+    watch.discard(readings);
     told
 }

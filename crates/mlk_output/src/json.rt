@@ -2,6 +2,7 @@
 
 use crate::notice::{Notice, Place};
 use crate::row::Inputs;
+use mlk_code_pages::page_of;
 use mlk_hazards::HazardAt;
 use mlk_report_text::{Field, object};
 use mlk_walk::{Report, Row};
@@ -19,7 +20,7 @@ fn row_value(alloc: Global, inputs: &Inputs<'_>, row: &Row) -> Result<Value, All
         ("column", Field::Number(row.fault.column.number() as usize)),
         ("code", Field::Number(usize::from(code.number()))),
         ("name", Field::Bytes(code.word())),
-        ("meaning", Field::Text(code.meaning())),
+        ("meaning", Field::Text(page_of(code).meaning)),
     ]?;
     object(alloc, members)
 }

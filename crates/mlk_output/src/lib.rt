@@ -1,15 +1,18 @@
 //! Reports and refusals for other programs: as one JSON object, and as SARIF 2.1.0, which build servers read.
 #![tactic(auto)]
 
+mod finding;
+mod hash;
+mod hazard;
 mod json;
-mod meaning;
 mod notice;
 mod path;
+mod region;
 mod row;
+mod rule;
 mod sarif;
 
 pub use json::{notice_json, report_json};
-pub use meaning::mend_of;
 pub use notice::{Notice, Place};
 pub use row::Inputs;
 pub use sarif::{notice_sarif, report_sarif};

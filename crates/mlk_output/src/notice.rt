@@ -8,7 +8,7 @@ pub struct Place<'a> {
     /// the file's path, as the command line has it
     pub path: &'a str,
     pub line: LineNumber,
-    /// the column, if one is known
+    /// the column, in bytes, if one is known
     pub column: Option<Column>,
 }
 
@@ -19,4 +19,8 @@ pub struct Notice<'a> {
     /// the line that the program writes to the error stream, without its end
     pub line: &'a [u8],
     pub place: Option<Place<'a>>,
+    /// the text of the file in which the place is; empty if it isn't at hand
+    pub text: &'a [u8],
+    /// the path of the file at which SARIF shows a refusal that has no place: build servers drop results without one
+    pub file: &'a str,
 }

@@ -6,11 +6,13 @@ use mlk_report_text::text_of;
 use mlk_syntax::Routine;
 use std::alloc::{AllocError, Global};
 
-/// What a report is about: the routines of a program, and the path of the file of each, in their order.
+/// What a report is about: the routines of a program, and the path and the text of the file of each, in their order.
 #[derive(Clone, Copy, Drop)]
 pub struct Inputs<'a> {
     pub routines: &'a [Routine],
     pub paths: &'a [&'a str],
+    /// only SARIF needs them, to count columns in characters; else there may be none
+    pub texts: &'a [Vec<u8>],
 }
 
 impl<'a> Inputs<'a> {
@@ -27,13 +29,18 @@ impl<'a> Inputs<'a> {
         self.path_at(entry.routine())
     }
 
-    /// The path of the file of the routine of this name.
-    pub(crate) fn path_of(&self, name: &[u8]) -> &'a str {
+    /// The number of the routine of this name, or one that no routine has.
+    pub(crate) fn number_of(&self, name: &[u8]) -> usize {
         let mut routines = self.routines.iter();
         match routines.position(|routine| routine.name.as_bytes() == name) {
-            Some(number) => self.path_at(number),
-            None => "",
+            Some(number) => number,
+            None => self.routines.len(),
         }
+    }
+
+    /// The path of the file of the routine of this name.
+    pub(crate) fn path_of(&self, name: &[u8]) -> &'a str {
+        self.path_at(self.number_of(name))
     }
 
     /// The name of the routine that an entry is in.

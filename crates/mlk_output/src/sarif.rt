@@ -1,9 +1,13 @@
 // Reports and refusals as SARIF 2.1.0, the Static Analysis Results Interchange Format of OASIS.
 
-use crate::meaning::{HAZARD_MEANINGS, HazardMeaning, MENDINGS, Mending, hazard_is_what};
+use crate::finding::{Finding, fingerprints_value, result_value};
+use crate::hash::{HashedLine, HashedLines, ProgramLines};
+use crate::hazard::hazard_is_what;
 use crate::notice::{Notice, Place};
-use crate::path::uri;
+use crate::region::{ROOT, file_value, physical_value};
 use crate::row::Inputs;
+use crate::rule::{all_rules_values, rule_id, rules_values};
+use mlk_code_pages::page_of;
 use mlk_hazards::HazardAt;
 use mlk_report_text::Piece::{Bytes, Number, Words};
 use mlk_report_text::{Field, escape_bytes, member, object, text_of};
@@ -14,155 +18,37 @@ use std::collections::BTreeMap;
 
 const SCHEMA: &str = "https://json.schemastore.org/sarif-2.1.0.json";
 
-// A rule that a walk looks after, by the code of its faults.
-fn rule_value(alloc: Global, mending: &Mending) -> Result<Value, AllocError> {
-    let code = mending.code;
-    let id = text_of(alloc, &[Number(usize::from(code.number()))])?;
-    let meaning = member(alloc, "text", Field::Text(code.meaning()))?;
-    let help = member(alloc, "text", Field::Text(mending.mend))?;
-    let members = vec![in alloc;
-        ("id", Field::Made(id)),
-        ("name", Field::Bytes(code.word())),
-        ("shortDescription", Field::Value(meaning)),
-        ("help", Field::Value(help)),
-    ]?;
-    object(alloc, members)
-}
+// The program's version, which `--version` begins with.
+const VERSION: &str = "0.1.0";
 
-fn rules_values(alloc: Global) -> Result<Vec<Value>, AllocError> {
-    let mut values = Vec::new(alloc);
-    for mending in MENDINGS.iter() {
-        values.push(rule_value(alloc, mending)?)?;
-    }
-    Ok(values)
-}
-
-// The rule of a hazard, by its word.
-fn hazard_rule_value(alloc: Global, meaning: &HazardMeaning) -> Result<Value, AllocError> {
-    let hazard = meaning.hazard;
-    let meaning = member(alloc, "text", Field::Text(meaning.is))?;
-    let help = member(alloc, "text", Field::Text(hazard.advice()))?;
-    let level = member(alloc, "level", Field::Text("warning"))?;
-    let members = vec![in alloc;
-        ("id", Field::Text(hazard.word())),
-        ("name", Field::Text(hazard.word())),
-        ("shortDescription", Field::Value(meaning)),
-        ("help", Field::Value(help)),
-        ("defaultConfiguration", Field::Value(level)),
-    ]?;
-    object(alloc, members)
-}
-
-// The rules that a walk looks after, and those of hazards.
-fn all_rules_values(alloc: Global) -> Result<Vec<Value>, AllocError> {
-    let mut values = rules_values(alloc)?;
-    for meaning in HAZARD_MEANINGS.iter() {
-        values.push(hazard_rule_value(alloc, meaning)?)?;
-    }
-    Ok(values)
-}
-
-// A fault or a hazard.
-#[derive(Drop)]
-struct Finding<'a> {
-    /// the id of its rule
-    rule: Vec<u8>,
-    level: &'static str,
-    name: &'static [u8],
-    meaning: &'static str,
-    place: Place<'a>,
-    /// the entry or the routine that it is in
-    within: Vec<u8>,
-    kind: &'static str,
-    fingerprint: &'static str,
-}
-
-// A place in a file.
-fn physical_value(alloc: Global, place: &Place<'_>) -> Result<Value, AllocError> {
-    let path = uri(alloc, place.path)?;
-    let column = match place.column {
-        Some(column) => Field::Number(column.number() as usize),
-        None => Field::Absent,
-    };
-    let members = vec![in alloc;
-        ("startLine", Field::Number(place.line.number() as usize)),
-        ("startColumn", column),
-    ]?;
-    let region = object(alloc, members)?;
-    json!(in alloc; {"artifactLocation": {"uri": &path}, "region": region})
-}
-
-// The places of a finding.
-fn locations_value(alloc: Global, finding: &Finding<'_>) -> Result<Value, AllocError> {
-    let physical = physical_value(alloc, &finding.place)?;
-    let within = escape_bytes(alloc, finding.within.as_slice())?;
-    json!(in alloc; [{
-        "physicalLocation": physical,
-        "logicalLocations": [{"fullyQualifiedName": &within, "kind": finding.kind}],
-    }])
-}
-
-// The fingerprint of a finding, which stays the same where lines move: its rule, what it is in, and how many findings of this
-// rule there were so far.
-fn fingerprint(
-    alloc: Global,
-    counts: &mut BTreeMap<Vec<u8>, usize>,
-    finding: &Finding<'_>,
-) -> Result<Vec<u8>, AllocError> {
-    let rule = finding.rule.as_slice();
-    let within = finding.within.as_slice();
-    let key = text_of(alloc, &[Bytes(rule), Words(" "), Bytes(within)])?;
-    let count = counts.get(&key).copied().unwrap_or(0).saturating_add(1);
-    counts.insert(key, count)?;
-    let count = Number(count);
-    text_of(
-        alloc,
-        &[Bytes(rule), Words(" "), Bytes(within), Words(" "), count],
-    )
-}
-
-fn result_value(
-    alloc: Global,
-    counts: &mut BTreeMap<Vec<u8>, usize>,
-    finding: &Finding<'_>,
-) -> Result<Value, AllocError> {
-    let meaning = Words(finding.meaning);
-    let message = text_of(alloc, &[Bytes(finding.name), Words(": "), meaning])?;
-    let message = member(alloc, "text", Field::Made(message))?;
-    let fingerprint = Field::Made(fingerprint(alloc, counts, finding)?);
-    let fingerprints = member(alloc, finding.fingerprint, fingerprint)?;
-    let locations = locations_value(alloc, finding)?;
-    let members = vec![in alloc;
-        ("ruleId", Field::Bytes(finding.rule.as_slice())),
-        ("level", Field::Text(finding.level)),
-        ("message", Field::Value(message)),
-        ("locations", Field::Value(locations)),
-        ("partialFingerprints", Field::Value(fingerprints)),
-    ]?;
-    object(alloc, members)
-}
+const REFUSED: usize = 2;
 
 // Adds a result for each fault.
-fn add_faults(
+fn add_faults<'a>(
     alloc: Global,
-    inputs: &Inputs<'_>,
+    inputs: &Inputs<'a>,
     rows: &[Row],
+    lines: &mut ProgramLines<'a>,
     values: &mut Vec<Value>,
 ) -> Result<(), AllocError> {
     let mut counts = BTreeMap::new(alloc);
     for row in rows {
         let code = row.fault.code;
+        lines.look_up(row.entry.routine())?;
+        let rule = rule_id(alloc, code)?;
+        let within = inputs.entry(alloc, row.entry)?;
         let finding = Finding {
-            rule: text_of(alloc, &[Number(usize::from(code.number()))])?,
+            rule,
             level: "error",
             name: code.word(),
-            meaning: code.meaning(),
+            meaning: page_of(code).meaning,
             place: Place {
                 path: inputs.path(row.entry),
                 line: row.fault.line,
                 column: Some(row.fault.column),
             },
-            within: inputs.entry(alloc, row.entry)?,
+            line: lines.line(row.fault.line),
+            within,
             kind: "function",
             fingerprint: "codeInEntry/v1",
         };
@@ -172,18 +58,22 @@ fn add_faults(
 }
 
 // Adds a result for each hazard.
-fn add_hazards(
+fn add_hazards<'a>(
     alloc: Global,
-    inputs: &Inputs<'_>,
+    inputs: &Inputs<'a>,
     hazards: &[HazardAt<'_>],
+    lines: &mut ProgramLines<'a>,
     values: &mut Vec<Value>,
 ) -> Result<(), AllocError> {
     let mut counts = BTreeMap::new(alloc);
     for at in hazards {
         let word = at.hazard.word().as_bytes();
         let routine = at.position.routine;
+        lines.look_up(inputs.number_of(routine))?;
+        let rule = Vec::from_slice(alloc, word)?;
+        let within = Vec::from_slice(alloc, routine)?;
         let finding = Finding {
-            rule: Vec::from_slice(alloc, word)?,
+            rule,
             level: "warning",
             name: word,
             meaning: hazard_is_what(at.hazard),
@@ -192,7 +82,8 @@ fn add_hazards(
                 line: at.position.line,
                 column: Some(at.position.column),
             },
-            within: Vec::from_slice(alloc, routine)?,
+            line: lines.line(at.position.line),
+            within,
             kind: "module",
             fingerprint: "hazardInRoutine/v1",
         };
@@ -210,12 +101,21 @@ fn document(
 ) -> Result<String, AllocError> {
     let rules = Value::Array(rules);
     let results = Value::Array(results);
+    let driver = json!(in alloc; {
+        "name": "mlock",
+        "version": VERSION,
+        "semanticVersion": VERSION,
+        "rules": rules,
+    })?;
+    let root = json!(in alloc; {"description": {"text": "the folder in which mlock was run"}})?;
+    let roots = member(alloc, ROOT, Field::Value(root))?;
     json!(in alloc; {
         "$schema": SCHEMA,
         "version": "2.1.0",
         "runs": [{
-            "tool": {"driver": {"name": "mlock", "rules": rules}},
+            "tool": {"driver": driver},
             "columnKind": "unicodeCodePoints",
+            "originalUriBaseIds": roots,
             "invocations": [invocation],
             "results": results,
         }],
@@ -223,7 +123,17 @@ fn document(
     .to_string_pretty(alloc)
 }
 
-/// A report as SARIF: a result for each fault, in their order, and one for each hazard, if these are reported.
+// How a run ended that came to a report with this number of results.
+fn invocation_value(alloc: Global, results: usize) -> Result<Value, AllocError> {
+    let status = if results == 0 { 0 } else { 1 };
+    let members = vec![in alloc;
+        ("executionSuccessful", Field::Flag(true)),
+        ("exitCode", Field::Number(status)),
+    ]?;
+    object(alloc, members)
+}
+
+/// Writes a report as SARIF: a result for each fault, in their order, and one for each hazard, if these are reported.
 pub fn report_sarif(
     alloc: Global,
     inputs: &Inputs<'_>,
@@ -231,43 +141,102 @@ pub fn report_sarif(
     hazards: Option<&[HazardAt<'_>]>,
 ) -> Result<String, AllocError> {
     let mut results = Vec::with_capacity(alloc, report.rows().len())?;
-    add_faults(alloc, inputs, report.rows(), &mut results)?;
+    let mut lines = ProgramLines::new(alloc, inputs.texts);
+    add_faults(alloc, inputs, report.rows(), &mut lines, &mut results)?;
     let rules = match hazards {
         None => rules_values(alloc)?,
         Some(hazards) => {
-            add_hazards(alloc, inputs, hazards, &mut results)?;
+            add_hazards(alloc, inputs, hazards, &mut lines, &mut results)?;
             all_rules_values(alloc)?
         }
     };
-    let invocation = member(alloc, "executionSuccessful", Field::Flag(true))?;
+    let invocation = invocation_value(alloc, results.len())?;
     document(alloc, rules, results, invocation)
 }
 
-// The place of a refusal, where it has one.
-fn places_value(alloc: Global, place: &Option<Place<'_>>) -> Result<Value, AllocError> {
-    let Some(place) = place else {
-        return Ok(Value::Array(Vec::new(alloc)));
+// The line at the place of a refusal, if its file is at hand and has it.
+fn refused_line<'a>(
+    alloc: Global,
+    notice: &Notice<'a>,
+) -> Result<Option<HashedLine<'a>>, AllocError> {
+    let Some(place) = &notice.place else {
+        return Ok(None);
     };
-    let physical = physical_value(alloc, place)?;
+    let lines = HashedLines::of(alloc, notice.text)?;
+    Ok(lines.line(place.line))
+}
+
+// The place of a refusal, or the file that it is about.
+fn refused_value(
+    alloc: Global,
+    notice: &Notice<'_>,
+    line: Option<HashedLine<'_>>,
+) -> Result<Value, AllocError> {
+    let physical = match &notice.place {
+        Some(place) => physical_value(alloc, place, line)?,
+        None => file_value(alloc, notice.file)?,
+    };
     json!(in alloc; [{"physicalLocation": physical}])
 }
 
-/// A refusal as SARIF: a run without results, which says why there are none.
-pub fn notice_sarif(alloc: Global, notice: &Notice<'_>) -> Result<String, AllocError> {
-    let id = text_of(alloc, &[Number(usize::from(notice.code.number()))])?;
-    let descriptor = member(alloc, "id", Field::Made(id))?;
-    let message = member(alloc, "text", Field::Bytes(notice.line))?;
-    let places = places_value(alloc, &notice.place)?;
+// What a refusal says: its line, and what its code means.
+fn refused_message(alloc: Global, notice: &Notice<'_>) -> Result<Vec<u8>, AllocError> {
+    let meaning = page_of(notice.code).meaning;
+    text_of(alloc, &[Bytes(notice.line), Words(": "), Words(meaning)])
+}
+
+// The fingerprint of a refusal, which stays the same where lines move: its code and its file. A run has one refusal.
+fn refused_fingerprint(alloc: Global, notice: &Notice<'_>) -> Result<Vec<u8>, AllocError> {
+    let code = Number(usize::from(notice.code.number()));
+    let path = match &notice.place {
+        Some(place) => place.path,
+        None => notice.file,
+    };
+    text_of(alloc, &[code, Words(" "), Words(path)])
+}
+
+// A refusal as the one result of its run.
+fn refusal_value(alloc: Global, notice: &Notice<'_>) -> Result<Value, AllocError> {
+    let line = refused_line(alloc, notice)?;
+    let message = Field::Made(refused_message(alloc, notice)?);
+    let message = member(alloc, "text", message)?;
+    let own = refused_fingerprint(alloc, notice)?;
+    let fingerprints = fingerprints_value(alloc, "codeInFile/v1", own, line)?;
+    let locations = refused_value(alloc, notice, line)?;
     let members = vec![in alloc;
-        ("descriptor", Field::Value(descriptor)),
+        ("ruleId", Field::Made(rule_id(alloc, notice.code)?)),
         ("level", Field::Text("error")),
         ("message", Field::Value(message)),
-        ("locations", Field::Value(places)),
+        ("locations", Field::Value(locations)),
+        ("partialFingerprints", Field::Value(fingerprints)),
     ]?;
-    let notification = object(alloc, members)?;
-    let invocation = json!(in alloc; {
+    object(alloc, members)
+}
+
+// That the run was refused, for whoever looks at no results.
+fn refused_invocation(alloc: Global, notice: &Notice<'_>) -> Result<Value, AllocError> {
+    let line = refused_line(alloc, notice)?;
+    let id = rule_id(alloc, notice.code)?;
+    let id = escape_bytes(alloc, id.as_slice())?;
+    let message = escape_bytes(alloc, notice.line)?;
+    let places = refused_value(alloc, notice, line)?;
+    json!(in alloc; {
         "executionSuccessful": false,
-        "toolExecutionNotifications": [notification],
-    })?;
-    document(alloc, rules_values(alloc)?, Vec::new(alloc), invocation)
+        "exitCode": REFUSED,
+        "toolExecutionNotifications": [{
+            "associatedRule": {"id": &id},
+            "level": "error",
+            "message": {"text": &message},
+            "locations": places,
+        }],
+    })
+}
+
+/// Writes a refusal as SARIF: a run that was not successful, whose one result is the refusal at its place, or at the file that
+/// it is about. So a build server keeps the alert, and doesn't take the run for one without faults.
+pub fn notice_sarif(alloc: Global, notice: &Notice<'_>) -> Result<String, AllocError> {
+    let mut results = Vec::new(alloc);
+    results.push(refusal_value(alloc, notice)?)?;
+    let invocation = refused_invocation(alloc, notice)?;
+    document(alloc, rules_values(alloc)?, results, invocation)
 }

@@ -4,6 +4,7 @@ use crate::entries::{Entry, entries_of};
 use crate::given::Given;
 use crate::globals::{GlobalUse, globals_in};
 use crate::locks::{LockUse, locks_in};
+use crate::misfits::{MisfitCall, misfits_in};
 use crate::missing::{MissingCall, missing_in};
 use crate::orders::{LockOrder, orders_in};
 use crate::refused::{RefusalCount, RefusedRoutine};
@@ -17,9 +18,11 @@ use std::alloc::{AllocError, Global};
 pub struct Facts<'a> {
     /// how many routines were read
     pub read: usize,
-    /// those that were not
+    /// those that were not, each at its first fault
     pub refused: Vec<RefusedRoutine<'a>>,
-    /// the same by code and word, most first
+    /// where else their lines can't be read
+    pub further: Vec<RefusedRoutine<'a>>,
+    /// the routines that were not read, by the code and the word of their first faults, most first
     pub refusal_counts: Vec<RefusalCount<'a>>,
     /// what is in those that were read
     pub found: InRoutines<'a>,
@@ -30,6 +33,8 @@ pub struct Facts<'a> {
 pub struct InRoutines<'a> {
     /// calls of labels and routines that are not given
     pub missing: Vec<MissingCall<'a>>,
+    /// calls whose actuals don't fit what they name
+    pub misfits: Vec<MisfitCall<'a>>,
     /// the first lines of routines, and those with formal lists
     pub entries: Vec<Entry<'a>>,
     pub globals: Vec<GlobalUse<'a>>,
@@ -51,6 +56,7 @@ impl<'a> InRoutines<'a> {
     ) -> Result<InRoutines<'a>, AllocError> {
         Ok(InRoutines {
             missing: missing_in(alloc, given, mentions)?,
+            misfits: misfits_in(alloc, given, routines)?,
             entries: entries_of(alloc, routines)?,
             globals: globals_in(alloc, mentions)?,
             locks: locks_in(alloc, mentions)?,

@@ -1,7 +1,7 @@
 // The routines that are given, and their labels.
 
 use crate::refused::RefusedRoutine;
-use indexmap::{IndexMap, IndexSet};
+use indexmap::IndexMap;
 use mlk_syntax::{Callee, Line, Routine};
 use std::alloc::{AllocError, Global};
 
@@ -82,16 +82,16 @@ impl<'a> Routines<'a> {
     }
 }
 
-// The labels of the routines that were read, and their first lines.
+// The labels of the routines that were read, and their first lines: how many formals each has, none without a list.
 #[derive(Drop)]
 struct Labels<'a> {
-    labels: IndexSet<CalledLabel<'a>>,
+    labels: IndexMap<CalledLabel<'a>, Option<usize>>,
 }
 
 impl<'a> Labels<'a> {
     fn of(alloc: Global, routines: &[&'a Routine]) -> Result<Labels<'a>, AllocError> {
         let mut given = Labels {
-            labels: IndexSet::new(alloc),
+            labels: IndexMap::new(alloc),
         };
         for routine in routines {
             given.add_routine(routine)?;
@@ -99,24 +99,34 @@ impl<'a> Labels<'a> {
         Ok(given)
     }
 
-    fn add(&mut self, routine: &'a [u8], label: &'a [u8]) -> Result<(), AllocError> {
-        let Ok(_) = self.labels.insert(CalledLabel { routine, label }) else {
+    // Adds a line by one of its names.
+    fn add(&mut self, called: CalledLabel<'a>, line: &Line) -> Result<(), AllocError> {
+        let formals = match line.formals.as_ref() {
+            None => None,
+            Some(formals) => Some(formals.as_slice().len()),
+        };
+        let Ok(_) = self.labels.insert(called, formals) else {
             return Err(AllocError);
         };
         Ok(())
     }
 
     fn add_line(&mut self, routine: &'a [u8], line: &'a Line) -> Result<(), AllocError> {
-        match line.label.as_ref() {
-            None => Ok(()),
-            Some(label) => self.add(routine, label.as_bytes()),
-        }
+        let Some(label) = line.label.as_ref() else {
+            return Ok(());
+        };
+        let label = label.as_bytes();
+        self.add(CalledLabel { routine, label }, line)
     }
 
     fn add_routine(&mut self, routine: &'a Routine) -> Result<(), AllocError> {
         let name = routine.name.as_bytes();
-        if !routine.lines.is_empty() {
-            self.add(name, b"")?;
+        if let Some(first) = routine.lines.first() {
+            let called = CalledLabel {
+                routine: name,
+                label: b"",
+            };
+            self.add(called, first)?;
         }
         for line in &routine.lines {
             self.add_line(name, line)?;
@@ -125,7 +135,11 @@ impl<'a> Labels<'a> {
     }
 
     fn has(&self, called: &CalledLabel<'_>) -> bool {
-        self.labels.contains(called)
+        self.labels.contains_key(called)
+    }
+
+    fn formals(&self, called: &CalledLabel<'_>) -> Option<Option<usize>> {
+        self.labels.get(called).copied()
     }
 }
 
@@ -147,6 +161,11 @@ impl<'a> Given<'a> {
             routines: Routines::of(alloc, routines, refused)?,
             labels: Labels::of(alloc, routines)?,
         })
+    }
+
+    /// How many formals the line has that a call names, none without a list; `None` if there is no such line.
+    pub(crate) fn formals(&self, called: &CalledLabel<'a>) -> Option<Option<usize>> {
+        self.labels.formals(called)
     }
 
     /// What is lacking for a call of this. Nothing is known of the labels of a routine that was refused.

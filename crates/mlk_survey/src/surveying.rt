@@ -54,6 +54,19 @@ fn parted_in_order<'a>(
     Ok((routines, refused))
 }
 
+// Where else lines can't be read, in order.
+fn further_in_order<'a>(
+    alloc: Global,
+    further: &'a [Fault],
+) -> Result<Vec<RefusedRoutine<'a>>, AllocError> {
+    let mut found = Vec::new(alloc);
+    for fault in further {
+        push_sparing(&mut found, RefusedRoutine::of(fault))?;
+    }
+    sort_refused(&mut found)?;
+    Ok(found)
+}
+
 // What is found in these routines, which are in the order of their names, beside those that are refused.
 fn found_in<'a>(
     alloc: Global,
@@ -66,10 +79,11 @@ fn found_in<'a>(
 }
 
 /// What is found in the texts to which a reader gave these answers. Each text is taken by itself: one that is refused hides
-/// nothing of the others.
+/// nothing of the others. `further` has the faults behind the first ones of texts that are refused.
 pub fn survey<'a>(
     alloc: Global,
     answers: &'a [Result<Routine, Failure<Fault>>],
+    further: &'a [Fault],
 ) -> Result<Facts<'a>, AllocError>
     ensures { IfOk result (λ f. f.read + length f.refused.items ≡ length answers.now) }
 {
@@ -79,6 +93,7 @@ pub fn survey<'a>(
     Ok(Facts {
         read: routines.len(),
         refused,
+        further: further_in_order(alloc, further)?,
         refusal_counts,
         found,
     })

@@ -26,8 +26,10 @@ fn reading_value(alloc: Global, facts: &Facts<'_>) -> Result<Value, AllocError> 
         Value::from(facts.refused.len()),
     )?;
     put_values(&mut object, alloc, "refusals", &facts.refused)?;
+    put_values(&mut object, alloc, "further", &facts.further)?;
     put_values(&mut object, alloc, "reasons", &facts.refusal_counts)?;
     put_values(&mut object, alloc, "missing", &facts.found.missing)?;
+    put_values(&mut object, alloc, "misfits", &facts.found.misfits)?;
     Ok(Value::Object(object))
 }
 

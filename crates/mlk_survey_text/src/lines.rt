@@ -2,9 +2,10 @@
 
 use mlk_hazards::HazardAt;
 use mlk_report_text::Piece::{At, Bytes, CodeName, Made, Number, Words};
-use mlk_report_text::text_of;
+use mlk_report_text::{Piece, text_of};
 use mlk_survey::{
-    Entry, GlobalUse, Lack, LockOrder, LockUse, MissingCall, RefusalCount, RefusedRoutine,
+    Entry, GlobalUse, Lack, LockOrder, LockUse, MisfitCall, MissingCall, RefusalCount,
+    RefusedRoutine,
 };
 use mlk_survey_trees::LockRoot;
 use mlk_text::{Code, Name};
@@ -66,6 +67,37 @@ impl<'a> Told for MissingCall<'a> {
                 Bytes(self.first.routine),
                 Words(" "),
                 At(self.first.line, self.first.column),
+            ],
+        )
+    }
+}
+
+// A number of items of a list, or that there is no list.
+fn listed(count: Option<usize>) -> Piece<'static> {
+    match count {
+        Some(count) => Number(count),
+        None => Words("no list"),
+    }
+}
+
+impl<'a> Told for MisfitCall<'a> {
+    fn told(&self, alloc: Global) -> Result<Vec<u8>, AllocError> {
+        text_of(
+            alloc,
+            &[
+                Bytes(self.position.routine),
+                Words(" "),
+                At(self.position.line, self.position.column),
+                Words(" "),
+                CodeName(Code::Arity),
+                Words(", "),
+                Bytes(self.called.label),
+                Words("^"),
+                Bytes(self.called.routine),
+                Words(" has formals "),
+                listed(self.formals),
+                Words(", and actuals "),
+                listed(self.actuals),
             ],
         )
     }

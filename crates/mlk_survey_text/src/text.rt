@@ -26,11 +26,21 @@ fn push_list<T: Told>(
 }
 
 /// The text of a survey: a title for each list with how many things it has, and below it a line for each of the first `most`
-/// of them. What is refused comes first, what a system may do otherwise last.
+/// of them. What is refused comes first, with a list of its further lines and of calls that don't fit if there
+/// are any, what a system may do otherwise last.
 pub fn survey_text(alloc: Global, facts: &Facts<'_>, most: usize) -> Result<String, AllocError> {
     let mut text = format!(in alloc; "routines read {}\n", facts.read)?;
     push_list(&mut text, alloc, "routines refused", &facts.refused, most)?;
     push_list(&mut text, alloc, "reasons", &facts.refusal_counts, most)?;
+    if !facts.further.is_empty() {
+        push_list(
+            &mut text,
+            alloc,
+            "further lines refused",
+            &facts.further,
+            most,
+        )?;
+    }
     push_list(
         &mut text,
         alloc,
@@ -38,6 +48,15 @@ pub fn survey_text(alloc: Global, facts: &Facts<'_>, most: usize) -> Result<Stri
         &facts.found.missing,
         most,
     )?;
+    if !facts.found.misfits.is_empty() {
+        push_list(
+            &mut text,
+            alloc,
+            "calls that do not fit",
+            &facts.found.misfits,
+            most,
+        )?;
+    }
     push_list(&mut text, alloc, "entries", &facts.found.entries, most)?;
     push_list(&mut text, alloc, "globals", &facts.found.globals, most)?;
     push_list(&mut text, alloc, "locks", &facts.found.locks, most)?;

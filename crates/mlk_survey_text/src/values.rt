@@ -4,7 +4,8 @@ use crate::lines::root_text;
 use mlk_hazards::HazardAt;
 use mlk_report_text::{Field, escape_bytes, object};
 use mlk_survey::{
-    Entry, GlobalUse, Lack, LockOrder, LockUse, MissingCall, RefusalCount, RefusedRoutine,
+    Entry, GlobalUse, Lack, LockOrder, LockUse, MisfitCall, MissingCall, RefusalCount,
+    RefusedRoutine,
 };
 use mlk_survey_trees::Position;
 use mlk_text::Name;
@@ -75,6 +76,28 @@ impl<'a> Valued for MissingCall<'a> {
             ("lacks", Field::Text(lack)),
             ("calls", Field::Number(self.calls)),
             ("first", Field::Value(first)),
+        ]?;
+        object(alloc, members)
+    }
+}
+
+// A number of items of a list, or null where there is no list.
+fn listed(count: Option<usize>) -> Field<'static> {
+    match count {
+        Some(count) => Field::Number(count),
+        None => Field::Null,
+    }
+}
+
+impl<'a> Valued for MisfitCall<'a> {
+    fn value(&self, alloc: Global) -> Result<Value, AllocError> {
+        let place = self.position.value(alloc)?;
+        let members = vec![in alloc;
+            ("routine", Field::Bytes(self.called.routine)),
+            ("label", Field::Bytes(self.called.label)),
+            ("formals", listed(self.formals)),
+            ("actuals", listed(self.actuals)),
+            ("place", Field::Value(place)),
         ]?;
         object(alloc, members)
     }

@@ -4,10 +4,10 @@
 mod progress;
 
 use crate::progress::Progress;
-use mlk_app::{Files, read_whole, run_watched, wrong_words};
+use mlk_app::{Explaining, Files, read_whole, run_watched, wrong_words};
 use std::alloc::Global;
 use std::fs::File;
-use std::io;
+use std::io::{self, IsTerminal};
 use std::process::ExitCode;
 
 // The files of the system.
@@ -28,6 +28,15 @@ fn words_of(rt: &HostRuntime) -> io::Result<Vec<String>> {
     Ok(words.collect(rt.alloc())?)
 }
 
+// Refusals are explained to people.
+fn explaining(rt: &HostRuntime) -> Explaining {
+    if rt.stderr().is_terminal() {
+        Explaining::Refusals
+    } else {
+        Explaining::AsAsked
+    }
+}
+
 fn main(rt: HostRuntime) -> ExitCode {
     let mut out = rt.stdout();
     let mut err = rt.stderr();
@@ -40,6 +49,7 @@ fn main(rt: HostRuntime) -> ExitCode {
                 rt.alloc(),
                 words.as_slice(),
                 &disk,
+                explaining(&rt),
                 &progress,
                 &mut out,
                 &mut err,

@@ -1,7 +1,9 @@
-use Rattle.std.proofs.Common.{rules, subst}
+use Rattle.std.proofs.Common.{◌∙◌, sym, ap, codes, rules, subst}
+use Rattle.std.specs.Prelude.{option_map}
 use Rattle.clap.specs.Words.{found_of, rows_of}
+use Rattle.clap.proofs.WalkLemmas.{first_value-rows}
 use Rattle.mlk_cli.specs.CommandLine.{GivesProgram, GivesSurvey}
-use Rattle.mlk_cli.proofs.CommandLine.{converts-nothing, no-request, surveys-nothing}
+use Rattle.mlk_cli.proofs.CommandLine.{converts-nothing, explains-nothing, no-request, surveys-nothing}
 use Rattle.mlk_cli.proofs.words.given.Goals as goal
 
 pub returns-in_default : goal.returns-in_default
@@ -12,7 +14,17 @@ returns-in_default-2 c =
     let rows = rows_of (found_of c.args.matches.now) in
     surveys-nothing c.args.name.now rows (grind rules) (subst (GivesSurvey rows) c.in_default-2.is c.in_ok-survey.ensures)
 
+pub returns-in_default-get_str : goal.returns-in_default-get_str
+returns-in_default-get_str c =
+    let found = found_of c.args.matches.now in
+    explains-nothing c.args.name.now (rows_of found) (grind rules) (c.in_default-get_str.ensures ∙ first_value-rows found (codes "CODE"))
+
+pub returns-then-eq-3 : goal.returns-then-eq-3
+returns-then-eq-3 c =
+    let found = found_of c.args.matches.now in
+    (grind rules, sym (first_value-rows found (codes "CODE")) ∙ sym c.get_str.ensures ∙ ap (option_map (λ s. s.now)) c.in-Some-get_str.is)
+
 pub returns-in_default-3 : goal.returns-in_default-3
 returns-in_default-3 c =
     let rows = rows_of (found_of c.args.matches.now) in
-    no-request c.args.name.now rows (grind rules) (grind rules) (subst (GivesProgram c.args.name.now rows) c.in_default-3.is c.in_ok-program.ensures)
+    no-request c.args.name.now rows (grind rules) (grind rules) (grind rules) (subst (GivesProgram c.args.name.now rows) c.in_default-3.is c.in_ok-program.ensures)

@@ -1,0 +1,88 @@
+// What explains a refusal to people.
+
+use crate::explained::{Explaining, KeptTexts};
+use crate::refused::{refusal_code, refused_file, refused_spot};
+use crate::source::Files;
+use mlk_cert::CertFault;
+use mlk_cli::ProgramRequest;
+use mlk_outcome::NoReport;
+use mlk_pool::CheckError;
+use mlk_refusal_text::{
+    GivenFile, Spot, code_help, entry_help, line_help, routine_help, rules_help, unread_help,
+};
+use mlk_text::Code;
+use std::alloc::{AllocError, Global};
+
+// What explains a refusal of this code in a file.
+fn explanation(
+    alloc: Global,
+    code: Code,
+    refusal: &NoReport,
+    file: &GivenFile<'_>,
+) -> Result<Vec<u8>, AllocError> {
+    match refusal {
+        NoReport::Check(CheckError::Rules(fault)) => rules_help(alloc, file, fault),
+        NoReport::Check(CheckError::Entry(entry)) => entry_help(alloc, file, entry.as_bytes()),
+        NoReport::Check(CheckError::Routine(fault)) => routine_help(alloc, file, fault),
+        _ => match refused_spot(alloc, refusal, file.text)? {
+            Some(spot) => line_help(alloc, code, file, spot),
+            None => code_help(alloc, code),
+        },
+    }
+}
+
+/// Writes what explains a refusal below its line: the line of the file, what is wrong there and what helps. Nothing is written
+/// where no explanation is asked for.
+pub(crate) fn refusal_help(
+    alloc: Global,
+    refusal: &NoReport,
+    program: &ProgramRequest<'_>,
+    kept: Option<&KeptTexts>,
+) -> Result<Vec<u8>, AllocError> {
+    let (Some(code), Some(texts)) = (refusal_code(refusal), kept) else {
+        return Ok(Vec::new(alloc));
+    };
+    if !texts.explains_refusals {
+        return Ok(Vec::new(alloc));
+    }
+    match refused_file(refusal, program, kept) {
+        Some(file) => explanation(alloc, code, refusal, &file),
+        None => code_help(alloc, code),
+    }
+}
+
+/// Writes what explains why the text of a certificate at `path` is refused; nothing unless `explaining` asks for it.
+pub(crate) fn certificate_help(
+    alloc: Global,
+    path: &str,
+    text: &[u8],
+    fault: &CertFault,
+    explaining: Explaining,
+) -> Result<Vec<u8>, AllocError> {
+    if explaining == Explaining::AsAsked {
+        return Ok(Vec::new(alloc));
+    }
+    let file = GivenFile { path, text };
+    let spot = Spot {
+        line: fault.line,
+        column: None,
+    };
+    line_help(alloc, fault.code, &file, spot)
+}
+
+/// Writes why the file at `path` can't be read, below the line that says so: it is read once more. Nothing is written where no
+/// explanations are asked for, or where it can be read now.
+pub(crate) fn why_unread<F: Files>(
+    alloc: Global,
+    files: &F,
+    path: &str,
+    is_explained: bool,
+) -> Result<Vec<u8>, AllocError> {
+    if !is_explained {
+        return Ok(Vec::new(alloc));
+    }
+    match files.read(alloc, path) {
+        Ok(_) => Ok(Vec::new(alloc)),
+        Err(error) => unread_help(alloc, path, error.kind()),
+    }
+}

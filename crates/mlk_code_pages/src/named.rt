@@ -1,0 +1,25 @@
+// The codes of a number or a name.
+
+use crate::page::CODES;
+use mlk_text::Code;
+use std::alloc::{AllocError, Global};
+
+// Whether this is the number of `code` in digits, or its name, in capitals or small letters.
+fn is_named(code: Code, word: &str) -> bool {
+    match word.parse::<u16>() {
+        Ok(number) => number == code.number(),
+        Err(_) => word.as_bytes().eq_ignore_ascii_case(code.word()),
+    }
+}
+
+/// Lists the codes that `word` names, by their number or by their name; none if no code has it. Two codes have the name
+/// `Limit`, all others a name of their own.
+pub fn codes_named(alloc: Global, word: &str) -> Result<Vec<Code>, AllocError> {
+    let mut codes = Vec::new(alloc);
+    for code in CODES.iter() {
+        if is_named(*code, word) {
+            codes.push(*code)?;
+        }
+    }
+    Ok(codes)
+}

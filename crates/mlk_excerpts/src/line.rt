@@ -1,0 +1,94 @@
+// The lines of a text, and the tokens on them.
+
+use bstr::{ByteSlice, decode_utf8};
+use mlk_text::{Column, LineNumber};
+use std::alloc::{AllocError, Global};
+
+/// The lines of a text, without their ends, each a line feed or a carriage return and a line feed.
+#[derive(Drop)]
+pub struct TextLines<'a> {
+    lines: Vec<&'a [u8]>,
+}
+
+impl<'a> TextLines<'a> {
+    /// Splits `text` into its lines.
+    pub fn of(alloc: Global, text: &'a [u8]) -> Result<TextLines<'a>, AllocError> {
+        let mut lines = Vec::new(alloc);
+        for line in text.lines() {
+            lines.push(line)?;
+        }
+        Ok(TextLines { lines })
+    }
+
+    /// The lines in their order.
+    pub fn as_slice(&self) -> &[&'a [u8]] {
+        self.lines.as_slice()
+    }
+
+    /// Returns the line with this number, or `None` if the text has no such line.
+    pub fn line(&self, number: LineNumber) -> Option<&'a [u8]> {
+        let place = (number.number() as usize).checked_sub(1)?;
+        self.lines.as_slice().get(place).copied()
+    }
+}
+
+// The first bytes of `bytes`, at most `most`, and the others.
+pub(crate) fn split(bytes: &[u8], most: usize) -> (&[u8], &[u8]) {
+    bytes.split_at(most.min(bytes.len()))
+}
+
+/// Splits `line` into the bytes before `column`, which counts bytes, and those from it on.
+pub fn split_at_column(line: &[u8], column: Column) -> (&[u8], &[u8]) {
+    split(line, (column.number() as usize).saturating_sub(1))
+}
+
+/// Counts `column` of `line` in characters, from 1. Bytes that are no UTF-8 count as an editor shows them, one for each
+/// replacement character.
+pub fn character_column(line: &[u8], column: Column) -> usize {
+    let (front, _) = split_at_column(line, column);
+    front.chars().count().saturating_add(1)
+}
+
+// Whether a byte belongs to a word of M, with the marks in front of it: `^ACCT`, `$$NEXT^BIL`, `%Z`.
+fn is_of_word(byte: u8) -> bool {
+    byte.is_ascii_alphanumeric() || matches!(byte, b'^' | b'%' | b'$')
+}
+
+// How many bytes a text in quotes has after its first quote, its last one too. A quote inside is doubled.
+fn quoted_length(text: &[u8]) -> usize {
+    let mut is_closed = false;
+    for (place, byte) in text.iter().enumerate() {
+        if *byte == b'"' {
+            is_closed = !is_closed;
+        } else if is_closed {
+            return place;
+        }
+    }
+    text.len()
+}
+
+// How many bytes the token at the front of `text` has.
+fn token_length(text: &[u8]) -> usize {
+    match text.first() {
+        None => 0,
+        Some(b'"') => {
+            let (_, rest) = split(text, 1);
+            quoted_length(rest).saturating_add(1)
+        }
+        Some(first) if is_of_word(*first) => {
+            text.iter().take_while(|byte| is_of_word(**byte)).count()
+        }
+        Some(_) => {
+            let (_, size) = decode_utf8(text);
+            size
+        }
+    }
+}
+
+/// Returns the token at `column` of `line`: a word with the marks in front of it, a text in quotes, or else one character;
+/// nothing at the line's end.
+pub fn token_at(line: &[u8], column: Column) -> &[u8] {
+    let (_, rest) = split_at_column(line, column);
+    let (token, _) = split(rest, token_length(rest));
+    token
+}

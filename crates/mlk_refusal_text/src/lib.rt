@@ -1,0 +1,19 @@
+//! What explains a refusal to people: the line at which the input was refused, with a caret, what is wrong there, and what helps.
+//! The line of the refusal itself is `mlk_app`'s.
+#![tactic(auto)]
+
+mod element;
+mod exchange;
+mod explanation;
+mod file;
+mod left_out;
+mod routine;
+mod rule_file;
+mod rule_finding;
+mod rule_lines;
+mod spelling;
+
+pub use explanation::{GivenFile, Spot};
+pub use file::{code_help, entry_help, entry_place, line_help, unread_help};
+pub use routine::routine_help;
+pub use rule_file::{rules_help, rules_place};

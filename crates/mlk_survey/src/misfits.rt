@@ -1,0 +1,104 @@
+// Calls whose actuals don't fit the formals of what they name.
+
+use crate::given::{CalledLabel, Given};
+use mlk_program::{CallSite, calls_of};
+use mlk_survey_trees::Position;
+use mlk_syntax::{Line, Routine};
+use mlk_text::{LineNumber, push_sparing};
+use std::alloc::{AllocError, Global};
+
+/// A call whose actual list, or want of one, does not fit the formal list of the line that it names: 303, once the routines are
+/// linked.
+#[derive(Clone, Copy, Drop)]
+pub struct MisfitCall<'a> {
+    pub called: CalledLabel<'a>,
+    pub position: Position<'a>,
+    /// how many actuals it has; `None` without a list
+    pub actuals: Option<usize>,
+    /// how many formals the line has; `None` without a list
+    pub formals: Option<usize>,
+}
+
+// Whether a line with this number of formals takes this number of actuals.
+fn takes(formals: Option<usize>, actuals: Option<usize>) -> bool {
+    match (formals, actuals) {
+        (None, None) => true,
+        (Some(formals), None) => formals == 0,
+        (Some(formals), Some(actuals)) => actuals <= formals,
+        (None, Some(_)) => false,
+    }
+}
+
+// A call of a line of a routine, if it doesn't fit what it names. Nothing is said of a call of what is not given.
+fn misfit<'a>(
+    given: &Given<'a>,
+    routine: &'a [u8],
+    line: LineNumber,
+    site: &CallSite<'a>,
+) -> Option<MisfitCall<'a>> {
+    let called = CalledLabel::of(routine, site.callee);
+    let formals = given.formals(&called)?;
+    let actuals = match site.actuals {
+        Some(actuals) => Some(actuals.len()),
+        None => None,
+    };
+    if takes(formals, actuals) {
+        return None;
+    }
+    Some(MisfitCall {
+        called,
+        position: Position {
+            routine,
+            line,
+            column: site.column,
+        },
+        actuals,
+        formals,
+    })
+}
+
+// Adds the calls of a line that don't fit, without those of its block.
+fn add_line<'a>(
+    alloc: Global,
+    misfits: &mut Vec<MisfitCall<'a>>,
+    given: &Given<'a>,
+    routine: &'a [u8],
+    line: &'a Line,
+) -> Result<(), AllocError> {
+    let sites = calls_of(alloc, &line.commands)?;
+    for site in sites.iter() {
+        if let Some(call) = misfit(given, routine, line.number, site) {
+            push_sparing(misfits, call)?;
+        }
+    }
+    Ok(())
+}
+
+// Adds those of lines, each with its block.
+fn add_lines<'a>(
+    alloc: Global,
+    misfits: &mut Vec<MisfitCall<'a>>,
+    given: &Given<'a>,
+    routine: &'a [u8],
+    lines: &'a [Line],
+) -> Result<(), AllocError> {
+    for line in lines {
+        add_line(alloc, misfits, given, routine, line)?;
+        add_lines(alloc, misfits, given, routine, line.block.as_slice())?;
+    }
+    Ok(())
+}
+
+/// The calls of these routines that don't fit, in the order of their places.
+pub(crate) fn misfits_in<'a>(
+    alloc: Global,
+    given: &Given<'a>,
+    routines: &[&'a Routine],
+) -> Result<Vec<MisfitCall<'a>>, AllocError> {
+    let mut misfits = Vec::new(alloc);
+    for routine in routines {
+        let name = routine.name.as_bytes();
+        add_lines(alloc, &mut misfits, given, name, routine.lines.as_slice())?;
+    }
+    Ok(misfits)
+}

@@ -1,0 +1,119 @@
+// Reading on behind lines that are refused.
+
+ghost use Rattle.std.specs.Prelude.{◌≡◌, IfOk, length};
+
+use crate::rest::Rest;
+use mlk_pool::{Source, read_each};
+use mlk_syntax::Routine;
+use mlk_text::{Failure, Fault};
+use mlk_watch::Watch;
+use std::alloc::{AllocError, Global};
+use std::thread::Threads;
+
+// How many lines of a routine are found at most: each more is a copy of what is left of the text.
+const MOST_LINES: usize = 64;
+
+/// What reading the texts of routines came to.
+#[derive(Drop)]
+pub struct Readings {
+    /// for each text its routine, or its first fault
+    pub answers: Vec<Result<Routine, Failure<Fault>>>,
+    /// the faults on later lines of texts that were refused, at most 63 of each
+    pub further: Vec<Fault>,
+}
+
+// What is left of the texts that were refused, behind the lines of their faults.
+fn rests_behind<'a>(
+    alloc: Global,
+    rests: &[Rest<'a>],
+    answers: &[Result<Routine, Failure<Fault>>],
+) -> Result<Vec<Rest<'a>>, AllocError> {
+    let mut left = Vec::new(alloc);
+    for (rest, answer) in rests.iter().zip(answers) {
+        let Err(Failure::Refused(fault)) = answer else {
+            continue;
+        };
+        if let Some(rest) = rest.behind(alloc, fault)?
+            && left.push(rest).is_err()
+        {
+            return Err(AllocError);
+        }
+    }
+    Ok(left)
+}
+
+fn sources_of<'a>(alloc: Global, rests: &[Rest<'a>]) -> Result<Vec<Source<'a>>, AllocError> {
+    let mut sources = Vec::new(alloc);
+    for rest in rests {
+        let source = rest.source(alloc)?;
+        if sources.push(source).is_err() {
+            return Err(AllocError);
+        }
+    }
+    Ok(sources)
+}
+
+// Appends the faults among these answers, at their places in the routines.
+fn add_faults(
+    further: &mut Vec<Fault>,
+    rests: &[Rest<'_>],
+    answers: Vec<Result<Routine, Failure<Fault>>>,
+) -> Result<(), AllocError> {
+    for (rest, answer) in rests.iter().zip(answers) {
+        if let Err(Failure::Refused(fault)) = answer {
+            further.push(rest.placed(fault))?;
+        }
+    }
+    Ok(())
+}
+
+// The faults behind the first ones, round by round.
+fn further_faults<R: Threads + Sync, W: Watch>(
+    rt: &R,
+    alloc: Global,
+    rests: Vec<Rest<'_>>,
+    watch: &W,
+) -> Result<Vec<Fault>, AllocError> {
+    let mut further = Vec::new(alloc);
+    let mut left = rests;
+    for _ in 1..MOST_LINES {
+        if left.is_empty() {
+            break;
+        }
+        let sources = sources_of(alloc, left.as_slice())?;
+        let answers = read_each(rt, alloc, sources, watch)?;
+        let behind = rests_behind(alloc, left.as_slice(), answers.as_slice())?;
+        add_faults(&mut further, left.as_slice(), answers)?;
+        left = behind;
+    }
+    Ok(further)
+}
+
+// The texts, kept beside those that a reader gives back.
+fn copies<'a>(alloc: Global, sources: &[Source<'a>]) -> Result<Vec<Rest<'a>>, AllocError> {
+    let mut rests = Vec::new(alloc);
+    for source in sources {
+        let rest = Rest::of(alloc, source)?;
+        if rests.push(rest).is_err() {
+            return Err(AllocError);
+        }
+    }
+    Ok(rests)
+}
+
+/// Reads each of these texts by itself, and what is refused on behind the line of its fault: as if a routine began there, in a
+/// block if the next line is in one.
+pub fn read_all_lines<R: Threads + Sync, W: Watch>(
+    rt: &R,
+    alloc: Global,
+    sources: Vec<Source<'_>>,
+    watch: &W,
+) -> Result<Readings, AllocError>
+    ensures { IfOk result (λ r. length r.answers.items ≡ length sources.entry.items) }
+{
+    let rests = copies(alloc, sources.as_slice())?;
+    let answers = read_each(rt, alloc, sources, watch)?;
+    let left = rests_behind(alloc, rests.as_slice(), answers.as_slice())?;
+    let further = further_faults(rt, alloc, left, watch)?;
+    Ok(Readings { answers, further })
+}
