@@ -7,7 +7,7 @@ ghost use Rattle.mlk_forms.specs.Told.{IsReportTold};
 use mlk_cert::{Certificate, read_cert};
 use mlk_cli::{Output, ReportStyle};
 use mlk_explain::Grounds;
-use mlk_forms::{ToldReport, report_told};
+use mlk_forms::{PrintedReport, render_report};
 use mlk_make::make_certificate;
 use mlk_outcome::{Sources, Work};
 use mlk_output::Inputs;
@@ -20,12 +20,12 @@ use mlk_walk::Report;
 use mlk_watch::Unwatched;
 use std::alloc::{AllocError, Global};
 
-/// The texts that explain a report or a refusal: those of the rules, of the certificate or
-/// of the events where some were given, and of the routines.
+/// The texts that explain a report or a refusal: those of the rules, of the routines, and of the certificate or the events if one
+/// was given.
 #[derive(Drop)]
 pub(crate) struct KeptTexts {
     pub(crate) rules: Vec<u8>,
-    /// the certificate or the events that were given
+    /// of the certificate or the events
     pub(crate) work: Option<Vec<u8>>,
     pub(crate) routines: Vec<Vec<u8>>,
     /// whether a refusal is explained by them
@@ -64,7 +64,7 @@ fn routine_texts(alloc: Global, routines: &[Source<'_>]) -> Result<Vec<Vec<u8>>,
     Ok(texts)
 }
 
-/// The texts of the routines, or none where they were not kept.
+/// The texts of the routines; none if they were not kept.
 pub(crate) fn texts_of(kept: Option<&KeptTexts>) -> &[Vec<u8>] {
     match kept {
         Some(texts) => texts.routines.as_slice(),
@@ -72,8 +72,7 @@ pub(crate) fn texts_of(kept: Option<&KeptTexts>) -> &[Vec<u8>] {
     }
 }
 
-/// Copies the texts of `sources`; `None` where neither a report nor a refusal is to be explained, or told as SARIF, which counts
-/// columns in characters.
+/// Copies the texts of `sources`; `None` if nothing is to be explained, nor written as SARIF, which counts columns in characters.
 pub(crate) fn kept_texts(
     alloc: Global,
     sources: &Sources<'_>,
@@ -115,35 +114,35 @@ fn certificate_of(
 }
 
 // A report, explained by these grounds.
-fn told_by(
+fn explain_report(
     alloc: Global,
     inputs: &Inputs<'_>,
     report: &Report,
     style: ReportStyle,
     grounds: &Grounds<'_>,
-) -> Result<ToldReport, AllocError>
-    ensures { IfOk result (λ told. IsReportTold style (map routine_of inputs.now.routines.now) report.now told.text told.passes) }
+) -> Result<PrintedReport, AllocError>
+    ensures { IfOk result (λ printed. IsReportTold style (map routine_of inputs.now.routines.now) report.now printed.text printed.passes) }
 {
-    report_told(alloc, inputs, report, style, Some(grounds))
+    render_report(alloc, inputs, report, style, Some(grounds))
 }
 
-// The report of a program, explained where its rules and its certificate can be had again.
-fn told_of(
+// A report on `program`, explained if its rules and its certificate can be read or made again.
+fn explain_program(
     alloc: Global,
     inputs: &Inputs<'_>,
     report: &Report,
     style: ReportStyle,
     texts: &KeptTexts,
     program: &Program<'_>,
-) -> Result<ToldReport, AllocError>
-    ensures { IfOk result (λ told. IsReportTold style (map routine_of inputs.now.routines.now) report.now told.text told.passes) }
+) -> Result<PrintedReport, AllocError>
+    ensures { IfOk result (λ printed. IsReportTold style (map routine_of inputs.now.routines.now) report.now printed.text printed.passes) }
 {
     let Some(rules) = taken(read_rules(alloc, texts.rules.as_slice()))? else {
-        return report_told(alloc, inputs, report, style, None);
+        return render_report(alloc, inputs, report, style, None);
     };
     let given = texts.work.as_ref();
     let Some(certificate) = certificate_of(alloc, program, &rules, given)? else {
-        return report_told(alloc, inputs, report, style, None);
+        return render_report(alloc, inputs, report, style, None);
     };
     let grounds = Grounds {
         program,
@@ -153,28 +152,28 @@ fn told_of(
         certificate: &certificate,
         is_made: given.is_none(),
     };
-    told_by(alloc, inputs, report, style, &grounds)
+    explain_report(alloc, inputs, report, style, &grounds)
 }
 
-/// A report in the style that is asked for. Where texts were kept to explain it, and it has a row, the program, the rules
-/// and the certificate are read or made once more.
-pub(crate) fn told(
+/// Writes a report in the style that is asked for. If it is to be explained, and has a row, the program, the rules and the
+/// certificate are read or made once more.
+pub(crate) fn styled_report(
     alloc: Global,
     inputs: &Inputs<'_>,
     report: &Report,
     style: ReportStyle,
     kept: Option<&KeptTexts>,
-) -> Result<ToldReport, AllocError>
-    ensures { IfOk result (λ told. IsReportTold style (map routine_of inputs.now.routines.now) report.now told.text told.passes) }
+) -> Result<PrintedReport, AllocError>
+    ensures { IfOk result (λ printed. IsReportTold style (map routine_of inputs.now.routines.now) report.now printed.text printed.passes) }
 {
     let Some(texts) = kept else {
-        return report_told(alloc, inputs, report, style, None);
+        return render_report(alloc, inputs, report, style, None);
     };
     if !style.is_explained || report.rows().is_empty() {
-        return report_told(alloc, inputs, report, style, None);
+        return render_report(alloc, inputs, report, style, None);
     }
     match taken(link(alloc, inputs.routines))? {
-        Some(program) => told_of(alloc, inputs, report, style, texts, &program),
-        None => report_told(alloc, inputs, report, style, None),
+        Some(program) => explain_program(alloc, inputs, report, style, texts, &program),
+        None => render_report(alloc, inputs, report, style, None),
     }
 }

@@ -31,18 +31,26 @@ fn explanation(
     }
 }
 
+// Whether texts were kept to explain a refusal.
+fn explains_refusals(kept: Option<&KeptTexts>) -> bool {
+    match kept {
+        Some(texts) => texts.explains_refusals,
+        None => false,
+    }
+}
+
 /// Writes what explains a refusal below its line: the line of the file, what is wrong there and what helps. Nothing is written
-/// where no explanation is asked for.
+/// unless that is asked for.
 pub(crate) fn refusal_help(
     alloc: Global,
     refusal: &NoReport,
     program: &ProgramRequest<'_>,
     kept: Option<&KeptTexts>,
 ) -> Result<Vec<u8>, AllocError> {
-    let (Some(code), Some(texts)) = (refusal_code(refusal), kept) else {
+    let Some(code) = refusal_code(refusal) else {
         return Ok(Vec::new(alloc));
     };
-    if !texts.explains_refusals {
+    if !explains_refusals(kept) {
         return Ok(Vec::new(alloc));
     }
     match refused_file(refusal, program, kept) {
@@ -51,11 +59,11 @@ pub(crate) fn refusal_help(
     }
 }
 
-/// Writes what explains why the text of a certificate at `path` is refused; nothing unless `explaining` asks for it.
-pub(crate) fn certificate_help(
+/// Writes what explains why the certificate at `path`, which has this text, is refused; nothing unless `explaining` asks for it.
+pub(crate) fn certificate_help<'a>(
     alloc: Global,
-    path: &str,
-    text: &[u8],
+    path: &'a str,
+    text: &'a [u8],
     fault: &CertFault,
     explaining: Explaining,
 ) -> Result<Vec<u8>, AllocError> {
@@ -70,8 +78,8 @@ pub(crate) fn certificate_help(
     line_help(alloc, fault.code, &file, spot)
 }
 
-/// Writes why the file at `path` can't be read, below the line that says so: it is read once more. Nothing is written where no
-/// explanations are asked for, or where it can be read now.
+/// Writes why the file at `path` can't be read, below the line that says so; for this it is read once more. Nothing is written
+/// unless it is to be explained, or if it can be read now.
 pub(crate) fn why_unread<F: Files>(
     alloc: Global,
     files: &F,

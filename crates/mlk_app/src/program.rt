@@ -9,7 +9,9 @@ ghost use Rattle.mlk_app.specs.Ran.{style_in, status_of, PrintsReport, PrintsOut
 ghost use Rattle.mlk_forms.specs.Told.{IsNoticed};
 ghost use Rattle.mlk_outcome.specs.Checked.{IsOfOpenGate, IsNotShut};
 
-use crate::explained::{Explaining, KeptTexts, is_refusal_explained, kept_texts, texts_of, told};
+use crate::explained::{
+    Explaining, KeptTexts, is_refusal_explained, kept_texts, styled_report, texts_of,
+};
 use crate::help::{certificate_help, refusal_help, why_unread};
 use crate::notice::notice_of;
 use crate::printed::{
@@ -23,7 +25,7 @@ use mlk_cli::{
     Asked, Format, Output, ProgramRequest, ReportStyle, Request, SurveyRequest, UsageError,
     read_request,
 };
-use mlk_forms::{notice_told, pages_told, survey_told};
+use mlk_forms::{render_notice, render_pages, render_survey};
 use mlk_outcome::{Checked, CheckedOutcome, NoReport, check_texts, converted};
 use mlk_output::Inputs;
 use mlk_pool::{CheckError, ReportText};
@@ -48,8 +50,8 @@ const FAILED: u8 = 3;
 enum Answer {
     /// The text of a report, of a certificate, of jobs, of a survey or of a page, and the status that it ends with.
     Report(ReportText, u8),
-    /// The line that says why the input is refused, what is printed beside it, if a form is asked for, and what explains it
-    /// below the line, if that is asked for.
+    /// The line that says why the input is refused; what is printed beside it, if a form is asked for; and what explains it below
+    /// the line, which is empty unless it is to be explained.
     Refused(ReportText, Option<ReportText>, Vec<u8>),
     /// The line that says which file can't be read, and what explains it.
     Unread(ReportText, Vec<u8>),
@@ -87,10 +89,10 @@ fn report_answer(
 ) -> Answer
     ensures { PrintsReport style (map routine_of inputs.now.routines.now) report.now result }
 {
-    match told(alloc, inputs, report, style, kept) {
-        Ok(told) => {
-            let status = status_of(told.passes);
-            Answer::Report(told.text, status)
+    match styled_report(alloc, inputs, report, style, kept) {
+        Ok(printed) => {
+            let status = status_of(printed.passes);
+            Answer::Report(printed.text, status)
         }
         Err(AllocError) => Answer::OutOfMemory,
     }
@@ -178,8 +180,8 @@ fn notice(
         None => None,
     };
     let file = refused.unwrap_or(rule_file(program, kept));
-    match notice_of(refusal, program, line.as_bytes(), &file, spot) {
-        Some(notice) => notice_told(alloc, &notice, style_in(&program.asked).output),
+    match notice_of(refusal, program, line.as_bytes(), file, spot) {
+        Some(notice) => render_notice(alloc, &notice, style_in(&program.asked).output),
         None => Ok(None),
     }
 }
@@ -208,10 +210,17 @@ fn refusal_answer(
     }
 }
 
-fn fault_answer(alloc: Global, fault: &CertFault, help: Result<Vec<u8>, AllocError>) -> Answer
+// What is answered if the certificate at a path, which has this text, is refused.
+fn fault_answer<'a>(
+    alloc: Global,
+    path: &'a str,
+    text: &'a [u8],
+    fault: &CertFault,
+    explaining: Explaining,
+) -> Answer
     ensures { TellsFault fault.now result }
 {
-    let Ok(help) = help else {
+    let Ok(help) = certificate_help(alloc, path, text, fault, explaining) else {
         return Answer::OutOfMemory;
     };
     match certificate_line(alloc, fault) {
@@ -220,11 +229,11 @@ fn fault_answer(alloc: Global, fault: &CertFault, help: Result<Vec<u8>, AllocErr
     }
 }
 
-// What is answered where the file at a path can't be read, with what explains it.
-fn unread_answer(alloc: Global, path: &str, help: Result<Vec<u8>, AllocError>) -> Answer
+// What is answered if the file at a path can't be read.
+fn unread_answer<F: Files>(alloc: Global, files: &F, path: &str, is_explained: bool) -> Answer
     ensures { TellsUnread path.now result }
 {
-    let Ok(help) = help else {
+    let Ok(help) = why_unread(alloc, files, path, is_explained) else {
         return Answer::OutOfMemory;
     };
     match file_line(alloc, path) {
@@ -233,11 +242,11 @@ fn unread_answer(alloc: Global, path: &str, help: Result<Vec<u8>, AllocError>) -
     }
 }
 
-// What is answered where the page of a code is asked for.
+// What is answered if the page of a code is asked for.
 fn answer_page(alloc: Global, code: &str) -> Answer
     ensures { TellsPage code.now result }
 {
-    let Ok(page) = pages_told(alloc, code) else {
+    let Ok(page) = render_pages(alloc, code) else {
         return Answer::OutOfMemory;
     };
     if let Some(text) = page {
@@ -271,7 +280,7 @@ fn answer_program<R: Threads + Wait + Sync, F: Files, W: Watch>(
         Err(FileError::OutOfMemory) => Answer::OutOfMemory,
         Err(FileError::Unread(path)) => {
             let is_explained = is_refusal_explained(style_in(&program.asked), explaining);
-            unread_answer(alloc, path, why_unread(alloc, files, path, is_explained))
+            unread_answer(alloc, files, path, is_explained)
         }
     }
 }
@@ -292,15 +301,12 @@ fn answer_conversion<F: Files, W: Watch>(
             Ok(text) => Answer::Report(ReportText::of(text), YES),
             Err(Failure::OutOfMemory) => Answer::OutOfMemory,
             Err(Failure::Refused(fault)) => {
-                let text = text.as_slice();
-                let help = certificate_help(alloc, certificate, text, &fault, explaining);
-                fault_answer(alloc, &fault, help)
+                fault_answer(alloc, certificate, text.as_slice(), &fault, explaining)
             }
         },
         Err(FileError::OutOfMemory) => Answer::OutOfMemory,
         Err(FileError::Unread(path)) => {
-            let is_explained = explaining == Explaining::Refusals;
-            unread_answer(alloc, path, why_unread(alloc, files, path, is_explained))
+            unread_answer(alloc, files, path, explaining == Explaining::Refusals)
         }
     }
 }
@@ -317,14 +323,13 @@ fn answer_survey<R: Threads + Wait + Sync, F: Files, W: Watch>(
     ensures { Answers (F.holds files.now) (F.lacks files.now) (wanted.Survey survey.now) result }
 {
     match read_sources(alloc, files, survey.routines.as_slice()) {
-        Ok(sources) => match survey_told(rt, alloc, sources, survey.output, watch) {
-            Ok(told) => Answer::Report(told.text, YES),
+        Ok(sources) => match render_survey(rt, alloc, sources, survey.output, watch) {
+            Ok(printed) => Answer::Report(printed.text, YES),
             Err(AllocError) => Answer::OutOfMemory,
         },
         Err(FileError::OutOfMemory) => Answer::OutOfMemory,
         Err(FileError::Unread(path)) => {
-            let is_explained = explaining == Explaining::Refusals;
-            unread_answer(alloc, path, why_unread(alloc, files, path, is_explained))
+            unread_answer(alloc, files, path, explaining == Explaining::Refusals)
         }
     }
 }

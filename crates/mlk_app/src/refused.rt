@@ -31,16 +31,30 @@ pub(crate) fn refusal_code(refusal: &NoReport) -> Option<Code> {
     }
 }
 
-// Whether the file at a path is that of the routine of this name, which a leading `_` of the file's name spells as `%`.
+// Whether the file at a path is that of the routine of this name, in which a leading `%` may be a `_` of the file's name.
 fn is_file_of(path: &str, name: &[u8]) -> bool {
     let stem = stem_of(path).as_bytes();
     if stem == name {
         return true;
     }
-    match (stem.strip_prefix(b"_"), name.strip_prefix(b"%")) {
-        (Some(stem), Some(name)) => stem == name,
-        _ => false,
+    let Some(stem) = stem.strip_prefix(b"_") else {
+        return false;
+    };
+    let Some(name) = name.strip_prefix(b"%") else {
+        return false;
+    };
+    stem == name
+}
+
+// The number of the last of these paths that is that of the routine of this name: if there are two, the second is refused.
+fn last_file_of(paths: &[&str], name: &[u8]) -> Option<usize> {
+    let mut found = None;
+    for (number, path) in paths.iter().enumerate() {
+        if is_file_of(*path, name) {
+            found = Some(number);
+        }
     }
+    found
 }
 
 fn given_text(text: &Option<Vec<u8>>) -> &[u8] {
@@ -50,7 +64,7 @@ fn given_text(text: &Option<Vec<u8>>) -> &[u8] {
     }
 }
 
-// The text of the routine of this number, where texts were kept.
+// The text of the routine of this number, if texts were kept.
 fn routine_text(texts: Option<&KeptTexts>, number: usize) -> &[u8] {
     let Some(texts) = texts else {
         return &[];
@@ -61,26 +75,22 @@ fn routine_text(texts: Option<&KeptTexts>, number: usize) -> &[u8] {
     }
 }
 
-// The file of the routine of this name, the last one if there are two and the second is refused.
+// The file of the routine of this name.
 fn routine_file<'a>(
     program: &ProgramRequest<'a>,
     texts: Option<&'a KeptTexts>,
     name: &[u8],
 ) -> Option<GivenFile<'a>> {
-    let mut found = None;
-    for (number, path) in program.routines.iter().enumerate() {
-        if is_file_of(*path, name) {
-            found = Some((number, *path));
-        }
-    }
-    let (number, path) = found?;
+    let paths = program.routines.as_slice();
+    let number = last_file_of(paths, name)?;
+    let path = paths.get(number).copied()?;
     Some(GivenFile {
         path,
         text: routine_text(texts, number),
     })
 }
 
-// The file of the certificate, where one was given, or of the events.
+// The file of the certificate or of the events, if one was given.
 fn work_file<'a>(
     program: &ProgramRequest<'a>,
     texts: Option<&'a KeptTexts>,
@@ -97,7 +107,7 @@ fn work_file<'a>(
     Some(GivenFile { path, text })
 }
 
-/// The rule file, with its text where that was kept.
+/// The rule file, with its text if that was kept.
 pub(crate) fn rule_file<'a>(
     program: &ProgramRequest<'a>,
     texts: Option<&'a KeptTexts>,
@@ -120,7 +130,7 @@ fn routine_in(entry: &[u8]) -> &[u8] {
     }
 }
 
-/// Finds the file that is refused, with its text where that was kept; `None` if none is, or it is not known.
+/// Finds the file that is refused, with its text if that was kept; `None` if no file is, or it is not known which.
 pub(crate) fn refused_file<'a>(
     refusal: &NoReport,
     program: &ProgramRequest<'a>,
@@ -142,8 +152,8 @@ pub(crate) fn refused_file<'a>(
     }
 }
 
-/// Finds where a file with this text is refused; `None` if the refusal is at no line of it. A place in a rule file is known only by
-/// its text.
+/// Finds where a file with this text is refused; `None` if the refusal is at no line. A place in a rule file is found only in its
+/// text.
 pub(crate) fn refused_spot(
     alloc: Global,
     refusal: &NoReport,

@@ -19,14 +19,14 @@ use std::alloc::{AllocError, Global};
 
 /// A report as it is printed.
 #[derive(Drop)]
-pub struct ToldReport {
+pub struct PrintedReport {
     pub text: ReportText,
     /// whether there is no fault, and no hazard if these are reported
     pub passes: bool,
 }
 
 // The hazards that are reported: none, unless they are asked for.
-fn told_hazards<'a>(
+fn reported_hazards<'a>(
     alloc: Global,
     routines: &'a [Routine],
     is_strict: bool,
@@ -114,11 +114,11 @@ fn text_in(
 ) -> Result<ReportText, AllocError>
     ensures { IfOk result (IsReportIn style.output (map routine_of inputs.now.routines.now) report.now hazards.now) }
 {
-    let told = if style.is_strict { Some(hazards) } else { None };
+    let reported = if style.is_strict { Some(hazards) } else { None };
     let text = match style.output {
         Output::Text => plain_text(alloc, inputs.routines, report, hazards)?,
-        Output::Json => with_end(report_json(alloc, inputs, report, told)?)?,
-        Output::Sarif => with_end(report_sarif(alloc, inputs, report, told)?)?,
+        Output::Json => with_end(report_json(alloc, inputs, report, reported)?)?,
+        Output::Sarif => with_end(report_sarif(alloc, inputs, report, reported)?)?,
     };
     Ok(text)
 }
@@ -146,20 +146,20 @@ fn passes(report: &Report, hazards: &[HazardAt<'_>]) -> bool
     report.rows().is_empty() && hazards.is_empty()
 }
 
-/// A report in the style that is asked for, and whether it passes. Explanations need grounds; without them it is written as if
-/// none were asked for.
-pub fn report_told(
+/// Writes a report in the style that is asked for, and says whether it passes. Explanations need grounds; without them the report
+/// is written as if none were asked for.
+pub fn render_report(
     alloc: Global,
     inputs: &Inputs<'_>,
     report: &Report,
     style: ReportStyle,
     grounds: Option<&Grounds<'_>>,
-) -> Result<ToldReport, AllocError>
-    ensures { IfOk result (λ told. IsReportTold style (map routine_of inputs.now.routines.now) report.now told.text told.passes) }
+) -> Result<PrintedReport, AllocError>
+    ensures { IfOk result (λ printed. IsReportTold style (map routine_of inputs.now.routines.now) report.now printed.text printed.passes) }
 {
-    let hazards = told_hazards(alloc, inputs.routines, style.is_strict)?;
-    let told = hazards.as_slice();
-    let text = styled_text(alloc, inputs, report, style, told, grounds)?;
-    let passes = passes(report, told);
-    Ok(ToldReport { text, passes })
+    let hazards = reported_hazards(alloc, inputs.routines, style.is_strict)?;
+    let reported = hazards.as_slice();
+    let text = styled_text(alloc, inputs, report, style, reported, grounds)?;
+    let passes = passes(report, reported);
+    Ok(PrintedReport { text, passes })
 }

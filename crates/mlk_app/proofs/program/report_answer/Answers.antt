@@ -5,5 +5,5 @@ use Rattle.mlk_app.proofs.program.report_answer.Goals as goal
 
 pub returns-in-Ok : goal.returns-in-Ok
 returns-in-Ok c =
-    let told = c.in-Ok.told in
-    report-printed c.args.style (map routine_of c.args.inputs.now.routines.now) c.args.report.now told.text told.passes c.status_of-status.result c.in-Ok.ensures c.status_of-status.ensures
+    let printed = c.in-Ok.printed in
+    report-printed c.args.style (map routine_of c.args.inputs.now.routines.now) c.args.report.now printed.text printed.passes c.status_of-status.result c.in-Ok.ensures c.status_of-status.ensures
