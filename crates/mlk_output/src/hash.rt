@@ -161,7 +161,8 @@ impl<'a> ProgramLines<'a> {
         if matches!(&self.last, Some((number, _)) if *number == routine) {
             return Ok(());
         }
-        let text: &'a [u8] = match self.texts.get(routine) {
+        let texts = self.texts;
+        let text: &'a [u8] = match texts.get(routine) {
             Some(text) => text.as_slice(),
             None => &[],
         };

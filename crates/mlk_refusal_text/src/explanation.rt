@@ -56,9 +56,12 @@ fn push_place(text: &mut Vec<u8>, it: &Explanation<'_>) -> Result<(), AllocError
 }
 
 impl Explanation<'_> {
-    // Appends the line with a caret and what is wrong there, if the file has that line. Whether it did.
+    // Appends the line with a caret, if the file has that line, and returns whether it has.
     fn push_line_of_file(&self, text: &mut Vec<u8>) -> Result<bool, AllocError> {
-        let (Some(file), Some(spot)) = (&self.file, self.spot) else {
+        let Some(file) = &self.file else {
+            return Ok(false);
+        };
+        let Some(spot) = self.spot else {
             return Ok(false);
         };
         let lines = TextLines::of(*text.allocator(), file.text)?;
