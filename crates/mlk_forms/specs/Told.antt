@@ -1,4 +1,4 @@
--- How reports and refusals are told. This project's own choice.
+-- How reports and refusals are printed. This project's own choice.
 use Rattle.std.specs.Prelude.{ℕ, ◌≡◌, ◌++◌, ◌==◌, ◌&&◌, length, List, [], ◌∷◌, Bool, true, false, Option, None, codes}
 use Rattle.mlk_syntax.specs.Trees.{RoutineTree}
 use Rattle.mlk_walk.specs.declared.report.Row.{Row}
@@ -17,12 +17,12 @@ abbrev pub hazard_lines : List HazardAt → List ℕ
 hazard_lines [] = []
 hazard_lines (h ∷ hazards) = hazard_line h ++ hazard_lines hazards
 
--- The hazards that are told. Which they are is not said; there are none where they are not asked for.
+-- The hazards that are reported. Which they are is not said; there are none unless they are asked for.
 abbrev pub AreTold : Bool → List HazardAt → Type 0
 AreTold true hazards = Unit {0}
 AreTold false hazards = hazards ≡ []
 
--- the report passes: it has no row, and no hazard is told with it
+-- the report passes: it has no row, and no hazard is reported with it
 abbrev pub passes : List Row → List HazardAt → Bool
 passes rows hazards = (length rows == 0) && (length hazards == 0)
 
@@ -32,7 +32,7 @@ IsReportIn Text trees rows hazards text = text ≡ report_text trees rows ++ haz
 IsReportIn Json trees rows hazards text = Unit {0}
 IsReportIn Sarif trees rows hazards text = Unit {0}
 
--- The same where faults are explained or not: with explanations what the text says is not said.
+-- The same with explanations or without: with explanations, what the text says is not said.
 abbrev pub IsReportAs : Bool → Output → List RoutineTree → List Row → List HazardAt → List ℕ → Type 0
 IsReportAs true output trees rows hazards text = Unit {0}
 IsReportAs false output trees rows hazards text = IsReportIn output trees rows hazards text
@@ -44,7 +44,7 @@ pub record IsReportTold (style : ReportStyle) (trees : List RoutineTree) (rows :
   pub printed : IsReportAs style.is_explained style.output trees rows hazards text
   pub ended : passed ≡ passes rows hazards
 
--- what is printed of a refusal beside the line on the error stream: nothing where text is asked for
+-- what is printed of a refusal beside the line on the error stream: nothing if text is asked for
 abbrev pub IsNoticed : Output → Option (List ℕ) → Type 0
 IsNoticed Text notice = notice ≡ None
 IsNoticed Json notice = Unit {0}
