@@ -29,6 +29,7 @@ use mlk_forms::{render_notice, render_pages, render_survey};
 use mlk_outcome::{Checked, CheckedOutcome, NoReport, check_texts, converted};
 use mlk_output::Inputs;
 use mlk_pool::{CheckError, ReportText};
+use mlk_refusal_text::{GivenFile, Spot};
 use mlk_text::Failure;
 use mlk_walk::Report;
 use mlk_watch::{Unwatched, Watch};
@@ -164,22 +165,38 @@ fn refusal_line(alloc: Global, refusal: &NoReport) -> Result<ReportText, AllocEr
     }
 }
 
-// What is printed of a refusal beside its line.
-fn notice(
+// What is printed beside the line of a refusal that is in `file`, at `spot`.
+fn notice_at<'a>(
     alloc: Global,
     refusal: &NoReport,
-    program: &ProgramRequest<'_>,
-    line: &ReportText,
-    kept: Option<&KeptTexts>,
+    program: &ProgramRequest<'a>,
+    line: &'a ReportText,
+    file: GivenFile<'a>,
+    spot: Option<Spot>,
+) -> Result<Option<ReportText>, AllocError>
+    ensures { IfOk result (IsNoticed (style_in program.now.asked).output) }
+{
+    match notice_of(refusal, program, line.as_bytes(), file, spot) {
+        Some(notice) => render_notice(alloc, &notice, style_in(&program.asked).output),
+        None => Ok(None),
+    }
+}
+
+// What is printed of a refusal beside its line.
+fn notice<'a>(
+    alloc: Global,
+    refusal: &NoReport,
+    program: &ProgramRequest<'a>,
+    line: &'a ReportText,
+    kept: Option<&'a KeptTexts>,
 ) -> Result<Option<ReportText>, AllocError>
     ensures { IfOk result (IsNoticed (style_in program.now.asked).output) }
 {
     let refused = refused_file(refusal, program, kept);
-    let spot = spot_in(alloc, refusal, &refused)?;
     let file = refused.unwrap_or(rule_file(program, kept));
-    match notice_of(refusal, program, line.as_bytes(), file, spot) {
-        Some(notice) => render_notice(alloc, &notice, style_in(&program.asked).output),
-        None => Ok(None),
+    match spot_in(alloc, refusal, &refused) {
+        Ok(spot) => notice_at(alloc, refusal, program, line, file, spot),
+        Err(AllocError) => Err(AllocError),
     }
 }
 
