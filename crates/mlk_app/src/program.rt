@@ -166,12 +166,12 @@ fn refusal_line(alloc: Global, refusal: &NoReport) -> Result<ReportText, AllocEr
 }
 
 // What is printed beside the line of a refusal that is in `file`, at `spot`.
-fn notice_at<'a>(
+fn notice_at(
     alloc: Global,
     refusal: &NoReport,
-    program: &ProgramRequest<'a>,
-    line: &'a ReportText,
-    file: GivenFile<'a>,
+    program: &ProgramRequest<'_>,
+    line: &ReportText,
+    file: GivenFile<'_>,
     spot: Option<Spot>,
 ) -> Result<Option<ReportText>, AllocError>
     ensures { IfOk result (IsNoticed (style_in program.now.asked).output) }
@@ -183,12 +183,12 @@ fn notice_at<'a>(
 }
 
 // What is printed of a refusal beside its line.
-fn notice<'a>(
+fn notice(
     alloc: Global,
     refusal: &NoReport,
-    program: &ProgramRequest<'a>,
-    line: &'a ReportText,
-    kept: Option<&'a KeptTexts>,
+    program: &ProgramRequest<'_>,
+    line: &ReportText,
+    kept: Option<&KeptTexts>,
 ) -> Result<Option<ReportText>, AllocError>
     ensures { IfOk result (IsNoticed (style_in program.now.asked).output) }
 {
