@@ -46,6 +46,9 @@ const REFUSED: u8 = 2;
 
 const FAILED: u8 = 3;
 
+// What helps if there is no such code.
+const CODES_HELP: &[u8] = b"  = help: give a number such as 702, or a name such as Uncovered\n";
+
 // What the program says, before it is said.
 #[derive(Drop)]
 enum Answer {
@@ -266,8 +269,11 @@ fn answer_page(alloc: Global, code: &str) -> Answer
     if let Some(text) = page {
         return Answer::Report(text, YES);
     }
+    let Ok(help) = Vec::from_slice(alloc, CODES_HELP) else {
+        return Answer::OutOfMemory;
+    };
     match no_page_line(alloc, code) {
-        Ok(line) => Answer::Refused(line, None, Vec::new(alloc)),
+        Ok(line) => Answer::Refused(line, None, help),
         Err(AllocError) => Answer::OutOfMemory,
     }
 }
