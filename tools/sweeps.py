@@ -35,7 +35,7 @@ COMMANDS = [
     (['replay', 'examples/night/rules.toml', 'examples/night/ring', 'examples/night/WARD.m'], False),
 ]
 KINDS = ('memory', 'beside', 'thread', 'read', 'write')
-# Kinds of which each run has calls.
+# Each run has calls of these kinds.
 ALWAYS = ('memory', 'read', 'write')
 # How often the calls of other threads than the first are counted: the threads share the work in another way each time.
 COUNTS = 10
