@@ -172,7 +172,7 @@ impl Facts {
         }
     }
 
-    /// Adds which units run into the next one, by the notes of a walk.
+    /// Adds which units run into the next one. `notes` are those of a walk.
     pub(crate) fn add_nexts(&mut self, notes: &[Note<'_, '_>]) {
         for note in notes {
             if let Step::Call(_, call) = note.step {

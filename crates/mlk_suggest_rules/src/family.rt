@@ -134,7 +134,7 @@ impl Families {
     }
 }
 
-/// The families of the locks that `evidence` has claims of.
+/// The families of the locks that are claimed in `program`, by its `evidence`.
 pub(crate) fn families_of(
     alloc: Global,
     program: &Program<'_>,

@@ -126,7 +126,7 @@ impl<'a> Draft<'a> {
         self.push(Step::Call(position, call))
     }
 
-    /// Adds a call of the block below the line.
+    /// Adds a call of the block below the line, by a DO at `column`.
     pub(crate) fn call_block(&mut self, column: Column) -> Result<(), AllocError> {
         self.call_plainly(column, self.block, CallKind::Block)
     }
@@ -155,7 +155,7 @@ impl<'a> Draft<'a> {
         }
     }
 
-    /// Adds the claim or the release of an argument of LOCK.
+    /// Adds the claim or the release of `argument`, which is one of LOCK.
     pub(crate) fn lock(&mut self, argument: &'a LockArgument) -> Result<(), AllocError> {
         let position = self.lock_position(argument);
         let names = self.lock_names(argument)?;

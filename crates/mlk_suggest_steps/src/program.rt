@@ -12,7 +12,7 @@ pub struct UnitId {
 }
 
 impl UnitId {
-    /// The unit at a place, counted from 0.
+    /// The unit at the place `index`, counted from 0.
     pub fn new(index: usize) -> UnitId {
         UnitId { index }
     }

@@ -118,7 +118,7 @@ impl<'v> View<'v> {
         text_of(self.alloc, &pieces)
     }
 
-    /// What speaks for a private or a readonly global, and what makes it doubtful.
+    /// What speaks for the rule of the private or readonly `global`, and what makes it doubtful.
     pub(crate) fn global_remark(&self, global: &GlobalGuess) -> Result<Vec<u8>, AllocError> {
         let mut text = self.global_evidence(global)?;
         if global.locked > 0 {
