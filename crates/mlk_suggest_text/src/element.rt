@@ -38,33 +38,30 @@ impl InSection for FamilyGuess {
     }
 }
 
+// The key of a cover's second lock, if it has one.
+fn also_key(view: &View<'_>, cover: &CoverGuess) -> Result<Vec<u8>, AllocError> {
+    let Some(also) = &cover.also else {
+        return Ok(Vec::new(view.alloc));
+    };
+    let lock = view.rule_lock(also, &cover.pattern)?;
+    let text = Made(toml_string(view.alloc, lock.as_slice())?);
+    text_of(view.alloc, &[Words(", also = "), text])
+}
+
 impl InSection for CoverGuess {
     fn element(&self, view: &View<'_>) -> Result<Vec<u8>, AllocError> {
-        let alloc = view.alloc;
         let global = view.pattern(&self.pattern)?;
         let lock = view.rule_lock(&self.lock, &self.pattern)?;
-        let global = Made(toml_string(alloc, global.as_slice())?);
-        let lock = Made(toml_string(alloc, lock.as_slice())?);
-        let Some(also) = &self.also else {
-            let pieces = [
-                Words("{global = "),
-                global,
-                Words(", lock = "),
-                lock,
-                Words("}"),
-            ];
-            return text_of(alloc, &pieces);
-        };
-        let also = view.rule_lock(also, &self.pattern)?;
-        let also = Made(toml_string(alloc, also.as_slice())?);
+        let global = Made(toml_string(view.alloc, global.as_slice())?);
+        let lock = Made(toml_string(view.alloc, lock.as_slice())?);
+        let also = Made(also_key(view, self)?);
         text_of(
-            alloc,
+            view.alloc,
             &[
                 Words("{global = "),
                 global,
                 Words(", lock = "),
                 lock,
-                Words(", also = "),
                 also,
                 Words("}"),
             ],

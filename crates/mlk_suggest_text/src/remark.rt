@@ -98,11 +98,10 @@ impl<'v> View<'v> {
     // What speaks for a private or a readonly global.
     fn global_evidence(&self, global: &GlobalGuess) -> Result<Vec<u8>, AllocError> {
         let elements = global.pattern.elements.as_slice();
-        let touches = Number(global.touches);
         if elements.iter().any(|element| *element == Element::Job) {
             let pieces = [
                 Words("$J is there at "),
-                touches,
+                Number(global.touches),
                 Words(" of "),
                 Number(global.all_touches),
                 Words(places(global.all_touches)),
@@ -111,7 +110,7 @@ impl<'v> View<'v> {
         }
         let pieces = [
             Words("read at "),
-            touches,
+            Number(global.touches),
             Words(places(global.touches)),
             Words(", written nowhere"),
         ];
