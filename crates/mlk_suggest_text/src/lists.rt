@@ -44,38 +44,40 @@ impl HasLine for Undecided {
     fn line(&self, view: &View<'_>) -> Result<Vec<u8>, AllocError> {
         let pattern = Made(view.pattern(&self.pattern)?);
         let writes = Number(self.writes);
-        let reads = Number(self.reads);
-        let mut text = text_of(
-            view.alloc,
-            &[
-                pattern,
-                Words(": "),
-                writes,
-                Words(" writes, "),
-                reads,
-                Words(" reads; "),
-            ],
-        )?;
-        match &self.best {
-            None => push_all(&mut text, &[Words("no lock that is held there fits")])?,
-            Some((lock, score)) => {
-                let lock = Made(view.rule_lock(lock, &self.pattern)?);
-                let held = Number(score.writes_held);
-                push_all(
-                    &mut text,
-                    &[lock, Words(" is held at "), held, Words(" writes")],
-                )?;
-            }
-        }
+        let mut text = text_of(view.alloc, &[pattern, Words(": written at "), writes])?;
         if let Some(spot) = &self.first {
             let place = Made(view.place(*spot)?);
-            push_all(&mut text, &[Words("; first written at "), place])?;
+            push_all(&mut text, &[Words(" (first "), place, Words(")")])?;
         }
+        push_all(
+            &mut text,
+            &[Words(", read at "), Number(self.reads), Words("; ")],
+        )?;
+        view.push_best(&mut text, self)?;
         Ok(text)
     }
 }
 
 impl<'v> View<'v> {
+    // Appends which lock is held at most writes of a global without a rule.
+    fn push_best(&self, text: &mut Vec<u8>, undecided: &Undecided) -> Result<(), AllocError> {
+        let Some((lock, score)) = &undecided.best else {
+            return push_all(text, &[Words("no lock that is held there fits")]);
+        };
+        let lock = Made(self.rule_lock(lock, &undecided.pattern)?);
+        push_all(
+            text,
+            &[
+                lock,
+                Words(" is held at "),
+                Number(score.writes_held),
+                Words(" of "),
+                Number(undecided.writes),
+                Words(" writes"),
+            ],
+        )
+    }
+
     // Appends what a place does, and which lock is missing.
     fn push_missing_lock(&self, text: &mut Vec<u8>, suspect: &Suspect) -> Result<(), AllocError> {
         let does = match suspect.access {
