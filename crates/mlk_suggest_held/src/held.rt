@@ -274,7 +274,11 @@ impl Tables {
     }
 
     /// What is held after a call where `before` was held, of a unit that returns with `callee`.
-    pub fn after_callee(&mut self, before: Holding, callee: Holding) -> Result<Holding, AllocError> {
+    pub fn after_callee(
+        &mut self,
+        before: Holding,
+        callee: Holding,
+    ) -> Result<Holding, AllocError> {
         let held = self.copy(callee)?;
         let mut after = before;
         if held.releases_all {

@@ -144,7 +144,9 @@ fn placed_fault(fault: Fault, line: usize, lead: usize) -> Fault {
         left_out,
     } = fault;
     let Place {
-        routine, column, ..
+        routine,
+        column,
+        ..
     } = place;
     let before = lead.saturating_sub(1);
     let column = Column::at((column.number() as usize).saturating_add(before));

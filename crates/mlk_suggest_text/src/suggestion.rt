@@ -61,7 +61,9 @@ fn as_comments(alloc: Global, text: &[u8]) -> Result<Vec<u8>, AllocError> {
     let mut comments = Vec::new(alloc);
     push_all(
         &mut comments,
-        &[Words("# By a bug in mlock, this suggestion is not a valid rule file. So each line is a comment.\n")],
+        &[Words(
+            "# By a bug in mlock, this suggestion is not a valid rule file. So each line is a comment.\n",
+        )],
     )?;
     for line in text.split(|byte| *byte == b'\n') {
         push_all(&mut comments, &[Words("# "), Bytes(line), Words("\n")])?;
