@@ -51,7 +51,8 @@ fn line_alone(alloc: Global, line: &[u8]) -> Result<Vec<u8>, AllocError> {
     if lead > 0 {
         text.push(b' ')?;
     }
-    text.extend_from_slice(line.get(lead..).unwrap_or(b""))?;
+    let commands = line.get(lead..).unwrap_or(b"");
+    text.extend_from_slice(commands)?;
     Ok(text)
 }
 
@@ -67,9 +68,11 @@ fn fault_of(alloc: Global, stem: &[u8], text: &[u8]) -> Result<Option<Fault>, Al
 // A line with other commands, at the same level.
 fn with_commands(alloc: Global, line: &[u8], commands: &[u8]) -> Result<Vec<u8>, AllocError> {
     let lead = lead_of(line);
-    let mut text = Vec::from_slice(alloc, line.get(..lead).unwrap_or(b""))?;
+    let front = line.get(..lead).unwrap_or(b"");
+    let mut text = Vec::from_slice(alloc, front)?;
     let blanks = usize::from(lead > 0).min(commands.len());
-    text.extend_from_slice(commands.get(blanks..).unwrap_or(b""))?;
+    let others = commands.get(blanks..).unwrap_or(b"");
+    text.extend_from_slice(others)?;
     Ok(text)
 }
 

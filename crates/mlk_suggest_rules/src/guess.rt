@@ -163,7 +163,8 @@ fn rank_families(
     let mut last: usize = 0;
     for (place, name) in ordered.iter().enumerate() {
         let given = ranks.get(place).copied().flatten();
-        let (count, next) = next_known(ranks.get(place..).unwrap_or(&[]));
+        let others = ranks.get(place..).unwrap_or(&[]);
+        let (count, next) = next_known(others);
         let rank = given.unwrap_or(rank_after(last, next, count).min(GREATEST_RANK as usize));
         last = rank.max(last);
         let family = FamilyGuess {
