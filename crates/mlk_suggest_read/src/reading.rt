@@ -51,7 +51,7 @@ fn line_alone(alloc: Global, line: &[u8]) -> Result<Vec<u8>, AllocError> {
     if lead > 0 {
         text.push(b' ')?;
     }
-    let commands = line.get(lead..).unwrap_or(b"");
+    let commands = text_from(line, lead);
     text.extend_from_slice(commands)?;
     Ok(text)
 }
@@ -65,13 +65,18 @@ fn fault_of(alloc: Global, stem: &[u8], text: &[u8]) -> Result<Option<Fault>, Al
     }
 }
 
+// A text from a place on; nothing past its end.
+fn text_from(text: &[u8], place: usize) -> &[u8] {
+    text.get(place..).unwrap_or(b"")
+}
+
 // A line with other commands, at the same level.
 fn with_commands(alloc: Global, line: &[u8], commands: &[u8]) -> Result<Vec<u8>, AllocError> {
     let lead = lead_of(line);
     let front = line.get(..lead).unwrap_or(b"");
     let mut text = Vec::from_slice(alloc, front)?;
-    let blanks = usize::from(lead > 0).min(commands.len());
-    let others = commands.get(blanks..).unwrap_or(b"");
+    let blanks = usize::from(lead > 0);
+    let others = text_from(commands, blanks);
     text.extend_from_slice(others)?;
     Ok(text)
 }
