@@ -60,6 +60,22 @@ impl Support {
         Ok(())
     }
 
+    // Adds the locks that are held in some way at a touch, if it writes.
+    fn add_touch(
+        &mut self,
+        alloc: Global,
+        program: &Program<'_>,
+        evidence: &Evidence<'_>,
+        touch: &TouchAt<'_>,
+    ) -> Result<(), AllocError> {
+        if touch.reference.access == Access::Writes {
+            for lock in locks_at(alloc, program, evidence, touch)? {
+                self.add(lock)?;
+            }
+        }
+        Ok(())
+    }
+
     // The locks that are held most often, the most frequent first.
     fn most_held(&self, alloc: Global) -> Result<Vec<LockPattern>, AllocError> {
         let mut order = Vec::with_capacity(alloc, self.writes.len())?;
@@ -121,16 +137,14 @@ fn supported_locks(
     alloc: Global,
     program: &Program<'_>,
     evidence: &Evidence<'_>,
-    touches: &[&TouchAt<'_>],
+    touches: &[usize],
 ) -> Result<Vec<LockPattern>, AllocError> {
     let mut support = Support {
         writes: IndexMap::new(alloc),
     };
     for touch in touches {
-        if touch.reference.access == Access::Writes {
-            for lock in locks_at(alloc, program, evidence, touch)? {
-                support.add(lock)?;
-            }
+        if let Some(touch) = evidence.touches.get(*touch) {
+            support.add_touch(alloc, program, evidence, touch)?;
         }
     }
     support.most_held(alloc)
@@ -157,13 +171,13 @@ fn compare_candidates(global: Word, first: &Candidate, second: &Candidate) -> Or
         .then(first.lock.parts.len().cmp(&second.lock.parts.len()))
 }
 
-/// The locks that may cover `global` at `touches`, the best first.
+/// The locks that may cover `global` at the `touches` of `evidence` with these places, the best first.
 pub(crate) fn candidates_of(
     alloc: Global,
     program: &Program<'_>,
     evidence: &Evidence<'_>,
     global: Word,
-    touches: &[&TouchAt<'_>],
+    touches: &[usize],
 ) -> Result<Vec<Candidate>, AllocError> {
     let mut candidates = Vec::new(alloc);
     for lock in supported_locks(alloc, program, evidence, touches)? {

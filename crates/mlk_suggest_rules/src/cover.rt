@@ -2,7 +2,7 @@
 
 use crate::place::LockPattern;
 use crate::score::Score;
-use mlk_suggest::TouchAt;
+use mlk_suggest::Evidence;
 use mlk_suggest_steps::{Symbol, Word};
 use mlk_text::push_sparing;
 use std::alloc::{AllocError, Global};
@@ -41,36 +41,49 @@ pub struct CoverGuess {
 }
 
 // The local that the first of the references with a local at a place has there.
-fn local_at(touches: &[&TouchAt<'_>], place: usize) -> Option<Word> {
-    touches.iter().find_map(|touch| match touch.reference.subscripts.get(place) {
-        Some(Symbol::Local(word)) => Some(*word),
-        _ => None,
-    })
+fn local_at(evidence: &Evidence<'_>, touches: &[usize], place: usize) -> Option<Word> {
+    for touch in touches {
+        if let Some(touch) = evidence.touches.get(*touch) {
+            if let Some(Symbol::Local(word)) = touch.reference.subscripts.get(place) {
+                return Some(*word);
+            }
+        }
+    }
+    None
 }
 
 // Whether no reference has subscripts.
-fn is_scalar(touches: &[&TouchAt<'_>]) -> bool {
-    touches
-        .iter()
-        .all(|touch| touch.reference.subscripts.is_empty())
+fn is_scalar(evidence: &Evidence<'_>, touches: &[usize]) -> bool {
+    for touch in touches {
+        if let Some(touch) = evidence.touches.get(*touch) {
+            if !touch.reference.subscripts.is_empty() {
+                return false;
+            }
+        }
+    }
+    true
 }
 
 /// The pattern of `global` that begins with the elements `fixed` and has variables after them, `count` elements or as many as are
-/// fixed. It is open, unless `touches` are of the global without subscripts.
+/// fixed. It is open, unless the `touches` of `evidence` with these places are of the global without subscripts.
 pub(crate) fn pattern_of(
     alloc: Global,
+    evidence: &Evidence<'_>,
     global: Word,
-    touches: &[&TouchAt<'_>],
+    touches: &[usize],
     fixed: &[Element],
     count: usize,
 ) -> Result<Pattern, AllocError> {
     let mut elements = Vec::from_slice(alloc, fixed)?;
     for place in fixed.len()..count.max(fixed.len()) {
-        push_sparing(&mut elements, Element::Variable(local_at(touches, place)))?;
+        push_sparing(
+            &mut elements,
+            Element::Variable(local_at(evidence, touches, place)),
+        )?;
     }
     Ok(Pattern {
         global,
         elements,
-        is_open: !is_scalar(touches),
+        is_open: !is_scalar(evidence, touches),
     })
 }

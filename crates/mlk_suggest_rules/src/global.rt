@@ -3,8 +3,8 @@
 use crate::candidate::{Candidate, candidates_of};
 use crate::cover::{CoverGuess, Element, Pattern, pattern_of};
 use crate::place::LockPattern;
-use crate::score::{Score, WHOLE, share_at};
-use crate::split::{Split, count_explained, split_at, touches_in};
+use crate::score::{Score, WHOLE, count_writes, share_at};
+use crate::split::{Split, count_explained, split_at};
 use crate::suspect::{AskedLock, Suspect, add_suspects};
 use mlk_names::Access;
 use mlk_suggest::{Evidence, Spot, TouchAt};
@@ -79,26 +79,23 @@ pub(crate) struct Judge<'j> {
     pub(crate) global: Word,
 }
 
-// The number of touches that write.
-fn count_writes(touches: &[&TouchAt<'_>]) -> usize {
-    touches
-        .iter()
-        .filter(|touch| touch.reference.access == Access::Writes)
-        .count()
-}
-
 // The number of touches that have `$JOB` at a place.
-fn count_job(touches: &[&TouchAt<'_>], place: usize) -> usize {
-    touches
-        .iter()
-        .filter(|touch| { matches!(touch.reference.subscripts.get(place), Some(Symbol::Job)) })
-        .count()
+fn count_job(evidence: &Evidence<'_>, touches: &[usize], place: usize) -> usize {
+    let mut count: usize = 0;
+    for touch in touches {
+        if let Some(touch) = evidence.touches.get(*touch) {
+            if let Some(Symbol::Job) = touch.reference.subscripts.get(place) {
+                count = count.saturating_add(1);
+            }
+        }
+    }
+    count
 }
 
 // The first place at which enough touches have `$JOB`, and the number of those.
-fn job_place(touches: &[&TouchAt<'_>]) -> Option<(usize, usize)> {
+fn job_place(evidence: &Evidence<'_>, touches: &[usize]) -> Option<(usize, usize)> {
     for place in 0..MOST_ELEMENTS {
-        let count = count_job(touches, place);
+        let count = count_job(evidence, touches, place);
         if count > 0 && count.saturating_mul(100) >= touches.len().saturating_mul(JOB_TOUCHES) {
             return Some((place, count));
         }
@@ -115,6 +112,23 @@ fn places_of(lock: &LockPattern, also: &Option<LockPattern>) -> usize {
 }
 
 impl<'j> Judge<'j> {
+    // The pattern of the global that begins with `fixed`, with variables after them, `count` elements or as many as are fixed.
+    fn pattern(
+        &self,
+        touches: &[usize],
+        fixed: &[Element],
+        count: usize,
+    ) -> Result<Pattern, AllocError> {
+        pattern_of(
+            self.alloc,
+            self.evidence,
+            self.global,
+            touches,
+            fixed,
+            count,
+        )
+    }
+
     // Whether a lock of the global's own name is held in some way at a touch.
     fn holds_own(&self, touch: &TouchAt<'_>) -> bool {
         let tables = &self.evidence.tables;
@@ -127,21 +141,27 @@ impl<'j> Judge<'j> {
     }
 
     // The number of touches at which a lock of the global's own name is held in some way.
-    fn count_locked(&self, touches: &[&TouchAt<'_>]) -> usize {
-        touches.iter().filter(|touch| self.holds_own(touch)).count()
+    fn count_locked(&self, touches: &[usize]) -> usize {
+        let mut count: usize = 0;
+        for touch in touches {
+            if let Some(touch) = self.evidence.touches.get(*touch) {
+                count = count.saturating_add(usize::from(self.holds_own(touch)));
+            }
+        }
+        count
     }
 
     // The rule that each job has its own part, if enough touches say so and a lock of the global's own name is held at no more
     // than half of them.
-    fn private_guess(&self, touches: &[&TouchAt<'_>]) -> Result<Option<GlobalGuess>, AllocError> {
-        let Some((place, count)) = job_place(touches) else {
+    fn private_guess(&self, touches: &[usize]) -> Result<Option<GlobalGuess>, AllocError> {
+        let Some((place, count)) = job_place(self.evidence, touches) else {
             return Ok(None);
         };
         let locked = self.count_locked(touches);
         if locked.saturating_mul(2) > touches.len() {
             return Ok(None);
         }
-        let mut pattern = pattern_of(self.alloc, self.global, touches, &[], place)?;
+        let mut pattern = self.pattern(touches, &[], place)?;
         push_sparing(&mut pattern.elements, Element::Job)?;
         Ok(Some(GlobalGuess {
             pattern,
@@ -154,33 +174,40 @@ impl<'j> Judge<'j> {
     // The rule that nobody writes the part of the global that begins with `fixed`.
     fn readonly_guess(
         &self,
-        touches: &[&TouchAt<'_>],
+        touches: &[usize],
         fixed: &[Element],
     ) -> Result<GlobalGuess, AllocError> {
         Ok(GlobalGuess {
-            pattern: pattern_of(self.alloc, self.global, touches, fixed, fixed.len())?,
+            pattern: self.pattern(touches, fixed, fixed.len())?,
             touches: touches.len(),
             all_touches: touches.len(),
             locked: self.count_locked(touches),
         })
     }
 
+    // Whether a touch reads where a lock is not held in all ways.
+    fn is_read_left(&self, touch: &TouchAt<'_>, lock: &LockPattern) -> Result<bool, AllocError> {
+        if touch.reference.access == Access::Writes {
+            return Ok(false);
+        }
+        Ok(share_at(self.alloc, self.evidence, touch, lock)? < WHOLE)
+    }
+
     // The number of reads at which a second lock is held and the first is not, and the number of all at which the first is not.
     fn count_reads_left(
         &self,
-        touches: &[&TouchAt<'_>],
+        touches: &[usize],
         first: &LockPattern,
         second: &LockPattern,
     ) -> Result<(usize, usize), AllocError> {
         let mut held: usize = 0;
         let mut left: usize = 0;
         for touch in touches {
-            if touch.reference.access == Access::Reads
-                && share_at(self.alloc, self.evidence, touch, first)? < WHOLE
-            {
-                left = left.saturating_add(1);
-                if share_at(self.alloc, self.evidence, touch, second)? >= WHOLE {
-                    held = held.saturating_add(1);
+            if let Some(touch) = self.evidence.touches.get(*touch) {
+                if self.is_read_left(touch, first)? {
+                    let share = share_at(self.alloc, self.evidence, touch, second)?;
+                    left = left.saturating_add(1);
+                    held = held.saturating_add(usize::from(share >= WHOLE));
                 }
             }
         }
@@ -190,7 +217,7 @@ impl<'j> Judge<'j> {
     // A second lock that is held at enough writes too, and at half of the reads at which the first is not held.
     fn second_lock(
         &self,
-        touches: &[&TouchAt<'_>],
+        touches: &[usize],
         candidates: &[Candidate],
     ) -> Result<Option<LockPattern>, AllocError> {
         let Some((best, others)) = candidates.split_first() else {
@@ -211,7 +238,7 @@ impl<'j> Judge<'j> {
     fn add_suspects(
         &self,
         guesses: &mut GlobalGuesses,
-        touches: &[&TouchAt<'_>],
+        touches: &[usize],
         asked: &AskedLock<'_>,
     ) -> Result<(), AllocError> {
         add_suspects(
@@ -227,7 +254,7 @@ impl<'j> Judge<'j> {
     fn add_cover(
         &self,
         guesses: &mut GlobalGuesses,
-        touches: &[&TouchAt<'_>],
+        touches: &[usize],
         candidates: &[Candidate],
         best: &Candidate,
         fixed: &[Element],
@@ -253,7 +280,7 @@ impl<'j> Judge<'j> {
         }
         let count = places_of(&best.lock, &also);
         let cover = CoverGuess {
-            pattern: pattern_of(self.alloc, self.global, touches, fixed, count)?,
+            pattern: self.pattern(touches, fixed, count)?,
             lock: best.lock.clone()?,
             also,
             score: best.score,
@@ -262,25 +289,34 @@ impl<'j> Judge<'j> {
         push_sparing(&mut guesses.covers, cover)
     }
 
+    // The place of the first touch that writes.
+    fn first_write(&self, touches: &[usize]) -> Option<Spot> {
+        for touch in touches {
+            if let Some(touch) = self.evidence.touches.get(*touch) {
+                if touch.reference.access == Access::Writes {
+                    return Some(touch.spot);
+                }
+            }
+        }
+        None
+    }
+
     // Adds that no rule is suggested.
     fn add_undecided(
         &self,
         guesses: &mut GlobalGuesses,
-        touches: &[&TouchAt<'_>],
+        touches: &[usize],
         candidates: &[Candidate],
         fixed: &[Element],
     ) -> Result<(), AllocError> {
-        let writes = count_writes(touches);
-        let first = touches
-            .iter()
-            .find(|touch| touch.reference.access == Access::Writes)
-            .map(|touch| touch.spot);
+        let writes = count_writes(self.evidence, touches);
+        let first = self.first_write(touches);
         let best = match candidates.first() {
             Some(best) => Some((best.lock.clone()?, best.score)),
             None => None,
         };
         let undecided = Undecided {
-            pattern: pattern_of(self.alloc, self.global, touches, fixed, fixed.len())?,
+            pattern: self.pattern(touches, fixed, fixed.len())?,
             writes,
             reads: touches.len().saturating_sub(writes),
             first,
@@ -293,10 +329,10 @@ impl<'j> Judge<'j> {
     fn judge_part(
         &self,
         guesses: &mut GlobalGuesses,
-        touches: &[&TouchAt<'_>],
+        touches: &[usize],
         fixed: &[Element],
     ) -> Result<(), AllocError> {
-        if count_writes(touches) == 0 {
+        if count_writes(self.evidence, touches) == 0 {
             let readonly = self.readonly_guess(touches, fixed)?;
             return push_sparing(&mut guesses.readonly, readonly);
         }
@@ -316,25 +352,19 @@ impl<'j> Judge<'j> {
     }
 
     // Adds a rule for each part of the global.
-    fn judge_parts(
-        &self,
-        guesses: &mut GlobalGuesses,
-        touches: &[&TouchAt<'_>],
-        split: &Split,
-    ) -> Result<(), AllocError> {
+    fn judge_parts(&self, guesses: &mut GlobalGuesses, split: &Split) -> Result<(), AllocError> {
         for part in &split.parts {
-            let own = touches_in(self.alloc, touches, part.touches.as_slice())?;
+            let own = part.touches.as_slice();
             let constant = Element::Constant(part.constant);
             if split.place == 0 {
-                self.judge_part(guesses, own.as_slice(), &[constant])?;
+                self.judge_part(guesses, own, &[constant])?;
             } else {
                 let fixed = [Element::Variable(None), constant];
-                self.judge_part(guesses, own.as_slice(), &fixed)?;
+                self.judge_part(guesses, own, &fixed)?;
             }
         }
         if !split.others.is_empty() {
-            let others = touches_in(self.alloc, touches, split.others.as_slice())?;
-            self.add_undecided(guesses, others.as_slice(), &[], &[])?;
+            self.add_undecided(guesses, split.others.as_slice(), &[], &[])?;
         }
         Ok(())
     }
@@ -342,28 +372,22 @@ impl<'j> Judge<'j> {
     // The parts by the constants at a place, if they explain clearly more touches than the `whole` global does.
     fn better_split(
         &self,
-        touches: &[&TouchAt<'_>],
+        touches: &[usize],
         place: usize,
         whole: usize,
     ) -> Result<Option<Split>, AllocError> {
-        let Some(split) = split_at(self.alloc, self.program, touches, place)? else {
+        let Some(split) = split_at(self.alloc, self.program, self.evidence, touches, place)? else {
             return Ok(None);
         };
-        let sum = split.count_explained(
-            self.alloc,
-            self.program,
-            self.evidence,
-            self.global,
-            touches,
-        )?;
+        let sum = split.count_explained(self.alloc, self.program, self.evidence, self.global)?;
         let is_better = sum > whole.saturating_add(WHOLE)
             && sum.saturating_sub(whole).saturating_mul(10) > touches.len().saturating_mul(WHOLE);
         if is_better { Ok(Some(split)) } else { Ok(None) }
     }
 
     // The parts of the global, if no lock is held at enough of its touches.
-    fn parts(&self, touches: &[&TouchAt<'_>]) -> Result<Option<Split>, AllocError> {
-        if count_writes(touches) == 0 {
+    fn parts(&self, touches: &[usize]) -> Result<Option<Split>, AllocError> {
+        if count_writes(self.evidence, touches) == 0 {
             return Ok(None);
         }
         let candidates = candidates_of(
@@ -394,17 +418,17 @@ impl<'j> Judge<'j> {
         self.better_split(touches, 1, whole)
     }
 
-    /// Adds the rules for the global, whose touches are `touches`.
+    /// Adds the rules for the global, whose touches are those of the evidence with the places `touches`.
     pub(crate) fn judge(
         &self,
         guesses: &mut GlobalGuesses,
-        touches: &[&TouchAt<'_>],
+        touches: &[usize],
     ) -> Result<(), AllocError> {
         if let Some(private) = self.private_guess(touches)? {
             return push_sparing(&mut guesses.private, private);
         }
         match self.parts(touches)? {
-            Some(split) => self.judge_parts(guesses, touches, &split),
+            Some(split) => self.judge_parts(guesses, &split),
             None => self.judge_part(guesses, touches, &[]),
         }
     }

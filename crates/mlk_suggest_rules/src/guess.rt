@@ -9,7 +9,7 @@ use crate::order::{Against, Nesting, nestings_of};
 use crate::rank::order_of;
 use crate::suspect::Suspect;
 use indexmap::IndexMap;
-use mlk_suggest::{Evidence, ReleaseAt, TouchAt};
+use mlk_suggest::{Evidence, ReleaseAt};
 use mlk_suggest_steps::{Program, UnitId, Word};
 use mlk_text::limit::GREATEST_RANK;
 use mlk_text::push_sparing;
@@ -84,21 +84,6 @@ fn by_global(
     Ok(groups)
 }
 
-// The touches at these places.
-fn touches_at<'e, 'p>(
-    alloc: Global,
-    evidence: &'e Evidence<'p>,
-    places: &[usize],
-) -> Result<Vec<&'e TouchAt<'p>>, AllocError> {
-    let mut touches = Vec::with_capacity(alloc, places.len())?;
-    for place in places {
-        if let Some(touch) = evidence.touches.get(*place) {
-            push_sparing(&mut touches, touch)?;
-        }
-    }
-    Ok(touches)
-}
-
 // The rules for the globals for which none is known.
 fn globals_of<'j>(
     alloc: Global,
@@ -109,14 +94,13 @@ fn globals_of<'j>(
     let mut guesses = GlobalGuesses::new(alloc);
     for (global, places) in by_global(alloc, program, evidence)? {
         if !known.have_global(program.words.text(global)) {
-            let touches = touches_at(alloc, evidence, places.as_slice())?;
             let judge = Judge {
                 alloc,
                 program,
                 evidence,
                 global,
             };
-            judge.judge(&mut guesses, touches.as_slice())?;
+            judge.judge(&mut guesses, places.as_slice())?;
         }
     }
     Ok(guesses)

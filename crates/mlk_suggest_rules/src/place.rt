@@ -34,11 +34,14 @@ fn place_in(reference: &Reference, symbol: Symbol) -> Option<usize> {
 
 // What a subscript of a lock is in a rule for a reference: a place or a constant. If it is both, `constants_first` decides.
 fn part_of(reference: &Reference, symbol: Symbol, constants_first: bool) -> Option<Part> {
-    match (symbol, place_in(reference, symbol)) {
-        (Symbol::Constant(word), Some(_)) if constants_first => Some(Part::Constant(word)),
-        (_, Some(place)) => Some(Part::Place(place)),
-        (Symbol::Constant(word), None) => Some(Part::Constant(word)),
+    let constant = match symbol {
+        Symbol::Constant(word) => Some(Part::Constant(word)),
         _ => None,
+    };
+    match place_in(reference, symbol) {
+        Some(_) if constants_first && constant.is_some() => constant,
+        Some(place) => Some(Part::Place(place)),
+        None => constant,
     }
 }
 

@@ -101,17 +101,32 @@ pub(crate) fn share_at(
     Ok(share.checked_div(touch.moments.len()).unwrap_or(0))
 }
 
-/// At how many of `touches` the lock of a rule is held.
+/// At how many of the `touches` of `evidence` with these places the lock of a rule is held.
 pub(crate) fn score_of(
     alloc: Global,
     evidence: &Evidence<'_>,
-    touches: &[&TouchAt<'_>],
+    touches: &[usize],
     lock: &LockPattern,
 ) -> Result<Score, AllocError> {
     let mut score = Score::new();
     for touch in touches {
-        let share = share_at(alloc, evidence, touch, lock)?;
-        score.add(touch.reference.access, share);
+        if let Some(touch) = evidence.touches.get(*touch) {
+            let share = share_at(alloc, evidence, touch, lock)?;
+            score.add(touch.reference.access, share);
+        }
     }
     Ok(score)
+}
+
+/// The number of `touches` that write.
+pub(crate) fn count_writes(evidence: &Evidence<'_>, touches: &[usize]) -> usize {
+    let mut count: usize = 0;
+    for touch in touches {
+        if let Some(touch) = evidence.touches.get(*touch) {
+            if touch.reference.access == Access::Writes {
+                count = count.saturating_add(1);
+            }
+        }
+    }
+    count
 }

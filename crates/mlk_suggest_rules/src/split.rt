@@ -1,10 +1,9 @@
 // The parts of a global, by the constants at one of its places.
 
 use crate::candidate::{candidates_of, is_plain};
-use crate::score::WHOLE;
+use crate::score::{WHOLE, count_writes};
 use indexmap::IndexMap;
-use mlk_names::Access;
-use mlk_suggest::{Evidence, TouchAt};
+use mlk_suggest::Evidence;
 use mlk_suggest_steps::{Program, Symbol, Word};
 use mlk_text::push_sparing;
 use std::alloc::{AllocError, Global};
@@ -12,7 +11,7 @@ use std::alloc::{AllocError, Global};
 /// The most parts of a global.
 const MOST_PARTS: usize = 64;
 
-/// The touches of a global that have the same constant as one of their subscripts, by their places in a list of touches.
+/// The touches of a global that have the same constant as one of their subscripts, by their places in the evidence.
 #[derive(Drop)]
 pub(crate) struct GlobalPart {
     pub(crate) constant: Word,
@@ -50,8 +49,14 @@ fn part_of(
     Ok(number)
 }
 
-// The constant of a touch at a place, if it can be part of a rule.
-fn constant_at(program: &Program<'_>, touch: &TouchAt<'_>, place: usize) -> Option<Word> {
+// The constant that a touch has at a place, if it can be part of a rule.
+fn constant_at(
+    program: &Program<'_>,
+    evidence: &Evidence<'_>,
+    touch: usize,
+    place: usize,
+) -> Option<Word> {
+    let touch = evidence.touches.get(touch)?;
     match touch.reference.subscripts.get(place) {
         Some(Symbol::Constant(word)) if is_plain(program.words.text(*word)) => Some(*word),
         _ => None,
@@ -62,7 +67,8 @@ fn constant_at(program: &Program<'_>, touch: &TouchAt<'_>, place: usize) -> Opti
 fn parts_of(
     alloc: Global,
     program: &Program<'_>,
-    touches: &[&TouchAt<'_>],
+    evidence: &Evidence<'_>,
+    touches: &[usize],
     place: usize,
 ) -> Result<Split, AllocError> {
     let mut split = Split {
@@ -71,14 +77,14 @@ fn parts_of(
         others: Vec::new(alloc),
     };
     let mut numbers = IndexMap::new(alloc);
-    for (index, touch) in touches.iter().enumerate() {
-        let Some(word) = constant_at(program, touch, place) else {
-            push_sparing(&mut split.others, index)?;
+    for touch in touches {
+        let Some(word) = constant_at(program, evidence, *touch, place) else {
+            push_sparing(&mut split.others, *touch)?;
             continue;
         };
         let part = part_of(alloc, &mut split.parts, &mut numbers, word)?;
         if let Some(part) = split.parts.get_mut(part) {
-            push_sparing(&mut part.touches, index)?;
+            push_sparing(&mut part.touches, *touch)?;
         }
     }
     Ok(split)
@@ -89,29 +95,15 @@ fn parts_of(
 pub(crate) fn split_at(
     alloc: Global,
     program: &Program<'_>,
-    touches: &[&TouchAt<'_>],
+    evidence: &Evidence<'_>,
+    touches: &[usize],
     place: usize,
 ) -> Result<Option<Split>, AllocError> {
-    let split = parts_of(alloc, program, touches, place)?;
+    let split = parts_of(alloc, program, evidence, touches, place)?;
     let is_split = split.parts.len() > 1
         && split.parts.len() <= MOST_PARTS
         && split.others.len().saturating_mul(10) <= touches.len();
     if is_split { Ok(Some(split)) } else { Ok(None) }
-}
-
-/// The touches at `places` of the list `touches`.
-pub(crate) fn touches_in<'e, 'p>(
-    alloc: Global,
-    touches: &[&'e TouchAt<'p>],
-    places: &[usize],
-) -> Result<Vec<&'e TouchAt<'p>>, AllocError> {
-    let mut found = Vec::with_capacity(alloc, places.len())?;
-    for place in places {
-        if let Some(touch) = touches.get(*place) {
-            push_sparing(&mut found, *touch)?;
-        }
-    }
-    Ok(found)
 }
 
 /// How many of `touches` are explained, in thousandths: by the best lock that is held at them, or because none of them writes.
@@ -120,12 +112,9 @@ pub(crate) fn count_explained(
     program: &Program<'_>,
     evidence: &Evidence<'_>,
     global: Word,
-    touches: &[&TouchAt<'_>],
+    touches: &[usize],
 ) -> Result<usize, AllocError> {
-    if touches
-        .iter()
-        .all(|touch| touch.reference.access == Access::Reads)
-    {
+    if count_writes(evidence, touches) == 0 {
         return Ok(touches.len().saturating_mul(WHOLE));
     }
     let candidates = candidates_of(alloc, program, evidence, global, touches)?;
@@ -138,19 +127,18 @@ pub(crate) fn count_explained(
 }
 
 impl Split {
-    /// How many of `touches`, whose parts these are, are explained by parts, in thousandths.
+    /// How many touches are explained in their parts, in thousandths.
     pub(crate) fn count_explained(
         &self,
         alloc: Global,
         program: &Program<'_>,
         evidence: &Evidence<'_>,
         global: Word,
-        touches: &[&TouchAt<'_>],
     ) -> Result<usize, AllocError> {
         let mut sum: usize = 0;
         for part in &self.parts {
-            let own = touches_in(alloc, touches, part.touches.as_slice())?;
-            let count = count_explained(alloc, program, evidence, global, own.as_slice())?;
+            let own = part.touches.as_slice();
+            let count = count_explained(alloc, program, evidence, global, own)?;
             sum = sum.saturating_add(count);
         }
         Ok(sum)

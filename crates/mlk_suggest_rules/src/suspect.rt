@@ -64,32 +64,44 @@ pub(crate) struct AskedLock<'l> {
     pub(crate) has_reads: bool,
 }
 
-/// Adds the places among `touches` at which the lock `asked` is missing in some of the ways that lead there.
+// Adds a touch, if the lock is missing there in some of the ways.
+fn add_suspect(
+    alloc: Global,
+    evidence: &Evidence<'_>,
+    suspects: &mut Vec<Suspect>,
+    touch: &TouchAt<'_>,
+    asked: &AskedLock<'_>,
+) -> Result<(), AllocError> {
+    let lock = asked.lock;
+    let Some(moment) = first_without(alloc, evidence, touch, lock)? else {
+        return Ok(());
+    };
+    let suspect = Suspect {
+        access: touch.reference.access,
+        cover: asked.cover,
+        is_second: asked.is_second,
+        spot: touch.spot,
+        ways: touch.moments.len(),
+        ways_held: held_at(alloc, evidence, touch, lock)?,
+        holding: moment.holding,
+        from: moment.from,
+    };
+    push_sparing(suspects, suspect)
+}
+
+/// Adds those of the `touches` of `evidence` with these places at which the lock `asked` is missing in some of the ways that lead there.
 pub(crate) fn add_suspects(
     alloc: Global,
     evidence: &Evidence<'_>,
     suspects: &mut Vec<Suspect>,
-    touches: &[&TouchAt<'_>],
+    touches: &[usize],
     asked: &AskedLock<'_>,
 ) -> Result<(), AllocError> {
-    let lock = asked.lock;
     for touch in touches {
-        let access = touch.reference.access;
-        if access == Access::Reads && !asked.has_reads {
-            continue;
-        }
-        if let Some(moment) = first_without(alloc, evidence, touch, lock)? {
-            let suspect = Suspect {
-                access,
-                cover: asked.cover,
-                is_second: asked.is_second,
-                spot: touch.spot,
-                ways: touch.moments.len(),
-                ways_held: held_at(alloc, evidence, touch, lock)?,
-                holding: moment.holding,
-                from: moment.from,
-            };
-            push_sparing(suspects, suspect)?;
+        if let Some(touch) = evidence.touches.get(*touch) {
+            if touch.reference.access == Access::Writes || asked.has_reads {
+                add_suspect(alloc, evidence, suspects, touch, asked)?;
+            }
         }
     }
     Ok(())
