@@ -3,7 +3,7 @@
 use crate::element::InSection;
 use crate::lists::push_list;
 use crate::view::View;
-use mlk_report_text::Piece::{Bytes, Number, Words};
+use mlk_report_text::Piece::{Made, Number, Words};
 use mlk_report_text::{escape_bytes, push_all};
 use std::alloc::AllocError;
 
@@ -20,11 +20,11 @@ fn push_element<T: InSection>(
     let element = thing.element(view)?;
     let remark = thing.remark(view)?;
     let remark = escape_bytes(view.alloc, remark.as_slice())?;
+    push_all(text, &[Words(before)])?;
     push_all(
         text,
         &[
-            Words(before),
-            Bytes(element.as_slice()),
+            Made(element),
             Words(", # "),
             Words(remark.as_str()),
             Words("\n"),

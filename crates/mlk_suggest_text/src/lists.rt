@@ -250,7 +250,7 @@ pub(crate) fn push_list<T: HasLine>(
     )?;
     for thing in things.iter().take(MOST_LINES) {
         let line = thing.line(view)?;
-        push_comment(text, view.alloc, "   ", line.as_slice())?;
+        push_comment(text, view.alloc, line.as_slice())?;
     }
     if things.len() > MOST_LINES {
         let more = Number(things.len().saturating_sub(MOST_LINES));

@@ -250,21 +250,12 @@ impl<'v> View<'v> {
     }
 }
 
-/// Appends a line with `comment` after `indent`, and escapes the bytes that a comment can't have.
+/// Appends `comment` as a line of a list, with those bytes escaped that a comment can't have.
 pub(crate) fn push_comment(
     text: &mut Vec<u8>,
     alloc: Global,
-    indent: &str,
     comment: &[u8],
 ) -> Result<(), AllocError> {
     let escaped = escape_bytes(alloc, comment)?;
-    push_all(
-        text,
-        &[
-            Words("#"),
-            Words(indent),
-            Words(escaped.as_str()),
-            Words("\n"),
-        ],
-    )
+    push_all(text, &[Words("#   "), Words(escaped.as_str()), Words("\n")])
 }

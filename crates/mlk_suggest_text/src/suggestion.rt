@@ -27,14 +27,14 @@ fn in_order<'a>(alloc: Global, read: &'a PartlyRead) -> Result<Vec<&'a Routine>,
 }
 
 // The text of the suggestion for a program.
-fn program_text<'v>(
+fn program_text(
     alloc: Global,
-    read: &'v PartlyRead,
-    program: &'v Program<'v>,
+    read: &PartlyRead,
+    program: &Program<'_>,
     known: KnownRules<'_>,
 ) -> Result<Vec<u8>, AllocError> {
     let evidence = evidence_of(alloc, program)?;
-    let guess = guess_of(alloc, program, &evidence, known)?;
+    let guess = guess_of(alloc, &*program, &evidence, known)?;
     let view = View {
         alloc,
         read,
