@@ -10,17 +10,21 @@ use Rattle.mlk_machine_jobs.specs.declared.choice.Choice.{Choice}
 use Rattle.mlk_machine_jobs.specs.Tasks.{Job}
 use Rattle.mlk_machine_jobs.specs.Seen.{Clash}
 use Rattle.mlk_machine_jobs.specs.Runs.{machine}
-use Rattle.mlk_machine_laws.specs.Laws.{IsWithoutRing}
+use Rattle.mlk_rules.specs.Laws.{FreesNoReads}
+use Rattle.mlk_machine_laws.specs.Laws.{ClashesFreely, IsWithoutRing}
 use Rattle.mlk_machine_laws.specs.Moments.{EndsEmpty}
 use Rattle.mlk_cert_parts.specs.declared.block.EntryCert.{EntryCert}
 use Rattle.mlk_walk_state.specs.Scope.{certified, declared, is_declared}
 use Rattle.mlk_soundness_machine.specs.Listed.{FactsSince}
 use Rattle.mlk_soundness_machine.specs.Moments.{AtEachMomentSince}
 
--- Jobs that run side by side are safe: no two of them are ready to touch references that overlap, one of which writes; none
--- that has ended by itself holds a lock; and no set of them waits for each other's locks in a ring.
-pub record AreSafe (jobs : List Job) : Type 0 where
-  pub no_clash : (i j : Job) → Among i jobs → Among j jobs → Clash i j → ⊥
+-- Jobs that run side by side are safe: where two of them are ready to touch references that overlap, one of which writes, the
+-- other one reads, and a node at which they meet lies in the pattern of a cover rule that frees reads; so where no rule frees
+-- reads, there are no such two. None that has ended by itself holds a lock; and no set of them waits for each other's locks in
+-- a ring.
+pub record AreSafe (rules : RuleLists) (jobs : List Job) : Type 0 where
+  pub clashes : (i j : Job) → Among i jobs → Among j jobs → (clash : Clash i j) → ClashesFreely rules i j clash
+  pub no_clash : FreesNoReads rules → (i j : Job) → Among i jobs → Among j jobs → Clash i j → ⊥
   pub all_end_empty : (j : Job) → Among j jobs → EndsEmpty j
   pub no_ring : IsWithoutRing jobs
 
@@ -34,4 +38,4 @@ pub record AreSafe (jobs : List Job) : Type 0 where
 pub record KeepsRules (routines : List RoutineTree) (rules : RuleLists) (blocks : List EntryCert) : Type 0 where
   pub each_job : AtEachMomentSince routines (is_declared routines rules.entries) (FactsSince routines rules (certified routines blocks, declared routines rules.entries))
   pub all_jobs : (events : List (Event Choice EntryId)) (jobs : List Job)
-      → after (machine routines (is_declared routines rules.entries)) events [] ≡ Ok jobs → AreSafe jobs
+      → after (machine routines (is_declared routines rules.entries)) events [] ≡ Ok jobs → AreSafe rules jobs

@@ -35,7 +35,7 @@ impl Section {
     fn keys(self) -> &'static [(&'static str, &'static str)] {
         match self {
             Section::Lock => &[(": ", "name")],
-            Section::Cover => &[(": ", "global"), (" under ", "lock"), (" and ", "also")],
+            Section::Cover => &[(": ", "global"), (" under ", "lock"), (" and ", "also"), (", reads ", "reads")],
             Section::Private | Section::Readonly => &[(": ", "global")],
         }
     }

@@ -14,6 +14,7 @@ use Rattle.mlk_names.specs.declared.reference.Access.TheVariants.{Writes}
 use Rattle.mlk_names.specs.References.{Touch}
 use Rattle.mlk_rules.specs.declared.rules.RuleLists.{RuleLists}
 use Rattle.mlk_rules.specs.declared.cover.Cover.{Cover}
+use Rattle.mlk_rules.specs.declared.cover.ReadPolicy.TheVariants.{Locked}
 use Rattle.mlk_rules.specs.declared.family.Family.{Family}
 use Rattle.mlk_rules.specs.Coverage.{IsCovered, OfCover, HoldsLock, Satisfies}
 use Rattle.mlk_rules.specs.Sound.{IsSound}
@@ -37,6 +38,7 @@ use Rattle.mlk_machine_locks.specs.Waiting.{awaited}
 use Rattle.mlk_machine_jobs.specs.Seen.{Clash, ready_in}
 use Rattle.mlk_machine_laws.specs.Order.{IsAboveAll}
 use Rattle.mlk_machine_laws.specs.Laws.{IsWithoutRing}
+use Rattle.mlk_rules.proofs.Apart.{none_freely}
 use Rattle.mlk_machine_laws.proofs.Runs.{no_clash, no_ring, all_end_empty}
 use Rattle.mlk_machine_jobs.proofs.Trees.{global, set, commands, at_label, routine, first_entry}
 use Rattle.mlk_machine_laws.specs.Moments.{IsHeld, IsCoveredAt, StandsCovered, StandsInOrder, EndsEmpty, AtEachMoment}
@@ -60,7 +62,7 @@ a = record { root = root.Global (codes "A"); subs = [] }
 
 -- ^A is written under the lock ^A, which has a rank
 abbrev cover : Cover
-cover = record { pattern = record { global = codes "A"; elements = []; extent = Tree }; lock = record { root = root.Global (codes "A"); parts = [] }; also = None }
+cover = record { pattern = record { global = codes "A"; elements = []; extent = Tree }; lock = record { root = root.Global (codes "A"); parts = [] }; also = None; reads = Locked }
 
 abbrev family : Family
 family = record { name = a; rank = 10 }
@@ -146,11 +148,11 @@ covers = record {
 }
   where
     its_lock : Satisfies (term ∷ []) reference cover
-    its_lock lock there = subst (λ l. HoldsLock (term ∷ []) l reference) (sym (only cover.lock lock there)) (
+    its_lock = inr (λ lock there. subst (λ l. HoldsLock (term ∷ []) l reference) (sym (only cover.lock lock there)) (
       term,
       (0, omega arith, refl),
       record { root = refl; subs = record { tail = []; is = refl } },
-    )
+    ))
 
 module _ (test : Bool) (k : ℕ) where
   abbrev after_steps : Stepped → ℕ → Job
@@ -304,7 +306,9 @@ always e test values k first j acts h g = elim (cases_Bool (declared e && is_job
 -- The laws speak of it.
 pub no_clash_here : (events : List (Event Choice EntryId)) (jobs : List Job) → after its_machine events [] ≡ Ok jobs
     → (i j : Job) → Among i jobs → Among j jobs → Clash i j → ⊥
-no_clash_here = no_clash careful declared rules sound (λ e test values k first j acts h g. (always e test values k first j acts h g).covered)
+no_clash_here events jobs h i j a b clash =
+    none_freely rules clash.one clash.other (λ c is. ap (λ (d : Cover). d.reads) (sym (only cover c is)))
+    (no_clash careful declared rules sound (λ e test values k first m acts n g. (always e test values k first m acts n g).covered) events jobs h i j a b clash)
 
 pub no_ring_here : (events : List (Event Choice EntryId)) (jobs : List Job) → after its_machine events [] ≡ Ok jobs → IsWithoutRing jobs
 no_ring_here = no_ring careful declared rules sound (λ e test values k first j acts h g. (always e test values k first j acts h g).order)

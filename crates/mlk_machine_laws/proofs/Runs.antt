@@ -54,11 +54,14 @@ no_clash routines declared rules sound each events jobs h i j a b clash =
     let p = in_run routines declared (StandsCovered rules) each events jobs h i a clash.one clash.is_one in
     let q = in_run routines declared (StandsCovered rules) each events jobs h j b clash.other clash.is_other in
     ⊎_elim
-    (λ e. clash.different (decimal_injective i.number j.number m n (sym p.own ∙ e ∙ q.own)))
+    (λ e. absurd (clash.different (decimal_injective i.number j.number m n (sym p.own ∙ e ∙ q.own))))
+    (λ w. ⊎_elim
     (λ c.
     let x = p.each_held c.first c.is_held in
     let y = q.each_held c.second c.is_kept in
-    held_apart routines declared events jobs h i j a b clash.different x.name y.name x.holds y.holds (c.conflict x.name y.name x.names y.names))
+    absurd (held_apart routines declared events jobs h i j a b clash.different x.name y.name x.holds y.holds (c.conflict x.name y.name x.names y.names)))
+    (λ freely. freely)
+    w)
     (covered_apart rules p.values q.values p.held q.held p.reference q.reference clash.one clash.other (by_job rules sound) p.covered q.covered p.touches q.touches clash.overlap clash.writes)
 
 pub no_ring : NoRing

@@ -6,7 +6,7 @@ use Rattle.mlk_names.specs.declared.symbol.Sym.{Sym}
 use Rattle.mlk_names.specs.declared.symbol.Sym.TheVariants.{Const, Local, Job, Unknown}
 use Rattle.mlk_names.specs.declared.term.LockTerm.{LockTerm}
 use Rattle.mlk_names.specs.declared.reference.Reference.{Reference}
-use Rattle.mlk_names.specs.declared.reference.Access.TheVariants.{Writes}
+use Rattle.mlk_names.specs.declared.reference.Access.TheVariants.{Reads, Writes}
 use Rattle.mlk_names.specs.LockNames.{IsAbove, Conflict}
 use Rattle.mlk_names.specs.Symbols.{Assignment}
 use Rattle.mlk_names.specs.Terms.{Names, IsPrefix, Mentions}
@@ -14,6 +14,8 @@ use Rattle.mlk_names.specs.References.{GlobalNode, Region, Touch, Touches, InReg
 use Rattle.mlk_rules.specs.declared.pattern.Element.TheVariants as element
 use Rattle.mlk_rules.specs.declared.pattern.Pattern.{Pattern}
 use Rattle.mlk_rules.specs.declared.template.Template.{Template}
+use Rattle.mlk_rules.specs.declared.cover.Cover.{Cover}
+use Rattle.mlk_rules.specs.declared.cover.ReadPolicy.TheVariants.{Locked, Free}
 use Rattle.mlk_rules.specs.declared.family.Family.{Family}
 use Rattle.mlk_rules.specs.declared.rules.RuleLists.{RuleLists}
 use Rattle.mlk_rules.specs.Patterns.{LiesIn, MayMeet, SurelyLies}
@@ -71,14 +73,29 @@ pub record HoldConflict (a : Assignment) (held : List LockTerm) (b : Assignment)
   pub is_kept : Contains kept second
   pub conflict : (x y : LockName) → Names a first x → Names b second y → Conflict x y
 
+-- One of two touches reads, and a node that both reach lies in the pattern of a rule that frees reads.
+pub record IsReadFreely (rules : RuleLists) (t u : Touch) : Type 0 where
+  pub cover : Cover
+  pub is_rule : Contains rules.covers cover
+  pub frees : cover.reads ≡ Free
+  pub node : GlobalNode
+  pub first : InRegion t.region node
+  pub second : InRegion u.region node
+  pub lies : LiesIn cover.pattern node
+  pub reads : (t.access ≡ Reads) ⊎ (u.access ≡ Reads)
+
+-- no rule frees reads
+abbrev pub FreesNoReads : RuleLists → Type 0
+FreesNoReads rules = (c : Cover) → Contains rules.covers c → c.reads ≡ Locked
+
 -- Two covered references that overlap, each as it stands in a job of its own and one of which writes, have jobs of one
--- number, or jobs that hold names that conflict.
+-- number, or jobs that hold names that conflict, or one of them reads what may be read without a lock.
 abbrev pub CoveredApart : Type 0
 CoveredApart =
     (rules : RuleLists) (a b : Assignment) (held kept : List LockTerm) (r s : Reference) (t u : Touch)
     → PrivateByJob rules
     → IsCovered rules held r → IsCovered rules kept s → Touches a r t → Touches b s u → Overlap t.region u.region
-    → (t.access ≡ Writes) ⊎ (u.access ≡ Writes) → (a.job ≡ b.job) ⊎ HoldConflict a held b kept
+    → (t.access ≡ Writes) ⊎ (u.access ≡ Writes) → (a.job ≡ b.job) ⊎ (HoldConflict a held b kept ⊎ IsReadFreely rules t u)
 
 -- Where no two families meet: a term has one rank at most, the names that it stands for have it, and names that
 -- conflict have one rank.
