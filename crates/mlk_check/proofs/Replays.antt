@@ -6,6 +6,7 @@ use Rattle.mlk_names.specs.Lists.{Among}
 use Rattle.mlk_names.specs.declared.lock_name.LockName.{LockName}
 use Rattle.mlk_names.specs.References.{Touch}
 use Rattle.mlk_rules.specs.declared.rules.RuleLists.{RuleLists}
+use Rattle.mlk_rules.specs.Laws.{FreesNoReads}
 use Rattle.mlk_syntax.specs.declared.routine.Routine.{Routine}
 use Rattle.mlk_syntax.specs.Trees.{RoutineTree}
 use Rattle.mlk_syntax.specs.Views.{routine_of}
@@ -25,11 +26,10 @@ use Rattle.mlk_machine.specs.Systems.{jobs_in}
 use Rattle.mlk_machine.specs.Laws.{IsMoment}
 use Rattle.mlk_machine.proofs.RunLemmas.{replays_are_runs}
 use Rattle.mlk_machine_view.specs.Clashes.{touches_clash, clash, clashes_with, clashes}
-use Rattle.mlk_machine_view.specs.Printed.{job_line, pair_line, waits_lines, ring_text, system_text}
+use Rattle.mlk_machine_view.specs.Printed.{job_line, clash_lines, waits_lines, ring_text, system_text}
 use Rattle.mlk_machine_view.proofs.ClashLemmas.{clash_is_tested}
 use Rattle.mlk_check.specs.Theorem.{AreSafe, KeepsRules}
-use Rattle.mlk_rules.specs.Laws.{FreesNoReads}
-use Rattle.mlk_check.specs.Replays.{MeetFreely, SafeIsShown, AreNamed, ReplaysAreSafe}
+use Rattle.mlk_check.specs.Replays.{ClashFreely, SafeIsShown, AreNamed, ReplaysAreSafe}
 use Rattle.mlk_check.proofs.Endings.{has_ended}
 
 -- jobs by their numbers
@@ -70,7 +70,7 @@ unfolding clash
 apart_by i j t u d one other h = let e = rw (ne_eqb i.number j.number d, one, other) at h in e
 
 module _ (rules : RuleLists) (routines : List RoutineTree) (jobs : List Job) (safe : AreSafe rules jobs) where
-  freely : (i j : Job) → Among i jobs → Among j jobs → clash i j ≡ true → MeetFreely rules i j
+  freely : (i j : Job) → Among i jobs → Among j jobs → clash i j ≡ true → ClashFreely rules i j
   freely i j a b t = let c = (clash_is_tested i j).0 t in (c, safe.clashes i j a b c)
 
   no_two : FreesNoReads rules → (i j : Job) → Among i jobs → Among j jobs → clash i j ≡ false
@@ -91,18 +91,15 @@ module _ (rules : RuleLists) (routines : List RoutineTree) (jobs : List Job) (sa
       ap (count_held n) h
       ∙ none (count_held n (Some j)) (λ holds. safe.all_end_empty j (its_number k jobs j h).0 (has_ended routines j e) n holds)
 
-  as_text : FreesNoReads rules → system_text routines jobs
-      ≡ flat (job_line routines) jobs ++ (waits_lines jobs ++ line (codes "ring ") (codes "no"))
-  as_text locked =
-      ap (λ (ps : List (ℕ × ℕ)). flat (job_line routines) jobs
-      ++ (flat (pair_line (codes "clash ")) ps ++ (waits_lines jobs ++ line (codes "ring ") (ring_text (has_ring_of seen jobs)))))
-      (without_clashes jobs (no_two locked))
-      ∙ ap (λ (b : Bool). flat (job_line routines) jobs ++ (waits_lines jobs ++ line (codes "ring ") (ring_text b)))
+  as_text : system_text routines jobs
+      ≡ flat (job_line routines) jobs ++ (clash_lines jobs ++ (waits_lines jobs ++ line (codes "ring ") (codes "no")))
+  as_text =
+      ap (λ (b : Bool). flat (job_line routines) jobs ++ (clash_lines jobs ++ (waits_lines jobs ++ line (codes "ring ") (ring_text b))))
       safe.no_ring.tested
 
 pub safe_is_shown : SafeIsShown
 safe_is_shown rules routines jobs safe = record {
-  meet_freely = freely rules routines jobs safe;
+  clash_freely = freely rules routines jobs safe;
   none_clash = no_two rules routines jobs safe;
   no_pairs = λ locked. without_clashes jobs (no_two rules routines jobs safe locked);
   apart = shown_apart rules routines jobs safe;

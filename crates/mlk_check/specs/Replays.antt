@@ -5,6 +5,7 @@ use Rattle.mlk_names.specs.Lists.{Among}
 use Rattle.mlk_names.specs.declared.lock_name.LockName.{LockName}
 use Rattle.mlk_names.specs.References.{Touch}
 use Rattle.mlk_rules.specs.declared.rules.RuleLists.{RuleLists}
+use Rattle.mlk_rules.specs.Laws.{FreesNoReads, OneReadsFreely}
 use Rattle.mlk_syntax.specs.declared.routine.Routine.{Routine}
 use Rattle.mlk_syntax.specs.Trees.{RoutineTree}
 use Rattle.mlk_syntax.specs.Views.{routine_of}
@@ -17,26 +18,25 @@ use Rattle.mlk_machine_locks.specs.Laws.{has_ring_of}
 use Rattle.mlk_machine_jobs.specs.Tasks.{Job}
 use Rattle.mlk_machine_jobs.specs.Runs.{seen}
 use Rattle.mlk_machine_jobs.specs.Seen.{Clash, ready, state, Ended}
-use Rattle.mlk_rules.specs.Laws.{FreesNoReads}
-use Rattle.mlk_machine_laws.specs.Laws.{ClashesFreely}
 use Rattle.mlk_machine.specs.Jobs.{job_numbered, count_held}
 use Rattle.mlk_machine.specs.Running.{Running}
 use Rattle.mlk_machine.specs.Systems.{jobs_in}
 use Rattle.mlk_machine.specs.Laws.{IsMoment}
 use Rattle.mlk_machine.specs.Files.{ReplayedFile}
 use Rattle.mlk_machine_view.specs.Clashes.{touches_clash, clash, clashes}
-use Rattle.mlk_machine_view.specs.Printed.{job_line, waits_lines, system_text}
+use Rattle.mlk_machine_view.specs.Printed.{job_line, clash_lines, waits_lines, system_text}
 use Rattle.mlk_check.specs.Theorem.{AreSafe, KeepsRules}
 
--- two jobs are ready to touch what one of them may read without a lock
-abbrev pub MeetFreely : RuleLists → Job → Job → Type 0
-MeetFreely rules i j = (clash : Clash i j) × ClashesFreely rules i j clash
+-- two jobs clash, and one of them reads freely
+abbrev pub ClashFreely : RuleLists → Job → Job → Type 0
+ClashFreely rules i j = (clash : Clash i j) × OneReadsFreely rules clash.one clash.other
 
--- What calls show of these jobs: two that `clash` finds meet where a rule frees reads. Where no rule does, `clash` finds no two,
--- and `clashes` lists none; what `ready` gives of two numbers does not clash; and the printed text has no line of a clash, and
--- says that there is no ring. `has_ring` finds no ring; and of a job that `state` calls ended, `holds` counts no name.
+-- What calls show of these jobs: of two that `clash` finds, one reads freely. If no rule frees reads, `clash` finds no two,
+-- `clashes` lists none, and what `ready` gives of two numbers does not clash. `has_ring` finds no ring; of a job that `state`
+-- calls ended, `holds` counts no name; and the printed text has a line for each pair that `clashes` lists, and says that there is
+-- no ring.
 pub record AreShownSafe (rules : RuleLists) (routines : List RoutineTree) (jobs : List Job) : Type 0 where
-  pub meet_freely : (i j : Job) → Among i jobs → Among j jobs → clash i j ≡ true → MeetFreely rules i j
+  pub clash_freely : (i j : Job) → Among i jobs → Among j jobs → clash i j ≡ true → ClashFreely rules i j
   pub none_clash : FreesNoReads rules → (i j : Job) → Among i jobs → Among j jobs → clash i j ≡ false
   pub no_pairs : FreesNoReads rules → clashes jobs ≡ []
   pub apart : FreesNoReads rules → (k n : ℕ) (t u : Touch) → k ≢ n → option_and_then ready (job_numbered k jobs) ≡ Some t
@@ -44,8 +44,8 @@ pub record AreShownSafe (rules : RuleLists) (routines : List RoutineTree) (jobs 
   pub no_ring : has_ring_of seen jobs ≡ false
   pub none_held : (k : ℕ) (j : Job) → job_numbered k jobs ≡ Some j → state routines j ≡ Ended
       → (n : LockName) → count_held n (job_numbered k jobs) ≡ 0
-  pub printed : FreesNoReads rules → system_text routines jobs
-      ≡ flat (job_line routines) jobs ++ (waits_lines jobs ++ line (codes "ring ") (codes "no"))
+  pub printed : system_text routines jobs
+      ≡ flat (job_line routines) jobs ++ (clash_lines jobs ++ (waits_lines jobs ++ line (codes "ring ") (codes "no")))
 
 -- Safe jobs are shown as such.
 abbrev pub SafeIsShown : Type 0

@@ -3,6 +3,7 @@
 use Rattle.std.specs.Prelude.{◌≡◌, List, [], Ok}
 use Rattle.mlk_names.specs.Lists.{Among}
 use Rattle.mlk_rules.specs.declared.rules.RuleLists.{RuleLists}
+use Rattle.mlk_rules.specs.Laws.{FreesNoReads, OneReadsFreely}
 use Rattle.mlk_syntax.specs.Trees.{RoutineTree}
 use Rattle.mlk_program.specs.declared.entry.EntryId.{EntryId}
 use Rattle.mlk_machine_locks.specs.Systems.{Event, after}
@@ -10,20 +11,18 @@ use Rattle.mlk_machine_jobs.specs.declared.choice.Choice.{Choice}
 use Rattle.mlk_machine_jobs.specs.Tasks.{Job}
 use Rattle.mlk_machine_jobs.specs.Seen.{Clash}
 use Rattle.mlk_machine_jobs.specs.Runs.{machine}
-use Rattle.mlk_rules.specs.Laws.{FreesNoReads}
-use Rattle.mlk_machine_laws.specs.Laws.{ClashesFreely, IsWithoutRing}
+use Rattle.mlk_machine_laws.specs.Laws.{IsWithoutRing}
 use Rattle.mlk_machine_laws.specs.Moments.{EndsEmpty}
 use Rattle.mlk_cert_parts.specs.declared.block.EntryCert.{EntryCert}
 use Rattle.mlk_walk_state.specs.Scope.{certified, declared, is_declared}
 use Rattle.mlk_soundness_machine.specs.Listed.{FactsSince}
 use Rattle.mlk_soundness_machine.specs.Moments.{AtEachMomentSince}
 
--- Jobs that run side by side are safe: where two of them are ready to touch references that overlap, one of which writes, the
--- other one reads, and a node at which they meet lies in the pattern of a cover rule that frees reads; so where no rule frees
--- reads, there are no such two. None that has ended by itself holds a lock; and no set of them waits for each other's locks in
--- a ring.
+-- Jobs that run side by side are safe: if two of them are ready to touch references that overlap, one of which writes, the other
+-- one reads, and each cover rule in which they meet frees reads; so if no rule frees reads, there are no such two. None that has
+-- ended by itself holds a lock; and no set of them waits for each other's locks in a ring.
 pub record AreSafe (rules : RuleLists) (jobs : List Job) : Type 0 where
-  pub clashes : (i j : Job) → Among i jobs → Among j jobs → (clash : Clash i j) → ClashesFreely rules i j clash
+  pub clashes : (i j : Job) → Among i jobs → Among j jobs → (clash : Clash i j) → OneReadsFreely rules clash.one clash.other
   pub no_clash : FreesNoReads rules → (i j : Job) → Among i jobs → Among j jobs → Clash i j → ⊥
   pub all_end_empty : (j : Job) → Among j jobs → EndsEmpty j
   pub no_ring : IsWithoutRing jobs

@@ -17,6 +17,7 @@ use Rattle.mlk_rules.specs.declared.cover.Cover.{Cover}
 use Rattle.mlk_rules.specs.declared.cover.ReadPolicy.TheVariants.{Locked}
 use Rattle.mlk_rules.specs.declared.family.Family.{Family}
 use Rattle.mlk_rules.specs.Coverage.{IsCovered, OfCover, HoldsLock, Satisfies}
+use Rattle.mlk_rules.specs.Laws.{FreesNoReads}
 use Rattle.mlk_rules.specs.Sound.{IsSound}
 use Rattle.mlk_machine_locks.specs.NameTests.{is_above, same_name}
 use Rattle.mlk_machine_locks.specs.Systems.{Machine, Event, after, Act, Begin, Go, Abort, and_then, lone_run}
@@ -38,7 +39,6 @@ use Rattle.mlk_machine_locks.specs.Waiting.{awaited}
 use Rattle.mlk_machine_jobs.specs.Seen.{Clash, ready_in}
 use Rattle.mlk_machine_laws.specs.Order.{IsAboveAll}
 use Rattle.mlk_machine_laws.specs.Laws.{IsWithoutRing}
-use Rattle.mlk_rules.proofs.Apart.{none_freely}
 use Rattle.mlk_machine_laws.proofs.Runs.{no_clash, no_ring, all_end_empty}
 use Rattle.mlk_machine_jobs.proofs.Trees.{global, set, commands, at_label, routine, first_entry}
 use Rattle.mlk_machine_laws.specs.Moments.{IsHeld, IsCoveredAt, StandsCovered, StandsInOrder, EndsEmpty, AtEachMoment}
@@ -303,12 +303,13 @@ always e test values k first j acts h g = elim (cases_Bool (declared e && is_job
   | inr d ↦ let z : Err NotEnabled ≡ Ok first = rw d at h in cc
 ]
 
+locked : FreesNoReads rules
+locked c is = ap (λ (d : Cover). d.reads) (only cover c is)
+
 -- The laws speak of it.
 pub no_clash_here : (events : List (Event Choice EntryId)) (jobs : List Job) → after its_machine events [] ≡ Ok jobs
     → (i j : Job) → Among i jobs → Among j jobs → Clash i j → ⊥
-no_clash_here events jobs h i j a b clash =
-    none_freely rules clash.one clash.other (λ c is. ap (λ (d : Cover). d.reads) (sym (only cover c is)))
-    (no_clash careful declared rules sound (λ e test values k first m acts n g. (always e test values k first m acts n g).covered) events jobs h i j a b clash)
+no_clash_here = no_clash careful declared rules sound locked (λ e test values k first j acts h g. (always e test values k first j acts h g).covered)
 
 pub no_ring_here : (events : List (Event Choice EntryId)) (jobs : List Job) → after its_machine events [] ≡ Ok jobs → IsWithoutRing jobs
 no_ring_here = no_ring careful declared rules sound (λ e test values k first j acts h g. (always e test values k first j acts h g).order)

@@ -2,7 +2,7 @@
 use Rattle.std.specs.Prelude.{◌≡◌, ℕ, Bool, true, false, List, [], Ok}
 use Rattle.mlk_names.specs.Lists.{Among}
 use Rattle.mlk_rules.specs.declared.rules.RuleLists.{RuleLists}
-use Rattle.mlk_rules.specs.Laws.{IsReadFreely}
+use Rattle.mlk_rules.specs.Laws.{FreesNoReads, OneReadsFreely}
 use Rattle.mlk_rules.specs.Sound.{IsSound}
 use Rattle.mlk_machine_locks.specs.Rings.{IsRing, HasRing}
 use Rattle.mlk_machine_locks.specs.Systems.{Event, after}
@@ -19,19 +19,22 @@ use Rattle.mlk_machine_laws.specs.Outside.{KeepsOutside}
 use Rattle.mlk_machine_laws.specs.Tidy.{IsTidy, MakesNew, Kills}
 use Rattle.mlk_machine_laws.specs.Moments.{StandsCovered, StandsInOrder, EndsEmpty, AtEachMoment}
 
--- Two jobs that clash do so as the rules allow: one of them reads, and a node at which they meet lies in the pattern of a rule
--- that frees reads.
-abbrev pub ClashesFreely : RuleLists → (i j : Job) → Clash i j → Type 0
-ClashesFreely rules i j clash = IsReadFreely rules clash.one clash.other
-
--- Where each job by itself always holds what covers the reference at which it stands ready, two jobs clash only as the rules
--- allow, in any run of any number of jobs begun at declared entries.
-abbrev pub NoClash : Type 0
-NoClash =
+-- Where each job by itself always holds what covers the reference at which it stands ready, of two jobs that clash one reads
+-- freely, in any run of any number of jobs begun at declared entries.
+abbrev pub ClashesAreFree : Type 0
+ClashesAreFree =
     (routines : List RoutineTree) (declared : EntryId → Bool) (rules : RuleLists) → IsSound rules
     → AtEachMoment routines declared (StandsCovered rules)
     → (events : List (Event Choice EntryId)) (jobs : List Job) → after (machine routines declared) events [] ≡ Ok jobs
-    → (i j : Job) → Among i jobs → Among j jobs → (clash : Clash i j) → ClashesFreely rules i j clash
+    → (i j : Job) → Among i jobs → Among j jobs → (clash : Clash i j) → OneReadsFreely rules clash.one clash.other
+
+-- So where no rule frees reads, no two jobs clash.
+abbrev pub NoClash : Type 0
+NoClash =
+    (routines : List RoutineTree) (declared : EntryId → Bool) (rules : RuleLists) → IsSound rules → FreesNoReads rules
+    → AtEachMoment routines declared (StandsCovered rules)
+    → (events : List (Event Choice EntryId)) (jobs : List Job) → after (machine routines declared) events [] ≡ Ok jobs
+    → (i j : Job) → Among i jobs → Among j jobs → Clash i j → ⊥
 
 -- No jobs of these wait for each other in a ring: the test finds none, no list of some of them is one, and no other set
 -- of some of them either.
