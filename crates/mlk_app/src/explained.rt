@@ -1,12 +1,12 @@
-// Reports, with the texts that explain them.
+// Reports, with the texts that explain them and what rules leave open.
 
 ghost use Rattle.std.specs.Prelude.{IfOk, map};
 ghost use Rattle.mlk_syntax.specs.Views.{routine_of};
 ghost use Rattle.mlk_forms.specs.Told.{IsReportTold};
 
 use mlk_cert::{Certificate, read_cert};
-use mlk_cli::ReportStyle;
-use mlk_explain::Grounds;
+use mlk_cli::{Output, ReportStyle};
+use mlk_explain::{Grounds, free_reads};
 use mlk_forms::{ToldReport, report_told};
 use mlk_make::make_certificate;
 use mlk_outcome::{Sources, Work};
@@ -45,8 +45,29 @@ fn routine_texts(alloc: Global, routines: &[Source<'_>]) -> Result<Vec<Vec<u8>>,
     Ok(texts)
 }
 
-/// Copies of the texts that explain a report, where it is to be explained.
-pub(crate) fn kept_texts(
+/// What a report needs of texts that the check takes.
+#[derive(Drop)]
+pub(crate) struct ReportTexts {
+    /// the patterns of the covers that free reads, if the report lists them
+    pub(crate) free_reads: Vec<Vec<u8>>,
+    /// copies of the texts that explain it, if it is to be explained
+    pub(crate) kept: Option<KeptTexts>,
+}
+
+// The patterns of the covers that free reads, for the one form that lists them.
+fn listed_reads(
+    alloc: Global,
+    sources: &Sources<'_>,
+    style: ReportStyle,
+) -> Result<Vec<Vec<u8>>, AllocError> {
+    match style.output {
+        Output::Json => free_reads(alloc, sources.rules.as_slice()),
+        Output::Text | Output::Sarif => Ok(Vec::new(alloc)),
+    }
+}
+
+// Copies of the texts that explain a report, where it is to be explained.
+fn kept_texts(
     alloc: Global,
     sources: &Sources<'_>,
     style: ReportStyle,
@@ -59,6 +80,18 @@ pub(crate) fn kept_texts(
         certificate: certificate_text(alloc, &sources.work)?,
         routines: routine_texts(alloc, sources.routines.as_slice())?,
     }))
+}
+
+/// What a report in this style needs of the texts in `sources`.
+pub(crate) fn keep_texts(
+    alloc: Global,
+    sources: &Sources<'_>,
+    style: ReportStyle,
+) -> Result<ReportTexts, AllocError> {
+    Ok(ReportTexts {
+        free_reads: listed_reads(alloc, sources, style)?,
+        kept: kept_texts(alloc, sources, style)?,
+    })
 }
 
 // What was read or made, or nothing where it was refused.

@@ -9,7 +9,7 @@ ghost use Rattle.mlk_app.specs.Ran.{style_in, status_of, PrintsReport, PrintsOut
 ghost use Rattle.mlk_forms.specs.Told.{IsNoticed};
 ghost use Rattle.mlk_outcome.specs.Checked.{IsOfOpenGate, IsNotShut};
 
-use crate::explained::{KeptTexts, kept_texts, told};
+use crate::explained::{KeptTexts, ReportTexts, keep_texts, told};
 use crate::notice::notice_of;
 use crate::printed::{
     certificate_line, events_line, fault_line, file_line, missing_line, rules_line, stuck_line,
@@ -113,18 +113,20 @@ fn answer_of<W: Watch>(
     alloc: Global,
     checked: Checked,
     program: &ProgramRequest<'_>,
-    kept: Result<Option<KeptTexts>, AllocError>,
+    texts: Result<ReportTexts, AllocError>,
     watch: &W,
 ) -> Answer
     ensures { Prints (style_in program.now.asked) checked result }
 {
-    let Ok(kept) = kept else {
+    let Ok(texts) = texts else {
         return Answer::OutOfMemory;
     };
+    let ReportTexts { free_reads, kept } = texts;
     let Checked { routines, outcome } = checked;
     let inputs = Inputs {
         routines: routines.as_slice(),
         paths: program.routines.as_slice(),
+        free_reads: free_reads.as_slice(),
     };
     let style = style_in(&program.asked);
     let answer = outcome_answer(alloc, &inputs, outcome, style, kept.as_ref());
@@ -216,9 +218,9 @@ fn answer_program<R: Threads + Wait + Sync, F: Files, W: Watch>(
 {
     match read_files(alloc, files, program) {
         Ok(sources) => {
-            let kept = kept_texts(alloc, &sources, style_in(&program.asked));
+            let texts = keep_texts(alloc, &sources, style_in(&program.asked));
             match check_texts(rt, alloc, sources, watch) {
-                Ok(checked) => answer_of(alloc, checked, program, kept, watch),
+                Ok(checked) => answer_of(alloc, checked, program, texts, watch),
                 Err(refusal) => refusal_answer(alloc, &refusal, program),
             }
         }

@@ -11,6 +11,8 @@ use std::alloc::{AllocError, Global};
 pub struct Inputs<'a> {
     pub routines: &'a [Routine],
     pub paths: &'a [&'a str],
+    /// the patterns of the covers that free reads, as the rule file has them
+    pub free_reads: &'a [Vec<u8>],
 }
 
 impl<'a> Inputs<'a> {
