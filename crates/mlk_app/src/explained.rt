@@ -1,4 +1,4 @@
-// Reports, with the texts that explain them.
+// Reports, with the texts that explain them and what rules leave open.
 
 ghost use Rattle.std.specs.Prelude.{IfOk, map};
 ghost use Rattle.mlk_syntax.specs.Views.{routine_of};
@@ -6,7 +6,7 @@ ghost use Rattle.mlk_forms.specs.Told.{IsReportTold};
 
 use mlk_cert::{Certificate, read_cert};
 use mlk_cli::{Output, ReportStyle};
-use mlk_explain::Grounds;
+use mlk_explain::{Grounds, free_reads};
 use mlk_forms::{PrintedReport, render_report};
 use mlk_make::make_certificate;
 use mlk_outcome::{Sources, Work};
@@ -64,6 +64,15 @@ fn routine_texts(alloc: Global, routines: &[Source<'_>]) -> Result<Vec<Vec<u8>>,
     Ok(texts)
 }
 
+/// What a report needs of texts that the check takes.
+#[derive(Drop)]
+pub(crate) struct ReportTexts {
+    /// the patterns of the covers that free reads, if the report lists them
+    pub(crate) free_reads: Vec<Vec<u8>>,
+    /// copies of the texts that explain it, if it is to be explained
+    pub(crate) kept: Option<KeptTexts>,
+}
+
 /// The texts of the routines; none if they were not kept.
 pub(crate) fn texts_of(kept: Option<&KeptTexts>) -> &[Vec<u8>] {
     match kept {
@@ -72,8 +81,20 @@ pub(crate) fn texts_of(kept: Option<&KeptTexts>) -> &[Vec<u8>] {
     }
 }
 
-/// Copies the texts of `sources`; `None` if nothing is to be explained, nor written as SARIF, which counts columns in characters.
-pub(crate) fn kept_texts(
+// The patterns of the covers that free reads, for the one form that lists them.
+fn listed_reads(
+    alloc: Global,
+    sources: &Sources<'_>,
+    style: ReportStyle,
+) -> Result<Vec<Vec<u8>>, AllocError> {
+    match style.output {
+        Output::Json => free_reads(alloc, sources.rules.as_slice()),
+        Output::Text | Output::Sarif => Ok(Vec::new(alloc)),
+    }
+}
+
+// Copies the texts of `sources`; `None` if nothing is to be explained, nor written as SARIF, which counts columns in characters.
+fn kept_texts(
     alloc: Global,
     sources: &Sources<'_>,
     style: ReportStyle,
@@ -89,6 +110,19 @@ pub(crate) fn kept_texts(
         explains_refusals,
         routines: routine_texts(alloc, sources.routines.as_slice())?,
     }))
+}
+
+/// What a report in this style needs of the texts in `sources`.
+pub(crate) fn keep_texts(
+    alloc: Global,
+    sources: &Sources<'_>,
+    style: ReportStyle,
+    explaining: Explaining,
+) -> Result<ReportTexts, AllocError> {
+    Ok(ReportTexts {
+        free_reads: listed_reads(alloc, sources, style)?,
+        kept: kept_texts(alloc, sources, style, explaining)?,
+    })
 }
 
 // What was read or made, or nothing where it was refused.

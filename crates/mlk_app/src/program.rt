@@ -10,7 +10,7 @@ ghost use Rattle.mlk_forms.specs.Told.{IsNoticed};
 ghost use Rattle.mlk_outcome.specs.Checked.{IsOfOpenGate, IsNotShut};
 
 use crate::explained::{
-    Explaining, KeptTexts, is_refusal_explained, kept_texts, styled_report, texts_of,
+    Explaining, KeptTexts, ReportTexts, is_refusal_explained, keep_texts, styled_report, texts_of,
 };
 use crate::help::{certificate_help, refusal_help, why_unread};
 use crate::notice::notice_of;
@@ -122,19 +122,21 @@ fn answer_of<W: Watch>(
     alloc: Global,
     checked: Checked,
     program: &ProgramRequest<'_>,
-    kept: Result<Option<KeptTexts>, AllocError>,
+    texts: Result<ReportTexts, AllocError>,
     watch: &W,
 ) -> Answer
     ensures { Prints (style_in program.now.asked) checked result }
 {
-    let Ok(kept) = kept else {
+    let Ok(texts) = texts else {
         return Answer::OutOfMemory;
     };
+    let ReportTexts { free_reads, kept } = texts;
     let Checked { routines, outcome } = checked;
     let inputs = Inputs {
         routines: routines.as_slice(),
         paths: program.routines.as_slice(),
         texts: texts_of(kept.as_ref()),
+        free_reads: free_reads.as_slice(),
     };
     let style = style_in(&program.asked);
     let answer = outcome_answer(alloc, &inputs, outcome, style, kept.as_ref());
@@ -207,21 +209,21 @@ fn refusal_answer(
     alloc: Global,
     refusal: &NoReport,
     program: &ProgramRequest<'_>,
-    kept: Result<Option<KeptTexts>, AllocError>,
+    texts: Result<ReportTexts, AllocError>,
 ) -> Answer
     requires { IsNotShut refusal.now }
     ensures { TellsRefusal (style_in program.now.asked).output refusal.now result }
 {
-    let Ok(kept) = kept else {
+    let Ok(texts) = texts else {
         return Answer::OutOfMemory;
     };
     let Ok(line) = refusal_line(alloc, refusal) else {
         return Answer::OutOfMemory;
     };
-    let Ok(beside) = notice(alloc, refusal, program, &line, kept.as_ref()) else {
+    let Ok(beside) = notice(alloc, refusal, program, &line, texts.kept.as_ref()) else {
         return Answer::OutOfMemory;
     };
-    match refusal_help(alloc, refusal, program, kept.as_ref()) {
+    match refusal_help(alloc, refusal, program, texts.kept.as_ref()) {
         Ok(help) => Answer::Refused(line, beside, help),
         Err(AllocError) => Answer::OutOfMemory,
     }
@@ -291,10 +293,10 @@ fn answer_program<R: Threads + Wait + Sync, F: Files, W: Watch>(
 {
     match read_files(alloc, files, program) {
         Ok(sources) => {
-            let kept = kept_texts(alloc, &sources, style_in(&program.asked), explaining);
+            let texts = keep_texts(alloc, &sources, style_in(&program.asked), explaining);
             match check_texts(rt, alloc, sources, watch) {
-                Ok(checked) => answer_of(alloc, checked, program, kept, watch),
-                Err(refusal) => refusal_answer(alloc, &refusal, program, kept),
+                Ok(checked) => answer_of(alloc, checked, program, texts, watch),
+                Err(refusal) => refusal_answer(alloc, &refusal, program, texts),
             }
         }
         Err(FileError::OutOfMemory) => Answer::OutOfMemory,

@@ -4,7 +4,7 @@ use crate::notice::{Notice, Place};
 use crate::row::{Inputs, RoutineNumbers};
 use mlk_code_pages::page_of;
 use mlk_hazards::HazardAt;
-use mlk_report_text::{Field, object};
+use mlk_report_text::{Field, escape_bytes, object};
 use mlk_walk::{Report, Row};
 use serde_json::Value;
 use std::alloc::{AllocError, Global};
@@ -66,8 +66,17 @@ fn hazards_value(
     Ok(Value::Array(values))
 }
 
-/// A report as one JSON object, on lines with indents: `answer`, which is `yes` or `no`, `faults`, in their order, and
-/// `hazards`, if these are reported.
+fn patterns_value(alloc: Global, patterns: &[Vec<u8>]) -> Result<Value, AllocError> {
+    let mut values = Vec::with_capacity(alloc, patterns.len())?;
+    for pattern in patterns {
+        let text = escape_bytes(alloc, pattern.as_slice())?;
+        values.push(Value::String(text))?;
+    }
+    Ok(Value::Array(values))
+}
+
+/// A report as one JSON object, on lines with indents: `answer`, which is `yes` or `no`, `faults`, in their order, `hazards`,
+/// if these are reported, and `free_reads`, if rules free reads.
 pub fn report_json(
     alloc: Global,
     inputs: &Inputs<'_>,
@@ -80,10 +89,16 @@ pub fn report_json(
         Some(hazards) => Field::Value(hazards_value(alloc, inputs, hazards)?),
         None => Field::Absent,
     };
+    let free_reads = if inputs.free_reads.is_empty() {
+        Field::Absent
+    } else {
+        Field::Value(patterns_value(alloc, inputs.free_reads)?)
+    };
     let members = vec![in alloc;
         ("answer", Field::Text(answer)),
         ("faults", Field::Value(faults)),
         ("hazards", hazards),
+        ("free_reads", free_reads),
     ]?;
     object(alloc, members)?.to_string_pretty(alloc)
 }
