@@ -95,10 +95,12 @@ pub enum Request<'a> {
 }
 
 /// Why the words ask for nothing.
-#[derive(Drop, Debug)]
+#[derive(Drop, Debug, thiserror::Error)]
 pub enum UsageError {
+    #[error("out of memory")]
     OutOfMemory,
     /// The text that says so, help that was asked for too.
+    #[error("{0}")]
     Usage(String),
 }
 
