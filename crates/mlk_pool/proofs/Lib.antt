@@ -1,10 +1,10 @@
 mod Chunks
 mod Firsts
-mod Formed
+pub mod Formed
 mod Histories
 mod NextSlots
 mod Printing
 mod Runs
 mod Sends
 mod Slots
-mod Unread
+pub mod Unread

@@ -1,7 +1,7 @@
 use Rattle.std.proofs.Common.{sym, ◌∙◌, map}
 use Rattle.mlk_syntax.specs.Views.{routine_of}
 use Rattle.mlk_check.proofs.Theorem.{keeps_rules, ok_turned}
-use Rattle.mlk_pool.proofs.report.report_watched.Goals as goal
+use Rattle.mlk_pool.proofs.report.report_by.Goals as goal
 
 pub returns-clause-safe : goal.returns-clause-safe
 returns-clause-safe g c =

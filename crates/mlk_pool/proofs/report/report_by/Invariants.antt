@@ -1,6 +1,6 @@
 use Rattle.std.proofs.Common.{map}
 use Rattle.mlk_syntax.specs.Views.{routine_of}
-use Rattle.mlk_pool.proofs.report.report_watched.Given as goal
+use Rattle.mlk_pool.proofs.report.report_by.Given as goal
 
 -- what this run is given
 abbrev pub ghosts-report_on : goal.ghosts-report_on
