@@ -1,8 +1,8 @@
 // What explains a refusal to people.
 
-use crate::explained::{Explaining, KeptTexts};
 use crate::refused::{refusal_code, refused_file, refused_spot};
-use crate::source::Files;
+use crate::source::{Files, Sources};
+use crate::work::style_in;
 use mlk_cert::CertFault;
 use mlk_cli::ProgramRequest;
 use mlk_outcome::NoReport;
@@ -12,6 +12,20 @@ use mlk_refusal_text::{
 };
 use mlk_text::Code;
 use std::alloc::{AllocError, Global};
+
+/// How much is explained to whoever reads the error stream.
+#[derive(Clone, Copy, Debug, PartialEq, Eq)]
+pub enum Explaining {
+    /// what the words ask for
+    AsAsked,
+    /// refusals too, if the words don't ask for it: people read the stream on a terminal
+    Refusals,
+}
+
+/// Whether a refusal of `program` is to be explained.
+pub(crate) fn is_refusal_explained(program: &ProgramRequest<'_>, explaining: Explaining) -> bool {
+    style_in(&program.asked).is_explained || explaining == Explaining::Refusals
+}
 
 // What explains a refusal of this code in a file.
 fn explanation(
@@ -32,20 +46,19 @@ fn explanation(
 }
 
 /// Writes what explains a refusal below its line: the line of the file, what is wrong there and what helps. Nothing is written
-/// where no explanation is asked for.
+/// unless an explanation is asked for.
 pub(crate) fn refusal_help(
     alloc: Global,
     refusal: &NoReport,
     program: &ProgramRequest<'_>,
-    kept: Option<&KeptTexts>,
+    sources: &Sources<'_>,
+    explaining: Explaining,
 ) -> Result<Vec<u8>, AllocError> {
-    let (Some(code), Some(texts)) = (refusal_code(refusal), kept) else {
-        return Ok(Vec::new(alloc));
+    let code = match refusal_code(refusal) {
+        Some(code) if is_refusal_explained(program, explaining) => code,
+        _ => return Ok(Vec::new(alloc)),
     };
-    if !texts.explains_refusals {
-        return Ok(Vec::new(alloc));
-    }
-    match refused_file(refusal, program, kept) {
+    match refused_file(refusal, program, sources) {
         Some(file) => explanation(alloc, code, refusal, &file),
         None => code_help(alloc, code),
     }

@@ -1,8 +1,7 @@
 // What is refused, and where.
 
-use crate::explained::KeptTexts;
 use crate::printed::events_code;
-use crate::source::stem_of;
+use crate::source::{Sources, Work, stem_of};
 use mlk_cli::{Asked, ProgramRequest};
 use mlk_outcome::NoReport;
 use mlk_pool::CheckError;
@@ -43,72 +42,48 @@ fn is_file_of(path: &str, name: &[u8]) -> bool {
     }
 }
 
-fn given_text(text: &Option<Vec<u8>>) -> &[u8] {
-    match text {
-        Some(text) => text.as_slice(),
-        None => &[],
-    }
-}
-
-// The text of the routine of this number, where texts were kept.
-fn routine_text(texts: Option<&KeptTexts>, number: usize) -> &[u8] {
-    let Some(texts) = texts else {
-        return &[];
-    };
-    match texts.routines.as_slice().get(number) {
-        Some(text) => text.as_slice(),
-        None => &[],
-    }
-}
-
-// The file of the routine of this name, the last one if there are two and the second is refused.
+// The file of the routine with this name. If there are two, the second is refused: so it is the last one.
 fn routine_file<'a>(
     program: &ProgramRequest<'a>,
-    texts: Option<&'a KeptTexts>,
+    sources: &'a Sources<'a>,
     name: &[u8],
 ) -> Option<GivenFile<'a>> {
     let mut found = None;
-    for (number, path) in program.routines.iter().enumerate() {
+    for (path, source) in program.routines.iter().zip(&sources.routines) {
         if is_file_of(*path, name) {
-            found = Some((number, *path));
+            found = Some((*path, source));
         }
     }
-    let (number, path) = found?;
+    let (path, source) = found?;
     Some(GivenFile {
         path,
-        text: routine_text(texts, number),
+        text: source.text.as_slice(),
     })
 }
 
-// The file of the certificate, where one was given, or of the events.
-fn work_file<'a>(
-    program: &ProgramRequest<'a>,
-    texts: Option<&'a KeptTexts>,
-) -> Option<GivenFile<'a>> {
+// The file of the certificate, if one was given, or of the events.
+fn work_file<'a>(program: &ProgramRequest<'a>, sources: &'a Sources<'a>) -> Option<GivenFile<'a>> {
     let path = match &program.asked {
         Asked::Check { certificate, .. } => *certificate,
         Asked::Replay(path) => *path,
         Asked::Make { .. } | Asked::Verify { .. } => return None,
     };
-    let text = match texts {
-        Some(texts) => given_text(&texts.work),
-        None => &[],
+    let text = match &sources.work {
+        Work::Check { certificate, .. } => certificate.as_slice(),
+        Work::Replay(events) => events.as_slice(),
+        Work::Make { .. } | Work::Verify { .. } => return None,
     };
     Some(GivenFile { path, text })
 }
 
-/// The rule file, with its text where that was kept.
+/// The rule file.
 pub(crate) fn rule_file<'a>(
     program: &ProgramRequest<'a>,
-    texts: Option<&'a KeptTexts>,
+    sources: &'a Sources<'a>,
 ) -> GivenFile<'a> {
-    let text = match texts {
-        Some(texts) => texts.rules.as_slice(),
-        None => &[],
-    };
     GivenFile {
         path: program.rules,
-        text,
+        text: sources.rules.as_slice(),
     }
 }
 
@@ -120,30 +95,29 @@ fn routine_in(entry: &[u8]) -> &[u8] {
     }
 }
 
-/// Finds the file that is refused, with its text where that was kept; `None` if none is, or it is not known.
+/// Finds the file that is refused; `None` if none is.
 pub(crate) fn refused_file<'a>(
     refusal: &NoReport,
     program: &ProgramRequest<'a>,
-    texts: Option<&'a KeptTexts>,
+    sources: &'a Sources<'a>,
 ) -> Option<GivenFile<'a>> {
     match refusal {
         NoReport::Check(CheckError::Routine(fault)) => {
-            routine_file(program, texts, fault.place.routine.as_bytes())
+            routine_file(program, sources, fault.place.routine.as_bytes())
         }
-        NoReport::GaveUp(entry, _) => routine_file(program, texts, routine_in(entry.as_bytes())),
+        NoReport::GaveUp(entry, _) => routine_file(program, sources, routine_in(entry.as_bytes())),
         NoReport::Check(CheckError::Certificate(_)) | NoReport::Events(_) => {
-            work_file(program, texts)
+            work_file(program, sources)
         }
         NoReport::Check(CheckError::Rules(_) | CheckError::Entry(_)) => {
-            Some(rule_file(program, texts))
+            Some(rule_file(program, sources))
         }
         NoReport::Check(CheckError::OutOfMemory | CheckError::Workers | CheckError::GateShut(_)) =>
             None,
     }
 }
 
-/// Finds where a file with this text is refused; `None` if the refusal is at no line of it. A place in a rule file is known only by
-/// its text.
+/// Finds where a file with this text is refused; `None` if the refusal is at no line of it.
 pub(crate) fn refused_spot(
     alloc: Global,
     refusal: &NoReport,
@@ -166,9 +140,7 @@ pub(crate) fn refused_spot(
             line: fault.line,
             column: None,
         })),
-        NoReport::Check(CheckError::Rules(fault)) if !text.is_empty() => {
-            rules_place(alloc, text, fault)
-        }
+        NoReport::Check(CheckError::Rules(fault)) => rules_place(alloc, text, fault),
         NoReport::Check(CheckError::Entry(entry)) => entry_place(alloc, text, entry.as_bytes()),
         _ => Ok(None),
     }

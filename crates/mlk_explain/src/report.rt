@@ -55,6 +55,9 @@ pub fn explained_rows(
     grounds: &Grounds<'_>,
     report: &Report,
 ) -> Result<Vec<u8>, AllocError> {
+    if report.rows().is_empty() {
+        return Ok(Vec::new(alloc));
+    }
     let blocks = grounds.certificate.blocks();
     let entries = Entries::of(alloc, grounds.program, grounds.rules, blocks)?;
     let checks = Checks {

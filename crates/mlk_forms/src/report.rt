@@ -123,21 +123,21 @@ fn text_in(
     Ok(text)
 }
 
-// The text in the style that is asked for. Without grounds nothing is explained.
+// The text in the style that is asked for.
 fn styled_text(
     alloc: Global,
     inputs: &Inputs<'_>,
     report: &Report,
     style: ReportStyle,
     hazards: &[HazardAt<'_>],
-    grounds: Option<&Grounds<'_>>,
+    grounds: &Grounds<'_>,
 ) -> Result<ReportText, AllocError>
     ensures { IfOk result (IsReportAs style.is_explained style.output (map routine_of inputs.now.routines.now) report.now hazards.now) }
 {
-    match grounds {
-        Some(grounds) if style.is_explained => explained_text(alloc, grounds, report, hazards),
-        _ => text_in(alloc, inputs, report, style, hazards),
+    if style.is_explained {
+        return explained_text(alloc, grounds, report, hazards);
     }
+    text_in(alloc, inputs, report, style, hazards)
 }
 
 fn passes(report: &Report, hazards: &[HazardAt<'_>]) -> bool
@@ -146,14 +146,13 @@ fn passes(report: &Report, hazards: &[HazardAt<'_>]) -> bool
     report.rows().is_empty() && hazards.is_empty()
 }
 
-/// A report in the style that is asked for, and whether it passes. Explanations need grounds; without them it is written as if
-/// none were asked for.
+/// Writes `report` in the `style` that is asked for, and says whether it passes. `grounds` explain it, if that is asked for.
 pub fn report_told(
     alloc: Global,
     inputs: &Inputs<'_>,
     report: &Report,
     style: ReportStyle,
-    grounds: Option<&Grounds<'_>>,
+    grounds: &Grounds<'_>,
 ) -> Result<ToldReport, AllocError>
     ensures { IfOk result (λ told. IsReportTold style (map routine_of inputs.now.routines.now) report.now told.text told.passes) }
 {

@@ -64,11 +64,11 @@ fn readings_told(
 pub fn survey_told<R: Threads + Sync, W: Watch>(
     rt: &R,
     alloc: Global,
-    sources: Vec<Source<'_>>,
+    sources: &[Source<'_>],
     output: SurveyOutput,
     watch: &W,
 ) -> Result<ToldSurvey, AllocError>
-    ensures { IfOk result (λ told. told.read + told.refused ≡ length sources.entry.items) }
+    ensures { IfOk result (λ told. told.read + told.refused ≡ length sources.now) }
 {
     let readings = read_all_lines(rt, alloc, sources, watch)?;
     let told = readings_told(alloc, &readings, output);

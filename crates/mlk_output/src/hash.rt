@@ -136,14 +136,14 @@ impl<'a> HashedLines<'a> {
 #[derive(Drop)]
 pub(crate) struct ProgramLines<'a> {
     alloc: Global,
-    texts: &'a [Vec<u8>],
+    texts: &'a [&'a [u8]],
     // the number of a routine, and its lines
     last: Option<(usize, HashedLines<'a>)>,
 }
 
 impl<'a> ProgramLines<'a> {
     /// Looks up nothing yet. `texts` are those of the routines, in their order.
-    pub(crate) fn new(alloc: Global, texts: &'a [Vec<u8>]) -> ProgramLines<'a> {
+    pub(crate) fn new(alloc: Global, texts: &'a [&'a [u8]]) -> ProgramLines<'a> {
         ProgramLines {
             alloc,
             texts,
@@ -157,7 +157,7 @@ impl<'a> ProgramLines<'a> {
             return Ok(());
         }
         let text: &'a [u8] = match self.texts.get(routine) {
-            Some(text) => text.as_slice(),
+            Some(text) => *text,
             None => &[],
         };
         self.last = Some((routine, HashedLines::of(self.alloc, text)?));

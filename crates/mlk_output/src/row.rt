@@ -11,8 +11,8 @@ use std::alloc::{AllocError, Global};
 pub struct Inputs<'a> {
     pub routines: &'a [Routine],
     pub paths: &'a [&'a str],
-    /// only SARIF needs them, to count columns in characters; else there may be none
-    pub texts: &'a [Vec<u8>],
+    /// SARIF counts columns in characters of them
+    pub texts: &'a [&'a [u8]],
 }
 
 impl<'a> Inputs<'a> {

@@ -1,8 +1,8 @@
 // The texts of routines.
 
 /// A routine's file: the stem of its name, and its bytes.
-#[derive(Clone, Copy, Drop)]
+#[derive(Drop)]
 pub struct Source<'a> {
     pub stem: &'a [u8],
-    pub text: &'a [u8],
+    pub text: Vec<u8>,
 }

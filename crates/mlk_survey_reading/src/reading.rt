@@ -81,7 +81,7 @@ fn further_faults<R: Threads + Sync, W: Watch>(
             break;
         }
         let sources = sources_of(alloc, left.as_slice())?;
-        let answers = read_each(rt, alloc, sources, watch)?;
+        let answers = read_each(rt, alloc, sources.as_slice(), watch)?;
         let behind = rests_behind(alloc, left.as_slice(), answers.as_slice())?;
         add_faults(&mut further, left.as_slice(), answers)?;
         left = behind;
@@ -89,31 +89,39 @@ fn further_faults<R: Threads + Sync, W: Watch>(
     Ok(further)
 }
 
-// The texts, kept beside those that a reader gives back.
-fn copies<'a>(alloc: Global, sources: &[Source<'a>]) -> Result<Vec<Rest<'a>>, AllocError> {
-    let mut rests = Vec::new(alloc);
-    for source in sources {
+// What is left of those of `sources` that were refused, behind the lines of their faults.
+fn first_rests<'a>(
+    alloc: Global,
+    sources: &[Source<'a>],
+    answers: &[Result<Routine, Failure<Fault>>],
+) -> Result<Vec<Rest<'a>>, AllocError> {
+    let mut left = Vec::new(alloc);
+    for (source, answer) in sources.iter().zip(answers) {
+        let Err(Failure::Refused(fault)) = answer else {
+            continue;
+        };
         let rest = Rest::of(alloc, source)?;
-        if rests.push(rest).is_err() {
+        if let Some(rest) = rest.behind(alloc, fault)?
+            && left.push(rest).is_err()
+        {
             return Err(AllocError);
         }
     }
-    Ok(rests)
+    Ok(left)
 }
 
-/// Reads each of these texts by itself, and what is refused on behind the line of its fault: as if a routine began there, in a
-/// block if the next line is in one.
+/// Reads each of the texts `sources` by itself, and what is refused on behind the line of its fault: as if a routine began there,
+/// in a block if the next line is in one.
 pub fn read_all_lines<R: Threads + Sync, W: Watch>(
     rt: &R,
     alloc: Global,
-    sources: Vec<Source<'_>>,
+    sources: &[Source<'_>],
     watch: &W,
 ) -> Result<Readings, AllocError>
-    ensures { IfOk result (λ r. length r.answers.items ≡ length sources.entry.items) }
+    ensures { IfOk result (λ r. length r.answers.items ≡ length sources.now) }
 {
-    let rests = copies(alloc, sources.as_slice())?;
     let answers = read_each(rt, alloc, sources, watch)?;
-    let left = rests_behind(alloc, rests.as_slice(), answers.as_slice())?;
+    let left = first_rests(alloc, sources, answers.as_slice())?;
     let further = further_faults(rt, alloc, left, watch)?;
     Ok(Readings { answers, further })
 }

@@ -3,7 +3,7 @@ use Rattle.std.specs.Prelude.{find}
 use Rattle.mlk_syntax.specs.Views.{routine_of}
 use Rattle.mlk_program.specs.Entries.{entry_by}
 use Rattle.mlk_make.specs.Missing.{is_missing}
-use Rattle.mlk_outcome.proofs.replayed.declared.Given as goal
+use Rattle.mlk_outcome.proofs.replaying.declared_entries.Given as goal
 
 abbrev pub invariant-loop-text : goal.invariant-loop-text
 invariant-loop-text l = record {

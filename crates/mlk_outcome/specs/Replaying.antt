@@ -1,6 +1,5 @@
 -- What the replay of a text of events answers. This project's own choice.
 use Rattle.std.specs.Prelude.{◌≡◌, ◌⊎◌, ℕ, List, map, Some, Ok, Err, find}
-use Rattle.mlk_text.specs.declared.failure.Failure.TheVariants as failure
 use Rattle.mlk_syntax.specs.declared.routine.Routine.{Routine}
 use Rattle.mlk_syntax.specs.Trees.{RoutineTree}
 use Rattle.mlk_syntax.specs.Views.{routine_of}
@@ -15,22 +14,19 @@ use Rattle.mlk_machine_view.specs.Printed.{system_text}
 use Rattle.mlk_machine.specs.declared.fault.EventsFault.{EventsFault}
 use Rattle.mlk_text.specs.declared.failure.Failure.{Failure}
 use Rattle.mlk_pool.specs.declared.error.CheckError.TheVariants as error
-use Rattle.mlk_outcome.specs.declared.checked.NoReport.{NoReport}
-use Rattle.mlk_outcome.specs.declared.checked.NoReport.TheVariants as refusal
+use Rattle.mlk_outcome.specs.Refusals.{no_memory, refusal_of_events}
+use Rattle.mlk_outcome.specs.declared.refusal.NoReport.{NoReport}
+use Rattle.mlk_outcome.specs.declared.refusal.NoReport.TheVariants as refusal
 
 -- each text names an entry: these
 abbrev pub AreDeclared : List RoutineTree → List (List ℕ) → List EntryId → Type 0
 AreDeclared trees texts entries = map Some entries ≡ map (entry_by trees) texts
 
--- what want of memory is told as
-abbrev pub no_memory : NoReport
-no_memory = refusal.Check error.OutOfMemory
+-- what is reported of an entry that is missing, unless memory runs out
+abbrev pub ReportsEntry : List ℕ → NoReport → Type 0
+ReportsEntry entry r = (r ≡ no_memory) ⊎ (r ≡ refusal.Check (error.Entry entry))
 
--- what is told of an entry that is lacking, unless memory runs out
-abbrev pub TellsEntry : List ℕ → NoReport → Type 0
-TellsEntry entry r = (r ≡ no_memory) ⊎ (r ≡ refusal.Check (error.Entry entry))
-
--- The first text that names none is told, unless memory runs out.
+-- The first text that names none is reported, unless memory runs out.
 abbrev pub IsUndeclared : List RoutineTree → List (List ℕ) → NoReport → Type 0
 IsUndeclared trees texts r = (r ≡ no_memory) ⊎ ((entry : List ℕ) × (find (is_missing trees) texts ≡ Some entry) × (r ≡ refusal.Check (error.Entry entry)))
 
@@ -39,12 +35,7 @@ abbrev pub IsShown : List Routine → List EntryId → List ℕ → List ℕ →
 IsShown routines entries events text =
     (s : Running) × ReplayedFile routines entries events (Ok s) × (text ≡ system_text (routines_in s) (jobs_in s))
 
--- what is refused of events
-abbrev pub refusal_of_events : Failure EventsFault → NoReport
-refusal_of_events failure.OutOfMemory = no_memory
-refusal_of_events (failure.Refused fault) = refusal.Events fault
-
--- There is none: the line at which that stops, and why, is told.
+-- There is none: the line at which that stops, and why, is reported.
 abbrev pub IsStopped : List Routine → List EntryId → List ℕ → NoReport → Type 0
 IsStopped routines entries events r = (e : Failure EventsFault) × ReplayedFile routines entries events (Err e) × (r ≡ refusal_of_events e)
 

@@ -12,7 +12,7 @@ abbrev pub IsConverted : CertFormat → List ℕ → List ℕ → Type 0
 IsConverted format given text = OfBlocks given (λ blocks. SpellsIn format blocks text)
 
 -- Why there is none: no certificate has the text that is given, or that of its certificate in this format is too long, which
--- is a limit at its first line. Want of memory says nothing.
+-- is a limit at its first line. If memory runs out, nothing is said.
 abbrev pub IsUnconverted : CertFormat → List ℕ → Failure CertFault → Type 0
 IsUnconverted format given failure.OutOfMemory = Unit {0}
 IsUnconverted format given (failure.Refused fault) =

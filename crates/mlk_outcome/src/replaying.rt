@@ -2,9 +2,9 @@
 
 ghost use Rattle.std.specs.Prelude.{◌≡◌, IfOk, IfErr, map};
 ghost use Rattle.mlk_syntax.specs.Views.{routine_of};
-ghost use Rattle.mlk_outcome.specs.Replayed.{AreDeclared, TellsEntry, IsUndeclared, IsShown, IsStopped, IsReplayed, IsUnreplayed};
+ghost use Rattle.mlk_outcome.specs.Replaying.{AreDeclared, ReportsEntry, IsUndeclared, IsShown, IsStopped, IsReplayed, IsUnreplayed};
 
-use crate::checked::NoReport;
+use crate::refusal::NoReport;
 use mlk_cert_lexemes::WrittenText;
 use mlk_machine::replay_events;
 use mlk_machine_view::system_text;
@@ -14,9 +14,9 @@ use mlk_rules::{Rules, entries};
 use mlk_text::Value;
 use std::alloc::Global;
 
-// What is reported of an entry that is not in the routines.
-fn lacks(alloc: Global, entry: &[u8]) -> NoReport
-    ensures { TellsEntry entry.now result }
+// Reports `entry`, which is not in the routines.
+fn missing(alloc: Global, entry: &[u8]) -> NoReport
+    ensures { ReportsEntry entry.now result }
 {
     match Vec::from_slice(alloc, entry) {
         Ok(text) => NoReport::Check(CheckError::Entry(Value::new(text))),
@@ -24,8 +24,8 @@ fn lacks(alloc: Global, entry: &[u8]) -> NoReport
     }
 }
 
-// The entries that these texts name, or the first text that names none.
-fn declared(alloc: Global, program: &Program<'_>, texts: &[Value]) -> Result<Vec<EntryId>, NoReport>
+// The entries that `texts` name; refuses the first text that names none.
+fn declared_entries(alloc: Global, program: &Program<'_>, texts: &[Value]) -> Result<Vec<EntryId>, NoReport>
     ensures ok { IfOk result (λ found. AreDeclared (map routine_of program.now) texts.now found.items) }
     ensures refused { IfErr result (IsUndeclared (map routine_of program.now) texts.now) }
 {
@@ -33,7 +33,7 @@ fn declared(alloc: Global, program: &Program<'_>, texts: &[Value]) -> Result<Vec
     let mut left = texts;
     while let Some((text, others)) = left.split_first() {
         let Some(entry) = program.entry(text.as_bytes()) else {
-            return Err(lacks(alloc, text.as_bytes()));
+            return Err(missing(alloc, text.as_bytes()));
         };
         if found.push(entry).is_err() {
             return Err(NoReport::Check(CheckError::OutOfMemory));
@@ -43,8 +43,8 @@ fn declared(alloc: Global, program: &Program<'_>, texts: &[Value]) -> Result<Vec
     Ok(found)
 }
 
-// What is shown of the jobs of a program, after all events of a text.
-fn shown<'a>(
+// The text that shows the jobs of `program` after all lines of `events`, begun at `entries`.
+fn text_after<'a>(
     alloc: Global,
     program: &'a Program<'a>,
     entries: &'a [EntryId],
@@ -58,8 +58,11 @@ fn shown<'a>(
     Ok(text)
 }
 
-/// What is shown of the jobs of a program, after all events of a text: they begin at declared entries.
-pub(crate) fn jobs_text(
+/// The text that shows the jobs of `program` after all lines of `events`. Jobs begin at the entries that its rules declare.
+///
+/// Refuses the first declared entry that is not in `program` (901), and the first line of `events` that can't be followed (501 to
+/// 504).
+pub fn jobs_text(
     alloc: Global,
     program: &Program<'_>,
     rules: &Rules,
@@ -68,6 +71,6 @@ pub(crate) fn jobs_text(
     ensures ok { IfOk result (IsReplayed (map routine_of program.now) rules.now events.now) }
     ensures refused { IfErr result (IsUnreplayed (map routine_of program.now) rules.now events.now) }
 {
-    let listed = declared(alloc, program, entries(rules))?;
-    shown(alloc, program, listed.as_slice(), events)
+    let listed = declared_entries(alloc, program, entries(rules))?;
+    text_after(alloc, program, listed.as_slice(), events)
 }

@@ -1,6 +1,7 @@
 use Rattle.std.proofs.Common.{refl, rules}
-use Rattle.mlk_outcome.specs.Replayed.{IsStopped, refusal_of_events}
-use Rattle.mlk_outcome.proofs.replayed.shown.Goals as goal
+use Rattle.mlk_outcome.specs.Replaying.{IsStopped}
+use Rattle.mlk_outcome.specs.Refusals.{refusal_of_events}
+use Rattle.mlk_outcome.proofs.replaying.text_after.Goals as goal
 
 pub returns-in_err-system-clause-refused : goal.returns-in_err-system-clause-refused
 returns-in_err-system-clause-refused c =
