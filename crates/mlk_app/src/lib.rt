@@ -15,5 +15,5 @@ mod work;
 pub use file::{LONGEST_FILE, read_whole};
 pub use help::Explaining;
 pub use mlk_watch::{Stage, Unwatched, Watch};
-pub use program::{run, run_watched, wrong_words};
+pub use program::{run, wrong_words};
 pub use source::Files;

@@ -27,7 +27,7 @@ use mlk_forms::{notice_told, pages_told, survey_told};
 use mlk_outcome::{NoReport, convert};
 use mlk_pool::{CheckError, ReportText};
 use mlk_text::Failure;
-use mlk_watch::{Unwatched, Watch};
+use mlk_watch::Watch;
 use std::alloc::{AllocError, Global};
 use std::io::{self, ErrorKind, Write};
 use std::sync::Wait;
@@ -278,24 +278,9 @@ pub fn wrong_words<E: Write>(error: &io::Error, err: &mut E) -> u8
 ///
 /// The texts of routines are read side by side, by these threads, and the lines of entries are walked so by the workers that
 /// the words ask for. Reports go to `out`, and so does the JSON or SARIF of a refusal; all else goes to `err`. A fault of
-/// `err` changes nothing.
-pub fn run<R: Threads + Wait + Sync, F: Files, O: Write, E: Write>(
-    rt: &R,
-    alloc: Global,
-    words: &[String],
-    files: &F,
-    out: &mut O,
-    err: &mut E,
-) -> u8
-    ensures { Ran (F.holds files.now) (F.lacks files.now) words.now (O.contents out.old) (O.contents out.new) result }
-{
-    let explaining = Explaining::AsAsked;
-    run_watched(rt, alloc, words, files, explaining, &Unwatched, out, err)
-}
-
-/// Does what `run` does, explains as much as `explaining` says, and shows `watch` how far it has come. Before anything is written,
-/// it says that it is at its end.
-pub fn run_watched<R: Threads + Wait + Sync, F: Files, W: Watch, O: Write, E: Write>(
+/// `err` changes nothing. Refusals are explained on `err` as much as `explaining` says. `watch` sees how far the work has come,
+/// and its end before anything is written.
+pub fn run<R: Threads + Wait + Sync, F: Files, W: Watch, O: Write, E: Write>(
     rt: &R,
     alloc: Global,
     words: &[String],
