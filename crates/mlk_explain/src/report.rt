@@ -25,6 +25,9 @@ pub fn stories_of(
     grounds: &Grounds<'_>,
     report: &Report,
 ) -> Result<Vec<Option<Story>>, AllocError> {
+    if report.rows().is_empty() {
+        return Ok(Vec::new(alloc));
+    }
     let blocks = grounds.certificate.blocks();
     let entries = Entries::of(alloc, grounds.program, grounds.rules, blocks)?;
     let checks = Checks {

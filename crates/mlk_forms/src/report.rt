@@ -7,9 +7,9 @@ ghost use Rattle.mlk_forms.specs.Told.{AreTold, IsReportIn, IsReportAs, IsReport
 
 use crate::notice::with_end;
 use mlk_cli::{Output, ReportStyle};
-use mlk_explain::{Grounds, explained_rows, note_below};
+use mlk_explain::{Grounds, explained_rows, note_below, stories_of};
 use mlk_hazards::{HazardAt, hazards_of};
-use mlk_output::{Inputs, report_json, report_sarif};
+use mlk_output::{Findings, Inputs, report_json, report_sarif};
 use mlk_pool::{ReportText, push_answer, report_text};
 use mlk_report_text::Piece::{At, Bytes, Words};
 use mlk_report_text::text_of;
@@ -104,6 +104,28 @@ fn explained_text(
     Ok(text)
 }
 
+// The report as JSON, or as SARIF, each fault with what `grounds` know of it.
+fn machine_text(
+    alloc: Global,
+    inputs: &Inputs<'_>,
+    report: &Report,
+    style: ReportStyle,
+    hazards: &[HazardAt<'_>],
+    grounds: &Grounds<'_>,
+) -> Result<ReportText, AllocError> {
+    let stories = stories_of(alloc, grounds, report)?;
+    let findings = Findings {
+        report,
+        stories: stories.as_slice(),
+        hazards: if style.is_strict { Some(hazards) } else { None },
+    };
+    let text = match style.output {
+        Output::Sarif => report_sarif(alloc, inputs, &findings)?,
+        Output::Json | Output::Text => report_json(alloc, inputs, &findings)?,
+    };
+    with_end(text)
+}
+
 // The text in the form that is asked for, with these hazards.
 fn text_in(
     alloc: Global,
@@ -111,16 +133,14 @@ fn text_in(
     report: &Report,
     style: ReportStyle,
     hazards: &[HazardAt<'_>],
+    grounds: &Grounds<'_>,
 ) -> Result<ReportText, AllocError>
     ensures { IfOk result (IsReportIn style.output (map routine_of inputs.now.routines.now) report.now hazards.now) }
 {
-    let told = if style.is_strict { Some(hazards) } else { None };
-    let text = match style.output {
-        Output::Text => plain_text(alloc, inputs.routines, report, hazards)?,
-        Output::Json => with_end(report_json(alloc, inputs, report, told)?)?,
-        Output::Sarif => with_end(report_sarif(alloc, inputs, report, told)?)?,
-    };
-    Ok(text)
+    match style.output {
+        Output::Text => plain_text(alloc, inputs.routines, report, hazards),
+        Output::Json | Output::Sarif => machine_text(alloc, inputs, report, style, hazards, grounds),
+    }
 }
 
 // The text in the style that is asked for.
@@ -137,7 +157,7 @@ fn styled_text(
     if style.is_explained {
         return explained_text(alloc, grounds, report, hazards);
     }
-    text_in(alloc, inputs, report, style, hazards)
+    text_in(alloc, inputs, report, style, hazards, grounds)
 }
 
 fn passes(report: &Report, hazards: &[HazardAt<'_>]) -> bool
