@@ -64,11 +64,11 @@ pub(crate) fn refusal_help(
     }
 }
 
-/// Writes what explains why the text of a certificate at `path` is refused; nothing unless `explaining` asks for it.
-pub(crate) fn certificate_help(
+/// Writes what explains why the certificate at `path`, which has this text, is refused; nothing unless `explaining` asks for it.
+pub(crate) fn certificate_help<'a>(
     alloc: Global,
-    path: &str,
-    text: &[u8],
+    path: &'a str,
+    text: &'a [u8],
     fault: &CertFault,
     explaining: Explaining,
 ) -> Result<Vec<u8>, AllocError> {
@@ -83,8 +83,8 @@ pub(crate) fn certificate_help(
     line_help(alloc, fault.code, &file, spot)
 }
 
-/// Writes why the file at `path` can't be read, below the line that says so: it is read once more. Nothing is written where no
-/// explanations are asked for, or where it can be read now.
+/// Writes why the file at `path` can't be read, below the line that says so; for this it is read once more. Nothing is written
+/// unless it is to be explained, or if it can be read now.
 pub(crate) fn why_unread<F: Files>(
     alloc: Global,
     files: &F,

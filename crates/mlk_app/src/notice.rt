@@ -6,35 +6,39 @@ use mlk_outcome::NoReport;
 use mlk_output::{Notice, Place};
 use mlk_refusal_text::{GivenFile, Spot};
 
-// A place in a file, if the refusal is at one.
-fn place_at<'a>(file: &GivenFile<'a>, spot: Option<Spot>) -> Option<Place<'a>> {
-    let spot = spot?;
-    Some(Place {
-        path: file.path,
+// A place in the file at a path.
+fn place_at(path: &str, spot: Spot) -> Place<'_> {
+    Place {
+        path,
         line: spot.line,
         column: spot.column,
-    })
+    }
 }
 
-/// Makes the notice of a refusal, whose line on the error stream this is, of this file and at this place; `None` if it has no
+/// Makes the notice of a refusal, whose line on the error stream is `line`, in `file` and at `spot` there; `None` if it has no
 /// code.
 pub(crate) fn notice_of<'a>(
     refusal: &NoReport,
     program: &ProgramRequest<'a>,
     line: &'a [u8],
-    file: &GivenFile<'a>,
+    file: GivenFile<'a>,
     spot: Option<Spot>,
 ) -> Option<Notice<'a>> {
+    let GivenFile { path, text } = file;
     let code = refusal_code(refusal)?;
     let line = match line.split_last() {
-        Some((_, text)) => text,
+        Some((_, words)) => words,
         None => line,
+    };
+    let place = match spot {
+        Some(spot) => Some(place_at(path, spot)),
+        None => None,
     };
     Some(Notice {
         code,
         line,
-        place: place_at(file, spot),
-        text: file.text,
+        place,
+        text,
         file: program.rules,
     })
 }

@@ -164,7 +164,7 @@ pub(crate) fn file_line(alloc: Global, path: &str) -> Result<ReportText, AllocEr
     line_of(alloc, &[Words("error file "), Words(path), Words("\n")])
 }
 
-/// `error: no code TEXT; ..`
+/// `error: no code TEXT; give a number such as 702 or a name such as Uncovered`
 pub(crate) fn no_page_line(alloc: Global, text: &str) -> Result<ReportText, AllocError>
     ensures { IfOk result (λ t. t ≡ no_page_line text.now) }
 {
@@ -173,9 +173,7 @@ pub(crate) fn no_page_line(alloc: Global, text: &str) -> Result<ReportText, Allo
         &[
             Words("error: no code "),
             Words(text),
-            Words(
-                "; codes are numbers from 101 to 903, or names, as in `mlock explain 702` and `mlock explain Uncovered`",
-            ),
+            Words("; give a number such as 702 or a name such as Uncovered"),
             Words("\n"),
         ],
     )

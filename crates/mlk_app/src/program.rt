@@ -23,7 +23,7 @@ use crate::source::{
 use crate::work::{print_sources, style_in};
 use mlk_cert::CertFault;
 use mlk_cli::{Format, ProgramRequest, Request, SurveyRequest, UsageError, read_request};
-use mlk_forms::{notice_told, pages_told, survey_told};
+use mlk_forms::{render_notice, render_pages, render_survey};
 use mlk_outcome::{NoReport, convert};
 use mlk_pool::{CheckError, ReportText};
 use mlk_text::Failure;
@@ -75,8 +75,8 @@ fn notice(
         None => None,
     };
     let file = refused.unwrap_or(rule_file(program, sources));
-    match notice_of(refusal, program, line.as_bytes(), &file, spot) {
-        Some(notice) => notice_told(alloc, &notice, style_in(&program.asked).output),
+    match notice_of(refusal, program, line.as_bytes(), file, spot) {
+        Some(notice) => render_notice(alloc, &notice, style_in(&program.asked).output),
         None => Ok(None),
     }
 }
@@ -103,10 +103,17 @@ fn refusal_answer(
     }
 }
 
-fn fault_answer(alloc: Global, fault: &CertFault, help: Result<Vec<u8>, AllocError>) -> Answer
+// What is answered if the certificate at a path, which has this text, is refused.
+fn fault_answer<'a>(
+    alloc: Global,
+    path: &'a str,
+    text: &'a [u8],
+    fault: &CertFault,
+    explaining: Explaining,
+) -> Answer
     ensures { TellsFault fault.now result }
 {
-    let Ok(help) = help else {
+    let Ok(help) = certificate_help(alloc, path, text, fault, explaining) else {
         return Answer::OutOfMemory;
     };
     match certificate_line(alloc, fault) {
@@ -115,11 +122,11 @@ fn fault_answer(alloc: Global, fault: &CertFault, help: Result<Vec<u8>, AllocErr
     }
 }
 
-// What is answered where the file at a path can't be read, with what explains it.
-fn unread_answer(alloc: Global, path: &str, help: Result<Vec<u8>, AllocError>) -> Answer
+// What is answered if the file at a path can't be read.
+fn unread_answer<F: Files>(alloc: Global, files: &F, path: &str, is_explained: bool) -> Answer
     ensures { TellsUnread path.now result }
 {
-    let Ok(help) = help else {
+    let Ok(help) = why_unread(alloc, files, path, is_explained) else {
         return Answer::OutOfMemory;
     };
     match file_line(alloc, path) {
@@ -128,11 +135,11 @@ fn unread_answer(alloc: Global, path: &str, help: Result<Vec<u8>, AllocError>) -
     }
 }
 
-// What is answered where the page of a code is asked for.
+// What is answered if the page of a code is asked for.
 fn answer_page(alloc: Global, code: &str) -> Answer
     ensures { TellsPage code.now result }
 {
-    let Ok(page) = pages_told(alloc, code) else {
+    let Ok(page) = render_pages(alloc, code) else {
         return Answer::OutOfMemory;
     };
     if let Some(text) = page {
@@ -163,7 +170,7 @@ fn answer_program<R: Threads + Wait + Sync, F: Files, W: Watch>(
         Err(FileError::OutOfMemory) => Answer::OutOfMemory,
         Err(FileError::Unread(path)) => {
             let is_explained = is_refusal_explained(program, explaining);
-            unread_answer(alloc, path, why_unread(alloc, files, path, is_explained))
+            unread_answer(alloc, files, path, is_explained)
         }
     }
 }
@@ -184,15 +191,12 @@ fn answer_conversion<F: Files, W: Watch>(
             Ok(text) => Answer::Report(ReportText::of(text), YES),
             Err(Failure::OutOfMemory) => Answer::OutOfMemory,
             Err(Failure::Refused(fault)) => {
-                let text = text.as_slice();
-                let help = certificate_help(alloc, certificate, text, &fault, explaining);
-                fault_answer(alloc, &fault, help)
+                fault_answer(alloc, certificate, text.as_slice(), &fault, explaining)
             }
         },
         Err(FileError::OutOfMemory) => Answer::OutOfMemory,
         Err(FileError::Unread(path)) => {
-            let is_explained = explaining == Explaining::Refusals;
-            unread_answer(alloc, path, why_unread(alloc, files, path, is_explained))
+            unread_answer(alloc, files, path, explaining == Explaining::Refusals)
         }
     }
 }
@@ -209,14 +213,13 @@ fn answer_survey<R: Threads + Wait + Sync, F: Files, W: Watch>(
     ensures { Answers (F.holds files.now) (F.lacks files.now) (wanted.Survey survey.now) result }
 {
     match read_sources(alloc, files, survey.routines.as_slice()) {
-        Ok(sources) => match survey_told(rt, alloc, sources.as_slice(), survey.output, watch) {
-            Ok(told) => Answer::Report(told.text, YES),
+        Ok(sources) => match render_survey(rt, alloc, sources.as_slice(), survey.output, watch) {
+            Ok(printed) => Answer::Report(printed.text, YES),
             Err(AllocError) => Answer::OutOfMemory,
         },
         Err(FileError::OutOfMemory) => Answer::OutOfMemory,
         Err(FileError::Unread(path)) => {
-            let is_explained = explaining == Explaining::Refusals;
-            unread_answer(alloc, path, why_unread(alloc, files, path, is_explained))
+            unread_answer(alloc, files, path, explaining == Explaining::Refusals)
         }
     }
 }

@@ -30,31 +30,41 @@ pub(crate) fn refusal_code(refusal: &NoReport) -> Option<Code> {
     }
 }
 
-// Whether the file at a path is that of the routine of this name, which a leading `_` of the file's name spells as `%`.
+// Whether the file at a path is that of the routine of this name, in which a leading `%` may be a `_` of the file's name.
 fn is_file_of(path: &str, name: &[u8]) -> bool {
     let stem = stem_of(path).as_bytes();
     if stem == name {
         return true;
     }
-    match (stem.strip_prefix(b"_"), name.strip_prefix(b"%")) {
-        (Some(stem), Some(name)) => stem == name,
-        _ => false,
-    }
+    let Some(stem) = stem.strip_prefix(b"_") else {
+        return false;
+    };
+    let Some(name) = name.strip_prefix(b"%") else {
+        return false;
+    };
+    stem == name
 }
 
-// The file of the routine with this name. If there are two, the second is refused: so it is the last one.
+// The number of the last of these paths that is that of the routine of this name: if there are two, the second is refused.
+fn last_file_of(paths: &[&str], name: &[u8]) -> Option<usize> {
+    let mut found = None;
+    for (number, path) in paths.iter().enumerate() {
+        if is_file_of(*path, name) {
+            found = Some(number);
+        }
+    }
+    found
+}
+
+// The file of the routine with this name.
 fn routine_file<'a>(
     program: &ProgramRequest<'a>,
     sources: &'a Sources<'a>,
     name: &[u8],
 ) -> Option<GivenFile<'a>> {
-    let mut found = None;
-    for (path, source) in program.routines.iter().zip(&sources.routines) {
-        if is_file_of(*path, name) {
-            found = Some((*path, source));
-        }
-    }
-    let (path, source) = found?;
+    let number = last_file_of(program.routines.as_slice(), name)?;
+    let path = program.routines.as_slice().get(number).copied()?;
+    let source = sources.routines.as_slice().get(number)?;
     Some(GivenFile {
         path,
         text: source.text.as_slice(),
@@ -95,7 +105,7 @@ fn routine_in(entry: &[u8]) -> &[u8] {
     }
 }
 
-/// Finds the file that is refused; `None` if none is.
+/// Finds the file that is refused; `None` if no file is, or it is not known which.
 pub(crate) fn refused_file<'a>(
     refusal: &NoReport,
     program: &ProgramRequest<'a>,
@@ -117,7 +127,7 @@ pub(crate) fn refused_file<'a>(
     }
 }
 
-/// Finds where a file with this text is refused; `None` if the refusal is at no line of it.
+/// Finds where a file with this text is refused; `None` if the refusal is at no line.
 pub(crate) fn refused_spot(
     alloc: Global,
     refusal: &NoReport,

@@ -13,7 +13,7 @@ use crate::source::{Sources, Work};
 use mlk_cert::{Certificate, read_cert};
 use mlk_cli::{Asked, Output, ProgramRequest, ReportStyle};
 use mlk_explain::Grounds;
-use mlk_forms::report_told;
+use mlk_forms::render_report;
 use mlk_outcome::{
     NoReport, certificate_for, certificate_text, jobs_text, report_by_certificate,
 };
@@ -88,10 +88,10 @@ fn printed_report(
         paths: request.routines.as_slice(),
         texts: grounds.texts,
     };
-    let told = report_told(alloc, &inputs, report, style_in(&request.asked), grounds)?;
-    let status = status_of(told.passes);
+    let printed = render_report(alloc, &inputs, report, style_in(&request.asked), grounds)?;
+    let status = status_of(printed.passes);
     Ok(Printed {
-        text: told.text,
+        text: printed.text,
         status,
     })
 }

@@ -52,11 +52,11 @@ strict_rule = record (new_rule (codes "strict")) { long = Some (codes "strict");
 abbrev pub explain_rule : Rule
 explain_rule = record (new_rule (codes "explain")) { long = Some (codes "explain"); action = Some SetTrue }
 
--- a command that is told how its report is told
+-- a command with the options for the style of its report
 abbrev pub with_style : App → App
 with_style app = with_rule (with_rule (with_rule app output_rule) strict_rule) explain_rule
 
--- `check RULES CERT ROUTINE..`, how many workers, and how its report is told
+-- `check RULES CERT ROUTINE..`, how many workers, and the style of its report
 abbrev pub check_app : App
 check_app = with_style (with_rule (with_rule (with_rule (with_rule (new_app (codes "check")) (path_rule (codes "RULES"))) (path_rule (codes "CERT"))) routines_rule) workers_rule)
 
@@ -64,7 +64,7 @@ check_app = with_style (with_rule (with_rule (with_rule (with_rule (new_app (cod
 abbrev pub make_app : App
 make_app = with_rule (with_rule (with_rule (new_app (codes "make")) (path_rule (codes "RULES"))) routines_rule) (format_rule (codes "1"))
 
--- `verify RULES ROUTINE..`, how many workers, and how its report is told
+-- `verify RULES ROUTINE..`, how many workers, and the style of its report
 abbrev pub verify_app : App
 verify_app = with_style (with_rule (with_rule (with_rule (new_app (codes "verify")) (path_rule (codes "RULES"))) routines_rule) workers_rule)
 
@@ -76,7 +76,7 @@ replay_app = with_rule (with_rule (with_rule (new_app (codes "replay")) (path_ru
 abbrev pub convert_app : App
 convert_app = with_rule (with_rule (new_app (codes "convert")) (path_rule (codes "CERT"))) (format_rule (codes "2"))
 
--- `survey ROUTINE..`, and how it is told
+-- `survey ROUTINE..`, and its form
 abbrev pub survey_app : App
 survey_app = with_rule (with_rule (new_app (codes "survey")) routines_rule) output_rule
 
@@ -119,7 +119,7 @@ abbrev pub GivesFormat : List Row → Option Format → Type 0
 GivesFormat rows None = (format : Format) → IsFormat rows format → ⊥
 GivesFormat rows (Some format) = IsFormat rows format
 
--- how something is told, by the word for it
+-- the word for a form
 abbrev pub output_word : Output → Text
 output_word Plain = codes "text"
 output_word Json = codes "json"
@@ -129,7 +129,7 @@ abbrev pub NamesOutput : Text → Option Output → Type 0
 NamesOutput text None = (output : Output) → text ≡ output_word output → ⊥
 NamesOutput text (Some output) = text ≡ output_word output
 
--- how a command was told to tell what it finds
+-- the form of the report that a command was given
 abbrev pub IsOutput : List Row → Output → Type 0
 IsOutput rows output = first_of (codes "output") rows ≡ Some (output_word output)
 
@@ -145,18 +145,18 @@ abbrev pub GivesFlag : Text → List Row → Option Bool → Type 0
 GivesFlag option rows None = (flag : Bool) → IsFlag option rows flag → ⊥
 GivesFlag option rows (Some flag) = IsFlag option rows flag
 
--- whether a command was told to be strict, and to explain
+-- whether a command was given `--strict`, and `--explain`
 abbrev pub IsStrict : List Row → Bool → Type 0
 IsStrict rows strict = IsFlag (codes "strict") rows strict
 
 abbrev pub IsExplained : List Row → Bool → Type 0
 IsExplained rows explained = IsFlag (codes "explain") rows explained
 
--- Explanations are told in text alone.
+-- Only text is explained.
 abbrev pub MayExplain : Output → Bool → Type 0
 MayExplain output explained = explained ≡ true → output ≡ Plain
 
--- how a report is told
+-- the style of a report
 abbrev pub IsStyle : List Row → ReportStyle → Type 0
 IsStyle rows style = IsOutput rows style.output × IsStrict rows style.is_strict × IsExplained rows style.is_explained × MayExplain style.output style.is_explained
 
@@ -164,7 +164,7 @@ abbrev pub GivesStyle : List Row → Option ReportStyle → Type 0
 GivesStyle rows None = (style : ReportStyle) → IsStyle rows style → ⊥
 GivesStyle rows (Some style) = IsStyle rows style
 
--- how many workers a command was given, and how its report is told
+-- how many workers a command was given, and the style of its report
 abbrev pub IsWalk : List Row → ℕ → ReportStyle → Type 0
 IsWalk rows workers style = AreWorkers rows workers × IsStyle rows style
 
@@ -172,7 +172,7 @@ abbrev pub GivesWalk : List Row → Option (ℕ × ReportStyle) → Type 0
 GivesWalk rows None = (workers : ℕ) (style : ReportStyle) → IsWalk rows workers style → ⊥
 GivesWalk rows (Some walk) = IsWalk rows walk.0 walk.1
 
--- how a survey is told
+-- the form of a survey
 abbrev pub IsSurveyOutput : List Row → SurveyOutput → Type 0
 IsSurveyOutput rows surveyed.Text = IsOutput rows Plain
 IsSurveyOutput rows surveyed.Json = IsOutput rows Json
@@ -214,7 +214,7 @@ abbrev pub GivesConversion : List Row → Option (Bor (List ℕ) × Format) → 
 GivesConversion rows None = (certificate : Bor (List ℕ)) (format : Format) → IsConversion rows certificate format → ⊥
 GivesConversion rows (Some c) = IsConversion rows c.0 c.1
 
--- the routines of which a survey is asked for, and how it is told
+-- the routines of which a survey is asked for, and its form
 pub record IsSurvey (rows : List Row) (survey : SurveyRequest) : Type 0 where
   pub routines : all_of (codes "ROUTINE") rows ≡ Some (bytes_of survey.routines.items)
   pub output : IsSurveyOutput rows survey.output

@@ -60,7 +60,7 @@ fn format_option<'a>(alloc: Global, usual: &'a str) -> Arg<'a>
         .help(FORMAT_HELP)
 }
 
-// How a report or a survey is told, which is as text where the words say nothing.
+// The form of a report or of a survey, which is text if the words say nothing.
 fn output_option<'a>(alloc: Global, help: &'a str) -> Arg<'a>
     ensures rule { rule_of result ≡ output_rule }
     ensures local { result.global ≡ false }
@@ -73,7 +73,7 @@ fn output_option<'a>(alloc: Global, help: &'a str) -> Arg<'a>
         .help(help)
 }
 
-// Whether hazards are told too.
+// Whether hazards are reported too.
 fn strict_option<'a>(alloc: Global) -> Arg<'a>
     ensures rule { rule_of result ≡ strict_rule }
     ensures local { result.global ≡ false }
@@ -95,7 +95,7 @@ fn explain_option<'a>(alloc: Global) -> Arg<'a>
         .help(EXPLAIN_HELP)
 }
 
-// A command that is told how its report is told.
+// A command with the options for the style of its report.
 fn with_style<'a>(alloc: Global, command: Command<'a>) -> Result<Command<'a>, AllocError>
     ensures { IfOk result (λ c. app_of c ≡ with_style (app_of command.entry)) }
 {

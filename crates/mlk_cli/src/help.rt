@@ -5,49 +5,49 @@ pub(crate) const RULES_HELP: &str = "The rule file: which lock covers which glob
 pub(crate) const CERT_HELP: &str = "The certificate: for each line, the locks that are held there";
 
 pub(crate) const ROUTINE_HELP: &str =
-    "Routine texts, one routine a file; the file's name up to its last dot is the routine's";
+    "Files of routines, one routine each; a file's name up to its last dot is the routine's name";
 
 pub(crate) const WORKERS_HELP: &str = "How many workers walk entries side by side, 1 to 64";
 
 pub(crate) const FORMAT_HELP: &str =
-    "The format of the text: 1, in which each point has its cases in full, or 2, in which it has their numbers";
+    "The format of the text: 1, which has the cases of each point in full, or 2, which has their numbers";
 
 pub(crate) const OUTPUT_HELP: &str =
-    "How the report is told: text, json, or sarif, which build servers read";
+    "The form of the report: text, json, or sarif, which build servers read";
 
 pub(crate) const STRICT_HELP: &str =
-    "Tells also where a real system may do otherwise than the standard says, and ends with status 1 there";
+    "Lists also the places where a real system may differ from the standard, and ends with status 1 if there are any";
 
 pub(crate) const EXPLAIN_HELP: &str =
-    "Shows below each fault its line, what is held there, the rules and what mends it, and below a refusal its line and what helps; in text alone";
+    "Shows below each fault its line, what is held there, the rules and what mends it, and below a refusal its line and what helps; only for text";
 
-pub(crate) const SURVEY_OUTPUT_HELP: &str = "How the survey is told: text or json";
+pub(crate) const SURVEY_OUTPUT_HELP: &str = "The form of the survey: text or json";
 
 pub(crate) const CHECK_HELP: &str = "Checks routines against a rule file and a certificate";
 
 pub(crate) const CHECK_MORE: &str = "Checks routines against a rule file and a certificate
 
-Prints `yes` where every run of the declared entries, by any number of jobs, keeps the rules; else a line for each
+Prints `yes` if every run of the declared entries, by any number of jobs, keeps the rules; otherwise a line for each
 fault, as `LABEL^ROUTINE line:column CODE NAME`, and `no N`. With --explain each fault is explained below its line.
 
-With --strict a line for each hazard follows, as `hazard ROUTINE line:column NAME`: a place where a real system may do
-otherwise than the standard says.
+With --strict a line for each hazard follows, as `hazard ROUTINE line:column NAME`: a place where a real system may
+differ from the standard.
 
 Example: mlock check rules.toml bank.cert BANK.m
 
-Status: 0 yes, 1 no, or a hazard with --strict, 2 refused input, 3 want of memory or a file that can't be read or written.";
+Status: 0 yes, 1 no, or a hazard with --strict, 2 refused input, 3 out of memory or a file that can't be read or written.";
 
 pub(crate) const MAKE_HELP: &str = "Makes a certificate of routines";
 
 pub(crate) const MAKE_MORE: &str = "Makes a certificate of routines
 
 Prints the certificate of the declared entries and of all that they call, by which `mlock check` finds as few faults as
-the maker could reach. It is a text to read, to keep beside the routines, and to mend by hand. In format 2 the cases stand
-in front, each once, and points name them by numbers; `mlock convert` makes either format of the other.
+the maker could reach. It is a text to read, to keep beside the routines, and to edit by hand. In format 2 the cases come
+first, each once, and points have their numbers; `mlock convert` makes either format of the other.
 
 Example: mlock make rules.toml BANK.m > bank.cert
 
-Status: 0 made, 2 refused input or given up, 3 want of memory or a file that can't be read or written.";
+Status: 0 made, 2 refused input or given up, 3 out of memory or a file that can't be read or written.";
 
 pub(crate) const VERIFY_HELP: &str = "Makes a certificate of routines and checks them by it";
 
@@ -56,68 +56,67 @@ pub(crate) const VERIFY_MORE: &str = "Makes a certificate of routines and checks
 Prints what `mlock check` prints for the certificate that `mlock make` prints: `yes`, or a line for each fault and `no N`.
 With --explain each fault is explained below its line.
 
-With --strict a line for each hazard follows, as `hazard ROUTINE line:column NAME`: a place where a real system may do
-otherwise than the standard says.
+With --strict a line for each hazard follows, as `hazard ROUTINE line:column NAME`: a place where a real system may
+differ from the standard.
 
 Example: mlock verify --explain rules.toml BANK.m
 
-Status: 0 yes, 1 no, or a hazard with --strict, 2 refused input or given up, 3 want of memory or a file that can't be read
+Status: 0 yes, 1 no, or a hazard with --strict, 2 refused input or given up, 3 out of memory or a file that can't be read
 or written.";
 
 pub(crate) const EVENTS_HELP: &str =
-    "The events, a line each: which job begins, goes on or is aborted";
+    "The events, a line each: which job begins, takes steps or is aborted";
 
-pub(crate) const REPLAY_HELP: &str = "Replays events of jobs and shows where each job stands";
+pub(crate) const REPLAY_HELP: &str = "Replays events of jobs and shows where each job is";
 
-pub(crate) const REPLAY_MORE: &str = "Replays events of jobs and shows where each job stands
+pub(crate) const REPLAY_MORE: &str = "Replays events of jobs and shows where each job is
 
-The jobs run the routines from the declared entries, by the events of the file in turn, such as these: `begin 1 DEP^BANK
-0 \"A\" \"5\"`, `run 1`, `go 1`, `abort 1`. Prints a line for each job, with what it does next and what it holds, as `job
-1 claims ^LOG holds ^ACCT(\"A\")*1`; a line for each two that stand ready to touch one node that one of them writes, and
-for each that waits for another; and `ring yes` where jobs wait for each other in a ring, else `ring no`.
+The jobs run the routines from the declared entries, by the events of the file in turn, such as `begin 1 DEP^BANK
+0 \"A\" \"5\"`, `run 1`, `go 1` and `abort 1`. Prints a line for each job, with what it does next and what it holds, such as
+`job 1 claims ^LOG holds ^ACCT(\"A\")*1`; a line for each two jobs that are about to touch one node that one of them writes,
+and for each job that waits for another; and `ring yes` if jobs wait for each other in a ring, otherwise `ring no`.
 
 Example: mlock replay rules.toml incident.events BANK.m
 
-Status: 0 replayed, 2 refused input or an event that can't happen, 3 want of memory or a file that can't be read or
+Status: 0 replayed, 2 refused input or an event that can't happen, 3 out of memory or a file that can't be read or
 written.";
 
 pub(crate) const CONVERT_HELP: &str = "Writes a certificate in another format";
 
 pub(crate) const CONVERT_MORE: &str = "Writes a certificate in another format
 
-Prints the same certificate: it may be in either format, and what is printed is in the one that is asked for. In format 1
-each point has its cases in full; in format 2 they stand in front, each once, and points name them by numbers. A
-certificate has one text in each format.
+Prints the same certificate in the format that is asked for, whichever it has. In format 1 each point has its cases in
+full; in format 2 they come first, each once, and points have their numbers. A certificate has one text in each format.
 
 Example: mlock convert --format 2 bank.cert > bank.second
 
-Status: 0 written, 2 refused input, 3 want of memory or a file that can't be read or written.";
+Status: 0 written, 2 refused input, 3 out of memory or a file that can't be read or written.";
 
-pub(crate) const SURVEY_HELP: &str = "Tells what routines have, before there are rules";
+pub(crate) const SURVEY_HELP: &str = "Lists what routines use, before there are rules";
 
-pub(crate) const SURVEY_MORE: &str = "Tells what routines have, before there are rules
+pub(crate) const SURVEY_MORE: &str = "Lists what routines use, before there are rules
 
-Reads each routine by itself and goes on after one that it can't read. Prints how many it read; which it refused and why;
-calls of what is not given; entries; globals and how they are used; locks, and which is claimed under which; and hazards,
-the places where a real system may do otherwise than the standard says. It checks nothing: a rule file begins with it.
+Reads each routine by itself, and continues behind a line that it can't read. Prints how many routines it read; which it
+refused, at which lines and why; calls of what is not given, or that don't fit; entries; globals and how they are used;
+locks, and which is claimed under which; and hazards, the places where a real system may differ from the standard. It
+checks nothing, and needs no rules: begin with it.
 
 Example: mlock survey routines/*.m
 
-Status: 0 printed, 3 want of memory or a file that can't be read or written.";
+Status: 0 printed, 3 out of memory or a file that can't be read or written.";
 
-pub(crate) const CODE_HELP: &str =
-    "The number or the name of a code, as a report or a refusal has it";
+pub(crate) const CODE_HELP: &str = "The number or the name of a code, such as 702 or Uncovered";
 
 pub(crate) const PAGE_HELP: &str = "Explains a code of a report or of a refusal";
 
 pub(crate) const PAGE_MORE: &str = "Explains a code of a report or of a refusal
 
-Prints the page of the code: what it means and why it matters, what mends it, and an example with what is written in its
-place. The code is its number, from 101 to 903, or its name, as in `mlock explain Uncovered`.
+Prints the page of the code: what it means, why it matters, what mends it, and an example. The code is given by its
+number, from 101 to 903, or by its name, as in `mlock explain Uncovered`.
 
 Example: mlock explain 702
 
-Status: 0 printed, 2 no such code, 3 want of memory or standard output that can't be written.";
+Status: 0 printed, 2 no such code, 3 out of memory or standard output that can't be written.";
 
 // The program's version, and the logic that it is proved in. Whether a build was proved is not for the program to say: the
 // script that starts it knows.

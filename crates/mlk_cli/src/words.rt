@@ -20,7 +20,7 @@ pub enum Format {
     Second,
 }
 
-/// How a report is told.
+/// The form of a report.
 #[derive(Clone, Copy, Debug, PartialEq, Eq)]
 pub enum Output {
     Text,
@@ -28,14 +28,14 @@ pub enum Output {
     Sarif,
 }
 
-/// How a survey is told.
+/// The form of a survey.
 #[derive(Clone, Copy, Debug, PartialEq, Eq)]
 pub enum SurveyOutput {
     Text,
     Json,
 }
 
-/// How a report is told, whether hazards are told with it, and whether its faults are explained, which they are in text alone.
+/// The form of a report, whether hazards are reported with it, and whether it is explained, which only text can be.
 #[derive(Clone, Copy, Debug, PartialEq, Eq)]
 pub struct ReportStyle {
     pub output: Output,
@@ -73,7 +73,7 @@ pub struct ProgramRequest<'a> {
     pub routines: Vec<&'a str>,
 }
 
-/// The paths of the routines of which a survey is asked for, and how it is told.
+/// The paths of the routines of which a survey is asked for, and its form.
 #[derive(Drop, Debug)]
 pub struct SurveyRequest<'a> {
     pub routines: Vec<&'a str>,
@@ -135,7 +135,7 @@ fn output_named(text: &str) -> Option<Output>
     None
 }
 
-// How a command was told to tell what it finds.
+// The form of the report that a command was given.
 fn output_of(matches: &ArgMatches<'_>) -> Option<Output>
     ensures { GivesOutput (rows_of (found_of matches.now)) result }
 {
@@ -183,7 +183,7 @@ fn style_of(matches: &ArgMatches<'_>) -> Option<ReportStyle>
     })
 }
 
-// How many workers a command was given, and how its report is told.
+// How many workers a command was given, and the style of its report.
 fn walk_of(matches: &ArgMatches<'_>) -> Option<(u32, ReportStyle)>
     ensures { GivesWalk (rows_of (found_of matches.now)) result }
 {

@@ -6,7 +6,7 @@ mod page;
 mod report;
 mod survey;
 
-pub use notice::notice_told;
-pub use page::pages_told;
-pub use report::{ToldReport, report_told};
-pub use survey::{ToldSurvey, survey_told};
+pub use notice::render_notice;
+pub use page::render_pages;
+pub use report::{PrintedReport, render_report};
+pub use survey::{PrintedSurvey, render_survey};

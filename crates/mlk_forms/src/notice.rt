@@ -8,8 +8,8 @@ use mlk_output::{Notice, notice_json, notice_sarif};
 use mlk_pool::ReportText;
 use std::alloc::{AllocError, Global};
 
-/// What is printed of a refusal beside the line on the error stream, which is nothing where text is asked for.
-pub fn notice_told(
+/// Writes what is printed of a refusal beside the line on the error stream: nothing if text is asked for.
+pub fn render_notice(
     alloc: Global,
     notice: &Notice<'_>,
     output: Output,

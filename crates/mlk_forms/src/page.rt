@@ -6,11 +6,11 @@ use mlk_report_text::Piece::{CodeName, Made, Words};
 use mlk_report_text::push_all;
 use std::alloc::{AllocError, Global};
 
-// How many characters a line of a page has at most.
+// How many characters a line of a page has at most; an example keeps its lines.
 const LINE_LENGTH: usize = 96;
 
-// The words of sentences, on lines that are not too long.
-fn wrapped(alloc: Global, sentences: &str) -> Result<Vec<u8>, AllocError> {
+// Breaks sentences into lines of at most `LINE_LENGTH` characters, if no word is longer.
+fn wrap(alloc: Global, sentences: &str) -> Result<Vec<u8>, AllocError> {
     let mut text = Vec::new(alloc);
     let mut length = 0usize;
     for word in sentences.split_whitespace() {
@@ -28,8 +28,8 @@ fn wrapped(alloc: Global, sentences: &str) -> Result<Vec<u8>, AllocError> {
     Ok(text)
 }
 
-// The lines of an example, set in.
-fn set_in(alloc: Global, example: &str) -> Result<Vec<u8>, AllocError> {
+// Indents the lines of an example.
+fn indent(alloc: Global, example: &str) -> Result<Vec<u8>, AllocError> {
     let mut text = Vec::new(alloc);
     for line in example.lines() {
         push_all(&mut text, &[Words("    "), Words(line), Words("\n")])?;
@@ -45,11 +45,11 @@ fn push_page(text: &mut Vec<u8>, page: &Page) -> Result<(), AllocError> {
         text,
         &[CodeName(page.code), Words(": "), meaning, Words("\n\n")],
     )?;
-    let why = Made(wrapped(alloc, page.why)?);
-    let mend = Made(wrapped(alloc, page.mend)?);
+    let why = Made(wrap(alloc, page.why)?);
+    let mend = Made(wrap(alloc, page.mend)?);
     push_all(text, &[why, Words("\n\n"), mend, Words("\n\n")])?;
-    let before = set_in(alloc, page.before)?;
-    let after = set_in(alloc, page.after)?;
+    let before = indent(alloc, page.before)?;
+    let after = indent(alloc, page.after)?;
     push_all(
         text,
         &[
@@ -62,7 +62,7 @@ fn push_page(text: &mut Vec<u8>, page: &Page) -> Result<(), AllocError> {
 }
 
 /// Writes the page of each code that `word` names, by its number or by its name; `None` if no code has it.
-pub fn pages_told(alloc: Global, word: &str) -> Result<Option<ReportText>, AllocError> {
+pub fn render_pages(alloc: Global, word: &str) -> Result<Option<ReportText>, AllocError> {
     let mut text: Vec<u8> = Vec::new(alloc);
     let codes = codes_named(alloc, word)?;
     for code in codes.iter() {

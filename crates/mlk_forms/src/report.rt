@@ -19,14 +19,14 @@ use std::alloc::{AllocError, Global};
 
 /// A report as it is printed.
 #[derive(Drop)]
-pub struct ToldReport {
+pub struct PrintedReport {
     pub text: ReportText,
     /// whether there is no fault, and no hazard if these are reported
     pub passes: bool,
 }
 
 // The hazards that are reported: none, unless they are asked for.
-fn told_hazards<'a>(
+fn reported_hazards<'a>(
     alloc: Global,
     routines: &'a [Routine],
     is_strict: bool,
@@ -167,18 +167,18 @@ fn passes(report: &Report, hazards: &[HazardAt<'_>]) -> bool
 }
 
 /// Writes `report` in the `style` that is asked for, and says whether it passes. `grounds` explain it, if that is asked for.
-pub fn report_told(
+pub fn render_report(
     alloc: Global,
     inputs: &Inputs<'_>,
     report: &Report,
     style: ReportStyle,
     grounds: &Grounds<'_>,
-) -> Result<ToldReport, AllocError>
-    ensures { IfOk result (λ told. IsReportTold style (map routine_of inputs.now.routines.now) report.now told.text told.passes) }
+) -> Result<PrintedReport, AllocError>
+    ensures { IfOk result (λ printed. IsReportTold style (map routine_of inputs.now.routines.now) report.now printed.text printed.passes) }
 {
-    let hazards = told_hazards(alloc, inputs.routines, style.is_strict)?;
-    let told = hazards.as_slice();
-    let text = styled_text(alloc, inputs, report, style, told, grounds)?;
-    let passes = passes(report, told);
-    Ok(ToldReport { text, passes })
+    let hazards = reported_hazards(alloc, inputs.routines, style.is_strict)?;
+    let reported = hazards.as_slice();
+    let text = styled_text(alloc, inputs, report, style, reported, grounds)?;
+    let passes = passes(report, reported);
+    Ok(PrintedReport { text, passes })
 }

@@ -6,8 +6,10 @@ use crate::notice::with_end;
 use mlk_cli::SurveyOutput;
 use mlk_pool::{ReportText, Source};
 use mlk_survey::{Facts, survey};
-use mlk_survey_reading::{Readings, read_all_lines};
+use mlk_survey_reading::read_all_lines;
 use mlk_survey_text::{survey_json, survey_text};
+use mlk_syntax::Routine;
+use mlk_text::{Failure, Fault};
 use mlk_watch::Watch;
 use std::alloc::{AllocError, Global};
 use std::thread::Threads;
@@ -17,7 +19,7 @@ const MOST_LINES: usize = 50;
 
 /// A survey as it is printed.
 #[derive(Drop)]
-pub struct ToldSurvey {
+pub struct PrintedSurvey {
     /// how many routines were read
     pub read: usize,
     /// how many were refused
@@ -39,39 +41,37 @@ fn text_in(
     }
 }
 
-// What is found in texts that came to this.
-fn readings_told(
+// Writes what is found in texts to which a reader gave these answers, and whose further lines have these faults.
+fn render_answers(
     alloc: Global,
-    readings: &Readings,
+    answers: &[Result<Routine, Failure<Fault>>],
+    further: &[Fault],
     output: SurveyOutput,
-) -> Result<ToldSurvey, AllocError>
-    ensures { IfOk result (λ told. told.read + told.refused ≡ length readings.now.answers.items) }
+) -> Result<PrintedSurvey, AllocError>
+    ensures { IfOk result (λ printed. printed.read + printed.refused ≡ length answers.now) }
 {
-    let facts = survey(
-        alloc,
-        readings.answers.as_slice(),
-        readings.further.as_slice(),
-    )?;
-    Ok(ToldSurvey {
+    let facts = survey(alloc, answers, further)?;
+    Ok(PrintedSurvey {
         read: facts.read,
         refused: facts.refused.len(),
         text: text_in(alloc, &facts, output)?,
     })
 }
 
-/// What is found in the texts of routines. They are read side by side, each by itself: one that is refused is counted and
-/// reported, with each line that can't be read, and hides nothing of the others.
-pub fn survey_told<R: Threads + Sync, W: Watch>(
+/// Writes what is found in the texts of routines. They are read side by side, each by itself: one that is refused is counted and
+/// reported, with its lines that can't be read, and hides nothing of the others.
+pub fn render_survey<R: Threads + Sync, W: Watch>(
     rt: &R,
     alloc: Global,
     sources: &[Source<'_>],
     output: SurveyOutput,
     watch: &W,
-) -> Result<ToldSurvey, AllocError>
-    ensures { IfOk result (λ told. told.read + told.refused ≡ length sources.now) }
+) -> Result<PrintedSurvey, AllocError>
+    ensures { IfOk result (λ printed. printed.read + printed.refused ≡ length sources.now) }
 {
     let readings = read_all_lines(rt, alloc, sources, watch)?;
-    let told = readings_told(alloc, &readings, output);
+    let answers = readings.answers.as_slice();
+    let printed = render_answers(alloc, answers, readings.further.as_slice(), output);
     watch.discard(readings);
-    told
+    printed
 }

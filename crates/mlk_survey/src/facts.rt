@@ -20,7 +20,7 @@ pub struct Facts<'a> {
     pub read: usize,
     /// those that were not, each at its first fault
     pub refused: Vec<RefusedRoutine<'a>>,
-    /// where else their lines can't be read
+    /// their further lines that can't be read
     pub further: Vec<RefusedRoutine<'a>>,
     /// the routines that were not read, by the code and the word of their first faults, most first
     pub refusal_counts: Vec<RefusalCount<'a>>,

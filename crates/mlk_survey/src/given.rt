@@ -30,6 +30,14 @@ impl<'a> CalledLabel<'a> {
     }
 }
 
+/// How many items a list of formals or of actuals has.
+#[derive(Clone, Copy, Debug, Drop, PartialEq, Eq)]
+pub enum ListLength {
+    /// there is no list
+    NoList,
+    Items(usize),
+}
+
 /// What a call lacks.
 #[derive(Clone, Copy, Drop, PartialEq, Eq)]
 pub enum Lack {
@@ -82,10 +90,10 @@ impl<'a> Routines<'a> {
     }
 }
 
-// The labels of the routines that were read, and their first lines: how many formals each has, none without a list.
+// The labels of the routines that were read, and their first lines, with the lengths of their formal lists.
 #[derive(Drop)]
 struct Labels<'a> {
-    labels: IndexMap<CalledLabel<'a>, Option<usize>>,
+    labels: IndexMap<CalledLabel<'a>, ListLength>,
 }
 
 impl<'a> Labels<'a> {
@@ -102,8 +110,8 @@ impl<'a> Labels<'a> {
     // Adds a line by one of its names.
     fn add(&mut self, called: CalledLabel<'a>, line: &Line) -> Result<(), AllocError> {
         let formals = match line.formals.as_ref() {
-            None => None,
-            Some(formals) => Some(formals.as_slice().len()),
+            None => ListLength::NoList,
+            Some(formals) => ListLength::Items(formals.as_slice().len()),
         };
         let Ok(_) = self.labels.insert(called, formals) else {
             return Err(AllocError);
@@ -138,7 +146,7 @@ impl<'a> Labels<'a> {
         self.labels.contains_key(called)
     }
 
-    fn formals(&self, called: &CalledLabel<'_>) -> Option<Option<usize>> {
+    fn formals(&self, called: &CalledLabel<'_>) -> Option<ListLength> {
         self.labels.get(called).copied()
     }
 }
@@ -163,8 +171,8 @@ impl<'a> Given<'a> {
         })
     }
 
-    /// How many formals the line has that a call names, none without a list; `None` if there is no such line.
-    pub(crate) fn formals(&self, called: &CalledLabel<'a>) -> Option<Option<usize>> {
+    /// The length of the formal list of the line that a call names; `None` if there is no such line.
+    pub(crate) fn formals(&self, called: &CalledLabel<'a>) -> Option<ListLength> {
         self.labels.formals(called)
     }
 

@@ -17,7 +17,7 @@ mod tally;
 
 pub use entries::Entry;
 pub use facts::{Facts, InRoutines};
-pub use given::{CalledLabel, Lack};
+pub use given::{CalledLabel, Lack, ListLength};
 pub use globals::{GlobalUse, Uses};
 pub use locks::LockUse;
 pub use misfits::MisfitCall;

@@ -1,31 +1,30 @@
 // Calls whose actuals don't fit the formals of what they name.
 
-use crate::given::{CalledLabel, Given};
+use crate::given::{CalledLabel, Given, ListLength};
 use mlk_program::{CallSite, calls_of};
 use mlk_survey_trees::Position;
 use mlk_syntax::{Line, Routine};
 use mlk_text::{LineNumber, push_sparing};
 use std::alloc::{AllocError, Global};
 
-/// A call whose actual list, or want of one, does not fit the formal list of the line that it names: 303, once the routines are
-/// linked.
+/// A call whose actuals don't fit the formals of the line that it names: 303, once the routines are linked.
 #[derive(Clone, Copy, Drop)]
 pub struct MisfitCall<'a> {
     pub called: CalledLabel<'a>,
     pub position: Position<'a>,
-    /// how many actuals it has; `None` without a list
-    pub actuals: Option<usize>,
-    /// how many formals the line has; `None` without a list
-    pub formals: Option<usize>,
+    /// how many actuals it has
+    pub actuals: ListLength,
+    /// how many formals the line has
+    pub formals: ListLength,
 }
 
-// Whether a line with this number of formals takes this number of actuals.
-fn takes(formals: Option<usize>, actuals: Option<usize>) -> bool {
+// Whether a line with so many formals takes so many actuals.
+fn takes(formals: ListLength, actuals: ListLength) -> bool {
     match (formals, actuals) {
-        (None, None) => true,
-        (Some(formals), None) => formals == 0,
-        (Some(formals), Some(actuals)) => actuals <= formals,
-        (None, Some(_)) => false,
+        (ListLength::NoList, ListLength::NoList) => true,
+        (ListLength::NoList, ListLength::Items(_)) => false,
+        (ListLength::Items(formals), ListLength::NoList) => formals == 0,
+        (ListLength::Items(formals), ListLength::Items(actuals)) => actuals <= formals,
     }
 }
 
@@ -39,8 +38,8 @@ fn misfit<'a>(
     let called = CalledLabel::of(routine, site.callee);
     let formals = given.formals(&called)?;
     let actuals = match site.actuals {
-        Some(actuals) => Some(actuals.len()),
-        None => None,
+        Some(actuals) => ListLength::Items(actuals.len()),
+        None => ListLength::NoList,
     };
     if takes(formals, actuals) {
         return None;

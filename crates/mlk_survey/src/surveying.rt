@@ -54,7 +54,7 @@ fn parted_in_order<'a>(
     Ok((routines, refused))
 }
 
-// Where else lines can't be read, in order.
+// The further lines that can't be read, in order.
 fn further_in_order<'a>(
     alloc: Global,
     further: &'a [Fault],
@@ -79,7 +79,7 @@ fn found_in<'a>(
 }
 
 /// What is found in the texts to which a reader gave these answers. Each text is taken by itself: one that is refused hides
-/// nothing of the others. `further` has the faults behind the first ones of texts that are refused.
+/// nothing of the others. `further` has the faults of texts that are refused behind their first ones.
 pub fn survey<'a>(
     alloc: Global,
     answers: &'a [Result<Routine, Failure<Fault>>],
@@ -89,11 +89,12 @@ pub fn survey<'a>(
 {
     let (routines, refused) = parted_in_order(alloc, answers)?;
     let refusal_counts = refusal_counts(alloc, refused.as_slice())?;
+    let further = further_in_order(alloc, further)?;
     let found = found_in(alloc, routines.as_slice(), refused.as_slice())?;
     Ok(Facts {
         read: routines.len(),
         refused,
-        further: further_in_order(alloc, further)?,
+        further,
         refusal_counts,
         found,
     })

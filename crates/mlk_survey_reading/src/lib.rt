@@ -1,5 +1,5 @@
-//! The texts of routines, read for a survey: one that is refused is read on behind the line at which it was, so that each line that
-//! can't be read is found, and not the first alone.
+//! Reads routines for a survey. One that is refused is read again behind the line of its fault, so that all lines that can't be
+//! read are found, and not only the first.
 #![tactic(auto)]
 
 mod reading;

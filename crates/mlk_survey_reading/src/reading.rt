@@ -1,6 +1,8 @@
-// Reading on behind lines that are refused.
+// Reading behind lines that are refused.
 
-ghost use Rattle.std.specs.Prelude.{◌≡◌, IfOk, length};
+ghost use Rattle.std.specs.Prelude.{IfOk};
+ghost use Rattle.std.specs.List.{AllZip};
+ghost use Rattle.mlk_pool.specs.Answers.{IsAnswer};
 
 use crate::rest::Rest;
 use mlk_pool::{Source, read_each};
@@ -10,7 +12,7 @@ use mlk_watch::Watch;
 use std::alloc::{AllocError, Global};
 use std::thread::Threads;
 
-// How many lines of a routine are found at most: each more is a copy of what is left of the text.
+// How many refused lines of a routine are found at most: each more is a copy of what is left of the text.
 const MOST_LINES: usize = 64;
 
 /// What reading the texts of routines came to.
@@ -22,27 +24,7 @@ pub struct Readings {
     pub further: Vec<Fault>,
 }
 
-// What is left of the texts that were refused, behind the lines of their faults.
-fn rests_behind<'a>(
-    alloc: Global,
-    rests: &[Rest<'a>],
-    answers: &[Result<Routine, Failure<Fault>>],
-) -> Result<Vec<Rest<'a>>, AllocError> {
-    let mut left = Vec::new(alloc);
-    for (rest, answer) in rests.iter().zip(answers) {
-        let Err(Failure::Refused(fault)) = answer else {
-            continue;
-        };
-        if let Some(rest) = rest.behind(alloc, fault)?
-            && left.push(rest).is_err()
-        {
-            return Err(AllocError);
-        }
-    }
-    Ok(left)
-}
-
-fn sources_of<'a>(alloc: Global, rests: &[Rest<'a>]) -> Result<Vec<Source<'a>>, AllocError> {
+fn sources_of<'a>(alloc: Global, rests: &'a [Rest]) -> Result<Vec<Source<'a>>, AllocError> {
     let mut sources = Vec::new(alloc);
     for rest in rests {
         let source = rest.source(alloc)?;
@@ -53,25 +35,61 @@ fn sources_of<'a>(alloc: Global, rests: &[Rest<'a>]) -> Result<Vec<Source<'a>>, 
     Ok(sources)
 }
 
+// What is left of the texts that were refused, behind the lines of their faults.
+fn rests_behind(
+    alloc: Global,
+    rests: &[Rest],
+    answers: &[Result<Routine, Failure<Fault>>],
+) -> Result<Vec<Rest>, AllocError> {
+    let mut left = Vec::new(alloc);
+    for (rest, answer) in rests.iter().zip(answers) {
+        let Err(Failure::Refused(fault)) = answer else {
+            continue;
+        };
+        if let Some(behind) = rest.behind(alloc, fault)? {
+            left.push(behind)?;
+        }
+    }
+    Ok(left)
+}
+
 // Appends the faults among these answers, at their places in the routines.
 fn add_faults(
     further: &mut Vec<Fault>,
-    rests: &[Rest<'_>],
+    rests: &[Rest],
     answers: Vec<Result<Routine, Failure<Fault>>>,
 ) -> Result<(), AllocError> {
     for (rest, answer) in rests.iter().zip(answers) {
-        if let Err(Failure::Refused(fault)) = answer {
+        let Err(failure) = answer else {
+            continue;
+        };
+        if let Failure::Refused(fault) = failure {
             further.push(rest.placed(fault))?;
         }
     }
     Ok(())
 }
 
+// Reads what is left of the texts, appends the faults that are found, and returns what is left behind these.
+fn read_on<R: Threads + Sync, W: Watch>(
+    rt: &R,
+    alloc: Global,
+    rests: &[Rest],
+    further: &mut Vec<Fault>,
+    watch: &W,
+) -> Result<Vec<Rest>, AllocError> {
+    let sources = sources_of(alloc, rests)?;
+    let answers = read_each(rt, alloc, sources.as_slice(), watch)?;
+    let behind = rests_behind(alloc, rests, answers.as_slice())?;
+    add_faults(further, rests, answers)?;
+    Ok(behind)
+}
+
 // The faults behind the first ones, round by round.
 fn further_faults<R: Threads + Sync, W: Watch>(
     rt: &R,
     alloc: Global,
-    rests: Vec<Rest<'_>>,
+    rests: Vec<Rest>,
     watch: &W,
 ) -> Result<Vec<Fault>, AllocError> {
     let mut further = Vec::new(alloc);
@@ -80,45 +98,40 @@ fn further_faults<R: Threads + Sync, W: Watch>(
         if left.is_empty() {
             break;
         }
-        let sources = sources_of(alloc, left.as_slice())?;
-        let answers = read_each(rt, alloc, sources.as_slice(), watch)?;
-        let behind = rests_behind(alloc, left.as_slice(), answers.as_slice())?;
-        add_faults(&mut further, left.as_slice(), answers)?;
+        let behind = read_on(rt, alloc, left.as_slice(), &mut further, watch)?;
         left = behind;
     }
     Ok(further)
 }
 
 // What is left of those of `sources` that were refused, behind the lines of their faults.
-fn first_rests<'a>(
+fn first_rests(
     alloc: Global,
-    sources: &[Source<'a>],
+    sources: &[Source<'_>],
     answers: &[Result<Routine, Failure<Fault>>],
-) -> Result<Vec<Rest<'a>>, AllocError> {
+) -> Result<Vec<Rest>, AllocError> {
     let mut left = Vec::new(alloc);
     for (source, answer) in sources.iter().zip(answers) {
         let Err(Failure::Refused(fault)) = answer else {
             continue;
         };
         let rest = Rest::of(alloc, source)?;
-        if let Some(rest) = rest.behind(alloc, fault)?
-            && left.push(rest).is_err()
-        {
-            return Err(AllocError);
+        if let Some(behind) = rest.behind(alloc, fault)? {
+            left.push(behind)?;
         }
     }
     Ok(left)
 }
 
-/// Reads each of the texts `sources` by itself, and what is refused on behind the line of its fault: as if a routine began there,
-/// in a block if the next line is in one.
+/// Reads each of the texts `sources` by itself. One that is refused is then read behind the line of its fault, as if a routine began
+/// there, in a block if the next line is in one.
 pub fn read_all_lines<R: Threads + Sync, W: Watch>(
     rt: &R,
     alloc: Global,
     sources: &[Source<'_>],
     watch: &W,
 ) -> Result<Readings, AllocError>
-    ensures { IfOk result (λ r. length r.answers.items ≡ length sources.now) }
+    ensures { IfOk result (λ r. AllZip IsAnswer sources.now r.answers.items) }
 {
     let answers = read_each(rt, alloc, sources, watch)?;
     let left = first_rests(alloc, sources, answers.as_slice())?;

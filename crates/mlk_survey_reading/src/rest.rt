@@ -7,14 +7,14 @@ use std::alloc::{AllocError, Global};
 // The deepest level of a line.
 const DEEPEST: usize = 15;
 
-/// What is left of the text of a routine.
+/// What is left to read of the text of a routine.
 #[derive(Drop)]
-pub(crate) struct Rest<'a> {
-    stem: &'a [u8],
+pub(crate) struct Rest {
+    stem: Vec<u8>,
     text: Vec<u8>,
-    /// how many lines of the routine come before
+    /// how many lines of the routine come before the text
     before: usize,
-    /// how many lines stand in front of the text when it is read: the heads of the blocks that its first line is in
+    /// how many lines are put in front of the text to read it: the heads of the blocks that its first line is in
     heads: usize,
 }
 
@@ -56,11 +56,11 @@ fn is_of_line(fault: &Fault) -> bool {
     }
 }
 
-impl<'a> Rest<'a> {
+impl Rest {
     /// Keeps a copy of a whole text.
-    pub(crate) fn of(alloc: Global, source: &Source<'a>) -> Result<Rest<'a>, AllocError> {
+    pub(crate) fn of(alloc: Global, source: &Source<'_>) -> Result<Rest, AllocError> {
         Ok(Rest {
-            stem: source.stem,
+            stem: Vec::from_slice(alloc, source.stem)?,
             text: Vec::from_slice(alloc, source.text.as_slice())?,
             before: 0,
             heads: 0,
@@ -73,7 +73,7 @@ impl<'a> Rest<'a> {
         line.saturating_sub(self.heads).saturating_add(self.before)
     }
 
-    /// A fault of this text, at its place in the routine.
+    /// Moves a fault of this text to its place in the routine.
     pub(crate) fn placed(&self, fault: Fault) -> Fault {
         let line = LineNumber::new(u32::try_from(self.line_of(&fault)).unwrap_or(u32::MAX));
         let Fault {
@@ -98,11 +98,7 @@ impl<'a> Rest<'a> {
     }
 
     /// Copies what comes after the line of a fault; `None` if nothing is left to read, or the fault is of no line.
-    pub(crate) fn behind(
-        &self,
-        alloc: Global,
-        fault: &Fault,
-    ) -> Result<Option<Rest<'a>>, AllocError> {
+    pub(crate) fn behind(&self, alloc: Global, fault: &Fault) -> Result<Option<Rest>, AllocError> {
         let line = self.line_of(fault);
         let left = after_lines(self.text.as_slice(), line.saturating_sub(self.before));
         let level = first_level(left);
@@ -110,15 +106,15 @@ impl<'a> Rest<'a> {
             return Ok(None);
         }
         Ok(Some(Rest {
-            stem: self.stem,
+            stem: Vec::from_slice(alloc, self.stem.as_slice())?,
             text: Vec::from_slice(alloc, left)?,
             before: line,
             heads: level.saturating_sub(1),
         }))
     }
 
-    /// The text as it is read: behind a head of each block that its first line is in.
-    pub(crate) fn source(&self, alloc: Global) -> Result<Source<'a>, AllocError> {
+    /// Copies the text as it is read: behind a head of each block that its first line is in.
+    pub(crate) fn source(&self, alloc: Global) -> Result<Source<'_>, AllocError> {
         let mut text = Vec::new(alloc);
         for level in 0..self.heads {
             text.push(b' ')?;
@@ -129,7 +125,7 @@ impl<'a> Rest<'a> {
         }
         text.extend_from_slice(self.text.as_slice())?;
         Ok(Source {
-            stem: self.stem,
+            stem: self.stem.as_slice(),
             text,
         })
     }

@@ -4,7 +4,7 @@ use mlk_hazards::HazardAt;
 use mlk_report_text::Piece::{At, Bytes, CodeName, Made, Number, Words};
 use mlk_report_text::{Piece, text_of};
 use mlk_survey::{
-    Entry, GlobalUse, Lack, LockOrder, LockUse, MisfitCall, MissingCall, RefusalCount,
+    Entry, GlobalUse, Lack, ListLength, LockOrder, LockUse, MisfitCall, MissingCall, RefusalCount,
     RefusedRoutine,
 };
 use mlk_survey_trees::LockRoot;
@@ -12,9 +12,9 @@ use mlk_text::{Code, Name};
 use std::alloc::{AllocError, Global};
 
 /// What has a line in the text.
-pub(crate) trait Told {
+pub(crate) trait TextLine {
     /// The bytes of the line, without its end.
-    fn told(&self, alloc: Global) -> Result<Vec<u8>, AllocError>;
+    fn line(&self, alloc: Global) -> Result<Vec<u8>, AllocError>;
 }
 
 /// The root of a lock name, with its caret.
@@ -33,15 +33,15 @@ fn reason(alloc: Global, code: Code, word: Option<&[u8]>) -> Result<Vec<u8>, All
     }
 }
 
-impl<'a> Told for RefusalCount<'a> {
-    fn told(&self, alloc: Global) -> Result<Vec<u8>, AllocError> {
+impl<'a> TextLine for RefusalCount<'a> {
+    fn line(&self, alloc: Global) -> Result<Vec<u8>, AllocError> {
         let reason = Made(reason(alloc, self.code, self.word)?);
         text_of(alloc, &[Number(self.routines), Words(" "), reason])
     }
 }
 
-impl<'a> Told for RefusedRoutine<'a> {
-    fn told(&self, alloc: Global) -> Result<Vec<u8>, AllocError> {
+impl<'a> TextLine for RefusedRoutine<'a> {
+    fn line(&self, alloc: Global) -> Result<Vec<u8>, AllocError> {
         let reason = Made(reason(alloc, self.code, self.word)?);
         let place = At(self.position.line, self.position.column);
         let routine = Bytes(self.position.routine);
@@ -49,8 +49,8 @@ impl<'a> Told for RefusedRoutine<'a> {
     }
 }
 
-impl<'a> Told for MissingCall<'a> {
-    fn told(&self, alloc: Global) -> Result<Vec<u8>, AllocError> {
+impl<'a> TextLine for MissingCall<'a> {
+    fn line(&self, alloc: Global) -> Result<Vec<u8>, AllocError> {
         let lack = match self.lack {
             Lack::Routine => " no such routine, calls ",
             Lack::Label => " no such label, calls ",
@@ -72,16 +72,16 @@ impl<'a> Told for MissingCall<'a> {
     }
 }
 
-// A number of items of a list, or that there is no list.
-fn listed(count: Option<usize>) -> Piece<'static> {
-    match count {
-        Some(count) => Number(count),
-        None => Words("no list"),
+// The number of items of a list, or that there is no list.
+fn length_piece(length: ListLength) -> Piece<'static> {
+    match length {
+        ListLength::NoList => Words("no list"),
+        ListLength::Items(count) => Number(count),
     }
 }
 
-impl<'a> Told for MisfitCall<'a> {
-    fn told(&self, alloc: Global) -> Result<Vec<u8>, AllocError> {
+impl<'a> TextLine for MisfitCall<'a> {
+    fn line(&self, alloc: Global) -> Result<Vec<u8>, AllocError> {
         text_of(
             alloc,
             &[
@@ -95,9 +95,9 @@ impl<'a> Told for MisfitCall<'a> {
                 Words("^"),
                 Bytes(self.called.routine),
                 Words(" has formals "),
-                listed(self.formals),
+                length_piece(self.formals),
                 Words(", and actuals "),
-                listed(self.actuals),
+                length_piece(self.actuals),
             ],
         )
     }
@@ -119,8 +119,8 @@ fn formals_text(alloc: Global, formals: Option<&[Name]>) -> Result<Vec<u8>, Allo
     Ok(text)
 }
 
-impl<'a> Told for Entry<'a> {
-    fn told(&self, alloc: Global) -> Result<Vec<u8>, AllocError> {
+impl<'a> TextLine for Entry<'a> {
+    fn line(&self, alloc: Global) -> Result<Vec<u8>, AllocError> {
         let formals = formals_text(alloc, self.formals)?;
         text_of(
             alloc,
@@ -134,8 +134,8 @@ impl<'a> Told for Entry<'a> {
     }
 }
 
-impl<'a> Told for GlobalUse<'a> {
-    fn told(&self, alloc: Global) -> Result<Vec<u8>, AllocError> {
+impl<'a> TextLine for GlobalUse<'a> {
+    fn line(&self, alloc: Global) -> Result<Vec<u8>, AllocError> {
         text_of(
             alloc,
             &[
@@ -152,15 +152,15 @@ impl<'a> Told for GlobalUse<'a> {
     }
 }
 
-impl<'a> Told for LockUse<'a> {
-    fn told(&self, alloc: Global) -> Result<Vec<u8>, AllocError> {
+impl<'a> TextLine for LockUse<'a> {
+    fn line(&self, alloc: Global) -> Result<Vec<u8>, AllocError> {
         let root = Made(root_text(alloc, &self.root)?);
         text_of(alloc, &[root, Words(" claimed "), Number(self.claims)])
     }
 }
 
-impl<'a> Told for LockOrder<'a> {
-    fn told(&self, alloc: Global) -> Result<Vec<u8>, AllocError> {
+impl<'a> TextLine for LockOrder<'a> {
+    fn line(&self, alloc: Global) -> Result<Vec<u8>, AllocError> {
         let held = Made(root_text(alloc, &self.held)?);
         let claimed = Made(root_text(alloc, &self.claimed)?);
         let claims = Number(self.claims);
@@ -168,8 +168,8 @@ impl<'a> Told for LockOrder<'a> {
     }
 }
 
-impl<'a> Told for HazardAt<'a> {
-    fn told(&self, alloc: Global) -> Result<Vec<u8>, AllocError> {
+impl<'a> TextLine for HazardAt<'a> {
+    fn line(&self, alloc: Global) -> Result<Vec<u8>, AllocError> {
         let place = &self.position;
         text_of(
             alloc,

@@ -1,12 +1,12 @@
 // The text of a survey.
 
-use crate::lines::Told;
+use crate::lines::TextLine;
 use mlk_report_text::escape_bytes;
 use mlk_survey::Facts;
 use std::alloc::{AllocError, Global};
 
 // A title with how many things there are, and a line for each of the first `most` of them.
-fn push_list<T: Told>(
+fn push_list<T: TextLine>(
     text: &mut String,
     alloc: Global,
     title: &str,
@@ -16,7 +16,7 @@ fn push_list<T: Told>(
     text.push_str(&format!(in alloc; "{} {}\n", title, things.len())?)?;
     let (first, others) = things.split_at(things.len().min(most));
     for thing in first {
-        let line = escape_bytes(alloc, thing.told(alloc)?.as_slice())?;
+        let line = escape_bytes(alloc, thing.line(alloc)?.as_slice())?;
         text.push_str(&format!(in alloc; "  {}\n", line)?)?;
     }
     if !others.is_empty() {
@@ -25,22 +25,33 @@ fn push_list<T: Told>(
     Ok(())
 }
 
-/// The text of a survey: a title for each list with how many things it has, and below it a line for each of the first `most`
-/// of them. What is refused comes first, with a list of its further lines and of calls that don't fit if there
-/// are any, what a system may do otherwise last.
+// The same, if there are things.
+fn push_list_if_any<T: TextLine>(
+    text: &mut String,
+    alloc: Global,
+    title: &str,
+    things: &[T],
+    most: usize,
+) -> Result<(), AllocError> {
+    if things.is_empty() {
+        return Ok(());
+    }
+    push_list(text, alloc, title, things, most)
+}
+
+/// The text of a survey: a title for each list with its length, and below it a line for each of its first `most` items. What is
+/// refused comes first, hazards last. The lists of further lines and of calls that don't fit are there if they have items.
 pub fn survey_text(alloc: Global, facts: &Facts<'_>, most: usize) -> Result<String, AllocError> {
     let mut text = format!(in alloc; "routines read {}\n", facts.read)?;
     push_list(&mut text, alloc, "routines refused", &facts.refused, most)?;
     push_list(&mut text, alloc, "reasons", &facts.refusal_counts, most)?;
-    if !facts.further.is_empty() {
-        push_list(
-            &mut text,
-            alloc,
-            "further lines refused",
-            &facts.further,
-            most,
-        )?;
-    }
+    push_list_if_any(
+        &mut text,
+        alloc,
+        "further lines refused",
+        &facts.further,
+        most,
+    )?;
     push_list(
         &mut text,
         alloc,
@@ -48,15 +59,13 @@ pub fn survey_text(alloc: Global, facts: &Facts<'_>, most: usize) -> Result<Stri
         &facts.found.missing,
         most,
     )?;
-    if !facts.found.misfits.is_empty() {
-        push_list(
-            &mut text,
-            alloc,
-            "calls that do not fit",
-            &facts.found.misfits,
-            most,
-        )?;
-    }
+    push_list_if_any(
+        &mut text,
+        alloc,
+        "calls that do not fit",
+        &facts.found.misfits,
+        most,
+    )?;
     push_list(&mut text, alloc, "entries", &facts.found.entries, most)?;
     push_list(&mut text, alloc, "globals", &facts.found.globals, most)?;
     push_list(&mut text, alloc, "locks", &facts.found.locks, most)?;

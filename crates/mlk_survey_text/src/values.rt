@@ -4,7 +4,7 @@ use crate::lines::root_text;
 use mlk_hazards::HazardAt;
 use mlk_report_text::{Field, escape_bytes, object};
 use mlk_survey::{
-    Entry, GlobalUse, Lack, LockOrder, LockUse, MisfitCall, MissingCall, RefusalCount,
+    Entry, GlobalUse, Lack, ListLength, LockOrder, LockUse, MisfitCall, MissingCall, RefusalCount,
     RefusedRoutine,
 };
 use mlk_survey_trees::Position;
@@ -81,11 +81,11 @@ impl<'a> Valued for MissingCall<'a> {
     }
 }
 
-// A number of items of a list, or null where there is no list.
-fn listed(count: Option<usize>) -> Field<'static> {
-    match count {
-        Some(count) => Field::Number(count),
-        None => Field::Null,
+// The number of items of a list, or null if there is no list.
+fn length_field(length: ListLength) -> Field<'static> {
+    match length {
+        ListLength::NoList => Field::Null,
+        ListLength::Items(count) => Field::Number(count),
     }
 }
 
@@ -95,8 +95,8 @@ impl<'a> Valued for MisfitCall<'a> {
         let members = vec![in alloc;
             ("routine", Field::Bytes(self.called.routine)),
             ("label", Field::Bytes(self.called.label)),
-            ("formals", listed(self.formals)),
-            ("actuals", listed(self.actuals)),
+            ("formals", length_field(self.formals)),
+            ("actuals", length_field(self.actuals)),
             ("place", Field::Value(place)),
         ]?;
         object(alloc, members)

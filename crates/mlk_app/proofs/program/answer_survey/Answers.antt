@@ -4,8 +4,8 @@ use Rattle.mlk_app.specs.Ran.{TellsUnread}
 use Rattle.mlk_app.proofs.Saying.{unsurveyed-answers}
 use Rattle.mlk_app.proofs.program.answer_survey.Goals as goal
 
-pub returns-in-Ok-survey_told : goal.returns-in-Ok-survey_told
-returns-in-Ok-survey_told g c = (
+pub returns-in-Ok-render_survey : goal.returns-in-Ok-render_survey
+returns-in-Ok-render_survey g c = (
   record {
     sources = c.in-Ok.sources.items;
     texts = subst (λ paths. AreSources (g.F.Files.holds c.args.files.now) paths c.in-Ok.sources.items) c.as_slice.ensures.value c.in-Ok.ensures.ok;
