@@ -4,7 +4,7 @@ use crate::maker::{Ground, Maker, has_changed, number_of};
 use crate::mend::done;
 use crate::need::formals_of;
 use crate::settle::settle_lines;
-use crate::stop::{GaveUp, Stop, gave_up};
+use crate::stop::{GaveUp, Stop, WhenStuck, gave_up};
 use mlk_cert::{Case, NameSet, Own, Shared, Test};
 use mlk_make_drafts::{At, Draft};
 use mlk_program::{EntryId, Program};
@@ -108,6 +108,21 @@ fn is_stale(maker: &Maker, draft: &Draft) -> bool {
         .any(|entry| has_changed(maker, *entry, walked))
 }
 
+// The number of changes after which an entry was walked. One that is given up is not walked again.
+fn changes_after(
+    maker: &mut Maker,
+    walked: Result<(), Failure<GaveUp>>,
+) -> Result<usize, Failure<GaveUp>> {
+    match walked {
+        Err(Failure::Refused(place)) if maker.when_stuck == WhenStuck::Leave => {
+            maker.given_up.push(place)?;
+            Ok(usize::MAX)
+        }
+        Err(failure) => Err(failure),
+        Ok(()) => Ok(maker.changes),
+    }
+}
+
 /// Walks an entry of which something is known, unless nothing has changed that its walk asks.
 pub(crate) fn walk_entry(
     ground: &Ground<'_>,
@@ -118,8 +133,8 @@ pub(crate) fn walk_entry(
         return Ok(());
     };
     if is_stale(maker, &draft) {
-        walk(ground, maker, &mut draft)?;
-        draft.walked = Some(maker.changes);
+        let walked = walk(ground, maker, &mut draft);
+        draft.walked = Some(changes_after(maker, walked)?);
     }
     maker.drafts.insert(entry, draft)?;
     Ok(())

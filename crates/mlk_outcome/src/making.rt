@@ -6,7 +6,7 @@ ghost use Rattle.mlk_outcome.specs.Making.{IsMade, IsUnmade, IsStuck, ReportsUnm
 
 use crate::refusal::NoReport;
 use mlk_cert::{CertFormat, Certificate, Spelled};
-use mlk_make::{GaveUp, MakeError, make_certificate, make_watched};
+use mlk_make::{GaveUp, MakeError, make, make_certificate};
 use mlk_pool::CheckError;
 use mlk_program::Program;
 use mlk_rules::Rules;
@@ -69,7 +69,7 @@ pub fn certificate_text<W: Watch>(
     ensures ok { IfOk result (λ text. IsMade (map routine_of program.now) rules.now format text.items) }
     ensures refused { IfErr result (IsUnmade (map routine_of program.now) rules.now) }
 {
-    match make_watched(alloc, program, rules, format, watch) {
+    match make(alloc, program, rules, format, watch) {
         Ok(Spelled { text, .. }) => Ok(text),
         Err(error) => Err(unmade(alloc, program, error)),
     }
