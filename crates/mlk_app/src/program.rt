@@ -16,7 +16,7 @@ use crate::printed::{
     certificate_line, events_line, fault_line, file_line, missing_line, no_page_line, rules_line,
     stuck_line, workers_line,
 };
-use crate::refused::{refused_file, refused_spot, rule_file};
+use crate::refused::{refused_file, rule_file, spot_in};
 use crate::source::{
     FileError, Files, Sources, cert_format, read_file, read_files, read_sources,
 };
@@ -70,10 +70,7 @@ fn notice(
     ensures { IfOk result (IsNoticed (style_in program.now.asked).output) }
 {
     let refused = refused_file(refusal, program, sources);
-    let spot = match &refused {
-        Some(file) => refused_spot(alloc, refusal, file.text)?,
-        None => None,
-    };
+    let spot = spot_in(alloc, refusal, &refused)?;
     let file = refused.unwrap_or(rule_file(program, sources));
     match notice_of(refusal, program, line.as_bytes(), file, spot) {
         Some(notice) => render_notice(alloc, &notice, style_in(&program.asked).output),

@@ -155,3 +155,15 @@ pub(crate) fn refused_spot(
         _ => Ok(None),
     }
 }
+
+/// Finds where `file` is refused; `None` if no file is, or the refusal is at no line of it.
+pub(crate) fn spot_in(
+    alloc: Global,
+    refusal: &NoReport,
+    file: &Option<GivenFile<'_>>,
+) -> Result<Option<Spot>, AllocError> {
+    match file {
+        Some(file) => refused_spot(alloc, refusal, file.text),
+        None => Ok(None),
+    }
+}

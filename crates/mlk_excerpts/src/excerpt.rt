@@ -1,6 +1,6 @@
 // A line of a text as people are shown it, with a caret below a column.
 
-use crate::line::{split, split_at_column};
+use crate::line::{split_at_column, split_at_most};
 use bstr::ByteSlice;
 use mlk_report_text::Piece::{Bytes, Number, Words};
 use mlk_report_text::push_all;
@@ -23,10 +23,10 @@ pub struct Excerpt<'a> {
     pub column: Column,
 }
 
-/// Returns the blanks below the number of a line: as many as it has digits, and one more.
+/// The blanks below the number of a line: as many as it has digits, and one more.
 pub fn margin_of(number: LineNumber) -> &'static [u8] {
     let digits = number.number().checked_ilog10().unwrap_or(0) as usize;
-    let (margin, _) = split(BLANKS, digits.saturating_add(2));
+    let (margin, _) = split_at_most(BLANKS, digits.saturating_add(2));
     margin
 }
 
@@ -74,7 +74,7 @@ fn cut_mark(is_cut: bool) -> &'static str {
 }
 
 impl<'a> Window<'a> {
-    // The part of a line round the column, which is after `front`; all of a line that is short enough.
+    // The part of a line around the column, which is after `front`; all of a line that is short enough.
     fn of(front: &'a [u8], back: &'a [u8]) -> Window<'a> {
         if front.len().saturating_add(back.len()) <= MOST_SHOWN {
             return Window {
@@ -85,15 +85,15 @@ impl<'a> Window<'a> {
             };
         }
         let is_cut_before = front.len() > MOST_BEFORE;
-        let (_, near) = split(front, front.len().saturating_sub(MOST_BEFORE));
+        let (_, near) = split_at_most(front, front.len().saturating_sub(MOST_BEFORE));
         let start = if is_cut_before {
             rest_of_character(near)
         } else {
             0
         };
-        let (_, shown) = split(near, start);
+        let (_, shown) = split_at_most(near, start);
         let most = MOST_SHOWN.saturating_sub(shown.len());
-        let (behind, _) = split(back, most);
+        let (behind, _) = split_at_most(back, most);
         Window {
             front: shown,
             back: behind,
@@ -103,8 +103,28 @@ impl<'a> Window<'a> {
     }
 }
 
-/// Appends the line with its number, and below it a caret and a blank, after which what is wrong there can be said. Control
-/// bytes are shown as `?`. Of a line of more than 320 bytes the part round the column is shown.
+/// Appends a line below an excerpt: its margin, `= LABEL: `, and `words`.
+pub fn push_labelled<'a>(
+    text: &mut Vec<u8>,
+    margin: &'a [u8],
+    label: &'a str,
+    words: &'a [u8],
+) -> Result<(), AllocError> {
+    push_all(
+        text,
+        &[
+            Bytes(margin),
+            Words("= "),
+            Words(label),
+            Words(": "),
+            Bytes(words),
+            Words("\n"),
+        ],
+    )
+}
+
+/// Appends the line with its number, and below it a caret and a blank, after which what is wrong there can be written. Control
+/// bytes are shown as `?`. Of a line of more than 320 bytes the part around the column is shown.
 pub fn push_excerpt(text: &mut Vec<u8>, excerpt: &Excerpt<'_>) -> Result<(), AllocError> {
     let (front, back) = split_at_column(excerpt.line, excerpt.column);
     let window = Window::of(front, back);

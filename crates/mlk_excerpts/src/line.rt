@@ -25,21 +25,21 @@ impl<'a> TextLines<'a> {
         self.lines.as_slice()
     }
 
-    /// Returns the line with this number, or `None` if the text has no such line.
+    /// The line with this number; `None` if the text has no such line.
     pub fn line(&self, number: LineNumber) -> Option<&'a [u8]> {
         let place = (number.number() as usize).checked_sub(1)?;
         self.lines.as_slice().get(place).copied()
     }
 }
 
-// The first bytes of `bytes`, at most `most`, and the others.
-pub(crate) fn split(bytes: &[u8], most: usize) -> (&[u8], &[u8]) {
+/// Splits `bytes` into the first of them, at most `most`, and the others.
+pub fn split_at_most(bytes: &[u8], most: usize) -> (&[u8], &[u8]) {
     bytes.split_at(most.min(bytes.len()))
 }
 
 /// Splits `line` into the bytes before `column`, which counts bytes, and those from it on.
 pub fn split_at_column(line: &[u8], column: Column) -> (&[u8], &[u8]) {
-    split(line, (column.number() as usize).saturating_sub(1))
+    split_at_most(line, (column.number() as usize).saturating_sub(1))
 }
 
 /// Counts `column` of `line` in characters, from 1. Bytes that are no UTF-8 count as an editor shows them, one for each
@@ -49,8 +49,8 @@ pub fn character_column(line: &[u8], column: Column) -> usize {
     front.chars().count().saturating_add(1)
 }
 
-// Whether a byte belongs to a word of M, with the marks in front of it: `^ACCT`, `$$NEXT^BIL`, `%Z`.
-fn is_of_word(byte: u8) -> bool {
+/// Whether a byte may be in a word of M, with the marks in front of it: `^ACCT`, `$$NEXT^BIL`, `%Z`.
+pub fn is_of_word(byte: u8) -> bool {
     byte.is_ascii_alphanumeric() || matches!(byte, b'^' | b'%' | b'$')
 }
 
@@ -72,7 +72,7 @@ fn token_length(text: &[u8]) -> usize {
     match text.first() {
         None => 0,
         Some(b'"') => {
-            let (_, rest) = split(text, 1);
+            let (_, rest) = split_at_most(text, 1);
             quoted_length(rest).saturating_add(1)
         }
         Some(first) if is_of_word(*first) => {
@@ -85,10 +85,10 @@ fn token_length(text: &[u8]) -> usize {
     }
 }
 
-/// Returns the token at `column` of `line`: a word with the marks in front of it, a text in quotes, or else one character;
+/// The token at `column` of `line`: a word with the marks in front of it, a text in quotes, or else one character;
 /// nothing at the line's end.
 pub fn token_at(line: &[u8], column: Column) -> &[u8] {
     let (_, rest) = split_at_column(line, column);
-    let (token, _) = split(rest, token_length(rest));
+    let (token, _) = split_at_most(rest, token_length(rest));
     token
 }

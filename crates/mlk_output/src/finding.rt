@@ -1,6 +1,6 @@
 // Results: a fault, a hazard or a refusal, each at its place.
 
-use crate::hash::HashedLine;
+use crate::hash::{HashedLine, LineHash};
 use crate::notice::Place;
 use crate::region::physical_value;
 use mlk_report_text::Piece::{Bytes, Number, Words};
@@ -75,7 +75,7 @@ fn locations_value(alloc: Global, finding: &Finding<'_>) -> Result<Value, AllocE
     }])
 }
 
-// The fingerprint of a finding, which stays the same where lines move: its rule, what it is in, and how many findings of this
+// The fingerprint of a finding, which stays the same when lines move: its rule, what it is in, and how many findings of this
 // rule there were so far.
 fn fingerprint(
     alloc: Global,
@@ -95,13 +95,12 @@ fn fingerprint(
 }
 
 // The hash of a line as GitHub writes it.
-fn line_hash(alloc: Global, line: &HashedLine<'_>) -> Result<String, AllocError> {
-    let hash = line.hash;
-    let count = line.count;
+fn hash_text(alloc: Global, line_hash: LineHash) -> Result<String, AllocError> {
+    let LineHash { hash, count } = line_hash;
     format!(in alloc; "{hash:x}:{count}")
 }
 
-/// Tells the fingerprints of a result: `own`, under the name of its form, and the hash of its line, if that is known.
+/// The fingerprints of a result: `own`, under the name of its form, and the hash of its line, if that is known.
 pub(crate) fn fingerprints_value(
     alloc: Global,
     form: &'static str,
@@ -111,7 +110,7 @@ pub(crate) fn fingerprints_value(
     let Some(line) = line else {
         return object(alloc, vec![in alloc; (form, Field::Made(own))]?);
     };
-    let hash = line_hash(alloc, &line)?;
+    let hash = hash_text(alloc, line.hash)?;
     let members = vec![in alloc;
         (form, Field::Made(own)),
         ("primaryLocationLineHash", Field::Text(hash.as_str())),
@@ -119,7 +118,7 @@ pub(crate) fn fingerprints_value(
     object(alloc, members)
 }
 
-/// Tells a finding as a result. `counts` has how many findings of a rule there were so far in an entry or a routine.
+/// The result of a finding. `counts` has how many findings of a rule there were so far in an entry or a routine.
 pub(crate) fn result_value(
     alloc: Global,
     counts: &mut BTreeMap<Vec<u8>, usize>,

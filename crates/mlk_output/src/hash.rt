@@ -1,6 +1,6 @@
-// The hash of a line by which GitHub knows a result again where lines move: that of the next 100 characters from the line's begin
-// on, without blanks and tabs, as its action `upload-sarif` computes it where a report has none. Characters are UTF-16 units, each
-// line's end is one line feed, and the text ends in a mark.
+// The hash of a line by which GitHub recognizes a result when lines move: that of 100 characters from the line's begin on, without
+// blanks and tabs, as its action `upload-sarif` computes it if a report has none. Characters are UTF-16 units, each line's end
+// is one line feed, and the text ends in a mark.
 
 use bstr::ByteSlice;
 use mlk_excerpts::TextLines;
@@ -80,23 +80,28 @@ fn hash_of(units: &[u32]) -> u64 {
     hash
 }
 
-/// A line of a file, with its hash and how many lines so far had this hash.
+/// The hash of a line, and how many lines of its file up to it have this hash.
+#[derive(Clone, Copy, Drop)]
+pub(crate) struct LineHash {
+    pub(crate) hash: u64,
+    pub(crate) count: usize,
+}
+
+/// A line of a file, with its hash.
 #[derive(Clone, Copy, Drop)]
 pub(crate) struct HashedLine<'a> {
     pub(crate) line: &'a [u8],
-    pub(crate) hash: u64,
-    pub(crate) count: usize,
+    pub(crate) hash: LineHash,
 }
 
 /// The lines of a file, with their hashes.
 #[derive(Drop)]
 pub(crate) struct HashedLines<'a> {
     lines: TextLines<'a>,
-    // the hash of each line, and how many lines so far had it
-    hashes: Vec<(u64, usize)>,
+    hashes: Vec<LineHash>,
 }
 
-fn hashes_of(alloc: Global, text: &[u8]) -> Result<Vec<(u64, usize)>, AllocError> {
+fn hashes_of(alloc: Global, text: &[u8]) -> Result<Vec<LineHash>, AllocError> {
     let units = Units::of(alloc, text)?;
     let mut counts = BTreeMap::new(alloc);
     let mut hashes = Vec::new(alloc);
@@ -109,7 +114,7 @@ fn hashes_of(alloc: Global, text: &[u8]) -> Result<Vec<(u64, usize)>, AllocError
             .unwrap_or(0usize)
             .saturating_add(1);
         counts.insert(hash, count)?;
-        hashes.push((hash, count))?;
+        hashes.push(LineHash { hash, count })?;
     }
     Ok(hashes)
 }
@@ -123,12 +128,12 @@ impl<'a> HashedLines<'a> {
         })
     }
 
-    /// Returns the line with this number, or `None` if the file has no such line.
+    /// The line with this number; `None` if the file has no such line.
     pub(crate) fn line(&self, number: LineNumber) -> Option<HashedLine<'a>> {
         let line = self.lines.line(number)?;
         let place = (number.number() as usize).checked_sub(1)?;
-        let (hash, count) = self.hashes.as_slice().get(place).copied()?;
-        Some(HashedLine { line, hash, count })
+        let hash = self.hashes.as_slice().get(place).copied()?;
+        Some(HashedLine { line, hash })
     }
 }
 
@@ -156,7 +161,8 @@ impl<'a> ProgramLines<'a> {
         if matches!(&self.last, Some((number, _)) if *number == routine) {
             return Ok(());
         }
-        let text: &'a [u8] = match self.texts.get(routine) {
+        let texts = self.texts;
+        let text: &'a [u8] = match texts.get(routine) {
             Some(text) => *text,
             None => &[],
         };
@@ -164,7 +170,7 @@ impl<'a> ProgramLines<'a> {
         Ok(())
     }
 
-    /// Returns a line of the routine that was looked up last, or `None` if it has no such line.
+    /// A line of the routine that was looked up last; `None` if it has no such line.
     pub(crate) fn line(&self, number: LineNumber) -> Option<HashedLine<'a>> {
         let (_, lines) = self.last.as_ref()?;
         lines.line(number)

@@ -6,7 +6,7 @@ use mlk_hazards::Hazard;
 #[derive(Clone, Copy, Drop)]
 pub(crate) struct HazardMeaning {
     pub(crate) hazard: Hazard,
-    /// what stands there
+    /// what is there
     pub(crate) is: &'static str,
 }
 
@@ -22,7 +22,7 @@ pub(crate) const HAZARD_MEANINGS: [HazardMeaning; 6] = [
     },
     HazardMeaning {
         hazard: Hazard::RepeatedName,
-        is: "a name that stands twice in one LOCK argument: a system may count it once",
+        is: "a name that is repeated in one LOCK argument: a system may count it once",
     },
     HazardMeaning {
         hazard: Hazard::BlockBeforeFormals,

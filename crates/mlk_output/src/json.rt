@@ -1,7 +1,7 @@
 // Reports and refusals as JSON.
 
 use crate::notice::{Notice, Place};
-use crate::row::Inputs;
+use crate::row::{Inputs, RoutineNumbers};
 use crate::story::{Findings, add_story};
 use mlk_code_pages::page_of;
 use mlk_explain::Story;
@@ -51,13 +51,15 @@ fn rows_value(
 fn hazard_value(
     alloc: Global,
     inputs: &Inputs<'_>,
+    numbers: &RoutineNumbers,
     at: &HazardAt<'_>,
 ) -> Result<Value, AllocError> {
     let place = &at.position;
     let routine = Vec::from_slice(alloc, place.routine)?;
+    let path = inputs.path_at(numbers.number(&routine));
     let members = vec![in alloc;
         ("routine", Field::Made(routine)),
-        ("path", Field::Text(inputs.path_of(place.routine))),
+        ("path", Field::Text(path)),
         ("line", Field::Number(place.line.number() as usize)),
         ("column", Field::Number(place.column.number() as usize)),
         ("name", Field::Text(at.hazard.word())),
@@ -71,9 +73,10 @@ fn hazards_value(
     inputs: &Inputs<'_>,
     hazards: &[HazardAt<'_>],
 ) -> Result<Value, AllocError> {
+    let numbers = RoutineNumbers::of(alloc, inputs.routines)?;
     let mut values = Vec::with_capacity(alloc, hazards.len())?;
     for hazard in hazards {
-        values.push(hazard_value(alloc, inputs, hazard)?)?;
+        values.push(hazard_value(alloc, inputs, &numbers, hazard)?)?;
     }
     Ok(Value::Array(values))
 }

@@ -19,7 +19,7 @@ pub struct Notice<'a> {
     /// the line that the program writes to the error stream, without its end
     pub line: &'a [u8],
     pub place: Option<Place<'a>>,
-    /// the text of the file in which the place is; empty if it isn't at hand
+    /// the text of the file in which the place is; empty if it was not kept
     pub text: &'a [u8],
     /// the path of the file at which SARIF shows a refusal that has no place: build servers drop results without one
     pub file: &'a str,

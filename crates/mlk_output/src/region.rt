@@ -52,8 +52,8 @@ fn region_value(
     object(alloc, members)
 }
 
-/// Tells a place in a file: its line, and of `line`, which is the text there, the columns of the token. Without that text no
-/// column is known in characters.
+/// A place in a file: its line, and the columns of the token there in `line`, the text of that line. Without this text no column
+/// is known in characters.
 pub(crate) fn physical_value(
     alloc: Global,
     place: &Place<'_>,
@@ -68,7 +68,7 @@ pub(crate) fn physical_value(
     object(alloc, members)
 }
 
-/// Tells a file as a whole.
+/// A file as a whole.
 pub(crate) fn file_value(alloc: Global, path: &str) -> Result<Value, AllocError> {
     let artifact = artifact_value(alloc, path)?;
     member(alloc, "artifactLocation", Field::Value(artifact))

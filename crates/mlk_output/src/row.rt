@@ -5,6 +5,7 @@ use mlk_report_text::Piece::{Bytes, Words};
 use mlk_report_text::text_of;
 use mlk_syntax::Routine;
 use std::alloc::{AllocError, Global};
+use std::collections::BTreeMap;
 
 /// What a report is about: the routines of a program, and the path and the text of the file of each, in their order.
 #[derive(Clone, Copy, Drop)]
@@ -15,9 +16,32 @@ pub struct Inputs<'a> {
     pub texts: &'a [&'a [u8]],
 }
 
+/// The numbers of routines, by their names.
+#[derive(Drop)]
+pub(crate) struct RoutineNumbers {
+    numbers: BTreeMap<Vec<u8>, usize>,
+}
+
+impl RoutineNumbers {
+    /// Numbers `routines` in their order.
+    pub(crate) fn of(alloc: Global, routines: &[Routine]) -> Result<RoutineNumbers, AllocError> {
+        let mut numbers = BTreeMap::new(alloc);
+        for (number, routine) in routines.iter().enumerate() {
+            let name = Vec::from_slice(alloc, routine.name.as_bytes())?;
+            numbers.insert(name, number)?;
+        }
+        Ok(RoutineNumbers { numbers })
+    }
+
+    /// The number of the routine of this name, or one that no routine has.
+    pub(crate) fn number(&self, name: &Vec<u8>) -> usize {
+        self.numbers.get(name).copied().unwrap_or(usize::MAX)
+    }
+}
+
 impl<'a> Inputs<'a> {
-    // The path of the file of the routine of this number.
-    fn path_at(&self, number: usize) -> &'a str {
+    /// The path of the file of the routine of this number; empty if there is no such routine.
+    pub(crate) fn path_at(&self, number: usize) -> &'a str {
         match self.paths.get(number) {
             Some(path) => path,
             None => "",
@@ -27,20 +51,6 @@ impl<'a> Inputs<'a> {
     /// The path of the file that an entry is in.
     pub(crate) fn path(&self, entry: EntryId) -> &'a str {
         self.path_at(entry.routine())
-    }
-
-    /// The number of the routine of this name, or one that no routine has.
-    pub(crate) fn number_of(&self, name: &[u8]) -> usize {
-        let mut routines = self.routines.iter();
-        match routines.position(|routine| routine.name.as_bytes() == name) {
-            Some(number) => number,
-            None => self.routines.len(),
-        }
-    }
-
-    /// The path of the file of the routine of this name.
-    pub(crate) fn path_of(&self, name: &[u8]) -> &'a str {
-        self.path_at(self.number_of(name))
     }
 
     /// The name of the routine that an entry is in.

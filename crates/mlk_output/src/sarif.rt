@@ -5,7 +5,7 @@ use crate::hash::{HashedLine, HashedLines, ProgramLines};
 use crate::hazard::hazard_is_what;
 use crate::notice::{Notice, Place};
 use crate::region::{ROOT, file_value, physical_value};
-use crate::row::Inputs;
+use crate::row::{Inputs, RoutineNumbers};
 use crate::rule::{all_rules_values, rule_id, rules_values};
 use crate::story::{Findings, story_line};
 use mlk_code_pages::page_of;
@@ -117,13 +117,14 @@ fn add_hazards<'a>(
     lines: &mut ProgramLines<'a>,
     values: &mut Vec<Value>,
 ) -> Result<(), AllocError> {
+    let numbers = RoutineNumbers::of(alloc, inputs.routines)?;
     let mut counts = BTreeMap::new(alloc);
     for at in hazards {
         let word = at.hazard.word().as_bytes();
-        let routine = at.position.routine;
-        lines.look_up(inputs.number_of(routine))?;
         let rule = Vec::from_slice(alloc, word)?;
-        let within = Vec::from_slice(alloc, routine)?;
+        let within = Vec::from_slice(alloc, at.position.routine)?;
+        let number = numbers.number(&within);
+        lines.look_up(number)?;
         let meaning = hazard_is_what(at.hazard);
         let message = text_of(alloc, &[Bytes(word), Words(": "), Words(meaning)])?;
         let finding = Finding {
@@ -131,7 +132,7 @@ fn add_hazards<'a>(
             level: "warning",
             message,
             place: Place {
-                path: inputs.path_of(routine),
+                path: inputs.path_at(number),
                 line: at.position.line,
                 column: Some(at.position.column),
             },
@@ -207,7 +208,7 @@ pub fn report_sarif(
     document(alloc, rules, results, invocation)
 }
 
-// The line at the place of a refusal, if its file is at hand and has it.
+// The line at the place of a refusal, if the text of its file was kept and has it.
 fn refused_line<'a>(
     alloc: Global,
     notice: &Notice<'a>,
@@ -238,7 +239,7 @@ fn refused_message(alloc: Global, notice: &Notice<'_>) -> Result<Vec<u8>, AllocE
     text_of(alloc, &[Bytes(notice.line), Words(": "), Words(meaning)])
 }
 
-// The fingerprint of a refusal, which stays the same where lines move: its code and its file. A run has one refusal.
+// The fingerprint of a refusal, which stays the same when lines move: its code and its file. A run has one refusal.
 fn refused_fingerprint(alloc: Global, notice: &Notice<'_>) -> Result<Vec<u8>, AllocError> {
     let code = Number(usize::from(notice.code.number()));
     let path = match &notice.place {
@@ -249,8 +250,11 @@ fn refused_fingerprint(alloc: Global, notice: &Notice<'_>) -> Result<Vec<u8>, Al
 }
 
 // A refusal as the one result of its run.
-fn refusal_value(alloc: Global, notice: &Notice<'_>) -> Result<Value, AllocError> {
-    let line = refused_line(alloc, notice)?;
+fn refusal_value(
+    alloc: Global,
+    notice: &Notice<'_>,
+    line: Option<HashedLine<'_>>,
+) -> Result<Value, AllocError> {
     let message = Field::Made(refused_message(alloc, notice)?);
     let message = member(alloc, "text", message)?;
     let own = refused_fingerprint(alloc, notice)?;
@@ -266,9 +270,12 @@ fn refusal_value(alloc: Global, notice: &Notice<'_>) -> Result<Value, AllocError
     object(alloc, members)
 }
 
-// That the run was refused, for whoever looks at no results.
-fn refused_invocation(alloc: Global, notice: &Notice<'_>) -> Result<Value, AllocError> {
-    let line = refused_line(alloc, notice)?;
+// How a run ended that was refused, for readers that look at no results.
+fn refused_invocation(
+    alloc: Global,
+    notice: &Notice<'_>,
+    line: Option<HashedLine<'_>>,
+) -> Result<Value, AllocError> {
     let id = rule_id(alloc, notice.code)?;
     let id = escape_bytes(alloc, id.as_slice())?;
     let message = escape_bytes(alloc, notice.line)?;
@@ -286,10 +293,11 @@ fn refused_invocation(alloc: Global, notice: &Notice<'_>) -> Result<Value, Alloc
 }
 
 /// Writes a refusal as SARIF: a run that was not successful, whose one result is the refusal at its place, or at the file that
-/// it is about. So a build server keeps the alert, and doesn't take the run for one without faults.
+/// it is about. So a build server doesn't take the run for one without faults.
 pub fn notice_sarif(alloc: Global, notice: &Notice<'_>) -> Result<String, AllocError> {
+    let line = refused_line(alloc, notice)?;
     let mut results = Vec::new(alloc);
-    results.push(refusal_value(alloc, notice)?)?;
-    let invocation = refused_invocation(alloc, notice)?;
+    results.push(refusal_value(alloc, notice, line)?)?;
+    let invocation = refused_invocation(alloc, notice, line)?;
     document(alloc, rules_values(alloc)?, results, invocation)
 }

@@ -1,8 +1,9 @@
 // Files that were given in one another's place.
 
 use bstr::ByteSlice;
+use mlk_excerpts::split_at_most;
 
-// The first line of a text that is more than blanks.
+// The first line of a text that is not blank.
 fn first_line(text: &[u8]) -> &[u8] {
     for line in text.lines() {
         if !line.trim().is_empty() {
@@ -12,14 +13,14 @@ fn first_line(text: &[u8]) -> &[u8] {
     b""
 }
 
-// Whether a line begins as those of routines do, and none of TOML: with a label or a command, and no `=` after it.
+// Whether a line begins as lines of routines do, and none of TOML does: with a label or a command, and no `=` after it.
 fn begins_routine(line: &[u8]) -> bool {
     let line = line.trim_start();
     let word = line
         .iter()
         .take_while(|byte| byte.is_ascii_alphanumeric() || **byte == b'%')
         .count();
-    let (_, rest) = line.split_at(word.min(line.len()));
+    let (_, rest) = split_at_most(line, word);
     match rest.first() {
         Some(b';') => true,
         Some(b'(' | b':') => word > 0,

@@ -1,6 +1,6 @@
 // What explains a refusal, and how it is written.
 
-use mlk_excerpts::{Excerpt, TextLines, margin_of, push_excerpt};
+use mlk_excerpts::{Excerpt, TextLines, margin_of, push_excerpt, push_labelled};
 use mlk_report_text::Piece::{At, Bytes, Number, Words};
 use mlk_report_text::push_all;
 use mlk_text::{Code, Column, LineNumber};
@@ -55,30 +55,13 @@ fn push_place(text: &mut Vec<u8>, it: &Explanation<'_>) -> Result<(), AllocError
     text.extend_from_slice(b"\n")
 }
 
-// Appends a line of its own, with `label` in front.
-fn push_line<'p>(
-    text: &mut Vec<u8>,
-    margin: &'p [u8],
-    label: &'p str,
-    words: &'p str,
-) -> Result<(), AllocError> {
-    push_all(
-        text,
-        &[
-            Bytes(margin),
-            Words("= "),
-            Words(label),
-            Words(": "),
-            Words(words),
-            Words("\n"),
-        ],
-    )
-}
-
 impl Explanation<'_> {
-    // Appends the line with a caret and what is wrong there, if the file has that line. Whether it did.
+    // Appends the line with a caret, if the file has that line, and returns whether it has.
     fn push_line_of_file(&self, text: &mut Vec<u8>) -> Result<bool, AllocError> {
-        let (Some(file), Some(spot)) = (&self.file, self.spot) else {
+        let Some(file) = &self.file else {
+            return Ok(false);
+        };
+        let Some(spot) = self.spot else {
             return Ok(false);
         };
         let lines = TextLines::of(*text.allocator(), file.text)?;
@@ -111,9 +94,9 @@ impl Explanation<'_> {
             push_all(&mut text, &[Bytes(margin), Words("= refused: ")])?;
         }
         push_all(&mut text, &[Bytes(self.what.as_slice()), Words("\n")])?;
-        push_line(&mut text, margin, "help", self.help)?;
+        push_labelled(&mut text, margin, "help", self.help.as_bytes())?;
         if let Some(note) = self.note {
-            push_line(&mut text, margin, "note", note)?;
+            push_labelled(&mut text, margin, "note", note.as_bytes())?;
         }
         let code = Number(usize::from(self.code.number()));
         push_all(

@@ -71,14 +71,14 @@ fn unread_words(path: &str, kind: ErrorKind) -> (&'static str, &'static str) {
             "no such file",
             "correct the path; it is taken from the folder in which mlock is run",
         ),
-        ErrorKind::IsADirectory => ("this is a folder", "name its files, as FOLDER/*.m"),
+        ErrorKind::IsADirectory => ("this is a folder", "name its files, such as FOLDER/*.m"),
         ErrorKind::PermissionDenied => (
-            "the file may not be read by this user",
-            "let the user read it, as by chmod +r",
+            "this user may not read the file",
+            "allow it, for example by chmod +r",
         ),
         ErrorKind::FileTooLarge => (
             "the file is longer than 128 MiB",
-            "give the routines, rules or certificate themselves",
+            "name a routine, a rule file, a certificate or a file of events",
         ),
         _ => (
             "the file could not be read",

@@ -1,11 +1,11 @@
-// Parts of M that are not read, and what is written in their place.
+// Parts of M that are not read, and what to write instead.
 
 use mlk_report_text::Piece::{Bytes, Words};
 use mlk_report_text::text_of;
 use mlk_text::LeftOut;
 use std::alloc::{AllocError, Global};
 
-/// Says what is not read. `token` is what is at the place: a function or a special variable is named by it.
+/// Writes what is not read. `token` is what is at the place, and names a function or a special variable.
 pub(crate) fn left_out_text(
     alloc: Global,
     left_out: &LeftOut,
@@ -33,40 +33,40 @@ pub(crate) fn left_out_text(
     text_of(alloc, &[Words(words)])
 }
 
-// What is written in place of a command.
+// What to write instead of a command.
 fn command_help(word: &[u8]) -> &'static str {
     match word {
-        b"GOTO" => "write DO and QUIT in its place, as DO NEXT QUIT for GOTO NEXT, or IF and ELSE",
+        b"GOTO" => "write DO and QUIT instead, such as DO NEXT QUIT for GOTO NEXT, or IF and ELSE",
         b"XECUTE" => "write the commands themselves, or call a label that has them",
         b"TSTART" | b"TCOMMIT" | b"TROLLBACK" | b"TRESTART" => {
-            "claim the locks of what the transaction touches, and take it away"
+            "acquire the locks of what the transaction touches, and remove it"
         }
         b"OPEN" | b"USE" | b"CLOSE" => {
-            "leave the routine out of the check, and what calls it, or test it with the command taken away"
+            "leave the routine and what calls it out of the check, or check a copy without the command"
         }
-        b"BREAK" => "take it away: it is for debugging",
-        _ => "write it by commands that are read, or leave the routine out of the check",
+        b"BREAK" => "remove it: it is for debugging",
+        _ => "use commands that `mlock` reads, or leave the routine out of the check",
     }
 }
 
-/// Says what is written in place of a part of M that is not read.
+/// What to write instead of a part of M that is not read.
 pub(crate) fn left_out_help(left_out: &LeftOut) -> &'static str {
     match left_out {
         LeftOut::Indirection => {
             "write the name itself, or a branch for each name: what is meant is known only at run time"
         }
         LeftOut::Naked => "write the global's name and all its subscripts",
-        LeftOut::Environment => "write the global's or the routine's name alone",
+        LeftOut::Environment => "write the name of the global or the routine without an environment",
         LeftOut::Ssvn => "leave the routine out of the check, or keep what it asks for in a global",
         LeftOut::External =>
-            "call a routine of M in its place, or leave the routine out of the check",
+            "call a routine of M instead, or leave the routine out of the check",
         LeftOut::Offset => "give that line a label of its own, and call it",
         LeftOut::Function => {
             "these are read: $ASCII $CHAR $DATA $EXTRACT $FIND $FNUMBER $GET $JUSTIFY $LENGTH $NAME $ORDER $PIECE \
             $QLENGTH $QSUBSCRIPT $QUERY $RANDOM $REVERSE $SELECT $TRANSLATE"
         }
         LeftOut::Special => {
-            "these are read, and never set or made new: $DEVICE $HOROLOG $IO $JOB $KEY $PRINCIPAL $QUIT $STORAGE \
+            "these are read, but not set or made new: $DEVICE $HOROLOG $IO $JOB $KEY $PRINCIPAL $QUIT $STORAGE \
             $SYSTEM $TEST $X $Y"
         }
         LeftOut::Order => {
@@ -76,7 +76,7 @@ pub(crate) fn left_out_help(left_out: &LeftOut) -> &'static str {
         LeftOut::ForVariable => "count by a local without subscripts",
         LeftOut::QuitValue =>
             "SET a local, QUIT, and QUIT with that local after the FOR or the block",
-        LeftOut::Timeout => "take the timeout away",
+        LeftOut::Timeout => "remove the timeout",
         LeftOut::Command(word) => command_help(word.as_bytes()),
     }
 }

@@ -101,7 +101,7 @@ impl<'t, 'a> RefusedElement<'t, 'a> {
             if !is_section_key(key.as_str()) {
                 let line = section_line(self.lines, key.as_str());
                 let name = Words(key.as_str());
-                let others = Words(" is no section: lock, cover, private, readonly and entry are");
+                let others = Words(" is no section; the sections are lock, cover, private, readonly and entry");
                 return finding(alloc, line, &[name, others]);
             }
         }
@@ -111,7 +111,7 @@ impl<'t, 'a> RefusedElement<'t, 'a> {
     // A section that is no array of tables.
     fn section_finding(&self, alloc: Global) -> Result<RuleFinding, AllocError> {
         let section = Words(section_key(self.section));
-        let wanted = Words(" has to be an array of tables, as [[");
+        let wanted = Words(" has to be an array of tables, such as [[");
         let name = Words(section_key(self.section));
         finding(alloc, self.head(), &[section, wanted, name, Words("]]")])
     }
@@ -131,14 +131,14 @@ impl<'t, 'a> RefusedElement<'t, 'a> {
             return finding(alloc, self.head(), &[Words(key), Words(" is missing")]);
         }
         if let Some((key, kind)) = mistyped_key(element, keys) {
-            let is = Words(" is of the type ");
+            let is = Words(" has a value of type ");
             return finding(alloc, self.at_key(key), &[Words(key), is, Words(kind)]);
         }
         page_finding(alloc, self.head(), Code::Key)
     }
 
-    /// What is wrong with a key: 402.
-    pub(crate) fn key_finding(&self, alloc: Global) -> Result<RuleFinding, AllocError> {
+    // What is wrong with a key: 402.
+    fn key_finding(&self, alloc: Global) -> Result<RuleFinding, AllocError> {
         if self.section == Section::File {
             return self.top_finding(alloc);
         }
@@ -162,8 +162,8 @@ impl<'t, 'a> RefusedElement<'t, 'a> {
         }
     }
 
-    /// What is wrong with the spelling of a text: 403.
-    pub(crate) fn spelling_finding(&self, alloc: Global) -> Result<RuleFinding, AllocError> {
+    // What is wrong with the spelling of a text: 403.
+    fn spelling_finding(&self, alloc: Global) -> Result<RuleFinding, AllocError> {
         for key in keys_of(self.section) {
             if let Some(found) = self.slip_finding(alloc, key)? {
                 return Ok(found);
@@ -172,8 +172,8 @@ impl<'t, 'a> RefusedElement<'t, 'a> {
         page_finding(alloc, self.head(), Code::Pattern)
     }
 
-    /// Which variable of a lock its pattern does not have: 404.
-    pub(crate) fn variable_finding(&self, alloc: Global) -> Result<RuleFinding, AllocError> {
+    // Which variable of a lock its pattern does not have: 404.
+    fn variable_finding(&self, alloc: Global) -> Result<RuleFinding, AllocError> {
         let pattern = self.text("global").unwrap_or("");
         let pattern = Parts::of(alloc, pattern.as_bytes())?;
         for key in ["lock", "also"] {
@@ -219,8 +219,8 @@ impl<'t, 'a> RefusedElement<'t, 'a> {
         }
     }
 
-    /// Which limit is passed: 406.
-    pub(crate) fn limit_finding(&self, alloc: Global) -> Result<RuleFinding, AllocError> {
+    // Which limit is passed: 406.
+    fn limit_finding(&self, alloc: Global) -> Result<RuleFinding, AllocError> {
         if self.index == 0 {
             let many = Words("a section has at most 1,024 elements");
             return finding(alloc, self.head(), &[many]);
@@ -236,8 +236,8 @@ impl<'t, 'a> RefusedElement<'t, 'a> {
         page_finding(alloc, self.head(), Code::RulesLimit)
     }
 
-    /// The family that meets an earlier one: 405; or what else is refused.
-    pub(crate) fn other_finding(
+    // The family that meets an earlier one: 405; or what else is refused.
+    fn other_finding(
         &self,
         alloc: Global,
         code: Code,

@@ -2,7 +2,7 @@
 
 use crate::explanation::Spot;
 use bstr::ByteSlice;
-use mlk_excerpts::TextLines;
+use mlk_excerpts::{TextLines, split_at_most};
 use mlk_text::{Column, LineNumber};
 use std::alloc::{AllocError, Global};
 
@@ -126,8 +126,8 @@ impl<'a> KeyLine<'a> {
     pub(crate) fn at_value(&self, text: &[u8], offset: usize) -> Spot {
         let start = bytes_before(self.line, self.value);
         let quotes = usize::from(matches!(self.value.first(), Some(b'"' | b'\'')));
-        let (front, _) = text.split_at(offset.min(text.len()));
-        let (_, inside) = self.value.split_at(quotes.min(self.value.len()));
+        let (front, _) = split_at_most(text, offset);
+        let (_, inside) = split_at_most(self.value, quotes);
         let inside_by = if inside.starts_with(front) {
             front.len()
         } else {
@@ -165,7 +165,7 @@ pub(crate) fn key_line<'a>(
 
 /// Where the byte at `offset` of `text` is; the end of the last line if it is past all lines.
 pub(crate) fn line_of_byte(lines: &TextLines<'_>, text: &[u8], offset: usize) -> Option<Spot> {
-    let (before, _) = text.split_at(offset.min(text.len()));
+    let (before, _) = split_at_most(text, offset);
     let place = before.iter().filter(|byte| **byte == b'\n').count();
     let start = match before.rfind_byte(b'\n') {
         Some(end) => end.saturating_add(1),

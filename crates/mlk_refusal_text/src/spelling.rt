@@ -1,6 +1,7 @@
 // What is wrong with the text of a pattern, a lock name or an entry.
 
 use bstr::ByteSlice;
+use mlk_excerpts::split_at_most;
 use mlk_text::limit::LONGEST_NAME;
 use std::alloc::{AllocError, Global};
 
@@ -43,19 +44,15 @@ fn moved(start: usize, slip: Option<Slip>) -> Option<Slip> {
     }
 }
 
-fn split(bytes: &[u8], most: usize) -> (&[u8], &[u8]) {
-    bytes.split_at(most.min(bytes.len()))
-}
-
 // The name at the front of a text, and what comes after it.
 fn split_name(text: &[u8]) -> (&[u8], &[u8]) {
     let marks = usize::from(text.starts_with(b"%"));
-    let (_, rest) = split(text, marks);
+    let (_, rest) = split_at_most(text, marks);
     let others = rest
         .iter()
         .take_while(|byte| byte.is_ascii_alphanumeric())
         .count();
-    split(text, marks.saturating_add(others))
+    split_at_most(text, marks.saturating_add(others))
 }
 
 // What is wrong with a name.
@@ -78,7 +75,7 @@ fn is_blank(byte: u8) -> bool {
 // What is wrong with a number.
 fn number_slip(text: &[u8]) -> Option<Slip> {
     let sign = usize::from(text.starts_with(b"-"));
-    let (_, digits) = split(text, sign);
+    let (_, digits) = split_at_most(text, sign);
     let wrong = digits
         .iter()
         .position(|byte| !byte.is_ascii_digit() && *byte != b'.');
@@ -86,7 +83,7 @@ fn number_slip(text: &[u8]) -> Option<Slip> {
         Some(at) if matches!(digits.get(at), Some(b'E' | b'e')) => {
             moved(sign, wrong_at(at, "a number has no exponent here"))
         }
-        Some(at) => moved(sign, wrong_at(at, "a number has digits and a point alone")),
+        Some(at) => moved(sign, wrong_at(at, "a number has only digits and a point")),
         None => None,
     }
 }
@@ -94,11 +91,11 @@ fn number_slip(text: &[u8]) -> Option<Slip> {
 // What is wrong with `$J`, or what is in its place.
 fn job_slip(form: Form, text: &[u8]) -> Option<Slip> {
     if text != b"$J".as_slice() {
-        return wrong_at(0, "after $ comes J alone: $J is the job's own number");
+        return wrong_at(0, "only J may come after $: $J is the job's own number");
     }
     match form {
         Form::Private => None,
-        _ => wrong_at(0, "$J is for the patterns of private rules alone"),
+        _ => wrong_at(0, "$J is only for the patterns of private rules"),
     }
 }
 
@@ -120,7 +117,7 @@ fn variable_slip(form: Form, text: &[u8]) -> Option<Slip> {
 // What is wrong with `...`.
 fn tree_slip(form: Form, is_last: bool) -> Option<Slip> {
     match form {
-        Form::Lock | Form::Family => wrong_at(0, "... is for patterns alone"),
+        Form::Lock | Form::Family => wrong_at(0, "... is only for patterns"),
         _ if !is_last => wrong_at(0, "... comes last"),
         _ => None,
     }
@@ -131,7 +128,7 @@ fn element_slip(form: Form, text: &[u8], is_last: bool) -> Option<Slip> {
     if let Some(at) = text.iter().position(|byte| is_blank(*byte))
         && !text.starts_with(b"\"")
     {
-        return wrong_at(at, "a blank: elements have none in or around them");
+        return wrong_at(at, "a blank: elements have none inside or around them");
     }
     match text.first() {
         None => wrong_at(0, "an element is missing here"),
@@ -167,39 +164,44 @@ pub(crate) struct Parts<'a> {
     end: Option<usize>,
 }
 
+// Adds the element from byte `start` of a text up to `end`, and returns the byte after the mark that ends it.
+fn push_element<'a>(
+    elements: &mut Vec<ElementAt<'a>>,
+    text: &'a [u8],
+    start: usize,
+    end: usize,
+) -> Result<usize, AllocError> {
+    let (_, from) = split_at_most(text, start);
+    let (element, _) = split_at_most(from, end.saturating_sub(start));
+    let Ok(()) = elements.push(ElementAt {
+        at: start,
+        text: element,
+    }) else {
+        return Err(AllocError);
+    };
+    Ok(end.saturating_add(1))
+}
+
 impl<'a> Parts<'a> {
     /// Takes a text apart at its parentheses and commas; those in quotes are none.
     pub(crate) fn of(alloc: Global, text: &'a [u8]) -> Result<Parts<'a>, AllocError> {
         let carets = usize::from(text.starts_with(b"^"));
-        let (_, rest) = split(text, carets);
+        let (_, rest) = split_at_most(text, carets);
         let (name, list) = split_name(rest);
         let length = carets.saturating_add(name.len());
-        let (name, _) = split(text, length);
+        let (name, _) = split_at_most(text, length);
         let mut elements = Vec::new(alloc);
         let mut start = length.saturating_add(1);
         let mut is_quoted = false;
+        let mut end = None;
         for (place, byte) in text.iter().enumerate().skip(start) {
             match *byte {
                 b'"' => is_quoted = !is_quoted,
-                b',' | b')' if !is_quoted => {
-                    let (_, from) = split(text, start);
-                    let (element, _) = split(from, place.saturating_sub(start));
-                    let element = ElementAt {
-                        at: start,
-                        text: element,
-                    };
-                    if elements.push(element).is_err() {
-                        return Err(AllocError);
-                    }
-                    start = place.saturating_add(1);
-                    if *byte == b')' {
-                        return Ok(Parts {
-                            name,
-                            list,
-                            elements,
-                            end: Some(place),
-                        });
-                    }
+                b',' if !is_quoted => start = push_element(&mut elements, text, start, place)?,
+                b')' if !is_quoted => {
+                    push_element(&mut elements, text, start, place)?;
+                    end = Some(place);
+                    break;
                 }
                 _ => {}
             }
@@ -208,7 +210,7 @@ impl<'a> Parts<'a> {
             name,
             list,
             elements,
-            end: None,
+            end,
         })
     }
 
@@ -217,13 +219,13 @@ impl<'a> Parts<'a> {
         self.elements.iter().any(|element| element.text == name)
     }
 
-    // What is wrong round the elements: the name, the parentheses, and what comes after them.
+    // What is wrong around the elements: the name, the parentheses, and what comes after them.
     fn frame_slip(&self, form: Form, length: usize) -> Option<Slip> {
         let carets = usize::from(self.name.starts_with(b"^"));
         if carets == 0 && matches!(form, Form::Pattern | Form::Private) {
             return wrong_at(0, "a pattern begins with ^");
         }
-        let (_, name) = split(self.name, carets);
+        let (_, name) = split_at_most(self.name, carets);
         if let Some(slip) = moved(carets, name_slip(name)) {
             return Some(slip);
         }
@@ -256,20 +258,20 @@ impl<'a> Parts<'a> {
         None
     }
 
-    // A variable that is there twice, among a few elements.
-    fn twice_slip(&self) -> Option<Slip> {
+    // A variable that is repeated, among a few elements.
+    fn repeated_slip(&self) -> Option<Slip> {
         for (place, element) in self.elements.iter().enumerate().take(MOST_ELEMENTS) {
             let is_name =
                 matches!(element.text.first(), Some(first) if first.is_ascii_alphabetic() || *first == b'%');
             let mut before = self.elements.iter().take(place);
             if is_name && before.any(|other| other.text == element.text) {
-                return wrong_at(element.at, "this variable is there twice");
+                return wrong_at(element.at, "this variable is repeated");
             }
         }
         None
     }
 
-    // Whether `$J` is there as often as a private pattern wants it.
+    // What is wrong with the number of `$J`, which a private pattern has once.
     fn jobs_slip(&self, form: Form) -> Option<Slip> {
         if form != Form::Private {
             return None;
@@ -294,12 +296,12 @@ fn entry_slip(text: &[u8]) -> Option<Slip> {
             "an entry is LABEL^ROUTINE, and the ^ is missing",
         );
     };
-    let (label, routine) = split(text, caret);
-    let (_, routine) = split(routine, 1);
+    let (label, routine) = split_at_most(text, caret);
+    let (_, routine) = split_at_most(routine, 1);
     let is_number = label.iter().all(|byte| byte.is_ascii_digit());
     let (name, rest) = split_name(label);
     if !is_number && (!rest.is_empty() || name_slip(name).is_some()) {
-        return wrong_at(0, "a label is a name, or digits");
+        return wrong_at(0, "a label is a name or digits");
     }
     let (name, rest) = split_name(routine);
     let start = caret.saturating_add(1);
@@ -315,7 +317,7 @@ fn entry_slip(text: &[u8]) -> Option<Slip> {
     )
 }
 
-/// Says what is wrong with `text`, at the first such byte; `None` if nothing is that is known here.
+/// Finds what is wrong with `text`, at the first such byte; `None` if nothing is found.
 pub(crate) fn slip_of(alloc: Global, form: Form, text: &[u8]) -> Result<Option<Slip>, AllocError> {
     if form == Form::Entry {
         return Ok(entry_slip(text));
@@ -327,7 +329,7 @@ pub(crate) fn slip_of(alloc: Global, form: Form, text: &[u8]) -> Result<Option<S
     if let Some(slip) = parts.elements_slip(form) {
         return Ok(Some(slip));
     }
-    if let Some(slip) = parts.twice_slip() {
+    if let Some(slip) = parts.repeated_slip() {
         return Ok(Some(slip));
     }
     Ok(parts.jobs_slip(form))
