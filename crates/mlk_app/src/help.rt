@@ -2,6 +2,7 @@
 
 use crate::refused::{refusal_code, refused_file, refused_spot};
 use crate::source::{Files, Sources};
+use crate::stuck::push_faults;
 use crate::work::style_in;
 use mlk_cert::CertFault;
 use mlk_cli::ProgramRequest;
@@ -11,7 +12,10 @@ use mlk_refusal_text::{
     GivenFile, Spot, code_help, entry_help, line_help, routine_help, rules_help, unread_help,
 };
 use mlk_text::Code;
+use mlk_watch::Watch;
 use std::alloc::{AllocError, Global};
+use std::sync::Wait;
+use std::thread::Threads;
 
 /// How much is explained to whoever reads the error stream.
 #[derive(Clone, Copy, Debug, PartialEq, Eq)]
@@ -46,22 +50,29 @@ fn explanation(
 }
 
 /// Writes what explains a refusal below its line: the line of the file, what is wrong there and what helps. Nothing is written
-/// unless an explanation is asked for.
-pub(crate) fn refusal_help(
+/// unless an explanation is asked for. If no certificate can be made, the faults of the other entries follow, if the words ask for
+/// explanations.
+pub(crate) fn refusal_help<R: Threads + Wait + Sync, W: Watch>(
+    rt: &R,
     alloc: Global,
     refusal: &NoReport,
     program: &ProgramRequest<'_>,
     sources: &Sources<'_>,
     explaining: Explaining,
+    watch: &W,
 ) -> Result<Vec<u8>, AllocError> {
     let code = match refusal_code(refusal) {
         Some(code) if is_refusal_explained(program, explaining) => code,
         _ => return Ok(Vec::new(alloc)),
     };
-    match refused_file(refusal, program, sources) {
-        Some(file) => explanation(alloc, code, refusal, &file),
-        None => code_help(alloc, code),
+    let mut help = match refused_file(refusal, program, sources) {
+        Some(file) => explanation(alloc, code, refusal, &file)?,
+        None => code_help(alloc, code)?,
+    };
+    if code == Code::GaveUp && style_in(&program.asked).is_explained {
+        push_faults(rt, alloc, &mut help, sources, watch)?;
     }
+    Ok(help)
 }
 
 /// Writes what explains why the certificate at `path`, which has this text, is refused; nothing unless `explaining` asks for it.

@@ -10,6 +10,7 @@ mod printed;
 mod program;
 mod refused;
 mod source;
+mod stuck;
 mod work;
 
 pub use file::{LONGEST_FILE, read_whole};

@@ -78,12 +78,14 @@ fn notice(
     }
 }
 
-fn refusal_answer(
+fn refusal_answer<R: Threads + Wait + Sync, W: Watch>(
+    rt: &R,
     alloc: Global,
     refusal: &NoReport,
     program: &ProgramRequest<'_>,
     sources: &Sources<'_>,
     explaining: Explaining,
+    watch: &W,
 ) -> Answer
     requires { IsNotShut refusal.now }
     ensures { TellsRefusal (style_in program.now.asked).output refusal.now result }
@@ -94,7 +96,7 @@ fn refusal_answer(
     let Ok(beside) = notice(alloc, refusal, program, sources, &line) else {
         return Answer::OutOfMemory;
     };
-    match refusal_help(alloc, refusal, program, sources, explaining) {
+    match refusal_help(rt, alloc, refusal, program, sources, explaining, watch) {
         Ok(help) => Answer::Refused(line, beside, help),
         Err(AllocError) => Answer::OutOfMemory,
     }
@@ -162,7 +164,9 @@ fn answer_program<R: Threads + Wait + Sync, F: Files, W: Watch>(
     match read_files(alloc, files, program) {
         Ok(sources) => match print_sources(rt, alloc, &sources, program, watch) {
             Ok(printed) => Answer::Report(printed.text, printed.status),
-            Err(refusal) => refusal_answer(alloc, &refusal, program, &sources, explaining),
+            Err(refusal) => {
+                refusal_answer(rt, alloc, &refusal, program, &sources, explaining, watch)
+            }
         },
         Err(FileError::OutOfMemory) => Answer::OutOfMemory,
         Err(FileError::Unread(path)) => {

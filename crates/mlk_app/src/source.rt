@@ -8,7 +8,7 @@ ghost use Rattle.mlk_cli.specs.CommandLine.{bytes_of};
 use mlk_cert::CertFormat;
 use mlk_cli::{Asked, Format, ProgramRequest};
 use mlk_pool::Source;
-use std::alloc::Global;
+use std::alloc::{AllocError, Global};
 use std::io::{self, ErrorKind};
 
 /// Where the texts of files come from.
@@ -185,4 +185,13 @@ pub(crate) fn read_files<'a, F: Files>(
         rules,
         routines,
     })
+}
+
+/// The texts of the routines, in their order.
+pub(crate) fn texts_of<'a>(alloc: Global, sources: &'a [Source<'a>]) -> Result<Vec<&'a [u8]>, AllocError> {
+    let mut texts = Vec::with_capacity(alloc, sources.len())?;
+    for source in sources {
+        texts.push(source.text.as_slice())?;
+    }
+    Ok(texts)
 }

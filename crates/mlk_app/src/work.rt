@@ -9,7 +9,7 @@ ghost use Rattle.mlk_app.specs.Ran.{style_in, status_of, IsReportPrinted, IsRepo
 ghost use Rattle.mlk_app.specs.Printing.{IsPrintedOfTrees, IsPrintedOfTexts, IsRefusedSources};
 
 use crate::answer::{NO, YES};
-use crate::source::{Sources, Work};
+use crate::source::{Sources, Work, texts_of};
 use mlk_cert::{Certificate, read_cert};
 use mlk_cli::{Asked, Output, ProgramRequest, ReportStyle};
 use mlk_explain::Grounds;
@@ -18,7 +18,7 @@ use mlk_outcome::{
     NoReport, certificate_for, certificate_text, jobs_text, report_by_certificate,
 };
 use mlk_output::Inputs;
-use mlk_pool::{ReportText, Source, read_routines};
+use mlk_pool::{ReportText, read_routines};
 use mlk_program::{Program, link};
 use mlk_rules::Rules;
 use mlk_rules_file::read_rules;
@@ -63,15 +63,6 @@ struct Subject<'a> {
     rules: &'a Rules,
     sources: &'a Sources<'a>,
     request: &'a ProgramRequest<'a>,
-}
-
-// The texts of the routines, in their order.
-fn texts_of<'a>(alloc: Global, sources: &'a [Source<'a>]) -> Result<Vec<&'a [u8]>, AllocError> {
-    let mut texts = Vec::with_capacity(alloc, sources.len())?;
-    for source in sources {
-        texts.push(source.text.as_slice())?;
-    }
-    Ok(texts)
 }
 
 // Prints `report`, which `grounds` explain.

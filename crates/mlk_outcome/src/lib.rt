@@ -11,6 +11,7 @@ mod replaying;
 
 pub use checking::report_by_certificate;
 pub use conversion::convert;
+pub use gate::OpenGate;
 pub use making::{certificate_for, certificate_text};
 pub use refusal::NoReport;
 pub use replaying::jobs_text;
