@@ -15,7 +15,7 @@ use Rattle.mlk_cli.specs.declared.words.Output.{Output}
 use Rattle.mlk_cli.specs.declared.words.Output.TheVariants as output
 use Rattle.mlk_cli.specs.declared.words.ReportStyle.{ReportStyle}
 use Rattle.mlk_cli.specs.declared.words.SurveyRequest.{SurveyRequest}
-use Rattle.mlk_forms.specs.Told.{IsReportTold, IsNoticed}
+use Rattle.mlk_forms.specs.Rendering.{IsRendered, IsNoticed}
 use Rattle.mlk_forms.proofs.Styles.{passed-no-row}
 use Rattle.mlk_outcome.specs.declared.refusal.NoReport.{NoReport}
 use Rattle.mlk_app.specs.declared.answer.Answer.{Answer}
@@ -32,11 +32,11 @@ one-not-zero : ◌≡◌ {A = ℕ} 1 0 → ⊥
 one-not-zero e = omega (arith, e)
 
 -- what is printed of a report
-report-yes : (style : ReportStyle) (trees : List RoutineTree) (rows : List Row) (text : List ℕ) (passed : Bool) → IsReportTold style trees rows text passed → status_of passed ≡ 0 → rows ≡ []
+report-yes : (style : ReportStyle) (trees : List RoutineTree) (rows : List Row) (text : List ℕ) (passed : Bool) → IsRendered style trees rows text passed → status_of passed ≡ 0 → rows ≡ []
 report-yes style trees rows text true told ended = passed-no-row style trees rows text told
 report-yes style trees rows text false told ended = absurd (one-not-zero ended)
 
-pub report-printed : (style : ReportStyle) (trees : List RoutineTree) (rows : List Row) (text : List ℕ) (passed : Bool) (status : ℕ) → IsReportTold style trees rows text passed → status ≡ status_of passed
+pub report-printed : (style : ReportStyle) (trees : List RoutineTree) (rows : List Row) (text : List ℕ) (passed : Bool) (status : ℕ) → IsRendered style trees rows text passed → status ≡ status_of passed
     → IsReportPrinted style trees rows text status
 report-printed style trees rows text passed status told ended = record {
   passed = passed;

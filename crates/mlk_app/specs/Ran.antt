@@ -26,7 +26,7 @@ use Rattle.mlk_app.specs.declared.source.Sources.{Sources}
 use Rattle.mlk_app.specs.declared.source.Work.{Work}
 use Rattle.mlk_app.specs.declared.source.Work.TheVariants as work
 use Rattle.mlk_pool.specs.declared.source.Source.{Source}
-use Rattle.mlk_forms.specs.Told.{IsReportTold, IsNoticed}
+use Rattle.mlk_forms.specs.Rendering.{IsRendered, IsNoticed}
 use Rattle.mlk_app.specs.Printed.{fault_line, rules_line, certificate_line, missing_line, workers_line, stuck_line, events_line, file_line, no_page_line}
 use Rattle.mlk_app.specs.Files.{Texts, AreTexts, AreSources, IsFirstLost, cert_format, paths_of}
 use Rattle.mlk_cli.specs.CommandLine.{IsRequest, AsksNothing}
@@ -66,7 +66,7 @@ status_of false = 1
 -- passes if it has none, and the text is that of the report.
 pub record IsReportPrinted (style : ReportStyle) (trees : List RoutineTree) (rows : List Row) (text : List ℕ) (status : ℕ) : Type 0 where
   pub passed : Bool
-  pub told : IsReportTold style trees rows text passed
+  pub told : IsRendered style trees rows text passed
   pub ended : status ≡ status_of passed
   pub yes : status ≡ 0 → rows ≡ []
 

@@ -4,7 +4,7 @@ ghost use Rattle.std.specs.Prelude.{◌≡◌, ◌≢◌, IfOk};
 ghost use Rattle.std.specs.IoError.{error_kind};
 ghost use Rattle.mlk_cli.specs.declared.words.Request.TheVariants as wanted;
 ghost use Rattle.mlk_app.specs.Ran.{style_in, IsErrorLine, IsRefusalLine, TellsRefusal, TellsFault, TellsUnread, TellsPage, Answers, AnswersWords, Ran};
-ghost use Rattle.mlk_forms.specs.Told.{IsNoticed};
+ghost use Rattle.mlk_forms.specs.Rendering.{IsNoticed};
 ghost use Rattle.mlk_outcome.specs.Refusals.{IsOfOpenGate, IsNotShut};
 
 use crate::answer::{Answer, REFUSED, YES, say, write_error, write_memory_error};

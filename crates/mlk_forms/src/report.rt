@@ -3,7 +3,7 @@
 ghost use Rattle.std.specs.Prelude.{◌≡◌, ◌++◌, IfOk, OnOk, map};
 ghost use Rattle.mlk_syntax.specs.Views.{routine_of};
 ghost use Rattle.mlk_pool.specs.Texts.{report_text};
-ghost use Rattle.mlk_forms.specs.Told.{AreTold, IsReportIn, IsReportAs, IsReportTold, hazard_line, hazard_lines, passes};
+ghost use Rattle.mlk_forms.specs.Rendering.{AreReported, IsExplained, IsReportIn, IsReportAs, IsRendered, hazard_line, hazard_lines, passes};
 
 use crate::notice::with_end;
 use mlk_cli::{Output, ReportStyle};
@@ -31,7 +31,7 @@ fn reported_hazards<'a>(
     routines: &'a [Routine],
     is_strict: bool,
 ) -> Result<Vec<HazardAt<'a>>, AllocError>
-    ensures { IfOk result (λ hazards. AreTold is_strict hazards.items) }
+    ensures { IfOk result (λ hazards. AreReported is_strict hazards.items) }
 {
     if !is_strict {
         return Ok(Vec::new(alloc));
@@ -96,7 +96,9 @@ fn explained_text(
     grounds: &Grounds<'_>,
     report: &Report,
     hazards: &[HazardAt<'_>],
-) -> Result<ReportText, AllocError> {
+) -> Result<ReportText, AllocError>
+    ensures { IfOk result (IsExplained report.now hazards.now) }
+{
     let mut text = ReportText::of(explained_rows(alloc, grounds, report)?);
     push_answer(&mut text, report.rows())?;
     text.push(note_below(grounds, report).as_bytes())?;
@@ -174,7 +176,7 @@ pub fn render_report(
     style: ReportStyle,
     grounds: &Grounds<'_>,
 ) -> Result<PrintedReport, AllocError>
-    ensures { IfOk result (λ printed. IsReportTold style (map routine_of inputs.now.routines.now) report.now printed.text printed.passes) }
+    ensures { IfOk result (λ printed. IsRendered style (map routine_of inputs.now.routines.now) report.now printed.text printed.passes) }
 {
     let hazards = reported_hazards(alloc, inputs.routines, style.is_strict)?;
     let reported = hazards.as_slice();
