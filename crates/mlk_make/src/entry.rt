@@ -45,12 +45,10 @@ fn begin_case(ground: &Ground<'_>, draft: &Draft) -> Result<Case, AllocError> {
 }
 
 // The line after an entry's lines.
-fn line_after<'a>(program: &Program<'a>, entry: EntryId) -> Result<Option<&'a Line>, AllocError> {
-    let lines = program.lines_of(entry);
-    let Some(place) = entry.line().checked_add(lines.len()) else {
-        return Err(AllocError);
-    };
-    Ok(program.line(EntryId::new(entry.routine(), place)))
+fn line_after<'a>(program: &Program<'a>, entry: EntryId) -> Option<&'a Line> {
+    let count = program.lines_of(entry).len();
+    let after = EntryId::new(entry.routine(), entry.line().saturating_add(count));
+    program.line(after)
 }
 
 // The case in which an entry begins is listed at its line.
@@ -71,7 +69,7 @@ fn begin(ground: &Ground<'_>, maker: &mut Maker, draft: &mut Draft) -> Result<()
 fn sweep(ground: &Ground<'_>, maker: &mut Maker, draft: &mut Draft) -> Result<bool, Failure<Stop>> {
     begin(ground, maker, draft)?;
     let before = draft.changed;
-    let around = Around::Frame(line_after(ground.program, draft.entry)?);
+    let around = Around::Frame(line_after(ground.program, draft.entry));
     settle_lines(
         ground.program.lines_of(draft.entry),
         around,
