@@ -49,7 +49,7 @@ pub record IsRendered (style : ReportStyle) (trees : List RoutineTree) (rows : L
   pub printed : IsReportAs style.is_explained style.output trees rows hazards text
   pub ended : passed ≡ passes rows hazards
 
--- what is printed of a refusal beside the line on the error stream: nothing where text is asked for
+-- what is printed of a refusal beside the line on the error stream: nothing if text is asked for
 abbrev pub IsNoticed : Output → Option (List ℕ) → Type 0
 IsNoticed Text notice = notice ≡ None
 IsNoticed Json notice = Unit {0}
