@@ -67,7 +67,8 @@ fn add_origin(
     let point = point_value(alloc, inputs, &origin.point)?;
     let calls = calls_value(alloc, inputs, origin.calls.as_slice())?;
     members.push(("origin", Field::Value(point)))?;
-    members.push(("calls", Field::Value(calls)))
+    members.push(("calls", Field::Value(calls)))?;
+    Ok(())
 }
 
 /// Adds what is known of a fault to the members of its object: `act`, what was about to happen; `held`; `neededBy`, where a lock is
