@@ -187,11 +187,15 @@ pub(crate) fn read_files<'a, F: Files>(
     })
 }
 
-/// The texts of the routines, in their order.
-pub(crate) fn texts_of<'a>(alloc: Global, sources: &'a [Source<'a>]) -> Result<Vec<&'a [u8]>, AllocError> {
+/// Copies the texts of the routines, in their order, for what shows lines of them.
+pub(crate) fn copied_texts(
+    alloc: Global,
+    sources: &[Source<'_>],
+) -> Result<Vec<Vec<u8>>, AllocError> {
     let mut texts = Vec::with_capacity(alloc, sources.len())?;
     for source in sources {
-        texts.push(source.text.as_slice())?;
+        let text = Vec::from_slice(alloc, source.text.as_slice())?;
+        texts.push(text)?;
     }
     Ok(texts)
 }

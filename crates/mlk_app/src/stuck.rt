@@ -1,6 +1,6 @@
 // What is known of a program of which no certificate can be made.
 
-use crate::source::{Sources, texts_of};
+use crate::source::{Sources, copied_texts};
 use mlk_explain::{Grounds, explained_rows};
 use mlk_make::make_despite;
 use mlk_outcome::OpenGate;
@@ -47,7 +47,7 @@ fn explain_program<R: Threads + Wait + Sync, W: Watch>(
     let Some(report) = found(report)? else {
         return Ok(nothing);
     };
-    let texts = texts_of(alloc, sources.routines.as_slice())?;
+    let texts = copied_texts(alloc, sources.routines.as_slice())?;
     let grounds = Grounds {
         program,
         texts: texts.as_slice(),

@@ -9,7 +9,7 @@ ghost use Rattle.mlk_app.specs.Ran.{style_in, status_of, IsReportPrinted, IsRepo
 ghost use Rattle.mlk_app.specs.Printing.{IsPrintedOfTrees, IsPrintedOfTexts, IsRefusedSources};
 
 use crate::answer::{NO, YES};
-use crate::source::{Sources, Work, texts_of};
+use crate::source::{Sources, Work, copied_texts};
 use mlk_cert::{Certificate, read_cert};
 use mlk_cli::{Asked, Output, ProgramRequest, ReportStyle};
 use mlk_explain::Grounds;
@@ -65,6 +65,19 @@ struct Subject<'a> {
     request: &'a ProgramRequest<'a>,
 }
 
+// The texts of the routines, if the report shows lines of them.
+fn shown_texts(
+    alloc: Global,
+    sources: &Sources<'_>,
+    request: &ProgramRequest<'_>,
+) -> Result<Vec<Vec<u8>>, AllocError> {
+    let style = style_in(&request.asked);
+    if style.is_explained || style.output != Output::Text {
+        return copied_texts(alloc, sources.routines.as_slice());
+    }
+    Ok(Vec::new(alloc))
+}
+
 // Prints `report`, which `grounds` explain.
 fn printed_report(
     alloc: Global,
@@ -108,7 +121,7 @@ fn print_report<R: Threads + Wait + Sync, W: Watch>(
         request,
     } = subject;
     let report = report_by_certificate(rt, alloc, *program, *rules, certificate, workers, watch)?;
-    let texts = texts_of(alloc, sources.routines.as_slice())?;
+    let texts = shown_texts(alloc, sources, *request)?;
     let grounds = Grounds {
         program: *program,
         texts: texts.as_slice(),

@@ -25,9 +25,6 @@ pub fn stories_of(
     grounds: &Grounds<'_>,
     report: &Report,
 ) -> Result<Vec<Option<Story>>, AllocError> {
-    if report.rows().is_empty() {
-        return Ok(Vec::new(alloc));
-    }
     let blocks = grounds.certificate.blocks();
     let entries = Entries::of(alloc, grounds.program, grounds.rules, blocks)?;
     let checks = Checks {
@@ -58,9 +55,6 @@ pub fn explained_rows(
     grounds: &Grounds<'_>,
     report: &Report,
 ) -> Result<Vec<u8>, AllocError> {
-    if report.rows().is_empty() {
-        return Ok(Vec::new(alloc));
-    }
     let blocks = grounds.certificate.blocks();
     let entries = Entries::of(alloc, grounds.program, grounds.rules, blocks)?;
     let checks = Checks {

@@ -9,7 +9,7 @@ use mlk_rules::Rules;
 #[derive(Clone, Copy, Drop)]
 pub struct Grounds<'a> {
     pub program: &'a Program<'a>,
-    pub texts: &'a [&'a [u8]],
+    pub texts: &'a [Vec<u8>],
     pub rules: &'a Rules,
     pub rule_text: &'a [u8],
     pub certificate: &'a Certificate,

@@ -75,7 +75,7 @@ impl<'a> RoutineFacts<'a> {
         number: usize,
     ) -> Result<RoutineFacts<'a>, AllocError> {
         let text: &'a [u8] = match grounds.texts.get(number) {
-            Some(text) => *text,
+            Some(text) => text.as_slice(),
             None => &[],
         };
         let mentions = match grounds.program.routines().get(number) {

@@ -7,7 +7,7 @@ ghost use Rattle.mlk_forms.specs.Rendering.{AreReported, IsExplained, IsReportIn
 
 use crate::notice::with_end;
 use mlk_cli::{Output, ReportStyle};
-use mlk_explain::{Grounds, explained_rows, note_below, stories_of};
+use mlk_explain::{Grounds, Story, explained_rows, note_below, stories_of};
 use mlk_hazards::{HazardAt, hazards_of};
 use mlk_output::{Findings, Inputs, report_json, report_sarif};
 use mlk_pool::{ReportText, push_answer, report_text};
@@ -90,6 +90,30 @@ fn plain_text(
     Ok(text)
 }
 
+// The faults with what explains them; nothing is looked up if there is none.
+fn explained_faults(
+    alloc: Global,
+    grounds: &Grounds<'_>,
+    report: &Report,
+) -> Result<Vec<u8>, AllocError> {
+    if report.rows().is_empty() {
+        return Ok(Vec::new(alloc));
+    }
+    explained_rows(alloc, grounds, report)
+}
+
+// What is known of each fault.
+fn stories_in(
+    alloc: Global,
+    grounds: &Grounds<'_>,
+    report: &Report,
+) -> Result<Vec<Option<Story>>, AllocError> {
+    if report.rows().is_empty() {
+        return Ok(Vec::new(alloc));
+    }
+    stories_of(alloc, grounds, report)
+}
+
 // The text with explanations, by these grounds.
 fn explained_text(
     alloc: Global,
@@ -99,7 +123,7 @@ fn explained_text(
 ) -> Result<ReportText, AllocError>
     ensures { IfOk result (IsExplained report.now hazards.now) }
 {
-    let mut text = ReportText::of(explained_rows(alloc, grounds, report)?);
+    let mut text = ReportText::of(explained_faults(alloc, grounds, report)?);
     push_answer(&mut text, report.rows())?;
     text.push(note_below(grounds, report).as_bytes())?;
     push_hazards(alloc, &mut text, hazards)?;
@@ -115,7 +139,7 @@ fn machine_text(
     hazards: &[HazardAt<'_>],
     grounds: &Grounds<'_>,
 ) -> Result<ReportText, AllocError> {
-    let stories = stories_of(alloc, grounds, report)?;
+    let stories = stories_in(alloc, grounds, report)?;
     let findings = Findings {
         report,
         stories: stories.as_slice(),

@@ -141,14 +141,14 @@ impl<'a> HashedLines<'a> {
 #[derive(Drop)]
 pub(crate) struct ProgramLines<'a> {
     alloc: Global,
-    texts: &'a [&'a [u8]],
+    texts: &'a [Vec<u8>],
     // the number of a routine, and its lines
     last: Option<(usize, HashedLines<'a>)>,
 }
 
 impl<'a> ProgramLines<'a> {
     /// Looks up nothing yet. `texts` are those of the routines, in their order.
-    pub(crate) fn new(alloc: Global, texts: &'a [&'a [u8]]) -> ProgramLines<'a> {
+    pub(crate) fn new(alloc: Global, texts: &'a [Vec<u8>]) -> ProgramLines<'a> {
         ProgramLines {
             alloc,
             texts,
@@ -163,7 +163,7 @@ impl<'a> ProgramLines<'a> {
         }
         let texts = self.texts;
         let text: &'a [u8] = match texts.get(routine) {
-            Some(text) => *text,
+            Some(text) => text.as_slice(),
             None => &[],
         };
         self.last = Some((routine, HashedLines::of(self.alloc, text)?));

@@ -12,8 +12,8 @@ use std::collections::BTreeMap;
 pub struct Inputs<'a> {
     pub routines: &'a [Routine],
     pub paths: &'a [&'a str],
-    /// SARIF counts columns in characters of them
-    pub texts: &'a [&'a [u8]],
+    /// SARIF counts columns in characters of them; other forms need none
+    pub texts: &'a [Vec<u8>],
 }
 
 /// The numbers of routines, by their names.
