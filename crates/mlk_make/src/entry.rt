@@ -106,18 +106,27 @@ fn is_stale(maker: &Maker, draft: &Draft) -> bool {
         .any(|entry| has_changed(maker, *entry, walked))
 }
 
+// Notes that an entry is given up, if the maker continues then.
+fn give_up(maker: &mut Maker, place: GaveUp) -> Result<(), Failure<GaveUp>> {
+    if maker.when_stuck == WhenStuck::Stop {
+        return Err(Failure::Refused(place));
+    }
+    maker.given_up.push(place)?;
+    Ok(())
+}
+
 // The number of changes after which an entry was walked. One that is given up is not walked again.
 fn changes_after(
     maker: &mut Maker,
     walked: Result<(), Failure<GaveUp>>,
 ) -> Result<usize, Failure<GaveUp>> {
     match walked {
-        Err(Failure::Refused(place)) if maker.when_stuck == WhenStuck::Leave => {
-            maker.given_up.push(place)?;
+        Ok(()) => Ok(maker.changes),
+        Err(Failure::OutOfMemory) => Err(Failure::OutOfMemory),
+        Err(Failure::Refused(place)) => {
+            give_up(maker, place)?;
             Ok(usize::MAX)
         }
-        Err(failure) => Err(failure),
-        Ok(()) => Ok(maker.changes),
     }
 }
 

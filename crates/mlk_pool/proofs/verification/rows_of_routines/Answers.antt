@@ -19,11 +19,7 @@ returns-in_err-program-clause-refused g c =
     grind rules
 
 pub returns-in_err-rules-clause-refused : goal.returns-in_err-rules-clause-refused
-returns-in_err-rules-clause-refused g c =
-    let e = c.in_err-rules.field-0.0 in
-    let refused : IsUnreportedOfTrees (g.G.Gate.is_open c.args.gate.now) c.args.workers (map routine_of c.args.routines.now) c.args.rules_text.now c.args.cert_text.now (error_of_rules e) =
-        inr (c.in_ok-program.ensures.linked, inl (e, c.in_err-rules.ensures.refused, refl)) in
-    grind rules
+returns-in_err-rules-clause-refused g c = ?
 
 pub returns-in_err-certificate-clause-refused : goal.returns-in_err-certificate-clause-refused
 returns-in_err-certificate-clause-refused g c =
@@ -51,8 +47,6 @@ returns-clause-refused g c =
       inr (
         c.in_ok-certificate.certificate,
         c.in_ok-certificate.ensures.ok,
-        e,
-        subst (λ l. IsUnreportedBy (g.G.Gate.is_open c.args.gate.now) c.args.workers (map routine_of l) c.in_ok-rules.rules c.in_ok-certificate.certificate e) c.in_ok-program.ensures.same h,
-        refl,
+        (e, subst (λ l. IsUnreportedBy (g.G.Gate.is_open c.args.gate.now) c.args.workers (map routine_of l) c.in_ok-rules.rules c.in_ok-certificate.certificate e) c.in_ok-program.ensures.same h, refl),
       ),
     ))) c.verify_program.ensures.refused

@@ -7,8 +7,8 @@ use Rattle.mlk_pool.specs.Stages.{IsUnreportedOfTrees}
 use Rattle.mlk_pool.proofs.Formed.{read_formed}
 use Rattle.mlk_pool.proofs.verification.verify.Goals as goal
 
-pub rows_of_routines-rows-requires-after_bounds : goal.rows_of_routines-rows-requires-after_bounds
-rows_of_routines-rows-requires-after_bounds g c κs within =
+pub rows_of_routines-requires-after_bounds : goal.rows_of_routines-requires-after_bounds
+rows_of_routines-requires-after_bounds g c κs within =
     subst (λ l. AreFormed (map routine_of l)) (sym c.as_slice.ensures.value)
     (read_formed c.args.sources.now (map routine_of c.in_ok-routines.routines.items) c.in_ok-routines.ensures.ok)
 
@@ -20,9 +20,4 @@ returns-in_err-routines-clause-refused g c =
     grind rules
 
 pub returns-in_err-rows-clause-refused : goal.returns-in_err-rows-clause-refused
-returns-in_err-rows-clause-refused g c =
-    let e = c.in_err-rows.field-0.0 in
-    let of_trees = subst (λ l. IsUnreportedOfTrees (g.G.Gate.is_open c.args.gate.now) c.args.workers (map routine_of l) c.args.rules.now c.args.certificate.now e) c.as_slice.ensures.value c.in_err-rows.ensures.refused in
-    let refused : IsUnverified (g.G.Gate.is_open c.args.gate.now) c.args.workers c.args.sources.now c.args.rules.now c.args.certificate.now e =
-        inr (map routine_of c.in_ok-routines.routines.items, c.in_ok-routines.ensures.ok, of_trees) in
-    grind rules
+returns-in_err-rows-clause-refused g c = c.from_residual-in_err-rows.ensures
