@@ -1,10 +1,11 @@
-use Rattle.std.proofs.Common.{◌≡◌, map, subst, sym, refl, inl, inr, rules}
+use Rattle.std.proofs.Common.{map, subst, sym, refl, inl, inr}
 use Rattle.std.proofs.lemmas.Result.{IfOk-weaker, IfErr-weaker}
 use Rattle.mlk_syntax.specs.Views.{routine_of}
 use Rattle.mlk_soundness_walk.specs.Forms.{AreFormed}
 use Rattle.mlk_pool.specs.Errors.{error_of_routine, error_of_rules, error_of_certificate}
 use Rattle.mlk_pool.specs.Headline.{IsReportBy, IsUnreportedBy}
 use Rattle.mlk_pool.specs.Stages.{IsUnreportedOfTrees}
+use Rattle.mlk_pool.proofs.PassedOn.{passed-on}
 use Rattle.mlk_pool.proofs.Unread.{unread}
 use Rattle.mlk_pool.proofs.verification.rows_of_routines.Goals as goal
 
@@ -14,19 +15,24 @@ verify_program-requires-after_bounds g c κs within = subst (λ l. AreFormed (ma
 pub returns-in_err-program-clause-refused : goal.returns-in_err-program-clause-refused
 returns-in_err-program-clause-refused g c =
     let e = c.in_err-program.field-0.0 in
-    let refused : IsUnreportedOfTrees (g.G.Gate.is_open c.args.gate.now) c.args.workers (map routine_of c.args.routines.now) c.args.rules_text.now c.args.cert_text.now (error_of_routine e) =
-        inl (e, c.in_err-program.ensures.refused, refl) in
-    grind rules
+    passed-on (IsUnreportedOfTrees (g.G.Gate.is_open c.args.gate.now) c.args.workers (map routine_of c.args.routines.now) c.args.rules_text.now c.args.cert_text.now)
+        c.from_residual.result (error_of_routine e) c.from_residual.ensures.1
+        (inl (e, c.in_err-program.ensures.refused, refl))
 
 pub returns-in_err-rules-clause-refused : goal.returns-in_err-rules-clause-refused
-returns-in_err-rules-clause-refused g c = ?
+returns-in_err-rules-clause-refused g c =
+    let e = c.in_err-rules.field-0.0 in
+    passed-on (IsUnreportedOfTrees (g.G.Gate.is_open c.args.gate.now) c.args.workers (map routine_of c.args.routines.now) c.args.rules_text.now c.args.cert_text.now)
+        c.from_residual-in_err-rules.result (error_of_rules e) c.from_residual-in_err-rules.ensures.1
+        (inr (c.in_ok-program.ensures.linked, inl (e, c.in_err-rules.ensures.refused, refl)))
 
 pub returns-in_err-certificate-clause-refused : goal.returns-in_err-certificate-clause-refused
 returns-in_err-certificate-clause-refused g c =
     let e = c.in_err-certificate.field-0.0 in
-    let refused : IsUnreportedOfTrees (g.G.Gate.is_open c.args.gate.now) c.args.workers (map routine_of c.args.routines.now) c.args.rules_text.now c.args.cert_text.now (error_of_certificate e) =
-        inr (c.in_ok-program.ensures.linked, inr (c.in_ok-rules.rules, c.in_ok-rules.ensures.ok, inl (e, unread c.args.cert_text.now e c.in_err-certificate.ensures.back c.in_err-certificate.ensures.place, refl))) in
-    grind rules
+    let none = unread c.args.cert_text.now e c.in_err-certificate.ensures.back c.in_err-certificate.ensures.place in
+    passed-on (IsUnreportedOfTrees (g.G.Gate.is_open c.args.gate.now) c.args.workers (map routine_of c.args.routines.now) c.args.rules_text.now c.args.cert_text.now)
+        c.from_residual-in_err-certificate.result (error_of_certificate e) c.from_residual-in_err-certificate.ensures.1
+        (inr (c.in_ok-program.ensures.linked, inr (c.in_ok-rules.rules, c.in_ok-rules.ensures.ok, inl (e, none, refl))))
 
 pub returns-clause-ok : goal.returns-clause-ok
 returns-clause-ok g c =
