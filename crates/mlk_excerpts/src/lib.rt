@@ -6,6 +6,4 @@ mod excerpt;
 mod line;
 
 pub use excerpt::{Excerpt, margin_of, push_excerpt, push_labelled};
-pub use line::{
-    TextLines, character_column, is_of_word, split_at_column, split_at_most, token_at,
-};
+pub use line::{TextLines, character_column, is_of_word, split_at_column, split_at_most, token_at};

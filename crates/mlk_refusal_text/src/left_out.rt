@@ -56,10 +56,10 @@ pub(crate) fn left_out_help(left_out: &LeftOut) -> &'static str {
             "write the name itself, or a branch for each name: what is meant is known only at run time"
         }
         LeftOut::Naked => "write the global's name and all its subscripts",
-        LeftOut::Environment => "write the name of the global or the routine without an environment",
+        LeftOut::Environment =>
+            "write the name of the global or the routine without an environment",
         LeftOut::Ssvn => "leave the routine out of the check, or keep what it asks for in a global",
-        LeftOut::External =>
-            "call a routine of M instead, or leave the routine out of the check",
+        LeftOut::External => "call a routine of M instead, or leave the routine out of the check",
         LeftOut::Offset => "give that line a label of its own, and call it",
         LeftOut::Function => {
             "these are read: $ASCII $CHAR $DATA $EXTRACT $FIND $FNUMBER $GET $JUSTIFY $LENGTH $NAME $ORDER $PIECE \

@@ -101,7 +101,9 @@ impl<'t, 'a> RefusedElement<'t, 'a> {
             if !is_section_key(key.as_str()) {
                 let line = section_line(self.lines, key.as_str());
                 let name = Words(key.as_str());
-                let others = Words(" is no section; the sections are lock, cover, private, readonly and entry");
+                let others = Words(
+                    " is no section; the sections are lock, cover, private, readonly and entry",
+                );
                 return finding(alloc, line, &[name, others]);
             }
         }
@@ -237,11 +239,7 @@ impl<'t, 'a> RefusedElement<'t, 'a> {
     }
 
     // The family that meets an earlier one: 405; or what else is refused.
-    fn other_finding(
-        &self,
-        alloc: Global,
-        code: Code,
-    ) -> Result<RuleFinding, AllocError> {
+    fn other_finding(&self, alloc: Global, code: Code) -> Result<RuleFinding, AllocError> {
         let line = match self.text("name") {
             Some(name) => self.at_value("name", name, 0),
             None => self.head(),
