@@ -1,4 +1,4 @@
 pub mod Paths
 pub mod Sources
 pub mod Saying
-mod OpenGate
+mod NeverShut

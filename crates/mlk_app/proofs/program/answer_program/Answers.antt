@@ -1,4 +1,4 @@
-use Rattle.mlk_app.proofs.OpenGate.{not-shut}
+use Rattle.mlk_app.proofs.NeverShut.{not-shut}
 use Rattle.mlk_app.proofs.Saying.{program-reported, refusal-answers}
 use Rattle.mlk_app.proofs.program.answer_program.Goals as goal
 

@@ -4,7 +4,7 @@ use Rattle.mlk_syntax.specs.Trees.{RoutineTree}
 use Rattle.mlk_rules.specs.declared.rules.RuleLists.{RuleLists}
 use Rattle.mlk_outcome.specs.declared.refusal.NoReport.{NoReport}
 use Rattle.mlk_outcome.specs.Refusals.{IsNotShut}
-use Rattle.mlk_outcome.proofs.OpenGate.{not-reported, not-by-text, unmade-open, not-replayed, texts-open}
+use Rattle.mlk_outcome.proofs.NeverShut.{not-reported, not-by-text, unmade-open, not-replayed, texts-open}
 use Rattle.mlk_app.specs.declared.source.Sources.{Sources}
 use Rattle.mlk_app.specs.declared.source.Work.{Work}
 use Rattle.mlk_app.specs.declared.source.Work.TheVariants as work
