@@ -8,18 +8,14 @@ ghost use Rattle.mlk_forms.specs.Rendering.{IsNoticed};
 ghost use Rattle.mlk_outcome.specs.Refusals.{IsOfOpenGate, IsNotShut};
 
 use crate::answer::{Answer, REFUSED, YES, say, write_error, write_memory_error};
-use crate::help::{
-    Explaining, certificate_help, is_refusal_explained, refusal_help, why_unread,
-};
+use crate::help::{Explaining, certificate_help, is_refusal_explained, refusal_help, why_unread};
 use crate::notice::notice_of;
 use crate::printed::{
     certificate_line, events_line, fault_line, file_line, missing_line, no_page_line, rules_line,
     stuck_line, workers_line,
 };
 use crate::refused::{refused_file, rule_file, spot_in};
-use crate::source::{
-    FileError, Files, Sources, cert_format, read_file, read_files, read_sources,
-};
+use crate::source::{FileError, Files, Sources, cert_format, read_file, read_files, read_sources};
 use crate::work::{print_sources, style_in};
 use mlk_cert::CertFault;
 use mlk_cli::{Format, ProgramRequest, Request, SurveyRequest, UsageError, read_request};

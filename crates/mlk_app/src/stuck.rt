@@ -43,7 +43,16 @@ fn explain_program<R: Threads + Wait + Sync, W: Watch>(
         return Ok(nothing);
     };
     let certificate = &made.certificate;
-    let report = report_by(rt, alloc, program, rules, certificate, WORKERS, &OpenGate, watch);
+    let report = report_by(
+        rt,
+        alloc,
+        program,
+        rules,
+        certificate,
+        WORKERS,
+        &OpenGate,
+        watch,
+    );
     let Some(report) = found(report)? else {
         return Ok(nothing);
     };

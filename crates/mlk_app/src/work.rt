@@ -14,9 +14,7 @@ use mlk_cert::{Certificate, read_cert};
 use mlk_cli::{Asked, Output, ProgramRequest, ReportStyle};
 use mlk_explain::Grounds;
 use mlk_forms::render_report;
-use mlk_outcome::{
-    NoReport, certificate_for, certificate_text, jobs_text, report_by_certificate,
-};
+use mlk_outcome::{NoReport, certificate_for, certificate_text, jobs_text, report_by_certificate};
 use mlk_output::Inputs;
 use mlk_pool::{ReportText, read_routines};
 use mlk_program::{Program, link};

@@ -165,7 +165,9 @@ fn text_in(
 {
     match style.output {
         Output::Text => plain_text(alloc, inputs.routines, report, hazards),
-        Output::Json | Output::Sarif => machine_text(alloc, inputs, report, style, hazards, grounds),
+        Output::Json | Output::Sarif => machine_text(
+            alloc, inputs, report, style, hazards, grounds,
+        ),
     }
 }
 

@@ -25,7 +25,11 @@ fn missing(alloc: Global, entry: &[u8]) -> NoReport
 }
 
 // The entries that `texts` name; refuses the first text that names none.
-fn declared_entries(alloc: Global, program: &Program<'_>, texts: &[Value]) -> Result<Vec<EntryId>, NoReport>
+fn declared_entries(
+    alloc: Global,
+    program: &Program<'_>,
+    texts: &[Value],
+) -> Result<Vec<EntryId>, NoReport>
     ensures ok { IfOk result (λ found. AreDeclared (map routine_of program.now) texts.now found.items) }
     ensures refused { IfErr result (IsUndeclared (map routine_of program.now) texts.now) }
 {

@@ -26,11 +26,7 @@ const VERSION: &str = "0.1.0";
 const REFUSED: usize = 2;
 
 // What is said of a fault: what its code means, and of which lock or global, if that is known.
-fn fault_message(
-    alloc: Global,
-    code: Code,
-    story: Option<&Story>,
-) -> Result<Vec<u8>, AllocError> {
+fn fault_message(alloc: Global, code: Code, story: Option<&Story>) -> Result<Vec<u8>, AllocError> {
     match story {
         Some(story) => story_line(alloc, code.word(), story),
         None => {

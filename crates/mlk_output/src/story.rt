@@ -30,17 +30,16 @@ fn texts_value(alloc: Global, texts: &[Vec<u8>]) -> Result<Value, AllocError> {
 }
 
 // A place on the way to a fault.
-fn point_value(
-    alloc: Global,
-    inputs: &Inputs<'_>,
-    point: &WayPoint,
-) -> Result<Value, AllocError> {
+fn point_value(alloc: Global, inputs: &Inputs<'_>, point: &WayPoint) -> Result<Value, AllocError> {
     let entry = inputs.entry(alloc, point.entry)?;
     let members = vec![in alloc;
         ("entry", Field::Made(entry)),
         ("path", Field::Text(inputs.path(point.entry))),
         ("line", Field::Number(point.fault.line.number() as usize)),
-        ("column", Field::Number(point.fault.column.number() as usize)),
+        (
+            "column",
+            Field::Number(point.fault.column.number() as usize)
+        ),
         ("act", Field::Bytes(point.act.as_slice())),
     ]?;
     object(alloc, members)
@@ -97,12 +96,11 @@ pub(crate) fn add_story<'a>(
 }
 
 /// One line of what is known of the fault with this name: what was about to happen, what was held, the rules, and what mends it.
-pub(crate) fn story_line(
-    alloc: Global,
-    name: &[u8],
-    story: &Story,
-) -> Result<Vec<u8>, AllocError> {
-    let mut line = text_of(alloc, &[Bytes(name), Words(": "), Bytes(story.act.as_slice())])?;
+pub(crate) fn story_line(alloc: Global, name: &[u8], story: &Story) -> Result<Vec<u8>, AllocError> {
+    let mut line = text_of(
+        alloc,
+        &[Bytes(name), Words(": "), Bytes(story.act.as_slice())],
+    )?;
     if let Some(held) = &story.held {
         line.extend_from_slice(b"; held: ")?;
         line.extend_from_slice(held.as_slice())?;

@@ -25,8 +25,11 @@ returns-clause-ok g c =
 
 pub returns-clause-refused : goal.returns-clause-refused
 returns-clause-refused g c =
-    IfErr-weaker c.print_work-printed.result _ _ (λ r h. inr (c.in_ok-program.ensures.linked, inr (
-      c.in_ok-rules.rules,
-      c.in_ok-rules.ensures.ok,
-      subst (λ l. IsRefusedFor c.args.sources.now.work (map routine_of l) c.in_ok-rules.rules r) c.in_ok-program.ensures.same h,
-    ))) c.print_work-printed.ensures.refused
+    IfErr-weaker c.print_work-printed.result _ _ (λ r h. inr (
+      c.in_ok-program.ensures.linked,
+      inr (
+        c.in_ok-rules.rules,
+        c.in_ok-rules.ensures.ok,
+        subst (λ l. IsRefusedFor c.args.sources.now.work (map routine_of l) c.in_ok-rules.rules r) c.in_ok-program.ensures.same h,
+      ),
+    )) c.print_work-printed.ensures.refused

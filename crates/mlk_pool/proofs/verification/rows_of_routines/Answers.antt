@@ -16,23 +16,23 @@ pub returns-in_err-program-clause-refused : goal.returns-in_err-program-clause-r
 returns-in_err-program-clause-refused g c =
     let e = c.in_err-program.field-0.0 in
     passed-on (IsUnreportedOfTrees (g.G.Gate.is_open c.args.gate.now) c.args.workers (map routine_of c.args.routines.now) c.args.rules_text.now c.args.cert_text.now)
-        c.from_residual.result (error_of_routine e) c.from_residual.ensures.1
-        (inl (e, c.in_err-program.ensures.refused, refl))
+    c.from_residual.result (error_of_routine e) c.from_residual.ensures.1
+    (inl (e, c.in_err-program.ensures.refused, refl))
 
 pub returns-in_err-rules-clause-refused : goal.returns-in_err-rules-clause-refused
 returns-in_err-rules-clause-refused g c =
     let e = c.in_err-rules.field-0.0 in
     passed-on (IsUnreportedOfTrees (g.G.Gate.is_open c.args.gate.now) c.args.workers (map routine_of c.args.routines.now) c.args.rules_text.now c.args.cert_text.now)
-        c.from_residual-in_err-rules.result (error_of_rules e) c.from_residual-in_err-rules.ensures.1
-        (inr (c.in_ok-program.ensures.linked, inl (e, c.in_err-rules.ensures.refused, refl)))
+    c.from_residual-in_err-rules.result (error_of_rules e) c.from_residual-in_err-rules.ensures.1
+    (inr (c.in_ok-program.ensures.linked, inl (e, c.in_err-rules.ensures.refused, refl)))
 
 pub returns-in_err-certificate-clause-refused : goal.returns-in_err-certificate-clause-refused
 returns-in_err-certificate-clause-refused g c =
     let e = c.in_err-certificate.field-0.0 in
     let none = unread c.args.cert_text.now e c.in_err-certificate.ensures.back c.in_err-certificate.ensures.place in
     passed-on (IsUnreportedOfTrees (g.G.Gate.is_open c.args.gate.now) c.args.workers (map routine_of c.args.routines.now) c.args.rules_text.now c.args.cert_text.now)
-        c.from_residual-in_err-certificate.result (error_of_certificate e) c.from_residual-in_err-certificate.ensures.1
-        (inr (c.in_ok-program.ensures.linked, inr (c.in_ok-rules.rules, c.in_ok-rules.ensures.ok, inl (e, none, refl))))
+    c.from_residual-in_err-certificate.result (error_of_certificate e) c.from_residual-in_err-certificate.ensures.1
+    (inr (c.in_ok-program.ensures.linked, inr (c.in_ok-rules.rules, c.in_ok-rules.ensures.ok, inl (e, none, refl))))
 
 pub returns-clause-ok : goal.returns-clause-ok
 returns-clause-ok g c =
@@ -47,12 +47,15 @@ returns-clause-ok g c =
 
 pub returns-clause-refused : goal.returns-clause-refused
 returns-clause-refused g c =
-    IfErr-weaker c.verify_program.result _ _ (λ e h. inr (c.in_ok-program.ensures.linked, inr (
-      c.in_ok-rules.rules,
-      c.in_ok-rules.ensures.ok,
+    IfErr-weaker c.verify_program.result _ _ (λ e h. inr (
+      c.in_ok-program.ensures.linked,
       inr (
-        c.in_ok-certificate.certificate,
-        c.in_ok-certificate.ensures.ok,
-        (e, subst (λ l. IsUnreportedBy (g.G.Gate.is_open c.args.gate.now) c.args.workers (map routine_of l) c.in_ok-rules.rules c.in_ok-certificate.certificate e) c.in_ok-program.ensures.same h, refl),
+        c.in_ok-rules.rules,
+        c.in_ok-rules.ensures.ok,
+        inr (
+          c.in_ok-certificate.certificate,
+          c.in_ok-certificate.ensures.ok,
+          (e, subst (λ l. IsUnreportedBy (g.G.Gate.is_open c.args.gate.now) c.args.workers (map routine_of l) c.in_ok-rules.rules c.in_ok-certificate.certificate e) c.in_ok-program.ensures.same h, refl),
+        ),
       ),
-    ))) c.verify_program.ensures.refused
+    )) c.verify_program.ensures.refused

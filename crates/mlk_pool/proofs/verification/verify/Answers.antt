@@ -17,13 +17,13 @@ pub returns-in_err-routines-clause-refused : goal.returns-in_err-routines-clause
 returns-in_err-routines-clause-refused g c =
     let e = c.in_err-routines.field-0.0 in
     passed-on (IsUnverified (g.G.Gate.is_open c.args.gate.now) c.args.workers c.args.sources.now c.args.rules.now c.args.certificate.now)
-        c.from_residual.result (error_of_routine e) c.from_residual.ensures.1
-        (inl (e, c.in_err-routines.ensures.refused, refl))
+    c.from_residual.result (error_of_routine e) c.from_residual.ensures.1
+    (inl (e, c.in_err-routines.ensures.refused, refl))
 
 pub returns-in_err-rows-clause-refused : goal.returns-in_err-rows-clause-refused
 returns-in_err-rows-clause-refused g c =
     let e = c.in_err-rows.field-0.0 in
     let of_trees = subst (λ l. IsUnreportedOfTrees (g.G.Gate.is_open c.args.gate.now) c.args.workers (map routine_of l) c.args.rules.now c.args.certificate.now e) c.as_slice.ensures.value c.in_err-rows.ensures.refused in
     passed-on (IsUnverified (g.G.Gate.is_open c.args.gate.now) c.args.workers c.args.sources.now c.args.rules.now c.args.certificate.now)
-        c.from_residual-in_err-rows.result e c.from_residual-in_err-rows.ensures.1
-        (inr (map routine_of c.in_ok-routines.routines.items, c.in_ok-routines.ensures.ok, of_trees))
+    c.from_residual-in_err-rows.result e c.from_residual-in_err-rows.ensures.1
+    (inr (map routine_of c.in_ok-routines.routines.items, c.in_ok-routines.ensures.ok, of_trees))
