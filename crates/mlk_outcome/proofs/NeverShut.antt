@@ -82,11 +82,11 @@ not-replayed trees rules events r (inr h) = λ t shut. by-events h.stopped.0 t (
 -- the stages before what is asked of a program and its rules say nothing of the gate
 pub trees-open : (Why : List RoutineTree → RuleLists → NoReport → Type 0) → ((trees : List RoutineTree) (rules : RuleLists) (r : NoReport) → Why trees rules r → IsNotShut r)
     → (trees : List RoutineTree) (rules_text : List ℕ) (r : NoReport) → RefusesTrees refusal.Check trees rules_text Why r → IsNotShut r
-trees-open Why open trees rules_text r (inl h) = as-open (error_of_routine h.0) r h.2 (by-routine h.0)
-trees-open Why open trees rules_text r (inr (linked, inl h)) = as-open (error_of_rules h.0) r h.2 (by-rules h.0)
-trees-open Why open trees rules_text r (inr (linked, inr (rules, said, h))) = open trees rules r h
+trees-open Why opened trees rules_text r (inl h) = as-open (error_of_routine h.0) r h.2 (by-routine h.0)
+trees-open Why opened trees rules_text r (inr (linked, inl h)) = as-open (error_of_rules h.0) r h.2 (by-rules h.0)
+trees-open Why opened trees rules_text r (inr (linked, inr (rules, said, h))) = opened trees rules r h
 
 pub texts-open : (Why : List RoutineTree → RuleLists → NoReport → Type 0) → ((trees : List RoutineTree) (rules : RuleLists) (r : NoReport) → Why trees rules r → IsNotShut r)
     → (sources : List Source) (rules_text : List ℕ) (r : NoReport) → RefusesTexts refusal.Check sources rules_text Why r → IsNotShut r
-texts-open Why open sources rules_text r (inl h) = as-open (error_of_routine h.0) r h.2 (by-routine h.0)
-texts-open Why open sources rules_text r (inr (trees, read, h)) = trees-open Why open trees rules_text r h
+texts-open Why opened sources rules_text r (inl h) = as-open (error_of_routine h.0) r h.2 (by-routine h.0)
+texts-open Why opened sources rules_text r (inr (trees, read, h)) = trees-open Why opened trees rules_text r h

@@ -29,18 +29,22 @@ fn texts_value(alloc: Global, texts: &[Vec<u8>]) -> Result<Value, AllocError> {
     Ok(Value::Array(values))
 }
 
+// A member's text.
+fn copied<'a>(alloc: Global, text: &[u8]) -> Result<Field<'a>, AllocError> {
+    Ok(Field::Made(Vec::from_slice(alloc, text)?))
+}
+
 // A place on the way to a fault.
 fn point_value(alloc: Global, inputs: &Inputs<'_>, point: &WayPoint) -> Result<Value, AllocError> {
     let entry = inputs.entry(alloc, point.entry)?;
+    let act = copied(alloc, point.act.as_slice())?;
+    let column = point.fault.column.number() as usize;
     let members = vec![in alloc;
         ("entry", Field::Made(entry)),
         ("path", Field::Text(inputs.path(point.entry))),
         ("line", Field::Number(point.fault.line.number() as usize)),
-        (
-            "column",
-            Field::Number(point.fault.column.number() as usize)
-        ),
-        ("act", Field::Bytes(point.act.as_slice())),
+        ("column", Field::Number(column)),
+        ("act", act),
     ]?;
     object(alloc, members)
 }
@@ -70,21 +74,29 @@ fn add_origin(
     Ok(())
 }
 
+fn add_text(
+    alloc: Global,
+    name: &'static str,
+    text: &Option<Vec<u8>>,
+    members: &mut Members<'_>,
+) -> Result<(), AllocError> {
+    if let Some(text) = text {
+        members.push((name, copied(alloc, text.as_slice())?))?;
+    }
+    Ok(())
+}
+
 /// Adds what is known of a fault to the members of its object: `act`, what was about to happen; `held`; `neededBy`, where a lock is
 /// needed that callers hold; `rules` and `help`; `origin`, the place behind the fault, and `calls`, those on the way to it.
-pub(crate) fn add_story<'a>(
+pub(crate) fn add_story(
     alloc: Global,
     inputs: &Inputs<'_>,
-    story: &'a Story,
-    members: &mut Members<'a>,
+    story: &Story,
+    members: &mut Members<'_>,
 ) -> Result<(), AllocError> {
-    members.push(("act", Field::Bytes(story.act.as_slice())))?;
-    if let Some(held) = &story.held {
-        members.push(("held", Field::Bytes(held.as_slice())))?;
-    }
-    if let Some(needed_by) = &story.needed_by {
-        members.push(("neededBy", Field::Bytes(needed_by.as_slice())))?;
-    }
+    members.push(("act", copied(alloc, story.act.as_slice())?))?;
+    add_text(alloc, "held", &story.held, members)?;
+    add_text(alloc, "neededBy", &story.needed_by, members)?;
     let rules = texts_value(alloc, story.rules.as_slice())?;
     let help = texts_value(alloc, story.help.as_slice())?;
     members.push(("rules", Field::Value(rules)))?;
@@ -96,7 +108,11 @@ pub(crate) fn add_story<'a>(
 }
 
 /// One line of what is known of the fault with this name: what was about to happen, what was held, the rules, and what mends it.
-pub(crate) fn story_line(alloc: Global, name: &[u8], story: &Story) -> Result<Vec<u8>, AllocError> {
+pub(crate) fn story_line<'a>(
+    alloc: Global,
+    name: &'a [u8],
+    story: &'a Story,
+) -> Result<Vec<u8>, AllocError> {
     let mut line = text_of(
         alloc,
         &[Bytes(name), Words(": "), Bytes(story.act.as_slice())],
