@@ -34,7 +34,7 @@ LEVELS = ['none', 'note', 'warning', 'error']
 
 # The objects, by their names in the schema: their members, each with what it is, and `!` where it must be there. A type is a JSON
 # type, a name of an object, a list of one type, a list of values after `in`, a number's least value after `from`, or `map` for an
-# object of which all members have one type. `any` lists members of which one must be there.
+# object whose members all have one type. `any` lists members, and one of them must be there.
 SCHEMA = {
     'sarifLog': {'$schema': 'string', 'version!': ('in', ['2.1.0']), 'runs!': ['run']},
     'run': {'tool!': 'tool', 'invocations': ['invocation'], 'originalUriBaseIds': ('map', 'artifactLocation'), 'results': ['result'],
@@ -199,7 +199,7 @@ class Run:
         return [(it['code'], it) for it in self.report['faults']] + [(it['name'], it) for it in self.report.get('hazards', [])]
 
     def place_faults(self, result, place):
-        """What is wrong with the place of a result, of which JSON has the path, the line and the column in bytes."""
+        """What is wrong with the place of a result; JSON has its path, its line and its column in bytes."""
         where = result['locations'][0]['physicalLocation']
         path = path_of(where['artifactLocation'])
         if place is None:

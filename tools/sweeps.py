@@ -6,8 +6,8 @@
 For each of some command lines over examples/, with one worker and with four where that can be said, the calls of each kind
 are counted. Then the program is run once for each of them, and that one call is refused; or it and all later ones; or all
 memory of one thread from then on, while the others go on. Whatever was refused, the answer must be the usual one, or status 3,
-a line of `error memory` or `error file PATH` on standard error, and on standard output a beginning of the usual text. Where
-threads are refused it must be the usual one.
+a line of `error memory` or `error file PATH` on standard error, with explanations below it only if they are asked for, and on
+standard output a beginning of the usual text. Where threads are refused it must be the usual one.
 The library that refuses (refuse.c) needs a C compiler on the PATH: cc, gcc or clang. Where there is none it fails.
 """
 import pathlib
@@ -35,7 +35,7 @@ COMMANDS = [
     (['replay', 'examples/night/rules.toml', 'examples/night/ring', 'examples/night/WARD.m'], False),
 ]
 KINDS = ('memory', 'beside', 'thread', 'read', 'write')
-# Kinds of which each run has calls.
+# Each run has calls of these kinds.
 ALWAYS = ('memory', 'read', 'write')
 # How often the calls of other threads than the first are counted: the threads share the work in another way each time.
 COUNTS = 10
@@ -70,17 +70,19 @@ class Sweep:
             counts.append(int(file.read_text()))
         return max(counts)
 
-    def is_right(self, usual, kind, given):
-        """Whether an answer is one that may be given where something was refused."""
+    def is_right(self, words, usual, kind, given):
+        """Whether an answer is one that may be given where something was refused. Explanations are below the line."""
         if given == usual:
             return True
         status, out, error = given
-        return kind != 'thread' and status == 3 and usual[1].startswith(out) and error.startswith(ERRORS) and error.count('\n') == 1
+        below = error.splitlines()[1:]
+        said = error.startswith(ERRORS) and (not below or '--explain' in words and all(it.startswith('  = ') for it in below))
+        return kind != 'thread' and status == 3 and usual[1].startswith(out) and said
 
     def tried(self, words, usual, kind, number, on):
         """What is wrong with the answer where this call is refused, and, if `on` is '1', those after it."""
         given = self.run(words, REFUSED=kind, AT=str(number), ON=on)
-        if self.is_right(usual, kind, given):
+        if self.is_right(words, usual, kind, given):
             return None
         return f"mlock {' '.join(words)}\n  {kind} {number}{' and on' if on == '1' else ''} refused: {tuple(given)}"
 

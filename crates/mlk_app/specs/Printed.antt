@@ -61,6 +61,6 @@ events_line f = codes "refused line " ++ decimal f.line ++ space ++ code_text (e
 abbrev pub file_line : List ℕ → List ℕ
 file_line path = codes "error file " ++ path ++ line_end
 
--- `error: no code TEXT; give a number such as 702 or a name such as Uncovered`
+-- `error: no code TEXT`
 abbrev pub no_page_line : List ℕ → List ℕ
-no_page_line text = codes "error: no code " ++ text ++ codes "; give a number such as 702 or a name such as Uncovered" ++ line_end
+no_page_line text = codes "error: no code " ++ text ++ line_end

@@ -42,9 +42,10 @@ fn explanation(
         NoReport::Check(CheckError::Rules(fault)) => rules_help(alloc, file, fault),
         NoReport::Check(CheckError::Entry(entry)) => entry_help(alloc, file, entry.as_bytes()),
         NoReport::Check(CheckError::Routine(fault)) => routine_help(alloc, file, fault),
-        _ => match refused_spot(alloc, refusal, file.text)? {
-            Some(spot) => line_help(alloc, code, file, spot),
-            None => code_help(alloc, code),
+        _ => match refused_spot(alloc, refusal, file.text) {
+            Ok(Some(spot)) => line_help(alloc, code, file, spot),
+            Ok(None) => code_help(alloc, code),
+            Err(AllocError) => Err(AllocError),
         },
     }
 }

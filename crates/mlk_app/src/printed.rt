@@ -164,17 +164,9 @@ pub(crate) fn file_line(alloc: Global, path: &str) -> Result<ReportText, AllocEr
     line_of(alloc, &[Words("error file "), Words(path), Words("\n")])
 }
 
-/// `error: no code TEXT; give a number such as 702 or a name such as Uncovered`
+/// `error: no code TEXT`
 pub(crate) fn no_page_line(alloc: Global, text: &str) -> Result<ReportText, AllocError>
     ensures { IfOk result (λ t. t ≡ no_page_line text.now) }
 {
-    line_of(
-        alloc,
-        &[
-            Words("error: no code "),
-            Words(text),
-            Words("; give a number such as 702 or a name such as Uncovered"),
-            Words("\n"),
-        ],
-    )
+    line_of(alloc, &[Words("error: no code "), Words(text), Words("\n")])
 }

@@ -22,12 +22,16 @@ use mlk_cli::{Format, ProgramRequest, Request, SurveyRequest, UsageError, read_r
 use mlk_forms::{render_notice, render_pages, render_survey};
 use mlk_outcome::{NoReport, convert};
 use mlk_pool::{CheckError, ReportText};
+use mlk_refusal_text::{GivenFile, Spot};
 use mlk_text::Failure;
 use mlk_watch::Watch;
 use std::alloc::{AllocError, Global};
 use std::io::{self, ErrorKind, Write};
 use std::sync::Wait;
 use std::thread::Threads;
+
+// What helps if there is no such code.
+const CODES_HELP: &[u8] = b"  = help: give a number such as 702, or a name such as Uncovered\n";
 
 fn error_line(alloc: Global, error: &CheckError) -> Result<ReportText, AllocError>
     requires { IsOfOpenGate error.now }
@@ -55,6 +59,23 @@ fn refusal_line(alloc: Global, refusal: &NoReport) -> Result<ReportText, AllocEr
     }
 }
 
+// What is printed beside the line of a refusal that is in `file`, at `spot`.
+fn notice_at(
+    alloc: Global,
+    refusal: &NoReport,
+    program: &ProgramRequest<'_>,
+    line: &ReportText,
+    file: GivenFile<'_>,
+    spot: Option<Spot>,
+) -> Result<Option<ReportText>, AllocError>
+    ensures { IfOk result (IsNoticed (style_in program.now.asked).output) }
+{
+    match notice_of(refusal, program, line.as_bytes(), file, spot) {
+        Some(notice) => render_notice(alloc, &notice, style_in(&program.asked).output),
+        None => Ok(None),
+    }
+}
+
 // What is printed of a refusal beside its line.
 fn notice(
     alloc: Global,
@@ -66,11 +87,10 @@ fn notice(
     ensures { IfOk result (IsNoticed (style_in program.now.asked).output) }
 {
     let refused = refused_file(refusal, program, sources);
-    let spot = spot_in(alloc, refusal, &refused)?;
     let file = refused.unwrap_or(rule_file(program, sources));
-    match notice_of(refusal, program, line.as_bytes(), file, spot) {
-        Some(notice) => render_notice(alloc, &notice, style_in(&program.asked).output),
-        None => Ok(None),
+    match spot_in(alloc, refusal, &refused) {
+        Ok(spot) => notice_at(alloc, refusal, program, line, file, spot),
+        Err(AllocError) => Err(AllocError),
     }
 }
 
@@ -140,8 +160,11 @@ fn answer_page(alloc: Global, code: &str) -> Answer
     if let Some(text) = page {
         return Answer::Report(text, YES);
     }
+    let Ok(help) = Vec::from_slice(alloc, CODES_HELP) else {
+        return Answer::OutOfMemory;
+    };
     match no_page_line(alloc, code) {
-        Ok(line) => Answer::Refused(line, None, Vec::new(alloc)),
+        Ok(line) => Answer::Refused(line, None, help),
         Err(AllocError) => Answer::OutOfMemory,
     }
 }

@@ -56,8 +56,10 @@ pub fn entry_help(
     rules: &GivenFile<'_>,
     entry: &[u8],
 ) -> Result<Vec<u8>, AllocError> {
-    let spot = entry_place(alloc, rules.text, entry)?;
-    page_help(alloc, Code::EntryMissing, Some(*rules), spot)
+    match entry_place(alloc, rules.text, entry) {
+        Ok(spot) => page_help(alloc, Code::EntryMissing, Some(*rules), spot),
+        Err(AllocError) => Err(AllocError),
+    }
 }
 
 // Why a file can't be read, and what helps.

@@ -63,8 +63,9 @@ fn add_faults(
         let Err(failure) = answer else {
             continue;
         };
-        if let Failure::Refused(fault) = failure {
-            further.push(rest.placed(fault))?;
+        match failure {
+            Failure::Refused(fault) => further.push(rest.placed(fault))?,
+            Failure::OutOfMemory => return Err(AllocError),
         }
     }
     Ok(())

@@ -1,0 +1,18 @@
+WSNIGHT ; the night run
+ LOCK +^WNIGHT:0 ELSE  QUIT
+ SET ^WNIGHT("begun")=$HOROLOG
+ DO CUT^WSLOG(10000),DUES
+ IF $ORDER(^WTMP($JOB,""))'="" KILL ^WTMP($JOB)
+ SET ^WNIGHT("ended")=$HOROLOG
+ LOCK -^WNIGHT
+ QUIT
+ ;
+DUES ; letters to those who owe
+ NEW C,N
+ SET C="",N=0
+ FOR  LOCK +^WCUS SET C=$ORDER(^WCUS(C)) LOCK -^WCUS QUIT:C=""  DO
+ . LOCK +^WCUS(C):10 ELSE  QUIT
+ . IF $$DUE^WSCUS(C)>100 SET N=N+1,^WTMP($JOB,"due",N)=C
+ . LOCK -^WCUS(C)
+ FOR  QUIT:N<1  DO PUT^WSQUE("PRINT",^WTMP($JOB,"due",N)_"/0") SET N=N-1
+ QUIT
