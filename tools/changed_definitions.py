@@ -1,9 +1,10 @@
 #!/usr/bin/env python3
-"""Shows that the theorem on runs depends on what the check asks: change one definition of the check, and the proof fails.
+"""Shows that the theorem on runs depends on what the check asks, and claims no more: change one definition, and the proof fails.
 
     changed_definitions.py FOLDER [NAME..]
 
-Each change makes the check say `yes` to programs whose runs break the rules. The script writes a skeleton of the repository to
+Each change makes the check say `yes` to programs whose runs break the rules, or lets the theorem promise more than the rules ask
+for. The script writes a skeleton of the repository to
 FOLDER (see skeleton.py) and checks the proof there as it is. Then it makes the changes one at a time, all of them or those that
 are named, and checks the proof again after each. The code is not part of this: each function is proved to compute its
 definition. The first check takes about ten minutes, each change about three more.
@@ -14,7 +15,7 @@ import sys
 
 import skeleton
 
-CRATES = ['mlk_soundness_machine', 'mlk_soundness_walk']
+CRATES = ['mlk_machine_laws', 'mlk_soundness_machine', 'mlk_soundness_walk']
 # General laws of the walk, which the proof uses: a change that is refused there shows nothing of the theorem.
 LAWS = 'mlk_walk_laws'
 CHANGES, CLAIMS, CALLS = 'mlk_calls/specs/Changes.antt', 'mlk_calls/specs/Claims.antt', 'mlk_calls/specs/Calls.antt'
@@ -22,8 +23,10 @@ REFERENCES = 'mlk_walk_exprs/specs/References.antt'
 ARGUMENTS, LOCKS, NEWS = (f'mlk_walk_commands/specs/{name}.antt' for name in ('Arguments', 'Locks', 'News'))
 COMMANDS, ENDS, LOOPS = (f'mlk_walk_lines/specs/{name}.antt' for name in ('Commands', 'Endings', 'Loops'))
 VERDICTS = 'mlk_walk/specs/Verdicts.antt'
+LAWS_OF_RUNS = 'mlk_machine_laws/specs/Laws.antt'
 
-# The changes, each named for what the check then allows or gets wrong: a file, a text that occurs in it once, and what replaces it.
+# The changes, each named for what the check then allows or gets wrong, or what the theorem then claims: a file, a text that occurs
+# in it once, and what replaces it.
 CHANGED = {
     # Locks and their order
     'a-timed-claim-always-succeeds': (
@@ -82,6 +85,9 @@ CHANGED = {
         COMMANDS, 'else if p.scope.summary.drops then []\n    else Refused p.line p.word SummaryShort ∷ []', 'else []'),
     'a-declared-entry-with-needs': (
         VERDICTS, 'if sc.declared && holds_some sc.summary.need then fault_at number 1 NeedMissing ∷ [] else []', '[]'),
+    # The theorem
+    'no-clash-though-rules-free-reads': (
+        LAWS_OF_RUNS, '(clash : Clash i j) → OneReadsFreely rules clash.one clash.other', 'Clash i j → ⊥'),
 }
 
 

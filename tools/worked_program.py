@@ -199,6 +199,7 @@ def rule_lists(rules):
     def cover(rule):
         of, variables = pattern(rule['global'])
         name, parts = lock_subscripts(rule['lock'], lambda word: f'(part_of.Place {variables.index(word)})')
+        assert 'also' not in rule and rule.get('reads', 'locked') == 'locked', rule
         return f'(cover {of} (template (root.Global {codes(name)}) {listed(parts)}))'
 
     families = [f'(family (lock_name (root.Global {codes(f["name"][1:])}) []) {f["rank"]})' for f in rules['lock']]

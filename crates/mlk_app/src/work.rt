@@ -12,7 +12,7 @@ use crate::answer::{NO, YES};
 use crate::source::{Sources, Work, copied_texts};
 use mlk_cert::{Certificate, read_cert};
 use mlk_cli::{Asked, Output, ProgramRequest, ReportStyle};
-use mlk_explain::Grounds;
+use mlk_explain::{Grounds, free_reads};
 use mlk_forms::render_report;
 use mlk_outcome::{NoReport, certificate_for, certificate_text, jobs_text, report_by_certificate};
 use mlk_output::Inputs;
@@ -76,6 +76,18 @@ fn shown_texts(
     Ok(Vec::new(alloc))
 }
 
+// The patterns of the covers that free reads, for the one form that lists them.
+fn listed_reads(
+    alloc: Global,
+    rule_text: &[u8],
+    output: Output,
+) -> Result<Vec<Vec<u8>>, AllocError> {
+    match output {
+        Output::Json => free_reads(alloc, rule_text),
+        Output::Text | Output::Sarif => Ok(Vec::new(alloc)),
+    }
+}
+
 // Prints `report`, which `grounds` explain.
 fn printed_report(
     alloc: Global,
@@ -85,12 +97,15 @@ fn printed_report(
 ) -> Result<Printed, AllocError>
     ensures { IfOk result (λ p. IsReportPrinted (style_in request.now.asked) (map routine_of grounds.now.program.now) report.now p.text p.status) }
 {
+    let style = style_in(&request.asked);
+    let free_reads = listed_reads(alloc, grounds.rule_text, style.output)?;
     let inputs = Inputs {
         routines: grounds.program.routines(),
         paths: request.routines.as_slice(),
         texts: grounds.texts,
+        free_reads: free_reads.as_slice(),
     };
-    let printed = render_report(alloc, &inputs, report, style_in(&request.asked), grounds)?;
+    let printed = render_report(alloc, &inputs, report, style, grounds)?;
     let status = status_of(printed.passes);
     Ok(Printed {
         text: printed.text,

@@ -11,11 +11,13 @@ use Rattle.mlk_names.specs.Symbols.{Assignment}
 use Rattle.mlk_names.specs.declared.reference.Reference.{Reference}
 use Rattle.mlk_names.proofs.OverlapLemmas.{may_touch}
 use Rattle.mlk_rules.specs.declared.cover.Cover.{Cover}
+use Rattle.mlk_rules.specs.declared.cover.ReadPolicy.TheVariants.{Locked, Free}
 use Rattle.mlk_rules.specs.declared.pattern.Element.TheVariants as element
 use Rattle.mlk_rules.specs.declared.template.TemplatePart.TheVariants.{Place}
 use Rattle.mlk_rules.specs.declared.template.Template.{Template}
 use Rattle.mlk_rules.specs.Coverage.{HoldLocks, HoldsLock, Satisfies}
 use Rattle.mlk_rules.specs.Patterns.{MayMeet}
+use Rattle.mlk_rules.proofs.Apart.{locked_by_test}
 use Rattle.mlk_rules.proofs.Instances.{lock_of_node}
 use Rattle.mlk_rules.specs.declared.rules.RuleLists.{RuleLists}
 use Rattle.mlk_rules.specs.Ranks.{FamiliesApart}
@@ -225,14 +227,14 @@ second_waits_for_first = refl
 
 -- What the theorem says of this moment: the jobs don't clash, they don't wait for each other in a ring, and the first one
 -- holds what covers the node that it is about to write.
-pub both_are_safe : AreSafe (first ∷ second ∷ [])
+pub both_are_safe : AreSafe deposit_rules (first ∷ second ∷ [])
 both_are_safe = deposit_keeps_rules.all_jobs events (first ∷ second ∷ []) both_jobs
 
 pub no_ring_of_both : IsWithoutRing (first ∷ second ∷ [])
 no_ring_of_both = both_are_safe.no_ring
 
 pub they_do_not_clash : Clash first second → ⊥
-they_do_not_clash = both_are_safe.no_clash first second (inl refl) (inr (inl refl))
+they_do_not_clash = both_are_safe.no_clash (locked_by_test deposit_rules.covers refl) first second (inl refl) (inr (inl refl))
 
 pub write_is_covered : IsCoveredAt deposit_rules first balance
 unfolding entry_of label_at name_at digits_at digits fold_between whole same_name is_above
@@ -248,6 +250,7 @@ account_cover = record {
   pattern = record { global = codes "ACCT"; elements = element.Variable ∷ []; extent = Tree };
   lock = account_lock;
   also = None;
+  reads = Locked;
 }
 
 may_meet : (a : Assignment) (r : Reference) → Touches a r balance → MayMeet account_cover.pattern r
@@ -266,7 +269,8 @@ may_meet a r h = (
 holds_above : IsCoveredAt deposit_rules first balance → (n : LockName) × Holds (seen first) n × IsAbove n account
 holds_above c =
     let satisfied : Satisfies c.held c.reference account_cover = c.covered.covers account_cover (0, omega arith, refl) (may_meet c.values c.reference c.touches) in
-    let locks : HoldLocks Writes c.held c.reference (account_lock ∷ []) = subst (λ x. HoldLocks x c.held c.reference (account_lock ∷ [])) (sym c.touches.access) satisfied in
+    let held : HoldLocks c.reference.access c.held c.reference (account_lock ∷ []) = elim satisfied [ inl free ↦ absurd (let e : Locked ≡ Free = free.0 in cc) | inr locks ↦ locks ] in
+    let locks : HoldLocks Writes c.held c.reference (account_lock ∷ []) = subst (λ x. HoldLocks x c.held c.reference (account_lock ∷ [])) (sym c.touches.access) held in
     let h : HoldsLock c.held account_lock c.reference = locks account_lock (0, omega arith, refl) in
     let one : IsHeld c.values first h.0 = c.each_held h.0 h.1 in
     let above : IsAbove one.name account =

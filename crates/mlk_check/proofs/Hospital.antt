@@ -533,7 +533,7 @@ second_waits_for_first = refl
 
 -- What the theorem says of this moment: the jobs don't clash and don't wait in a ring, and the first one holds what covers the
 -- bed that it is about to write.
-pub both_are_safe : AreSafe (first ∷ second ∷ [])
+pub both_are_safe : AreSafe hospital_rules (first ∷ second ∷ [])
 both_are_safe = hospital_keeps_rules.all_jobs events (first ∷ second ∷ []) both_jobs
 
 pub bed_is_covered : IsCoveredAt hospital_rules first bed

@@ -1,11 +1,12 @@
 -- Safe jobs are shown as such, and a replay of a program that keeps its rules comes to safe jobs.
-use Rattle.std.proofs.Common.{◌≡◌, ◌∙◌, ◌≢◌, ◌<◌, ◌==◌, ◌&&◌, ◌||◌, ◌++◌, ℕ, zero, suc, Bool, false, List, [], ◌∷◌, map, Option, Some, None, Ok, refl, sym, ap, subst, inl, inr, arith}
+use Rattle.std.proofs.Common.{◌≡◌, ◌∙◌, ◌≢◌, ◌<◌, ◌==◌, ◌&&◌, ◌||◌, ◌++◌, ℕ, zero, suc, Bool, true, false, List, [], ◌∷◌, map, Option, Some, None, Ok, refl, sym, ap, subst, inl, inr, arith}
 use Rattle.std.specs.Prelude.{codes, option_and_then}
 use Rattle.std.proofs.lemmas.Bool.{cases_Bool, false_from_ne_true, eqb-true, ne_eqb}
 use Rattle.mlk_names.specs.Lists.{Among}
 use Rattle.mlk_names.specs.declared.lock_name.LockName.{LockName}
 use Rattle.mlk_names.specs.References.{Touch}
 use Rattle.mlk_rules.specs.declared.rules.RuleLists.{RuleLists}
+use Rattle.mlk_rules.specs.Laws.{FreesNoReads}
 use Rattle.mlk_syntax.specs.declared.routine.Routine.{Routine}
 use Rattle.mlk_syntax.specs.Trees.{RoutineTree}
 use Rattle.mlk_syntax.specs.Views.{routine_of}
@@ -25,10 +26,10 @@ use Rattle.mlk_machine.specs.Systems.{jobs_in}
 use Rattle.mlk_machine.specs.Laws.{IsMoment}
 use Rattle.mlk_machine.proofs.RunLemmas.{replays_are_runs}
 use Rattle.mlk_machine_view.specs.Clashes.{touches_clash, clash, clashes_with, clashes}
-use Rattle.mlk_machine_view.specs.Printed.{job_line, pair_line, waits_lines, ring_text, system_text}
+use Rattle.mlk_machine_view.specs.Printed.{job_line, clash_lines, waits_lines, ring_text, system_text}
 use Rattle.mlk_machine_view.proofs.ClashLemmas.{clash_is_tested}
 use Rattle.mlk_check.specs.Theorem.{AreSafe, KeepsRules}
-use Rattle.mlk_check.specs.Replays.{SafeIsShown, AreNamed, ReplaysAreSafe}
+use Rattle.mlk_check.specs.Replays.{ClashFreely, SafeIsShown, AreNamed, ReplaysAreSafe}
 use Rattle.mlk_check.proofs.Endings.{has_ended}
 
 -- jobs by their numbers
@@ -68,18 +69,21 @@ apart_by : (i j : Job) (t u : Touch) → i.number ≢ j.number → ready i ≡ S
 unfolding clash
 apart_by i j t u d one other h = let e = rw (ne_eqb i.number j.number d, one, other) at h in e
 
-module _ (routines : List RoutineTree) (jobs : List Job) (safe : AreSafe jobs) where
-  no_two : (i j : Job) → Among i jobs → Among j jobs → clash i j ≡ false
-  no_two i j a b = false_from_ne_true (clash i j) (λ c. safe.no_clash i j a b ((clash_is_tested i j).0 c))
+module _ (rules : RuleLists) (routines : List RoutineTree) (jobs : List Job) (safe : AreSafe rules jobs) where
+  freely : (i j : Job) → Among i jobs → Among j jobs → clash i j ≡ true → ClashFreely rules i j
+  freely i j a b t = let c = (clash_is_tested i j).0 t in (c, safe.clashes i j a b c)
 
-  shown_apart : (k n : ℕ) (t u : Touch) → k ≢ n → option_and_then ready (job_numbered k jobs) ≡ Some t
+  no_two : FreesNoReads rules → (i j : Job) → Among i jobs → Among j jobs → clash i j ≡ false
+  no_two locked i j a b = false_from_ne_true (clash i j) (λ c. safe.no_clash locked i j a b ((clash_is_tested i j).0 c))
+
+  shown_apart : FreesNoReads rules → (k n : ℕ) (t u : Touch) → k ≢ n → option_and_then ready (job_numbered k jobs) ≡ Some t
       → option_and_then ready (job_numbered n jobs) ≡ Some u → touches_clash t u ≡ false
-  shown_apart k n t u d one other =
+  shown_apart locked k n t u d one other =
       let i = it_stands (job_numbered k jobs) t one in
       let j = it_stands (job_numbered n jobs) u other in
       let a = its_number k jobs i.0 i.1 in
       let b = its_number n jobs j.0 j.1 in
-      apart_by i.0 j.0 t u (λ e. d (sym a.1 ∙ e ∙ b.1)) i.2 j.2 (no_two i.0 j.0 a.0 b.0)
+      apart_by i.0 j.0 t u (λ e. d (sym a.1 ∙ e ∙ b.1)) i.2 j.2 (no_two locked i.0 j.0 a.0 b.0)
 
   nothing_held : (k : ℕ) (j : Job) → job_numbered k jobs ≡ Some j → state routines j ≡ Ended
       → (n : LockName) → count_held n (job_numbered k jobs) ≡ 0
@@ -88,22 +92,20 @@ module _ (routines : List RoutineTree) (jobs : List Job) (safe : AreSafe jobs) w
       ∙ none (count_held n (Some j)) (λ holds. safe.all_end_empty j (its_number k jobs j h).0 (has_ended routines j e) n holds)
 
   as_text : system_text routines jobs
-      ≡ flat (job_line routines) jobs ++ (waits_lines jobs ++ line (codes "ring ") (codes "no"))
+      ≡ flat (job_line routines) jobs ++ (clash_lines jobs ++ (waits_lines jobs ++ line (codes "ring ") (codes "no")))
   as_text =
-      ap (λ (ps : List (ℕ × ℕ)). flat (job_line routines) jobs
-      ++ (flat (pair_line (codes "clash ")) ps ++ (waits_lines jobs ++ line (codes "ring ") (ring_text (has_ring_of seen jobs)))))
-      (without_clashes jobs no_two)
-      ∙ ap (λ (b : Bool). flat (job_line routines) jobs ++ (waits_lines jobs ++ line (codes "ring ") (ring_text b)))
+      ap (λ (b : Bool). flat (job_line routines) jobs ++ (clash_lines jobs ++ (waits_lines jobs ++ line (codes "ring ") (ring_text b))))
       safe.no_ring.tested
 
 pub safe_is_shown : SafeIsShown
-safe_is_shown routines jobs safe = record {
-  none_clash = no_two routines jobs safe;
-  no_pairs = without_clashes jobs (no_two routines jobs safe);
-  apart = shown_apart routines jobs safe;
+safe_is_shown rules routines jobs safe = record {
+  clash_freely = freely rules routines jobs safe;
+  none_clash = no_two rules routines jobs safe;
+  no_pairs = λ locked. without_clashes jobs (no_two rules routines jobs safe locked);
+  apart = shown_apart rules routines jobs safe;
   no_ring = safe.no_ring.tested;
-  none_held = nothing_held routines jobs safe;
-  printed = as_text routines jobs safe;
+  none_held = nothing_held rules routines jobs safe;
+  printed = as_text rules routines jobs safe;
 }
 
 -- the listed entries are the declared ones
@@ -132,7 +134,7 @@ module _ (routines : List RoutineTree) (e : EntryId) where
 
 at_any_moment : (program : List Routine) (rules : RuleLists) (blocks : List EntryCert) (entries : List EntryId) (jobs : List Job)
     → KeepsRules (map routine_of program) rules blocks → AreNamed (map routine_of program) rules.entries entries
-    → IsMoment program entries jobs → AreSafe jobs
+    → IsMoment program entries jobs → AreSafe rules jobs
 at_any_moment program rules blocks entries jobs keeps named at =
     let P : (EntryId → Bool) → Type 0 = λ d. after (machine (map routine_of program) d) at.0 [] ≡ Ok jobs in
     keeps.all_jobs at.0 jobs (subst P (λ i e. is_named (map routine_of program) e rules.entries entries named i) at.1)
@@ -141,6 +143,6 @@ pub replays_are_safe : ReplaysAreSafe
 replays_are_safe = record {
   at_moments = at_any_moment;
   of_files = λ program rules blocks entries bytes s keeps named file.
-      safe_is_shown (map routine_of program) (jobs_in s) (at_any_moment program rules blocks entries (jobs_in s) keeps named
+      safe_is_shown rules (map routine_of program) (jobs_in s) (at_any_moment program rules blocks entries (jobs_in s) keeps named
       (replays_are_runs.of_file program entries bytes s file));
 }

@@ -3,6 +3,7 @@
 use Rattle.std.specs.Prelude.{◌≡◌, List, [], Ok}
 use Rattle.mlk_names.specs.Lists.{Among}
 use Rattle.mlk_rules.specs.declared.rules.RuleLists.{RuleLists}
+use Rattle.mlk_rules.specs.Laws.{FreesNoReads, OneReadsFreely}
 use Rattle.mlk_syntax.specs.Trees.{RoutineTree}
 use Rattle.mlk_program.specs.declared.entry.EntryId.{EntryId}
 use Rattle.mlk_machine_locks.specs.Systems.{Event, after}
@@ -17,10 +18,12 @@ use Rattle.mlk_walk_state.specs.Scope.{certified, declared, is_declared}
 use Rattle.mlk_soundness_machine.specs.Listed.{FactsSince}
 use Rattle.mlk_soundness_machine.specs.Moments.{AtEachMomentSince}
 
--- Jobs that run side by side are safe: no two of them are ready to touch references that overlap, one of which writes; none
--- that has ended by itself holds a lock; and no set of them waits for each other's locks in a ring.
-pub record AreSafe (jobs : List Job) : Type 0 where
-  pub no_clash : (i j : Job) → Among i jobs → Among j jobs → Clash i j → ⊥
+-- Jobs that run side by side are safe: if two of them are ready to touch references that overlap, one of which writes, the other
+-- one reads, and each cover rule in which they meet frees reads; so if no rule frees reads, there are no such two. None that has
+-- ended by itself holds a lock; and no set of them waits for each other's locks in a ring.
+pub record AreSafe (rules : RuleLists) (jobs : List Job) : Type 0 where
+  pub clashes : (i j : Job) → Among i jobs → Among j jobs → (clash : Clash i j) → OneReadsFreely rules clash.one clash.other
+  pub no_clash : FreesNoReads rules → (i j : Job) → Among i jobs → Among j jobs → Clash i j → ⊥
   pub all_end_empty : (j : Job) → Among j jobs → EndsEmpty j
   pub no_ring : IsWithoutRing jobs
 
@@ -34,4 +37,4 @@ pub record AreSafe (jobs : List Job) : Type 0 where
 pub record KeepsRules (routines : List RoutineTree) (rules : RuleLists) (blocks : List EntryCert) : Type 0 where
   pub each_job : AtEachMomentSince routines (is_declared routines rules.entries) (FactsSince routines rules (certified routines blocks, declared routines rules.entries))
   pub all_jobs : (events : List (Event Choice EntryId)) (jobs : List Job)
-      → after (machine routines (is_declared routines rules.entries)) events [] ≡ Ok jobs → AreSafe jobs
+      → after (machine routines (is_declared routines rules.entries)) events [] ≡ Ok jobs → AreSafe rules jobs

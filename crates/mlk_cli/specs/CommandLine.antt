@@ -214,7 +214,7 @@ abbrev pub GivesConversion : List Row → Option (Bor (List ℕ) × Format) → 
 GivesConversion rows None = (certificate : Bor (List ℕ)) (format : Format) → IsConversion rows certificate format → ⊥
 GivesConversion rows (Some c) = IsConversion rows c.0 c.1
 
--- the routines of which a survey is asked for, and its form
+-- the routines to survey, and the form of the survey
 pub record IsSurvey (rows : List Row) (survey : SurveyRequest) : Type 0 where
   pub routines : all_of (codes "ROUTINE") rows ≡ Some (bytes_of survey.routines.items)
   pub output : IsSurveyOutput rows survey.output

@@ -34,7 +34,7 @@ fn routines<'a>(alloc: Global) -> Arg<'a>
         .num_args(1..)
 }
 
-// The number of workers, of which the range is not looked at here.
+// The number of workers; its range is not looked at here.
 fn workers<'a>(alloc: Global) -> Arg<'a>
     ensures rule { rule_of result ≡ workers_rule }
     ensures local { result.global ≡ false }
@@ -47,7 +47,7 @@ fn workers<'a>(alloc: Global) -> Arg<'a>
         .help(WORKERS_HELP)
 }
 
-// The format of a certificate, of which this is the one where the words say nothing.
+// The format of a certificate, and the one that is meant if the words say nothing.
 fn format_option<'a>(alloc: Global, usual: &'a str) -> Arg<'a>
     ensures rule { rule_of result ≡ format_rule usual.entry.now }
     ensures local { result.global ≡ false }

@@ -46,7 +46,7 @@ pub struct ReportStyle {
 /// What is to be done with routines and rules.
 #[derive(Drop, Debug)]
 pub enum Asked<'a> {
-    /// the check by the certificate at this path, and by so many workers
+    /// the check by the certificate at this path, and the number of workers
     Check {
         certificate: &'a str,
         workers: u32,
@@ -56,7 +56,7 @@ pub enum Asked<'a> {
     Make {
         format: Format,
     },
-    /// the check by the certificate that is made, and by so many workers
+    /// the check by the certificate that is made, and the number of workers
     Verify {
         workers: u32,
         style: ReportStyle,
@@ -73,7 +73,7 @@ pub struct ProgramRequest<'a> {
     pub routines: Vec<&'a str>,
 }
 
-/// The paths of the routines of which a survey is asked for, and its form.
+/// The paths of the routines to survey, and the form of the survey.
 #[derive(Drop, Debug)]
 pub struct SurveyRequest<'a> {
     pub routines: Vec<&'a str>,
@@ -95,10 +95,12 @@ pub enum Request<'a> {
 }
 
 /// Why the words ask for nothing.
-#[derive(Drop, Debug)]
+#[derive(Drop, Debug, thiserror::Error)]
 pub enum UsageError {
+    #[error("out of memory")]
     OutOfMemory,
     /// The text that says so, help that was asked for too.
+    #[error("{0}")]
     Usage(String),
 }
 
@@ -363,7 +365,7 @@ fn no_request(alloc: Global) -> UsageError {
     }
 }
 
-/// What the words ask for, of which the first is the program's name.
+/// What the words ask for; the first word is the program's name.
 pub fn read_request<'a>(alloc: Global, words: &'a [String]) -> Result<Request<'a>, UsageError>
     ensures asks { IfOk result (IsRequest words.now) }
     ensures refused { IfErr result (LacksRequest words.now) }

@@ -26,10 +26,12 @@ pub(crate) static UNCOVERED: Page = Page {
         and what one of the two writes is lost.",
     mend: "Claim the lock that the rule names before the reference, with the same \
         local in the same place, and release it after. If the rule names two locks, \
-        claim both at once for a write, either for a read. If it is claimed already, a \
-        claim with a timeout may have failed (ask `$TEST` first), the local may have \
-        changed since or be shared (use another local that is not), or the reference \
-        is `$ORDER`, which looks beside its node and needs the lock of the node above.",
+        claim both at once for a write, either for a read. If reads of this data need \
+        no lock by agreement, as in lists and look-ups, let the rule say so: \
+        `reads = \"free\"`. If the lock is claimed already, a claim with a timeout may \
+        have failed (ask `$TEST` first), the local may have changed since or be shared \
+        (use another local that is not), or the reference is `$ORDER`, which looks \
+        beside its node and needs the lock of the node above.",
     before: " NEW BAL SET BAL=$GET(^ACCT(ID,\"bal\"))\n LOCK +^ACCT(ID)",
     after: " LOCK +^ACCT(ID)\n NEW BAL SET BAL=$GET(^ACCT(ID,\"bal\"))",
 };

@@ -128,5 +128,5 @@ pub(crate) static ROUTINE_NAME: Page = Page {
         as it is.",
     mend: "Rename the file.",
     before: "9.m",
-    after: "R9.m",
+    after: "WARD9.m",
 };

@@ -12,4 +12,5 @@ mod trail;
 
 pub use mlk_explain_origins::Grounds;
 pub use report::{explained_rows, note_below, stories_of};
+pub use rule::free_reads;
 pub use story::{OriginStory, Story, WayPoint};

@@ -12,6 +12,9 @@ use toml::Table;
 // How many rules are shown at most of one fault.
 const MOST_RULES: usize = 4;
 
+// How many rules a section has at most.
+const MOST_ELEMENTS: usize = 1024;
+
 /// A section of a rule file.
 #[derive(Clone, Copy, Drop)]
 enum Section {
@@ -35,7 +38,12 @@ impl Section {
     fn keys(self) -> &'static [(&'static str, &'static str)] {
         match self {
             Section::Lock => &[(": ", "name")],
-            Section::Cover => &[(": ", "global"), (" under ", "lock"), (" and ", "also")],
+            Section::Cover => &[
+                (": ", "global"),
+                (" under ", "lock"),
+                (" and ", "also"),
+                (", reads ", "reads"),
+            ],
             Section::Private | Section::Readonly => &[(": ", "global")],
         }
     }
@@ -86,6 +94,25 @@ impl RuleFile {
     }
 }
 
+/// The patterns of the covers that free reads, as the rule file with this text has them.
+pub fn free_reads(alloc: Global, text: &[u8]) -> Result<Vec<Vec<u8>>, AllocError> {
+    let rule_file = RuleFile::of(alloc, text)?;
+    let mut patterns = Vec::new(alloc);
+    for number in 0..MOST_ELEMENTS {
+        let cover = RuleAt {
+            section: Section::Cover,
+            number,
+        };
+        let Some(pattern) = rule_file.text(cover, "global") else {
+            break;
+        };
+        if matches!(rule_file.text(cover, "reads"), Some(b"free")) {
+            patterns.push(Vec::from_slice(alloc, pattern)?)?;
+        }
+    }
+    Ok(patterns)
+}
+
 // Whether a rule of `section` with this pattern applies to the fault at `place`.
 fn applies(section: Section, pattern: &Pattern, place: &Place<'_>) -> bool {
     let root = root_of(place.name);
@@ -107,14 +134,15 @@ fn add_patterns(
     Ok(())
 }
 
-// Whether a cover asks for one of the locks that are missing, as far as their roots show.
-fn asks_for(cover: &Cover, mend: &Mend) -> bool {
-    let Mend::Locks(terms) = mend else {
+// Whether a cover asks for one of the locks that are missing at `place`, as far as their roots show.
+fn asks_for(cover: &Cover, place: &Place<'_>) -> bool {
+    let Mend::Locks(terms) = &place.note.mend else {
         return true;
     };
-    terms.as_slice().iter().any(|term| {
+    let is_missing = terms.as_slice().iter().any(|term| {
         term.root == cover.lock.root || matches!(&cover.also, Some(also) if also.root == term.root)
-    })
+    });
+    is_missing && place.may_need(cover)
 }
 
 fn add_covers(
@@ -124,7 +152,7 @@ fn add_covers(
 ) -> Result<(), AllocError> {
     let section = Section::Cover;
     for (number, cover) in covers.as_slice().iter().enumerate() {
-        if applies(section, &cover.pattern, place) && asks_for(cover, &place.note.mend) {
+        if applies(section, &cover.pattern, place) && asks_for(cover, place) {
             found.push(RuleAt { section, number })?;
         }
     }

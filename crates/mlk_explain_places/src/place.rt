@@ -6,7 +6,8 @@ use mlk_cert_parts::{Summary, Test};
 use mlk_explain_origins::{Grounds, Mark, RoutineFacts, may_change};
 use mlk_names::{KnownSym, LockName, LockTerm, prefix};
 use mlk_program::EntryId;
-use mlk_rules::rank_of;
+use mlk_rules::{Cover, ReadPolicy, rank_of};
+use mlk_survey_trees::Usage;
 use mlk_syntax::{Expr, Subscript, Variable};
 use mlk_text::Root;
 use mlk_walk::{Checks, Row};
@@ -257,6 +258,14 @@ impl<'a> Place<'a> {
         self.first_lock(set).is_some()
     }
 
+    /// Whether a touch at the column may need a lock of `cover`: a read does not if the cover frees reads.
+    pub fn may_need(&self, cover: &Cover) -> bool {
+        match cover.reads {
+            ReadPolicy::Locked => true,
+            ReadPolicy::Free => !matches!(self.mark(), Some(Mark::Global(Usage::Read))),
+        }
+    }
+
     /// Whether a lock that is missing has fewer subscripts than a rule's lock has: the reference may meet several nodes that the
     /// rule covers by different locks.
     pub fn is_wide(&self) -> bool {
@@ -266,7 +275,9 @@ impl<'a> Place<'a> {
         let count = missing.subs.as_slice().len();
         let covers = self.grounds.rules.lists().covers.as_slice();
         covers.iter().any(|cover| {
-            cover.lock.root == missing.root && cover.lock.parts.as_slice().len() > count
+            cover.lock.root == missing.root
+                && cover.lock.parts.as_slice().len() > count
+                && self.may_need(cover)
         })
     }
 

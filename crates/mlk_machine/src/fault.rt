@@ -5,17 +5,19 @@ use mlk_text::LineNumber;
 use thiserror::Error;
 
 /// What is wrong with a line.
-#[derive(Clone, Copy, Debug, Drop, PartialEq, Eq)]
+#[derive(Clone, Copy, Debug, Drop, PartialEq, Eq, Error)]
 pub enum EventsRefusal {
     /// It is no event, or lets a job begin at an entry that is not in the program.
+    #[error("no event, or a job at an entry that is not in the program")]
     Form,
     /// It can't happen then.
+    #[error("{0}")]
     Refused(Refusal),
 }
 
 /// The line at which a replay stops, and why.
 #[derive(Debug, Drop, PartialEq, Eq, Error)]
-#[error("no replay past line {line}")]
+#[error("no replay past line {line}: {why}")]
 pub struct EventsFault {
     pub line: LineNumber,
     pub why: EventsRefusal,

@@ -14,8 +14,10 @@ use Rattle.mlk_names.specs.declared.reference.Access.TheVariants.{Writes}
 use Rattle.mlk_names.specs.References.{Touch}
 use Rattle.mlk_rules.specs.declared.rules.RuleLists.{RuleLists}
 use Rattle.mlk_rules.specs.declared.cover.Cover.{Cover}
+use Rattle.mlk_rules.specs.declared.cover.ReadPolicy.TheVariants.{Locked}
 use Rattle.mlk_rules.specs.declared.family.Family.{Family}
 use Rattle.mlk_rules.specs.Coverage.{IsCovered, OfCover, HoldsLock, Satisfies}
+use Rattle.mlk_rules.specs.Laws.{FreesNoReads}
 use Rattle.mlk_rules.specs.Sound.{IsSound}
 use Rattle.mlk_machine_locks.specs.NameTests.{is_above, same_name}
 use Rattle.mlk_machine_locks.specs.Systems.{Machine, Event, after, Act, Begin, Go, Abort, and_then, lone_run}
@@ -60,7 +62,7 @@ a = record { root = root.Global (codes "A"); subs = [] }
 
 -- ^A is written under the lock ^A, which has a rank
 abbrev cover : Cover
-cover = record { pattern = record { global = codes "A"; elements = []; extent = Tree }; lock = record { root = root.Global (codes "A"); parts = [] }; also = None }
+cover = record { pattern = record { global = codes "A"; elements = []; extent = Tree }; lock = record { root = root.Global (codes "A"); parts = [] }; also = None; reads = Locked }
 
 abbrev family : Family
 family = record { name = a; rank = 10 }
@@ -146,11 +148,11 @@ covers = record {
 }
   where
     its_lock : Satisfies (term ∷ []) reference cover
-    its_lock lock there = subst (λ l. HoldsLock (term ∷ []) l reference) (sym (only cover.lock lock there)) (
+    its_lock = inr (λ lock there. subst (λ l. HoldsLock (term ∷ []) l reference) (sym (only cover.lock lock there)) (
       term,
       (0, omega arith, refl),
       record { root = refl; subs = record { tail = []; is = refl } },
-    )
+    ))
 
 module _ (test : Bool) (k : ℕ) where
   abbrev after_steps : Stepped → ℕ → Job
@@ -301,10 +303,13 @@ always e test values k first j acts h g = elim (cases_Bool (declared e && is_job
   | inr d ↦ let z : Err NotEnabled ≡ Ok first = rw d at h in cc
 ]
 
+locked : FreesNoReads rules
+locked c is = ap (λ (d : Cover). d.reads) (only cover c is)
+
 -- The laws speak of it.
 pub no_clash_here : (events : List (Event Choice EntryId)) (jobs : List Job) → after its_machine events [] ≡ Ok jobs
     → (i j : Job) → Among i jobs → Among j jobs → Clash i j → ⊥
-no_clash_here = no_clash careful declared rules sound (λ e test values k first j acts h g. (always e test values k first j acts h g).covered)
+no_clash_here = no_clash careful declared rules sound locked (λ e test values k first j acts h g. (always e test values k first j acts h g).covered)
 
 pub no_ring_here : (events : List (Event Choice EntryId)) (jobs : List Job) → after its_machine events [] ≡ Ok jobs → IsWithoutRing jobs
 no_ring_here = no_ring careful declared rules sound (λ e test values k first j acts h g. (always e test values k first j acts h g).order)

@@ -1,11 +1,11 @@
 -- Each job of a run is what its own acts make of it, and what two jobs hold is apart: so what each keeps to by itself tells
 -- of all.
-use Rattle.std.proofs.Common.{◌≡◌, ◌<◌, ◌^◌, ℕ, Bool, true, List, [], Ok, Err, sym, ◌∙◌, ⊎_elim, inl, inr, arith, Option}
+use Rattle.std.proofs.Common.{◌≡◌, ◌<◌, ◌^◌, ℕ, Bool, true, List, [], Ok, Err, sym, ◌∙◌, inl, inr, arith, Option}
 use Rattle.std.specs.Prelude.{◌&&◌, nat_lt}
 use Rattle.std.proofs.lemmas.Bool.{false_from_ne_true, cases_Bool, and_parts, ltb-true}
 use Rattle.std.proofs.lemmas.Fmt.{decimal_injective}
 use Rattle.mlk_names.specs.Lists.{Among}
-use Rattle.mlk_rules.proofs.Apart.{covered_apart}
+use Rattle.mlk_rules.proofs.Apart.{covered_apart, none_freely}
 use Rattle.mlk_rules.proofs.SoundLemmas.{by_job}
 use Rattle.mlk_machine_locks.specs.Systems.{Event, after}
 use Rattle.mlk_machine_locks.specs.Laws.{has_ring_of}
@@ -17,7 +17,7 @@ use Rattle.mlk_machine_jobs.specs.Tasks.{Job}
 use Rattle.mlk_machine_jobs.specs.Runs.{machine, seen, is_job_number}
 use Rattle.mlk_machine_jobs.proofs.MachineLemmas.{held_apart, one_run_of_many, rings_found}
 use Rattle.mlk_machine_laws.specs.Moments.{StandsCovered, StandsInOrder, EndsEmpty, AtEachMoment}
-use Rattle.mlk_machine_laws.specs.Laws.{NoClash, NoRing, AllEndEmpty}
+use Rattle.mlk_machine_laws.specs.Laws.{ClashesAreFree, NoClash, NoRing, AllEndEmpty}
 use Rattle.mlk_machine_laws.proofs.RisingRanks.{no_set}
 
 -- what a job keeps to at each moment by itself, it keeps to in a run of many
@@ -47,19 +47,22 @@ its_number routines declared events jobs h j a =
       | inr d ↦ let z : Err NotEnabled ≡ Ok first = rw d at g in cc
     ]
 
-pub no_clash : NoClash
-no_clash routines declared rules sound each events jobs h i j a b clash =
+pub clashes_are_free : ClashesAreFree
+clashes_are_free routines declared rules sound each events jobs h i j a b clash =
     let m = its_number routines declared events jobs h i a in
     let n = its_number routines declared events jobs h j b in
     let p = in_run routines declared (StandsCovered rules) each events jobs h i a clash.one clash.is_one in
     let q = in_run routines declared (StandsCovered rules) each events jobs h j b clash.other clash.is_other in
-    ⊎_elim
+    covered_apart rules p.values q.values p.held q.held p.reference q.reference clash.one clash.other (by_job rules sound) p.covered q.covered p.touches q.touches clash.overlap clash.writes
     (λ e. clash.different (decimal_injective i.number j.number m n (sym p.own ∙ e ∙ q.own)))
     (λ c.
     let x = p.each_held c.first c.is_held in
     let y = q.each_held c.second c.is_kept in
     held_apart routines declared events jobs h i j a b clash.different x.name y.name x.holds y.holds (c.conflict x.name y.name x.names y.names))
-    (covered_apart rules p.values q.values p.held q.held p.reference q.reference clash.one clash.other (by_job rules sound) p.covered q.covered p.touches q.touches clash.overlap clash.writes)
+
+pub no_clash : NoClash
+no_clash routines declared rules sound locked each events jobs h i j a b clash =
+    none_freely rules clash.one clash.other locked (clashes_are_free routines declared rules sound each events jobs h i j a b clash)
 
 pub no_ring : NoRing
 no_ring routines declared rules sound each events jobs h =

@@ -1,7 +1,8 @@
 -- What follows for runs of any number of jobs.
-use Rattle.std.specs.Prelude.{◌≡◌, ℕ, Bool, true, false, List, [], Ok}
+use Rattle.std.specs.Prelude.{◌≡◌, Bool, true, false, List, [], Ok}
 use Rattle.mlk_names.specs.Lists.{Among}
 use Rattle.mlk_rules.specs.declared.rules.RuleLists.{RuleLists}
+use Rattle.mlk_rules.specs.Laws.{FreesNoReads, OneReadsFreely}
 use Rattle.mlk_rules.specs.Sound.{IsSound}
 use Rattle.mlk_machine_locks.specs.Rings.{IsRing, HasRing}
 use Rattle.mlk_machine_locks.specs.Systems.{Event, after}
@@ -18,11 +19,19 @@ use Rattle.mlk_machine_laws.specs.Outside.{KeepsOutside}
 use Rattle.mlk_machine_laws.specs.Tidy.{IsTidy, MakesNew, Kills}
 use Rattle.mlk_machine_laws.specs.Moments.{StandsCovered, StandsInOrder, EndsEmpty, AtEachMoment}
 
--- Where each job by itself always holds what covers the reference at which it stands ready, no two jobs clash, in any
--- run of any number of jobs begun at declared entries.
+-- Where each job by itself always holds what covers the reference at which it stands ready, of two jobs that clash one reads
+-- freely, in any run of any number of jobs begun at declared entries.
+abbrev pub ClashesAreFree : Type 0
+ClashesAreFree =
+    (routines : List RoutineTree) (declared : EntryId → Bool) (rules : RuleLists) → IsSound rules
+    → AtEachMoment routines declared (StandsCovered rules)
+    → (events : List (Event Choice EntryId)) (jobs : List Job) → after (machine routines declared) events [] ≡ Ok jobs
+    → (i j : Job) → Among i jobs → Among j jobs → (clash : Clash i j) → OneReadsFreely rules clash.one clash.other
+
+-- So where no rule frees reads, no two jobs clash.
 abbrev pub NoClash : Type 0
 NoClash =
-    (routines : List RoutineTree) (declared : EntryId → Bool) (rules : RuleLists) → IsSound rules
+    (routines : List RoutineTree) (declared : EntryId → Bool) (rules : RuleLists) → IsSound rules → FreesNoReads rules
     → AtEachMoment routines declared (StandsCovered rules)
     → (events : List (Event Choice EntryId)) (jobs : List Job) → after (machine routines declared) events [] ≡ Ok jobs
     → (i j : Job) → Among i jobs → Among j jobs → Clash i j → ⊥

@@ -1,9 +1,15 @@
 // What runs of many jobs keep to where each job by itself keeps to the rules.
 
-ghost use Rattle.mlk_machine_laws.specs.Laws.{NoClash, NoRing, AllEndEmpty, EndsPutBack, EachIsTidy, NewIsNew, KillIsExact, SharedByReference, OutsideIsKept};
+ghost use Rattle.mlk_machine_laws.specs.Laws.{ClashesAreFree, NoClash, NoRing, AllEndEmpty, EndsPutBack, EachIsTidy, NewIsNew, KillIsExact, SharedByReference, OutsideIsKept};
 
-/// Where a job by itself always holds what covers the reference at which it stands ready, no two jobs of a run ever stand
-/// ready at overlapping references of which one writes.
+/// Where a job by itself always holds what covers the reference at which it stands ready, two jobs of a run stand ready at
+/// overlapping references of which one writes only if the other reads, and each cover rule in which they meet frees reads.
+pub fn clashes_are_free()
+    ensures { ClashesAreFree }
+{}
+
+/// Where a job by itself always holds what covers the reference at which it stands ready, and no rule frees reads, no two jobs
+/// of a run ever stand ready at overlapping references of which one writes.
 pub fn no_clash()
     ensures { NoClash }
 {}

@@ -2,7 +2,7 @@
 
 use crate::notice::{Notice, Place};
 use crate::row::{Inputs, RoutineNumbers};
-use crate::story::{Findings, add_story};
+use crate::story::{Findings, add_story, texts_value};
 use mlk_code_pages::page_of;
 use mlk_explain::Story;
 use mlk_hazards::HazardAt;
@@ -82,7 +82,7 @@ fn hazards_value(
 }
 
 /// Writes `findings` as one JSON object, on lines with indents: `answer`, which is `yes` or `no`, `faults`, in their order, each
-/// with what is known of it, and `hazards`, if these are reported.
+/// with what is known of it, `hazards`, if these are reported, and `free_reads`, if rules free reads.
 pub fn report_json(
     alloc: Global,
     inputs: &Inputs<'_>,
@@ -98,10 +98,16 @@ pub fn report_json(
         Some(hazards) => Field::Value(hazards_value(alloc, inputs, hazards)?),
         None => Field::Absent,
     };
+    let free_reads = if inputs.free_reads.is_empty() {
+        Field::Absent
+    } else {
+        Field::Value(texts_value(alloc, inputs.free_reads)?)
+    };
     let members = vec![in alloc;
         ("answer", Field::Text(answer)),
         ("faults", Field::Value(faults)),
         ("hazards", hazards),
+        ("free_reads", free_reads),
     ]?;
     object(alloc, members)?.to_string_pretty(alloc)
 }

@@ -14,6 +14,8 @@ pub struct Inputs<'a> {
     pub paths: &'a [&'a str],
     /// SARIF counts columns in characters of them; other forms need none
     pub texts: &'a [Vec<u8>],
+    /// the patterns of the covers that free reads, as the rule file has them
+    pub free_reads: &'a [Vec<u8>],
 }
 
 /// The numbers of routines, by their names.

@@ -20,7 +20,8 @@ pub struct Findings<'a> {
 /// The members of an object.
 type Members<'a> = Vec<(&'static str, Field<'a>)>;
 
-fn texts_value(alloc: Global, texts: &[Vec<u8>]) -> Result<Value, AllocError> {
+/// These texts as a list.
+pub(crate) fn texts_value(alloc: Global, texts: &[Vec<u8>]) -> Result<Value, AllocError> {
     let mut values = Vec::with_capacity(alloc, texts.len())?;
     for text in texts {
         let text = escape_bytes(alloc, text.as_slice())?;

@@ -3,7 +3,7 @@
 use crate::names::{Words, reference, term};
 use mlk_names::{Extent, LockName, Root};
 use mlk_rules_file::{
-    Cover, Element, Family, Pattern, RuleLists, Rules, Template, TemplatePart, covered,
+    Cover, Element, Family, Pattern, ReadPolicy, RuleLists, Rules, Template, TemplatePart, covered,
     covered_apart, lock_of_node, marked_alike, one_answer, one_rank, read_rules, share_pattern,
     surely_lies,
 };
@@ -40,6 +40,7 @@ fn cover(alloc: Global) -> Result<Cover, AllocError> {
         pattern,
         lock: lock(alloc)?,
         also: None,
+        reads: ReadPolicy::Locked,
     })
 }
 

@@ -1,6 +1,9 @@
--- Covered references one of which writes overlap only where their jobs hold names that conflict, or are one.
-use Rattle.std.proofs.Common.{◌≡◌, ◌⊎◌, inl, inr, ℕ, List, Some, sym, ap, ◌∙◌, subst}
+-- Covered references one of which writes overlap only where their jobs hold names that conflict, or are one, or where one of
+-- them reads freely.
+use Rattle.std.proofs.Common.{◌≡◌, ◌⊎◌, inl, inr, ℕ, Bool, true, false, List, [], ◌∷◌, Some, arith, refl, sym, ap, ◌∙◌, subst}
 use Rattle.std.specs.Prelude.{Contains, slice_get}
+use Rattle.std.specs.List.{list_all}
+use Rattle.std.proofs.lemmas.Bool.{and_parts}
 use Rattle.std.proofs.lemmas.Option.{slice_get-get_or}
 use Rattle.mlk_names.specs.declared.symbol.Sym.TheVariants.{Job}
 use Rattle.mlk_names.specs.declared.term.LockTerm.{LockTerm}
@@ -9,15 +12,18 @@ use Rattle.mlk_names.specs.declared.reference.Access.TheVariants.{Reads, Writes}
 use Rattle.mlk_names.specs.declared.reference.Reference.{Reference}
 use Rattle.mlk_names.specs.Symbols.{Assignment, StandsFor}
 use Rattle.mlk_names.specs.References.{GlobalNode, Touch, Touches, InRegion}
+use Rattle.mlk_names.proofs.OverlapLemmas.{may_touch}
 use Rattle.mlk_rules.specs.declared.pattern.Element.TheVariants as element
 use Rattle.mlk_rules.specs.declared.pattern.Pattern.{Pattern}
 use Rattle.mlk_rules.specs.declared.template.Template.{Template}
 use Rattle.mlk_rules.specs.declared.cover.Cover.{Cover}
+use Rattle.mlk_rules.specs.declared.cover.ReadPolicy.{ReadPolicy}
+use Rattle.mlk_rules.specs.declared.cover.ReadPolicy.TheVariants.{Locked, Free}
 use Rattle.mlk_rules.specs.declared.rules.RuleLists.{RuleLists}
 use Rattle.mlk_rules.specs.Patterns.{MayMeet}
-use Rattle.mlk_rules.specs.Coverage.{IsPattern, OfCover, OfPrivate, OfReadonly, IsCovered, IsOwn, HoldsLock, HoldLocks, second_of, locks_of}
-use Rattle.mlk_rules.specs.Laws.{HoldConflict, PrivateByJob, CoveredApart}
-use Rattle.mlk_rules.proofs.Computing.{in_front}
+use Rattle.mlk_rules.specs.Coverage.{IsPattern, OfCover, OfPrivate, OfReadonly, IsCovered, IsOwn, HoldsLock, HoldLocks, Satisfies, second_of, locks_of}
+use Rattle.mlk_rules.specs.Laws.{HoldConflict, MeetIn, OneReadsFreely, FreesNoReads, PrivateByJob, CoveredApart}
+use Rattle.mlk_rules.proofs.Computing.{in_front, in_list}
 use Rattle.mlk_rules.proofs.Places.{zip_at, begins_at}
 use Rattle.mlk_rules.proofs.Instances.{lock_of_node, reach_begins}
 use Rattle.mlk_rules.proofs.Meetings.{share_pattern}
@@ -53,20 +59,73 @@ module _ (rules : RuleLists) (a b : Assignment) (held kept : List LockTerm) (r s
   by_locks c n Reads Writes w (lock, is, h) k i j = by_lock lock n h (k lock is) i j
   by_locks c n Reads Reads w h k i j = absurd (elim w [ inl e ↦ let d : Reads ≡ Writes = e in cc | inr e ↦ let d : Reads ≡ Writes = e in cc ])
 
-  apart : PrivateByJob rules → IsCovered rules held r → IsCovered rules kept s → (r.access ≡ Writes) ⊎ (s.access ≡ Writes) → (p : Pattern) (n : GlobalNode) → IsPattern rules p → InRegion t.region n → InRegion u.region n → MayMeet p r → MayMeet p s → (a.job ≡ b.job) ⊎ HoldConflict a held b kept
-  apart by_job x y w p n (OfCover c is e) i j m m' =
-      let P : Pattern → Type 0 = λ q. MayMeet q r in
-      let Q : Pattern → Type 0 = λ q. MayMeet q s in
-      inr (by_locks c n r.access s.access w (x.covers c is (subst P (sym e) m)) (y.covers c is (subst Q (sym e) m')) i j)
-  apart by_job x y w p n (OfPrivate is) i j m m' =
-      inl (by_number p n (by_job p is) (x.private p is m) (y.private p is m') i j)
-  apart by_job x y w p n (OfReadonly is) i j m m' =
-      let d = x.readonly p is m in
-      let e = y.readonly p is m' in
-      elim w [ inl h ↦ absurd (let c : Reads ≡ Writes = sym d ∙ h in cc) | inr h ↦ absurd (let c : Reads ≡ Writes = sym e ∙ h in cc) ]
+  -- what both reach in a pattern, each may meet there
+  meets_first : (p : Pattern) → MeetIn p t u → MayMeet p r
+  meets_first p (n, i, j, l) = (t.region, n, may_touch a r t first, i, l)
+
+  meets_second : (p : Pattern) → MeetIn p t u → MayMeet p s
+  meets_second p (n, i, j, l) = (u.region, n, may_touch b s u second, j, l)
+
+  -- each satisfies the rule: by its locks, or it reads what the rule frees
+  by_rule : (c : Cover) (n : GlobalNode) → (r.access ≡ Writes) ⊎ (s.access ≡ Writes) → Satisfies held r c → Satisfies kept s c → InRegion t.region n → InRegion u.region n
+      → HoldConflict a held b kept ⊎ ((c.reads ≡ Free) × ((t.access ≡ Reads) ⊎ (u.access ≡ Reads)))
+  by_rule c n w (inl f) y i j = inr (f.0, inl (first.access ∙ f.1))
+  by_rule c n w (inr h) (inl f) i j = inr (f.0, inr (second.access ∙ f.1))
+  by_rule c n w (inr h) (inr k) i j = inl (by_locks c n r.access s.access w h k i j)
+
+  module _ (x : IsCovered rules held r) (y : IsCovered rules kept s) (w : (r.access ≡ Writes) ⊎ (s.access ≡ Writes)) (none : HoldConflict a held b kept → ⊥) where
+    -- without names that conflict, one of the two reads what the rule frees
+    in_cover : (c : Cover) → Contains rules.covers c → MeetIn c.pattern t u → (c.reads ≡ Free) × ((t.access ≡ Reads) ⊎ (u.access ≡ Reads))
+    in_cover c is m =
+        elim (by_rule c m.0 w (x.covers c is (meets_first c.pattern m)) (y.covers c is (meets_second c.pattern m)) m.1 m.2) [
+          | inl conflict ↦ absurd (none conflict)
+          | inr free ↦ free
+        ]
+
+    freely : (c : Cover) → Contains rules.covers c → MeetIn c.pattern t u → OneReadsFreely rules t u
+    freely c is m = record {
+      reads = (in_cover c is m).1;
+      cover = c;
+      is_rule = is;
+      meet = m;
+      frees = λ d there n. (in_cover d there n).0;
+    }
+
+    apart : PrivateByJob rules → (a.job ≡ b.job → ⊥) → (p : Pattern) → IsPattern rules p → MeetIn p t u → OneReadsFreely rules t u
+    apart by_job other p (OfCover c is e) m =
+        let P : Pattern → Type 0 = λ q. MeetIn q t u in
+        freely c is (subst P (sym e) m)
+    apart by_job other p (OfPrivate is) m =
+        absurd (other (by_number p m.0 (by_job p is) (x.private p is (meets_first p m)) (y.private p is (meets_second p m)) m.1 m.2))
+    apart by_job other p (OfReadonly is) m =
+        let d = x.readonly p is (meets_first p m) in
+        let e = y.readonly p is (meets_second p m) in
+        elim w [ inl h ↦ absurd (let c : Reads ≡ Writes = sym d ∙ h in cc) | inr h ↦ absurd (let c : Reads ≡ Writes = sym e ∙ h in cc) ]
+
+-- the test of each rule
+abbrev pub is_locked : ReadPolicy → Bool
+is_locked Locked = true
+is_locked Free = false
+
+policy_locked : (policy : ReadPolicy) → is_locked policy ≡ true → policy ≡ Locked
+policy_locked Locked h = refl
+policy_locked Free h = absurd (let e : false ≡ true = h in cc)
+
+pub locked_by_test : (cs : List Cover) → list_all (λ (c : Cover). is_locked c.reads) cs ≡ true → (c : Cover) → Contains cs c → c.reads ≡ Locked
+locked_by_test [] h c is = absurd (let l = is.1 in omega (arith, l))
+locked_by_test (d ∷ ds) h c is =
+    let both = and_parts (is_locked d.reads) (list_all (λ (x : Cover). is_locked x.reads) ds) h in
+    elim (in_list d c ds is) [
+      | inl e ↦ subst (λ (x : Cover). x.reads ≡ Locked) e (policy_locked d.reads both.0)
+      | inr there ↦ locked_by_test ds both.1 c there
+    ]
+
+-- where no rule frees reads, none is read freely
+pub none_freely : (rules : RuleLists) (t u : Touch) → FreesNoReads rules → OneReadsFreely rules t u → ⊥
+none_freely rules t u locked f = let e : Locked ≡ Free = sym (locked f.cover f.is_rule) ∙ f.frees f.cover f.is_rule f.meet in cc
 
 pub covered_apart : CoveredApart
-covered_apart rules a b held kept r s t u by_job x y h k o w =
+covered_apart rules a b held kept r s t u by_job x y h k o w other none =
     let m = share_pattern rules a b r s t u x.ruled y.ruled h k o in
     let writes : (r.access ≡ Writes) ⊎ (s.access ≡ Writes) = elim w [ inl e ↦ inl (sym h.access ∙ e) | inr e ↦ inr (sym k.access ∙ e) ] in
-    apart rules a b held kept r s t u h k by_job x y writes m.pattern m.node m.is_rule m.first m.second m.meets_first m.meets_second
+    apart rules a b held kept r s t u h k x y writes none by_job other m.pattern m.is_rule (m.node, m.first, m.second, m.lies)

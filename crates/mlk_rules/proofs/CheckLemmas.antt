@@ -13,7 +13,7 @@ use Rattle.mlk_rules.specs.declared.template.Template.{Template}
 use Rattle.mlk_rules.specs.declared.cover.Cover.{Cover}
 use Rattle.mlk_rules.specs.declared.rules.RuleLists.{RuleLists}
 use Rattle.mlk_rules.specs.Patterns.{MayMeet, SurelyLies, SurelyAbove}
-use Rattle.mlk_rules.specs.Coverage.{OfCover, OfPrivate, IsRuled, KeepsReadonly, cut_template, HoldsLock, second_of, HoldLocks, Satisfies, Lacks, asked, AreMissing, AreLackingOf, AreLacking}
+use Rattle.mlk_rules.specs.Coverage.{OfCover, OfPrivate, IsRuled, KeepsReadonly, cut_template, HoldsLock, second_of, locks_of, HoldLocks, Lacks, asked, AreMissing, AreLackingOf, AreLacking}
 use Rattle.mlk_rules.specs.Fronts.{Gained}
 use Rattle.mlk_rules.proofs.Computing.{in_front, in_rest, in_list}
 
@@ -92,19 +92,19 @@ module _ (held : List LockTerm) (r : Reference) where
     ],
   )
 
-  -- what is held satisfies a rule with one lock, and one with two
+  -- the locks that are held of a rule with one, and of one with two
   module _ (c : Cover) where
-    pub by_one : c.also ≡ None → HoldsLock held c.lock r ↔ Satisfies held r c
+    pub by_one : c.also ≡ None → HoldsLock held c.lock r ↔ HoldLocks r.access held r (locks_of c)
     by_one e =
         subst (λ o. HoldsLock held c.lock r ↔ HoldLocks r.access held r (c.lock ∷ second_of o)) (sym e) (one_lock r.access c.lock)
 
-    pub by_two_written : (also : Template) → c.also ≡ Some also → r.access ≡ Writes → (HoldsLock held c.lock r × HoldsLock held also r) ↔ Satisfies held r c
+    pub by_two_written : (also : Template) → c.also ≡ Some also → r.access ≡ Writes → (HoldsLock held c.lock r × HoldsLock held also r) ↔ HoldLocks r.access held r (locks_of c)
     by_two_written also e w =
         let P : Access → Type 0 = λ a. (HoldsLock held c.lock r × HoldsLock held also r) ↔ HoldLocks a held r (c.lock ∷ also ∷ []) in
         subst (λ o. (HoldsLock held c.lock r × HoldsLock held also r) ↔ HoldLocks r.access held r (c.lock ∷ second_of o)) (sym e)
         (subst P (sym w) (two_written c.lock also))
 
-    pub by_two_read : (also : Template) → c.also ≡ Some also → r.access ≡ Reads → (HoldsLock held c.lock r ⊎ HoldsLock held also r) ↔ Satisfies held r c
+    pub by_two_read : (also : Template) → c.also ≡ Some also → r.access ≡ Reads → (HoldsLock held c.lock r ⊎ HoldsLock held also r) ↔ HoldLocks r.access held r (locks_of c)
     by_two_read also e w =
         let P : Access → Type 0 = λ a. (HoldsLock held c.lock r ⊎ HoldsLock held also r) ↔ HoldLocks a held r (c.lock ∷ also ∷ []) in
         subst (λ o. (HoldsLock held c.lock r ⊎ HoldsLock held also r) ↔ HoldLocks r.access held r (c.lock ∷ second_of o)) (sym e)

@@ -28,11 +28,13 @@ use Rattle.mlk_rules.specs.declared.pattern.Element.TheVariants as element
 use Rattle.mlk_rules.specs.declared.pattern.Pattern.{Pattern}
 use Rattle.mlk_rules.specs.declared.template.Template.{Template}
 use Rattle.mlk_rules.specs.declared.cover.Cover.{Cover}
+use Rattle.mlk_rules.specs.declared.cover.ReadPolicy.{ReadPolicy}
+use Rattle.mlk_rules.specs.declared.cover.ReadPolicy.TheVariants.{Locked, Free}
 use Rattle.mlk_rules.specs.declared.rules.RuleLists.{RuleLists}
 use Rattle.mlk_rules.specs.Patterns.{MayMeet, Suits, StaysIn, SurelyLies, SurelyAbove}
 use Rattle.mlk_rules.specs.Coverage.{cut_template, HoldsLock, HoldLocks, locks_of, Satisfies, IsOwn, OfCover, OfPrivate, OfReadonly, IsRuled, KeepsReadonly, KeepsPrivate, KeepsCovers, IsAnswer}
 use Rattle.mlk_rules.specs.Fronts.{symbol_of, SubsLie, SubsAbove, OwnSubs}
-use Rattle.mlk_rules.specs.Computed.{goes_on, may_be_same, subs_may_meet, may_meet, suits, stays_in, subs_lie, subs_above, surely_lies, surely_above, is_ruled_by, is_ruled, only_reads, keeps_readonly, is_job, first_of, after_first, own_subs, keeps_private, same_root, same_symbol, begins, is_prefix, holds_lock, hold_locks, satisfies, keeps_covers, answer}
+use Rattle.mlk_rules.specs.Computed.{goes_on, may_be_same, subs_may_meet, may_meet, suits, stays_in, subs_lie, subs_above, surely_lies, surely_above, is_ruled_by, is_ruled, only_reads, keeps_readonly, is_job, first_of, after_first, own_subs, keeps_private, same_root, same_symbol, begins, is_prefix, holds_lock, hold_locks, is_free, satisfies, keeps_covers, answer}
 use Rattle.mlk_rules.specs.Laws.{ComputedAnswers}
 use Rattle.mlk_rules.proofs.FrontLemmas.{element_meets, lie_none, lie_no_subs, lie_suits, lie_cons, above_none, above_no_elements, above_suits, above_cons}
 use Rattle.mlk_rules.proofs.MeetLemmas.{meet_from, meet_root, meet_fronts}
@@ -286,10 +288,19 @@ locks_decide : (a : Access) (held : List LockTerm) (r : Reference) (locks : List
 locks_decide Writes held r locks = all_decides (holds_lock held r) (λ lock. HoldsLock held lock r) (holds_decides held r) locks
 locks_decide Reads held r locks = any_decides (holds_lock held r) (λ lock. HoldsLock held lock r) (holds_decides held r) locks
 
+free_decides : (policy : ReadPolicy) (a : Access) → Decides (is_free policy a) ((policy ≡ Free) × (a ≡ Reads))
+free_decides Free Reads = yes (refl, refl)
+free_decides Free Writes = no (λ h. let e : Writes ≡ Reads = h.1 in cc)
+free_decides Locked a = no (λ h. let e : Locked ≡ Free = h.0 in cc)
+
+satisfied_decides : (held : List LockTerm) (r : Reference) (c : Cover) → Decides (satisfies held r c) (Satisfies held r c)
+satisfied_decides held r c =
+    Decides-or (is_free c.reads r.access) (hold_locks r.access held r (locks_of c)) (free_decides c.reads r.access) (locks_decide r.access held r (locks_of c))
+
 covers_decide : (rules : RuleLists) (held : List LockTerm) (r : Reference) → Decides (keeps_covers rules held r) (KeepsCovers rules held r)
 covers_decide rules held r =
     all_decides (λ (c : Cover). not (may_meet c.pattern r) || satisfies held r c) (λ (c : Cover). MayMeet c.pattern r → Satisfies held r c)
-    (λ (c : Cover). if_decides (may_meet c.pattern r) (satisfies held r c) (meet_decides r c.pattern) (locks_decide r.access held r (locks_of c))) rules.covers
+    (λ (c : Cover). if_decides (may_meet c.pattern r) (satisfies held r c) (meet_decides r c.pattern) (satisfied_decides held r c)) rules.covers
 
 -- the answer that four tests give
 abbrev pub by_tests : Bool → Bool → Bool → Bool → Option Code

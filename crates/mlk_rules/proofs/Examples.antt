@@ -1,9 +1,10 @@
 -- Worked examples, with answers from outside the program: the rules `^ACCT(id,...)` by `^ACCT(id)` with rank 10 of
 -- `^ACCT`, and `^CONF(...)` read alone.
 use Rattle.std.proofs.Common.{◌≡◌, List, [], ◌∷◌, ◌++◌, inl, inr, refl, sym, subst, arith}
-use Rattle.std.specs.Prelude.{codes, Contains}
+use Rattle.std.specs.Prelude.{Some, None, codes, Contains}
 use Rattle.std.specs.List.{AllZip}
 use Rattle.std.proofs.lemmas.List.Elements.{Contains-push, Contains-push_cases}
+use Rattle.mlk_text.specs.declared.code.Code.TheVariants.{Uncovered}
 use Rattle.mlk_text.specs.declared.root.Root.TheVariants.{Global}
 use Rattle.mlk_names.specs.declared.symbol.Sym.{Sym}
 use Rattle.mlk_names.specs.declared.symbol.Sym.TheVariants.{Const, Local, Unknown}
@@ -19,9 +20,14 @@ use Rattle.mlk_rules.specs.declared.pattern.Element.TheVariants.{Variable}
 use Rattle.mlk_rules.specs.declared.pattern.Pattern.{Pattern}
 use Rattle.mlk_rules.specs.declared.template.TemplatePart.TheVariants.{Place}
 use Rattle.mlk_rules.specs.declared.template.Template.{Template}
+use Rattle.mlk_rules.specs.declared.cover.Cover.{Cover}
+use Rattle.mlk_rules.specs.declared.cover.ReadPolicy.{ReadPolicy}
+use Rattle.mlk_rules.specs.declared.cover.ReadPolicy.TheVariants.{Locked, Free}
 use Rattle.mlk_rules.specs.declared.family.Family.{Family}
+use Rattle.mlk_rules.specs.declared.rules.RuleLists.{RuleLists}
 use Rattle.mlk_rules.specs.Patterns.{Suits, SurelyLies, SurelyAbove}
 use Rattle.mlk_rules.specs.Coverage.{cut_template, lock_at, HoldsLock}
+use Rattle.mlk_rules.specs.Computed.{answer}
 use Rattle.mlk_rules.specs.Ranks.{HasRank}
 
 abbrev acct : List KnownSym → LockTerm
@@ -72,6 +78,30 @@ no_front (s ∷ front) rest z e = cc
 
 pub whole_does_not_lie : SurelyLies below_an_account (written []) → ⊥
 whole_does_not_lie h = no_front h.front h.rest h.suits h.subs
+
+-- covers of accounts, which free reads or not
+abbrev accounts : ReadPolicy → Cover
+accounts policy = record { pattern = below_an_account; lock = by_account; also = None; reads = policy }
+
+abbrev covered_by : List Cover → RuleLists
+covered_by covers = record { families = []; covers = covers; private = []; readonly = []; entries = [] }
+
+abbrev read : List Sym → Reference
+read subs = record { root = codes "ACCT"; subs = subs; extent = Node; access = Reads }
+
+-- a read of `^ACCT(ID)` needs no lock of a cover that frees reads, and a write does
+pub free_read : answer (covered_by (accounts Free ∷ [])) [] (read (Local (codes "ID") ∷ [])) ≡ None
+unfolding answer
+free_read = refl
+
+pub no_free_write : answer (covered_by (accounts Free ∷ [])) [] (written (Local (codes "ID") ∷ [])) ≡ Some Uncovered
+unfolding answer
+no_free_write = refl
+
+-- beside a cover that asks for a lock, it is no use that another one frees reads
+pub locked_beside_free : answer (covered_by (accounts Free ∷ accounts Locked ∷ [])) [] (read (Local (codes "ID") ∷ [])) ≡ Some Uncovered
+unfolding answer
+locked_beside_free = refl
 
 -- the tree of `^CONF` is surely above `^CONF(...)`
 pub conf_above : SurelyAbove (record { global = codes "CONF"; elements = []; extent = Tree }) (record { root = codes "CONF"; subs = []; extent = Tree; access = Reads })

@@ -26,7 +26,7 @@ use Rattle.mlk_rules.specs.declared.template.Template.{Template}
 use Rattle.mlk_rules.specs.declared.cover.Cover.{Cover}
 use Rattle.mlk_rules.specs.declared.rules.RuleLists.{RuleLists}
 use Rattle.mlk_rules.specs.Coverage.{before_missing, symbol_at, cut_template, locks_of, IsAnswer}
-use Rattle.mlk_rules.specs.Computed.{may_be_same, subs_may_meet, may_meet, suits, stays_in, subs_lie, subs_above, goes_on, is_ruled_by, is_ruled, only_reads, keeps_readonly, is_job, first_of, after_first, own_subs, keeps_private, same_root, same_symbol, begins, is_prefix, holds_lock, hold_locks, satisfies, keeps_covers, answer}
+use Rattle.mlk_rules.specs.Computed.{may_be_same, subs_may_meet, may_meet, suits, stays_in, subs_lie, subs_above, goes_on, is_ruled_by, is_ruled, only_reads, keeps_readonly, is_job, first_of, after_first, own_subs, keeps_private, same_root, same_symbol, begins, is_prefix, holds_lock, hold_locks, is_free, satisfies, keeps_covers, answer}
 use Rattle.mlk_rules.specs.Laws.{mark, marked, MarkedAlike}
 use Rattle.mlk_rules.proofs.Computing.{in_front, in_rest, computed_answers}
 
@@ -182,7 +182,7 @@ module _ (n : List ℕ) where
     covers_same : keeps_covers rules held (marked n r) ≡ keeps_covers rules held r
     covers_same =
         all_same _ _ rules.covers
-        (λ c. ap (λ b. not b || satisfies held (marked n r) c) (pattern_meets c.pattern) ∙ ap (λ b. not (may_meet c.pattern r) || b) (locks_same r.access (locks_of c)))
+        (λ c. ap (λ b. not b || satisfies held (marked n r) c) (pattern_meets c.pattern) ∙ ap (λ b. not (may_meet c.pattern r) || (is_free c.reads r.access || b)) (locks_same r.access (locks_of c)))
 
     answer_same : answer rules held (marked n r) ≡ answer rules held r
     unfolding answer

@@ -21,6 +21,8 @@ use Rattle.mlk_rules.specs.declared.pattern.Element.TheVariants as element
 use Rattle.mlk_rules.specs.declared.pattern.Pattern.{Pattern}
 use Rattle.mlk_rules.specs.declared.template.Template.{Template}
 use Rattle.mlk_rules.specs.declared.cover.Cover.{Cover}
+use Rattle.mlk_rules.specs.declared.cover.ReadPolicy.{ReadPolicy}
+use Rattle.mlk_rules.specs.declared.cover.ReadPolicy.TheVariants.{Locked, Free}
 use Rattle.mlk_rules.specs.declared.rules.RuleLists.{RuleLists}
 use Rattle.mlk_rules.specs.Coverage.{cut_template, locks_of}
 
@@ -154,8 +156,14 @@ abbrev pub hold_locks : Access → List LockTerm → Reference → List Template
 hold_locks Writes held r locks = list_all (holds_lock held r) locks
 hold_locks Reads held r locks = list_any (holds_lock held r) locks
 
+-- a rule that frees reads asks for nothing of a read
+abbrev pub is_free : ReadPolicy → Access → Bool
+is_free Free Reads = true
+is_free Free Writes = false
+is_free Locked access = false
+
 abbrev pub satisfies : List LockTerm → Reference → Cover → Bool
-satisfies held r c = hold_locks r.access held r (locks_of c)
+satisfies held r c = is_free c.reads r.access || hold_locks r.access held r (locks_of c)
 
 abbrev pub keeps_covers : RuleLists → List LockTerm → Reference → Bool
 keeps_covers rules held r =

@@ -21,6 +21,7 @@ use Rattle.mlk_rules.specs.declared.template.TemplatePart.{TemplatePart}
 use Rattle.mlk_rules.specs.declared.template.TemplatePart.TheVariants.{Literal, Place}
 use Rattle.mlk_rules.specs.declared.template.Template.{Template}
 use Rattle.mlk_rules.specs.declared.cover.Cover.{Cover}
+use Rattle.mlk_rules.specs.declared.cover.ReadPolicy.TheVariants.{Free}
 use Rattle.mlk_rules.specs.declared.rules.RuleLists.{RuleLists}
 use Rattle.mlk_rules.specs.Patterns.{MayMeet, SurelyLies, SurelyAbove}
 
@@ -66,9 +67,13 @@ abbrev pub HoldLocks : Access → List LockTerm → Reference → List Template 
 HoldLocks Writes held r locks = (lock : Template) → Contains locks lock → HoldsLock held lock r
 HoldLocks Reads held r locks = (lock : Template) × Contains locks lock × HoldsLock held lock r
 
--- a rule that the reference may meet is satisfied by what is held
+-- the rule frees reads, and the reference reads
+abbrev pub IsFreeRead : Cover → Reference → Type 0
+IsFreeRead c r = (c.reads ≡ Free) × (r.access ≡ Reads)
+
+-- a rule that the reference may meet is satisfied: it lets it read without a lock, or its locks are held
 abbrev pub Satisfies : List LockTerm → Reference → Cover → Type 0
-Satisfies held r c = HoldLocks r.access held r (locks_of c)
+Satisfies held r c = IsFreeRead c r ⊎ HoldLocks r.access held r (locks_of c)
 
 -- the job's own number stands at each place of `$J`
 abbrev pub IsOwn : Pattern → Reference → Type 0

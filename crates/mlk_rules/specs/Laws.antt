@@ -1,12 +1,13 @@
--- What rules are good for: two jobs never touch one node, of which one writes, and claims have an order.
-use Rattle.std.specs.Prelude.{◌≡◌, ◌⊎◌, ◌↔◌, if◌then◌else◌, ℕ, List, Option, Contains, bytes_eq, map}
+-- What rules are good for: two jobs never touch one node, of which one writes, unless the other reads it freely; and claims have
+-- an order.
+use Rattle.std.specs.Prelude.{◌≡◌, ◌≢◌, ◌⊎◌, ◌↔◌, if◌then◌else◌, ℕ, List, Option, Contains, bytes_eq, map}
 use Rattle.mlk_text.specs.declared.code.Code.{Code}
 use Rattle.mlk_names.specs.declared.lock_name.LockName.{LockName}
 use Rattle.mlk_names.specs.declared.symbol.Sym.{Sym}
 use Rattle.mlk_names.specs.declared.symbol.Sym.TheVariants.{Const, Local, Job, Unknown}
 use Rattle.mlk_names.specs.declared.term.LockTerm.{LockTerm}
 use Rattle.mlk_names.specs.declared.reference.Reference.{Reference}
-use Rattle.mlk_names.specs.declared.reference.Access.TheVariants.{Writes}
+use Rattle.mlk_names.specs.declared.reference.Access.TheVariants.{Reads, Writes}
 use Rattle.mlk_names.specs.LockNames.{IsAbove, Conflict}
 use Rattle.mlk_names.specs.Symbols.{Assignment}
 use Rattle.mlk_names.specs.Terms.{Names, IsPrefix, Mentions}
@@ -14,6 +15,8 @@ use Rattle.mlk_names.specs.References.{GlobalNode, Region, Touch, Touches, InReg
 use Rattle.mlk_rules.specs.declared.pattern.Element.TheVariants as element
 use Rattle.mlk_rules.specs.declared.pattern.Pattern.{Pattern}
 use Rattle.mlk_rules.specs.declared.template.Template.{Template}
+use Rattle.mlk_rules.specs.declared.cover.Cover.{Cover}
+use Rattle.mlk_rules.specs.declared.cover.ReadPolicy.TheVariants.{Locked, Free}
 use Rattle.mlk_rules.specs.declared.family.Family.{Family}
 use Rattle.mlk_rules.specs.declared.rules.RuleLists.{RuleLists}
 use Rattle.mlk_rules.specs.Patterns.{LiesIn, MayMeet, SurelyLies}
@@ -71,14 +74,32 @@ pub record HoldConflict (a : Assignment) (held : List LockTerm) (b : Assignment)
   pub is_kept : Contains kept second
   pub conflict : (x y : LockName) → Names a first x → Names b second y → Conflict x y
 
--- Two covered references that overlap, each as it stands in a job of its own and one of which writes, have jobs of one
--- number, or jobs that hold names that conflict.
+-- two touches meet in a pattern: some node that both reach lies in it
+abbrev pub MeetIn : Pattern → Touch → Touch → Type 0
+MeetIn p t u = (n : GlobalNode) × InRegion t.region n × InRegion u.region n × LiesIn p n
+
+-- One of two touches reads, and needs no lock against the other: they meet in a cover rule, and each cover rule in which they
+-- meet frees reads.
+pub record OneReadsFreely (rules : RuleLists) (t u : Touch) : Type 0 where
+  pub reads : (t.access ≡ Reads) ⊎ (u.access ≡ Reads)
+  pub cover : Cover
+  pub is_rule : Contains rules.covers cover
+  pub meet : MeetIn cover.pattern t u
+  pub frees : (c : Cover) → Contains rules.covers c → MeetIn c.pattern t u → c.reads ≡ Free
+
+-- no rule frees reads
+abbrev pub FreesNoReads : RuleLists → Type 0
+FreesNoReads rules = (c : Cover) → Contains rules.covers c → c.reads ≡ Locked
+
+-- Of two covered references that overlap, each as it is in a job of its own and one of which writes, one reads freely, unless the
+-- jobs have one number, or hold names that conflict.
 abbrev pub CoveredApart : Type 0
 CoveredApart =
     (rules : RuleLists) (a b : Assignment) (held kept : List LockTerm) (r s : Reference) (t u : Touch)
     → PrivateByJob rules
     → IsCovered rules held r → IsCovered rules kept s → Touches a r t → Touches b s u → Overlap t.region u.region
-    → (t.access ≡ Writes) ⊎ (u.access ≡ Writes) → (a.job ≡ b.job) ⊎ HoldConflict a held b kept
+    → (t.access ≡ Writes) ⊎ (u.access ≡ Writes)
+    → a.job ≢ b.job → ¬ HoldConflict a held b kept → OneReadsFreely rules t u
 
 -- Where no two families meet: a term has one rank at most, the names that it stands for have it, and names that
 -- conflict have one rank.

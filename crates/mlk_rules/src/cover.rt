@@ -3,11 +3,22 @@
 use crate::pattern::Pattern;
 use crate::template::Template;
 
-/// A rule that covers the nodes of a pattern by a lock, or by two, of which a write needs both and a read one.
+/// What a read of covered nodes needs.
+#[derive(Clone, Copy, Debug, Drop, PartialEq, Eq)]
+pub enum ReadPolicy {
+    /// one of the rule's locks
+    Locked,
+    /// no lock
+    Free,
+}
+
+/// A rule that covers the nodes of a pattern by a lock, or by two: a write needs each of them, and a read one of them, or none
+/// if reads are free.
 #[derive(Clone, Drop, Debug)]
 pub struct Cover {
     pub pattern: Pattern,
     pub lock: Template,
     /// The second lock, where the rule has two.
     pub also: Option<Template>,
+    pub reads: ReadPolicy,
 }

@@ -3,10 +3,10 @@
 ghost use Rattle.std.specs.Prelude.{◌≡◌, ◌↔◌, IsTrue, Some};
 ghost use Rattle.mlk_names.specs.Symbols.{known_of};
 ghost use Rattle.mlk_names.specs.Terms.{IsPrefix};
-ghost use Rattle.mlk_rules.specs.Coverage.{symbol_at, cut_template, HoldsLock, Satisfies};
+ghost use Rattle.mlk_rules.specs.Coverage.{symbol_at, cut_template, HoldsLock, HoldLocks, locks_of, IsFreeRead, Satisfies};
 ghost use Rattle.mlk_rules.specs.Fronts.{BeginsCut};
 
-use crate::cover::Cover;
+use crate::cover::{Cover, ReadPolicy};
 use crate::lent::Lent;
 use crate::template::{Template, TemplatePart};
 use mlk_names::{Access, KnownSym, LockTerm, Sym};
@@ -82,9 +82,20 @@ pub(crate) fn holds_lock(held: &[LockTerm], lock: &Template, reference: &Lent<'_
     false
 }
 
-/// Whether what is held satisfies the rule: a write needs each of its locks, a read one of them.
-pub(crate) fn is_satisfied(cover: &Cover, reference: &Lent<'_>, held: &[LockTerm]) -> bool
-    ensures { IsTrue result ↔ Satisfies held.now reference.now cover.now }
+// Whether the rule lets the reference read without a lock.
+#[inline(always)]
+fn is_free_read(cover: &Cover, reference: &Lent<'_>) -> bool
+    ensures { IsTrue result ↔ IsFreeRead cover.now reference.now }
+{
+    match (cover.reads, reference.access()) {
+        (ReadPolicy::Free, Access::Reads) => true,
+        _ => false,
+    }
+}
+
+// Whether the locks of the rule are held that the reference needs: each for a write, one for a read.
+fn holds_locks(cover: &Cover, reference: &Lent<'_>, held: &[LockTerm]) -> bool
+    ensures { IsTrue result ↔ HoldLocks reference.now.access held.now reference.now (locks_of cover.now) }
 {
     let first = holds_lock(held, &cover.lock, reference);
     let Some(also) = cover.also.as_ref() else {
@@ -94,4 +105,11 @@ pub(crate) fn is_satisfied(cover: &Cover, reference: &Lent<'_>, held: &[LockTerm
         Access::Writes => first && holds_lock(held, also, reference),
         Access::Reads => first || holds_lock(held, also, reference),
     }
+}
+
+/// Whether the rule is satisfied: a write needs each of its locks, a read one of them, or none if reads are free.
+pub(crate) fn is_satisfied(cover: &Cover, reference: &Lent<'_>, held: &[LockTerm]) -> bool
+    ensures { IsTrue result ↔ Satisfies held.now reference.now cover.now }
+{
+    is_free_read(cover, reference) || holds_locks(cover, reference, held)
 }

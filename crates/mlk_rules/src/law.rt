@@ -17,7 +17,8 @@ pub fn lock_of_node()
     ensures { LocksOfNodes }
 {}
 
-/// Of two covered references one of which writes, the jobs hold names that conflict, or are one job.
+/// Of two covered references that overlap, one of which writes, the other reads what needs no lock, unless the jobs hold names
+/// that conflict, or are one job.
 pub fn covered_apart()
     ensures { CoveredApart }
 {}

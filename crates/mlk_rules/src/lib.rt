@@ -18,7 +18,7 @@ mod sound;
 mod template;
 
 pub use check::{covered, covered_lent};
-pub use cover::Cover;
+pub use cover::{Cover, ReadPolicy};
 pub use family::Family;
 pub use lacking::templates;
 pub use law::{

@@ -7,6 +7,7 @@ use Rattle.mlk_text.specs.Lexemes.{name_at, label_at, digits_at, root_at, entry_
 use Rattle.mlk_text.specs.declared.code.Code.TheVariants as code
 use Rattle.mlk_text.specs.declared.root.Root.TheVariants as root
 use Rattle.mlk_names.specs.declared.reference.Extent.TheVariants.{Node, Tree}
+use Rattle.mlk_rules.specs.declared.cover.ReadPolicy.TheVariants.{Locked, Free}
 use Rattle.mlk_rules.specs.declared.pattern.Element.TheVariants as element
 use Rattle.mlk_rules.specs.declared.template.TemplatePart.TheVariants.{Place}
 use Rattle.mlk_rules_file.specs.declared.read.fault.Section.TheVariants.{File, Lock, Cover, Private, Readonly, Entry}
@@ -100,6 +101,7 @@ two_locks : cover_of 1 (cover_with (member (codes "also") (string (codes "^B(i)"
   pattern = record { global = codes "G"; elements = element.Variable ∷ []; extent = Node };
   lock = record { root = root.Global (codes "A"); parts = [] };
   also = Some (record { root = root.Global (codes "B"); parts = Place 0 ∷ [] });
+  reads = Locked;
 })
 unfolding cover_of cover_with spelling_of root_at parts_of list_of item_at many name_at is_pattern is_template
 two_locks = refl
@@ -111,6 +113,20 @@ a_variable_of_no_pattern = refl
 a_second_lock_of_another_type : cover_of 1 (cover_with (member (codes "also") (integer (pos 1)) no_members)) ≡ refused code.Key Cover 1
 unfolding cover_of cover_with
 a_second_lock_of_another_type = refl
+
+-- reads without a lock, and a word that is none
+free_reads : cover_of 1 (cover_with (member (codes "reads") (string (codes "free")) no_members)) ≡ Ok (record {
+  pattern = record { global = codes "G"; elements = element.Variable ∷ []; extent = Node };
+  lock = record { root = root.Global (codes "A"); parts = [] };
+  also = None;
+  reads = Free;
+})
+unfolding cover_of cover_with spelling_of root_at parts_of list_of item_at many name_at is_pattern is_template
+free_reads = refl
+
+a_wrong_word : cover_of 1 (cover_with (member (codes "reads") (string (codes "none")) no_members)) ≡ refused code.Key Cover 1
+unfolding cover_of cover_with
+a_wrong_word = refl
 
 a_large_rank : family_of 3 (table (member (codes "name") (string (codes "(")) (member (codes "rank") (integer (pos 1000000)) no_members))) ≡ refused code.RulesLimit Lock 3
 unfolding family_of spelling_of root_at name_at

@@ -19,6 +19,7 @@ use Rattle.mlk_rules.specs.declared.template.TemplatePart.{TemplatePart}
 use Rattle.mlk_rules.specs.declared.template.Template.{Template}
 use Rattle.mlk_rules.specs.declared.family.Family.{Family}
 use Rattle.mlk_rules.specs.declared.cover.Cover.{Cover}
+use Rattle.mlk_rules.specs.declared.cover.ReadPolicy.{ReadPolicy}
 use Rattle.mlk_rules.specs.declared.rules.RuleLists.{RuleLists}
 use Rattle.mlk_rules.specs.Ranks.{FamiliesApart}
 use Rattle.mlk_rules.specs.Sound as sound
@@ -144,42 +145,42 @@ cover_formed : (k : ℕ) (d : Data) (c : Cover) → cover_of k d ≡ Ok c → so
 unfolding cover_of is_pattern
 cover_formed k d c h = at (cover_keys (as_table d)) h
   where
-    placed : (p : Spelling) (o : Option Template) (q : Option (Option Template)) → sound.is_sound_pattern 0 (pattern p) ≡ true
+    placed : (reads : ReadPolicy) (p : Spelling) (o : Option Template) (q : Option (Option Template)) → sound.is_sound_pattern 0 (pattern p) ≡ true
         → ((t : Template) → o ≡ Some t → sound.is_root t.root ≡ true) → ((t : Template) → q ≡ Some (Some t) → sound.is_root t.root ≡ true)
-        → cover_of_locks k p o q ≡ Ok c → sound.is_cover c ≡ true
-    placed p None q one first second i = cc i
-    placed p (Some l) None one first second i = cc i
-    placed p (Some l) (Some None) one first second i =
+        → cover_of_locks k p o q reads ≡ Ok c → sound.is_cover c ≡ true
+    placed reads p None q one first second i = cc i
+    placed reads p (Some l) None one first second i = cc i
+    placed reads p (Some l) (Some None) one first second i =
         let is = same_Ok _ c i in
         subst (λ r. sound.is_cover r ≡ true) is (rw (one, first l refl) refl)
-    placed p (Some l) (Some (Some m)) one first second i =
+    placed reads p (Some l) (Some (Some m)) one first second i =
         let is = same_Ok _ c i in
         subst (λ r. sound.is_cover r ≡ true) is (rw (one, first l refl, second m refl) refl)
 
-    kinds : (ps ls : List ℕ) (p l : Spelling) (a : Option Spelling) → pattern_of ps ≡ Some p → spelling_of ls ≡ Some l
-        → ((s : Spelling) → a ≡ Some s → sound.is_root s.root ≡ true) → cover_kinds k p l a ≡ Ok c → sound.is_cover c ≡ true
-    kinds ps ls p l a one two roots i = elim (cases_Bool (is_pattern CoverSection p && (is_template l && is_second_template a))) [
+    kinds : (reads : ReadPolicy) (ps ls : List ℕ) (p l : Spelling) (a : Option Spelling) → pattern_of ps ≡ Some p → spelling_of ls ≡ Some l
+        → ((s : Spelling) → a ≡ Some s → sound.is_root s.root ≡ true) → cover_kinds k p l a reads ≡ Ok c → sound.is_cover c ≡ true
+    kinds reads ps ls p l a one two roots i = elim (cases_Bool (is_pattern CoverSection p && (is_template l && is_second_template a))) [
       | inr e ↦ cc (rw e at i)
       | inl e ↦
           let kind = (and_parts (is_pattern CoverSection p) (is_template l && is_second_template a) e).0 in
           let jobless = (and_parts (is_jobless p.items) (is_distinct p.items) kind).0 in
-          placed p (template_of p.items l) (second_template p.items a) (formed_pattern 0 p (patterned_root ps p one) (never p.items jobless))
+          placed reads p (template_of p.items l) (second_template p.items a) (formed_pattern 0 p (patterned_root ps p one) (never p.items jobless))
           (λ t is. rooted l t (places_of p.items l.items) (spelled_root ls l two) is) (second_rooted p.items a roots) (rw e at i)
     ]
 
-    all : (ps ls : List ℕ) (o q : Option Spelling) (a : Option (Option Spelling)) → pattern_of ps ≡ o → spelling_of ls ≡ q
-        → ((s : Spelling) → a ≡ Some (Some s) → sound.is_root s.root ≡ true) → cover_with k o q a ≡ Ok c → sound.is_cover c ≡ true
-    all ps ls None q a one two roots i = cc i
-    all ps ls (Some p) None a one two roots i = cc i
-    all ps ls (Some p) (Some l) None one two roots i = kinds ps ls p l None one two (λ s e. cc e) i
-    all ps ls (Some p) (Some l) (Some None) one two roots i = cc i
-    all ps ls (Some p) (Some l) (Some (Some b)) one two roots i = kinds ps ls p l (Some b) one two (λ s e. roots s (ap Some e)) i
+    all : (reads : ReadPolicy) (ps ls : List ℕ) (o q : Option Spelling) (a : Option (Option Spelling)) → pattern_of ps ≡ o → spelling_of ls ≡ q
+        → ((s : Spelling) → a ≡ Some (Some s) → sound.is_root s.root ≡ true) → cover_with k o q a reads ≡ Ok c → sound.is_cover c ≡ true
+    all reads ps ls None q a one two roots i = cc i
+    all reads ps ls (Some p) None a one two roots i = cc i
+    all reads ps ls (Some p) (Some l) None one two roots i = kinds reads ps ls p l None one two (λ s e. cc e) i
+    all reads ps ls (Some p) (Some l) (Some None) one two roots i = cc i
+    all reads ps ls (Some p) (Some l) (Some (Some b)) one two roots i = kinds reads ps ls p l (Some b) one two (λ s e. roots s (ap Some e)) i
 
-    at : (o : Option (List ℕ × List ℕ × Option (List ℕ))) → cover_at k o ≡ Ok c → sound.is_cover c ≡ true
+    at : (o : Option (List ℕ × List ℕ × Option (List ℕ) × ReadPolicy)) → cover_at k o ≡ Ok c → sound.is_cover c ≡ true
     at None i = cc i
     at (Some keys) i = elim (cases_Bool (is_long (pattern_of keys.0) || (is_long (spelling_of keys.1) || is_long_second (option_map spelling_of keys.2)))) [
       | inl e ↦ cc (rw e at i)
-      | inr e ↦ all keys.0 keys.1 (pattern_of keys.0) (spelling_of keys.1) (option_map spelling_of keys.2) refl refl (second_root keys.2) (rw e at i)
+      | inr e ↦ all keys.3 keys.0 keys.1 (pattern_of keys.0) (spelling_of keys.1) (option_map spelling_of keys.2) refl refl (second_root keys.2) (rw e at i)
     ]
 
 -- patterns by themselves, whose section asks for `$J` so often

@@ -6,6 +6,8 @@ use Rattle.toml.specs.Parse.{parse_document}
 use Rattle.mlk_text.specs.declared.code.Code.TheVariants as code
 use Rattle.mlk_rules.specs.declared.family.Family.{Family}
 use Rattle.mlk_rules.specs.declared.cover.Cover.{Cover}
+use Rattle.mlk_rules.specs.declared.cover.ReadPolicy.{ReadPolicy}
+use Rattle.mlk_rules.specs.declared.cover.ReadPolicy.TheVariants.{Locked, Free}
 use Rattle.mlk_rules.specs.declared.pattern.Pattern.{Pattern}
 use Rattle.mlk_rules.specs.declared.template.Template.{Template}
 use Rattle.mlk_rules.specs.declared.rules.RuleLists.{RuleLists}
@@ -27,7 +29,7 @@ is_key File key =
     || bytes_eq key (codes "private") || bytes_eq key (codes "readonly") || bytes_eq key (codes "entry")
 is_key Lock key = bytes_eq key (codes "name") || bytes_eq key (codes "rank")
 is_key CoverSection key =
-    bytes_eq key (codes "global") || bytes_eq key (codes "lock") || bytes_eq key (codes "also")
+    bytes_eq key (codes "global") || bytes_eq key (codes "lock") || bytes_eq key (codes "also") || bytes_eq key (codes "reads")
 is_key Private key = bytes_eq key (codes "global")
 is_key Readonly key = bytes_eq key (codes "global")
 is_key Entry key = bytes_eq key (codes "label")
@@ -64,19 +66,30 @@ family_keys None = None
 family_keys (Some ms) =
     if has_only Lock ms then both (text_at (codes "name") ms) (integer_at (codes "rank") ms) else None
 
--- all three, or nothing
-abbrev pub all_three : {A B C : Type 0} → Option A → Option B → Option C → Option (A × B × C)
-all_three None b c = None
-all_three (Some x) None c = None
-all_three (Some x) (Some y) None = None
-all_three (Some x) (Some y) (Some z) = Some (x, y, z)
+-- all four, or nothing
+abbrev pub all_four : {A B C D : Type 0} → Option A → Option B → Option C → Option D → Option (A × B × C × D)
+all_four None b c d = None
+all_four (Some x) None c d = None
+all_four (Some x) (Some y) None d = None
+all_four (Some x) (Some y) (Some z) None = None
+all_four (Some x) (Some y) (Some z) (Some w) = Some (x, y, z, w)
 
--- the pattern, the lock and the second lock of a cover, which may be missing
-abbrev pub cover_keys : Option Members → Option (List ℕ × List ℕ × Option (List ℕ))
+-- what a cover asks of reads: `locked`, as if nothing were written, or `free`
+abbrev pub policy_of : Option (List ℕ) → Option ReadPolicy
+policy_of None = Some Locked
+policy_of (Some text) =
+    if bytes_eq text (codes "locked") then Some Locked else if bytes_eq text (codes "free") then Some Free else None
+
+-- the same of the text at a key that may be missing
+abbrev pub policy_at : List ℕ → Members → Option ReadPolicy
+policy_at key ms = option_and_then policy_of (text_if key ms)
+
+-- the pattern, the lock, the second lock of a cover, which may be missing, and what it asks of reads
+abbrev pub cover_keys : Option Members → Option (List ℕ × List ℕ × Option (List ℕ) × ReadPolicy)
 cover_keys None = None
 cover_keys (Some ms) =
     if has_only CoverSection ms then
-    all_three (text_at (codes "global") ms) (text_at (codes "lock") ms) (text_if (codes "also") ms)
+    all_four (text_at (codes "global") ms) (text_at (codes "lock") ms) (text_if (codes "also") ms) (policy_at (codes "reads") ms)
     else None
 
 -- the one text of an element with one key
@@ -111,35 +124,35 @@ unfoldable pub family_of : ℕ → Data → Answer Family
 family_of k d = family_at k (family_keys (as_table d))
 
 -- a cover of its locks, each of which may have a variable that the pattern lacks
-abbrev pub cover_of_locks : ℕ → Spelling → Option Template → Option (Option Template) → Answer Cover
-cover_of_locks k p None also = refused code.TemplateVariable CoverSection k
-cover_of_locks k p (Some lock) None = refused code.TemplateVariable CoverSection k
-cover_of_locks k p (Some lock) (Some also) = Ok (record { pattern = pattern p; lock = lock; also = also })
+abbrev pub cover_of_locks : ℕ → Spelling → Option Template → Option (Option Template) → ReadPolicy → Answer Cover
+cover_of_locks k p None also reads = refused code.TemplateVariable CoverSection k
+cover_of_locks k p (Some lock) None reads = refused code.TemplateVariable CoverSection k
+cover_of_locks k p (Some lock) (Some also) reads = Ok (record { pattern = pattern p; lock = lock; also = also; reads = reads })
 
-abbrev pub cover_placed : ℕ → Spelling → Spelling → Option Spelling → Answer Cover
-cover_placed k p l a = cover_of_locks k p (template_of p.items l) (second_template p.items a)
+abbrev pub cover_placed : ℕ → Spelling → Spelling → Option Spelling → ReadPolicy → Answer Cover
+cover_placed k p l a reads = cover_of_locks k p (template_of p.items l) (second_template p.items a) reads
 
 -- a cover of what is spelled well
-abbrev pub cover_kinds : ℕ → Spelling → Spelling → Option Spelling → Answer Cover
-cover_kinds k p l a =
-    if is_pattern CoverSection p && (is_template l && is_second_template a) then cover_placed k p l a
+abbrev pub cover_kinds : ℕ → Spelling → Spelling → Option Spelling → ReadPolicy → Answer Cover
+cover_kinds k p l a reads =
+    if is_pattern CoverSection p && (is_template l && is_second_template a) then cover_placed k p l a reads
     else refused code.Pattern CoverSection k
 
-abbrev pub cover_with : ℕ → Option Spelling → Option Spelling → Option (Option Spelling) → Answer Cover
-cover_with k None l a = refused code.Pattern CoverSection k
-cover_with k (Some p) None a = refused code.Pattern CoverSection k
-cover_with k (Some p) (Some l) None = cover_kinds k p l None
-cover_with k (Some p) (Some l) (Some None) = refused code.Pattern CoverSection k
-cover_with k (Some p) (Some l) (Some (Some a)) = cover_kinds k p l (Some a)
+abbrev pub cover_with : ℕ → Option Spelling → Option Spelling → Option (Option Spelling) → ReadPolicy → Answer Cover
+cover_with k None l a reads = refused code.Pattern CoverSection k
+cover_with k (Some p) None a reads = refused code.Pattern CoverSection k
+cover_with k (Some p) (Some l) None reads = cover_kinds k p l None reads
+cover_with k (Some p) (Some l) (Some None) reads = refused code.Pattern CoverSection k
+cover_with k (Some p) (Some l) (Some (Some a)) reads = cover_kinds k p l (Some a) reads
 
-abbrev pub cover_by : ℕ → Option Spelling → Option Spelling → Option (Option Spelling) → Answer Cover
-cover_by k p l a =
+abbrev pub cover_by : ℕ → Option Spelling → Option Spelling → Option (Option Spelling) → ReadPolicy → Answer Cover
+cover_by k p l a reads =
     if is_long p || (is_long l || is_long_second a) then refused code.RulesLimit CoverSection k
-    else cover_with k p l a
+    else cover_with k p l a reads
 
-abbrev pub cover_at : ℕ → Option (List ℕ × List ℕ × Option (List ℕ)) → Answer Cover
+abbrev pub cover_at : ℕ → Option (List ℕ × List ℕ × Option (List ℕ) × ReadPolicy) → Answer Cover
 cover_at k None = refused code.Key CoverSection k
-cover_at k (Some keys) = cover_by k (pattern_of keys.0) (spelling_of keys.1) (option_map spelling_of keys.2)
+cover_at k (Some keys) = cover_by k (pattern_of keys.0) (spelling_of keys.1) (option_map spelling_of keys.2) keys.3
 
 -- the cover of the element with this index
 unfoldable pub cover_of : ℕ → Data → Answer Cover

@@ -18,7 +18,7 @@ pub struct MisfitCall<'a> {
     pub formals: ListLength,
 }
 
-// Whether a line with so many formals takes so many actuals.
+// Whether a line with this number of formals takes this number of actuals.
 fn takes(formals: ListLength, actuals: ListLength) -> bool {
     match (formals, actuals) {
         (ListLength::NoList, ListLength::NoList) => true,

@@ -56,7 +56,7 @@ fn counted_before(joined: &[MissingCall<'_>], call: &MissingCall<'_>) -> usize {
     }
 }
 
-// The calls of each thing as one, of which the last one here stays.
+// Joins the calls of each thing into one, and keeps the last of them here.
 fn joined<'a>(
     alloc: Global,
     calls: Vec<MissingCall<'a>>,

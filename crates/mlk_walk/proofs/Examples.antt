@@ -28,6 +28,7 @@ use Rattle.mlk_rules.specs.declared.template.TemplatePart.{TemplatePart}
 use Rattle.mlk_rules.specs.declared.template.TemplatePart.TheVariants as part_of
 use Rattle.mlk_rules.specs.declared.template.Template.{Template}
 use Rattle.mlk_rules.specs.declared.cover.Cover.{Cover}
+use Rattle.mlk_rules.specs.declared.cover.ReadPolicy.TheVariants.{Locked}
 use Rattle.mlk_rules.specs.declared.family.Family.{Family}
 use Rattle.mlk_rules.specs.declared.rules.RuleLists.{RuleLists}
 use Rattle.mlk_rules.specs.Computed.{answer}
@@ -91,7 +92,7 @@ abbrev pub family : LockName → ℕ → Family
 family name rank = record { name = name; rank = rank }
 
 abbrev pub cover : Pattern → Template → Cover
-cover pattern lock = record { pattern = pattern; lock = lock; also = None }
+cover pattern lock = record { pattern = pattern; lock = lock; also = None; reads = Locked }
 
 abbrev pub rules_of : List Family → List Cover → List Pattern → List Pattern → List (List ℕ) → RuleLists
 rules_of families covers private readonly entries =

@@ -11,6 +11,7 @@ use Rattle.mlk_names.specs.declared.known_symbol.KnownSym.{KnownSym}
 use Rattle.mlk_names.specs.declared.known_symbol.KnownSym.TheVariants as known
 use Rattle.mlk_names.specs.declared.term.LockTerm.{LockTerm}
 use Rattle.mlk_names.specs.declared.reference.Extent.TheVariants as extent
+use Rattle.mlk_rules.specs.declared.cover.ReadPolicy.TheVariants.{Locked}
 use Rattle.mlk_rules.specs.declared.pattern.Element.TheVariants.{Variable}
 use Rattle.mlk_rules.specs.declared.template.TemplatePart.TheVariants.{Place}
 use Rattle.mlk_cert_parts.specs.declared.case.Test.{Test}
@@ -73,6 +74,7 @@ scope mods low drops = record {
       pattern = record { global = codes "ACCT"; elements = Variable ∷ []; extent = extent.Tree };
       lock = record { root = root.Global (codes "ACCT"); parts = Place 0 ∷ [] };
       also = None;
+      reads = Locked;
     } ∷ [];
     private = [];
     readonly = record { global = codes "CODE"; elements = []; extent = extent.Tree } ∷ [];

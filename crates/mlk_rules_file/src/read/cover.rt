@@ -15,7 +15,7 @@ use crate::read::kinds::{
 use crate::read::pattern::pattern;
 use crate::read::spelling::{spelled_name, spelled_pattern};
 use crate::read::tables::cover_keys;
-use mlk_rules::{Cover, Template, TemplatePart};
+use mlk_rules::{Cover, ReadPolicy, Template, TemplatePart};
 use mlk_text::{Code, Failure, List, Name, copy_of};
 use std::alloc::{AllocError, Global};
 
@@ -95,8 +95,9 @@ fn cover_placed(
     p: &Spelling,
     l: &Spelling,
     second: &Option<Spelling>,
+    reads: ReadPolicy,
 ) -> Result<Cover, Failure<RulesFault>>
-    ensures { Answers (λ x. x) result (cover_placed index p.now l.now second.now) }
+    ensures { Answers (λ x. x) result (cover_placed index p.now l.now second.now reads) }
 {
     let Some(lock) = template_of(alloc, p.items.as_slice(), l)? else {
         return Err(refused(Code::TemplateVariable, Section::Cover, index));
@@ -108,6 +109,7 @@ fn cover_placed(
         pattern: pattern(alloc, p)?,
         lock,
         also,
+        reads,
     })
 }
 
@@ -117,13 +119,14 @@ fn cover_kinds(
     p: &Spelling,
     l: &Spelling,
     second: &Option<Spelling>,
+    reads: ReadPolicy,
 ) -> Result<Cover, Failure<RulesFault>>
-    ensures { Answers (λ x. x) result (cover_kinds index p.now l.now second.now) }
+    ensures { Answers (λ x. x) result (cover_kinds index p.now l.now second.now reads) }
 {
     if !is_pattern(Section::Cover, p) || !is_template(l) || !is_second_template(second) {
         return Err(refused(Code::Pattern, Section::Cover, index));
     }
-    cover_placed(alloc, index, p, l, second)
+    cover_placed(alloc, index, p, l, second, reads)
 }
 
 // A cover of its pattern, its lock and, where it is named, its second lock, each as it is spelled, if it is spelled well.
@@ -133,8 +136,9 @@ fn cover_by(
     pattern: Option<Spelling>,
     lock: Option<Spelling>,
     also: Option<Option<Spelling>>,
+    reads: ReadPolicy,
 ) -> Result<Cover, Failure<RulesFault>>
-    ensures { Answers (λ x. x) result (cover_by index pattern lock also) }
+    ensures { Answers (λ x. x) result (cover_by index pattern lock also reads) }
 {
     if is_long(&pattern) || is_long(&lock) || is_long_second(&also) {
         return Err(refused(Code::RulesLimit, Section::Cover, index));
@@ -146,9 +150,9 @@ fn cover_by(
         return Err(refused(Code::Pattern, Section::Cover, index));
     };
     match also {
-        None => cover_kinds(alloc, index, &p, &l, &None),
+        None => cover_kinds(alloc, index, &p, &l, &None, reads),
         Some(None) => Err(refused(Code::Pattern, Section::Cover, index)),
-        Some(second) => cover_kinds(alloc, index, &p, &l, &second),
+        Some(second) => cover_kinds(alloc, index, &p, &l, &second, reads),
     }
 }
 
@@ -171,11 +175,11 @@ pub fn cover(
 ) -> Result<Cover, Failure<RulesFault>>
     ensures { Answers (λ x. x) result (cover_of index (view element.now)) }
 {
-    let Some((global, lock, also)) = cover_keys(element) else {
+    let Some(keys) = cover_keys(element) else {
         return Err(refused(Code::Key, Section::Cover, index));
     };
-    let pattern = spelled_pattern(alloc, global.as_bytes())?;
-    let lock = spelled_name(alloc, lock.as_bytes())?;
-    let also = spelled_second(alloc, also)?;
-    cover_by(alloc, index, pattern, lock, also)
+    let pattern = spelled_pattern(alloc, keys.global.as_bytes())?;
+    let lock = spelled_name(alloc, keys.lock.as_bytes())?;
+    let also = spelled_second(alloc, keys.also)?;
+    cover_by(alloc, index, pattern, lock, also, keys.reads)
 }

@@ -3,9 +3,10 @@
 ghost use Rattle.std.specs.Prelude.{◌≡◌, option_map, Some};
 ghost use Rattle.toml.specs.Data.{as_table};
 ghost use Rattle.toml.specs.View.{view, table_view};
-ghost use Rattle.mlk_rules_file.specs.RuleSections.{is_key, has_only, text_at, as_text, text_if, integer_at, family_keys, cover_keys, text_key};
+ghost use Rattle.mlk_rules_file.specs.RuleSections.{is_key, has_only, text_at, as_text, text_if, policy_of, policy_at, integer_at, family_keys, cover_keys, text_key};
 
 use crate::read::fault::Section;
+use mlk_rules::ReadPolicy;
 use toml::{Table, Value};
 
 fn is_key(section: Section, key: &str) -> bool
@@ -20,7 +21,7 @@ fn is_key(section: Section, key: &str) -> bool
                 || key == "entry"
         }
         Section::Lock => key == "name" || key == "rank",
-        Section::Cover => key == "global" || key == "lock" || key == "also",
+        Section::Cover => key == "global" || key == "lock" || key == "also" || key == "reads",
         Section::Private => key == "global",
         Section::Readonly => key == "global",
         Section::Entry => key == "label",
@@ -96,9 +97,47 @@ fn text_if<'a>(table: &'a Table, key: &str) -> Option<Option<&'a str>>
     }
 }
 
-/// The pattern, the lock and the second lock of a cover, which may be missing.
-pub fn cover_keys(element: &Value) -> Option<(&str, &str, Option<&str>)>
-    ensures { option_map (λ x. (x.0.now, x.1.now, option_map (λ s. s.now) x.2)) result
+// What a cover with this text asks of reads; `None` if the text is no such word.
+fn policy_of(text: Option<&str>) -> Option<ReadPolicy>
+    ensures { result ≡ policy_of (option_map (λ t. t.now) text.entry) }
+{
+    match text {
+        None => Some(ReadPolicy::Locked),
+        Some(word) => {
+            if word == "locked" {
+                Some(ReadPolicy::Locked)
+            } else if word == "free" {
+                Some(ReadPolicy::Free)
+            } else {
+                None
+            }
+        }
+    }
+}
+
+// What a cover asks of reads, by a key that may be missing.
+fn policy_at(table: &Table, key: &str) -> Option<ReadPolicy>
+    ensures { result ≡ policy_at key.now (table_view table.now) }
+{
+    match text_if(table, key) {
+        Some(text) => policy_of(text),
+        None => None,
+    }
+}
+
+/// The keys of a cover.
+#[derive(Clone, Copy, Drop)]
+pub struct CoverKeys<'a> {
+    pub global: &'a str,
+    pub lock: &'a str,
+    /// the second lock, if it is there
+    pub also: Option<&'a str>,
+    pub reads: ReadPolicy,
+}
+
+/// The keys of a cover; `None` if one of another name is there, or one has no value of its kind.
+pub fn cover_keys(element: &Value) -> Option<CoverKeys<'_>>
+    ensures { option_map (λ x. (x.global.now, x.lock.now, option_map (λ s. s.now) x.also, x.reads)) result
         ≡ cover_keys (as_table (view element.now)) }
 {
     let Some(table) = element.as_table() else {
@@ -116,7 +155,15 @@ pub fn cover_keys(element: &Value) -> Option<(&str, &str, Option<&str>)>
     let Some(also) = text_if(table, "also") else {
         return None;
     };
-    Some((global, lock, also))
+    let Some(reads) = policy_at(table, "reads") else {
+        return None;
+    };
+    Some(CoverKeys {
+        global,
+        lock,
+        also,
+        reads,
+    })
 }
 
 /// The one text of an element with this one key.

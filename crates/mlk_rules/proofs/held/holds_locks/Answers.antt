@@ -1,6 +1,6 @@
 use Rattle.std.proofs.Common.{inl, inr, sym}
 use Rattle.mlk_rules.proofs.CheckLemmas.{not_both, by_one, by_two_written, by_two_read}
-use Rattle.mlk_rules.proofs.held.is_satisfied.Goals as goal
+use Rattle.mlk_rules.proofs.held.holds_locks.Goals as goal
 
 pub returns-in_default : goal.returns-in_default
 returns-in_default c =
