@@ -90,19 +90,31 @@ IsRefusalLine (refusal.Events fault) line = line ≡ events_line fault
 abbrev pub IsReportOfBlocks : ReportStyle → List RoutineTree → RuleLists → List EntryCert → List ℕ → ℕ → Type 0
 IsReportOfBlocks style trees rules blocks text status = (rows : List Row) × IsReportBy trees rules blocks rows × IsReportPrinted style trees rows text status
 
+-- the report by the certificate with this text is printed
+abbrev pub IsReportByText : ReportStyle → List RoutineTree → RuleLists → List ℕ → List ℕ → ℕ → Type 0
+IsReportByText style trees rules cert_text text status = (blocks : List EntryCert) × Spells blocks cert_text × IsReportOfBlocks style trees rules blocks text status
+
+-- the report by a certificate that is made is printed; which certificate it is, is not said
+abbrev pub IsReportOfMade : ReportStyle → List RoutineTree → RuleLists → List ℕ → ℕ → Type 0
+IsReportOfMade style trees rules text status = (blocks : List EntryCert) × IsReportOfBlocks style trees rules blocks text status
+
 -- What is printed of a program and its rules, by what is asked, and the status: the report by the certificate that is given, or by
--- one that is made, of which it is not said which; the text of a certificate that is made; what is shown of jobs after events.
+-- one that is made; the text of a certificate that is made; what is shown of jobs after events.
 abbrev pub IsPrinted : ReportStyle → List RoutineTree → RuleLists → Work → List ℕ → ℕ → Type 0
-IsPrinted style trees rules (work.Check given workers) text status = (blocks : List EntryCert) × Spells blocks given.items × IsReportOfBlocks style trees rules blocks text status
-IsPrinted style trees rules (work.Verify workers) text status = (blocks : List EntryCert) × IsReportOfBlocks style trees rules blocks text status
+IsPrinted style trees rules (work.Check given workers) text status = IsReportByText style trees rules given.items text status
+IsPrinted style trees rules (work.Verify workers) text status = IsReportOfMade style trees rules text status
 IsPrinted style trees rules (work.Make format) text status = IsMade trees rules format text × (status ≡ 0)
 IsPrinted style trees rules (work.Replay events) text status = IsReplayed trees rules events.items text × (status ≡ 0)
+
+-- why there is no report by a certificate that is made
+abbrev pub RefusesMade : ℕ → List RoutineTree → RuleLists → NoReport → Type 0
+RefusesMade workers trees rules r = IsUnmade trees rules r ⊎ ((blocks : List EntryCert) × RefusesReport refusal.Check (Unit {0}) workers trees rules blocks r)
 
 -- Why there is nothing to print: by the certificate that is given, or by one that is made; no certificate is made; or events can't
 -- be followed. The gate of the workers is always open.
 abbrev pub IsRefusedFor : Work → List RoutineTree → RuleLists → NoReport → Type 0
 IsRefusedFor (work.Check given workers) trees rules r = RefusesByText refusal.Check (Unit {0}) workers given.items trees rules r
-IsRefusedFor (work.Verify workers) trees rules r = IsUnmade trees rules r ⊎ ((blocks : List EntryCert) × RefusesReport refusal.Check (Unit {0}) workers trees rules blocks r)
+IsRefusedFor (work.Verify workers) trees rules r = RefusesMade workers trees rules r
 IsRefusedFor (work.Make format) trees rules r = IsUnmade trees rules r
 IsRefusedFor (work.Replay events) trees rules r = IsUnreplayed trees rules events.items r
 

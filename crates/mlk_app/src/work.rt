@@ -3,14 +3,16 @@
 ghost use Rattle.std.specs.Prelude.{◌≡◌, IfOk, IfErr, map};
 ghost use Rattle.mlk_syntax.specs.Views.{routine_of};
 ghost use Rattle.mlk_soundness_walk.specs.Forms.{AreFormed};
-ghost use Rattle.mlk_pool.specs.Headline.{RefusesReport, RefusesTrees};
+ghost use Rattle.mlk_pool.specs.Headline.{RefusesReport, RefusesByText, RefusesTrees};
+ghost use Rattle.mlk_outcome.specs.Making.{IsMade, IsUnmade};
+ghost use Rattle.mlk_outcome.specs.Replaying.{IsReplayed, IsUnreplayed};
 ghost use Rattle.mlk_outcome.specs.declared.refusal.NoReport.TheVariants as refusal;
-ghost use Rattle.mlk_app.specs.Ran.{style_in, status_of, IsReportPrinted, IsReportOfBlocks, IsPrinted, IsRefusedFor};
+ghost use Rattle.mlk_app.specs.Ran.{style_in, status_of, IsReportPrinted, IsReportOfBlocks, IsReportByText, IsReportOfMade, IsPrinted, RefusesMade, IsRefusedFor};
 ghost use Rattle.mlk_app.specs.Printing.{IsPrintedOfTrees, IsPrintedOfTexts, IsRefusedSources};
 
 use crate::answer::{NO, YES};
 use crate::source::{Sources, Work, copied_texts};
-use mlk_cert::{Certificate, read_cert};
+use mlk_cert::{CertFormat, Certificate, read_cert};
 use mlk_cli::{Asked, Output, ProgramRequest, ReportStyle};
 use mlk_explain::{Grounds, free_reads};
 use mlk_forms::render_report;
@@ -127,24 +129,82 @@ fn print_report<R: Threads + Wait + Sync, W: Watch>(
     ensures ok { IfOk result (λ p. IsReportOfBlocks (style_in subject.now.request.now.asked) (map routine_of subject.now.program.now) subject.now.rules.now certificate.now p.text p.status) }
     ensures refused { IfErr result (RefusesReport refusal.Check (Unit {0}) workers (map routine_of subject.now.program.now) subject.now.rules.now certificate.now) }
 {
-    let Subject {
-        program,
-        rules,
-        sources,
-        request,
-    } = subject;
-    let report = report_by_certificate(rt, alloc, *program, *rules, certificate, workers, watch)?;
-    let texts = shown_texts(alloc, sources, *request)?;
+    let program = subject.program;
+    let rules = subject.rules;
+    let report = report_by_certificate(rt, alloc, program, rules, certificate, workers, watch)?;
+    let texts = shown_texts(alloc, subject.sources, subject.request)?;
     let grounds = Grounds {
-        program: *program,
+        program,
         texts: texts.as_slice(),
-        rules: *rules,
-        rule_text: sources.rules.as_slice(),
+        rules,
+        rule_text: subject.sources.rules.as_slice(),
         certificate,
         is_made,
     };
-    let printed = printed_report(alloc, &grounds, *request, &report)?;
+    let printed = printed_report(alloc, &grounds, subject.request, &report)?;
     Ok(printed)
+}
+
+// Prints the report of a program by the certificate with this text.
+fn print_check<R: Threads + Wait + Sync, W: Watch>(
+    rt: &R,
+    alloc: Global,
+    subject: &Subject<'_>,
+    text: &[u8],
+    workers: u32,
+    watch: &W,
+) -> Result<Printed, NoReport>
+    requires { AreFormed (map routine_of subject.now.program.now) }
+    ensures ok { IfOk result (λ p. IsReportByText (style_in subject.now.request.now.asked) (map routine_of subject.now.program.now) subject.now.rules.now text.now p.text p.status) }
+    ensures refused { IfErr result (RefusesByText refusal.Check (Unit {0}) workers text.now (map routine_of subject.now.program.now) subject.now.rules.now) }
+{
+    let certificate = read_cert(alloc, text)?;
+    print_report(rt, alloc, subject, &certificate, false, workers, watch)
+}
+
+// Makes a certificate of a program, and prints the report by it.
+fn print_verification<R: Threads + Wait + Sync, W: Watch>(
+    rt: &R,
+    alloc: Global,
+    subject: &Subject<'_>,
+    workers: u32,
+    watch: &W,
+) -> Result<Printed, NoReport>
+    requires { AreFormed (map routine_of subject.now.program.now) }
+    ensures ok { IfOk result (λ p. IsReportOfMade (style_in subject.now.request.now.asked) (map routine_of subject.now.program.now) subject.now.rules.now p.text p.status) }
+    ensures refused { IfErr result (RefusesMade workers (map routine_of subject.now.program.now) subject.now.rules.now) }
+{
+    let certificate = certificate_for(alloc, subject.program, subject.rules, watch)?;
+    print_report(rt, alloc, subject, &certificate, true, workers, watch)
+}
+
+// Prints a certificate that is made of a program.
+fn print_certificate<W: Watch>(
+    alloc: Global,
+    subject: &Subject<'_>,
+    format: CertFormat,
+    watch: &W,
+) -> Result<Printed, NoReport>
+    ensures ok { IfOk result (λ p. IsMade (map routine_of subject.now.program.now) subject.now.rules.now format p.text × (p.status ≡ 0)) }
+    ensures refused { IfErr result (IsUnmade (map routine_of subject.now.program.now) subject.now.rules.now) }
+{
+    let text = certificate_text(alloc, subject.program, subject.rules, format, watch)?;
+    Ok(Printed {
+        text: ReportText::of(text),
+        status: YES,
+    })
+}
+
+// Prints what is shown of the jobs of a program after `events`.
+fn print_jobs(alloc: Global, subject: &Subject<'_>, events: &[u8]) -> Result<Printed, NoReport>
+    ensures ok { IfOk result (λ p. IsReplayed (map routine_of subject.now.program.now) subject.now.rules.now events.now p.text × (p.status ≡ 0)) }
+    ensures refused { IfErr result (IsUnreplayed (map routine_of subject.now.program.now) subject.now.rules.now events.now) }
+{
+    let text = jobs_text(alloc, subject.program, subject.rules, events)?;
+    Ok(Printed {
+        text: ReportText::of(text.into_bytes()),
+        status: YES,
+    })
 }
 
 // Prints what is asked of a program and its rules.
@@ -152,40 +212,21 @@ fn print_work<R: Threads + Wait + Sync, W: Watch>(
     rt: &R,
     alloc: Global,
     subject: &Subject<'_>,
+    work: &Work,
     watch: &W,
 ) -> Result<Printed, NoReport>
     requires { AreFormed (map routine_of subject.now.program.now) }
-    ensures ok { IfOk result (λ p. IsPrinted (style_in subject.now.request.now.asked) (map routine_of subject.now.program.now) subject.now.rules.now subject.now.sources.now.work p.text p.status) }
-    ensures refused { IfErr result (IsRefusedFor subject.now.sources.now.work (map routine_of subject.now.program.now) subject.now.rules.now) }
+    ensures ok { IfOk result (λ p. IsPrinted (style_in subject.now.request.now.asked) (map routine_of subject.now.program.now) subject.now.rules.now work.now p.text p.status) }
+    ensures refused { IfErr result (IsRefusedFor work.now (map routine_of subject.now.program.now) subject.now.rules.now) }
 {
-    let program = subject.program;
-    let rules = subject.rules;
-    match &subject.sources.work {
+    match work {
         Work::Check {
             certificate,
             workers,
-        } => {
-            let certificate = read_cert(alloc, certificate.as_slice())?;
-            print_report(rt, alloc, subject, &certificate, false, *workers, watch)
-        }
-        Work::Verify { workers } => {
-            let certificate = certificate_for(alloc, program, rules, watch)?;
-            print_report(rt, alloc, subject, &certificate, true, *workers, watch)
-        }
-        Work::Make { format } => {
-            let text = certificate_text(alloc, program, rules, *format, watch)?;
-            Ok(Printed {
-                text: ReportText::of(text),
-                status: YES,
-            })
-        }
-        Work::Replay(events) => {
-            let text = jobs_text(alloc, program, rules, events.as_slice())?;
-            Ok(Printed {
-                text: ReportText::of(text.into_bytes()),
-                status: YES,
-            })
-        }
+        } => print_check(rt, alloc, subject, certificate.as_slice(), *workers, watch),
+        Work::Verify { workers } => print_verification(rt, alloc, subject, *workers, watch),
+        Work::Make { format } => print_certificate(alloc, subject, *format, watch),
+        Work::Replay(events) => print_jobs(alloc, subject, events.as_slice()),
     }
 }
 
@@ -210,7 +251,7 @@ fn print_routines<R: Threads + Wait + Sync, W: Watch>(
         sources,
         request,
     };
-    let printed = print_work(rt, alloc, &subject, watch);
+    let printed = print_work(rt, alloc, &subject, &sources.work, watch);
     watch.discard(program);
     printed
 }

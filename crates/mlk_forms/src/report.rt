@@ -2,7 +2,7 @@
 
 ghost use Rattle.std.specs.Prelude.{◌≡◌, ◌++◌, IfOk, OnOk, map};
 ghost use Rattle.mlk_syntax.specs.Views.{routine_of};
-ghost use Rattle.mlk_pool.specs.Texts.{report_text};
+ghost use Rattle.mlk_pool.specs.Texts.{last_line, report_text};
 ghost use Rattle.mlk_forms.specs.Rendering.{AreReported, IsExplained, IsReportIn, IsReportAs, IsRendered, hazard_line, hazard_lines, passes};
 
 use crate::notice::with_end;
@@ -114,6 +114,23 @@ fn stories_in(
     stories_of(alloc, grounds, report)
 }
 
+// The text of explained faults, with the answer, `note` and a line for each hazard below it.
+fn text_below(
+    alloc: Global,
+    faults: Vec<u8>,
+    note: &str,
+    report: &Report,
+    hazards: &[HazardAt<'_>],
+) -> Result<ReportText, AllocError>
+    ensures { IfOk result (λ text. text ≡ ((faults.items ++ last_line report.now) ++ note.now) ++ hazard_lines hazards.now) }
+{
+    let mut text = ReportText::of(faults);
+    push_answer(&mut text, report.rows())?;
+    text.push(note.as_bytes())?;
+    push_hazards(alloc, &mut text, hazards)?;
+    Ok(text)
+}
+
 // The text with explanations, by these grounds.
 fn explained_text(
     alloc: Global,
@@ -123,10 +140,9 @@ fn explained_text(
 ) -> Result<ReportText, AllocError>
     ensures { IfOk result (IsExplained report.now hazards.now) }
 {
-    let mut text = ReportText::of(explained_faults(alloc, grounds, report)?);
-    push_answer(&mut text, report.rows())?;
-    text.push(note_below(grounds, report).as_bytes())?;
-    push_hazards(alloc, &mut text, hazards)?;
+    let faults = explained_faults(alloc, grounds, report)?;
+    let note = note_below(grounds, report);
+    let text = text_below(alloc, faults, note, report, hazards)?;
     Ok(text)
 }
 
