@@ -1,3 +1,4 @@
 pub mod Paths
 pub mod Sources
 pub mod Saying
+mod NeverShut

@@ -5,9 +5,9 @@ use Rattle.std.specs.Borrow.{Bor}
 use Rattle.mlk_app.specs.declared.source.FileError.{FileError}
 use Rattle.mlk_app.specs.declared.source.FileError.TheVariants as error
 use Rattle.mlk_pool.specs.declared.source.Source.{Source}
-use Rattle.mlk_outcome.specs.declared.texts.Sources.{Sources}
-use Rattle.mlk_outcome.specs.declared.texts.Work.{Work}
-use Rattle.mlk_outcome.specs.declared.texts.Work.TheVariants as work
+use Rattle.mlk_app.specs.declared.source.Sources.{Sources}
+use Rattle.mlk_app.specs.declared.source.Work.{Work}
+use Rattle.mlk_app.specs.declared.source.Work.TheVariants as work
 use Rattle.mlk_cert.specs.declared.format.CertFormat.{CertFormat}
 use Rattle.mlk_cert.specs.declared.format.CertFormat.TheVariants as format
 use Rattle.mlk_cli.specs.CommandLine.{bytes_of}

@@ -4,7 +4,6 @@ use Rattle.std.specs.Prelude.{◌≡◌, ◌⊎◌, ℕ, List, [], Bool, true, f
 use Rattle.std.specs.Io.KnownBytes.{Keeps, Appends}
 use Rattle.mlk_syntax.specs.Trees.{RoutineTree}
 use Rattle.mlk_walk.specs.declared.report.Row.{Row}
-use Rattle.mlk_outcome.specs.declared.texts.Sources.{Sources}
 use Rattle.mlk_cli.specs.declared.words.Output.{Output}
 use Rattle.mlk_cli.specs.declared.words.Output.TheVariants.{Text as Plain}
 use Rattle.mlk_cli.specs.declared.words.ReportStyle.{ReportStyle}
@@ -19,20 +18,28 @@ use Rattle.mlk_cert.specs.declared.format.CertFormat.{CertFormat}
 use Rattle.mlk_cert.specs.declared.read.fault.CertFault.{CertFault}
 use Rattle.mlk_pool.specs.declared.error.CheckError.{CheckError}
 use Rattle.mlk_pool.specs.declared.error.CheckError.TheVariants as error
-use Rattle.mlk_outcome.specs.declared.checked.Checked.{Checked}
-use Rattle.mlk_outcome.specs.declared.checked.CheckedOutcome.{CheckedOutcome}
-use Rattle.mlk_outcome.specs.declared.checked.CheckedOutcome.TheVariants as outcome
-use Rattle.mlk_outcome.specs.declared.checked.NoReport.{NoReport}
-use Rattle.mlk_outcome.specs.declared.checked.NoReport.TheVariants as refusal
-use Rattle.mlk_app.specs.declared.program.Answer.{Answer}
-use Rattle.mlk_app.specs.declared.program.Answer.TheVariants as answer
+use Rattle.mlk_outcome.specs.declared.refusal.NoReport.{NoReport}
+use Rattle.mlk_outcome.specs.declared.refusal.NoReport.TheVariants as refusal
+use Rattle.mlk_app.specs.declared.answer.Answer.{Answer}
+use Rattle.mlk_app.specs.declared.answer.Answer.TheVariants as answer
+use Rattle.mlk_app.specs.declared.source.Sources.{Sources}
+use Rattle.mlk_app.specs.declared.source.Work.{Work}
+use Rattle.mlk_app.specs.declared.source.Work.TheVariants as work
 use Rattle.mlk_pool.specs.declared.source.Source.{Source}
-use Rattle.mlk_forms.specs.Told.{IsReportTold, IsNoticed}
+use Rattle.mlk_forms.specs.Rendering.{IsRendered, IsNoticed}
 use Rattle.mlk_app.specs.Printed.{fault_line, rules_line, certificate_line, missing_line, workers_line, stuck_line, events_line, file_line, no_page_line}
 use Rattle.mlk_app.specs.Files.{Texts, AreTexts, AreSources, IsFirstLost, cert_format, paths_of}
 use Rattle.mlk_cli.specs.CommandLine.{IsRequest, AsksNothing}
-use Rattle.mlk_outcome.specs.Checked.{trees_of, IsChecked, IsRefusedBy}
-use Rattle.mlk_outcome.specs.Converted.{IsConverted, IsUnconverted}
+use Rattle.mlk_program.specs.Program.{IsProgram}
+use Rattle.mlk_rules.specs.declared.rules.RuleLists.{RuleLists}
+use Rattle.mlk_rules_file.specs.RuleSections.{SaysRules}
+use Rattle.mlk_cert_parts.specs.declared.block.EntryCert.{EntryCert}
+use Rattle.mlk_cert.specs.Theorem.{Spells}
+use Rattle.mlk_pool.specs.Reading.{AreRead}
+use Rattle.mlk_pool.specs.Headline.{IsReportBy, RefusesReport, RefusesByText, RefusesTexts}
+use Rattle.mlk_outcome.specs.Making.{IsMade, IsUnmade}
+use Rattle.mlk_outcome.specs.Replaying.{IsReplayed, IsUnreplayed}
+use Rattle.mlk_outcome.specs.Conversion.{IsConverted, IsUnconverted}
 
 -- how a report is told: as text, without hazards and explanations, unless the words say otherwise
 abbrev pub plain_style : ReportStyle
@@ -59,7 +66,7 @@ status_of false = 1
 -- passes if it has none, and the text is that of the report.
 pub record IsReportPrinted (style : ReportStyle) (trees : List RoutineTree) (rows : List Row) (text : List ℕ) (status : ℕ) : Type 0 where
   pub passed : Bool
-  pub told : IsReportTold style trees rows text passed
+  pub told : IsRendered style trees rows text passed
   pub ended : status ≡ status_of passed
   pub yes : status ≡ 0 → rows ≡ []
 
@@ -79,37 +86,37 @@ IsRefusalLine (refusal.Check e) line = IsErrorLine e line
 IsRefusalLine (refusal.GaveUp entry fault) line = line ≡ stuck_line entry fault
 IsRefusalLine (refusal.Events fault) line = line ≡ events_line fault
 
--- the text and the status of a report, where memory doesn't run out
-abbrev pub PrintsReport : ReportStyle → List RoutineTree → List Row → Answer → Type 0
-PrintsReport style trees rows (answer.Report text status) = IsReportPrinted style trees rows text status
-PrintsReport style trees rows (answer.Refused line notice help) = ⊥
-PrintsReport style trees rows (answer.Unread line help) = ⊥
-PrintsReport style trees rows (answer.Usage text) = ⊥
-PrintsReport style trees rows answer.OutOfMemory = Unit {0}
+-- the report of a program by rules and a certificate's blocks is printed
+abbrev pub IsReportOfBlocks : ReportStyle → List RoutineTree → RuleLists → List EntryCert → List ℕ → ℕ → Type 0
+IsReportOfBlocks style trees rules blocks text status = (rows : List Row) × IsReportBy trees rules blocks rows × IsReportPrinted style trees rows text status
 
--- a text, where memory doesn't run out
-abbrev pub PrintsText : List ℕ → Answer → Type 0
-PrintsText shown (answer.Report text status) = (text ≡ shown) × (status ≡ 0)
-PrintsText shown (answer.Refused line notice help) = ⊥
-PrintsText shown (answer.Unread line help) = ⊥
-PrintsText shown (answer.Usage text) = ⊥
-PrintsText shown answer.OutOfMemory = Unit {0}
+-- the report by the certificate with this text is printed
+abbrev pub IsReportByText : ReportStyle → List RoutineTree → RuleLists → List ℕ → List ℕ → ℕ → Type 0
+IsReportByText style trees rules cert_text text status = (blocks : List EntryCert) × Spells blocks cert_text × IsReportOfBlocks style trees rules blocks text status
 
--- what is printed of an outcome, and the status: a certificate is printed as it is, and so is what is shown of jobs
-abbrev pub IsPrinted : ReportStyle → List RoutineTree → CheckedOutcome → List ℕ → ℕ → Type 0
-IsPrinted style trees (outcome.Report rows) text status = IsReportPrinted style trees rows text status
-IsPrinted style trees (outcome.Made made) text status = (text ≡ made.items) × (status ≡ 0)
-IsPrinted style trees (outcome.Replayed shown) text status = (text ≡ shown) × (status ≡ 0)
+-- the report by a certificate that is made is printed; which certificate it is, is not said
+abbrev pub IsReportOfMade : ReportStyle → List RoutineTree → RuleLists → List ℕ → ℕ → Type 0
+IsReportOfMade style trees rules text status = (blocks : List EntryCert) × IsReportOfBlocks style trees rules blocks text status
 
-abbrev pub PrintsOutcome : ReportStyle → List RoutineTree → CheckedOutcome → Answer → Type 0
-PrintsOutcome style trees o (answer.Report text status) = IsPrinted style trees o text status
-PrintsOutcome style trees o (answer.Refused line notice help) = ⊥
-PrintsOutcome style trees o (answer.Unread line help) = ⊥
-PrintsOutcome style trees o (answer.Usage text) = ⊥
-PrintsOutcome style trees o answer.OutOfMemory = Unit {0}
+-- What is printed of a program and its rules, by what is asked, and the status: the report by the certificate that is given, or by
+-- one that is made; the text of a certificate that is made; what is shown of jobs after events.
+abbrev pub IsPrinted : ReportStyle → List RoutineTree → RuleLists → Work → List ℕ → ℕ → Type 0
+IsPrinted style trees rules (work.Check given workers) text status = IsReportByText style trees rules given.items text status
+IsPrinted style trees rules (work.Verify workers) text status = IsReportOfMade style trees rules text status
+IsPrinted style trees rules (work.Make format) text status = IsMade trees rules format text × (status ≡ 0)
+IsPrinted style trees rules (work.Replay events) text status = IsReplayed trees rules events.items text × (status ≡ 0)
 
-abbrev pub Prints : ReportStyle → Checked → Answer → Type 0
-Prints style checked a = PrintsOutcome style (trees_of checked) checked.outcome a
+-- why there is no report by a certificate that is made
+abbrev pub RefusesMade : ℕ → List RoutineTree → RuleLists → NoReport → Type 0
+RefusesMade workers trees rules r = IsUnmade trees rules r ⊎ ((blocks : List EntryCert) × RefusesReport refusal.Check (Unit {0}) workers trees rules blocks r)
+
+-- Why there is nothing to print: by the certificate that is given, or by one that is made; no certificate is made; or events can't
+-- be followed. The gate of the workers is always open.
+abbrev pub IsRefusedFor : Work → List RoutineTree → RuleLists → NoReport → Type 0
+IsRefusedFor (work.Check given workers) trees rules r = RefusesByText refusal.Check (Unit {0}) workers given.items trees rules r
+IsRefusedFor (work.Verify workers) trees rules r = RefusesMade workers trees rules r
+IsRefusedFor (work.Make format) trees rules r = IsUnmade trees rules r
+IsRefusedFor (work.Replay events) trees rules r = IsUnreplayed trees rules events.items r
 
 -- the line of a refusal, and what is printed beside it, where memory doesn't run out
 abbrev pub TellsRefusal : Output → NoReport → Answer → Type 0
@@ -143,22 +150,25 @@ TellsPage code (answer.Unread line help) = ⊥
 TellsPage code (answer.Usage text) = ⊥
 TellsPage code answer.OutOfMemory = Unit {0}
 
--- what the texts at the paths of a program come to
+-- What the texts at the paths of a program come to: its routines are read and make a program, the text of its rules says rules,
+-- and this is printed of both.
 pub record IsProgramReported (holds : Texts) (program : ProgramRequest) (text : List ℕ) (status : ℕ) : Type 0 where
   pub sources : Sources
   pub texts : AreTexts holds program sources
   pub trees : List RoutineTree
-  pub outcome : CheckedOutcome
-  pub answered : IsChecked sources trees outcome
-  pub printed : IsPrinted (style_in program.asked) trees outcome text status
+  pub read : AreRead sources.routines.items trees
+  pub linked : IsProgram trees
+  pub rules : RuleLists
+  pub said : SaysRules sources.rules.items rules
+  pub printed : IsPrinted (style_in program.asked) trees rules sources.work text status
 
--- the refusal of the texts at the paths of a program
+-- The refusal of the texts at the paths of a program: of its routines, of their linking, of its rules, or for what is asked.
 pub record IsProgramRefused (holds : Texts) (program : ProgramRequest) (line : List ℕ) : Type 0 where
   pub sources : Sources
   pub texts : AreTexts holds program sources
   pub refusal : NoReport
-  pub refused : IsRefusedBy sources refusal
-  pub told : IsRefusalLine refusal line
+  pub refused : RefusesTexts refusal.Check sources.routines.items sources.rules.items (IsRefusedFor sources.work) refusal
+  pub printed : IsRefusalLine refusal line
 
 -- the text in this format of the certificate whose text stands at the path
 pub record IsConvertedThere (holds : Texts) (path : List ℕ) (format : CertFormat) (text : List ℕ) : Type 0 where
