@@ -2,15 +2,12 @@
 //! apply, and what mends the fault; of a call the place behind what the callee asks for.
 #![tactic(auto)]
 
-mod act;
 mod explanation;
-mod help;
 mod report;
-mod rule;
 mod story;
 mod trail;
 
 pub use mlk_explain_origins::Grounds;
+pub use mlk_explain_rules::free_reads;
 pub use report::{explained_rows, note_below, stories_of};
-pub use rule::free_reads;
 pub use story::{OriginStory, Story, WayPoint};

@@ -84,6 +84,14 @@ pub fn root_of(name: &[u8]) -> &[u8] {
     root
 }
 
+/// Whether `written` is this root in M.
+pub(crate) fn is_written(root: &Root, written: &[u8]) -> bool {
+    match root {
+        Root::Global(global) => written.strip_prefix(b"^") == Some(global.as_bytes()),
+        Root::Local(local) => written == local.as_bytes(),
+    }
+}
+
 /// Appends a name of `name_at` or its root, with `..` for what was cut.
 pub(crate) fn push_name(text: &mut Vec<u8>, name: &[u8]) -> Result<(), AllocError> {
     let end = if name.len() < MOST_OF_NAME { "" } else { ".." };
