@@ -1,10 +1,11 @@
 // The rows of a report, each with its explanation.
 
-use crate::rule::RuleFile;
 use crate::story::{OriginStory, Story, story_behind, story_of};
 use crate::trail::trail_behind;
+use mlk_excerpts::margin_of;
 use mlk_explain_origins::{Grounds, RoutineFacts, Trail};
-use mlk_explain_places::{Place, margin_of, push_entry, push_line, push_source};
+use mlk_explain_places::{Place, push_entry, push_line, push_source};
+use mlk_explain_rules::RuleFile;
 use mlk_program::Program;
 use mlk_report_text::Piece::{At, Bytes, CodeName, Number, Words};
 use mlk_report_text::{push_all, text_of};
@@ -273,7 +274,7 @@ impl<'a> Explainer<'a> {
         if self.explain(text, row, note)? {
             return Ok(());
         }
-        let margin = Bytes(margin_of(row.fault.line.number()));
+        let margin = Bytes(margin_of(row.fault.line));
         push_all(text, &[margin, Words("= explained above\n")])
     }
 }

@@ -2,11 +2,8 @@
 //! apply, and what mends the fault; of a call the place behind what the callee asks for.
 #![tactic(auto)]
 
-mod act;
 mod explanation;
-mod help;
 mod report;
-mod rule;
 mod story;
 mod trail;
 

@@ -1,10 +1,10 @@
 // The text of a report with explanations.
 
 use crate::explanation::Explainer;
-use crate::rule::RuleFile;
 use crate::story::Story;
 use mlk_calls::Entries;
 use mlk_explain_origins::Grounds;
+use mlk_explain_rules::RuleFile;
 use mlk_walk::{Checks, Report};
 use std::alloc::{AllocError, Global};
 

@@ -1,12 +1,11 @@
 // What is known of a fault, in pieces.
 
-use crate::act::{act_of, origin_act_of};
-use crate::help::{help_of, need_at_call_help};
-use crate::rule::{RuleFile, has_rules, rule_texts};
 use crate::trail::{place_text, trail_text, trail_to_need};
 use mlk_explain_origins::{Origin, Trail};
 use mlk_explain_places::Part::{Locks, Test, Words};
 use mlk_explain_places::{LockSet, Phrase, Place, phrase_text, push_entry};
+use mlk_explain_rules::{RuleFile, has_rules, rule_texts};
+use mlk_explain_words::{act_of, help_of, need_at_call_help, origin_act_of};
 use mlk_program::{EntryId, Program};
 use mlk_text::Code;
 use mlk_walk_exprs::Fault;

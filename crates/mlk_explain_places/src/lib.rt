@@ -8,7 +8,7 @@ mod phrase;
 mod place;
 mod reason;
 
-pub use line::{margin_of, push_line, push_source};
+pub use line::{push_line, push_source};
 pub use names::{function_before, push_front, root_of};
 pub use phrase::{Part, Phrase, phrase_text, push_entry};
 pub use place::{LockSet, Place, missing_in};

@@ -3,6 +3,7 @@
 use bstr::ByteSlice;
 use mlk_cert_lexemes::{Written, WrittenText};
 use mlk_cert_parts::NameSet;
+use mlk_excerpts::{is_of_word, split_at_column, split_at_most};
 use mlk_names::{KnownSym, LockTerm};
 use mlk_report_text::Piece::{Bytes, Words};
 use mlk_report_text::push_all;
@@ -12,16 +13,6 @@ use std::alloc::AllocError;
 /// How many bytes of a name or of a pattern are shown at most.
 const MOST_OF_NAME: usize = 120;
 
-// Whether a byte belongs to a name, with the marks before it.
-fn is_of_name(byte: u8) -> bool {
-    byte.is_ascii_alphanumeric() || matches!(byte, b'^' | b'%' | b'$')
-}
-
-/// The first bytes of `bytes`, at most `most`, and the others.
-pub(crate) fn split(bytes: &[u8], most: usize) -> (&[u8], &[u8]) {
-    bytes.split_at(most.min(bytes.len()))
-}
-
 // How many bytes the name at the front of a text has, with the list in parentheses after it.
 fn name_length(text: &[u8]) -> usize {
     let mut depth = 0usize;
@@ -29,7 +20,7 @@ fn name_length(text: &[u8]) -> usize {
     for (place, byte) in text.iter().enumerate() {
         match *byte {
             b'(' if !quoted => depth = depth.saturating_add(1),
-            byte if depth == 0 && !is_of_name(byte) => return place,
+            byte if depth == 0 && !is_of_word(byte) => return place,
             b')' if depth == 1 && !quoted => return place.saturating_add(1),
             b')' if !quoted => depth = depth.saturating_sub(1),
             b'"' => quoted = !quoted,
@@ -39,16 +30,11 @@ fn name_length(text: &[u8]) -> usize {
     text.len()
 }
 
-/// The bytes of `line` before `column`, and those from it on.
-pub(crate) fn split_line(line: &[u8], column: Column) -> (&[u8], &[u8]) {
-    split(line, (column.number() as usize).saturating_sub(1))
-}
-
 /// The name at `column` of `line`, with its subscripts or actuals, as it is written; the front of a long one.
 pub(crate) fn name_at(line: &[u8], column: Column) -> &[u8] {
-    let (_, rest) = split_line(line, column);
-    let (front, _) = split(rest, MOST_OF_NAME);
-    let (name, _) = split(front, name_length(front));
+    let (_, rest) = split_at_column(line, column);
+    let (front, _) = split_at_most(rest, MOST_OF_NAME);
+    let (name, _) = split_at_most(front, name_length(front));
     name
 }
 
@@ -70,15 +56,15 @@ fn expression_length(text: &[u8]) -> usize {
 
 /// The subscript or actual at `column` of `line`, as it is written; the front of a long one.
 pub(crate) fn expression_at(line: &[u8], column: Column) -> &[u8] {
-    let (_, rest) = split_line(line, column);
-    let (front, _) = split(rest, MOST_OF_NAME);
-    let (expression, _) = split(front, expression_length(front));
+    let (_, rest) = split_at_column(line, column);
+    let (front, _) = split_at_most(rest, MOST_OF_NAME);
+    let (expression, _) = split_at_most(front, expression_length(front));
     expression
 }
 
 /// The word of the function whose first argument is at `column` of `line`; empty where there is none.
 pub fn function_before(line: &[u8], column: Column) -> &[u8] {
-    let (front, _) = split_line(line, column);
+    let (front, _) = split_at_column(line, column);
     let Some(front) = front.strip_suffix(b"(") else {
         return b"";
     };
@@ -88,14 +74,22 @@ pub fn function_before(line: &[u8], column: Column) -> &[u8] {
             start = place.saturating_add(1);
         }
     }
-    let (_, word) = split(front, start);
+    let (_, word) = split_at_most(front, start);
     word
 }
 
 /// The root of a name, as it is written in M.
 pub fn root_of(name: &[u8]) -> &[u8] {
-    let (root, _) = split(name, name.find_byte(b'(').unwrap_or(name.len()));
+    let (root, _) = split_at_most(name, name.find_byte(b'(').unwrap_or(name.len()));
     root
+}
+
+/// Whether `written` is this root in M.
+pub(crate) fn is_written(root: &Root, written: &[u8]) -> bool {
+    match root {
+        Root::Global(global) => written.strip_prefix(b"^") == Some(global.as_bytes()),
+        Root::Local(local) => written == local.as_bytes(),
+    }
 }
 
 /// Appends a name of `name_at` or its root, with `..` for what was cut.

@@ -1,6 +1,6 @@
 // What is known where a fault was found.
 
-use crate::names::{is_named_by, name_at};
+use crate::names::{is_named_by, is_written, name_at, root_of};
 use crate::reason::{Reason, reason_at};
 use mlk_cert_parts::{Summary, Test};
 use mlk_explain_origins::{Grounds, Mark, RoutineFacts, may_change};
@@ -299,6 +299,19 @@ impl<'a> Place<'a> {
             }
         }
         false
+    }
+
+    /// Whether the name at the column has this root.
+    pub fn names_root(&self, root: &Root) -> bool {
+        is_written(root, root_of(self.name))
+    }
+
+    /// Whether lock rules have the root of the name at the column, with constants that this name does not have.
+    pub fn is_ranked_by_constants(&self) -> bool {
+        let families = self.grounds.rules.families();
+        families
+            .iter()
+            .any(|family| self.names_root(&family.name.root))
     }
 
     /// Whether a call is at the column.

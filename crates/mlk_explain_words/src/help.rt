@@ -1,6 +1,5 @@
 // What mends a fault.
 
-use crate::rule::is_ranked_by_constants;
 use bstr::ByteSlice;
 use mlk_explain_origins::Mark;
 use mlk_explain_places::Part::{
@@ -305,7 +304,7 @@ fn unknown_help(place: &Place<'_>) -> Phrase {
 }
 
 /// What mends the fault at `place`, by whether a rule applies to it.
-pub(crate) fn help_of(place: &Place<'_>, has_rule: bool) -> Phrase {
+pub fn help_of(place: &Place<'_>, has_rule: bool) -> Phrase {
     match place.fault.code {
         Code::Unruled => unruled_help(has_rule),
         Code::Uncovered => uncovered_help(place),
@@ -320,7 +319,7 @@ pub(crate) fn help_of(place: &Place<'_>, has_rule: bool) -> Phrase {
         Code::UnknownSubscript => unknown_help(place),
         Code::ReadOnly => &[Words("take the write away, or write elsewhere")],
         Code::NotPrivate => &[Words("name the job's own part, with $JOB at the place of $J")],
-        Code::Unranked if is_ranked_by_constants(place) => {
+        Code::Unranked if place.is_ranked_by_constants() => {
             &[Words("write the lock's first subscripts as constants, as the lock rules have them")]
         }
         Code::Unranked => &[Words("write a lock rule for it, or correct the name")],
@@ -348,7 +347,7 @@ pub(crate) fn help_of(place: &Place<'_>, has_rule: bool) -> Phrase {
 }
 
 /// What mends a missing need, if the caller can meet it instead.
-pub(crate) fn need_at_call_help() -> Phrase {
+pub fn need_at_call_help() -> Phrase {
     &[
         Words("or hold "),
         Locks(LockSet::Missing),

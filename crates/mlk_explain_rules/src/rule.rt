@@ -1,10 +1,10 @@
-// The rules that apply to a fault, as the rule file has them.
+// The rules that apply to a fault, and their texts.
 
 use mlk_explain_places::{Part, Phrase, Place, phrase_text, push_front, root_of};
 use mlk_report_text::Piece::{Number, Words};
 use mlk_report_text::{push_all, text_of};
 use mlk_rules::{Cover, Family, Pattern};
-use mlk_text::{Code, List, Root};
+use mlk_text::{Code, List};
 use mlk_walk_exprs::Mend;
 use std::alloc::{AllocError, Global};
 use toml::Table;
@@ -59,22 +59,22 @@ impl Section {
     }
 }
 
-/// A rule, by its section and its number there, from 0.
+// A rule, by its section and its number there, from 0.
 #[derive(Clone, Copy, Drop)]
-pub(crate) struct RuleAt {
+struct RuleAt {
     section: Section,
     number: usize,
 }
 
 /// The table of a rule file; none if its text is no TOML.
 #[derive(Drop)]
-pub(crate) struct RuleFile {
+pub struct RuleFile {
     table: Option<Table>,
 }
 
 impl RuleFile {
     /// The table of `text`.
-    pub(crate) fn of(alloc: Global, text: &[u8]) -> Result<RuleFile, AllocError> {
+    pub fn of(alloc: Global, text: &[u8]) -> Result<RuleFile, AllocError> {
         match toml::table_from_slice(alloc, text) {
             Ok(table) => Ok(RuleFile { table: Some(table) }),
             Err(error) => {
@@ -159,14 +159,6 @@ fn add_covers(
     Ok(())
 }
 
-// Whether `written` is this root in M.
-fn is_written(root: &Root, written: &[u8]) -> bool {
-    match root {
-        Root::Global(global) => written.strip_prefix(b"^") == Some(global.as_bytes()),
-        Root::Local(local) => written == local.as_bytes(),
-    }
-}
-
 // Adds the families that rank what is acquired, and those of the held locks that block it.
 fn add_families(
     found: &mut Vec<RuleAt>,
@@ -177,10 +169,9 @@ fn add_families(
     if !section.applies_to(place.fault.code) {
         return Ok(());
     }
-    let claimed = root_of(place.name);
     for (number, family) in families.iter().enumerate() {
         let root = &family.name.root;
-        let is_claimed = !place.is_call() && is_written(root, claimed);
+        let is_claimed = !place.is_call() && place.names_root(root);
         if is_claimed || place.is_blocked_by(root) {
             found.push(RuleAt { section, number })?;
         }
@@ -201,7 +192,7 @@ fn rules_for(alloc: Global, place: &Place<'_>) -> Result<Vec<RuleAt>, AllocError
 }
 
 /// Whether rules apply to the fault at `place`.
-pub(crate) fn has_rules(alloc: Global, place: &Place<'_>) -> Result<bool, AllocError> {
+pub fn has_rules(alloc: Global, place: &Place<'_>) -> Result<bool, AllocError> {
     Ok(!rules_for(alloc, place)?.is_empty())
 }
 
@@ -233,19 +224,10 @@ fn rule_text(
     Ok(text)
 }
 
-/// Whether lock rules have the root of the name at the column, with constants that this name does not have.
-pub(crate) fn is_ranked_by_constants(place: &Place<'_>) -> bool {
-    let root = root_of(place.name);
-    let families = place.grounds.rules.families();
-    families
-        .iter()
-        .any(|family| is_written(&family.name.root, root))
-}
-
 // What is said after the rules that apply, or if there is none though one should.
 fn last_phrase(place: &Place<'_>, has_rule: bool) -> Phrase {
     match (place.fault.code, has_rule) {
-        (Code::Unranked, false) if is_ranked_by_constants(place) => {
+        (Code::Unranked, false) if place.is_ranked_by_constants() => {
             &[
                 Part::Words("lock rules rank "),
                 Part::Root,
@@ -262,7 +244,7 @@ fn last_phrase(place: &Place<'_>, has_rule: bool) -> Phrase {
 }
 
 /// The texts of the first few rules that apply to the fault at `place`, and what is said after them.
-pub(crate) fn rule_texts(
+pub fn rule_texts(
     alloc: Global,
     place: &Place<'_>,
     rule_file: &RuleFile,

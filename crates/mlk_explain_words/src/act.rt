@@ -195,7 +195,7 @@ fn summary_origin_act(place: &Place<'_>) -> Phrase {
 }
 
 /// What happens at `place`, for which the entry asks something of its callers.
-pub(crate) fn origin_act_of(place: &Place<'_>) -> Phrase {
+pub fn origin_act_of(place: &Place<'_>) -> Phrase {
     match place.fault.code {
         Code::Uncovered => touch_act(place),
         Code::NotHeld => &[Words("releases "), Name],
@@ -205,7 +205,7 @@ pub(crate) fn origin_act_of(place: &Place<'_>) -> Phrase {
 }
 
 /// What was about to happen at `place`.
-pub(crate) fn act_of(place: &Place<'_>) -> Phrase {
+pub fn act_of(place: &Place<'_>) -> Phrase {
     match place.fault.code {
         Code::Unruled | Code::Uncovered | Code::ReadOnly | Code::NotPrivate => touch_act(place),
         Code::Pinned => change_act(place),

@@ -1,0 +1,6 @@
+//! The rules that apply to a fault, as the rule file has them.
+#![tactic(auto)]
+
+mod rule;
+
+pub use rule::{RuleFile, has_rules, rule_texts};
