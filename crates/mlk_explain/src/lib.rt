@@ -8,6 +8,6 @@ mod story;
 mod trail;
 
 pub use mlk_explain_origins::Grounds;
+pub use mlk_explain_rules::free_reads;
 pub use report::{explained_rows, note_below, stories_of};
-pub use rule::free_reads;
 pub use story::{OriginStory, Story, WayPoint};

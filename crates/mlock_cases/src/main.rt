@@ -31,11 +31,11 @@ fn push_answer<R: Threads + Wait + Sync>(
     out: &mut Vec<u8>,
 ) -> io::Result<()> {
     let words = case.words(alloc, "mlock")?;
-    let mut told: Vec<u8> = Vec::new(alloc);
+    let mut errors: Vec<u8> = Vec::new(alloc);
     case.push_heading(out)?;
     let files = CaseFiles { case };
-    let status = run(rt, alloc, words.as_slice(), &files, out, &mut told);
-    out.extend_from_slice(told.as_slice())?;
+    let status = run(rt, alloc, words.as_slice(), &files, out, &mut errors);
+    out.extend_from_slice(errors.as_slice())?;
     writeln!(out, "= {status}")
 }
 
