@@ -70,7 +70,7 @@ refusal-answers holds lacks program sources r (answer.Refused line notice help) 
   record {
     sources = sources;
     texts = texts;
-    refusal = r;
+    reason = r;
     refused = refused;
     printed = told.0;
   },
