@@ -52,7 +52,7 @@ no-notice output.Sarif = record {}
 
 pub program-reported : (holds : Texts) (program : ProgramRequest) (sources : Sources) (text : List ℕ) (status : ℕ) → AreTexts holds program sources → IsPrintedOfTexts (style_in program.asked) sources text status
     → IsProgramReported holds program text status
-program-reported holds program sources text status texts (trees, read, linked, rules, said, printed) = record {
+program-reported holds program sources text status texts (trees, read, (linked, rules, said, printed)) = record {
   sources = sources;
   texts = texts;
   trees = trees;
@@ -70,7 +70,7 @@ refusal-answers holds lacks program sources r (answer.Refused line notice help) 
   record {
     sources = sources;
     texts = texts;
-    refusal = r;
+    reason = r;
     refused = refused;
     printed = told.0;
   },

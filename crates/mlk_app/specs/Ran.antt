@@ -166,9 +166,9 @@ pub record IsProgramReported (holds : Texts) (program : ProgramRequest) (text : 
 pub record IsProgramRefused (holds : Texts) (program : ProgramRequest) (line : List ℕ) : Type 0 where
   pub sources : Sources
   pub texts : AreTexts holds program sources
-  pub refusal : NoReport
-  pub refused : RefusesTexts refusal.Check sources.routines.items sources.rules.items (IsRefusedFor sources.work) refusal
-  pub printed : IsRefusalLine refusal line
+  pub reason : NoReport
+  pub refused : RefusesTexts refusal.Check sources.routines.items sources.rules.items (IsRefusedFor sources.work) reason
+  pub printed : IsRefusalLine reason line
 
 -- the text in this format of the certificate whose text stands at the path
 pub record IsConvertedThere (holds : Texts) (path : List ℕ) (format : CertFormat) (text : List ℕ) : Type 0 where

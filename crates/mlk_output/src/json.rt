@@ -42,8 +42,8 @@ fn rows_value(
 ) -> Result<Value, AllocError> {
     let rows = findings.report.rows();
     let mut values = Vec::with_capacity(alloc, rows.len())?;
-    for (row, story) in rows.iter().zip(findings.stories) {
-        values.push(row_value(alloc, inputs, row, story.as_ref())?)?;
+    for (number, row) in rows.iter().enumerate() {
+        values.push(row_value(alloc, inputs, row, findings.story(number))?)?;
     }
     Ok(Value::Array(values))
 }

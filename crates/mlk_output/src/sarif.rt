@@ -78,13 +78,14 @@ fn add_faults<'a>(
     values: &mut Vec<Value>,
 ) -> Result<(), AllocError> {
     let mut counts = BTreeMap::new(alloc);
-    for (row, story) in findings.report.rows().iter().zip(findings.stories) {
+    for (number, row) in findings.report.rows().iter().enumerate() {
+        let story = findings.story(number);
         let code = row.fault.code;
         lines.look_up(row.entry.routine())?;
         let rule = rule_id(alloc, code)?;
         let within = inputs.entry(alloc, row.entry)?;
-        let message = fault_message(alloc, code, story.as_ref())?;
-        let way = way_of(alloc, inputs, story.as_ref())?;
+        let message = fault_message(alloc, code, story)?;
+        let way = way_of(alloc, inputs, story)?;
         let finding = Finding {
             rule,
             level: "error",

@@ -9,12 +9,23 @@ use mlk_walk::Report;
 use serde_json::Value;
 use std::alloc::{AllocError, Global};
 
-/// What is reported: the faults, what is known of each in their order, and hazards, if these are reported.
+/// What is reported: the faults, what is known of each, in their order and as far as anything is, and hazards, if these are
+/// reported.
 #[derive(Clone, Copy, Drop)]
 pub struct Findings<'a> {
     pub report: &'a Report,
     pub stories: &'a [Option<Story>],
     pub hazards: Option<&'a [HazardAt<'a>]>,
+}
+
+impl<'a> Findings<'a> {
+    /// What is known of the fault with this number.
+    pub(crate) fn story(&self, number: usize) -> Option<&'a Story> {
+        match self.stories.get(number) {
+            Some(story) => story.as_ref(),
+            None => None,
+        }
+    }
 }
 
 /// The members of an object.
