@@ -1,4 +1,4 @@
-//! Numbers as values: the canonical text of a literal, and what operators give where that is exact.
+//! Numbers as values: canonical texts of literals, and results of operators where they are exact.
 #![tactic(auto)]
 
 mod folding;
