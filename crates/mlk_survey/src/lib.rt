@@ -1,4 +1,4 @@
-//! What a team sees of its routines before it has a rule file: what can't be read and why, what is called and not given,
+//! What a team can learn about its routines before it has a rule file: what can't be read and why, what is called and not given,
 //! the entries, the globals, the claims of locks, and places where a real system may differ from the standard.
 #![tactic(auto)]
 
