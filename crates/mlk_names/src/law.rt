@@ -12,8 +12,8 @@ pub fn conflicts_above()
     ensures { ConflictsAbove }
 {}
 
-/// A term denotes at most one name, which is determined by the locals that it mentions and the job; it denotes one exactly
-/// if each local that it mentions has a value.
+/// A term denotes at most one name, which is determined by the locals that it mentions and the job; it denotes one exactly if
+/// each local that it mentions has a value.
 pub fn names_by_mentioned()
     ensures { NamesByMentioned }
 {}

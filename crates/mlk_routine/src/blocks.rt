@@ -22,8 +22,7 @@ fn deeper(level: usize, lines: &mut VecDeque<Line>) -> Option<Line>
     }
 }
 
-// The number of lines at the front that are deeper than `level`: those of the block, or more if some have blocks of
-// their own.
+// The number of lines at the front that are deeper than `level`: those of the block, or more if some have blocks of their own.
 fn room(level: usize, lines: &VecDeque<Line>) -> usize {
     lines.iter().take_while(|line| line.level > level).count()
 }

@@ -123,8 +123,8 @@ pub fn are_equal<T: PartialEq>(items: &[T], others: &[T]) -> bool
     left_others.is_empty()
 }
 
-/// Reserves room for one more item: for exactly one in an empty list, and for as many as there are in a full one, since
-/// most lists of a routine have one or two items.
+/// Reserves room for one more item: for exactly one in an empty list, and for as many as there are in a full one, since most
+/// lists of a routine have one or two items.
 #[inline(always)]
 pub fn make_room<T: Drop>(items: &mut Vec<T>) -> Result<(), AllocError>
     ensures same { OnOk result (items.new.items ≡ items.old.items) }

@@ -100,8 +100,8 @@ pub fn root(alloc: Global, bytes: &[u8]) -> Result<(Root, &[u8]), Failure<NotThe
     Ok((Root::Global(global), rest))
 }
 
-/// Splits the text of an entry: an optional label, a caret and a routine's name. `None` if `text` is not an entry.
-/// Allocates nothing.
+/// Splits the text of an entry: an optional label, a caret and a routine's name. `None` if `text` is not an entry. Allocates
+/// nothing.
 #[tactic(auto, unfolding(crate::specs::Lexemes::entry_of))]
 pub fn entry(text: &[u8]) -> Option<EntryText<'_>>
     ensures { option_map (λ e. (e.label.now, e.routine.now)) result ≡ entry_of text.now }

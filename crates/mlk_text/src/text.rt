@@ -98,8 +98,8 @@ impl<const N: usize> Short<N> {
     }
 }
 
-/// Up to 16 bytes of a value. The bytes after them are zero. The length has a word of its own, so that everything is moved
-/// in whole words: a load of another width than the store before it waits until the store has reached memory.
+/// Up to 16 bytes of a value. The bytes after them are zero. The length has a word of its own, so that everything is moved in
+/// whole words: a load of another width than the store before it waits until the store has reached memory.
 #[derive(Debug, Drop)]
 pub(crate) struct ShortValue {
     length: usize,

@@ -129,8 +129,7 @@ fn cover_kinds(
     cover_placed(alloc, index, p, l, second, reads)
 }
 
-// The cover with the given pattern, lock and optional second lock. Refused if one of them is spelled wrongly or is too
-// long.
+// The cover with the given pattern, lock and optional second lock. Refused if one of them is spelled wrongly or is too long.
 fn cover_by(
     alloc: Global,
     index: usize,

@@ -43,8 +43,7 @@ impl Section {
     }
 }
 
-/// Why a rule file is refused, and where: `index` counts the elements of the section from 1; it is 0 for the section
-/// itself.
+/// Why a rule file is refused, and where: `index` counts the elements of the section from 1; it is 0 for the section itself.
 #[derive(Clone, Copy, Debug, Drop, PartialEq, Eq, Error)]
 #[error("{code}, in section {section}, element {index}")]
 pub struct RulesFault {
