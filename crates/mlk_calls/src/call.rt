@@ -417,18 +417,18 @@ fn call_target(
     Ok(states)
 }
 
-/// The effect on a state of a call with the actual list `given`, whose symbols were captured last: one state for each exit of
-/// the callee. An actual whose symbol was not captured is unknown. A DO takes over the exit's `$TEST`, a function keeps it;
-/// own names and saved tests are kept.
+/// The effect on a state of a call with the actual list `given`, whose symbols were captured last: one state for each exit of the
+/// callee. An actual whose symbol was not captured is unknown. A DO takes over the exit's `$TEST`, a function keeps it; own names
+/// and saved tests are kept.
 ///
 /// The callee's needs are taken from the held terms, and the rest is set aside. The names that it may change, by its summary or
 /// by reference, are checked against all held terms and against the walked entry's summary; its claims must rank above the terms
 /// set aside. Captured symbols that mention a name that it may change become unknown, those of the actuals too.
 ///
-/// Refused by the first of: no certificate (713); a need that would have an unknown subscript (715) or is not held (711);
-/// a change of a name that a held term mentions (705) or that is not listed (712); the order of ranks (708) or a least rank that
-/// is not listed (712); a release of all locks while some are set aside (719) or that is not listed (712); an exit that
-/// would have an unknown subscript (715). One refused exit refuses all.
+/// Refused by the first of: no certificate (713); a need that would have an unknown subscript (715) or is not held (711); a
+/// change of a name that a held term mentions (705) or that is not listed (712); the order of ranks (708) or a least rank that is
+/// not listed (712); a release of all locks while some are set aside (719) or that is not listed (712); an exit that would have
+/// an unknown subscript (715). One refused exit refuses all.
 pub fn at_call(
     alloc: Global,
     scope: &Scope,

@@ -73,8 +73,8 @@ pub fn verdict_of(alloc: Global, checks: &Checks<'_>, entry: EntryId) -> Result<
     Ok(verdict)
 }
 
-/// The faults of an entry: those of its begin and its exits, and those of the lines that it runs, walked from the cases
-/// of the first block that names it.
+/// The faults of an entry: those of its begin and its exits, and those of the lines that it runs, walked from the cases of the
+/// first block that names it.
 ///
 /// Without a block it has the single fault `Code::NoCertificate`, at its line, column 1. This function reads the whole
 /// certificate first; for many entries, construct `Checks` once and call `verdict_of`.

@@ -228,8 +228,7 @@ fn walk_halves<'a, P: Pieces + Sync, R: Threads + Sync>(
 }
 
 /// Walks a part. It is cut into halves, which are walked in parallel and cut again, up to `depth` times; if a single line is
-/// left,
-/// its block is cut instead. If no thread starts, the caller walks that half.
+/// left, its block is cut instead. If no thread starts, the caller walks that half.
 #[cycle(split)]
 pub(crate) fn walk_part<'a, P: Pieces + Sync, R: Threads + Sync>(
     rt: &R,

@@ -209,8 +209,7 @@ impl<'a> Scope<'a> {
 
     /// The input of a walk in which the names `counted` count as own, besides those of a state, when shared names are looked up:
     /// it shows what would be found in a state in which they are not own. Allocates nothing, and looks once at each of the
-    /// block's
-    /// points.
+    /// block's points.
     pub fn counting(
         program: &'a Program<'a>,
         rules: &'a Rules,

@@ -78,8 +78,8 @@ fn chain_symbol(
     Ok(symbol)
 }
 
-/// The symbol of an expression in a state: a constant, a local that is not shared, the job's number, or unknown. Operators
-/// on constants are computed if their result is exact.
+/// The symbol of an expression in a state: a constant, a local that is not shared, the job's number, or unknown. Operators on
+/// constants are computed if their result is exact.
 #[cycle(symbols)]
 #[tactic(auto, using(crate::proofs::ExprTrees::local_in, crate::proofs::ExprTrees::binary_in))]
 pub fn symbol_of(
