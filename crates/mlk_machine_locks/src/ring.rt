@@ -25,8 +25,7 @@ enum Mark {
 }
 
 // A job on a path, by its index, and the indexes of the jobs to which the search may still have to follow it: the job waits for
-// no
-// other one that may be in a ring.
+// no other one that may be in a ring.
 #[derive(Debug, Drop)]
 struct Stop {
     place: usize,

@@ -98,8 +98,7 @@ impl LockTable {
     }
 
     // Whether some job other than `number` that is listed under `key` keeps the name. Jobs that are tested and hold no name with
-    // the key
-    // are removed from it.
+    // the key are removed from it.
     fn some_keeps<J: Seen>(&mut self, key: u64, jobs: &[J], number: u32, name: &LockName) -> bool
         requires { Covers J.seen self.old jobs.now }
         ensures kept { result ≡ true → list_any (keeps J.seen number name.now) jobs.now ≡ true }

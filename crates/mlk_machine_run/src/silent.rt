@@ -39,8 +39,7 @@ fn is_shown(job: &Job) -> bool
 }
 
 /// Makes a step that is silent: nothing is chosen, and it is not visible to other jobs. Returns whether one was made; if none
-/// was,
-/// or if memory runs out, the job is unchanged.
+/// was, or if memory runs out, the job is unchanged.
 pub fn silent_step<'a>(
     alloc: Global,
     program: &Program<'a>,

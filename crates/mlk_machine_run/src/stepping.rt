@@ -67,8 +67,7 @@ fn perform_next<'a>(
 }
 
 /// Makes one step of a job, with the choice `choice`; `are_free` says whether other jobs leave the names free that it claims
-/// next.
-/// If memory runs out, or the step is refused, the job is unchanged.
+/// next. If memory runs out, or the step is refused, the job is unchanged.
 pub fn step<'a>(
     alloc: Global,
     program: &Program<'a>,

@@ -20,10 +20,9 @@ pub fn entries_by_commands()
 /// If a report has no row, the following holds for each job that begins at a declared entry, at each moment of each run of its
 /// own, if each claim may be granted at any time. The reference that it touches next is covered by the locks that it holds, its
 /// next claim is in order, and it ends without a lock. When one of its frames begins, when it continues at a line, and when a
-/// round
-/// of a FOR begins, a case describes it that the certificate lists for the entry at which the running frame began: `$TEST` and
-/// the saved tests, the own names, the kept names with the values that they had when the frame began, and how often it holds each
-/// name, over all open frames. The line is one of that entry's, or of a block below them, and the FOR is on it. Before each
+/// round of a FOR begins, a case describes it that the certificate lists for the entry at which the running frame began: `$TEST`
+/// and the saved tests, the own names, the kept names with the values that they had when the frame began, and how often it holds
+/// each name, over all open frames. The line is one of that entry's, or of a block below them, and the FOR is on it. Before each
 /// command of such a line, the job is described by a case that the walk derives there from one that is listed for the line's
 /// start, or for the round.
 pub fn one_job()
