@@ -1,6 +1,5 @@
 //! The meaning of codes: a page for each, with its meaning, why it matters, what corrects it and an example. The documents have
-//! the
-//! same sentences, which `tools/code_pages.py` compares.
+//! the same sentences, which `tools/code_pages.py` compares.
 #![tactic(auto)]
 
 mod certificates;

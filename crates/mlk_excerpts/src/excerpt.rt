@@ -123,8 +123,8 @@ pub fn push_labelled<'a>(
     )
 }
 
-/// Appends the line with its number, and below it a caret and a space, after which the fault can be described. Control
-/// bytes are shown as `?`. For a line of more than 320 bytes, the part around the column is shown.
+/// Appends the line with its number, and below it a caret and a space, after which the fault can be described. Control bytes are
+/// shown as `?`. For a line of more than 320 bytes, the part around the column is shown.
 pub fn push_excerpt(text: &mut Vec<u8>, excerpt: &Excerpt<'_>) -> Result<(), AllocError> {
     let (front, back) = split_at_column(excerpt.line, excerpt.column);
     let window = Window::of(front, back);

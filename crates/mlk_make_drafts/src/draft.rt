@@ -19,8 +19,7 @@ pub struct Draft {
     /// whether the rules declare it
     pub declared: bool,
     /// its text, its summary, and while a line is walked the points that are loaded: those of the line, and that of the begin of
-    /// its
-    /// block
+    /// its block
     pub block: EntryCert,
     /// its points, except those that are loaded
     pub lists: Lists,

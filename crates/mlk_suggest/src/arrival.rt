@@ -13,8 +13,7 @@ use std::alloc::{AllocError, Global};
 const MOST_ARRIVALS: usize = 32;
 
 /// A way in which a unit is entered: the held locks, in the unit's own names, and the first call at which these are held; `None`
-/// if
-/// a job begins with the unit.
+/// if a job begins with the unit.
 #[derive(Clone, Copy, Drop)]
 pub struct Arrival {
     pub holding: Holding,

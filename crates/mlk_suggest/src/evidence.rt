@@ -15,8 +15,7 @@ use std::alloc::{AllocError, Global};
 const MOST_MOMENTS: usize = 64;
 
 /// A way in which a place is reached: the held locks, and the first call by which its unit is entered in this way; `None` if a
-/// job
-/// begins with the unit.
+/// job begins with the unit.
 #[derive(Clone, Copy, Drop, PartialEq, Eq)]
 pub struct Moment {
     pub holding: Holding,

@@ -1,10 +1,8 @@
 //! Suggests rules for routines that are given in one text, and prints the suggestions.
 //!
 //! The text is read from standard input. Everything before the first line that begins with `== ` is a comment. Each such line
-//! begins
-//! a case and describes it. It is followed by the routines, each after a line of `-- ` and its name. For each case its first line
-//! is
-//! printed, and then the suggestion.
+//! begins a case and describes it. It is followed by the routines, each after a line of `-- ` and its name. For each case its
+//! first line is printed, and then the suggestion.
 #![tactic(auto)]
 
 use bstr::ByteSlice;

@@ -218,8 +218,7 @@ impl Tables {
     }
 
     /// The one of `locks` that a release of `released` means: the same, one that is written alike, or the only one with its root
-    /// and
-    /// number of subscripts; `None` if there is no such lock.
+    /// and number of subscripts; `None` if there is no such lock.
     pub fn released_lock(&self, locks: &[Lock], released: Lock) -> Option<Lock> {
         if locks.contains(&released) {
             return Some(released);
@@ -264,8 +263,7 @@ impl Tables {
     }
 
     /// The held locks after a release of `lock` where `holding` was held: if the unit did not claim it, it releases a lock that
-    /// was held
-    /// before.
+    /// was held before.
     pub fn release(&mut self, holding: Holding, lock: Lock) -> Result<Holding, AllocError> {
         let mut held = self.copy(holding)?;
         match self.released_lock(held.locks.as_slice(), lock) {
@@ -296,8 +294,7 @@ impl Tables {
     }
 
     /// The held locks in a unit that was entered with `arrival`, after `changes`, where `case` is held since it began: the locks
-    /// that
-    /// it claimed, and those that were held before and that it did not release.
+    /// that it claimed, and those that were held before and that it did not release.
     pub fn holding_at(
         &mut self,
         arrival: Holding,

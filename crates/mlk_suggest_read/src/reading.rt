@@ -11,8 +11,7 @@ use std::alloc::{AllocError, Global};
 const MOST_CUTS: usize = 8;
 
 /// The maximum number of lines whose commands are dropped although each of them can be read separately. If the routine still
-/// can't
-/// be read, it counts as unread.
+/// can't be read, it counts as unread.
 const MOST_LEFT_OUT: usize = 16;
 
 /// A routine's text.

@@ -152,8 +152,7 @@ impl<'j> Judge<'j> {
     }
 
     // The rule that each job has its own part, if enough touches support it and a lock with the global's own name is held at no
-    // more
-    // than half of them.
+    // more than half of them.
     fn private_guess(&self, touches: &[usize]) -> Result<Option<GlobalGuess>, AllocError> {
         let Some((place, count)) = job_place(self.evidence, touches) else {
             return Ok(None);

@@ -48,8 +48,7 @@ fn part_of(reference: &Reference, symbol: Symbol, constants_first: bool) -> Opti
 
 impl LockPattern {
     /// The lock of a rule that is `name` at `reference`; `None` if a subscript of `name` is neither a constant nor in the
-    /// reference.
-    /// `constants_first` says whether a constant that is in the reference stays a constant.
+    /// reference. `constants_first` says whether a constant that is in the reference stays a constant.
     pub(crate) fn of(
         alloc: Global,
         reference: &Reference,

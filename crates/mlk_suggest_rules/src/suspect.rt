@@ -90,8 +90,7 @@ fn add_suspect(
 }
 
 /// Adds those of the `touches` of `evidence`, by their indexes, at which the lock `asked` is missing in some of the ways that
-/// lead
-/// there.
+/// lead there.
 pub(crate) fn add_suspects(
     alloc: Global,
     evidence: &Evidence<'_>,

@@ -171,8 +171,7 @@ impl<'a> Draft<'a> {
     }
 
     /// Adds a use of the variable `name`, whose subscripts' steps are there already: a touch of a global, or the change of a
-    /// local
-    /// that is written.
+    /// local that is written.
     pub(crate) fn touch_variable(
         &mut self,
         name: &'a Expr,

@@ -234,8 +234,7 @@ impl<'v> View<'v> {
     }
 
     /// The entry at which the unit `id` begins, as `LABEL^ROUTINE`, or `^ROUTINE` if it has no label; for a block, the entry of
-    /// the
-    /// unit that contains it.
+    /// the unit that contains it.
     pub(crate) fn entry(&self, id: UnitId) -> Result<Vec<u8>, AllocError> {
         let mut at = id;
         for _ in 0..MOST_LEVELS {
