@@ -90,9 +90,9 @@ IsCallee (Some label) (Some routine) xs ys = (m : List ℕ) × (label_at xs ≡ 
 IsCallee None (Some routine) xs ys = (m : List ℕ) × (xs ≡ 94 ∷ m) × (name_at m ≡ Some (routine, ys))
 IsCallee None None xs ys = ⊥
 
--- An operand without parentheses around it. `Atom` and `Pattern` are for parts one level deeper. Standard: expratom. What
--- has no case here is not read: indirection, naked references, structured system variables, other functions and special
--- variables, external calls, environments.
+-- An operand without parentheses around it. `Atom` and `Pattern` are for parts one level deeper. Standard: expratom. What has no
+-- case here is not read: indirection, naked references, structured system variables, other functions and special variables,
+-- external calls, environments.
 abbrev pub IsPlain : ℕ → (Tree → List ℕ → List ℕ → Type 0) → (List ℕ → List ℕ → List ℕ → Type 0) → Tree → List ℕ → List ℕ → Type 0
 IsPlain end Atom Pattern (Lit value) xs ys =
     ((text : List ℕ) × (numeral_at xs ≡ Some (text, ys)) × IsCanonical text value) ⊎ IsQuoted value xs ys

@@ -12,7 +12,7 @@ pub fn numbers_distinct()
     ensures { NumbersDistinct }
 {}
 
-/// In a run of many jobs, each job is what its own acts alone make of it, from the entry at which it begins.
+/// In a run of many jobs, each job is the result of its own acts, from the entry at which it begins.
 pub fn one_run_of_many()
     ensures { OneRunOfMany }
 {}

@@ -17,7 +17,7 @@ use mlk_syntax::Expr;
 use mlk_text::Failure;
 use std::alloc::Global;
 
-/// Puts `parts` in place of the task that was removed. It asks for no choice.
+/// Replaces the removed task by `parts`. It asks for no choice.
 pub(crate) fn replace<'a>(
     job: &mut Job<'a>,
     choice: &Choice,

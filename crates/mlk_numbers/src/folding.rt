@@ -1,4 +1,4 @@
-// Results of operators, where they are exact.
+// Exact results of operators.
 
 ghost use Rattle.std.specs.Prelude.{◌≡◌, ◌<◌, ◌≤◌, ◌^◌, ℕ, true, length, ℤ, List, pos, neg_ℤ, unsigned_abs, decimal, Decides, IfOk, MatchOption};
 ghost use Rattle.std.specs.Fmt.{signed_decimal};

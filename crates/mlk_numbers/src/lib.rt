@@ -1,4 +1,4 @@
-//! Numbers as values: canonical texts of literals, and results of operators where they are exact.
+//! Numbers as values: canonical texts of literals, and exact results of operators.
 #![tactic(auto)]
 
 mod folding;

@@ -239,7 +239,7 @@ impl Walk {
         Ok(())
     }
 
-    /// Makes `states` the live ones, each once, where there are none: they were live before, and were changed in place.
+    /// Makes `states` the live ones, each once, if there are none: they were live before, and were changed in place.
     #[inline(always)]
     pub fn resume(&mut self, alloc: Global, states: Vec<State>) -> Result<(), AllocError>
         ensures { OnOk result (self.new ≡ with_states (put_states states.items []) self.old) }

@@ -234,7 +234,7 @@ impl<'a> LineEnd<'a> {
         }
     }
 
-    // Ends the line in a case, where the cases `listed` are listed at the next line.
+    // Ends the line in a case; `listed` are the cases that are listed at the next line.
     fn case_end(&self, listed: &[Case], case: Case, ends: &mut Ends) -> Result<(), AllocError>
         requires { listed.now ≡ listed_ahead (end_of self.now) }
         ensures { OnOk result (ends.new ≡ add_ending ends.old (case_end (end_of self.now) case)) }

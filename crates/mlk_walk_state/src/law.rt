@@ -25,7 +25,7 @@ pub fn tables_are()
     ensures { TablesAre }
 {}
 
-/// A term that is put is held once more, in order, and a term that is taken is held once less.
+/// An added term is held once more, in order, and a removed term is held once less.
 pub fn held_are()
     ensures { HeldAre }
 {}

@@ -31,7 +31,7 @@ fn are_upto(most: usize, numbers: &[CaseNumber]) -> bool
     true
 }
 
-// Reads the numbers of a point, where there are `most` cases, and returns whether they respect their limits.
+// Reads the numbers of a point in a certificate with `most` cases, and returns whether they respect their limits.
 #[tactic(auto, unfolding(crate::specs::Numbered::numbers_at))]
 fn numbers(
     alloc: Global,
@@ -62,7 +62,7 @@ fn next_fit(point: Option<&Point>, line: u32, round: u32) -> Fit
     )
 }
 
-// Reads the rest of the line of a point, after `point`, where there are `most` cases.
+// Reads the rest of the line of a point, after `point`, in a certificate with `most` cases.
 #[tactic(auto, unfolding(crate::specs::Blocks::after_at, crate::specs::Numbered::numbered_point_at))]
 fn numbered_point<'a>(
     alloc: Global,
