@@ -21,7 +21,7 @@ HeldApart = (routines : List RoutineTree) (declared : EntryId → Bool) → any.
 abbrev pub NumbersDistinct : Type 0
 NumbersDistinct = (routines : List RoutineTree) (declared : EntryId → Bool) → any.NumbersDistinct (machine routines declared)
 
--- Each job of a run is what its own acts alone make of it.
+-- Each job of a run is the result of its own acts.
 abbrev pub OneRunOfMany : Type 0
 OneRunOfMany = (routines : List RoutineTree) (declared : EntryId → Bool) → any.OneRunOfMany (machine routines declared)
 

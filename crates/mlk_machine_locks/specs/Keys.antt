@@ -25,7 +25,7 @@ deeper key subscript = mixed (mixed_one key 256) subscript
 unfoldable pub itself : ℕ → ℕ
 itself key = mixed_one key 257
 
--- A job that holds a name is listed under the name and each one above it, and under the name alone.
+-- A job that holds a name is listed under the keys of that name and of each one above it, and under the key of the name alone.
 abbrev pub keys_from : ℕ → List (List ℕ) → List ℕ
 keys_from key [] = key ∷ itself key ∷ []
 keys_from key (s ∷ ss) = key ∷ keys_from (deeper key s) ss
@@ -33,7 +33,7 @@ keys_from key (s ∷ ss) = key ∷ keys_from (deeper key s) ss
 abbrev pub keys_of : LockName → List ℕ
 keys_of n = keys_from (root_key n.root) n.subs
 
--- A job that claims a name looks under it for those below it, and for it and each one above it alone.
+-- A claim of a name looks up the key of the name, for those below it, and the keys of the name and of each one above it alone.
 abbrev pub asked_from : ℕ → List (List ℕ) → List ℕ
 asked_from key [] = itself key ∷ key ∷ []
 asked_from key (s ∷ ss) = itself key ∷ asked_from (deeper key s) ss

@@ -69,7 +69,7 @@ abbrev pub HeldApart : {J C E : Type 0} → Machine J C E → Type 0
 HeldApart {J} {C} {E} m =
     (events : List (Event C E)) (jobs : List J) → after m events [] ≡ Ok jobs → AreApart m.view jobs
 
--- Each job of a run is what its own acts alone make of it.
+-- Each job of a run is the result of its own acts.
 abbrev pub OneRunOfMany : {J C E : Type 0} → Machine J C E → Type 0
 OneRunOfMany {J} {C} {E} m =
     (events : List (Event C E)) (jobs : List J) → after m events [] ≡ Ok jobs

@@ -111,7 +111,7 @@ pub record IsLone {J C E : Type 0} (m : Machine J C E) (k : ℕ) (begins : Act C
   pub is_first : m.begin entry test values k ≡ Ok first
   pub runs : lone_run m acts first ≡ Ok j
 
--- What a job is in a run of many, its own acts alone make of it.
+-- A job in a run of many is the result of its own acts.
 pub record IsAlone {J C E : Type 0} (m : Machine J C E) (events : List (Event C E)) (j : J) : Type 0 where
   pub begins : Act C E
   pub acts : List (Act C E)

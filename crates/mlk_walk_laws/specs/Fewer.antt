@@ -43,7 +43,7 @@ FewerCases =
     (p : Spot) (cs : CommandTrees) → ListsEachOnce p.scope
     → (v w : Walk) → IsPart v w → IsClean (commands p cs w) → IsPart (commands p cs v) (commands p cs w)
 
--- So does the walk from each of them alone.
+-- So does the walk from each of them by itself.
 abbrev pub EachAlone : Type 0
 EachAlone =
     (p : Spot) (cs : CommandTrees) → ListsEachOnce p.scope
