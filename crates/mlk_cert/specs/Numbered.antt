@@ -60,7 +60,7 @@ abbrev pub are_upto : ℕ → List ℕ → Bool
 are_upto most [] = true
 are_upto most (n ∷ ns) = nat_le n most && are_upto most ns
 
--- the numbers of a point, where there are `most` cases
+-- the numbers of a point in a certificate with `most` cases
 unfoldable pub numbers_at : ℕ → List ℕ → Option (List ℕ × List ℕ)
 numbers_at most xs = list_at (counted_at greatest) 59 xs >>= fit (are_upto most)
 

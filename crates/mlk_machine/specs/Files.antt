@@ -67,8 +67,8 @@ abbrev pub made : Machine Job Choice EntryId → List RoutineTree → Asked → 
 made m routines (Happens e) jobs = happens m jobs e.job e.act
 made m routines (GoesOn k) jobs = and_then (λ r. Ok r.0) (settled_in routines k jobs)
 
--- The effect of lines one after another, where the first has a given number: the jobs, or the number of the line that can't
--- happen, and why.
+-- The effect of lines one after another, numbered from a given number on: the jobs, or the number of the line that can't happen,
+-- and why.
 abbrev pub then_next : (List Job → Result (List Job) (ℕ × Refusal)) → ℕ → Result (List Job) Refusal
     → Result (List Job) (ℕ × Refusal)
 then_next later line (Ok jobs) = later jobs

@@ -57,7 +57,7 @@ IsSpelledPattern s text = IsSpelled s text × ((name : List ℕ) × (s.root ≡ 
 abbrev pub IsEntryText : List ℕ → Type 0
 IsEntryText text = (label routine : List ℕ) × IsEntry label routine text
 
--- What is read is spelled so, and what is spelled so is read.
+-- The readers read exactly what this grammar spells.
 pub record AreWritten : Type 0 where
   pub names : (text : List ℕ) (s : Spelling) → (spelling_of text ≡ Some s) ↔ IsSpelled s text
   pub patterns : (text : List ℕ) (s : Spelling) → (pattern_of text ≡ Some s) ↔ IsSpelledPattern s text

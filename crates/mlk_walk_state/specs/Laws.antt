@@ -40,8 +40,8 @@ abbrev pub TablesAre : Type 0
 TablesAre = (routines : List RoutineTree) (blocks : List EntryCert) (texts : List (List ℕ))
     → AreEntries routines blocks texts (certified routines blocks, declared routines texts)
 
--- A term that is put is held once more, every other one as often as before, and the order is kept; one that is taken is held
--- once less, and if none can be taken it is not held.
+-- An added term is held once more, every other one as often as before, and the order is kept; a removed term is held once less,
+-- and if none can be removed it is not held.
 abbrev pub one_if : Bool → ℕ
 one_if test = if test then 1 else 0
 
